@@ -1,0 +1,6 @@
+pub mod Tuples
+pub mod Firsts
+pub mod Answering
+pub mod Keeping
+pub mod Doing
+pub mod Queries

@@ -1,0 +1,111 @@
+ghost use Rattle.std.specs.Prelude.{◌≡◌, ◌<◌, ◌++◌, [], ◌∷◌, true, length, map, IfOk, OnOk, OnErr, IfErr};
+ghost use Rattle.std.specs.List.{list_all};
+ghost use Rattle.djq_machine.specs.Store.{first_of};
+ghost use Rattle.djq_engine.specs.Served.{is_served, is_variable, names_of, place_in, relation_in, is_term_named};
+ghost use Rattle.djq_engine.specs.Answers.{columns_of};
+ghost use Rattle.djq_engine.specs.Change.{store, relation_at};
+ghost use Rattle.djq_engine.specs.Sound.{queries_in, IsSound};
+ghost use Rattle.djq_engine.specs.Registering.{RegistersIn, RegistersSound, atom_refusals, query_refusals};
+
+use crate::finding::{find_query, find_relation};
+use crate::registered::{Columns, Registered};
+use crate::rows::same_name;
+use djq_machine::Refusal;
+use djq_model::{Atom, Name, Query, Relation, Term, Terms};
+use djq_value::NoMem;
+use std::alloc::Global;
+
+// Whether a term is a variable of this name.
+fn is_named(term: &Term, name: &Name) -> bool
+    ensures { result ≡ is_term_named term.now name.now }
+{
+    match term {
+        Term::Variable(variable) => same_name(variable, name),
+        Term::Hole => false,
+        Term::Constant(_) => false,
+    }
+}
+
+// The place of the first term that is a variable of this name, or the number of terms where none is.
+fn place_of_name(terms: &[Term], name: &Name) -> usize
+    requires { list_all is_variable terms.now ≡ true }
+    ensures { result ≡ place_in (names_of terms.now) name.now }
+{
+    for at in 0..terms.len() {
+        if is_named(&terms[at], name) {
+            return at;
+        }
+    }
+    terms.len()
+}
+
+// The columns at which the variables of a head stand.
+fn columns_of(alloc: Global, head: &[Name], terms: &[Term]) -> Result<Columns, NoMem>
+    requires { list_all is_variable terms.now ≡ true }
+    ensures { IfOk result (λ columns. columns ≡ map (place_in (names_of terms.now)) head.now) }
+{
+    let mut columns = Vec::new(alloc);
+    for name in head {
+        match columns.push(place_of_name(terms, name)) {
+            Ok(()) => {}
+            Err(_) => return Err(NoMem),
+        }
+    }
+    Ok(Columns { columns })
+}
+
+// How many columns the relation at a place has.
+fn arity_at(relations: &Vec<Relation>, at: usize) -> usize
+    requires { at < length relations.now.items }
+    ensures { result ≡ length (relation_at relations.now.items at).types }
+{
+    let types = &relations[at].types;
+    types.types.len()
+}
+
+// How many terms there are.
+fn count(terms: &Terms) -> usize
+    ensures { result ≡ length terms.now }
+{
+    terms.terms.len()
+}
+
+// Why an atom doesn't suit the relations.
+fn refuses_atom(relations: &Vec<Relation>, atom: &Atom) -> Option<Refusal>
+    ensures { result ≡ first_of (atom_refusals relations.now.items atom.now) }
+{
+    match find_relation(relations, &atom.relation) {
+        None => Some(Refusal::NoRelation),
+        Some(at) => {
+            if arity_at(relations, at) == count(&atom.terms) {
+                None
+            } else {
+                Some(Refusal::Arity)
+            }
+        }
+    }
+}
+
+// Why a query of this one atom can't be registered.
+fn refuses_query(
+    relations: &Vec<Relation>,
+    queries: &Vec<Registered>,
+    name: &Name,
+    atom: &Atom,
+) -> Option<Refusal>
+    ensures { result ≡ first_of (query_refusals relations.now.items (queries_in queries.now.items) name.now atom.now) }
+{
+    match find_query(queries, name) {
+        Some(_place) => Some(Refusal::Taken),
+        None => match refuses_atom(relations, atom) {
+            Some(refusal) => Some(refusal),
+            None => {
+                if queries.len() >= 256 {
+                    Some(Refusal::Limit)
+                } else {
+                    None
+                }
+            }
+        },
+    }
+}

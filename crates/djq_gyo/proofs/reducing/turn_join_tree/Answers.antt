@@ -1,0 +1,5 @@
+use Rattle.djq_hyper.proofs.Linking.{join_tree_turned}
+use Rattle.djq_gyo.proofs.reducing.turn_join_tree.Goals as goal
+
+pub returns : goal.returns
+returns c = join_tree_turned c.args.first c.args.edges.now

@@ -1,0 +1,50 @@
+ghost use Rattle.std.specs.Prelude.{◌≡◌, ◌==◌, length};
+
+use djq_hyper::Step;
+use std::marker::Model;
+
+/// The steps of a reduction, in the order in which they were taken. A step's positions are those of the
+/// list that it is applied to: after an edge is taken out, the edges behind it have moved up.
+#[derive(Drop)]
+pub struct Steps {
+    steps: Vec<Step>,
+}
+
+impl Model for Steps {
+    ghost use Rattle.std.specs.Prelude.{List};
+    ghost use Rattle.djq_hyper.specs.declared.step.Step.{Step};
+
+    ghost Value = { List Step };
+
+    ghost view = { λ s. s.steps.items };
+}
+
+impl Steps {
+    /// The steps of a list, which is moved in.
+    pub fn from_steps(steps: Vec<Step>) -> Steps
+        ensures { result ≡ steps.items }
+    {
+        Steps { steps }
+    }
+
+    /// How many steps there are.
+    pub fn len(&self) -> usize
+        ensures { result ≡ length self.now }
+    {
+        self.steps.len()
+    }
+
+    /// Whether there is no step.
+    pub fn is_empty(&self) -> bool
+        ensures { result ≡ (length self.now == 0) }
+    {
+        self.steps.is_empty()
+    }
+
+    /// The steps, in order.
+    pub fn as_slice(&self) -> &[Step]
+        ensures { result.now ≡ self.now }
+    {
+        &self.steps
+    }
+}

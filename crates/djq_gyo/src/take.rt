@@ -1,0 +1,21 @@
+ghost use Rattle.std.specs.Prelude.{◌≡◌};
+ghost use Rattle.djq_hyper.specs.Gyo.{IsStep, after};
+
+use djq_hyper::{Step, VarSet};
+
+/// Takes the step.
+pub fn take_step(sets: &mut Vec<VarSet>, step: Step)
+    requires { IsStep sets.old.items step }
+    ensures { sets.new.items ≡ after sets.old.items step }
+{
+    match step {
+        Step::Vertex { edge, variable } => {
+            let set = sets[edge];
+            set.rises();
+            sets[edge] = set.without(variable);
+        }
+        Step::Edge { edge, within: _ } => {
+            let _taken = sets.remove(edge);
+        }
+    }
+}

@@ -1,0 +1,9 @@
+pub mod Members
+pub mod Words
+pub mod Bags
+pub mod Counting
+pub mod Rooting
+pub mod Rerooting
+pub mod Hanging
+pub mod Linking
+pub mod Checking

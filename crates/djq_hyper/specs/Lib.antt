@@ -1,0 +1,6 @@
+pub mod Hypergraph
+pub mod JoinTree
+pub mod Checking
+pub mod Gyo
+pub mod Masks
+pub mod Insides

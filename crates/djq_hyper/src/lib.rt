@@ -1,0 +1,30 @@
+//! Hypergraphs and their join trees.
+//!
+//! A hypergraph is a list of edges, and an edge a set of at most [`VARIABLES`] variables. Equal edges,
+//! empty edges and no edge at all are fine. A join tree hangs each edge but the first on an earlier one so
+//! that the edges with any one variable hang together (Beeri, Fagin, Maier and Yannakakis 1983).
+//! A hypergraph that has a join tree is called acyclic.
+//!
+//! This crate has the definitions (`specs/`), the types, and [`check_join_tree`], which tells exactly
+//! whether a proposed tree is a join tree. It makes no tree: `djq_gyo` decides whether there is one. The
+//! first link's parent is never read, and a list of no edges has the tree of no links.
+//!
+//! Inside, a set of variables is one machine word, and contracts see it as the list of its variables in
+//! rising order. Only `var_set` and the lemmas about its words know of bits.
+#![tactic(auto)]
+
+mod check;
+mod edges;
+mod join_tree;
+mod names;
+mod no_mem;
+mod step;
+mod var_set;
+
+pub use check::check_join_tree;
+pub use edges::Edges;
+pub use join_tree::{JoinTree, Link};
+pub use names::Names;
+pub use no_mem::NoMem;
+pub use step::Step;
+pub use var_set::{VARIABLES, VarSet};

@@ -1,0 +1,97 @@
+ghost use Rattle.std.specs.Prelude.{◌≡◌, ◌<◌, ◌==◌, ◌++◌, ◌∷◌, [], length, map, slice_get, Some, OnOk, OnErr};
+
+use crate::no_mem::NoMem;
+use std::alloc::Global;
+use std::marker::Model;
+
+/// A list of names.
+///
+/// Contracts see a list of texts, each the list of its bytes.
+#[derive(Drop)]
+pub struct Names {
+    texts: Vec<Vec<u8>>,
+}
+
+impl Model for Names {
+    ghost use Rattle.std.specs.Prelude.{List, ℕ, map};
+
+    ghost Value = { List (List ℕ) };
+
+    ghost view = { λ n. map (λ t. t.items) n.texts.items };
+}
+
+impl Names {
+    /// The list of no name, which takes no memory.
+    pub fn new(alloc: Global) -> Names
+        ensures { result ≡ [] }
+    {
+        Names {
+            texts: Vec::new(alloc),
+        }
+    }
+
+    /// The names of a list, which is moved in.
+    pub fn from_texts(texts: Vec<Vec<u8>>) -> Names
+        ensures { result ≡ map (λ t. t.items) texts.items }
+    {
+        Names { texts }
+    }
+
+    /// The names as a list, which is moved out.
+    pub fn into_texts(self) -> Vec<Vec<u8>>
+        ensures { map (λ t. t.items) result.items ≡ self }
+    {
+        let Names { texts } = self;
+        texts
+    }
+
+    /// Puts a copy of a name behind the others.
+    pub fn push(&mut self, alloc: Global, name: &[u8]) -> Result<(), NoMem>
+        ensures ok { OnOk result (self.new ≡ self.old ++ name.now ∷ []) }
+        ensures err { OnErr result (self.new ≡ self.old) }
+    {
+        let text = Vec::from_slice(alloc, name)?;
+        self.texts.push(text)?;
+        Ok(())
+    }
+
+    /// How many names there are.
+    pub fn len(&self) -> usize
+        ensures { result ≡ length self.now }
+    {
+        self.texts.len()
+    }
+
+    /// Whether there is no name.
+    pub fn is_empty(&self) -> bool
+        ensures { result ≡ (length self.now == 0) }
+    {
+        self.texts.is_empty()
+    }
+
+    /// The bytes of the name at a position.
+    pub fn get(&self, position: usize) -> &[u8]
+        requires { position < length self.now }
+        ensures { slice_get self.now position ≡ Some result.now }
+    {
+        &self.texts[position]
+    }
+}
+
+#[cfg(test)]
+mod tests {
+    use super::*;
+    use std::test::Fail;
+
+    #[test]
+    fn keeps_names(rt: HostRuntime) -> Result<(), Fail> {
+        let mut names = Names::new(rt.alloc());
+        assert!(rt; names.is_empty());
+        names.push(rt.alloc(), b"r")?;
+        names.push(rt.alloc(), b"item")?;
+        let names = Names::from_texts(names.into_texts());
+        assert_eq!(rt; names.len(), 2);
+        assert_eq!(rt; names.get(1), b"item".as_slice());
+        Ok(())
+    }
+}

@@ -1,0 +1,179 @@
+ghost use Rattle.std.specs.Prelude.{◌≡◌, ℕ, ◌<◌, [], ◌∷◌, ◌||◌, ◌==◌, ◌++◌, length, slice_get, option_to_list, All, IfNone};
+ghost use Rattle.std.specs.List.Sorted.{IsStrictlyIncreasing};
+ghost use Rattle.djq_hyper.specs.Hypergraph.{member, subset, minus, common};
+
+use std::marker::Model;
+
+/// How many variables there may be: a variable is a number below this.
+pub const VARIABLES: usize = 64;
+
+/// A set of variables, held in one machine word.
+///
+/// Contracts see the list of its variables in rising order.
+#[derive(Clone, Copy, Debug, PartialEq, Eq)]
+pub struct VarSet {
+    mask: u64,
+}
+
+impl Model for VarSet {
+    ghost use Rattle.std.specs.Prelude.{List, ℕ};
+
+    ghost Value = { List ℕ };
+
+    ghost use Rattle.std.specs.Prelude.{◌<◌, ◌^◌};
+    ghost use Rattle.djq_hyper.specs.Masks.{variables_of};
+    ghost use Rattle.djq_hyper.specs.Insides.{set_of, set_back};
+    ghost use Rattle.djq_hyper.specs.declared.var_set.TheConstants.{VARIABLES};
+
+    ghost view = { λ s. variables_of s.mask };
+
+    ghost invariant = { λ s. s.mask < 2 ^ VARIABLES };
+
+    ghost inverse = { λ l. set_of l };
+
+    ghost inverse_ok = { λ a h. set_back a h };
+}
+
+impl VarSet {
+    /// The set of no variable.
+    pub fn new() -> VarSet
+        ensures { result ≡ [] }
+    {
+        VarSet { mask: 0 }
+    }
+
+    /// Whether the variable is in the set. None from [`VARIABLES`] on is.
+    pub fn contains(self, variable: usize) -> bool
+        ensures { result ≡ member variable self }
+    {
+        variable < VARIABLES && (self.mask >> variable) & 1 == 1
+    }
+
+    /// Whether each variable of this set is in the other one.
+    pub fn is_subset(self, other: VarSet) -> bool
+        ensures { result ≡ subset self other }
+    {
+        self.mask & other.mask == self.mask
+    }
+
+    /// Whether there is no variable in the set.
+    pub fn is_empty(self) -> bool
+        ensures { result ≡ (length self == 0) }
+    {
+        self.mask == 0
+    }
+
+    /// The variables of this set that aren't in the other one.
+    pub fn minus(self, other: VarSet) -> VarSet
+        ensures { result ≡ minus self other }
+    {
+        VarSet {
+            mask: self.mask & !other.mask,
+        }
+    }
+
+    /// The variables that are in both.
+    pub fn common(self, other: VarSet) -> VarSet
+        ensures { result ≡ common self other }
+    {
+        VarSet {
+            mask: self.mask & other.mask,
+        }
+    }
+
+    /// The variables that are in one of them.
+    pub fn union(self, other: VarSet) -> VarSet
+        ensures { (x : ℕ) → member x result ≡ (member x self || member x other) }
+    {
+        VarSet {
+            mask: self.mask | other.mask,
+        }
+    }
+
+    /// This set and the variable.
+    pub fn insert(self, variable: usize) -> VarSet
+        requires { variable < VARIABLES }
+        ensures { (x : ℕ) → member x result ≡ ((x == variable) || member x self) }
+    {
+        VarSet {
+            mask: self.mask | (1 << variable),
+        }
+    }
+
+    /// This set without the variable.
+    pub fn without(self, variable: usize) -> VarSet
+        requires { variable < VARIABLES }
+        ensures { result ≡ minus self (variable ∷ []) }
+    {
+        VarSet {
+            mask: self.mask & !(1 << variable),
+        }
+    }
+
+    /// How many variables there are.
+    pub fn len(self) -> usize
+        ensures { result ≡ length self }
+    {
+        self.mask.count_ones() as usize
+    }
+
+    /// The lowest variable.
+    pub fn first(self) -> Option<usize>
+        ensures { result ≡ slice_get self 0 }
+    {
+        if self.mask == 0 {
+            return None;
+        }
+        Some(self.mask.trailing_zeros() as usize)
+    }
+
+    /// Takes the lowest variable out.
+    pub fn pop(&mut self) -> Option<usize>
+        ensures taken { self.old ≡ option_to_list result ++ self.new }
+        ensures none { IfNone result (self.old ≡ []) }
+    {
+        if self.mask == 0 {
+            return None;
+        }
+        let lowest = self.mask.trailing_zeros() as usize;
+        self.mask &= !(1 << lowest);
+        Some(lowest)
+    }
+
+    /// The law that the variables rise and are below [`VARIABLES`].
+    pub fn rises(self)
+        ensures rising { IsStrictlyIncreasing self }
+        ensures below { All (λ x. x < VARIABLES) self }
+    {
+        let _mask = &self.mask;
+    }
+}
+
+#[cfg(test)]
+mod tests {
+    use super::*;
+
+    #[test]
+    fn walks_in_rising_order(rt: HostRuntime) {
+        let set = VarSet::new().insert(63).insert(5).insert(9).insert(5);
+        assert_eq!(rt; set.len(), 3);
+        assert_eq!(rt; set.first(), Some(5));
+        let mut rest = set.without(9);
+        assert_eq!(rt; rest.pop(), Some(5));
+        assert_eq!(rt; rest.pop(), Some(63));
+        assert_eq!(rt; rest.pop(), None);
+        assert!(rt; rest.is_empty());
+        set.rises();
+    }
+
+    #[test]
+    fn compares_and_combines(rt: HostRuntime) {
+        let left = VarSet::new().insert(0).insert(1);
+        let right = VarSet::new().insert(1).insert(2);
+        assert!(rt; left.contains(0) && !left.contains(2) && !left.contains(64));
+        assert!(rt; left.common(right) == VarSet::new().insert(1));
+        assert!(rt; left.minus(right) == VarSet::new().insert(0));
+        assert_eq!(rt; left.union(right).len(), 3);
+        assert!(rt; left.common(right).is_subset(left) && !left.is_subset(right));
+    }
+}

@@ -1,0 +1,3 @@
+pub mod Loses
+pub mod Gains
+pub mod Parts

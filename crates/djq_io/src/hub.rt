@@ -1,0 +1,113 @@
+use crate::piece::Piece;
+
+/// The answer to a request to listen.
+#[derive(Clone, Copy, Debug, PartialEq, Eq)]
+pub enum Listened {
+    Ready,
+    Failed,
+}
+
+/// What a turn brings.
+#[derive(Clone, Copy, Debug, PartialEq, Eq)]
+pub enum Turn {
+    /// A new session, with an id above all before it.
+    Opened(u64),
+    /// So many bytes of a session stand at the start of the buffer, at least 1.
+    Bytes(u64, usize),
+    /// A session's input ended.
+    Ended(u64),
+    /// Nothing came.
+    Idle,
+    /// Nothing will come any more.
+    Over,
+    /// The hub failed.
+    Failed,
+}
+
+/// The answer to a send.
+#[derive(Clone, Copy, Debug, PartialEq, Eq)]
+pub enum Sent {
+    /// So many bytes were taken from the start of the piece, at least 1.
+    Took(usize),
+    /// None can be taken now.
+    Again,
+    /// The session takes nothing any more.
+    Gone,
+}
+
+/// A call of a hub and its answer, as its past has them.
+#[derive(Drop)]
+pub enum Told {
+    /// It was asked to listen at an address.
+    Listening(Piece, Listened),
+    /// A turn, with the bytes that it brought.
+    Turning(Turn, Piece),
+    /// A send to a session, with the bytes that it took.
+    Sending(u64, Sent, Piece),
+    /// A session was closed.
+    Closing(u64),
+}
+
+/// Sessions that open, bring bytes, take bytes and end.
+pub trait Hub {
+    ghost use Rattle.std.specs.Prelude.{◌≡◌, ℕ, ◌<◌, ◌≤◌, List, [], ◌∷◌, length, Contains, Option};
+    ghost use Rattle.djq_io.specs.Faults.{Rose};
+    ghost use Rattle.djq_io.specs.Sink.{Gains};
+    ghost use Rattle.djq_io.specs.Hub.{Ids, Script, WhereTold, Follows, Turns, Takes, Sends, NoneFalls, brought, taken_by, without};
+    ghost use Rattle.djq_io.specs.declared.hub.Told.{Told};
+
+    // The turns to come and who is blocked, where the hub tells them.
+    ghost script: { Self → Option Script };
+
+    // All calls so far with their answers, where the hub tells them.
+    ghost past: { Self → Option (List Told) };
+
+    // The ids of the sessions, which every hub shows.
+    ghost ids: { Self → Ids };
+
+    // How many faults it has met.
+    ghost faults: { Self → ℕ };
+
+    // How many faults each session has met.
+    ghost session_faults: { Self → ℕ → ℕ };
+
+    /// Begins to accept sessions at the address.
+    fn listen(&mut self, addr: &str) -> Listened
+        ensures past { Gains (past self.old) (past self.new) (Told.Listening addr.now result ∷ []) }
+        ensures script { WhereTold (script self.old) (script self.new) (λ old new. new ≡ old) }
+        ensures ids { ids self.new ≡ ids self.old }
+        ensures failed { result ≡ Listened.Failed → Rose (faults self.old) (faults self.new) }
+        ensures later { faults self.old ≤ faults self.new }
+        ensures sessions { NoneFalls (ids self.new).open_ids (session_faults self.old) (session_faults self.new) };
+
+    /// Waits for the next thing to come. Bytes stand at the start of the buffer.
+    fn turn(&mut self, buf: &mut [u8]) -> Turn
+        requires { 0 < length buf.old }
+        ensures past { Gains (past self.old) (past self.new) (Told.Turning result (brought result buf.new) ∷ []) }
+        ensures script { WhereTold (script self.old) (script self.new) (Follows (ids self.old).open_ids result buf.new) }
+        ensures ids { Turns result (length buf.new) (ids self.old) (ids self.new) }
+        ensures failed { result ≡ Turn.Failed → Rose (faults self.old) (faults self.new) }
+        ensures later { faults self.old ≤ faults self.new }
+        ensures sessions { NoneFalls (ids self.old).open_ids (session_faults self.old) (session_faults self.new) };
+
+    /// Sends a first part of the piece to an open session.
+    fn send(&mut self, id: u64, piece: &[u8]) -> Sent
+        requires is_open { Contains (ids self.old).open_ids id }
+        requires some { 0 < length piece.now }
+        ensures takes { Takes result piece.now }
+        ensures past { Gains (past self.old) (past self.new) (Told.Sending id result (taken_by result piece.now) ∷ []) }
+        ensures script { WhereTold (script self.old) (script self.new) (Sends id result) }
+        ensures ids { ids self.new ≡ ids self.old }
+        ensures gone { result ≡ Sent.Gone → Rose (session_faults self.old id) (session_faults self.new id) }
+        ensures faults { faults self.new ≡ faults self.old }
+        ensures sessions { NoneFalls (ids self.new).open_ids (session_faults self.old) (session_faults self.new) };
+
+    /// Closes an open session.
+    fn close(&mut self, id: u64)
+        requires is_open { Contains (ids self.old).open_ids id }
+        ensures past { Gains (past self.old) (past self.new) (Told.Closing id ∷ []) }
+        ensures script { WhereTold (script self.old) (script self.new) (λ old new. new ≡ old) }
+        ensures ids { ids self.new ≡ without (ids self.old) id }
+        ensures faults { faults self.new ≡ faults self.old }
+        ensures sessions { NoneFalls (ids self.new).open_ids (session_faults self.old) (session_faults self.new) };
+}

@@ -1,0 +1,41 @@
+//! What a program meets outside: sources of bytes, sinks of bytes, and a hub of sessions.
+//!
+//! A [`Source`] has bytes left, a [`Sink`] has bytes taken, and a [`Hub`] has a script of turns to
+//! come and a past. Contracts name them where they are told, as `Some`: a source in memory tells
+//! all, the standard input tells nothing (`None`). So code that is generic in them is proved once
+//! for both, and a claim on bytes is made where they are told as the call returns.
+//!
+//! Each of the three counts its faults. A call answers `Failed` only where its count *rose*: it is
+//! greater than at the call's start, or stands at the end of its range. The counts never fall.
+//!
+//! What this crate is not: it buffers nothing, retries nothing, and reads no lines.
+//!
+//! What surprises: a source that tells goes on to tell, while a sink or a hub may lose its record,
+//! where the memory for it was refused, and claims nothing from then on.
+//!
+//! [`MemSource`], [`MemSink`] and [`MemHub`] stand in memory and tell everything. [`StdSource`] and
+//! [`StdSink`] are a few lines over `std::io`, tell nothing, and are the trusted edge.
+#![tactic(auto)]
+
+mod hub;
+mod mem_hub;
+mod mem_sink;
+mod mem_source;
+mod piece;
+mod sink;
+mod source;
+mod std_sink;
+mod std_source;
+
+pub use hub::{Hub, Listened, Sent, Told, Turn};
+pub use mem_hub::MemHub;
+pub use mem_sink::MemSink;
+pub use mem_source::MemSource;
+pub use piece::Piece;
+pub use sink::{Sink, Written, Wrote, write_all};
+pub use source::{Read, Source};
+pub use std_sink::StdSink;
+pub use std_source::StdSource;
+
+#[cfg(test)]
+mod tests;

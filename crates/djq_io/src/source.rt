@@ -1,0 +1,30 @@
+/// The answer to a read.
+#[derive(Clone, Copy, Debug, PartialEq, Eq)]
+pub enum Read {
+    /// So many bytes stand at the start of the buffer, at least 1.
+    Got(usize),
+    /// No bytes are left.
+    End,
+    /// The read failed, and took nothing.
+    Failed,
+}
+
+/// Where bytes come from.
+pub trait Source {
+    ghost use Rattle.std.specs.Prelude.{◌≡◌, ℕ, ◌<◌, ◌≤◌, List, length, Option};
+    ghost use Rattle.djq_io.specs.Faults.{Rose};
+    ghost use Rattle.djq_io.specs.Source.{Reads};
+
+    // The bytes that are left, where the source tells them.
+    ghost left: { Self → Option (List ℕ) };
+
+    // How many faults it has met.
+    ghost faults: { Self → ℕ };
+
+    /// Reads some bytes into the start of the buffer. Past them the buffer may change too.
+    fn read(&mut self, buf: &mut [u8]) -> Read
+        requires { 0 < length buf.old }
+        ensures reads { Reads result (left self.old) (left self.new) buf.new }
+        ensures failed { result ≡ Read.Failed → Rose (faults self.old) (faults self.new) }
+        ensures later { faults self.old ≤ faults self.new };
+}

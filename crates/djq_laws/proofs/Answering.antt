@@ -1,0 +1,137 @@
+-- When a query has the same answers over other relations.
+use Rattle.std.specs.Prelude.{List, [], ◌∷◌, ◌==◌, ◌≡◌, ◌++◌, ◌&&◌, ◌||◌, Bool, true, false, cond, Option, None, Some, All, Contains, IsPermutation}
+use Rattle.std.specs.List.{list_any}
+use Rattle.std.proofs.Common.{refl, sym, ap, ap₂, ◌∙◌, subst}
+use Rattle.std.proofs.lemmas.Bool.{eqb-true, eq-eqb}
+use Rattle.std.proofs.lemmas.List.Elements.{All-nil, All-cons}
+use Rattle.std.proofs.lemmas.List.Sorted.{Contains-permutation, IsPermutation-sym, IsPermutation-refl}
+use Rattle.djq_model.specs.declared.relation.Relation.{Relation}
+use Rattle.djq_model.specs.declared.relation.ColumnType.{ColumnType}
+use Rattle.djq_model.specs.declared.query.Query.{Query}
+use Rattle.djq_model.specs.declared.query.Atom.{Atom}
+use Rattle.djq_model.specs.Data.{Bytes, Tuple, bytes_eq, relation_of, rows_of, rows_in}
+use Rattle.djq_model.specs.Answer.{IsAnswer}
+use Rattle.djq_machine.specs.Store.{with_rows}
+use Rattle.djq_machine.specs.Step.{SameRelations}
+use Rattle.djq_machine.specs.Course.{Gives}
+use Rattle.djq_laws.proofs.Finding.{find_other}
+
+-- names that pass the test are the same
+both : (a b : Bool) → (a && b) ≡ true → (a ≡ true) × (b ≡ true)
+both true true h = (refl, refl)
+both true false h = absurd cc
+both false b h = absurd cc
+
+pub bytes_same : (xs ys : Bytes) → bytes_eq xs ys ≡ true → xs ≡ ys
+bytes_same [] [] h = refl
+bytes_same [] (y ∷ ys) h = absurd cc
+bytes_same (x ∷ xs) [] h = absurd cc
+bytes_same (x ∷ xs) (y ∷ ys) h =
+    let b = both (x == y) (bytes_eq xs ys) h in
+    ap₂ (λ z zs. z ∷ zs) (eqb-true x y b.0) (bytes_same xs ys b.1)
+
+pub bytes_itself : (xs : Bytes) → bytes_eq xs xs ≡ true
+bytes_itself [] = refl
+bytes_itself (x ∷ xs) = rw (eq-eqb x x refl, bytes_itself xs) refl
+
+apart_from : (r name n : Bytes) (b : Bool) → bytes_eq r n ≡ b → bytes_eq n name ≡ false → bytes_eq r name ≡ true → b ≡ false
+apart_from r name n false e ne same = refl
+apart_from r name n true e ne same =
+    let k : r ≡ n = bytes_same r n e in
+    let twice : bytes_eq n name ≡ true = ap (λ z. bytes_eq z name) (sym k) ∙ same in
+    absurd (cc (twice, ne))
+
+-- what holds of the rows of every atom's relation: those of the one are among those of the other
+abbrev pub RowsWithin : List Relation → List Relation → Query → Type 0
+RowsWithin rs rs' q = All (λ (a : Atom). (row : Tuple) → Contains (rows_of rs a.relation) row → Contains (rows_of rs' a.relation) row) q.atoms
+
+pub answer_within : (rs rs' : List Relation) (q : Query) (t : Tuple) → RowsWithin rs rs' q → IsAnswer rs q t → IsAnswer rs' q t
+answer_within rs rs' q t within h = record {
+  assignment = h.assignment;
+  satisfies = λ k d lt. let s = h.satisfies k d lt in record { row = s.row; is_there = within k d lt s.row s.is_there; stands = s.stands };
+  on_head = h.on_head;
+}
+
+-- the same answers
+pub record SameAnswers (rs rs' : List Relation) (q : Query) : Type 0 where
+  pub there : (t : Tuple) → IsAnswer rs q t → IsAnswer rs' q t
+  pub back : (t : Tuple) → IsAnswer rs' q t → IsAnswer rs q t
+
+pub same_within : (rs rs' : List Relation) (q : Query) → RowsWithin rs rs' q → RowsWithin rs' rs q → SameAnswers rs rs' q
+same_within rs rs' q there back = record { there = λ t h. answer_within rs rs' q t there h; back = λ t h. answer_within rs' rs q t back h }
+
+-- what a cursor has given it still gives
+pub gives_kept : (rs rs' : List Relation) (q : Query) (given : List Tuple) (finished : Bool) → SameAnswers rs rs' q → Gives rs q given finished → Gives rs' q given finished
+gives_kept rs rs' q given finished same h = record {
+  different = h.different;
+  answers = λ k d lt. same.there _ (h.answers k d lt);
+  listing = λ e. let l = h.listing e in record {
+    different = l.different;
+    answers = λ k d lt. same.there _ (l.answers k d lt);
+    complete = λ t a. l.complete t (same.back t a);
+  };
+}
+
+-- A new relation has no rows, so each name has the rows that it had.
+new_step : (n name : Bytes) (types : List ColumnType) (b : Bool) → rows_in (cond b (Some (record { name = name; types = types; rows = [] })) None) ≡ []
+new_step n name types true = refl
+new_step n name types false = refl
+
+first_step : (n : Bytes) (r : Relation) (o p : Option Relation) (b : Bool) → rows_in o ≡ rows_in p → rows_in (cond b (Some r) o) ≡ rows_in (cond b (Some r) p)
+first_step n r o p true h = refl
+first_step n r o p false h = h
+
+pub new_rows : (rs : List Relation) (name : Bytes) (types : List ColumnType) (n : Bytes)
+    → rows_of (rs ++ record { name = name; types = types; rows = [] } ∷ []) n ≡ rows_of rs n
+new_rows [] name types n = new_step n name types (bytes_eq name n)
+new_rows (r ∷ rs) name types n =
+    first_step n r (relation_of (rs ++ record { name = name; types = types; rows = [] } ∷ []) n) (relation_of rs n) (bytes_eq r.name n) (new_rows rs name types n)
+
+rows_same : (rs rs' : List Relation) (q : Query) → ((n : Bytes) → rows_of rs' n ≡ rows_of rs n) → SameAnswers rs rs' q
+rows_same rs rs' q e = same_within rs rs' q
+    (λ k d lt row h. rw e h)
+    (λ k d lt row h. rw e at h)
+
+pub new_relation_same : (rs : List Relation) (name : Bytes) (types : List ColumnType) (q : Query)
+    → SameAnswers rs (rs ++ record { name = name; types = types; rows = [] } ∷ []) q
+new_relation_same rs name types q = rows_same rs (rs ++ record { name = name; types = types; rows = [] } ∷ []) q (new_rows rs name types)
+
+-- The same relations with their rows in another order.
+order_step : (n : Bytes) (r s : Relation) (o p : Option Relation) (b : Bool) → bytes_eq r.name n ≡ b → s.name ≡ r.name → IsPermutation r.rows s.rows
+    → IsPermutation (rows_in o) (rows_in p) → IsPermutation (rows_in (cond b (Some r) o)) (rows_in (cond (bytes_eq s.name n) (Some s) p))
+order_step n r s o p true e name rows h = let k : bytes_eq s.name n ≡ true = ap (λ m. bytes_eq m n) name ∙ e in rw k rows
+order_step n r s o p false e name rows h = let k : bytes_eq s.name n ≡ false = ap (λ m. bytes_eq m n) name ∙ e in rw k h
+
+pub reordered_rows : (rs rs' : List Relation) (n : Bytes) → SameRelations rs rs' → IsPermutation (rows_of rs n) (rows_of rs' n)
+reordered_rows [] [] n h = IsPermutation-refl []
+reordered_rows (r ∷ rs) (s ∷ rs') n h = order_step n r s (relation_of rs n) (relation_of rs' n) (bytes_eq r.name n) refl h.0 h.2 (reordered_rows rs rs' n h.3)
+reordered_rows [] (s ∷ rs') n h = absurd h
+reordered_rows (r ∷ rs) [] n h = absurd h
+
+pub reordered_same : (rs rs' : List Relation) (q : Query) → SameRelations rs rs' → SameAnswers rs rs' q
+reordered_same rs rs' q h = same_within rs rs' q
+    (λ k d lt row c. Contains-permutation _ _ row (reordered_rows rs rs' _ h) c)
+    (λ k d lt row c. Contains-permutation _ _ row (IsPermutation-sym _ _ (reordered_rows rs rs' _ h)) c)
+
+-- A change of a relation that a query doesn't read.
+pub rows_apart : (rs : List Relation) (name : Bytes) (rows : List Tuple) (n : Bytes) → bytes_eq n name ≡ false → rows_of (with_rows rs name rows) n ≡ rows_of rs n
+rows_apart rs name rows n ne =
+    ap rows_in (find_other (λ (r : Relation). bytes_eq r.name name) (λ (r : Relation). bytes_eq r.name n) (λ (r : Relation). record r { rows = rows }) (λ r. refl)
+    (λ r e. apart_from r.name name n (bytes_eq r.name n) refl ne e) rs)
+
+none_or : (a b : Bool) → (a || b) ≡ false → (a ≡ false) × (b ≡ false)
+none_or false false h = (refl, refl)
+none_or false true h = absurd cc
+none_or true b h = absurd cc
+
+pub none_pass : {A : Type 0} (p : A → Bool) (xs : List A) → list_any p xs ≡ false → All (λ x. p x ≡ false) xs
+none_pass p [] h = All-nil (λ x. p x ≡ false)
+none_pass p (x ∷ xs) h = let n = none_or (p x) (list_any p xs) h in All-cons (λ y. p y ≡ false) x xs n.0 (none_pass p xs n.1)
+
+pub unread_same : (rs : List Relation) (name : Bytes) (rows : List Tuple) (q : Query) → list_any (λ (a : Atom). bytes_eq a.relation name) q.atoms ≡ false
+    → SameAnswers rs (with_rows rs name rows) q
+unread_same rs name rows q h =
+    let apart = none_pass (λ (a : Atom). bytes_eq a.relation name) q.atoms h in
+    same_within rs (with_rows rs name rows) q
+    (λ k d lt row c. subst (λ (r : List Tuple). Contains r row) (sym (rows_apart rs name rows _ (apart k d lt))) c)
+    (λ k d lt row c. subst (λ (r : List Tuple). Contains r row) (rows_apart rs name rows _ (apart k d lt)) c)

@@ -1,0 +1,332 @@
+-- What open cursors have given, along any run: different answers of their queries over the present rows, and all of them where the end was told.
+use Rattle.std.specs.Prelude.{ℕ, List, [], ◌∷◌, ◌==◌, ◌≡◌, ◌<◌, ◌+◌, ◌*◌, ◌++◌, ◌⊎◌, Bool, true, false, not, cond, length, Option, None, Some, is_some, is_none, nat_le, IsSomeAnd, MatchOption, Result, Ok, Err, map, All, codes, ⊤}
+use Rattle.std.proofs.Common.{refl, sym, ap, ◌∙◌, subst, inl, inr, arith}
+use Rattle.std.proofs.lemmas.List.Elements.{All-nil, All-append, All-push, All-weaker, All-filter}
+use Rattle.djq_model.specs.declared.relation.Relation.{Relation}
+use Rattle.djq_model.specs.declared.relation.ColumnType.{ColumnType}
+use Rattle.djq_model.specs.declared.query.Query.{Query}
+use Rattle.djq_model.specs.Data.{Bytes, Tuple, bytes_eq, drop_first, rows_of, has_row, without_row, query_of}
+use Rattle.djq_model.specs.Answer.{IsAnswer}
+use Rattle.djq_machine.specs.declared.answer.Cause.{Cause}
+use Rattle.djq_machine.specs.declared.answer.Cause.TheVariants.{Input, Memory}
+use Rattle.djq_machine.specs.declared.answer.Refusal.{Refusal}
+use Rattle.djq_machine.specs.declared.answer.Refusal.TheVariants.{Taken, NoQuery, NoCursor, Limit, NoMemory}
+use Rattle.djq_machine.specs.declared.answer.Added.{Added as AddAnswer}
+use Rattle.djq_machine.specs.declared.answer.Added.TheVariants.{Added, Same}
+use Rattle.djq_machine.specs.declared.answer.Deleted.{Deleted as DeleteAnswer}
+use Rattle.djq_machine.specs.declared.answer.Deleted.TheVariants.{Removed, Absent}
+use Rattle.djq_machine.specs.declared.command.Command.{Command}
+use Rattle.djq_machine.specs.declared.command.Command.TheVariants.{Rel, Add, Del, Query as Register, Open, Next, Close}
+use Rattle.djq_machine.specs.Reply.{line, listing_lines}
+use Rattle.djq_machine.specs.State.{Store, State, Session, Cursor, Place, open_at, stale, fresh, opening, session_of, with_session, cursor_of, with_place, ended_by}
+use Rattle.djq_machine.specs.Store.{first_of, Answers, Relates, Adds, AddDoes, Deletes, DeleteDoes, Registers, Tells, with_rows, rel_refusal, add_refusal, delete_refusal, query_refusal, most_steps}
+use Rattle.djq_machine.specs.Step.{Event, opened, fed, ran, took, ended, closed, Effect, nothing, says, EndsWith, reads, outdated, outdated_cursor, outdated_sessions, add_outdates, delete_outdates, changed, open_refusal, OpenDoes, Lists, ReadsAt, Refused, Does, Acts, queue_all, queue, with_relations, Step}
+use Rattle.djq_machine.specs.Run.{Did, Run}
+use Rattle.djq_machine.specs.Course.{Gives, PlaceGives, CursorsGive}
+use Rattle.djq_machine.proofs.Walks.{walk_keeps}
+use Rattle.djq_laws.proofs.Finding.{some_and}
+use Rattle.djq_laws.proofs.Ways.{Ways, ran_keeps, without_line}
+use Rattle.djq_laws.proofs.Moving.{Finishes}
+use Rattle.djq_laws.proofs.Changing.{all_changed, all_found, all_dropped, all_mapped}
+use Rattle.djq_laws.proofs.Answering.{SameAnswers, gives_kept, new_relation_same, reordered_same, unread_same}
+
+-- a cursor gives what it should, over these relations and queries
+abbrev pub CursorGives : List Relation → List Query → Cursor → Type 0
+CursorGives rs qs c = PlaceGives rs (query_of qs c.query) c.place
+
+abbrev pub SessionGives : List Relation → List Query → Session → Type 0
+SessionGives rs qs x = All (CursorGives rs qs) x.cursors
+
+abbrev pub SessionsGive : List Relation → List Query → List Session → Type 0
+SessionsGive rs qs xs = All (SessionGives rs qs) xs
+
+-- A place gives over other relations where the queries have the same answers.
+place_kept : (rs rs' : List Relation) (o : Option Query) (p : Place) → ((q : Query) → SameAnswers rs rs' q) → PlaceGives rs o p → PlaceGives rs' o p
+place_kept rs rs' None (open_at given finished) same h = h
+place_kept rs rs' (Some q) (open_at given finished) same h = gives_kept rs rs' q given finished (same q) h
+place_kept rs rs' o (stale r n) same h = tt
+
+relations_give : (rs rs' : List Relation) (qs : List Query) (xs : List Session) → ((q : Query) → SameAnswers rs rs' q) → SessionsGive rs qs xs → SessionsGive rs' qs xs
+relations_give rs rs' qs xs same h =
+    All-weaker (SessionGives rs qs) (SessionGives rs' qs)
+    (λ x g. All-weaker (CursorGives rs qs) (CursorGives rs' qs) (λ c k. place_kept rs rs' (query_of qs c.query) c.place same k) x.cursors g) xs h
+
+-- A query that is registered changes no name's meaning.
+place_registered : (rs : List Relation) (o p : Option Query) (place : Place) → ((q : Query) → o ≡ Some q → p ≡ Some q) → PlaceGives rs o place → PlaceGives rs p place
+place_registered rs None p (open_at given finished) same h = absurd h
+place_registered rs (Some q) p (open_at given finished) same h = let e = same q refl in rw e h
+place_registered rs o p (stale r n) same h = tt
+
+found_in_front : (qs : List Query) (q : Query) (name : Bytes) (found : Query) → query_of qs name ≡ Some found → query_of (qs ++ q ∷ []) name ≡ Some found
+found_in_front [] q name found e = absurd cc
+found_in_front (r ∷ qs) q name found e = at_first (bytes_eq r.name name) e (λ k. found_in_front qs q name found k)
+  where
+    at_first : (b : Bool) → cond b (Some r) (query_of qs name) ≡ Some found → (query_of qs name ≡ Some found → query_of (qs ++ q ∷ []) name ≡ Some found)
+        → cond b (Some r) (query_of (qs ++ q ∷ []) name) ≡ Some found
+    at_first true k rest = k
+    at_first false k rest = rest k
+
+registered_give : (rs : List Relation) (qs : List Query) (q : Query) (xs : List Session) → SessionsGive rs qs xs → SessionsGive rs (qs ++ q ∷ []) xs
+registered_give rs qs q xs h =
+    All-weaker (SessionGives rs qs) (SessionGives rs (qs ++ q ∷ []))
+    (λ x g. All-weaker (CursorGives rs qs) (CursorGives rs (qs ++ q ∷ []))
+    (λ c k. place_registered rs (query_of qs c.query) (query_of (qs ++ q ∷ []) c.query) c.place (λ f e. found_in_front qs q c.query f e) k) x.cursors g) xs h
+
+-- After a change of a relation those that read it are stale, and the others have the same answers.
+place_outdated : (rs rs' : List Relation) (o : Option Query) (p : Place) (name : Bytes) (n : ℕ) (b : Bool) → reads o name ≡ b
+    → ((q : Query) → reads (Some q) name ≡ false → SameAnswers rs rs' q) → PlaceGives rs o p → PlaceGives rs' o (cond b (outdated name n p) p)
+place_outdated rs rs' o (stale r m) name n true e same h = tt
+place_outdated rs rs' o (stale r m) name n false e same h = tt
+place_outdated rs rs' o (open_at given finished) name n true e same h = tt
+place_outdated rs rs' None (open_at given finished) name n false e same h = h
+place_outdated rs rs' (Some q) (open_at given finished) name n false e same h = gives_kept rs rs' q given finished (same q e) h
+
+outdated_give : (rs rs' : List Relation) (qs : List Query) (name : Bytes) (n : ℕ) (xs : List Session)
+    → ((q : Query) → reads (Some q) name ≡ false → SameAnswers rs rs' q) → SessionsGive rs qs xs → SessionsGive rs' qs (outdated_sessions qs name n xs)
+outdated_give rs rs' qs name n xs same h =
+    all_mapped (SessionGives rs qs) (SessionGives rs' qs) (λ (x : Session). record x { cursors = map (outdated_cursor qs name n) x.cursors })
+    (λ x g. all_mapped (CursorGives rs qs) (CursorGives rs' qs) (outdated_cursor qs name n)
+    (λ c k. place_outdated rs rs' (query_of qs c.query) c.place name n (reads (query_of qs c.query) name) refl same k) x.cursors g) xs h
+
+same_itself : (rs : List Relation) (q : Query) → SameAnswers rs rs q
+same_itself rs q = record { there = λ t h. h; back = λ t h. h }
+
+-- A session that is changed, where the change keeps what its cursors give.
+session_gives : (old new : State) (s : ℕ) (f : Session → Session) → new ≡ with_session old s f
+    → ((x : Session) → session_of old s ≡ Some x → SessionGives old.store.relations old.store.queries x → SessionGives old.store.relations old.store.queries (f x))
+    → CursorsGive old → CursorsGive new
+session_gives old new s f after keeps h =
+    subst CursorsGive (sym after) (all_changed (SessionGives old.store.relations old.store.queries) (λ (x : Session). x.id == s) f old.sessions h keeps)
+
+same_gives : (old new : State) → new ≡ old → CursorsGive old → CursorsGive new
+same_gives old new e h = subst CursorsGive (sym e) h
+
+-- The commands.
+done_of : {A : Type 0} (o : Option Refusal) (a : A) (D : A → Type 0) (W : Type 0) → Answers o (Ok a) D W → D a
+done_of None a D W h = h
+done_of (Some r) a D W h = absurd h
+
+rel_gives : (old : State) (name : Bytes) (types : List ColumnType) (r : Result ⊤ Refusal) (store : Store) (new : State) → Relates old.store name types r store → new ≡ record old { store = store } → CursorsGive old → CursorsGive new
+rel_gives old name types (Ok u) store new h after g =
+    let e = done_of (rel_refusal old.store name types) u (λ _. store ≡ record old.store { relations = old.store.relations ++ record { name = name; types = types; rows = [] } ∷ [] }) ⊤ h.answer in
+    subst CursorsGive (sym (after ∙ ap (λ (st : Store). record old { store = st }) e))
+    (relations_give old.store.relations (old.store.relations ++ record { name = name; types = types; rows = [] } ∷ []) old.store.queries old.sessions
+    (new_relation_same old.store.relations name types) g)
+rel_gives old name types (Err r) store new h after g = same_gives old new (after ∙ ap (λ (st : Store). record old { store = st }) h.stays) g
+
+-- a change that outdates, or none
+changed_gives : (old : State) (name : Bytes) (rows : List Tuple) (store : Store) (new : State) → store ≡ record old.store { relations = with_rows old.store.relations name rows; seq = old.store.seq + 1 }
+    → new ≡ changed old name true store → CursorsGive old → CursorsGive new
+changed_gives old name rows store new e after g =
+    subst CursorsGive (sym (after ∙ ap (λ (st : Store). changed old name true st) e))
+    (outdated_give old.store.relations (with_rows old.store.relations name rows) old.store.queries name (old.store.seq + 1) old.sessions
+    (λ q apart. unread_same old.store.relations name rows q apart) g)
+
+unchanged_gives : (old : State) (name : Bytes) (store : Store) (new : State) → store ≡ old.store → new ≡ changed old name false store → CursorsGive old → CursorsGive new
+unchanged_gives old name store new e after g = same_gives old new (after ∙ ap (λ (st : Store). record old { store = st }) e) g
+
+wanting_gives : (old : State) (name : Bytes) (store : Store) (new : State) → store ≡ old.store → new ≡ changed old name true store → CursorsGive old → CursorsGive new
+wanting_gives old name store new e after g =
+    subst CursorsGive (sym (after ∙ ap (λ (st : Store). changed old name true st) e))
+    (outdated_give old.store.relations old.store.relations old.store.queries name old.store.seq old.sessions (λ q apart. same_itself old.store.relations q) g)
+
+add_gives : (old : State) (name : Bytes) (row : Tuple) (r : Result AddAnswer Refusal) (store : Store) (new : State) → Adds old.store name row r store → new ≡ changed old name (add_outdates r) store → CursorsGive old → CursorsGive new
+add_gives old name row (Ok Added) store new h after g =
+    let d = done_of (add_refusal old.store name row) Added (AddDoes old.store name row store) (has_row (rows_of old.store.relations name) row ≡ false) h.answer in
+    changed_gives old name (rows_of old.store.relations name ++ row ∷ []) store new d.1 after g
+add_gives old name row (Ok Same) store new h after g =
+    let d = done_of (add_refusal old.store name row) Same (AddDoes old.store name row store) (has_row (rows_of old.store.relations name) row ≡ false) h.answer in
+    unchanged_gives old name store new d.1 after g
+add_gives old name row (Err NoMemory) store new h after g = wanting_gives old name store new h.stays after g
+add_gives old name row (Err _) store new h after g = unchanged_gives old name store new h.stays after g
+
+delete_gives : (old : State) (name : Bytes) (row : Tuple) (r : Result DeleteAnswer Refusal) (store : Store) (new : State) → Deletes old.store name row r store → new ≡ changed old name (delete_outdates r) store → CursorsGive old → CursorsGive new
+delete_gives old name row (Ok Removed) store new h after g =
+    let d = done_of (delete_refusal old.store name row) Removed (DeleteDoes old.store name row store) ⊥ h.answer in
+    changed_gives old name (without_row (rows_of old.store.relations name) row) store new d.1 after g
+delete_gives old name row (Ok Absent) store new h after g =
+    let d = done_of (delete_refusal old.store name row) Absent (DeleteDoes old.store name row store) ⊥ h.answer in
+    unchanged_gives old name store new d.1 after g
+delete_gives old name row (Err r) store new h after g = unchanged_gives old name store new h.stays after g
+
+query_gives : (old : State) (q : Query) (r : Result ℕ Refusal) (store : Store) (new : State) → Registers old.store q r store → new ≡ record old { store = store } → CursorsGive old → CursorsGive new
+query_gives old q (Ok most) store new h after g =
+    let d = done_of (query_refusal old.store q) most (λ m. (m ≡ most_steps (length q.head)) × (store ≡ record old.store { queries = old.store.queries ++ q ∷ [] })) ⊤ h.answer in
+    subst CursorsGive (sym (after ∙ ap (λ (st : Store). record old { store = st }) d.1)) (registered_give old.store.relations old.store.queries q old.sessions g)
+query_gives old q (Err r) store new h after g = same_gives old new (after ∙ ap (λ (st : Store). record old { store = st }) h.stays) g
+
+-- A cursor that opens has given nothing.
+opens_on : (o : Option Refusal) (u : ⊤) (W : Type 0) → Answers o (Ok u) (λ _. ⊤) W → o ≡ None
+opens_on None u W h = refl
+opens_on (Some r) u W h = absurd h
+
+none_second : (a b : Bool) (r t : Refusal) (o : Option Refusal) → cond a (Some r) (cond b (Some t) o) ≡ None → b ≡ false
+none_second true b r t o h = absurd cc
+none_second false true r t o h = absurd cc
+none_second false false r t o h = refl
+
+query_there : (st : Store) (cursors : List Cursor) (c q : Bytes) → open_refusal st cursors c q ≡ None → is_none (query_of st.queries q) ≡ false
+query_there st cursors c q h =
+    none_second (is_some (cursor_of cursors c)) (is_none (query_of st.queries q)) Taken NoQuery (first_of ((nat_le 16 (length cursors), Limit) ∷ [])) h
+
+nothing_given : (rs : List Relation) (o : Option Query) → is_none o ≡ false → PlaceGives rs o (open_at [] false)
+nothing_given rs None h = absurd cc
+nothing_given rs (Some q) h = record {
+  different = λ i j d lt in_range. absurd (omega arith);
+  answers = All-nil (IsAnswer rs q);
+  listing = λ e. absurd cc;
+}
+
+open_gives : (old : State) (s : ℕ) (x : Session) (c q : Bytes) (r : Result ⊤ Refusal) (new : State) → Answers (open_refusal old.store x.cursors c q) r (λ _. ⊤) ⊤
+    → OpenDoes old s c q new r → CursorsGive old → CursorsGive new
+open_gives old s x c q (Ok u) new answer after g =
+    let there = query_there old.store x.cursors c q (opens_on (open_refusal old.store x.cursors c q) u ⊤ answer) in
+    session_gives old new s (λ y. record y { cursors = y.cursors ++ record { name = c; query = q; place = open_at [] false } ∷ [] }) after
+    (λ y found k. All-push (CursorGives old.store.relations old.store.queries) y.cursors (record { name = c; query = q; place = open_at [] false }) k
+    (nothing_given old.store.relations (query_of old.store.queries q) there)) g
+open_gives old s x c q (Err r) new answer after g = same_gives old new after g
+
+-- What `next` tells comes behind what was given.
+told_gives : (rs : List Relation) (q : Query) (given : List Tuple) (finished : Bool) (count : ℕ) (told : List Tuple) (end : Bool)
+    → Gives rs q given finished → Tells rs q given count told end → Gives rs q (given ++ told) end
+told_gives rs q given finished count told end g t =
+    let answers = All-append (IsAnswer rs q) given told g.answers t.answers in
+    record {
+      different = t.different;
+      answers = answers;
+      listing = λ e. record { different = t.different; answers = answers; complete = t.none_left e };
+    }
+
+ends_gives : (old : State) (s : ℕ) (cause : Cause) (new : State) → new ≡ with_session old s (ended_by cause) → CursorsGive old → CursorsGive new
+ends_gives old s cause new after g =
+    session_gives old new s (ended_by cause) after (λ x found k. All-nil (CursorGives old.store.relations old.store.queries)) g
+
+-- the cursor that is read, in the session that reads it
+moved_gives : (rs : List Relation) (qs : List Query) (cursors : List Cursor) (c : Bytes) (k : Cursor) (place : Place) → cursor_of cursors c ≡ Some k → PlaceGives rs (query_of qs k.query) place
+    → All (CursorGives rs qs) cursors → All (CursorGives rs qs) (with_place cursors c place)
+moved_gives rs qs cursors c k place found gives h =
+    all_changed (CursorGives rs qs) (λ (z : Cursor). bytes_eq z.name c) (λ (z : Cursor). record z { place = place }) cursors h
+    (λ z at old. let e : k ≡ z = same_found (cursor_of cursors c) k z found at in subst (λ (y : Cursor). PlaceGives rs (query_of qs y.query) place) e gives)
+  where
+    same_found : (o : Option Cursor) (y z : Cursor) → o ≡ Some y → o ≡ Some z → y ≡ z
+    same_found o y z e f = cc
+
+lists_give : (old : State) (s : ℕ) (x : Session) (c : Bytes) (k : Cursor) (place : Place) (lines : List Bytes) (cost : ℕ) (o : Option ℕ) (e : Effect) (new : State)
+    → session_of old s ≡ Some x → cursor_of x.cursors c ≡ Some k → PlaceGives old.store.relations (query_of old.store.queries k.query) place
+    → Lists old s (λ y. record y { cursors = with_place y.cursors c place }) lines cost o e new → CursorsGive old → CursorsGive new
+lists_give old s x c k place lines cost None e new at found gives h g =
+    session_gives old new s (λ y. record y { cursors = with_place y.cursors c place }) h.1
+    (λ y here cursors. let same : x ≡ y = same_found (session_of old s) x y at here in
+    moved_gives old.store.relations old.store.queries y.cursors c k place (ap (λ (z : Session). cursor_of z.cursors c) (sym same) ∙ found) gives cursors) g
+  where
+    same_found : (o : Option Session) (y z : Session) → o ≡ Some y → o ≡ Some z → y ≡ z
+    same_found o y z e f = cc
+lists_give old s x c k place lines cost (Some whole) e new at found gives h g = ends_gives old s Memory new h.3 g
+
+reads_give : (old : State) (s : ℕ) (x : Session) (c : Bytes) (k : Cursor) (q : Query) (count : ℕ) (p : Place) (e : Effect) (new : State)
+    → session_of old s ≡ Some x → cursor_of x.cursors c ≡ Some k → query_of old.store.queries k.query ≡ Some q → PlaceGives old.store.relations (query_of old.store.queries k.query) p
+    → ReadsAt old s c q count p e new → CursorsGive old → CursorsGive new
+reads_give old s x c k q count (stale r n) e new at found is_query gave h g = same_gives old new h.1 g
+reads_give old s x c k q count (open_at given finished) e new at found is_query gave h g =
+    let before : Gives old.store.relations q given finished = rw is_query at gave in
+    let after = told_gives old.store.relations q given finished count h.told h.end before h.tells in
+    let now : PlaceGives old.store.relations (query_of old.store.queries k.query) (open_at (given ++ h.told) h.end) = rw is_query after in
+    lists_give old s x c k (open_at (given ++ h.told) h.end) (listing_lines h.told h.end) ((length h.told + 1) * most_steps (length q.head)) h.whole e new at found now h.lists g
+
+next_gives : (old : State) (s : ℕ) (x : Session) (c : Bytes) (count : ℕ) (o : Option Cursor) (e : Effect) (new : State) → session_of old s ≡ Some x → cursor_of x.cursors c ≡ o
+    → MatchOption o (Refused old s NoCursor e new) (λ k. IsSomeAnd (query_of old.store.queries k.query) (λ q. ReadsAt old s c q count k.place e new)) → CursorsGive old → CursorsGive new
+next_gives old s x c count None e new at found h g = same_gives old new h.1 g
+next_gives old s x c count (Some k) e new at found h g =
+    let f = some_and (query_of old.store.queries k.query) (λ q. ReadsAt old s c q count k.place e new) h in
+    let session = all_found (SessionGives old.store.relations old.store.queries) (λ (y : Session). y.id == s) old.sessions x g at in
+    let gave = all_found (CursorGives old.store.relations old.store.queries) (λ (z : Cursor). bytes_eq z.name c) x.cursors k session found in
+    reads_give old s x c k f.0 count k.place e new at found f.1 gave f.2 g
+
+close_gives : (old : State) (s : ℕ) (c : Bytes) (o : Option Cursor) (e : Effect) (new : State)
+    → MatchOption o (Refused old s NoCursor e new) (λ k. (e ≡ says s (line (codes "ok"))) × (new ≡ with_session old s (λ y. record y { cursors = drop_first (λ z. bytes_eq z.name c) y.cursors })))
+    → CursorsGive old → CursorsGive new
+close_gives old s c None e new h g = same_gives old new h.1 g
+close_gives old s c (Some k) e new h g =
+    session_gives old new s (λ y. record y { cursors = drop_first (λ z. bytes_eq z.name c) y.cursors }) h.1
+    (λ y found k. all_dropped (CursorGives old.store.relations old.store.queries) (λ (z : Cursor). bytes_eq z.name c) y.cursors k) g
+
+-- What a line does keeps what cursors give.
+abbrev pub KeepsGiving : State → ℕ → Effect → State → Type 0
+KeepsGiving old s e new = CursorsGive old → CursorsGive new
+
+does_give : (old : State) (s : ℕ) (x : Session) (c : Command) (e : Effect) (new : State) → session_of old s ≡ Some x → Does old s x c e new → KeepsGiving old s e new
+does_give old s x (Rel name types) e new found h g = rel_gives old name types h.result h.store new h.relates h.state g
+does_give old s x (Add name row) e new found h g = add_gives old name row h.result h.store new h.adds h.state g
+does_give old s x (Del name row) e new found h g = delete_gives old name row h.result h.store new h.deletes h.state g
+does_give old s x (Register q) e new found h g = query_gives old q h.result h.store new h.registers h.state g
+does_give old s x (Open c q) e new found h g = open_gives old s x c q h.result new h.answer h.state g
+does_give old s x (Next c count) e new found h g = next_gives old s x c count (cursor_of x.cursors c) e new found refl h g
+does_give old s x (Close c) e new found h g = close_gives old s c (cursor_of x.cursors c) e new h g
+
+-- a session whose cursors stay
+cursors_stay : (old new : State) (s : ℕ) (f : Session → Session) → ((x : Session) → (f x).cursors ≡ x.cursors) → new ≡ with_session old s f → CursorsGive old → CursorsGive new
+cursors_stay old new s f same after g =
+    session_gives old new s f after (λ x found k. subst (λ (cs : List Cursor). All (CursorGives old.store.relations old.store.queries) cs) (sym (same x)) k) g
+
+giving_ways : Ways KeepsGiving
+giving_ways = record {
+  blank = λ old s e new said after g. same_gives old new after g;
+  refused = λ old s text e new said after g. same_gives old new after g;
+  ends = λ old s text cause before e new said after g. ends_gives old s cause new after g;
+  taken = λ old s rest e new h g. h (cursors_stay old (without_line old s rest) s (λ y. record y { held = rest }) (λ x. refl) refl g);
+  does = does_give;
+}
+
+-- The events.
+opened_give : (old mid : State) (s : ℕ) → ((length old.sessions < 64) × (mid ≡ record old { sessions = old.sessions ++ fresh s ∷ [] })) ⊎ (mid ≡ old) → CursorsGive old → CursorsGive mid
+opened_give old mid s (inl h) g =
+    subst CursorsGive (sym h.1) (All-push (SessionGives old.store.relations old.store.queries) old.sessions (fresh s) g (All-nil (CursorGives old.store.relations old.store.queries)))
+opened_give old mid s (inr h) g = same_gives old mid h g
+
+fed_give : (old : State) (s : ℕ) (bytes : Bytes) (e : Effect) (mid : State) (c : Option Cause)
+    → MatchOption c
+    (((e ≡ nothing) × (mid ≡ with_session old s (λ y. record y { held = y.held ++ bytes }))) ⊎ EndsWith (codes "end memory") Memory old s e mid)
+    (λ _. (e ≡ nothing) × (mid ≡ old))
+    → CursorsGive old → CursorsGive mid
+fed_give old s bytes e mid None (inl h) g = cursors_stay old mid s (λ y. record y { held = y.held ++ bytes }) (λ x. refl) h.1 g
+fed_give old s bytes e mid None (inr h) g = ends_gives old s Memory mid h.1 g
+fed_give old s bytes e mid (Some c) h g = same_gives old mid h.1 g
+
+ended_give : (old : State) (s : ℕ) (e : Effect) (mid : State) (x : Session) (c : Option Cause) → Finishes old s e mid x c → CursorsGive old → CursorsGive mid
+ended_give old s e mid x None h g = ends_gives old s Input mid h.2 g
+ended_give old s e mid x (Some c) h g = same_gives old mid h.1 g
+
+pub acts_give : (old : State) (event : Event) (e : Effect) (mid : State) → Acts old event e mid → CursorsGive old → CursorsGive mid
+acts_give old (opened s) e mid h g = opened_give old mid s h.1 g
+acts_give old (fed s bytes) e mid h g =
+    let f = some_and (session_of old s) (λ x. MatchOption x.cause
+    (((e ≡ nothing) × (mid ≡ with_session old s (λ y. record y { held = y.held ++ bytes }))) ⊎ EndsWith (codes "end memory") Memory old s e mid)
+    (λ _. (e ≡ nothing) × (mid ≡ old))) h in
+    fed_give old s bytes e mid (f.0).cause f.2 g
+acts_give old (ran s) e mid h g = ran_keeps KeepsGiving giving_ways old s e mid h g
+acts_give old (took s bytes) e mid h g =
+    let f = some_and (session_of old s) (λ x. (rest : Bytes) × (x.pending ≡ bytes ++ rest) × (mid ≡ with_session old s (λ y. record y { pending = rest }))) h.1 in
+    cursors_stay old mid s (λ y. record y { pending = f.2.0 }) (λ x. refl) f.2.2 g
+acts_give old (ended s) e mid h g =
+    let f = some_and (session_of old s) (λ x. Finishes old s e mid x x.cause) h in
+    ended_give old s e mid f.0 (f.0).cause f.2 g
+acts_give old (closed s bytes) e mid h g =
+    subst CursorsGive (sym h.2) (All-filter (λ (x : Session). not (x.id == s)) (SessionGives old.store.relations old.store.queries) old.sessions g)
+
+queued_give : (st : State) (qs : List (ℕ × Bytes)) → CursorsGive st → CursorsGive (queue_all st qs)
+queued_give st [] g = g
+queued_give st (q ∷ qs) g = queued_give (queue st q) qs (cursors_stay st (queue st q) q.0 (λ x. record x { pending = x.pending ++ q.1 }) (λ x. refl) refl g)
+
+pub step_gives : (old : State) (event : Event) (e : Effect) (new : State) → Step old event e new → CursorsGive old → CursorsGive new
+step_gives old event e new h g =
+    let acted = acts_give old event e h.mid h.acts g in
+    let mid = h.mid in
+    let reordered : CursorsGive (with_relations mid h.relations) =
+    relations_give mid.store.relations h.relations mid.store.queries mid.sessions (λ q. reordered_same mid.store.relations h.relations q h.reordered) acted in
+    subst CursorsGive (sym h.queued) (queued_give (with_relations mid h.relations) e.queued reordered)
+
+pub runs_give : (old : State) (done : List Did) (new : State) → Run old done new → CursorsGive old → CursorsGive new
+runs_give old done new w g = walk_keeps (λ (o : State) (d : Did) (n : State). Step o d.event d.effect n) CursorsGive (λ o d n h. step_gives o d.event d.effect n h) old done new w g
+
+pub run_gives : (done : List Did) (new : State) → Run opening done new → CursorsGive new
+run_gives done new w = runs_give opening done new w (All-nil (SessionGives [] []))

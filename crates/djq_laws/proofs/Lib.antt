@@ -1,0 +1,10 @@
+pub mod Finding
+pub mod Queueing
+pub mod Moving
+pub mod Ways
+pub mod Alike
+pub mod Sending
+pub mod Answering
+pub mod Changing
+pub mod Giving
+pub mod Heading

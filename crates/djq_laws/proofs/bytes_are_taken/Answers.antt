@@ -1,0 +1,5 @@
+use Rattle.djq_laws.proofs.Moving.{took_facts}
+use Rattle.djq_laws.proofs.bytes_are_taken.Goals as goal
+
+pub returns : goal.returns
+returns c = took_facts

@@ -1,0 +1,10 @@
+pub mod Line
+pub mod Token
+pub mod Grammar
+pub mod Reply
+pub mod State
+pub mod Store
+pub mod Step
+pub mod Run
+pub mod Course
+pub mod Call

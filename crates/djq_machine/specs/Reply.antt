@@ -1,0 +1,84 @@
+-- The bytes of replies.
+use Rattle.std.specs.Prelude.{ℕ, List, [], ◌∷◌, ◌==◌, ◌++◌, Bool, Result, Ok, Err, if◌then◌else◌, map, codes}
+use Rattle.std.specs.List.{flat_map}
+use Rattle.std.specs.Fmt.{decimal, signed_decimal}
+use Rattle.djq_model.specs.declared.value.Value.{Value}
+use Rattle.djq_model.specs.declared.value.Value.TheVariants.{Int, Text}
+use Rattle.djq_model.specs.Data.{Bytes, Tuple}
+use Rattle.djq_machine.specs.declared.answer.Refusal.{Refusal}
+use Rattle.djq_machine.specs.declared.answer.Refusal.TheVariants.{Taken, NoRelation, NoQuery, NoCursor, Arity, WrongType, Limit, NoMemory, Later}
+use Rattle.djq_machine.specs.declared.answer.Added.{Added as AddAnswer}
+use Rattle.djq_machine.specs.declared.answer.Added.TheVariants.{Added, Same}
+use Rattle.djq_machine.specs.declared.answer.Deleted.{Deleted as DeleteAnswer}
+use Rattle.djq_machine.specs.declared.answer.Deleted.TheVariants.{Removed, Absent}
+
+-- a text, ended by LF
+abbrev pub line : Bytes → Bytes
+line text = text ++ 10 ∷ []
+
+-- words, a number, LF
+abbrev pub numbered : Bytes → ℕ → Bytes
+numbered words n = line (words ++ decimal n)
+
+abbrev pub refusal_line : Refusal → Bytes
+refusal_line Taken = line (codes "err 2 taken")
+refusal_line NoRelation = line (codes "err 3 no relation")
+refusal_line NoQuery = line (codes "err 4 no query")
+refusal_line NoCursor = line (codes "err 5 no cursor")
+refusal_line Arity = line (codes "err 6 arity")
+refusal_line WrongType = line (codes "err 7 type")
+refusal_line Limit = line (codes "err 11 limit")
+refusal_line NoMemory = line (codes "err 12 memory")
+refusal_line Later = line (codes "err 15 later")
+
+-- in a text printed, quote, backslash and LF have a backslash before them
+abbrev pub escaped : ℕ → Bytes
+escaped b = if b == 34 then codes "\\\"" else (if b == 92 then codes "\\\\" else (if b == 10 then codes "\\n" else b ∷ []))
+
+-- a text in quotes
+abbrev pub quoted : Bytes → Bytes
+quoted t = 34 ∷ flat_map escaped t ++ 34 ∷ []
+
+-- a value as it is printed
+abbrev pub value_text : Value → Bytes
+value_text (Int i) = signed_decimal i
+value_text (Text t) = quoted t
+
+-- an answer: `=`, then each value behind a space
+abbrev pub answer_line : Tuple → Bytes
+answer_line t = line (61 ∷ flat_map (λ v. 32 ∷ value_text v) t)
+
+-- the last line of a listing
+abbrev pub last_line : Bool → Bytes
+last_line end = if end then line (codes "end") else line (codes "more")
+
+-- the lines that `next` answers
+abbrev pub listing_lines : List Tuple → Bool → List Bytes
+listing_lines told end = map answer_line told ++ last_line end ∷ []
+
+abbrev pub text_of : List Bytes → Bytes
+text_of lines = flat_map (λ l. l) lines
+
+-- what `next` answers on a stale cursor: its name, the relation that changed, and the number of the change
+abbrev pub stale_line : Bytes → Bytes → ℕ → Bytes
+stale_line cursor relation n = numbered (codes "stale " ++ cursor ++ codes " " ++ relation ++ codes " ") n
+
+abbrev pub ok_reply : {A : Type 0} → Bytes → Result A Refusal → Bytes
+ok_reply words (Ok a) = line words
+ok_reply words (Err r) = refusal_line r
+
+-- what `add` answers, at a number of changes
+abbrev pub add_reply : Result AddAnswer Refusal → ℕ → Bytes
+add_reply (Ok Added) n = numbered (codes "ok added ") n
+add_reply (Ok Same) n = numbered (codes "ok same ") n
+add_reply (Err r) n = refusal_line r
+
+abbrev pub delete_reply : Result DeleteAnswer Refusal → ℕ → Bytes
+delete_reply (Ok Removed) n = numbered (codes "ok removed ") n
+delete_reply (Ok Absent) n = numbered (codes "ok absent ") n
+delete_reply (Err r) n = refusal_line r
+
+-- what `query` answers: the most lookups and links for one of its answers
+abbrev pub query_reply : Result ℕ Refusal → Bytes
+query_reply (Ok most) = numbered (codes "ok query ") most
+query_reply (Err r) = refusal_line r

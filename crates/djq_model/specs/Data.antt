@@ -1,0 +1,74 @@
+-- Tests of equality on values, tuples and names, and look-ups by name.
+use Rattle.std.specs.Prelude.{ℕ, ℤ, pos, negsuc, List, [], ◌∷◌, ◌==◌, ◌&&◌, Bool, true, false, Option, None, Some, if◌then◌else◌, find}
+use Rattle.djq_model.specs.declared.value.Value.{Value}
+use Rattle.djq_model.specs.declared.value.Value.TheVariants.{Int, Text}
+use Rattle.djq_model.specs.declared.relation.Relation.{Relation}
+use Rattle.djq_model.specs.declared.query.Query.{Query}
+
+-- a text or a name
+abbrev pub Bytes : Type 0
+Bytes = List ℕ
+
+-- a row, or an answer
+abbrev pub Tuple : Type 0
+Tuple = List Value
+
+abbrev pub bytes_eq : Bytes → Bytes → Bool
+bytes_eq [] [] = true
+bytes_eq (x ∷ xs) (y ∷ ys) = (x == y) && bytes_eq xs ys
+bytes_eq [] (y ∷ ys) = false
+bytes_eq (x ∷ xs) [] = false
+
+abbrev pub int_eq : ℤ → ℤ → Bool
+int_eq (pos m) (pos n) = m == n
+int_eq (negsuc m) (negsuc n) = m == n
+int_eq (pos m) (negsuc n) = false
+int_eq (negsuc m) (pos n) = false
+
+abbrev pub value_eq : Value → Value → Bool
+value_eq (Int i) (Int j) = int_eq i j
+value_eq (Text s) (Text t) = bytes_eq s t
+value_eq (Int i) (Text t) = false
+value_eq (Text s) (Int j) = false
+
+abbrev pub tuple_eq : Tuple → Tuple → Bool
+tuple_eq [] [] = true
+tuple_eq (v ∷ vs) (w ∷ ws) = value_eq v w && tuple_eq vs ws
+tuple_eq [] (w ∷ ws) = false
+tuple_eq (v ∷ vs) [] = false
+
+-- whether a row is among these
+abbrev pub has_row : List Tuple → Tuple → Bool
+has_row [] row = false
+has_row (r ∷ rs) row = if tuple_eq r row then true else has_row rs row
+
+-- the rows without the first that equals this one
+abbrev pub without_row : List Tuple → Tuple → List Tuple
+without_row [] row = []
+without_row (r ∷ rs) row = if tuple_eq r row then rs else r ∷ without_row rs row
+
+-- the list with the first that passes the test changed
+abbrev pub change_first : {A : Type 0} → (A → Bool) → (A → A) → List A → List A
+change_first p f [] = []
+change_first p f (x ∷ xs) = if p x then f x ∷ xs else x ∷ change_first p f xs
+
+-- the list without the first that passes the test
+abbrev pub drop_first : {A : Type 0} → (A → Bool) → List A → List A
+drop_first p [] = []
+drop_first p (x ∷ xs) = if p x then xs else x ∷ drop_first p xs
+
+-- the relation of a name
+abbrev pub relation_of : List Relation → Bytes → Option Relation
+relation_of relations name = find (λ r. bytes_eq r.name name) relations
+
+abbrev pub rows_in : Option Relation → List Tuple
+rows_in None = []
+rows_in (Some r) = r.rows
+
+-- its rows; none where there is no such relation
+abbrev pub rows_of : List Relation → Bytes → List Tuple
+rows_of relations name = rows_in (relation_of relations name)
+
+-- the query of a name
+abbrev pub query_of : List Query → Bytes → Option Query
+query_of queries name = find (λ q. bytes_eq q.name name) queries

@@ -1,0 +1,13 @@
+pub mod Places
+pub mod Says
+pub mod Leading
+pub mod Sounding
+pub mod Growths
+pub mod Ending
+pub mod Counting
+pub mod Heading
+pub mod Planned
+pub mod Rules
+pub mod Stepping
+pub mod Deciding
+pub mod Checking

@@ -1,0 +1,10 @@
+use Rattle.std.proofs.Common.{length, []}
+use Rattle.djq_tree.specs.Growing.{is_root}
+use Rattle.djq_plan.proofs.Stepping.{Ran, size}
+use Rattle.djq_plan.proofs.growing.Growing.run_second.Given as goal
+
+abbrev pub invariant-second : goal.invariant-second
+invariant-second l = Ran is_root [] l.fn.self l.self
+
+abbrev pub decreases-second : goal.decreases-second
+decreases-second l = size l.self.current

@@ -1,0 +1,4 @@
+pub mod Counts
+pub mod Head
+pub mod Stages
+pub mod Plan

@@ -1,0 +1,53 @@
+//! The planner's two stages.
+ghost use Rattle.std.specs.Prelude.{◌≡◌, ℕ, ◌-◌, ◌<◌, ◌++◌, true, length, take, replicate, vec_len, IfOk, IfErr, OnOk};
+ghost use Rattle.djq_hyper.specs.Hypergraph.{member, degree};
+ghost use Rattle.djq_hyper.specs.JoinTree.{IsFreeConnex};
+ghost use Rattle.djq_plan.specs.Plan.{IsPlan, IsRefusal};
+
+use crate::growing::Growing;
+use crate::refusal::{PlanRefusal, refuse};
+use djq_hyper::{Edges, NoMem, VarSet};
+use djq_tree::Tree;
+use std::alloc::Global;
+
+/// The tree over which the answers of a query are kept and listed: that of the query with these edges, the
+/// sets of its atoms' variables, and this head.
+///
+/// It is `Ok` exactly where the query is free-connex (Bagan, Durand and Grandjean 2007), `Cyclic` exactly
+/// where the edges have no join tree, and `NotConnex` exactly where they have one, but the head's edge
+/// followed by them has none whose root is the head; these three exclude each other. Any of them may be
+/// replaced by `NoMem`.
+///
+/// The tree is the one that the choice rule of `djq_tree` names, step by step. Its labels in `out` have the
+/// head's variables and no others. With m edges, v variables and h head variables it has 2m - 1 nodes that
+/// aren't trims and at most v trims, of which at most h are of the second stage.
+///
+/// Each of the at most 2m + v steps is found by O(m^2) operations on words; nothing is ever taken back.
+/// Beside the tree, the numbers and labels of the at most m current nodes take memory while it grows.
+pub fn plan(alloc: Global, edges: &Edges, head: &VarSet) -> Result<Tree, PlanRefusal>
+    requires some { 0 < length edges.now }
+    requires head { (x : ℕ) → member x head.now ≡ true → 0 < degree x edges.now }
+    ensures connex { IfOk result (λ _. IsFreeConnex edges.now head.now) }
+    ensures plan { IfOk result (λ t. IsPlan edges.now head.now t) }
+    ensures refused { IfErr result (λ e. IsRefusal edges.now head.now e) }
+{
+    let mut growing = Growing::start(alloc, edges)?;
+    if !growing.run_first(*head)? {
+        return Err(refuse(alloc, edges, *head));
+    }
+    let second = growing.len();
+    let mut out = growing.marks(alloc)?;
+    if !growing.run_second()? {
+        return Err(refuse(alloc, edges, *head));
+    }
+    fill(&mut out, growing.len())?;
+    Ok(growing.finish(out, edges.len(), second))
+}
+
+/// Marks the nodes that were made since, so that there are as many marks as nodes.
+fn fill(marks: &mut Vec<bool>, nodes: usize) -> Result<(), NoMem>
+    ensures { OnOk result (marks.new.items ≡ take nodes marks.old.items ++ replicate (nodes - vec_len marks.old) true) }
+{
+    marks.resize(nodes, true)?;
+    Ok(())
+}

@@ -1,0 +1,65 @@
+//! Why a query has no plan.
+ghost use Rattle.std.specs.Prelude.{◌≡◌, ℕ, ◌∷◌, ◌++◌, IfOk};
+ghost use Rattle.djq_hyper.specs.JoinTree.{IsFreeConnex};
+ghost use Rattle.djq_plan.specs.Plan.{IsRefusal};
+
+use djq_gyo::reduce;
+use djq_hyper::{Edges, NoMem, VarSet};
+use std::alloc::Global;
+
+/// Why a query has no plan.
+#[derive(Drop)]
+pub enum PlanRefusal {
+    /// The edges have no join tree. A rest of their reduction shows it.
+    Cyclic(Edges),
+    /// The edges have a join tree, but with the head's edge in front of them none whose root it is. A rest
+    /// of the reduction of these shows it.
+    NotConnex(Edges),
+    /// Want of memory.
+    NoMem,
+}
+
+impl From<NoMem> for PlanRefusal {
+    ghost use Rattle.std.specs.Prelude.{◌≡◌};
+    ghost use Rattle.djq_plan.specs.declared.refusal.PlanRefusal.TheVariants as refusal;
+
+    ghost from_gives = { λ _ r. r ≡ refusal.NoMem };
+
+    fn from(_error: NoMem) -> PlanRefusal {
+        PlanRefusal::NoMem
+    }
+}
+
+/// The refusal of a query that isn't free-connex, with its rest.
+pub(crate) fn refuse(alloc: Global, edges: &Edges, head: VarSet) -> PlanRefusal
+    requires { IsFreeConnex edges.now head → ⊥ }
+    ensures { IsRefusal edges.now head result }
+{
+    match find_rest(alloc, edges, head) {
+        Ok(refusal) => refusal,
+        Err(_error) => PlanRefusal::NoMem,
+    }
+}
+
+fn find_rest(alloc: Global, edges: &Edges, head: VarSet) -> Result<PlanRefusal, NoMem>
+    requires { IsFreeConnex edges.now head → ⊥ }
+    ensures { IfOk result (λ e. IsRefusal edges.now head e) }
+{
+    let rest = reduce(alloc, edges)?.rest;
+    if !rest.is_empty() {
+        return Ok(PlanRefusal::Cyclic(rest));
+    }
+    let fronted = put_in_front(alloc, edges, head)?;
+    let rest = reduce(alloc, &fronted)?.rest;
+    Ok(PlanRefusal::NotConnex(rest))
+}
+
+/// An edge followed by others.
+fn put_in_front(alloc: Global, edges: &Edges, front: VarSet) -> Result<Edges, NoMem>
+    ensures { IfOk result (λ e. e ≡ front ∷ edges.now) }
+{
+    let mut sets = Vec::new(alloc);
+    sets.push(front)?;
+    sets.extend_from_slice(edges.as_slice())?;
+    Ok(Edges::from_sets(sets))
+}

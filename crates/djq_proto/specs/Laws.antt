@@ -1,0 +1,24 @@
+-- The laws of reading, over the definitions alone.
+use Rattle.std.specs.Prelude.{◌≡◌, ◌↔◌, List, Some}
+use Rattle.djq_model.specs.Data.{Bytes}
+use Rattle.djq_machine.specs.declared.command.Command.{Command}
+use Rattle.djq_machine.specs.Token.{Token, tokens}
+use Rattle.djq_machine.specs.Grammar.{command_in, command_of}
+use Rattle.djq_proto.specs.Spelling.{IsSpelling}
+use Rattle.djq_proto.specs.Saying.{Says}
+
+-- a line that spells a command
+abbrev pub Spells : Command → Bytes → Type 0
+Spells c line = (ts : List Token) × Says c ts × IsSpelling ts line
+
+-- The tokens of a line are the ones that it spells, and no others.
+abbrev pub TokensAreSpelled : Type 0
+TokensAreSpelled = (line : Bytes) (ts : List Token) → (tokens line ≡ ts) ↔ IsSpelling ts line
+
+-- Tokens are read as a command exactly where they say it.
+abbrev pub CommandsAreSaid : Type 0
+CommandsAreSaid = (ts : List Token) (c : Command) → (command_in ts ≡ Some c) ↔ Says c ts
+
+-- A line says a command exactly where it spells it.
+abbrev pub CommandsAreSpelled : Type 0
+CommandsAreSpelled = (line : Bytes) (c : Command) → (command_of line ≡ Some c) ↔ Spells c line

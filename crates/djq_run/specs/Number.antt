@@ -1,0 +1,16 @@
+-- The numbers of statuses.
+use Rattle.std.specs.Prelude.{ℕ}
+use Rattle.djq_run.specs.declared.status.Status.{Status}
+use Rattle.djq_run.specs.declared.status.Status.TheVariants.{Done, Usage, ReadFault, WriteFault, HubFault, TurnsUsed, NoMemory, Schedule, SessionEnded}
+
+-- The number with which the process ends.
+abbrev pub number_of : Status → ℕ
+number_of Done = 0
+number_of Usage = 1
+number_of ReadFault = 2
+number_of WriteFault = 3
+number_of HubFault = 4
+number_of TurnsUsed = 5
+number_of NoMemory = 6
+number_of (Schedule n) = 7
+number_of SessionEnded = 8

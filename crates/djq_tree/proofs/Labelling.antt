@@ -1,0 +1,106 @@
+-- A label's text.
+use Rattle.std.proofs.Common.{◌≡◌, ℕ, zero, suc, ◌<◌, Bool, true, false, List, [], ◌∷◌, ◌++◌, length, eqb, Some, refl, ap, sym, ◌∙◌, append_assoc, append-nil, take, inl, inr, arith}
+use Rattle.std.specs.Prelude.{◌≤◌, slice_get, codes, decimal, slice_index_or}
+use Rattle.std.proofs.lemmas.List.{get_or-take, get_or_past}
+use Rattle.std.proofs.lemmas.Bool.{cases_lt, eq-eqb, false≢true}
+use Rattle.std.proofs.Math.Bool.{or-true}
+use Rattle.djq_hyper.specs.Hypergraph.{member, edge_at}
+use Rattle.djq_hyper.proofs.Members.{from_true, one_true, subset_says}
+use Rattle.djq_tree.specs.declared.node.Node.{Node}
+use Rattle.djq_tree.specs.declared.node.Node.TheVariants.{Leaf, Trim, Meet}
+use Rattle.djq_tree.specs.Tree.{Tree, IsTree, node_at}
+use Rattle.djq_tree.specs.Explaining.{AreNamed, IsNamed, name_at, listed, label_text, node_text, end_text, line_text}
+
+-- what a position has
+pub found : {A : Type 0} (xs : List A) (i : ℕ) (x d : A) → slice_get xs i ≡ Some x → x ≡ slice_index_or xs i d
+found [] i x d h = absurd cc
+found (y ∷ xs) zero x d h = let same : y ≡ x = cc in sym same
+found (y ∷ xs) (suc i) x d h = found xs i x d h
+
+pub name_of : (names : List (List ℕ)) (i : ℕ) (t : List ℕ) → slice_get names i ≡ Some t → t ≡ name_at names i
+name_of names i t h = found names i t [] h
+
+member_behind : (x y : ℕ) (m : List ℕ) → member y m ≡ true → member y (x ∷ m) ≡ true
+member_behind x y m h = rw h (or-true (eqb y x))
+
+-- what the first variable and the others are below
+pub popped : (l m : List ℕ) (x n : ℕ) → l ≡ x ∷ m → ((y : ℕ) → member y l ≡ true → y < n) → (x < n) × ((y : ℕ) → member y m ≡ true → y < n)
+popped l m x n e h =
+    let first : member x l ≡ true = rw (e, eq-eqb x x refl) refl in
+    (h x first, λ y k. h y (rw e (member_behind x y m k)))
+
+-- one more variable is written
+pub listed_more : (names : List (List ℕ)) (s s1 s2 t all l m : List ℕ) (x : ℕ) → s1 ≡ s ++ codes "," → s2 ≡ s1 ++ t → slice_get names x ≡ Some t → l ≡ x ∷ m → s ++ listed names l ≡ all → s2 ++ listed names m ≡ all
+listed_more names s s1 s2 t all l m x comma name at e h =
+    let n = name_of names x t at in
+    let f : s ++ listed names (x ∷ m) ≡ all = ap (λ k. s ++ listed names k) (sym e) ∙ h in
+    rw (name, comma, n) (simp append_assoc refl ∙ f)
+
+-- the whole label is written
+pub labelled_first : (names : List (List ℕ)) (s s1 t l m : List ℕ) (x : ℕ) → s1 ≡ s ++ t → slice_get names x ≡ Some t → l ≡ x ∷ m → s1 ++ listed names m ≡ s ++ label_text names l
+labelled_first names s s1 t l m x name at e =
+    rw (name, name_of names x t at, e) (append_assoc s (name_at names x) (listed names m))
+
+-- nothing is left to write
+pub labelled : (names : List (List ℕ)) (s s1 s2 t l m r : List ℕ) (x : ℕ) → s1 ≡ s ++ t → slice_get names x ≡ Some t → l ≡ x ∷ m → r ≡ [] → s2 ++ listed names r ≡ s1 ++ listed names m → s2 ≡ s ++ label_text names l
+labelled names s s1 s2 t l m r x name at e none h =
+    let f : s2 ++ [] ≡ s1 ++ listed names m = ap (λ k. s2 ++ listed names k) (sym none) ∙ h in
+    sym (append-nil s2) ∙ f ∙ labelled_first names s s1 t l m x name at e
+
+-- the variables of a label have names
+pub label_named : (names labels : List (List ℕ)) (j : ℕ) (l : List ℕ) → slice_get labels j ≡ Some l → AreNamed names labels → (x : ℕ) → member x l ≡ true → x < length names
+label_named names labels j l at all x h = all j x (ap (member x) (sym (name_of labels j l at)) ∙ h)
+
+-- the atom of a leaf has a name
+node_named : (atoms : List (List ℕ)) (t : Tree) (j : ℕ) (n m : Node) → IsTree t → j < length t.nodes → t.leaves ≤ length atoms → m ≡ n → m ≡ node_at t.nodes j → IsNamed atoms n
+node_named atoms t j (Leaf a) m s within enough e f =
+    let is : node_at t.nodes j ≡ Leaf a = sym f ∙ e in
+    let low = s.inner j a within is in
+    let own : node_at t.nodes j ≡ Leaf j = s.leaf j low in
+    let same : a ≡ j = (let k : Leaf a ≡ Leaf j = sym is ∙ own in cc) in
+    omega arith
+node_named atoms t j (Trim c) m s within enough e f = tt
+node_named atoms t j (Meet g d) m s within enough e f = tt
+
+pub found_named : (atoms : List (List ℕ)) (t : Tree) (j : ℕ) (n : Node) → IsTree t → j < length t.nodes → t.leaves ≤ length atoms → slice_get t.nodes j ≡ Some n → IsNamed atoms n
+found_named atoms t j n s within enough at = node_named atoms t j n n s within enough refl (found t.nodes j n (Leaf 0) at)
+
+-- seven texts, one after another
+pub written : (s s1 s2 s3 s4 s5 s6 s7 a b c d e f g : List ℕ) → s1 ≡ s ++ a → s2 ≡ s1 ++ b → s3 ≡ s2 ++ c → s4 ≡ s3 ++ d → s5 ≡ s4 ++ e → s6 ≡ s5 ++ f → s7 ≡ s6 ++ g → s7 ≡ s ++ (a ++ b ++ c ++ d ++ e ++ f ++ g)
+written s s1 s2 s3 s4 s5 s6 s7 a b c d e f g h1 h2 h3 h4 h5 h6 h7 = rw (h7, h6, h5, h4, h3, h2, h1) (simp append_assoc refl)
+
+-- a line is written
+pub line_written : (atoms variables : List (List ℕ)) (t : Tree) (j : ℕ) (n : Node) (l : List ℕ) (o : Bool) (s s1 s2 s3 s4 s5 s6 s7 : List ℕ) → slice_get t.nodes j ≡ Some n → slice_get t.labels j ≡ Some l → slice_get t.out j ≡ Some o
+    → s1 ≡ s ++ codes "n " → s2 ≡ s1 ++ decimal j → s3 ≡ s2 ++ codes " " → s4 ≡ s3 ++ node_text atoms n → s5 ≡ s4 ++ codes " " → s6 ≡ s5 ++ label_text variables l → s7 ≡ s6 ++ end_text o → s7 ≡ s ++ line_text atoms variables t j
+line_written atoms variables t j n l o s s1 s2 s3 s4 s5 s6 s7 at_n at_l at_o h1 h2 h3 h4 h5 h6 h7 =
+    rw (← found t.nodes j n (Leaf 0) at_n, ← found t.labels j l [] at_l, ← found t.out j o false at_o)
+    (written s s1 s2 s3 s4 s5 s6 s7 (codes "n ") (decimal j) (codes " ") (node_text atoms n) (codes " ") (label_text variables l) (end_text o) h1 h2 h3 h4 h5 h6 h7)
+
+-- ---- each variable of a label lies in a leaf's
+
+named_node : (names : List (List ℕ)) (t : Tree) (j x : ℕ) (n : Node) → IsTree t → j < length t.nodes → node_at t.nodes j ≡ n → t.leaves ≤ j
+    → ((c : ℕ) → c < j → member x (edge_at t.labels c) ≡ true → x < length names) → member x (edge_at t.labels j) ≡ true → x < length names
+named_node names t j x (Leaf a) s within e late lower h = absurd (let low = s.inner j a within e in omega arith)
+named_node names t j x (Trim c) s within e late lower h =
+    let i = s.trim j c e in
+    lower c i.lower (one_true (member x (edge_at t.labels c)) (let k = subset_says (edge_at t.labels j) (edge_at t.labels c) i.within x in let f = from_true (member x (edge_at t.labels j)) h in omega arith))
+named_node names t j x (Meet g d) s within e late lower h =
+    let i = s.meet j g d e in
+    lower g i.guard_lower (ap (member x) (sym i.guard) ∙ h)
+
+named_below : (names : List (List ℕ)) (t : Tree) → IsTree t → AreNamed names (take t.leaves t.labels) → (n j x : ℕ) → j < n → member x (edge_at t.labels j) ≡ true → x < length names
+named_below names t s leaves zero j x low h = absurd (omega arith)
+named_below names t s leaves (suc n) j x low h =
+    elim (cases_lt j t.leaves) [
+      | inl early ↦ leaves j x (ap (member x) (get_or-take t.leaves t.labels j [] early) ∙ h)
+      | inr late ↦
+          elim (cases_lt j (length t.nodes)) [
+            | inl within ↦ named_node names t j x (node_at t.nodes j) s within refl late (λ c lower k. named_below names t s leaves n c x (omega arith) k) h
+            | inr past ↦
+                absurd (false≢true (ap (λ (k : List ℕ). member x k) (sym (get_or_past t.labels j [] (let e = s.labelled in omega arith))) ∙ h))
+          ]
+    ]
+
+-- where the leaves' variables have names, all have
+pub all_named : (names : List (List ℕ)) (t : Tree) → IsTree t → AreNamed names (take t.leaves t.labels) → AreNamed names t.labels
+all_named names t s leaves j x h = named_below names t s leaves (suc j) j x (omega arith) h

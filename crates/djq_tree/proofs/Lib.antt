@@ -1,0 +1,4 @@
+pub mod Finding
+pub mod Climbing
+pub mod Labelling
+pub mod Worked

@@ -1,0 +1,5 @@
+pub mod Lowest
+pub mod Choosing
+pub mod Tree
+pub mod Growing
+pub mod Explaining

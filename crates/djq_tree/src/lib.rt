@@ -1,0 +1,35 @@
+//! Generalised join trees, over which a query's answers are kept and listed.
+//!
+//! A [`Tree`] of a conjunctive query has its atoms as leaves. An inner node is a *trim* of one node, a
+//! projection on fewer variables, or a *meet* of two, the tuples of its guard that agree with one of its
+//! side (Idris, Ugarte and Vansummeren 2017). A node's label is its variables. In the part `out` the
+//! query's answers are read off.
+//!
+//! ```text
+//! q(x,y) <- r(x,y), s(y)       n 0 leaf r x,y out       0: r x,y     1: s y
+//!                              n 1 leaf s y out             |          |
+//!                              n 2 trim 0 y out          2: y ----- 3: y     guard 1, side 2
+//!                              n 3 meet 1 2 y out                      |
+//!                              n 4 trim 3 - out                     4: -     the root
+//! ```
+//!
+//! This crate has the tree with its invariant, its paths, its text, and the definition of the tree that
+//! belongs to a query: the choice rule on the current nodes, and the two stages in which the rule grows
+//! it. It makes no tree; `djq_plan` does. A tree may have nodes with equal or empty labels, and a single
+//! leaf without variables is one.
+//!
+//! Inside, a tree is three lists side by side. A node's parent isn't stored: children have lower numbers,
+//! so one pass up the nodes goes along a whole path.
+#![tactic(auto)]
+
+mod choice;
+mod lines;
+mod node;
+mod path;
+mod tree;
+
+pub use choice::Choice;
+pub use lines::Lines;
+pub use node::Node;
+pub use path::Path;
+pub use tree::Tree;
