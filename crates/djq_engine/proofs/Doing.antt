@@ -27,7 +27,7 @@ use Rattle.djq_engine.proofs.Keeping.{keeps_more, keeps_with, keeps_without}
 pub named : (rs : List Relation) (name : Bytes) (at : ℕ) → IsFirst (λ r. bytes_eq r.name name) rs at → relation_of rs name ≡ Some (relation_at rs at)
 named rs name at h = first_found (λ r. bytes_eq r.name name) rs at no_relation h
 
-rows_named : (rs : List Relation) (name : Bytes) (at : ℕ) → IsFirst (λ r. bytes_eq r.name name) rs at → rows_of rs name ≡ (relation_at rs at).rows
+pub rows_named : (rs : List Relation) (name : Bytes) (at : ℕ) → IsFirst (λ r. bytes_eq r.name name) rs at → rows_of rs name ≡ (relation_at rs at).rows
 rows_named rs name at h = ap rows_in (named rs name at h)
 
 changed_named : (rs : List Relation) (name : Bytes) (at : ℕ) (rows : List Tuple) → IsFirst (λ r. bytes_eq r.name name) rs at
@@ -77,7 +77,7 @@ adds_named rs queries seq name at row result new seq' h a = let r = relation_at 
 }
 
 -- a row that no condition refuses has a cell for each column
-first_false : (b : Bool) (r : Refusal) (cs : List (Bool × Refusal)) → first_of ((b, r) ∷ cs) ≡ None → (b ≡ false) × (first_of cs ≡ None)
+pub first_false : (b : Bool) (r : Refusal) (cs : List (Bool × Refusal)) → first_of ((b, r) ∷ cs) ≡ None → (b ≡ false) × (first_of cs ≡ None)
 first_false true r cs e = absurd cc
 first_false false r cs e = (refl, e)
 
@@ -85,7 +85,7 @@ not_false : (b : Bool) → not b ≡ false → b ≡ true
 not_false true e = refl
 not_false false e = absurd cc
 
-fits_of : (n m : ℕ) → not (n == m) ≡ false → n ≡ m
+pub fits_of : (n m : ℕ) → not (n == m) ≡ false → n ≡ m
 fits_of n m e = eqb-true n m (not_false (n == m) e)
 
 pub sound_of_add : (rs : List Relation) (seq at : ℕ) (row : Tuple) (new : List Relation) (seq' : ℕ) → at < length rs

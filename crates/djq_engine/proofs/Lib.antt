@@ -4,3 +4,5 @@ pub mod Answering
 pub mod Keeping
 pub mod Doing
 pub mod Queries
+pub mod Telling
+pub mod Lines

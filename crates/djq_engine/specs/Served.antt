@@ -1,5 +1,5 @@
 -- The queries that are served: one atom whose terms are different variables, and a head that names each of them once.
-use Rattle.std.specs.Prelude.{ℕ, zero, suc, List, [], ◌∷◌, ◌&&◌, Bool, true, false, if◌then◌else◌}
+use Rattle.std.specs.Prelude.{ℕ, zero, suc, ◌≡◌, Option, None, Some, List, [], ◌∷◌, ◌&&◌, Bool, true, false, if◌then◌else◌}
 use Rattle.std.specs.List.{list_all}
 use Rattle.djq_model.specs.declared.query.Query.{Query}
 use Rattle.djq_model.specs.declared.query.Atom.{Atom}
@@ -51,3 +51,10 @@ abbrev pub is_term_named : Term → Bytes → Bool
 is_term_named (Variable x) name = bytes_eq x name
 is_term_named Hole name = false
 is_term_named (Constant c) name = false
+
+-- the relation that a query reads, which is served
+abbrev pub ReadsRelation : Option Query → Option Bytes → Type 0
+ReadsRelation None None = Unit {0}
+ReadsRelation (Some q) (Some name) = (is_served q ≡ true) × (name ≡ relation_in q.atoms)
+ReadsRelation None (Some name) = ⊥
+ReadsRelation (Some q) None = ⊥

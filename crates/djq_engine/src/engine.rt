@@ -1,17 +1,22 @@
-ghost use Rattle.std.specs.Prelude.{◌≡◌, ◌<◌, ◌≤◌, true, length, IsSomeAnd, is_some};
+ghost use Rattle.std.specs.Prelude.{◌≡◌, ◌<◌, ◌≤◌, true, length, IfSome, is_some};
 ghost use Rattle.djq_model.specs.Data.{query_of};
 ghost use Rattle.djq_machine.specs.State.{opening};
-ghost use Rattle.djq_machine.specs.Store.{Relates, Adds, Deletes, Registers, rel_refusal};
-ghost use Rattle.djq_engine.specs.Served.{is_served, relation_in};
+ghost use Rattle.djq_machine.specs.Store.{Relates, Adds, Deletes, Registers};
+ghost use Rattle.djq_engine.specs.Served.{is_served, ReadsRelation};
 ghost use Rattle.djq_engine.specs.Answers.{answers_of};
 ghost use Rattle.djq_engine.specs.Lists.{ListsQuery};
 
 use crate::change::{add_row, delete_row, make_relation};
+use crate::listing::{Listed, list_query};
 use crate::registered::Registered;
+use crate::registering::{register, relation_read};
+use bytes::BytesMut;
 use djq_machine::{Added, Deleted, Refusal};
-use djq_model::{Name, Relation, Row, Types};
+use djq_model::{Name, Query, Relation, Row, Types};
+use djq_steps::Tally;
 use std::alloc::Global;
 use std::marker::Model;
+use std::sync::ledger::Ledger;
 
 /// The relations with their rows, the registered queries, and the number of changes.
 /// Contracts see the store of the join machine.
@@ -73,5 +78,46 @@ impl Engine {
         ensures { Deletes self.old name.now row.now result self.new }
     {
         delete_row(&mut self.relations, &mut self.seq, name, row)
+    }
+
+    /// Registers a query of one atom over different variables, with a head that names each of them once.
+    /// Tells how many lookups and links one of its answers takes at most.
+    pub fn query(&mut self, alloc: Global, query: Query) -> Result<u64, Refusal>
+        requires { is_served query ≡ true }
+        ensures { Registers self.old query result self.new }
+    {
+        register(alloc, &self.relations, &mut self.queries, query)
+    }
+
+    /// The relation that a registered query reads.
+    pub fn relation_of(&self, query: &Name) -> Option<Name>
+        ensures { ReadsRelation (query_of self.now.queries query.now) result }
+    {
+        relation_read(&self.relations, &self.queries, query)
+    }
+
+    /// Lists the answers of a registered query, from a position among them on and at most so many.
+    pub fn list<L: Ledger>(
+        &self,
+        query: &Name,
+        at: usize,
+        count: u32,
+        out: &mut BytesMut,
+        listing: &mut Tally<L>,
+    ) -> Listed
+        requires known { is_some (query_of self.now.queries query.now) ≡ true }
+        requires inside { IfSome (query_of self.now.queries query.now) (λ q. at ≤ length (answers_of self.now q)) }
+        requires room { 288 ≤ out.old.spare }
+        ensures { IfSome (query_of self.now.queries query.now) (λ q. ListsQuery self.now q at count result out.old out.new listing.old listing.new) }
+    {
+        list_query(
+            &self.relations,
+            &self.queries,
+            query,
+            at,
+            count,
+            out,
+            listing,
+        )
     }
 }

@@ -1,8 +1,9 @@
 ghost use Rattle.std.specs.Prelude.{◌≡◌, ◌<◌, ◌++◌, [], ◌∷◌, true, length, map, IfOk, OnOk, OnErr, IfErr};
 ghost use Rattle.std.specs.List.{list_all};
-ghost use Rattle.djq_machine.specs.Store.{first_of};
-ghost use Rattle.djq_engine.specs.Served.{is_served, is_variable, names_of, place_in, relation_in, is_term_named};
+ghost use Rattle.djq_machine.specs.Store.{first_of, query_refusal, most_steps};
+ghost use Rattle.djq_engine.specs.Served.{is_served, is_variable, names_of, place_in, relation_in, is_term_named, ReadsRelation};
 ghost use Rattle.djq_engine.specs.Answers.{columns_of};
+ghost use Rattle.djq_model.specs.Data.{query_of};
 ghost use Rattle.djq_engine.specs.Change.{store, relation_at};
 ghost use Rattle.djq_engine.specs.Sound.{queries_in, IsSound};
 ghost use Rattle.djq_engine.specs.Registering.{RegistersIn, RegistersSound, atom_refusals, query_refusals};
@@ -11,7 +12,7 @@ use crate::finding::{find_query, find_relation};
 use crate::registered::{Columns, Registered};
 use crate::rows::same_name;
 use djq_machine::Refusal;
-use djq_model::{Atom, Name, Query, Relation, Term, Terms};
+use djq_model::{Atom, Name, Names, Query, Relation, Term, Terms};
 use djq_value::NoMem;
 use std::alloc::Global;
 
@@ -40,7 +41,7 @@ fn place_of_name(terms: &[Term], name: &Name) -> usize
 }
 
 // The columns at which the variables of a head stand.
-fn columns_of(alloc: Global, head: &[Name], terms: &[Term]) -> Result<Columns, NoMem>
+fn head_columns(alloc: Global, head: &[Name], terms: &[Term]) -> Result<Columns, NoMem>
     requires { list_all is_variable terms.now ≡ true }
     ensures { IfOk result (λ columns. columns ≡ map (place_in (names_of terms.now)) head.now) }
 {
@@ -107,5 +108,95 @@ fn refuses_query(
                 }
             }
         },
+    }
+}
+
+// A query of this one atom as it is kept.
+fn prepare(alloc: Global, query: Query) -> Result<Registered, NoMem>
+    requires { is_served query ≡ true }
+    ensures { IfOk result (λ g. (g.query ≡ query) × (g.relation ≡ relation_in query.atoms) × (g.columns ≡ columns_of query)) }
+{
+    let atoms = &query.atoms;
+    let atom = &atoms.atoms[0];
+    let terms = &atom.terms;
+    let head = &query.head;
+    let relation = atom.relation;
+    let columns = head_columns(alloc, head.names.as_slice(), terms.terms.as_slice())?;
+    Ok(Registered {
+        query,
+        relation,
+        columns,
+    })
+}
+
+// Why a query can't be registered.
+fn refuses_served(
+    relations: &Vec<Relation>,
+    queries: &Vec<Registered>,
+    query: &Query,
+) -> Option<Refusal>
+    requires { is_served query.now ≡ true }
+    ensures { result ≡ query_refusal (store relations.now.items (queries_in queries.now.items) 0) query.now }
+{
+    let atoms = &query.atoms;
+    refuses_query(relations, queries, &query.name, &atoms.atoms[0])
+}
+
+// The most lookups and links for an answer over a head.
+fn steps_for(head: &Names) -> u64
+    ensures { result ≡ most_steps (length head.now) }
+{
+    2 * head.names.len() as u64 + 1
+}
+
+// Puts a query behind the others.
+fn push_query(queries: &mut Vec<Registered>, registered: Registered) -> Result<(), NoMem>
+    ensures ok { OnOk result (queries.new.items ≡ queries.old.items ++ registered ∷ []) }
+    ensures err { OnErr result (queries.new.items ≡ queries.old.items) }
+{
+    match queries.push(registered) {
+        Ok(()) => Ok(()),
+        Err(_) => Err(NoMem),
+    }
+}
+
+/// Registers a query of one atom, and tells how many lookups and links one of its answers takes at most.
+pub fn register(
+    alloc: Global,
+    relations: &Vec<Relation>,
+    queries: &mut Vec<Registered>,
+    query: Query,
+) -> Result<u64, Refusal>
+    requires { is_served query ≡ true }
+    ensures registers { RegistersIn relations.now.items queries.old.items query result queries.new.items }
+    ensures sound { RegistersSound relations.now.items queries.old.items queries.new.items }
+{
+    match refuses_served(relations, queries, &query) {
+        Some(refusal) => return Err(refusal),
+        None => {}
+    }
+    let most = steps_for(&query.head);
+    match prepare(alloc, query) {
+        Err(_) => Err(Refusal::NoMemory),
+        Ok(registered) => match push_query(queries, registered) {
+            Ok(()) => Ok(most),
+            Err(_) => Err(Refusal::NoMemory),
+        },
+    }
+}
+
+/// The relation that a registered query reads.
+pub fn relation_read(
+    relations: &Vec<Relation>,
+    queries: &Vec<Registered>,
+    query: &Name,
+) -> Option<Name>
+    requires { IsSound relations.now.items queries.now.items }
+    ensures { ReadsRelation (query_of (queries_in queries.now.items) query.now) result }
+{
+    let _all = relations;
+    match find_query(queries, query) {
+        None => None,
+        Some(place) => Some(queries[place].relation),
     }
 }

@@ -1,10 +1,10 @@
 -- The conditions of a plan, as the tests check them.
-use Rattle.std.proofs.Common.{◌≡◌, ◌⊎◌, ℕ, ◌<◌, Bool, true, false, List, [], ◌∷◌, length, refl, ap, sym, ◌∙◌, ltb-true, arith, inl, inr}
+use Rattle.std.proofs.Common.{◌≡◌, ◌⊎◌, ℕ, ◌<◌, Bool, true, List, [], length, ap, sym, ◌∙◌, ltb-true, arith, inl, inr}
 use Rattle.std.specs.Prelude.{nat_lt}
 use Rattle.std.proofs.lemmas.List.{get_or_past}
 use Rattle.std.proofs.lemmas.Bool.{cases_lt, false≢true, lt-ltb}
 use Rattle.djq_hyper.specs.Hypergraph.{member, subset, degree, edge_at}
-use Rattle.djq_hyper.proofs.Members.{has, from_true, one_true, subset_says}
+use Rattle.djq_hyper.proofs.Members.{from_true, one_true, subset_says}
 use Rattle.djq_tree.specs.Explaining.{AreNamed}
 use Rattle.djq_plan.proofs.Heading.{label_in}
 

@@ -1,24 +1,23 @@
 -- How many nodes the planner makes.
-use Rattle.std.proofs.Common.{◌≡◌, ◌≢◌, ◌⊎◌, ℕ, zero, suc, ◌+◌, ◌-◌, ◌*◌, ◌<◌, ◌≤◌, min, max, Bool, true, false, not, cond, List, [], ◌∷◌, ◌++◌, length, drop, refl, ap, ap₂, sym, ◌∙◌, arith, inl, inr}
+use Rattle.std.proofs.Common.{◌≡◌, ℕ, zero, suc, ◌+◌, ◌*◌, ◌<◌, ◌≤◌, min, Bool, not, cond, List, [], ◌∷◌, ◌++◌, length, refl, ap, ◌∙◌, arith, inl, inr}
 use Rattle.std.specs.Prelude.{remove, count_by, slice_index}
-use Rattle.std.specs.List.{sum_by}
-use Rattle.std.proofs.lemmas.List.{length_push, drop_at}
+use Rattle.std.proofs.lemmas.List.{length_push}
 use Rattle.std.proofs.lemmas.List.Sums.{sum_by-append}
-use Rattle.std.proofs.lemmas.Bool.{cases_Bool, cases_lt, cases_eq, false≢true}
-use Rattle.djq_hyper.specs.Hypergraph.{member, subset, minus, degree, edge_at, one}
-use Rattle.djq_hyper.proofs.Members.{has, Sub, one_le, from_true, has_minus, subset_says}
-use Rattle.djq_hyper.proofs.Bags.{labels, numbers, times, Bag, total, total_out, out_of}
-use Rattle.djq_hyper.proofs.Counting.{count, Same, count_self, degree_same, degree_in}
+use Rattle.std.proofs.lemmas.Bool.{cases_lt}
+use Rattle.djq_hyper.specs.Hypergraph.{member, minus, degree, edge_at, one}
+use Rattle.djq_hyper.proofs.Members.{has, one_le, has_minus, subset_says}
+use Rattle.djq_hyper.proofs.Bags.{labels, numbers, times, total, total_out, out_of}
+use Rattle.djq_hyper.proofs.Counting.{degree_same}
 use Rattle.djq_tree.specs.declared.node.Node.{Node}
 use Rattle.djq_tree.specs.declared.node.Node.TheVariants as node
 use Rattle.djq_tree.specs.declared.choice.Choice.{Choice}
 use Rattle.djq_tree.specs.declared.choice.Choice.TheVariants.{Trim, Meet, Stuck}
 use Rattle.djq_tree.specs.Choosing.{removable, choose}
-use Rattle.djq_tree.specs.Growing.{Growth, start, grown, grow, after, without_both, leaf_nodes, is_root}
+use Rattle.djq_tree.specs.Growing.{Growth, grown, grow, after, without_both, leaf_nodes}
 use Rattle.djq_plan.specs.Counts.{is_trim, trims, others}
 use Rattle.djq_plan.proofs.Places.{bag_remove, bag_both, length_remove, length_both}
-use Rattle.djq_plan.proofs.Says.{Trims, Meets, Sticks, Says, choose_says}
-use Rattle.djq_plan.proofs.Leading.{Removed, removed_says, removed_elsewhere, after_trim, after_meet, grown_current}
+use Rattle.djq_plan.proofs.Says.{Trims, Says, choose_says}
+use Rattle.djq_plan.proofs.Leading.{removed_says, removed_elsewhere, after_trim, after_meet, grown_current}
 use Rattle.djq_plan.proofs.Growths.{first_of}
 
 -- ---- one node more

@@ -1,5 +1,5 @@
 -- What the planner's answers rest on.
-use Rattle.std.proofs.Common.{◌≡◌, ◌≢◌, ◌↔◌, ℕ, zero, suc, ◌+◌, ◌-◌, ◌<◌, ◌≤◌, Bool, true, false, ◌||◌, List, [], ◌∷◌, ◌++◌, length, take, replicate, refl, ap, subst, sym, ◌∙◌, append_assoc, append-nil, add-zero, add-suc, arith, inl, inr}
+use Rattle.std.proofs.Common.{◌≡◌, ◌≢◌, ◌↔◌, ℕ, zero, suc, ◌+◌, ◌-◌, ◌<◌, ◌≤◌, Bool, true, false, List, [], ◌∷◌, ◌++◌, length, take, replicate, refl, ap, subst, sym, ◌∙◌, append_assoc, append-nil, add-zero, add-suc, arith}
 use Rattle.std.specs.Prelude.{◌==◌, nat_le}
 use Rattle.std.proofs.lemmas.List.{nil_from_length, take_all, replicate_more}
 use Rattle.std.proofs.lemmas.Bool.{eqb-true, le-leb}
@@ -7,15 +7,12 @@ use Rattle.std.proofs.Math.Numerals.{add-one}
 use Rattle.djq_hyper.specs.Hypergraph.{member, degree}
 use Rattle.djq_hyper.specs.Gyo.{IsRest}
 use Rattle.djq_hyper.specs.JoinTree.{HasJoinTree, HasJoinTreeFrom, IsFreeConnex}
-use Rattle.djq_hyper.proofs.Members.{has}
 use Rattle.djq_hyper.proofs.Bags.{numbers, times}
 use Rattle.djq_hyper.proofs.Rooting.{Rooted}
 use Rattle.djq_hyper.proofs.Linking.{rooted_of, rooted_at, join_tree_turned}
-use Rattle.djq_tree.specs.declared.node.Node.{Node}
 use Rattle.djq_tree.specs.declared.choice.Choice.TheVariants.{Stuck}
-use Rattle.djq_tree.specs.Tree.{Tree}
 use Rattle.djq_tree.specs.Choosing.{choose}
-use Rattle.djq_tree.specs.Growing.{Growth, start, grow, are_within, is_root, marks_below, tree_of, IsStage, IsTreeOf}
+use Rattle.djq_tree.specs.Growing.{Growth, start, grow, are_within, is_root, marks_below, IsStage}
 use Rattle.djq_plan.specs.Stages.{IsStuckAt, IsStageEnd}
 use Rattle.djq_plan.specs.Plan.{IsPlan}
 use Rattle.djq_plan.proofs.Says.{Sticks, Says, choose_says}

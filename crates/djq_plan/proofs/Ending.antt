@@ -1,7 +1,7 @@
 -- Where the growth ends, there is a tree.
-use Rattle.std.proofs.Common.{◌≡◌, ◌≢◌, ◌⊎◌, ℕ, zero, suc, ◌+◌, ◌-◌, ◌<◌, ◌≤◌, min, max, Bool, true, false, ◌||◌, ◌&&◌, List, [], ◌∷◌, ◌++◌, length, map, drop, Option, Some, None, is_some, refl, ap, ap₂, subst, sym, ◌∙◌, eqb, append_assoc, append-nil, arith, inl, inr}
-use Rattle.std.specs.Prelude.{◌==◌, nat_le, slice_index_or}
-use Rattle.std.proofs.lemmas.List.{length_push, length-append, get_or_append_left, get_or_push, get_or_past, nil_from_length, drop_at}
+use Rattle.std.proofs.Common.{◌≡◌, ◌≢◌, ℕ, zero, suc, ◌+◌, ◌-◌, ◌<◌, ◌≤◌, min, true, false, ◌||◌, List, [], ◌∷◌, ◌++◌, length, map, Option, Some, None, is_some, refl, ap, subst, sym, ◌∙◌, eqb, append_assoc, append-nil, arith, inl, inr}
+use Rattle.std.specs.Prelude.{◌==◌, nat_le}
+use Rattle.std.proofs.lemmas.List.{length_push, length-append, get_or_append_left, get_or_push, get_or_past, nil_from_length}
 use Rattle.std.proofs.lemmas.Bool.{cases_lt, cases_eq, eqb-true, false≢true, le-leb, lt-leb}
 use Rattle.djq_hyper.specs.Hypergraph.{member, edge_at, one}
 use Rattle.djq_hyper.proofs.Members.{has, one_le, one_true, one_false, one_or}
@@ -10,13 +10,13 @@ use Rattle.djq_tree.specs.declared.node.Node.{Node}
 use Rattle.djq_tree.specs.declared.node.Node.TheVariants as node
 use Rattle.djq_tree.specs.declared.choice.Choice.{Choice}
 use Rattle.djq_tree.specs.declared.choice.Choice.TheVariants.{Trim, Meet, Stuck}
-use Rattle.djq_tree.specs.Tree.{Tree, IsTree, IsTop, node_at, is_out, has_child, parent}
+use Rattle.djq_tree.specs.Tree.{IsTree, node_at, is_out, has_child, parent}
 use Rattle.djq_tree.specs.Choosing.{choose}
-use Rattle.djq_tree.specs.Growing.{Growth, start, grown, grow, is_root, marks_below, tree_of}
+use Rattle.djq_tree.specs.Growing.{Growth, grown, grow, is_root, marks_below, tree_of}
 use Rattle.djq_tree.proofs.Finding.{lowest_none}
 use Rattle.djq_plan.proofs.Says.{and_left, and_right}
-use Rattle.djq_plan.proofs.Sounding.{Sound, Parent, weight, rising}
-use Rattle.djq_plan.proofs.Growths.{Grown, same_length, length_leaves}
+use Rattle.djq_plan.proofs.Sounding.{Parent, weight, rising}
+use Rattle.djq_plan.proofs.Growths.{Grown, same_length}
 
 -- ---- later growth has the same nodes and more
 

@@ -1,23 +1,22 @@
 -- The tree's invariant through the planner's steps.
-use Rattle.std.proofs.Common.{◌≡◌, ◌≢◌, ◌⊎◌, ℕ, zero, suc, ◌+◌, ◌<◌, ◌≤◌, Bool, true, false, not, List, [], ◌∷◌, ◌++◌, length, map, take, get_or, ◌-◌, min, refl, ap, ap₂, subst, sym, ◌∙◌, eqb, arith, inl, inr}
-use Rattle.std.specs.Prelude.{◌==◌, remove, slice_index, slice_index_or}
+use Rattle.std.proofs.Common.{◌≡◌, ℕ, zero, suc, ◌+◌, ◌<◌, ◌≤◌, true, false, not, List, [], ◌∷◌, ◌++◌, length, map, take, ◌-◌, min, refl, ap, subst, sym, ◌∙◌, arith, inl, inr}
+use Rattle.std.specs.Prelude.{◌==◌, remove, slice_index}
 use Rattle.std.proofs.lemmas.List.{length_push, length-map, get_or-map, map_push, take_more, take_all, get_or_past, get_or_push, get_or_append_left}
 use Rattle.std.proofs.Math.Numerals.{add-one}
-use Rattle.std.proofs.lemmas.Bool.{cases_Bool, cases_lt, cases_eq, eqb-true, eq-eqb, ne_eqb, false≢true}
-use Rattle.djq_hyper.specs.Hypergraph.{member, subset, minus, degree, edge_at, one}
-use Rattle.djq_hyper.proofs.Members.{has, Sub, one_le, from_true, has_minus, has_here, subset_says}
-use Rattle.djq_hyper.proofs.Bags.{numbers, times, Bag, total}
-use Rattle.djq_tree.specs.declared.node.Node.{Node}
+use Rattle.std.proofs.lemmas.Bool.{cases_lt, cases_eq, eq-eqb, ne_eqb, false≢true}
+use Rattle.djq_hyper.specs.Hypergraph.{member, minus, degree, edge_at}
+use Rattle.djq_hyper.proofs.Members.{has, Sub, from_true, has_minus, has_here, subset_says}
+use Rattle.djq_hyper.proofs.Bags.{numbers, times, Bag}
 use Rattle.djq_tree.specs.declared.node.Node.TheVariants as node
 use Rattle.djq_tree.specs.declared.choice.Choice.{Choice}
 use Rattle.djq_tree.specs.declared.choice.Choice.TheVariants.{Trim, Meet, Stuck}
-use Rattle.djq_tree.specs.Tree.{node_at, has_child, IsTop}
-use Rattle.djq_tree.specs.Choosing.{removable, has_removable, choose}
-use Rattle.djq_tree.specs.Growing.{Growth, start, grown, grow, after, without_both, leaf_nodes, numbers_below}
-use Rattle.djq_plan.proofs.Places.{bag_remove, bag_push, bag_both, times_push, times_at, total_in, map_remove, map_both, map_agree}
-use Rattle.djq_plan.proofs.Says.{Trims, Meets, Sticks, Says, choose_says}
+use Rattle.djq_tree.specs.Tree.{node_at, has_child}
+use Rattle.djq_tree.specs.Choosing.{removable, choose}
+use Rattle.djq_tree.specs.Growing.{Growth, start, grown, grow, without_both, leaf_nodes, numbers_below}
+use Rattle.djq_plan.proofs.Places.{bag_remove, bag_push, bag_both, times_push, total_in, map_remove, map_both, map_agree}
+use Rattle.djq_plan.proofs.Says.{Trims, Meets, Says, choose_says}
 use Rattle.djq_plan.proofs.Leading.{removed_says, removed_elsewhere}
-use Rattle.djq_plan.proofs.Sounding.{Sound, Parent, weight, trim_adds, meet_adds, added, label_old, label_new}
+use Rattle.djq_plan.proofs.Sounding.{Sound, weight, trim_adds, meet_adds, added, label_old, label_new}
 
 pub record Grown (m : ℕ) (s : Growth) : Type 0 where
   pub sound : Sound m s.nodes s.labels s.numbers

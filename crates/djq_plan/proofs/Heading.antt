@@ -1,25 +1,25 @@
 -- The head's variables in the grown tree.
-use Rattle.std.proofs.Common.{◌≡◌, ◌≢◌, ◌⊎◌, ℕ, zero, suc, ◌+◌, ◌-◌, ◌<◌, ◌≤◌, min, Bool, true, false, List, [], ◌∷◌, ◌++◌, length, refl, ap, sym, ◌∙◌, ◌&&◌, arith, inl, inr}
+use Rattle.std.proofs.Common.{◌≡◌, ℕ, zero, suc, ◌<◌, ◌≤◌, Bool, true, false, List, [], ◌∷◌, ◌++◌, length, ap, sym, ◌∙◌, ◌&&◌, arith, inl, inr}
 use Rattle.std.specs.Prelude.{remove}
 use Rattle.std.proofs.lemmas.List.{length_push, get_or_past}
-use Rattle.std.proofs.lemmas.Bool.{cases_Bool, cases_lt, cases_eq, false≢true}
-use Rattle.djq_hyper.specs.Hypergraph.{member, subset, minus, degree, edge_at, one}
+use Rattle.std.proofs.lemmas.Bool.{cases_lt, false≢true}
+use Rattle.djq_hyper.specs.Hypergraph.{member, subset, minus, degree, edge_at}
 use Rattle.djq_hyper.proofs.Members.{has, Sub, one_le, one_true, from_true, has_minus, subset_from}
 use Rattle.djq_hyper.proofs.Bags.{labels, numbers, times, times_itself, total}
-use Rattle.djq_hyper.proofs.Counting.{degree_same, degree_in, count, count_self}
+use Rattle.djq_hyper.proofs.Counting.{degree_same, count_self}
 use Rattle.djq_tree.specs.declared.choice.Choice.{Choice}
 use Rattle.djq_tree.specs.declared.choice.Choice.TheVariants.{Trim, Meet, Stuck}
-use Rattle.djq_tree.specs.Tree.{Tree, is_out}
+use Rattle.djq_tree.specs.Tree.{is_out}
 use Rattle.djq_tree.specs.Choosing.{choose}
 use Rattle.djq_tree.specs.Growing.{Growth, grown, grow, are_within, marks_below, tree_of}
 use Rattle.djq_plan.specs.Head.{ShowsHead}
 use Rattle.djq_plan.proofs.Places.{bag_remove, total_in}
-use Rattle.djq_plan.proofs.Says.{Trims, Meets, Says, choose_says}
+use Rattle.djq_plan.proofs.Says.{Says, choose_says}
 use Rattle.djq_plan.proofs.Leading.{within_all}
-use Rattle.djq_plan.proofs.Sounding.{weight, label_old, label_new}
+use Rattle.djq_plan.proofs.Sounding.{label_old, label_new}
 use Rattle.djq_plan.proofs.Growths.{Grown, current_weight}
-use Rattle.djq_plan.proofs.Ending.{Extends, extends_label, extends_length, length_marks, mark_late, mark_early, member_in, has_times}
-use Rattle.djq_plan.proofs.Counting.{degree_falls, degree_grow}
+use Rattle.djq_plan.proofs.Ending.{Extends, extends_label, extends_length, length_marks, mark_early, member_in, has_times}
+use Rattle.djq_plan.proofs.Counting.{degree_grow}
 
 -- a current label's variables are current
 pub label_in : (L : List (List ℕ)) (i x : ℕ) → i < length L → has x (edge_at L i) ≤ degree x L

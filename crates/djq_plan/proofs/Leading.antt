@@ -1,19 +1,18 @@
 -- What the planner's steps do to trees of labels below a fixed root label.
-use Rattle.std.proofs.Common.{◌≡◌, ◌≢◌, ℕ, zero, suc, ◌+◌, ◌<◌, ◌≤◌, Bool, true, false, not, ◌&&◌, ◌||◌, List, [], ◌∷◌, ◌++◌, length, filter, refl, ap, sym, ◌∙◌, eqb, arith, inl, inr}
+use Rattle.std.proofs.Common.{◌≡◌, ◌≢◌, ℕ, zero, suc, ◌<◌, ◌≤◌, true, false, not, List, [], ◌∷◌, length, filter, refl, ap, sym, ◌∙◌, arith, inl, inr}
 use Rattle.std.specs.Prelude.{remove, ◌==◌}
-use Rattle.std.specs.List.{list_all}
 use Rattle.std.proofs.lemmas.List.{nil_from_length}
-use Rattle.std.proofs.lemmas.Bool.{cases_Bool, cases_lt, cases_eq, eqb-true, eq-eqb, ne_eqb, false≢true}
+use Rattle.std.proofs.lemmas.Bool.{cases_Bool, cases_lt, eqb-true, eq-eqb, ne_eqb, false≢true}
 use Rattle.djq_hyper.specs.Hypergraph.{member, subset, minus, degree, edge_at, one}
 use Rattle.djq_hyper.proofs.Members.{has, Sub, one_le, one_true, from_true, has_minus, has_filter, has_here, subset_from, subset_says}
-use Rattle.djq_hyper.proofs.Bags.{labels, times, Bag, same_item}
+use Rattle.djq_hyper.proofs.Bags.{labels, same_item}
 use Rattle.djq_hyper.proofs.Counting.{count, Same, count_self, degree_same}
 use Rattle.djq_hyper.proofs.Rooting.{Rooted, rooted_same, progress, Own, Inner, trimmed, untrimmed, dropped, undropped, all_plugged}
 use Rattle.djq_tree.specs.declared.choice.Choice.{Choice}
 use Rattle.djq_tree.specs.declared.choice.Choice.TheVariants.{Trim, Meet, Stuck}
-use Rattle.djq_tree.specs.Choosing.{removable, has_removable, are_equal, is_inside, choose}
+use Rattle.djq_tree.specs.Choosing.{removable, has_removable, choose}
 use Rattle.djq_tree.specs.Growing.{Growth, grown, grow, after, without_both, are_within, is_root}
-use Rattle.djq_plan.proofs.Places.{bag_remove, bag_push, bag_both, times_at, times_remove, length_remove, at_remove_below, Place, place_of}
+use Rattle.djq_plan.proofs.Places.{bag_remove, bag_push, bag_both, times_remove, length_remove, at_remove_below, place_of}
 use Rattle.djq_plan.proofs.Says.{and_left, and_right, Trims, Meets, Sticks, Says, choose_says}
 
 -- ---- what a trim removes

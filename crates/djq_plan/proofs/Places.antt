@@ -1,8 +1,8 @@
 -- Places of a list: what stands at one, and what is left without it.
-use Rattle.std.proofs.Common.{◌≡◌, ◌≢◌, ℕ, zero, suc, ◌+◌, ◌<◌, ◌≤◌, ◌-◌, min, max, List, [], ◌∷◌, ◌++◌, length, map, get_or, take, drop, refl, ap, ap₂, sym, ◌∙◌, arith, inl, inr}
+use Rattle.std.proofs.Common.{◌≡◌, ◌≢◌, ℕ, zero, suc, ◌+◌, ◌<◌, ◌≤◌, min, max, List, [], ◌∷◌, ◌++◌, length, map, take, drop, refl, ap, ap₂, sym, arith, inl, inr}
 use Rattle.std.specs.Prelude.{remove, slice_index_or}
-use Rattle.std.proofs.lemmas.List.{map-append, take-map, drop-map, get_or-map, map_push}
-use Rattle.std.proofs.lemmas.Bool.{cases_lt, cases_eq}
+use Rattle.std.proofs.lemmas.List.{map-append, take-map, drop-map}
+use Rattle.std.proofs.lemmas.Bool.{cases_lt}
 use Rattle.djq_hyper.specs.Hypergraph.{one}
 use Rattle.djq_hyper.proofs.Bags.{Test, times, Bag, total, total_out, same_item, times_append, numbers}
 use Rattle.djq_tree.specs.Growing.{without_both}

@@ -1,26 +1,23 @@
 -- What the tree of a query is.
-use Rattle.std.proofs.Common.{◌≡◌, ◌≢◌, ℕ, zero, suc, ◌+◌, ◌-◌, ◌*◌, ◌<◌, ◌≤◌, true, false, List, [], ◌∷◌, ◌++◌, length, take, drop, refl, ap, subst, sym, ◌∙◌, cond, append_assoc, arith, inl, inr}
+use Rattle.std.proofs.Common.{◌≡◌, ℕ, ◌+◌, ◌*◌, ◌<◌, ◌≤◌, true, List, [], ◌++◌, length, take, drop, refl, ap, subst, sym, ◌∙◌, cond, append_assoc, arith}
 use Rattle.std.specs.Prelude.{◌==◌}
 use Rattle.std.proofs.lemmas.List.{take_at, drop_at}
 use Rattle.std.proofs.lemmas.List.Sums.{sum_by-append}
 use Rattle.std.proofs.lemmas.Bool.{eqb-true}
 use Rattle.djq_hyper.specs.Hypergraph.{member, degree, edge_at}
 use Rattle.djq_hyper.specs.JoinTree.{IsFreeConnex}
-use Rattle.djq_hyper.proofs.Members.{has, from_true, one_true}
-use Rattle.djq_hyper.proofs.Bags.{numbers, times}
-use Rattle.djq_hyper.proofs.Rooting.{Rooted}
+use Rattle.djq_hyper.proofs.Members.{from_true, one_true}
 use Rattle.djq_hyper.proofs.Linking.{free_connex_from}
-use Rattle.djq_tree.specs.declared.node.Node.{Node}
 use Rattle.djq_tree.specs.Tree.{Tree, IsTree}
-use Rattle.djq_tree.specs.Growing.{Growth, start, grow, are_within, is_root, tree_of, leaf_nodes, IsStage, IsTreeOf}
+use Rattle.djq_tree.specs.Growing.{Growth, start, grow, are_within, is_root, tree_of, IsTreeOf}
 use Rattle.djq_plan.specs.Counts.{trims, others, is_trim, IsSmall}
 use Rattle.djq_plan.specs.Head.{ShowsHead}
 use Rattle.djq_plan.specs.Plan.{IsPlan}
 use Rattle.djq_plan.proofs.Says.{and_left}
 use Rattle.djq_plan.proofs.Leading.{run_back, within_rooted, root_rooted}
 use Rattle.djq_plan.proofs.Growths.{Grown, grow_grown, start_grown}
-use Rattle.djq_plan.proofs.Ending.{Extends, grow_extends, tree_is, has_times}
-use Rattle.djq_plan.proofs.Counting.{Holds, alive, alive_le, others_grow, others_leaves, trims_grow, trims_leaves, kept_grow, degree_grow}
+use Rattle.djq_plan.proofs.Ending.{grow_extends, tree_is, has_times}
+use Rattle.djq_plan.proofs.Counting.{Holds, alive_le, others_grow, others_leaves, trims_grow, trims_leaves, kept_grow, degree_grow}
 use Rattle.djq_plan.proofs.Heading.{late_grow, within_has, head_shown}
 
 -- what follows from how the tree was grown

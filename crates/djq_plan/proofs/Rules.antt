@@ -1,7 +1,7 @@
 -- What the searches of the choice rule find.
-use Rattle.std.proofs.Common.{◌≡◌, ℕ, zero, suc, ◌+◌, ◌-◌, ◌<◌, ◌≤◌, min, max, Bool, true, false, not, ◌&&◌, ◌||◌, List, [], ◌∷◌, ◌++◌, length, take, filter, get_or, cond, Option, Some, None, is_some, refl, ap, ap₂, sym, ◌∙◌, eqb, ltb, arith, inl, inr}
+use Rattle.std.proofs.Common.{◌≡◌, ℕ, ◌+◌, ◌-◌, ◌<◌, ◌≤◌, min, Bool, true, false, not, ◌&&◌, ◌||◌, List, [], ◌∷◌, length, take, filter, Option, Some, None, is_some, refl, ap, sym, ◌∙◌, arith, inl, inr}
 use Rattle.std.specs.Prelude.{◌==◌, nat_lt, unwrap_or, slice_index_or}
-use Rattle.std.proofs.lemmas.Bool.{cases_lt, cases_eq, eqb-true, eq-eqb, ne_eqb, lt-ltb, le-ltb}
+use Rattle.std.proofs.lemmas.Bool.{cases_lt, cases_eq, eq-eqb, ne_eqb, lt-ltb, le-ltb}
 use Rattle.std.proofs.lemmas.List.{take_more, take_all, get_or_read}
 use Rattle.std.proofs.Math.Bool.{and-false}
 use Rattle.djq_hyper.specs.Hypergraph.{member, subset, minus, common, degree, edge_at, one}
@@ -9,7 +9,7 @@ use Rattle.djq_hyper.proofs.Members.{has, one_le, one_or, same_one, has_minus, h
 use Rattle.djq_hyper.proofs.Counting.{degree_append}
 use Rattle.djq_tree.specs.declared.choice.Choice.{Choice}
 use Rattle.djq_tree.specs.declared.choice.Choice.TheVariants.{Trim, Meet, Stuck}
-use Rattle.djq_tree.specs.Choosing.{lowest, removable, has_removable, are_equal, is_inside, twin, cover, choose_inside, choose_equal, choose_trim, choose}
+use Rattle.djq_tree.specs.Choosing.{lowest, removable, has_removable, are_equal, is_inside, twin, cover, choose_inside, choose_equal, choose}
 use Rattle.djq_tree.proofs.Finding.{lowest_is, lowest_none_is}
 
 pub twin_is : (L : List (List ℕ)) (a b : ℕ) → a < b → b < length L → are_equal L a b ≡ true → ((i : ℕ) → i < b → (nat_lt a i && are_equal L a i) ≡ false) → Some b ≡ twin L a

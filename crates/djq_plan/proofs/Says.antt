@@ -1,13 +1,12 @@
 -- What the choice rule's answer says.
-use Rattle.std.proofs.Common.{◌≡◌, ◌≢◌, ℕ, ◌+◌, ◌<◌, ◌≤◌, Bool, true, false, ◌&&◌, ◌||◌, List, [], ◌∷◌, length, Option, Some, None, is_some, ltb, refl, ap, sym, ◌∙◌, ap₂, not, ltb-true, arith, inl, inr}
+use Rattle.std.proofs.Common.{◌≡◌, ◌≢◌, ℕ, ◌<◌, Bool, true, false, ◌&&◌, List, length, Option, Some, None, is_some, refl, ap, sym, ◌∙◌, ap₂, not, ltb-true, arith}
 use Rattle.std.specs.Prelude.{nat_lt, unwrap_or}
-use Rattle.std.proofs.lemmas.Bool.{cases_Bool, false≢true, lt-ltb}
+use Rattle.std.proofs.lemmas.Bool.{false≢true, lt-ltb}
 use Rattle.djq_hyper.specs.Hypergraph.{subset, edge_at}
 use Rattle.djq_tree.specs.declared.choice.Choice.{Choice}
 use Rattle.djq_tree.specs.declared.choice.Choice.TheVariants.{Trim, Meet, Stuck}
-use Rattle.djq_tree.specs.Lowest.{lowest_from}
 use Rattle.djq_tree.specs.Choosing.{lowest, removable, has_removable, are_equal, is_inside, twin, cover, choose_inside, choose_equal, choose_trim, choose}
-use Rattle.djq_tree.proofs.Finding.{IsLowest, lowest_some, lowest_none}
+use Rattle.djq_tree.proofs.Finding.{lowest_some, lowest_none}
 
 -- the node at the place is trimmed of its removable variables, of which there is one
 pub record Trims (keep : List ℕ) (L : List (List ℕ)) (i : ℕ) (X : List ℕ) : Type 0 where

@@ -1,11 +1,10 @@
 -- The tree's invariant while it grows: what holds of the nodes made so far, of which some are current.
-use Rattle.std.proofs.Common.{◌≡◌, ◌≢◌, ◌⊎◌, ℕ, zero, suc, ◌+◌, ◌<◌, ◌≤◌, Bool, true, false, ◌||◌, List, [], ◌∷◌, ◌++◌, length, refl, ap, subst, sym, ◌∙◌, eqb, arith, inl, inr}
-use Rattle.std.specs.Prelude.{slice_index_or}
+use Rattle.std.proofs.Common.{◌≡◌, ◌≢◌, ◌⊎◌, ℕ, ◌+◌, ◌<◌, ◌≤◌, Bool, true, false, ◌||◌, List, [], ◌∷◌, ◌++◌, length, refl, ap, subst, sym, ◌∙◌, eqb, arith, inl, inr}
 use Rattle.std.proofs.lemmas.List.{get_or_append_left, get_or_push, get_or_past, length_push}
 use Rattle.std.proofs.lemmas.Bool.{cases_Bool, cases_lt, cases_eq, eqb-true, eq-eqb, ne_eqb, false≢true}
 use Rattle.std.proofs.Math.Bool.{or-true}
-use Rattle.djq_hyper.specs.Hypergraph.{member, subset, minus, edge_at, one}
-use Rattle.djq_hyper.proofs.Members.{has, Sub, one_le, one_true, one_false, from_true, from_false, subset_from, subset_says}
+use Rattle.djq_hyper.specs.Hypergraph.{member, subset, edge_at, one}
+use Rattle.djq_hyper.proofs.Members.{has, Sub, one_le, from_true, from_false, subset_from, subset_says}
 use Rattle.djq_hyper.proofs.Bags.{numbers, times, Bag, total, total_same}
 use Rattle.djq_tree.specs.declared.node.Node.{Node}
 use Rattle.djq_tree.specs.declared.node.Node.TheVariants.{Leaf, Trim, Meet}

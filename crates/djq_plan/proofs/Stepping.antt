@@ -1,12 +1,12 @@
 -- A stage, step by step.
-use Rattle.std.proofs.Common.{◌≡◌, ◌≢◌, ℕ, zero, suc, ◌+◌, ◌-◌, ◌<◌, ◌≤◌, min, Bool, true, false, not, cond, List, [], ◌∷◌, ◌++◌, length, filter, refl, ap, subst, sym, ◌∙◌, arith, inl, inr}
-use Rattle.std.specs.Prelude.{◌==◌, remove, slice_index}
+use Rattle.std.proofs.Common.{◌≡◌, ◌≢◌, ℕ, zero, suc, ◌+◌, ◌<◌, ◌≤◌, Bool, true, false, not, cond, List, [], ◌∷◌, ◌++◌, length, filter, refl, ap, subst, sym, ◌∙◌, arith, inl, inr}
+use Rattle.std.specs.Prelude.{◌==◌, remove}
 use Rattle.std.specs.List.{list_any}
 use Rattle.std.proofs.lemmas.List.{length_push}
 use Rattle.std.proofs.Math.Numerals.{add-one}
-use Rattle.std.proofs.lemmas.Bool.{cases_Bool, cases_lt, cases_eq, eq-eqb, ne_eqb, false≢true, lt-leb}
-use Rattle.djq_hyper.specs.Hypergraph.{member, minus, degree, edge_at, one}
-use Rattle.djq_hyper.proofs.Members.{has, has_other, one_le, one_true}
+use Rattle.std.proofs.lemmas.Bool.{cases_lt, cases_eq, eq-eqb, ne_eqb, lt-leb}
+use Rattle.djq_hyper.specs.Hypergraph.{member, minus, edge_at}
+use Rattle.djq_hyper.proofs.Members.{has, has_other, one_true}
 use Rattle.djq_hyper.proofs.Bags.{labels, total, total_same, times}
 use Rattle.djq_tree.specs.declared.choice.Choice.{Choice}
 use Rattle.djq_tree.specs.declared.choice.Choice.TheVariants.{Trim, Meet, Stuck}

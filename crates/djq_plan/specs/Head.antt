@@ -1,5 +1,5 @@
 -- Where a planned tree has the head's variables.
-use Rattle.std.specs.Prelude.{◌≡◌, ℕ, true, List, take}
+use Rattle.std.specs.Prelude.{◌≡◌, ℕ, true, List}
 use Rattle.djq_hyper.specs.Hypergraph.{member, subset, edge_at}
 use Rattle.djq_tree.specs.Tree.{Tree, is_out}
 

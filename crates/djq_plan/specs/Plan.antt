@@ -1,7 +1,7 @@
 -- What a plan is, and what refuses one.
 use Rattle.std.specs.Prelude.{◌≡◌, ℕ, List, ◌∷◌, take}
 use Rattle.djq_hyper.specs.Gyo.{IsRest}
-use Rattle.djq_hyper.specs.JoinTree.{HasJoinTree, HasJoinTreeFrom, IsFreeConnex}
+use Rattle.djq_hyper.specs.JoinTree.{HasJoinTree, HasJoinTreeFrom}
 use Rattle.djq_tree.specs.Tree.{Tree, IsTree}
 use Rattle.djq_tree.specs.Growing.{IsTreeOf}
 use Rattle.djq_plan.specs.declared.refusal.PlanRefusal.{PlanRefusal}

@@ -1,6 +1,5 @@
 -- How a stage of the planner goes.
-use Rattle.std.specs.Prelude.{◌≡◌, ◌≢◌, ℕ, ◌<◌, Bool, true, false, List}
-use Rattle.djq_tree.specs.declared.choice.Choice.{Choice}
+use Rattle.std.specs.Prelude.{◌≡◌, ◌≢◌, ℕ, Bool, true, false, List}
 use Rattle.djq_tree.specs.declared.choice.Choice.TheVariants.{Stuck}
 use Rattle.djq_tree.specs.Choosing.{choose}
 use Rattle.djq_tree.specs.Growing.{Growth, grown, grow, IsStage}

@@ -4,7 +4,7 @@ use Rattle.std.proofs.lemmas.Bool.{cases_Bool, cases_eq, eqb-true, false≢true}
 use Rattle.djq_tree.specs.declared.node.Node.{Node}
 use Rattle.djq_tree.specs.declared.node.Node.TheVariants.{Leaf, Trim, Meet}
 use Rattle.djq_tree.specs.Tree.{Tree, IsTree, node_at, has_child, IsRising, parent, climb, climb_on, path_of, rest_of, is_out, IsFrontier}
-use Rattle.djq_tree.proofs.Finding.{IsLowest, lowest_is, lowest_none_is, lowest_some}
+use Rattle.djq_tree.proofs.Finding.{lowest_is, lowest_none_is, lowest_some}
 
 -- a parent is a node with this child, and higher
 pub parent_above : (nodes : List Node) (j p : ℕ) → IsRising nodes → parent nodes j ≡ Some p → (j < p) × (p < length nodes) × (has_child (node_at nodes p) j ≡ true)

@@ -1,4 +1,4 @@
-use Rattle.std.proofs.Common.{rules, arith}
+use Rattle.std.proofs.Common.{arith}
 use Rattle.djq_plan.proofs.Rules.{inside_is, inside_none}
 use Rattle.djq_plan.proofs.choosing.choose_covered.Goals as goal
 

@@ -1,4 +1,4 @@
-use Rattle.std.proofs.Common.{rules, arith}
+use Rattle.std.proofs.Common.{arith}
 use Rattle.djq_plan.proofs.Rules.{equal_is, equal_none}
 use Rattle.djq_plan.proofs.choosing.choose_twins.Goals as goal
 

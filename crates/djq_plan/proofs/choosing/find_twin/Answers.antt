@@ -1,5 +1,5 @@
 use Rattle.std.proofs.Common.{rules, arith}
-use Rattle.djq_plan.proofs.Rules.{read, equal_read, equal_read_not, twin_is, twin_none}
+use Rattle.djq_plan.proofs.Rules.{read, equal_read, twin_is, twin_none}
 use Rattle.djq_plan.proofs.choosing.find_twin.Goals as goal
 
 pub returns-then-are_equal : goal.returns-then-are_equal

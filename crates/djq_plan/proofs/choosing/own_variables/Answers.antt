@@ -1,4 +1,4 @@
-use Rattle.std.proofs.Common.{rules, arith}
+use Rattle.std.proofs.Common.{arith}
 use Rattle.djq_plan.proofs.Rules.{read, once_more, twice_more, own_is}
 use Rattle.djq_plan.proofs.choosing.own_variables.Goals as goal
 

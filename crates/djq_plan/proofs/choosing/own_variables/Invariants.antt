@@ -1,4 +1,4 @@
-use Rattle.std.proofs.Common.{◌≡◌, ℕ, ◌<◌, take}
+use Rattle.std.proofs.Common.{◌≡◌, ℕ, take}
 use Rattle.std.specs.Prelude.{nat_lt}
 use Rattle.djq_hyper.specs.Hypergraph.{member, degree}
 use Rattle.djq_plan.proofs.choosing.own_variables.Given as goal

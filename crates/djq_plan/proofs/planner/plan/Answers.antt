@@ -1,4 +1,4 @@
-use Rattle.std.proofs.Common.{◌≡◌, ◌∙◌, refl, sym, ap, subst}
+use Rattle.std.proofs.Common.{sym, subst}
 use Rattle.djq_tree.specs.Tree.{Tree}
 use Rattle.djq_plan.specs.Plan.{IsPlan}
 use Rattle.djq_plan.proofs.Deciding.{stuck_first, stuck_second, plan_of}

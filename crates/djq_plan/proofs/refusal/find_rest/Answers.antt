@@ -1,4 +1,4 @@
-use Rattle.std.proofs.Common.{◌≡◌, ◌∙◌, true, refl, sym, ap}
+use Rattle.std.proofs.Common.{true, refl}
 use Rattle.djq_plan.proofs.Deciding.{rest_says, bare_rest}
 use Rattle.djq_plan.proofs.refusal.find_rest.Goals as goal
 

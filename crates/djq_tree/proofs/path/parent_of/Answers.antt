@@ -1,4 +1,4 @@
-use Rattle.std.proofs.Common.{rules, sym, ap, ◌∙◌, arith}
+use Rattle.std.proofs.Common.{rules, sym, arith}
 use Rattle.djq_tree.proofs.Climbing.{parent_is, parent_none_is}
 use Rattle.djq_tree.proofs.path.parent_of.Goals as goal
 

@@ -1,4 +1,4 @@
-use Rattle.std.proofs.Common.{◌≡◌, ◌∙◌, ap, arith}
+use Rattle.std.proofs.Common.{◌∙◌, ap, arith}
 use Rattle.djq_tree.specs.Growing.{Growth}
 use Rattle.djq_plan.proofs.Stepping.{mark_more}
 use Rattle.djq_plan.proofs.growing.Growing.marks.Goals as goal

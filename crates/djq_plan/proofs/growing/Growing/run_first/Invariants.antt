@@ -1,4 +1,3 @@
-use Rattle.std.proofs.Common.{length}
 use Rattle.djq_tree.specs.Growing.{are_within}
 use Rattle.djq_plan.proofs.Stepping.{Ran, size}
 use Rattle.djq_plan.proofs.growing.Growing.run_first.Given as goal

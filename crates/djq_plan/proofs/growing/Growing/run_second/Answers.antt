@@ -1,6 +1,6 @@
-use Rattle.std.proofs.Common.{◌≡◌, ◌∙◌, sym, refl, rules, []}
-use Rattle.djq_tree.specs.Growing.{are_within, is_root}
-use Rattle.djq_plan.proofs.Stepping.{ran_none, turn, turn_stuck, turn_end}
+use Rattle.std.proofs.Common.{[]}
+use Rattle.djq_tree.specs.Growing.{is_root}
+use Rattle.djq_plan.proofs.Stepping.{ran_none, turn}
 use Rattle.djq_plan.proofs.growing.Growing.run_second.Goals as goal
 
 pub second-init : goal.second-init

@@ -1,4 +1,4 @@
-use Rattle.std.proofs.Common.{length, []}
+use Rattle.std.proofs.Common.{[]}
 use Rattle.djq_tree.specs.Growing.{is_root}
 use Rattle.djq_plan.proofs.Stepping.{Ran, size}
 use Rattle.djq_plan.proofs.growing.Growing.run_second.Given as goal

@@ -1,4 +1,4 @@
-use Rattle.std.proofs.Common.{◌≡◌, ◌∙◌, sym, arith}
+use Rattle.std.proofs.Common.{◌∙◌, arith}
 use Rattle.djq_plan.proofs.Stepping.{lengths_agree}
 use Rattle.djq_plan.proofs.growing.Growing.start.Goals as goal
 

@@ -1,4 +1,4 @@
-use Rattle.std.proofs.Common.{◌≡◌, ◌∙◌, ap, List, ℕ}
+use Rattle.std.proofs.Common.{◌∙◌, ap}
 use Rattle.djq_tree.specs.Growing.{Growth}
 use Rattle.djq_plan.proofs.Stepping.{trim_place, meet_places}
 use Rattle.djq_plan.proofs.growing.Growing.take_step.Goals as goal

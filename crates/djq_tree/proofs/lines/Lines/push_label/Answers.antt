@@ -1,5 +1,4 @@
-use Rattle.std.proofs.Common.{◌≡◌, ◌<◌, ◌++◌, sym, ap, ◌∙◌, refl, arith, rules}
-use Rattle.djq_tree.specs.Explaining.{label_text}
+use Rattle.std.proofs.Common.{refl}
 use Rattle.djq_tree.proofs.Labelling.{popped, listed_more, labelled}
 use Rattle.djq_tree.proofs.lines.Lines.push_label.Goals as goal
 

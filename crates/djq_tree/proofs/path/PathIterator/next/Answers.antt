@@ -1,4 +1,4 @@
-use Rattle.std.proofs.Common.{rules, sym, ap, ◌∙◌, arith}
+use Rattle.std.proofs.Common.{rules, sym, ◌∙◌}
 use Rattle.djq_tree.proofs.Climbing.{parent_above, next_step}
 use Rattle.djq_tree.proofs.path.PathIterator.next.Goals as goal
 

@@ -1,4 +1,4 @@
-use Rattle.std.proofs.Common.{◌≡◌, ◌<◌, ◌-◌, length, Some, false, sym, ap, ◌∙◌, arith, rules}
+use Rattle.std.proofs.Common.{◌∙◌, arith, rules}
 use Rattle.djq_tree.proofs.Climbing.{rising_of, frontier_step}
 use Rattle.djq_tree.proofs.tree.Tree.frontier.Goals as goal
 

@@ -1,0 +1,4 @@
+pub mod Views
+pub mod Sound
+pub mod Runs
+pub mod Opens
