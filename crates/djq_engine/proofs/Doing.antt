@@ -1,20 +1,18 @@
 -- Adding to and taking out of the relation at a place, in the machine's words.
-use Rattle.std.proofs.Common.{ℕ, List, [], ◌∷◌, ◌++◌, ◌+◌, ◌≡◌, ◌<◌, Bool, true, false, refl, sym, ap, ap₂, ◌∙◌, subst, length, get_or, set, arith}
+use Rattle.std.proofs.Common.{ℕ, List, [], ◌∷◌, ◌++◌, ◌+◌, ◌≡◌, ◌<◌, Bool, true, false, refl, sym, ap, ap₂, ◌∙◌, subst, length, set}
 use Rattle.std.proofs.lemmas.Bool.{eqb-true}
-use Rattle.std.specs.Prelude.{◌==◌, ◌&&◌, not, nat_le, Option, None, Some, is_some, cond, Result, Ok, Err, OnOk, OnErr, IfErr, remove, ⊤}
+use Rattle.std.specs.Prelude.{◌==◌, ◌&&◌, not, nat_le, Option, None, Some, is_some, Result, Ok, Err, OnOk, OnErr, IfErr, remove}
 use Rattle.djq_model.specs.declared.relation.Relation.{Relation}
 use Rattle.djq_model.specs.declared.relation.ColumnType.{ColumnType}
 use Rattle.djq_model.specs.declared.query.Query.{Query}
-use Rattle.djq_model.specs.Data.{Bytes, Tuple, bytes_eq, tuple_eq, has_row, without_row, relation_of, rows_of, rows_in, drop_first}
+use Rattle.djq_model.specs.Data.{Bytes, Tuple, bytes_eq, tuple_eq, has_row, without_row, relation_of, rows_of, rows_in}
 use Rattle.djq_machine.specs.declared.answer.Refusal.{Refusal}
 use Rattle.djq_machine.specs.declared.answer.Refusal.TheVariants.{Taken, NoRelation, Arity, WrongType, Limit, NoMemory}
 use Rattle.djq_machine.specs.declared.answer.Added.{Added as AddAnswer}
 use Rattle.djq_machine.specs.declared.answer.Added.TheVariants.{Added, Same}
 use Rattle.djq_machine.specs.declared.answer.Deleted.{Deleted as DeleteAnswer}
 use Rattle.djq_machine.specs.declared.answer.Deleted.TheVariants.{Removed, Absent}
-use Rattle.djq_machine.specs.State.{Store}
-use Rattle.djq_machine.specs.Store.{first_of, fits, last_seq, Answers, Adds, AddDoes, add_refusal, Deletes, DeleteDoes, delete_refusal, rel_refusal, with_rows}
-use Rattle.djq_engine.specs.declared.registered.Registered.{Registered}
+use Rattle.djq_machine.specs.Store.{first_of, fits, last_seq, Adds, AddDoes, add_refusal, Deletes, DeleteDoes, delete_refusal, rel_refusal, with_rows}
 use Rattle.djq_engine.specs.Finding.{IsFirst, Finds}
 use Rattle.djq_engine.specs.Refusing.{add_refusals, delete_refusals}
 use Rattle.djq_engine.specs.Sound.{IsSound}

@@ -1,5 +1,5 @@
 -- What the place of the first that passes tells of look-ups and changes.
-use Rattle.std.proofs.Common.{ℕ, zero, suc, List, [], ◌∷◌, ◌+◌, ◌≡◌, ◌<◌, ◌≤◌, Bool, true, false, refl, sym, ap, ◌∙◌, subst, length, get_or, set, take, drop, ◌++◌, arith}
+use Rattle.std.proofs.Common.{ℕ, zero, suc, List, [], ◌∷◌, ◌≡◌, ◌<◌, Bool, true, false, refl, ap, ◌∙◌, length, get_or, set, take, drop, ◌++◌, arith}
 use Rattle.std.specs.Prelude.{Option, None, Some, is_some, find, cond}
 use Rattle.djq_model.specs.Data.{Tuple, tuple_eq, has_row, without_row, change_first, drop_first}
 use Rattle.djq_engine.specs.Finding.{IsFirst, Finds}

@@ -1,14 +1,14 @@
 -- That what the engine keeps is kept.
-use Rattle.std.proofs.Common.{ℕ, zero, suc, List, [], ◌∷◌, ◌++◌, ◌+◌, ◌≡◌, ◌<◌, Bool, true, false, refl, sym, ap, ◌∙◌, subst, length, get_or, set, arith, eq-eqb}
-use Rattle.std.specs.Prelude.{◌==◌, ◌&&◌, Option, None, Some, is_some, cond, ℤ, pos, negsuc}
+use Rattle.std.proofs.Common.{ℕ, zero, suc, List, [], ◌∷◌, ◌++◌, ◌≡◌, ◌<◌, Bool, true, false, refl, sym, ap, ◌∙◌, subst, length, set, arith, eq-eqb}
+use Rattle.std.specs.Prelude.{◌==◌, ◌&&◌, Option, Some, is_some, cond, ℤ, pos, negsuc}
 use Rattle.djq_model.specs.declared.value.Value.{Value}
 use Rattle.djq_model.specs.declared.value.Value.TheVariants.{Int, Text}
 use Rattle.djq_model.specs.declared.relation.Relation.{Relation}
-use Rattle.djq_model.specs.Data.{Bytes, Tuple, bytes_eq, int_eq, value_eq, tuple_eq, has_row, without_row, relation_of, rows_of, rows_in}
+use Rattle.djq_model.specs.Data.{Bytes, Tuple, bytes_eq, int_eq, value_eq, tuple_eq, has_row, without_row, relation_of}
 use Rattle.djq_machine.specs.Store.{types_of}
 use Rattle.djq_engine.specs.declared.registered.Registered.{Registered}
 use Rattle.djq_engine.specs.Sound.{RowsFit, IsFresh, RowsDiffer, RelationsSound, IsReady, QueriesReady, IsSound}
-use Rattle.djq_engine.specs.Change.{no_relation, relation_at}
+use Rattle.djq_engine.specs.Change.{relation_at}
 
 number_same : (n : ℕ) → (n == n) ≡ true
 number_same n = eq-eqb n n refl

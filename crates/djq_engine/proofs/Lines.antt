@@ -1,5 +1,5 @@
 -- The lines of a listing, as they are put one after another.
-use Rattle.std.proofs.Common.{ℕ, zero, suc, List, [], ◌∷◌, ◌++◌, ◌+◌, ◌-◌, ◌≡◌, ◌<◌, ◌≤◌, Bool, true, false, refl, sym, ap, ap₂, ◌∙◌, subst, length, get_or, take, drop, arith, append_assoc, append-nil, add-one, length-append, length-drop}
+use Rattle.std.proofs.Common.{ℕ, zero, suc, List, [], ◌∷◌, ◌++◌, ◌+◌, ◌-◌, ◌≡◌, ◌<◌, ◌≤◌, Bool, true, false, refl, sym, ap, ap₂, ◌∙◌, length, get_or, take, drop, arith, append_assoc, append-nil, add-one, length-append, length-drop}
 use Rattle.std.specs.Prelude.{map, nat_le}
 use Rattle.std.specs.List.{flat_map}
 use Rattle.std.proofs.lemmas.List.{take-map, get_or-map, length-map, length-take, take-append-drop, take_more, take_at, take-append-le}

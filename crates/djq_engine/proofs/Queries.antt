@@ -1,6 +1,6 @@
 -- Registering a query of one atom, in the machine's words.
-use Rattle.std.proofs.Common.{ℕ, List, [], ◌∷◌, ◌++◌, ◌+◌, ◌≡◌, ◌<◌, ◌≤◌, Bool, true, false, refl, sym, ap, ◌∙◌, subst, length, arith}
-use Rattle.std.specs.Prelude.{◌==◌, ◌&&◌, ◌||◌, not, nat_le, Option, None, Some, is_some, is_none, cond, find, option_map, map, Result, Ok, Err, OnErr}
+use Rattle.std.proofs.Common.{ℕ, List, [], ◌∷◌, ◌++◌, ◌≡◌, ◌<◌, ◌≤◌, Bool, true, false, refl, sym, ap, ◌∙◌, subst, length, arith}
+use Rattle.std.specs.Prelude.{◌==◌, ◌&&◌, ◌||◌, not, nat_le, Option, None, Some, is_some, is_none, cond, find, option_map}
 use Rattle.std.specs.List.{list_any, list_all}
 use Rattle.std.proofs.lemmas.Bool.{eqb-true, eq-eqb, le-leb, leb-true}
 use Rattle.std.proofs.lemmas.List.{length-map}
@@ -11,14 +11,14 @@ use Rattle.djq_model.specs.declared.query.Term.{Term}
 use Rattle.djq_model.specs.declared.query.Term.TheVariants.{Variable, Hole, Constant}
 use Rattle.djq_engine.specs.Served.{is_served, is_served_by, is_variable, are_same, names_of, relation_in, body_in}
 use Rattle.djq_engine.specs.Answers.{columns_of}
-use Rattle.djq_model.specs.Data.{Bytes, Tuple, bytes_eq, relation_of, query_of}
+use Rattle.djq_model.specs.Data.{Bytes, bytes_eq, relation_of, query_of}
 use Rattle.djq_machine.specs.declared.answer.Refusal.{Refusal}
-use Rattle.djq_machine.specs.declared.answer.Refusal.TheVariants.{Taken, NoRelation, Arity, Limit, NoMemory}
-use Rattle.djq_machine.specs.Store.{first_of, types_of, Registers, query_refusal, most_steps}
+use Rattle.djq_machine.specs.declared.answer.Refusal.TheVariants.{Taken, NoRelation, Arity, Limit}
+use Rattle.djq_machine.specs.Store.{first_of, types_of, query_refusal}
 use Rattle.djq_engine.specs.declared.registered.Registered.{Registered}
-use Rattle.djq_engine.specs.Finding.{IsFirst, Finds}
+use Rattle.djq_engine.specs.Finding.{IsFirst}
 use Rattle.djq_engine.specs.Sound.{queries_in, IsSound, IsReady, QueriesReady}
-use Rattle.djq_engine.specs.Change.{store, no_relation, relation_at}
+use Rattle.djq_engine.specs.Change.{store, relation_at}
 use Rattle.djq_engine.specs.Registering.{atom_refusals, query_refusals}
 use Rattle.djq_engine.proofs.Firsts.{first_found}
 use Rattle.djq_engine.proofs.Doing.{named, first_false, fits_of}

@@ -1,14 +1,13 @@
 -- The answers of a served query are its relation's rows at the columns of its head, each once.
-use Rattle.std.proofs.Common.{ℕ, zero, suc, List, [], ◌∷◌, ◌++◌, ◌+◌, ◌≡◌, ◌<◌, ◌≤◌, Bool, true, false, refl, sym, ap, ap₂, ◌∙◌, subst, length, get_or, take, drop, arith, ℤ, pos, eqb-true}
-use Rattle.std.specs.Prelude.{◌==◌, ◌&&◌, ◌||◌, not, cond, map, Option, None, Some, is_some, option_map, All, AllPairs, Contains, nat_le}
-use Rattle.std.specs.List.{list_any, list_all}
+use Rattle.std.proofs.Common.{ℕ, zero, suc, List, [], ◌∷◌, ◌++◌, ◌+◌, ◌≡◌, ◌<◌, ◌≤◌, Bool, true, false, refl, sym, ap, ap₂, ◌∙◌, subst, length, get_or, take, drop, arith, eqb-true}
+use Rattle.std.specs.Prelude.{◌==◌, ◌&&◌, ◌||◌, not, cond, map, Option, None, Some, is_some, option_map, All, Contains}
+use Rattle.std.specs.List.{list_all}
 use Rattle.std.proofs.Math.Seq.{take-add}
 use Rattle.std.proofs.lemmas.Bool.{leb-true, leb-false}
 use Rattle.std.proofs.lemmas.List.{get_or-map, get_or-take, length-map, length-take, length-drop, take_all}
 use Rattle.std.proofs.lemmas.List.Elements.{All-take, All-drop, All-cons, All-nil}
 use Rattle.std.proofs.lemmas.List.Kept.{AllPairs-cons}
 use Rattle.djq_model.specs.declared.value.Value.{Value}
-use Rattle.djq_model.specs.declared.value.Value.TheVariants.{Int}
 use Rattle.djq_model.specs.declared.relation.Relation.{Relation}
 use Rattle.djq_model.specs.declared.query.Query.{Query}
 use Rattle.djq_model.specs.declared.query.Atom.{Atom}
@@ -19,8 +18,8 @@ use Rattle.djq_model.specs.Answer.{Assignment, StandForAll, Satisfies, IsAnswer,
 use Rattle.djq_machine.specs.Grammar.{has_name, are_different}
 use Rattle.djq_machine.specs.Store.{Tells, types_of}
 use Rattle.djq_value.specs.Output.{cell_at}
-use Rattle.djq_engine.specs.Served.{is_served, is_served_by, is_variable, are_same, names_of, relation_in, body_in, place_in}
-use Rattle.djq_engine.specs.Answers.{columns_of, cells_at, answers_of}
+use Rattle.djq_engine.specs.Served.{is_served_by, is_variable, are_same, names_of, relation_in, body_in, place_in}
+use Rattle.djq_engine.specs.Answers.{cells_at, answers_of}
 use Rattle.djq_engine.specs.Sound.{RowsFit, IsFresh, RowsDiffer, RelationsSound, IsReady, QueriesReady, queries_in}
 use Rattle.djq_engine.specs.declared.registered.Registered.{Registered}
 use Rattle.djq_engine.specs.Lists.{told_from, is_end}

@@ -1,5 +1,5 @@
 -- Equality of values and tuples, one cell after another.
-use Rattle.std.proofs.Common.{ℕ, zero, suc, List, [], ◌∷◌, ◌+◌, ◌≡◌, ◌<◌, Bool, true, false, refl, sym, ap, ◌∙◌, length, get_or, drop, drop-cons, arith}
+use Rattle.std.proofs.Common.{ℕ, suc, List, [], ◌∷◌, ◌≡◌, ◌<◌, Bool, true, false, refl, length, get_or, drop, drop-cons, arith}
 use Rattle.std.specs.Prelude.{◌&&◌}
 use Rattle.djq_model.specs.declared.value.Value.{Value}
 use Rattle.djq_model.specs.declared.relation.ColumnType.{ColumnType}

@@ -1,7 +1,7 @@
 -- The answers of a served query, one for each row of its relation, in the order of the rows.
 use Rattle.std.specs.Prelude.{ℕ, List, map}
 use Rattle.djq_model.specs.declared.query.Query.{Query}
-use Rattle.djq_model.specs.Data.{Bytes, Tuple, rows_of}
+use Rattle.djq_model.specs.Data.{Tuple, rows_of}
 use Rattle.djq_machine.specs.State.{Store}
 use Rattle.djq_value.specs.Output.{cell_at}
 use Rattle.djq_engine.specs.Served.{relation_in, body_in, place_in}

@@ -1,5 +1,5 @@
 -- What the relations and the number of changes become.
-use Rattle.std.specs.Prelude.{ℕ, List, [], ◌∷◌, ◌++◌, ◌≡◌, ◌+◌, Bool, true, false, Result, OnErr, length, remove, slice_set, slice_index_or, ⊤}
+use Rattle.std.specs.Prelude.{ℕ, List, [], ◌∷◌, ◌++◌, ◌≡◌, ◌+◌, true, false, Result, OnErr, length, remove, slice_set, slice_index_or, ⊤}
 use Rattle.djq_model.specs.declared.relation.Relation.{Relation}
 use Rattle.djq_model.specs.declared.relation.ColumnType.{ColumnType}
 use Rattle.djq_model.specs.declared.query.Query.{Query}

@@ -1,8 +1,8 @@
 -- What a listing of a query's answers from a position on does to the output, and what it answers.
-use Rattle.std.specs.Prelude.{ℕ, suc, List, Result, Ok, Err, map, ◌≡◌, ◌+◌, ◌++◌, ◌<◌, ◌≤◌, nat_le, Bool, IsSomeAnd, length, take, drop}
+use Rattle.std.specs.Prelude.{ℕ, suc, List, Result, Ok, Err, map, ◌≡◌, ◌+◌, ◌++◌, ◌<◌, ◌≤◌, nat_le, Bool, length, take, drop}
 use Rattle.bytes.specs.Filled.{Filled}
 use Rattle.djq_model.specs.declared.query.Query.{Query}
-use Rattle.djq_model.specs.Data.{Bytes, Tuple, query_of}
+use Rattle.djq_model.specs.Data.{Bytes, Tuple}
 use Rattle.djq_machine.specs.Reply.{answer_line, listing_lines, text_of}
 use Rattle.djq_machine.specs.State.{Store}
 use Rattle.djq_machine.specs.Store.{Tells}

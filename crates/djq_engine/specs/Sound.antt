@@ -1,7 +1,7 @@
 -- What the engine keeps: rows fit their relation and differ, and each registered query is served over a relation that is there.
-use Rattle.std.specs.Prelude.{ℕ, List, [], ◌∷◌, ◌≡◌, ◌<◌, Bool, true, false, is_some, length, map}
+use Rattle.std.specs.Prelude.{ℕ, List, [], ◌∷◌, ◌≡◌, true, is_some, length, map}
 use Rattle.djq_model.specs.declared.relation.Relation.{Relation}
-use Rattle.djq_model.specs.Data.{Bytes, Tuple, relation_of}
+use Rattle.djq_model.specs.Data.{Tuple, relation_of}
 use Rattle.djq_machine.specs.Store.{types_of}
 use Rattle.djq_model.specs.declared.query.Query.{Query}
 use Rattle.djq_engine.specs.declared.registered.Registered.{Registered}

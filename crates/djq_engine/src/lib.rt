@@ -18,3 +18,5 @@ mod refusing;
 mod registered;
 mod registering;
 mod rows;
+#[cfg(test)]
+mod tests;

@@ -54,9 +54,9 @@ fn runs_a_session(rt: HostRuntime) {
 #[test]
 fn tells_stale_cursors(rt: HostRuntime) {
     let input =
-        b"rel r int\nrel t int\nquery q(x) <- r(x)\nadd r 1\nopen c q\nnext c 1\nadd r 1\nadd t 5\nnext c 1\nadd r 3\nadd r 4\nnext c 1\nadd r";
+        b"rel r int\nrel t int\nquery q(x) <- r(x)\nadd r 1\nadd r 2\nopen c q\nnext c 1\nadd r 1\nadd t 5\nnext c 1\nadd r 3\nnext c 1\nadd r 4\nnext c 1\nadd r";
     let want =
-        b"ok\nok\nok query 3\nok added 1\nok open\n= 1\nend\nok same 1\nok added 2\nend\nok added 3\nok added 4\nstale c r 3\nerr 13 cut\n";
+        b"ok\nok\nok query 3\nok added 1\nok added 2\nok open\n= 1\nmore\nok same 2\nok added 3\n= 2\nend\nok added 4\nstale c r 4\nok added 5\nstale c r 4\nerr 13 cut\n";
     assert!(rt; says::<Brand>(&rt, Blanks::new(&rt), input, want, Cause::Input));
 }
 

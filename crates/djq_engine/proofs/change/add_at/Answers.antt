@@ -1,4 +1,4 @@
-use Rattle.std.proofs.Common.{sym, ap, ◌∙◌}
+use Rattle.std.proofs.Common.{ap, ◌∙◌}
 use Rattle.std.specs.Prelude.{Some, None, is_some}
 use Rattle.djq_engine.proofs.Doing.{found_as, refused_add, same_add, done_add, lacking_add}
 use Rattle.djq_engine.proofs.change.add_at.Goals as goal

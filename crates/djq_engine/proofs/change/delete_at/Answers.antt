@@ -1,4 +1,4 @@
-use Rattle.std.proofs.Common.{sym, ap, ◌∙◌}
+use Rattle.std.proofs.Common.{ap, ◌∙◌}
 use Rattle.std.specs.Prelude.{Some, None, is_some}
 use Rattle.djq_engine.proofs.Doing.{found_as, refused_delete, absent_delete, done_delete}
 use Rattle.djq_engine.proofs.change.delete_at.Goals as goal

@@ -1,4 +1,3 @@
-use Rattle.std.proofs.Common.{[]}
 use Rattle.djq_model.specs.declared.relation.Relation.{Relation}
 use Rattle.djq_engine.proofs.Doing.{pushed_sound}
 use Rattle.djq_engine.proofs.change.make_relation.Goals as goal

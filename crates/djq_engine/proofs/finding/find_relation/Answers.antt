@@ -1,4 +1,4 @@
-use Rattle.std.proofs.Common.{◌<◌, length, arith}
+use Rattle.std.proofs.Common.{arith}
 use Rattle.djq_model.specs.Data.{bytes_eq}
 use Rattle.djq_engine.proofs.Firsts.{none_found}
 use Rattle.djq_engine.proofs.finding.find_relation.Goals as goal

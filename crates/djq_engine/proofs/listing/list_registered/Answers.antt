@@ -1,9 +1,8 @@
-use Rattle.std.proofs.Common.{◌≡◌, ◌≤◌, ◌∙◌, sym, ap, subst, length, arith, [], map}
+use Rattle.std.proofs.Common.{ap, subst, length, arith, []}
 use Rattle.std.proofs.lemmas.List.{length-map}
-use Rattle.djq_engine.specs.Answers.{cells_at, answers_of}
-use Rattle.djq_engine.specs.Change.{store}
+use Rattle.djq_engine.specs.Answers.{cells_at}
 use Rattle.djq_engine.specs.Lists.{Lists}
-use Rattle.djq_engine.proofs.Telling.{relation_there, answers_are, columns_fit, ready_tells}
+use Rattle.djq_engine.proofs.Telling.{answers_are, columns_fit, ready_tells}
 use Rattle.djq_engine.proofs.listing.list_registered.Goals as goal
 
 pub list_rows-requires-clause-fits : goal.list_rows-requires-clause-fits

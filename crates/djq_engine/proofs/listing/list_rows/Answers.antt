@@ -1,4 +1,4 @@
-use Rattle.std.proofs.Common.{refl, ap, ◌∙◌, subst, ◌-◌, length, arith}
+use Rattle.std.proofs.Common.{ap, subst, ◌-◌, length, arith}
 use Rattle.std.specs.Prelude.{⊤, Result, Ok, Err, nat_le}
 use Rattle.djq_value.specs.declared.output.NoMem.{NoMem}
 use Rattle.djq_engine.specs.Lists.{lines_of, PutsLines}

@@ -1,4 +1,4 @@
-use Rattle.djq_engine.proofs.Tuples.{tuples_length, tuples_step}
+use Rattle.djq_engine.proofs.Tuples.{tuples_length}
 use Rattle.std.proofs.Common.{sym}
 use Rattle.djq_engine.proofs.rows.same_tuple.Goals as goal
 

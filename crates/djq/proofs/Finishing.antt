@@ -1,0 +1,22 @@
+-- The headline says of each open cursor what it has given; of a finished one, that is a listing.
+use Rattle.std.specs.Prelude.{List, true, Option, None, Some, IsSomeAnd, All}
+use Rattle.std.proofs.Common.{refl, subst}
+use Rattle.std.proofs.lemmas.List.Elements.{All-contains}
+use Rattle.djq_model.specs.declared.relation.Relation.{Relation}
+use Rattle.djq_model.specs.declared.query.Query.{Query}
+use Rattle.djq_model.specs.Data.{Tuple, query_of}
+use Rattle.djq_model.specs.Answer.{IsListing}
+use Rattle.djq_machine.specs.State.{Place, open_at, Session, Cursor}
+use Rattle.djq_machine.specs.Course.{PlaceGives}
+use Rattle.djq.specs.Finished.{FinishedCursors}
+
+listed : (relations : List Relation) (o : Option Query) (given : List Tuple) → PlaceGives relations o (open_at given true) → IsSomeAnd o (λ q. IsListing relations q given)
+listed relations None given h = absurd h
+listed relations (Some q) given h = h.listing refl
+
+pub finished_cursors : FinishedCursors
+finished_cursors status before now ends x is_session c is_cursor given e =
+    let st = ends.state.store in
+    let of_session = All-contains (λ (y : Session). All (λ (k : Cursor). PlaceGives st.relations (query_of st.queries k.query) k.place) y.cursors) ends.state.sessions x ends.headline.cursors is_session in
+    let of_cursor = All-contains (λ (k : Cursor). PlaceGives st.relations (query_of st.queries k.query) k.place) x.cursors c of_session is_cursor in
+    listed st.relations (query_of st.queries c.query) given (subst (λ (p : Place). PlaceGives st.relations (query_of st.queries c.query) p) e of_cursor)

@@ -1,0 +1,56 @@
+//! A join query server, as a program: `djq run` serves one session from standard input to standard output.
+//!
+//! [`run_program`] is the program over any source, sink and hub. Its contract says what was written: the replies of a
+//! run of the join machine, so it is the theorem of the whole product. `main` makes the real ones, which tell no bytes,
+//! and calls it.
+#![tactic(auto)]
+
+mod laws;
+mod program;
+#[cfg(test)]
+mod tests;
+
+ghost use Rattle.std.specs.Prelude.{◌≡◌};
+
+use djq_io::{MemHub, StdSink, StdSource};
+pub use djq_run::Status;
+use djq_steps::{Blanks, Ledgers, Steps};
+pub use laws::finished_cursors_have_listed;
+pub use program::run_program;
+use std::alloc::AllocError;
+use std::marker::Brand;
+use std::process::ExitCode;
+use std::{env, io};
+
+fn main(rt: HostRuntime) -> ExitCode {
+    let status = start::<Brand>(&rt, Blanks::new(&rt)).unwrap_or(Status::NoMemory);
+    ExitCode::from(status.number())
+}
+
+/// Runs the program on standard input and output, by the words of its command line.
+fn start<L: Ledgers>(rt: &HostRuntime, blanks: Blanks) -> Result<Status, AllocError>
+    requires listing { blanks.listing.name ≡ L.listing }
+    requires update { blanks.update.name ≡ L.update }
+    requires rows { blanks.rows.name ≡ L.rows }
+{
+    let alloc = rt.alloc();
+    let texts = texts_of(rt)?;
+    let words: Vec<&str> = texts.iter().map(|text| text.as_str()).collect(alloc)?;
+    Ok(run_program(
+        alloc,
+        &words,
+        &mut StdSource::new(rt.reader()),
+        &mut StdSink::new(io::writer(rt)),
+        &mut MemHub::new(alloc),
+        &mut Steps::<L>::new(rt, blanks),
+    ))
+}
+
+/// The words of the command line; none where one isn't text, since no command has such a word.
+fn texts_of(rt: &HostRuntime) -> Result<Vec<String>, AllocError> {
+    match env::args(rt) {
+        Ok(texts) => texts.collect(rt.alloc()),
+        Err(error) if error.kind() == io::ErrorKind::OutOfMemory => Err(AllocError),
+        Err(_) => Ok(Vec::new(rt.alloc())),
+    }
+}

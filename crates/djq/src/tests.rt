@@ -1,0 +1,223 @@
+ghost use Rattle.std.specs.Prelude.{◌≡◌};
+
+use crate::laws::finished_cursors_have_listed;
+use crate::program::run_program;
+use djq_io::{MemHub, MemSink, MemSource, Read, Sink, Source, Wrote};
+use djq_run::Status;
+use djq_steps::{Blanks, Ledgers, Steps};
+use std::marker::Brand;
+use std::test::Fail;
+
+/// The words of the command.
+const RUN: [&str; 2] = ["djq", "run"];
+
+/// A session with every command.
+const SESSION: &[u8] =
+    b"rel r int int\nadd r 1 2\nadd r 3 4\nadd r 1 2\ndel r 3 4\nquery q(x,y) <- r(x,y)\nopen c q\nnext c 2\nnext c 2\nclose c\n";
+
+/// What it is answered.
+const REPLIES: &[u8] =
+    b"ok\nok added 1\nok added 2\nok same 2\nok removed 3\nok query 5\nok open\n= 1 2\nend\nend\nok\n";
+
+fn counted<S: Source, K: Sink, L: Ledgers>(
+    rt: &HostRuntime,
+    blanks: Blanks,
+    words: &[&str],
+    source: &mut S,
+    sink: &mut K,
+) -> Status
+    requires listing { blanks.listing.name ≡ L.listing }
+    requires update { blanks.update.name ≡ L.update }
+    requires rows { blanks.rows.name ≡ L.rows }
+{
+    let mut hub = MemHub::new(rt.alloc());
+    let mut steps = Steps::<L>::new(rt, blanks);
+    run_program(rt.alloc(), words, source, sink, &mut hub, &mut steps)
+}
+
+/// Runs the program by these words, with counters of its own.
+fn run_words<S: Source, K: Sink>(
+    rt: &HostRuntime,
+    words: &[&str],
+    source: &mut S,
+    sink: &mut K,
+) -> Status {
+    counted::<S, K, Brand>(rt, Blanks::new(rt), words, source, sink)
+}
+
+/// A source that fails once it was read so many times.
+#[derive(Drop)]
+struct FailingSource {
+    source: MemSource,
+    reads: u64,
+    faults: u64,
+}
+
+impl Source for FailingSource {
+    ghost use Rattle.std.specs.Prelude.{Some};
+
+    ghost left = { λ s. Some s.source.left };
+
+    ghost faults = { λ s. s.faults };
+
+    fn read(&mut self, buf: &mut [u8]) -> Read {
+        if self.reads > 0 {
+            self.reads -= 1;
+            match self.source.read(buf) {
+                Read::Got(count) => return Read::Got(count),
+                Read::End => return Read::End,
+                Read::Failed => {}
+            }
+        }
+        self.faults = self.faults.saturating_add(1);
+        Read::Failed
+    }
+}
+
+/// A sink that fails once it was written to so many times.
+#[derive(Drop)]
+struct FailingSink {
+    sink: MemSink,
+    writes: u64,
+    faults: u64,
+}
+
+impl Sink for FailingSink {
+    ghost taken = { λ s. s.sink };
+
+    ghost faults = { λ s. s.faults };
+
+    fn write(&mut self, piece: &[u8]) -> Wrote {
+        if self.writes > 0 {
+            self.writes -= 1;
+            match self.sink.write(piece) {
+                Wrote::Took(count) => return Wrote::Took(count),
+                Wrote::Failed => {}
+            }
+        }
+        self.faults = self.faults.saturating_add(1);
+        Wrote::Failed
+    }
+}
+
+#[test]
+fn answers_line_by_line_however_the_input_is_cut(rt: HostRuntime) -> Result<(), Fail> {
+    let sessions = [
+        (SESSION, REPLIES),
+        (b"".as_slice(), b"".as_slice()),
+        (b"\n\n   \n", b""),
+        (b"rel r int\nadd r 1", b"ok\nerr 13 cut\n"),
+        (
+            b"rel r int\r\nadd r 1\r\n\r\nadd r 1\r\n",
+            b"ok\nok added 1\nok same 1\n",
+        ),
+    ];
+    for (input, replies) in sessions {
+        for most in [1, 2, 3, 8192] {
+            let mut source = MemSource::new(input.to_vec(rt.alloc())?, most);
+            let mut sink = MemSink::new(rt.alloc());
+            assert_eq!(rt;
+                run_words(&rt, &RUN, &mut source, &mut sink),
+                Status::Done,
+                "at {most}"
+            );
+            assert_eq!(rt; sink.taken(), Some(replies), "at {most}");
+        }
+    }
+    Ok(())
+}
+
+/// The two answers come in either order.
+#[test]
+fn a_cursor_goes_stale(rt: HostRuntime) -> Result<(), Fail> {
+    let input =
+        b"rel r int\nrel t int\nquery q(x) <- r(x)\nadd r 1\nadd r 2\nopen c q\nnext c 1\nadd r 1\nadd t 5\nnext c 1\nadd r 3\nnext c 1\nnext c 1\n";
+    let replies =
+        b"ok\nok\nok query 3\nok added 1\nok added 2\nok open\n= 1\nmore\nok same 2\nok added 3\n= 2\nend\nok added 4\nstale c r 4\nstale c r 4\n";
+    let reordered =
+        b"ok\nok\nok query 3\nok added 1\nok added 2\nok open\n= 2\nmore\nok same 2\nok added 3\n= 1\nend\nok added 4\nstale c r 4\nstale c r 4\n";
+    let mut source = MemSource::new(input.to_vec(rt.alloc())?, 8192);
+    let mut sink = MemSink::new(rt.alloc());
+    assert_eq!(rt; run_words(&rt, &RUN, &mut source, &mut sink), Status::Done);
+    let taken = sink.taken().ok_or("the record is lost")?;
+    assert!(rt; taken == replies.as_slice() || taken == reordered.as_slice());
+    finished_cursors_have_listed();
+    Ok(())
+}
+
+#[test]
+fn a_line_is_long_past_4096_bytes(rt: HostRuntime) -> Result<(), Fail> {
+    for (spaces, replies, status) in [
+        (4087, b"ok\nok added 1\n".as_slice(), Status::Done),
+        (4088, b"end long\n".as_slice(), Status::SessionEnded),
+    ] {
+        let mut input = b"rel r int".to_vec(rt.alloc())?;
+        for _ in 0..spaces {
+            input.push(b' ')?;
+        }
+        input.extend_from_slice(b"\nadd r 1\n")?;
+        let mut source = MemSource::new(input, 8192);
+        let mut sink = MemSink::new(rt.alloc());
+        assert_eq!(rt;
+            run_words(&rt, &RUN, &mut source, &mut sink),
+            status,
+            "at {spaces}"
+        );
+        assert_eq!(rt; sink.taken(), Some(replies), "at {spaces}");
+    }
+    Ok(())
+}
+
+#[test]
+fn other_words_get_the_usage_line(rt: HostRuntime) -> Result<(), Fail> {
+    let usage = b"usage: djq run | serve ADDR [--turns N] | replay | gen N SEED\n";
+    let lists = [
+        [].as_slice(),
+        &["djq"],
+        &["djq", "fly"],
+        &["djq", "run", "run"],
+        &["djq", "running"],
+    ];
+    for words in lists {
+        let mut source = MemSource::new(SESSION.to_vec(rt.alloc())?, 8192);
+        let mut sink = MemSink::new(rt.alloc());
+        assert_eq!(rt;
+            run_words(&rt, words, &mut source, &mut sink),
+            Status::Usage
+        );
+        assert_eq!(rt; sink.taken(), Some(usage.as_slice()));
+    }
+    Ok(())
+}
+
+#[test]
+fn a_failed_write_ends_the_program(rt: HostRuntime) -> Result<(), Fail> {
+    let mut source = MemSource::new(SESSION.to_vec(rt.alloc())?, 8192);
+    let mut sink = FailingSink {
+        sink: MemSink::new(rt.alloc()),
+        writes: 1,
+        faults: 0,
+    };
+    assert_eq!(rt;
+        run_words(&rt, &RUN, &mut source, &mut sink),
+        Status::WriteFault
+    );
+    assert_eq!(rt; sink.sink.taken(), Some(b"ok\n".as_slice()));
+    Ok(())
+}
+
+#[test]
+fn a_failed_read_ends_the_program(rt: HostRuntime) -> Result<(), Fail> {
+    let mut source = FailingSource {
+        source: MemSource::new(SESSION.to_vec(rt.alloc())?, 15),
+        reads: 1,
+        faults: 0,
+    };
+    let mut sink = MemSink::new(rt.alloc());
+    assert_eq!(rt;
+        run_words(&rt, &RUN, &mut source, &mut sink),
+        Status::ReadFault
+    );
+    assert_eq!(rt; sink.taken(), Some(b"ok\n".as_slice()));
+    Ok(())
+}
