@@ -15,8 +15,8 @@ listed relations None given h = absurd h
 listed relations (Some q) given h = h.listing refl
 
 pub finished_cursors : FinishedCursors
-finished_cursors status before now ends x is_session c is_cursor given e =
-    let st = ends.state.store in
-    let of_session = All-contains (λ (y : Session). All (λ (k : Cursor). PlaceGives st.relations (query_of st.queries k.query) k.place) y.cursors) ends.state.sessions x ends.headline.cursors is_session in
+finished_cursors status before now ends mid passed x is_session c is_cursor given e =
+    let st = mid.store in
+    let of_session = All-contains (λ (y : Session). All (λ (k : Cursor). PlaceGives st.relations (query_of st.queries k.query) k.place) y.cursors) mid.sessions x (ends.cursors mid passed) is_session in
     let of_cursor = All-contains (λ (k : Cursor). PlaceGives st.relations (query_of st.queries k.query) k.place) x.cursors c of_session is_cursor in
     listed st.relations (query_of st.queries c.query) given (subst (λ (p : Place). PlaceGives st.relations (query_of st.queries c.query) p) e of_cursor)

@@ -1,5 +1,5 @@
 -- How the program's run begins, and what its end says.
-use Rattle.std.specs.Prelude.{[], ◌∷◌, ◌≡◌, ◌+◌, ◌≤◌, Option, None, Some, IsSomeAnd}
+use Rattle.std.specs.Prelude.{List, [], ◌∷◌, ◌≡◌, ◌+◌, ◌≤◌, Option, None, Some, IsSomeAnd}
 use Rattle.std.proofs.Common.{refl, subst, inl, inr, lit<, arith}
 use Rattle.djq_io.proofs.Loses.{loses_none}
 use Rattle.djq_io.proofs.Gains.{gains_none}
@@ -9,13 +9,16 @@ use Rattle.djq_machine.specs.declared.answer.Cause.TheVariants.{Input, Quit, Sto
 use Rattle.djq_machine.specs.State.{State, fresh, opening}
 use Rattle.djq_machine.specs.Step.{opened, nothing}
 use Rattle.djq_machine.specs.Call.{cause_of}
-use Rattle.djq_machine.specs.Course.{Outside, Course}
+use Rattle.djq_machine.specs.Run.{Did}
+use Rattle.djq_machine.specs.Course.{Outside, Course, CursorsGive}
 use Rattle.djq_machine.proofs.Courses.{course_begun, course_more}
 use Rattle.djq_laws.proofs.Heading.{headline}
+use Rattle.djq_laws.proofs.Giving.{run_gives}
+use Rattle.djq_laws.proofs.Sending.{next_runs}
 use Rattle.djq_run.specs.declared.status.Status.{Status}
 use Rattle.djq_run.specs.declared.status.Status.TheVariants.{Done, Usage, ReadFault, WriteFault, HubFault, TurnsUsed, NoMemory, Schedule, SessionEnded}
 use Rattle.djq_run.specs.Ends.{EndsAs, EndsWell, RunEnds as SessionRuns}
-use Rattle.djq.specs.Ends.{IsWellEnded, Stands, RunEnds}
+use Rattle.djq.specs.Ends.{IsWellEnded, PassedThrough, Stands, RunEnds}
 
 -- the state after session 1 has opened
 abbrev pub begun : State
@@ -53,20 +56,25 @@ stands Usage before now new h = absurd h
 stands HubFault before now new h = absurd h
 stands (Schedule n) before now new h = absurd h
 
+-- at each moment of a run open cursors give what they should
+cursors_gave : (done : List Did) (last mid : State) → PassedThrough done last mid → CursorsGive mid
+cursors_gave done last mid (earlier, later, whole, to_mid, to_last) = run_gives earlier mid (next_runs opening earlier mid to_mid)
+
+-- the theorem of `run`, from a course and what the status says of its end
+of_course : (status : Status) (before now : Outside) (st : State) → Course before now st → Stands status before now st → RunEnds status before now
+of_course status before now st c said = record {
+  state = st;
+  headline = headline before now st c;
+  cursors = cursors_gave (headline before now st c).course.done st;
+  stands = said;
+}
+
 -- what the run of a session says of one that has just opened
 pub run_ends : (status : Status) (before now : Outside) (old new : State) → old ≡ begun → SessionRuns status before old now new → RunEnds status before now
 run_ends status before now old new e runs =
     let from_begun : SessionRuns status before begun now new = subst (λ (st : State). SessionRuns status before st now new) e runs in
-    record {
-      state = new;
-      headline = headline before now new (from_begun.course before (course_opened before));
-      stands = stands status before now new from_begun.ends;
-    }
+    of_course status before now new (from_begun.course before (course_opened before)) (stands status before now new from_begun.ends)
 
 -- memory was wanted before anything was done
 pub run_refused : (before : Outside) → RunEnds NoMemory before before
-run_refused before = record {
-  state = opening;
-  headline = headline before before opening (course_begun before);
-  stands = inr (refl, refl);
-}
+run_refused before = of_course NoMemory before before opening (course_begun before) (inr (refl, refl))

@@ -1,5 +1,5 @@
 -- How the program ends: what its status says of the run of the join machine that it made.
-use Rattle.std.specs.Prelude.{ℕ, List, [], ◌∷◌, ◌≡◌, ◌<◌, ◌⊎◌, Bool, true, false, Option, IfSome, MatchBool, length, take, codes}
+use Rattle.std.specs.Prelude.{ℕ, List, [], ◌∷◌, ◌≡◌, ◌<◌, ◌++◌, ◌⊎◌, Bool, true, false, Option, IfSome, MatchBool, length, take, codes}
 use Rattle.djq_io.specs.Sink.{Gains}
 use Rattle.djq_model.specs.Data.{Bytes, bytes_eq}
 use Rattle.djq_machine.specs.declared.answer.Cause.{Cause}
@@ -7,7 +7,8 @@ use Rattle.djq_machine.specs.declared.answer.Cause.TheVariants.{Input, Quit, Sto
 use Rattle.djq_machine.specs.State.{State, opening}
 use Rattle.djq_machine.specs.Step.{is_dry}
 use Rattle.djq_machine.specs.Call.{held_of}
-use Rattle.djq_machine.specs.Course.{Outside, Headline}
+use Rattle.djq_machine.specs.Run.{Did, Walk}
+use Rattle.djq_machine.specs.Course.{Outside, RunNext, CursorsGive, Headline}
 use Rattle.djq_machine.specs.Reply.{line}
 use Rattle.djq_run.specs.declared.status.Status.{Status}
 use Rattle.djq_run.specs.declared.status.Status.TheVariants.{Done, Usage, ReadFault, WriteFault, HubFault, TurnsUsed, NoMemory, Schedule, SessionEnded}
@@ -47,12 +48,18 @@ Stands Usage before now st = ⊥
 Stands HubFault before now st = ⊥
 Stands (Schedule n) before now st = ⊥
 
--- **The theorem of `run`.** There is a run of the join machine from its opening state, such that what was read is
--- what it was fed, what was written and then what is pending is all that it queued, no more was counted than it may
--- cost, and each open cursor gives what it should: its headline. And the status says how far it went.
+-- A state that a run of the program passed through, on its way from the opening state to its last one.
+abbrev pub PassedThrough : List Did → State → State → Type 0
+PassedThrough done last mid = (earlier : List Did) × (later : List Did) × (done ≡ earlier ++ later) × Walk RunNext opening earlier mid × Walk RunNext mid later last
+
+-- **The theorem of `run`.** There is a run of the join machine from its opening state to this one. What was read is
+-- what it was fed, what was written and then what is pending is all that it queued, and no more was counted than it
+-- may cost. At each moment of it each open cursor had given different answers of its query over the rows that were
+-- there then, and all of them where it was told the end. And the status says how far the run went.
 pub record RunEnds (status : Status) (before now : Outside) : Type 0 where
   pub state : State
   pub headline : Headline before now state
+  pub cursors : (mid : State) → PassedThrough headline.course.done state mid → CursorsGive mid
   pub stands : Stands status before now state
 
 -- What is done where the words are no command: nothing is read, and the usage line is written, or a first part of it.

@@ -1,30 +1,27 @@
 -- What commands do to the session, as the machine says it.
-use Rattle.std.proofs.Common.{ℕ, ◌+◌, ◌≤◌, ◌≡◌, ◌++◌, Bool, true, false, List, [], ◌∷◌, length, map, cond, Option, None, Some, Result, Ok, Err, OnErr, codes, refl, sym, ap, ◌∙◌, subst, arith}
-use Rattle.std.specs.Prelude.{⊤, if◌then◌else◌, is_some, is_none, nat_le, IsSomeAnd, MatchOption, position, option_map}
+use Rattle.std.proofs.Common.{ℕ, ◌+◌, ◌≤◌, ◌≡◌, ◌++◌, Bool, true, false, List, [], ◌∷◌, length, map, Option, None, Some, Result, Ok, Err, OnErr, codes, refl, sym, ap, ◌∙◌, subst, arith}
+use Rattle.std.specs.Prelude.{⊤, if◌then◌else◌}
 use Rattle.std.specs.List.{list_all}
 use Rattle.bytes.specs.Filled.{Filled}
-use Rattle.djq_model.specs.declared.value.Value.{Value}
-use Rattle.djq_model.specs.declared.relation.Relation.{Relation}
 use Rattle.djq_model.specs.declared.relation.ColumnType.{ColumnType}
 use Rattle.djq_model.specs.declared.query.Query.{Query}
 use Rattle.djq_model.specs.Data.{Bytes, Tuple}
 use Rattle.djq_machine.specs.declared.answer.Refusal.{Refusal}
-use Rattle.djq_machine.specs.declared.answer.Cause.{Cause}
-use Rattle.djq_machine.specs.declared.command.Command.TheVariants.{Rel, Add, Del, Query as Register, Open, Next, Close}
+use Rattle.djq_machine.specs.declared.command.Command.TheVariants.{Rel, Add, Del, Query as Register}
 use Rattle.djq_machine.specs.declared.answer.Added.{Added as AddAnswer}
 use Rattle.djq_machine.specs.declared.answer.Added.TheVariants.{Added, Same}
 use Rattle.djq_machine.specs.declared.answer.Deleted.{Deleted as DeleteAnswer}
 use Rattle.djq_machine.specs.declared.answer.Deleted.TheVariants.{Removed, Absent}
 use Rattle.djq_machine.specs.State.{Store, State, Session, Cursor}
-use Rattle.djq_machine.specs.Store.{Answers, first_of, Relates, Adds, Deletes, Registers, rel_refusal, add_refusal, delete_refusal, query_refusal, AddDoes, DeleteDoes, most_steps, with_rows}
-use Rattle.djq_machine.specs.Step.{Effect, says, Does, DoesRel, DoesAdd, DoesDelete, DoesQuery, DoesOpen, add_outdates, delete_outdates, outdated_cursor, changed, open_refusal}
+use Rattle.djq_machine.specs.Store.{Answers, Relates, Adds, Deletes, Registers, rel_refusal, add_refusal, delete_refusal, query_refusal, AddDoes, DeleteDoes, most_steps, with_rows}
+use Rattle.djq_machine.specs.Step.{Effect, says, Does, add_outdates, delete_outdates, outdated_cursor, changed}
 use Rattle.djq_machine.specs.Reply.{ok_reply, add_reply, delete_reply, query_reply}
 use Rattle.djq_value.specs.Output.{Says}
 use Rattle.djq_core.specs.declared.cursor.Cursor.{Cursor as Kept}
 use Rattle.djq_core.specs.Views.{Side, cursors_in, session_in, state_in, outdated_kept}
 use Rattle.djq_core.specs.Sound.{IsReady, IsSound, fits_store}
 use Rattle.djq_core.specs.Runs.{Performs}
-use Rattle.djq_core.proofs.Keeping.{Changes, cursors_same, all_fit_same, new_stays, others_stay, outdated_all, more_queries}
+use Rattle.djq_core.proofs.Keeping.{cursors_same, all_fit_same, new_stays, others_stay, outdated_all, more_queries}
 
 -- A reply is queued, at a cost.
 pub replied_at : (M : State → Session → Effect → State → Type 0) (old new : Store) (before after : Side) (text : Bytes) (cost was now : ℕ)

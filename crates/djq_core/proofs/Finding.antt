@@ -1,5 +1,5 @@
 -- The first of a list that passes a test: found, changed, taken out.
-use Rattle.std.proofs.Common.{ℕ, zero, suc, ◌+◌, ◌<◌, ◌≤◌, ◌≡◌, ◌&&◌, ◌||◌, Bool, true, false, cond, ltb, List, [], ◌∷◌, ◌++◌, length, take, drop, set, get_or, map, find, position, remove, option_map, Option, None, Some, is_some, eqb, refl, sym, ap, ◌∙◌, subst, arith, take-append-drop, drop-cons, append_assoc, add-one}
+use Rattle.std.proofs.Common.{ℕ, zero, suc, ◌<◌, ◌≤◌, ◌≡◌, ◌&&◌, ◌||◌, Bool, true, false, cond, ltb, List, [], ◌∷◌, ◌++◌, length, take, drop, set, get_or, map, find, position, option_map, Option, None, Some, eqb, refl, sym, ap, ◌∙◌, subst, arith, take-append-drop, drop-cons}
 use Rattle.std.specs.List.{list_any, list_all, position_or_len}
 use Rattle.std.proofs.lemmas.List.Quantifiers.{position-Some}
 use Rattle.std.proofs.lemmas.Bool.{cond-true, cond-false, eqb-true, eq-eqb, ltb-false}

@@ -1,14 +1,13 @@
 -- What becomes of the cursors where the store changes.
-use Rattle.std.proofs.Common.{ℕ, ◌+◌, ◌≤◌, ◌≡◌, ◌&&◌, ◌||◌, Bool, true, false, cond, nat_le, List, [], ◌∷◌, ◌++◌, length, take, drop, map, find, Option, None, Some, refl, sym, ap, ap₂, ◌∙◌, subst, arith, le→leb, leb→le, append-nil}
+use Rattle.std.proofs.Common.{ℕ, ◌≡◌, ◌&&◌, ◌||◌, Bool, true, false, cond, List, [], ◌∷◌, ◌++◌, map, Option, None, Some, refl, sym, ap, ap₂, ◌∙◌, subst}
 use Rattle.std.specs.List.{list_any, list_all}
 use Rattle.std.proofs.lemmas.Bool.{cond-true, cond-false}
-use Rattle.djq_model.specs.declared.value.Value.{Value}
 use Rattle.djq_model.specs.declared.relation.Relation.{Relation}
 use Rattle.djq_model.specs.declared.relation.ColumnType.{ColumnType}
 use Rattle.djq_model.specs.declared.query.Query.{Query}
 use Rattle.djq_model.specs.declared.query.Atom.{Atom}
-use Rattle.djq_model.specs.Data.{Bytes, Tuple, bytes_eq, relation_of, rows_in, rows_of, query_of, change_first}
-use Rattle.djq_machine.specs.State.{Store, Place, open_at, stale, Cursor}
+use Rattle.djq_model.specs.Data.{Bytes, Tuple, bytes_eq, relation_of, rows_in, rows_of, query_of}
+use Rattle.djq_machine.specs.State.{Store, Place, Cursor}
 use Rattle.djq_machine.specs.Store.{with_rows}
 use Rattle.djq_machine.specs.Step.{reads, outdated, outdated_cursor}
 use Rattle.djq_engine.specs.Served.{is_served, is_served_by, relation_in}

@@ -1,5 +1,5 @@
 -- What running a line does to the session, as the machine says it.
-use Rattle.std.proofs.Common.{ℕ, ◌+◌, ◌<◌, ◌≤◌, ◌≡◌, ◌++◌, Bool, true, false, List, [], ◌∷◌, length, Option, None, Some, Result, Ok, Err, codes, nat_lt, MatchBool, refl, sym, ap, ap₂, ◌∙◌, subst, arith}
+use Rattle.std.proofs.Common.{ℕ, ◌<◌, ◌≤◌, ◌≡◌, Bool, true, false, List, [], ◌∷◌, length, Option, None, Some, Ok, Err, codes, nat_lt, MatchBool, refl, sym, ap, ap₂, subst, arith}
 use Rattle.std.specs.List.{list_all}
 use Rattle.std.proofs.lemmas.Bool.{le-ltb, lt-ltb}
 use Rattle.bytes.specs.Filled.{Filled}
@@ -9,16 +9,16 @@ use Rattle.djq_machine.specs.declared.answer.Refusal.TheVariants.{WrongType, NoM
 use Rattle.djq_machine.specs.declared.answer.Cause.{Cause}
 use Rattle.djq_machine.specs.declared.command.Command.{Command}
 use Rattle.djq_machine.specs.Line.{is_blank}
-use Rattle.djq_machine.specs.Grammar.{command_of, is_in_range, takes_memory_to_read}
+use Rattle.djq_machine.specs.Grammar.{command_of, is_in_range}
 use Rattle.djq_machine.specs.Reply.{line, refusal_line}
-use Rattle.djq_machine.specs.State.{Store, State, Session, with_session, ended_by}
-use Rattle.djq_machine.specs.Step.{Effect, nothing, says, Does, Obeys, Runs, Refused, EndsWith, RunsLine, Reading, unread, whole, Room, no_room, room, most_pending, queue_all}
+use Rattle.djq_machine.specs.State.{Store, State, Session}
+use Rattle.djq_machine.specs.Step.{Effect, nothing, Does, Obeys, Refused, EndsWith, RunsLine, unread, whole, no_room, room, most_pending, queue_all}
 use Rattle.djq_machine.specs.declared.answer.Cause.TheVariants.{Slow, Memory}
 use Rattle.djq_proto.specs.Reading.{Gives}
 use Rattle.djq_proto.specs.declared.command.LineRefusal.TheVariants.{Range as OutOfRange, Later as NotServed, NoMem}
 use Rattle.djq_value.specs.Output.{Says}
 use Rattle.djq_core.specs.declared.cursor.Cursor.{Cursor as Kept}
-use Rattle.djq_core.specs.Views.{Side, cursors_in, session_in, state_in}
+use Rattle.djq_core.specs.Views.{Side, cursors_in, state_in}
 use Rattle.djq_core.specs.Sound.{IsReady, IsSound, fits_store}
 use Rattle.djq_core.specs.Runs.{Performs}
 use Rattle.djq_core.proofs.Doing.{replied_at, uncounted}

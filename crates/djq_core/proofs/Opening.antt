@@ -1,17 +1,16 @@
 -- What opening a cursor answers.
-use Rattle.std.proofs.Common.{ℕ, ◌≤◌, ◌<◌, ◌≡◌, ◌++◌, Bool, true, false, List, [], ◌∷◌, length, find, position, Option, None, Some, Result, Ok, Err, refl, sym, ap, ◌∙◌, subst, arith, nat_le, is_some, is_none, option_map, IfSome}
+use Rattle.std.proofs.Common.{ℕ, ◌≡◌, ◌++◌, Bool, true, false, List, [], ◌∷◌, length, find, position, Option, None, Some, Result, refl, sym, ap, ◌∙◌, subst, nat_le, is_some, is_none}
 use Rattle.std.specs.Prelude.{⊤, IsSomeAnd}
 use Rattle.djq_model.specs.declared.query.Query.{Query}
-use Rattle.djq_model.specs.Data.{Bytes, bytes_eq, query_of}
+use Rattle.djq_model.specs.Data.{Bytes, query_of}
 use Rattle.djq_machine.specs.declared.answer.Refusal.{Refusal}
-use Rattle.djq_machine.specs.declared.answer.Refusal.TheVariants.{Taken, NoQuery, Limit, NoMemory}
+use Rattle.djq_machine.specs.declared.answer.Refusal.TheVariants.{Taken, NoQuery, Limit}
 use Rattle.djq_machine.specs.State.{Store}
 use Rattle.djq_machine.specs.Store.{Answers, first_of}
 use Rattle.djq_engine.specs.Served.{ReadsRelation, is_served, relation_in}
 use Rattle.djq_core.specs.declared.cursor.Cursor.{Cursor as Kept}
 use Rattle.djq_core.specs.Opens.{Opens, OpensTo, kept_of, new_kept}
 use Rattle.djq_core.proofs.Finding.{cut_at, cut_found, not_found}
-use Rattle.djq_core.proofs.Pointing.{named}
 
 -- a place is found where a cursor is
 pub found_some : {A : Type 0} (p : A → Bool) (xs : List A) (o : Option ℕ) → o ≡ position p xs → is_some (find p xs) ≡ is_some o

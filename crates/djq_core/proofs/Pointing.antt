@@ -1,20 +1,20 @@
 -- What commands on a cursor do to the session, as the machine says it.
-use Rattle.std.proofs.Common.{ℕ, zero, suc, ◌+◌, ◌*◌, ◌<◌, ◌≤◌, ◌≡◌, ◌++◌, ◌&&◌, Bool, true, false, List, [], ◌∷◌, length, take, drop, set, get_or, map, find, position, remove, Option, None, Some, Result, Ok, Err, codes, refl, sym, ap, ap₂, ◌∙◌, subst, subst₂, arith, append_assoc, nat_le, is_some, is_none, option_map, IfSome, add-one, take-add}
+use Rattle.std.proofs.Common.{ℕ, zero, suc, ◌+◌, ◌*◌, ◌<◌, ◌≤◌, ◌≡◌, ◌++◌, Bool, true, false, List, [], ◌∷◌, length, take, drop, set, get_or, map, position, remove, Option, None, Some, Result, Ok, Err, codes, refl, sym, ap, ap₂, ◌∙◌, subst, subst₂, arith, append_assoc, nat_le, is_some, is_none, option_map, IfSome, take-add}
 use Rattle.std.specs.Prelude.{⊤, IsSomeAnd, MatchOption}
-use Rattle.std.specs.List.{list_all, list_any}
-use Rattle.std.proofs.lemmas.Bool.{le-leb, leb-true}
+use Rattle.std.specs.List.{list_all}
+use Rattle.std.proofs.lemmas.Bool.{le-leb}
 use Rattle.std.proofs.lemmas.List.Quantifiers.{position-Some}
 use Rattle.bytes.specs.Filled.{Filled}
 use Rattle.djq_model.specs.declared.query.Query.{Query}
-use Rattle.djq_model.specs.Data.{Bytes, Tuple, bytes_eq, query_of, change_first, drop_first}
+use Rattle.djq_model.specs.Data.{Bytes, Tuple, bytes_eq, query_of, drop_first}
 use Rattle.djq_machine.specs.declared.answer.Refusal.{Refusal}
 use Rattle.djq_machine.specs.declared.answer.Refusal.TheVariants.{Taken, NoQuery, NoCursor, Limit}
 use Rattle.djq_machine.specs.declared.answer.Cause.{Cause}
 use Rattle.djq_machine.specs.declared.answer.Cause.TheVariants.{Memory}
 use Rattle.djq_machine.specs.declared.command.Command.TheVariants.{Open, Next, Close}
-use Rattle.djq_machine.specs.State.{Store, State, Session, Cursor, Place, open_at, stale, cursor_of, with_place, with_session, ended_by}
+use Rattle.djq_machine.specs.State.{Store, State, Session, Cursor, open_at, cursor_of, with_place, with_session}
 use Rattle.djq_machine.specs.Store.{Answers, first_of, most_steps, Tells}
-use Rattle.djq_machine.specs.Step.{Effect, says, Does, DoesOpen, OpenDoes, open_refusal, Refused, Reads, ReadsAt}
+use Rattle.djq_machine.specs.Step.{Effect, says, Does, OpenDoes, open_refusal, Refused, ReadsAt}
 use Rattle.djq_machine.specs.Reply.{line, ok_reply, refusal_line, stale_line, listing_lines, text_of}
 use Rattle.djq_engine.specs.Served.{is_served, relation_in}
 use Rattle.djq_engine.specs.declared.listing.Listed.TheVariants.{Whole, Cut as WasCut}
@@ -25,10 +25,10 @@ use Rattle.djq_core.specs.declared.cursor.Place.{Place as KeptPlace}
 use Rattle.djq_core.specs.declared.cursor.Place.TheVariants.{Open as KeptOpen, Stale}
 use Rattle.djq_core.specs.declared.cursor.Cursor.{Cursor as Kept}
 use Rattle.djq_core.specs.Views.{Side, answers_in, place_in, cursor_in, cursors_in, session_in, state_in}
-use Rattle.djq_core.specs.Sound.{IsReady, IsSound, fits_store, fits_query, is_inside}
+use Rattle.djq_core.specs.Sound.{IsReady, fits_store, fits_query}
 use Rattle.djq_core.specs.Opens.{Opens, OpensTo, kept_of, new_kept}
 use Rattle.djq_core.specs.Runs.{Performs}
-use Rattle.djq_core.proofs.Finding.{both, first_true, second_true, bytes_refl, bytes_same, Cut, cut_at, cut_found, cut_changed, cut_dropped, cut_map, find-map, map_append, not_found, all_cut, all_join, set_in}
+use Rattle.djq_core.proofs.Finding.{both, bytes_refl, Cut, cut_at, cut_found, cut_changed, cut_dropped, cut_map, find-map, map_append, not_found, all_cut, all_join, set_in}
 use Rattle.djq_core.proofs.Keeping.{Parts, fit_parts, parts_fit}
 use Rattle.djq_core.proofs.Doing.{replied, replied_at, goes_on, cursors_as}
 

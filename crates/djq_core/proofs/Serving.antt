@@ -1,17 +1,15 @@
 -- The queries that lines register are served.
-use Rattle.std.proofs.Common.{◌≡◌, ◌&&◌, ◌==◌, Bool, true, false, List, [], ◌∷◌, length, map, Option, Some, refl, sym, ap, ◌∙◌, subst}
+use Rattle.std.proofs.Common.{◌≡◌, ◌&&◌, ◌==◌, true, List, [], ◌∷◌, length, map, Some, refl, sym, ap, subst}
 use Rattle.std.specs.List.{list_all}
 use Rattle.std.proofs.lemmas.List.Sorted.{IsPermutation-sym}
-use Rattle.djq_model.specs.declared.query.Query.{Query}
 use Rattle.djq_model.specs.declared.query.Atom.{Atom}
-use Rattle.djq_model.specs.declared.query.Term.{Term}
 use Rattle.djq_model.specs.declared.query.Term.TheVariants.{Variable}
 use Rattle.djq_model.specs.Data.{Bytes}
 use Rattle.djq_machine.specs.declared.command.Command.{Command}
 use Rattle.djq_machine.specs.declared.command.Command.TheVariants.{Rel, Add, Del, Query as Register, Open, Next, Close}
 use Rattle.djq_machine.specs.Token.{tokens}
-use Rattle.djq_machine.specs.Grammar.{command_of, has_name, are_different, is_reordered}
-use Rattle.djq_engine.specs.Served.{is_served, is_served_by, is_variable, names_of, are_same}
+use Rattle.djq_machine.specs.Grammar.{command_of, has_name, are_different}
+use Rattle.djq_engine.specs.Served.{is_served_by, is_variable, names_of, are_same}
 use Rattle.djq_proto.specs.Saying.{IsReordering}
 use Rattle.djq_proto.proofs.Sayings.{commands_are_said}
 use Rattle.djq_proto.proofs.Reorderings.{is_reordered-from}

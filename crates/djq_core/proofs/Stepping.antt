@@ -1,5 +1,5 @@
 -- What the calls of the core are, as steps of the machine.
-use Rattle.std.proofs.Common.{ℕ, ◌+◌, ◌<◌, ◌≤◌, ◌≡◌, ◌++◌, ◌⊎◌, inl, inr, Bool, true, false, List, [], ◌∷◌, length, take, drop, Option, None, Some, is_some, MatchOption, codes, refl, sym, ap, ap₂, ◌∙◌, subst, arith, append-nil, length-drop, take-append-drop, cond, eqb, IsSome}
+use Rattle.std.proofs.Common.{ℕ, ◌<◌, ◌≡◌, ◌++◌, ◌⊎◌, inl, inr, Bool, true, false, List, [], ◌∷◌, length, take, drop, Option, None, Some, is_some, MatchOption, codes, refl, sym, ap, ap₂, ◌∙◌, subst, arith, append-nil, take-append-drop, cond, eqb, IsSome}
 use Rattle.std.proofs.lemmas.List.Sorted.{IsPermutation-refl}
 use Rattle.std.proofs.lemmas.Bool.{eqb-true}
 use Rattle.std.proofs.lemmas.Bool.Decides.{nat_tests}
@@ -10,14 +10,12 @@ use Rattle.djq_machine.specs.declared.answer.Cause.{Cause}
 use Rattle.djq_machine.specs.declared.answer.Cause.TheVariants.{Input, Long, Memory}
 use Rattle.djq_machine.specs.declared.machine.Stepped.{Stepped}
 use Rattle.djq_machine.specs.declared.machine.Stepped.TheVariants.{Ran, Dry, Ended}
-use Rattle.djq_machine.specs.Line.{Front, dry, too_long, a_line, front_of}
-use Rattle.djq_machine.specs.Reply.{line}
+use Rattle.djq_machine.specs.Line.{Front, too_long, a_line, front_of}
 use Rattle.djq_machine.specs.State.{Store, State, Session}
 use Rattle.djq_machine.specs.Step.{Effect, nothing, says, Event, fed, ran, took, ended, Acts, Step, SameRelations, EndsWith, RunsLine, RunsFront, queue_all, is_dry}
-use Rattle.djq_machine.specs.Call.{IsOpen, Makes, EndsBefore, StepGives}
+use Rattle.djq_machine.specs.Call.{IsOpen, Makes, StepGives}
 use Rattle.djq_core.specs.declared.cursor.Cursor.{Cursor as Kept}
 use Rattle.djq_core.specs.Views.{Side, session_in, state_in}
-use Rattle.djq_core.specs.Sound.{IsSound}
 use Rattle.djq_core.specs.Runs.{Performs, LineGives}
 
 -- The rows keep their order.

@@ -1,6 +1,5 @@
 -- What opening a cursor does to the cursors that are kept.
-use Rattle.std.specs.Prelude.{ℕ, List, [], ◌∷◌, ◌≡◌, ◌++◌, Bool, true, false, nat_le, Option, None, Some, is_some, is_none, IsSomeAnd, Result, Ok, Err, length, find, ⊤}
-use Rattle.djq_model.specs.declared.query.Query.{Query}
+use Rattle.std.specs.Prelude.{List, [], ◌∷◌, ◌≡◌, ◌++◌, true, false, nat_le, Option, is_some, is_none, IsSomeAnd, Result, Ok, Err, length, find, ⊤}
 use Rattle.djq_model.specs.Data.{Bytes, bytes_eq, query_of}
 use Rattle.djq_machine.specs.declared.answer.Refusal.{Refusal}
 use Rattle.djq_machine.specs.declared.answer.Refusal.TheVariants.{Taken, NoQuery, Limit}

@@ -1,10 +1,10 @@
 -- What the functions of the core do to a session, as the machine says it.
-use Rattle.std.specs.Prelude.{ℕ, List, [], ◌∷◌, ◌≡◌, ◌+◌, ◌++◌, ◌≤◌, true, Option, None, Some}
+use Rattle.std.specs.Prelude.{ℕ, ◌≡◌, ◌+◌, ◌≤◌, true, Option, Some}
 use Rattle.bytes.specs.Filled.{Filled}
 use Rattle.djq_model.specs.Data.{Bytes}
 use Rattle.djq_machine.specs.declared.answer.Cause.{Cause}
 use Rattle.djq_machine.specs.declared.command.Command.{Command}
-use Rattle.djq_machine.specs.declared.command.Command.TheVariants.{Rel, Add, Del, Query as Register, Open, Next, Close}
+use Rattle.djq_machine.specs.declared.command.Command.TheVariants.{Query as Register}
 use Rattle.djq_machine.specs.declared.machine.Stepped.{Stepped}
 use Rattle.djq_machine.specs.declared.machine.Stepped.TheVariants.{Ran, Dry, Ended}
 use Rattle.djq_machine.specs.Call.{EndsBefore}

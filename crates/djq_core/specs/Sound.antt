@@ -1,5 +1,5 @@
 -- What the core keeps: 32 bytes of room for a session's last line, and cursors over the queries that are registered.
-use Rattle.std.specs.Prelude.{ℕ, List, [], ◌∷◌, ◌≡◌, ◌≤◌, ◌&&◌, Bool, true, false, nat_le, Option, None, Some, length}
+use Rattle.std.specs.Prelude.{List, ◌≡◌, ◌≤◌, ◌&&◌, Bool, true, false, nat_le, Option, None, Some, length}
 use Rattle.std.specs.List.{list_all}
 use Rattle.djq_model.specs.declared.query.Query.{Query}
 use Rattle.djq_model.specs.Data.{Tuple, bytes_eq, query_of}

@@ -1,5 +1,5 @@
 -- What contracts see: the state of the join machine with session 1 alone.
-use Rattle.std.specs.Prelude.{ℕ, List, [], ◌∷◌, Bool, false, Option, None, Some, if◌then◌else◌, map, take}
+use Rattle.std.specs.Prelude.{ℕ, List, [], ◌∷◌, false, Option, None, Some, if◌then◌else◌, map, take}
 use Rattle.bytes.specs.Filled.{Filled}
 use Rattle.djq_model.specs.declared.query.Query.{Query}
 use Rattle.djq_model.specs.Data.{Bytes, Tuple, bytes_eq, query_of}

@@ -93,7 +93,7 @@ impl Engine {
     pub fn relation_of(&self, query: &Name) -> Option<Name>
         ensures { ReadsRelation (query_of self.now.queries query.now) result }
     {
-        relation_read(&self.relations, &self.queries, query)
+        relation_read(&self.queries, query)
     }
 
     /// Lists the answers of a registered query, from a position among them on and at most so many.

@@ -1,11 +1,12 @@
-ghost use Rattle.std.specs.Prelude.{◌≡◌, ◌<◌, ◌++◌, [], ◌∷◌, true, length, map, IfOk, OnOk, OnErr, IfErr};
+ghost use Rattle.std.specs.Prelude.{List, ◌≡◌, ◌<◌, ◌++◌, [], ◌∷◌, true, length, map, IfOk, OnOk, OnErr, IfErr};
+ghost use Rattle.djq_model.specs.declared.relation.Relation.{Relation};
 ghost use Rattle.std.specs.List.{list_all};
 ghost use Rattle.djq_machine.specs.Store.{first_of, query_refusal, most_steps};
 ghost use Rattle.djq_engine.specs.Served.{is_served, is_variable, names_of, place_in, relation_in, is_term_named, ReadsRelation};
 ghost use Rattle.djq_engine.specs.Answers.{columns_of};
 ghost use Rattle.djq_model.specs.Data.{query_of};
 ghost use Rattle.djq_engine.specs.Change.{store, relation_at};
-ghost use Rattle.djq_engine.specs.Sound.{queries_in, IsSound};
+ghost use Rattle.djq_engine.specs.Sound.{queries_in, IsSound, QueriesReady};
 ghost use Rattle.djq_engine.specs.Registering.{RegistersIn, RegistersSound, atom_refusals, query_refusals};
 
 use crate::finding::{find_query, find_relation};
@@ -186,15 +187,10 @@ pub fn register(
 }
 
 /// The relation that a registered query reads.
-pub fn relation_read(
-    relations: &Vec<Relation>,
-    queries: &Vec<Registered>,
-    query: &Name,
-) -> Option<Name>
-    requires { IsSound relations.now.items queries.now.items }
+pub fn relation_read(queries: &Vec<Registered>, query: &Name) -> Option<Name>
+    requires { (relations : List Relation) × QueriesReady relations queries.now.items }
     ensures { ReadsRelation (query_of (queries_in queries.now.items) query.now) result }
 {
-    let _all = relations;
     match find_query(queries, query) {
         None => None,
         Some(place) => Some(queries[place].relation),

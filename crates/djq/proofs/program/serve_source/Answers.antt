@@ -20,3 +20,6 @@ returns-clause-ends g c = run_ends c.run_session.result
     (outside (g.S.Source.left c.args.source.now) (g.K.Sink.taken c.args.sink.now) c.args.steps.now.listing)
     (outside (g.S.Source.left c.run_session.new.source) (g.K.Sink.taken c.run_session.new.sink) c.run_session.new.steps.listing)
     c.in-Ok.machine c.run_session.new.machine c.in-Ok.ensures c.run_session.ensures.ends
+
+pub returns-in_default-vec-clause-ends : goal.returns-in_default-vec-clause-ends
+returns-in_default-vec-clause-ends g c = run_refused (outside (g.S.Source.left c.args.source.now) (g.K.Sink.taken c.args.sink.now) c.args.steps.now.listing)

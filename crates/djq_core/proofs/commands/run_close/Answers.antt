@@ -1,4 +1,4 @@
-use Rattle.std.proofs.Common.{ℕ, ◌≡◌, ◌<◌, List, None, Some, length, position, sym, subst}
+use Rattle.std.proofs.Common.{◌≡◌, List, None, Some, position, sym, subst}
 use Rattle.djq_core.specs.declared.cursor.Cursor.{Cursor as Kept}
 use Rattle.djq_core.specs.Runs.{side_of}
 use Rattle.djq_core.proofs.Pointing.{named, does_close, does_close_none, found_at}

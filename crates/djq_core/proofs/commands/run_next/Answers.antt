@@ -1,6 +1,4 @@
-use Rattle.std.proofs.Common.{ℕ, ◌≡◌, List, None, Some, position, refl, sym, subst}
-use Rattle.djq_machine.specs.Step.{Does}
-use Rattle.djq_machine.specs.declared.command.Command.TheVariants.{Next}
+use Rattle.std.proofs.Common.{◌≡◌, List, None, Some, position, refl, sym, subst}
 use Rattle.djq_core.specs.declared.cursor.Cursor.{Cursor as Kept}
 use Rattle.djq_core.specs.Runs.{side_of}
 use Rattle.djq_core.proofs.Doing.{uncounted}

@@ -1,4 +1,4 @@
-use Rattle.std.proofs.Common.{ℕ, ◌≡◌, ◌+◌, ◌++◌, map, take, drop, set, sym, ap, ◌∙◌, subst}
+use Rattle.std.proofs.Common.{◌≡◌, ◌+◌, ◌++◌, map, take, drop, set, sym, ap, ◌∙◌, subst}
 use Rattle.std.proofs.lemmas.List.Edits.{map_over_more}
 use Rattle.djq_core.specs.declared.cursor.Cursor.{Cursor}
 use Rattle.djq_core.specs.Views.{outdated_kept}

@@ -1,5 +1,4 @@
-use Rattle.std.proofs.Common.{Result, Ok, Err, subst, sym}
-use Rattle.djq_machine.specs.declared.command.Command.{Command}
+use Rattle.std.proofs.Common.{Err, subst}
 use Rattle.djq_machine.specs.Grammar.{command_of}
 use Rattle.djq_machine.specs.declared.answer.Refusal.TheVariants.{WrongType, NoMemory, Later}
 use Rattle.djq_proto.specs.Reading.{Gives}

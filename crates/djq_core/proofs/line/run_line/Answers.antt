@@ -1,4 +1,4 @@
-use Rattle.std.proofs.Common.{◌+◌, ◌<◌, ◌≤◌, codes, length, sym, ◌∙◌, subst, arith}
+use Rattle.std.proofs.Common.{codes, sym, ◌∙◌, arith}
 use Rattle.djq_machine.specs.declared.answer.Cause.TheVariants.{Slow, Memory}
 use Rattle.djq_core.specs.Runs.{side_of}
 use Rattle.djq_core.proofs.Lines.{ends, line_blank, line_slow, line_no_room, line_obeyed, same_items}

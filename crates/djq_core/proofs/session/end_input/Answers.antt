@@ -1,4 +1,4 @@
-use Rattle.std.proofs.Common.{◌≡◌, ◌<◌, ◌≤◌, ◌⊎◌, ap, is_some, Option, IsSome, length, sym, ◌∙◌, codes, arith}
+use Rattle.std.proofs.Common.{ap, is_some, Option, length, sym, ◌∙◌, codes}
 use Rattle.std.proofs.lemmas.Bool.{eqb-true}
 use Rattle.djq_machine.specs.declared.answer.Cause.{Cause}
 use Rattle.djq_machine.specs.declared.answer.Cause.TheVariants.{Input}

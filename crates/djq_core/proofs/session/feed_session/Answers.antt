@@ -1,4 +1,4 @@
-use Rattle.std.proofs.Common.{ℕ, List, Option, is_some, ap, ◌≡◌, sym, ◌∙◌, subst, codes}
+use Rattle.std.proofs.Common.{ℕ, List, Option, is_some, ap, sym, subst, codes}
 use Rattle.djq_machine.specs.declared.answer.Cause.{Cause}
 use Rattle.djq_machine.specs.declared.answer.Cause.TheVariants.{Memory}
 use Rattle.djq_machine.specs.Step.{fed}

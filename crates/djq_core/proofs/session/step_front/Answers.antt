@@ -1,4 +1,4 @@
-use Rattle.std.proofs.Common.{ℕ, List, ◌≡◌, ◌<◌, ◌≤◌, codes, length, drop, take, sym, ap, ◌∙◌, subst, arith, length-drop}
+use Rattle.std.proofs.Common.{ℕ, List, ◌≡◌, ◌≤◌, codes, length, drop, take, sym, subst, arith, length-drop}
 use Rattle.djq_machine.specs.declared.answer.Cause.TheVariants.{Long}
 use Rattle.djq_machine.specs.Line.{front_of, too_long, a_line}
 use Rattle.djq_machine.specs.Call.{StepGives}

@@ -10,6 +10,6 @@ returns-in-None c = subst (λ o. ReadsRelation o None) (sym (no_query c.args.que
 
 pub returns-in-Some : goal.returns-in-Some
 returns-in-Some c =
-    let ready = ready_at c.args.relations.now.items c.args.queries.now.items c.in-Some.place c.index.result.now c.requires.queries c.in-Some.ensures.below c.index.ensures in
+    let ready = ready_at c.requires.0 c.args.queries.now.items c.in-Some.place c.index.result.now c.requires.1 c.in-Some.ensures.below c.index.ensures in
     subst (λ o. ReadsRelation o (Some c.index.result.now.relation))
     (sym (query_at c.args.queries.now.items c.args.query.now c.in-Some.place c.index.result.now c.in-Some.ensures c.index.ensures)) (ready.served, ready.relation)
