@@ -221,3 +221,44 @@ fn a_failed_read_ends_the_program(rt: HostRuntime) -> Result<(), Fail> {
     assert_eq!(rt; sink.taken(), Some(b"ok\n".as_slice()));
     Ok(())
 }
+
+/// In each of these lines two neighbouring conditions hold, or one that stands alone.
+#[test]
+fn the_first_condition_that_holds_is_answered(rt: HostRuntime) -> Result<(), Fail> {
+    let input =
+        b"rel r int int\nrel r int int int int int int int int int\nrel s int int int int int int int int int\nadd z 9223372036854775808\nadd r 9223372036854775808\nadd z 1\nadd r 1\ndel z 9223372036854775808\ndel r 9223372036854775808\ndel z 1\ndel r 1\nquery q(x,y) <- r(x,y)\nquery q(x) <- z(x)\nquery q(x) <- r(x)\nquery p(x) <- z(x)\nquery p(x) <- r(x)\nopen c q\nopen c z\nopen d z\nnext z 1\nclose z\n";
+    let replies =
+        b"ok\nerr 2 taken\nerr 11 limit\nerr 7 type\nerr 7 type\nerr 3 no relation\nerr 6 arity\nerr 7 type\nerr 7 type\nerr 3 no relation\nerr 6 arity\nok query 5\nerr 2 taken\nerr 2 taken\nerr 3 no relation\nerr 6 arity\nok open\nerr 2 taken\nerr 4 no query\nerr 5 no cursor\nerr 5 no cursor\n";
+    let mut source = MemSource::new(input.to_vec(rt.alloc())?, 8192);
+    let mut sink = MemSink::new(rt.alloc());
+    assert_eq!(rt; run_words(&rt, &RUN, &mut source, &mut sink), Status::Done);
+    assert_eq!(rt; sink.taken(), Some(replies.as_slice()));
+    Ok(())
+}
+
+/// At 256 queries and at 16 cursors the conditions before the limit are still answered first.
+#[test]
+fn limits_are_answered_last(rt: HostRuntime) -> Result<(), Fail> {
+    let alloc = rt.alloc();
+    let mut input = b"rel r int\n".to_vec(alloc)?;
+    let mut replies = b"ok\n".to_vec(alloc)?;
+    for number in 0..256u32 {
+        let line = format!(in alloc; "query q{number}(x) <- r(x)\n")?;
+        input.extend_from_slice(line.as_bytes())?;
+        replies.extend_from_slice(b"ok query 3\n")?;
+    }
+    input.extend_from_slice(b"query q0(x) <- r(x)\nquery p(x,y) <- r(x,y)\nquery p(x) <- r(x)\n")?;
+    replies.extend_from_slice(b"err 2 taken\nerr 6 arity\nerr 11 limit\n")?;
+    for number in 0..16u32 {
+        let line = format!(in alloc; "open c{number} q{number}\n")?;
+        input.extend_from_slice(line.as_bytes())?;
+        replies.extend_from_slice(b"ok open\n")?;
+    }
+    input.extend_from_slice(b"open c0 q0\nopen d p\nopen d q0\n")?;
+    replies.extend_from_slice(b"err 2 taken\nerr 4 no query\nerr 11 limit\n")?;
+    let mut source = MemSource::new(input, 8192);
+    let mut sink = MemSink::new(alloc);
+    assert_eq!(rt; run_words(&rt, &RUN, &mut source, &mut sink), Status::Done);
+    assert_eq!(rt; sink.taken(), Some(replies.as_slice()));
+    Ok(())
+}

@@ -15,6 +15,7 @@ use Rattle.djq_core.specs.declared.dialog.Dialog.{Dialog}
 use Rattle.djq_core.specs.Views.{Side, session_in, state_in}
 use Rattle.djq_core.specs.Sound.{IsSound}
 
+-- what is kept beside the bytes that came, its cursors as a list
 abbrev pub side_of : Dialog → Side
 side_of d = record { pending = d.pending; cause = d.cause; cursors = d.cursors.items }
 

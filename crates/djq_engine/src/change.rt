@@ -39,7 +39,7 @@ pub fn make_relation(
     ensures sound { KeepsSound relations.old.items relations.new.items }
 {
     match refuses_relation(relations, &name, &types) {
-        Some(refusal) => return Err(refusal),
+        Some(reason) => return Err(reason),
         None => {}
     }
     let rows = Rows {
