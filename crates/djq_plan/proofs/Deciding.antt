@@ -96,13 +96,13 @@ plan_of H F s mid last b c old out M N leaves second some heads e stage ended st
 
 -- ---- the rests
 
-pub rest_says : (H : List (List ℕ)) (F : List ℕ) (E R R2 : List (List ℕ)) → (IsFreeConnex H F → ⊥) → R ≡ [] → ((R ≡ []) ↔ HasJoinTree H) → E ≡ F ∷ H → ((R2 ≡ []) ↔ HasJoinTree E) → (R2 ≢ [] → IsRest E R2)
-    → HasJoinTree H × (HasJoinTreeFrom F H → ⊥) × IsRest (F ∷ H) R2
-rest_says H F E R R2 not_connex none acyclic front acyclic2 rest =
+pub rest_says : (H : List (List ℕ)) (F : List ℕ) (E R R' : List (List ℕ)) → (IsFreeConnex H F → ⊥) → R ≡ [] → ((R ≡ []) ↔ HasJoinTree H) → E ≡ F ∷ H → ((R' ≡ []) ↔ HasJoinTree E) → (R' ≢ [] → IsRest E R')
+    → HasJoinTree H × (HasJoinTreeFrom F H → ⊥) × IsRest (F ∷ H) R'
+rest_says H F E R R' not_connex none acyclic front acyclic2 rest =
     let tree = acyclic.0 none in
     let no_from : HasJoinTreeFrom F H → ⊥ = λ t. not_connex (tree, t) in
-    let some : R2 ≢ [] = λ bare. no_from (join_tree_turned F H (subst HasJoinTree front (acyclic2.0 bare))) in
-    (tree, no_from, subst (λ (z : List (List ℕ)). IsRest z R2) front (rest some))
+    let some : R' ≢ [] = λ bare. no_from (join_tree_turned F H (subst HasJoinTree front (acyclic2.0 bare))) in
+    (tree, no_from, subst (λ (z : List (List ℕ)). IsRest z R') front (rest some))
 
 pub bare_rest : (R : List (List ℕ)) (b : Bool) → b ≡ (length R == 0) → b ≡ true → R ≡ []
 bare_rest R b e t = nil_from_length R (eqb-true (length R) 0 (sym e ∙ t))
