@@ -1,1 +1,4 @@
+pub mod Token
+pub mod Literal
+pub mod ValueText
 pub mod Output

@@ -1,16 +1,15 @@
 -- The bytes of replies.
-use Rattle.std.specs.Prelude.{ℕ, List, [], ◌∷◌, ◌==◌, ◌++◌, Bool, Result, Ok, Err, if◌then◌else◌, map, codes}
+use Rattle.std.specs.Prelude.{ℕ, List, [], ◌∷◌, ◌++◌, Bool, Result, Ok, Err, if◌then◌else◌, map, codes}
 use Rattle.std.specs.List.{flat_map}
-use Rattle.std.specs.Fmt.{decimal, signed_decimal}
-use Rattle.djq_model.specs.declared.value.Value.{Value}
-use Rattle.djq_model.specs.declared.value.Value.TheVariants.{Int, Text}
+use Rattle.std.specs.Fmt.{decimal}
 use Rattle.djq_model.specs.Data.{Bytes, Tuple}
-use Rattle.djq_machine.specs.declared.answer.Refusal.{Refusal}
-use Rattle.djq_machine.specs.declared.answer.Refusal.TheVariants.{Taken, NoRelation, NoQuery, NoCursor, Arity, WrongType, Limit, NoMemory, Later}
-use Rattle.djq_machine.specs.declared.answer.Added.{Added as AddAnswer}
-use Rattle.djq_machine.specs.declared.answer.Added.TheVariants.{Added, Same}
-use Rattle.djq_machine.specs.declared.answer.Deleted.{Deleted as DeleteAnswer}
-use Rattle.djq_machine.specs.declared.answer.Deleted.TheVariants.{Removed, Absent}
+use Rattle.djq_value.specs.ValueText.{value_text}
+use Rattle.djq_lines.specs.declared.answer.Refusal.{Refusal}
+use Rattle.djq_lines.specs.declared.answer.Refusal.TheVariants.{Syntax, Taken, NoRelation, NoQuery, NoCursor, Arity, WrongType, HeadUnbound, HeadRepeated, VariableType, Limit, NoMemory, InUse, Later}
+use Rattle.djq_lines.specs.declared.answer.AddOutcome.{AddOutcome}
+use Rattle.djq_lines.specs.declared.answer.AddOutcome.TheVariants.{Added, Same}
+use Rattle.djq_lines.specs.declared.answer.DeleteOutcome.{DeleteOutcome}
+use Rattle.djq_lines.specs.declared.answer.DeleteOutcome.TheVariants.{Removed, Absent}
 
 -- a text, ended by LF
 abbrev pub line : Bytes → Bytes
@@ -20,29 +19,42 @@ line text = text ++ 10 ∷ []
 abbrev pub numbered : Bytes → ℕ → Bytes
 numbered words n = line (words ++ decimal n)
 
+-- the line that answers a refusal
 abbrev pub refusal_line : Refusal → Bytes
+refusal_line Syntax = line (codes "err 1 syntax")
 refusal_line Taken = line (codes "err 2 taken")
 refusal_line NoRelation = line (codes "err 3 no relation")
 refusal_line NoQuery = line (codes "err 4 no query")
 refusal_line NoCursor = line (codes "err 5 no cursor")
 refusal_line Arity = line (codes "err 6 arity")
 refusal_line WrongType = line (codes "err 7 type")
+refusal_line HeadUnbound = line (codes "err 8 head unbound")
+refusal_line HeadRepeated = line (codes "err 9 head repeated")
+refusal_line VariableType = line (codes "err 10 variable type")
 refusal_line Limit = line (codes "err 11 limit")
 refusal_line NoMemory = line (codes "err 12 memory")
+refusal_line InUse = line (codes "err 14 in use")
 refusal_line Later = line (codes "err 15 later")
 
--- in a text printed, quote, backslash and LF have a backslash before them
-abbrev pub escaped : ℕ → Bytes
-escaped b = if b == 34 then codes "\\\"" else (if b == 92 then codes "\\\\" else (if b == 10 then codes "\\n" else b ∷ []))
+-- the lines that end a session, and the one that says that input ended within a line
+abbrev pub end_long : Bytes
+end_long = line (codes "end long")
 
--- a text in quotes
-abbrev pub quoted : Bytes → Bytes
-quoted t = 34 ∷ flat_map escaped t ++ 34 ∷ []
+abbrev pub end_slow : Bytes
+end_slow = line (codes "end slow")
 
--- a value as it is printed
-abbrev pub value_text : Value → Bytes
-value_text (Int i) = signed_decimal i
-value_text (Text t) = quoted t
+abbrev pub end_memory : Bytes
+end_memory = line (codes "end memory")
+
+abbrev pub end_full : Bytes
+end_full = line (codes "end full")
+
+abbrev pub input_cut : Bytes
+input_cut = line (codes "err 13 cut")
+
+-- what `quit` and `stop` are answered
+abbrev pub bye : Bytes
+bye = line (codes "bye")
 
 -- an answer: `=`, then each value behind a space
 abbrev pub answer_line : Tuple → Bytes
@@ -68,17 +80,17 @@ ok_reply words (Ok a) = line words
 ok_reply words (Err r) = refusal_line r
 
 -- what `add` answers, at a number of changes
-abbrev pub add_reply : Result AddAnswer Refusal → ℕ → Bytes
+abbrev pub add_reply : Result AddOutcome Refusal → ℕ → Bytes
 add_reply (Ok Added) n = numbered (codes "ok added ") n
 add_reply (Ok Same) n = numbered (codes "ok same ") n
 add_reply (Err r) n = refusal_line r
 
-abbrev pub delete_reply : Result DeleteAnswer Refusal → ℕ → Bytes
+abbrev pub delete_reply : Result DeleteOutcome Refusal → ℕ → Bytes
 delete_reply (Ok Removed) n = numbered (codes "ok removed ") n
 delete_reply (Ok Absent) n = numbered (codes "ok absent ") n
 delete_reply (Err r) n = refusal_line r
 
--- what `query` answers: the most lookups and links for one of its answers
+-- what `query` answers where it registers: the most lookups and links for one of its answers
 abbrev pub query_reply : Result ℕ Refusal → Bytes
 query_reply (Ok most) = numbered (codes "ok query ") most
 query_reply (Err r) = refusal_line r

@@ -17,7 +17,7 @@ behind_lf (b ∷ bs) = if b == 10 then Some bs else behind_lf bs
 abbrev pub without_cr : Bytes → Bytes
 without_cr bs = if slice_index bs (length bs - 1) == 13 then take (length bs - 1) bs else bs
 
--- Bytes without LF are long where they have a prefix of 4,097 bytes that doesn't end in CR, or 4,098 bytes.
+-- whether bytes are too many for a line: bytes without LF are long where they have a prefix of 4,097 bytes that doesn't end in CR, or 4,098 bytes.
 abbrev pub is_long : Bytes → Bool
 is_long bs = nat_le 4098 (length bs) || (nat_le 4097 (length bs) && not (slice_index bs 4096 == 13))
 

@@ -7,62 +7,19 @@
 --     list  = "(" [name *("," name)] ")"
 --
 -- The names in a query's body are all different, and its head names each of them once.
-use Rattle.std.specs.Prelude.{ℕ, ℤ, pos, negsuc, List, [], ◌∷◌, ◌==◌, ◌+◌, ◌-◌, ◌*◌, ◌&&◌, ◌||◌, Bool, true, false, not, nat_le, Option, None, Some, if◌then◌else◌, option_map, length, map, codes}
-use Rattle.std.specs.List.{list_all, list_any}
-use Rattle.djq_model.specs.declared.value.Value.{Value}
-use Rattle.djq_model.specs.declared.value.Value.TheVariants.{Int, Text}
+use Rattle.std.specs.Prelude.{ℕ, ℤ, List, [], ◌∷◌, ◌==◌, ◌&&◌, Bool, true, false, nat_le, Option, None, Some, if◌then◌else◌, option_map, length, map, codes}
+use Rattle.std.specs.List.{list_all}
+use Rattle.djq_model.specs.declared.value.Value.TheVariants.{Int}
 use Rattle.djq_model.specs.declared.relation.ColumnType.{ColumnType}
 use Rattle.djq_model.specs.declared.relation.ColumnType.TheVariants.{Int as IntColumn}
 use Rattle.djq_model.specs.declared.query.Term.TheVariants.{Variable}
 use Rattle.djq_model.specs.Data.{Bytes, Tuple, bytes_eq}
-use Rattle.djq_machine.specs.declared.command.Command.{Command}
-use Rattle.djq_machine.specs.declared.command.Command.TheVariants.{Rel, Add, Del, Query as Register, Open, Next, Close}
-use Rattle.djq_machine.specs.Token.{Token, word, open_paren, close_paren, comma, arrow, tokens}
-
-abbrev pub is_lower : ℕ → Bool
-is_lower b = nat_le 97 b && nat_le b 122
-
-abbrev pub is_digit : ℕ → Bool
-is_digit b = nat_le 48 b && nat_le b 57
-
--- a name: a letter, then letters, digits and `_`, 32 bytes at most
-abbrev pub is_name : Bytes → Bool
-is_name [] = false
-is_name (b ∷ bs) = is_lower b && (list_all (λ c. is_lower c || is_digit c || c == 95) bs && nat_le (length bs) 31)
-
--- the number that digits denote, behind others that denote n
-abbrev pub digits_value : ℕ → Bytes → ℕ
-digits_value n [] = n
-digits_value n (d ∷ ds) = digits_value (n * 10 + (d - 48)) ds
-
--- one or more digits
-abbrev pub natural_of : Bytes → Option ℕ
-natural_of [] = None
-natural_of (d ∷ ds) = if list_all is_digit (d ∷ ds) then Some (digits_value 0 (d ∷ ds)) else None
-
-abbrev pub minus : ℕ → ℤ
-minus n = if n == 0 then pos 0 else negsuc (n - 1)
-
--- an optional `-`, then one or more digits
-abbrev pub integer_of : Bytes → Option ℤ
-integer_of [] = None
-integer_of (b ∷ bs) = if b == 45 then option_map minus (natural_of bs) else option_map pos (natural_of (b ∷ bs))
-
--- an integer of 64 bits
-abbrev pub is_small : ℤ → Bool
-is_small (pos n) = nat_le n 9223372036854775807
-is_small (negsuc n) = nat_le n 9223372036854775807
-
-abbrev pub has_name : List Bytes → Bytes → Bool
-has_name names name = list_any (bytes_eq name) names
-
-abbrev pub are_different : List Bytes → Bool
-are_different [] = true
-are_different (n ∷ ns) = not (has_name ns n) && are_different ns
-
--- the same names, in any order, each once
-abbrev pub is_reordered : List Bytes → List Bytes → Bool
-is_reordered head body = are_different head && (are_different body && ((length head == length body) && list_all (has_name body) head))
+use Rattle.djq_value.specs.Token.{Token, word, open_paren, close_paren, comma, arrow, tokens}
+use Rattle.djq_value.specs.Literal.{is_name, natural_of, integer_of, is_small_value, is_reordered}
+use Rattle.djq_lines.specs.declared.answer.Refusal.{Refusal}
+use Rattle.djq_lines.specs.declared.answer.Refusal.TheVariants.{WrongType, Later}
+use Rattle.djq_lines.specs.declared.command.Command.{Command}
+use Rattle.djq_lines.specs.declared.command.Command.TheVariants.{Rel, Add, Del, Query as Register, Open, Next, Close}
 
 -- Each of the following reads the tokens to the line's end, or says that they are outside the grammar.
 
@@ -156,10 +113,6 @@ command_in _ = None
 unfoldable pub command_of : Bytes → Option Command
 command_of line = command_in (tokens line)
 
-abbrev pub is_small_value : Value → Bool
-is_small_value (Int i) = is_small i
-is_small_value (Text t) = nat_le (length t) 255
-
 -- whether each literal of a command is within its limit
 abbrev pub is_in_range : Command → Bool
 is_in_range (Add n row) = list_all is_small_value row
@@ -173,3 +126,15 @@ takes_memory_to_read (Add n row) = true
 takes_memory_to_read (Del n row) = true
 takes_memory_to_read (Register q) = true
 takes_memory_to_read _ = false
+
+-- What a line says: why it isn't run, whatever the state is; or a command whose literals are within their limits.
+pub data Reading : Type 0 where
+  refused : Refusal → Reading
+  says : Command → Reading
+
+abbrev pub reading_in : Option Command → Reading
+reading_in None = refused Later
+reading_in (Some c) = if is_in_range c then says c else refused WrongType
+
+abbrev pub reading_of : Bytes → Reading
+reading_of line = reading_in (command_of line)

@@ -1,0 +1,67 @@
+/// Why a command is refused. A reply prints its number and words (`err 2 taken`).
+#[derive(Clone, Copy, Debug, PartialEq, Eq)]
+pub enum Refusal {
+    /// 1: the line is in no form of the grammar.
+    Syntax,
+    /// 2: the name is there already.
+    Taken,
+    /// 3: no relation has the name.
+    NoRelation,
+    /// 4: no query has the name.
+    NoQuery,
+    /// 5: the session has no cursor of the name.
+    NoCursor,
+    /// 6: another number of values or terms than of columns.
+    Arity,
+    /// 7: a value of another type than its column, or a literal past its limit.
+    WrongType,
+    /// 8: a variable of the head is in no atom.
+    HeadUnbound,
+    /// 9: a variable stands twice in the head.
+    HeadRepeated,
+    /// 10: a variable stands in columns of two types.
+    VariableType,
+    /// 11: a limit is reached.
+    Limit,
+    /// 12: out of memory.
+    NoMemory,
+    /// 14: a cursor or a watch is on the query.
+    InUse,
+    /// 15: the line isn't served yet.
+    Later,
+}
+
+/// What `add` did to a row that suits its relation.
+#[derive(Clone, Copy, Debug, PartialEq, Eq)]
+pub enum AddOutcome {
+    /// The row wasn't there, and is.
+    Added,
+    /// The row was there.
+    Same,
+}
+
+/// What `del` did to a row that suits its relation.
+#[derive(Clone, Copy, Debug, PartialEq, Eq)]
+pub enum DeleteOutcome {
+    /// The row was there, and isn't.
+    Removed,
+    /// The row wasn't there.
+    Absent,
+}
+
+/// Why a session takes no further commands.
+#[derive(Clone, Copy, Debug, PartialEq, Eq)]
+pub enum EndCause {
+    /// Its input ended.
+    Input,
+    /// It said `quit`.
+    Quit,
+    /// It said `stop`.
+    Stop,
+    /// A line was too long.
+    Long,
+    /// Too many bytes were pending.
+    Slow,
+    /// Out of memory.
+    Memory,
+}

@@ -1,0 +1,82 @@
+use djq_model::{Name, Query, Row, Types};
+
+/// A command, as a line says it.
+#[derive(Debug, Drop)]
+pub enum Command {
+    /// `rel NAME TYPE ..`: a new relation.
+    Rel {
+        /// Its name.
+        name: Name,
+        /// The types of its columns.
+        types: Types,
+    },
+    /// `add NAME VALUE ..`: a row goes into a relation.
+    Add {
+        /// The relation.
+        name: Name,
+        /// The row.
+        row: Row,
+    },
+    /// `del NAME VALUE ..`: a row goes out of a relation.
+    Del {
+        /// The relation.
+        name: Name,
+        /// The row.
+        row: Row,
+    },
+    /// `query NAME(..) <- ..`: a query is registered.
+    Query {
+        /// The query.
+        query: Query,
+    },
+    /// `drop QUERY`: a query is given up.
+    Drop {
+        /// The query.
+        query: Name,
+    },
+    /// `open CURSOR QUERY`: a cursor over a query's answers.
+    Open {
+        /// The cursor.
+        cursor: Name,
+        /// The query.
+        query: Name,
+    },
+    /// `next CURSOR COUNT`: further answers, as many at most.
+    Next {
+        /// The cursor.
+        cursor: Name,
+        /// The most answers.
+        count: u32,
+    },
+    /// `close CURSOR`: a cursor is given up.
+    Close {
+        /// The cursor.
+        cursor: Name,
+    },
+    /// `has QUERY VALUE ..`: whether a tuple is an answer.
+    Has {
+        /// The query.
+        query: Name,
+        /// The tuple.
+        row: Row,
+    },
+    /// `watch QUERY`: the session is told what changes of the query's answers.
+    Watch {
+        /// The query.
+        query: Name,
+    },
+    /// `unwatch QUERY`: it is told no more.
+    Unwatch {
+        /// The query.
+        query: Name,
+    },
+    /// `explain QUERY`: the join tree of a query.
+    Explain {
+        /// The query.
+        query: Name,
+    },
+    /// `quit`: the session ends.
+    Quit,
+    /// `stop`: the whole server ends.
+    Stop,
+}

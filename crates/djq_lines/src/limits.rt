@@ -1,0 +1,40 @@
+//! The limits of the protocol.
+
+/// The most bytes of a line, without its LF and one CR before it.
+pub const LINE_BYTES: usize = 4096;
+
+/// The most bytes of a text.
+pub const TEXT_BYTES: usize = 255;
+
+/// The most columns of a relation.
+pub const COLUMNS: usize = 8;
+
+/// The most relations.
+pub const RELATIONS: usize = 256;
+
+/// The most registered queries.
+pub const QUERIES: usize = 256;
+
+/// The most rows of a relation.
+pub const ROWS: usize = 4_294_967_295;
+
+/// The greatest number of accepted changes of rows.
+pub const LAST_SEQ: u64 = 18_446_744_073_709_551_615;
+
+/// The most cursors of a session.
+pub const CURSORS: usize = 16;
+
+/// The most sessions that are open at once.
+pub const SESSIONS: usize = 64;
+
+/// The most answers that one `next` asks for.
+pub const NEXT_COUNT: u32 = 1000;
+
+/// The most bytes that are pending as a command begins.
+pub const PENDING_BYTES: usize = 1_048_576;
+
+/// The bytes of room that are kept for a reply before its command begins.
+pub const REPLY_BYTES: usize = 256;
+
+/// The bytes of room that are kept for a session's last line as long as it goes on.
+pub const LAST_LINE_BYTES: usize = 32;

@@ -1,0 +1,20 @@
+-- How values are printed.
+use Rattle.std.specs.Prelude.{ℕ, ◌∷◌, [], ◌==◌, ◌++◌, if◌then◌else◌, codes}
+use Rattle.std.specs.List.{flat_map}
+use Rattle.std.specs.Fmt.{signed_decimal}
+use Rattle.djq_model.specs.declared.value.Value.{Value}
+use Rattle.djq_model.specs.declared.value.Value.TheVariants.{Int, Text}
+use Rattle.djq_model.specs.Data.{Bytes}
+
+-- in a text printed, quote, backslash and LF have a backslash before them
+abbrev pub escaped : ℕ → Bytes
+escaped b = if b == 34 then codes "\\\"" else (if b == 92 then codes "\\\\" else (if b == 10 then codes "\\n" else b ∷ []))
+
+-- a text in quotes
+abbrev pub quoted : Bytes → Bytes
+quoted t = 34 ∷ flat_map escaped t ++ 34 ∷ []
+
+-- a value as it is printed
+abbrev pub value_text : Value → Bytes
+value_text (Int i) = signed_decimal i
+value_text (Text t) = quoted t
