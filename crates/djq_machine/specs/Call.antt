@@ -1,49 +1,93 @@
 -- What the calls of a machine promise.
-use Rattle.std.specs.Prelude.{ℕ, [], ◌≡◌, ◌+◌, ◌<◌, ◌≤◌, true, Option, None, Some, IsSome, MatchOption, length}
+use Rattle.std.specs.Prelude.{ℕ, List, [], ◌≡◌, ◌+◌, ◌<◌, ◌≤◌, ◌⊎◌, true, Option, None, Some, IsSome, MatchOption, Result, Ok, Err, length, map, ⊤}
 use Rattle.djq_model.specs.Data.{Bytes}
-use Rattle.djq_machine.specs.declared.answer.Cause.{Cause}
-use Rattle.djq_machine.specs.declared.answer.Cause.TheVariants.{Long, Slow, Memory}
+use Rattle.djq_lines.specs.declared.limits.TheConstants.{SESSIONS}
+use Rattle.djq_lines.specs.declared.answer.EndCause.{EndCause}
+use Rattle.djq_lines.specs.declared.answer.EndCause.TheVariants.{Long, Slow, Memory}
 use Rattle.djq_machine.specs.declared.machine.Stepped.{Stepped}
 use Rattle.djq_machine.specs.declared.machine.Stepped.TheVariants.{Ran, Dry, Ended}
-use Rattle.djq_machine.specs.State.{State, Session, session_of}
-use Rattle.djq_machine.specs.Step.{Event, ran, Effect, Step, is_dry}
+use Rattle.djq_machine.specs.declared.machine.Fed.{Fed}
+use Rattle.djq_machine.specs.declared.machine.Fed.TheVariants.{Held, Ended as HadEnded}
+use Rattle.djq_machine.specs.declared.machine.OpenRefusal.{OpenRefusal}
+use Rattle.djq_machine.specs.declared.machine.OpenRefusal.TheVariants.{Full, NoMem}
+use Rattle.djq_machine.specs.State.{State, Session, session_of, fresh}
+use Rattle.djq_machine.specs.Effect.{Effect}
+use Rattle.djq_machine.specs.LineStep.{long, blank, slow, no_room, run}
+use Rattle.djq_machine.specs.Step.{Event, opened, stepped, Step, is_dry}
 
+-- whether a session of this id is open
 abbrev pub IsOpen : State → ℕ → Type 0
 IsOpen st s = IsSome (session_of st s)
 
-abbrev pub cause_in : Option Session → Option Cause
+abbrev pub cause_in : Option Session → Option EndCause
 cause_in None = None
 cause_in (Some x) = x.cause
+
+-- the end cause of a session; none where it isn't open
+abbrev pub cause_of : State → ℕ → Option EndCause
+cause_of st s = cause_in (session_of st s)
 
 abbrev pub held_in : Option Session → Bytes
 held_in None = []
 held_in (Some x) = x.held
 
--- the end cause of a session
-abbrev pub cause_of : State → ℕ → Option Cause
-cause_of st s = cause_in (session_of st s)
-
--- the bytes of a session that aren't run
+-- the bytes of a session that aren't run; none where it isn't open
 abbrev pub held_of : State → ℕ → Bytes
 held_of st s = held_in (session_of st s)
 
--- One step of this event, which counted no more than its effect may cost.
-pub record Makes (old : State) (event : Event) (new : State) (before now : ℕ) : Type 0 where
+-- the ids of the open sessions
+abbrev pub ids_of : State → List ℕ
+ids_of st = map (λ (x : Session). x.id) st.sessions
+
+-- what was counted: lookups and links of listings, of updates, and of rows
+pub record Counts : Type 0 where
+  pub listing : ℕ
+  pub update : ℕ
+  pub rows : ℕ
+
+abbrev pub counts : ℕ → ℕ → ℕ → Counts
+counts listing update rows = record { listing = listing; update = update; rows = rows }
+
+-- One step of this event, which costs nothing.
+pub record Makes (old : State) (event : Event) (new : State) : Type 0 where
   pub effect : Effect
   pub step : Step old event effect new
-  pub counted : now ≤ before + effect.cost
 
--- what may end a session before its line is run
-abbrev pub EndsBefore : Cause → Type 0
-EndsBefore Long = Unit {0}
-EndsBefore Slow = Unit {0}
-EndsBefore Memory = Unit {0}
-EndsBefore _ = ⊥
+-- One step of this event, which counted no more of listings than its effect may cost, and nothing else.
+pub record MakesCounted (old : State) (event : Event) (new : State) (before now : Counts) : Type 0 where
+  pub effect : Effect
+  pub step : Step old event effect new
+  pub listing : now.listing ≤ before.listing + effect.cost
+  pub update : now.update ≡ before.update
+  pub rows : now.rows ≡ before.rows
 
--- What a step answers: a line was run; there is no whole line; or the session had ended, or ends before a line is run.
-abbrev pub StepGives : State → ℕ → Stepped → State → ℕ → ℕ → Type 0
-StepGives old s Ran new before now = Makes old (ran s) new before now × (cause_of old s ≡ None) × (length (held_of new s) < length (held_of old s))
+-- What opening a session answers: it is open; or the limit is reached; or, below it, out of memory.
+abbrev pub OpenGives : State → ℕ → Result ⊤ OpenRefusal → State → Type 0
+OpenGives old s (Ok _) new = Makes old (opened s) new × IsOpen new s
+OpenGives old s (Err Full) new = (SESSIONS ≤ length old.sessions) × (new ≡ old)
+OpenGives old s (Err NoMem) new = (length old.sessions < SESSIONS) × (new ≡ old)
+
+-- What bytes that came are answered: they are held; or the session had ended, or ended out of memory.
+abbrev pub FedGives : State → ℕ → Fed → State → Type 0
+FedGives old s Held new = cause_of new s ≡ None
+FedGives old s (HadEnded c) new = (cause_of new s ≡ Some c) × MatchOption (cause_of old s) (c ≡ Memory) (λ d. d ≡ c)
+
+-- a line was blank, or was run
+abbrev pub RanStep : State → ℕ → State → Counts → Counts → Type 0
+RanStep old s new before now = (l : Bytes) × (MakesCounted old (stepped s (blank l)) new before now ⊎ MakesCounted old (stepped s (run l)) new before now)
+
+-- A session ended before its line was run: it was too long, too much was pending, or there was no room for a reply.
+abbrev pub EndedStepAs : EndCause → State → ℕ → State → Counts → Counts → Type 0
+EndedStepAs Long old s new before now = MakesCounted old (stepped s long) new before now
+EndedStepAs Slow old s new before now = (l : Bytes) × MakesCounted old (stepped s (slow l)) new before now
+EndedStepAs Memory old s new before now = (l : Bytes) × MakesCounted old (stepped s (no_room l)) new before now
+EndedStepAs _ old s new before now = ⊥
+
+-- What a step answers: a line was run, or dropped where it is blank; there is no whole line; or the session had ended, or
+-- ended before its line was run. A line that is run and ends its own session was run.
+abbrev pub StepGives : State → ℕ → Stepped → State → Counts → Counts → Type 0
+StepGives old s Ran new before now = RanStep old s new before now
 StepGives old s Dry new before now = (new ≡ old) × (now ≡ before) × (cause_of old s ≡ None) × (is_dry (held_of old s) ≡ true)
-StepGives old s (Ended c) new before now = (cause_of new s ≡ Some c) × MatchOption (cause_of old s)
-    (EndsBefore c × Makes old (ran s) new before now)
-    (λ _. (new ≡ old) × (now ≡ before))
+StepGives old s (Ended c) new before now = MatchOption (cause_of old s)
+    (EndedStepAs c old s new before now)
+    (λ d. (d ≡ c) × (new ≡ old) × (now ≡ before))

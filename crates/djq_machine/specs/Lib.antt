@@ -1,10 +1,11 @@
-pub mod Line
-pub mod Token
-pub mod Grammar
-pub mod Reply
 pub mod State
+pub mod Conditions
 pub mod Store
+pub mod Stale
+pub mod Effect
+pub mod Command
+pub mod LineStep
 pub mod Step
 pub mod Run
-pub mod Course
+pub mod Gives
 pub mod Call

@@ -3,7 +3,10 @@ use Rattle.std.specs.Prelude.{ℕ, List, [], ◌∷◌, ◌==◌, ◌≡◌, Opt
 use Rattle.std.specs.List.{flat_map}
 use Rattle.djq_model.specs.Data.{Bytes}
 use Rattle.djq_machine.specs.State.{State, Session, session_of}
-use Rattle.djq_machine.specs.Step.{Event, fed, took, Effect, Step}
+use Rattle.djq_lines.specs.Line.{a_line, front_of}
+use Rattle.djq_machine.specs.Effect.{Effect}
+use Rattle.djq_machine.specs.LineStep.{LineOutcome, long, blank, slow, no_room, run}
+use Rattle.djq_machine.specs.Step.{Event, fed, stepped, took, Step}
 
 -- an event and what it did
 pub record Did : Type 0 where
@@ -36,14 +39,45 @@ taken_by s _ = []
 abbrev pub all_taken : ℕ → List Did → Bytes
 all_taken s done = flat_map (λ d. taken_by s d.event) done
 
--- what an event brings
-abbrev pub fed_by : Event → Bytes
-fed_by (fed s bytes) = bytes
-fed_by _ = []
+-- what an event brings to a session
+abbrev pub fed_by : ℕ → Event → Bytes
+fed_by s (fed t bytes) = if t == s then bytes else []
+fed_by s _ = []
 
--- all that was brought
-abbrev pub all_fed : List Did → Bytes
-all_fed done = flat_map (λ d. fed_by d.event) done
+-- all that was brought to a session
+abbrev pub all_fed : ℕ → List Did → Bytes
+all_fed s done = flat_map (λ d. fed_by s d.event) done
+
+-- the pieces that an event brings, whatever session they are for
+abbrev pub piece_of : Event → List Bytes
+piece_of (fed s bytes) = bytes ∷ []
+piece_of _ = []
+
+-- all pieces that were brought, in order
+abbrev pub pieces_of : List Did → List Bytes
+pieces_of done = flat_map (λ d. piece_of d.event) done
+
+-- the line that an outcome takes
+abbrev pub line_in : LineOutcome → List Bytes
+line_in long = []
+line_in (blank l) = l ∷ []
+line_in (slow l) = l ∷ []
+line_in (no_room l) = l ∷ []
+line_in (run l) = l ∷ []
+
+-- the line that an event takes of a session
+abbrev pub line_by : ℕ → Event → List Bytes
+line_by s (stepped t outcome) = if t == s then line_in outcome else []
+line_by s _ = []
+
+-- the lines that were taken of a session, in order
+abbrev pub lines_of : ℕ → List Did → List Bytes
+lines_of s done = flat_map (λ d. line_by s d.event) done
+
+-- Bytes are cut into these lines, and the rest behind them.
+abbrev pub CutsInto : Bytes → List Bytes → Bytes → Type 0
+CutsInto bytes [] rest = bytes ≡ rest
+CutsInto bytes (l ∷ ls) rest = (behind : Bytes) × (front_of bytes ≡ a_line l behind) × CutsInto behind ls rest
 
 -- the most lookups and links that a run may count
 abbrev pub cost_of : List Did → ℕ

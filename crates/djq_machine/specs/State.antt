@@ -3,9 +3,9 @@ use Rattle.std.specs.Prelude.{ℕ, List, [], ◌==◌, Bool, false, Option, None
 use Rattle.djq_model.specs.declared.relation.Relation.{Relation}
 use Rattle.djq_model.specs.declared.query.Query.{Query}
 use Rattle.djq_model.specs.Data.{Bytes, Tuple, bytes_eq, change_first}
-use Rattle.djq_machine.specs.declared.answer.Cause.{Cause}
+use Rattle.djq_lines.specs.declared.answer.EndCause.{EndCause}
 
--- the rows and the queries
+-- What is kept of the data, whoever changes it.
 pub record Store : Type 0 where
   pub relations : List Relation
   -- the texts that are known
@@ -15,34 +15,40 @@ pub record Store : Type 0 where
   -- the number of accepted changes of rows
   pub seq : ℕ
 
-pub data Place : Type 0 where
-  -- the answers given so far, and whether `end` was answered
-  open_at : List Tuple → Bool → Place
-  -- the relation whose change made the cursor stale, and the number of that change
-  stale : Bytes → ℕ → Place
+-- How far a cursor has come.
+pub data Position : Type 0 where
+  -- the answers that it has given, and whether it was answered `end` last
+  open_at : List Tuple → Bool → Position
+  -- the relation whose change made it stale, and the number of that change
+  stale : Bytes → ℕ → Position
 
+-- A cursor of a session, over the answers of a query.
 pub record Cursor : Type 0 where
   pub name : Bytes
   pub query : Bytes
-  pub place : Place
+  pub position : Position
 
+-- What is kept of a session.
 pub record Session : Type 0 where
   pub id : ℕ
   -- bytes that came and aren't run
   pub held : Bytes
   -- bytes that were queued and aren't taken
   pub pending : Bytes
-  pub cause : Option Cause
+  -- why it takes no further commands
+  pub cause : Option EndCause
   pub cursors : List Cursor
   -- the names of the queries that it watches
   pub watches : List Bytes
 
 pub record State : Type 0 where
   pub store : Store
+  -- whether a session said `stop`
   pub stopped : Bool
   -- the open sessions, by rising id
   pub sessions : List Session
 
+-- The state in which nothing has happened.
 abbrev pub opening : State
 opening = record { store = record { relations = []; texts = []; queries = []; seq = 0 }; stopped = false; sessions = [] }
 
@@ -50,6 +56,7 @@ opening = record { store = record { relations = []; texts = []; queries = []; se
 abbrev pub fresh : ℕ → Session
 fresh s = record { id = s; held = []; pending = []; cause = None; cursors = []; watches = [] }
 
+-- the open session of an id
 abbrev pub session_of : State → ℕ → Option Session
 session_of st s = find (λ x. x.id == s) st.sessions
 
@@ -57,13 +64,14 @@ session_of st s = find (λ x. x.id == s) st.sessions
 abbrev pub with_session : State → ℕ → (Session → Session) → State
 with_session st s f = record st { sessions = change_first (λ x. x.id == s) f st.sessions }
 
+-- the cursor of a name
 abbrev pub cursor_of : List Cursor → Bytes → Option Cursor
 cursor_of cursors name = find (λ c. bytes_eq c.name name) cursors
 
--- the cursors with one at another place
-abbrev pub with_place : List Cursor → Bytes → Place → List Cursor
-with_place cursors name place = change_first (λ c. bytes_eq c.name name) (λ c. record c { place = place }) cursors
+-- the cursors with one at another position
+abbrev pub with_position : List Cursor → Bytes → Position → List Cursor
+with_position cursors name position = change_first (λ c. bytes_eq c.name name) (λ c. record c { position = position }) cursors
 
--- A session that has ended: it has a cause, and no cursors and watches.
-abbrev pub ended_by : Cause → Session → Session
+-- A session that has ended keeps why, and gives up its cursors and watches.
+abbrev pub ended_by : EndCause → Session → Session
 ended_by cause x = record x { cause = Some cause; cursors = []; watches = [] }

@@ -1,16 +1,11 @@
-//! The join machine, as definitions: what a line says, what each command may do to the state and
-//! answer, what a run is, and what a course of the program is.
+//! The join machine, as definitions: its state, what each event may do to it and queue, what a run is, and what the calls
+//! of whoever keeps such a state promise.
 //!
-//! This crate has no way to compute anything: it holds the plain types that commands and answers are
-//! made of, and `specs/` says what they mean. `Step` is a relation, so it leaves open what the
-//! product leaves open: the order of a query's answers and of a relation's rows, and when memory is
-//! wanted. `proofs/` has the laws that hold of every run, whatever program makes it.
+//! This crate has no way to compute anything. `Step` is a relation, so it leaves open what the product leaves open: the
+//! order of a query's answers and of a relation's rows, and when memory runs out. To read first: `specs/Step.antt`, from
+//! `Step` at its end backwards. The laws of its runs are djq_laws'.
 #![tactic(auto)]
 
-pub use answer::{Added, Cause, Deleted, Refusal};
-pub use command::Command;
-pub use machine::{Machine, Stepped};
+pub use machine::{Fed, Machine, OpenRefusal, Stepped};
 
-mod answer;
-mod command;
 mod machine;

@@ -1,37 +1,71 @@
-use crate::answer::Cause;
+use djq_lines::EndCause;
 use djq_steps::{Ledgers, Steps};
+use thiserror::Error;
 
-/// What a step of a session came to.
-#[derive(Clone, Copy, PartialEq, Eq)]
+/// What became of the line in front of a session's bytes.
+#[derive(Clone, Copy, Debug, PartialEq, Eq)]
 pub enum Stepped {
-    /// Its next line was run, or dropped where it is blank.
+    /// It was run, or dropped where it is blank.
     Ran,
-    /// It holds no whole line.
+    /// No whole line is held.
     Dry,
-    /// It had ended, or ended before the next line was run.
-    Ended(Cause),
+    /// The session had ended, or ended before the line was run.
+    Ended(EndCause),
+}
+
+/// What became of bytes that came.
+#[derive(Clone, Copy, Debug, PartialEq, Eq)]
+pub enum Fed {
+    /// They are held.
+    Held,
+    /// They are dropped: the session had ended, or ended out of memory.
+    Ended(EndCause),
+}
+
+/// Why a session isn't opened.
+#[derive(Clone, Copy, Debug, Drop, PartialEq, Eq, Error)]
+pub enum OpenRefusal {
+    /// As many sessions are open as may be.
+    #[error("as many sessions are open as may be")]
+    Full,
+    /// Out of memory.
+    #[error("out of memory")]
+    NoMem,
 }
 
 /// A join machine: whatever keeps a state, and makes steps of the machine by its calls.
+///
+/// A session is open from [`open_session`](Machine::open_session) until [`close_session`](Machine::close_session).
 pub trait Machine {
-    ghost use Rattle.std.specs.Prelude.{◌≡◌, ◌≤◌, ◌⊎◌, true, IsSome, length, take};
+    ghost use Rattle.std.specs.Prelude.{◌≡◌, ◌<◌, ◌≤◌, ◌⊎◌, true, IsSome, All, length, take};
     ghost use Rattle.djq_machine.specs.State.{State};
-    ghost use Rattle.djq_machine.specs.Step.{fed, took, ended, is_dry};
+    ghost use Rattle.djq_machine.specs.Step.{fed, took, ended, closed, is_dry};
     ghost use Rattle.djq_machine.specs.Run.{pending_of};
-    ghost use Rattle.djq_machine.specs.Call.{IsOpen, Makes, StepGives, cause_of, held_of};
+    ghost use Rattle.djq_machine.specs.Call.{IsOpen, Makes, OpenGives, FedGives, StepGives, cause_of, held_of, ids_of, counts};
 
     // The state of the join machine that it keeps.
     ghost state: { Self → State };
 
+    /// Opens a session with an id above those of the open ones.
+    ///
+    /// # Errors
+    ///
+    /// `Full` exactly where [`SESSIONS`](djq_lines::limits::SESSIONS) are open; `NoMem` below that, out of memory.
+    fn open_session(&mut self, id: u64) -> Result<(), OpenRefusal>
+        requires { All (λ x. x.id < id) (state self.old).sessions }
+        ensures { OpenGives (state self.old) id result (state self.new) };
+
     /// Bytes of an open session come. Where it has ended they are dropped.
-    fn feed(&mut self, id: u64, piece: &[u8])
+    fn feed(&mut self, id: u64, piece: &[u8]) -> Fed
         requires { IsOpen (state self.old) id }
-        ensures { Makes (state self.old) (fed id piece.now) (state self.new) 0 0 };
+        ensures makes { Makes (state self.old) (fed id piece.now) (state self.new) }
+        ensures answer { FedGives (state self.old) id result (state self.new) };
 
     /// Runs the next line of an open session.
     fn step<L: Ledgers>(&mut self, id: u64, steps: &mut Steps<L>) -> Stepped
         requires { IsOpen (state self.old) id }
-        ensures { StepGives (state self.old) id result (state self.new) steps.old.listing steps.new.listing };
+        ensures { StepGives (state self.old) id result (state self.new)
+            (counts steps.old.listing steps.old.update steps.old.rows) (counts steps.new.listing steps.new.update steps.new.rows) };
 
     /// The bytes that are queued to an open session and aren't taken.
     fn pending(&self, id: u64) -> &[u8]
@@ -42,16 +76,29 @@ pub trait Machine {
     fn took(&mut self, id: u64, count: usize)
         requires open { IsOpen (state self.old) id }
         requires pending { count ≤ length (pending_of (state self.old) id) }
-        ensures { Makes (state self.old) (took id (take count (pending_of (state self.old) id))) (state self.new) 0 0 };
+        ensures { Makes (state self.old) (took id (take count (pending_of (state self.old) id))) (state self.new) };
 
     /// The input of an open session has ended. It holds no line that could be run, or had ended before.
     fn end_session(&mut self, id: u64)
         requires open { IsOpen (state self.old) id }
         requires dry { IsSome (cause_of (state self.old) id) ⊎ (is_dry (held_of (state self.old) id) ≡ true) }
-        ensures { Makes (state self.old) (ended id) (state self.new) 0 0 };
+        ensures { Makes (state self.old) (ended id) (state self.new) };
+
+    /// An open session is gone, with the bytes that are pending for it.
+    fn close_session(&mut self, id: u64)
+        requires { IsOpen (state self.old) id }
+        ensures { Makes (state self.old) (closed id (pending_of (state self.old) id)) (state self.new) };
+
+    /// The ids of the open sessions, rising.
+    fn ids(&self) -> &[u64]
+        ensures { result.now ≡ ids_of (state self.now) };
 
     /// The end cause that an open session keeps.
-    fn cause(&self, id: u64) -> Option<Cause>
+    fn cause(&self, id: u64) -> Option<EndCause>
         requires { IsOpen (state self.now) id }
         ensures { result ≡ cause_of (state self.now) id };
+
+    /// Whether a session said `stop`.
+    fn stopped(&self) -> bool
+        ensures { result ≡ (state self.now).stopped };
 }

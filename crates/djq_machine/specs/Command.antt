@@ -1,0 +1,131 @@
+-- What each command does to the state, and what it is answered.
+use Rattle.std.specs.Prelude.{ℕ, List, [], ◌∷◌, ◌==◌, ◌≡◌, ◌+◌, ◌*◌, ◌++◌, ◌<◌, ◌≤◌, ◌⊎◌, Bool, true, false, nat_le, Option, None, Some, is_some, is_none, IsSomeAnd, MatchOption, Result, Ok, Err, length, map, codes, All, ⊤}
+use Rattle.djq_model.specs.declared.query.Query.{Query}
+use Rattle.djq_model.specs.Data.{Bytes, Tuple, bytes_eq, drop_first, query_of}
+use Rattle.djq_model.specs.Answer.{IsAnswer, AreDifferent}
+use Rattle.djq_lines.specs.declared.limits.TheConstants.{CURSORS, REPLY_BYTES}
+use Rattle.djq_lines.specs.declared.answer.Refusal.{Refusal}
+use Rattle.djq_lines.specs.declared.answer.Refusal.TheVariants.{Taken, NoQuery, NoCursor, Limit}
+use Rattle.djq_lines.specs.declared.answer.AddOutcome.{AddOutcome}
+use Rattle.djq_lines.specs.declared.answer.DeleteOutcome.{DeleteOutcome}
+use Rattle.djq_lines.specs.declared.answer.EndCause.TheVariants.{Quit as SaidQuit, Stop as SaidStop, Memory}
+use Rattle.djq_lines.specs.declared.command.Command.{Command}
+use Rattle.djq_lines.specs.declared.command.Command.TheVariants.{Rel, Add, Del, Query as Register, Drop, Open, Next, Close, Has, Watch, Unwatch, Explain, Quit, Stop}
+use Rattle.djq_lines.specs.Reply.{line, answer_line, last_line, listing_lines, text_of, stale_line, ok_reply, add_reply, delete_reply, query_reply, bye, end_memory}
+use Rattle.djq_machine.specs.State.{Store, Position, open_at, stale, Cursor, Session, State, with_session, cursor_of, with_position, ended_by}
+use Rattle.djq_machine.specs.Conditions.{first_of, Answers, OutOfMemoryWhere}
+use Rattle.djq_machine.specs.Store.{MakesRelation, AddsRow, DeletesRow, RegistersQuery, TellsAnswers, IsLeft, AreAll, most_steps}
+use Rattle.djq_machine.specs.Stale.{changed, add_outdates, delete_outdates}
+use Rattle.djq_machine.specs.Effect.{Effect, says, EndsWith, RefusedStep}
+
+-- `rel`: a relation is made.
+pub record RelStep (old : State) (s : ℕ) (makes : Store → Result ⊤ Refusal → Store → Type 0) (e : Effect) (new : State) : Type 0 where
+  pub result : Result ⊤ Refusal
+  pub store : Store
+  pub done : makes old.store result store
+  pub effect : e ≡ says s (ok_reply (codes "ok") result)
+  pub state : new ≡ record old { store = store }
+
+-- `add`: a row goes in; cursors over queries that read its relation become stale.
+pub record AddStep (old : State) (s : ℕ) (name : Bytes) (row : Tuple) (e : Effect) (new : State) : Type 0 where
+  pub result : Result AddOutcome Refusal
+  pub store : Store
+  pub done : AddsRow old.store name row result store
+  pub effect : e ≡ says s (add_reply result store.seq)
+  pub state : new ≡ changed old name (add_outdates result) store
+
+-- `del`: a row goes out, likewise.
+pub record DeleteStep (old : State) (s : ℕ) (name : Bytes) (row : Tuple) (e : Effect) (new : State) : Type 0 where
+  pub result : Result DeleteOutcome Refusal
+  pub store : Store
+  pub done : DeletesRow old.store name row result store
+  pub effect : e ≡ says s (delete_reply result store.seq)
+  pub state : new ≡ changed old name (delete_outdates result) store
+
+-- `query`: a query is registered.
+pub record QueryStep (old : State) (s : ℕ) (q : Query) (e : Effect) (new : State) : Type 0 where
+  pub result : Result ℕ Refusal
+  pub store : Store
+  pub done : RegistersQuery old.store q result store
+  pub effect : e ≡ says s (query_reply result)
+  pub state : new ≡ record old { store = store }
+
+abbrev pub open_refusal : Store → List Cursor → Bytes → Bytes → Option Refusal
+open_refusal st cursors c q = first_of (
+    (is_some (cursor_of cursors c), Taken)
+    ∷ (is_none (query_of st.queries q), NoQuery)
+    ∷ (nat_le CURSORS (length cursors), Limit)
+    ∷ [])
+
+-- a session with a cursor more, which has given nothing
+abbrev pub with_cursor : Bytes → Bytes → Session → Session
+with_cursor c q x = record x { cursors = x.cursors ++ record { name = c; query = q; position = open_at [] false } ∷ [] }
+
+-- A cursor is there, or nothing changes.
+abbrev pub OpensTo : State → ℕ → Bytes → Bytes → State → Result ⊤ Refusal → Type 0
+OpensTo old s c q new (Ok _) = new ≡ with_session old s (with_cursor c q)
+OpensTo old s c q new (Err _) = new ≡ old
+
+-- `open`: a cursor stands in front of a query's answers.
+pub record OpenStep (old : State) (s : ℕ) (x : Session) (c q : Bytes) (e : Effect) (new : State) : Type 0 where
+  pub result : Result ⊤ Refusal
+  pub answer : Answers (open_refusal old.store x.cursors c q) result (λ _. ⊤) (OutOfMemoryWhere ⊤)
+  pub effect : e ≡ says s (ok_reply (codes "ok open") result)
+  pub state : OpensTo old s c q new result
+
+-- `next` is told whole: a line an answer, and the last line.
+pub record NextStep (old : State) (s : ℕ) (c : Bytes) (q : Query) (given : List Tuple) (count : ℕ) (e : Effect) (new : State) : Type 0 where
+  pub told : List Tuple
+  pub end : Bool
+  pub tells : TellsAnswers (IsAnswer old.store.relations q) given count told end
+  pub effect : e ≡ record { queued = (s, text_of (listing_lines told end)) ∷ []; cost = (length told + 1) * most_steps (length q.head) }
+  pub state : new ≡ with_session old s (λ x. record x { cursors = with_position x.cursors c (open_at (given ++ told) end) })
+
+-- The line that comes behind these answers: of a further one, where more are asked for; or the last one, as it is due.
+abbrev pub IsNextLine : (Tuple → Type 0) → List Tuple → ℕ → List Tuple → Bytes → Type 0
+IsNextLine Answer given count told l =
+    ((t : Tuple) × IsLeft Answer (given ++ told) t × (length told < count) × (l ≡ answer_line t))
+    ⊎ ((end : Bool) × TellsAnswers Answer given count told end × (l ≡ last_line end))
+
+-- Out of memory in a reply to `next` above the bytes that were kept for it: its first lines are told, each whole, and the
+-- session ends. It costs no more than the lines told and the one that found no memory.
+pub record NextCutStep (old : State) (s : ℕ) (q : Query) (given : List Tuple) (count : ℕ) (e : Effect) (new : State) : Type 0 where
+  pub told : List Tuple
+  pub answers : All (IsAnswer old.store.relations q) told
+  pub different : AreDifferent (given ++ told)
+  pub at_most : length told ≤ count
+  pub lacking : Bytes
+  pub lacks : IsNextLine (IsAnswer old.store.relations q) given count told lacking
+  pub above : REPLY_BYTES < length (text_of (map answer_line told ++ lacking ∷ []))
+  pub effect : e ≡ record { queued = (s, text_of (map answer_line told) ++ end_memory) ∷ []; cost = (length told + 1) * most_steps (length q.head) }
+  pub state : new ≡ with_session old s (ended_by Memory)
+
+-- `next`, by where its cursor stands
+abbrev pub NextStepAt : State → ℕ → Bytes → Query → ℕ → Position → Effect → State → Type 0
+NextStepAt old s c q count (open_at given ended) e new = NextStep old s c q given count e new ⊎ NextCutStep old s q given count e new
+NextStepAt old s c q count (stale relation n) e new = (e ≡ says s (stale_line c relation n)) × (new ≡ old)
+
+-- `close`: the cursor is gone.
+abbrev pub CloseStep : State → ℕ → Bytes → Effect → State → Type 0
+CloseStep old s c e new = (e ≡ says s (line (codes "ok"))) × (new ≡ with_session old s (λ x. record x { cursors = drop_first (λ k. bytes_eq k.name c) x.cursors }))
+
+-- A command of a session is done, or refused by the first condition that holds. Those that aren't served yet are never run.
+abbrev pub CommandStep : State → ℕ → Session → Command → Effect → State → Type 0
+CommandStep old s x (Rel name types) e new = RelStep old s (λ st. MakesRelation st name types) e new
+CommandStep old s x (Add name row) e new = AddStep old s name row e new
+CommandStep old s x (Del name row) e new = DeleteStep old s name row e new
+CommandStep old s x (Register q) e new = QueryStep old s q e new
+CommandStep old s x (Open c q) e new = OpenStep old s x c q e new
+CommandStep old s x (Next c count) e new = MatchOption (cursor_of x.cursors c)
+    (RefusedStep old s NoCursor e new)
+    (λ k. IsSomeAnd (query_of old.store.queries k.query) (λ q. NextStepAt old s c q count k.position e new))
+CommandStep old s x (Close c) e new = MatchOption (cursor_of x.cursors c)
+    (RefusedStep old s NoCursor e new)
+    (λ k. CloseStep old s c e new)
+CommandStep old s x Quit e new = EndsWith bye SaidQuit old s e new
+CommandStep old s x Stop e new = EndsWith bye SaidStop (record old { stopped = true }) s e new
+CommandStep old s x (Drop q) e new = ⊥
+CommandStep old s x (Has q row) e new = ⊥
+CommandStep old s x (Watch q) e new = ⊥
+CommandStep old s x (Unwatch q) e new = ⊥
+CommandStep old s x (Explain q) e new = ⊥

@@ -1,0 +1,38 @@
+-- What an event brings about beside the state: bytes queued, and what it may cost.
+use Rattle.std.specs.Prelude.{ℕ, List, [], ◌∷◌, ◌≡◌, ◌++◌}
+use Rattle.djq_model.specs.Data.{Bytes}
+use Rattle.djq_lines.specs.declared.answer.EndCause.{EndCause}
+use Rattle.djq_lines.specs.declared.answer.Refusal.{Refusal}
+use Rattle.djq_lines.specs.Reply.{refusal_line}
+use Rattle.djq_machine.specs.State.{State, with_session, ended_by}
+
+pub record Effect : Type 0 where
+  -- The parts that are queued, in order: to which session, and which bytes. Whether a part comes may depend on those before it.
+  pub queued : List (ℕ × Bytes)
+  -- the most lookups and links of listings that may be counted
+  pub cost : ℕ
+
+-- no bytes and no cost
+abbrev pub nothing : Effect
+nothing = record { queued = []; cost = 0 }
+
+-- bytes for one session
+abbrev pub says : ℕ → Bytes → Effect
+says s text = record { queued = (s, text) ∷ []; cost = 0 }
+
+-- A session ends with a line: the line is queued, the cause kept, and its cursors and watches are given up.
+abbrev pub EndsWith : Bytes → EndCause → State → ℕ → Effect → State → Type 0
+EndsWith text cause old s e new = (e ≡ says s text) × (new ≡ with_session old s (ended_by cause))
+
+-- A refused command is answered by its line, and changes nothing.
+abbrev pub RefusedStep : State → ℕ → Refusal → Effect → State → Type 0
+RefusedStep old s r e new = (e ≡ says s (refusal_line r)) × (new ≡ old)
+
+-- the state with a part queued behind what is pending for its session
+abbrev pub queue : State → ℕ × Bytes → State
+queue st q = with_session st q.0 (λ x. record x { pending = x.pending ++ q.1 })
+
+-- the state with all parts queued
+abbrev pub queue_all : State → List (ℕ × Bytes) → State
+queue_all st [] = st
+queue_all st (q ∷ qs) = queue_all (queue st q) qs

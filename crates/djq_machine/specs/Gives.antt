@@ -1,0 +1,29 @@
+-- What open cursors have given, at each moment of a run.
+use Rattle.std.specs.Prelude.{ℕ, List, ◌≡◌, Bool, true, Option, None, Some, IsSomeAnd, All}
+use Rattle.djq_model.specs.declared.relation.Relation.{Relation}
+use Rattle.djq_model.specs.declared.query.Query.{Query}
+use Rattle.djq_model.specs.Data.{Bytes, Tuple, query_of}
+use Rattle.djq_model.specs.Answer.{IsAnswer, AreDifferent}
+use Rattle.djq_machine.specs.State.{State, Position, open_at, stale}
+use Rattle.djq_machine.specs.Store.{AreAll}
+
+-- A listing has each answer once and nothing else.
+pub record IsListing (Answer : Tuple → Type 0) (ts : List Tuple) : Type 0 where
+  pub different : AreDifferent ts
+  pub answers : All Answer ts
+  pub complete : AreAll Answer ts
+
+-- A cursor has given different answers, and once its last answer was `end` all of them.
+pub record Gives (Answer : Tuple → Type 0) (given : List Tuple) (finished : Bool) : Type 0 where
+  pub different : AreDifferent given
+  pub answers : All Answer given
+  pub listing : finished ≡ true → IsListing Answer given
+
+-- where a cursor over a query stands, it has given what it should; nothing is said of a stale one
+abbrev pub PositionGives : List Relation → Option Query → Position → Type 0
+PositionGives relations q (open_at given finished) = IsSomeAnd q (λ p. Gives (IsAnswer relations p) given finished)
+PositionGives relations q (stale r n) = Unit {0}
+
+-- Each cursor of each session has given what it should, over the rows that are there.
+abbrev pub CursorsGive : State → Type 0
+CursorsGive st = All (λ x. All (λ c. PositionGives st.store.relations (query_of st.store.queries c.query) c.position) x.cursors) st.sessions

@@ -1,0 +1,52 @@
+-- What becomes of the line in front of a session's bytes.
+use Rattle.std.specs.Prelude.{ℕ, ◌≡◌, ◌<◌, ◌≤◌, Bool, true, false, length}
+use Rattle.djq_model.specs.Data.{Bytes}
+use Rattle.djq_lines.specs.declared.limits.TheConstants.{PENDING_BYTES}
+use Rattle.djq_lines.specs.declared.answer.EndCause.TheVariants.{Long, Slow, Memory}
+use Rattle.djq_lines.specs.declared.answer.Refusal.TheVariants.{NoMemory}
+use Rattle.djq_lines.specs.declared.command.Command.{Command}
+use Rattle.djq_lines.specs.Line.{Front, too_long, a_line, front_of, is_blank}
+use Rattle.djq_lines.specs.Grammar.{Reading, refused, says as says_command, reading_of, takes_memory_to_read}
+use Rattle.djq_lines.specs.Reply.{end_long, end_slow, end_memory}
+use Rattle.djq_machine.specs.State.{Session, State, with_session}
+use Rattle.djq_machine.specs.Effect.{Effect, nothing, EndsWith, RefusedStep}
+use Rattle.djq_machine.specs.Command.{CommandStep}
+
+-- What becomes of the front of a session's bytes: it is too long; or its line is taken, and is blank, or isn't run since
+-- too much is pending or no room for its reply is to be had, or is run.
+pub data LineOutcome : Type 0 where
+  long : LineOutcome
+  blank : Bytes → LineOutcome
+  slow : Bytes → LineOutcome
+  no_room : Bytes → LineOutcome
+  run : Bytes → LineOutcome
+
+-- A line that is read is refused whatever the state is, or says a command. Out of memory may come while a command is read.
+abbrev pub ReadStep : State → ℕ → Session → Reading → Effect → State → Type 0
+ReadStep old s x (refused r) e new = RefusedStep old s r e new
+ReadStep old s x (says_command c) e new = (is_read : Bool) × ReadAs is_read
+  where
+    ReadAs : Bool → Type 0
+    ReadAs true = CommandStep old s x c e new
+    ReadAs false = (takes_memory_to_read c ≡ true) × RefusedStep old s NoMemory e new
+
+-- a session without the line in front
+abbrev pub behind_line : Bytes → Session → Session
+behind_line rest x = record x { held = rest }
+
+-- A line is taken, whatever becomes of it.
+pub record TakenLine (old : State) (s : ℕ) (x : Session) (l : Bytes) (P : State → Session → Type 0) : Type 0 where
+  pub rest : Bytes
+  pub front : front_of x.held ≡ a_line l rest
+  pub then : P (with_session old s (behind_line rest)) (behind_line rest x)
+
+-- The front of a session's bytes comes to this.
+abbrev pub FrontStep : State → ℕ → Session → LineOutcome → Effect → State → Type 0
+FrontStep old s x long e new = (front_of x.held ≡ too_long) × EndsWith end_long Long old s e new
+FrontStep old s x (blank l) e new = (is_blank l ≡ true) × TakenLine old s x l (λ mid y. (e ≡ nothing) × (new ≡ mid))
+FrontStep old s x (slow l) e new = (is_blank l ≡ false) × (PENDING_BYTES < length x.pending)
+    × TakenLine old s x l (λ mid y. EndsWith end_slow Slow mid s e new)
+FrontStep old s x (no_room l) e new = (is_blank l ≡ false) × (length x.pending ≤ PENDING_BYTES)
+    × TakenLine old s x l (λ mid y. EndsWith end_memory Memory mid s e new)
+FrontStep old s x (run l) e new = (is_blank l ≡ false) × (length x.pending ≤ PENDING_BYTES)
+    × TakenLine old s x l (λ mid y. ReadStep mid s y (reading_of l) e new)
