@@ -13,10 +13,10 @@ fn own_variables(sets: &[VarSet]) -> VarSet
     let mut twice = VarSet::new();
     'sets: for i in 0..sets.len() {
         let set = sets[i];
-        twice = twice.union(once.common(set));
+        twice = twice.union(once.intersection(set));
         once = once.union(set);
     }
-    once.minus(twice)
+    once.difference(twice)
 }
 
 /// A step that takes out a variable which lies in one edge only.
@@ -26,7 +26,7 @@ fn find_vertex(sets: &[VarSet]) -> Option<Step>
 {
     let own = own_variables(sets);
     'sets: for edge in 0..sets.len() {
-        let shared = sets[edge].common(own);
+        let shared = sets[edge].intersection(own);
         if let Some(variable) = shared.first() {
             return Some(Step::Vertex { edge, variable });
         }

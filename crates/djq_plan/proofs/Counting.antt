@@ -4,8 +4,8 @@ use Rattle.std.specs.Prelude.{remove, count_by, slice_index}
 use Rattle.std.proofs.lemmas.List.{length_push}
 use Rattle.std.proofs.lemmas.List.Sums.{sum_by-append}
 use Rattle.std.proofs.lemmas.Bool.{cases_lt}
-use Rattle.djq_hyper.specs.Hypergraph.{member, minus, degree, edge_at, one}
-use Rattle.djq_hyper.proofs.Members.{has, one_le, has_minus, subset_says}
+use Rattle.djq_hyper.specs.Hypergraph.{member, difference, degree, edge_at, one}
+use Rattle.djq_hyper.proofs.Members.{has, one_le, has_difference, subset_says}
 use Rattle.djq_hyper.proofs.Bags.{labels, numbers, times, total, total_out, out_of}
 use Rattle.djq_hyper.proofs.Counting.{degree_same}
 use Rattle.djq_tree.specs.declared.node.Node.{Node}
@@ -13,7 +13,7 @@ use Rattle.djq_tree.specs.declared.node.Node.TheVariants as node
 use Rattle.djq_tree.specs.declared.choice.Choice.{Choice}
 use Rattle.djq_tree.specs.declared.choice.Choice.TheVariants.{Trim, Meet, Stuck}
 use Rattle.djq_tree.specs.Choosing.{removable, choose}
-use Rattle.djq_tree.specs.Growing.{Growth, grown, grow, after, without_both, leaf_nodes}
+use Rattle.djq_tree.specs.Growing.{Growth, grown, grow, current_after, without_both, leaf_nodes}
 use Rattle.djq_plan.specs.Counts.{is_trim, trims, others}
 use Rattle.djq_plan.proofs.Places.{bag_remove, bag_both, length_remove, length_both}
 use Rattle.djq_plan.proofs.Says.{Trims, Says, choose_says}
@@ -31,7 +31,7 @@ count_push p ns n = sum_by-append (λ x. cond (p x) 1 0) ns (n ∷ []) ∙ (let 
 others_step : (m : ℕ) (keep : List ℕ) (s : Growth) (c : Choice) → Says keep s.current c → others s.nodes + length s.current ≡ 2 * m → others (grown s c).nodes + length (grown s c).current ≡ 2 * m
 others_step m keep s (Trim i X) t h =
     let a = count_push (λ n. not (is_trim n)) s.nodes (node.Trim (slice_index s.numbers i)) in
-    let b = length_push (remove s.current i) (minus (edge_at s.current i) X) in
+    let b = length_push (remove s.current i) (difference (edge_at s.current i) X) in
     let d = length_remove labels s.current i t.within in
     omega arith
 others_step m keep s (Meet g d) t h =
@@ -82,27 +82,27 @@ alive_le [] L = omega arith
 alive_le (x ∷ V) L = omega (arith, alive_le V L)
 
 -- a step adds no variable to a label
-pub degree_falls : (keep : List ℕ) (L : List (List ℕ)) (c : Choice) (x : ℕ) → Says keep L c → degree x (after L c) ≤ degree x L
+pub degree_falls : (keep : List ℕ) (L : List (List ℕ)) (c : Choice) (x : ℕ) → Says keep L c → degree x (current_after L c) ≤ degree x L
 degree_falls keep L (Trim i X) x t =
-    let a = degree_same x (minus (edge_at L i) X ∷ remove L i) (after L (Trim i X)) (after_trim L i X) in
+    let a = degree_same x (difference (edge_at L i) X ∷ remove L i) (current_after L (Trim i X)) (after_trim L i X) in
     let b = degree_same x L (edge_at L i ∷ remove L i) (bag_remove labels [] L i t.within) in
-    let m = has_minus x (edge_at L i) X in
+    let m = has_difference x (edge_at L i) X in
     omega arith
 degree_falls keep L (Meet g d) x t =
-    let a = degree_same x (edge_at L g ∷ without_both L g d) (after L (Meet g d)) (after_meet L g d) in
+    let a = degree_same x (edge_at L g ∷ without_both L g d) (current_after L (Meet g d)) (after_meet L g d) in
     let b = degree_same x L (edge_at L g ∷ edge_at L d ∷ without_both L g d) (bag_both labels [] L g d t.apart t.guard t.side) in
     omega arith
 degree_falls keep L Stuck x t = omega arith
 
 -- a trim takes a variable out of all labels
-trim_takes : (keep : List ℕ) (L : List (List ℕ)) (i : ℕ) (X : List ℕ) → Trims keep L i X → (x : ℕ) × (degree x L ≡ 1) × (degree x (after L (Trim i X)) ≡ 0)
+trim_takes : (keep : List ℕ) (L : List (List ℕ)) (i : ℕ) (X : List ℕ) → Trims keep L i X → (x : ℕ) × (degree x L ≡ 1) × (degree x (current_after L (Trim i X)) ≡ 0)
 trim_takes keep L i X t =
     let f = first_of (removable keep L i) t.some in
     let r = removed_says keep L i f.0 f.1 in
     let k : has f.0 X ≡ has f.0 (removable keep L i) = ap (has f.0) t.are in
     let p = f.1 in
-    let a = degree_same f.0 (minus (edge_at L i) X ∷ remove L i) (after L (Trim i X)) (after_trim L i X) in
-    let m = has_minus f.0 (edge_at L i) X in
+    let a = degree_same f.0 (difference (edge_at L i) X ∷ remove L i) (current_after L (Trim i X)) (after_trim L i X) in
+    let m = has_difference f.0 (edge_at L i) X in
     let e = removed_elsewhere keep L i f.0 t.within r in
     let o = one_le (member f.0 (edge_at L i)) in
     (f.0, r.only, omega arith)
@@ -113,12 +113,12 @@ trims_step : (V keep : List ℕ) (s : Growth) (c : Choice) (n : ℕ) → Says ke
 trims_step V keep s (Trim i X) n t holds h =
     let a = count_push is_trim s.nodes (node.Trim (slice_index s.numbers i)) in
     let k = trim_takes keep s.current i X t in
-    let d = total_less (λ x. min 1 (degree x (after s.current (Trim i X)))) (λ x. min 1 (degree x s.current)) k.0 V
+    let d = total_less (λ x. min 1 (degree x (current_after s.current (Trim i X)))) (λ x. min 1 (degree x s.current)) k.0 V
     (λ x. let f = degree_falls keep s.current (Trim i X) x t in omega arith) (holds k.0 (let o = k.1 in omega arith)) (let o = k.1 in let p = k.2 in omega arith) in
     omega arith
 trims_step V keep s (Meet g e) n t holds h =
     let a = count_push is_trim s.nodes (node.Meet (slice_index s.numbers g) (slice_index s.numbers e)) in
-    let d = total_le (λ x. min 1 (degree x (after s.current (Meet g e)))) (λ x. min 1 (degree x s.current)) V
+    let d = total_le (λ x. min 1 (degree x (current_after s.current (Meet g e)))) (λ x. min 1 (degree x s.current)) V
     (λ x. let f = degree_falls keep s.current (Meet g e) x t in omega arith) in
     omega arith
 trims_step V keep s Stuck n t holds h = h
@@ -141,18 +141,18 @@ trims_grow V keep (suc k) s n holds h =
 
 -- ---- the variables that are kept
 
-kept_step : (keep : List ℕ) (L : List (List ℕ)) (c : Choice) (x : ℕ) → Says keep L c → 0 < has x keep → 0 < degree x L → 0 < degree x (after L c)
+kept_step : (keep : List ℕ) (L : List (List ℕ)) (c : Choice) (x : ℕ) → Says keep L c → 0 < has x keep → 0 < degree x L → 0 < degree x (current_after L c)
 kept_step keep L (Trim i X) x t kept h =
-    let a = degree_same x (minus (edge_at L i) X ∷ remove L i) (after L (Trim i X)) (after_trim L i X) in
+    let a = degree_same x (difference (edge_at L i) X ∷ remove L i) (current_after L (Trim i X)) (after_trim L i X) in
     let b = degree_same x L (edge_at L i ∷ remove L i) (bag_remove labels [] L i t.within) in
-    let m = has_minus x (edge_at L i) X in
+    let m = has_difference x (edge_at L i) X in
     let k : has x X ≡ has x (removable keep L i) = ap (has x) t.are in
     elim (cases_lt 0 (has x X)) [
       | inl gone ↦ absurd (let r = removed_says keep L i x (omega arith) in let f = r.free in omega arith)
       | inr stays ↦ omega (arith, one_le (member x (edge_at L i)))
     ]
 kept_step keep L (Meet g d) x t kept h =
-    let a = degree_same x (edge_at L g ∷ without_both L g d) (after L (Meet g d)) (after_meet L g d) in
+    let a = degree_same x (edge_at L g ∷ without_both L g d) (current_after L (Meet g d)) (after_meet L g d) in
     let b = degree_same x L (edge_at L g ∷ edge_at L d ∷ without_both L g d) (bag_both labels [] L g d t.apart t.guard t.side) in
     let i = subset_says (edge_at L d) (edge_at L g) t.inside x in
     omega arith

@@ -3,8 +3,8 @@ use Rattle.std.proofs.Common.{◌≡◌, ℕ, zero, suc, ◌<◌, ◌≤◌, Boo
 use Rattle.std.specs.Prelude.{remove}
 use Rattle.std.proofs.lemmas.List.{length_push, get_or_past}
 use Rattle.std.proofs.lemmas.Bool.{cases_lt, false≢true}
-use Rattle.djq_hyper.specs.Hypergraph.{member, subset, minus, degree, edge_at}
-use Rattle.djq_hyper.proofs.Members.{has, Sub, one_le, one_true, from_true, has_minus, subset_from}
+use Rattle.djq_hyper.specs.Hypergraph.{member, subset, difference, degree, edge_at}
+use Rattle.djq_hyper.proofs.Members.{has, Sub, one_le, one_true, from_true, has_difference, subset_from}
 use Rattle.djq_hyper.proofs.Bags.{labels, numbers, times, times_itself, total}
 use Rattle.djq_hyper.proofs.Counting.{degree_same, count_self}
 use Rattle.djq_tree.specs.declared.choice.Choice.{Choice}
@@ -43,9 +43,9 @@ late_push F M labels l late sub j from low x =
 
 late_step : (F keep : List ℕ) (M : ℕ) (s : Growth) (c : Choice) → Says keep s.current c → ((x : ℕ) → 0 < degree x s.current → 0 < has x F) → LateIn F M s.labels → LateIn F M (grown s c).labels
 late_step F keep M s (Trim i X) t all late =
-    late_push F M s.labels (minus (edge_at s.current i) X) late
-    (λ x. let m = has_minus x (edge_at s.current i) X in let l = label_in s.current i x t.within in let o = one_le (member x (edge_at s.current i)) in
-    in_F (has x (minus (edge_at s.current i) X)) x (omega arith) (omega arith))
+    late_push F M s.labels (difference (edge_at s.current i) X) late
+    (λ x. let m = has_difference x (edge_at s.current i) X in let l = label_in s.current i x t.within in let o = one_le (member x (edge_at s.current i)) in
+    in_F (has x (difference (edge_at s.current i) X)) x (omega arith) (omega arith))
   where
     in_F : (n x : ℕ) → n ≤ 1 → n ≤ degree x s.current → n ≤ has x F
     in_F zero x a b = omega arith

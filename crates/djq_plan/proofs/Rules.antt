@@ -4,8 +4,8 @@ use Rattle.std.specs.Prelude.{◌==◌, nat_lt, unwrap_or, slice_index_or}
 use Rattle.std.proofs.lemmas.Bool.{cases_lt, cases_eq, eq-eqb, ne_eqb, lt-ltb, le-ltb}
 use Rattle.std.proofs.lemmas.List.{take_more, take_all, get_or_read}
 use Rattle.std.proofs.Math.Bool.{and-false}
-use Rattle.djq_hyper.specs.Hypergraph.{member, subset, minus, common, degree, edge_at, one}
-use Rattle.djq_hyper.proofs.Members.{has, one_le, one_or, same_one, has_minus, has_common}
+use Rattle.djq_hyper.specs.Hypergraph.{member, subset, difference, intersection, degree, edge_at, one}
+use Rattle.djq_hyper.proofs.Members.{has, one_le, one_or, same_one, has_difference, has_intersection}
 use Rattle.djq_hyper.proofs.Counting.{degree_append}
 use Rattle.djq_tree.specs.declared.choice.Choice.{Choice}
 use Rattle.djq_tree.specs.declared.choice.Choice.TheVariants.{Trim, Meet, Stuck}
@@ -48,9 +48,9 @@ filter_same : (p q : ℕ → Bool) (l : List ℕ) → ((x : ℕ) → p x ≡ q x
 filter_same p q [] h = refl
 filter_same p q (x ∷ l) h = rw (h x, filter_same p q l h) refl
 
-pub removable_by : (keep : List ℕ) (L : List (List ℕ)) (i : ℕ) (own a l : List ℕ) → ((x : ℕ) → member x own ≡ (degree x L == 1)) → l ≡ edge_at L i → a ≡ minus (common l own) keep → a ≡ removable keep L i
+pub removable_by : (keep : List ℕ) (L : List (List ℕ)) (i : ℕ) (own a l : List ℕ) → ((x : ℕ) → member x own ≡ (degree x L == 1)) → l ≡ edge_at L i → a ≡ difference (intersection l own) keep → a ≡ removable keep L i
 removable_by keep L i own a l all at is =
-    is ∙ ap (λ (k : List ℕ). minus (common k own) keep) at ∙ ap (λ (k : List ℕ). minus k keep) (filter_same (λ x. member x own) (λ x. degree x L == 1) (edge_at L i) all)
+    is ∙ ap (λ (k : List ℕ). difference (intersection k own) keep) at ∙ ap (λ (k : List ℕ). difference k keep) (filter_same (λ x. member x own) (λ x. degree x L == 1) (edge_at L i) all)
 
 pub has_by : (keep : List ℕ) (L : List (List ℕ)) (i : ℕ) (a : List ℕ) (b : Bool) → a ≡ removable keep L i → (length a == 0) ≡ b → has_removable keep L i ≡ not b
 has_by keep L i a b is empty = ap not (ap (λ (k : List ℕ). length k == 0) (sym is) ∙ empty)
@@ -82,23 +82,23 @@ once_more L i x once new l low at before is =
     same_one (member x new) (nat_lt 0 (degree x (take (i + 1) L)))
     (omega (arith, one_or (member x once) (member x l), lt_one 0 (degree x (take i L)), lt_one 0 (degree x (take (i + 1) L)), one_le (member x l)))
 
-pub twice_more : (L : List (List ℕ)) (i x : ℕ) (once twice new l both : List ℕ) → i < length L → l ≡ edge_at L i → member x once ≡ nat_lt 0 (degree x (take i L)) → member x twice ≡ nat_lt 1 (degree x (take i L)) → both ≡ common once l → member x new ≡ (member x twice || member x both) → member x new ≡ nat_lt 1 (degree x (take (i + 1) L))
+pub twice_more : (L : List (List ℕ)) (i x : ℕ) (once twice new l both : List ℕ) → i < length L → l ≡ edge_at L i → member x once ≡ nat_lt 0 (degree x (take i L)) → member x twice ≡ nat_lt 1 (degree x (take i L)) → both ≡ intersection once l → member x new ≡ (member x twice || member x both) → member x new ≡ nat_lt 1 (degree x (take (i + 1) L))
 twice_more L i x once twice new l both low at before before2 meets is =
     let d = degree_more L i x low in
     let a : has x once ≡ one (nat_lt 0 (degree x (take i L))) = ap one before in
     let a2 : has x twice ≡ one (nat_lt 1 (degree x (take i L))) = ap one before2 in
     let b : has x new ≡ one (member x twice || member x both) = ap one is in
-    let e : has x both ≡ min (has x once) (has x l) = ap (has x) meets ∙ has_common x once l in
+    let e : has x both ≡ min (has x once) (has x l) = ap (has x) meets ∙ has_intersection x once l in
     let c : has x l ≡ has x (edge_at L i) = ap (has x) at in
     same_one (member x new) (nat_lt 1 (degree x (take (i + 1) L)))
     (omega (arith, one_or (member x twice) (member x both), lt_one 0 (degree x (take i L)), lt_one 1 (degree x (take i L)), lt_one 1 (degree x (take (i + 1) L)), one_le (member x l)))
 
-pub own_is : (L : List (List ℕ)) (n x : ℕ) (once twice own : List ℕ) → length L ≤ n → member x once ≡ nat_lt 0 (degree x (take n L)) → member x twice ≡ nat_lt 1 (degree x (take n L)) → own ≡ minus once twice → member x own ≡ (degree x L == 1)
+pub own_is : (L : List (List ℕ)) (n x : ℕ) (once twice own : List ℕ) → length L ≤ n → member x once ≡ nat_lt 0 (degree x (take n L)) → member x twice ≡ nat_lt 1 (degree x (take n L)) → own ≡ difference once twice → member x own ≡ (degree x L == 1)
 own_is L n x once twice own all a b is =
     let t : degree x (take n L) ≡ degree x L = ap (degree x) (take_all n L all) in
     let a2 : has x once ≡ one (nat_lt 0 (degree x (take n L))) = ap one a in
     let b2 : has x twice ≡ one (nat_lt 1 (degree x (take n L))) = ap one b in
-    let c : has x own ≡ min (has x once) (1 - has x twice) = ap (has x) is ∙ has_minus x once twice in
+    let c : has x own ≡ min (has x once) (1 - has x twice) = ap (has x) is ∙ has_difference x once twice in
     same_one (member x own) (degree x L == 1) (omega (arith, lt_one 0 (degree x (take n L)), lt_one 1 (degree x (take n L)), eq_one (degree x L)))
 
 -- ---- what the code read

@@ -16,7 +16,7 @@ pub(crate) fn choose_step(labels: &[VarSet], keep: VarSet) -> Choice
 {
     let own = own_variables(labels);
     for place in 0..labels.len() {
-        let removed = labels[place].common(own).minus(keep);
+        let removed = labels[place].intersection(own).difference(keep);
         if !removed.is_empty() {
             return Choice::Trim { place, removed };
         }
@@ -53,10 +53,10 @@ fn own_variables(labels: &[VarSet]) -> VarSet
     let mut once = VarSet::new();
     let mut twice = VarSet::new();
     for label in labels {
-        twice = twice.union(once.common(*label));
+        twice = twice.union(once.intersection(*label));
         once = once.union(*label);
     }
-    once.minus(twice)
+    once.difference(twice)
 }
 
 /// The next place with an equal label.

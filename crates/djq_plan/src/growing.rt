@@ -64,7 +64,7 @@ impl Growing {
         requires { place < length self.old.current }
         ensures { OnOk result (self.new ≡ grown self.old (rule.Trim place removed)) }
     {
-        let label = self.current[place].minus(removed);
+        let label = self.current[place].difference(removed);
         let number = self.nodes.len();
         self.nodes.push(Node::Trim {
             child: self.numbers[place],

@@ -8,7 +8,7 @@ use Rattle.djq_tree.specs.Explaining.{explain_of}
 -- the lines of the tree of the edges H and the head F, after n steps of the first stage and m of the second
 abbrev text : List (List ℕ) → List (List ℕ) → List (List ℕ) → List ℕ → ℕ → ℕ → List ℕ
 text atoms variables H F n m =
-    explain_of atoms variables (tree_of (length H) (grow F n (start H)) (grow [] m (grow F n (start H))))
+    explain_of atoms variables (tree_of (length H) F (grow F n (start H)) (grow [] m (grow F n (start H))))
 
 -- a triangle with an atom that covers it
 covered : text (codes "r" ∷ codes "s" ∷ codes "t" ∷ codes "u" ∷ []) (codes "x" ∷ codes "y" ∷ codes "z" ∷ []) ((0 ∷ 1 ∷ []) ∷ (1 ∷ 2 ∷ []) ∷ (0 ∷ 2 ∷ []) ∷ (0 ∷ 1 ∷ 2 ∷ []) ∷ []) (0 ∷ 1 ∷ 2 ∷ []) 0 5

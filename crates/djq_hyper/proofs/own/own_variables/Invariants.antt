@@ -1,6 +1,6 @@
 use Rattle.std.specs.Prelude.{◌≡◌, ℕ, nat_lt, take}
 use Rattle.djq_hyper.specs.Hypergraph.{member, degree}
-use Rattle.djq_gyo.proofs.find.own_variables.Given as goal
+use Rattle.djq_hyper.proofs.own.own_variables.Given as goal
 
 abbrev pub invariant-sets : goal.invariant-sets
 invariant-sets l = record {
