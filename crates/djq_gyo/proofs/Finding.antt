@@ -1,15 +1,14 @@
 -- The searches for a step.
-use Rattle.std.specs.Prelude.{◌≡◌, ◌≢◌, ℕ, suc, ◌+◌, ◌-◌, ◌<◌, ◌≤◌, min, Bool, true, false, ◌==◌, ◌&&◌, ◌||◌, nat_lt, List, [], ◌∷◌, length, take, slice_get, slice_index_or, Some, None, All, refl}
-use Rattle.djq_hyper.proofs.Checking.{read_at}
-use Rattle.std.proofs.Common.{sym, ap, ◌∙◌, subst, arith, inl, inr, lt-ltb, le-ltb, ltb-true, ltb-false}
-use Rattle.std.proofs.lemmas.Bool.{cases_eq, eq-eqb, ne_eqb, eqb-true}
-use Rattle.std.proofs.lemmas.List.{take_more, take_all}
-use Rattle.djq_hyper.specs.Hypergraph.{member, one, degree, difference, intersection, edge_at}
-use Rattle.djq_hyper.specs.declared.step.Step.{Step}
+use Rattle.std.specs.Prelude.{◌≡◌, ℕ, ◌+◌, ◌<◌, ◌≤◌, min, true, ◌==◌, List, [], ◌∷◌, length, take, slice_get, Some, None, refl}
+use Rattle.std.proofs.Common.{sym, ap, ◌∙◌, arith}
+use Rattle.std.proofs.lemmas.Bool.{eq-eqb, eqb-true}
+use Rattle.std.proofs.lemmas.List.{take_all}
+use Rattle.djq_hyper.specs.Hypergraph.{member, degree, intersection, edge_at}
 use Rattle.djq_hyper.specs.declared.step.Step.TheVariants.{Vertex, Edge}
 use Rattle.djq_hyper.specs.Gyo.{IsStep, IsIrreducible, IsBare}
-use Rattle.djq_hyper.proofs.Members.{has, one_le, one_true, from_true, same_one, one_and, has_difference, has_intersection, has_here, has_other}
-use Rattle.djq_hyper.proofs.Counting.{degree_append, degree_in}
+use Rattle.djq_hyper.proofs.Members.{has, one_true, from_true, has_intersection, has_here}
+use Rattle.djq_hyper.proofs.Counting.{degree_in}
+use Rattle.djq_hyper.proofs.Owning.{degree_more}
 use Rattle.djq_gyo.specs.Search.{HasNoOwn}
 use Rattle.djq_gyo.proofs.Places.{stands_at}
 
@@ -59,19 +58,3 @@ bare_more E i e within is none bare x =
 
 pub bare_all : (E : List (List ℕ)) (i : ℕ) → length E ≤ i → ((x : ℕ) → degree x (take i E) ≡ 0) → IsBare E
 bare_all E i all bare x = sym (ap (λ (L : List (List ℕ)). degree x L) (take_all i E all)) ∙ bare x
-
--- ---- a variable is below the limit
-
-pub member_below : (x n : ℕ) (l : List ℕ) → All (λ y. y < n) l → member x l ≡ true → x < n
-member_below x n [] all lies = absurd cc
-member_below x n (y ∷ l) all lies =
-    elim (cases_eq x y) [
-      | inl same ↦ let low : y < n = all 0 0 (omega arith) in omega arith
-      | inr apart ↦ member_below x n l (λ k d within. all (suc k) d (omega arith)) (one_true (member x l) (omega (arith, from_true (member x (y ∷ l)) lies, has_other x y l apart)))
-    ]
-
--- a step's variable is below what each variable of its edge is below
-pub vertex_below : (n : ℕ) (E : List (List ℕ)) (i x : ℕ) (s : Step) (e : List ℕ) → s ≡ Vertex i x → IsStep E s → e ≡ slice_index_or E i e → All (λ y. y < n) e → x < n
-vertex_below n E i x s e is step read all =
-    let h : IsStep E (Vertex i x) = subst (λ (t : Step). IsStep E t) is step in
-    member_below x n e all (ap (λ (l : List ℕ). member x l) (read_at E i e h.0 read) ∙ h.1)

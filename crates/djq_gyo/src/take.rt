@@ -11,7 +11,6 @@ pub fn take_step(sets: &mut Vec<VarSet>, step: Step)
     match step {
         Step::Vertex { edge, variable } => {
             let set = sets[edge];
-            set.rises();
             sets[edge] = set.without(variable);
         }
         Step::Edge { edge, within: _ } => {

@@ -1,5 +1,5 @@
 -- In how many of the sets seen so far a variable lies: in one at least, and in two.
-use Rattle.std.specs.Prelude.{◌≡◌, ◌≢◌, ℕ, ◌+◌, ◌-◌, ◌<◌, ◌≤◌, min, Bool, true, false, ◌==◌, ◌&&◌, ◌||◌, nat_lt, List, [], ◌∷◌, length, take}
+use Rattle.std.specs.Prelude.{◌≡◌, ◌≢◌, ℕ, ◌+◌, ◌-◌, ◌<◌, ◌≤◌, min, Bool, true, false, ◌==◌, ◌&&◌, ◌||◌, nat_lt, List, [], ◌∷◌, length, take, All}
 use Rattle.std.proofs.Common.{◌⊎◌, ◌↔◌, zero, suc, IsTrue, not, refl, sym, subst, ap, ◌∙◌, arith, inl, inr, lt-ltb, le-ltb, ltb-true, ltb-false}
 use Rattle.std.proofs.lemmas.Bool.{cases_lt, cases_eq, eq-eqb, ne_eqb}
 use Rattle.std.proofs.lemmas.List.Kept.{IsStrictlyIncreasing-filter}
@@ -33,7 +33,7 @@ own_test false false r n d e f =
     let other : n ≢ 1 = λ same. omega arith in
     same_one r (n == 1) (rw (ne_eqb n 1 other) (omega arith))
 
-degree_more : (x : ℕ) (E : List (List ℕ)) (i : ℕ) → i < length E → degree x (take (i + 1) E) ≡ degree x (take i E) + has x (edge_at E i)
+pub degree_more : (x : ℕ) (E : List (List ℕ)) (i : ℕ) → i < length E → degree x (take (i + 1) E) ≡ degree x (take i E) + has x (edge_at E i)
 degree_more x E i within = ap (λ (L : List (List ℕ)). degree x L) (take_more E i [] within) ∙ omega (arith, degree_append x (take i E) (edge_at E i ∷ []))
 
 -- the variables seen once and twice, with one more edge
@@ -158,3 +158,15 @@ difference_set e f set = record {
   rising = IsStrictlyIncreasing-filter (λ x. not (member x f)) e set.rising;
   below = All-filter (λ x. not (member x f)) (λ x. x < VARIABLES) e set.below;
 }
+
+member_under : (x n : ℕ) (l : List ℕ) → All (λ y. y < n) l → member x l ≡ true → x < n
+member_under x n [] all lies = absurd cc
+member_under x n (y ∷ l) all lies =
+    elim (cases_eq x y) [
+      | inl same ↦ let low : y < n = all 0 0 (omega arith) in omega arith
+      | inr apart ↦ member_under x n l (λ k d within. all (suc k) d (omega arith)) (one_true (member x l) (omega (arith, from_true (member x (y ∷ l)) lies, has_other x y l apart)))
+    ]
+
+-- a variable of a set is below VARIABLES
+pub set_below : (x : ℕ) (e : List ℕ) → IsVariableSet e → member x e ≡ true → x < VARIABLES
+set_below x e set lies = member_under x VARIABLES e set.below lies

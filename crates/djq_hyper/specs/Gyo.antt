@@ -27,6 +27,12 @@ IsIrreducible E = (s : Step) → IsStep E s → ⊥
 abbrev pub IsBare : List (List ℕ) → Type 0
 IsBare E = (x : ℕ) → degree x E ≡ 0
 
+-- R has no empty edge, no two equal ones, and no variable that lies in no edge of E
+pub record IsLean (E R : List (List ℕ)) : Type 0 where
+  pub no_empty : (i : ℕ) → i < length R → edge_at R i ≢ []
+  pub no_equal : (i j : ℕ) → i < length R → j < length R → edge_at R i ≡ edge_at R j → i ≡ j
+  pub no_new : (x : ℕ) → 0 < degree x R → 0 < degree x E
+
 -- R is a rest of E: steps lead from E to R, no step applies to R, and R has a variable
 pub record IsRest (E R : List (List ℕ)) : Type 0 where
   pub steps : List Step
