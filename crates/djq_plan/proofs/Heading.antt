@@ -9,17 +9,16 @@ use Rattle.djq_hyper.proofs.Bags.{labels, numbers, times, times_itself, total}
 use Rattle.djq_hyper.proofs.Counting.{degree_same, count_self}
 use Rattle.djq_tree.specs.declared.choice.Choice.{Choice}
 use Rattle.djq_tree.specs.declared.choice.Choice.TheVariants.{Trim, Meet, Stuck}
-use Rattle.djq_tree.specs.Tree.{is_out}
+use Rattle.djq_tree.specs.Tree.{is_out, ShowsHead}
 use Rattle.djq_tree.specs.Choosing.{choose}
 use Rattle.djq_tree.specs.Growing.{Growth, grown, grow, are_within, marks_below, tree_of}
-use Rattle.djq_plan.specs.Head.{ShowsHead}
 use Rattle.djq_plan.proofs.Places.{bag_remove, total_in}
 use Rattle.djq_plan.proofs.Says.{Says, choose_says}
 use Rattle.djq_plan.proofs.Leading.{within_all}
 use Rattle.djq_plan.proofs.Sounding.{label_old, label_new}
 use Rattle.djq_plan.proofs.Growths.{Grown, current_weight}
 use Rattle.djq_plan.proofs.Ending.{Extends, extends_label, extends_length, length_marks, mark_early, member_in, has_times}
-use Rattle.djq_plan.proofs.Counting.{degree_grow}
+use Rattle.djq_plan.proofs.Keeping.{degree_grow}
 
 -- a current label's variables are current
 pub label_in : (L : List (List ℕ)) (i x : ℕ) → i < length L → has x (edge_at L i) ≤ degree x L
@@ -128,5 +127,5 @@ module _ (m : ℕ) (F : List ℕ) (mid last : Growth) (g : Grown m mid) (h : Gro
         ap (member x) (extends_label mid last s.0 ext (let k = g.sound.labelled in omega arith)) ∙ one_true (member x (edge_at mid.labels s.0)) s.2,
       )
 
-  pub head_shown : ShowsHead F (tree_of m mid last)
+  pub head_shown : ShowsHead F (tree_of m F mid last)
   head_shown = record { within = head_within; covered = head_covered }

@@ -6,13 +6,13 @@ ghost use Rattle.djq_tree.specs.Growing.{are_within, is_root, grown, start, mark
 ghost use Rattle.djq_plan.specs.Stages.{IsStageEnd, Steps};
 
 use crate::choosing::choose_step;
-use djq_hyper::{Edges, NoMem, VarSet};
+use djq_hyper::{Edges, VarSet};
 use djq_tree::{Choice, Node, Tree};
-use std::alloc::Global;
+use std::alloc::{AllocError, Global};
 use std::marker::Model;
 
 /// The nodes made so far with their labels, and the numbers and labels of those that are current.
-#[derive(Drop)]
+#[derive(Debug, Drop)]
 pub(crate) struct Growing {
     nodes: Vec<Node>,
     labels: Vec<VarSet>,
@@ -33,7 +33,7 @@ impl Model for Growing {
 
 impl Growing {
     /// The atoms of a query as leaves, all of them current.
-    pub(crate) fn start(alloc: Global, edges: &Edges) -> Result<Growing, NoMem>
+    pub(crate) fn start(alloc: Global, edges: &Edges) -> Result<Growing, AllocError>
         ensures { IfOk result (λ g. g ≡ start edges.now) }
     {
         let labels = Vec::from_slice(alloc, edges.as_slice())?;
@@ -60,7 +60,7 @@ impl Growing {
     }
 
     /// Trims the node at a place of some variables.
-    fn take_trim(&mut self, place: usize, removed: VarSet) -> Result<(), NoMem>
+    fn take_trim(&mut self, place: usize, removed: VarSet) -> Result<(), AllocError>
         requires { place < length self.old.current }
         ensures { OnOk result (self.new ≡ grown self.old (rule.Trim place removed)) }
     {
@@ -78,7 +78,7 @@ impl Growing {
     }
 
     /// Lets the nodes at two places meet.
-    fn take_meet(&mut self, guard: usize, side: usize) -> Result<(), NoMem>
+    fn take_meet(&mut self, guard: usize, side: usize) -> Result<(), AllocError>
         requires guard { guard < length self.old.current }
         requires side { side < length self.old.current }
         requires apart { guard ≢ side }
@@ -102,7 +102,7 @@ impl Growing {
     }
 
     /// Takes the step that the choice rule names, and says whether there is one.
-    fn take_step(&mut self, keep: VarSet) -> Result<bool, NoMem>
+    fn take_step(&mut self, keep: VarSet) -> Result<bool, AllocError>
         ensures { IfOk result (λ b. Steps keep self.old self.new b) }
     {
         match choose_step(&self.current, keep) {
@@ -120,7 +120,7 @@ impl Growing {
 
     /// The first stage: steps that remove no variable of the head, until no others are left. Whether it
     /// came to its end.
-    pub(crate) fn run_first(&mut self, head: VarSet) -> Result<bool, NoMem>
+    pub(crate) fn run_first(&mut self, head: VarSet) -> Result<bool, AllocError>
         ensures { IfOk result (λ b. IsStageEnd (are_within head) head self.old self.new b) }
     {
         'first: while !all_within(&self.current, head) {
@@ -133,7 +133,7 @@ impl Growing {
 
     /// The second stage: steps that may remove any variable, until one node without any is left. Whether it
     /// came to its end.
-    pub(crate) fn run_second(&mut self) -> Result<bool, NoMem>
+    pub(crate) fn run_second(&mut self) -> Result<bool, AllocError>
         ensures { IfOk result (λ b. IsStageEnd is_root [] self.old self.new b) }
     {
         'second: while !is_single_bare(&self.current) {
@@ -145,7 +145,7 @@ impl Growing {
     }
 
     /// Which nodes are in `out` as the second stage begins: those that are current.
-    pub(crate) fn marks(&self, alloc: Global) -> Result<Vec<bool>, NoMem>
+    pub(crate) fn marks(&self, alloc: Global) -> Result<Vec<bool>, AllocError>
         ensures { IfOk result (λ m. m.items ≡ marks_below self.now (length self.now.nodes)) }
     {
         let mut marks = Vec::new(alloc);
@@ -155,11 +155,17 @@ impl Growing {
         Ok(marks)
     }
 
-    /// The tree of the nodes, with the marks of `out`, the number of leaves, and the number with which the
-    /// second stage began.
-    pub(crate) fn finish(self, out: Vec<bool>, leaves: usize, second: usize) -> Tree
-        requires { IsTree (record { nodes = self.nodes; labels = self.labels; out = out.items; leaves = leaves; second = second }) }
-        ensures { result ≡ record { nodes = self.nodes; labels = self.labels; out = out.items; leaves = leaves; second = second } }
+    /// The tree of the nodes, with the marks of `out`, the head's variables, the number of leaves, and the
+    /// number with which the second stage began.
+    pub(crate) fn finish(
+        self,
+        out: Vec<bool>,
+        head: VarSet,
+        leaves: usize,
+        second_stage: usize,
+    ) -> Tree
+        requires { IsTree (record { nodes = self.nodes; labels = self.labels; out = out.items; head = head; leaves = leaves; second_stage = second_stage }) }
+        ensures { result ≡ record { nodes = self.nodes; labels = self.labels; out = out.items; head = head; leaves = leaves; second_stage = second_stage } }
     {
         let Growing {
             nodes,
@@ -167,7 +173,7 @@ impl Growing {
             numbers: _,
             current: _,
         } = self;
-        Tree::new(nodes, labels, out, leaves, second)
+        Tree::new(nodes, labels, out, head, leaves, second_stage)
     }
 }
 

@@ -1,14 +1,14 @@
 //! The planner's two stages.
-ghost use Rattle.std.specs.Prelude.{◌≡◌, ℕ, ◌-◌, ◌<◌, ◌++◌, true, length, take, replicate, vec_len, IfOk, IfErr, OnOk};
-ghost use Rattle.djq_hyper.specs.Hypergraph.{member, degree};
+ghost use Rattle.std.specs.Prelude.{◌≡◌, ◌-◌, ◌<◌, ◌++◌, true, length, take, replicate, vec_len, IfOk, IfErr, OnOk};
+ghost use Rattle.djq_hyper.specs.Variables.{AreCovered};
 ghost use Rattle.djq_hyper.specs.JoinTree.{IsFreeConnex};
 ghost use Rattle.djq_plan.specs.Plan.{IsPlan, IsRefusal};
 
 use crate::growing::Growing;
 use crate::refusal::{PlanRefusal, refuse};
-use djq_hyper::{Edges, NoMem, VarSet};
+use djq_hyper::{Edges, VarSet};
 use djq_tree::Tree;
-use std::alloc::Global;
+use std::alloc::{AllocError, Global};
 
 /// The tree over which the answers of a query are kept and listed: that of the query with these edges, the
 /// sets of its atoms' variables, and this head.
@@ -26,26 +26,28 @@ use std::alloc::Global;
 /// Beside the tree, the numbers and labels of the at most m current nodes take memory while it grows.
 pub fn plan(alloc: Global, edges: &Edges, head: &VarSet) -> Result<Tree, PlanRefusal>
     requires some { 0 < length edges.now }
-    requires head { (x : ℕ) → member x head.now ≡ true → 0 < degree x edges.now }
+    requires head { AreCovered head.now edges.now }
     ensures connex { IfOk result (λ _. IsFreeConnex edges.now head.now) }
     ensures plan { IfOk result (λ t. IsPlan edges.now head.now t) }
     ensures refused { IfErr result (λ e. IsRefusal edges.now head.now e) }
 {
+    edges.rise();
+    head.rises();
     let mut growing = Growing::start(alloc, edges)?;
     if !growing.run_first(*head)? {
         return Err(refuse(alloc, edges, *head));
     }
-    let second = growing.len();
+    let second_stage = growing.len();
     let mut out = growing.marks(alloc)?;
     if !growing.run_second()? {
         return Err(refuse(alloc, edges, *head));
     }
     fill(&mut out, growing.len())?;
-    Ok(growing.finish(out, edges.len(), second))
+    Ok(growing.finish(out, *head, edges.len(), second_stage))
 }
 
 /// Marks the nodes that were made since, so that there are as many marks as nodes.
-fn fill(marks: &mut Vec<bool>, nodes: usize) -> Result<(), NoMem>
+fn fill(marks: &mut Vec<bool>, nodes: usize) -> Result<(), AllocError>
     ensures { OnOk result (marks.new.items ≡ take nodes marks.old.items ++ replicate (nodes - vec_len marks.old) true) }
 {
     marks.resize(nodes, true)?;

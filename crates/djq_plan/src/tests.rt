@@ -1,46 +1,10 @@
 //! Worked queries.
-ghost use Rattle.std.specs.Prelude.{◌≡◌, ℕ, ◌<◌, ◌≤◌, true, length};
-ghost use Rattle.std.specs.Prelude.{nat_lt};
-ghost use Rattle.djq_hyper.specs.Hypergraph.{member, degree, edge_at};
-ghost use Rattle.djq_tree.specs.Explaining.{AreNamed};
-
 use crate::{PlanRefusal, plan};
-use djq_hyper::{Edges, Names, NoMem, VARIABLES, VarSet};
+use djq_hyper::{Edges, Names, VARIABLES, VarSet};
 use djq_tree::{Lines, Node, Tree};
-use std::alloc::Global;
+use std::alloc::{AllocError, Global};
 use std::process::Abort;
 use std::test::Fail;
-
-/// The variables of the edges.
-fn variables_of(edges: &Edges) -> VarSet
-    ensures { (x : ℕ) → member x result ≡ nat_lt 0 (degree x edges.now) }
-{
-    let mut all = VarSet::new();
-    for edge in edges.as_slice() {
-        all = all.union(*edge);
-    }
-    all
-}
-
-/// Whether each head variable lies in an edge.
-fn is_covered(edges: &Edges, head: VarSet) -> bool
-    ensures { result ≡ true → (x : ℕ) → member x head ≡ true → 0 < degree x edges.now }
-{
-    head.is_subset(variables_of(edges))
-}
-
-/// Whether each variable of the edges is below a number.
-fn is_named(edges: &Edges, names: &Names) -> bool
-    ensures { result ≡ true → AreNamed names.now edges.now }
-{
-    let mut rest = variables_of(edges);
-    while let Some(variable) = rest.pop() {
-        if variable >= names.len() {
-            return false;
-        }
-    }
-    true
-}
 
 fn set_of(variables: &[usize]) -> VarSet {
     let mut set = VarSet::new();
@@ -52,7 +16,7 @@ fn set_of(variables: &[usize]) -> VarSet {
     set
 }
 
-fn edges_of(alloc: Global, rows: &[&[usize]]) -> Result<Edges, NoMem> {
+fn edges_of(alloc: Global, rows: &[&[usize]]) -> Result<Edges, AllocError> {
     let mut edges = Edges::new(alloc);
     for row in rows {
         edges.push(set_of(row))?;
@@ -60,7 +24,7 @@ fn edges_of(alloc: Global, rows: &[&[usize]]) -> Result<Edges, NoMem> {
     Ok(edges)
 }
 
-fn names_of(alloc: Global, texts: &[&str]) -> Result<Names, NoMem> {
+fn names_of(alloc: Global, texts: &[&str]) -> Result<Names, AllocError> {
     let mut names = Names::new(alloc);
     for text in texts {
         names.push(alloc, text.as_bytes())?;
@@ -82,8 +46,8 @@ fn explained<R: Abort>(
     let atoms = names_of(alloc, atoms)?;
     let variables = names_of(alloc, variables)?;
     assert!(rt; !edges.is_empty());
-    assert!(rt; is_covered(&edges, head));
-    assert!(rt; is_named(&edges, &variables));
+    assert!(rt; edges.covers(head));
+    assert!(rt; edges.is_named(&variables));
     let tree = plan(alloc, &edges, &head).ok().ok_or("no plan")?;
     assert!(rt; tree.leaves() <= atoms.len());
     let lines = tree.explain_text(alloc, &atoms, &variables)?;
@@ -206,7 +170,7 @@ fn takes_sixteen_atoms(rt: HostRuntime) -> Result<(), Fail> {
     let atoms = ["r"; 16];
     let (lines, tree) = explained(&rt, rt.alloc(), &rows, &[1], &atoms, &["x", "y"])?;
     assert_eq!(rt; tree.len(), 33);
-    assert_eq!(rt; tree.second(), 32);
+    assert_eq!(rt; tree.second_stage(), 32);
     assert!(rt;
         lines.as_bytes().ends_with(b"n 30 meet 28 29 x,y\nn 31 trim 30 y out\nn 32 trim 31 - out\n")
     );
@@ -254,7 +218,7 @@ fn expect_rest<R: Abort>(
     let head = set_of(head);
     let want = edges_of(alloc, want)?;
     assert!(rt; !edges.is_empty());
-    assert!(rt; is_covered(&edges, head));
+    assert!(rt; edges.covers(head));
     let (cyclic, rest) = match plan(alloc, &edges, &head) {
         Err(PlanRefusal::Cyclic(rest)) => (true, rest),
         Err(PlanRefusal::NotConnex(rest)) => (false, rest),

@@ -15,21 +15,21 @@ refuse-requires-then-not-branch-2 c =
 pub finish-requires : goal.finish-requires
 finish-requires c =
     (plan_of c.args.edges.now c.args.head.now c.in_ok-growing.growing c.run_first.new.self c.run_second.new.self c.in_ok-run_first.field-0 c.in_ok-run_second.field-0
-    c.in_ok-out.out.items c.fill.new.marks.items _ c.len.result c.len-2.result c.len-second.result c.requires.some c.requires.head
+    c.in_ok-out.out.items c.fill.new.marks.items _ c.len.result c.len-2.result c.len-second_stage.result c.requires.some c.requires.head c.rise.ensures c.rises.ensures
     c.in_ok-growing.ensures c.in_ok-run_first.ensures c.if-not-branch.false c.in_ok-run_second.ensures c.if-not-branch-2.false
-    c.in_ok-out.ensures c.in_ok-out.out.ok.0 c.len.ensures c.in_ok-fill.ensures c.len-2.ensures c.len-second.ensures).0.tree
+    c.in_ok-out.ensures c.in_ok-out.out.ok.0 c.len.ensures c.in_ok-fill.ensures c.len-2.ensures c.len-second_stage.ensures).0.tree
 
 pub returns-clause-connex : goal.returns-clause-connex
 returns-clause-connex c =
     (plan_of c.args.edges.now c.args.head.now c.in_ok-growing.growing c.run_first.new.self c.run_second.new.self c.in_ok-run_first.field-0 c.in_ok-run_second.field-0
-    c.in_ok-out.out.items c.fill.new.marks.items _ c.len.result c.len-2.result c.len-second.result c.requires.some c.requires.head
+    c.in_ok-out.out.items c.fill.new.marks.items _ c.len.result c.len-2.result c.len-second_stage.result c.requires.some c.requires.head c.rise.ensures c.rises.ensures
     c.in_ok-growing.ensures c.in_ok-run_first.ensures c.if-not-branch.false c.in_ok-run_second.ensures c.if-not-branch-2.false
-    c.in_ok-out.ensures c.in_ok-out.out.ok.0 c.len.ensures c.in_ok-fill.ensures c.len-2.ensures c.len-second.ensures).1
+    c.in_ok-out.ensures c.in_ok-out.out.ok.0 c.len.ensures c.in_ok-fill.ensures c.len-2.ensures c.len-second_stage.ensures).1
 
 pub returns-clause-plan : goal.returns-clause-plan
 returns-clause-plan c =
     subst (λ (t : Tree). IsPlan c.args.edges.now c.args.head.now t) (sym c.finish.ensures)
     (plan_of c.args.edges.now c.args.head.now c.in_ok-growing.growing c.run_first.new.self c.run_second.new.self c.in_ok-run_first.field-0 c.in_ok-run_second.field-0
-    c.in_ok-out.out.items c.fill.new.marks.items _ c.len.result c.len-2.result c.len-second.result c.requires.some c.requires.head
+    c.in_ok-out.out.items c.fill.new.marks.items _ c.len.result c.len-2.result c.len-second_stage.result c.requires.some c.requires.head c.rise.ensures c.rises.ensures
     c.in_ok-growing.ensures c.in_ok-run_first.ensures c.if-not-branch.false c.in_ok-run_second.ensures c.if-not-branch-2.false
-    c.in_ok-out.ensures c.in_ok-out.out.ok.0 c.len.ensures c.in_ok-fill.ensures c.len-2.ensures c.len-second.ensures).0
+    c.in_ok-out.ensures c.in_ok-out.out.ok.0 c.len.ensures c.in_ok-fill.ensures c.len-2.ensures c.len-second_stage.ensures).0
