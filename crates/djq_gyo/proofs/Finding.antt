@@ -1,11 +1,10 @@
 -- The searches for a step.
-use Rattle.std.specs.Prelude.{◌≡◌, ℕ, ◌+◌, ◌<◌, ◌≤◌, min, true, ◌==◌, List, [], ◌∷◌, length, take, slice_get, Some, None, refl}
+use Rattle.std.specs.Prelude.{◌≡◌, ℕ, ◌+◌, ◌<◌, min, true, ◌==◌, List, [], ◌∷◌, length, take, slice_get, Some, None, refl}
 use Rattle.std.proofs.Common.{sym, ap, ◌∙◌, arith}
 use Rattle.std.proofs.lemmas.Bool.{eq-eqb, eqb-true}
-use Rattle.std.proofs.lemmas.List.{take_all}
 use Rattle.djq_hyper.specs.Hypergraph.{member, degree, intersection, edge_at}
 use Rattle.djq_hyper.specs.declared.step.Step.TheVariants.{Vertex, Edge}
-use Rattle.djq_hyper.specs.Gyo.{IsStep, IsIrreducible, IsBare}
+use Rattle.djq_hyper.specs.Gyo.{IsStep, IsIrreducible}
 use Rattle.djq_hyper.proofs.Members.{has, one_true, from_true, has_intersection, has_here}
 use Rattle.djq_hyper.proofs.Counting.{degree_in}
 use Rattle.djq_hyper.proofs.Owning.{degree_more}
@@ -55,6 +54,3 @@ pub bare_more : (E : List (List ℕ)) (i : ℕ) (e : List ℕ) → i < length E 
 bare_more E i e within is none bare x =
     let here : 0 ≡ has x (edge_at E i) = ap (λ (l : List ℕ). has x l) (sym (first_none e none) ∙ is) in
     omega (arith, degree_more x E i within, bare x)
-
-pub bare_all : (E : List (List ℕ)) (i : ℕ) → length E ≤ i → ((x : ℕ) → degree x (take i E) ≡ 0) → IsBare E
-bare_all E i all bare x = sym (ap (λ (L : List (List ℕ)). degree x L) (take_all i E all)) ∙ bare x

@@ -44,9 +44,6 @@ pub record SoFar (E : List (List ℕ)) (P : List Link) : Type 0 where
   pub keeps : Keeps E (reverse P)
   pub below : (p : ℕ) → 0 < places p P → p < length E
 
-pub so_far_none : (E : List (List ℕ)) → SoFar E []
-so_far_none E = record { ordered = tt; keeps = tt; below = λ p h. absurd (omega arith) }
-
 under_of : (k : Link) (R : List Link) → (0 < length R → 0 < places k.parent R) → IsUnder k R
 under_of k [] h = tt
 under_of k (j ∷ R) h = h (omega arith)

@@ -93,22 +93,6 @@ pub record Naming (names E : List (List ℕ)) (rest : List ℕ) : Type 0 where
   pub named : (x : ℕ) → 0 < degree x E → (x < length names) ⊎ (0 < has x rest)
   pub within : (x : ℕ) → 0 < has x rest → 0 < degree x E
 
-pub naming_first : (names E : List (List ℕ)) (V : List ℕ) → ((x : ℕ) → member x V ≡ nat_lt 0 (degree x E)) → Naming names E V
-naming_first names E V all = record {
-  named = λ x d. inr (from_true (member x V) (all x ∙ lt-ltb 0 (degree x E) d));
-  within = λ x h. ltb-true 0 (degree x E) (sym (all x) ∙ one_true (member x V) h);
-}
-
-pub naming_more : (names E : List (List ℕ)) (old new : List ℕ) (v : ℕ) → Naming names E old → old ≡ v ∷ new → v < length names → Naming names E new
-naming_more names E old new v n is low = record {
-  named = λ x d. elim (n.named x d) [ inl has_name ↦ inl has_name | inr left ↦ still x left (cases_eq x v) ];
-  within = λ x h. n.within x (let e : has x old ≡ has x (v ∷ new) = ap (has x) is in let t = has_tail x v new in omega arith);
-}
-  where
-    still : (x : ℕ) → 0 < has x old → (x ≡ v) ⊎ (x ≢ v) → (x < length names) ⊎ (0 < has x new)
-    still x left (inl same) = inl (omega arith)
-    still x left (inr apart) = inr (let e : has x old ≡ has x (v ∷ new) = ap (has x) is in let t = has_other x v new apart in omega arith)
-
 pub naming_done : (names E : List (List ℕ)) (rest : List ℕ) → Naming names E rest → rest ≡ [] → AreNamed names E
 naming_done names E rest n none p x h =
     let d = edge_in E p x in

@@ -3,7 +3,6 @@ use Rattle.std.proofs.Common.{◌≡◌, ℕ, ◌<◌, Bool, true, false, not, �
 use Rattle.std.specs.Prelude.{◌==◌, nat_lt, unwrap_or, slice_index_or}
 use Rattle.std.proofs.lemmas.Bool.{lt-ltb}
 use Rattle.std.proofs.lemmas.List.{get_or_read}
-use Rattle.std.proofs.Math.Bool.{and-false}
 use Rattle.djq_hyper.specs.Hypergraph.{member, subset, difference, intersection, degree, edge_at}
 use Rattle.djq_tree.specs.declared.choice.Choice.{Choice}
 use Rattle.djq_tree.specs.declared.choice.Choice.TheVariants.{Trim, Meet, Stuck}
@@ -68,9 +67,6 @@ read L i l low is = get_or_read L i l low is []
 
 pub equal_read : (L : List (List ℕ)) (i j : ℕ) (a b : List ℕ) (r : Bool) → a ≡ edge_at L i → b ≡ edge_at L j → r ≡ (subset a b && subset b a) → r ≡ true → are_equal L i j ≡ true
 equal_read L i j a b r p q is holds = rw (← p, ← q) (sym is ∙ holds)
-
-pub equal_read_not : (L : List (List ℕ)) (i j : ℕ) (a b : List ℕ) (r : Bool) → a ≡ edge_at L i → b ≡ edge_at L j → r ≡ (subset a b && subset b a) → r ≡ false → (nat_lt i j && are_equal L i j) ≡ false
-equal_read_not L i j a b r p q is fails = (let e : are_equal L i j ≡ false = rw (← p, ← q) (sym is ∙ fails) in rw e (and-false (nat_lt i j)))
 
 pub inside_read : (L : List (List ℕ)) (i j : ℕ) (a b : List ℕ) (r v : Bool) → a ≡ edge_at L i → b ≡ edge_at L j → r ≡ (subset a b && not (subset b a)) → r ≡ v → is_inside L i j ≡ v
 inside_read L i j a b r v p q is holds = rw (← p, ← q) (sym is ∙ holds)

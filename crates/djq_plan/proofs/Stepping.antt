@@ -143,25 +143,6 @@ turn over keep kept s t v u D b r same seen off kp h taken =
     let off2 : over t.current ≡ false = ap (λ (z : Growth). over z.current) (sym same) ∙ ap over (sym seen) ∙ sym off in
     (ran_more over keep s t u r off2 k, size_falls keep t u k)
 
--- a stage's loop returns without a step
-pub turn_stuck : (over : List (List ℕ) → Bool) (keep kept : List ℕ) (s t v u : Growth) (D : List (List ℕ)) (b : Bool) → Ran over keep s t → v ≡ t → D ≡ v.current → false ≡ over D → kept ≡ keep → Steps kept t u b → b ≡ false → IsStuckAt over keep s u
-turn_stuck over keep kept s t v u D b r same seen off kp h taken =
-    let k : Steps keep t u false = subst (λ (z : Bool). Steps keep t u z) taken (subst (λ (z : List ℕ). Steps z t u b) kp h) in
-    let off2 : over t.current ≡ false = ap (λ (z : Growth). over z.current) (sym same) ∙ ap over (sym seen) ∙ sym off in
-    ran_stuck over keep s t u r off2 k
-
--- a stage's loop ends
-pub turn_end : (over : List (List ℕ) → Bool) (keep : List ℕ) (s t v : Growth) (D : List (List ℕ)) → Ran over keep s t → v ≡ t → D ≡ v.current → true ≡ over D → IsStage over keep s t
-turn_end over keep s t v D r same seen on =
-    ran_end over keep s t r (ap (λ (z : Growth). over z.current) (sym same) ∙ ap over (sym seen) ∙ sym on)
-
-pub lengths_agree : (numbers : List ℕ) (current H : List (List ℕ)) (n m : ℕ) → numbers ≡ numbers_below n → current ≡ H → m ≡ length H → m ≤ n → n ≤ m → length numbers ≡ length current
-lengths_agree numbers current H n m a b e low high =
-    let p = ap (λ (k : List ℕ). length k) a in
-    let q = ap (λ (k : List (List ℕ)). length k) b in
-    let r = length_below n in
-    omega arith
-
 -- a node that begins a stage is marked where it is current
 pub mark_more : (mid : Growth) (n : ℕ) (marks new : List Bool) (b : Bool) (ns : List ℕ) → n < length mid.nodes → ns ≡ mid.numbers → b ≡ list_any (λ y. y == n) ns → marks ≡ marks_below mid n → new ≡ marks ++ b ∷ [] → new ≡ marks_below mid (n + 1)
 mark_more mid n marks new b ns low seen is before more =

@@ -1,8 +1,8 @@
 //! The tree as it grows.
-ghost use Rattle.std.specs.Prelude.{◌≡◌, ◌≢◌, ◌<◌, ◌≤◌, [], length, true, false, IfOk, OnOk};
+ghost use Rattle.std.specs.Prelude.{◌≡◌, ◌≢◌, ◌+◌, ◌<◌, ◌++◌, ◌∷◌, [], length, remove, IfOk, OnOk};
 ghost use Rattle.djq_tree.specs.declared.choice.Choice.TheVariants as rule;
 ghost use Rattle.djq_tree.specs.Tree.{IsTree};
-ghost use Rattle.djq_tree.specs.Growing.{are_within, is_root, grown, start, marks_below};
+ghost use Rattle.djq_tree.specs.Growing.{are_within, is_root, grown, start, marks_below, leaf_nodes, numbers_below, without_both};
 ghost use Rattle.djq_plan.specs.Stages.{IsStageEnd, Steps};
 
 use crate::choosing::choose_step;
@@ -12,7 +12,7 @@ use std::alloc::{AllocError, Global};
 use std::marker::Model;
 
 /// The nodes made so far with their labels, and the numbers and labels of those that are current.
-#[derive(Debug, Drop)]
+#[derive(Drop)]
 pub(crate) struct Growing {
     nodes: Vec<Node>,
     labels: Vec<VarSet>,
@@ -36,19 +36,11 @@ impl Growing {
     pub(crate) fn start(alloc: Global, edges: &Edges) -> Result<Growing, AllocError>
         ensures { IfOk result (λ g. g ≡ start edges.now) }
     {
-        let labels = Vec::from_slice(alloc, edges.as_slice())?;
-        let current = Vec::from_slice(alloc, edges.as_slice())?;
-        let mut nodes = Vec::new(alloc);
-        let mut numbers = Vec::new(alloc);
-        for atom in 0..edges.len() {
-            nodes.push(Node::Leaf { atom })?;
-            numbers.push(atom)?;
-        }
         Ok(Growing {
-            nodes,
-            labels,
-            numbers,
-            current,
+            nodes: leaves_of(alloc, edges.len())?,
+            labels: Vec::from_slice(alloc, edges.as_slice())?,
+            numbers: numbers_to(alloc, edges.len())?,
+            current: Vec::from_slice(alloc, edges.as_slice())?,
         })
     }
 
@@ -59,6 +51,15 @@ impl Growing {
         self.nodes.len()
     }
 
+    /// Puts a node with its label behind the others, without making it current.
+    fn push_node(&mut self, node: Node, label: VarSet) -> Result<(), AllocError>
+        ensures { OnOk result (self.new ≡ record self.old { nodes = self.old.nodes ++ node ∷ []; labels = self.old.labels ++ label ∷ [] }) }
+    {
+        self.nodes.push(node)?;
+        self.labels.push(label)?;
+        Ok(())
+    }
+
     /// Trims the node at a place of some variables.
     fn take_trim(&mut self, place: usize, removed: VarSet) -> Result<(), AllocError>
         requires { place < length self.old.current }
@@ -66,14 +67,10 @@ impl Growing {
     {
         let label = self.current[place].difference(removed);
         let number = self.nodes.len();
-        self.nodes.push(Node::Trim {
-            child: self.numbers[place],
-        })?;
-        self.labels.push(label)?;
-        self.numbers.remove(place);
-        self.numbers.push(number)?;
-        self.current.remove(place);
-        self.current.push(label)?;
+        let child = self.numbers[place];
+        self.push_node(Node::Trim { child }, label)?;
+        replace_one(&mut self.numbers, place, number);
+        replace_one(&mut self.current, place, label);
         Ok(())
     }
 
@@ -86,18 +83,13 @@ impl Growing {
     {
         let label = self.current[guard];
         let number = self.nodes.len();
-        self.nodes.push(Node::Meet {
+        let node = Node::Meet {
             guard: self.numbers[guard],
             side: self.numbers[side],
-        })?;
-        self.labels.push(label)?;
-        let (low, high) = (guard.min(side), guard.max(side));
-        self.numbers.remove(high);
-        self.numbers.remove(low);
-        self.numbers.push(number)?;
-        self.current.remove(high);
-        self.current.remove(low);
-        self.current.push(label)?;
+        };
+        self.push_node(node, label)?;
+        replace_two(&mut self.numbers, guard, side, number);
+        replace_two(&mut self.current, guard, side, label);
         Ok(())
     }
 
@@ -175,6 +167,51 @@ impl Growing {
         } = self;
         Tree::new(nodes, labels, out, head, leaves, second_stage)
     }
+}
+
+/// The leaves of the first atoms.
+fn leaves_of(alloc: Global, atoms: usize) -> Result<Vec<Node>, AllocError>
+    ensures { IfOk result (λ nodes. nodes.items ≡ leaf_nodes atoms) }
+{
+    let mut nodes = Vec::new(alloc);
+    for atom in 0..atoms {
+        nodes.push(Node::Leaf { atom })?;
+    }
+    Ok(nodes)
+}
+
+/// The numbers below an end, rising.
+fn numbers_to(alloc: Global, end: usize) -> Result<Vec<usize>, AllocError>
+    ensures numbers { IfOk result (λ numbers. numbers.items ≡ numbers_below end) }
+    ensures count { IfOk result (λ numbers. length numbers.items ≡ end) }
+{
+    let mut numbers = Vec::new(alloc);
+    for number in 0..end {
+        numbers.push(number)?;
+    }
+    Ok(numbers)
+}
+
+/// Takes an item out and puts another one last, which takes no memory.
+fn replace_one<T: Copy>(list: &mut Vec<T>, place: usize, last: T)
+    requires { place < length list.old.items }
+    ensures { list.new.items ≡ remove list.old.items place ++ last ∷ [] }
+{
+    list.remove(place);
+    list.push(last).unwrap();
+}
+
+/// Takes two items out and puts another one last, which takes no memory.
+fn replace_two<T: Copy>(list: &mut Vec<T>, left: usize, right: usize, last: T)
+    requires left { left < length list.old.items }
+    requires right { right < length list.old.items }
+    requires apart { left ≢ right }
+    ensures list { list.new.items ≡ without_both list.old.items left right ++ last ∷ [] }
+    ensures count { length list.new.items + 1 ≡ length list.old.items }
+{
+    list.remove(left.max(right));
+    list.remove(left.min(right));
+    list.push(last).unwrap();
 }
 
 /// Whether each label lies within the set.

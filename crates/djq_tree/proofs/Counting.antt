@@ -183,9 +183,6 @@ leaves_counted t (suc k) s low =
     let i : k + 1 ≡ suc k = omega arith in
     (ap (λ (z : ℕ). others (take z t.nodes)) (sym i) ∙ omega arith, ap (λ (z : ℕ). trims (take z t.nodes)) (sym i) ∙ omega arith)
 
-pub no_early_trims : (t : Tree) → IsTree t → trims (take t.leaves t.nodes) ≡ 0
-no_early_trims t s = (leaves_counted t t.leaves s (omega arith)).1
-
 leaf_childless : (t : Tree) (i j : ℕ) → IsTree t → i < t.leaves → has_child (node_at t.nodes i) j ≡ true → ⊥
 leaf_childless t i j s low h = false≢true (ap (λ (n : Node). has_child n j) (sym (s.leaf i low)) ∙ h)
 

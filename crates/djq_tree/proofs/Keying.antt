@@ -1,5 +1,5 @@
 -- Group keys by the node's role.
-use Rattle.std.proofs.Common.{◌≡◌, ℕ, ◌+◌, ◌-◌, ◌<◌, true, List, length, Option, Some, None, is_some, IfSome, refl, ap, sym, ◌∙◌, arith, inl, inr}
+use Rattle.std.proofs.Common.{◌≡◌, ℕ, ◌-◌, ◌<◌, true, List, length, Option, Some, None, IfSome, refl, ap, sym, ◌∙◌, arith, inl, inr}
 use Rattle.std.specs.Prelude.{◌==◌}
 use Rattle.std.proofs.Math.Bool.{or-true}
 use Rattle.std.proofs.lemmas.Bool.{cases_lt, cases_Bool, cases_eq, eq-eqb, ne_eqb, eqb-true, false≢true}
@@ -79,13 +79,6 @@ key_within t j l s e = ap (λ (k : List ℕ). subset k (label_at t.labels j)) e 
 -- what the method meets on its way
 pub parent_within : (t : Tree) (j k : ℕ) → IsTree t → parent t.nodes j ≡ Some k → (j < k) × (k < length t.nodes)
 parent_within t j k s e = let u = parent_above t.nodes j k (rising_of t s) e in (u.0, u.1)
-
-pub parent_none : (t : Tree) (j : ℕ) → IsTree t → j < length t.nodes → parent t.nodes j ≡ None → j + 1 ≡ length t.nodes
-parent_none t j s within e =
-    elim (cases_eq (j + 1) (length t.nodes)) [
-      | inl last ↦ last
-      | inr apart ↦ absurd (false≢true (ap is_some (sym e) ∙ s.below j (omega arith)))
-    ]
 
 pub side_within : (t : Tree) (k g d : ℕ) → IsTree t → k < length t.nodes → Meet g d ≡ node_at t.nodes k → d < length t.nodes
 side_within t k g d s within e = let i = (s.meet k g d (sym e)).side_lower in omega arith
