@@ -1,9 +1,9 @@
 //! The tree as it grows.
-ghost use Rattle.std.specs.Prelude.{◌≡◌, ◌≢◌, ◌+◌, ◌<◌, ◌++◌, ◌∷◌, [], length, remove, IfOk, OnOk};
+ghost use Rattle.std.specs.Prelude.{◌≡◌, ◌≢◌, ◌+◌, ◌-◌, ◌<◌, ◌++◌, ◌∷◌, [], length, remove, take, replicate, true, vec_len, IfOk, OnOk, MatchOption};
 ghost use Rattle.djq_tree.specs.declared.choice.Choice.TheVariants as rule;
 ghost use Rattle.djq_tree.specs.Tree.{IsTree};
 ghost use Rattle.djq_tree.specs.Growing.{are_within, is_root, grown, start, marks_below, leaf_nodes, numbers_below, without_both};
-ghost use Rattle.djq_plan.specs.Stages.{IsStageEnd, Steps};
+ghost use Rattle.djq_plan.specs.Stages.{GrowsOut, IsStageEnd, IsStuckAt, Steps};
 
 use crate::choosing::choose_step;
 use djq_hyper::{Edges, VarSet};
@@ -125,7 +125,7 @@ impl Growing {
 
     /// The second stage: steps that may remove any variable, until one node without any is left. Whether it
     /// came to its end.
-    pub(crate) fn run_second(&mut self) -> Result<bool, AllocError>
+    fn run_second(&mut self) -> Result<bool, AllocError>
         ensures { IfOk result (λ b. IsStageEnd is_root [] self.old self.new b) }
     {
         'second: while !is_single_bare(&self.current) {
@@ -136,8 +136,21 @@ impl Growing {
         Ok(true)
     }
 
-    /// Which nodes are in `out` as the second stage begins: those that are current.
-    pub(crate) fn marks(&self, alloc: Global) -> Result<Vec<bool>, AllocError>
+    /// Runs the second stage and says, where it comes to its end, which nodes are in `out`: those that were
+    /// current as it began, and all later ones.
+    pub(crate) fn grow_out(&mut self, alloc: Global) -> Result<Option<Vec<bool>>, AllocError>
+        ensures { IfOk result (λ out. MatchOption out (IsStuckAt is_root [] self.old self.new) (λ out. GrowsOut self.old self.new out.items)) }
+    {
+        let mut out = self.marks(alloc)?;
+        if !self.run_second()? {
+            return Ok(None);
+        }
+        mark_later(&mut out, self.len())?;
+        Ok(Some(out))
+    }
+
+    /// Which nodes are current.
+    fn marks(&self, alloc: Global) -> Result<Vec<bool>, AllocError>
         ensures { IfOk result (λ m. m.items ≡ marks_below self.now (length self.now.nodes)) }
     {
         let mut marks = Vec::new(alloc);
@@ -167,6 +180,14 @@ impl Growing {
         } = self;
         Tree::new(nodes, labels, out, head, leaves, second_stage)
     }
+}
+
+/// Marks the nodes that were made since, so that there are as many marks as nodes.
+fn mark_later(marks: &mut Vec<bool>, nodes: usize) -> Result<(), AllocError>
+    ensures { OnOk result (marks.new.items ≡ take nodes marks.old.items ++ replicate (nodes - vec_len marks.old) true) }
+{
+    marks.resize(nodes, true)?;
+    Ok(())
 }
 
 /// The leaves of the first atoms.

@@ -1,5 +1,5 @@
 //! The planner's two stages.
-ghost use Rattle.std.specs.Prelude.{◌≡◌, ◌-◌, ◌<◌, ◌++◌, true, length, take, replicate, vec_len, IfOk, IfErr, OnOk};
+ghost use Rattle.std.specs.Prelude.{◌≡◌, ◌<◌, length, None, Ok, IfOk, IfErr, IfSome};
 ghost use Rattle.djq_hyper.specs.Variables.{AreCovered};
 ghost use Rattle.djq_hyper.specs.JoinTree.{IsFreeConnex};
 ghost use Rattle.djq_plan.specs.Plan.{IsPlan, IsRefusal};
@@ -31,25 +31,29 @@ pub fn plan(alloc: Global, edges: &Edges, head: &VarSet) -> Result<Tree, PlanRef
     ensures plan { IfOk result (λ t. IsPlan edges.now head.now t) }
     ensures refused { IfErr result (λ e. IsRefusal edges.now head.now e) }
 {
+    match grow_tree(alloc, edges, *head)? {
+        Some(tree) => Ok(tree),
+        None => Err(refuse(alloc, edges, *head)),
+    }
+}
+
+/// The tree that the two stages grow, where both come to their end.
+fn grow_tree(alloc: Global, edges: &Edges, head: VarSet) -> Result<Option<Tree>, AllocError>
+    requires some { 0 < length edges.now }
+    requires head { AreCovered head edges.now }
+    ensures stuck { result ≡ Ok None → IsFreeConnex edges.now head → ⊥ }
+    ensures connex { IfOk result (λ t. IfSome t (λ _. IsFreeConnex edges.now head)) }
+    ensures plan { IfOk result (λ t. IfSome t (IsPlan edges.now head)) }
+{
     edges.rise();
     head.rises();
     let mut growing = Growing::start(alloc, edges)?;
-    if !growing.run_first(*head)? {
-        return Err(refuse(alloc, edges, *head));
+    if !growing.run_first(head)? {
+        return Ok(None);
     }
     let second_stage = growing.len();
-    let mut out = growing.marks(alloc)?;
-    if !growing.run_second()? {
-        return Err(refuse(alloc, edges, *head));
+    match growing.grow_out(alloc)? {
+        Some(out) => Ok(Some(growing.finish(out, head, edges.len(), second_stage))),
+        None => Ok(None),
     }
-    fill(&mut out, growing.len())?;
-    Ok(growing.finish(out, *head, edges.len(), second_stage))
-}
-
-/// Marks the nodes that were made since, so that there are as many marks as nodes.
-fn fill(marks: &mut Vec<bool>, nodes: usize) -> Result<(), AllocError>
-    ensures { OnOk result (marks.new.items ≡ take nodes marks.old.items ++ replicate (nodes - vec_len marks.old) true) }
-{
-    marks.resize(nodes, true)?;
-    Ok(())
 }
