@@ -97,7 +97,7 @@ mod tests {
         ];
         for rows in cases {
             let edges = edges_of(rt.alloc(), rows)?;
-            assert!(rt; reduce(rt.alloc(), &edges)?.rest.is_empty(), "{rows:?}");
+            assert!(rt; reduce(rt.alloc(), &edges)?.rest.is_empty());
         }
         Ok(())
     }
@@ -126,7 +126,7 @@ mod tests {
                     want.push(edges.get(*position))?;
                 }
             }
-            assert_eq!(rt; rest.as_slice(), want.as_slice(), "{rows:?}");
+            assert!(rt; rest.as_slice() == want.as_slice());
         }
         Ok(())
     }
@@ -136,7 +136,7 @@ mod tests {
         let edges = edges_of(rt.alloc(), &[&[0, 1], &[1]])?;
         turn_join_tree(VarSet::new(), &edges);
         let steps = reduce(rt.alloc(), &edges)?.steps;
-        assert_eq!(rt; steps.len(), 3);
+        assert!(rt; steps.len() == 3);
         assert!(rt; !steps.is_empty());
         let want = [
             Step::Vertex {
@@ -149,7 +149,7 @@ mod tests {
                 variable: 1,
             },
         ];
-        assert_eq!(rt; steps.as_slice(), want.as_slice());
+        assert!(rt; steps.as_slice() == want.as_slice());
         Ok(())
     }
 }

@@ -112,7 +112,7 @@ mod tests {
         for (rows, links) in cases {
             let edges = edges_of(rt.alloc(), rows)?;
             let tree = tree_of(rt.alloc(), links)?;
-            assert!(rt; check_join_tree(&edges, &tree), "{rows:?}");
+            assert!(rt; check_join_tree(&edges, &tree));
         }
         Ok(())
     }
@@ -145,7 +145,7 @@ mod tests {
     fn lists_go_in_and_out(rt: HostRuntime) -> Result<(), Fail> {
         let edges = edges_of(rt.alloc(), &[&[0, 1], &[]])?;
         assert!(rt; edges.len() == 2 && !edges.is_empty());
-        assert_eq!(rt; edges.get(0).len(), 2);
+        assert!(rt; edges.get(0).len() == 2);
         let copy = Edges::from_sets(edges.copy(rt.alloc())?.into_sets());
         assert_eq!(rt; copy.as_slice(), edges.as_slice());
         let tree = JoinTree::from_links(tree_of(rt.alloc(), &[(0, 0), (1, 0)])?.into_links());

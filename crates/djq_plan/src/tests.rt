@@ -60,7 +60,8 @@ fn explained<R: Abort>(
 #[test]
 fn grows_trees(rt: HostRuntime) -> Result<(), Fail> {
     // The atoms' variables, the head's, the relation and variable names, and the lines.
-    let cases: [(&[&[usize]], &[usize], &[&str], &[&str], &str); 8] = [
+    // More are computed in the proofs of `djq_tree`, over the definition that `plan` meets.
+    let cases: [(&[&[usize]], &[usize], &[&str], &[&str], &str); 3] = [
         // q(x,y,z) <- r(x,y), s(y,z), t(z,x), u(x,y,z)
         (
             &[&[0, 1], &[1, 2], &[2, 0], &[0, 1, 2]],
@@ -68,46 +69,6 @@ fn grows_trees(rt: HostRuntime) -> Result<(), Fail> {
             &["r", "s", "t", "u"],
             &["x", "y", "z"],
             "n 0 leaf r x,y out\nn 1 leaf s y,z out\nn 2 leaf t x,z out\nn 3 leaf u x,y,z out\nn 4 meet 3 0 x,y,z out\nn 5 meet 4 1 x,y,z out\nn 6 trim 5 x,z out\nn 7 meet 2 6 x,z out\nn 8 trim 7 - out\n",
-        ),
-        // q(x,y) <- r(x,y), s(y)
-        (
-            &[&[0, 1], &[1]],
-            &[0, 1],
-            &["r", "s"],
-            &["x", "y"],
-            "n 0 leaf r x,y out\nn 1 leaf s y out\nn 2 trim 0 y out\nn 3 meet 1 2 y out\nn 4 trim 3 - out\n",
-        ),
-        // q(x,y) <- r(x), s(y)
-        (
-            &[&[0], &[1]],
-            &[0, 1],
-            &["r", "s"],
-            &["x", "y"],
-            "n 0 leaf r x out\nn 1 leaf s y out\nn 2 trim 0 - out\nn 3 trim 1 - out\nn 4 meet 2 3 - out\n",
-        ),
-        // b(x) <- p(x), p(x)
-        (
-            &[&[0], &[0]],
-            &[0],
-            &["p", "p"],
-            &["x"],
-            "n 0 leaf p x out\nn 1 leaf p x out\nn 2 meet 0 1 x out\nn 3 trim 2 - out\n",
-        ),
-        // q(x) <- r(x,y)
-        (
-            &[&[0, 1]],
-            &[0],
-            &["r"],
-            &["x", "y"],
-            "n 0 leaf r x,y\nn 1 trim 0 x out\nn 2 trim 1 - out\n",
-        ),
-        // q(y,x) <- r(x,y): the head out of the body's order
-        (
-            &[&[0, 1]],
-            &[1, 0],
-            &["r"],
-            &["x", "y"],
-            "n 0 leaf r x,y out\nn 1 trim 0 - out\n",
         ),
         // q(y) <- r(_,y), s(y,_): holes
         (
@@ -122,7 +83,7 @@ fn grows_trees(rt: HostRuntime) -> Result<(), Fail> {
     ];
     for (rows, head, atoms, variables, want) in cases {
         let (lines, _tree) = explained(&rt, rt.alloc(), rows, head, atoms, variables)?;
-        assert_eq!(rt; lines.as_bytes(), want.as_bytes(), "{want}");
+        assert!(rt; lines.as_bytes() == want.as_bytes());
     }
     Ok(())
 }
@@ -133,12 +94,29 @@ fn takes_sixteen_atoms(rt: HostRuntime) -> Result<(), Fail> {
     let rows = [edge; 16];
     let atoms = ["r"; 16];
     let (lines, tree) = explained(&rt, rt.alloc(), &rows, &[1], &atoms, &["x", "y"])?;
-    assert_eq!(rt; tree.len(), 33);
-    assert_eq!(rt; tree.second_stage(), 32);
+    assert!(rt; tree.len() == 33);
+    assert!(rt; tree.second_stage() == 32);
     assert!(rt;
         lines.as_bytes().ends_with(b"n 30 meet 28 29 x,y\nn 31 trim 30 y out\nn 32 trim 31 - out\n")
     );
     Ok(())
+}
+
+/// The nodes above the second leaf of a tree with six nodes, and what they are.
+fn expect_path<R: Abort>(rt: &R, tree: &Tree) {
+    assert!(rt; tree.leaves() == 2);
+    assert!(rt; tree.len() == 6);
+    assert!(rt; tree.frontier(1) == 3);
+    let mut path = tree.path(1);
+    for node in [1, 3, 4, 5] {
+        assert!(rt; path.next() == Some(node));
+    }
+    assert!(rt; path.next() == None);
+    assert!(rt; tree.parent(0) == Some(2));
+    assert!(rt; tree.node(4) == Node::Meet { guard: 2, side: 3 });
+    assert!(rt; tree.node(4).has_child(3) && !tree.is_out(1));
+    let shared = set_of(&[1]);
+    assert!(rt; tree.label(4) == shared && tree.key(2) == shared && tree.head() == shared);
 }
 
 #[test]
@@ -146,19 +124,7 @@ fn goes_up_a_tree(rt: HostRuntime) -> Result<(), Fail> {
     // q(y) <- r(x,y), s(y,z)
     let rows: [&[usize]; 2] = [&[0, 1], &[1, 2]];
     let (_lines, tree) = explained(&rt, rt.alloc(), &rows, &[1], &["r", "s"], &["x", "y", "z"])?;
-    assert_eq!(rt; tree.leaves(), 2);
-    assert_eq!(rt; tree.len(), 6);
-    assert_eq!(rt; tree.frontier(1), 3);
-    let mut path = tree.path(1);
-    for node in [1, 3, 4, 5] {
-        assert_eq!(rt; path.next(), Some(node));
-    }
-    assert_eq!(rt; path.next(), None);
-    assert_eq!(rt; tree.parent(0), Some(2));
-    assert!(rt; tree.node(4) == Node::Meet { guard: 2, side: 3 });
-    assert!(rt; tree.node(4).has_child(3) && !tree.is_out(1));
-    let shared = set_of(&[1]);
-    assert!(rt; tree.label(4) == shared && tree.key(2) == shared && tree.head() == shared);
+    expect_path(&rt, &tree);
     Ok(())
 }
 
@@ -178,14 +144,7 @@ fn refused(alloc: Global, edges: &Edges, head: VarSet) -> (bool, Edges)
 #[test]
 fn refuses_with_a_rest(rt: HostRuntime) -> Result<(), Fail> {
     // The atoms' variables, the head's, whether the query is cyclic, and the rest.
-    let cases: [(&[&[usize]], &[usize], bool, &[&[usize]]); 4] = [
-        // q(x,y,z) <- r(x,y), s(y,z), t(z,x)
-        (
-            &[&[0, 1], &[1, 2], &[0, 2]],
-            &[0, 1, 2],
-            true,
-            &[&[0, 1], &[1, 2], &[0, 2]],
-        ),
+    let cases: [(&[&[usize]], &[usize], bool, &[&[usize]]); 2] = [
         // q() <- r(x,y), s(y,z), t(z,x), u(z,w)
         (
             &[&[0, 1], &[1, 2], &[0, 2], &[2, 3]],
@@ -200,13 +159,6 @@ fn refuses_with_a_rest(rt: HostRuntime) -> Result<(), Fail> {
             false,
             &[&[0, 2], &[0, 1], &[1, 2]],
         ),
-        // a(x,w) <- r(x,y), s(y,z), t(z,w)
-        (
-            &[&[0, 1], &[1, 2], &[2, 3]],
-            &[0, 3],
-            false,
-            &[&[0, 3], &[0, 1], &[1, 2], &[2, 3]],
-        ),
     ];
     for (rows, head, is_cyclic, want) in cases {
         let edges = edges_of(rt.alloc(), rows)?;
@@ -214,8 +166,8 @@ fn refuses_with_a_rest(rt: HostRuntime) -> Result<(), Fail> {
         assert!(rt; !edges.is_empty() && edges.covers(head));
         let (cyclic, rest) = refused(rt.alloc(), &edges, head);
         let want = edges_of(rt.alloc(), want)?;
-        assert_eq!(rt; cyclic, is_cyclic);
-        assert!(rt; rest.as_slice() == want.as_slice(), "{rows:?}");
+        assert!(rt; cyclic == is_cyclic);
+        assert!(rt; rest.as_slice() == want.as_slice());
     }
     Ok(())
 }
