@@ -1,67 +1,15 @@
 -- The searches for a step.
-use Rattle.std.specs.Prelude.{◌≡◌, ◌≢◌, ℕ, suc, ◌+◌, ◌-◌, ◌<◌, ◌≤◌, min, Bool, true, false, ◌==◌, ◌&&◌, ◌||◌, nat_lt, List, [], ◌∷◌, length, take, slice_get, slice_index_or, Some, None, All, refl}
-use Rattle.djq_hyper.proofs.Checking.{read_at}
-use Rattle.std.proofs.Common.{sym, ap, ◌∙◌, subst, arith, inl, inr, lt-ltb, le-ltb, ltb-true, ltb-false}
-use Rattle.std.proofs.lemmas.Bool.{cases_eq, eq-eqb, ne_eqb, eqb-true}
-use Rattle.std.proofs.lemmas.List.{take_more, take_all}
-use Rattle.djq_hyper.specs.Hypergraph.{member, one, degree, minus, common, edge_at}
-use Rattle.djq_hyper.specs.declared.step.Step.{Step}
+use Rattle.std.specs.Prelude.{◌≡◌, ℕ, ◌+◌, ◌<◌, min, true, ◌==◌, List, [], ◌∷◌, length, take, slice_get, Some, None, refl}
+use Rattle.std.proofs.Common.{sym, ap, ◌∙◌, arith}
+use Rattle.std.proofs.lemmas.Bool.{eq-eqb, eqb-true}
+use Rattle.djq_hyper.specs.Hypergraph.{member, degree, intersection, edge_at}
 use Rattle.djq_hyper.specs.declared.step.Step.TheVariants.{Vertex, Edge}
-use Rattle.djq_hyper.specs.Gyo.{IsStep, IsIrreducible, IsBare}
-use Rattle.djq_hyper.proofs.Members.{has, one_le, one_true, from_true, same_one, one_and, has_minus, has_common, has_here, has_other}
-use Rattle.djq_hyper.proofs.Counting.{degree_append, degree_in}
+use Rattle.djq_hyper.specs.Gyo.{IsStep, IsIrreducible}
+use Rattle.djq_hyper.proofs.Members.{has, one_true, from_true, has_intersection, has_here}
+use Rattle.djq_hyper.proofs.Counting.{degree_in}
+use Rattle.djq_hyper.proofs.Owning.{degree_more}
 use Rattle.djq_gyo.specs.Search.{HasNoOwn}
 use Rattle.djq_gyo.proofs.Places.{stands_at}
-
--- ---- which variables lie in one edge only
-
-once_step : (a b : Bool) (m n : ℕ) → a ≡ nat_lt 0 m → n ≡ m + one b → (a || b) ≡ nat_lt 0 n
-once_step true b m n e f = let some = ltb-true 0 m (sym e) in sym (lt-ltb 0 n (omega arith))
-once_step false true m n e f = sym (lt-ltb 0 n (omega arith))
-once_step false false m n e f = let none = ltb-false 0 m (sym e) in sym (le-ltb 0 n (omega arith))
-
-twice_step : (t a b : Bool) (m n : ℕ) → t ≡ nat_lt 1 m → a ≡ nat_lt 0 m → n ≡ m + one b → (t || (a && b)) ≡ nat_lt 1 n
-twice_step true a b m n d e f = let some = ltb-true 1 m (sym d) in sym (lt-ltb 1 n (omega arith))
-twice_step false true true m n d e f = let some = ltb-true 0 m (sym e) in sym (lt-ltb 1 n (omega arith))
-twice_step false true false m n d e f = let few = ltb-false 1 m (sym d) in sym (le-ltb 1 n (omega arith))
-twice_step false false b m n d e f = let none = ltb-false 0 m (sym e) in let most = one_le b in sym (le-ltb 1 n (omega arith))
-
-own_test : (a t r : Bool) (n : ℕ) → a ≡ nat_lt 0 n → t ≡ nat_lt 1 n → one r ≡ min (one a) (1 - one t) → r ≡ (n == 1)
-own_test a true r n d e f = let many = ltb-true 1 n (sym e) in let other : n ≢ 1 = λ same. omega arith in same_one r (n == 1) (rw (ne_eqb n 1 other) (omega arith))
-own_test true false r n d e f =
-    let some = ltb-true 0 n (sym d) in
-    let few = ltb-false 1 n (sym e) in
-    same_one r (n == 1) (rw (eq-eqb n 1 (omega arith)) (omega arith))
-own_test false false r n d e f =
-    let none = ltb-false 0 n (sym d) in
-    let other : n ≢ 1 = λ same. omega arith in
-    same_one r (n == 1) (rw (ne_eqb n 1 other) (omega arith))
-
-degree_more : (x : ℕ) (E : List (List ℕ)) (i : ℕ) → i < length E → degree x (take (i + 1) E) ≡ degree x (take i E) + has x (edge_at E i)
-degree_more x E i within = ap (λ (L : List (List ℕ)). degree x L) (take_more E i [] within) ∙ omega (arith, degree_append x (take i E) (edge_at E i ∷ []))
-
--- the variables seen once and twice, with one more edge
-pub once_more : (E : List (List ℕ)) (i : ℕ) (e old new : List ℕ) → i < length E → e ≡ edge_at E i → ((x : ℕ) → member x old ≡ nat_lt 0 (degree x (take i E)))
-    → ((x : ℕ) → member x new ≡ (member x old || member x e)) → (x : ℕ) → member x new ≡ nat_lt 0 (degree x (take (i + 1) E))
-once_more E i e old new within is saw union x =
-    let here : has x e ≡ has x (edge_at E i) = ap (λ (l : List ℕ). has x l) is in
-    union x ∙ once_step (member x old) (member x e) (degree x (take i E)) (degree x (take (i + 1) E)) (saw x) (omega (arith, degree_more x E i within))
-
-pub twice_more : (E : List (List ℕ)) (i : ℕ) (e once both old new : List ℕ) → i < length E → e ≡ edge_at E i → ((x : ℕ) → member x once ≡ nat_lt 0 (degree x (take i E)))
-    → ((x : ℕ) → member x old ≡ nat_lt 1 (degree x (take i E))) → both ≡ common once e → ((x : ℕ) → member x new ≡ (member x old || member x both)) → (x : ℕ) → member x new ≡ nat_lt 1 (degree x (take (i + 1) E))
-twice_more E i e once both old new within is saw saw_twice shared union x =
-    let here : has x e ≡ has x (edge_at E i) = ap (λ (l : List ℕ). has x l) is in
-    let in_both : member x both ≡ (member x once && member x e) =
-    ap (λ (l : List ℕ). member x l) shared ∙ same_one (member x (common once e)) (member x once && member x e) (has_common x once e ∙ sym (one_and (member x once) (member x e))) in
-    union x ∙ ap (λ (b : Bool). member x old || b) in_both
-    ∙ twice_step (member x old) (member x once) (member x e) (degree x (take i E)) (degree x (take (i + 1) E)) (saw_twice x) (saw x) (omega (arith, degree_more x E i within))
-
-pub own_variables_of : (E : List (List ℕ)) (i : ℕ) (once twice own : List ℕ) → length E ≤ i → ((x : ℕ) → member x once ≡ nat_lt 0 (degree x (take i E))) → ((x : ℕ) → member x twice ≡ nat_lt 1 (degree x (take i E)))
-    → own ≡ minus once twice → (x : ℕ) → member x own ≡ (degree x E == 1)
-own_variables_of E i once twice own all saw saw_twice is x =
-    let whole : degree x (take i E) ≡ degree x E = ap (λ (L : List (List ℕ)). degree x L) (take_all i E all) in
-    let r : has x own ≡ min (has x once) (1 - has x twice) = ap (λ (l : List ℕ). has x l) is ∙ has_minus x once twice in
-    own_test (member x once) (member x twice) (member x own) (degree x (take i E)) (saw x) (saw_twice x) r ∙ ap (λ (n : ℕ). n == 1) whole
 
 -- ---- the first variable of a set
 
@@ -74,17 +22,17 @@ first_none [] h = refl
 first_none (y ∷ l) h = absurd cc
 
 -- a variable of an edge and of those that lie in one edge only is a step
-pub vertex_step : (E : List (List ℕ)) (i x : ℕ) (e own shared : List ℕ) → i < length E → e ≡ edge_at E i → ((y : ℕ) → member y own ≡ (degree y E == 1)) → shared ≡ common e own → Some x ≡ slice_get shared 0 → IsStep E (Vertex i x)
+pub vertex_step : (E : List (List ℕ)) (i x : ℕ) (e own shared : List ℕ) → i < length E → e ≡ edge_at E i → ((y : ℕ) → member y own ≡ (degree y E == 1)) → shared ≡ intersection e own → Some x ≡ slice_get shared 0 → IsStep E (Vertex i x)
 vertex_step E i x e own shared within is alone both first =
     let lies = from_true (member x shared) (first_in x shared first) in
-    let w : has x shared ≡ min (has x e) (has x own) = ap (λ (l : List ℕ). has x l) both ∙ has_common x e own in
+    let w : has x shared ≡ min (has x e) (has x own) = ap (λ (l : List ℕ). has x l) both ∙ has_intersection x e own in
     let here : has x e ≡ has x (edge_at E i) = ap (λ (l : List ℕ). has x l) is in
     (within, one_true (member x (edge_at E i)) (omega arith), eqb-true (degree x E) 1 (sym (alone x) ∙ one_true (member x own) (omega arith)))
 
-pub no_vertex : (E : List (List ℕ)) (i : ℕ) (e own shared : List ℕ) → e ≡ edge_at E i → ((y : ℕ) → member y own ≡ (degree y E == 1)) → shared ≡ common e own → None ≡ slice_get shared 0
+pub no_vertex : (E : List (List ℕ)) (i : ℕ) (e own shared : List ℕ) → e ≡ edge_at E i → ((y : ℕ) → member y own ≡ (degree y E == 1)) → shared ≡ intersection e own → None ≡ slice_get shared 0
     → (x : ℕ) → member x (edge_at E i) ≡ true → degree x E ≡ 1 → ⊥
 no_vertex E i e own shared is alone both none x lies once =
-    let w : 0 ≡ min (has x e) (has x own) = ap (λ (l : List ℕ). has x l) (sym (first_none shared none) ∙ both) ∙ has_common x e own in
+    let w : 0 ≡ min (has x e) (has x own) = ap (λ (l : List ℕ). has x l) (sym (first_none shared none) ∙ both) ∙ has_intersection x e own in
     let here : has x e ≡ has x (edge_at E i) = ap (λ (l : List ℕ). has x l) is in
     let a = from_true (member x (edge_at E i)) lies in
     let b = from_true (member x own) (alone x ∙ eq-eqb (degree x E) 1 once) in
@@ -106,22 +54,3 @@ pub bare_more : (E : List (List ℕ)) (i : ℕ) (e : List ℕ) → i < length E 
 bare_more E i e within is none bare x =
     let here : 0 ≡ has x (edge_at E i) = ap (λ (l : List ℕ). has x l) (sym (first_none e none) ∙ is) in
     omega (arith, degree_more x E i within, bare x)
-
-pub bare_all : (E : List (List ℕ)) (i : ℕ) → length E ≤ i → ((x : ℕ) → degree x (take i E) ≡ 0) → IsBare E
-bare_all E i all bare x = sym (ap (λ (L : List (List ℕ)). degree x L) (take_all i E all)) ∙ bare x
-
--- ---- a variable is below the limit
-
-pub member_below : (x n : ℕ) (l : List ℕ) → All (λ y. y < n) l → member x l ≡ true → x < n
-member_below x n [] all lies = absurd cc
-member_below x n (y ∷ l) all lies =
-    elim (cases_eq x y) [
-      | inl same ↦ let low : y < n = all 0 0 (omega arith) in omega arith
-      | inr apart ↦ member_below x n l (λ k d within. all (suc k) d (omega arith)) (one_true (member x l) (omega (arith, from_true (member x (y ∷ l)) lies, has_other x y l apart)))
-    ]
-
--- a step's variable is below what each variable of its edge is below
-pub vertex_below : (n : ℕ) (E : List (List ℕ)) (i x : ℕ) (s : Step) (e : List ℕ) → s ≡ Vertex i x → IsStep E s → e ≡ slice_index_or E i e → All (λ y. y < n) e → x < n
-vertex_below n E i x s e is step read all =
-    let h : IsStep E (Vertex i x) = subst (λ (t : Step). IsStep E t) is step in
-    member_below x n e all (ap (λ (l : List ℕ). member x l) (read_at E i e h.0 read) ∙ h.1)

@@ -4,8 +4,8 @@ use Rattle.std.proofs.Common.{sym, ap, ◌∙◌, subst, arith, inl, inr}
 use Rattle.std.proofs.lemmas.Bool.{cases_lt, cases_eq}
 use Rattle.djq_hyper.specs.declared.step.Step.{Step}
 use Rattle.djq_hyper.specs.declared.step.Step.TheVariants.{Vertex, Edge}
-use Rattle.djq_hyper.specs.Hypergraph.{member, degree, minus, edge_at, subset}
-use Rattle.djq_hyper.specs.Gyo.{IsStep, after, Leads, IsIrreducible, IsBare}
+use Rattle.djq_hyper.specs.Hypergraph.{member, degree, difference, edge_at, subset}
+use Rattle.djq_hyper.specs.Gyo.{IsStep, reduced, Leads, IsIrreducible, IsBare}
 use Rattle.djq_hyper.specs.JoinTree.{HasJoinTree}
 use Rattle.djq_hyper.proofs.Members.{has, Sub, one_le, one_true, from_true, from_false, subset_says, subset_from, has_one, has_here, has_other}
 use Rattle.djq_hyper.proofs.Bags.{labels, out_of, out_same, total, total_same}
@@ -26,33 +26,33 @@ own_of E i x within lies alone y is =
     let none : degree x ([] ∷ remove E i) ≡ 0 = omega arith in
     ap (λ (z : ℕ). degree z ([] ∷ remove E i)) same ∙ none
 
-pub step_to : (E : List (List ℕ)) (s : Step) → IsStep E s → Rooted [] E → Rooted [] (after E s)
+pub step_to : (E : List (List ℕ)) (s : Step) → IsStep E s → Rooted [] E → Rooted [] (reduced E s)
 step_to E (Vertex i x) h r =
-    rooted_same [] (minus (edge_at E i) (x ∷ []) ∷ remove E i) (after E (Vertex i x)) (flip (after E (Vertex i x)) (minus (edge_at E i) (x ∷ []) ∷ remove E i) (set_place E i (minus (edge_at E i) (x ∷ [])) h.0))
+    rooted_same [] (difference (edge_at E i) (x ∷ []) ∷ remove E i) (reduced E (Vertex i x)) (flip (reduced E (Vertex i x)) (difference (edge_at E i) (x ∷ []) ∷ remove E i) (set_place E i (difference (edge_at E i) (x ∷ [])) h.0))
     (trimmed [] (edge_at E i) (x ∷ []) (remove E i) (own_of E i x h.0 h.1 h.2) (rooted_same [] E (edge_at E i ∷ remove E i) (at_place E i h.0) r))
 step_to E (Edge i j) h r =
     dropped [] (edge_at E i) (edge_at E j) (remove E i) (other_place E i j h.2 h.0 h.1) (subset_says (edge_at E i) (edge_at E j) h.3) (rooted_same [] E (edge_at E i ∷ remove E i) (at_place E i h.0) r)
 
-pub step_back : (E : List (List ℕ)) (s : Step) → IsStep E s → Rooted [] (after E s) → Rooted [] E
+pub step_back : (E : List (List ℕ)) (s : Step) → IsStep E s → Rooted [] (reduced E s) → Rooted [] E
 step_back E (Vertex i x) h r =
     rooted_same [] (edge_at E i ∷ remove E i) E (flip E (edge_at E i ∷ remove E i) (at_place E i h.0))
     (untrimmed [] (edge_at E i) (x ∷ []) (remove E i) (own_of E i x h.0 h.1 h.2)
-    (rooted_same [] (after E (Vertex i x)) (minus (edge_at E i) (x ∷ []) ∷ remove E i) (set_place E i (minus (edge_at E i) (x ∷ [])) h.0) r))
+    (rooted_same [] (reduced E (Vertex i x)) (difference (edge_at E i) (x ∷ []) ∷ remove E i) (set_place E i (difference (edge_at E i) (x ∷ [])) h.0) r))
 step_back E (Edge i j) h r =
     rooted_same [] (edge_at E i ∷ remove E i) E (flip E (edge_at E i ∷ remove E i) (at_place E i h.0))
     (undropped [] (edge_at E i) (edge_at E j) (remove E i) (other_place E i j h.2 h.0 h.1) (subset_says (edge_at E i) (edge_at E j) h.3) r)
 
 pub leads_to : (E : List (List ℕ)) (S : List Step) (R : List (List ℕ)) → Leads E S R → Rooted [] E → Rooted [] R
 leads_to E [] R h r = subst (λ (L : List (List ℕ)). Rooted [] L) h r
-leads_to E (s ∷ S) R h r = leads_to (after E s) S R h.1 (step_to E s h.0 r)
+leads_to E (s ∷ S) R h r = leads_to (reduced E s) S R h.1 (step_to E s h.0 r)
 
 pub leads_back : (E : List (List ℕ)) (S : List Step) (R : List (List ℕ)) → Leads E S R → Rooted [] R → Rooted [] E
 leads_back E [] R h r = subst (λ (L : List (List ℕ)). Rooted [] L) (sym h) r
-leads_back E (s ∷ S) R h r = step_back E s h.0 (leads_back (after E s) S R h.1 r)
+leads_back E (s ∷ S) R h r = step_back E s h.0 (leads_back (reduced E s) S R h.1 r)
 
-pub leads_more : (E : List (List ℕ)) (S : List Step) (R : List (List ℕ)) (s : Step) → Leads E S R → IsStep R s → Leads E (S ++ s ∷ []) (after R s)
-leads_more E [] R s h step = (subst (λ (L : List (List ℕ)). IsStep L s) (sym h) step, ap (λ (L : List (List ℕ)). after L s) h)
-leads_more E (t ∷ S) R s h step = (h.0, leads_more (after E t) S R s h.1 step)
+pub leads_more : (E : List (List ℕ)) (S : List Step) (R : List (List ℕ)) (s : Step) → Leads E S R → IsStep R s → Leads E (S ++ s ∷ []) (reduced R s)
+leads_more E [] R s h step = (subst (λ (L : List (List ℕ)). IsStep L s) (sym h) step, ap (λ (L : List (List ℕ)). reduced L s) h)
+leads_more E (t ∷ S) R s h step = (h.0, leads_more (reduced E t) S R s h.1 step)
 
 -- ---- the end
 
@@ -134,11 +134,11 @@ drop_length : (b c : Bool) (y : ℕ) (l m : List ℕ) → c ≡ not b → length
 drop_length true c y l m e h r = rw e (omega arith)
 drop_length false c y l m e h r = rw e (omega (arith, r refl))
 
-minus_less : (x : ℕ) (l : List ℕ) → member x l ≡ true → length (minus l (x ∷ [])) < length l
-minus_less x [] h = absurd cc
-minus_less x (y ∷ l) h =
-    drop_length (member y (x ∷ [])) (not (member y (x ∷ []))) y l (minus l (x ∷ [])) refl (filter_most (λ z. not (member z (x ∷ []))) l)
-    (λ apart. minus_less x l (rest apart))
+difference_less : (x : ℕ) (l : List ℕ) → member x l ≡ true → length (difference l (x ∷ [])) < length l
+difference_less x [] h = absurd cc
+difference_less x (y ∷ l) h =
+    drop_length (member y (x ∷ [])) (not (member y (x ∷ []))) y l (difference l (x ∷ [])) refl (filter_most (λ z. not (member z (x ∷ []))) l)
+    (λ apart. difference_less x l (rest apart))
   where
     rest : member y (x ∷ []) ≡ false → member x l ≡ true
     rest apart =
@@ -147,18 +147,18 @@ minus_less x (y ∷ l) h =
           | inr other ↦ one_true (member x l) (omega (arith, from_true (member x (y ∷ l)) h, has_other x y l other))
         ]
 
-pub size_falls : (E : List (List ℕ)) (s : Step) → IsStep E s → size (after E s) < size E
+pub size_falls : (E : List (List ℕ)) (s : Step) → IsStep E s → size (reduced E s) < size E
 size_falls E (Vertex i x) h =
-    omega (arith, size_same E (edge_at E i ∷ remove E i) (at_place E i h.0), size_same (after E (Vertex i x)) (minus (edge_at E i) (x ∷ []) ∷ remove E i) (set_place E i (minus (edge_at E i) (x ∷ [])) h.0), minus_less x (edge_at E i) h.1)
+    omega (arith, size_same E (edge_at E i ∷ remove E i) (at_place E i h.0), size_same (reduced E (Vertex i x)) (difference (edge_at E i) (x ∷ []) ∷ remove E i) (set_place E i (difference (edge_at E i) (x ∷ [])) h.0), difference_less x (edge_at E i) h.1)
 size_falls E (Edge i j) h = omega (arith, size_same E (edge_at E i ∷ remove E i) (at_place E i h.0))
 
 -- ---- a turn of the loop, where the code's slice D is the list R
 
-pub turn_leads : (E : List (List ℕ)) (S : List Step) (R D : List (List ℕ)) (s : Step) (S' : List Step) (R' : List (List ℕ)) → Leads E S R → D ≡ R → IsStep D s → S' ≡ S ++ s ∷ [] → R' ≡ after R s → Leads E S' R'
+pub turn_leads : (E : List (List ℕ)) (S : List Step) (R D : List (List ℕ)) (s : Step) (S' : List Step) (R' : List (List ℕ)) → Leads E S R → D ≡ R → IsStep D s → S' ≡ S ++ s ∷ [] → R' ≡ reduced R s → Leads E S' R'
 turn_leads E S R D s S' R' h is step more next =
     subst (λ (T : List Step). Leads E T R') (sym more) (subst (λ (L : List (List ℕ)). Leads E (S ++ s ∷ []) L) (sym next) (leads_more E S R s h (subst (λ (L : List (List ℕ)). IsStep L s) is step)))
 
-pub turn_falls : (R D : List (List ℕ)) (s : Step) (R' : List (List ℕ)) → D ≡ R → IsStep D s → R' ≡ after R s → size R' < size R
+pub turn_falls : (R D : List (List ℕ)) (s : Step) (R' : List (List ℕ)) → D ≡ R → IsStep D s → R' ≡ reduced R s → size R' < size R
 turn_falls R D s R' is step next = subst (λ (L : List (List ℕ)). size L < size R) (sym next) (size_falls R s (subst (λ (L : List (List ℕ)). IsStep L s) is step))
 
 -- ---- what the end says of the beginning

@@ -1,23 +1,9 @@
-ghost use Rattle.std.specs.Prelude.{◌≡◌, ℕ, ◌<◌, ◌==◌, length, IfSome, IfNone};
-ghost use Rattle.djq_hyper.specs.Hypergraph.{member, degree};
+ghost use Rattle.std.specs.Prelude.{ℕ, ◌<◌, length, IfSome, IfNone};
+ghost use Rattle.djq_hyper.specs.Hypergraph.{degree};
 ghost use Rattle.djq_hyper.specs.Gyo.{IsStep, IsIrreducible, IsBare};
 ghost use Rattle.djq_gyo.specs.Search.{HasNoOwn};
 
-use djq_hyper::{Step, VarSet};
-
-/// The variables that lie in exactly one edge.
-fn own_variables(sets: &[VarSet]) -> VarSet
-    ensures { (x : ℕ) → member x result ≡ (degree x sets.now == 1) }
-{
-    let mut once = VarSet::new();
-    let mut twice = VarSet::new();
-    'sets: for i in 0..sets.len() {
-        let set = sets[i];
-        twice = twice.union(once.common(set));
-        once = once.union(set);
-    }
-    once.minus(twice)
-}
+use djq_hyper::{Step, VarSet, own_variables};
 
 /// A step that takes out a variable which lies in one edge only.
 fn find_vertex(sets: &[VarSet]) -> Option<Step>
@@ -26,7 +12,7 @@ fn find_vertex(sets: &[VarSet]) -> Option<Step>
 {
     let own = own_variables(sets);
     'sets: for edge in 0..sets.len() {
-        let shared = sets[edge].common(own);
+        let shared = sets[edge].intersection(own);
         if let Some(variable) = shared.first() {
             return Some(Step::Vertex { edge, variable });
         }

@@ -20,5 +20,5 @@ mod steps;
 mod take;
 
 pub use djq_hyper::Step;
-pub use reducing::{Reduction, reduce, turn_join_tree};
+pub use reducing::{Reduction, reduce, rest_is_lean, turn_join_tree};
 pub use steps::Steps;

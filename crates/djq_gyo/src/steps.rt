@@ -5,7 +5,7 @@ use std::marker::Model;
 
 /// The steps of a reduction, in the order in which they were taken. A step's positions are those of the
 /// list that it is applied to: after an edge is taken out, the edges behind it have moved up.
-#[derive(Drop)]
+#[derive(Debug, Drop)]
 pub struct Steps {
     steps: Vec<Step>,
 }

@@ -1,17 +1,16 @@
 ghost use Rattle.std.specs.Prelude.{◌≡◌};
-ghost use Rattle.djq_hyper.specs.Gyo.{IsStep, after};
+ghost use Rattle.djq_hyper.specs.Gyo.{IsStep, reduced};
 
 use djq_hyper::{Step, VarSet};
 
 /// Takes the step.
 pub fn take_step(sets: &mut Vec<VarSet>, step: Step)
     requires { IsStep sets.old.items step }
-    ensures { sets.new.items ≡ after sets.old.items step }
+    ensures { sets.new.items ≡ reduced sets.old.items step }
 {
     match step {
         Step::Vertex { edge, variable } => {
             let set = sets[edge];
-            set.rises();
             sets[edge] = set.without(variable);
         }
         Step::Edge { edge, within: _ } => {

@@ -6,10 +6,10 @@ use Rattle.std.proofs.lemmas.List.{reverse-append, length-reverse, take_more, ge
 use Rattle.std.specs.List.{list_any}
 use Rattle.std.proofs.Common.{take-append-drop}
 use Rattle.djq_hyper.specs.declared.join_tree.Link.{Link}
-use Rattle.djq_hyper.specs.Hypergraph.{member, one, degree, edge_at, subset, common}
-use Rattle.djq_hyper.specs.JoinTree.{places, over, IsUnder, IsOrder, IsJoinTree, edges_of}
+use Rattle.djq_hyper.specs.Hypergraph.{member, one, degree, edge_at, subset, intersection}
+use Rattle.djq_hyper.specs.JoinTree.{places, parent_edge, IsUnder, IsOrder, IsJoinTree, edges_of}
 use Rattle.djq_hyper.specs.Checking.{Fits}
-use Rattle.djq_hyper.proofs.Members.{has, one_le, one_true, from_true, subset_from, subset_says, has_common}
+use Rattle.djq_hyper.proofs.Members.{has, one_le, one_true, from_true, subset_from, subset_says, has_intersection}
 use Rattle.djq_hyper.proofs.Bags.{numbers, times, Bag, full, length_same}
 use Rattle.djq_hyper.proofs.Hanging.{Keeps, spots, upto, times_spots, times_upto, keeps_of, join_tree_of}
 
@@ -44,9 +44,6 @@ pub record SoFar (E : List (List ℕ)) (P : List Link) : Type 0 where
   pub keeps : Keeps E (reverse P)
   pub below : (p : ℕ) → 0 < places p P → p < length E
 
-pub so_far_none : (E : List (List ℕ)) → SoFar E []
-so_far_none E = record { ordered = tt; keeps = tt; below = λ p h. absurd (omega arith) }
-
 under_of : (k : Link) (R : List Link) → (0 < length R → 0 < places k.parent R) → IsUnder k R
 under_of k [] h = tt
 under_of k (j ∷ R) h = h (omega arith)
@@ -55,7 +52,7 @@ under_says : (k : Link) (R : List Link) → IsUnder k R → 0 < length R → 0 <
 under_says k [] h some = absurd (omega arith)
 under_says k (j ∷ R) h some = h
 
-over_of : (E : List (List ℕ)) (k : Link) (R : List Link) → 0 < length R → over E k R ≡ edge_at E k.parent
+over_of : (E : List (List ℕ)) (k : Link) (R : List Link) → 0 < length R → parent_edge E k R ≡ edge_at E k.parent
 over_of E k [] some = absurd (omega arith)
 over_of E k (j ∷ R) some = refl
 
@@ -78,7 +75,7 @@ so_far_more E P k s f =
           let w = below_reverse x E P in
           let some = below_some x E (reverse P) below in
           let q = f.keeps (omega arith) x within (omega arith) in
-          let o : has x (over E k (reverse P)) ≡ has x (edge_at E k.parent) = ap (λ (z : List ℕ). has x z) (over_of E k (reverse P) some) in
+          let o : has x (parent_edge E k (reverse P)) ≡ has x (edge_at E k.parent) = ap (λ (z : List ℕ). has x z) (over_of E k (reverse P) some) in
           omega arith,
       s.keeps,
     ) in
@@ -179,7 +176,7 @@ all_fit E B i d within t =
       keeps = λ some x within below.
           let w = below_reverse x E P in
           let q = keeps.0 x within (omega arith) in
-          let o : has x (over E k (reverse P)) ≡ has x (edge_at E k.parent) = ap (λ (z : List ℕ). has x z) (over_of E k (reverse P) (omega arith)) in
+          let o : has x (parent_edge E k (reverse P)) ≡ has x (edge_at E k.parent) = ap (λ (z : List ℕ). has x z) (over_of E k (reverse P) (omega arith)) in
           omega arith;
     }
 
@@ -207,20 +204,20 @@ has_seen x n seen h = (λ m. ltb-true 0 n (sym h ∙ one_true (member x seen) m)
 
 -- the last test: what the edge shares with those before lies in its parent
 pub last_test : (E : List (List ℕ)) (P : List Link) (k : Link) (seen : List ℕ) (test : Bool) → ((x : ℕ) → member x seen ≡ nat_lt 0 (degree x (edges_of E P)))
-    → k.edge < length E → places k.edge P ≡ 0 → 0 < length P → 0 < places k.parent P → test ≡ subset (common (edge_at E k.edge) seen) (edge_at E k.parent) → IsTrue test ↔ Fits E P k
+    → k.edge < length E → places k.edge P ≡ 0 → 0 < length P → 0 < places k.parent P → test ≡ subset (intersection (edge_at E k.edge) seen) (edge_at E k.parent) → IsTrue test ↔ Fits E P k
 last_test E P k seen test saw below fresh some under is = (
   λ holds. record {
     below = below;
     fresh = fresh;
     under = λ _. under;
     keeps = λ _ x within lies.
-        let q = subset_says (common (edge_at E k.edge) seen) (edge_at E k.parent) (sym is ∙ holds) x in
-        let w = has_common x (edge_at E k.edge) seen in
+        let q = subset_says (intersection (edge_at E k.edge) seen) (edge_at E k.parent) (sym is ∙ holds) x in
+        let w = has_intersection x (edge_at E k.edge) seen in
         let s = (has_seen x (degree x (edges_of E P)) seen (saw x)).1 lies in
         omega arith;
   },
-  λ f. is ∙ subset_from (common (edge_at E k.edge) seen) (edge_at E k.parent) (λ x.
-      let w = has_common x (edge_at E k.edge) seen in
+  λ f. is ∙ subset_from (intersection (edge_at E k.edge) seen) (edge_at E k.parent) (λ x.
+      let w = has_intersection x (edge_at E k.edge) seen in
       let s = has_seen x (degree x (edges_of E P)) seen (saw x) in
       let low = one_le (member x (edge_at E k.edge)) in
       elim (cases_lt 0 (min (has x (edge_at E k.edge)) (has x seen))) [

@@ -6,7 +6,7 @@ use Rattle.std.proofs.lemmas.List.{take_more}
 use Rattle.djq_hyper.specs.declared.join_tree.Link.{Link}
 use Rattle.djq_hyper.specs.Hypergraph.{member, one, degree, edge_at}
 pub use Rattle.djq_hyper.specs.JoinTree.{edges_of}
-use Rattle.djq_hyper.specs.JoinTree.{places, over, IsUnder, IsOrder, tops, IsJoinTree}
+use Rattle.djq_hyper.specs.JoinTree.{places, parent_edge, IsUnder, IsOrder, tops, IsJoinTree}
 use Rattle.djq_hyper.proofs.Members.{has, one_le}
 use Rattle.djq_hyper.proofs.Bags.{labels, numbers, times, times_append, Bag, map_same}
 use Rattle.djq_hyper.proofs.Counting.{count, Same, count_self, degree_same}
@@ -14,7 +14,7 @@ use Rattle.djq_hyper.proofs.Counting.{count, Same, count_self, degree_same}
 -- the leaf form, for all links
 abbrev pub Keeps : List (List ℕ) → List Link → Type 0
 Keeps E [] = Unit {0}
-Keeps E (k ∷ R) = ((x : ℕ) → 0 < has x (edge_at E k.edge) → 0 < degree x (edges_of E R) → 0 < has x (over E k R)) × Keeps E R
+Keeps E (k ∷ R) = ((x : ℕ) → 0 < has x (edge_at E k.edge) → 0 < degree x (edges_of E R) → 0 < has x (parent_edge E k R)) × Keeps E R
 
 top_one : (a b : Bool) → one (a && not b) ≡ one a - one b
 top_one true true = refl
@@ -22,8 +22,8 @@ top_one true false = refl
 top_one false true = refl
 top_one false false = refl
 
-pub tops_step : (x : ℕ) (E : List (List ℕ)) (k : Link) (R : List Link) → tops x E (k ∷ R) ≡ (has x (edge_at E k.edge) - has x (over E k R)) + tops x E R
-tops_step x E k R = ap (λ n. n + tops x E R) (top_one (member x (edge_at E k.edge)) (member x (over E k R)))
+pub tops_step : (x : ℕ) (E : List (List ℕ)) (k : Link) (R : List Link) → tops x E (k ∷ R) ≡ (has x (edge_at E k.edge) - has x (parent_edge E k R)) + tops x E R
+tops_step x E k R = ap (λ n. n + tops x E R) (top_one (member x (edge_at E k.edge)) (member x (parent_edge E k R)))
 
 pub place_below : (p x : ℕ) (E : List (List ℕ)) (R : List Link) → 0 < places p R → 0 < has x (edge_at E p) → 0 < degree x (edges_of E R)
 place_below p x E [] stands within = absurd (omega arith)
@@ -47,7 +47,7 @@ place_counts p E (k ∷ R) stands =
           omega (arith, place_counts p E R (omega arith))
     ]
 
-over_below : (x : ℕ) (E : List (List ℕ)) (k : Link) (R : List Link) → IsUnder k R → 0 < has x (over E k R) → 0 < degree x (edges_of E R)
+over_below : (x : ℕ) (E : List (List ℕ)) (k : Link) (R : List Link) → IsUnder k R → 0 < has x (parent_edge E k R) → 0 < degree x (edges_of E R)
 over_below x E k [] under within = absurd (omega arith)
 over_below x E k (j ∷ R) under within = place_below k.parent x E (j ∷ R) under within
 
@@ -59,7 +59,7 @@ some_top x E (k ∷ R) ordered lies =
     elim (cases_lt 0 (degree x (edges_of E R))) [
       | inl c ↦ omega (arith, some_top x E R ordered.2 c)
       | inr c ↦
-          elim (cases_lt 0 (has x (over E k R))) [
+          elim (cases_lt 0 (has x (parent_edge E k R))) [
             | inl d ↦ absurd (let q = over_below x E k R ordered.1 d in omega arith)
             | inr d ↦ omega arith
           ]

@@ -1,4 +1,5 @@
 pub mod Members
+pub mod Owning
 pub mod Words
 pub mod Bags
 pub mod Counting

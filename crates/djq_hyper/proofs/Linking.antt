@@ -4,7 +4,7 @@ use Rattle.std.proofs.Common.{sym, ap, ◌∙◌, subst, arith, inl, inr}
 use Rattle.std.proofs.lemmas.Bool.{cases_lt, eq-eqb}
 use Rattle.djq_hyper.specs.declared.join_tree.Link.{Link}
 use Rattle.djq_hyper.specs.Hypergraph.{one, degree, edge_at}
-use Rattle.djq_hyper.specs.JoinTree.{places, over, IsUnder, IsOrder, IsJoinTree, IsRootedAt, HasJoinTree, HasJoinTreeFrom, IsFreeConnex}
+use Rattle.djq_hyper.specs.JoinTree.{places, parent_edge, IsUnder, IsOrder, IsJoinTree, IsRootedAt, HasJoinTree, HasJoinTreeFrom, IsFreeConnex}
 use Rattle.djq_hyper.proofs.Members.{has, one_le}
 use Rattle.djq_hyper.proofs.Bags.{labels, numbers, times, times_append, times_itself, same_item, Bag, from_map, drawn}
 use Rattle.djq_hyper.proofs.Counting.{count, count_self}
@@ -14,14 +14,14 @@ use Rattle.djq_hyper.proofs.Hanging.{edges_of, Keeps, place_counts, spots, times
 
 -- ---- from links to labels
 
-over_counts : (E : List (List ℕ)) (k : Link) (R : List Link) → IsUnder k R → 0 < count (over E k R) ([] ∷ edges_of E R)
+over_counts : (E : List (List ℕ)) (k : Link) (R : List Link) → IsUnder k R → 0 < count (parent_edge E k R) ([] ∷ edges_of E R)
 over_counts E k [] under = count_self [] []
 over_counts E k (j ∷ R) under = omega (arith, place_counts k.parent E (j ∷ R) under)
 
 tree_of : (E : List (List ℕ)) (R : List Link) → IsOrder R → Keeps E R → Tree [] (edges_of E R)
 tree_of E [] ordered keeps = tt
 tree_of E (k ∷ R) ordered keeps =
-    (over E k R, record { stands = over_counts E k R ordered.1; keeps = λ x within below. keeps.0 x within (omega arith) }, tree_of E R ordered.2 keeps.1)
+    (parent_edge E k R, record { stands = over_counts E k R ordered.1; keeps = λ x within below. keeps.0 x within (omega arith) }, tree_of E R ordered.2 keeps.1)
 
 pub rooted_of : (E : List (List ℕ)) (R : List Link) → IsJoinTree E R → Rooted [] E
 rooted_of E R t = record { order = edges_of E R; those = edges_same E R t.covers; tree = tree_of E R t.ordered (keeps_of E R t) }
@@ -49,7 +49,7 @@ under_from : (k : Link) (R : List Link) → (R ≡ []) ⊎ (0 < places k.parent 
 under_from k [] h = tt
 under_from k (j ∷ R) h = elim h [ inl e ↦ absurd cc | inr s ↦ s ]
 
-over_is : (E : List (List ℕ)) (k : Link) (R : List Link) → 0 < places k.parent R → over E k R ≡ edge_at E k.parent
+over_is : (E : List (List ℕ)) (k : Link) (R : List Link) → 0 < places k.parent R → parent_edge E k R ≡ edge_at E k.parent
 over_is E k [] stands = absurd (omega arith)
 over_is E k (j ∷ R) stands = refl
 
@@ -59,7 +59,7 @@ any_place [] = (0, inl refl)
 any_place (k ∷ R) = (k.edge, inr (let here : one (k.edge == k.edge) ≡ 1 = rw (eq-eqb k.edge k.edge refl) refl in omega arith))
 
 link_on : (E : List (List ℕ)) (k : Link) (qs : List ℕ) (r : Linked E qs) → times numbers k.edge qs ≡ 0 → IsUnder k r.links
-    → ((x : ℕ) → 0 < has x (edge_at E k.edge) → 0 < degree x (map (λ p. edge_at E p) qs) → 0 < has x (over E k r.links)) → Linked E (k.edge ∷ qs)
+    → ((x : ℕ) → 0 < has x (edge_at E k.edge) → 0 < degree x (map (λ p. edge_at E p) qs) → 0 < has x (parent_edge E k r.links)) → Linked E (k.edge ∷ qs)
 link_on E k qs r fresh under keep =
     record {
       links = k ∷ r.links;
@@ -75,7 +75,7 @@ link_to E p q qs r f fresh stands is keep =
     let k : Link = record { edge = p; parent = q } in
     let s : 0 < places q r.links = let w = linked_places E qs r q in omega arith in
     link_on E k qs r fresh (under_from k r.links (inr s)) (λ x within below.
-    let w : has x f ≡ has x (over E k r.links) = ap (λ (z : List ℕ). has x z) (is ∙ sym (over_is E k r.links s)) in
+    let w : has x f ≡ has x (parent_edge E k r.links) = ap (λ (z : List ℕ). has x z) (is ∙ sym (over_is E k r.links s)) in
     let m = keep x within below in
     omega arith)
 

@@ -2,7 +2,7 @@
 use Rattle.std.specs.Prelude.{◌≡◌, ℕ, ◌-◌, ◌<◌, ◌≤◌, min, max, Bool, true, false, cond, not, ◌==◌, ◌&&◌, ◌||◌, List, [], ◌∷◌, filter, refl}
 use Rattle.std.proofs.Common.{sym, ap, ◌∙◌, arith, inl, inr}
 use Rattle.std.proofs.lemmas.Bool.{cases_eq, eq-eqb, ne_eqb}
-use Rattle.djq_hyper.specs.Hypergraph.{member, subset, minus, common, one}
+use Rattle.djq_hyper.specs.Hypergraph.{member, subset, difference, intersection, one}
 pub use Rattle.djq_hyper.specs.Masks.{has}
 
 -- each variable of the first set is in the second
@@ -104,8 +104,8 @@ pub has_filter : (p : ℕ → Bool) (x : ℕ) (l : List ℕ) → has x (filter p
 has_filter p x [] = omega arith
 has_filter p x (y ∷ l) = keep_step (p y) p x y l refl (has_filter p x l)
 
-pub has_minus : (x : ℕ) (e f : List ℕ) → has x (minus e f) ≡ min (has x e) (1 - has x f)
-has_minus x e f = has_filter (λ y. not (member y f)) x e ∙ ap (λ n. min (has x e) n) (one_not (member x f))
+pub has_difference : (x : ℕ) (e f : List ℕ) → has x (difference e f) ≡ min (has x e) (1 - has x f)
+has_difference x e f = has_filter (λ y. not (member y f)) x e ∙ ap (λ n. min (has x e) n) (one_not (member x f))
 
-pub has_common : (x : ℕ) (e f : List ℕ) → has x (common e f) ≡ min (has x e) (has x f)
-has_common x e f = has_filter (λ y. member y f) x e
+pub has_intersection : (x : ℕ) (e f : List ℕ) → has x (intersection e f) ≡ min (has x e) (has x f)
+has_intersection x e f = has_filter (λ y. member y f) x e

@@ -3,8 +3,8 @@
 use Rattle.std.specs.Prelude.{◌≡◌, ◌⊎◌, ℕ, ◌<◌, true, List, [], ◌∷◌, refl}
 use Rattle.std.proofs.Common.{sym, ap, ◌∙◌, arith, inl, inr}
 use Rattle.std.proofs.lemmas.Bool.{cases_Bool, cases_lt}
-use Rattle.djq_hyper.specs.Hypergraph.{member, subset, minus, degree}
-use Rattle.djq_hyper.proofs.Members.{has, Sub, one_le, subset_says, has_minus}
+use Rattle.djq_hyper.specs.Hypergraph.{member, subset, difference, degree}
+use Rattle.djq_hyper.proofs.Members.{has, Sub, one_le, subset_says, has_difference}
 use Rattle.djq_hyper.proofs.Bags.{labels, two_heads, same_item}
 use Rattle.djq_hyper.proofs.Counting.{count, Same, count_self, degree_same, outside}
 
@@ -236,15 +236,15 @@ progress F (e ∷ L) t =
 
 -- ---- the steps, both ways
 
-pub trimmed : (F e X : List ℕ) (N : List (List ℕ)) → ((x : ℕ) → 0 < has x X → degree x (F ∷ N) ≡ 0) → Rooted F (e ∷ N) → Rooted F (minus e X ∷ N)
+pub trimmed : (F e X : List ℕ) (N : List (List ℕ)) → ((x : ℕ) → 0 < has x X → degree x (F ∷ N) ≡ 0) → Rooted F (e ∷ N) → Rooted F (difference e X ∷ N)
 trimmed F e X N own r =
-    replaced F r.order e N (minus e X) r.tree r.those
-    (λ x below. let w = has_minus x e X in grind (arith, own x, one_le (member x e)))
+    replaced F r.order e N (difference e X) r.tree r.those
+    (λ x below. let w = has_difference x e X in grind (arith, own x, one_le (member x e)))
 
-pub untrimmed : (F e X : List ℕ) (N : List (List ℕ)) → ((x : ℕ) → 0 < has x X → degree x (F ∷ N) ≡ 0) → Rooted F (minus e X ∷ N) → Rooted F (e ∷ N)
+pub untrimmed : (F e X : List ℕ) (N : List (List ℕ)) → ((x : ℕ) → 0 < has x X → degree x (F ∷ N) ≡ 0) → Rooted F (difference e X ∷ N) → Rooted F (e ∷ N)
 untrimmed F e X N own r =
-    replaced F r.order (minus e X) N e r.tree r.those
-    (λ x below. let w = has_minus x e X in grind (arith, own x, one_le (member x e)))
+    replaced F r.order (difference e X) N e r.tree r.those
+    (λ x below. let w = has_difference x e X in grind (arith, own x, one_le (member x e)))
 
 pub dropped : (F s g : List ℕ) (N : List (List ℕ)) → 0 < count g N → Sub s g → Rooted F (s ∷ N) → Rooted F N
 dropped F s g N there inside r = deleted F r.order s N g r.tree r.those inside (omega arith)

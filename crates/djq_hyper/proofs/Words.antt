@@ -11,7 +11,7 @@ use Rattle.std.proofs.lemmas.Bool.{cases_lt, cases_eq, cases_Bool, eq-eqb, ne_eq
 use Rattle.std.proofs.lemmas.Nat.{or_lt, and_le_l}
 use Rattle.std.specs.Int.Count.{ones, ones_step}
 use Rattle.std.proofs.lemmas.Nat.Bits.{bit_at-zero, bit_at-lt, bit_at_and, bit_at_or, bit_at_not, bit_at_above, same_from_bits, shr_and_one, bit_at-trailing_zeros, bit_at_set_same, bit_at_set_other, bit_at_clear_same, bit_at_clear_other}
-use Rattle.djq_hyper.specs.Hypergraph.{member, subset, minus, common, one}
+use Rattle.djq_hyper.specs.Hypergraph.{member, subset, difference, intersection, one}
 use Rattle.djq_hyper.specs.declared.var_set.TheConstants.{VARIABLES}
 use Rattle.djq_hyper.specs.Masks.{variables_of, has_variables, has}
 use Rattle.djq_hyper.proofs.Members.{same_one, one_false, subset_from, subset_says, has_here, has_other}
@@ -82,43 +82,43 @@ filter_twice : (p q r : ℕ → Bool) (a n : ℕ) → ((x : ℕ) → x < a + n �
 filter_twice p q r a zero h = refl
 filter_twice p q r a (suc n) h = twice_step (q a) (r a) p a (filter q (range_with_len (a + 1) n)) (filter r (range_with_len (a + 1) n)) (h a (omega arith)) (filter_twice p q r (a + 1) n (λ x k. h x (omega arith)))
 
-minus_bit : (b c d : ℕ) (e : Bool) → b < 2 → one e ≡ c → d ≡ min b (1 - c) → (d == 1) ≡ ((b == 1) && not e)
-minus_bit zero c d e low f g = let k : d ≡ 0 = omega arith in rw k refl
-minus_bit (suc zero) c d true low f g = let k : d ≡ 0 = omega arith in rw k refl
-minus_bit (suc zero) c d false low f g = let k : d ≡ 1 = omega arith in rw k refl
-minus_bit (suc (suc b)) c d e low f g = absurd (omega arith)
+difference_bit : (b c d : ℕ) (e : Bool) → b < 2 → one e ≡ c → d ≡ min b (1 - c) → (d == 1) ≡ ((b == 1) && not e)
+difference_bit zero c d e low f g = let k : d ≡ 0 = omega arith in rw k refl
+difference_bit (suc zero) c d true low f g = let k : d ≡ 0 = omega arith in rw k refl
+difference_bit (suc zero) c d false low f g = let k : d ≡ 1 = omega arith in rw k refl
+difference_bit (suc (suc b)) c d e low f g = absurd (omega arith)
 
-common_bit : (b c d : ℕ) (e : Bool) → b < 2 → one e ≡ c → d ≡ min b c → (d == 1) ≡ ((b == 1) && e)
-common_bit zero c d e low f g = let k : d ≡ 0 = omega arith in rw k refl
-common_bit (suc zero) c d true low f g = let k : d ≡ 1 = omega arith in rw k refl
-common_bit (suc zero) c d false low f g = let k : d ≡ 0 = omega arith in rw k refl
-common_bit (suc (suc b)) c d e low f g = absurd (omega arith)
+intersection_bit : (b c d : ℕ) (e : Bool) → b < 2 → one e ≡ c → d ≡ min b c → (d == 1) ≡ ((b == 1) && e)
+intersection_bit zero c d e low f g = let k : d ≡ 0 = omega arith in rw k refl
+intersection_bit (suc zero) c d true low f g = let k : d ≡ 1 = omega arith in rw k refl
+intersection_bit (suc zero) c d false low f g = let k : d ≡ 0 = omega arith in rw k refl
+intersection_bit (suc (suc b)) c d e low f g = absurd (omega arith)
 
 -- k is m without the variables of b
-minus_word : (k m : ℕ) (b : List ℕ) → ((x : ℕ) → x < VARIABLES → bit_at k x ≡ min (bit_at m x) (1 - has x b)) → variables_of k ≡ minus (variables_of m) b
+difference_word : (k m : ℕ) (b : List ℕ) → ((x : ℕ) → x < VARIABLES → bit_at k x ≡ min (bit_at m x) (1 - has x b)) → variables_of k ≡ difference (variables_of m) b
 unfolding variables_of
-minus_word k m b h =
+difference_word k m b h =
     filter_twice (λ x. not (member x b)) (λ x. bit_at m x == 1) (λ x. bit_at k x == 1) 0 VARIABLES
-    (λ x low. minus_bit (bit_at m x) (has x b) (bit_at k x) (member x b) (bit_at-lt m x) refl (h x (omega arith)))
+    (λ x low. difference_bit (bit_at m x) (has x b) (bit_at k x) (member x b) (bit_at-lt m x) refl (h x (omega arith)))
 
-common_word : (k m : ℕ) (b : List ℕ) → ((x : ℕ) → x < VARIABLES → bit_at k x ≡ min (bit_at m x) (has x b)) → variables_of k ≡ common (variables_of m) b
+intersection_word : (k m : ℕ) (b : List ℕ) → ((x : ℕ) → x < VARIABLES → bit_at k x ≡ min (bit_at m x) (has x b)) → variables_of k ≡ intersection (variables_of m) b
 unfolding variables_of
-common_word k m b h =
+intersection_word k m b h =
     filter_twice (λ x. member x b) (λ x. bit_at m x == 1) (λ x. bit_at k x == 1) 0 VARIABLES
-    (λ x low. common_bit (bit_at m x) (has x b) (bit_at k x) (member x b) (bit_at-lt m x) refl (h x (omega arith)))
+    (λ x low. intersection_bit (bit_at m x) (has x b) (bit_at k x) (member x b) (bit_at-lt m x) refl (h x (omega arith)))
 
-pub word_minus : (m n : ℕ) (a b : List ℕ) → variables_of m ≡ a → variables_of n ≡ b → m < 2 ^ VARIABLES → n < 2 ^ VARIABLES → variables_of (bit_and m (2 ^ VARIABLES - 1 - n)) ≡ minus a b
-word_minus m n a b e f fits_m fits_n =
-    rw (← e) (minus_word (bit_and m (2 ^ VARIABLES - 1 - n)) m b
+pub word_difference : (m n : ℕ) (a b : List ℕ) → variables_of m ≡ a → variables_of n ≡ b → m < 2 ^ VARIABLES → n < 2 ^ VARIABLES → variables_of (bit_and m (2 ^ VARIABLES - 1 - n)) ≡ difference a b
+word_difference m n a b e f fits_m fits_n =
+    rw (← e) (difference_word (bit_and m (2 ^ VARIABLES - 1 - n)) m b
     (λ x low. omega (arith, bit_at_and m (2 ^ VARIABLES - 1 - n) x, bit_at_not word n x fits_n low, sym (ap (λ k. has x k) f) ∙ has_variables x n fits_n)))
 
-pub word_common : (m n : ℕ) (a b : List ℕ) → variables_of m ≡ a → variables_of n ≡ b → m < 2 ^ VARIABLES → n < 2 ^ VARIABLES → variables_of (bit_and m n) ≡ common a b
-word_common m n a b e f fits_m fits_n =
-    rw (← e) (common_word (bit_and m n) m b (λ x low. omega (arith, bit_at_and m n x, sym (ap (λ k. has x k) f) ∙ has_variables x n fits_n)))
+pub word_intersection : (m n : ℕ) (a b : List ℕ) → variables_of m ≡ a → variables_of n ≡ b → m < 2 ^ VARIABLES → n < 2 ^ VARIABLES → variables_of (bit_and m n) ≡ intersection a b
+word_intersection m n a b e f fits_m fits_n =
+    rw (← e) (intersection_word (bit_and m n) m b (λ x low. omega (arith, bit_at_and m n x, sym (ap (λ k. has x k) f) ∙ has_variables x n fits_n)))
 
-pub word_without : (m v : ℕ) (a : List ℕ) → variables_of m ≡ a → m < 2 ^ VARIABLES → v < VARIABLES → variables_of (bit_and m (2 ^ VARIABLES - 1 - 1 * 2 ^ v % 2 ^ VARIABLES)) ≡ minus a (v ∷ [])
+pub word_without : (m v : ℕ) (a : List ℕ) → variables_of m ≡ a → m < 2 ^ VARIABLES → v < VARIABLES → variables_of (bit_and m (2 ^ VARIABLES - 1 - 1 * 2 ^ v % 2 ^ VARIABLES)) ≡ difference a (v ∷ [])
 word_without m v a e fits within =
-    rw (← e) (minus_word (bit_and m (2 ^ VARIABLES - 1 - 1 * 2 ^ v % 2 ^ VARIABLES)) m (v ∷ [])
+    rw (← e) (difference_word (bit_and m (2 ^ VARIABLES - 1 - 1 * 2 ^ v % 2 ^ VARIABLES)) m (v ∷ [])
     (λ x low.
     elim (cases_eq x v) [
       | inl same ↦ rw same (omega (arith, bit_at_clear_same word m v within, has_here v v [] refl))

@@ -12,12 +12,12 @@ subset [] f = true
 subset (x ∷ xs) f = member x f && subset xs f
 
 -- the variables of the first edge that don't lie in the second
-abbrev pub minus : List ℕ → List ℕ → List ℕ
-minus e f = filter (λ x. not (member x f)) e
+abbrev pub difference : List ℕ → List ℕ → List ℕ
+difference e f = filter (λ x. not (member x f)) e
 
 -- the variables of the first edge that lie in the second
-abbrev pub common : List ℕ → List ℕ → List ℕ
-common e f = filter (λ x. member x f) e
+abbrev pub intersection : List ℕ → List ℕ → List ℕ
+intersection e f = filter (λ x. member x f) e
 
 -- 1 for true, and 0 for false
 abbrev pub one : Bool → ℕ

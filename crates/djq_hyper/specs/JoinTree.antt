@@ -16,9 +16,9 @@ edges_of E [] = []
 edges_of E (k ∷ R) = edge_at E k.edge ∷ edges_of E R
 
 -- the edge that a link hangs on: none for the root, which has no links behind it
-abbrev pub over : List (List ℕ) → Link → List Link → List ℕ
-over E k [] = []
-over E k (j ∷ R) = edge_at E k.parent
+abbrev pub parent_edge : List (List ℕ) → Link → List Link → List ℕ
+parent_edge E k [] = []
+parent_edge E k (j ∷ R) = edge_at E k.parent
 
 -- the link is the root, or its parent stands behind it
 abbrev pub IsUnder : Link → List Link → Type 0
@@ -33,7 +33,7 @@ IsOrder (k ∷ R) = (places k.edge R ≡ 0) × IsUnder k R × IsOrder R
 -- how many edges with the variable hang on none with it: the topmost ones
 abbrev pub tops : ℕ → List (List ℕ) → List Link → ℕ
 tops x E [] = 0
-tops x E (k ∷ R) = one (member x (edge_at E k.edge) && not (member x (over E k R))) + tops x E R
+tops x E (k ∷ R) = one (member x (edge_at E k.edge) && not (member x (parent_edge E k R))) + tops x E R
 
 -- the links are a join tree of the edges
 pub record IsJoinTree (E : List (List ℕ)) (R : List Link) : Type 0 where

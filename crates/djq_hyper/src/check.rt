@@ -33,7 +33,7 @@ fn link_fits(edges: &[VarSet], before: &[Link], seen: VarSet, link: Link) -> boo
     if !stands(before, link.parent) {
         return false;
     }
-    let shared = edges[link.edge].common(seen);
+    let shared = edges[link.edge].intersection(seen);
     shared.is_subset(edges[link.parent])
 }
 
@@ -65,12 +65,11 @@ pub fn check_join_tree(edges: &Edges, tree: &JoinTree) -> bool
 #[cfg(test)]
 mod tests {
     use super::*;
-    use crate::no_mem::NoMem;
     use crate::var_set::VARIABLES;
-    use std::alloc::Global;
+    use std::alloc::{AllocError, Global};
     use std::test::Fail;
 
-    fn edges_of(alloc: Global, rows: &[&[usize]]) -> Result<Edges, NoMem> {
+    fn edges_of(alloc: Global, rows: &[&[usize]]) -> Result<Edges, AllocError> {
         let mut edges = Edges::new(alloc);
         for row in rows {
             let mut set = VarSet::new();
@@ -84,7 +83,7 @@ mod tests {
         Ok(edges)
     }
 
-    fn tree_of(alloc: Global, rows: &[(usize, usize)]) -> Result<JoinTree, NoMem> {
+    fn tree_of(alloc: Global, rows: &[(usize, usize)]) -> Result<JoinTree, AllocError> {
         let mut tree = JoinTree::new(alloc);
         for (edge, parent) in rows {
             tree.push(Link {
@@ -113,7 +112,7 @@ mod tests {
         for (rows, links) in cases {
             let edges = edges_of(rt.alloc(), rows)?;
             let tree = tree_of(rt.alloc(), links)?;
-            assert!(rt; check_join_tree(&edges, &tree), "{rows:?}");
+            assert!(rt; check_join_tree(&edges, &tree));
         }
         Ok(())
     }
@@ -146,7 +145,7 @@ mod tests {
     fn lists_go_in_and_out(rt: HostRuntime) -> Result<(), Fail> {
         let edges = edges_of(rt.alloc(), &[&[0, 1], &[]])?;
         assert!(rt; edges.len() == 2 && !edges.is_empty());
-        assert_eq!(rt; edges.get(0).len(), 2);
+        assert!(rt; edges.get(0).len() == 2);
         let copy = Edges::from_sets(edges.copy(rt.alloc())?.into_sets());
         assert_eq!(rt; copy.as_slice(), edges.as_slice());
         let tree = JoinTree::from_links(tree_of(rt.alloc(), &[(0, 0), (1, 0)])?.into_links());

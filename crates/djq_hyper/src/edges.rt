@@ -1,12 +1,14 @@
-ghost use Rattle.std.specs.Prelude.{◌≡◌, ◌<◌, ◌==◌, ◌++◌, ◌∷◌, [], length, slice_get, slice_index_or, Some, IfOk, OnOk, OnErr};
+ghost use Rattle.std.specs.Prelude.{◌≡◌, ◌<◌, ◌==◌, ◌++◌, ◌∷◌, [], length, slice_get, Some, IfOk, OnOk, OnErr, IsTrue, ◌↔◌, ℕ, nat_lt};
+ghost use Rattle.djq_hyper.specs.Hypergraph.{member, degree};
+ghost use Rattle.djq_hyper.specs.Variables.{AreCovered, AreNamed, AreVariableSets};
 
-use crate::no_mem::NoMem;
+use crate::names::Names;
 use crate::var_set::VarSet;
-use std::alloc::Global;
+use std::alloc::{AllocError, Global};
 use std::marker::Model;
 
 /// A list of edges, each a set of variables: a hypergraph. Equal edges and empty ones are fine.
-#[derive(Drop)]
+#[derive(Debug, Drop)]
 pub struct Edges {
     sets: Vec<VarSet>,
 }
@@ -45,7 +47,7 @@ impl Edges {
     }
 
     /// A copy.
-    pub fn copy(&self, alloc: Global) -> Result<Edges, NoMem>
+    pub fn copy(&self, alloc: Global) -> Result<Edges, AllocError>
         ensures { IfOk result (λ e. e ≡ self.now) }
     {
         let sets = Vec::from_slice(alloc, &self.sets)?;
@@ -53,7 +55,7 @@ impl Edges {
     }
 
     /// Puts an edge behind the others.
-    pub fn push(&mut self, edge: VarSet) -> Result<(), NoMem>
+    pub fn push(&mut self, edge: VarSet) -> Result<(), AllocError>
         ensures ok { OnOk result (self.new ≡ self.old ++ edge ∷ []) }
         ensures err { OnErr result (self.new ≡ self.old) }
     {
@@ -81,6 +83,47 @@ impl Edges {
         ensures { slice_get self.now position ≡ Some result }
     {
         self.sets[position]
+    }
+
+    /// The variables that lie in an edge.
+    pub fn variables(&self) -> VarSet
+        ensures { (x : ℕ) → member x result ≡ nat_lt 0 (degree x self.now) }
+    {
+        let mut all = VarSet::new();
+        'edges: for i in 0..self.sets.len() {
+            all = all.union(self.sets[i]);
+        }
+        all
+    }
+
+    /// Whether each variable of the set lies in an edge.
+    pub fn covers(&self, set: VarSet) -> bool
+        ensures { IsTrue result ↔ AreCovered set self.now }
+    {
+        set.is_subset(self.variables())
+    }
+
+    /// Whether each variable of an edge has a name, that at its number.
+    pub fn is_named(&self, names: &Names) -> bool
+        ensures { IsTrue result ↔ AreNamed names.now self.now }
+    {
+        let mut rest = self.variables();
+        while let Some(variable) = rest.pop() {
+            if variable >= names.len() {
+                return false;
+            }
+        }
+        true
+    }
+
+    /// The law that each edge is a set: its variables rise and are below
+    /// [`VARIABLES`](crate::VARIABLES).
+    pub fn rise(&self)
+        ensures { AreVariableSets self.now }
+    {
+        for set in &self.sets {
+            set.rises();
+        }
     }
 
     /// The edges, in order.

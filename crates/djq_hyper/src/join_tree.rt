@@ -1,7 +1,6 @@
 ghost use Rattle.std.specs.Prelude.{◌≡◌, ◌<◌, ◌==◌, ◌++◌, ◌∷◌, [], length, OnOk, OnErr};
 
-use crate::no_mem::NoMem;
-use std::alloc::Global;
+use std::alloc::{AllocError, Global};
 use std::marker::Model;
 
 /// An edge of a join tree, and the edge that it hangs on, both by their positions in the list of edges.
@@ -16,7 +15,7 @@ pub struct Link {
 /// A proposed join tree of a list of edges: the edges in an order, with a parent for each but the first.
 ///
 /// Contracts see the list of its links, the root's first.
-#[derive(Drop)]
+#[derive(Debug, Drop)]
 pub struct JoinTree {
     links: Vec<Link>,
 }
@@ -56,7 +55,7 @@ impl JoinTree {
     }
 
     /// Puts a link behind the others.
-    pub fn push(&mut self, link: Link) -> Result<(), NoMem>
+    pub fn push(&mut self, link: Link) -> Result<(), AllocError>
         ensures ok { OnOk result (self.new ≡ self.old ++ link ∷ []) }
         ensures err { OnErr result (self.new ≡ self.old) }
     {

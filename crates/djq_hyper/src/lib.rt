@@ -17,7 +17,7 @@ mod check;
 mod edges;
 mod join_tree;
 mod names;
-mod no_mem;
+mod own;
 mod step;
 mod var_set;
 
@@ -25,6 +25,6 @@ pub use check::check_join_tree;
 pub use edges::Edges;
 pub use join_tree::{JoinTree, Link};
 pub use names::Names;
-pub use no_mem::NoMem;
+pub use own::own_variables;
 pub use step::Step;
 pub use var_set::{VARIABLES, VarSet};

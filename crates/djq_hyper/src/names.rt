@@ -1,13 +1,12 @@
 ghost use Rattle.std.specs.Prelude.{◌≡◌, ◌<◌, ◌==◌, ◌++◌, ◌∷◌, [], length, map, slice_get, Some, OnOk, OnErr};
 
-use crate::no_mem::NoMem;
-use std::alloc::Global;
+use std::alloc::{AllocError, Global};
 use std::marker::Model;
 
 /// A list of names.
 ///
 /// Contracts see a list of texts, each the list of its bytes.
-#[derive(Drop)]
+#[derive(Debug, Drop)]
 pub struct Names {
     texts: Vec<Vec<u8>>,
 }
@@ -46,7 +45,7 @@ impl Names {
     }
 
     /// Puts a copy of a name behind the others.
-    pub fn push(&mut self, alloc: Global, name: &[u8]) -> Result<(), NoMem>
+    pub fn push(&mut self, alloc: Global, name: &[u8]) -> Result<(), AllocError>
         ensures ok { OnOk result (self.new ≡ self.old ++ name.now ∷ []) }
         ensures err { OnErr result (self.new ≡ self.old) }
     {

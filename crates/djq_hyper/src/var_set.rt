@@ -1,6 +1,6 @@
-ghost use Rattle.std.specs.Prelude.{◌≡◌, ℕ, ◌<◌, [], ◌∷◌, ◌||◌, ◌==◌, ◌++◌, length, slice_get, option_to_list, All, IfNone};
-ghost use Rattle.std.specs.List.Sorted.{IsStrictlyIncreasing};
-ghost use Rattle.djq_hyper.specs.Hypergraph.{member, subset, minus, common};
+ghost use Rattle.std.specs.Prelude.{◌≡◌, ℕ, ◌<◌, [], ◌∷◌, ◌||◌, ◌==◌, ◌++◌, length, slice_get, option_to_list, IfNone};
+ghost use Rattle.djq_hyper.specs.Hypergraph.{member, subset, difference, intersection};
+ghost use Rattle.djq_hyper.specs.Variables.{IsVariableSet};
 
 use std::marker::Model;
 
@@ -64,8 +64,8 @@ impl VarSet {
     }
 
     /// The variables of this set that aren't in the other one.
-    pub fn minus(self, other: VarSet) -> VarSet
-        ensures { result ≡ minus self other }
+    pub fn difference(self, other: VarSet) -> VarSet
+        ensures { result ≡ difference self other }
     {
         VarSet {
             mask: self.mask & !other.mask,
@@ -73,8 +73,8 @@ impl VarSet {
     }
 
     /// The variables that are in both.
-    pub fn common(self, other: VarSet) -> VarSet
-        ensures { result ≡ common self other }
+    pub fn intersection(self, other: VarSet) -> VarSet
+        ensures { result ≡ intersection self other }
     {
         VarSet {
             mask: self.mask & other.mask,
@@ -100,11 +100,13 @@ impl VarSet {
         }
     }
 
-    /// This set without the variable.
+    /// This set without the variable. None from [`VARIABLES`] on is in a set.
     pub fn without(self, variable: usize) -> VarSet
-        requires { variable < VARIABLES }
-        ensures { result ≡ minus self (variable ∷ []) }
+        ensures { result ≡ difference self (variable ∷ []) }
     {
+        if variable >= VARIABLES {
+            return self;
+        }
         VarSet {
             mask: self.mask & !(1 << variable),
         }
@@ -142,8 +144,7 @@ impl VarSet {
 
     /// The law that the variables rise and are below [`VARIABLES`].
     pub fn rises(self)
-        ensures rising { IsStrictlyIncreasing self }
-        ensures below { All (λ x. x < VARIABLES) self }
+        ensures { IsVariableSet self }
     {
         let _mask = &self.mask;
     }
@@ -158,6 +159,7 @@ mod tests {
         let set = VarSet::new().insert(63).insert(5).insert(9).insert(5);
         assert_eq!(rt; set.len(), 3);
         assert_eq!(rt; set.first(), Some(5));
+        assert!(rt; set.without(64) == set);
         let mut rest = set.without(9);
         assert_eq!(rt; rest.pop(), Some(5));
         assert_eq!(rt; rest.pop(), Some(63));
@@ -171,9 +173,9 @@ mod tests {
         let left = VarSet::new().insert(0).insert(1);
         let right = VarSet::new().insert(1).insert(2);
         assert!(rt; left.contains(0) && !left.contains(2) && !left.contains(64));
-        assert!(rt; left.common(right) == VarSet::new().insert(1));
-        assert!(rt; left.minus(right) == VarSet::new().insert(0));
+        assert!(rt; left.intersection(right) == VarSet::new().insert(1));
+        assert!(rt; left.difference(right) == VarSet::new().insert(0));
         assert_eq!(rt; left.union(right).len(), 3);
-        assert!(rt; left.common(right).is_subset(left) && !left.is_subset(right));
+        assert!(rt; left.intersection(right).is_subset(left) && !left.is_subset(right));
     }
 }

@@ -4,16 +4,17 @@ use Rattle.std.specs.Prelude.{◌==◌, nat_le}
 use Rattle.std.proofs.lemmas.List.{nil_from_length, take_all, replicate_more}
 use Rattle.std.proofs.lemmas.Bool.{eqb-true, le-leb}
 use Rattle.std.proofs.Math.Numerals.{add-one}
-use Rattle.djq_hyper.specs.Hypergraph.{member, degree}
 use Rattle.djq_hyper.specs.Gyo.{IsRest}
 use Rattle.djq_hyper.specs.JoinTree.{HasJoinTree, HasJoinTreeFrom, IsFreeConnex}
+use Rattle.djq_hyper.specs.Refusing.{IsNotConnex}
+use Rattle.djq_hyper.specs.Variables.{IsVariableSet, AreVariableSets, AreCovered}
 use Rattle.djq_hyper.proofs.Bags.{numbers, times}
 use Rattle.djq_hyper.proofs.Rooting.{Rooted}
 use Rattle.djq_hyper.proofs.Linking.{rooted_of, rooted_at, join_tree_turned}
 use Rattle.djq_tree.specs.declared.choice.Choice.TheVariants.{Stuck}
 use Rattle.djq_tree.specs.Choosing.{choose}
 use Rattle.djq_tree.specs.Growing.{Growth, start, grow, are_within, is_root, marks_below, IsStage}
-use Rattle.djq_plan.specs.Stages.{IsStuckAt, IsStageEnd}
+use Rattle.djq_plan.specs.Stages.{IsStuckAt, IsStageEnd, GrowsOut}
 use Rattle.djq_plan.specs.Plan.{IsPlan}
 use Rattle.djq_plan.proofs.Says.{Sticks, Says, choose_says}
 use Rattle.djq_plan.proofs.Leading.{run_to, first_stuck, second_stuck}
@@ -48,10 +49,9 @@ some_current m s some g =
     let e = same_length m s g in
     omega arith
 
-pub stuck_second : (H : List (List ℕ)) (F : List ℕ) (s mid t : Growth) (b c : Bool) → 0 < length H → s ≡ start H → IsStageEnd (are_within F) F s mid b → b ≡ true → IsStageEnd is_root [] mid t c → c ≡ false → IsFreeConnex H F → ⊥
-stuck_second H F s mid t b c some e stage ended stage2 no_end connex =
+pub stuck_second : (H : List (List ℕ)) (F : List ℕ) (s mid t : Growth) (b : Bool) → 0 < length H → s ≡ start H → IsStageEnd (are_within F) F s mid b → b ≡ true → IsStuckAt is_root [] mid t → IsFreeConnex H F → ⊥
+stuck_second H F s mid t b some e stage ended k connex =
     let a : IsStage (are_within F) F s mid = subst (λ (z : Bool). IsStageEnd (are_within F) F s mid z) ended stage in
-    let k : IsStuckAt is_root [] mid t = subst (λ (z : Bool). IsStageEnd is_root [] mid t z) no_end stage2 in
     let at_mid : mid ≡ grow F a.steps (start H) = a.leads ∙ ap (grow F a.steps) e in
     let at : t ≡ grow [] k.steps (grow F a.steps (start H)) = k.leads ∙ ap (grow [] k.steps) at_mid in
     let tree = connex.0 in
@@ -79,30 +79,34 @@ marks_filled mid N old new M enough is len filled =
     let d : N ≡ length mid.nodes + (N - M) = omega arith in
     filled ∙ ap (λ (z : List Bool). z ++ replicate (N - M) true) (t ∙ is) ∙ sym (marks_add mid (N - M)) ∙ ap (marks_below mid) (sym d)
 
+-- where the second stage comes to its end, the marks that were filled are those of `out`
+pub grown_out : (mid last : Growth) (b : Bool) (old new : List Bool) (M N : ℕ) → IsStageEnd is_root [] mid last b → b ≡ true → old ≡ marks_below mid (length mid.nodes) → M ≡ length old → N ≡ length last.nodes
+    → new ≡ take N old ++ replicate (N - M) true → GrowsOut mid last new
+grown_out mid last b old new M N stage ended marks len count filled =
+    let k : IsStage is_root [] mid last = subst (λ (z : Bool). IsStageEnd is_root [] mid last z) ended stage in
+    let enough : length mid.nodes ≤ length last.nodes = subst (λ (z : Growth). length mid.nodes ≤ length z.nodes) (sym k.leads) (extends_length mid (grow [] k.steps mid) (grow_extends [] k.steps mid)) in
+    record { ends = k; marks = marks_filled mid (length last.nodes) old new M enough marks len (subst (λ (z : ℕ). new ≡ take z old ++ replicate (z - M) true) count filled) }
+
 -- ---- the plan
 
-pub plan_of : (H : List (List ℕ)) (F : List ℕ) (s mid last : Growth) (b c : Bool) (old out : List Bool) (M N leaves second : ℕ) → 0 < length H → ((x : ℕ) → member x F ≡ true → 0 < degree x H)
-    → s ≡ start H → IsStageEnd (are_within F) F s mid b → b ≡ true → IsStageEnd is_root [] mid last c → c ≡ true
-    → old ≡ marks_below mid (length mid.nodes) → M ≡ length old → N ≡ length last.nodes → out ≡ take N old ++ replicate (N - M) true → leaves ≡ length H → second ≡ length mid.nodes
-    → IsPlan H F (record { nodes = last.nodes; labels = last.labels; out = out; leaves = leaves; second = second }) × IsFreeConnex H F
-plan_of H F s mid last b c old out M N leaves second some heads e stage ended stage2 ended2 marks len count filled is_leaves is_second =
+pub plan_of : (H : List (List ℕ)) (F : List ℕ) (s mid last : Growth) (b : Bool) (out : List Bool) (leaves second : ℕ) → 0 < length H → AreCovered F H → AreVariableSets H → IsVariableSet F
+    → s ≡ start H → IsStageEnd (are_within F) F s mid b → b ≡ true → GrowsOut mid last out → leaves ≡ length H → second ≡ length mid.nodes
+    → IsPlan H F (record { nodes = last.nodes; labels = last.labels; out = out; head = F; leaves = leaves; second_stage = second }) × IsFreeConnex H F
+plan_of H F s mid last b out leaves second some heads sets set e stage ended grows is_leaves is_second =
     let a : IsStage (are_within F) F s mid = subst (λ (z : Bool). IsStageEnd (are_within F) F s mid z) ended stage in
     let a2 : IsStage (are_within F) F (start H) mid = subst (λ (z : Growth). IsStage (are_within F) F z mid) e a in
-    let k : IsStage is_root [] mid last = subst (λ (z : Bool). IsStageEnd is_root [] mid last z) ended2 stage2 in
-    let enough : length mid.nodes ≤ length last.nodes = subst (λ (z : Growth). length mid.nodes ≤ length z.nodes) (sym k.leads) (extends_length mid (grow [] k.steps mid) (grow_extends [] k.steps mid)) in
-    let out_is = marks_filled mid (length last.nodes) old out M enough marks len (subst (λ (z : ℕ). out ≡ take z old ++ replicate (z - M) true) count filled) in
-    planned H F (record { nodes = last.nodes; labels = last.labels; out = out; leaves = leaves; second = second }) some heads
-    (record { mid = mid; first = a2; last = last; second = k; is = rw (out_is, is_leaves, is_second) refl })
+    planned H F (record { nodes = last.nodes; labels = last.labels; out = out; head = F; leaves = leaves; second_stage = second }) some heads sets set
+    (record { mid = mid; first = a2; last = last; second = grows.ends; is = rw (grows.marks, is_leaves, is_second) refl })
 
 -- ---- the rests
 
 pub rest_says : (H : List (List ℕ)) (F : List ℕ) (E R R' : List (List ℕ)) → (IsFreeConnex H F → ⊥) → R ≡ [] → ((R ≡ []) ↔ HasJoinTree H) → E ≡ F ∷ H → ((R' ≡ []) ↔ HasJoinTree E) → (R' ≢ [] → IsRest E R')
-    → HasJoinTree H × (HasJoinTreeFrom F H → ⊥) × IsRest (F ∷ H) R'
+    → IsNotConnex H F R'
 rest_says H F E R R' not_connex none acyclic front acyclic2 rest =
     let tree = acyclic.0 none in
     let no_from : HasJoinTreeFrom F H → ⊥ = λ t. not_connex (tree, t) in
     let some : R' ≢ [] = λ bare. no_from (join_tree_turned F H (subst HasJoinTree front (acyclic2.0 bare))) in
-    (tree, no_from, subst (λ (z : List (List ℕ)). IsRest z R') front (rest some))
+    record { tree = tree; no_tree = no_from; rest = subst (λ (z : List (List ℕ)). IsRest z R') front (rest some) }
 
 pub bare_rest : (R : List (List ℕ)) (b : Bool) → b ≡ (length R == 0) → b ≡ true → R ≡ []
 bare_rest R b e t = nil_from_length R (eqb-true (length R) 0 (sym e ∙ t))

@@ -4,13 +4,14 @@ use Rattle.std.specs.Prelude.{◌==◌, nat_le}
 use Rattle.std.proofs.lemmas.List.{length_push, length-append, get_or_append_left, get_or_push, get_or_past, nil_from_length}
 use Rattle.std.proofs.lemmas.Bool.{cases_lt, cases_eq, eqb-true, false≢true, le-leb, lt-leb}
 use Rattle.djq_hyper.specs.Hypergraph.{member, edge_at, one}
+use Rattle.djq_hyper.specs.Variables.{IsVariableSet, AreVariableSets}
 use Rattle.djq_hyper.proofs.Members.{has, one_le, one_true, one_false, one_or}
 use Rattle.djq_hyper.proofs.Bags.{numbers, times}
 use Rattle.djq_tree.specs.declared.node.Node.{Node}
 use Rattle.djq_tree.specs.declared.node.Node.TheVariants as node
 use Rattle.djq_tree.specs.declared.choice.Choice.{Choice}
 use Rattle.djq_tree.specs.declared.choice.Choice.TheVariants.{Trim, Meet, Stuck}
-use Rattle.djq_tree.specs.Tree.{IsTree, node_at, is_out, has_child, parent}
+use Rattle.djq_tree.specs.Tree.{IsTree, ShowsHead, node_at, is_out, has_child, parent}
 use Rattle.djq_tree.specs.Choosing.{choose}
 use Rattle.djq_tree.specs.Growing.{Growth, grown, grow, is_root, marks_below, tree_of}
 use Rattle.djq_tree.proofs.Finding.{lowest_none}
@@ -231,10 +232,11 @@ module _ (m : ℕ) (mid last : Growth) (some : 0 < m) (g : Grown m mid) (h : Gro
         | inr late ↦ mark_late mid N (N - 1) (omega arith) late
       ]
 
-  pub tree_is : IsTree (tree_of m mid last)
-  tree_is = record {
+  pub tree_is : (F : List ℕ) → AreVariableSets last.labels → IsVariableSet F → ShowsHead F (tree_of m F mid last) → IsTree (tree_of m F mid last)
+  tree_is F sets set shown = record {
     labelled = h.sound.labelled;
     marked = length_marks mid N;
+    sets = sets;
     some = some;
     fits = h.sound.fits;
     leaf = h.sound.leaf;
@@ -248,4 +250,6 @@ module _ (m : ℕ) (mid last : Growth) (some : 0 < m) (g : Grown m mid) (h : Gro
     stages = (g.sound.fits, extends_length mid last ext);
     root_out = tree_root_out;
     out_split = tree_split;
+    head_set = set;
+    head = shown;
   }

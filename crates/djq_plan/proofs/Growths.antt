@@ -4,8 +4,8 @@ use Rattle.std.specs.Prelude.{◌==◌, remove, slice_index}
 use Rattle.std.proofs.lemmas.List.{length_push, length-map, get_or-map, map_push, take_more, take_all, get_or_past, get_or_push, get_or_append_left}
 use Rattle.std.proofs.Math.Numerals.{add-one}
 use Rattle.std.proofs.lemmas.Bool.{cases_lt, cases_eq, eq-eqb, ne_eqb, false≢true}
-use Rattle.djq_hyper.specs.Hypergraph.{member, minus, degree, edge_at}
-use Rattle.djq_hyper.proofs.Members.{has, Sub, from_true, has_minus, has_here, subset_says}
+use Rattle.djq_hyper.specs.Hypergraph.{member, difference, degree, edge_at}
+use Rattle.djq_hyper.proofs.Members.{has, Sub, from_true, has_difference, has_here, subset_says}
 use Rattle.djq_hyper.proofs.Bags.{numbers, times, Bag}
 use Rattle.djq_tree.specs.declared.node.Node.TheVariants as node
 use Rattle.djq_tree.specs.declared.choice.Choice.{Choice}
@@ -57,7 +57,7 @@ module _ (m : ℕ) (keep : List ℕ) (s : Growth) (i : ℕ) (X : List ℕ) (g : 
   c = slice_index s.numbers i
 
   abbrev l : List ℕ
-  l = minus (edge_at s.current i) X
+  l = difference (edge_at s.current i) X
 
   abbrev R : List ℕ
   R = remove s.numbers i
@@ -75,7 +75,7 @@ module _ (m : ℕ) (keep : List ℕ) (s : Growth) (i : ℕ) (X : List ℕ) (g : 
   is = bag_push numbers (length s.nodes) R
 
   has_l : (x : ℕ) → has x l ≡ min (has x (edge_at s.labels c)) (1 - has x X)
-  has_l x = has_minus x (edge_at s.current i) X ∙ ap (λ (k : List ℕ). min (has x k) (1 - has x X)) label_is
+  has_l x = has_difference x (edge_at s.current i) X ∙ ap (λ (k : List ℕ). min (has x k) (1 - has x X)) label_is
 
   inside : Sub l (edge_at s.labels c)
   inside x = omega (arith, has_l x)

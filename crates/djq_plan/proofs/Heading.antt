@@ -3,23 +3,22 @@ use Rattle.std.proofs.Common.{◌≡◌, ℕ, zero, suc, ◌<◌, ◌≤◌, Boo
 use Rattle.std.specs.Prelude.{remove}
 use Rattle.std.proofs.lemmas.List.{length_push, get_or_past}
 use Rattle.std.proofs.lemmas.Bool.{cases_lt, false≢true}
-use Rattle.djq_hyper.specs.Hypergraph.{member, subset, minus, degree, edge_at}
-use Rattle.djq_hyper.proofs.Members.{has, Sub, one_le, one_true, from_true, has_minus, subset_from}
+use Rattle.djq_hyper.specs.Hypergraph.{member, subset, difference, degree, edge_at}
+use Rattle.djq_hyper.proofs.Members.{has, Sub, one_le, one_true, from_true, has_difference, subset_from}
 use Rattle.djq_hyper.proofs.Bags.{labels, numbers, times, times_itself, total}
 use Rattle.djq_hyper.proofs.Counting.{degree_same, count_self}
 use Rattle.djq_tree.specs.declared.choice.Choice.{Choice}
 use Rattle.djq_tree.specs.declared.choice.Choice.TheVariants.{Trim, Meet, Stuck}
-use Rattle.djq_tree.specs.Tree.{is_out}
+use Rattle.djq_tree.specs.Tree.{is_out, ShowsHead}
 use Rattle.djq_tree.specs.Choosing.{choose}
 use Rattle.djq_tree.specs.Growing.{Growth, grown, grow, are_within, marks_below, tree_of}
-use Rattle.djq_plan.specs.Head.{ShowsHead}
 use Rattle.djq_plan.proofs.Places.{bag_remove, total_in}
 use Rattle.djq_plan.proofs.Says.{Says, choose_says}
 use Rattle.djq_plan.proofs.Leading.{within_all}
 use Rattle.djq_plan.proofs.Sounding.{label_old, label_new}
 use Rattle.djq_plan.proofs.Growths.{Grown, current_weight}
 use Rattle.djq_plan.proofs.Ending.{Extends, extends_label, extends_length, length_marks, mark_early, member_in, has_times}
-use Rattle.djq_plan.proofs.Counting.{degree_grow}
+use Rattle.djq_plan.proofs.Keeping.{degree_grow}
 
 -- a current label's variables are current
 pub label_in : (L : List (List ℕ)) (i x : ℕ) → i < length L → has x (edge_at L i) ≤ degree x L
@@ -43,9 +42,9 @@ late_push F M labels l late sub j from low x =
 
 late_step : (F keep : List ℕ) (M : ℕ) (s : Growth) (c : Choice) → Says keep s.current c → ((x : ℕ) → 0 < degree x s.current → 0 < has x F) → LateIn F M s.labels → LateIn F M (grown s c).labels
 late_step F keep M s (Trim i X) t all late =
-    late_push F M s.labels (minus (edge_at s.current i) X) late
-    (λ x. let m = has_minus x (edge_at s.current i) X in let l = label_in s.current i x t.within in let o = one_le (member x (edge_at s.current i)) in
-    in_F (has x (minus (edge_at s.current i) X)) x (omega arith) (omega arith))
+    late_push F M s.labels (difference (edge_at s.current i) X) late
+    (λ x. let m = has_difference x (edge_at s.current i) X in let l = label_in s.current i x t.within in let o = one_le (member x (edge_at s.current i)) in
+    in_F (has x (difference (edge_at s.current i) X)) x (omega arith) (omega arith))
   where
     in_F : (n x : ℕ) → n ≤ 1 → n ≤ degree x s.current → n ≤ has x F
     in_F zero x a b = omega arith
@@ -128,5 +127,5 @@ module _ (m : ℕ) (F : List ℕ) (mid last : Growth) (g : Grown m mid) (h : Gro
         ap (member x) (extends_label mid last s.0 ext (let k = g.sound.labelled in omega arith)) ∙ one_true (member x (edge_at mid.labels s.0)) s.2,
       )
 
-  pub head_shown : ShowsHead F (tree_of m mid last)
+  pub head_shown : ShowsHead F (tree_of m F mid last)
   head_shown = record { within = head_within; covered = head_covered }

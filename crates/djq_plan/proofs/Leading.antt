@@ -3,15 +3,15 @@ use Rattle.std.proofs.Common.{◌≡◌, ◌≢◌, ℕ, zero, suc, ◌<◌, ◌
 use Rattle.std.specs.Prelude.{remove, ◌==◌}
 use Rattle.std.proofs.lemmas.List.{nil_from_length}
 use Rattle.std.proofs.lemmas.Bool.{cases_Bool, cases_lt, eqb-true, eq-eqb, ne_eqb, false≢true}
-use Rattle.djq_hyper.specs.Hypergraph.{member, subset, minus, degree, edge_at, one}
-use Rattle.djq_hyper.proofs.Members.{has, Sub, one_le, one_true, from_true, has_minus, has_filter, has_here, subset_from, subset_says}
+use Rattle.djq_hyper.specs.Hypergraph.{member, subset, difference, degree, edge_at, one}
+use Rattle.djq_hyper.proofs.Members.{has, Sub, one_le, one_true, from_true, has_difference, has_filter, has_here, subset_from, subset_says}
 use Rattle.djq_hyper.proofs.Bags.{labels, same_item}
 use Rattle.djq_hyper.proofs.Counting.{count, Same, count_self, degree_same}
 use Rattle.djq_hyper.proofs.Rooting.{Rooted, rooted_same, progress, Own, Inner, trimmed, untrimmed, dropped, undropped, all_plugged}
 use Rattle.djq_tree.specs.declared.choice.Choice.{Choice}
 use Rattle.djq_tree.specs.declared.choice.Choice.TheVariants.{Trim, Meet, Stuck}
 use Rattle.djq_tree.specs.Choosing.{removable, has_removable, choose}
-use Rattle.djq_tree.specs.Growing.{Growth, grown, grow, after, without_both, are_within, is_root}
+use Rattle.djq_tree.specs.Growing.{Growth, grown, grow, current_after, without_both, are_within, is_root}
 use Rattle.djq_plan.proofs.Places.{bag_remove, bag_push, bag_both, times_remove, length_remove, at_remove_below, place_of}
 use Rattle.djq_plan.proofs.Says.{and_left, and_right, Trims, Meets, Sticks, Says, choose_says}
 
@@ -24,7 +24,7 @@ pub record Removed (keep : List ℕ) (L : List (List ℕ)) (i x : ℕ) : Type 0 
 
 pub removed_says : (keep : List ℕ) (L : List (List ℕ)) (i x : ℕ) → 0 < has x (removable keep L i) → Removed keep L i x
 removed_says keep L i x h =
-    let m = has_minus x (filter (λ x. degree x L == 1) (edge_at L i)) keep in
+    let m = has_difference x (filter (λ x. degree x L == 1) (edge_at L i)) keep in
     let f = has_filter (λ x. degree x L == 1) x (edge_at L i) in
     let a = one_le (member x (edge_at L i)) in
     let b = one_le (degree x L == 1) in
@@ -36,7 +36,7 @@ removed_says keep L i x h =
 
 pub removed_from : (keep : List ℕ) (L : List (List ℕ)) (i x : ℕ) → Removed keep L i x → has x (removable keep L i) ≡ 1
 removed_from keep L i x r =
-    let m = has_minus x (filter (λ x. degree x L == 1) (edge_at L i)) keep in
+    let m = has_difference x (filter (λ x. degree x L == 1) (edge_at L i)) keep in
     let f = has_filter (λ x. degree x L == 1) x (edge_at L i) in
     let a = r.here in let c = r.free in
     let b = from_true (degree x L == 1) (eq-eqb (degree x L) 1 r.only) in
@@ -57,10 +57,10 @@ removed_elsewhere keep L i x within r =
 
 -- ---- a step
 
-pub after_trim : (L : List (List ℕ)) (i : ℕ) (X : List ℕ) → Same (minus (edge_at L i) X ∷ remove L i) (after L (Trim i X))
-after_trim L i X a = let p = bag_push labels (minus (edge_at L i) X) (remove L i) a in omega arith
+pub after_trim : (L : List (List ℕ)) (i : ℕ) (X : List ℕ) → Same (difference (edge_at L i) X ∷ remove L i) (current_after L (Trim i X))
+after_trim L i X a = let p = bag_push labels (difference (edge_at L i) X) (remove L i) a in omega arith
 
-pub after_meet : (L : List (List ℕ)) (g s : ℕ) → Same (edge_at L g ∷ without_both L g s) (after L (Meet g s))
+pub after_meet : (L : List (List ℕ)) (g s : ℕ) → Same (edge_at L g ∷ without_both L g s) (current_after L (Meet g s))
 after_meet L g s a = let p = bag_push labels (edge_at L g) (without_both L g s) a in omega arith
 
 swapped : (L : List (List ℕ)) (g s : ℕ) → Meets L g s → Same L (edge_at L s ∷ edge_at L g ∷ without_both L g s)
@@ -72,31 +72,31 @@ free_of F keep L i X sub t x h =
     let d = removed_elsewhere keep L i x t.within r in
     let f = r.free in let s = sub x in omega arith
 
-pub choice_to : (F keep : List ℕ) (L : List (List ℕ)) (c : Choice) → Sub F keep → Says keep L c → Rooted F L → Rooted F (after L c)
+pub choice_to : (F keep : List ℕ) (L : List (List ℕ)) (c : Choice) → Sub F keep → Says keep L c → Rooted F L → Rooted F (current_after L c)
 choice_to F keep L (Trim i X) sub t r =
-    rooted_same F (minus (edge_at L i) X ∷ remove L i) (after L (Trim i X)) (after_trim L i X)
+    rooted_same F (difference (edge_at L i) X ∷ remove L i) (current_after L (Trim i X)) (after_trim L i X)
     (trimmed F (edge_at L i) X (remove L i) (free_of F keep L i X sub t)
     (rooted_same F L (edge_at L i ∷ remove L i) (bag_remove labels [] L i t.within) r))
 choice_to F keep L (Meet g s) sub m r =
-    rooted_same F (edge_at L g ∷ without_both L g s) (after L (Meet g s)) (after_meet L g s)
+    rooted_same F (edge_at L g ∷ without_both L g s) (current_after L (Meet g s)) (after_meet L g s)
     (dropped F (edge_at L s) (edge_at L g) (edge_at L g ∷ without_both L g s) (count_self (edge_at L g) (without_both L g s)) (subset_says (edge_at L s) (edge_at L g) m.inside)
     (rooted_same F L (edge_at L s ∷ edge_at L g ∷ without_both L g s) (swapped L g s m) r))
 choice_to F keep L Stuck sub m r = r
 
-pub choice_back : (F keep : List ℕ) (L : List (List ℕ)) (c : Choice) → Sub F keep → Says keep L c → Rooted F (after L c) → Rooted F L
+pub choice_back : (F keep : List ℕ) (L : List (List ℕ)) (c : Choice) → Sub F keep → Says keep L c → Rooted F (current_after L c) → Rooted F L
 choice_back F keep L (Trim i X) sub t r =
     rooted_same F (edge_at L i ∷ remove L i) L (λ a. sym (bag_remove labels [] L i t.within a))
     (untrimmed F (edge_at L i) X (remove L i) (free_of F keep L i X sub t)
-    (rooted_same F (after L (Trim i X)) (minus (edge_at L i) X ∷ remove L i) (λ a. sym (after_trim L i X a)) r))
+    (rooted_same F (current_after L (Trim i X)) (difference (edge_at L i) X ∷ remove L i) (λ a. sym (after_trim L i X a)) r))
 choice_back F keep L (Meet g s) sub m r =
     rooted_same F (edge_at L s ∷ edge_at L g ∷ without_both L g s) L (λ a. sym (swapped L g s m a))
     (undropped F (edge_at L s) (edge_at L g) (edge_at L g ∷ without_both L g s) (count_self (edge_at L g) (without_both L g s)) (subset_says (edge_at L s) (edge_at L g) m.inside)
-    (rooted_same F (after L (Meet g s)) (edge_at L g ∷ without_both L g s) (λ a. sym (after_meet L g s a)) r))
+    (rooted_same F (current_after L (Meet g s)) (edge_at L g ∷ without_both L g s) (λ a. sym (after_meet L g s a)) r))
 choice_back F keep L Stuck sub m r = r
 
 -- ---- many steps
 
-pub grown_current : (s : Growth) (c : Choice) → (grown s c).current ≡ after s.current c
+pub grown_current : (s : Growth) (c : Choice) → (grown s c).current ≡ current_after s.current c
 grown_current s (Trim i X) = refl
 grown_current s (Meet g d) = refl
 grown_current s Stuck = refl
@@ -113,7 +113,7 @@ unfolding grow
 run_back F keep zero s sub r = r
 run_back F keep (suc n) s sub r =
     let t = grow keep n s in
-    let r2 : Rooted F (after t.current (choose keep t.current)) = rw (← grown_current t (choose keep t.current)) r in
+    let r2 : Rooted F (current_after t.current (choose keep t.current)) = rw (← grown_current t (choose keep t.current)) r in
     run_back F keep n s sub (choice_back F keep t.current (choose keep t.current) sub (choose_says keep t.current) r2)
 
 -- ---- no step

@@ -3,11 +3,11 @@ pub mod Says
 pub mod Leading
 pub mod Sounding
 pub mod Growths
+pub mod Setting
 pub mod Ending
-pub mod Counting
+pub mod Keeping
 pub mod Heading
 pub mod Planned
 pub mod Rules
 pub mod Stepping
 pub mod Deciding
-pub mod Checking

@@ -59,12 +59,6 @@ module _ {A : Type 0} (T : Test A) where
             rw (m, n) (omega arith)
       ]
 
-  pub length_both : (L : List A) (i j : ℕ) → i ≢ j → i < length L → j < length L → length (without_both L i j) + 2 ≡ length L
-  length_both L i j apart in_i in_j =
-      let e = length_remove L (max i j) (omega arith) in
-      let f = length_remove (remove L (max i j)) (min i j) (omega arith) in
-      omega arith
-
   -- the item at a place is in the list
   pub times_at : (d : A) (L : List A) (i : ℕ) → i < length L → 0 < times T (slice_index_or L i d) L
   times_at d [] i h = absurd (omega arith)

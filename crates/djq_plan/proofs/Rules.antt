@@ -1,12 +1,9 @@
 -- What the searches of the choice rule find.
-use Rattle.std.proofs.Common.{◌≡◌, ℕ, ◌+◌, ◌-◌, ◌<◌, ◌≤◌, min, Bool, true, false, not, ◌&&◌, ◌||◌, List, [], ◌∷◌, length, take, filter, Option, Some, None, is_some, refl, ap, sym, ◌∙◌, arith, inl, inr}
+use Rattle.std.proofs.Common.{◌≡◌, ℕ, ◌<◌, Bool, true, false, not, ◌&&◌, List, [], ◌∷◌, length, filter, Option, Some, None, is_some, refl, ap, sym, ◌∙◌, arith}
 use Rattle.std.specs.Prelude.{◌==◌, nat_lt, unwrap_or, slice_index_or}
-use Rattle.std.proofs.lemmas.Bool.{cases_lt, cases_eq, eq-eqb, ne_eqb, lt-ltb, le-ltb}
-use Rattle.std.proofs.lemmas.List.{take_more, take_all, get_or_read}
-use Rattle.std.proofs.Math.Bool.{and-false}
-use Rattle.djq_hyper.specs.Hypergraph.{member, subset, minus, common, degree, edge_at, one}
-use Rattle.djq_hyper.proofs.Members.{has, one_le, one_or, same_one, has_minus, has_common}
-use Rattle.djq_hyper.proofs.Counting.{degree_append}
+use Rattle.std.proofs.lemmas.Bool.{lt-ltb}
+use Rattle.std.proofs.lemmas.List.{get_or_read}
+use Rattle.djq_hyper.specs.Hypergraph.{member, subset, difference, intersection, degree, edge_at}
 use Rattle.djq_tree.specs.declared.choice.Choice.{Choice}
 use Rattle.djq_tree.specs.declared.choice.Choice.TheVariants.{Trim, Meet, Stuck}
 use Rattle.djq_tree.specs.Choosing.{lowest, removable, has_removable, are_equal, is_inside, twin, cover, choose_inside, choose_equal, choose}
@@ -48,9 +45,9 @@ filter_same : (p q : ℕ → Bool) (l : List ℕ) → ((x : ℕ) → p x ≡ q x
 filter_same p q [] h = refl
 filter_same p q (x ∷ l) h = rw (h x, filter_same p q l h) refl
 
-pub removable_by : (keep : List ℕ) (L : List (List ℕ)) (i : ℕ) (own a l : List ℕ) → ((x : ℕ) → member x own ≡ (degree x L == 1)) → l ≡ edge_at L i → a ≡ minus (common l own) keep → a ≡ removable keep L i
+pub removable_by : (keep : List ℕ) (L : List (List ℕ)) (i : ℕ) (own a l : List ℕ) → ((x : ℕ) → member x own ≡ (degree x L == 1)) → l ≡ edge_at L i → a ≡ difference (intersection l own) keep → a ≡ removable keep L i
 removable_by keep L i own a l all at is =
-    is ∙ ap (λ (k : List ℕ). minus (common k own) keep) at ∙ ap (λ (k : List ℕ). minus k keep) (filter_same (λ x. member x own) (λ x. degree x L == 1) (edge_at L i) all)
+    is ∙ ap (λ (k : List ℕ). difference (intersection k own) keep) at ∙ ap (λ (k : List ℕ). difference k keep) (filter_same (λ x. member x own) (λ x. degree x L == 1) (edge_at L i) all)
 
 pub has_by : (keep : List ℕ) (L : List (List ℕ)) (i : ℕ) (a : List ℕ) (b : Bool) → a ≡ removable keep L i → (length a == 0) ≡ b → has_removable keep L i ≡ not b
 has_by keep L i a b is empty = ap not (ap (λ (k : List ℕ). length k == 0) (sym is) ∙ empty)
@@ -62,45 +59,6 @@ trim_is keep L i X within some is others =
 pub trim_none : (keep : List ℕ) (L : List (List ℕ)) (c : Choice) → ((j : ℕ) → j < length L → has_removable keep L j ≡ false) → c ≡ choose_equal L (lowest (λ a. is_some (twin L a)) L) → c ≡ choose keep L
 trim_none keep L c others is = rw (lowest_none_is (λ i. has_removable keep L i) 0 (length L) (λ j from below. others j (omega arith))) is
 
--- ---- variables that lie in one label
-
-lt_one : (a d : ℕ) → one (nat_lt a d) ≡ min 1 (d - a)
-lt_one a d = elim (cases_lt a d) [ inl low ↦ rw (lt-ltb a d low) (omega arith) | inr high ↦ rw (le-ltb a d high) (omega arith) ]
-
-eq_one : (d : ℕ) → one (d == 1) ≡ min d (2 - d)
-eq_one d = elim (cases_eq d 1) [ inl e ↦ rw (eq-eqb d 1 e) (omega arith) | inr apart ↦ rw (ne_eqb d 1 apart) (omega arith) ]
-
-degree_more : (L : List (List ℕ)) (i x : ℕ) → i < length L → degree x (take (i + 1) L) ≡ degree x (take i L) + has x (edge_at L i)
-degree_more L i x low = ap (degree x) (take_more L i [] low) ∙ degree_append x (take i L) (edge_at L i ∷ []) ∙ (let k : degree x (edge_at L i ∷ []) ≡ has x (edge_at L i) = omega arith in ap (λ (n : ℕ). degree x (take i L) + n) k)
-
-pub once_more : (L : List (List ℕ)) (i x : ℕ) (once new l : List ℕ) → i < length L → l ≡ edge_at L i → member x once ≡ nat_lt 0 (degree x (take i L)) → member x new ≡ (member x once || member x l) → member x new ≡ nat_lt 0 (degree x (take (i + 1) L))
-once_more L i x once new l low at before is =
-    let d = degree_more L i x low in
-    let a : has x once ≡ one (nat_lt 0 (degree x (take i L))) = ap one before in
-    let b : has x new ≡ one (member x once || member x l) = ap one is in
-    let c : has x l ≡ has x (edge_at L i) = ap (has x) at in
-    same_one (member x new) (nat_lt 0 (degree x (take (i + 1) L)))
-    (omega (arith, one_or (member x once) (member x l), lt_one 0 (degree x (take i L)), lt_one 0 (degree x (take (i + 1) L)), one_le (member x l)))
-
-pub twice_more : (L : List (List ℕ)) (i x : ℕ) (once twice new l both : List ℕ) → i < length L → l ≡ edge_at L i → member x once ≡ nat_lt 0 (degree x (take i L)) → member x twice ≡ nat_lt 1 (degree x (take i L)) → both ≡ common once l → member x new ≡ (member x twice || member x both) → member x new ≡ nat_lt 1 (degree x (take (i + 1) L))
-twice_more L i x once twice new l both low at before before2 meets is =
-    let d = degree_more L i x low in
-    let a : has x once ≡ one (nat_lt 0 (degree x (take i L))) = ap one before in
-    let a2 : has x twice ≡ one (nat_lt 1 (degree x (take i L))) = ap one before2 in
-    let b : has x new ≡ one (member x twice || member x both) = ap one is in
-    let e : has x both ≡ min (has x once) (has x l) = ap (has x) meets ∙ has_common x once l in
-    let c : has x l ≡ has x (edge_at L i) = ap (has x) at in
-    same_one (member x new) (nat_lt 1 (degree x (take (i + 1) L)))
-    (omega (arith, one_or (member x twice) (member x both), lt_one 0 (degree x (take i L)), lt_one 1 (degree x (take i L)), lt_one 1 (degree x (take (i + 1) L)), one_le (member x l)))
-
-pub own_is : (L : List (List ℕ)) (n x : ℕ) (once twice own : List ℕ) → length L ≤ n → member x once ≡ nat_lt 0 (degree x (take n L)) → member x twice ≡ nat_lt 1 (degree x (take n L)) → own ≡ minus once twice → member x own ≡ (degree x L == 1)
-own_is L n x once twice own all a b is =
-    let t : degree x (take n L) ≡ degree x L = ap (degree x) (take_all n L all) in
-    let a2 : has x once ≡ one (nat_lt 0 (degree x (take n L))) = ap one a in
-    let b2 : has x twice ≡ one (nat_lt 1 (degree x (take n L))) = ap one b in
-    let c : has x own ≡ min (has x once) (1 - has x twice) = ap (has x) is ∙ has_minus x once twice in
-    same_one (member x own) (degree x L == 1) (omega (arith, lt_one 0 (degree x (take n L)), lt_one 1 (degree x (take n L)), eq_one (degree x L)))
-
 -- ---- what the code read
 
 -- an element that was read is the label at its place
@@ -109,9 +67,6 @@ read L i l low is = get_or_read L i l low is []
 
 pub equal_read : (L : List (List ℕ)) (i j : ℕ) (a b : List ℕ) (r : Bool) → a ≡ edge_at L i → b ≡ edge_at L j → r ≡ (subset a b && subset b a) → r ≡ true → are_equal L i j ≡ true
 equal_read L i j a b r p q is holds = rw (← p, ← q) (sym is ∙ holds)
-
-pub equal_read_not : (L : List (List ℕ)) (i j : ℕ) (a b : List ℕ) (r : Bool) → a ≡ edge_at L i → b ≡ edge_at L j → r ≡ (subset a b && subset b a) → r ≡ false → (nat_lt i j && are_equal L i j) ≡ false
-equal_read_not L i j a b r p q is fails = (let e : are_equal L i j ≡ false = rw (← p, ← q) (sym is ∙ fails) in rw e (and-false (nat_lt i j)))
 
 pub inside_read : (L : List (List ℕ)) (i j : ℕ) (a b : List ℕ) (r v : Bool) → a ≡ edge_at L i → b ≡ edge_at L j → r ≡ (subset a b && not (subset b a)) → r ≡ v → is_inside L i j ≡ v
 inside_read L i j a b r v p q is holds = rw (← p, ← q) (sym is ∙ holds)

@@ -5,13 +5,13 @@ use Rattle.std.specs.List.{list_any}
 use Rattle.std.proofs.lemmas.List.{length_push}
 use Rattle.std.proofs.Math.Numerals.{add-one}
 use Rattle.std.proofs.lemmas.Bool.{cases_lt, cases_eq, eq-eqb, ne_eqb, lt-leb}
-use Rattle.djq_hyper.specs.Hypergraph.{member, minus, edge_at}
+use Rattle.djq_hyper.specs.Hypergraph.{member, difference, edge_at}
 use Rattle.djq_hyper.proofs.Members.{has, has_other, one_true}
 use Rattle.djq_hyper.proofs.Bags.{labels, total, total_same, times}
 use Rattle.djq_tree.specs.declared.choice.Choice.{Choice}
 use Rattle.djq_tree.specs.declared.choice.Choice.TheVariants.{Trim, Meet, Stuck}
 use Rattle.djq_tree.specs.Choosing.{removable, choose}
-use Rattle.djq_tree.specs.Growing.{Growth, grown, grow, after, without_both, numbers_below, marks_below, IsStage}
+use Rattle.djq_tree.specs.Growing.{Growth, grown, grow, current_after, without_both, numbers_below, marks_below, IsStage}
 use Rattle.djq_plan.specs.Stages.{Steps, IsStuckAt}
 use Rattle.djq_plan.proofs.Places.{bag_remove, bag_both}
 use Rattle.djq_plan.proofs.Says.{Trims, Meets, Says, choose_says}
@@ -63,9 +63,9 @@ filter_less p x (y ∷ l) no_pass h =
 size_same : (L M : List (List ℕ)) → ((a : List ℕ) → times labels a L ≡ times labels a M) → size L ≡ size M
 size_same L M h = total_same labels (λ l. length l + 1) L M h
 
-choice_falls : (keep : List ℕ) (L : List (List ℕ)) (c : Choice) → Says keep L c → c ≢ Stuck → size (after L c) < size L
+choice_falls : (keep : List ℕ) (L : List (List ℕ)) (c : Choice) → Says keep L c → c ≢ Stuck → size (current_after L c) < size L
 choice_falls keep L (Trim i X) t moves =
-    let a = size_same (minus (edge_at L i) X ∷ remove L i) (after L (Trim i X)) (after_trim L i X) in
+    let a = size_same (difference (edge_at L i) X ∷ remove L i) (current_after L (Trim i X)) (after_trim L i X) in
     let b = size_same L (edge_at L i ∷ remove L i) (bag_remove labels [] L i t.within) in
     let f = first_of (removable keep L i) t.some in
     let r = removed_says keep L i f.0 f.1 in
@@ -76,14 +76,14 @@ choice_falls keep L (Trim i X) t moves =
     let less = filter_less (λ x. not (member x X)) f.0 (edge_at L i) (ap not in_X) (omega arith) in
     omega arith
 choice_falls keep L (Meet g s) t moves =
-    let a = size_same (edge_at L g ∷ without_both L g s) (after L (Meet g s)) (after_meet L g s) in
+    let a = size_same (edge_at L g ∷ without_both L g s) (current_after L (Meet g s)) (after_meet L g s) in
     let b = size_same L (edge_at L g ∷ edge_at L s ∷ without_both L g s) (bag_both labels [] L g s t.apart t.guard t.side) in
     omega arith
 choice_falls keep L Stuck t moves = absurd (moves refl)
 
 pub size_falls : (keep : List ℕ) (s t : Growth) → Steps keep s t true → size t.current < size s.current
 size_falls keep s t h =
-    let e : size t.current ≡ size (after s.current (choose keep s.current)) = ap (λ (u : Growth). size u.current) h.0 ∙ ap size (grown_current s (choose keep s.current)) in
+    let e : size t.current ≡ size (current_after s.current (choose keep s.current)) = ap (λ (u : Growth). size u.current) h.0 ∙ ap size (grown_current s (choose keep s.current)) in
     let f = choice_falls keep s.current (choose keep s.current) (choose_says keep s.current) h.1 in
     omega arith
 
@@ -142,25 +142,6 @@ turn over keep kept s t v u D b r same seen off kp h taken =
     let k : Steps keep t u true = subst (λ (z : Bool). Steps keep t u z) taken (subst (λ (z : List ℕ). Steps z t u b) kp h) in
     let off2 : over t.current ≡ false = ap (λ (z : Growth). over z.current) (sym same) ∙ ap over (sym seen) ∙ sym off in
     (ran_more over keep s t u r off2 k, size_falls keep t u k)
-
--- a stage's loop returns without a step
-pub turn_stuck : (over : List (List ℕ) → Bool) (keep kept : List ℕ) (s t v u : Growth) (D : List (List ℕ)) (b : Bool) → Ran over keep s t → v ≡ t → D ≡ v.current → false ≡ over D → kept ≡ keep → Steps kept t u b → b ≡ false → IsStuckAt over keep s u
-turn_stuck over keep kept s t v u D b r same seen off kp h taken =
-    let k : Steps keep t u false = subst (λ (z : Bool). Steps keep t u z) taken (subst (λ (z : List ℕ). Steps z t u b) kp h) in
-    let off2 : over t.current ≡ false = ap (λ (z : Growth). over z.current) (sym same) ∙ ap over (sym seen) ∙ sym off in
-    ran_stuck over keep s t u r off2 k
-
--- a stage's loop ends
-pub turn_end : (over : List (List ℕ) → Bool) (keep : List ℕ) (s t v : Growth) (D : List (List ℕ)) → Ran over keep s t → v ≡ t → D ≡ v.current → true ≡ over D → IsStage over keep s t
-turn_end over keep s t v D r same seen on =
-    ran_end over keep s t r (ap (λ (z : Growth). over z.current) (sym same) ∙ ap over (sym seen) ∙ sym on)
-
-pub lengths_agree : (numbers : List ℕ) (current H : List (List ℕ)) (n m : ℕ) → numbers ≡ numbers_below n → current ≡ H → m ≡ length H → m ≤ n → n ≤ m → length numbers ≡ length current
-lengths_agree numbers current H n m a b e low high =
-    let p = ap (λ (k : List ℕ). length k) a in
-    let q = ap (λ (k : List (List ℕ)). length k) b in
-    let r = length_below n in
-    omega arith
 
 -- a node that begins a stage is marked where it is current
 pub mark_more : (mid : Growth) (n : ℕ) (marks new : List Bool) (b : Bool) (ns : List ℕ) → n < length mid.nodes → ns ≡ mid.numbers → b ≡ list_any (λ y. y == n) ns → marks ≡ marks_below mid n → new ≡ marks ++ b ∷ [] → new ≡ marks_below mid (n + 1)

@@ -1,4 +1,2 @@
-pub mod Counts
-pub mod Head
 pub mod Stages
 pub mod Plan

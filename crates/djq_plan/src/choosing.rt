@@ -1,9 +1,9 @@
 //! The choice rule: which step comes next.
-ghost use Rattle.std.specs.Prelude.{◌≡◌, ℕ, ◌<◌, ◌==◌, ◌&&◌, not, length, is_some};
-ghost use Rattle.djq_hyper.specs.Hypergraph.{member, subset, degree};
+ghost use Rattle.std.specs.Prelude.{◌≡◌, ◌<◌, ◌&&◌, not, length, is_some};
+ghost use Rattle.djq_hyper.specs.Hypergraph.{subset};
 ghost use Rattle.djq_tree.specs.Choosing.{choose, choose_equal, choose_inside, cover, lowest, twin};
 
-use djq_hyper::VarSet;
+use djq_hyper::{VarSet, own_variables};
 use djq_tree::Choice;
 
 /// The step that the rule names for the current labels, where the variables of `keep` may not be removed.
@@ -16,7 +16,7 @@ pub(crate) fn choose_step(labels: &[VarSet], keep: VarSet) -> Choice
 {
     let own = own_variables(labels);
     for place in 0..labels.len() {
-        let removed = labels[place].common(own).minus(keep);
+        let removed = labels[place].intersection(own).difference(keep);
         if !removed.is_empty() {
             return Choice::Trim { place, removed };
         }
@@ -44,19 +44,6 @@ fn choose_covered(labels: &[VarSet]) -> Choice
         }
     }
     Choice::Stuck
-}
-
-/// The variables that lie in exactly one label.
-fn own_variables(labels: &[VarSet]) -> VarSet
-    ensures { (x : ℕ) → member x result ≡ (degree x labels.now == 1) }
-{
-    let mut once = VarSet::new();
-    let mut twice = VarSet::new();
-    for label in labels {
-        twice = twice.union(once.common(*label));
-        once = once.union(*label);
-    }
-    once.minus(twice)
 }
 
 /// The next place with an equal label.

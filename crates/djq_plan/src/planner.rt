@@ -1,14 +1,14 @@
 //! The planner's two stages.
-ghost use Rattle.std.specs.Prelude.{◌≡◌, ℕ, ◌-◌, ◌<◌, ◌++◌, true, length, take, replicate, vec_len, IfOk, IfErr, OnOk};
-ghost use Rattle.djq_hyper.specs.Hypergraph.{member, degree};
+ghost use Rattle.std.specs.Prelude.{◌≡◌, ◌<◌, length, None, Ok, IfOk, IfErr, IfSome};
+ghost use Rattle.djq_hyper.specs.Variables.{AreCovered};
 ghost use Rattle.djq_hyper.specs.JoinTree.{IsFreeConnex};
 ghost use Rattle.djq_plan.specs.Plan.{IsPlan, IsRefusal};
 
 use crate::growing::Growing;
 use crate::refusal::{PlanRefusal, refuse};
-use djq_hyper::{Edges, NoMem, VarSet};
+use djq_hyper::{Edges, VarSet};
 use djq_tree::Tree;
-use std::alloc::Global;
+use std::alloc::{AllocError, Global};
 
 /// The tree over which the answers of a query are kept and listed: that of the query with these edges, the
 /// sets of its atoms' variables, and this head.
@@ -26,28 +26,34 @@ use std::alloc::Global;
 /// Beside the tree, the numbers and labels of the at most m current nodes take memory while it grows.
 pub fn plan(alloc: Global, edges: &Edges, head: &VarSet) -> Result<Tree, PlanRefusal>
     requires some { 0 < length edges.now }
-    requires head { (x : ℕ) → member x head.now ≡ true → 0 < degree x edges.now }
+    requires head { AreCovered head.now edges.now }
     ensures connex { IfOk result (λ _. IsFreeConnex edges.now head.now) }
     ensures plan { IfOk result (λ t. IsPlan edges.now head.now t) }
     ensures refused { IfErr result (λ e. IsRefusal edges.now head.now e) }
 {
-    let mut growing = Growing::start(alloc, edges)?;
-    if !growing.run_first(*head)? {
-        return Err(refuse(alloc, edges, *head));
+    match grow_tree(alloc, edges, *head)? {
+        Some(tree) => Ok(tree),
+        None => Err(refuse(alloc, edges, *head)),
     }
-    let second = growing.len();
-    let mut out = growing.marks(alloc)?;
-    if !growing.run_second()? {
-        return Err(refuse(alloc, edges, *head));
-    }
-    fill(&mut out, growing.len())?;
-    Ok(growing.finish(out, edges.len(), second))
 }
 
-/// Marks the nodes that were made since, so that there are as many marks as nodes.
-fn fill(marks: &mut Vec<bool>, nodes: usize) -> Result<(), NoMem>
-    ensures { OnOk result (marks.new.items ≡ take nodes marks.old.items ++ replicate (nodes - vec_len marks.old) true) }
+/// The tree that the two stages grow, where both come to their end.
+fn grow_tree(alloc: Global, edges: &Edges, head: VarSet) -> Result<Option<Tree>, AllocError>
+    requires some { 0 < length edges.now }
+    requires head { AreCovered head edges.now }
+    ensures stuck { result ≡ Ok None → IsFreeConnex edges.now head → ⊥ }
+    ensures connex { IfOk result (λ t. IfSome t (λ _. IsFreeConnex edges.now head)) }
+    ensures plan { IfOk result (λ t. IfSome t (IsPlan edges.now head)) }
 {
-    marks.resize(nodes, true)?;
-    Ok(())
+    edges.rise();
+    head.rises();
+    let mut growing = Growing::start(alloc, edges)?;
+    if !growing.run_first(head)? {
+        return Ok(None);
+    }
+    let second_stage = growing.len();
+    match growing.grow_out(alloc)? {
+        Some(out) => Ok(Some(growing.finish(out, head, edges.len(), second_stage))),
+        None => Ok(None),
+    }
 }

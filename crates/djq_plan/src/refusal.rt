@@ -4,28 +4,32 @@ ghost use Rattle.djq_hyper.specs.JoinTree.{IsFreeConnex};
 ghost use Rattle.djq_plan.specs.Plan.{IsRefusal};
 
 use djq_gyo::reduce;
-use djq_hyper::{Edges, NoMem, VarSet};
-use std::alloc::Global;
+use djq_hyper::{Edges, VarSet};
+use std::alloc::{AllocError, Global};
+use thiserror::Error;
 
 /// Why a query has no plan.
-#[derive(Drop)]
+#[derive(Debug, Drop, Error)]
 pub enum PlanRefusal {
     /// The edges have no join tree. A rest of their reduction shows it.
+    #[error("the edges have no join tree")]
     Cyclic(Edges),
     /// The edges have a join tree, but with the head's edge in front of them none whose root it is. A rest
     /// of the reduction of these shows it.
+    #[error("the edges have no join tree rooted at the head")]
     NotConnex(Edges),
-    /// Want of memory.
+    /// Memory ran out.
+    #[error("out of memory")]
     NoMem,
 }
 
-impl From<NoMem> for PlanRefusal {
+impl From<AllocError> for PlanRefusal {
     ghost use Rattle.std.specs.Prelude.{◌≡◌};
     ghost use Rattle.djq_plan.specs.declared.refusal.PlanRefusal.TheVariants as refusal;
 
     ghost from_gives = { λ _ r. r ≡ refusal.NoMem };
 
-    fn from(_error: NoMem) -> PlanRefusal {
+    fn from(_error: AllocError) -> PlanRefusal {
         PlanRefusal::NoMem
     }
 }
@@ -41,7 +45,7 @@ pub(crate) fn refuse(alloc: Global, edges: &Edges, head: VarSet) -> PlanRefusal
     }
 }
 
-fn find_rest(alloc: Global, edges: &Edges, head: VarSet) -> Result<PlanRefusal, NoMem>
+fn find_rest(alloc: Global, edges: &Edges, head: VarSet) -> Result<PlanRefusal, AllocError>
     requires { IsFreeConnex edges.now head → ⊥ }
     ensures { IfOk result (λ e. IsRefusal edges.now head e) }
 {
@@ -55,7 +59,7 @@ fn find_rest(alloc: Global, edges: &Edges, head: VarSet) -> Result<PlanRefusal, 
 }
 
 /// An edge followed by others.
-fn put_in_front(alloc: Global, edges: &Edges, front: VarSet) -> Result<Edges, NoMem>
+fn put_in_front(alloc: Global, edges: &Edges, front: VarSet) -> Result<Edges, AllocError>
     ensures { IfOk result (λ e. e ≡ front ∷ edges.now) }
 {
     let mut sets = Vec::new(alloc);

@@ -1,46 +1,13 @@
 //! Worked queries.
-ghost use Rattle.std.specs.Prelude.{◌≡◌, ℕ, ◌<◌, ◌≤◌, true, length};
-ghost use Rattle.std.specs.Prelude.{nat_lt};
-ghost use Rattle.djq_hyper.specs.Hypergraph.{member, degree, edge_at};
-ghost use Rattle.djq_tree.specs.Explaining.{AreNamed};
+ghost use Rattle.std.specs.Prelude.{◌<◌, length};
+ghost use Rattle.djq_hyper.specs.Variables.{AreCovered};
 
 use crate::{PlanRefusal, plan};
-use djq_hyper::{Edges, Names, NoMem, VARIABLES, VarSet};
+use djq_hyper::{Edges, Names, VARIABLES, VarSet};
 use djq_tree::{Lines, Node, Tree};
-use std::alloc::Global;
+use std::alloc::{AllocError, Global};
 use std::process::Abort;
 use std::test::Fail;
-
-/// The variables of the edges.
-fn variables_of(edges: &Edges) -> VarSet
-    ensures { (x : ℕ) → member x result ≡ nat_lt 0 (degree x edges.now) }
-{
-    let mut all = VarSet::new();
-    for edge in edges.as_slice() {
-        all = all.union(*edge);
-    }
-    all
-}
-
-/// Whether each head variable lies in an edge.
-fn is_covered(edges: &Edges, head: VarSet) -> bool
-    ensures { result ≡ true → (x : ℕ) → member x head ≡ true → 0 < degree x edges.now }
-{
-    head.is_subset(variables_of(edges))
-}
-
-/// Whether each variable of the edges is below a number.
-fn is_named(edges: &Edges, names: &Names) -> bool
-    ensures { result ≡ true → AreNamed names.now edges.now }
-{
-    let mut rest = variables_of(edges);
-    while let Some(variable) = rest.pop() {
-        if variable >= names.len() {
-            return false;
-        }
-    }
-    true
-}
 
 fn set_of(variables: &[usize]) -> VarSet {
     let mut set = VarSet::new();
@@ -52,7 +19,7 @@ fn set_of(variables: &[usize]) -> VarSet {
     set
 }
 
-fn edges_of(alloc: Global, rows: &[&[usize]]) -> Result<Edges, NoMem> {
+fn edges_of(alloc: Global, rows: &[&[usize]]) -> Result<Edges, AllocError> {
     let mut edges = Edges::new(alloc);
     for row in rows {
         edges.push(set_of(row))?;
@@ -60,7 +27,7 @@ fn edges_of(alloc: Global, rows: &[&[usize]]) -> Result<Edges, NoMem> {
     Ok(edges)
 }
 
-fn names_of(alloc: Global, texts: &[&str]) -> Result<Names, NoMem> {
+fn names_of(alloc: Global, texts: &[&str]) -> Result<Names, AllocError> {
     let mut names = Names::new(alloc);
     for text in texts {
         names.push(alloc, text.as_bytes())?;
@@ -82,222 +49,125 @@ fn explained<R: Abort>(
     let atoms = names_of(alloc, atoms)?;
     let variables = names_of(alloc, variables)?;
     assert!(rt; !edges.is_empty());
-    assert!(rt; is_covered(&edges, head));
-    assert!(rt; is_named(&edges, &variables));
+    assert!(rt; edges.covers(head));
+    assert!(rt; edges.is_named(&variables));
     let tree = plan(alloc, &edges, &head).ok().ok_or("no plan")?;
     assert!(rt; tree.leaves() <= atoms.len());
     let lines = tree.explain_text(alloc, &atoms, &variables)?;
     Ok((lines, tree))
 }
 
-/// That a query's tree is explained by these lines.
-fn expect_lines<R: Abort>(
-    rt: &R,
-    alloc: Global,
-    rows: &[&[usize]],
-    head: &[usize],
-    atoms: &[&str],
-    variables: &[&str],
-    want: &str,
-) -> Result<(), Fail> {
-    let (lines, _tree) = explained(rt, alloc, rows, head, atoms, variables)?;
-    assert_eq!(rt; lines.as_bytes(), want.as_bytes(), "{want}");
-    Ok(())
-}
-
 #[test]
 fn grows_trees(rt: HostRuntime) -> Result<(), Fail> {
-    let alloc = rt.alloc();
-    // q(x,y,z) <- r(x,y), s(y,z), t(z,x), u(x,y,z)
-    expect_lines(
-        &rt,
-        alloc,
-        &[&[0, 1], &[1, 2], &[2, 0], &[0, 1, 2]],
-        &[0, 1, 2],
-        &["r", "s", "t", "u"],
-        &["x", "y", "z"],
-        "n 0 leaf r x,y out\nn 1 leaf s y,z out\nn 2 leaf t x,z out\nn 3 leaf u x,y,z out\nn 4 meet 3 0 x,y,z out\nn 5 meet 4 1 x,y,z out\nn 6 trim 5 x,z out\nn 7 meet 2 6 x,z out\nn 8 trim 7 - out\n",
-    )?;
-    // q(x,y) <- r(x,y), s(y)
-    expect_lines(
-        &rt,
-        alloc,
-        &[&[0, 1], &[1]],
-        &[0, 1],
-        &["r", "s"],
-        &["x", "y"],
-        "n 0 leaf r x,y out\nn 1 leaf s y out\nn 2 trim 0 y out\nn 3 meet 1 2 y out\nn 4 trim 3 - out\n",
-    )?;
-    // q(x,y) <- r(x), s(y)
-    expect_lines(
-        &rt,
-        alloc,
-        &[&[0], &[1]],
-        &[0, 1],
-        &["r", "s"],
-        &["x", "y"],
-        "n 0 leaf r x out\nn 1 leaf s y out\nn 2 trim 0 - out\nn 3 trim 1 - out\nn 4 meet 2 3 - out\n",
-    )?;
-    // b(x) <- p(x), p(x)
-    expect_lines(
-        &rt,
-        alloc,
-        &[&[0], &[0]],
-        &[0],
-        &["p", "p"],
-        &["x"],
-        "n 0 leaf p x out\nn 1 leaf p x out\nn 2 meet 0 1 x out\nn 3 trim 2 - out\n",
-    )?;
-    // q(x) <- r(x,y)
-    expect_lines(
-        &rt,
-        alloc,
-        &[&[0, 1]],
-        &[0],
-        &["r"],
-        &["x", "y"],
-        "n 0 leaf r x,y\nn 1 trim 0 x out\nn 2 trim 1 - out\n",
-    )?;
-    // q(y,x) <- r(x,y): the head out of the body's order
-    expect_lines(
-        &rt,
-        alloc,
-        &[&[0, 1]],
-        &[1, 0],
-        &["r"],
-        &["x", "y"],
-        "n 0 leaf r x,y out\nn 1 trim 0 - out\n",
-    )?;
-    // q(y) <- r(_,y), s(y,_): holes
-    expect_lines(
-        &rt,
-        alloc,
-        &[&[0, 1], &[1, 2]],
-        &[1],
-        &["r", "s"],
-        &["_", "y", "_"],
-        "n 0 leaf r _,y\nn 1 leaf s y,_\nn 2 trim 0 y out\nn 3 trim 1 y out\nn 4 meet 2 3 y out\nn 5 trim 4 - out\n",
-    )?;
-    // q() <- p(): no variable
-    expect_lines(&rt, alloc, &[&[]], &[], &["p"], &[], "n 0 leaf p - out\n")?;
+    // The atoms' variables, the head's, the relation and variable names, and the lines.
+    // More are computed in the proofs of `djq_tree`, over the definition that `plan` meets.
+    let cases: [(&[&[usize]], &[usize], &[&str], &[&str], &str); 3] = [
+        // q(x,y,z) <- r(x,y), s(y,z), t(z,x), u(x,y,z)
+        (
+            &[&[0, 1], &[1, 2], &[2, 0], &[0, 1, 2]],
+            &[0, 1, 2],
+            &["r", "s", "t", "u"],
+            &["x", "y", "z"],
+            "n 0 leaf r x,y out\nn 1 leaf s y,z out\nn 2 leaf t x,z out\nn 3 leaf u x,y,z out\nn 4 meet 3 0 x,y,z out\nn 5 meet 4 1 x,y,z out\nn 6 trim 5 x,z out\nn 7 meet 2 6 x,z out\nn 8 trim 7 - out\n",
+        ),
+        // q(y) <- r(_,y), s(y,_): holes
+        (
+            &[&[0, 1], &[1, 2]],
+            &[1],
+            &["r", "s"],
+            &["_", "y", "_"],
+            "n 0 leaf r _,y\nn 1 leaf s y,_\nn 2 trim 0 y out\nn 3 trim 1 y out\nn 4 meet 2 3 y out\nn 5 trim 4 - out\n",
+        ),
+        // q() <- p(): no variable
+        (&[&[]], &[], &["p"], &[], "n 0 leaf p - out\n"),
+    ];
+    for (rows, head, atoms, variables, want) in cases {
+        let (lines, _tree) = explained(&rt, rt.alloc(), rows, head, atoms, variables)?;
+        assert!(rt; lines.as_bytes() == want.as_bytes());
+    }
     Ok(())
 }
 
 #[test]
 fn takes_sixteen_atoms(rt: HostRuntime) -> Result<(), Fail> {
-    let rows: [&[usize]; 16] = [
-        &[0, 1],
-        &[0, 1],
-        &[0, 1],
-        &[0, 1],
-        &[0, 1],
-        &[0, 1],
-        &[0, 1],
-        &[0, 1],
-        &[0, 1],
-        &[0, 1],
-        &[0, 1],
-        &[0, 1],
-        &[0, 1],
-        &[0, 1],
-        &[0, 1],
-        &[0, 1],
-    ];
+    let edge: &[usize] = &[0, 1];
+    let rows = [edge; 16];
     let atoms = ["r"; 16];
     let (lines, tree) = explained(&rt, rt.alloc(), &rows, &[1], &atoms, &["x", "y"])?;
-    assert_eq!(rt; tree.len(), 33);
-    assert_eq!(rt; tree.second(), 32);
+    assert!(rt; tree.len() == 33);
+    assert!(rt; tree.second_stage() == 32);
     assert!(rt;
         lines.as_bytes().ends_with(b"n 30 meet 28 29 x,y\nn 31 trim 30 y out\nn 32 trim 31 - out\n")
     );
     Ok(())
 }
 
+/// The nodes above the second leaf of a tree with six nodes, and what they are.
+fn expect_path<R: Abort>(rt: &R, tree: &Tree) {
+    assert!(rt; tree.leaves() == 2);
+    assert!(rt; tree.len() == 6);
+    assert!(rt; tree.frontier(1) == 3);
+    let mut path = tree.path(1);
+    for node in [1, 3, 4, 5] {
+        assert!(rt; path.next() == Some(node));
+    }
+    assert!(rt; path.next() == None);
+    assert!(rt; tree.parent(0) == Some(2));
+    assert!(rt; tree.node(4) == Node::Meet { guard: 2, side: 3 });
+    assert!(rt; tree.node(4).has_child(3) && !tree.is_out(1));
+    let shared = set_of(&[1]);
+    assert!(rt; tree.label(4) == shared && tree.key(2) == shared && tree.head() == shared);
+}
+
 #[test]
 fn goes_up_a_tree(rt: HostRuntime) -> Result<(), Fail> {
     // q(y) <- r(x,y), s(y,z)
-    let (_lines, tree) = explained(
-        &rt,
-        rt.alloc(),
-        &[&[0, 1], &[1, 2]],
-        &[1],
-        &["r", "s"],
-        &["x", "y", "z"],
-    )?;
-    assert_eq!(rt; tree.leaves(), 2);
-    assert_eq!(rt; tree.len(), 6);
-    assert_eq!(rt; tree.frontier(1), 3);
-    let mut path = tree.path(1);
-    assert_eq!(rt; path.next(), Some(1));
-    assert_eq!(rt; path.next(), Some(3));
-    assert_eq!(rt; path.next(), Some(4));
-    assert_eq!(rt; path.next(), Some(5));
-    assert_eq!(rt; path.next(), None);
-    assert_eq!(rt; tree.parent(0), Some(2));
-    assert!(rt; tree.node(4) == Node::Meet { guard: 2, side: 3 });
-    assert!(rt; tree.node(4).has_child(3));
-    assert!(rt; tree.label(4) == set_of(&[1]));
-    assert!(rt; !tree.is_out(1));
+    let rows: [&[usize]; 2] = [&[0, 1], &[1, 2]];
+    let (_lines, tree) = explained(&rt, rt.alloc(), &rows, &[1], &["r", "s"], &["x", "y", "z"])?;
+    expect_path(&rt, &tree);
     Ok(())
 }
 
-/// That a query is refused with this rest, as cyclic or as not free-connex.
-fn expect_rest<R: Abort>(
-    rt: &R,
-    alloc: Global,
-    rows: &[&[usize]],
-    head: &[usize],
-    is_cyclic: bool,
-    want: &[&[usize]],
-) -> Result<(), Fail> {
-    let edges = edges_of(alloc, rows)?;
-    let head = set_of(head);
-    let want = edges_of(alloc, want)?;
-    assert!(rt; !edges.is_empty());
-    assert!(rt; is_covered(&edges, head));
-    let (cyclic, rest) = match plan(alloc, &edges, &head) {
+/// What refuses a query: whether as cyclic, and the rest.
+fn refused(alloc: Global, edges: &Edges, head: VarSet) -> (bool, Edges)
+    requires some { 0 < length edges.now }
+    requires head { AreCovered head edges.now }
+{
+    match plan(alloc, edges, &head) {
         Err(PlanRefusal::Cyclic(rest)) => (true, rest),
         Err(PlanRefusal::NotConnex(rest)) => (false, rest),
         Err(PlanRefusal::NoMem) => (false, Edges::new(alloc)),
         Ok(_tree) => (true, Edges::new(alloc)),
-    };
-    assert_eq!(rt; cyclic, is_cyclic);
-    assert!(rt; rest.as_slice() == want.as_slice(), "{rows:?}");
-    Ok(())
+    }
 }
 
 #[test]
 fn refuses_with_a_rest(rt: HostRuntime) -> Result<(), Fail> {
-    let alloc = rt.alloc();
-    // q(x,y,z) <- r(x,y), s(y,z), t(z,x)
-    let triangle: [&[usize]; 3] = [&[0, 1], &[1, 2], &[0, 2]];
-    expect_rest(&rt, alloc, &triangle, &[0, 1, 2], true, &triangle)?;
-    // q() <- r(x,y), s(y,z), t(z,x), u(z,w)
-    expect_rest(
-        &rt,
-        alloc,
-        &[&[0, 1], &[1, 2], &[0, 2], &[2, 3]],
-        &[],
-        true,
-        &triangle,
-    )?;
-    // q(x,z) <- r(x,y), s(y,z)
-    expect_rest(
-        &rt,
-        alloc,
-        &[&[0, 1], &[1, 2]],
-        &[0, 2],
-        false,
-        &[&[0, 2], &[0, 1], &[1, 2]],
-    )?;
-    // a(x,w) <- r(x,y), s(y,z), t(z,w)
-    expect_rest(
-        &rt,
-        alloc,
-        &[&[0, 1], &[1, 2], &[2, 3]],
-        &[0, 3],
-        false,
-        &[&[0, 3], &[0, 1], &[1, 2], &[2, 3]],
-    )?;
+    // The atoms' variables, the head's, whether the query is cyclic, and the rest.
+    let cases: [(&[&[usize]], &[usize], bool, &[&[usize]]); 2] = [
+        // q() <- r(x,y), s(y,z), t(z,x), u(z,w)
+        (
+            &[&[0, 1], &[1, 2], &[0, 2], &[2, 3]],
+            &[],
+            true,
+            &[&[0, 1], &[1, 2], &[0, 2]],
+        ),
+        // q(x,z) <- r(x,y), s(y,z)
+        (
+            &[&[0, 1], &[1, 2]],
+            &[0, 2],
+            false,
+            &[&[0, 2], &[0, 1], &[1, 2]],
+        ),
+    ];
+    for (rows, head, is_cyclic, want) in cases {
+        let edges = edges_of(rt.alloc(), rows)?;
+        let head = set_of(head);
+        assert!(rt; !edges.is_empty() && edges.covers(head));
+        let (cyclic, rest) = refused(rt.alloc(), &edges, head);
+        let want = edges_of(rt.alloc(), want)?;
+        assert!(rt; cyclic == is_cyclic);
+        assert!(rt; rest.as_slice() == want.as_slice());
+    }
     Ok(())
 }

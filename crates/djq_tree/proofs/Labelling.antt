@@ -1,15 +1,18 @@
 -- A label's text.
-use Rattle.std.proofs.Common.{◌≡◌, ℕ, zero, suc, ◌<◌, Bool, true, false, List, [], ◌∷◌, ◌++◌, length, eqb, Some, refl, ap, sym, ◌∙◌, append_assoc, append-nil, take, inl, inr, arith}
+use Rattle.std.proofs.Common.{◌≡◌, ℕ, zero, suc, ◌<◌, Bool, true, List, [], ◌∷◌, ◌++◌, length, eqb, Some, refl, ap, sym, ◌∙◌, append_assoc, append-nil, inl, inr, arith}
 use Rattle.std.specs.Prelude.{◌≤◌, slice_get, codes, decimal, slice_index_or}
 use Rattle.std.proofs.lemmas.List.{get_or-take, get_or_past}
-use Rattle.std.proofs.lemmas.Bool.{cases_lt, eq-eqb, false≢true}
+use Rattle.std.proofs.lemmas.Bool.{cases_lt, eq-eqb}
 use Rattle.std.proofs.Math.Bool.{or-true}
-use Rattle.djq_hyper.specs.Hypergraph.{member, edge_at}
-use Rattle.djq_hyper.proofs.Members.{from_true, one_true, subset_says}
+use Rattle.djq_hyper.specs.Hypergraph.{member, degree}
+use Rattle.djq_hyper.specs.Variables.{AreNamed}
+use Rattle.djq_hyper.proofs.Members.{has, from_true, subset_says}
+use Rattle.djq_hyper.proofs.Owning.{edge_in, edge_with}
 use Rattle.djq_tree.specs.declared.node.Node.{Node}
 use Rattle.djq_tree.specs.declared.node.Node.TheVariants.{Leaf, Trim, Meet}
-use Rattle.djq_tree.specs.Tree.{Tree, IsTree, node_at}
-use Rattle.djq_tree.specs.Explaining.{AreNamed, IsNamed, name_at, listed, label_text, node_text, end_text, line_text}
+use Rattle.djq_tree.specs.Labels.{label_at}
+use Rattle.djq_tree.specs.Tree.{Tree, IsTree, node_at, is_out, leaf_labels}
+use Rattle.djq_tree.specs.Explaining.{IsNamed, name_at, listed, label_text, node_text, end_text, line_text}
 
 -- what a position has
 pub found : {A : Type 0} (xs : List A) (i : ℕ) (x d : A) → slice_get xs i ≡ Some x → x ≡ slice_index_or xs i d
@@ -47,60 +50,62 @@ labelled names s s1 s2 t l m r x name at e none h =
     let f : s2 ++ [] ≡ s1 ++ listed names m = ap (λ k. s2 ++ listed names k) (sym none) ∙ h in
     sym (append-nil s2) ∙ f ∙ labelled_first names s s1 t l m x name at e
 
--- the variables of a label have names
-pub label_named : (names labels : List (List ℕ)) (j : ℕ) (l : List ℕ) → slice_get labels j ≡ Some l → AreNamed names labels → (x : ℕ) → member x l ≡ true → x < length names
-label_named names labels j l at all x h = all j x (ap (member x) (sym (name_of labels j l at)) ∙ h)
-
 -- the atom of a leaf has a name
-node_named : (atoms : List (List ℕ)) (t : Tree) (j : ℕ) (n m : Node) → IsTree t → j < length t.nodes → t.leaves ≤ length atoms → m ≡ n → m ≡ node_at t.nodes j → IsNamed atoms n
-node_named atoms t j (Leaf a) m s within enough e f =
-    let is : node_at t.nodes j ≡ Leaf a = sym f ∙ e in
+pub node_named : (atoms : List (List ℕ)) (t : Tree) (j : ℕ) (n : Node) → IsTree t → j < length t.nodes → t.leaves ≤ length atoms → n ≡ node_at t.nodes j → IsNamed atoms n
+node_named atoms t j (Leaf a) s within enough e =
+    let is : node_at t.nodes j ≡ Leaf a = sym e in
     let low = s.inner j a within is in
     let own : node_at t.nodes j ≡ Leaf j = s.leaf j low in
     let same : a ≡ j = (let k : Leaf a ≡ Leaf j = sym is ∙ own in cc) in
     omega arith
-node_named atoms t j (Trim c) m s within enough e f = tt
-node_named atoms t j (Meet g d) m s within enough e f = tt
-
-pub found_named : (atoms : List (List ℕ)) (t : Tree) (j : ℕ) (n : Node) → IsTree t → j < length t.nodes → t.leaves ≤ length atoms → slice_get t.nodes j ≡ Some n → IsNamed atoms n
-found_named atoms t j n s within enough at = node_named atoms t j n n s within enough refl (found t.nodes j n (Leaf 0) at)
+node_named atoms t j (Trim c) s within enough e = tt
+node_named atoms t j (Meet g d) s within enough e = tt
 
 -- seven texts, one after another
 pub written : (s s1 s2 s3 s4 s5 s6 s7 a b c d e f g : List ℕ) → s1 ≡ s ++ a → s2 ≡ s1 ++ b → s3 ≡ s2 ++ c → s4 ≡ s3 ++ d → s5 ≡ s4 ++ e → s6 ≡ s5 ++ f → s7 ≡ s6 ++ g → s7 ≡ s ++ (a ++ b ++ c ++ d ++ e ++ f ++ g)
 written s s1 s2 s3 s4 s5 s6 s7 a b c d e f g h1 h2 h3 h4 h5 h6 h7 = rw (h7, h6, h5, h4, h3, h2, h1) (simp append_assoc refl)
 
 -- a line is written
-pub line_written : (atoms variables : List (List ℕ)) (t : Tree) (j : ℕ) (n : Node) (l : List ℕ) (o : Bool) (s s1 s2 s3 s4 s5 s6 s7 : List ℕ) → slice_get t.nodes j ≡ Some n → slice_get t.labels j ≡ Some l → slice_get t.out j ≡ Some o
+pub line_written : (atoms variables : List (List ℕ)) (t : Tree) (j : ℕ) (n : Node) (l : List ℕ) (o : Bool) (s s1 s2 s3 s4 s5 s6 s7 : List ℕ) → n ≡ node_at t.nodes j → l ≡ label_at t.labels j → o ≡ is_out t.out j
     → s1 ≡ s ++ codes "n " → s2 ≡ s1 ++ decimal j → s3 ≡ s2 ++ codes " " → s4 ≡ s3 ++ node_text atoms n → s5 ≡ s4 ++ codes " " → s6 ≡ s5 ++ label_text variables l → s7 ≡ s6 ++ end_text o → s7 ≡ s ++ line_text atoms variables t j
 line_written atoms variables t j n l o s s1 s2 s3 s4 s5 s6 s7 at_n at_l at_o h1 h2 h3 h4 h5 h6 h7 =
-    rw (← found t.nodes j n (Leaf 0) at_n, ← found t.labels j l [] at_l, ← found t.out j o false at_o)
+    rw (← at_n, ← at_l, ← at_o)
     (written s s1 s2 s3 s4 s5 s6 s7 (codes "n ") (decimal j) (codes " ") (node_text atoms n) (codes " ") (label_text variables l) (end_text o) h1 h2 h3 h4 h5 h6 h7)
 
 -- ---- each variable of a label lies in a leaf's
 
-named_node : (names : List (List ℕ)) (t : Tree) (j x : ℕ) (n : Node) → IsTree t → j < length t.nodes → node_at t.nodes j ≡ n → t.leaves ≤ j
-    → ((c : ℕ) → c < j → member x (edge_at t.labels c) ≡ true → x < length names) → member x (edge_at t.labels j) ≡ true → x < length names
-named_node names t j x (Leaf a) s within e late lower h = absurd (let low = s.inner j a within e in omega arith)
-named_node names t j x (Trim c) s within e late lower h =
+leaf_node : (t : Tree) (j x : ℕ) (n : Node) → IsTree t → j < length t.nodes → node_at t.nodes j ≡ n → t.leaves ≤ j
+    → ((c : ℕ) → c < j → 0 < has x (label_at t.labels c) → 0 < degree x (leaf_labels t)) → 0 < has x (label_at t.labels j) → 0 < degree x (leaf_labels t)
+leaf_node t j x (Leaf a) s within e late lower h = absurd (let low = s.inner j a within e in omega arith)
+leaf_node t j x (Trim c) s within e late lower h =
     let i = s.trim j c e in
-    lower c i.lower (one_true (member x (edge_at t.labels c)) (let k = subset_says (edge_at t.labels j) (edge_at t.labels c) i.within x in let f = from_true (member x (edge_at t.labels j)) h in omega arith))
-named_node names t j x (Meet g d) s within e late lower h =
+    lower c i.lower (let k = subset_says (label_at t.labels j) (label_at t.labels c) i.within x in omega arith)
+leaf_node t j x (Meet g d) s within e late lower h =
     let i = s.meet j g d e in
-    lower g i.guard_lower (ap (member x) (sym i.guard) ∙ h)
+    lower g i.guard_lower (let k : has x (label_at t.labels j) ≡ has x (label_at t.labels g) = ap (has x) i.guard in omega arith)
 
-named_below : (names : List (List ℕ)) (t : Tree) → IsTree t → AreNamed names (take t.leaves t.labels) → (n j x : ℕ) → j < n → member x (edge_at t.labels j) ≡ true → x < length names
-named_below names t s leaves zero j x low h = absurd (omega arith)
-named_below names t s leaves (suc n) j x low h =
+leaf_below : (t : Tree) → IsTree t → (n j x : ℕ) → j < n → 0 < has x (label_at t.labels j) → 0 < degree x (leaf_labels t)
+leaf_below t s zero j x low h = absurd (omega arith)
+leaf_below t s (suc n) j x low h =
     elim (cases_lt j t.leaves) [
-      | inl early ↦ leaves j x (ap (member x) (get_or-take t.leaves t.labels j [] early) ∙ h)
+      | inl early ↦
+          let k : has x (label_at (leaf_labels t) j) ≡ has x (label_at t.labels j) = ap (has x) (get_or-take t.leaves t.labels j [] early) in
+          let d = edge_in (leaf_labels t) j x in
+          omega arith
       | inr late ↦
           elim (cases_lt j (length t.nodes)) [
-            | inl within ↦ named_node names t j x (node_at t.nodes j) s within refl late (λ c lower k. named_below names t s leaves n c x (omega arith) k) h
+            | inl within ↦ leaf_node t j x (node_at t.nodes j) s within refl late (λ c lower k. leaf_below t s n c x (omega arith) k) h
             | inr past ↦
-                absurd (false≢true (ap (λ (k : List ℕ). member x k) (sym (get_or_past t.labels j [] (let e = s.labelled in omega arith))) ∙ h))
+                absurd (let e = s.labelled in let k : has x (label_at t.labels j) ≡ has x [] = ap (has x) (get_or_past t.labels j [] (omega arith)) in omega arith)
           ]
     ]
 
+-- a variable of a label lies in the label of a leaf
+pub leaf_has : (t : Tree) → IsTree t → (j x : ℕ) → 0 < has x (label_at t.labels j) → 0 < degree x (leaf_labels t)
+leaf_has t s j x h = leaf_below t s (suc j) j x (omega arith) h
+
 -- where the leaves' variables have names, all have
-pub all_named : (names : List (List ℕ)) (t : Tree) → IsTree t → AreNamed names (take t.leaves t.labels) → AreNamed names t.labels
-all_named names t s leaves j x h = named_below names t s leaves (suc j) j x (omega arith) h
+pub label_named : (names : List (List ℕ)) (t : Tree) (j : ℕ) (l : List ℕ) → IsTree t → l ≡ label_at t.labels j → AreNamed names (leaf_labels t) → (x : ℕ) → member x l ≡ true → x < length names
+label_named names t j l s at leaves x h =
+    let e = edge_with (leaf_labels t) x (leaf_has t s j x (from_true (member x (label_at t.labels j)) (ap (member x) (sym at) ∙ h))) in
+    leaves e.0 x e.1

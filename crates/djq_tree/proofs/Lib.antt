@@ -1,4 +1,8 @@
 pub mod Finding
 pub mod Climbing
+pub mod Splitting
+pub mod Keying
+pub mod Counting
+pub mod Trimming
 pub mod Labelling
 pub mod Worked

@@ -8,7 +8,7 @@ use Rattle.djq_tree.specs.Explaining.{explain_of}
 -- the lines of the tree of the edges H and the head F, after n steps of the first stage and m of the second
 abbrev text : List (List ℕ) → List (List ℕ) → List (List ℕ) → List ℕ → ℕ → ℕ → List ℕ
 text atoms variables H F n m =
-    explain_of atoms variables (tree_of (length H) (grow F n (start H)) (grow [] m (grow F n (start H))))
+    explain_of atoms variables (tree_of (length H) F (grow F n (start H)) (grow [] m (grow F n (start H))))
 
 -- a triangle with an atom that covers it
 covered : text (codes "r" ∷ codes "s" ∷ codes "t" ∷ codes "u" ∷ []) (codes "x" ∷ codes "y" ∷ codes "z" ∷ []) ((0 ∷ 1 ∷ []) ∷ (1 ∷ 2 ∷ []) ∷ (0 ∷ 2 ∷ []) ∷ (0 ∷ 1 ∷ 2 ∷ []) ∷ []) (0 ∷ 1 ∷ 2 ∷ []) 0 5
@@ -39,3 +39,15 @@ projected : text (codes "r" ∷ []) (codes "x" ∷ codes "y" ∷ []) ((0 ∷ 1 �
     ≡ codes "n 0 leaf r x,y\nn 1 trim 0 x out\nn 2 trim 1 - out\n"
 unfolding grow digits
 projected = refl
+
+-- a head out of the body's order: it is a set
+turned : text (codes "r" ∷ []) (codes "x" ∷ codes "y" ∷ []) ((0 ∷ 1 ∷ []) ∷ []) (1 ∷ 0 ∷ []) 0 1
+    ≡ codes "n 0 leaf r x,y out\nn 1 trim 0 - out\n"
+unfolding grow digits
+turned = refl
+
+-- holes, which are variables that are named alike
+holes : text (codes "r" ∷ codes "s" ∷ []) (codes "_" ∷ codes "y" ∷ codes "_" ∷ []) ((0 ∷ 1 ∷ []) ∷ (1 ∷ 2 ∷ []) ∷ []) (1 ∷ []) 2 2
+    ≡ codes "n 0 leaf r _,y\nn 1 leaf s y,_\nn 2 trim 0 y out\nn 3 trim 1 y out\nn 4 meet 2 3 y out\nn 5 trim 4 - out\n"
+unfolding grow digits
+holes = refl

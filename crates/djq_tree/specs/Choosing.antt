@@ -1,7 +1,8 @@
 -- The planner's choice rule, on the labels of the current nodes in the order of their numbers. A place is a
 -- position in that list, so the lowest place is that of the node with the lowest number.
 use Rattle.std.specs.Prelude.{ℕ, Bool, not, ◌==◌, ◌&&◌, nat_lt, List, length, filter, Option, Some, None, is_some, unwrap_or}
-use Rattle.djq_hyper.specs.Hypergraph.{subset, minus, degree, edge_at}
+use Rattle.djq_hyper.specs.Hypergraph.{subset, difference, degree}
+use Rattle.djq_tree.specs.Labels.{label_at}
 use Rattle.djq_tree.specs.Lowest.{lowest_from}
 use Rattle.djq_tree.specs.declared.choice.Choice.{Choice}
 use Rattle.djq_tree.specs.declared.choice.Choice.TheVariants.{Trim, Meet, Stuck}
@@ -12,7 +13,7 @@ lowest test L = lowest_from test 0 (length L)
 
 -- the removable variables at a place: those that lie in no other current label and that needn't be kept
 abbrev pub removable : List ℕ → List (List ℕ) → ℕ → List ℕ
-removable keep L i = minus (filter (λ x. degree x L == 1) (edge_at L i)) keep
+removable keep L i = difference (filter (λ x. degree x L == 1) (label_at L i)) keep
 
 -- whether there is one
 abbrev pub has_removable : List ℕ → List (List ℕ) → ℕ → Bool
@@ -20,11 +21,11 @@ has_removable keep L i = not (length (removable keep L i) == 0)
 
 -- whether the labels at two places are equal
 abbrev pub are_equal : List (List ℕ) → ℕ → ℕ → Bool
-are_equal L a b = subset (edge_at L a) (edge_at L b) && subset (edge_at L b) (edge_at L a)
+are_equal L a b = subset (label_at L a) (label_at L b) && subset (label_at L b) (label_at L a)
 
 -- whether the label at the first place is a proper subset of the label at the second
 abbrev pub is_inside : List (List ℕ) → ℕ → ℕ → Bool
-is_inside L s g = subset (edge_at L s) (edge_at L g) && not (subset (edge_at L g) (edge_at L s))
+is_inside L s g = subset (label_at L s) (label_at L g) && not (subset (label_at L g) (label_at L s))
 
 -- the lowest place above a with an equal label
 abbrev pub twin : List (List ℕ) → ℕ → Option ℕ

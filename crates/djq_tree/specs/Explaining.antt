@@ -1,6 +1,6 @@
 -- The text that explains a tree: a line for each node.
-use Rattle.std.specs.Prelude.{◌≡◌, ℕ, zero, suc, ◌<◌, Bool, true, false, List, [], ◌∷◌, ◌++◌, length, codes, decimal, slice_index_or}
-use Rattle.djq_hyper.specs.Hypergraph.{member, edge_at}
+use Rattle.std.specs.Prelude.{ℕ, zero, suc, ◌<◌, Bool, true, false, List, [], ◌∷◌, ◌++◌, length, codes, decimal, slice_index_or}
+use Rattle.djq_tree.specs.Labels.{label_at}
 use Rattle.djq_tree.specs.declared.node.Node.{Node}
 use Rattle.djq_tree.specs.declared.node.Node.TheVariants.{Leaf, Trim, Meet}
 use Rattle.djq_tree.specs.Tree.{Tree, node_at, is_out}
@@ -34,7 +34,7 @@ end_text false = codes "\n"
 abbrev pub line_text : List (List ℕ) → List (List ℕ) → Tree → ℕ → List ℕ
 line_text atoms variables t j =
     codes "n " ++ decimal j ++ codes " " ++ node_text atoms (node_at t.nodes j)
-    ++ codes " " ++ label_text variables (edge_at t.labels j) ++ end_text (is_out t.out j)
+    ++ codes " " ++ label_text variables (label_at t.labels j) ++ end_text (is_out t.out j)
 
 -- the lines of the nodes below n
 abbrev pub lines_below : List (List ℕ) → List (List ℕ) → Tree → ℕ → List ℕ
@@ -50,7 +50,3 @@ abbrev pub IsNamed : List (List ℕ) → Node → Type 0
 IsNamed atoms (Leaf a) = a < length atoms
 IsNamed atoms (Trim c) = Unit {0}
 IsNamed atoms (Meet g s) = Unit {0}
-
--- each variable of a label has a name
-abbrev pub AreNamed : List (List ℕ) → List (List ℕ) → Type 0
-AreNamed variables labels = (j x : ℕ) → member x (edge_at labels j) ≡ true → x < length variables

@@ -1,5 +1,9 @@
 pub mod Lowest
+pub mod Labels
 pub mod Choosing
 pub mod Tree
+pub mod Levels
+pub mod Keys
+pub mod Counts
 pub mod Growing
 pub mod Explaining

@@ -3,13 +3,13 @@ ghost use Rattle.djq_hyper.specs.Hypergraph.{member};
 ghost use Rattle.djq_tree.specs.Explaining.{IsNamed, end_text, label_text, node_text};
 
 use crate::node::Node;
-use djq_hyper::{Names, NoMem, VarSet};
+use djq_hyper::{Names, VarSet};
 use itoa::Buffer;
-use std::alloc::Global;
+use std::alloc::{AllocError, Global};
 use std::marker::Model;
 
 /// Lines of text, each with its line end. Contracts see the list of their bytes.
-#[derive(Drop)]
+#[derive(Debug, Drop)]
 pub struct Lines {
     bytes: Vec<u8>,
 }
@@ -40,7 +40,7 @@ impl Lines {
     }
 
     /// Puts a text behind what is there.
-    pub(crate) fn push_text(&mut self, text: &[u8]) -> Result<(), NoMem>
+    pub(crate) fn push_text(&mut self, text: &[u8]) -> Result<(), AllocError>
         ensures { OnOk result (self.new ≡ self.old ++ text.now) }
     {
         self.bytes.extend_from_slice(text)?;
@@ -48,7 +48,7 @@ impl Lines {
     }
 
     /// Puts a number behind what is there, in decimal.
-    pub(crate) fn push_number(&mut self, number: usize) -> Result<(), NoMem>
+    pub(crate) fn push_number(&mut self, number: usize) -> Result<(), AllocError>
         ensures { OnOk result (self.new ≡ self.old ++ decimal number) }
     {
         let mut buffer = Buffer::new();
@@ -56,7 +56,7 @@ impl Lines {
     }
 
     /// Puts what a node is behind what is there.
-    pub(crate) fn push_node(&mut self, node: Node, atoms: &Names) -> Result<(), NoMem>
+    pub(crate) fn push_node(&mut self, node: Node, atoms: &Names) -> Result<(), AllocError>
         requires { IsNamed atoms.now node }
         ensures { OnOk result (self.new ≡ self.old ++ node_text atoms.now node) }
     {
@@ -79,7 +79,7 @@ impl Lines {
     }
 
     /// Puts the variables of a label behind what is there, in order of number.
-    pub(crate) fn push_label(&mut self, label: VarSet, variables: &Names) -> Result<(), NoMem>
+    pub(crate) fn push_label(&mut self, label: VarSet, variables: &Names) -> Result<(), AllocError>
         requires { (x : ℕ) → member x label ≡ true → x < length variables.now }
         ensures { OnOk result (self.new ≡ self.old ++ label_text variables.now label) }
     {
@@ -98,7 +98,7 @@ impl Lines {
     }
 
     /// Ends a line, with the word for a node that is in `out` before it.
-    pub(crate) fn push_end(&mut self, is_out: bool) -> Result<(), NoMem>
+    pub(crate) fn push_end(&mut self, is_out: bool) -> Result<(), AllocError>
         ensures { OnOk result (self.new ≡ self.old ++ end_text is_out) }
     {
         if is_out {

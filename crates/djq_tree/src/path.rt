@@ -9,7 +9,7 @@ use std::marker::Model;
 ///
 /// Contracts see the list of the nodes that are still to come. The next one is found by going on through
 /// the nodes from the last one, so that a whole path looks at each node once.
-#[derive(Drop)]
+#[derive(Debug, Drop)]
 pub struct Path<'a> {
     nodes: &'a [Node],
     next: Option<usize>,

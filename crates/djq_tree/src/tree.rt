@@ -1,25 +1,40 @@
-ghost use Rattle.std.specs.Prelude.{◌≡◌, ◌<◌, ◌≤◌, ◌++◌, length, take, slice_get, Some, IfOk, OnOk};
-ghost use Rattle.djq_tree.specs.Explaining.{AreNamed, explain_of, line_text};
-ghost use Rattle.djq_tree.specs.Tree.{IsTree, IsFrontier, parent, path_of};
+ghost use Rattle.std.specs.Prelude.{◌≡◌, ◌+◌, ◌<◌, ◌≤◌, ◌++◌, length, true, IfOk, OnOk, IfSome, IfNone};
+ghost use Rattle.djq_hyper.specs.Hypergraph.{subset};
+ghost use Rattle.djq_hyper.specs.Variables.{AreNamed};
+ghost use Rattle.djq_tree.specs.Counts.{IsSmall};
+ghost use Rattle.djq_tree.specs.Explaining.{explain_of, line_text};
+ghost use Rattle.djq_tree.specs.Keys.{key_of};
+ghost use Rattle.djq_tree.specs.Labels.{label_at};
+ghost use Rattle.djq_tree.specs.Tree.{
+  IsTree,
+  IsFrontier,
+  SplitsPath,
+  is_out,
+  leaf_labels,
+  node_at,
+  parent,
+  path_of,
+};
 
 use crate::lines::Lines;
 use crate::node::Node;
 use crate::path::{Path, parent_of};
-use djq_hyper::{Names, NoMem, VarSet};
-use std::alloc::Global;
+use djq_hyper::{Names, VarSet};
+use std::alloc::{AllocError, Global};
 use std::marker::Model;
 
 /// A generalised join tree of a query: how its atoms' tuples are projected and matched, step by step.
 ///
 /// The leaves are the atoms. An inner node is a trim of one node or a meet of two, and each node but the
 /// root is a child of exactly one. The part `out` is where the query's answers are read off.
-#[derive(Drop)]
+#[derive(Debug, Drop)]
 pub struct Tree {
     nodes: Vec<Node>,
     labels: Vec<VarSet>,
     out: Vec<bool>,
+    head: VarSet,
     leaves: usize,
-    second: usize,
+    second_stage: usize,
 }
 
 impl Model for Tree {
@@ -27,30 +42,32 @@ impl Model for Tree {
 
     ghost Value = { spec.Tree };
 
-    ghost view = { λ t. record { nodes = t.nodes.items; labels = t.labels.items; out = t.out.items; leaves = t.leaves; second = t.second } };
+    ghost view = { λ t. record { nodes = t.nodes.items; labels = t.labels.items; out = t.out.items; head = t.head; leaves = t.leaves; second_stage = t.second_stage } };
 
-    ghost invariant = { λ t. spec.IsTree (record { nodes = t.nodes.items; labels = t.labels.items; out = t.out.items; leaves = t.leaves; second = t.second }) };
+    ghost invariant = { λ t. spec.IsTree (record { nodes = t.nodes.items; labels = t.labels.items; out = t.out.items; head = t.head; leaves = t.leaves; second_stage = t.second_stage }) };
 }
 
 impl Tree {
-    /// The tree with these nodes, labels and marks of `out`, of which the first `leaves` are leaves, and
-    /// whose second stage begins with the number `second`.
+    /// The tree with these nodes, labels, marks of `out` and head variables, of which the first `leaves`
+    /// are leaves, and whose second stage begins with the number `second_stage`.
     pub fn new(
         nodes: Vec<Node>,
         labels: Vec<VarSet>,
         out: Vec<bool>,
+        head: VarSet,
         leaves: usize,
-        second: usize,
+        second_stage: usize,
     ) -> Tree
-        requires { IsTree (record { nodes = nodes.items; labels = labels.items; out = out.items; leaves = leaves; second = second }) }
-        ensures { result ≡ record { nodes = nodes.items; labels = labels.items; out = out.items; leaves = leaves; second = second } }
+        requires { IsTree (record { nodes = nodes.items; labels = labels.items; out = out.items; head = head; leaves = leaves; second_stage = second_stage }) }
+        ensures { result ≡ record { nodes = nodes.items; labels = labels.items; out = out.items; head = head; leaves = leaves; second_stage = second_stage } }
     {
         Tree {
             nodes,
             labels,
             out,
+            head,
             leaves,
-            second,
+            second_stage,
         }
     }
 
@@ -65,7 +82,7 @@ impl Tree {
     /// The node with a number.
     pub fn node(&self, at: usize) -> Node
         requires { at < length self.now.nodes }
-        ensures { slice_get self.now.nodes at ≡ Some result }
+        ensures { result ≡ node_at self.now.nodes at }
     {
         self.nodes[at]
     }
@@ -73,7 +90,7 @@ impl Tree {
     /// The label of the node with a number: its variables.
     pub fn label(&self, at: usize) -> VarSet
         requires { at < length self.now.nodes }
-        ensures { slice_get self.now.labels at ≡ Some result }
+        ensures { result ≡ label_at self.now.labels at }
     {
         self.labels[at]
     }
@@ -81,7 +98,7 @@ impl Tree {
     /// Whether the node with a number is in `out`.
     pub fn is_out(&self, at: usize) -> bool
         requires { at < length self.now.nodes }
-        ensures { slice_get self.now.out at ≡ Some result }
+        ensures { result ≡ is_out self.now.out at }
     {
         self.out[at]
     }
@@ -94,16 +111,25 @@ impl Tree {
     }
 
     /// The number from which on the nodes were made in the second stage.
-    pub fn second(&self) -> usize
-        ensures { result ≡ self.now.second }
+    pub fn second_stage(&self) -> usize
+        ensures { result ≡ self.now.second_stage }
     {
-        self.second
+        self.second_stage
     }
 
-    /// The node that has a node as a child: none for the root alone.
+    /// The variables of the query's head, which are those of the labels in `out`.
+    pub fn head(&self) -> VarSet
+        ensures { result ≡ self.now.head }
+    {
+        self.head
+    }
+
+    /// The node that has a node as a child, which has a higher number: none for the root alone.
     pub fn parent(&self, at: usize) -> Option<usize>
         requires { at < length self.now.nodes }
-        ensures { result ≡ parent self.now.nodes at }
+        ensures parent { result ≡ parent self.now.nodes at }
+        ensures above { IfSome result (λ p. (at < p) × (p < length self.now.nodes)) }
+        ensures root { IfNone result (at + 1 ≡ length self.now.nodes) }
     {
         parent_of(&self.nodes, at)
     }
@@ -116,16 +142,43 @@ impl Tree {
         Path::new(&self.nodes, leaf)
     }
 
-    /// The lowest node in `out` on the path from a leaf, which may be the leaf.
+    /// The lowest node in `out` on the path from a leaf, which may be the leaf. The nodes below it on the
+    /// path aren't in `out`, and those from it on are.
     pub fn frontier(&self, leaf: usize) -> usize
         requires { leaf < self.now.leaves }
-        ensures { IsFrontier self.now leaf result }
+        ensures lowest { IsFrontier self.now leaf result }
+        ensures split { SplitsPath self.now leaf result }
     {
         let mut node = leaf;
         while !self.out[node] {
             node = parent_of(&self.nodes, node).unwrap();
         }
         node
+    }
+
+    /// The variables of a node's group key: those by which its tuples are looked up together. Under a trim
+    /// they are the trim's, as a guard the side's, as a side or the root the node's own.
+    pub fn key(&self, at: usize) -> VarSet
+        requires { at < length self.now.nodes }
+        ensures key { result ≡ key_of self.now at }
+        ensures within { subset result (label_at self.now.labels at) ≡ true }
+    {
+        let _nodes = &self.nodes;
+        match self.parent(at) {
+            None => self.label(at),
+            Some(parent) => match self.node(parent) {
+                Node::Trim { .. } => self.label(parent),
+                Node::Meet { guard, side } if guard == at => self.label(side),
+                _ => self.label(at),
+            },
+        }
+    }
+
+    /// The law that a tree is small, measured by its atoms, its variables and its head.
+    pub fn is_small(&self)
+        ensures { IsSmall self.now }
+    {
+        let _nodes = &self.nodes;
     }
 
     /// The lines that explain the tree, one for each node in order of number: what the node is, its label,
@@ -142,9 +195,9 @@ impl Tree {
         alloc: Global,
         atoms: &Names,
         variables: &Names,
-    ) -> Result<Lines, NoMem>
+    ) -> Result<Lines, AllocError>
         requires atoms { self.now.leaves ≤ length atoms.now }
-        requires variables { AreNamed variables.now (take self.now.leaves self.now.labels) }
+        requires variables { AreNamed variables.now (leaf_labels self.now) }
         ensures { IfOk result (λ l. l ≡ explain_of atoms.now variables.now self.now) }
     {
         let mut lines = Lines::new(alloc);
@@ -160,11 +213,11 @@ impl Tree {
         at: usize,
         atoms: &Names,
         variables: &Names,
-    ) -> Result<(), NoMem>
+    ) -> Result<(), AllocError>
         requires tree { IsTree self.now }
         requires within { at < length self.now.nodes }
         requires atoms { self.now.leaves ≤ length atoms.now }
-        requires variables { AreNamed variables.now (take self.now.leaves self.now.labels) }
+        requires variables { AreNamed variables.now (leaf_labels self.now) }
         ensures { OnOk result (lines.new ≡ lines.old ++ line_text atoms.now variables.now self.now at) }
     {
         lines.push_text(b"n ")?;

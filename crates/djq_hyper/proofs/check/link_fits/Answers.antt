@@ -2,7 +2,7 @@ use Rattle.std.specs.Prelude.{◌<◌, length, ℕ, List}
 use Rattle.std.proofs.Common.{arith, rules, sym, ap, ◌∙◌}
 use Rattle.std.proofs.lemmas.Bool.{eqb-false}
 use Rattle.djq_hyper.specs.Checking.{Fits}
-use Rattle.djq_hyper.specs.Hypergraph.{subset, common, edge_at}
+use Rattle.djq_hyper.specs.Hypergraph.{subset, intersection, edge_at}
 use Rattle.djq_hyper.proofs.Checking.{any_some, any_none, last_test, refused, read_at}
 use Rattle.djq_hyper.proofs.check.link_fits.Goals as goal
 
@@ -40,4 +40,4 @@ returns c =
     last_test c.args.edges.now c.args.before.now c.args.link c.args.seen c.is_subset.result c.requires.seen below
     (any_none c.args.link.edge c.args.before.now (sym c.stands.ensures ∙ c.if-stands.false))
     (omega arith) under
-    (c.is_subset.ensures ∙ ap (λ (e : List ℕ). subset e c.index-edges-link-2.result) (c.common-shared.ensures ∙ ap (λ (e : List ℕ). common e c.args.seen) own) ∙ ap (λ (f : List ℕ). subset (common (edge_at c.args.edges.now c.args.link.edge) c.args.seen) f) over)
+    (c.is_subset.ensures ∙ ap (λ (e : List ℕ). subset e c.index-edges-link-2.result) (c.intersection-shared.ensures ∙ ap (λ (e : List ℕ). intersection e c.args.seen) own) ∙ ap (λ (f : List ℕ). subset (intersection (edge_at c.args.edges.now c.args.link.edge) c.args.seen) f) over)

@@ -1,4 +1,5 @@
 use Rattle.std.proofs.Common.{◌∙◌, arith, rules}
+use Rattle.djq_tree.proofs.Splitting.{walk_splits}
 use Rattle.djq_tree.proofs.Climbing.{rising_of, frontier_step}
 use Rattle.djq_tree.proofs.tree.Tree.frontier.Goals as goal
 
@@ -14,3 +15,7 @@ pub loop-self-preserved : goal.loop-self-preserved
 loop-self-preserved c =
     let m = frontier_step _ c.args.self.now c.deref.result.now c.parent_of.result c.loop-self.node c.unwrap-node.result c.self.view_is c.self.invariant c.deref.ensures.value (search rules) c.parent_of.ensures c.unwrap-node.ensures in
     record { within = m.1; same = c.loop-self.invariant.same ∙ m.2 }
+
+pub returns-clause-split : goal.returns-clause-split
+returns-clause-split c =
+    walk_splits _ c.args.self.now c.args.leaf c.loop-self.node c.index.result.now c.self.view_is c.self.invariant c.loop-self.invariant.within c.index.ensures c.loop-self-test.false c.loop-self.invariant.same

@@ -1,11 +1,11 @@
-use Rattle.djq_tree.proofs.Labelling.{all_named, label_named, found_named, line_written}
+use Rattle.djq_tree.proofs.Labelling.{label_named, node_named, line_written}
 use Rattle.djq_tree.proofs.tree.Tree.push_line.Goals as goal
 
 pub push_node-requires : goal.push_node-requires
-push_node-requires c = found_named c.args.atoms.now c.args.self.now c.args.at c.node.result c.requires.tree c.requires.within c.requires.atoms c.node.ensures
+push_node-requires c = node_named c.args.atoms.now c.args.self.now c.args.at c.node.result c.requires.tree c.requires.within c.requires.atoms c.node.ensures
 
 pub push_label-requires : goal.push_label-requires
-push_label-requires c x h = label_named c.args.variables.now c.args.self.now.labels _ _ c.label.ensures (all_named c.args.variables.now c.args.self.now c.requires.tree c.requires.variables) x h
+push_label-requires c x h = label_named c.args.variables.now c.args.self.now c.args.at _ c.requires.tree c.label.ensures c.requires.variables x h
 
 pub returns : goal.returns
 returns c =

@@ -1,0 +1,5 @@
+use Rattle.djq_gyo.proofs.Leaning.{lean_of}
+use Rattle.djq_gyo.proofs.reducing.rest_is_lean.Goals as goal
+
+pub returns : goal.returns
+returns c = lean_of c.args.edges.now c.args.rest.now

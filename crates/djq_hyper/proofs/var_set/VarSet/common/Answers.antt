@@ -1,5 +1,0 @@
-use Rattle.djq_hyper.proofs.Words.{word_common}
-use Rattle.djq_hyper.proofs.var_set.VarSet.common.Goals as goal
-
-pub returns : goal.returns
-returns c = word_common c.self.inside.mask c.other.inside.mask c.args.self c.args.other c.self.view_is c.other.view_is c.self.invariant c.other.invariant
