@@ -35,10 +35,12 @@ searched-first texts hashes text hash (Some m) h own last =
 between : (texts : List (List ℕ)) (hashes text : List ℕ) (hash m from : ℕ) → IsDictionary texts hashes → hash ≡ hash_of text → IsSearched texts hashes text hash (Some m) → ((d : List ℕ) → slice_index_or texts m d ≢ text) → HasNone hashes hash from m → (j : ℕ) (d : List ℕ) → from ≤ j → j < length texts → slice_index_or texts j d ≢ text
 between texts hashes text hash m from h own s other none j d start low same =
     elim (cases_lt j m) [
-      inl before ↦ none j start before (hash-text texts hashes text hash j d h own low same)
+      | inl before ↦ none j start before (hash-text texts hashes text hash j d h own low same)
       | inr after ↦ elim (cases_eq j m) [
-          inl here ↦ other d (rw here at same)
-          | inr apart ↦ s.2 j d (omega arith) low same ] ]
+        | inl here ↦ other d (rw here at same)
+        | inr apart ↦ s.2 j d (omega arith) low same
+      ]
+    ]
 
 -- the next candidate
 pub searched-next : (texts : List (List ℕ)) (hashes text : List ℕ) (hash m : ℕ) (r : Option ℕ) → IsDictionary texts hashes → hash ≡ hash_of text → IsSearched texts hashes text hash (Some m) → ((d : List ℕ) → slice_index_or texts m d ≢ text) → IsLastWith hashes hash m r → IsSearched texts hashes text hash r

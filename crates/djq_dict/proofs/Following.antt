@@ -19,7 +19,7 @@ pub rest-first : (buckets : ℕ) (hashes : List ℕ) (hash n chain : ℕ) → Is
 rest-first buckets hashes hash n chain f = record {
   within = f.within;
   here = f.here;
-  none = λ j low high e. f.last j low high (ap (λ (h : ℕ). bucket_of buckets h) e)
+  none = λ j low high e. f.last j low high (ap (λ (h : ℕ). bucket_of buckets h) e);
 }
 
 -- it goes on at the next link
@@ -32,10 +32,12 @@ rest-next buckets hashes nexts hash n rest linked some below other r =
       within = omega arith;
       here = λ more. f.here more ∙ r.here some;
       none = λ j from under e. elim (cases_lt j (rest - 1)) [
-        inl before ↦ f.last j from before (ap (λ (h : ℕ). bucket_of buckets h) e ∙ sym (r.here some))
+        | inl before ↦ f.last j from before (ap (λ (h : ℕ). bucket_of buckets h) e ∙ sym (r.here some))
         | inr after ↦ elim (cases_eq j (rest - 1)) [
-            inl same ↦ other (rw same at e)
-            | inr apart ↦ r.none j (omega arith) under e ] ]
+          | inl same ↦ other (rw same at e)
+          | inr apart ↦ r.none j (omega arith) under e
+        ]
+      ];
     }
 
 -- it is over where a link has the hash

@@ -13,7 +13,7 @@ first_itself : (buckets : ℕ) (hashes : List ℕ) (bucket n : ℕ) → bucket_a
 first_itself buckets hashes bucket n same = record {
   within = omega arith;
   here = λ _. let e : (n + 1) - 1 ≡ n = omega arith in rw e same;
-  last = λ j low high. absurd (omega arith)
+  last = λ j low high. absurd (omega arith);
 }
 
 -- the chains of the other buckets stay
@@ -21,7 +21,7 @@ first_kept : (buckets : ℕ) (hashes : List ℕ) (bucket n chain : ℕ) → buck
 first_kept buckets hashes bucket n chain other f = record {
   within = let w = f.within in omega arith;
   here = f.here;
-  last = λ j low high. below_more (λ k. chain ≤ k → bucket_at buckets hashes k ≢ bucket) n (λ k h l. f.last k l h) (λ _. other) j high low
+  last = λ j low high. below_more (λ k. chain ≤ k → bucket_at buckets hashes k ≢ bucket) n (λ k h l. f.last k l h) (λ _. other) j high low;
 }
 
 -- a text is put in front of its chain
@@ -32,11 +32,15 @@ chained-put hashes nexts heads n below within h =
     let next : ℕ = slice_index heads (bucket_at (length heads) hashes n) in
     record {
       headed = rw (length-set heads bucket (n + 1)) (λ b low. elim (cases_eq b bucket) [
-        inl e ↦ rw (get_or-set_at heads bucket b (n + 1) 0 e within) (first_itself buckets hashes b n (sym e))
-        | inr ne ↦ rw (get_or-set_other heads bucket b (n + 1) 0 ne) (first_kept buckets hashes b n (slice_index heads b) (λ x. ne (sym x)) (h.headed b low)) ]);
-      linked = rw (length-set heads bucket (n + 1)) (record { each = λ i low. elim (cases_eq i n) [
-        inl e ↦ rw (get_or-set_at nexts n i next 0 e below, e) (h.headed bucket within)
-        | inr ne ↦ rw (get_or-set_other nexts n i next 0 ne) (h.linked.each i (omega arith)) ] })
+        | inl e ↦ rw (get_or-set_at heads bucket b (n + 1) 0 e within) (first_itself buckets hashes b n (sym e))
+        | inr ne ↦ rw (get_or-set_other heads bucket b (n + 1) 0 ne) (first_kept buckets hashes b n (slice_index heads b) (λ x. ne (sym x)) (h.headed b low))
+      ]);
+      linked = rw (length-set heads bucket (n + 1)) (record {
+        each = λ i low. elim (cases_eq i n) [
+          | inl e ↦ rw (get_or-set_at nexts n i next 0 e below, e) (h.headed bucket within)
+          | inr ne ↦ rw (get_or-set_other nexts n i next 0 ne) (h.linked.each i (omega arith))
+        ];
+      });
     }
 
 -- more texts behind those that are in chains change no chain
@@ -44,22 +48,24 @@ first-longer : (buckets : ℕ) (hashes more : List ℕ) (bucket n chain : ℕ) �
 first-longer buckets hashes more bucket n chain most f = record {
   within = f.within;
   here = λ some.
-    let w = f.within in
-    let low : chain - 1 < length hashes = omega arith in
-    rw (get_or_append_left hashes more 0 (chain - 1) low) (f.here some);
+      let w = f.within in
+      let low : chain - 1 < length hashes = omega arith in
+      rw (get_or_append_left hashes more 0 (chain - 1) low) (f.here some);
   last = λ j low high.
-    let below : j < length hashes = omega arith in
-    rw (get_or_append_left hashes more 0 j below) (f.last j low high)
+      let below : j < length hashes = omega arith in
+      rw (get_or_append_left hashes more 0 j below) (f.last j low high);
 }
 
 pub chained-longer : (hashes nexts heads more others : List ℕ) (n : ℕ) → n ≤ length hashes → n ≤ length nexts → IsChained hashes nexts heads n → IsChained (hashes ++ more) (nexts ++ others) heads n
 chained-longer hashes nexts heads more others n most many h = record {
   headed = λ b low. first-longer (length heads) hashes more b n (slice_index heads b) most (h.headed b low);
-  linked = record { each = λ i low.
-    let under : i < length hashes = omega arith in
-    let below : i < length nexts = omega arith in
-    rw (get_or_append_left nexts others 0 i below, get_or_append_left hashes more 0 i under)
-    (first-longer (length heads) hashes more (bucket_at (length heads) hashes i) i (slice_index nexts i) (omega arith) (h.linked.each i low)) }
+  linked = record {
+    each = λ i low.
+        let under : i < length hashes = omega arith in
+        let below : i < length nexts = omega arith in
+        rw (get_or_append_left nexts others 0 i below, get_or_append_left hashes more 0 i under)
+        (first-longer (length heads) hashes more (bucket_at (length heads) hashes i) i (slice_index nexts i) (omega arith) (h.linked.each i low));
+  };
 }
 
 -- heads that have no chain yet
@@ -68,9 +74,9 @@ chained-none hashes nexts heads none = record {
   headed = λ b low. let e = none b in record {
     within = omega arith;
     here = λ some. absurd (omega arith);
-    last = λ j from below. absurd (omega arith)
+    last = λ j from below. absurd (omega arith);
   };
-  linked = record { each = λ i low. absurd (omega arith) }
+  linked = record { each = λ i low. absurd (omega arith) };
 }
 
 -- the same of links that have their hash and their chain side by side

@@ -32,3 +32,6 @@ mod texts;
 
 pub use dict::{Dict, MOST_TEXTS};
 pub use refusal::{InternRefusal, NoMem};
+
+#[cfg(test)]
+mod tests;

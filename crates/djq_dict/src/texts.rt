@@ -79,9 +79,5 @@ fn start_of(ends: &[usize], position: usize) -> usize
     requires { position < length ends.now }
     ensures { slice_get (0 ∷ ends.now) position ≡ Some result }
 {
-    if position == 0 {
-        0
-    } else {
-        ends[position - 1]
-    }
+    if position == 0 { 0 } else { ends[position - 1] }
 }

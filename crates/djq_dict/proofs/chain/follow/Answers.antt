@@ -10,7 +10,7 @@ use Rattle.djq_dict.proofs.chain.follow.Goals as goal
 pub loop-rest-init : goal.loop-rest-init
 loop-rest-init c = record {
   within = c.requires.within;
-  walked = λ buckets n linked first. rest-first buckets (hashes_of c.args.links.now) c.args.hash n c.args.from first
+  walked = λ buckets n linked first. rest-first buckets (hashes_of c.args.links.now) c.args.hash n c.args.from first;
 }
 
 pub returns-then-link-hash : goal.returns-then-link-hash
@@ -48,8 +48,8 @@ loop-rest-preserved c =
     record {
       within = omega (arith, next, fall);
       walked = λ buckets n linked first.
-        let w = rw (← c.rest.view_is) at (c.loop-rest.invariant.walked buckets n linked first) in
-        rw next at (rest-next buckets (hashes_of links) (nexts_of links) c.args.hash n past linked (omega arith) (omega (arith, hashes)) (λ e. c.if-link-hash.false (sym hash ∙ e)) w)
+          let w = rw (← c.rest.view_is) at (c.loop-rest.invariant.walked buckets n linked first) in
+          rw next at (rest-next buckets (hashes_of links) (nexts_of links) c.args.hash n past linked (omega arith) (omega (arith, hashes)) (λ e. c.if-link-hash.false (sym hash ∙ e)) w);
     }
 
 pub returns : goal.returns

@@ -19,9 +19,9 @@ loop-candidate-preserved c =
     let searched = rw c.in-Some.is at c.loop-candidate.invariant in
     let equal = slice_eq-Decides Decides-eqb c.get.result.now text c.eq.result c.eq.ensures in
     let other : (d : List ℕ) → slice_index_or texts number d ≢ text = λ d same.
-        let read = get_or_from_slice_get texts number c.get.result.now d c.get.ensures in
-        let yes = equal.1 (sym read ∙ same) in
-        let no = c.if-eq.false in
-        cc in
+    let read = get_or_from_slice_get texts number c.get.result.now d c.get.ensures in
+    let yes = equal.1 (sym read ∙ same) in
+    let no = c.if-eq.false in
+    cc in
     let last = rw searched.1 at c.before-candidate.ensures in
     searched-next texts hashes text c.args.hash number c.before-candidate.result c.self.invariant c.requires searched other last
