@@ -43,10 +43,15 @@ between texts hashes text hash m from h own s other none j d start low same =
     ]
 
 -- the next candidate
-pub searched-next : (texts : List (List ℕ)) (hashes text : List ℕ) (hash m : ℕ) (r : Option ℕ) → IsDictionary texts hashes → hash ≡ hash_of text → IsSearched texts hashes text hash (Some m) → ((d : List ℕ) → slice_index_or texts m d ≢ text) → IsLastWith hashes hash m r → IsSearched texts hashes text hash r
-searched-next texts hashes text hash m None h own s other last = λ j d low same. between texts hashes text hash m 0 h own s other last j d (omega arith) low same
-searched-next texts hashes text hash m (Some k) h own s other last =
-    (omega (arith, s.0, last.0), last.1, λ j d from low same. between texts hashes text hash m (k + 1) h own s other last.2 j d (omega arith) low same)
+pub searched-next : (texts : List (List ℕ)) (hashes text : List ℕ) (hash m k : ℕ) (r : Option ℕ) → IsDictionary texts hashes → hash ≡ hash_of text → IsSearched texts hashes text hash (Some m) → ((d : List ℕ) → slice_index_or texts m d ≢ text) → IsLastWith hashes (slice_index hashes k) k r → k ≡ m → IsSearched texts hashes text hash r
+searched-next texts hashes text hash m k None h own s other last same =
+    let none = rw (same, s.1) at last in
+    λ j d low equal. between texts hashes text hash m 0 h own s other none j d (omega arith) low equal
+searched-next texts hashes text hash m k (Some n) h own s other last same =
+    let below : n < m = omega (arith, last.0) in
+    let here = rw (same, s.1) at last.1 in
+    let none = rw (same, s.1) at last.2 in
+    (omega (arith, s.0), here, λ j d from low equal. between texts hashes text hash m (n + 1) h own s other none j d (omega arith) low equal)
 
 -- and there are fewer behind it
 pub ahead-next : (hashes : List ℕ) (hash m : ℕ) (r : Option ℕ) → IsLastWith hashes hash m r → ahead r < m + 1

@@ -16,7 +16,7 @@ returns-clause-chained c =
     c.requires.within c.bucket_of-bucket.ensures.within
     (c.bucket_of-bucket.ensures.value ∙ ap (λ (h : ℕ). bucket_of (length heads) h) (sym hash))
     (c.index-heads-bucket.is ∙ get_or_default_zero heads bucket c.index-heads-bucket.result c.bucket_of-bucket.ensures.within)
-    c.at.ensures c.requires.chained
+    (omega (arith, c.at.ensures)) c.requires.chained
 
 pub returns-clause-hashes : goal.returns-clause-hashes
 returns-clause-hashes c = map-set_same (λ (k : Link). k.hash) c.args.links.now c.args.number _ c.index-links-number-2.result refl

@@ -23,5 +23,4 @@ loop-candidate-preserved c =
     let yes = equal.1 (sym read ∙ same) in
     let no = c.if-eq.false in
     cc in
-    let last = rw searched.1 at c.before-candidate.ensures in
-    searched-next texts hashes text c.args.hash number c.before-candidate.result c.self.invariant c.requires searched other last
+    searched-next texts hashes text c.args.hash number _ c.before-candidate.result c.self.invariant c.requires searched other c.before-candidate.ensures (omega arith)
