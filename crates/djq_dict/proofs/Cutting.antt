@@ -1,6 +1,6 @@
 -- Texts in one buffer: where each stands, and what one more leaves.
-use Rattle.std.proofs.Common.{◌≡◌, ℕ, zero, suc, ◌+◌, ◌-◌, ◌≤◌, List, [], ◌∷◌, ◌++◌, length, take, drop, refl, sym, ◌∙◌, ap, arith}
-use Rattle.std.specs.Prelude.{slice_get, slice_range, Option, Some, None}
+use Rattle.std.proofs.Common.{◌≡◌, ℕ, zero, suc, ◌+◌, ◌-◌, ◌≤◌, List, [], ◌∷◌, ◌++◌, length, take, drop, refl, ◌∙◌, ap, arith}
+use Rattle.std.specs.Prelude.{slice_get, slice_range, Some}
 use Rattle.std.proofs.lemmas.List.{take-append-le, drop-append-le, length-drop, take_all}
 use Rattle.std.proofs.Math.Seq.{drop-append_seam}
 use Rattle.djq_dict.specs.Buffer.{pieces, IsCut}

@@ -1,12 +1,12 @@
 -- Links put in front of their chains.
-use Rattle.std.proofs.Common.{◌≡◌, ◌≢◌, ℕ, zero, suc, replicate, ◌+◌, ◌-◌, ◌<◌, ◌≤◌, List, [], ◌∷◌, ◌++◌, length, get_or, set, map, refl, sym, ◌∙◌, ap, inl, inr, arith, below_more}
+use Rattle.std.proofs.Common.{◌≡◌, ◌≢◌, ℕ, zero, suc, replicate, ◌+◌, ◌-◌, ◌<◌, ◌≤◌, List, ◌++◌, length, get_or, set, refl, sym, ◌∙◌, ap, inl, inr, arith, below_more}
 use Rattle.std.specs.Prelude.{slice_index}
 use Rattle.std.proofs.lemmas.Bool.{cases_eq}
 use Rattle.std.proofs.lemmas.Grind.{get_or-set_at}
 use Rattle.std.proofs.lemmas.List.{get_or-map, get_or-set_other, get_or_append_left, length-map, length-set, map-set}
 use Rattle.std.proofs.Math.Seq.{map-set_same}
 use Rattle.djq_dict.specs.declared.chain.Link.{Link}
-use Rattle.djq_dict.specs.Chains.{IsChained, IsFirst, IsLinkedBelow, bucket_at, bucket_of, hashes_of, nexts_of}
+use Rattle.djq_dict.specs.Chains.{IsChained, IsFirst, bucket_at, hashes_of, nexts_of}
 
 -- a text is the first of its bucket's chain
 first_itself : (buckets : ℕ) (hashes : List ℕ) (bucket n : ℕ) → bucket_at buckets hashes n ≡ bucket → IsFirst buckets hashes bucket (n + 1) (n + 1)

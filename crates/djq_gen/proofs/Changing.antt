@@ -1,5 +1,5 @@
 -- The next change of a load.
-use Rattle.std.proofs.Common.{◌≡◌, ℕ, zero, suc, ◌+◌, ◌-◌, ◌<◌, List, ◌∷◌, ◌++◌, refl, sub-one}
+use Rattle.std.proofs.Common.{◌≡◌, ℕ, zero, suc, ◌+◌, ◌-◌, ◌∷◌, ◌++◌, refl, sub-one}
 use Rattle.djq_gen.specs.Draws.{next, drawn}
 use Rattle.djq_gen.specs.Load.{change, changes, pause}
 

@@ -1,5 +1,4 @@
-use Rattle.std.proofs.Common.{◌≡◌, ℕ, ◌<◌, length, refl, ap, ◌∙◌}
-use Rattle.std.specs.Prelude.{slice_index, replicate}
+use Rattle.std.proofs.Common.{length, refl}
 use Rattle.djq_dict.specs.Chains.{hashes_of, nexts_of}
 use Rattle.djq_dict.proofs.Linking.{chained-none, zeros}
 use Rattle.djq_dict.proofs.chain.chain_all.Goals as goal

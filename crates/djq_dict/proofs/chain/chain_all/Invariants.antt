@@ -1,4 +1,4 @@
-use Rattle.std.proofs.Common.{◌≡◌, length}
+use Rattle.std.proofs.Common.{◌≡◌}
 use Rattle.djq_dict.specs.Chains.{IsChained, hashes_of, nexts_of}
 use Rattle.djq_dict.proofs.chain.chain_all.Given as goal
 

@@ -1,9 +1,8 @@
-use Rattle.std.proofs.Common.{◌≡◌, ◌≢◌, ◌<◌, ◌≤◌, ℕ, ◌-◌, List, length, sym, ◌∙◌, ap, arith}
-use Rattle.std.specs.Prelude.{slice_index}
+use Rattle.std.proofs.Common.{◌<◌, ℕ, ◌-◌, length, sym, ◌∙◌, ap, arith}
 use Rattle.std.proofs.lemmas.List.{length-map}
 use Rattle.djq_dict.specs.declared.chain.Link.{Link}
-use Rattle.djq_dict.specs.Chains.{IsFirst, IsLinked, bucket_of, hashes_of, nexts_of}
-use Rattle.djq_dict.proofs.Following.{IsRest, rest-first, rest-next, rest-found, rest-over}
+use Rattle.djq_dict.specs.Chains.{hashes_of, nexts_of}
+use Rattle.djq_dict.proofs.Following.{rest-first, rest-next, rest-found, rest-over}
 use Rattle.djq_dict.proofs.Linking.{hash-at, next-at}
 use Rattle.djq_dict.proofs.chain.follow.Goals as goal
 

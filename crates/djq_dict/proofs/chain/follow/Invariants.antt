@@ -1,4 +1,4 @@
-use Rattle.std.proofs.Common.{◌≡◌, ℕ, ◌+◌, ◌<◌, ◌≤◌, length}
+use Rattle.std.proofs.Common.{ℕ, ◌≤◌, length}
 use Rattle.djq_dict.specs.Chains.{IsFirst, IsLinked, bucket_of, hashes_of, nexts_of}
 use Rattle.djq_dict.proofs.Following.{IsRest}
 use Rattle.djq_dict.proofs.chain.follow.Given as goal

@@ -1,4 +1,4 @@
-use Rattle.std.proofs.Common.{◌≡◌, ℕ, length, refl, sym, ◌∙◌, ap, arith}
+use Rattle.std.proofs.Common.{ℕ, length, refl, sym, ◌∙◌, ap, arith}
 use Rattle.std.proofs.lemmas.Grind.{get_or_default_zero}
 use Rattle.std.proofs.Math.Seq.{map-set_same}
 use Rattle.djq_dict.specs.declared.chain.Link.{Link}

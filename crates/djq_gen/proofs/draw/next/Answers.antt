@@ -1,4 +1,4 @@
-use Rattle.std.proofs.Common.{◌≡◌, ℕ, ap, ◌+◌, ◌*◌, ◌%◌}
+use Rattle.std.proofs.Common.{ℕ, ap, ◌+◌, ◌*◌, ◌%◌}
 use Rattle.djq_gen.specs.Draws.{next}
 use Rattle.djq_gen.proofs.draw.next.Goals as goal
 

@@ -1,4 +1,4 @@
-use Rattle.std.proofs.Common.{◌≡◌, length, sym, ◌∙◌, ap}
+use Rattle.std.proofs.Common.{length, sym, ◌∙◌, ap}
 use Rattle.djq_dict.specs.Buffer.{Shelf}
 use Rattle.djq_dict.proofs.Cutting.{length-pieces}
 use Rattle.djq_dict.proofs.texts.Texts.len.Goals as goal

@@ -1,6 +1,5 @@
-use Rattle.std.proofs.Common.{◌≡◌, ◌+◌, List, ℕ, [], ◌∷◌, ◌++◌, length, sym, ◌∙◌, ap, arith, rules}
+use Rattle.std.proofs.Common.{◌≡◌, ◌+◌, List, ℕ, [], ◌∷◌, ◌++◌, length, ◌∙◌, ap, rules}
 use Rattle.std.proofs.lemmas.List.{length-append}
-use Rattle.djq_dict.specs.Buffer.{Shelf, IsCut, pieces}
 use Rattle.djq_dict.proofs.Cutting.{pieces-push, cut-push}
 use Rattle.djq_dict.proofs.texts.Texts.push.Goals as goal
 

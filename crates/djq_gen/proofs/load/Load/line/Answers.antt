@@ -1,4 +1,4 @@
-use Rattle.std.proofs.Common.{◌≡◌, ℕ, List, ◌∷◌, ◌++◌, ◌+◌, ◌-◌, sym, ◌∙◌, ap, arith}
+use Rattle.std.proofs.Common.{◌+◌, ◌-◌, sym, ◌∙◌}
 use Rattle.djq_gen.specs.Load.{changes}
 use Rattle.djq_gen.proofs.Changing.{changes-first}
 use Rattle.djq_gen.proofs.load.Load.line.Goals as goal
