@@ -1,0 +1,5 @@
+pub mod Cutting
+pub mod Finding
+pub mod Following
+pub mod Growing
+pub mod Linking

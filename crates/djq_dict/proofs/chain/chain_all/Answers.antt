@@ -1,0 +1,10 @@
+use Rattle.std.proofs.Common.{length, refl}
+use Rattle.djq_dict.specs.Chains.{hashes_of, nexts_of}
+use Rattle.djq_dict.proofs.Linking.{chained-none, zeros}
+use Rattle.djq_dict.proofs.chain.chain_all.Goals as goal
+
+pub loop-number-init : goal.loop-number-init
+loop-number-init c = record {
+  chained = chained-none (hashes_of c.args.links.now) (nexts_of c.args.links.now) c.args.heads.now (λ b. zeros (length c.args.heads.now) c.args.heads.now b c.requires.none);
+  hashes = refl;
+}

@@ -1,0 +1,7 @@
+use Rattle.std.proofs.Common.{rules}
+use Rattle.djq_dict.specs.Hash.{hash_of}
+use Rattle.djq_dict.proofs.dict.hash_of.Goals as goal
+
+pub returns : goal.returns
+unfolding hash_of
+returns c = search rules

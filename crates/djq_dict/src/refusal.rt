@@ -1,0 +1,37 @@
+use std::alloc::AllocError;
+use thiserror::Error;
+
+/// A growth was refused for want of memory.
+#[derive(Clone, Copy, Debug, PartialEq, Eq, Error)]
+#[error("out of memory")]
+pub struct NoMem;
+
+impl From<AllocError> for NoMem {
+    ghost from_gives = { λ _ _. Unit {0} };
+
+    fn from(_error: AllocError) -> NoMem {
+        NoMem
+    }
+}
+
+/// Why a text isn't made known.
+#[derive(Clone, Copy, Debug, PartialEq, Eq, Error)]
+pub enum InternRefusal {
+    /// The text is unknown, and as many texts are known as there may be.
+    #[error("too many texts")]
+    Full,
+    /// Want of memory.
+    #[error("out of memory")]
+    NoMem,
+}
+
+impl From<NoMem> for InternRefusal {
+    ghost use Rattle.std.specs.Prelude.{◌≡◌};
+    ghost use Rattle.djq_dict.specs.declared.refusal.InternRefusal.TheVariants as refusal;
+
+    ghost from_gives = { λ _ r. r ≡ refusal.NoMem };
+
+    fn from(_error: NoMem) -> InternRefusal {
+        InternRefusal::NoMem
+    }
+}
