@@ -7,3 +7,4 @@ pub mod Membership
 pub mod Marking
 pub mod CountingSends
 pub mod Following
+pub mod FaultsOf

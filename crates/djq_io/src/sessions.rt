@@ -1,5 +1,8 @@
-ghost use Rattle.std.specs.Prelude.{◌≡◌, ◌↔◌, ◌<◌, ◌+◌, ◌≤◌, ◌==◌, not, Contains, IsTrue, OnOk};
-ghost use Rattle.djq_io.specs.SessionsInside.{after_end};
+ghost use Rattle.std.specs.Prelude.{◌≡◌, ◌↔◌, ◌<◌, ◌+◌, ◌≤◌, ◌==◌, not, Contains, IsTrue, IfSome, OnOk};
+ghost use Rattle.djq_io.specs.Sessions.{faults_of};
+ghost use Rattle.djq_io.specs.SessionsInside.{after_end, after_fault};
+ghost use Rattle.djq_io.specs.Faults.{Counted};
+ghost use Rattle.djq_io.specs.HubFaults.{SameCounts, SameCountsBut};
 ghost use Rattle.djq_io.specs.Hub.{no_ids, IsNew, IsRunning, with_opened, EndsInput, without};
 
 use std::alloc::{AllocError, Global};
@@ -10,6 +13,7 @@ use std::marker::Model;
 struct Session {
     id: u64,
     ended: bool,
+    faults: u64,
 }
 
 impl Session {
@@ -20,6 +24,22 @@ impl Session {
         Session {
             id: self.id,
             ended: self.ended || self.id == id,
+            faults: self.faults,
+        }
+    }
+
+    /// The session after a fault of that with this id.
+    fn after_fault(self, id: u64) -> Self
+        ensures { result ≡ after_fault id self }
+    {
+        if self.id == id {
+            Session {
+                id,
+                ended: self.ended,
+                faults: self.faults.saturating_add(1),
+            }
+        } else {
+            self
         }
     }
 }
@@ -32,9 +52,9 @@ pub struct Sessions {
 }
 
 impl Model for Sessions {
-    ghost use Rattle.std.specs.Prelude.{◌-◌, vec_len, vec_capacity};
+    ghost use Rattle.std.specs.Prelude.{◌-◌, ◌≤◌, All, vec_len, vec_capacity};
     ghost use Rattle.djq_io.specs.Sessions.{Places};
-    ghost use Rattle.djq_io.specs.SessionsInside.{open_in, ended_in};
+    ghost use Rattle.djq_io.specs.SessionsInside.{open_in, ended_in, counts_in};
 
     ghost Value = { Places };
 
@@ -45,7 +65,10 @@ impl Model for Sessions {
         ended_ids = ended_in s.places.items;
       };
       room = vec_capacity s.places - vec_len s.places;
+      counts = counts_in s.places.items;
     } };
+
+    ghost invariant = { λ s. All (λ x. x.faults ≤ 18446744073709551615) s.places.items };
 }
 
 impl Sessions {
@@ -66,6 +89,23 @@ impl Sessions {
         ensures ok { OnOk result (more ≤ self.new.room) }
     {
         self.places.reserve(more)
+    }
+
+    /// Whether there is room for one more session.
+    pub fn has_room(&self) -> bool
+        ensures { IsTrue result ↔ (0 < self.now.room) }
+    {
+        self.places.len() < self.places.capacity()
+    }
+
+    /// The least id above all before, or `None` where there is none.
+    pub fn next_id(&self) -> Option<u64>
+        ensures { IfSome result (λ id. IsNew self.now.ids id) }
+    {
+        match self.newest {
+            None => Some(1),
+            Some(newest) => newest.checked_add(1),
+        }
     }
 
     /// Whether a session with this id would be newer than all before.
@@ -89,9 +129,14 @@ impl Sessions {
         requires new { IsNew self.old.ids id }
         requires room { 0 < self.old.room }
         ensures ids { self.new.ids ≡ with_opened self.old.ids id }
+        ensures faults { SameCounts self.old.ids.open_ids (faults_of self.old.counts) (faults_of self.new.counts) }
         ensures room { self.old.room ≤ self.new.room + 1 }
     {
-        let _ = self.places.push(Session { id, ended: false });
+        let _ = self.places.push(Session {
+            id,
+            ended: false,
+            faults: 0,
+        });
         self.newest = Some(id);
     }
 
@@ -99,6 +144,7 @@ impl Sessions {
     pub fn end(&mut self, id: u64)
         requires { Contains self.old.ids.open_ids id }
         ensures ids { EndsInput id self.old.ids self.new.ids }
+        ensures faults { self.new.counts ≡ self.old.counts }
         ensures room { self.new.room ≡ self.old.room }
     {
         for x in self.places.iter_mut() {
@@ -106,10 +152,24 @@ impl Sessions {
         }
     }
 
+    /// Counts a fault of a session.
+    pub fn count_fault(&mut self, id: u64)
+        requires { Contains self.old.ids.open_ids id }
+        ensures ids { self.new.ids ≡ self.old.ids }
+        ensures room { self.new.room ≡ self.old.room }
+        ensures counted { Counted (faults_of self.old.counts id) (faults_of self.new.counts id) }
+        ensures others { SameCountsBut id self.old.ids.open_ids (faults_of self.old.counts) (faults_of self.new.counts) }
+    {
+        for x in self.places.iter_mut() {
+            *x = x.after_fault(id);
+        }
+    }
+
     /// Closes a session, whose place is free again.
     pub fn close(&mut self, id: u64)
         requires { Contains self.old.ids.open_ids id }
         ensures ids { self.new.ids ≡ without self.old.ids id }
+        ensures faults { SameCounts self.new.ids.open_ids (faults_of self.old.counts) (faults_of self.new.counts) }
         ensures room { self.old.room < self.new.room }
     {
         self.places.retain(|x| x.id != id);

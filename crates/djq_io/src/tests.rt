@@ -77,27 +77,27 @@ fn a_piece_keeps_its_bytes(rt: HostRuntime) -> Result<(), Fail> {
     Ok(())
 }
 
-/// A turn of a script after which sends to session 2 are blocked, or none.
-fn coming(rt: &HostRuntime, turn: Incoming, blocks: bool) -> Result<Coming, Fail> {
-    let blocked = if blocks {
-        IdList::of([2].to_vec(rt.alloc())?)
-    } else {
-        IdList::empty(rt.alloc())
-    };
-    Ok(Coming { turn, blocked })
+/// Puts a turn at the end of a hub's script, after which sends to these sessions are blocked.
+fn script(hub: &mut MemHub, rt: &HostRuntime, turn: Incoming, blocked: &[u64]) -> Result<(), Fail> {
+    let blocked = IdList::of(blocked.to_vec(rt.alloc())?);
+    hub.push(Coming { turn, blocked })?;
+    Ok(())
+}
+
+/// A piece of a session's bytes.
+fn bytes(rt: &HostRuntime, id: u64, bytes: &[u8]) -> Result<Incoming, Fail> {
+    Ok(Incoming::Brings(id, Piece::copy_of(rt.alloc(), bytes)?))
 }
 
 /// A hub with a script of two sessions.
 fn scripted(rt: &HostRuntime) -> Result<MemHub, Fail> {
     let mut hub = MemHub::new(rt.alloc());
-    hub.push(coming(rt, Incoming::Opens(1), false)?)?;
-    hub.push(coming(rt, Incoming::Opens(2), true)?)?;
-    let long = Piece::copy_of(rt.alloc(), b"query q")?;
-    hub.push(coming(rt, Incoming::Brings(1, long), false)?)?;
-    hub.push(coming(rt, Incoming::Ends(1), false)?)?;
-    let late = Piece::copy_of(rt.alloc(), b"late")?;
-    hub.push(coming(rt, Incoming::Brings(1, late), false)?)?;
-    hub.push(coming(rt, Incoming::Nothing, false)?)?;
+    script(&mut hub, rt, Incoming::Opens(1), &[])?;
+    script(&mut hub, rt, Incoming::Opens(2), &[2])?;
+    script(&mut hub, rt, bytes(rt, 1, b"query q")?, &[])?;
+    script(&mut hub, rt, Incoming::Ends(1), &[])?;
+    script(&mut hub, rt, bytes(rt, 1, b"late")?, &[])?;
+    script(&mut hub, rt, Incoming::Nothing, &[])?;
     Ok(hub)
 }
 
