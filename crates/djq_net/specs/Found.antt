@@ -1,0 +1,10 @@
+use Rattle.std.specs.Prelude.{ℕ, ◌≤◌}
+use Rattle.djq_net.specs.declared.conn.Found.{Found}
+use Rattle.djq_net.specs.declared.conn.Found.TheVariants.{Bytes, End, Nothing, Broken}
+
+-- bytes that a read found are some, and at most as many as there was room for
+abbrev pub FitsIn : Found → ℕ → Type 0
+FitsIn (Bytes n) room = (1 ≤ n) × (n ≤ room)
+FitsIn End room = Unit {0}
+FitsIn Nothing room = Unit {0}
+FitsIn Broken room = Unit {0}

@@ -1,0 +1,57 @@
+use mio::net::{TcpListener, TcpStream};
+use mio::{Events, Interest, Poll, Token};
+use std::io;
+use std::net::{self, Net};
+use std::time::Duration;
+
+/// A socket that accepts connections, and what waits for it and for the connections.
+#[derive(Drop)]
+pub(crate) struct Listening {
+    socket: TcpListener,
+    poll: Poll,
+}
+
+/// The token of the listener, which is no session's id.
+pub(crate) const LISTENER: usize = 0;
+
+/// For how long a turn waits at most.
+const WAIT_MS: u64 = 250;
+
+impl Listening {
+    /// Begins to accept connections at an address.
+    pub fn at<R: Net<Listener = net::TcpListener, Stream = net::TcpStream>>(
+        rt: &R,
+        addr: &str,
+    ) -> io::Result<Self> {
+        let socket = net::TcpListener::bind(rt, addr)?;
+        socket.set_nonblocking(true)?;
+        let mut socket = TcpListener::from_std(socket);
+        let poll = Poll::new(rt)?;
+        poll.registry()
+            .register(&mut socket, Token(LISTENER), Interest::READABLE)?;
+        Ok(Listening { socket, poll })
+    }
+
+    /// The port that the system gave.
+    pub fn port(&self) -> io::Result<u16> {
+        Ok(self.socket.local_addr()?.port())
+    }
+
+    /// The next connection, whose events come under this token.
+    pub fn accept(&self, token: usize) -> io::Result<TcpStream> {
+        let (mut stream, _) = self.socket.accept()?;
+        // A reply goes out at once, also behind one that the client hasn't acknowledged.
+        let _ = stream.set_nodelay(true);
+        self.poll.registry().register(
+            &mut stream,
+            Token(token),
+            Interest::READABLE | Interest::WRITABLE,
+        )?;
+        Ok(stream)
+    }
+
+    /// Waits until something is to be told of the sockets, or for a while.
+    pub fn wait(&mut self, events: &mut Events) -> io::Result<()> {
+        self.poll.poll(events, Some(Duration::from_millis(WAIT_MS)))
+    }
+}

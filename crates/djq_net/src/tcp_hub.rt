@@ -1,0 +1,241 @@
+ghost use Rattle.std.specs.Prelude.{◌≡◌, ◌<◌, IfOk, IfSome, Contains, length};
+ghost use Rattle.djq_io.specs.Hub.{no_ids, Turns};
+ghost use Rattle.djq_io.specs.HubFaults.{CountsInTurn};
+ghost use Rattle.djq_io.specs.Sessions.{faults_of};
+
+use crate::conn::{self, Conn, Found};
+use crate::listening::{LISTENER, Listening};
+use djq_io::{Hub, Listened, Sent, Sessions, Turn};
+use mio::{Events, Token};
+use std::alloc::{AllocError, Global};
+use std::io::{self, ErrorKind};
+use std::marker::Model;
+use std::net::{self, Net};
+
+/// How many connections a hub holds at once: those of the 64 sessions that may be open, and one more
+/// that is told so and closed.
+pub const PLACES: usize = 65;
+
+/// A hub over TCP. It tells no bytes, and shows the ids of its sessions and its counts of faults.
+///
+/// Each call is a few lines over the system's. A turn waits at most a quarter of a second, and then
+/// nothing came. After the id 18446744073709551615 no connection is accepted any more.
+#[derive(Drop)]
+pub struct TcpHub<R: Net<Listener = net::TcpListener, Stream = net::TcpStream> + Drop> {
+    rt: R,
+    listening: Option<Listening>,
+    events: Events,
+    conns: Vec<Conn>,
+    sessions: Sessions,
+    /// The place that is looked at next: of a connection, or behind them all of the listener.
+    at: usize,
+    /// Whether the listener may have a connection.
+    knocks: bool,
+    faults: u64,
+}
+
+impl<R: Net<Listener = net::TcpListener, Stream = net::TcpStream> + Drop> Model for TcpHub<R> {
+    ghost use Rattle.djq_net.specs.Tcp.{Shown};
+
+    ghost Value = { Shown };
+
+    ghost view = { λ h. record { ids = h.sessions.ids; faults = h.faults; counts = h.sessions.counts } };
+}
+
+impl<R: Net<Listener = net::TcpListener, Stream = net::TcpStream> + Drop> TcpHub<R> {
+    /// A hub that doesn't listen yet, over the runtime. It takes the memory for all places.
+    pub fn new(rt: R, alloc: Global) -> Result<Self, AllocError>
+        ensures ids { IfOk result (λ hub. hub.ids ≡ no_ids) }
+        ensures faults { IfOk result (λ hub. hub.faults ≡ 0) }
+    {
+        let mut sessions = Sessions::new(alloc);
+        sessions.reserve(PLACES)?;
+        Ok(TcpHub {
+            rt,
+            listening: None,
+            events: Events::with_capacity(alloc, PLACES + 1)?,
+            conns: Vec::with_capacity(alloc, PLACES)?,
+            sessions,
+            at: 0,
+            knocks: false,
+            faults: 0,
+        })
+    }
+
+    /// The port at which it listens, which the system chose where the address says 0, or `None`
+    /// where it doesn't listen.
+    pub fn port(&self) -> Option<u16> {
+        match &self.listening {
+            Some(listening) => listening.port().ok(),
+            None => None,
+        }
+    }
+
+    /// Opens a session where a connection has come and there is a place for it. One that can't be
+    /// accepted is left to the system: it may be gone, or the system may be out of descriptors.
+    fn accept(&mut self) -> Turn
+        ensures ids { Turns result 0 self.old.ids self.new.ids }
+        ensures faults { self.new.faults ≡ self.old.faults }
+        ensures counts { CountsInTurn result self.old.ids.open_ids (faults_of self.old.counts) (faults_of self.new.counts) }
+        ensures idle { result ≡ Turn.Idle → self.new ≡ self.old }
+        ensures works { result ≡ Turn.Failed → ⊥ }
+    {
+        let Some(listening) = &self.listening else {
+            return Turn::Idle;
+        };
+        if !self.knocks || self.conns.len() >= PLACES || !self.sessions.has_room() {
+            return Turn::Idle;
+        }
+        let Some(id) = self.sessions.next_id() else {
+            return Turn::Idle;
+        };
+        match listening.accept(id as usize) {
+            Ok(stream) => {
+                let conn = Conn {
+                    id,
+                    stream,
+                    ready: true,
+                };
+                if self.conns.push(conn).is_err() {
+                    return Turn::Idle;
+                }
+                self.sessions.open(id);
+                Turn::Opened(id)
+            }
+            Err(error) => {
+                if error.kind() == ErrorKind::WouldBlock {
+                    self.knocks = false;
+                }
+                Turn::Idle
+            }
+        }
+    }
+
+    /// Looks at the next place.
+    fn look(&mut self, buf: &mut [u8]) -> Turn
+        requires { 0 < length buf.old }
+        ensures ids { Turns result (length buf.new) self.old.ids self.new.ids }
+        ensures faults { self.new.faults ≡ self.old.faults }
+        ensures counts { CountsInTurn result self.old.ids.open_ids (faults_of self.old.counts) (faults_of self.new.counts) }
+        ensures idle { result ≡ Turn.Idle → self.new ≡ self.old }
+        ensures works { result ≡ Turn.Failed → ⊥ }
+    {
+        if self.at >= self.conns.len() {
+            self.at = 0;
+            return self.accept();
+        }
+        let conn = &mut self.conns[self.at];
+        self.at += 1;
+        let id = conn.id;
+        if !conn.ready || !self.sessions.is_running(id) {
+            return Turn::Idle;
+        }
+        match conn.read(buf) {
+            Found::Bytes(n) => Turn::Bytes(id, n),
+            Found::Nothing => Turn::Idle,
+            Found::End => {
+                self.sessions.end(id);
+                Turn::Ended(id)
+            }
+            Found::Broken => {
+                self.sessions.count_fault(id);
+                self.sessions.end(id);
+                Turn::Ended(id)
+            }
+        }
+    }
+
+    /// Goes round the places until one has something, each once.
+    fn go_round(&mut self, buf: &mut [u8]) -> Turn
+        requires { 0 < length buf.old }
+        ensures ids { Turns result (length buf.new) self.old.ids self.new.ids }
+        ensures faults { self.new.faults ≡ self.old.faults }
+        ensures counts { CountsInTurn result self.old.ids.open_ids (faults_of self.old.counts) (faults_of self.new.counts) }
+        ensures idle { result ≡ Turn.Idle → self.new ≡ self.old }
+        ensures works { result ≡ Turn.Failed → ⊥ }
+    {
+        for _ in 0..=PLACES {
+            match self.look(buf) {
+                Turn::Idle => {}
+                turn => return turn,
+            }
+        }
+        Turn::Idle
+    }
+
+    /// Waits until the system tells something of a socket, or for a while, and notes it.
+    fn wait(&mut self) -> io::Result<()>
+        ensures { self.new ≡ self.old }
+    {
+        let Some(listening) = &mut self.listening else {
+            return Ok(());
+        };
+        listening.wait(&mut self.events)?;
+        for event in self.events.iter() {
+            let Token(token) = event.token();
+            if token == LISTENER {
+                self.knocks = true;
+            } else {
+                conn::note(&mut self.conns, token as u64, event);
+            }
+        }
+        Ok(())
+    }
+}
+
+impl<R: Net<Listener = net::TcpListener, Stream = net::TcpStream> + Drop> Hub for TcpHub<R> {
+    ghost use Rattle.std.specs.Prelude.{None};
+    ghost use Rattle.djq_io.specs.Sessions.{faults_of};
+
+    ghost script = { λ _. None };
+
+    ghost past = { λ _. None };
+
+    ghost ids = { λ h. h.ids };
+
+    ghost faults = { λ h. h.faults };
+
+    ghost session_faults = { λ h. faults_of h.counts };
+
+    fn listen(&mut self, addr: &str) -> Listened {
+        match Listening::at(&self.rt, addr) {
+            Ok(listening) => {
+                self.listening = Some(listening);
+                self.knocks = true;
+                Listened::Ready
+            }
+            Err(_) => {
+                self.faults = self.faults.saturating_add(1);
+                Listened::Failed
+            }
+        }
+    }
+
+    fn turn(&mut self, buf: &mut [u8]) -> Turn {
+        match self.go_round(buf) {
+            Turn::Idle => {}
+            turn => return turn,
+        }
+        if self.listening.is_none() {
+            return Turn::Over;
+        }
+        if self.wait().is_err() {
+            self.faults = self.faults.saturating_add(1);
+            return Turn::Failed;
+        }
+        self.go_round(buf)
+    }
+
+    fn send(&mut self, id: u64, piece: &[u8]) -> Sent {
+        let sent = conn::send(&mut self.conns, id, piece);
+        if sent == Sent::Gone {
+            self.sessions.count_fault(id);
+        }
+        sent
+    }
+
+    fn close(&mut self, id: u64) {
+        conn::close(&mut self.conns, id);
+        self.sessions.close(id);
+    }
+}
