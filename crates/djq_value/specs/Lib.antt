@@ -1,5 +1,7 @@
 pub mod Token
 pub mod Spelling
+pub mod TextAt
+pub mod Quoted
 pub mod Lexing
 pub mod Literal
 pub mod Word

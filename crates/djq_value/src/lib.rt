@@ -13,6 +13,7 @@ pub use lexer::{Lexer, Token};
 pub use number::{Number, number_in, read_natural};
 pub use output::{KEPT, put};
 pub use print::print_value;
+pub use quoted::Quoted;
 pub use word::{is_name, is_text, next_name, next_word, read_name};
 
 mod laws;
@@ -20,6 +21,7 @@ mod lexer;
 mod number;
 mod output;
 mod print;
+mod quoted;
 #[cfg(test)]
 mod tests;
 mod word;
