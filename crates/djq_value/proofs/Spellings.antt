@@ -170,8 +170,7 @@ first_token b cs not_space =
     cond_both (eqb b 41) _ _ P (λ is _. (ap (λ x. x ∷ cs) (eqb-true b 41 is), tt, tt)) (λ no_close.
     cond_both (eqb b 44) _ _ P (λ is _. (ap (λ x. x ∷ cs) (eqb-true b 44 is), tt, tt)) (λ no_comma.
     cond_both (eqb b 60) _ _ P (λ is. arrow_first b cs (eqb-true b 60 is)) (λ no_angle.
-    cond_both (eqb b 34) _ _ P (λ is. text_first b cs (text_in false cs) (eqb-true b 34 is) (text_spelled false cs)) (λ no_quote _.
-    (
+    cond_both (eqb b 34) _ _ P (λ is. text_first b cs (text_in false cs) (eqb-true b 34 is) (text_spelled false cs)) (λ no_quote _. (
       ap (λ xs. b ∷ xs) (word_cut cs),
       (
         omega arith,

@@ -6,5 +6,6 @@ pub mod Lexing
 pub mod Literal
 pub mod Word
 pub mod Number
+pub mod Reads
 pub mod ValueText
 pub mod Output

@@ -15,12 +15,12 @@ loop-at-preserved c =
     elim c.match-step_of.branch [
       | in-Backslash w ↦ record {
         read = has_read_as bytes rest c.loop-at.len _ true _ w.len-is w.escape-is
-        (has_read-backslash bytes (drop at bytes) rest c.loop-at.len c.loop-at.escape (get_or bytes at 0) c.loop-at.invariant.read next (w.in-Backslash.ensures rest));
+            (has_read-backslash bytes (drop at bytes) rest c.loop-at.len c.loop-at.escape (get_or bytes at 0) c.loop-at.invariant.read next (w.in-Backslash.ensures rest));
         short = omega (arith, w.len-is, c.loop-at.invariant.short);
       }
       | in-Byte w ↦ record {
         read = has_read_as bytes rest (c.loop-at.len + 1) _ false _ w.len-is w.escape-is
-        (has_read-byte bytes (drop at bytes) rest c.loop-at.len c.loop-at.escape (get_or bytes at 0) w.in-Byte.field-0 c.loop-at.invariant.read next (w.in-Byte.ensures rest));
+            (has_read-byte bytes (drop at bytes) rest c.loop-at.len c.loop-at.escape (get_or bytes at 0) w.in-Byte.field-0 c.loop-at.invariant.read next (w.in-Byte.ensures rest));
         short = omega (arith, w.len-is, c.loop-at.invariant.short);
       }
     ]
