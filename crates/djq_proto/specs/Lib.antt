@@ -3,3 +3,5 @@ pub mod Refusing
 pub mod Reading
 pub mod Listed
 pub mod NameLists
+pub mod Saying
+pub mod Laws

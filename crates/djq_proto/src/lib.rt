@@ -10,6 +10,7 @@
 #![tactic(auto)]
 
 pub use command::read_command;
+pub use laws::{commands_are_said, commands_are_spelled};
 pub use refusal::LineRefusal;
 pub use splitter::{Front, Splitter, is_blank};
 
@@ -17,6 +18,7 @@ mod command;
 mod item;
 mod items;
 mod keyword;
+mod laws;
 mod parts;
 mod query;
 mod refusal;
