@@ -41,13 +41,16 @@ is_reader readers i = list_any (λ j. j == i) readers
 abbrev pub answers_at : List Table → Registered → List Tuple
 answers_at tables g = map (cells_at g.columns) (table_at tables g.relation).relation.rows
 
+-- a cursor over these answers of a query, as contracts see it
+abbrev pub held_as : List Tuple → Bytes → CursorId → Progress → Held
+held_as answers name id c = record { id = id; query = name; position = position_in answers c }
+
 -- the cursors in slots from this one on, of the query at a place
 abbrev pub held_in : List Tuple → Bytes → ℕ → ℕ → List (Option Progress) → List Held
 held_in answers name at k [] = []
 held_in answers name at k (None ∷ slots) = held_in answers name at (suc k) slots
 held_in answers name at k (Some c ∷ slots) =
-    record { id = record { query = record { at = at }; cursor = k }; query = name; position = position_in answers c }
-    ∷ held_in answers name at (suc k) slots
+    held_as answers name (record { query = record { at = at }; cursor = k }) c ∷ held_in answers name at (suc k) slots
 
 -- the cursors of all queries from this place on
 abbrev pub held_from : List Table → ℕ → List Registered → List Held
@@ -64,7 +67,7 @@ kept_of tables gs seq = record { store = store_of tables gs seq; cursors = held_
 -- the cursor of an id, looked up by its place
 abbrev pub held_by : List Table → List Registered → CursorId → Option Held
 held_by tables gs id = let g = query_at gs id.query.at in
-    option_map (λ c. record { id = id; query = g.query.name; position = position_in (answers_at tables g) c }) (slot_at g.cursors id.cursor)
+    option_map (held_as (answers_at tables g) g.query.name id) (slot_at g.cursors id.cursor)
 
 -- a query with its open cursors made stale
 abbrev pub outdated_query : Bytes → ℕ → Registered → Registered

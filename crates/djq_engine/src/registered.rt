@@ -54,15 +54,11 @@ fn is_named(term: &Term, name: &Name) -> bool
     }
 }
 
-// The place of the first term that is a variable of this name, or the number of terms where none is.
-fn place_of(terms: &[Term], name: &Name) -> usize
-    requires { list_all is_variable terms.now ≡ true }
-    ensures { result ≡ place_in (names_of terms.now) name.now }
+// The place of the first term that is a variable of this name.
+fn place_of(terms: &[Term], name: &Name) -> Option<usize>
+    ensures { result ≡ position (λ t. is_term_named t name.now) terms.now }
 {
-    match terms.iter().position(|term| is_named(term, name)) {
-        Some(at) => at,
-        None => terms.len(),
-    }
+    terms.iter().position(|term| is_named(term, name))
 }
 
 // The columns at which the variables of a head stand among the terms of an atom.
@@ -72,7 +68,7 @@ fn head_columns(alloc: Global, head: &[Name], terms: &[Term]) -> Result<Sequence
 {
     let mut columns = Sequence::new(alloc);
     for name in head {
-        columns.push(place_of(terms, name))?;
+        columns.push(place_of(terms, name).unwrap_or(terms.len()))?;
     }
     Ok(columns)
 }
