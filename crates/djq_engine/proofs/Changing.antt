@@ -3,7 +3,7 @@ use Rattle.std.proofs.Common.{ℕ, zero, suc, List, [], ◌∷◌, ◌++◌, ◌
 use Rattle.std.specs.Prelude.{◌==◌, ◌||◌, Option, None, Some, option_map, find, map, cond, All}
 use Rattle.std.specs.List.{list_any}
 use Rattle.std.proofs.lemmas.Bool.{eqb-true, eq-eqb, cases_order, cases_lt}
-use Rattle.std.proofs.lemmas.List.{get_or-set_same, get_or-set_other, length-set, map-set, same_lists, get_or-map, length-map, get_or_default, get_or_past}
+use Rattle.std.proofs.lemmas.List.{get_or-set_same, get_or-set_other, length-set, map-set, same_lists, get_or-map, length-map, get_or_default, get_or_past, set-get_or}
 use Rattle.djq_model.specs.declared.relation.Relation.{Relation}
 use Rattle.djq_model.specs.declared.query.Query.{Query}
 use Rattle.djq_model.specs.declared.query.Atom.{Atom}
@@ -19,7 +19,7 @@ use Rattle.djq_engine.specs.declared.table.Table.{Table}
 use Rattle.djq_engine.specs.declared.registered.Registered.{Registered}
 use Rattle.djq_engine.specs.Finding.{IsFirst}
 use Rattle.djq_engine.specs.Served.{is_served, is_served_by, relation_in, body_in}
-use Rattle.djq_engine.specs.Answers.{columns_of}
+use Rattle.djq_engine.specs.Answers.{cells_at, columns_of}
 use Rattle.djq_engine.specs.Cursors.{slot_at, position_in, outdated_slots, outdated_progress}
 use Rattle.djq_engine.specs.Kept.{Held, same_id, held_at, outdated_held}
 use Rattle.djq_engine.specs.Tables.{no_table, no_query, table_at, query_at, relations_in, queries_in, is_reader, answers_at, held_as, held_by, held_from, outdated_query, OutdatesReaders}
@@ -63,6 +63,9 @@ pub record Changes (tables : List Table) (gs : List Registered) (at : ℕ) (r : 
   pub rows : RowsSound r
   pub outdates : OutdatesReaders (table_at tables at).readers name n gs gs'
   pub sound : IsSound tables gs
+
+abbrev held_with : CursorId → Bytes → Position → Held
+held_with id q p = record { id = id; query = q; position = p }
 
 -- what holds at one place and at every other
 pub everywhere : (P : ℕ → Type 0) (i : ℕ) → P i → ((j : ℕ) → (j ≡ i → ⊥) → P j) → (j : ℕ) → P j
@@ -143,6 +146,27 @@ same_place tables name m at i f g = by_test (bytes_eq m name) refl
         let same : m ≡ name = sym mine ∙ ap (λ k. (table_at tables k).relation.name) s ∙ its in
         let equal : bytes_eq m name ≡ true = (bytes_eq-decides m name).1 same in
         absurd (cc)))
+
+-- one cursor after a change of its relation, and of another
+
+step_reader : (queries : List Query) (name q : Bytes) (n : ℕ) (id : CursorId) (answers answers' : List Tuple) (slot : Option Progress) → outdater_of queries (by_relation name) q ≡ Some name
+    → option_map (held_as answers' q id) (option_map (outdated_progress name n) slot) ≡ option_map (outdated_held queries name n) (option_map (held_as answers q id) slot)
+step_reader queries name q n id answers answers' None e = refl
+step_reader queries name q n id answers answers' (Some (Open given ended)) e =
+    ap (λ (o : Option Bytes). Some (held_with id q (outdated o n (open_at (take given answers) ended)))) (sym e)
+step_reader queries name q n id answers answers' (Some (Stale r m)) e =
+    ap (λ (o : Option Bytes). Some (held_with id q (outdated o n (stale r m)))) (sym e)
+
+step_other : (queries : List Query) (name q : Bytes) (n : ℕ) (id : CursorId) (answers : List Tuple) (slot : Option Progress) → outdater_of queries (by_relation name) q ≡ None
+    → option_map (held_as answers q id) slot ≡ option_map (outdated_held queries name n) (option_map (held_as answers q id) slot)
+step_other queries name q n id answers None e = refl
+step_other queries name q n id answers (Some c) e = ap (λ (o : Option Bytes). Some (held_with id q (outdated o n (position_in answers c)))) (sym e)
+
+-- beyond the queries there are no cursors
+pub no_cursor : (tables : List Table) (gs : List Registered) (id : CursorId) → length gs ≤ id.query.at → held_by tables gs id ≡ None
+no_cursor tables gs id l =
+    ap (λ (g : Registered). option_map (held_as (answers_at tables g) g.query.name id) (slot_at g.cursors id.cursor)) (get_or_past gs id.query.at no_query l)
+    ∙ ap (option_map (held_as (answers_at tables no_query) [] id)) (slot_none id.cursor)
 
 module _ (tables : List Table) (gs : List Registered) (at : ℕ) (r : Relation) (name : Bytes) (n : ℕ) (gs' : List Registered) (c : Changes tables gs at r name n gs') where
   same_query : (i : ℕ) → (query_at gs' i).query ≡ (query_at gs i).query
@@ -237,3 +261,60 @@ module _ (tables : List Table) (gs : List Registered) (at : ℕ) (r : Relation) 
       outdater_by : Option Query → Option Bytes
       outdater_by None = None
       outdater_by (Some q) = by_relation name q
+
+  held_reader : (id : CursorId) → id.query.at < length gs → is_reader (table_at tables at).readers id.query.at ≡ true
+      → held_by (with_relation tables at r) gs' id ≡ option_map (outdated_held (queries_in gs) name n) (held_by tables gs id)
+  held_reader id l e =
+      let g = query_at gs id.query.at in
+      let g' = query_at gs' id.query.at in
+      let named : g'.query.name ≡ g.query.name = ap (λ (q : Query). q.name) (same_query id.query.at) in
+      ap₂ (λ (m : Bytes) cs. option_map (held_as (answers_at (with_relation tables at r) g') m id) (slot_at cs id.cursor)) named (outdated_cursors id.query.at true e)
+      ∙ ap (option_map (held_as (answers_at (with_relation tables at r) g') g.query.name id)) (outdated_at name n g.cursors id.cursor)
+      ∙ step_reader (queries_in gs) name g.query.name n id (answers_at tables g) (answers_at (with_relation tables at r) g') (slot_at g.cursors id.cursor) (outdater_is id.query.at l true e)
+
+  held_other : (id : CursorId) → id.query.at < length gs → is_reader (table_at tables at).readers id.query.at ≡ false
+      → held_by (with_relation tables at r) gs' id ≡ option_map (outdated_held (queries_in gs) name n) (held_by tables gs id)
+  held_other id l e =
+      let g = query_at gs id.query.at in
+      let g' = query_at gs' id.query.at in
+      let whole : g' ≡ g = c.outdates.each id.query.at ∙ ap (λ b. cond b (outdated_query name n g) g) e in
+      let rows : answers_at (with_relation tables at r) g ≡ answers_at tables g = ap (λ (t : Table). map (cells_at g.columns) t.relation.rows) (elsewhere id.query.at l e) in
+      ap (λ (x : Registered). option_map (held_as (answers_at (with_relation tables at r) x) x.query.name id) (slot_at x.cursors id.cursor)) whole
+      ∙ ap (λ ts. option_map (held_as ts g.query.name id) (slot_at g.cursors id.cursor)) rows
+      ∙ step_other (queries_in gs) name g.query.name n id (answers_at tables g) (slot_at g.cursors id.cursor) (outdater_is id.query.at l false e)
+
+  held_past : (id : CursorId) → length gs ≤ id.query.at → held_by (with_relation tables at r) gs' id ≡ option_map (outdated_held (queries_in gs) name n) (held_by tables gs id)
+  held_past id l =
+      no_cursor (with_relation tables at r) gs' id (omega (arith, c.outdates.length)) ∙ sym (ap (option_map (outdated_held (queries_in gs) name n)) (no_cursor tables gs id l))
+
+  pub changed_held : (id : CursorId) → held_by (with_relation tables at r) gs' id ≡ option_map (outdated_held (queries_in gs) name n) (held_by tables gs id)
+  changed_held id = by_place (cases_lt id.query.at (length gs))
+    where
+      by_reader : id.query.at < length gs → (b : Bool) → is_reader (table_at tables at).readers id.query.at ≡ b
+          → held_by (with_relation tables at r) gs' id ≡ option_map (outdated_held (queries_in gs) name n) (held_by tables gs id)
+      by_reader l true e = held_reader id l e
+      by_reader l false e = held_other id l e
+
+      by_place : (id.query.at < length gs) ⊎ (length gs ≤ id.query.at) → held_by (with_relation tables at r) gs' id ≡ option_map (outdated_held (queries_in gs) name n) (held_by tables gs id)
+      by_place (inl l) = by_reader l (is_reader (table_at tables at).readers id.query.at) refl
+      by_place (inr l) = held_past id l
+
+  pub changed_cursors : (id : CursorId) → held_at (held_from (with_relation tables at r) zero gs') id ≡ held_at (map (outdated_held (queries_in gs) name n) (held_from tables zero gs)) id
+  changed_cursors id =
+      held_is (with_relation tables at r) gs' id ∙ changed_held id
+      ∙ sym (find_mapped (λ h. same_id h.id id) (outdated_held (queries_in gs) name n) (held_from tables zero gs) ∙ ap (option_map (outdated_held (queries_in gs) name n)) (held_is tables gs id))
+
+-- the relations, in the machine's words
+
+pub relations_changed : (tables : List Table) (name : Bytes) (at : ℕ) (rows : List Tuple) → IsFirst (λ t. bytes_eq t.relation.name name) tables at
+    → relations_in (with_relation tables at (let r = (table_at tables at).relation in record r { rows = rows })) ≡ with_rows (relations_in tables) name rows
+relations_changed tables name at rows f =
+    let r = (table_at tables at).relation in
+    let t = table_at tables at in
+    let relation_of_table = λ (t : Table). t.relation in
+    map-set relation_of_table tables at (record t { relation = record r { rows = rows } })
+    ∙ sym (first_changed (λ r. bytes_eq r.name name) (λ (r : Relation). record r { rows = rows }) (relations_in tables) at r (first_mapped (λ r. bytes_eq r.name name) relation_of_table tables at r f)
+        ∙ ap (λ (x : Relation). set (relations_in tables) at (record x { rows = rows })) (get_or-map relation_of_table tables at no_table r f.below))
+
+pub relations_same : (tables : List Table) (at : ℕ) → at < length tables → with_relation tables at (table_at tables at).relation ≡ tables
+relations_same tables at l = set-get_or tables at no_table

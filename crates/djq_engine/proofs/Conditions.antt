@@ -70,3 +70,13 @@ not_false false e = absurd cc
 pub not_true : (b : Bool) → not b ≡ true → b ≡ false
 not_true true e = absurd cc
 not_true false e = refl
+
+-- a refusal under the same conditions, whatever would have been done
+pub refused_as : {A B : Type 0} (o o' : Option Refusal) (x : Refusal) (D : A → Type 0) (D' : B → Type 0) (W W' : Type 0)
+    → o' ≡ o → (W → W') → Answers o (Err x) D (OutOfMemoryWhere W) → Answers o' (Err x) D' (OutOfMemoryWhere W')
+refused_as o o' x D D' W W' e f h = subst (λ p. Answers p (Err x) D' (OutOfMemoryWhere W')) (sym e) (same o x h)
+  where
+    same : (o : Option Refusal) (x : Refusal) → Answers o (Err x) D (OutOfMemoryWhere W) → Answers o (Err x) D' (OutOfMemoryWhere W')
+    same None NoMemory h = f h
+    same None _ h = h
+    same (Some r) x h = h

@@ -6,3 +6,8 @@ pub mod Columns
 pub mod Outdating
 pub mod Held
 pub mod Changing
+pub mod Storing
+pub mod Writing
+pub mod Telling
+pub mod Moving
+pub mod Reading

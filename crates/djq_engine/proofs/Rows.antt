@@ -17,7 +17,7 @@ use Rattle.djq_lines.specs.declared.answer.DeleteOutcome.TheVariants.{Removed, A
 use Rattle.djq_machine.specs.Conditions.{first_of}
 use Rattle.djq_machine.specs.Store.{fits, is_of}
 use Rattle.djq_engine.specs.Finding.{IsFirst}
-use Rattle.djq_engine.specs.Rows.{misfits, add_refusals, delete_refusals, add_refused, delete_refused, AddsAs, AddsTo, DeletesAs, DeletesFrom}
+use Rattle.djq_engine.specs.Rows.{misfits, add_refusals, delete_refusals, add_refused, delete_refused, AddsToAs, AddsTo, DeletesFromAs, DeletesFrom}
 use Rattle.djq_engine.specs.Sound.{RowsSound}
 use Rattle.djq_engine.proofs.Firsts.{first_of_position, none_of_position, first_found}
 use Rattle.djq_engine.proofs.Conditions.{answers_refused, answers_done, answers_lacking, front_refuses, front_passes, first_false, not_false, done_of}
@@ -95,14 +95,14 @@ add_behind r row seq there full last fit e f g =
 
 pub add_refuses : (r : Relation) (row : Tuple) (seq : ℕ) (x : Refusal) → first_of (misfits r.types row) ≡ Some x → AddsTo r row seq (Err x) r
 add_refuses r row seq x e = record {
-  answer = answers_refused (add_refused r row seq) x (AddsAs r row r) _
+  answer = answers_refused (add_refused r row seq) x (AddsToAs r row r) _
       (front_refuses (misfits r.types row) ((not (has_row r.rows row) && nat_le ROWS (length r.rows), Limit) ∷ (not (has_row r.rows row) && nat_le LAST_SEQ seq, Limit) ∷ []) x e);
   stays = refl;
 }
 
 pub add_same : (r : Relation) (row : Tuple) (seq : ℕ) → first_of (misfits r.types row) ≡ None → has_row r.rows row ≡ true → AddsTo r row seq (Ok Same) r
 add_same r row seq fit there = record {
-  answer = answers_done (add_refused r row seq) Same (AddsAs r row r) _
+  answer = answers_done (add_refused r row seq) Same (AddsToAs r row r) _
       (add_behind r row seq true (nat_le ROWS (length r.rows)) (nat_le LAST_SEQ seq) fit there refl refl) (there, refl);
   stays = tt;
 }
@@ -116,7 +116,7 @@ limited false false (inr e) = absurd cc
 pub add_limited : (r : Relation) (row : Tuple) (seq : ℕ) → first_of (misfits r.types row) ≡ None → has_row r.rows row ≡ false → (ROWS ≤ length r.rows) ⊎ (seq ≡ LAST_SEQ)
     → AddsTo r row seq (Err Limit) r
 add_limited r row seq fit there h = record {
-  answer = answers_refused (add_refused r row seq) Limit (AddsAs r row r) _
+  answer = answers_refused (add_refused r row seq) Limit (AddsToAs r row r) _
       (add_behind r row seq false (nat_le ROWS (length r.rows)) (nat_le LAST_SEQ seq) fit there refl refl
       ∙ limited (nat_le ROWS (length r.rows)) (nat_le LAST_SEQ seq) (by_limit h));
   stays = refl;
@@ -134,7 +134,7 @@ add_passes r row seq fit there l m =
 pub add_added : (r : Relation) (row : Tuple) (seq : ℕ) (rows : List Tuple) → first_of (misfits r.types row) ≡ None → has_row r.rows row ≡ false → length r.rows < ROWS → seq < LAST_SEQ
     → rows ≡ r.rows ++ row ∷ [] → AddsTo r row seq (Ok Added) (record r { rows = rows })
 add_added r row seq rows fit there l m e = record {
-  answer = answers_done (add_refused r row seq) Added (AddsAs r row (record r { rows = rows })) _ (add_passes r row seq fit there l m)
+  answer = answers_done (add_refused r row seq) Added (AddsToAs r row (record r { rows = rows })) _ (add_passes r row seq fit there l m)
       (there, ap (λ (x : List Tuple). record r { rows = x }) e);
   stays = tt;
 }
@@ -142,7 +142,7 @@ add_added r row seq rows fit there l m e = record {
 pub add_lacks : (r : Relation) (row : Tuple) (seq : ℕ) (rows : List Tuple) → first_of (misfits r.types row) ≡ None → has_row r.rows row ≡ false → length r.rows < ROWS → seq < LAST_SEQ
     → rows ≡ r.rows → AddsTo r row seq (Err NoMemory) (record r { rows = rows })
 add_lacks r row seq rows fit there l m e = record {
-  answer = answers_lacking (add_refused r row seq) (AddsAs r row (record r { rows = rows })) _ (add_passes r row seq fit there l m) there;
+  answer = answers_lacking (add_refused r row seq) (AddsToAs r row (record r { rows = rows })) _ (add_passes r row seq fit there l m) there;
   stays = ap (λ (x : List Tuple). record r { rows = x }) e;
 }
 
@@ -156,26 +156,26 @@ delete_behind r row seq there last fit e f =
 
 pub delete_refuses : (r : Relation) (row : Tuple) (seq : ℕ) (x : Refusal) → first_of (misfits r.types row) ≡ Some x → DeletesFrom r row seq (Err x) r
 delete_refuses r row seq x e = record {
-  answer = answers_refused (delete_refused r row seq) x (DeletesAs r row r) _ (front_refuses (misfits r.types row) ((has_row r.rows row && nat_le LAST_SEQ seq, Limit) ∷ []) x e);
+  answer = answers_refused (delete_refused r row seq) x (DeletesFromAs r row r) _ (front_refuses (misfits r.types row) ((has_row r.rows row && nat_le LAST_SEQ seq, Limit) ∷ []) x e);
   stays = refl;
 }
 
 pub delete_absent : (r : Relation) (row : Tuple) (seq : ℕ) → first_of (misfits r.types row) ≡ None → has_row r.rows row ≡ false → DeletesFrom r row seq (Ok Absent) r
 delete_absent r row seq fit there = record {
-  answer = answers_done (delete_refused r row seq) Absent (DeletesAs r row r) _ (delete_behind r row seq false (nat_le LAST_SEQ seq) fit there refl) (there, refl);
+  answer = answers_done (delete_refused r row seq) Absent (DeletesFromAs r row r) _ (delete_behind r row seq false (nat_le LAST_SEQ seq) fit there refl) (there, refl);
   stays = tt;
 }
 
 pub delete_limited : (r : Relation) (row : Tuple) (seq : ℕ) → first_of (misfits r.types row) ≡ None → has_row r.rows row ≡ true → seq ≡ LAST_SEQ → DeletesFrom r row seq (Err Limit) r
 delete_limited r row seq fit there e = record {
-  answer = answers_refused (delete_refused r row seq) Limit (DeletesAs r row r) _ (delete_behind r row seq true true fit there (le-leb LAST_SEQ seq (omega arith)));
+  answer = answers_refused (delete_refused r row seq) Limit (DeletesFromAs r row r) _ (delete_behind r row seq true true fit there (le-leb LAST_SEQ seq (omega arith)));
   stays = refl;
 }
 
 pub delete_removed : (r : Relation) (row : Tuple) (seq : ℕ) (rows : List Tuple) → first_of (misfits r.types row) ≡ None → has_row r.rows row ≡ true → seq < LAST_SEQ
     → rows ≡ without_row r.rows row → DeletesFrom r row seq (Ok Removed) (record r { rows = rows })
 delete_removed r row seq rows fit there m e = record {
-  answer = answers_done (delete_refused r row seq) Removed (DeletesAs r row (record r { rows = rows })) _ (delete_behind r row seq true false fit there (lt-leb LAST_SEQ seq m))
+  answer = answers_done (delete_refused r row seq) Removed (DeletesFromAs r row (record r { rows = rows })) _ (delete_behind r row seq true false fit there (lt-leb LAST_SEQ seq m))
       (there, ap (λ (x : List Tuple). record r { rows = x }) e);
   stays = tt;
 }
@@ -216,10 +216,10 @@ sound_without r row there h = by_place (position (λ t. tuple_eq t row) r.rows) 
 
 pub sound_of_add : (r : Relation) (row : Tuple) (seq : ℕ) (new : Relation) → AddsTo r row seq (Ok Added) new → RowsSound r → RowsSound new
 sound_of_add r row seq new a h =
-    let d = done_of (add_refused r row seq) Added (AddsAs r row new) _ a.answer in
+    let d = done_of (add_refused r row seq) Added (AddsToAs r row new) _ a.answer in
     subst RowsSound (sym d.1.1) (sound_with r row (row_length r.types row ((not (has_row r.rows row) && nat_le ROWS (length r.rows), Limit) ∷ (not (has_row r.rows row) && nat_le LAST_SEQ seq, Limit) ∷ []) d.0) d.1.0 h)
 
 pub sound_of_delete : (r : Relation) (row : Tuple) (seq : ℕ) (new : Relation) → DeletesFrom r row seq (Ok Removed) new → RowsSound r → RowsSound new
 sound_of_delete r row seq new a h =
-    let d = done_of (delete_refused r row seq) Removed (DeletesAs r row new) _ a.answer in
+    let d = done_of (delete_refused r row seq) Removed (DeletesFromAs r row new) _ a.answer in
     subst RowsSound (sym d.1.1) (sound_without r row d.1.0 h)

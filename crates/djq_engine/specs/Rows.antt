@@ -44,21 +44,21 @@ abbrev pub delete_refused : Relation → Tuple → ℕ → Option Refusal
 delete_refused r row seq = first_of (delete_refusals r.types row (has_row r.rows row) seq)
 
 -- A row that isn't there goes in behind the others; one that is there changes nothing.
-abbrev pub AddsAs : Relation → Tuple → Relation → AddOutcome → Type 0
-AddsAs old row new Added = (has_row old.rows row ≡ false) × (new ≡ record old { rows = old.rows ++ row ∷ [] })
-AddsAs old row new Same = (has_row old.rows row ≡ true) × (new ≡ old)
+abbrev pub AddsToAs : Relation → Tuple → Relation → AddOutcome → Type 0
+AddsToAs old row new Added = (has_row old.rows row ≡ false) × (new ≡ record old { rows = old.rows ++ row ∷ [] })
+AddsToAs old row new Same = (has_row old.rows row ≡ true) × (new ≡ old)
 
 -- What `add` does to a relation, and answers.
 pub record AddsTo (old : Relation) (row : Tuple) (seq : ℕ) (result : Result AddOutcome Refusal) (new : Relation) : Type 0 where
-  pub answer : Answers (add_refused old row seq) result (AddsAs old row new) (OutOfMemoryWhere (has_row old.rows row ≡ false))
+  pub answer : Answers (add_refused old row seq) result (AddsToAs old row new) (OutOfMemoryWhere (has_row old.rows row ≡ false))
   pub stays : OnErr result (new ≡ old)
 
 -- A row that is there goes out; one that isn't changes nothing.
-abbrev pub DeletesAs : Relation → Tuple → Relation → DeleteOutcome → Type 0
-DeletesAs old row new Removed = (has_row old.rows row ≡ true) × (new ≡ record old { rows = without_row old.rows row })
-DeletesAs old row new Absent = (has_row old.rows row ≡ false) × (new ≡ old)
+abbrev pub DeletesFromAs : Relation → Tuple → Relation → DeleteOutcome → Type 0
+DeletesFromAs old row new Removed = (has_row old.rows row ≡ true) × (new ≡ record old { rows = without_row old.rows row })
+DeletesFromAs old row new Absent = (has_row old.rows row ≡ false) × (new ≡ old)
 
 -- What `del` does to a relation, and answers.
 pub record DeletesFrom (old : Relation) (row : Tuple) (seq : ℕ) (result : Result DeleteOutcome Refusal) (new : Relation) : Type 0 where
-  pub answer : Answers (delete_refused old row seq) result (DeletesAs old row new) (OutOfMemoryWhere ⊥)
+  pub answer : Answers (delete_refused old row seq) result (DeletesFromAs old row new) (OutOfMemoryWhere ⊥)
   pub stays : OnErr result (new ≡ old)

@@ -89,10 +89,10 @@ impl Engine {
             return Err(Refusal::Limit);
         }
         let table = Table::new(self.alloc, name, types);
-        match self.tables.push(table) {
-            Ok(()) => Ok(()),
-            Err(_) => Err(Refusal::NoMemory),
-        }
+        let Ok(()) = self.tables.push(table) else {
+            return Err(Refusal::NoMemory);
+        };
+        Ok(())
     }
 
     /// Adds a row to a relation. Where it is there already, nothing changes; where it wasn't, cursors over the relation become stale.
@@ -108,15 +108,19 @@ impl Engine {
         let Some(at) = find_table(self.tables.as_slice(), name) else {
             return Err(Refusal::NoRelation);
         };
-        let result = self.tables[at].add(row, self.seq);
-        match result {
+        match self.tables[at].add(row, self.seq) {
             Ok(AddOutcome::Added) => self.seq += 1,
-            Err(Refusal::NoMemory) => {}
-            unchanged => return unchanged,
+            Ok(AddOutcome::Same) => return Ok(AddOutcome::Same),
+            Err(Refusal::NoMemory) => {
+                let readers = self.tables[at].readers.as_slice();
+                outdate(self.queries.as_mut_slice(), readers, *name, self.seq);
+                return Err(Refusal::NoMemory);
+            }
+            Err(refusal) => return Err(refusal),
         }
         let readers = self.tables[at].readers.as_slice();
         outdate(self.queries.as_mut_slice(), readers, *name, self.seq);
-        result
+        Ok(AddOutcome::Added)
     }
 
     /// Deletes a row from a relation. Where it isn't there, nothing changes; where it was, cursors over the relation become
@@ -134,10 +138,10 @@ impl Engine {
             return Err(Refusal::NoRelation);
         };
         match self.tables[at].delete(row, self.seq) {
-            Ok(DeleteOutcome::Removed) => {}
-            unchanged => return unchanged,
+            Ok(DeleteOutcome::Removed) => self.seq += 1,
+            Ok(DeleteOutcome::Absent) => return Ok(DeleteOutcome::Absent),
+            Err(refusal) => return Err(refusal),
         }
-        self.seq += 1;
         let readers = self.tables[at].readers.as_slice();
         outdate(self.queries.as_mut_slice(), readers, *name, self.seq);
         Ok(DeleteOutcome::Removed)
@@ -174,13 +178,13 @@ impl Engine {
         let Some(at) = find_query(self.queries.as_slice(), query) else {
             return Err(Refusal::NoQuery);
         };
-        match self.queries[at].cursors.open() {
-            Ok(cursor) => Ok(CursorId {
-                query: QueryId { at },
-                cursor,
-            }),
-            Err(_) => Err(Refusal::NoMemory),
-        }
+        let Ok(cursor) = self.queries[at].cursors.open() else {
+            return Err(Refusal::NoMemory);
+        };
+        Ok(CursorId {
+            query: QueryId { at },
+            cursor,
+        })
     }
 
     /// Reads an open cursor: gives a further answer, or says that none is left, or what made it stale. It takes no memory.
@@ -221,7 +225,8 @@ impl Engine {
         };
         listing.link();
         let left = given < self.tables[registered.relation].relation.rows.len();
-        registered.cursors.set(id.cursor, Progress::Open { given, ended: !left });
+        let progress = Progress::Open { given, ended: !left };
+        registered.cursors.set(id.cursor, progress);
         left
     }
 

@@ -1,0 +1,30 @@
+use Rattle.std.proofs.Common.{rules, ◌≡◌, [], ◌<◌, true, length, None, Some, IfOk, IfErr, OnOk, OnErr, ℕ, ◌+◌, ◌-◌, ◌*◌, ◌≤◌, ◌/◌, ◌%◌, Bool, false, nat_eq, nat_lt, List, ◌∷◌, ◌++◌, slice_index_or, slice_set, bit_and, bit_or, Fits, w8, w32, w64, Bor, MutBor}
+use Rattle.djq_model.specs.Data.{bytes_eq, rows_of}
+use Rattle.djq_machine.specs.State.{opening}
+use Rattle.djq_machine.specs.Store.{MakesRelation, AddsRow, DeletesRow, RegistersQuery, query_refusal}
+use Rattle.djq_machine.specs.Stale.{add_outdates, delete_outdates}
+use Rattle.djq_engine.specs.Finding.{IsFirst}
+use Rattle.djq_engine.specs.Served.{is_served, relation_in}
+use Rattle.djq_engine.specs.Tables.{store_of, Registers}
+use Rattle.djq_engine.specs.Kept.{SameCursors, Outdates, OpenGives, NextGives, MoreGives, ClosesCursor, IsHeld, IsFresh, IsThere, LendsAnswer}
+use Rattle.djq_engine.proofs.engine.Engine.answer.Goals as goal
+
+-- src/engine.rt:246:27
+pub index-registered-requires : goal.index-registered-requires
+index-registered-requires c = ?
+
+-- src/engine.rt:247:20
+pub index-requires : goal.index-requires
+index-requires c = ?
+
+-- src/engine.rt:247:19
+pub offset_bounds-as_slice-answer : goal.offset_bounds-as_slice-answer
+offset_bounds-as_slice-answer c = ?
+
+-- src/engine.rt:247:13
+pub bounds-as_slice-answer : goal.bounds-as_slice-answer
+bounds-as_slice-answer c = ?
+
+-- src/engine.rt:241:5
+pub returns : goal.returns
+returns c = ?
