@@ -11,3 +11,4 @@ pub mod Writing
 pub mod Telling
 pub mod Moving
 pub mod Reading
+pub mod Opening

@@ -15,7 +15,7 @@ use Rattle.djq_engine.specs.declared.registered.Registered.{Registered}
 use Rattle.djq_engine.specs.Finding.{IsFirst}
 use Rattle.djq_engine.specs.Cursors.{slot_at, SetsSlot, position_in}
 use Rattle.djq_engine.specs.Kept.{Held, Kept, same_id, held_at, IsHeld, OthersStay, ClosesCursor}
-use Rattle.djq_engine.specs.Tables.{no_query, table_at, query_at, queries_in, answers_at, held_as, held_by, held_from, store_of, kept_of}
+use Rattle.djq_engine.specs.Tables.{no_query, no_table, table_at, query_at, queries_in, answers_at, held_as, held_by, held_from, store_of, kept_of}
 use Rattle.djq_engine.specs.Sound.{IsReady, IsSound}
 use Rattle.djq_engine.proofs.Firsts.{first_as}
 use Rattle.djq_engine.proofs.Held.{held_is}
@@ -174,3 +174,17 @@ closes tables gs items seq old id cursors below v e moved s =
             store = moved_store tables gs id None cursors below moved s inside seq;
           })),
     )
+
+-- the table of a query, as the code reads it
+
+pub relation_below : (tables : List Table) (gs : List Registered) (at : ℕ) (g : Registered) → at < length gs → g ≡ query_at gs at → IsSound tables gs → g.relation < length tables
+relation_below tables gs at g l e s = subst (λ (x : Registered). x.relation < length tables) (sym e) (s.ready at l).relation.below
+
+pub rows_read : (tables : List Table) (gs : List Registered) (at : ℕ) (g : Registered) (t : Table) → at < length gs → g ≡ query_at gs at → IsSound tables gs → t ≡ get_or tables g.relation t
+    → t ≡ table_at tables (query_at gs at).relation
+rows_read tables gs at g t l e s f =
+    f ∙ get_or_default tables g.relation t no_table (relation_below tables gs at g l e s) ∙ ap (λ (x : Registered). table_at tables x.relation) e
+
+pub cursors_kept_as : (gs : List Registered) (at : ℕ) (g : Registered) (cursors : List (Option Progress)) → at < length gs → g ≡ get_or gs at g → cursors ≡ g.cursors
+    → set gs at (record g { cursors = cursors }) ≡ gs
+cursors_kept_as gs at g cursors l e f = ap (λ (cs : List (Option Progress)). set gs at (record g { cursors = cs })) f ∙ cursors_kept gs at g l e
