@@ -12,3 +12,4 @@ pub mod Telling
 pub mod Moving
 pub mod Reading
 pub mod Opening
+pub mod Making

@@ -1,6 +1,6 @@
 -- What opening, reading and closing a cursor gives.
 use Rattle.std.proofs.Common.{ℕ, zero, suc, List, [], ◌∷◌, ◌++◌, ◌+◌, ◌≡◌, ◌<◌, ◌≤◌, Bool, true, false, refl, sym, ap, ap₂, ◌∙◌, subst, length, get_or, set, take, arith}
-use Rattle.std.specs.Prelude.{Option, None, Some, IsSomeAnd, Ok, Err, option_map, map, All, not, nat_lt}
+use Rattle.std.specs.Prelude.{Option, None, Some, IsSome, IsSomeAnd, Ok, Err, option_map, map, All, not, nat_lt}
 use Rattle.std.proofs.lemmas.Bool.{ltb-true, ltb-false}
 use Rattle.std.proofs.lemmas.List.{length-map, get_or-map, take_more}
 use Rattle.djq_model.specs.declared.query.Query.{Query}
@@ -19,7 +19,7 @@ use Rattle.djq_engine.specs.declared.registered.Registered.{Registered}
 use Rattle.djq_engine.specs.Finding.{IsFirst}
 use Rattle.djq_engine.specs.Answers.{cells_at, answers_of}
 use Rattle.djq_engine.specs.Cursors.{slot_at, SetsSlot, position_in}
-use Rattle.djq_engine.specs.Kept.{Held, Kept, held_at, MovesCursor, OpensCursor, NextGives, NextGivesAt, MoreGives, MoreGivesAt, OfQuery, IsThere, IsFresh, IsOpenAt, AnswerIs, LendsAnswer}
+use Rattle.djq_engine.specs.Kept.{Held, Kept, held_at, MovesCursor, OpensCursor, NextGives, NextGivesAt, MoreGives, MoreGivesAt, OfQuery, IsHeld, IsThere, IsFresh, IsOpenAt, AnswerIs, LendsAnswer}
 use Rattle.djq_engine.specs.Tables.{no_query, table_at, query_at, relations_in, queries_in, answers_at, held_as, held_from, store_of, kept_of}
 use Rattle.djq_engine.specs.Sound.{RowsSound, IsReady, IsSound}
 use Rattle.djq_engine.proofs.Held.{held_is}
@@ -242,3 +242,11 @@ lends tables gs seq old id a p v s below slot l =
           (omega (arith, ap length same, answers_length tables gs seq id below s), sym (get_or-map (cells_at g.columns) rows a.at [] [] l) ∙ ap (λ xs. get_or xs a.at []) same);
       inside = columns_inside tables g a.at (ready tables gs seq id below s) (rows_sound tables gs seq id below s) l;
     })
+
+-- an answer that is there is one of a cursor that is held
+pub there_held : (old : Kept) (id : CursorId) (a : Answer) → IsThere old id a → IsHeld old id
+there_held old id a h = some_of (held_at old.cursors id) h
+  where
+    some_of : (o : Option Held) → IsSomeAnd o (λ h. IsSomeAnd (query_of old.store.queries h.query) (λ q. a.at < length (answers_of old.store q))) → IsSome o
+    some_of None x = absurd x
+    some_of (Some h) x = refl

@@ -240,8 +240,7 @@ impl Engine {
 
     /// Lends an answer that an open cursor gave: a row, and the columns of the answer's cells.
     pub fn answer(&self, id: CursorId, answer: Answer) -> (&[Value], &[usize])
-        requires held { IsHeld self.now id }
-        requires there { IsThere self.now id answer }
+        requires { IsThere self.now id answer }
         ensures { LendsAnswer self.now id answer result.0.now result.1.now }
     {
         let registered = &self.queries[id.query.at];
