@@ -13,3 +13,4 @@ pub mod Moving
 pub mod Reading
 pub mod Opening
 pub mod Making
+pub mod Registering

@@ -161,10 +161,11 @@ impl Engine {
     {
         let relation = suits(self.tables.as_slice(), self.queries.as_slice(), &query)?;
         let most = 2 * query.head.as_slice().len() as u64 + 1;
-        match register(self.alloc, &mut self.tables, &mut self.queries, query, relation) {
-            Ok(()) => Ok(most),
-            Err(_) => Err(Refusal::NoMemory),
-        }
+        let alloc = self.alloc;
+        let Ok(()) = register(alloc, &mut self.tables, &mut self.queries, query, relation) else {
+            return Err(Refusal::NoMemory);
+        };
+        Ok(most)
     }
 
     /// Opens a cursor in front of the answers of a query.
