@@ -6,9 +6,11 @@
 //! djq_proto does, and is proved against these definitions.
 #![tactic(auto)]
 
-pub use answer::{AddOutcome, DeleteOutcome, EndCause, Refusal};
+pub use answer::{AddOutcome, DeleteOutcome, EndCause, EndLine, Refusal, Sign};
 pub use command::Command;
+pub use keyword::Keyword;
 
 mod answer;
 mod command;
+mod keyword;
 pub mod limits;

@@ -1,10 +1,5 @@
 pub mod Splitting
-pub mod Lexing
-pub mod Number
-pub mod Word
+pub mod Refusing
 pub mod Reading
 pub mod Listed
-pub mod Listing
-pub mod Spelling
-pub mod Saying
-pub mod Laws
+pub mod NameLists
