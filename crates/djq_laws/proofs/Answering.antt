@@ -13,7 +13,7 @@ use Rattle.djq_model.specs.Data.{Bytes, Tuple, bytes_eq, relation_of, rows_of, r
 use Rattle.djq_model.specs.Answer.{IsAnswer}
 use Rattle.djq_machine.specs.Store.{with_rows}
 use Rattle.djq_machine.specs.Step.{SameRelations}
-use Rattle.djq_machine.specs.Course.{Gives}
+use Rattle.djq_machine.specs.Gives.{Gives}
 use Rattle.djq_laws.proofs.Finding.{find_other}
 
 -- names that pass the test are the same
@@ -61,7 +61,7 @@ pub same_within : (rs rs' : List Relation) (q : Query) → RowsWithin rs rs' q �
 same_within rs rs' q there back = record { there = λ t h. answer_within rs rs' q t there h; back = λ t h. answer_within rs' rs q t back h }
 
 -- what a cursor has given it still gives
-pub gives_kept : (rs rs' : List Relation) (q : Query) (given : List Tuple) (finished : Bool) → SameAnswers rs rs' q → Gives rs q given finished → Gives rs' q given finished
+pub gives_kept : (rs rs' : List Relation) (q : Query) (given : List Tuple) (finished : Bool) → SameAnswers rs rs' q → Gives (IsAnswer rs q) given finished → Gives (IsAnswer rs' q) given finished
 gives_kept rs rs' q given finished same h = record {
   different = h.different;
   answers = λ k d lt. same.there _ (h.answers k d lt);
