@@ -1,3 +1,4 @@
-pub mod Loses
+pub mod Gives
 pub mod Gains
 pub mod Parts
+pub mod Counting

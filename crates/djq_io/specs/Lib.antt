@@ -1,7 +1,11 @@
 pub mod Faults
+pub mod Failing
 pub mod Source
 pub mod Sink
 pub mod Written
 pub mod Hub
 pub mod MemSource
+pub mod MemSink
 pub mod MemHub
+pub mod StdSource
+pub mod StdSink

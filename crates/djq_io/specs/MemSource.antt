@@ -1,13 +1,27 @@
-use Rattle.std.specs.Prelude.{ℕ, List, [], ◌∷◌, length, min}
+use Rattle.std.specs.Prelude.{ℕ, List, [], ◌∷◌, length, min, Option, if◌then◌else◌}
+use Rattle.std.specs.Option.{option_map}
+use Rattle.djq_io.specs.Failing.{is_due}
+use Rattle.djq_io.specs.Source.{Reading}
 use Rattle.djq_io.specs.declared.source.Read.{Read}
-use Rattle.djq_io.specs.declared.source.Read.TheVariants.{Got, End}
+use Rattle.djq_io.specs.declared.source.Read.TheVariants.{Got, End, Failed}
 
--- A source in memory: the bytes left, and the greatest number that a read gives.
+-- A source in memory: the bytes left, the pieces given, unless it lost count of them, the greatest
+-- number that a read gives, and the reads that are to fail.
 pub record Held : Type 0 where
   pub left : List ℕ
+  pub given : Option (List (List ℕ))
   pub most : ℕ
+  pub to_fail : List ℕ
 
--- what a read of these bytes answers, with this greatest number and this much room
-abbrev pub read_of : List ℕ → ℕ → ℕ → Read
-read_of [] most room = End
-read_of (byte ∷ bytes) most room = Got (min (min most room) (length (byte ∷ bytes)))
+-- what a source in memory tells
+abbrev pub reading_of : Held → Option Reading
+reading_of held = option_map (λ given. record { left = held.left; given = given }) held.given
+
+-- how much a read of these bytes gives, with this greatest number and this much room
+abbrev pub part_of : List ℕ → ℕ → ℕ → Read
+part_of [] most room = End
+part_of (byte ∷ bytes) most room = Got (min (min most room) (length (byte ∷ bytes)))
+
+-- what a read answers, with this much room
+abbrev pub read_of : Held → ℕ → Read
+read_of held room = if is_due held.to_fail then Failed else part_of held.left held.most room

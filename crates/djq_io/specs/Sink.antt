@@ -1,4 +1,5 @@
 use Rattle.std.specs.Prelude.{◌≡◌, ℕ, ◌≤◌, List, ◌++◌, length, take, Option, IfSome, IsSomeAnd}
+use Rattle.djq_io.specs.Faults.{Counted}
 use Rattle.djq_io.specs.declared.sink.Wrote.{Wrote}
 use Rattle.djq_io.specs.declared.sink.Wrote.TheVariants.{Took, Failed}
 
@@ -13,3 +14,8 @@ Gains old new more = IfSome new (λ n. IsSomeAnd old (λ o. n ≡ o ++ more))
 abbrev pub Writes : Wrote → Option (List ℕ) → Option (List ℕ) → List ℕ → Type 0
 Writes (Took n) old new piece = (1 ≤ n) × (n ≤ length piece) × Gains old new (take n piece)
 Writes Failed old new piece = new ≡ old
+
+-- The count of a sink's faults rises at a failed write, and stays at every other.
+abbrev pub CountsWrite : Wrote → ℕ → ℕ → Type 0
+CountsWrite (Took n) old new = new ≡ old
+CountsWrite Failed old new = Counted old new

@@ -1,17 +1,39 @@
-use Rattle.std.specs.Prelude.{◌≡◌, ℕ, ◌≤◌, List, [], ◌++◌, length, take, Option, None, MatchOption, IfSome, IsSomeAnd}
+use Rattle.std.specs.Prelude.{◌≡◌, ℕ, ◌≤◌, List, [], ◌∷◌, ◌++◌, length, take, Option, None, MatchOption, IfSome, IsSomeAnd}
+use Rattle.std.specs.List.{concat}
+use Rattle.djq_io.specs.Faults.{Counted}
 use Rattle.djq_io.specs.declared.source.Read.{Read}
 use Rattle.djq_io.specs.declared.source.Read.TheVariants.{Got, End, Failed}
 
--- From one state of a source to a later one it gave these bytes: what was left is they and then
--- what is left still. A source that tells what is left goes on to tell it, and one that doesn't
--- tell never does.
-abbrev pub Loses : {A : Type 0} → Option (List A) → Option (List A) → List A → Type 0
-Loses old new given = MatchOption old (new ≡ None) (λ o. IsSomeAnd new (λ n. o ≡ given ++ n))
+-- What a source tells: the bytes that are left, and the pieces that it gave so far, in order.
+pub record Reading : Type 0 where
+  pub left : List ℕ
+  pub given : List (List ℕ)
 
--- What a read answers, from what was left before to what is left after it, with the buffer that
--- it leaves: some bytes and at most as many as fit; the end, exactly where none are left; or a
--- failure, which takes nothing.
-abbrev pub Reads : Read → Option (List ℕ) → Option (List ℕ) → List ℕ → Type 0
-Reads (Got n) old new buf = (1 ≤ n) × (n ≤ length buf) × Loses old new (take n buf)
-Reads End old new buf = IfSome old (λ o. o ≡ []) × (new ≡ old)
+-- A read gives this piece: what was left begins with it, and a source that tells still has the
+-- rest left and the piece behind those given before. A source may lose its count of the pieces,
+-- and tells nothing from then on; one that doesn't tell never does.
+abbrev pub GivesPiece : Option Reading → Option Reading → List ℕ → Type 0
+GivesPiece old new piece = MatchOption old (new ≡ None) (λ o.
+    (rest : List ℕ) × (o.left ≡ piece ++ rest)
+    × IfSome new (λ n. n ≡ record { left = rest; given = o.given ++ piece ∷ [] }))
+
+-- From one state of a source to a later one it gave these pieces, one a read, where it tells as
+-- the later state comes: they come behind those given before, and what was left is their bytes
+-- and then what is left still.
+abbrev pub Gives : Option Reading → Option Reading → List (List ℕ) → Type 0
+Gives old new pieces = IfSome new (λ n. IsSomeAnd old (λ o.
+    (n.given ≡ o.given ++ pieces) × (o.left ≡ concat pieces ++ n.left)))
+
+-- What a read answers, from what the source tells before to what it tells after it, with the
+-- buffer that it leaves: a piece of at least one byte and at most as many as fit; the end, exactly
+-- where no bytes are left; or a failure. The last two give nothing.
+abbrev pub Reads : Read → Option Reading → Option Reading → List ℕ → Type 0
+Reads (Got n) old new buf = (1 ≤ n) × (n ≤ length buf) × GivesPiece old new (take n buf)
+Reads End old new buf = IfSome old (λ o. o.left ≡ []) × (new ≡ old)
 Reads Failed old new buf = new ≡ old
+
+-- The count of a source's faults rises at a failed read, and stays at every other.
+abbrev pub CountsRead : Read → ℕ → ℕ → Type 0
+CountsRead (Got n) old new = new ≡ old
+CountsRead End old new = new ≡ old
+CountsRead Failed old new = Counted old new

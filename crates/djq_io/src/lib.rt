@@ -17,16 +17,19 @@
 //! [`StdSink`] are a few lines over `std::io`, tell nothing, and are the trusted edge.
 #![tactic(auto)]
 
+mod failing;
 mod hub;
 mod mem_hub;
 mod mem_sink;
 mod mem_source;
 mod piece;
+mod recording;
 mod sink;
 mod source;
 mod std_sink;
 mod std_source;
 
+pub use failing::Failing;
 pub use hub::{Hub, Listened, Sent, Told, Turn};
 pub use mem_hub::MemHub;
 pub use mem_sink::MemSink;

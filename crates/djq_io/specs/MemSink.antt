@@ -1,0 +1,14 @@
+use Rattle.std.specs.Prelude.{ℕ, List, length, Option, if◌then◌else◌}
+use Rattle.djq_io.specs.Failing.{is_due}
+use Rattle.djq_io.specs.declared.sink.Wrote.{Wrote}
+use Rattle.djq_io.specs.declared.sink.Wrote.TheVariants.{Took, Failed}
+
+-- A sink in memory: the bytes taken, unless it lost its record of them, and the writes that are to
+-- fail.
+pub record Kept : Type 0 where
+  pub taken : Option (List ℕ)
+  pub to_fail : List ℕ
+
+-- what a write of this piece answers
+abbrev pub write_of : Kept → List ℕ → Wrote
+write_of kept piece = if is_due kept.to_fail then Failed else Took (length piece)

@@ -1,0 +1,10 @@
+use Rattle.std.specs.Prelude.{◌≡◌, ℕ}
+use Rattle.djq_io.specs.Faults.{one_more}
+use Rattle.djq_io.specs.declared.source.Read.{Read}
+use Rattle.djq_io.specs.declared.source.Read.TheVariants.{Got, End, Failed}
+
+-- The count of faults of a reader of the system: a failed read is one fault, every other is none.
+abbrev pub CountsOne : Read → ℕ → ℕ → Type 0
+CountsOne (Got n) old new = new ≡ old
+CountsOne End old new = new ≡ old
+CountsOne Failed old new = new ≡ one_more old
