@@ -54,3 +54,16 @@ course_then o o' o'' old mid new c d = record {
   update = d.update ∙ c.update;
   rows = d.rows ∙ c.rows;
 }
+
+-- what was done along them
+pub course_one_done : (o o' : Outside) (old new : State) (d : Did) (next : RunNext old d new)
+    (gives : Gives o.reading o'.reading (piece_of d.event)) (gains : Gains o.taken o'.taken (taken_by 1 d.event))
+    (listing : o'.counted.listing ≤ o.counted.listing + d.effect.cost) (update : o'.counted.update ≡ o.counted.update) (rows : o'.counted.rows ≡ o.counted.rows)
+    → (course_one o o' old new d next gives gains listing update rows).done ≡ d ∷ []
+unfolding course_one
+course_one_done o o' old new d next gives gains listing update rows = refl
+
+pub course_then_done : (o o' o'' : Outside) (old mid new : State) (c : Course old o o' mid) (d : Course mid o' o'' new)
+    → (course_then o o' o'' old mid new c d).done ≡ c.done ++ d.done
+unfolding course_then
+course_then_done o o' o'' old mid new c d = refl
