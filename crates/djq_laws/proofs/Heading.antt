@@ -34,8 +34,7 @@ none_give : (st : State) → st.sessions ≡ [] → CursorsGive st
 none_give st none = subst (λ (xs : List Session). All (SessionGives st.store.relations st.store.queries) xs) (sym none) (All-nil (SessionGives st.store.relations st.store.queries))
 
 pub headline : CoursesGive
-headline start before now st none c = record {
-  course = c;
+headline start before now st c none = record {
   sent = ap (λ g. g ++ pending_of st 1) (sym (gone_taken start c.done st c.walk)) ∙ run_bytes 1 start c.done st (next_runs start c.done st c.walk)
       ∙ ap (λ p. p ++ out 1 c.done) (none_pending start none);
   lines = in_order 1 start c.done st (next_runs start c.done st c.walk) (walk_spares start c.done st c.walk);

@@ -15,15 +15,14 @@ RunsGive = (old : State) (done : List Did) (new : State) → Run old done new �
 abbrev pub PassedThrough : State → List Did → State → State → Type 0
 PassedThrough start done mid state = (earlier : List Did) × (later : List Did) × (done ≡ earlier ++ later) × Walk RunNext start earlier mid × Walk RunNext mid later state
 
--- **The headline**, as far as a course went. What the sink gained and what is pending still is all that the run queued, in
--- order. The lines that were taken are those that the bytes fed are cut into, in order. And at each moment each open
--- cursor gives what it should.
-pub record Headline (start : State) (before now : Outside) (state : State) : Type 0 where
-  pub course : Course start before now state
+-- **The headline** of a course, as far as it went. What the sink gained and what is pending still is all that the run
+-- queued, in order. The lines that were taken are those that the bytes fed are cut into, in order. And at each moment each
+-- open cursor gives what it should.
+pub record Headline (start : State) (before now : Outside) (state : State) (course : Course start before now state) : Type 0 where
   pub sent : all_taken 1 course.done ++ pending_of state 1 ≡ out 1 course.done
   pub lines : TakesInOrder 1 start course.done state
   pub cursors : (mid : State) → PassedThrough start course.done mid state → CursorsGive mid
 
 -- Every course from a state in which no session is open has the headline.
 abbrev pub CoursesGive : Type 0
-CoursesGive = (start : State) (before now : Outside) (state : State) → start.sessions ≡ [] → Course start before now state → Headline start before now state
+CoursesGive = (start : State) (before now : Outside) (state : State) (course : Course start before now state) → start.sessions ≡ [] → Headline start before now state course

@@ -174,7 +174,7 @@ pub turns_used : (o o' : Outside) (old new : State) (c : Course old o o' new) �
 turns_used o o' old new c far waits reads writes = record { course = c; stands = inl (waits, far); read_faults = reads; write_faults = writes }
 
 -- Out of memory before anything was done.
-not_begun : (o : Outside) (old new : State) → new ≡ old → RunEnds NoMemory o o old new
+pub not_begun : (o : Outside) (old new : State) → new ≡ old → RunEnds NoMemory o o old new
 not_begun o old new same = record {
   course = subst (λ (st : State). Course old o o st) (sym same) (course_begun o old);
   stands = inr (refl, same);
