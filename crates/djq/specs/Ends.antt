@@ -20,10 +20,11 @@ is_run _ = false
 abbrev pub usage_line : Bytes
 usage_line = line (codes "usage: djq run | serve ADDR [--turns N] | replay | gen N SEED")
 
--- **The theorem of `run`.** There is a run of the join machine from its opening state to this one. The pieces that it was
--- fed are those that were read, in order, and what was read is run and answered before the next read. What was written and
--- then what is pending is all that it queued, in order. No more was counted than it may cost. At each moment of it each
--- open cursor had given different answers of its query over the rows that were there then, and all of them where it was
+-- **The theorem of `run`.** There is a run of the join machine from its opening state to this one.
+-- The pieces that it was fed are those that were read, in order, and what was read is run and
+-- answered before the next read. What was written and then what is pending is all that it queued,
+-- in order. No more was counted than it may cost. At each moment of it each open cursor had given
+-- different answers of its query over the rows that were there then, and all of them where it was
 -- told the end. And the status says exactly how far the run went.
 pub record Serves (status : Status) (before now : Outside) : Type 0 where
   pub state : State
@@ -37,10 +38,12 @@ pub record Writes (before now : Outside) (written : Bytes) : Type 0 where
   pub written_is : Gains before.taken now.taken written
   pub counted : now.counted ≡ before.counted
 
--- Where the words are no command the usage line is written; or a write fails, and a first part of it is.
+-- Where the words are no command the usage line is written; or a write fails, and a first part of
+-- it is.
 abbrev pub Explains : Status → Outside → Outside → Type 0
 Explains Usage before now = Writes before now usage_line × (now.write_faults ≡ before.write_faults)
-Explains WriteFault before now = (n : ℕ) × (n < length usage_line) × Writes before now (take n usage_line) × Counted before.write_faults now.write_faults
+Explains WriteFault before now = (n : ℕ) × (n < length usage_line)
+    × Writes before now (take n usage_line) × Counted before.write_faults now.write_faults
 Explains _ before now = ⊥
 
 -- How the program ends, by the words of its command line.

@@ -9,8 +9,9 @@ use Rattle.djq_laws.specs.Given.{PassedThrough}
 use Rattle.djq_run.specs.declared.status.Status.{Status}
 use Rattle.djq.specs.Ends.{Serves}
 
--- However `run` ends: at each moment of it, a cursor that was open and had been told the end had given a listing of
--- its query: each answer over the rows that were there then, once, and nothing else.
+-- However `run` ends: at each moment of it, a cursor that was open and had been told the end had
+-- given a listing of its query: each answer over the rows that were there then, once, and nothing
+-- else.
 abbrev pub FinishedCursors : Type 0
 FinishedCursors = (status : Status) (before now : Outside) (serves : Serves status before now)
     → (mid : State) → PassedThrough opening serves.run.course.done mid serves.state

@@ -16,8 +16,8 @@ const USAGE: &[u8] = b"usage: djq run | serve ADDR [--turns N] | replay | gen N 
 
 /// Runs the program by the words of its command line, of which the first is its name.
 ///
-/// The one command is `run`, which serves one session from the source to the sink. Other words are answered by the
-/// usage line. The hub stays as it is.
+/// The one command is `run`, which serves one session from the source to the sink. Other words are
+/// answered by the usage line. The hub stays as it is.
 pub fn run_program<S: Source, K: Sink, H: Hub, L: Ledgers>(
     alloc: Global,
     words: &[&str],
@@ -27,8 +27,10 @@ pub fn run_program<S: Source, K: Sink, H: Hub, L: Ledgers>(
     steps: &mut Steps<L>,
 ) -> Status
     ensures ends { ProgramEnds result (map (λ word. word.now) words.entry.now)
-        (outside (S.told source.old) (S.faults source.old) (K.taken sink.old) (K.faults sink.old) (counts steps.old.listing steps.old.update steps.old.rows))
-        (outside (S.told source.new) (S.faults source.new) (K.taken sink.new) (K.faults sink.new) (counts steps.new.listing steps.new.update steps.new.rows)) }
+        (outside (S.told source.old) (S.faults source.old) (K.taken sink.old) (K.faults sink.old)
+            (counts steps.old.listing steps.old.update steps.old.rows))
+        (outside (S.told source.new) (S.faults source.new) (K.taken sink.new) (K.faults sink.new)
+            (counts steps.new.listing steps.new.update steps.new.rows)) }
     ensures hub { hub.new ≡ hub.old }
 {
     if asks_to_run(words) {
@@ -56,8 +58,10 @@ fn serve_source<S: Source, K: Sink, L: Ledgers>(
     steps: &mut Steps<L>,
 ) -> Status
     ensures { Serves result
-        (outside (S.told source.old) (S.faults source.old) (K.taken sink.old) (K.faults sink.old) (counts steps.old.listing steps.old.update steps.old.rows))
-        (outside (S.told source.new) (S.faults source.new) (K.taken sink.new) (K.faults sink.new) (counts steps.new.listing steps.new.update steps.new.rows)) }
+        (outside (S.told source.old) (S.faults source.old) (K.taken sink.old) (K.faults sink.old)
+            (counts steps.old.listing steps.old.update steps.old.rows))
+        (outside (S.told source.new) (S.faults source.new) (K.taken sink.new) (K.faults sink.new)
+            (counts steps.new.listing steps.new.update steps.new.rows)) }
 {
     let Ok(mut machine) = Core::new(alloc) else {
         return Status::NoMemory;
@@ -71,7 +75,8 @@ fn serve_source<S: Source, K: Sink, L: Ledgers>(
 /// Writes the usage line.
 fn explain_usage<K: Sink>(sink: &mut K) -> Status
     ensures { (reading : Option Reading) (faults : ℕ) (counted : Counts) → Explains result
-        (outside reading faults (K.taken sink.old) (K.faults sink.old) counted) (outside reading faults (K.taken sink.new) (K.faults sink.new) counted) }
+        (outside reading faults (K.taken sink.old) (K.faults sink.old) counted)
+        (outside reading faults (K.taken sink.new) (K.faults sink.new) counted) }
 {
     match write_all(sink, USAGE) {
         Written::All => Status::Usage,

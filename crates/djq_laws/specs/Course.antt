@@ -15,11 +15,13 @@ pub record AwaitsInput (x : Session) : Type 0 where
   pub running : x.cause ≡ None
   pub dry : is_dry x.held ≡ true
 
--- What `run` may do next. It opens session 1 first. While bytes are pending it does nothing but write, while a line can be
--- run nothing but run it, and it reads nothing once the session has ended.
+-- What `run` may do next. It opens session 1 first. While bytes are pending it does nothing but
+-- write, while a line can be run nothing but run it, and it reads nothing once the session has
+-- ended.
 abbrev pub MayRun : State → Event → Type 0
 MayRun st (opened s) = (s ≡ 1) × (st.sessions ≡ [])
-MayRun st (fed s bytes) = (s ≡ 1) × (0 < length bytes) × (length bytes ≤ READ_BYTES) × IsSomeAnd (session_of st 1) AwaitsInput
+MayRun st (fed s bytes) = (s ≡ 1) × (0 < length bytes) × (length bytes ≤ READ_BYTES)
+    × IsSomeAnd (session_of st 1) AwaitsInput
 MayRun st (stepped s outcome) = (s ≡ 1) × IsSomeAnd (session_of st 1) (λ x. x.pending ≡ [])
 MayRun st (took s bytes) = (s ≡ 1) × (0 < length bytes)
 MayRun st (ended s) = (s ≡ 1) × IsSomeAnd (session_of st 1) AwaitsInput
@@ -29,8 +31,8 @@ MayRun st (closed s bytes) = ⊥
 abbrev pub RunNext : State → Did → State → Type 0
 RunNext old d new = MayRun old d.event × Step old d.event d.effect new
 
--- All that the outside of the program shows: the source's bytes and pieces and its faults, the sink's bytes and its
--- faults, and what was counted.
+-- All that the outside of the program shows: the source's bytes and pieces and its faults, the
+-- sink's bytes and its faults, and what was counted.
 pub record Outside : Type 0 where
   pub reading : Option Reading
   pub read_faults : ℕ
@@ -43,9 +45,10 @@ abbrev pub outside : Option Reading → ℕ → Option Bytes → ℕ → Counts 
 outside reading read_faults taken write_faults counted =
     record { reading = reading; read_faults = read_faults; taken = taken; write_faults = write_faults; counted = counted }
 
--- A run of the machine, as `run` may make it. The pieces that the session was fed are the pieces that the source gave, in
--- order: what was read is fed, and what it brings about is done before the next read. The sink gained what was taken of
--- the session's pending bytes. And no more lookups and links of listings were counted than the run may cost, and no others.
+-- A run of the machine, as `run` may make it. The pieces that the session was fed are the pieces
+-- that the source gave, in order: what was read is fed, and what it brings about is done before the
+-- next read. The sink gained what was taken of the session's pending bytes. And no more lookups and
+-- links of listings were counted than the run may cost, and no others.
 pub record Course (start : State) (before now : Outside) (state : State) : Type 0 where
   pub done : List Did
   pub walk : Walk RunNext start done state

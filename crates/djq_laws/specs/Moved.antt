@@ -24,20 +24,28 @@ pub record Takes (old new : State) (s : ℕ) (bytes : Bytes) : Type 0 where
   pub held : held_of new s ≡ held_of old s
   pub cause : cause_of new s ≡ cause_of old s
 
--- Bytes of a session come: they are held behind what was, or dropped where it has ended, or it ends out of memory.
+-- Bytes of a session come: they are held behind what was, or dropped where it has ended, or it ends
+-- out of memory.
 pub data Comes (old new : State) (s : ℕ) (bytes : Bytes) : Type 0 where
-  is_held : IsOpen new s → cause_of old s ≡ None → cause_of new s ≡ None → held_of new s ≡ held_of old s ++ bytes
+  is_held : IsOpen new s → cause_of old s ≡ None → cause_of new s ≡ None
+      → held_of new s ≡ held_of old s ++ bytes
       → pending_of new s ≡ pending_of old s → Comes old new s bytes
-  out_of_memory : IsOpen new s → cause_of old s ≡ None → cause_of new s ≡ Some Memory → held_of new s ≡ held_of old s
+  out_of_memory : IsOpen new s → cause_of old s ≡ None → cause_of new s ≡ Some Memory
+      → held_of new s ≡ held_of old s
       → pending_of new s ≡ pending_of old s ++ end_memory → Comes old new s bytes
-  is_dropped : IsOpen new s → (c : EndCause) → cause_of old s ≡ Some c → cause_of new s ≡ Some c → held_of new s ≡ held_of old s
+  is_dropped : IsOpen new s → (c : EndCause) → cause_of old s ≡ Some c → cause_of new s ≡ Some c
+      → held_of new s ≡ held_of old s
       → pending_of new s ≡ pending_of old s → Comes old new s bytes
 
--- The input of a session ends: it keeps what ended it, or that, and a line says so where bytes were held.
+-- The input of a session ends: it keeps what ended it, or that, and a line says so where bytes were
+-- held.
 pub data Ends (old new : State) (s : ℕ) : Type 0 where
-  input_ends : IsOpen new s → cause_of old s ≡ None → cause_of new s ≡ Some Input → held_of new s ≡ held_of old s → is_dry (held_of old s) ≡ true
-      → (pending_of new s ≡ pending_of old s) ⊎ (pending_of new s ≡ pending_of old s ++ input_cut) → Ends old new s
-  had_ended : IsOpen new s → (c : EndCause) → cause_of old s ≡ Some c → cause_of new s ≡ Some c → held_of new s ≡ held_of old s
+  input_ends : IsOpen new s → cause_of old s ≡ None → cause_of new s ≡ Some Input
+      → held_of new s ≡ held_of old s → is_dry (held_of old s) ≡ true
+      → (pending_of new s ≡ pending_of old s) ⊎ (pending_of new s ≡ pending_of old s ++ input_cut)
+      → Ends old new s
+  had_ended : IsOpen new s → (c : EndCause) → cause_of old s ≡ Some c → cause_of new s ≡ Some c
+      → held_of new s ≡ held_of old s
       → pending_of new s ≡ pending_of old s → Ends old new s
 
 -- The causes for which a line that is run ends its session.
@@ -55,7 +63,8 @@ CausedBy (slow l) cause = cause ≡ Some Slow
 CausedBy (no_room l) cause = cause ≡ Some Memory
 CausedBy (run l) cause = IfSome cause EndsByRun
 
--- What is held of a session, before and after its front came to this: the line is gone, where one was taken.
+-- What is held of a session, before and after its front came to this: the line is gone, where one
+-- was taken.
 abbrev pub LeavesHeld : LineOutcome → Bytes → Bytes → Type 0
 LeavesHeld long old new = new ≡ old
 LeavesHeld (blank l) old new = front_of old ≡ a_line l new
@@ -72,20 +81,25 @@ pub record StepsLine (old new : State) (s : ℕ) (outcome : LineOutcome) : Type 
 
 -- A session that is open stays so in every step that doesn't close it.
 abbrev pub StaysOpen : Type 0
-StaysOpen = (old : State) (event : Event) (e : Effect) (new : State) → Step old event e new → (s : ℕ) → Spares event s → IsOpen old s → IsOpen new s
+StaysOpen = (old : State) (event : Event) (e : Effect) (new : State) → Step old event e new
+    → (s : ℕ) → Spares event s → IsOpen old s → IsOpen new s
 
 -- What a step does to a session whose bytes come.
 abbrev pub BytesCome : Type 0
-BytesCome = (old : State) (s : ℕ) (bytes : Bytes) (e : Effect) (new : State) → Step old (fed s bytes) e new → Comes old new s bytes
+BytesCome = (old : State) (s : ℕ) (bytes : Bytes) (e : Effect) (new : State)
+    → Step old (fed s bytes) e new → Comes old new s bytes
 
 -- What a step does to a session whose pending bytes are taken.
 abbrev pub BytesAreTaken : Type 0
-BytesAreTaken = (old : State) (s : ℕ) (bytes : Bytes) (e : Effect) (new : State) → Step old (took s bytes) e new → Takes old new s bytes
+BytesAreTaken = (old : State) (s : ℕ) (bytes : Bytes) (e : Effect) (new : State)
+    → Step old (took s bytes) e new → Takes old new s bytes
 
 -- What a step does to a session whose input ends.
 abbrev pub InputEnds : Type 0
-InputEnds = (old : State) (s : ℕ) (e : Effect) (new : State) → Step old (ended s) e new → Ends old new s
+InputEnds = (old : State) (s : ℕ) (e : Effect) (new : State) → Step old (ended s) e new
+    → Ends old new s
 
 -- What a step does to a session whose line is taken.
 abbrev pub LineIsTaken : Type 0
-LineIsTaken = (old : State) (s : ℕ) (outcome : LineOutcome) (e : Effect) (new : State) → Step old (stepped s outcome) e new → StepsLine old new s outcome
+LineIsTaken = (old : State) (s : ℕ) (outcome : LineOutcome) (e : Effect) (new : State)
+    → Step old (stepped s outcome) e new → StepsLine old new s outcome

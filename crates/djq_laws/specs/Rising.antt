@@ -10,4 +10,5 @@ AreRising st = AllPairs (λ s t. s < t) (ids_of st)
 
 -- Along every run the open sessions stay by rising id.
 abbrev pub IdsRise : Type 0
-IdsRise = (old : State) (done : List Did) (new : State) → Run old done new → AreRising old → AreRising new
+IdsRise = (old : State) (done : List Did) (new : State) → Run old done new → AreRising old
+    → AreRising new

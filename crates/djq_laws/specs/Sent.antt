@@ -16,7 +16,8 @@ gone_by s _ = []
 abbrev pub all_gone : ℕ → List Did → Bytes
 all_gone s done = flat_map (λ d. gone_by s d.event) done
 
--- Along every run, what was taken or dropped of a session's bytes, and then what is pending, is what was pending and all
--- that was queued to it.
+-- Along every run, what was taken or dropped of a session's bytes, and then what is pending, is
+-- what was pending and all that was queued to it.
 abbrev pub SentBytes : Type 0
-SentBytes = (s : ℕ) (old : State) (done : List Did) (new : State) → Run old done new → all_gone s done ++ pending_of new s ≡ pending_of old s ++ out s done
+SentBytes = (s : ℕ) (old : State) (done : List Did) (new : State) → Run old done new
+    → all_gone s done ++ pending_of new s ≡ pending_of old s ++ out s done

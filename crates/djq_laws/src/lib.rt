@@ -51,8 +51,8 @@ pub fn ids_rise()
     ensures { IdsRise }
 {}
 
-/// What was taken or dropped of a session's bytes, and then what is pending, is what was pending and
-/// all that was queued to it, in order: along every run.
+/// What was taken or dropped of a session's bytes, and then what is pending, is what was pending
+/// and all that was queued to it, in order: along every run.
 pub fn sent_bytes()
     ensures { SentBytes }
 {}

@@ -22,7 +22,8 @@ Awaits st = IsSomeAnd (session_of st 1) AwaitsInput
 abbrev pub IsAtEnd : Option Reading → Type 0
 IsAtEnd reading = IfSome reading (λ r. r.left ≡ [])
 
--- The session was ended by the end of its input, with none left and each whole line run; or it asked for the end.
+-- The session was ended by the end of its input, with none left and each whole line run; or it
+-- asked for the end.
 abbrev pub IsWellEnded : Option Reading → State → EndCause → Type 0
 IsWellEnded reading st Input = IsAtEnd reading × (is_dry (held_of st 1) ≡ true)
 IsWellEnded reading st Quit = Unit {0}
@@ -40,13 +41,15 @@ pub record EndedBy (P : EndCause → Type 0) (st : State) : Type 0 where
   pub written : pending_of st 1 ≡ []
   pub cause : IsSomeAnd (cause_of st 1) P
 
--- Some of what was queued isn't written. Where the session's input has ended, the source is at its end.
+-- Some of what was queued isn't written. Where the session's input has ended, the source is at its
+-- end.
 pub record IsUnsent (reading : Option Reading) (st : State) : Type 0 where
   pub some : 0 < length (pending_of st 1)
   pub at_end : cause_of st 1 ≡ Some Input → IsAtEnd reading
 
--- What each status says of the state that the run led to, of the bytes that were fed on its way, and of what is left. The
--- kinds shut one another out, so each status comes exactly where what it says holds.
+-- What each status says of the state that the run led to, of the bytes that were fed on its way,
+-- and of what is left. With the counts of faults these shut one another out, so each status comes
+-- exactly where what it says holds.
 abbrev pub Stands : Status → Bytes → Option Reading → State → Type 0
 Stands Done fed reading st = EndedBy (IsWellEnded reading st) st
 Stands SessionEnded fed reading st = EndedBy IsCutOff st
@@ -58,7 +61,8 @@ Stands Usage fed reading st = ⊥
 Stands HubFault fed reading st = ⊥
 Stands (Schedule n) fed reading st = ⊥
 
--- The first fault of the source ends the run with its status; under every other status there was none.
+-- The first fault of the source ends the run with its status; under every other status there was
+-- none.
 abbrev pub ReadsCount : Status → ℕ → ℕ → Type 0
 ReadsCount ReadFault before now = Counted before now
 ReadsCount _ before now = now ≡ before
@@ -73,9 +77,11 @@ abbrev pub NothingDone : Status → Outside → Outside → State → State → 
 NothingDone NoMemory before now start state = (now ≡ before) × (state ≡ start)
 NothingDone _ before now start state = ⊥
 
--- How a run ends: by which course it came to its last state, what the status says of that, and which faults there were.
+-- How a run ends: by which course it came to its last state, what the status says of that, and
+-- which faults there were.
 pub record RunEnds (status : Status) (before now : Outside) (start state : State) : Type 0 where
   pub course : Course start before now state
-  pub stands : Stands status (all_fed 1 course.done) now.reading state ⊎ NothingDone status before now start state
+  pub stands : Stands status (all_fed 1 course.done) now.reading state
+      ⊎ NothingDone status before now start state
   pub read_faults : ReadsCount status before.read_faults now.read_faults
   pub write_faults : WritesCount status before.write_faults now.write_faults

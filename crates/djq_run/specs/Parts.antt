@@ -20,7 +20,8 @@ with_sink o taken faults counted = record o { taken = taken; write_faults = faul
 
 -- The first bytes that are pending are taken, where there are any.
 abbrev pub TakesFirst : ℕ → State → State → Type 0
-TakesFirst n old new = ((n ≡ 0) × (new ≡ old)) ⊎ ((0 < n) × Makes old (took 1 (take n (pending_of old 1))) new)
+TakesFirst n old new = ((n ≡ 0) × (new ≡ old))
+    ⊎ ((0 < n) × Makes old (took 1 (take n (pending_of old 1))) new)
 
 -- What is left pending by a flush: nothing where all was written, and else something.
 abbrev pub LeavesPending : Bool → Bytes → Type 0
@@ -33,8 +34,10 @@ FlushCounts true before now = now ≡ before
 FlushCounts false before now = Counted before now
 
 -- A flush changes nothing of the session but what is pending.
-pub record Flushed (whole : Bool) (taken : Option Bytes) (count : ℕ) (old : State) (taken' : Option Bytes) (count' : ℕ) (new : State) : Type 0 where
-  pub course : (o : Outside) → Course old (with_sink o taken count o.counted) (with_sink o taken' count' o.counted) new
+pub record Flushed (whole : Bool) (taken : Option Bytes) (count : ℕ) (old : State)
+    (taken' : Option Bytes) (count' : ℕ) (new : State) : Type 0 where
+  pub course : (o : Outside)
+      → Course old (with_sink o taken count o.counted) (with_sink o taken' count' o.counted) new
   pub is_open : IsOpen new 1
   pub held : held_of new 1 ≡ held_of old 1
   pub cause : cause_of new 1 ≡ cause_of old 1
@@ -44,8 +47,10 @@ pub record Flushed (whole : Bool) (taken : Option Bytes) (count : ℕ) (old : St
 -- What the session has come to. Running lines doesn't end its input.
 abbrev pub Serves : Served → State → State → Type 0
 Serves AwaitsInput old new = Awaits new
-Serves (Ended c) old new = (cause_of new 1 ≡ Some c) × (pending_of new 1 ≡ []) × (c ≡ Input → cause_of old 1 ≡ Some Input)
-Serves WriteFault old new = (0 < length (pending_of new 1)) × (cause_of new 1 ≡ Some Input → cause_of old 1 ≡ Some Input)
+Serves (Ended c) old new = (cause_of new 1 ≡ Some c) × (pending_of new 1 ≡ [])
+    × (c ≡ Input → cause_of old 1 ≡ Some Input)
+Serves WriteFault old new = (0 < length (pending_of new 1))
+    × (cause_of new 1 ≡ Some Input → cause_of old 1 ≡ Some Input)
 
 -- The count of the sink's faults rises where a write failed alone.
 abbrev pub WritesCount : Served → ℕ → ℕ → Type 0
@@ -63,10 +68,14 @@ status_of (Ended Slow) = Some SessionEnded
 status_of (Ended Memory) = Some NoMemory
 status_of WriteFault = Some StatusWriteFault
 
--- A read goes on to where input may come, with a byte fed at least and no fault; or it ends the run.
+-- A read goes on to where input may come, with a byte fed at least and no fault; or it ends the
+-- run.
 abbrev pub GoesOn : Option Status → Bytes → Outside → Outside → State → Type 0
-GoesOn None fed before now new = Awaits new × (1 ≤ length fed) × (now.read_faults ≡ before.read_faults) × (now.write_faults ≡ before.write_faults)
-GoesOn (Some status) fed before now new = Stands status fed now.reading new × ReadsCount status before.read_faults now.read_faults × StatusCount status before.write_faults now.write_faults
+GoesOn None fed before now new = Awaits new × (1 ≤ length fed)
+    × (now.read_faults ≡ before.read_faults) × (now.write_faults ≡ before.write_faults)
+GoesOn (Some status) fed before now new = Stands status fed now.reading new
+    × ReadsCount status before.read_faults now.read_faults
+    × StatusCount status before.write_faults now.write_faults
 
 -- What a read comes to.
 pub record ReadEnds (status : Option Status) (before now : Outside) (old new : State) : Type 0 where

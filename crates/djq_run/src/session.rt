@@ -59,8 +59,10 @@ pub fn run_session<M: Machine, S: Source, K: Sink, L: Ledgers>(
     requires most { length buffer.old ≤ READ_BYTES }
     requires alone { (M.state machine.old).sessions ≡ [] }
     ensures { RunEnds result
-        (outside (S.told source.old) (S.faults source.old) (K.taken sink.old) (K.faults sink.old) (counts steps.old.listing steps.old.update steps.old.rows))
-        (outside (S.told source.new) (S.faults source.new) (K.taken sink.new) (K.faults sink.new) (counts steps.new.listing steps.new.update steps.new.rows))
+        (outside (S.told source.old) (S.faults source.old) (K.taken sink.old) (K.faults sink.old)
+            (counts steps.old.listing steps.old.update steps.old.rows))
+        (outside (S.told source.new) (S.faults source.new) (K.taken sink.new) (K.faults sink.new)
+            (counts steps.new.listing steps.new.update steps.new.rows))
         (M.state machine.old) (M.state machine.new) }
 {
     if machine.open_session(ID).is_err() {
@@ -86,8 +88,10 @@ fn serve_read<M: Machine, S: Source, K: Sink, L: Ledgers>(
     requires most { length buffer.old ≤ READ_BYTES }
     requires awaits { Awaits (M.state machine.old) }
     ensures { ReadEnds result
-        (outside (S.told source.old) (S.faults source.old) (K.taken sink.old) (K.faults sink.old) (counts steps.old.listing steps.old.update steps.old.rows))
-        (outside (S.told source.new) (S.faults source.new) (K.taken sink.new) (K.faults sink.new) (counts steps.new.listing steps.new.update steps.new.rows))
+        (outside (S.told source.old) (S.faults source.old) (K.taken sink.old) (K.faults sink.old)
+            (counts steps.old.listing steps.old.update steps.old.rows))
+        (outside (S.told source.new) (S.faults source.new) (K.taken sink.new) (K.faults sink.new)
+            (counts steps.new.listing steps.new.update steps.new.rows))
         (M.state machine.old) (M.state machine.new) }
 {
     match source.read(buffer) {
@@ -107,7 +111,8 @@ fn serve_read<M: Machine, S: Source, K: Sink, L: Ledgers>(
     }
 }
 
-/// Runs the whole lines that the session holds. What is pending is written first and after each line.
+/// Runs the whole lines that the session holds. What is pending is written first and after each
+/// line.
 fn serve_held<M: Machine, K: Sink, L: Ledgers>(
     machine: &mut M,
     sink: &mut K,
@@ -115,8 +120,10 @@ fn serve_held<M: Machine, K: Sink, L: Ledgers>(
 ) -> Served
     requires { IsOpen (M.state machine.old) 1 }
     ensures course { (o : Outside) → Course (M.state machine.old)
-        (with_sink o (K.taken sink.old) (K.faults sink.old) (counts steps.old.listing steps.old.update steps.old.rows))
-        (with_sink o (K.taken sink.new) (K.faults sink.new) (counts steps.new.listing steps.new.update steps.new.rows)) (M.state machine.new) }
+        (with_sink o (K.taken sink.old) (K.faults sink.old)
+            (counts steps.old.listing steps.old.update steps.old.rows))
+        (with_sink o (K.taken sink.new) (K.faults sink.new)
+            (counts steps.new.listing steps.new.update steps.new.rows)) (M.state machine.new) }
     ensures serves { Serves result (M.state machine.old) (M.state machine.new) }
     ensures faults { WritesCount result (K.faults sink.old) (K.faults sink.new) }
 {
@@ -138,7 +145,8 @@ fn serve_held<M: Machine, K: Sink, L: Ledgers>(
 /// Writes what is pending for the session, and tells whether all of it was taken.
 fn flush<M: Machine, K: Sink>(machine: &mut M, sink: &mut K) -> bool
     requires { IsOpen (M.state machine.old) 1 }
-    ensures { Flushed result (K.taken sink.old) (K.faults sink.old) (M.state machine.old) (K.taken sink.new) (K.faults sink.new) (M.state machine.new) }
+    ensures { Flushed result (K.taken sink.old) (K.faults sink.old) (M.state machine.old)
+        (K.taken sink.new) (K.faults sink.new) (M.state machine.new) }
 {
     let pending = machine.pending(ID);
     let whole = pending.len();
