@@ -1,0 +1,289 @@
+#!/usr/bin/env python3
+"""Tests of the built program from outside, over real pipes and devices: what no contract can name.
+
+    tests/program.py PATH_TO_DJQ
+
+It needs Python's standard library alone. One line is printed for each test that fails, and last
+`N passed, N failed`; the status is 0 where none failed.
+"""
+
+import os
+import select
+import subprocess
+import sys
+import time
+import traceback
+
+# the most seconds that a reply or an end is waited for
+PATIENCE = 20
+
+USAGE = b"usage: djq run | serve ADDR [--turns N] | replay | gen N SEED\n"
+
+# A session with each command, and what it is answered.
+SESSION = [
+    (b"rel r int int", [b"ok"]),
+    (b"add r 1 2", [b"ok added 1"]),
+    (b"add r 3 4", [b"ok added 2"]),
+    (b"add r 1 2", [b"ok same 2"]),
+    (b"del r 3 4", [b"ok removed 3"]),
+    (b"query q(x,y) <- r(x,y)", [b"ok query 5"]),
+    (b"open c q", [b"ok open"]),
+    (b"next c 2", [b"= 1 2", b"end"]),
+    (b"next c 2", [b"end"]),
+    (b"close c", [b"ok"]),
+    (b"close c", [b"err 5 no cursor"]),
+]
+
+TESTS = []
+
+
+def test(function):
+    TESTS.append(function)
+    return function
+
+
+def lines_of(session, end=b"\n"):
+    return b"".join(line + end for line, _ in session)
+
+
+def replies_of(session):
+    return b"".join(reply + b"\n" for _, replies in session for reply in replies)
+
+
+def expect(got, want, what=""):
+    if got != want:
+        raise AssertionError(f"{what}: got {got!r}, want {want!r}")
+
+
+def run(text, words=("run",)):
+    """What the program writes for an input, and its status."""
+    done = subprocess.run([PROGRAM, *words], input=text, capture_output=True, timeout=PATIENCE * 3)
+    expect(done.stderr, b"", "standard error")
+    return done.stdout, done.returncode
+
+
+def expect_run(text, output, status=0):
+    expect(run(text), (output, status), text[:60])
+
+
+class Talk:
+    """A program that is talked to line by line."""
+
+    def __enter__(self):
+        self.program = subprocess.Popen([PROGRAM, "run"], stdin=subprocess.PIPE, stdout=subprocess.PIPE, bufsize=0)
+        self.heard = b""
+        return self
+
+    def __exit__(self, *_):
+        self.program.kill()
+        self.program.wait()
+        self.program.stdin.close()
+        self.program.stdout.close()
+
+    def say(self, text):
+        self.program.stdin.write(text)
+
+    def hear(self, count):
+        """As many bytes, which have to come without a further word."""
+        until = time.monotonic() + PATIENCE
+        while len(self.heard) < count:
+            ready, _, _ = select.select([self.program.stdout], [], [], max(0, until - time.monotonic()))
+            if not ready:
+                raise AssertionError(f"no reply: heard {self.heard!r}")
+            piece = os.read(self.program.stdout.fileno(), 65536)
+            if piece == b"":
+                raise AssertionError(f"the output ended: heard {self.heard!r}")
+            self.heard += piece
+        heard, self.heard = self.heard[:count], self.heard[count:]
+        return heard
+
+    def hears_nothing(self, seconds=0.2):
+        ready, _, _ = select.select([self.program.stdout], [], [], seconds)
+        if ready or self.heard:
+            raise AssertionError("a reply before its line ended")
+
+    def end(self):
+        self.program.stdin.close()
+        rest = self.program.stdout.read()
+        return self.heard + rest, self.program.wait(PATIENCE)
+
+
+@test
+def a_session_in_one_piece():
+    expect_run(lines_of(SESSION), replies_of(SESSION))
+
+
+@test
+def a_session_with_cr_before_each_lf():
+    expect_run(lines_of(SESSION, b"\r\n"), replies_of(SESSION))
+
+
+@test
+def a_session_in_single_bytes():
+    with Talk() as talk:
+        for byte in lines_of(SESSION):
+            talk.say(bytes([byte]))
+        expect(talk.end(), (replies_of(SESSION), 0))
+
+
+@test
+def each_reply_comes_before_the_next_line_is_sent():
+    with Talk() as talk:
+        for line, replies in SESSION:
+            want = b"".join(reply + b"\n" for reply in replies)
+            talk.say(line + b"\n")
+            expect(talk.hear(len(want)), want, line)
+        expect(talk.end(), (b"", 0))
+
+
+@test
+def lines_that_come_together_are_answered_together():
+    with Talk() as talk:
+        talk.say(lines_of(SESSION))
+        expect(talk.hear(len(replies_of(SESSION))), replies_of(SESSION))
+        expect(talk.end(), (b"", 0))
+
+
+@test
+def a_line_is_answered_once_its_end_comes():
+    with Talk() as talk:
+        talk.say(b"rel r ")
+        talk.hears_nothing()
+        talk.say(b"int\nadd r")
+        expect(talk.hear(3), b"ok\n")
+        talk.hears_nothing()
+        talk.say(b" 7\n")
+        expect(talk.hear(11), b"ok added 1\n")
+        expect(talk.end(), (b"", 0))
+
+
+@test
+def nothing_is_answered_to_nothing():
+    expect_run(b"", b"")
+    expect_run(b"\n\n   \n", b"")
+
+
+@test
+def a_line_that_the_input_cuts_is_not_run():
+    expect_run(b"rel r int\nadd r 1", b"ok\nerr 13 cut\n")
+    expect_run(b"rel r int\n ", b"ok\nerr 13 cut\n")
+
+
+@test
+def quit_and_stop_end_the_session():
+    for word in [b"quit", b"stop"]:
+        expect_run(word + b"\nrel r int\n", b"bye\n")
+        with Talk() as talk:
+            talk.say(word + b"\n")
+            expect(talk.hear(4), b"bye\n")
+            expect(talk.program.wait(PATIENCE), 0, word)
+
+
+@test
+def a_line_of_4096_bytes_is_run_and_one_more_ends_the_session():
+    expect_run(b"rel r int" + b" " * 4087 + b"\n", b"ok\n")
+    expect_run(b"rel r int" + b" " * 4087 + b"\r\n", b"ok\n")
+    expect_run(b"rel r int" + b" " * 4088 + b"\nrel s int\n", b"end long\n", 8)
+    with Talk() as talk:
+        talk.say(b"x" * 4097)
+        expect(talk.hear(9), b"end long\n")
+        expect(talk.program.wait(PATIENCE), 8)
+
+
+@test
+def a_cursor_goes_stale_and_says_so():
+    text = b"rel r int\nrel t int\nquery q(x) <- r(x)\nadd r 1\nadd r 2\nopen c q\nnext c 1\nadd r 1\nadd t 5\nnext c 1\nadd r 3\nnext c 1\nnext c 1\n"
+    got, status = run(text)
+    lines = got.decode().splitlines()
+    expect(status, 0)
+    expect(sorted([lines.pop(6), lines.pop(9)]), ["= 1", "= 2"], lines)
+    expect(lines, ["ok", "ok", "ok query 3", "ok added 1", "ok added 2", "ok open", "more", "ok same 2",
+                   "ok added 3", "end", "ok added 4", "stale c r 4", "stale c r 4"])
+
+
+@test
+def a_long_listing_comes_whole():
+    count = 1000
+    text = b"rel r int int\n" + b"".join(b"add r %d %d\n" % (i, -i) for i in range(count))
+    text += b"query q(y,x) <- r(x,y)\nopen c q\nnext c 1\nnext c 1000\nnext c 1000\n"
+    got, status = run(text)
+    lines = got.decode().splitlines()
+    expect(status, 0)
+    expect(lines[: count + 3], ["ok"] + [f"ok added {i + 1}" for i in range(count)] + ["ok query 5", "ok open"])
+    told = lines[count + 3:]
+    expect([told[1], told[-2], told[-1]], ["more", "end", "end"])
+    answers = [told[0]] + told[2:-2]
+    expect(sorted(answers), sorted(f"= {-i} {i}" for i in range(count)))
+
+
+@test
+def limits_are_reached_without_running_out_of_memory():
+    text = b"".join(b"rel r%d int\n" % i for i in range(257)) + b"query q(x) <- r0(x)\n"
+    text += b"".join(b"query q%d(x) <- r1(x)\n" % i for i in range(256))
+    text += b"".join(b"open c%d q\n" % i for i in range(17))
+    expect_run(text, b"ok\n" * 256 + b"err 11 limit\n" + b"ok query 3\n" * 256 + b"err 11 limit\n"
+               + b"ok open\n" * 16 + b"err 11 limit\n")
+
+
+@test
+def other_words_get_the_usage_line():
+    for words in [(), ("fly",), ("run", "run"), ("--help",), ("--version",), ("help",), ("RUN",)]:
+        expect(run(b"rel r int\n", words), (USAGE, 1), words)
+
+
+@test
+def a_full_device_is_a_failed_write():
+    with open("/dev/full", "wb") as full:
+        for words, text in [(["run"], b"rel r int\n"), (["fly"], b"")]:
+            done = subprocess.run([PROGRAM, *words], input=text, stdout=full, timeout=PATIENCE)
+            expect(done.returncode, 3, words)
+
+
+@test
+def an_output_that_nobody_reads_is_a_failed_write():
+    program = subprocess.Popen([PROGRAM, "run"], stdin=subprocess.PIPE, stdout=subprocess.PIPE, bufsize=0)
+    program.stdout.close()
+    program.stdin.write(b"rel r int\n")
+    expect(program.wait(PATIENCE), 3)
+    program.stdin.close()
+
+
+@test
+def an_input_that_cannot_be_read_is_a_failed_read():
+    folder = os.open("/", os.O_RDONLY)
+    try:
+        done = subprocess.run([PROGRAM, "run"], stdin=folder, capture_output=True, timeout=PATIENCE)
+    finally:
+        os.close(folder)
+    expect((done.stdout, done.returncode), (b"", 2))
+
+
+@test
+def a_closed_output_is_a_failed_write():
+    done = subprocess.run(["sh", "-c", 'exec "$0" run >&-', PROGRAM], input=b"rel r int\n", timeout=PATIENCE)
+    expect(done.returncode, 3)
+
+
+@test
+def a_closed_input_is_a_failed_read():
+    done = subprocess.run(["sh", "-c", 'exec "$0" run <&-', PROGRAM], capture_output=True, timeout=PATIENCE)
+    expect((done.stdout, done.returncode), (b"", 2))
+
+
+def main():
+    failed = 0
+    for function in TESTS:
+        try:
+            function()
+        except Exception:
+            failed += 1
+            print(f"{function.__name__}: {traceback.format_exc(limit=-1)}")
+    print(f"{len(TESTS) - failed} passed, {failed} failed")
+    return 1 if failed else 0
+
+
+if __name__ == "__main__":
+    if len(sys.argv) != 2:
+        raise SystemExit(__doc__)
+    PROGRAM = os.path.abspath(sys.argv[1])
+    sys.exit(main())
