@@ -6,17 +6,6 @@ use Rattle.std.proofs.lemmas.List.Sums.{sum_by-cons}
 use Rattle.std.proofs.lemmas.Bool.Decides.{nat_tests}
 use Rattle.djq_io.specs.Failing.{is_due, after_call, failed_count, CountsDown}
 
--- One more of the calls is counted down.
-more_counted : (calls : List ℕ) (i : ℕ) → i < length calls
-    → set (after_call (take i calls) ++ drop i calls) i (get_or (after_call (take i calls) ++ drop i calls) i 0 - 1) ≡ after_call (take (suc i) calls) ++ drop (suc i) calls
-more_counted [] i within = absurd (omega arith)
-more_counted (call ∷ calls) zero within = refl
-more_counted (call ∷ calls) (suc i) within = ap (λ rest. (call - 1) ∷ rest) (more_counted calls i (omega arith))
-
-pub counted_more : (now calls : List ℕ) (i : ℕ) → i < length calls → now ≡ after_call (take i calls) ++ drop i calls
-    → set now i (get_or now i 0 - 1) ≡ after_call (take (i + 1) calls) ++ drop (i + 1) calls
-counted_more now calls i within is = rw (is, add-one) (more_counted calls i within)
-
 -- how many of the calls are the next one
 abbrev due_count : List ℕ → ℕ
 due_count calls = count_by (λ call. nat_eq call 1) calls

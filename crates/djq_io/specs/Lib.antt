@@ -1,9 +1,15 @@
 pub mod Faults
 pub mod Failing
+pub mod FailingSends
 pub mod Source
 pub mod Sink
 pub mod Written
 pub mod Hub
+pub mod Script
+pub mod Sessions
+pub mod SessionsInside
+pub mod ScriptQueue
+pub mod HubFaults
 pub mod MemSource
 pub mod MemSink
 pub mod MemHub

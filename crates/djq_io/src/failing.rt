@@ -1,5 +1,6 @@
 ghost use Rattle.std.specs.Prelude.{◌≡◌, ◌<◌, [], ◌∷◌, ◌++◌, OnOk, OnErr};
 ghost use Rattle.djq_io.specs.Failing.{is_due, after_call, CountsDown};
+ghost use Rattle.djq_io.specs.FailingSends.{is_send_due, one_after_send, after_send, CountsSends};
 
 use std::alloc::{AllocError, Global};
 use std::marker::Model;
@@ -50,6 +51,78 @@ impl Failing {
         let due = self.calls.contains(&1);
         for call in self.calls.iter_mut() {
             *call = call.saturating_sub(1);
+        }
+        due
+    }
+}
+
+/// A send that is to fail: to which session, and as which of the sends to it from now on, or 0 where
+/// it has failed.
+#[derive(Clone, Copy, Debug, Drop)]
+pub struct FailingSend {
+    pub id: u64,
+    pub send: u64,
+}
+
+impl FailingSend {
+    /// The same after a send to this session.
+    fn after_send(self, id: u64) -> Self
+        ensures { result ≡ one_after_send id self }
+    {
+        if self.id == id {
+            FailingSend {
+                id,
+                send: self.send.saturating_sub(1),
+            }
+        } else {
+            self
+        }
+    }
+}
+
+/// The sends of a hub that are to fail. One that has failed stays, as in [`Failing`].
+#[derive(Debug, Drop)]
+pub(crate) struct FailingSends {
+    sends: Vec<FailingSend>,
+}
+
+impl Model for FailingSends {
+    ghost use Rattle.std.specs.Prelude.{List};
+    ghost use Rattle.djq_io.specs.declared.failing.FailingSend.{FailingSend};
+
+    ghost Value = { List FailingSend };
+
+    ghost view = { λ f. f.sends.items };
+}
+
+impl FailingSends {
+    /// No send is to fail.
+    pub(crate) fn new(alloc: Global) -> Self
+        ensures { result ≡ [] }
+    {
+        FailingSends {
+            sends: Vec::new(alloc),
+        }
+    }
+
+    /// Lets a further send fail.
+    pub(crate) fn push(&mut self, send: FailingSend) -> Result<(), AllocError>
+        ensures ok { OnOk result (self.new ≡ self.old ++ send ∷ []) }
+        ensures err { OnErr result (self.new ≡ self.old) }
+    {
+        self.sends.push(send)?;
+        Ok(())
+    }
+
+    /// Counts a send to this session. Says whether it is to fail.
+    pub(crate) fn count_down(&mut self, id: u64) -> bool
+        ensures due { result ≡ is_send_due id self.old }
+        ensures counted { self.new ≡ after_send id self.old }
+        ensures faults { CountsSends result id self.old self.new }
+    {
+        let due = self.sends.iter().any(|f| f.id == id && f.send == 1);
+        for f in self.sends.iter_mut() {
+            *f = f.after_send(id);
         }
         due
     }

@@ -1,3 +1,4 @@
+use crate::id_list::IdList;
 use crate::piece::Piece;
 
 /// The answer to a request to listen.
@@ -24,6 +25,26 @@ pub enum Turn {
     Failed,
 }
 
+/// What a turn of a script brings.
+#[derive(Debug, Drop)]
+pub enum Incoming {
+    /// A new session.
+    Opens(u64),
+    /// Bytes of a session.
+    Brings(u64, Piece),
+    /// The end of a session's input.
+    Ends(u64),
+    /// Nothing.
+    Nothing,
+}
+
+/// A turn of a script, and the ids whose sends answer `Again` from then on to the next turn.
+#[derive(Debug, Drop)]
+pub struct Coming {
+    pub turn: Incoming,
+    pub blocked: IdList,
+}
+
 /// The answer to a send.
 #[derive(Clone, Copy, Debug, PartialEq, Eq)]
 pub enum Sent {
@@ -36,7 +57,7 @@ pub enum Sent {
 }
 
 /// A call of a hub and its answer, as its past has them.
-#[derive(Drop)]
+#[derive(Debug, Drop)]
 pub enum Told {
     /// It was asked to listen at an address.
     Listening(Piece, Listened),
@@ -50,10 +71,11 @@ pub enum Told {
 
 /// Sessions that open, bring bytes, take bytes and end.
 pub trait Hub {
-    ghost use Rattle.std.specs.Prelude.{◌≡◌, ℕ, ◌<◌, ◌≤◌, List, [], ◌∷◌, length, Contains, Option};
-    ghost use Rattle.djq_io.specs.Faults.{Rose};
+    ghost use Rattle.std.specs.Prelude.{◌≡◌, ℕ, ◌<◌, List, [], ◌∷◌, length, Contains, Option};
     ghost use Rattle.djq_io.specs.Sink.{Gains};
-    ghost use Rattle.djq_io.specs.Hub.{Ids, Script, WhereTold, Follows, Turns, Takes, Sends, NoneFalls, brought, taken_by, without};
+    ghost use Rattle.djq_io.specs.Hub.{Ids, Turns, Takes, brought, taken_by, without};
+    ghost use Rattle.djq_io.specs.HubFaults.{CountsListen, CountsTurn, SameCounts, CountsInTurn, CountsSend};
+    ghost use Rattle.djq_io.specs.Script.{Script, WhereTold, Follows, Sends};
     ghost use Rattle.djq_io.specs.declared.hub.Told.{Told};
 
     // The turns to come and who is blocked, where the hub tells them.
@@ -76,19 +98,17 @@ pub trait Hub {
         ensures past { Gains (past self.old) (past self.new) (Told.Listening addr.now result ∷ []) }
         ensures script { WhereTold (script self.old) (script self.new) (λ old new. new ≡ old) }
         ensures ids { ids self.new ≡ ids self.old }
-        ensures failed { result ≡ Listened.Failed → Rose (faults self.old) (faults self.new) }
-        ensures later { faults self.old ≤ faults self.new }
-        ensures sessions { NoneFalls (ids self.new).open_ids (session_faults self.old) (session_faults self.new) };
+        ensures faults { CountsListen result (faults self.old) (faults self.new) }
+        ensures sessions { SameCounts (ids self.old).open_ids (session_faults self.old) (session_faults self.new) };
 
     /// Waits for the next thing to come. Bytes stand at the start of the buffer.
     fn turn(&mut self, buf: &mut [u8]) -> Turn
         requires { 0 < length buf.old }
         ensures past { Gains (past self.old) (past self.new) (Told.Turning result (brought result buf.new) ∷ []) }
-        ensures script { WhereTold (script self.old) (script self.new) (Follows (ids self.old).open_ids result buf.new) }
+        ensures script { WhereTold (script self.old) (script self.new) (Follows (ids self.old) result buf.new) }
         ensures ids { Turns result (length buf.new) (ids self.old) (ids self.new) }
-        ensures failed { result ≡ Turn.Failed → Rose (faults self.old) (faults self.new) }
-        ensures later { faults self.old ≤ faults self.new }
-        ensures sessions { NoneFalls (ids self.old).open_ids (session_faults self.old) (session_faults self.new) };
+        ensures faults { CountsTurn result (faults self.old) (faults self.new) }
+        ensures sessions { CountsInTurn result (ids self.old).open_ids (session_faults self.old) (session_faults self.new) };
 
     /// Sends a first part of the piece to an open session.
     fn send(&mut self, id: u64, piece: &[u8]) -> Sent
@@ -98,9 +118,8 @@ pub trait Hub {
         ensures past { Gains (past self.old) (past self.new) (Told.Sending id result (taken_by result piece.now) ∷ []) }
         ensures script { WhereTold (script self.old) (script self.new) (Sends id result) }
         ensures ids { ids self.new ≡ ids self.old }
-        ensures gone { result ≡ Sent.Gone → Rose (session_faults self.old id) (session_faults self.new id) }
         ensures faults { faults self.new ≡ faults self.old }
-        ensures sessions { NoneFalls (ids self.new).open_ids (session_faults self.old) (session_faults self.new) };
+        ensures sessions { CountsSend result id (ids self.old).open_ids (session_faults self.old) (session_faults self.new) };
 
     /// Closes an open session.
     fn close(&mut self, id: u64)
@@ -109,5 +128,5 @@ pub trait Hub {
         ensures script { WhereTold (script self.old) (script self.new) (λ old new. new ≡ old) }
         ensures ids { ids self.new ≡ without (ids self.old) id }
         ensures faults { faults self.new ≡ faults self.old }
-        ensures sessions { NoneFalls (ids self.new).open_ids (session_faults self.old) (session_faults self.new) };
+        ensures sessions { SameCounts (ids self.new).open_ids (session_faults self.old) (session_faults self.new) };
 }

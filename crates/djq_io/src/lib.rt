@@ -19,22 +19,27 @@
 
 mod failing;
 mod hub;
+mod id_list;
 mod mem_hub;
 mod mem_sink;
 mod mem_source;
 mod piece;
 mod recording;
+mod script;
+mod sessions;
 mod sink;
 mod source;
 mod std_sink;
 mod std_source;
 
-pub use failing::Failing;
-pub use hub::{Hub, Listened, Sent, Told, Turn};
-pub use mem_hub::MemHub;
+pub use failing::{Failing, FailingSend};
+pub use hub::{Coming, Hub, Incoming, Listened, Sent, Told, Turn};
+pub use id_list::IdList;
+pub use mem_hub::{HubCall, MemHub};
 pub use mem_sink::MemSink;
 pub use mem_source::MemSource;
 pub use piece::Piece;
+pub use sessions::Sessions;
 pub use sink::{Sink, Written, Wrote, write_all};
 pub use source::{Read, Source};
 pub use std_sink::StdSink;

@@ -1,8 +1,8 @@
-ghost use Rattle.std.specs.Prelude.{◌≡◌, [], ◌∷◌, Some, None};
+ghost use Rattle.std.specs.Prelude.{◌≡◌, [], ◌∷◌, Some, None, MatchResult};
 ghost use Rattle.std.specs.Option.{option_copied};
 ghost use Rattle.djq_io.specs.Sink.{Gains};
 
-use std::alloc::Global;
+use std::alloc::{AllocError, Global};
 use std::marker::Model;
 
 /// What an object in memory went through, in order, seen as that list, or as `None` once it is
@@ -54,11 +54,14 @@ impl<T: Drop> Recording<T> {
         }
     }
 
-    /// Loses it.
-    pub fn lose(&mut self)
-        ensures { self.new ≡ None }
+    /// Puts one more at the end, or loses all where there was no memory to make it.
+    pub fn push_made(&mut self, item: Result<T, AllocError>)
+        ensures { MatchResult item (λ made. Gains self.old self.new (made ∷ [])) (λ _. self.new ≡ None) }
     {
-        self.lost = true;
+        match item {
+            Ok(made) => self.push(made),
+            Err(_) => self.lost = true,
+        }
     }
 }
 

@@ -1,11 +1,12 @@
-use Rattle.std.proofs.Common.{rules, arith, ◌++◌, length, take, drop}
+use Rattle.std.proofs.Common.{rules, arith, ◌-◌, ◌++◌, length, take, drop}
 use Rattle.std.proofs.lemmas.Grind.{common_steps}
-use Rattle.djq_io.proofs.Counting.{counted_more, counts_down}
+use Rattle.djq_io.proofs.Counting.{counts_down}
+use Rattle.djq_io.proofs.Mapping.{mapped_more}
 use Rattle.djq_io.proofs.failing.Failing.count_down.Goals as goal
 
 -- One more of the calls is counted down.
 pub loop-call-preserved : goal.loop-call-preserved
-loop-call-preserved c = rw c.saturating_sub.ensures (counted_more _ _ _ (omega arith) c.loop-call.invariant)
+loop-call-preserved c = mapped_more (λ call. call - 1) _ _ _ 0 _ (omega arith) c.loop-call.invariant c.saturating_sub.ensures
 
 -- The calls at the end are all counted down.
 pub returns-clause-faults : goal.returns-clause-faults

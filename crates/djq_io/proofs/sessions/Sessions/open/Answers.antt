@@ -1,0 +1,16 @@
+use Rattle.std.proofs.Common.{rules, arith, ◌≡◌, ◌∷◌, [], ◌++◌, ap, sym, false}
+use Rattle.std.proofs.lemmas.Grind.{common_steps}
+use Rattle.djq_io.specs.declared.sessions.Session.{Session}
+use Rattle.djq_io.specs.Sessions.{Places, faults_of}
+use Rattle.djq_io.specs.HubFaults.{SameCounts}
+use Rattle.djq_io.specs.SessionsInside.{open_in, counts_in}
+use Rattle.djq_io.proofs.FaultsOf.{faults_after_push}
+use Rattle.djq_io.proofs.sessions.Sessions.open.Goals as goal
+
+-- The counts of the sessions before it stay.
+pub returns-clause-faults : goal.returns-clause-faults
+returns-clause-faults c =
+    let places = c.self.inside.places.items in
+    let new : Session = record { id = c.args.id; ended = false; faults = 0 } in
+    let pushed : c.push.new.self.items ≡ places ++ new ∷ [] = first_of (search rules, grind (arith, common_steps)) in
+    rw (pushed, sym c.self.view_is) (faults_after_push new places)

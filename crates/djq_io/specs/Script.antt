@@ -1,0 +1,56 @@
+use Rattle.std.specs.Prelude.{◌≡◌, ◌≢◌, ℕ, ◌≤◌, ◌⊎◌, List, [], ◌∷◌, ◌++◌, length, take, Contains, Option, IfSome, IsSomeAnd}
+use Rattle.djq_io.specs.declared.hub.Coming.{Coming}
+use Rattle.djq_io.specs.declared.hub.Incoming.{Incoming}
+use Rattle.djq_io.specs.declared.hub.Incoming.TheVariants.{Opens, Brings, Ends, Nothing}
+use Rattle.djq_io.specs.declared.hub.Turn.{Turn}
+use Rattle.djq_io.specs.declared.hub.Turn.TheVariants.{Opened, Bytes, Ended, Idle, Over, Failed}
+use Rattle.djq_io.specs.declared.hub.Sent.{Sent}
+use Rattle.djq_io.specs.declared.hub.Sent.TheVariants.{Took, Again, Gone}
+use Rattle.djq_io.specs.Hub.{Ids, IsNew, IsRunning}
+
+-- A script: the ids whose sends answer `Again` now, and the turns to come.
+pub record Script : Type 0 where
+  pub blocked : List ℕ
+  pub turns : List Coming
+
+-- where a script is told as the call returns, it was told as the call began, and this holds of both
+abbrev pub WhereTold : Option Script → Option Script → (Script → Script → Type 0) → Type 0
+WhereTold old new P = IfSome new (λ n. IsSomeAnd old (λ o. P o n))
+
+-- this was the next turn of the old script, and the new one is what follows it
+abbrev pub Passes : Script → Incoming → Script → Type 0
+Passes old next new = old.turns ≡ record { turn = next; blocked = new.blocked } ∷ new.turns
+
+-- The next turn of the old script brings these bytes to a session and then a rest, which isn't
+-- empty; the next turn of the new one brings the rest, and what follows is the same.
+abbrev pub Cuts : Script → ℕ → List ℕ → Script → Type 0
+Cuts old id part new = (rest : List ℕ) × (after : List Coming) × (rest ≢ [])
+    × (old.turns ≡ record { turn = Brings id (part ++ rest); blocked = new.blocked } ∷ after)
+    × (new.turns ≡ record { turn = Brings id rest; blocked = new.blocked } ∷ after)
+
+-- A turn of a script that brings nothing: it has nothing, or it isn't one that can come. No id
+-- opens that isn't new, and none that was closed or has ended brings bytes or ends.
+abbrev pub IsIdle : Ids → Incoming → Type 0
+IsIdle ids (Opens id) = IsNew ids id → ⊥
+IsIdle ids (Brings id piece) = IsRunning ids id → piece ≡ []
+IsIdle ids (Ends id) = IsRunning ids id → ⊥
+IsIdle ids Nothing = Unit {0}
+
+-- What a turn answers by a script, over these ids, with the buffer that it leaves: the next turn,
+-- of whose piece only as much as fits is given; `Idle` where it brings nothing; `Over` where there
+-- is none; or a failure, after which the script is as it was.
+abbrev pub Follows : Ids → Turn → List ℕ → Script → Script → Type 0
+Follows ids (Opened id) buf old new = IsNew ids id × Passes old (Opens id) new
+Follows ids (Bytes id n) buf old new =
+    IsRunning ids id × (Passes old (Brings id (take n buf)) new ⊎ ((n ≡ length buf) × Cuts old id (take n buf) new))
+Follows ids (Ended id) buf old new = IsRunning ids id × Passes old (Ends id) new
+Follows ids Idle buf old new = (next : Incoming) × IsIdle ids next × Passes old next new
+Follows ids Over buf old new = (old.turns ≡ []) × (new ≡ old)
+Follows ids Failed buf old new = new ≡ old
+
+-- What a send answers by a script, which stays: `Again` exactly where the session is blocked,
+-- unless it is gone.
+abbrev pub Sends : ℕ → Sent → Script → Script → Type 0
+Sends id (Took n) old new = (Contains old.blocked id → ⊥) × (new ≡ old)
+Sends id Again old new = Contains old.blocked id × (new ≡ old)
+Sends id Gone old new = new ≡ old
