@@ -1,8 +1,9 @@
-//! A join query server, as a program: `djq run` serves one session from standard input to standard output.
+//! A join query server, as a program: `djq run` serves one session from standard input to standard
+//! output.
 //!
-//! [`run_program`] is the program over any source, sink and hub. Its contract says what was written: the replies of a
-//! run of the join machine, so it is the theorem of the whole product. `main` makes the real ones, which tell no bytes,
-//! and calls it.
+//! [`run_program`] is the program over any source, sink and hub. Its contract says what was
+//! written: the replies of a run of the join machine, so it is the theorem of the whole product.
+//! `main` makes the real ones, which tell no bytes, and calls it.
 #![tactic(auto)]
 
 mod laws;

@@ -2,7 +2,7 @@ ghost use Rattle.std.specs.Prelude.{◌≡◌};
 
 use crate::laws::finished_cursors_have_listed;
 use crate::program::run_program;
-use djq_io::{MemHub, MemSink, MemSource, Read, Sink, Source, Wrote};
+use djq_io::{MemHub, MemSink, MemSource, Sink, Source};
 use djq_run::Status;
 use djq_steps::{Blanks, Ledgers, Steps};
 use std::marker::Brand;
@@ -45,61 +45,6 @@ fn run_words<S: Source, K: Sink>(
     counted::<S, K, Brand>(rt, Blanks::new(rt), words, source, sink)
 }
 
-/// A source that fails once it was read so many times.
-#[derive(Drop)]
-struct FailingSource {
-    source: MemSource,
-    reads: u64,
-    faults: u64,
-}
-
-impl Source for FailingSource {
-    ghost use Rattle.std.specs.Prelude.{Some};
-
-    ghost left = { λ s. Some s.source.left };
-
-    ghost faults = { λ s. s.faults };
-
-    fn read(&mut self, buf: &mut [u8]) -> Read {
-        if self.reads > 0 {
-            self.reads -= 1;
-            match self.source.read(buf) {
-                Read::Got(count) => return Read::Got(count),
-                Read::End => return Read::End,
-                Read::Failed => {}
-            }
-        }
-        self.faults = self.faults.saturating_add(1);
-        Read::Failed
-    }
-}
-
-/// A sink that fails once it was written to so many times.
-#[derive(Drop)]
-struct FailingSink {
-    sink: MemSink,
-    writes: u64,
-    faults: u64,
-}
-
-impl Sink for FailingSink {
-    ghost taken = { λ s. s.sink };
-
-    ghost faults = { λ s. s.faults };
-
-    fn write(&mut self, piece: &[u8]) -> Wrote {
-        if self.writes > 0 {
-            self.writes -= 1;
-            match self.sink.write(piece) {
-                Wrote::Took(count) => return Wrote::Took(count),
-                Wrote::Failed => {}
-            }
-        }
-        self.faults = self.faults.saturating_add(1);
-        Wrote::Failed
-    }
-}
-
 #[test]
 fn answers_line_by_line_however_the_input_is_cut(rt: HostRuntime) -> Result<(), Fail> {
     let sessions = [
@@ -107,6 +52,8 @@ fn answers_line_by_line_however_the_input_is_cut(rt: HostRuntime) -> Result<(), 
         (b"".as_slice(), b"".as_slice()),
         (b"\n\n   \n", b""),
         (b"rel r int\nadd r 1", b"ok\nerr 13 cut\n"),
+        (b"rel r int\nquit\nadd r 1\n", b"ok\nbye\n"),
+        (b"rel r int\nstop\nadd r 1", b"ok\nbye\n"),
         (
             b"rel r int\r\nadd r 1\r\n\r\nadd r 1\r\n",
             b"ok\nok added 1\nok same 1\n",
@@ -190,35 +137,59 @@ fn other_words_get_the_usage_line(rt: HostRuntime) -> Result<(), Fail> {
     Ok(())
 }
 
+/// Of the replies before the failed write nothing is lost, and what is behind isn't written.
 #[test]
 fn a_failed_write_ends_the_program(rt: HostRuntime) -> Result<(), Fail> {
     let mut source = MemSource::new(SESSION.to_vec(rt.alloc())?, 8192);
-    let mut sink = FailingSink {
-        sink: MemSink::new(rt.alloc()),
-        writes: 1,
-        faults: 0,
-    };
+    let mut sink = MemSink::new(rt.alloc());
+    sink.fail_at(2)?;
     assert_eq!(rt;
         run_words(&rt, &RUN, &mut source, &mut sink),
         Status::WriteFault
     );
-    assert_eq!(rt; sink.sink.taken(), Some(b"ok\n".as_slice()));
+    assert_eq!(rt; sink.taken(), Some(b"ok\n".as_slice()));
     Ok(())
 }
 
+/// What was read before the failed read is run and answered.
 #[test]
 fn a_failed_read_ends_the_program(rt: HostRuntime) -> Result<(), Fail> {
-    let mut source = FailingSource {
-        source: MemSource::new(SESSION.to_vec(rt.alloc())?, 15),
-        reads: 1,
-        faults: 0,
-    };
+    let mut source = MemSource::new(SESSION.to_vec(rt.alloc())?, 15);
+    source.fail_at(2)?;
     let mut sink = MemSink::new(rt.alloc());
     assert_eq!(rt;
         run_words(&rt, &RUN, &mut source, &mut sink),
         Status::ReadFault
     );
     assert_eq!(rt; sink.taken(), Some(b"ok\n".as_slice()));
+    Ok(())
+}
+
+/// The hundred answers come in any order.
+#[test]
+fn lists_more_than_the_room_kept_for_a_reply(rt: HostRuntime) -> Result<(), Fail> {
+    let alloc = rt.alloc();
+    let mut input = b"rel r int\nquery q(x) <- r(x)\n".to_vec(alloc)?;
+    let mut head = b"ok\nok query 3\n".to_vec(alloc)?;
+    for number in 100..200u32 {
+        let line = format!(in alloc; "add r {number}\n")?;
+        input.extend_from_slice(line.as_bytes())?;
+        let reply = format!(in alloc; "ok added {}\n", number - 99)?;
+        head.extend_from_slice(reply.as_bytes())?;
+    }
+    input.extend_from_slice(b"open c q\nnext c 1000\n")?;
+    head.extend_from_slice(b"ok open")?;
+    let mut source = MemSource::new(input, 8192);
+    let mut sink = MemSink::new(alloc);
+    assert_eq!(rt; run_words(&rt, &RUN, &mut source, &mut sink), Status::Done);
+    let taken = sink.taken().ok_or("the record is lost")?;
+    let listing = taken.strip_prefix(head.as_slice()).ok_or("another head")?;
+    let lines = str::from_utf8(listing).map_err(|_| "no text")?;
+    for number in 100..200u32 {
+        let line = format!(in alloc; "\n= {number}\n")?;
+        assert!(rt; lines.contains(line.as_str()), "without {number}");
+    }
+    assert_eq!(rt; lines.len(), 100 * "= 100\n".len() + "\nend\n".len());
     Ok(())
 }
 

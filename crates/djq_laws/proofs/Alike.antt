@@ -1,21 +1,25 @@
--- Sessions that keep their ids and what is pending, in order.
-use Rattle.std.specs.Prelude.{ℕ, List, [], ◌∷◌, ◌==◌, ◌≡◌, ◌++◌, Bool, true, false, cond, Option, None, Some, IsSome, IsSomeAnd, IfSome, MatchOption, find, map, codes, Result, Ok, Err, ⊤}
-use Rattle.std.proofs.Common.{refl, sym, ap, ◌∙◌, subst}
-use Rattle.djq_model.specs.Data.{Bytes, change_first, drop_first, bytes_eq, query_of}
+-- What a line does to the sessions: each keeps its id, its bytes, and its end cause unless the line ends it.
+use Rattle.std.specs.Prelude.{ℕ, List, [], ◌∷◌, ◌==◌, ◌≡◌, ◌++◌, ◌⊎◌, Bool, true, false, cond, Option, None, Some, IsSome, IsSomeAnd, MatchOption, find, map, codes, Result, Ok, Err, ⊤}
+use Rattle.std.proofs.Common.{refl, sym, ap, ap₂, ◌∙◌, subst, inl, inr}
 use Rattle.djq_model.specs.declared.query.Query.{Query}
-use Rattle.djq_machine.specs.declared.command.Command.{Command}
-use Rattle.djq_machine.specs.declared.command.Command.TheVariants.{Rel, Add, Del, Query as Register, Open, Next, Close}
-use Rattle.djq_machine.specs.declared.answer.Refusal.{Refusal}
-use Rattle.djq_machine.specs.declared.answer.Refusal.TheVariants.{NoCursor}
-use Rattle.djq_machine.specs.declared.answer.Cause.{Cause}
-use Rattle.djq_machine.specs.declared.answer.Cause.TheVariants.{Memory}
-use Rattle.djq_machine.specs.Reply.{line, refusal_line, ok_reply, add_reply, delete_reply, query_reply, text_of, listing_lines}
-use Rattle.djq_machine.specs.State.{Store, State, Session, Cursor, Place, open_at, stale, with_session, cursor_of, with_place, ended_by}
-use Rattle.djq_machine.specs.Step.{Effect, nothing, says, changed, outdated_sessions, outdated_cursor, add_outdates, delete_outdates, Lists, ReadsAt, Refused, OpenDoes, Does}
+use Rattle.djq_model.specs.Data.{Bytes, change_first, drop_first, bytes_eq, query_of}
+use Rattle.djq_lines.specs.declared.answer.EndCause.{EndCause}
+use Rattle.djq_lines.specs.declared.answer.EndCause.TheVariants.{Quit as SaidQuit, Stop as SaidStop, Memory}
+use Rattle.djq_lines.specs.declared.answer.Refusal.{Refusal}
+use Rattle.djq_lines.specs.declared.answer.Refusal.TheVariants.{NoCursor, NoMemory}
+use Rattle.djq_lines.specs.declared.command.Command.{Command}
+use Rattle.djq_lines.specs.declared.command.Command.TheVariants.{Rel, Add, Del, Query as Register, Drop, Open, Next, Close, Has, Watch, Unwatch, Explain, Quit, Stop}
+use Rattle.djq_lines.specs.Grammar.{Reading, refused, says as says_command}
+use Rattle.djq_lines.specs.Reply.{line, answer_line, refusal_line, ok_reply, add_reply, delete_reply, query_reply, stale_line, text_of, listing_lines, bye, end_memory}
+use Rattle.djq_machine.specs.State.{Store, State, Session, Cursor, Position, open_at, stale, with_session, cursor_of, with_position, ended_by}
+use Rattle.djq_machine.specs.Stale.{changed, by_relation, outdated_sessions, outdated_cursor, add_outdates, delete_outdates}
+use Rattle.djq_machine.specs.Effect.{Effect, nothing, says, EndsWith, RefusedStep}
+use Rattle.djq_machine.specs.Command.{OpensTo, with_cursor, NextStepAt, CloseStep, CommandStep}
+use Rattle.djq_machine.specs.LineStep.{ReadStep}
 use Rattle.djq_machine.specs.Run.{to_session, pending_in}
-use Rattle.djq_machine.specs.Call.{EndsBefore, cause_in}
+use Rattle.djq_machine.specs.Call.{cause_in, held_in}
+use Rattle.djq_laws.specs.Moved.{EndsByRun}
 use Rattle.djq_laws.proofs.Finding.{some_and}
-use Rattle.djq_laws.proofs.Ways.{Ways, without_line}
 
 -- Nothing is queued to another session.
 abbrev pub ToAlone : ℕ → Effect → Type 0
@@ -27,38 +31,36 @@ alone_nothing s e h t ne = ap (λ (d : Effect). to_session t d.queued) h
 pub alone_text : (s : ℕ) (text : Bytes) (cost : ℕ) (e : Effect) → e ≡ record { queued = (s, text) ∷ []; cost = cost } → ToAlone s e
 alone_text s text cost e h t ne = ap (λ (d : Effect). to_session t d.queued) h ∙ rw ne refl
 
--- And a session whose cause, where it had one, was such a cause has no other one after.
-module _ (May : Cause → Type 0) where
+-- The end cause stays, or is one of these.
+module _ (May : EndCause → Type 0) where
+  abbrev pub CauseKept : Option EndCause → Option EndCause → Type 0
+  CauseKept old new = (new ≡ old) ⊎ IsSomeAnd new May
+
+  abbrev pub SameBytes : Session → Session → Type 0
+  SameBytes x y = (y.pending ≡ x.pending) × (y.held ≡ x.held) × CauseKept x.cause y.cause
+
   abbrev pub Alike : List Session → List Session → Type 0
   Alike [] [] = Unit {0}
-  Alike (x ∷ xs) (y ∷ ys) = (y.id ≡ x.id) × (y.pending ≡ x.pending) × (IfSome x.cause May → IfSome y.cause May) × Alike xs ys
+  Alike (x ∷ xs) (y ∷ ys) = (y.id ≡ x.id) × SameBytes x y × Alike xs ys
   Alike [] (y ∷ ys) = ⊥
   Alike (x ∷ xs) [] = ⊥
 
   pub alike_refl : (xs : List Session) → Alike xs xs
   alike_refl [] = tt
-  alike_refl (x ∷ xs) = (refl, refl, λ c. c, alike_refl xs)
+  alike_refl (x ∷ xs) = (refl, (refl, refl, inl refl), alike_refl xs)
 
   pub alike_same : (xs ys : List Session) → ys ≡ xs → Alike xs ys
   alike_same xs ys e = subst (λ (zs : List Session). Alike xs zs) (sym e) (alike_refl xs)
 
-  pub alike_trans : (xs ys zs : List Session) → Alike xs ys → Alike ys zs → Alike xs zs
-  alike_trans [] [] zs h k = k
-  alike_trans [] (y ∷ ys) zs h k = absurd h
-  alike_trans (x ∷ xs) [] zs h k = absurd h
-  alike_trans (x ∷ xs) (y ∷ ys) [] h k = absurd k
-  alike_trans (x ∷ xs) (y ∷ ys) (z ∷ zs) h k = (k.0 ∙ h.0, k.1 ∙ h.1, λ c. k.2 (h.2 c), alike_trans xs ys zs h.3 k.3)
-
-  -- a change that keeps them
+  -- a change that keeps them so
   pub record Keeps (f : Session → Session) : Type 0 where
     pub id : (x : Session) → (f x).id ≡ x.id
-    pub pending : (x : Session) → (f x).pending ≡ x.pending
-    pub cause : (x : Session) → IfSome x.cause May → IfSome (f x).cause May
+    pub same : (x : Session) → SameBytes x (f x)
 
   change_step : (p : Session → Bool) (f : Session → Session) (x : Session) (xs : List Session) (b : Bool) → Keeps f
       → Alike xs (change_first p f xs) → Alike (x ∷ xs) (cond b (f x ∷ xs) (x ∷ change_first p f xs))
-  change_step p f x xs true k h = (k.id x, k.pending x, k.cause x, alike_refl xs)
-  change_step p f x xs false k h = (refl, refl, λ c. c, h)
+  change_step p f x xs true k h = (k.id x, k.same x, alike_refl xs)
+  change_step p f x xs false k h = (refl, (refl, refl, inl refl), h)
 
   pub alike_change : (p : Session → Bool) (f : Session → Session) (xs : List Session) → Keeps f → Alike xs (change_first p f xs)
   alike_change p f [] k = tt
@@ -66,7 +68,7 @@ module _ (May : Cause → Type 0) where
 
   pub alike_map : (f : Session → Session) (xs : List Session) → Keeps f → Alike xs (map f xs)
   alike_map f [] k = tt
-  alike_map f (x ∷ xs) k = (k.id x, k.pending x, k.cause x, alike_map f xs k)
+  alike_map f (x ∷ xs) k = (k.id x, k.same x, alike_map f xs k)
 
   pub alike_with : (old new : State) (s : ℕ) (f : Session → Session) → Keeps f → new ≡ with_session old s f → Alike old.sessions new.sessions
   alike_with old new s f k e = subst (λ (st : State). Alike old.sessions st.sessions) (sym e) (alike_change (λ (x : Session). x.id == s) f old.sessions k)
@@ -74,10 +76,17 @@ module _ (May : Cause → Type 0) where
   pub alike_state : (old new : State) → new ≡ old → Alike old.sessions new.sessions
   alike_state old new e = alike_same old.sessions new.sessions (ap (λ (st : State). st.sessions) e)
 
+  -- a change that keeps the end cause, and one that ends the session
+  pub keeps_cause : (f : Session → Session) → ((x : Session) → (f x).id ≡ x.id) → ((x : Session) → (f x).pending ≡ x.pending) → ((x : Session) → (f x).held ≡ x.held) → ((x : Session) → (f x).cause ≡ x.cause) → Keeps f
+  keeps_cause f id pending held cause = record { id = id; same = λ x. (pending x, held x, inl (cause x)) }
+
+  pub keeps_ended : (cause : EndCause) → May cause → Keeps (ended_by cause)
+  keeps_ended cause may = record { id = λ x. refl; same = λ x. (refl, refl, inr may) }
+
   -- what is found in such lists: nothing in both, or sessions that are so
   abbrev pub AlikeFound : Option Session → Option Session → Type 0
   AlikeFound None None = Unit {0}
-  AlikeFound (Some x) (Some y) = (y.pending ≡ x.pending) × (IfSome x.cause May → IfSome y.cause May)
+  AlikeFound (Some x) (Some y) = SameBytes x y
   AlikeFound None (Some y) = ⊥
   AlikeFound (Some x) None = ⊥
 
@@ -91,7 +100,7 @@ module _ (May : Cause → Type 0) where
   alike_found t [] (y ∷ ys) h = absurd h
   alike_found t (x ∷ xs) [] h = absurd h
   alike_found t (x ∷ xs) (y ∷ ys) h =
-      found_step t x y (find (λ (z : Session). z.id == t) xs) (find (λ (z : Session). z.id == t) ys) (x.id == t) refl h.0 (h.1, h.2) (alike_found t xs ys h.3)
+      found_step t x y (find (λ (z : Session). z.id == t) xs) (find (λ (z : Session). z.id == t) ys) (x.id == t) refl h.0 h.1 (alike_found t xs ys h.2)
 
   pub alike_pending : (o p : Option Session) → AlikeFound o p → pending_in p ≡ pending_in o
   alike_pending None None h = refl
@@ -99,88 +108,108 @@ module _ (May : Cause → Type 0) where
   alike_pending None (Some y) h = absurd h
   alike_pending (Some x) None h = absurd h
 
+  pub alike_held : (o p : Option Session) → AlikeFound o p → held_in p ≡ held_in o
+  alike_held None None h = refl
+  alike_held (Some x) (Some y) h = h.1
+  alike_held None (Some y) h = absurd h
+  alike_held (Some x) None h = absurd h
+
   pub alike_open : (o p : Option Session) → AlikeFound o p → IsSome o → IsSome p
   alike_open None None h k = k
   alike_open (Some x) (Some y) h k = refl
   alike_open None (Some y) h k = absurd h
   alike_open (Some x) None h k = absurd h
 
-  pub alike_cause : (o p : Option Session) → AlikeFound o p → IfSome (cause_in o) May → IfSome (cause_in p) May
-  alike_cause None None h k = k
-  alike_cause (Some x) (Some y) h k = h.1 k
-  alike_cause None (Some y) h k = absurd h
-  alike_cause (Some x) None h k = absurd h
+  pub alike_cause : (o p : Option Session) → AlikeFound o p → CauseKept (cause_in o) (cause_in p)
+  alike_cause None None h = inl refl
+  alike_cause (Some x) (Some y) h = h.2
+  alike_cause None (Some y) h = absurd h
+  alike_cause (Some x) None h = absurd h
 
-  -- What a line does keeps the sessions alike, and speaks to its own session alone.
+  -- the ids, in order
+  pub alike_ids : (xs ys : List Session) → Alike xs ys → map (λ (x : Session). x.id) ys ≡ map (λ (x : Session). x.id) xs
+  alike_ids [] [] h = refl
+  alike_ids [] (y ∷ ys) h = absurd h
+  alike_ids (x ∷ xs) [] h = absurd h
+  alike_ids (x ∷ xs) (y ∷ ys) h = ap₂ (λ (i : ℕ) (is : List ℕ). i ∷ is) h.0 (alike_ids xs ys h.2)
+
+  -- The sessions stay alike, and nothing is said to another session.
   abbrev pub KeepsAlike : State → ℕ → Effect → State → Type 0
   KeepsAlike old s e new = Alike old.sessions new.sessions × ToAlone s e
 
--- What a line does keeps the sessions so, where the causes by which a line may end a session are such ones.
-module _ (May : Cause → Type 0) (late : (c : Cause) → EndsBefore c → May c) where
-  ends_keeps : (old : State) (s : ℕ) (text : Bytes) (f : Session → Session) (e : Effect) (new : State) → Keeps May f → e ≡ says s text → new ≡ with_session old s f → KeepsAlike May old s e new
-  ends_keeps old s text f e new k said after = (alike_with May old new s f k after, alone_text s text 0 e said)
+  pub nothing_keeps : (old : State) (s : ℕ) (e : Effect) (new : State) → e ≡ nothing → new ≡ old → KeepsAlike old s e new
+  nothing_keeps old s e new none after = (alike_state old new after, alone_nothing s e none)
 
-  stays_keeps : (old : State) (s : ℕ) (text : Bytes) (e : Effect) (new : State) → e ≡ says s text → new ≡ old → KeepsAlike May old s e new
-  stays_keeps old s text e new said after = (alike_state May old new after, alone_text s text 0 e said)
+  pub says_keeps : (old : State) (s : ℕ) (text : Bytes) (f : Session → Session) (e : Effect) (new : State) → Keeps f → e ≡ says s text → new ≡ with_session old s f → KeepsAlike old s e new
+  says_keeps old s text f e new k said after = (alike_with old new s f k after, alone_text s text 0 e said)
 
-  store_keeps : (old : State) (s : ℕ) (text : Bytes) (store : Store) (e : Effect) (new : State) → e ≡ says s text → new ≡ record old { store = store } → KeepsAlike May old s e new
-  store_keeps old s text store e new said after = (alike_same May old.sessions new.sessions (ap (λ (st : State). st.sessions) after), alone_text s text 0 e said)
+  pub ends_keeps : (old : State) (s : ℕ) (text : Bytes) (cause : EndCause) (e : Effect) (new : State) → May cause → EndsWith text cause old s e new → KeepsAlike old s e new
+  ends_keeps old s text cause e new may h = says_keeps old s text (ended_by cause) e new (keeps_ended cause may) h.0 h.1
 
-  outdated_alike : (queries : List Query) (name : Bytes) (n : ℕ) (b : Bool) (xs : List Session) → Alike May xs (cond b (outdated_sessions queries name n xs) xs)
-  outdated_alike queries name n true xs = alike_map May (λ (x : Session). record x { cursors = map (outdated_cursor queries name n) x.cursors }) xs (record { id = λ x. refl; pending = λ x. refl; cause = λ x c. c })
-  outdated_alike queries name n false xs = alike_refl May xs
+  pub stays_keeps : (old : State) (s : ℕ) (text : Bytes) (e : Effect) (new : State) → e ≡ says s text → new ≡ old → KeepsAlike old s e new
+  stays_keeps old s text e new said after = (alike_state old new after, alone_text s text 0 e said)
 
-  changed_keeps : (old : State) (s : ℕ) (text name : Bytes) (b : Bool) (store : Store) (e : Effect) (new : State) → e ≡ says s text → new ≡ changed old name b store → KeepsAlike May old s e new
-  changed_keeps old s text name b store e new said after =
-      (subst (λ (st : State). Alike May old.sessions st.sessions) (sym after) (outdated_alike old.store.queries name store.seq b old.sessions), alone_text s text 0 e said)
+-- A line that is read keeps the sessions alike, but for the causes by which a line ends its session.
+abbrev Runs : State → ℕ → Effect → State → Type 0
+Runs = KeepsAlike EndsByRun
 
-  lists_keeps : (old : State) (s : ℕ) (after : Session → Session) (lines : List Bytes) (cost : ℕ) (o : Option ℕ) (e : Effect) (new : State) → Keeps May after → Lists old s after lines cost o e new → KeepsAlike May old s e new
-  lists_keeps old s after lines cost None e new k h = (alike_with May old new s after k h.1, alone_text s (text_of lines) cost e h.0)
-  lists_keeps old s after lines cost (Some whole) e new k h = (alike_with May old new s (ended_by Memory) (record { id = λ x. refl; pending = λ x. refl; cause = λ x c. late Memory tt }) h.3, λ t ne. ap (λ (d : Effect). to_session t d.queued) h.2 ∙ rw ne refl)
+store_keeps : (old : State) (s : ℕ) (text : Bytes) (store : Store) (e : Effect) (new : State) → e ≡ says s text → new ≡ record old { store = store } → Runs old s e new
+store_keeps old s text store e new said after = (alike_same EndsByRun old.sessions new.sessions (ap (λ (st : State). st.sessions) after), alone_text s text 0 e said)
 
-  reads_keeps : (old : State) (s : ℕ) (c : Bytes) (q : Query) (count : ℕ) (p : Place) (e : Effect) (new : State) → ReadsAt old s c q count p e new → KeepsAlike May old s e new
-  reads_keeps old s c q count (open_at given ended) e new h =
-      lists_keeps old s (λ y. record y { cursors = with_place y.cursors c (open_at (given ++ h.told) h.end) }) (listing_lines h.told h.end) _ h.whole e new
-      (record { id = λ x. refl; pending = λ x. refl; cause = λ x c. c }) h.lists
-  reads_keeps old s c q count (stale relation n) e new h = stays_keeps old s _ e new h.0 h.1
+outdated_alike : (queries : List Query) (outdater : Query → Option Bytes) (n : ℕ) (b : Bool) (xs : List Session) → Alike EndsByRun xs (cond b (outdated_sessions queries outdater n xs) xs)
+outdated_alike queries outdater n true xs =
+    alike_map EndsByRun (λ (x : Session). record x { cursors = map (outdated_cursor queries outdater n) x.cursors }) xs
+    (keeps_cause EndsByRun (λ (x : Session). record x { cursors = map (outdated_cursor queries outdater n) x.cursors }) (λ x. refl) (λ x. refl) (λ x. refl) (λ x. refl))
+outdated_alike queries outdater n false xs = alike_refl EndsByRun xs
 
-  next_keeps : (old : State) (s : ℕ) (c : Bytes) (count : ℕ) (o : Option Cursor) (e : Effect) (new : State)
-      → MatchOption o (Refused old s NoCursor e new) (λ k. IsSomeAnd (query_of old.store.queries k.query) (λ q. ReadsAt old s c q count k.place e new)) → KeepsAlike May old s e new
-  next_keeps old s c count None e new h = stays_keeps old s (refusal_line NoCursor) e new h.0 h.1
-  next_keeps old s c count (Some k) e new h =
-      let f = some_and (query_of old.store.queries k.query) (λ q. ReadsAt old s c q count k.place e new) h in
-      reads_keeps old s c f.0 count k.place e new f.2
+changed_keeps : (old : State) (s : ℕ) (text name : Bytes) (b : Bool) (store : Store) (e : Effect) (new : State) → e ≡ says s text → new ≡ changed old name b store → Runs old s e new
+changed_keeps old s text name b store e new said after =
+    (subst (λ (st : State). Alike EndsByRun old.sessions st.sessions) (sym after) (outdated_alike old.store.queries (by_relation name) store.seq b old.sessions), alone_text s text 0 e said)
 
-  close_keeps : (old : State) (s : ℕ) (c : Bytes) (o : Option Cursor) (e : Effect) (new : State)
-      → MatchOption o (Refused old s NoCursor e new) (λ k. (e ≡ says s (line (codes "ok"))) × (new ≡ with_session old s (λ y. record y { cursors = drop_first (λ z. bytes_eq z.name c) y.cursors })))
-      → KeepsAlike May old s e new
-  close_keeps old s c None e new h = stays_keeps old s (refusal_line NoCursor) e new h.0 h.1
-  close_keeps old s c (Some k) e new h =
-      ends_keeps old s (line (codes "ok")) (λ y. record y { cursors = drop_first (λ z. bytes_eq z.name c) y.cursors }) e new (record { id = λ x. refl; pending = λ x. refl; cause = λ x c. c }) h.0 h.1
+next_keeps : (old : State) (s : ℕ) (c : Bytes) (q : Query) (count : ℕ) (p : Position) (e : Effect) (new : State) → NextStepAt old s c q count p e new → Runs old s e new
+next_keeps old s c q count (open_at given ended) e new (inl h) =
+    let moved = λ (x : Session). record x { cursors = with_position x.cursors c (open_at (given ++ h.told) h.end) } in
+    (alike_with EndsByRun old new s moved (keeps_cause EndsByRun moved (λ x. refl) (λ x. refl) (λ x. refl) (λ x. refl)) h.state, alone_text s (text_of (listing_lines h.told h.end)) _ e h.effect)
+next_keeps old s c q count (open_at given ended) e new (inr h) =
+    (alike_with EndsByRun old new s (ended_by Memory) (keeps_ended EndsByRun Memory tt) h.state, alone_text s (text_of (map answer_line h.told) ++ end_memory) _ e h.effect)
+next_keeps old s c q count (stale relation n) e new h = stays_keeps EndsByRun old s (stale_line c relation n) e new h.0 h.1
 
-  open_keeps : (old : State) (s : ℕ) (c q text : Bytes) (e : Effect) (new : State) (r : Result ⊤ Refusal) → e ≡ says s text → OpenDoes old s c q new r → KeepsAlike May old s e new
-  open_keeps old s c q text e new (Ok u) said h =
-      ends_keeps old s text (λ y. record y { cursors = y.cursors ++ record { name = c; query = q; place = open_at [] false } ∷ [] }) e new (record { id = λ x. refl; pending = λ x. refl; cause = λ x c. c }) said h
-  open_keeps old s c q text e new (Err r) said h = stays_keeps old s text e new said h
+next_found : (old : State) (s : ℕ) (c : Bytes) (count : ℕ) (o : Option Cursor) (e : Effect) (new : State)
+    → MatchOption o (RefusedStep old s NoCursor e new) (λ k. IsSomeAnd (query_of old.store.queries k.query) (λ q. NextStepAt old s c q count k.position e new)) → Runs old s e new
+next_found old s c count None e new h = stays_keeps EndsByRun old s (refusal_line NoCursor) e new h.0 h.1
+next_found old s c count (Some k) e new h =
+    let f = some_and (query_of old.store.queries k.query) (λ q. NextStepAt old s c q count k.position e new) h in
+    next_keeps old s c f.0 count k.position e new f.2
 
-  does_keeps : (old : State) (s : ℕ) (x : Session) (c : Command) (e : Effect) (new : State) → Does old s x c e new → KeepsAlike May old s e new
-  does_keeps old s x (Rel name types) e new h = store_keeps old s (ok_reply (codes "ok") h.result) h.store e new h.effect h.state
-  does_keeps old s x (Add name row) e new h = changed_keeps old s (add_reply h.result (h.store).seq) name (add_outdates h.result) h.store e new h.effect h.state
-  does_keeps old s x (Del name row) e new h = changed_keeps old s (delete_reply h.result (h.store).seq) name (delete_outdates h.result) h.store e new h.effect h.state
-  does_keeps old s x (Register q) e new h = store_keeps old s (query_reply h.result) h.store e new h.effect h.state
-  does_keeps old s x (Open c q) e new h = open_keeps old s c q (ok_reply (codes "ok open") h.result) e new h.result h.effect h.state
-  does_keeps old s x (Next c count) e new h = next_keeps old s c count (cursor_of x.cursors c) e new h
-  does_keeps old s x (Close c) e new h = close_keeps old s c (cursor_of x.cursors c) e new h
+close_found : (old : State) (s : ℕ) (c : Bytes) (o : Option Cursor) (e : Effect) (new : State)
+    → MatchOption o (RefusedStep old s NoCursor e new) (λ k. CloseStep old s c e new) → Runs old s e new
+close_found old s c None e new h = stays_keeps EndsByRun old s (refusal_line NoCursor) e new h.0 h.1
+close_found old s c (Some k) e new h =
+    let dropped = λ (x : Session). record x { cursors = drop_first (λ z. bytes_eq z.name c) x.cursors } in
+    says_keeps EndsByRun old s (line (codes "ok")) dropped e new (keeps_cause EndsByRun dropped (λ x. refl) (λ x. refl) (λ x. refl) (λ x. refl)) h.0 h.1
 
-  pub alike_ways : Ways (KeepsAlike May)
-  alike_ways = record {
-    blank = λ old s e new said after. (alike_state May old new after, alone_nothing s e said);
-    refused = stays_keeps;
-    ends = λ old s text cause before e new said after. ends_keeps old s text (ended_by cause) e new (record { id = λ x. refl; pending = λ x. refl; cause = λ x c. late cause before }) said after;
-    taken = λ old s rest e new h. (
-      alike_trans May old.sessions (without_line old s rest).sessions new.sessions
-          (alike_with May old (without_line old s rest) s (λ y. record y { held = rest }) (record { id = λ x. refl; pending = λ x. refl; cause = λ x c. c }) refl) h.0,
-      h.1,
-    );
-    does = λ old s x c e new found h. does_keeps old s x c e new h;
-  }
+open_keeps : (old : State) (s : ℕ) (c q text : Bytes) (e : Effect) (new : State) (r : Result ⊤ Refusal) → e ≡ says s text → OpensTo old s c q new r → Runs old s e new
+open_keeps old s c q text e new (Ok u) said h =
+    says_keeps EndsByRun old s text (with_cursor c q) e new (keeps_cause EndsByRun (with_cursor c q) (λ x. refl) (λ x. refl) (λ x. refl) (λ x. refl)) said h
+open_keeps old s c q text e new (Err r) said h = stays_keeps EndsByRun old s text e new said h
+
+command_keeps : (old : State) (s : ℕ) (x : Session) (c : Command) (e : Effect) (new : State) → CommandStep old s x c e new → Runs old s e new
+command_keeps old s x (Rel name types) e new h = store_keeps old s (ok_reply (codes "ok") h.result) h.store e new h.effect h.state
+command_keeps old s x (Add name row) e new h = changed_keeps old s (add_reply h.result (h.store).seq) name (add_outdates h.result) h.store e new h.effect h.state
+command_keeps old s x (Del name row) e new h = changed_keeps old s (delete_reply h.result (h.store).seq) name (delete_outdates h.result) h.store e new h.effect h.state
+command_keeps old s x (Register q) e new h = store_keeps old s (query_reply h.result) h.store e new h.effect h.state
+command_keeps old s x (Open c q) e new h = open_keeps old s c q (ok_reply (codes "ok open") h.result) e new h.result h.effect h.state
+command_keeps old s x (Next c count) e new h = next_found old s c count (cursor_of x.cursors c) e new h
+command_keeps old s x (Close c) e new h = close_found old s c (cursor_of x.cursors c) e new h
+command_keeps old s x Quit e new h = ends_keeps EndsByRun old s bye SaidQuit e new tt h
+command_keeps old s x Stop e new h = ends_keeps EndsByRun (record old { stopped = true }) s bye SaidStop e new tt h
+command_keeps old s x (Drop q) e new h = absurd h
+command_keeps old s x (Has q row) e new h = absurd h
+command_keeps old s x (Watch q) e new h = absurd h
+command_keeps old s x (Unwatch q) e new h = absurd h
+command_keeps old s x (Explain q) e new h = absurd h
+
+pub read_keeps : (old : State) (s : ℕ) (x : Session) (r : Reading) (e : Effect) (new : State) → ReadStep old s x r e new → Runs old s e new
+read_keeps old s x (refused r) e new h = stays_keeps EndsByRun old s (refusal_line r) e new h.0 h.1
+read_keeps old s x (says_command c) e new (true, h) = command_keeps old s x c e new h
+read_keeps old s x (says_command c) e new (false, h) = stays_keeps EndsByRun old s (refusal_line NoMemory) e new h.1.0 h.1.1

@@ -1,8 +1,7 @@
 -- When a query has the same answers over other relations.
-use Rattle.std.specs.Prelude.{List, [], ◌∷◌, ◌==◌, ◌≡◌, ◌++◌, ◌&&◌, ◌||◌, Bool, true, false, cond, Option, None, Some, All, Contains, IsPermutation}
+use Rattle.std.specs.Prelude.{List, [], ◌∷◌, ◌≡◌, ◌++◌, ◌||◌, Bool, true, false, cond, Option, None, Some, All, Contains, IsPermutation}
 use Rattle.std.specs.List.{list_any}
-use Rattle.std.proofs.Common.{refl, sym, ap, ap₂, ◌∙◌, subst}
-use Rattle.std.proofs.lemmas.Bool.{eqb-true, eq-eqb}
+use Rattle.std.proofs.Common.{refl, sym, ap, ◌∙◌, subst}
 use Rattle.std.proofs.lemmas.List.Elements.{All-nil, All-cons}
 use Rattle.std.proofs.lemmas.List.Sorted.{Contains-permutation, IsPermutation-sym, IsPermutation-refl}
 use Rattle.djq_model.specs.declared.relation.Relation.{Relation}
@@ -11,33 +10,16 @@ use Rattle.djq_model.specs.declared.query.Query.{Query}
 use Rattle.djq_model.specs.declared.query.Atom.{Atom}
 use Rattle.djq_model.specs.Data.{Bytes, Tuple, bytes_eq, relation_of, rows_of, rows_in}
 use Rattle.djq_model.specs.Answer.{IsAnswer}
+use Rattle.djq_model.specs.Equality.{bytes_eq-decides}
 use Rattle.djq_machine.specs.Store.{with_rows}
 use Rattle.djq_machine.specs.Step.{SameRelations}
-use Rattle.djq_machine.specs.Course.{Gives}
+use Rattle.djq_machine.specs.Gives.{Gives}
 use Rattle.djq_laws.proofs.Finding.{find_other}
-
--- names that pass the test are the same
-both : (a b : Bool) → (a && b) ≡ true → (a ≡ true) × (b ≡ true)
-both true true h = (refl, refl)
-both true false h = absurd cc
-both false b h = absurd cc
-
-pub bytes_same : (xs ys : Bytes) → bytes_eq xs ys ≡ true → xs ≡ ys
-bytes_same [] [] h = refl
-bytes_same [] (y ∷ ys) h = absurd cc
-bytes_same (x ∷ xs) [] h = absurd cc
-bytes_same (x ∷ xs) (y ∷ ys) h =
-    let b = both (x == y) (bytes_eq xs ys) h in
-    ap₂ (λ z zs. z ∷ zs) (eqb-true x y b.0) (bytes_same xs ys b.1)
-
-pub bytes_itself : (xs : Bytes) → bytes_eq xs xs ≡ true
-bytes_itself [] = refl
-bytes_itself (x ∷ xs) = rw (eq-eqb x x refl, bytes_itself xs) refl
 
 apart_from : (r name n : Bytes) (b : Bool) → bytes_eq r n ≡ b → bytes_eq n name ≡ false → bytes_eq r name ≡ true → b ≡ false
 apart_from r name n false e ne same = refl
 apart_from r name n true e ne same =
-    let k : r ≡ n = bytes_same r n e in
+    let k : r ≡ n = (bytes_eq-decides r n).0 e in
     let twice : bytes_eq n name ≡ true = ap (λ z. bytes_eq z name) (sym k) ∙ same in
     absurd (cc (twice, ne))
 
@@ -61,7 +43,7 @@ pub same_within : (rs rs' : List Relation) (q : Query) → RowsWithin rs rs' q �
 same_within rs rs' q there back = record { there = λ t h. answer_within rs rs' q t there h; back = λ t h. answer_within rs' rs q t back h }
 
 -- what a cursor has given it still gives
-pub gives_kept : (rs rs' : List Relation) (q : Query) (given : List Tuple) (finished : Bool) → SameAnswers rs rs' q → Gives rs q given finished → Gives rs' q given finished
+pub gives_kept : (rs rs' : List Relation) (q : Query) (given : List Tuple) (finished : Bool) → SameAnswers rs rs' q → Gives (IsAnswer rs q) given finished → Gives (IsAnswer rs' q) given finished
 gives_kept rs rs' q given finished same h = record {
   different = h.different;
   answers = λ k d lt. same.there _ (h.answers k d lt);

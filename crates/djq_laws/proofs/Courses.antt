@@ -1,45 +1,69 @@
 -- How a course of the program begins and goes on.
-use Rattle.std.proofs.Common.{List, [], ◌∷◌, ◌++◌, ◌+◌, ◌≤◌, ◌≡◌, refl, sym, ap, ◌∙◌, subst, append-nil, arith}
+use Rattle.std.proofs.Common.{List, [], ◌∷◌, ◌++◌, ◌+◌, ◌≤◌, ◌≡◌, refl, sym, ◌∙◌, subst, append-nil, arith}
 use Rattle.std.proofs.lemmas.Grind.{flat_map-append}
 use Rattle.std.proofs.lemmas.List.Sums.{sum_by-append}
-use Rattle.std.specs.List.{flat_map}
-use Rattle.djq_io.specs.Source.{Loses}
+use Rattle.djq_io.specs.Source.{Gives}
 use Rattle.djq_io.specs.Sink.{Gains}
-use Rattle.djq_io.proofs.Loses.{loses_none, loses_more}
+use Rattle.djq_io.proofs.Gives.{gives_none, gives_more}
 use Rattle.djq_io.proofs.Gains.{gains_none, gains_more}
-use Rattle.djq_machine.specs.State.{State, opening}
-use Rattle.djq_machine.specs.Run.{Did, all_fed, all_taken, fed_by, taken_by, cost_of}
-use Rattle.djq_machine.specs.Course.{Outside, Course, RunNext}
-use Rattle.djq_machine.proofs.Walks.{walk_more}
+use Rattle.djq_machine.specs.State.{State}
+use Rattle.djq_machine.specs.Run.{Did, Walk, all_taken, taken_by, pieces_of, piece_of}
+use Rattle.djq_laws.specs.Course.{Outside, Course, RunNext}
 
 -- nothing was done yet
-pub course_begun : (o : Outside) → Course o o opening
-course_begun o = record {
+pub course_begun : (o : Outside) (st : State) → Course st o o st
+course_begun o st = record {
   done = [];
   walk = refl;
-  read = loses_none o.left;
+  read = gives_none o.reading;
   written = gains_none o.taken;
-  counted = omega arith;
+  listing = omega arith;
+  update = refl;
+  rows = refl;
 }
 
--- what is in a list and one thing more
-flat_more : {X A : Type 0} (f : X → List A) (xs : List X) (x : X) → flat_map f (xs ++ x ∷ []) ≡ flat_map f xs ++ f x
-flat_more f xs x = flat_map-append f xs (x ∷ []) ∙ ap (λ r. flat_map f xs ++ r) (append-nil (f x))
-
-cost_more : (done : List Did) (d : Did) → cost_of (done ++ d ∷ []) ≡ cost_of done + d.effect.cost
-cost_more done d = omega (arith, sum_by-append (λ (e : Did). e.effect.cost) done (d ∷ []))
-
--- An event that may come next, with what it reads, writes and counts.
-pub course_more : (before o o' : Outside) (old new : State) (d : Did)
-    → Course before o old → RunNext old d new
-    → Loses o.left o'.left (fed_by d.event) → Gains o.taken o'.taken (taken_by 1 d.event) → o'.listing ≤ o.listing + d.effect.cost
-    → Course before o' new
-course_more before o o' old new d c next loses gains counts = record {
-  done = c.done ++ d ∷ [];
-  walk = walk_more RunNext opening c.done old d new c.walk next;
-  read = let e = flat_more (λ (x : Did). fed_by x.event) c.done d in
-      subst (λ bytes. Loses before.left o'.left bytes) (sym e) (loses_more before.left o.left o'.left (all_fed c.done) (fed_by d.event) c.read loses);
-  written = let e = flat_more (λ (x : Did). taken_by 1 x.event) c.done d in
-      subst (λ bytes. Gains before.taken o'.taken bytes) (sym e) (gains_more before.taken o.taken o'.taken (all_taken 1 c.done) (taken_by 1 d.event) c.written gains);
-  counted = omega (arith, c.counted, counts, cost_more c.done d);
+-- one thing that may be done, with what it reads, writes and counts
+pub course_one : (o o' : Outside) (old new : State) (d : Did) → RunNext old d new
+    → Gives o.reading o'.reading (piece_of d.event) → Gains o.taken o'.taken (taken_by 1 d.event)
+    → o'.counted.listing ≤ o.counted.listing + d.effect.cost → o'.counted.update ≡ o.counted.update → o'.counted.rows ≡ o.counted.rows
+    → Course old o o' new
+course_one o o' old new d next gives gains listing update rows = record {
+  done = d ∷ [];
+  walk = (new, next, refl);
+  read = subst (λ pieces. Gives o.reading o'.reading pieces) (sym (append-nil (piece_of d.event))) gives;
+  written = subst (λ bytes. Gains o.taken o'.taken bytes) (sym (append-nil (taken_by 1 d.event))) gains;
+  listing = omega (arith, listing);
+  update = update;
+  rows = rows;
 }
+
+-- one walk, and then another
+walk_then : {D L : Type 0} (May : D → L → D → Type 0) (old : D) (done : List L) (mid : D) (more : List L) (new : D)
+    → Walk May old done mid → Walk May mid more new → Walk May old (done ++ more) new
+walk_then {D = D} May old [] mid more new w v = let e : old ≡ mid = sym w in subst (λ (d : D). Walk May d more new) (sym e) v
+walk_then May old (d ∷ done) mid more new w v = (w.0, w.1, walk_then May w.0 done mid more new w.2 v)
+
+-- One course, and then another.
+pub course_then : (o o' o'' : Outside) (old mid new : State) → Course old o o' mid → Course mid o' o'' new → Course old o o'' new
+course_then o o' o'' old mid new c d = record {
+  done = c.done ++ d.done;
+  walk = walk_then RunNext old c.done mid d.done new c.walk d.walk;
+  read = subst (λ pieces. Gives o.reading o''.reading pieces) (sym (flat_map-append (λ (x : Did). piece_of x.event) c.done d.done)) (gives_more o.reading o'.reading o''.reading (pieces_of c.done) (pieces_of d.done) c.read d.read);
+  written = subst (λ bytes. Gains o.taken o''.taken bytes) (sym (flat_map-append (λ (x : Did). taken_by 1 x.event) c.done d.done)) (gains_more o.taken o'.taken o''.taken (all_taken 1 c.done) (all_taken 1 d.done) c.written d.written);
+  listing = omega (arith, c.listing, d.listing, sum_by-append (λ (x : Did). x.effect.cost) c.done d.done);
+  update = d.update ∙ c.update;
+  rows = d.rows ∙ c.rows;
+}
+
+-- what was done along them
+pub course_one_done : (o o' : Outside) (old new : State) (d : Did) (next : RunNext old d new)
+    (gives : Gives o.reading o'.reading (piece_of d.event)) (gains : Gains o.taken o'.taken (taken_by 1 d.event))
+    (listing : o'.counted.listing ≤ o.counted.listing + d.effect.cost) (update : o'.counted.update ≡ o.counted.update) (rows : o'.counted.rows ≡ o.counted.rows)
+    → (course_one o o' old new d next gives gains listing update rows).done ≡ d ∷ []
+unfolding course_one
+course_one_done o o' old new d next gives gains listing update rows = refl
+
+pub course_then_done : (o o' o'' : Outside) (old mid new : State) (c : Course old o o' mid) (d : Course mid o' o'' new)
+    → (course_then o o' o'' old mid new c d).done ≡ c.done ++ d.done
+unfolding course_then
+course_then_done o o' o'' old mid new c d = refl

@@ -1,5 +1,5 @@
 -- What open cursors have given, along any run: different answers of their queries over the present rows, and all of them where the end was told.
-use Rattle.std.specs.Prelude.{ℕ, List, [], ◌∷◌, ◌==◌, ◌≡◌, ◌<◌, ◌+◌, ◌*◌, ◌++◌, ◌⊎◌, Bool, true, false, not, cond, length, Option, None, Some, is_some, is_none, nat_le, IsSomeAnd, MatchOption, Result, Ok, Err, map, All, codes, ⊤}
+use Rattle.std.specs.Prelude.{ℕ, List, [], ◌∷◌, ◌==◌, ◌≡◌, ◌<◌, ◌+◌, ◌++◌, ◌⊎◌, Bool, true, false, not, cond, length, Option, None, Some, is_some, is_none, nat_le, IsSomeAnd, MatchOption, option_map, Result, Ok, Err, map, All, ⊤}
 use Rattle.std.proofs.Common.{refl, sym, ap, ◌∙◌, subst, inl, inr, arith}
 use Rattle.std.proofs.lemmas.List.Elements.{All-nil, All-append, All-push, All-weaker, All-filter}
 use Rattle.djq_model.specs.declared.relation.Relation.{Relation}
@@ -7,32 +7,39 @@ use Rattle.djq_model.specs.declared.relation.ColumnType.{ColumnType}
 use Rattle.djq_model.specs.declared.query.Query.{Query}
 use Rattle.djq_model.specs.Data.{Bytes, Tuple, bytes_eq, drop_first, rows_of, has_row, without_row, query_of}
 use Rattle.djq_model.specs.Answer.{IsAnswer}
-use Rattle.djq_machine.specs.declared.answer.Cause.{Cause}
-use Rattle.djq_machine.specs.declared.answer.Cause.TheVariants.{Input, Memory}
-use Rattle.djq_machine.specs.declared.answer.Refusal.{Refusal}
-use Rattle.djq_machine.specs.declared.answer.Refusal.TheVariants.{Taken, NoQuery, NoCursor, Limit, NoMemory}
-use Rattle.djq_machine.specs.declared.answer.Added.{Added as AddAnswer}
-use Rattle.djq_machine.specs.declared.answer.Added.TheVariants.{Added, Same}
-use Rattle.djq_machine.specs.declared.answer.Deleted.{Deleted as DeleteAnswer}
-use Rattle.djq_machine.specs.declared.answer.Deleted.TheVariants.{Removed, Absent}
-use Rattle.djq_machine.specs.declared.command.Command.{Command}
-use Rattle.djq_machine.specs.declared.command.Command.TheVariants.{Rel, Add, Del, Query as Register, Open, Next, Close}
-use Rattle.djq_machine.specs.Reply.{line, listing_lines}
-use Rattle.djq_machine.specs.State.{Store, State, Session, Cursor, Place, open_at, stale, fresh, opening, session_of, with_session, cursor_of, with_place, ended_by}
-use Rattle.djq_machine.specs.Store.{first_of, Answers, Relates, Adds, AddDoes, Deletes, DeleteDoes, Registers, Tells, with_rows, rel_refusal, add_refusal, delete_refusal, query_refusal, most_steps}
-use Rattle.djq_machine.specs.Step.{Event, opened, fed, ran, took, ended, closed, Effect, nothing, says, EndsWith, reads, outdated, outdated_cursor, outdated_sessions, add_outdates, delete_outdates, changed, open_refusal, OpenDoes, Lists, ReadsAt, Refused, Does, Acts, queue_all, queue, with_relations, Step}
-use Rattle.djq_machine.specs.Run.{Did, Run}
-use Rattle.djq_machine.specs.Course.{Gives, PlaceGives, CursorsGive}
+use Rattle.djq_lines.specs.declared.answer.EndCause.{EndCause}
+use Rattle.djq_lines.specs.declared.answer.EndCause.TheVariants.{Input, Memory}
+use Rattle.djq_lines.specs.declared.answer.Refusal.{Refusal}
+use Rattle.djq_lines.specs.declared.answer.Refusal.TheVariants.{Taken, NoQuery, NoCursor, Limit, NoMemory}
+use Rattle.djq_lines.specs.declared.answer.AddOutcome.{AddOutcome}
+use Rattle.djq_lines.specs.declared.answer.AddOutcome.TheVariants.{Added, Same}
+use Rattle.djq_lines.specs.declared.answer.DeleteOutcome.{DeleteOutcome}
+use Rattle.djq_lines.specs.declared.answer.DeleteOutcome.TheVariants.{Removed, Absent}
+use Rattle.djq_lines.specs.declared.command.Command.{Command}
+use Rattle.djq_lines.specs.declared.command.Command.TheVariants.{Rel, Add, Del, Query as Register, Drop, Open, Next, Close, Has, Watch, Unwatch, Explain, Quit, Stop}
+use Rattle.djq_lines.specs.declared.limits.TheConstants.{CURSORS, SESSIONS}
+use Rattle.djq_lines.specs.Grammar.{Reading, refused, says as says_command, reading_of}
+use Rattle.djq_lines.specs.Reply.{end_memory}
+use Rattle.djq_machine.specs.State.{Store, State, Session, Cursor, Position, open_at, stale, fresh, session_of, with_session, cursor_of, with_position, ended_by}
+use Rattle.djq_machine.specs.Conditions.{first_of, Answers, OutOfMemoryWhere}
+use Rattle.djq_machine.specs.Store.{MakesRelation, AddsRow, AddsAs, DeletesRow, DeletesAs, RegistersQuery, TellsAnswers, with_rows, rel_refusal, add_refusal, delete_refusal, query_refusal, most_steps}
+use Rattle.djq_machine.specs.Stale.{reads, outdated, outdater_of, outdated_cursor, outdated_sessions, by_relation, add_outdates, delete_outdates, changed}
+use Rattle.djq_machine.specs.Effect.{Effect, nothing, EndsWith, RefusedStep, queue_all, queue}
+use Rattle.djq_machine.specs.Command.{open_refusal, with_cursor, OpensTo, NextStepAt, CloseStep, CommandStep}
+use Rattle.djq_machine.specs.LineStep.{LineOutcome, long, blank, slow, no_room, run, ReadStep, FrontStep, behind_line}
+use Rattle.djq_machine.specs.Step.{Event, opened, fed, stepped, took, ended, closed, FedStep, TookStep, EndedStep, Acts, with_relations, Step}
+use Rattle.djq_machine.specs.Run.{Did}
+use Rattle.djq_machine.specs.Gives.{Gives, PositionGives, CursorsGive}
 use Rattle.djq_machine.proofs.Walks.{walk_keeps}
 use Rattle.djq_laws.proofs.Finding.{some_and}
-use Rattle.djq_laws.proofs.Ways.{Ways, ran_keeps, without_line}
-use Rattle.djq_laws.proofs.Moving.{Finishes}
+use Rattle.djq_laws.proofs.Queueing.{session_changed}
+use Rattle.djq_laws.specs.Given.{RunsGive}
 use Rattle.djq_laws.proofs.Changing.{all_changed, all_found, all_dropped, all_mapped}
 use Rattle.djq_laws.proofs.Answering.{SameAnswers, gives_kept, new_relation_same, reordered_same, unread_same}
 
 -- a cursor gives what it should, over these relations and queries
 abbrev pub CursorGives : List Relation → List Query → Cursor → Type 0
-CursorGives rs qs c = PlaceGives rs (query_of qs c.query) c.place
+CursorGives rs qs c = PositionGives rs (query_of qs c.query) c.position
 
 abbrev pub SessionGives : List Relation → List Query → Session → Type 0
 SessionGives rs qs x = All (CursorGives rs qs) x.cursors
@@ -40,22 +47,22 @@ SessionGives rs qs x = All (CursorGives rs qs) x.cursors
 abbrev pub SessionsGive : List Relation → List Query → List Session → Type 0
 SessionsGive rs qs xs = All (SessionGives rs qs) xs
 
--- A place gives over other relations where the queries have the same answers.
-place_kept : (rs rs' : List Relation) (o : Option Query) (p : Place) → ((q : Query) → SameAnswers rs rs' q) → PlaceGives rs o p → PlaceGives rs' o p
-place_kept rs rs' None (open_at given finished) same h = h
-place_kept rs rs' (Some q) (open_at given finished) same h = gives_kept rs rs' q given finished (same q) h
-place_kept rs rs' o (stale r n) same h = tt
+-- A position gives over other relations where the queries have the same answers.
+position_kept : (rs rs' : List Relation) (o : Option Query) (p : Position) → ((q : Query) → SameAnswers rs rs' q) → PositionGives rs o p → PositionGives rs' o p
+position_kept rs rs' None (open_at given finished) same h = h
+position_kept rs rs' (Some q) (open_at given finished) same h = gives_kept rs rs' q given finished (same q) h
+position_kept rs rs' o (stale r n) same h = tt
 
 relations_give : (rs rs' : List Relation) (qs : List Query) (xs : List Session) → ((q : Query) → SameAnswers rs rs' q) → SessionsGive rs qs xs → SessionsGive rs' qs xs
 relations_give rs rs' qs xs same h =
     All-weaker (SessionGives rs qs) (SessionGives rs' qs)
-    (λ x g. All-weaker (CursorGives rs qs) (CursorGives rs' qs) (λ c k. place_kept rs rs' (query_of qs c.query) c.place same k) x.cursors g) xs h
+    (λ x g. All-weaker (CursorGives rs qs) (CursorGives rs' qs) (λ c k. position_kept rs rs' (query_of qs c.query) c.position same k) x.cursors g) xs h
 
 -- A query that is registered changes no name's meaning.
-place_registered : (rs : List Relation) (o p : Option Query) (place : Place) → ((q : Query) → o ≡ Some q → p ≡ Some q) → PlaceGives rs o place → PlaceGives rs p place
-place_registered rs None p (open_at given finished) same h = absurd h
-place_registered rs (Some q) p (open_at given finished) same h = let e = same q refl in rw e h
-place_registered rs o p (stale r n) same h = tt
+position_registered : (rs : List Relation) (o p : Option Query) (position : Position) → ((q : Query) → o ≡ Some q → p ≡ Some q) → PositionGives rs o position → PositionGives rs p position
+position_registered rs None p (open_at given finished) same h = absurd h
+position_registered rs (Some q) p (open_at given finished) same h = let e = same q refl in rw e h
+position_registered rs o p (stale r n) same h = tt
 
 found_in_front : (qs : List Query) (q : Query) (name : Bytes) (found : Query) → query_of qs name ≡ Some found → query_of (qs ++ q ∷ []) name ≡ Some found
 found_in_front [] q name found e = absurd cc
@@ -70,23 +77,36 @@ registered_give : (rs : List Relation) (qs : List Query) (q : Query) (xs : List 
 registered_give rs qs q xs h =
     All-weaker (SessionGives rs qs) (SessionGives rs (qs ++ q ∷ []))
     (λ x g. All-weaker (CursorGives rs qs) (CursorGives rs (qs ++ q ∷ []))
-    (λ c k. place_registered rs (query_of qs c.query) (query_of (qs ++ q ∷ []) c.query) c.place (λ f e. found_in_front qs q c.query f e) k) x.cursors g) xs h
+    (λ c k. position_registered rs (query_of qs c.query) (query_of (qs ++ q ∷ []) c.query) c.position (λ f e. found_in_front qs q c.query f e) k) x.cursors g) xs h
 
--- After a change of a relation those that read it are stale, and the others have the same answers.
-place_outdated : (rs rs' : List Relation) (o : Option Query) (p : Place) (name : Bytes) (n : ℕ) (b : Bool) → reads o name ≡ b
-    → ((q : Query) → reads (Some q) name ≡ false → SameAnswers rs rs' q) → PlaceGives rs o p → PlaceGives rs' o (cond b (outdated name n p) p)
-place_outdated rs rs' o (stale r m) name n true e same h = tt
-place_outdated rs rs' o (stale r m) name n false e same h = tt
-place_outdated rs rs' o (open_at given finished) name n true e same h = tt
-place_outdated rs rs' None (open_at given finished) name n false e same h = h
-place_outdated rs rs' (Some q) (open_at given finished) name n false e same h = gives_kept rs rs' q given finished (same q e) h
+-- the relation that outdates a query, where there is the query
+abbrev outdater_at : (Query → Option Bytes) → Option Query → Option Bytes
+outdater_at outdater None = None
+outdater_at outdater (Some q) = outdater q
 
-outdated_give : (rs rs' : List Relation) (qs : List Query) (name : Bytes) (n : ℕ) (xs : List Session)
-    → ((q : Query) → reads (Some q) name ≡ false → SameAnswers rs rs' q) → SessionsGive rs qs xs → SessionsGive rs' qs (outdated_sessions qs name n xs)
-outdated_give rs rs' qs name n xs same h =
-    all_mapped (SessionGives rs qs) (SessionGives rs' qs) (λ (x : Session). record x { cursors = map (outdated_cursor qs name n) x.cursors })
-    (λ x g. all_mapped (CursorGives rs qs) (CursorGives rs' qs) (outdated_cursor qs name n)
-    (λ c k. place_outdated rs rs' (query_of qs c.query) c.place name n (reads (query_of qs c.query) name) refl same k) x.cursors g) xs h
+-- After a change the cursors over what it outdates are stale, and the other queries have the same answers.
+position_outdated : (rs rs' : List Relation) (o : Option Query) (p : Position) (outdater : Query → Option Bytes) (n : ℕ) (b : Option Bytes) → outdater_at outdater o ≡ b
+    → ((q : Query) → outdater q ≡ None → SameAnswers rs rs' q) → PositionGives rs o p → PositionGives rs' o (outdated b n p)
+position_outdated rs rs' o (stale r m) outdater n None e same h = tt
+position_outdated rs rs' o (stale r m) outdater n (Some relation) e same h = tt
+position_outdated rs rs' o (open_at given finished) outdater n (Some relation) e same h = tt
+position_outdated rs rs' None (open_at given finished) outdater n None e same h = h
+position_outdated rs rs' (Some q) (open_at given finished) outdater n None e same h = gives_kept rs rs' q given finished (same q e) h
+
+outdated_give : (rs rs' : List Relation) (qs : List Query) (outdater : Query → Option Bytes) (n : ℕ) (xs : List Session)
+    → ((q : Query) → outdater q ≡ None → SameAnswers rs rs' q) → SessionsGive rs qs xs → SessionsGive rs' qs (outdated_sessions qs outdater n xs)
+outdated_give rs rs' qs outdater n xs same h =
+    all_mapped (SessionGives rs qs) (SessionGives rs' qs) (λ (x : Session). record x { cursors = map (outdated_cursor qs outdater n) x.cursors })
+    (λ x g. all_mapped (CursorGives rs qs) (CursorGives rs' qs) (outdated_cursor qs outdater n)
+    (λ c k. position_outdated rs rs' (query_of qs c.query) c.position outdater n (outdater_of qs outdater c.query) refl same k) x.cursors g) xs h
+
+-- a query that a change of a relation doesn't outdate doesn't read it
+unread : (name : Bytes) (q : Query) → by_relation name q ≡ None → reads q name ≡ false
+unread name q h = at_read (reads q name) h
+  where
+    at_read : (b : Bool) → cond b (Some name) None ≡ None → b ≡ false
+    at_read true k = absurd cc
+    at_read false k = refl
 
 same_itself : (rs : List Relation) (q : Query) → SameAnswers rs rs q
 same_itself rs q = record { there = λ t h. h; back = λ t h. h }
@@ -102,63 +122,63 @@ same_gives : (old new : State) → new ≡ old → CursorsGive old → CursorsGi
 same_gives old new e h = subst CursorsGive (sym e) h
 
 -- The commands.
-done_of : {A : Type 0} (o : Option Refusal) (a : A) (D : A → Type 0) (W : Type 0) → Answers o (Ok a) D W → D a
-done_of None a D W h = h
-done_of (Some r) a D W h = absurd h
+done_of : {A : Type 0} (o : Option Refusal) (a : A) (D : A → Type 0) (L : Refusal → Type 0) → Answers o (Ok a) D L → D a
+done_of None a D L h = h
+done_of (Some r) a D L h = absurd h
 
-rel_gives : (old : State) (name : Bytes) (types : List ColumnType) (r : Result ⊤ Refusal) (store : Store) (new : State) → Relates old.store name types r store → new ≡ record old { store = store } → CursorsGive old → CursorsGive new
-rel_gives old name types (Ok u) store new h after g =
-    let e = done_of (rel_refusal old.store name types) u (λ _. store ≡ record old.store { relations = old.store.relations ++ record { name = name; types = types; rows = [] } ∷ [] }) ⊤ h.answer in
+relation_gives : (old : State) (name : Bytes) (types : List ColumnType) (r : Result ⊤ Refusal) (store : Store) (new : State) → MakesRelation old.store name types r store → new ≡ record old { store = store } → CursorsGive old → CursorsGive new
+relation_gives old name types (Ok u) store new h after g =
+    let e = done_of (rel_refusal old.store name types) u (λ _. store ≡ record old.store { relations = old.store.relations ++ record { name = name; types = types; rows = [] } ∷ [] }) (OutOfMemoryWhere ⊤) h.answer in
     subst CursorsGive (sym (after ∙ ap (λ (st : Store). record old { store = st }) e))
     (relations_give old.store.relations (old.store.relations ++ record { name = name; types = types; rows = [] } ∷ []) old.store.queries old.sessions
     (new_relation_same old.store.relations name types) g)
-rel_gives old name types (Err r) store new h after g = same_gives old new (after ∙ ap (λ (st : Store). record old { store = st }) h.stays) g
+relation_gives old name types (Err r) store new h after g = same_gives old new (after ∙ ap (λ (st : Store). record old { store = st }) h.stays) g
 
 -- a change that outdates, or none
 changed_gives : (old : State) (name : Bytes) (rows : List Tuple) (store : Store) (new : State) → store ≡ record old.store { relations = with_rows old.store.relations name rows; seq = old.store.seq + 1 }
     → new ≡ changed old name true store → CursorsGive old → CursorsGive new
 changed_gives old name rows store new e after g =
     subst CursorsGive (sym (after ∙ ap (λ (st : Store). changed old name true st) e))
-    (outdated_give old.store.relations (with_rows old.store.relations name rows) old.store.queries name (old.store.seq + 1) old.sessions
-    (λ q apart. unread_same old.store.relations name rows q apart) g)
+    (outdated_give old.store.relations (with_rows old.store.relations name rows) old.store.queries (by_relation name) (old.store.seq + 1) old.sessions
+    (λ q apart. unread_same old.store.relations name rows q (unread name q apart)) g)
 
 unchanged_gives : (old : State) (name : Bytes) (store : Store) (new : State) → store ≡ old.store → new ≡ changed old name false store → CursorsGive old → CursorsGive new
 unchanged_gives old name store new e after g = same_gives old new (after ∙ ap (λ (st : Store). record old { store = st }) e) g
 
-wanting_gives : (old : State) (name : Bytes) (store : Store) (new : State) → store ≡ old.store → new ≡ changed old name true store → CursorsGive old → CursorsGive new
-wanting_gives old name store new e after g =
+out_of_memory_gives : (old : State) (name : Bytes) (store : Store) (new : State) → store ≡ old.store → new ≡ changed old name true store → CursorsGive old → CursorsGive new
+out_of_memory_gives old name store new e after g =
     subst CursorsGive (sym (after ∙ ap (λ (st : Store). changed old name true st) e))
-    (outdated_give old.store.relations old.store.relations old.store.queries name old.store.seq old.sessions (λ q apart. same_itself old.store.relations q) g)
+    (outdated_give old.store.relations old.store.relations old.store.queries (by_relation name) old.store.seq old.sessions (λ q apart. same_itself old.store.relations q) g)
 
-add_gives : (old : State) (name : Bytes) (row : Tuple) (r : Result AddAnswer Refusal) (store : Store) (new : State) → Adds old.store name row r store → new ≡ changed old name (add_outdates r) store → CursorsGive old → CursorsGive new
+add_gives : (old : State) (name : Bytes) (row : Tuple) (r : Result AddOutcome Refusal) (store : Store) (new : State) → AddsRow old.store name row r store → new ≡ changed old name (add_outdates r) store → CursorsGive old → CursorsGive new
 add_gives old name row (Ok Added) store new h after g =
-    let d = done_of (add_refusal old.store name row) Added (AddDoes old.store name row store) (has_row (rows_of old.store.relations name) row ≡ false) h.answer in
+    let d = done_of (add_refusal old.store name row) Added (AddsAs old.store name row store) (OutOfMemoryWhere (has_row (rows_of old.store.relations name) row ≡ false)) h.answer in
     changed_gives old name (rows_of old.store.relations name ++ row ∷ []) store new d.1 after g
 add_gives old name row (Ok Same) store new h after g =
-    let d = done_of (add_refusal old.store name row) Same (AddDoes old.store name row store) (has_row (rows_of old.store.relations name) row ≡ false) h.answer in
+    let d = done_of (add_refusal old.store name row) Same (AddsAs old.store name row store) (OutOfMemoryWhere (has_row (rows_of old.store.relations name) row ≡ false)) h.answer in
     unchanged_gives old name store new d.1 after g
-add_gives old name row (Err NoMemory) store new h after g = wanting_gives old name store new h.stays after g
+add_gives old name row (Err NoMemory) store new h after g = out_of_memory_gives old name store new h.stays after g
 add_gives old name row (Err _) store new h after g = unchanged_gives old name store new h.stays after g
 
-delete_gives : (old : State) (name : Bytes) (row : Tuple) (r : Result DeleteAnswer Refusal) (store : Store) (new : State) → Deletes old.store name row r store → new ≡ changed old name (delete_outdates r) store → CursorsGive old → CursorsGive new
+delete_gives : (old : State) (name : Bytes) (row : Tuple) (r : Result DeleteOutcome Refusal) (store : Store) (new : State) → DeletesRow old.store name row r store → new ≡ changed old name (delete_outdates r) store → CursorsGive old → CursorsGive new
 delete_gives old name row (Ok Removed) store new h after g =
-    let d = done_of (delete_refusal old.store name row) Removed (DeleteDoes old.store name row store) ⊥ h.answer in
+    let d = done_of (delete_refusal old.store name row) Removed (DeletesAs old.store name row store) (OutOfMemoryWhere ⊥) h.answer in
     changed_gives old name (without_row (rows_of old.store.relations name) row) store new d.1 after g
 delete_gives old name row (Ok Absent) store new h after g =
-    let d = done_of (delete_refusal old.store name row) Absent (DeleteDoes old.store name row store) ⊥ h.answer in
+    let d = done_of (delete_refusal old.store name row) Absent (DeletesAs old.store name row store) (OutOfMemoryWhere ⊥) h.answer in
     unchanged_gives old name store new d.1 after g
 delete_gives old name row (Err r) store new h after g = unchanged_gives old name store new h.stays after g
 
-query_gives : (old : State) (q : Query) (r : Result ℕ Refusal) (store : Store) (new : State) → Registers old.store q r store → new ≡ record old { store = store } → CursorsGive old → CursorsGive new
+query_gives : (old : State) (q : Query) (r : Result ℕ Refusal) (store : Store) (new : State) → RegistersQuery old.store q r store → new ≡ record old { store = store } → CursorsGive old → CursorsGive new
 query_gives old q (Ok most) store new h after g =
-    let d = done_of (query_refusal old.store q) most (λ m. (m ≡ most_steps (length q.head)) × (store ≡ record old.store { queries = old.store.queries ++ q ∷ [] })) ⊤ h.answer in
+    let d = done_of (query_refusal old.store q) most (λ m. (m ≡ most_steps (length q.head)) × (store ≡ record old.store { queries = old.store.queries ++ q ∷ [] })) (OutOfMemoryWhere ⊤) h.answer in
     subst CursorsGive (sym (after ∙ ap (λ (st : Store). record old { store = st }) d.1)) (registered_give old.store.relations old.store.queries q old.sessions g)
 query_gives old q (Err r) store new h after g = same_gives old new (after ∙ ap (λ (st : Store). record old { store = st }) h.stays) g
 
 -- A cursor that opens has given nothing.
-opens_on : (o : Option Refusal) (u : ⊤) (W : Type 0) → Answers o (Ok u) (λ _. ⊤) W → o ≡ None
-opens_on None u W h = refl
-opens_on (Some r) u W h = absurd h
+opens_on : (o : Option Refusal) (u : ⊤) (L : Refusal → Type 0) → Answers o (Ok u) (λ _. ⊤) L → o ≡ None
+opens_on None u L h = refl
+opens_on (Some r) u L h = absurd h
 
 none_second : (a b : Bool) (r t : Refusal) (o : Option Refusal) → cond a (Some r) (cond b (Some t) o) ≡ None → b ≡ false
 none_second true b r t o h = absurd cc
@@ -167,9 +187,9 @@ none_second false false r t o h = refl
 
 query_there : (st : Store) (cursors : List Cursor) (c q : Bytes) → open_refusal st cursors c q ≡ None → is_none (query_of st.queries q) ≡ false
 query_there st cursors c q h =
-    none_second (is_some (cursor_of cursors c)) (is_none (query_of st.queries q)) Taken NoQuery (first_of ((nat_le 16 (length cursors), Limit) ∷ [])) h
+    none_second (is_some (cursor_of cursors c)) (is_none (query_of st.queries q)) Taken NoQuery (first_of ((nat_le CURSORS (length cursors), Limit) ∷ [])) h
 
-nothing_given : (rs : List Relation) (o : Option Query) → is_none o ≡ false → PlaceGives rs o (open_at [] false)
+nothing_given : (rs : List Relation) (o : Option Query) → is_none o ≡ false → PositionGives rs o (open_at [] false)
 nothing_given rs None h = absurd cc
 nothing_given rs (Some q) h = record {
   different = λ i j d lt in_range. absurd (omega arith);
@@ -177,139 +197,151 @@ nothing_given rs (Some q) h = record {
   listing = λ e. absurd cc;
 }
 
-open_gives : (old : State) (s : ℕ) (x : Session) (c q : Bytes) (r : Result ⊤ Refusal) (new : State) → Answers (open_refusal old.store x.cursors c q) r (λ _. ⊤) ⊤
-    → OpenDoes old s c q new r → CursorsGive old → CursorsGive new
+open_gives : (old : State) (s : ℕ) (x : Session) (c q : Bytes) (r : Result ⊤ Refusal) (new : State) → Answers (open_refusal old.store x.cursors c q) r (λ _. ⊤) (OutOfMemoryWhere ⊤)
+    → OpensTo old s c q new r → CursorsGive old → CursorsGive new
 open_gives old s x c q (Ok u) new answer after g =
-    let there = query_there old.store x.cursors c q (opens_on (open_refusal old.store x.cursors c q) u ⊤ answer) in
-    session_gives old new s (λ y. record y { cursors = y.cursors ++ record { name = c; query = q; place = open_at [] false } ∷ [] }) after
-    (λ y found k. All-push (CursorGives old.store.relations old.store.queries) y.cursors (record { name = c; query = q; place = open_at [] false }) k
+    let there = query_there old.store x.cursors c q (opens_on (open_refusal old.store x.cursors c q) u (OutOfMemoryWhere ⊤) answer) in
+    session_gives old new s (with_cursor c q) after
+    (λ y found k. All-push (CursorGives old.store.relations old.store.queries) y.cursors (record { name = c; query = q; position = open_at [] false }) k
     (nothing_given old.store.relations (query_of old.store.queries q) there)) g
 open_gives old s x c q (Err r) new answer after g = same_gives old new after g
 
 -- What `next` tells comes behind what was given.
-told_gives : (rs : List Relation) (q : Query) (given : List Tuple) (finished : Bool) (count : ℕ) (told : List Tuple) (end : Bool)
-    → Gives rs q given finished → Tells rs q given count told end → Gives rs q (given ++ told) end
-told_gives rs q given finished count told end g t =
-    let answers = All-append (IsAnswer rs q) given told g.answers t.answers in
+told_gives : (Answer : Tuple → Type 0) (given : List Tuple) (finished : Bool) (count : ℕ) (told : List Tuple) (end : Bool)
+    → Gives Answer given finished → TellsAnswers Answer given count told end → Gives Answer (given ++ told) end
+told_gives Answer given finished count told end g t =
+    let answers = All-append Answer given told g.answers t.answers in
     record {
       different = t.different;
       answers = answers;
       listing = λ e. record { different = t.different; answers = answers; complete = t.none_left e };
     }
 
-ends_gives : (old : State) (s : ℕ) (cause : Cause) (new : State) → new ≡ with_session old s (ended_by cause) → CursorsGive old → CursorsGive new
+ends_gives : (old : State) (s : ℕ) (cause : EndCause) (new : State) → new ≡ with_session old s (ended_by cause) → CursorsGive old → CursorsGive new
 ends_gives old s cause new after g =
     session_gives old new s (ended_by cause) after (λ x found k. All-nil (CursorGives old.store.relations old.store.queries)) g
 
 -- the cursor that is read, in the session that reads it
-moved_gives : (rs : List Relation) (qs : List Query) (cursors : List Cursor) (c : Bytes) (k : Cursor) (place : Place) → cursor_of cursors c ≡ Some k → PlaceGives rs (query_of qs k.query) place
-    → All (CursorGives rs qs) cursors → All (CursorGives rs qs) (with_place cursors c place)
-moved_gives rs qs cursors c k place found gives h =
-    all_changed (CursorGives rs qs) (λ (z : Cursor). bytes_eq z.name c) (λ (z : Cursor). record z { place = place }) cursors h
-    (λ z at old. let e : k ≡ z = same_found (cursor_of cursors c) k z found at in subst (λ (y : Cursor). PlaceGives rs (query_of qs y.query) place) e gives)
+moved_gives : (rs : List Relation) (qs : List Query) (cursors : List Cursor) (c : Bytes) (k : Cursor) (position : Position) → cursor_of cursors c ≡ Some k
+    → PositionGives rs (query_of qs k.query) position → All (CursorGives rs qs) cursors → All (CursorGives rs qs) (with_position cursors c position)
+moved_gives rs qs cursors c k position found gives h =
+    all_changed (CursorGives rs qs) (λ (z : Cursor). bytes_eq z.name c) (λ (z : Cursor). record z { position = position }) cursors h
+    (λ z at old. let e : k ≡ z = same_found (cursor_of cursors c) k z found at in subst (λ (y : Cursor). PositionGives rs (query_of qs y.query) position) e gives)
   where
     same_found : (o : Option Cursor) (y z : Cursor) → o ≡ Some y → o ≡ Some z → y ≡ z
     same_found o y z e f = cc
 
-lists_give : (old : State) (s : ℕ) (x : Session) (c : Bytes) (k : Cursor) (place : Place) (lines : List Bytes) (cost : ℕ) (o : Option ℕ) (e : Effect) (new : State)
-    → session_of old s ≡ Some x → cursor_of x.cursors c ≡ Some k → PlaceGives old.store.relations (query_of old.store.queries k.query) place
-    → Lists old s (λ y. record y { cursors = with_place y.cursors c place }) lines cost o e new → CursorsGive old → CursorsGive new
-lists_give old s x c k place lines cost None e new at found gives h g =
-    session_gives old new s (λ y. record y { cursors = with_place y.cursors c place }) h.1
+next_at_gives : (old : State) (s : ℕ) (x : Session) (c : Bytes) (k : Cursor) (q : Query) (count : ℕ) (p : Position) (e : Effect) (new : State)
+    → session_of old s ≡ Some x → cursor_of x.cursors c ≡ Some k → query_of old.store.queries k.query ≡ Some q → PositionGives old.store.relations (query_of old.store.queries k.query) p
+    → NextStepAt old s c q count p e new → CursorsGive old → CursorsGive new
+next_at_gives old s x c k q count (stale r n) e new at found is_query gave h g = same_gives old new h.1 g
+next_at_gives old s x c k q count (open_at given finished) e new at found is_query gave (inr h) g = ends_gives old s Memory new h.state g
+next_at_gives old s x c k q count (open_at given finished) e new at found is_query gave (inl h) g =
+    let before : Gives (IsAnswer old.store.relations q) given finished = rw is_query at gave in
+    let after = told_gives (IsAnswer old.store.relations q) given finished count h.told h.end before h.tells in
+    let now : PositionGives old.store.relations (query_of old.store.queries k.query) (open_at (given ++ h.told) h.end) = rw is_query after in
+    session_gives old new s (λ y. record y { cursors = with_position y.cursors c (open_at (given ++ h.told) h.end) }) h.state
     (λ y here cursors. let same : x ≡ y = same_found (session_of old s) x y at here in
-    moved_gives old.store.relations old.store.queries y.cursors c k place (ap (λ (z : Session). cursor_of z.cursors c) (sym same) ∙ found) gives cursors) g
+    moved_gives old.store.relations old.store.queries y.cursors c k (open_at (given ++ h.told) h.end) (ap (λ (z : Session). cursor_of z.cursors c) (sym same) ∙ found) now cursors) g
   where
     same_found : (o : Option Session) (y z : Session) → o ≡ Some y → o ≡ Some z → y ≡ z
     same_found o y z e f = cc
-lists_give old s x c k place lines cost (Some whole) e new at found gives h g = ends_gives old s Memory new h.3 g
-
-reads_give : (old : State) (s : ℕ) (x : Session) (c : Bytes) (k : Cursor) (q : Query) (count : ℕ) (p : Place) (e : Effect) (new : State)
-    → session_of old s ≡ Some x → cursor_of x.cursors c ≡ Some k → query_of old.store.queries k.query ≡ Some q → PlaceGives old.store.relations (query_of old.store.queries k.query) p
-    → ReadsAt old s c q count p e new → CursorsGive old → CursorsGive new
-reads_give old s x c k q count (stale r n) e new at found is_query gave h g = same_gives old new h.1 g
-reads_give old s x c k q count (open_at given finished) e new at found is_query gave h g =
-    let before : Gives old.store.relations q given finished = rw is_query at gave in
-    let after = told_gives old.store.relations q given finished count h.told h.end before h.tells in
-    let now : PlaceGives old.store.relations (query_of old.store.queries k.query) (open_at (given ++ h.told) h.end) = rw is_query after in
-    lists_give old s x c k (open_at (given ++ h.told) h.end) (listing_lines h.told h.end) ((length h.told + 1) * most_steps (length q.head)) h.whole e new at found now h.lists g
 
 next_gives : (old : State) (s : ℕ) (x : Session) (c : Bytes) (count : ℕ) (o : Option Cursor) (e : Effect) (new : State) → session_of old s ≡ Some x → cursor_of x.cursors c ≡ o
-    → MatchOption o (Refused old s NoCursor e new) (λ k. IsSomeAnd (query_of old.store.queries k.query) (λ q. ReadsAt old s c q count k.place e new)) → CursorsGive old → CursorsGive new
+    → MatchOption o (RefusedStep old s NoCursor e new) (λ k. IsSomeAnd (query_of old.store.queries k.query) (λ q. NextStepAt old s c q count k.position e new)) → CursorsGive old → CursorsGive new
 next_gives old s x c count None e new at found h g = same_gives old new h.1 g
 next_gives old s x c count (Some k) e new at found h g =
-    let f = some_and (query_of old.store.queries k.query) (λ q. ReadsAt old s c q count k.place e new) h in
+    let f = some_and (query_of old.store.queries k.query) (λ q. NextStepAt old s c q count k.position e new) h in
     let session = all_found (SessionGives old.store.relations old.store.queries) (λ (y : Session). y.id == s) old.sessions x g at in
     let gave = all_found (CursorGives old.store.relations old.store.queries) (λ (z : Cursor). bytes_eq z.name c) x.cursors k session found in
-    reads_give old s x c k f.0 count k.place e new at found f.1 gave f.2 g
+    next_at_gives old s x c k f.0 count k.position e new at found f.1 gave f.2 g
 
 close_gives : (old : State) (s : ℕ) (c : Bytes) (o : Option Cursor) (e : Effect) (new : State)
-    → MatchOption o (Refused old s NoCursor e new) (λ k. (e ≡ says s (line (codes "ok"))) × (new ≡ with_session old s (λ y. record y { cursors = drop_first (λ z. bytes_eq z.name c) y.cursors })))
-    → CursorsGive old → CursorsGive new
+    → MatchOption o (RefusedStep old s NoCursor e new) (λ k. CloseStep old s c e new) → CursorsGive old → CursorsGive new
 close_gives old s c None e new h g = same_gives old new h.1 g
 close_gives old s c (Some k) e new h g =
     session_gives old new s (λ y. record y { cursors = drop_first (λ z. bytes_eq z.name c) y.cursors }) h.1
     (λ y found k. all_dropped (CursorGives old.store.relations old.store.queries) (λ (z : Cursor). bytes_eq z.name c) y.cursors k) g
 
--- What a line does keeps what cursors give.
-abbrev pub KeepsGiving : State → ℕ → Effect → State → Type 0
-KeepsGiving old s e new = CursorsGive old → CursorsGive new
+-- `stop` changes nothing of the cursors but that the session's are given up
+stopped_gives : (old : State) → CursorsGive old → CursorsGive (record old { stopped = true })
+stopped_gives old g = g
 
-does_give : (old : State) (s : ℕ) (x : Session) (c : Command) (e : Effect) (new : State) → session_of old s ≡ Some x → Does old s x c e new → KeepsGiving old s e new
-does_give old s x (Rel name types) e new found h g = rel_gives old name types h.result h.store new h.relates h.state g
-does_give old s x (Add name row) e new found h g = add_gives old name row h.result h.store new h.adds h.state g
-does_give old s x (Del name row) e new found h g = delete_gives old name row h.result h.store new h.deletes h.state g
-does_give old s x (Register q) e new found h g = query_gives old q h.result h.store new h.registers h.state g
-does_give old s x (Open c q) e new found h g = open_gives old s x c q h.result new h.answer h.state g
-does_give old s x (Next c count) e new found h g = next_gives old s x c count (cursor_of x.cursors c) e new found refl h g
-does_give old s x (Close c) e new found h g = close_gives old s c (cursor_of x.cursors c) e new h g
+command_gives : (old : State) (s : ℕ) (x : Session) (c : Command) (e : Effect) (new : State) → session_of old s ≡ Some x → CommandStep old s x c e new → CursorsGive old → CursorsGive new
+command_gives old s x (Rel name types) e new found h g = relation_gives old name types h.result h.store new h.done h.state g
+command_gives old s x (Add name row) e new found h g = add_gives old name row h.result h.store new h.done h.state g
+command_gives old s x (Del name row) e new found h g = delete_gives old name row h.result h.store new h.done h.state g
+command_gives old s x (Register q) e new found h g = query_gives old q h.result h.store new h.done h.state g
+command_gives old s x (Open c q) e new found h g = open_gives old s x c q h.result new h.answer h.state g
+command_gives old s x (Next c count) e new found h g = next_gives old s x c count (cursor_of x.cursors c) e new found refl h g
+command_gives old s x (Close c) e new found h g = close_gives old s c (cursor_of x.cursors c) e new h g
+command_gives old s x Quit e new found h g = ends_gives old s _ new h.1 g
+command_gives old s x Stop e new found h g = ends_gives (record old { stopped = true }) s _ new h.1 (stopped_gives old g)
+command_gives old s x (Drop q) e new found h g = absurd h
+command_gives old s x (Has q row) e new found h g = absurd h
+command_gives old s x (Watch q) e new found h g = absurd h
+command_gives old s x (Unwatch q) e new found h g = absurd h
+command_gives old s x (Explain q) e new found h g = absurd h
+
+-- The front of a session's bytes.
+read_gives : (old : State) (s : ℕ) (x : Session) (r : Reading) (e : Effect) (new : State) → session_of old s ≡ Some x → ReadStep old s x r e new → CursorsGive old → CursorsGive new
+read_gives old s x (refused r) e new found h g = same_gives old new h.1 g
+read_gives old s x (says_command c) e new found (true, h) g = command_gives old s x c e new found h g
+read_gives old s x (says_command c) e new found (false, h) g = same_gives old new h.1.1 g
 
 -- a session whose cursors stay
 cursors_stay : (old new : State) (s : ℕ) (f : Session → Session) → ((x : Session) → (f x).cursors ≡ x.cursors) → new ≡ with_session old s f → CursorsGive old → CursorsGive new
 cursors_stay old new s f same after g =
     session_gives old new s f after (λ x found k. subst (λ (cs : List Cursor). All (CursorGives old.store.relations old.store.queries) cs) (sym (same x)) k) g
 
-giving_ways : Ways KeepsGiving
-giving_ways = record {
-  blank = λ old s e new said after g. same_gives old new after g;
-  refused = λ old s text e new said after g. same_gives old new after g;
-  ends = λ old s text cause before e new said after g. ends_gives old s cause new after g;
-  taken = λ old s rest e new h g. h (cursors_stay old (without_line old s rest) s (λ y. record y { held = rest }) (λ x. refl) refl g);
-  does = does_give;
-}
+without_line_gives : (old : State) (s : ℕ) (rest : Bytes) → CursorsGive old → CursorsGive (with_session old s (behind_line rest))
+without_line_gives old s rest g = cursors_stay old (with_session old s (behind_line rest)) s (behind_line rest) (λ x. refl) refl g
+
+front_gives : (old : State) (s : ℕ) (x : Session) (outcome : LineOutcome) (e : Effect) (new : State) → session_of old s ≡ Some x → FrontStep old s x outcome e new → CursorsGive old → CursorsGive new
+front_gives old s x long e new found h g = ends_gives old s _ new h.1.1 g
+front_gives old s x (blank l) e new found h g = same_gives (with_session old s (behind_line h.1.rest)) new h.1.then.1 (without_line_gives old s h.1.rest g)
+front_gives old s x (slow l) e new found h g = ends_gives (with_session old s (behind_line h.2.rest)) s _ new h.2.then.1 (without_line_gives old s h.2.rest g)
+front_gives old s x (no_room l) e new found h g = ends_gives (with_session old s (behind_line h.2.rest)) s _ new h.2.then.1 (without_line_gives old s h.2.rest g)
+front_gives old s x (run l) e new found h g =
+    let rest = h.2.rest in
+    let here : session_of (with_session old s (behind_line rest)) s ≡ Some (behind_line rest x) =
+    session_changed old s (behind_line rest) (λ y. refl) ∙ ap (λ o. option_map (behind_line rest) o) found in
+    read_gives (with_session old s (behind_line rest)) s (behind_line rest x) (reading_of l) e new here h.2.then (without_line_gives old s rest g)
 
 -- The events.
-opened_give : (old mid : State) (s : ℕ) → ((length old.sessions < 64) × (mid ≡ record old { sessions = old.sessions ++ fresh s ∷ [] })) ⊎ (mid ≡ old) → CursorsGive old → CursorsGive mid
-opened_give old mid s (inl h) g =
+opened_gives : (old mid : State) (s : ℕ) → ((length old.sessions < SESSIONS) × (mid ≡ record old { sessions = old.sessions ++ fresh s ∷ [] })) ⊎ (mid ≡ old) → CursorsGive old → CursorsGive mid
+opened_gives old mid s (inl h) g =
     subst CursorsGive (sym h.1) (All-push (SessionGives old.store.relations old.store.queries) old.sessions (fresh s) g (All-nil (CursorGives old.store.relations old.store.queries)))
-opened_give old mid s (inr h) g = same_gives old mid h g
+opened_gives old mid s (inr h) g = same_gives old mid h g
 
-fed_give : (old : State) (s : ℕ) (bytes : Bytes) (e : Effect) (mid : State) (c : Option Cause)
+fed_gives : (old : State) (s : ℕ) (bytes : Bytes) (e : Effect) (mid : State) (c : Option EndCause)
     → MatchOption c
-    (((e ≡ nothing) × (mid ≡ with_session old s (λ y. record y { held = y.held ++ bytes }))) ⊎ EndsWith (codes "end memory") Memory old s e mid)
+    (((e ≡ nothing) × (mid ≡ with_session old s (λ y. record y { held = y.held ++ bytes }))) ⊎ EndsWith end_memory Memory old s e mid)
     (λ _. (e ≡ nothing) × (mid ≡ old))
     → CursorsGive old → CursorsGive mid
-fed_give old s bytes e mid None (inl h) g = cursors_stay old mid s (λ y. record y { held = y.held ++ bytes }) (λ x. refl) h.1 g
-fed_give old s bytes e mid None (inr h) g = ends_gives old s Memory mid h.1 g
-fed_give old s bytes e mid (Some c) h g = same_gives old mid h.1 g
+fed_gives old s bytes e mid None (inl h) g = cursors_stay old mid s (λ y. record y { held = y.held ++ bytes }) (λ x. refl) h.1 g
+fed_gives old s bytes e mid None (inr h) g = ends_gives old s Memory mid h.1 g
+fed_gives old s bytes e mid (Some c) h g = same_gives old mid h.1 g
 
-ended_give : (old : State) (s : ℕ) (e : Effect) (mid : State) (x : Session) (c : Option Cause) → Finishes old s e mid x c → CursorsGive old → CursorsGive mid
-ended_give old s e mid x None h g = ends_gives old s Input mid h.2 g
-ended_give old s e mid x (Some c) h g = same_gives old mid h.1 g
+input_gives : (old mid : State) (s : ℕ) (P Q R : Type 0) (c : Option EndCause)
+    → MatchOption c (P × Q × (mid ≡ with_session old s (ended_by Input))) (λ _. R × (mid ≡ old)) → CursorsGive old → CursorsGive mid
+input_gives old mid s P Q R None h g = ends_gives old s Input mid h.2 g
+input_gives old mid s P Q R (Some c) h g = same_gives old mid h.1 g
 
-pub acts_give : (old : State) (event : Event) (e : Effect) (mid : State) → Acts old event e mid → CursorsGive old → CursorsGive mid
-acts_give old (opened s) e mid h g = opened_give old mid s h.1 g
+acts_give : (old : State) (event : Event) (e : Effect) (mid : State) → Acts old event e mid → CursorsGive old → CursorsGive mid
+acts_give old (opened s) e mid h g = opened_gives old mid s h.2 g
 acts_give old (fed s bytes) e mid h g =
-    let f = some_and (session_of old s) (λ x. MatchOption x.cause
-    (((e ≡ nothing) × (mid ≡ with_session old s (λ y. record y { held = y.held ++ bytes }))) ⊎ EndsWith (codes "end memory") Memory old s e mid)
-    (λ _. (e ≡ nothing) × (mid ≡ old))) h in
-    fed_give old s bytes e mid (f.0).cause f.2 g
-acts_give old (ran s) e mid h g = ran_keeps KeepsGiving giving_ways old s e mid h g
+    let f = some_and (session_of old s) (λ x. FedStep old s bytes x e mid) h in
+    fed_gives old s bytes e mid (f.0).cause f.2 g
+acts_give old (stepped s outcome) e mid h g =
+    let f = some_and (session_of old s) (λ x. (x.cause ≡ None) × FrontStep old s x outcome e mid) h in
+    front_gives old s f.0 outcome e mid f.1 f.2.1 g
 acts_give old (took s bytes) e mid h g =
-    let f = some_and (session_of old s) (λ x. (rest : Bytes) × (x.pending ≡ bytes ++ rest) × (mid ≡ with_session old s (λ y. record y { pending = rest }))) h.1 in
-    cursors_stay old mid s (λ y. record y { pending = f.2.0 }) (λ x. refl) f.2.2 g
+    let f = some_and (session_of old s) (λ x. TookStep old s bytes x e mid) h in
+    cursors_stay old mid s (λ y. record y { pending = f.2.1.0 }) (λ x. refl) f.2.1.2 g
 acts_give old (ended s) e mid h g =
-    let f = some_and (session_of old s) (λ x. Finishes old s e mid x x.cause) h in
-    ended_give old s e mid f.0 (f.0).cause f.2 g
+    let f = some_and (session_of old s) (λ x. EndedStep old s x e mid) h in
+    input_gives old mid s _ _ _ (f.0).cause f.2 g
 acts_give old (closed s bytes) e mid h g =
     subst CursorsGive (sym h.2) (All-filter (λ (x : Session). not (x.id == s)) (SessionGives old.store.relations old.store.queries) old.sessions g)
 
@@ -325,8 +357,5 @@ step_gives old event e new h g =
     relations_give mid.store.relations h.relations mid.store.queries mid.sessions (λ q. reordered_same mid.store.relations h.relations q h.reordered) acted in
     subst CursorsGive (sym h.queued) (queued_give (with_relations mid h.relations) e.queued reordered)
 
-pub runs_give : (old : State) (done : List Did) (new : State) → Run old done new → CursorsGive old → CursorsGive new
+pub runs_give : RunsGive
 runs_give old done new w g = walk_keeps (λ (o : State) (d : Did) (n : State). Step o d.event d.effect n) CursorsGive (λ o d n h. step_gives o d.event d.effect n h) old done new w g
-
-pub run_gives : (done : List Did) (new : State) → Run opening done new → CursorsGive new
-run_gives done new w = runs_give opening done new w (All-nil (SessionGives [] []))

@@ -4,7 +4,8 @@ use Rattle.std.proofs.Common.{refl, sym, ap, ◌∙◌, append_assoc, append-nil
 use Rattle.std.proofs.lemmas.Bool.{eqb-true}
 use Rattle.djq_model.specs.Data.{Bytes}
 use Rattle.djq_machine.specs.State.{State, Session, session_of, with_session}
-use Rattle.djq_machine.specs.Step.{Event, Effect, Step, queue, queue_all}
+use Rattle.djq_machine.specs.Effect.{Effect, queue, queue_all}
+use Rattle.djq_machine.specs.Step.{Event, Step}
 use Rattle.djq_machine.specs.Run.{to_session, pending_of, pending_in}
 use Rattle.djq_machine.specs.Call.{IsOpen, cause_of, held_of, cause_in, held_in}
 use Rattle.djq_laws.proofs.Finding.{find_changed, find_other}

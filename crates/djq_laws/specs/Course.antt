@@ -1,77 +1,59 @@
 -- A course of the program under the words `run`: one session, from a source to a sink.
-use Rattle.std.specs.Prelude.{ℕ, List, [], ◌≡◌, ◌+◌, ◌++◌, ◌<◌, ◌≤◌, Bool, true, false, Option, None, Some, IsSomeAnd, length, All}
-use Rattle.djq_io.specs.Source.{Loses}
+use Rattle.std.specs.Prelude.{ℕ, List, [], ◌≡◌, ◌+◌, ◌<◌, ◌≤◌, true, Option, None, IsSomeAnd, length}
+use Rattle.djq_io.specs.Source.{Reading, Gives}
 use Rattle.djq_io.specs.Sink.{Gains}
-use Rattle.djq_model.specs.declared.relation.Relation.{Relation}
-use Rattle.djq_model.specs.declared.query.Query.{Query}
-use Rattle.djq_model.specs.Data.{Bytes, Tuple, query_of}
-use Rattle.djq_model.specs.Answer.{IsAnswer, IsListing, AreDifferent}
-use Rattle.djq_machine.specs.State.{State, Session, Place, open_at, stale, opening, session_of}
-use Rattle.djq_machine.specs.Step.{Event, opened, fed, ran, took, ended, closed, Step, is_dry}
-use Rattle.djq_machine.specs.Run.{Did, Walk, out, all_taken, all_fed, cost_of, pending_of}
+use Rattle.djq_model.specs.Data.{Bytes}
+use Rattle.djq_machine.specs.State.{State, Session, session_of}
+use Rattle.djq_machine.specs.Step.{Event, opened, fed, stepped, took, ended, closed, Step, is_dry}
+use Rattle.djq_machine.specs.Run.{Did, Walk, all_taken, pieces_of, cost_of}
+use Rattle.djq_machine.specs.Call.{Counts}
+use Rattle.djq_laws.specs.declared.limits.TheConstants.{READ_BYTES}
 
--- it has no end cause, and a line of it can be run
-abbrev pub can_run : Session → Bool
-can_run x = running x.cause (is_dry x.held)
-  where
-    running : {C : Type 0} → Option C → Bool → Bool
-    running (Some c) b = false
-    running None true = false
-    running None false = true
+-- Nothing is pending, no line can be run, and input may come.
+pub record AwaitsInput (x : Session) : Type 0 where
+  pub written : x.pending ≡ []
+  pub running : x.cause ≡ None
+  pub dry : is_dry x.held ≡ true
 
--- nothing is pending, no line can be run, and input may come
-abbrev pub AwaitsInput : Session → Type 0
-AwaitsInput x = (x.pending ≡ []) × (x.cause ≡ None) × (is_dry x.held ≡ true)
-
--- What `run` may do next. It opens session 1 first. While bytes are pending it does nothing but write,
--- while a line can be run nothing but run it, and it reads nothing once the session has ended.
+-- What `run` may do next. It opens session 1 first. While bytes are pending it does nothing but
+-- write, while a line can be run nothing but run it, and it reads nothing once the session has
+-- ended.
 abbrev pub MayRun : State → Event → Type 0
-MayRun st (opened s) = (s ≡ 1) × (st ≡ opening)
-MayRun st (fed s bytes) = (s ≡ 1) × (0 < length bytes) × IsSomeAnd (session_of st 1) AwaitsInput
-MayRun st (ran s) = (s ≡ 1) × IsSomeAnd (session_of st 1) (λ x. x.pending ≡ [])
+MayRun st (opened s) = (s ≡ 1) × (st.sessions ≡ [])
+MayRun st (fed s bytes) = (s ≡ 1) × (0 < length bytes) × (length bytes ≤ READ_BYTES)
+    × IsSomeAnd (session_of st 1) AwaitsInput
+MayRun st (stepped s outcome) = (s ≡ 1) × IsSomeAnd (session_of st 1) (λ x. x.pending ≡ [])
 MayRun st (took s bytes) = (s ≡ 1) × (0 < length bytes)
 MayRun st (ended s) = (s ≡ 1) × IsSomeAnd (session_of st 1) AwaitsInput
 MayRun st (closed s bytes) = ⊥
 
+-- one thing that `run` may do next
 abbrev pub RunNext : State → Did → State → Type 0
 RunNext old d new = MayRun old d.event × Step old d.event d.effect new
 
--- What the program's source, sink and counter tell: the bytes left, the bytes taken, and the count.
+-- All that the outside of the program shows: the source's bytes and pieces and its faults, the
+-- sink's bytes and its faults, and what was counted.
 pub record Outside : Type 0 where
-  pub left : Option Bytes
+  pub reading : Option Reading
+  pub read_faults : ℕ
   pub taken : Option Bytes
-  pub listing : ℕ
+  pub write_faults : ℕ
+  pub counted : Counts
 
-abbrev pub outside : Option Bytes → Option Bytes → ℕ → Outside
-outside left taken listing = record { left = left; taken = taken; listing = listing }
+-- the outside, of its parts
+abbrev pub outside : Option Reading → ℕ → Option Bytes → ℕ → Counts → Outside
+outside reading read_faults taken write_faults counted =
+    record { reading = reading; read_faults = read_faults; taken = taken; write_faults = write_faults; counted = counted }
 
--- A run of the machine from its opening state, as `run` may make it: the source lost what the session was
--- fed, the sink gained what was taken of its pending bytes, and no more was counted than the run may cost.
-pub record Course (before now : Outside) (state : State) : Type 0 where
+-- A run of the machine, as `run` may make it. The pieces that the session was fed are the pieces
+-- that the source gave, in order: what was read is fed, and what it brings about is done before the
+-- next read. The sink gained what was taken of the session's pending bytes. And no more lookups and
+-- links of listings were counted than the run may cost, and no others.
+pub record Course (start : State) (before now : Outside) (state : State) : Type 0 where
   pub done : List Did
-  pub walk : Walk RunNext opening done state
-  pub read : Loses before.left now.left (all_fed done)
+  pub walk : Walk RunNext start done state
+  pub read : Gives before.reading now.reading (pieces_of done)
   pub written : Gains before.taken now.taken (all_taken 1 done)
-  pub counted : now.listing ≤ before.listing + cost_of done
-
--- What every run keeps: a cursor that is open has given different answers of its query over the present
--- rows, and all of them once its last answer was `end`.
-
-pub record Gives (relations : List Relation) (q : Query) (given : List Tuple) (finished : Bool) : Type 0 where
-  pub different : AreDifferent given
-  pub answers : All (IsAnswer relations q) given
-  pub listing : finished ≡ true → IsListing relations q given
-
-abbrev pub PlaceGives : List Relation → Option Query → Place → Type 0
-PlaceGives relations q (open_at given finished) = IsSomeAnd q (λ p. Gives relations p given finished)
-PlaceGives relations q (stale r n) = Unit {0}
-
-abbrev pub CursorsGive : State → Type 0
-CursorsGive st = All (λ x. All (λ c. PlaceGives st.store.relations (query_of st.store.queries c.query) c.place) x.cursors) st.sessions
-
--- The headline, as far as a course went: what the sink gained and what is pending still is all that the
--- run queued, in order; and each open cursor gives what it should.
-pub record Headline (before now : Outside) (state : State) : Type 0 where
-  pub course : Course before now state
-  pub sent : all_taken 1 course.done ++ pending_of state 1 ≡ out 1 course.done
-  pub cursors : CursorsGive state
+  pub listing : now.counted.listing ≤ before.counted.listing + cost_of done
+  pub update : now.counted.update ≡ before.counted.update
+  pub rows : now.counted.rows ≡ before.counted.rows

@@ -1,3 +1,6 @@
 pub mod Moved
+pub mod Rising
 pub mod Sent
+pub mod Lines
+pub mod Course
 pub mod Given

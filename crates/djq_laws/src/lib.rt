@@ -1,11 +1,20 @@
 //! Laws that hold of every run of the join machine, whatever program makes it.
 //!
 //! Each function here is empty: its contract is the law, and its proof says nothing of code. So a
-//! reader finds the laws in one place, and a program that makes a run has them of that run.
+//! reader finds the laws in one place, and a program that makes a run has them of that run. They
+//! hold from any state on, over any number of sessions.
+//!
+//! `specs/Course.antt` says what the program may make of a run under the words `run`, and what its
+//! source, its sink and its counters show of it. It is the one reason that this crate stands on
+//! djq_io.
 #![tactic(auto)]
 
-ghost use Rattle.djq_laws.specs.Moved.{StaysOpen, BytesCome, BytesAreTaken, InputEnds, LineIsRun};
-ghost use Rattle.djq_laws.specs.Sent.{SentBytes, AllSent};
+pub mod limits;
+
+ghost use Rattle.djq_laws.specs.Moved.{StaysOpen, BytesCome, BytesAreTaken, InputEnds, LineIsTaken};
+ghost use Rattle.djq_laws.specs.Rising.{IdsRise};
+ghost use Rattle.djq_laws.specs.Sent.{SentBytes};
+ghost use Rattle.djq_laws.specs.Lines.{LinesInOrder};
 ghost use Rattle.djq_laws.specs.Given.{RunsGive, CoursesGive};
 
 /// A session that is open stays so in every step that doesn't close it.
@@ -14,7 +23,7 @@ pub fn stays_open()
 {}
 
 /// Bytes that come to a session are held behind those that were, or dropped where it has ended; or
-/// it ends for want of memory, and says so.
+/// it ends out of memory, and says so.
 pub fn bytes_come()
     ensures { BytesCome }
 {}
@@ -31,22 +40,27 @@ pub fn input_ends()
     ensures { InputEnds }
 {}
 
-/// A line is run of a session that hadn't ended. Where that ends it, the line was too long, too many
-/// bytes were pending, or memory was wanted.
-pub fn line_is_run()
-    ensures { LineIsRun }
+/// A line is taken of a session that hadn't ended, and is gone from the bytes held. What became of
+/// it says whether the session ends, and by which cause.
+pub fn line_is_taken()
+    ensures { LineIsTaken }
 {}
 
-/// What was taken or dropped of a session's bytes, and then what is pending, is all that was queued
-/// to it, in order: along every run.
+/// The open sessions stay by rising id, along every run.
+pub fn ids_rise()
+    ensures { IdsRise }
+{}
+
+/// What was taken or dropped of a session's bytes, and then what is pending, is what was pending
+/// and all that was queued to it, in order: along every run.
 pub fn sent_bytes()
     ensures { SentBytes }
 {}
 
-/// In a run as `run` makes it nothing is dropped: what was taken, and then what is pending, is all
-/// that was queued.
-pub fn all_sent()
-    ensures { AllSent }
+/// A session's bytes are run in order, whatever the other sessions do: along every run in which it
+/// isn't closed, the lines taken of it are those that its bytes are cut into.
+pub fn lines_in_order()
+    ensures { LinesInOrder }
 {}
 
 /// Along every run an open cursor has given different answers of its query over the present rows,
@@ -55,7 +69,8 @@ pub fn runs_give()
     ensures { RunsGive }
 {}
 
-/// Every course of the program has the headline: the bytes sent, and what the cursors gave.
+/// Every course of the program has the headline: the bytes sent, the lines taken, and what the
+/// cursors gave.
 pub fn courses_give()
     ensures { CoursesGive }
 {}

@@ -1,17 +1,23 @@
 -- What the parts of a run leave of the session.
-use Rattle.std.specs.Prelude.{ℕ, [], ◌++◌, ◌≡◌, Bool, true, Option, Some, IfSome, length, take}
-use Rattle.std.proofs.Common.{sym, ap, ◌∙◌, subst, inl, inr, length-append, arith}
+use Rattle.std.specs.Prelude.{ℕ, [], ◌++◌, ◌≡◌, ◌<◌, true, false, Option, None, Some, IfSome, MatchOption, length, take}
+use Rattle.std.proofs.Common.{refl, sym, ap, ◌∙◌, subst, inl, inr, length-append, length-take, arith}
 use Rattle.std.proofs.lemmas.List.{take_all, nil_from_length}
 use Rattle.djq_model.specs.Data.{Bytes}
-use Rattle.djq_machine.specs.declared.answer.Cause.{Cause}
-use Rattle.djq_machine.specs.declared.answer.Cause.TheVariants.{Input}
+use Rattle.djq_lines.specs.declared.answer.EndCause.{EndCause}
+use Rattle.djq_lines.specs.declared.answer.EndCause.TheVariants.{Input, Quit, Stop, Long, Slow, Memory}
+use Rattle.djq_machine.specs.declared.machine.Stepped.TheVariants.{Ended}
 use Rattle.djq_machine.specs.State.{State}
-use Rattle.djq_machine.specs.Step.{ran}
+use Rattle.djq_machine.specs.LineStep.{LineOutcome, long, blank, slow, no_room, run}
+use Rattle.djq_machine.specs.Step.{stepped}
 use Rattle.djq_machine.specs.Run.{pending_of}
-use Rattle.djq_machine.specs.Call.{IsOpen, Makes, EndsBefore, cause_of, held_of}
-use Rattle.djq_laws.proofs.Moving.{Takes, took_facts}
-use Rattle.djq_laws.proofs.Sending.{RunsALine, ran_facts}
-use Rattle.djq_run.specs.Parts.{TakesFirst, Flushed}
+use Rattle.djq_machine.specs.Call.{IsOpen, MakesCounted, RanStep, EndedStepAs, StepGives, Counts, cause_of, held_of}
+use Rattle.djq_laws.specs.Moved.{EndsByRun}
+use Rattle.djq_laws.specs.Course.{Outside, Course}
+use Rattle.djq_laws.proofs.Courses.{course_begun}
+use Rattle.djq_laws.proofs.Moving.{Takes, took_facts, StepsLine, stepped_facts}
+use Rattle.djq_laws.proofs.Cutting.{front_fewer}
+use Rattle.djq_run.specs.Parts.{TakesFirst, LeavesPending, with_sink}
+use Rattle.djq_run.proofs.Going.{by_line}
 
 -- nothing is behind a list that is the whole
 nothing_behind : (p q : Bytes) → p ≡ take (length p) p ++ q → q ≡ []
@@ -19,28 +25,108 @@ nothing_behind p q e =
     let whole : p ≡ p ++ q = e ∙ ap (λ r. r ++ q) (take_all (length p) p (omega arith)) in
     nil_from_length q (omega (arith, ap length whole, length-append p q))
 
--- what a flush leaves where the first bytes were taken
-pub flushed : (n : ℕ) (whole : Bool) (old new : State) → IsOpen old 1 → TakesFirst n old new → (whole ≡ true → n ≡ length (pending_of old 1)) → Flushed whole old new
-flushed n whole old new there (inl (none, same)) all = record {
+-- something is behind a part
+some_behind : (n : ℕ) (p q : Bytes) → n < length p → p ≡ take n p ++ q → 0 < length q
+some_behind n p q within e = omega (arith, ap length e, length-append (take n p) q, length-take n p)
+
+-- what taking the first bytes leaves of the session
+pub record Taken (n : ℕ) (old new : State) : Type 0 where
+  pub is_open : IsOpen new 1
+  pub held : held_of new 1 ≡ held_of old 1
+  pub cause : cause_of new 1 ≡ cause_of old 1
+  pub pending : pending_of old 1 ≡ take n (pending_of old 1) ++ pending_of new 1
+
+pub taken : (n : ℕ) (old new : State) → IsOpen old 1 → TakesFirst n old new → Taken n old new
+taken n old new there (inl (none, same)) = record {
   is_open = subst (λ st. IsOpen st 1) (sym same) there;
   held = ap (λ st. held_of st 1) same;
   cause = ap (λ st. cause_of st 1) same;
-  written = λ w. ap (λ st. pending_of st 1) same ∙ nil_from_length (pending_of old 1) (sym (all w) ∙ none);
+  pending = let e : take n (pending_of old 1) ≡ [] = ap (λ m. take m (pending_of old 1)) none in
+      sym (ap (λ t. t ++ pending_of new 1) e ∙ ap (λ st. pending_of st 1) same);
 }
-flushed n whole old new there (inr (some, m)) all =
+taken n old new there (inr (some, m)) =
     let t : Takes old new 1 (take n (pending_of old 1)) = took_facts old 1 (take n (pending_of old 1)) m.effect new m.step in
+    record { is_open = t.stays; held = t.held; cause = t.cause; pending = t.pending }
+
+pub all_taken : (n : ℕ) (old new : State) → Taken n old new → n ≡ length (pending_of old 1) → LeavesPending true (pending_of new 1)
+all_taken n old new t all = nothing_behind (pending_of old 1) (pending_of new 1) (t.pending ∙ ap (λ k. take k (pending_of old 1) ++ pending_of new 1) all)
+
+pub part_taken : (n : ℕ) (old new : State) → Taken n old new → n < length (pending_of old 1) → LeavesPending false (pending_of new 1)
+part_taken n old new t within = some_behind n (pending_of old 1) (pending_of new 1) within t.pending
+
+-- A line that was blank or was run: the session stays open, its input hasn't ended, and fewer bytes are held.
+pub record LineRan (old new : State) (before now : Counts) : Type 0 where
+  pub course : (o : Outside) (taken : Option Bytes) (faults : ℕ) → Course old (with_sink o taken faults before) (with_sink o taken faults now) new
+  pub is_open : IsOpen new 1
+  pub input : cause_of new 1 ≡ Some Input → ⊥
+  pub fewer : length (held_of new 1) < length (held_of old 1)
+
+none_input : (c : Option EndCause) → c ≡ None → c ≡ Some Input → ⊥
+none_input c none e = cc
+
+run_input : (c : Option EndCause) → IfSome c EndsByRun → c ≡ Some Input → ⊥
+run_input c h e = subst (λ (o : Option EndCause). IfSome o EndsByRun) e h
+
+pub line_ran : (old new : State) (before now : Counts) → IsOpen old 1 → pending_of old 1 ≡ [] → RanStep old 1 new before now → LineRan old new before now
+line_ran old new before now there pending (l, inl m) =
+    let f : StepsLine old new 1 (blank l) = stepped_facts old 1 (blank l) m.effect new m.step in
     record {
-      is_open = t.stays;
-      held = t.held;
-      cause = t.cause;
-      written = λ w. nothing_behind (pending_of old 1) (pending_of new 1) (t.pending ∙ ap (λ k. take k (pending_of old 1) ++ pending_of new 1) (all w));
+      course = λ o taken faults. by_line o taken faults old new (blank l) before now there pending m;
+      is_open = f.stays;
+      input = none_input (cause_of new 1) f.cause;
+      fewer = front_fewer (held_of old 1) l (held_of new 1) f.held;
+    }
+line_ran old new before now there pending (l, inr m) =
+    let f : StepsLine old new 1 (run l) = stepped_facts old 1 (run l) m.effect new m.step in
+    record {
+      course = λ o taken faults. by_line o taken faults old new (run l) before now there pending m;
+      is_open = f.stays;
+      input = run_input (cause_of new 1) f.cause;
+      fewer = front_fewer (held_of old 1) l (held_of new 1) f.held;
     }
 
--- Running a line keeps the session open, and doesn't end its input.
-pub line_open : (old new : State) (before now : ℕ) → Makes old (ran 1) new before now → IsOpen new 1
-line_open old new before now m = let r : RunsALine old new 1 = ran_facts old 1 m.effect new m.step in r.stays
+-- A step that ran no line: the session has ended by this cause, before it or by it.
+pub record LineEnded (c : EndCause) (old new : State) (before now : Counts) : Type 0 where
+  pub course : (o : Outside) (taken : Option Bytes) (faults : ℕ) → Course old (with_sink o taken faults before) (with_sink o taken faults now) new
+  pub is_open : IsOpen new 1
+  pub cause : cause_of new 1 ≡ Some c
+  pub input : c ≡ Input → cause_of old 1 ≡ Some Input
 
-pub line_input : (old new : State) (before now : ℕ) → Makes old (ran 1) new before now → cause_of new 1 ≡ Some Input → cause_of old 1 ≡ Some Input
-line_input old new before now m e =
-    let r : RunsALine old new 1 = ran_facts old 1 m.effect new m.step in
-    absurd (subst (λ (o : Option Cause). IfSome o EndsBefore) e r.ends)
+ended_now : (c : EndCause) (old new : State) (before now : Counts) (outcome : LineOutcome) → IsOpen old 1 → pending_of old 1 ≡ []
+    → MakesCounted old (stepped 1 outcome) new before now → (StepsLine old new 1 outcome → cause_of new 1 ≡ Some c) → (c ≡ Input → ⊥) → LineEnded c old new before now
+ended_now c old new before now outcome there pending m cause no_input =
+    let f : StepsLine old new 1 outcome = stepped_facts old 1 outcome m.effect new m.step in
+    record {
+      course = λ o taken faults. by_line o taken faults old new outcome before now there pending m;
+      is_open = f.stays;
+      cause = cause f;
+      input = λ e. absurd (no_input e);
+    }
+
+ended_by : (c : EndCause) (old new : State) (before now : Counts) → IsOpen old 1 → pending_of old 1 ≡ [] → EndedStepAs c old 1 new before now → LineEnded c old new before now
+ended_by Long old new before now there pending m = ended_now Long old new before now long there pending m (λ f. f.cause) (λ e. cc)
+ended_by Slow old new before now there pending m = ended_now Slow old new before now (slow m.0) there pending m.1 (λ f. f.cause) (λ e. cc)
+ended_by Memory old new before now there pending m = ended_now Memory old new before now (no_room m.0) there pending m.1 (λ f. f.cause) (λ e. cc)
+ended_by Input old new before now there pending m = absurd m
+ended_by Quit old new before now there pending m = absurd m
+ended_by Stop old new before now there pending m = absurd m
+
+ended_before : (c : EndCause) (old new : State) (before now : Counts) (cause : Option EndCause) → cause_of old 1 ≡ cause → IsOpen old 1 → pending_of old 1 ≡ []
+    → MatchOption cause (EndedStepAs c old 1 new before now) (λ d. (d ≡ c) × (new ≡ old) × (now ≡ before)) → LineEnded c old new before now
+ended_before c old new before now None e there pending h = ended_by c old new before now there pending h
+ended_before c old new before now (Some d) e there pending h =
+    let same : cause_of old 1 ≡ Some c = e ∙ ap (λ k. Some k) h.0 in
+    record {
+      course = λ o taken faults. subst (λ (st : State). Course old (with_sink o taken faults before) (with_sink o taken faults now) st) (sym h.1)
+          (subst (λ (k : Counts). Course old (with_sink o taken faults before) (with_sink o taken faults k) old) (sym h.2) (course_begun (with_sink o taken faults before) old));
+      is_open = subst (λ (st : State). IsOpen st 1) (sym h.1) there;
+      cause = ap (λ (st : State). cause_of st 1) h.1 ∙ same;
+      input = λ i. same ∙ ap (λ k. Some k) i;
+    }
+
+pub line_ended : (c : EndCause) (old new : State) (before now : Counts) → IsOpen old 1 → pending_of old 1 ≡ [] → StepGives old 1 (Ended c) new before now → LineEnded c old new before now
+line_ended c old new before now there pending h = ended_before c old new before now (cause_of old 1) refl there pending h
+
+-- a session has one end cause
+pub one_cause : (c d : EndCause) (o : Option EndCause) → o ≡ Some c → o ≡ Some d → c ≡ d
+one_cause c d o e f = cc

@@ -1,65 +1,87 @@
--- How a run of one session, from a source to a sink, goes on and ends.
-use Rattle.std.specs.Prelude.{ℕ, [], ◌≡◌, ◌≤◌, true, Option, None, IfSome, IsSomeAnd, length}
-use Rattle.djq_io.specs.Source.{Loses}
+-- How a run of one session, from a source to a sink, ends.
+use Rattle.std.specs.Prelude.{ℕ, [], ◌≡◌, ◌<◌, ◌≤◌, ◌⊎◌, true, Option, Some, IfSome, IsSomeAnd, length}
+use Rattle.djq_io.specs.Faults.{Counted}
+use Rattle.djq_io.specs.Source.{Reading}
 use Rattle.djq_model.specs.Data.{Bytes}
-use Rattle.djq_machine.specs.declared.answer.Cause.{Cause}
-use Rattle.djq_machine.specs.declared.answer.Cause.TheVariants.{Input, Quit, Stop, Long, Slow, Memory}
+use Rattle.djq_lines.specs.declared.answer.EndCause.{EndCause}
+use Rattle.djq_lines.specs.declared.answer.EndCause.TheVariants.{Input, Quit, Stop, Long, Slow, Memory}
 use Rattle.djq_machine.specs.State.{State, session_of}
 use Rattle.djq_machine.specs.Step.{is_dry}
-use Rattle.djq_machine.specs.Run.{pending_of}
+use Rattle.djq_machine.specs.Run.{pending_of, all_fed}
 use Rattle.djq_machine.specs.Call.{cause_of, held_of}
-use Rattle.djq_machine.specs.Course.{Outside, Course, AwaitsInput}
+use Rattle.djq_laws.specs.declared.limits.TheConstants.{MOST_READS}
+use Rattle.djq_laws.specs.Course.{Outside, Course, AwaitsInput}
 use Rattle.djq_run.specs.declared.status.Status.{Status}
 use Rattle.djq_run.specs.declared.status.Status.TheVariants.{Done, Usage, ReadFault, WriteFault, HubFault, TurnsUsed, NoMemory, Schedule, SessionEnded}
-
--- Whatever course led to the first state, it goes on to the second.
-abbrev pub Continues : Outside → State → Outside → State → Type 0
-Continues o old o' new = (before : Outside) → Course before o old → Course before o' new
 
 -- Nothing is pending for the session, no line of it can be run, and it has no end cause.
 abbrev pub Awaits : State → Type 0
 Awaits st = IsSomeAnd (session_of st 1) AwaitsInput
 
--- From one state of a source to a later one it gave so many bytes, or more.
-abbrev pub GivesAtLeast : ℕ → Option Bytes → Option Bytes → Type 0
-GivesAtLeast n old new = (given : Bytes) × (n ≤ length given) × Loses old new given
+-- The source has nothing left, where it tells.
+abbrev pub IsAtEnd : Option Reading → Type 0
+IsAtEnd reading = IfSome reading (λ r. r.left ≡ [])
 
--- the most reads of a run
-abbrev pub most_reads : ℕ
-most_reads = 9223372036854775807
+-- The session was ended by the end of its input, with none left and each whole line run; or it
+-- asked for the end.
+abbrev pub IsWellEnded : Option Reading → State → EndCause → Type 0
+IsWellEnded reading st Input = IsAtEnd reading × (is_dry (held_of st 1) ≡ true)
+IsWellEnded reading st Quit = Unit {0}
+IsWellEnded reading st Stop = Unit {0}
+IsWellEnded reading st _ = ⊥
 
--- The session was ended by the end of its input, with none left and each whole line run; or it asked for the end.
--- Of a session that had ended before the run nothing more is said.
-abbrev pub EndsWell : State → Option Bytes → State → Cause → Type 0
-EndsWell old left new Input = cause_of old 1 ≡ None → IfSome left (λ bytes. bytes ≡ []) × (is_dry (held_of new 1) ≡ true)
-EndsWell old left new Quit = Unit {0}
-EndsWell old left new Stop = Unit {0}
-EndsWell old left new _ = ⊥
-
--- a line was too long, or too many bytes were pending
-abbrev pub IsCutOff : Cause → Type 0
+-- A line was too long, or too many bytes were pending.
+abbrev pub IsCutOff : EndCause → Type 0
 IsCutOff Long = Unit {0}
 IsCutOff Slow = Unit {0}
 IsCutOff _ = ⊥
 
--- all that was queued was written, and the session has an end cause of this kind
-abbrev pub EndedBy : (Cause → Type 0) → State → Type 0
-EndedBy P st = (pending_of st 1 ≡ []) × IsSomeAnd (cause_of st 1) P
+-- All that was queued was written, and the session has an end cause of this kind.
+pub record EndedBy (P : EndCause → Type 0) (st : State) : Type 0 where
+  pub written : pending_of st 1 ≡ []
+  pub cause : IsSomeAnd (cause_of st 1) P
 
--- What each status says of the states and of the bytes left, as the run begins and as it ends.
-abbrev pub EndsAs : Status → Option Bytes → State → Option Bytes → State → Type 0
-EndsAs Done left old left' new = EndedBy (EndsWell old left' new) new
-EndsAs SessionEnded left old left' new = EndedBy IsCutOff new
-EndsAs NoMemory left old left' new = EndedBy (λ c. c ≡ Memory) new
-EndsAs ReadFault left old left' new = Awaits new
-EndsAs TurnsUsed left old left' new = Awaits new × GivesAtLeast most_reads left left'
--- what is pending isn't written
-EndsAs WriteFault left old left' new = Unit {0}
-EndsAs Usage left old left' new = ⊥
-EndsAs HubFault left old left' new = ⊥
-EndsAs (Schedule n) left old left' new = ⊥
+-- Some of what was queued isn't written. Where the session's input has ended, the source is at its
+-- end.
+pub record IsUnsent (reading : Option Reading) (st : State) : Type 0 where
+  pub some : 0 < length (pending_of st 1)
+  pub at_end : cause_of st 1 ≡ Some Input → IsAtEnd reading
 
--- How a run ends: its course goes on from any that led to its first state, and the status says how far.
-pub record RunEnds (status : Status) (o : Outside) (old : State) (o' : Outside) (new : State) : Type 0 where
-  pub course : Continues o old o' new
-  pub ends : EndsAs status o.left old o'.left new
+-- What each status says of the state that the run led to, of the bytes that were fed on its way,
+-- and of what is left. With the counts of faults these shut one another out, so each status comes
+-- exactly where what it says holds.
+abbrev pub Stands : Status → Bytes → Option Reading → State → Type 0
+Stands Done fed reading st = EndedBy (IsWellEnded reading st) st
+Stands SessionEnded fed reading st = EndedBy IsCutOff st
+Stands NoMemory fed reading st = EndedBy (λ c. c ≡ Memory) st
+Stands ReadFault fed reading st = Awaits st
+Stands TurnsUsed fed reading st = Awaits st × (MOST_READS ≤ length fed)
+Stands WriteFault fed reading st = IsUnsent reading st
+Stands Usage fed reading st = ⊥
+Stands HubFault fed reading st = ⊥
+Stands (Schedule n) fed reading st = ⊥
+
+-- The first fault of the source ends the run with its status; under every other status there was
+-- none.
+abbrev pub ReadsCount : Status → ℕ → ℕ → Type 0
+ReadsCount ReadFault before now = Counted before now
+ReadsCount _ before now = now ≡ before
+
+-- So it is with the sink.
+abbrev pub WritesCount : Status → ℕ → ℕ → Type 0
+WritesCount WriteFault before now = Counted before now
+WritesCount _ before now = now ≡ before
+
+-- Out of memory before anything was done: the session isn't open.
+abbrev pub NothingDone : Status → Outside → Outside → State → State → Type 0
+NothingDone NoMemory before now start state = (now ≡ before) × (state ≡ start)
+NothingDone _ before now start state = ⊥
+
+-- How a run ends: by which course it came to its last state, what the status says of that, and
+-- which faults there were.
+pub record RunEnds (status : Status) (before now : Outside) (start state : State) : Type 0 where
+  pub course : Course start before now state
+  pub stands : Stands status (all_fed 1 course.done) now.reading state
+      ⊎ NothingDone status before now start state
+  pub read_faults : ReadsCount status before.read_faults now.read_faults
+  pub write_faults : WritesCount status before.write_faults now.write_faults

@@ -1,30 +1,28 @@
-ghost use Rattle.std.specs.Prelude.{◌≡◌, ℕ, ◌<◌, ◌≤◌, [], length, take, None, Some, Option, IsTrue, IsFalse, MatchOption};
-ghost use Rattle.djq_io.specs.Faults.{Rose};
-ghost use Rattle.djq_model.specs.Data.{Bytes};
-ghost use Rattle.djq_machine.specs.Call.{IsOpen};
+ghost use Rattle.std.specs.Prelude.{◌≡◌, ℕ, ◌<◌, ◌≤◌, [], length, take};
+ghost use Rattle.djq_machine.specs.Call.{IsOpen, counts};
 ghost use Rattle.djq_machine.specs.Run.{pending_of};
-ghost use Rattle.djq_machine.specs.Course.{outside};
-ghost use Rattle.djq_run.specs.Ends.{Awaits, Continues, RunEnds};
-ghost use Rattle.djq_run.specs.Parts.{Flushed, ReadEnds, Serves, TakesFirst, status_of};
+ghost use Rattle.djq_laws.specs.declared.limits.TheConstants.{READ_BYTES};
+ghost use Rattle.djq_laws.specs.Course.{Outside, outside, Course};
+ghost use Rattle.djq_run.specs.Ends.{Awaits, RunEnds};
+ghost use Rattle.djq_run.specs.Parts.{Flushed, ReadEnds, Serves, TakesFirst, WritesCount, with_sink, status_of};
 
 use crate::status::Status;
 use djq_io::{Read, Sink, Source, Written, write_all};
-use djq_machine::{Cause, Machine, Stepped};
+use djq_laws::limits::MOST_READS;
+use djq_lines::EndCause;
+use djq_machine::{Machine, Stepped};
 use djq_steps::{Ledgers, Steps};
 
 /// The id of the one session of a run.
 const ID: u64 = 1;
 
-/// The most reads of a run. Each gives a byte at least.
-const MOST_READS: u64 = 9_223_372_036_854_775_807;
-
 /// What the session has come to, once the lines that it holds were run.
-#[derive(Clone, Copy)]
+#[derive(Clone, Copy, Debug)]
 enum Served {
     /// It holds no whole line, and all that was queued was written.
     AwaitsInput,
     /// It has ended, and all that was queued was written.
-    Ended(Cause),
+    Ended(EndCause),
     /// A write failed.
     WriteFault,
 }
@@ -36,19 +34,20 @@ impl Served {
     {
         match self {
             Served::AwaitsInput => None,
-            Served::Ended(Cause::Input | Cause::Quit | Cause::Stop) => Some(Status::Done),
-            Served::Ended(Cause::Long | Cause::Slow) => Some(Status::SessionEnded),
-            Served::Ended(Cause::Memory) => Some(Status::NoMemory),
+            Served::Ended(EndCause::Input | EndCause::Quit | EndCause::Stop) => Some(Status::Done),
+            Served::Ended(EndCause::Long | EndCause::Slow) => Some(Status::SessionEnded),
+            Served::Ended(EndCause::Memory) => Some(Status::NoMemory),
             Served::WriteFault => Some(Status::WriteFault),
         }
     }
 }
 
-/// Serves session 1 of the machine from the source to the sink, until the session or its input ends.
+/// Opens session 1 of the machine and serves it from the source to the sink, until the session or
+/// its input ends. No session of the machine is open before.
 ///
-/// It reads at most as many bytes at a time as the buffer has, runs each line that they complete, and
-/// writes what is pending after each line and at the end. Nothing is read once the session has ended.
-/// What a failed write took of the pending bytes is told to the machine too.
+/// It reads at most as many bytes at a time as the buffer has. What was read is fed, each line that
+/// it completes is run, and what that queues is written, before the next read. Nothing is read once
+/// the session has ended. What a failed write took of the pending bytes is told to the machine too.
 pub fn run_session<M: Machine, S: Source, K: Sink, L: Ledgers>(
     machine: &mut M,
     source: &mut S,
@@ -57,15 +56,17 @@ pub fn run_session<M: Machine, S: Source, K: Sink, L: Ledgers>(
     steps: &mut Steps<L>,
 ) -> Status
     requires room { 0 < length buffer.old }
-    requires open { IsOpen (M.state machine.old) 1 }
-    ensures ends { RunEnds result (outside (S.left source.old) (K.taken sink.old) steps.old.listing) (M.state machine.old) (outside (S.left source.new) (K.taken sink.new) steps.new.listing) (M.state machine.new) }
-    ensures read { result ≡ Status.ReadFault → Rose (S.faults source.old) (S.faults source.new) }
-    ensures write { result ≡ Status.WriteFault → Rose (K.faults sink.old) (K.faults sink.new) }
-    ensures source_later { S.faults source.old ≤ S.faults source.new }
-    ensures sink_later { K.faults sink.old ≤ K.faults sink.new }
+    requires most { length buffer.old ≤ READ_BYTES }
+    requires alone { (M.state machine.old).sessions ≡ [] }
+    ensures { RunEnds result
+        (outside (S.told source.old) (S.faults source.old) (K.taken sink.old) (K.faults sink.old)
+            (counts steps.old.listing steps.old.update steps.old.rows))
+        (outside (S.told source.new) (S.faults source.new) (K.taken sink.new) (K.faults sink.new)
+            (counts steps.new.listing steps.new.update steps.new.rows))
+        (M.state machine.old) (M.state machine.new) }
 {
-    if let Some(status) = serve_held(machine, sink, steps).status() {
-        return status;
+    if machine.open_session(ID).is_err() {
+        return Status::NoMemory;
     }
     for _ in 0..MOST_READS {
         if let Some(status) = serve_read(machine, source, sink, buffer, steps) {
@@ -84,13 +85,14 @@ fn serve_read<M: Machine, S: Source, K: Sink, L: Ledgers>(
     steps: &mut Steps<L>,
 ) -> Option<Status>
     requires room { 0 < length buffer.old }
+    requires most { length buffer.old ≤ READ_BYTES }
     requires awaits { Awaits (M.state machine.old) }
-    ensures course { Continues (outside (S.left source.old) (K.taken sink.old) steps.old.listing) (M.state machine.old) (outside (S.left source.new) (K.taken sink.new) steps.new.listing) (M.state machine.new) }
-    ensures ends { ReadEnds result (S.left source.old) (M.state machine.old) (S.left source.new) (M.state machine.new) }
-    ensures read { result ≡ Some Status.ReadFault → Rose (S.faults source.old) (S.faults source.new) }
-    ensures write { result ≡ Some Status.WriteFault → Rose (K.faults sink.old) (K.faults sink.new) }
-    ensures source_later { S.faults source.old ≤ S.faults source.new }
-    ensures sink_later { K.faults sink.old ≤ K.faults sink.new }
+    ensures { ReadEnds result
+        (outside (S.told source.old) (S.faults source.old) (K.taken sink.old) (K.faults sink.old)
+            (counts steps.old.listing steps.old.update steps.old.rows))
+        (outside (S.told source.new) (S.faults source.new) (K.taken sink.new) (K.faults sink.new)
+            (counts steps.new.listing steps.new.update steps.new.rows))
+        (M.state machine.old) (M.state machine.new) }
 {
     match source.read(buffer) {
         Read::Got(count) => {
@@ -109,17 +111,21 @@ fn serve_read<M: Machine, S: Source, K: Sink, L: Ledgers>(
     }
 }
 
-/// Runs the whole lines that the session holds. What is pending is written first and after each line.
+/// Runs the whole lines that the session holds. What is pending is written first and after each
+/// line.
 fn serve_held<M: Machine, K: Sink, L: Ledgers>(
     machine: &mut M,
     sink: &mut K,
     steps: &mut Steps<L>,
 ) -> Served
     requires { IsOpen (M.state machine.old) 1 }
-    ensures course { (left : Option Bytes) → Continues (outside left (K.taken sink.old) steps.old.listing) (M.state machine.old) (outside left (K.taken sink.new) steps.new.listing) (M.state machine.new) }
+    ensures course { (o : Outside) → Course (M.state machine.old)
+        (with_sink o (K.taken sink.old) (K.faults sink.old)
+            (counts steps.old.listing steps.old.update steps.old.rows))
+        (with_sink o (K.taken sink.new) (K.faults sink.new)
+            (counts steps.new.listing steps.new.update steps.new.rows)) (M.state machine.new) }
     ensures serves { Serves result (M.state machine.old) (M.state machine.new) }
-    ensures write { result ≡ Served.WriteFault → Rose (K.faults sink.old) (K.faults sink.new) }
-    ensures later { K.faults sink.old ≤ K.faults sink.new }
+    ensures faults { WritesCount result (K.faults sink.old) (K.faults sink.new) }
 {
     'lines: while flush(machine, sink) {
         match machine.step(ID, steps) {
@@ -139,10 +145,8 @@ fn serve_held<M: Machine, K: Sink, L: Ledgers>(
 /// Writes what is pending for the session, and tells whether all of it was taken.
 fn flush<M: Machine, K: Sink>(machine: &mut M, sink: &mut K) -> bool
     requires { IsOpen (M.state machine.old) 1 }
-    ensures course { (left : Option Bytes) (listing : ℕ) → Continues (outside left (K.taken sink.old) listing) (M.state machine.old) (outside left (K.taken sink.new) listing) (M.state machine.new) }
-    ensures flushed { Flushed result (M.state machine.old) (M.state machine.new) }
-    ensures write { IsFalse result → Rose (K.faults sink.old) (K.faults sink.new) }
-    ensures later { K.faults sink.old ≤ K.faults sink.new }
+    ensures { Flushed result (K.taken sink.old) (K.faults sink.old) (M.state machine.old)
+        (K.taken sink.new) (K.faults sink.new) (M.state machine.new) }
 {
     let pending = machine.pending(ID);
     let whole = pending.len();

@@ -16,7 +16,7 @@ pub enum Status {
     HubFault,
     /// 5: all turns were used.
     TurnsUsed,
-    /// 6: memory was wanted.
+    /// 6: out of memory.
     NoMemory,
     /// 7: this line of the schedule, counted from 1, is outside its grammar.
     Schedule(u64),

@@ -1,5 +1,5 @@
-use Rattle.djq_laws.proofs.Sending.{run_sent}
+use Rattle.djq_laws.proofs.Sending.{run_bytes}
 use Rattle.djq_laws.proofs.sent_bytes.Goals as goal
 
 pub returns : goal.returns
-returns c = run_sent
+returns c = run_bytes

@@ -1,23 +1,37 @@
-use Rattle.std.proofs.Common.{arith}
-use Rattle.djq_run.proofs.Going.{goes_on}
-use Rattle.djq_run.proofs.Ending.{later_ends, gives_more}
+use Rattle.std.proofs.Common.{refl, sym, ◌∙◌, arith}
+use Rattle.djq_machine.specs.Call.{counts}
+use Rattle.djq_laws.specs.Course.{outside}
+use Rattle.djq_run.proofs.Ending.{run_ends, so_far_more, turns_used, not_opened, begun}
 use Rattle.djq_run.proofs.session.run_session.Goals as goal
 
+-- The session isn't opened.
+pub returns-then-is_err : goal.returns-then-is_err
+returns-then-is_err g c = not_opened _ _ _ c.open_session.result (sym c.if-is_err.ensures.value) c.open_session.ensures
+
+-- It is, and nothing was read.
+pub loop-init : goal.loop-init
+loop-init g c =
+    let entry = outside (g.S.Source.told c.args.source.now) (g.S.Source.faults c.args.source.now) (g.K.Sink.taken c.args.sink.now) (g.K.Sink.faults c.args.sink.now)
+    (counts c.args.steps.now.listing c.args.steps.now.update c.args.steps.now.rows) in
+    let b = begun entry _ _ c.open_session.result (sym c.if-is_err.ensures.value) c.open_session.ensures c.requires.alone in
+    record { awaits = b.0; so_far = b.1; reads = refl; writes = refl; room = refl }
+
 -- The run so far, and a read that ends it.
-pub returns-in-Some-serve_read-clause-ends : goal.returns-in-Some-serve_read-clause-ends
-returns-in-Some-serve_read-clause-ends g c = record {
-  course = goes_on _ _ _ _ _ _ c.loop.invariant.course c.serve_read.ensures.course;
-  ends = later_ends c.in-Some-serve_read.status c.loop.counter _ _ _ _ _ _ c.loop.invariant.awaits c.loop.invariant.given c.in-Some-serve_read.ensures.ends;
-}
+pub returns-in-Some : goal.returns-in-Some
+returns-in-Some g c = run_ends c.in-Some.status _ _ _ _ _ _ c.loop.invariant.so_far.0 c.in-Some.ensures c.loop.invariant.reads c.loop.invariant.writes
 
 -- The run so far, and a read that gave a byte at least.
 pub loop-preserved : goal.loop-preserved
 loop-preserved g c =
-    let gave = c.in_default-serve_read.ensures.ends in
+    let read = c.in_default.ensures in
     record {
-      awaits = gave.0;
-      course = goes_on _ _ _ _ _ _ c.loop.invariant.course c.serve_read.ensures.course;
-      given = gives_more c.loop.counter 1 _ _ _ c.loop.invariant.given gave.1;
-      source_later = omega (arith, c.loop.invariant.source_later, c.serve_read.ensures.source_later);
-      sink_later = omega (arith, c.loop.invariant.sink_later, c.serve_read.ensures.sink_later);
+      awaits = read.goes_on.0;
+      so_far = so_far_more _ _ _ _ _ _ c.loop.counter c.loop.invariant.so_far.0 c.loop.invariant.so_far.1 read;
+      reads = read.goes_on.2 ∙ c.loop.invariant.reads;
+      writes = read.goes_on.3 ∙ c.loop.invariant.writes;
+      room = c.serve_read.auto.buffer ∙ c.loop.invariant.room;
     }
+
+-- Every read was made.
+pub returns : goal.returns
+returns g c = turns_used _ _ _ _ c.loop.invariant.so_far.0 (omega (arith, c.loop.invariant.so_far.1, c.loop-test.false)) c.loop.invariant.awaits c.loop.invariant.reads c.loop.invariant.writes

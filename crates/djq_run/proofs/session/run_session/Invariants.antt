@@ -1,18 +1,24 @@
-use Rattle.std.proofs.Common.{◌≤◌}
-use Rattle.djq_machine.specs.Course.{outside}
-use Rattle.djq_run.specs.Ends.{Awaits, Continues, GivesAtLeast}
+use Rattle.std.proofs.Common.{◌≡◌, ◌≤◌, length}
+use Rattle.djq_machine.specs.Run.{all_fed}
+use Rattle.djq_machine.specs.Call.{counts}
+use Rattle.djq_laws.specs.Course.{outside, Course}
+use Rattle.djq_run.specs.Ends.{Awaits}
 use Rattle.djq_run.proofs.session.run_session.Given as goal
 
--- The run went on from the entry to a state that awaits input, and each read gave a byte at least.
+-- The run went on from the entry to a state that awaits input, each read gave a byte at least, and no fault was met.
 abbrev pub invariant-loop : goal.invariant-loop
 invariant-loop g l =
     let state = g.M.Machine.state in
-    let left = g.S.Source.left in
+    let told = g.S.Source.told in
+    let reads = g.S.Source.faults in
     let taken = g.K.Sink.taken in
+    let writes = g.K.Sink.faults in
+    let entry = outside (told l.fn.source) (reads l.fn.source) (taken l.fn.sink) (writes l.fn.sink) (counts l.fn.steps.listing l.fn.steps.update l.fn.steps.rows) in
+    let now = outside (told l.source) (reads l.source) (taken l.sink) (writes l.sink) (counts l.steps.listing l.steps.update l.steps.rows) in
     record {
       awaits : Awaits (state l.machine);
-      course : Continues (outside (left l.fn.source) (taken l.fn.sink) l.fn.steps.listing) (state l.fn.machine) (outside (left l.source) (taken l.sink) l.steps.listing) (state l.machine);
-      given : GivesAtLeast l.counter (left l.fn.source) (left l.source);
-      source_later : g.S.Source.faults l.fn.source ≤ g.S.Source.faults l.source;
-      sink_later : g.K.Sink.faults l.fn.sink ≤ g.K.Sink.faults l.sink;
+      so_far : (course : Course (state l.fn.machine) entry now (state l.machine)) × (l.counter ≤ length (all_fed 1 course.done));
+      reads : reads l.source ≡ reads l.fn.source;
+      writes : writes l.sink ≡ writes l.fn.sink;
+      room : length l.buffer ≡ length l.fn.buffer;
     }

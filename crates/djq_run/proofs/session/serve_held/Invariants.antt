@@ -1,21 +1,23 @@
-use Rattle.std.proofs.Common.{◌≡◌, ◌≤◌, Option, Some, length}
-use Rattle.djq_model.specs.Data.{Bytes}
-use Rattle.djq_machine.specs.declared.answer.Cause.TheVariants.{Input}
-use Rattle.djq_machine.specs.Call.{IsOpen, cause_of, held_of}
-use Rattle.djq_machine.specs.Course.{outside}
-use Rattle.djq_run.specs.Ends.{Continues}
+use Rattle.std.proofs.Common.{◌≡◌, Some, length}
+use Rattle.djq_lines.specs.declared.answer.EndCause.TheVariants.{Input}
+use Rattle.djq_machine.specs.Call.{IsOpen, counts, cause_of, held_of}
+use Rattle.djq_laws.specs.Course.{Outside, Course}
+use Rattle.djq_run.specs.Parts.{with_sink}
 use Rattle.djq_run.proofs.session.serve_held.Given as goal
 
--- The run went on from the entry, and no line ended the input.
+-- The run went on from the entry, no line ended the input, and no write failed.
 abbrev pub invariant-lines : goal.invariant-lines
 invariant-lines g l =
     let state = g.M.Machine.state in
     let taken = g.K.Sink.taken in
+    let faults = g.K.Sink.faults in
     record {
       is_open : IsOpen (state l.machine) 1;
-      course : (left : Option Bytes) → Continues (outside left (taken l.fn.sink) l.fn.steps.listing) (state l.fn.machine) (outside left (taken l.sink) l.steps.listing) (state l.machine);
+      course : (o : Outside) → Course (state l.fn.machine)
+          (with_sink o (taken l.fn.sink) (faults l.fn.sink) (counts l.fn.steps.listing l.fn.steps.update l.fn.steps.rows))
+          (with_sink o (taken l.sink) (faults l.sink) (counts l.steps.listing l.steps.update l.steps.rows)) (state l.machine);
       input : cause_of (state l.machine) 1 ≡ Some Input → cause_of (state l.fn.machine) 1 ≡ Some Input;
-      later : g.K.Sink.faults l.fn.sink ≤ g.K.Sink.faults l.sink;
+      same : faults l.sink ≡ faults l.fn.sink;
     }
 
 abbrev pub decreases-lines : goal.decreases-lines

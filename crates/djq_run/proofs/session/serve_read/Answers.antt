@@ -1,54 +1,110 @@
-use Rattle.std.proofs.Common.{◌<◌, Option, length, take, arith, sym, subst, length-take}
-use Rattle.djq_run.specs.declared.status.Status.{Status}
-use Rattle.djq_run.specs.Parts.{Flushed, ReadEnds, status_of}
+use Rattle.std.proofs.Common.{◌<◌, ◌≤◌, length, take, refl, sym, subst, length-take, arith}
+use Rattle.std.specs.Prelude.{Option}
+use Rattle.djq_machine.specs.Call.{counts}
+use Rattle.djq_laws.specs.declared.limits.TheConstants.{READ_BYTES}
+use Rattle.djq_laws.specs.Course.{outside}
 use Rattle.djq_laws.proofs.Moving.{fed_facts, ended_facts}
-use Rattle.djq_run.proofs.Going.{goes_on, by_piece, by_end}
-use Rattle.djq_run.proofs.Ending.{piece_open, piece_input, end_open, served_as, read_ends, input_ended}
+use Rattle.djq_laws.proofs.Courses.{course_then}
+use Rattle.djq_run.specs.declared.status.Status.{Status}
+use Rattle.djq_run.specs.Parts.{ReadEnds}
+use Rattle.djq_run.proofs.Going.{by_piece, by_end, by_failure}
+use Rattle.djq_run.proofs.Ending.{piece_open, piece_ends, end_open, input_ended, ends_done, still_at_end}
 use Rattle.djq_run.proofs.session.serve_read.Goals as goal
 
 pub serve_held-requires : goal.serve_held-requires
-serve_held-requires g c = piece_open _ _ _ (fed_facts _ 1 _ _ _ c.feed.ensures.step)
+serve_held-requires g c = piece_open _ _ _ (fed_facts _ 1 _ _ _ c.feed.ensures.makes.step)
 
 pub flush-requires : goal.flush-requires
 flush-requires g c = end_open _ _ (ended_facts _ 1 _ _ c.end_session.ensures.step)
 
 -- A piece comes, and its lines are run.
-pub returns-in-Got-clause-course : goal.returns-in-Got-clause-course
-returns-in-Got-clause-course g c =
+pub returns-in-Got : goal.returns-in-Got
+returns-in-Got g c =
+    let state = g.M.Machine.state in
+    let told = g.S.Source.told in
+    let rf = g.S.Source.faults in
+    let taken = g.K.Sink.taken in
+    let wf = g.K.Sink.faults in
+    let old = state c.args.machine.now in
+    let mid = state c.feed.new.self in
+    let new = state c.serve_held.new.machine in
+    let before = counts c.args.steps.now.listing c.args.steps.now.update c.args.steps.now.rows in
+    let now = counts c.serve_held.new.steps.listing c.serve_held.new.steps.update c.serve_held.new.steps.rows in
+    let o = outside (told c.args.source.now) (rf c.args.source.now) (taken c.args.sink.now) (wf c.args.sink.now) before in
+    let mid_o = outside (told c.read.new.self) (rf c.read.new.self) (taken c.args.sink.now) (wf c.args.sink.now) before in
+    let o' = outside (told c.read.new.self) (rf c.read.new.self) (taken c.serve_held.new.sink) (wf c.serve_held.new.sink) now in
     let reads = c.in-Got.ensures.reads in
     let bytes = take c.in-Got.count c.read.new.buf in
     let some : 0 < length bytes = omega (arith, length-take c.in-Got.count c.read.new.buf, reads.0, reads.1) in
-    goes_on _ _ _ _ _ _ (by_piece _ _ (g.K.Sink.taken c.args.sink.now) c.args.steps.now.listing _ _ bytes c.requires.awaits some reads.2 c.feed.ensures)
-    (c.serve_held.ensures.course (g.S.Source.left c.read.new.self))
+    let few : length bytes ≤ READ_BYTES = omega (arith, length-take c.in-Got.count c.read.new.buf, reads.1, c.read.auto.buf, c.requires.most) in
+    let m = c.feed.ensures.makes in
+    let piece = by_piece (told c.args.source.now) (told c.read.new.self) (rf c.args.source.now) (rf c.read.new.self) (taken c.args.sink.now) (wf c.args.sink.now) before old mid bytes c.requires.awaits some few reads.2 m in
+    subst (λ (s : Option Status). ReadEnds s o o' old new) (sym c.status.ensures)
+    (piece_ends c.serve_held.result o mid_o o' old mid new bytes piece (c.serve_held.ensures.course mid_o) c.requires.awaits (fed_facts old 1 bytes m.effect mid m.step)
+    c.serve_held.ensures.serves some c.in-Got.ensures.faults c.serve_held.ensures.faults)
 
-pub returns-in-Got-clause-ends : goal.returns-in-Got-clause-ends
-returns-in-Got-clause-ends g c =
+-- The input ends, and what that queued is written.
+pub returns-then-flush : goal.returns-then-flush
+returns-then-flush g c =
     let state = g.M.Machine.state in
-    let left = g.S.Source.left in
-    let reads = c.in-Got.ensures.reads in
-    let bytes = take c.in-Got.count c.read.new.buf in
-    let some : 0 < length bytes = omega (arith, length-take c.in-Got.count c.read.new.buf, reads.0, reads.1) in
-    let comes = fed_facts (state c.args.machine.now) 1 bytes c.feed.ensures.effect (state c.feed.new.self) c.feed.ensures.step in
-    subst (λ (o : Option Status). ReadEnds o (left c.args.source.now) (state c.args.machine.now) (left c.read.new.self) (state c.serve_held.new.machine)) (sym c.status.ensures)
-    (read_ends (status_of c.serve_held.result) (left c.args.source.now) (left c.read.new.self) (state c.args.machine.now) (state c.serve_held.new.machine) bytes some reads.2
-    (served_as c.serve_held.result (left c.args.source.now) (left c.read.new.self) (state c.args.machine.now) (state c.feed.new.self) (state c.serve_held.new.machine)
-    (piece_input (state c.args.machine.now) (state c.feed.new.self) bytes comes) c.serve_held.ensures.serves))
-
--- The input ends, and what is pending is written.
-pub returns-then-flush-clause-course : goal.returns-then-flush-clause-course
-returns-then-flush-clause-course g c =
-    goes_on _ _ _ _ _ _ (by_end _ _ (g.K.Sink.taken c.args.sink.now) c.args.steps.now.listing _ _ c.in-End.ensures.reads.1 c.requires.awaits c.end_session.ensures)
-    (c.flush.ensures.course (g.S.Source.left c.read.new.self) c.args.steps.now.listing)
-
-pub returns-then-flush-clause-ends : goal.returns-then-flush-clause-ends
-returns-then-flush-clause-ends g c =
-    let state = g.M.Machine.state in
-    let left = g.S.Source.left in
+    let told = g.S.Source.told in
+    let rf = g.S.Source.faults in
+    let taken = g.K.Sink.taken in
+    let wf = g.K.Sink.faults in
+    let old = state c.args.machine.now in
+    let mid = state c.end_session.new.self in
+    let new = state c.flush.new.machine in
+    let counted = counts c.args.steps.now.listing c.args.steps.now.update c.args.steps.now.rows in
+    let o = outside (told c.args.source.now) (rf c.args.source.now) (taken c.args.sink.now) (wf c.args.sink.now) counted in
+    let mid_o = outside (told c.read.new.self) (rf c.read.new.self) (taken c.args.sink.now) (wf c.args.sink.now) counted in
+    let o' = outside (told c.read.new.self) (rf c.read.new.self) (taken c.flush.new.sink) (wf c.flush.new.sink) counted in
     let reads = c.in-End.ensures.reads in
-    let ends = ended_facts (state c.args.machine.now) 1 c.end_session.ensures.effect (state c.end_session.new.self) c.end_session.ensures.step in
-    input_ended (left c.args.source.now) (left c.read.new.self) _ _ _ c.requires.awaits ends (subst (λ w. Flushed w (state c.end_session.new.self) (state c.flush.new.machine)) c.if-flush.true c.flush.ensures.flushed) reads.0 reads.1
+    let m = c.end_session.ensures in
+    let at_end = still_at_end (told c.args.source.now) (told c.read.new.self) reads.0 reads.1 in
+    let flushed = c.if-flush.ensures in
+    let first = by_end (told c.args.source.now) (told c.read.new.self) (rf c.args.source.now) (rf c.read.new.self) (taken c.args.sink.now) (wf c.args.sink.now) counted old mid reads.1 c.requires.awaits m in
+    record {
+      course = course_then o mid_o o' old mid new first (flushed.course mid_o);
+      goes_on = (
+        ends_done (told c.read.new.self) mid new (input_ended old mid c.requires.awaits (ended_facts old 1 m.effect mid m.step)) flushed.cause flushed.held flushed.pending at_end,
+        c.in-End.ensures.faults,
+        flushed.faults,
+      );
+    }
 
-pub returns-else-flush-clause-course : goal.returns-else-flush-clause-course
-returns-else-flush-clause-course g c =
-    goes_on _ _ _ _ _ _ (by_end _ _ (g.K.Sink.taken c.args.sink.now) c.args.steps.now.listing _ _ c.in-End.ensures.reads.1 c.requires.awaits c.end_session.ensures)
-    (c.flush.ensures.course (g.S.Source.left c.read.new.self) c.args.steps.now.listing)
+pub returns-else-flush : goal.returns-else-flush
+returns-else-flush g c =
+    let state = g.M.Machine.state in
+    let told = g.S.Source.told in
+    let rf = g.S.Source.faults in
+    let taken = g.K.Sink.taken in
+    let wf = g.K.Sink.faults in
+    let old = state c.args.machine.now in
+    let mid = state c.end_session.new.self in
+    let new = state c.flush.new.machine in
+    let counted = counts c.args.steps.now.listing c.args.steps.now.update c.args.steps.now.rows in
+    let o = outside (told c.args.source.now) (rf c.args.source.now) (taken c.args.sink.now) (wf c.args.sink.now) counted in
+    let mid_o = outside (told c.read.new.self) (rf c.read.new.self) (taken c.args.sink.now) (wf c.args.sink.now) counted in
+    let o' = outside (told c.read.new.self) (rf c.read.new.self) (taken c.flush.new.sink) (wf c.flush.new.sink) counted in
+    let reads = c.in-End.ensures.reads in
+    let m = c.end_session.ensures in
+    let at_end = still_at_end (told c.args.source.now) (told c.read.new.self) reads.0 reads.1 in
+    let flushed = c.if-flush.ensures in
+    let first = by_end (told c.args.source.now) (told c.read.new.self) (rf c.args.source.now) (rf c.read.new.self) (taken c.args.sink.now) (wf c.args.sink.now) counted old mid reads.1 c.requires.awaits m in
+    record {
+      course = course_then o mid_o o' old mid new first (flushed.course mid_o);
+      goes_on = (record { some = flushed.pending; at_end = λ e. at_end }, c.in-End.ensures.faults, flushed.faults);
+    }
+
+-- The read failed, and nothing was done.
+pub returns-in-Failed : goal.returns-in-Failed
+returns-in-Failed g c =
+    let told = g.S.Source.told in
+    let rf = g.S.Source.faults in
+    let taken = g.K.Sink.taken c.args.sink.now in
+    let wf = g.K.Sink.faults c.args.sink.now in
+    let counted = counts c.args.steps.now.listing c.args.steps.now.update c.args.steps.now.rows in
+    record {
+      course = by_failure (told c.args.source.now) (told c.read.new.self) (rf c.args.source.now) (rf c.read.new.self) taken wf counted (g.M.Machine.state c.args.machine.now) c.in-Failed.ensures.reads;
+      goes_on = (c.requires.awaits, c.in-Failed.ensures.faults, refl);
+    }

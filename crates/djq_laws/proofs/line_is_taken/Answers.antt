@@ -1,0 +1,5 @@
+use Rattle.djq_laws.proofs.Moving.{stepped_facts}
+use Rattle.djq_laws.proofs.line_is_taken.Goals as goal
+
+pub returns : goal.returns
+returns c = stepped_facts
