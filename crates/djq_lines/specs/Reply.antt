@@ -1,11 +1,15 @@
 -- The bytes of replies.
-use Rattle.std.specs.Prelude.{ℕ, List, [], ◌∷◌, ◌++◌, Bool, Result, Ok, Err, if◌then◌else◌, map, codes}
+use Rattle.std.specs.Prelude.{ℕ, List, [], ◌∷◌, ◌++◌, Bool, true, false, Result, Ok, Err, if◌then◌else◌, map, codes}
 use Rattle.std.specs.List.{flat_map}
 use Rattle.std.specs.Fmt.{decimal}
 use Rattle.djq_model.specs.Data.{Bytes, Tuple}
 use Rattle.djq_value.specs.ValueText.{value_text}
 use Rattle.djq_lines.specs.declared.answer.Refusal.{Refusal}
 use Rattle.djq_lines.specs.declared.answer.Refusal.TheVariants.{Syntax, Taken, NoRelation, NoQuery, NoCursor, Arity, WrongType, HeadUnbound, HeadRepeated, VariableType, Limit, NoMemory, InUse, Later}
+use Rattle.djq_lines.specs.declared.answer.EndLine.{EndLine}
+use Rattle.djq_lines.specs.declared.answer.EndLine.TheVariants.{Long, Slow, Memory, Full}
+use Rattle.djq_lines.specs.declared.answer.Sign.{Sign}
+use Rattle.djq_lines.specs.declared.answer.Sign.TheVariants.{Came, Went}
 use Rattle.djq_lines.specs.declared.answer.AddOutcome.{AddOutcome}
 use Rattle.djq_lines.specs.declared.answer.AddOutcome.TheVariants.{Added, Same}
 use Rattle.djq_lines.specs.declared.answer.DeleteOutcome.{DeleteOutcome}
@@ -56,9 +60,20 @@ input_cut = line (codes "err 13 cut")
 abbrev pub bye : Bytes
 bye = line (codes "bye")
 
--- an answer: `=`, then each value behind a space
+-- the line that says why a session is ended
+abbrev pub end_line : EndLine → Bytes
+end_line Long = end_long
+end_line Slow = end_slow
+end_line Memory = end_memory
+end_line Full = end_full
+
+-- values, each behind a space
+abbrev pub cells_text : Tuple → Bytes
+cells_text t = flat_map (λ v. 32 ∷ value_text v) t
+
+-- an answer: `=`, then its values
 abbrev pub answer_line : Tuple → Bytes
-answer_line t = line (61 ∷ flat_map (λ v. 32 ∷ value_text v) t)
+answer_line t = line (61 ∷ cells_text t)
 
 -- the last line of a listing
 abbrev pub last_line : Bool → Bytes
@@ -94,3 +109,27 @@ delete_reply (Err r) n = refusal_line r
 abbrev pub query_reply : Result ℕ Refusal → Bytes
 query_reply (Ok most) = numbered (codes "ok query ") most
 query_reply (Err r) = refusal_line r
+
+-- what `has` answers
+abbrev pub has_reply : Result Bool Refusal → Bytes
+has_reply (Ok true) = line (codes "yes")
+has_reply (Ok false) = line (codes "no")
+has_reply (Err r) = refusal_line r
+
+-- what `watch` answers, at a number of changes
+abbrev pub watch_reply : {A : Type 0} → Result A Refusal → ℕ → Bytes
+watch_reply (Ok a) n = numbered (codes "ok watch ") n
+watch_reply (Err r) n = refusal_line r
+
+-- the sign of an answer that came, and of one that went
+abbrev pub sign_text : Sign → Bytes
+sign_text Came = codes "+ "
+sign_text Went = codes "- "
+
+-- what a watch reports of an answer that came or went: the sign, the query, then the answer's values
+abbrev pub change_line : Sign → Bytes → Tuple → Bytes
+change_line s query t = line (sign_text s ++ query ++ cells_text t)
+
+-- the line behind the answers that came or went: the query, and the number of the change
+abbrev pub at_line : Bytes → ℕ → Bytes
+at_line query n = numbered (codes "at " ++ query ++ codes " ") n

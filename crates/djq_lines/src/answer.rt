@@ -49,6 +49,28 @@ pub enum DeleteOutcome {
     Absent,
 }
 
+/// Which line ends a session against its will.
+#[derive(Clone, Copy, Debug, PartialEq, Eq)]
+pub enum EndLine {
+    /// A line was too long.
+    Long,
+    /// Too many bytes were pending.
+    Slow,
+    /// Out of memory.
+    Memory,
+    /// Too many sessions are open.
+    Full,
+}
+
+/// Whether an answer came or went with a change.
+#[derive(Clone, Copy, Debug, PartialEq, Eq)]
+pub enum Sign {
+    /// It is an answer now.
+    Came,
+    /// It is none any more.
+    Went,
+}
+
 /// Why a session takes no further commands.
 #[derive(Clone, Copy, Debug, PartialEq, Eq)]
 pub enum EndCause {

@@ -6,7 +6,7 @@
 //! djq_proto does, and is proved against these definitions.
 #![tactic(auto)]
 
-pub use answer::{AddOutcome, DeleteOutcome, EndCause, Refusal};
+pub use answer::{AddOutcome, DeleteOutcome, EndCause, EndLine, Refusal, Sign};
 pub use command::Command;
 
 mod answer;

@@ -1,10 +1,7 @@
-//! The limits of the protocol.
+//! The limits of the protocol. The most bytes of a name and of a text stand with these types, in djq_model.
 
 /// The most bytes of a line, without its LF and one CR before it.
 pub const LINE_BYTES: usize = 4096;
-
-/// The most bytes of a text.
-pub const TEXT_BYTES: usize = 255;
 
 /// The most columns of a relation.
 pub const COLUMNS: usize = 8;

@@ -1,5 +1,8 @@
 -- Tests of equality on values, tuples and names, and look-ups by name.
-use Rattle.std.specs.Prelude.{ℕ, ℤ, pos, negsuc, List, [], ◌∷◌, ◌==◌, ◌&&◌, Bool, true, false, Option, None, Some, if◌then◌else◌, find}
+use Rattle.std.specs.Prelude.{ℕ, List, [], ◌∷◌, Bool, true, false, Option, None, Some, if◌then◌else◌, find, map, nat_eq, pos}
+use Rattle.std.specs.List.{slice_index_or}
+use Rattle.std.specs.Ordering.{int_eq}
+use Rattle.std.specs.Cmp.Lexicographic.{pointwise}
 use Rattle.djq_model.specs.declared.value.Value.{Value}
 use Rattle.djq_model.specs.declared.value.Value.TheVariants.{Int, Text}
 use Rattle.djq_model.specs.declared.relation.Relation.{Relation}
@@ -13,29 +16,20 @@ Bytes = List ℕ
 abbrev pub Tuple : Type 0
 Tuple = List Value
 
+-- whether two texts, or two names, are the same bytes
 abbrev pub bytes_eq : Bytes → Bytes → Bool
-bytes_eq [] [] = true
-bytes_eq (x ∷ xs) (y ∷ ys) = (x == y) && bytes_eq xs ys
-bytes_eq [] (y ∷ ys) = false
-bytes_eq (x ∷ xs) [] = false
+bytes_eq = pointwise nat_eq
 
-abbrev pub int_eq : ℤ → ℤ → Bool
-int_eq (pos m) (pos n) = m == n
-int_eq (negsuc m) (negsuc n) = m == n
-int_eq (pos m) (negsuc n) = false
-int_eq (negsuc m) (pos n) = false
-
+-- whether two values are the same
 abbrev pub value_eq : Value → Value → Bool
 value_eq (Int i) (Int j) = int_eq i j
 value_eq (Text s) (Text t) = bytes_eq s t
 value_eq (Int i) (Text t) = false
 value_eq (Text s) (Int j) = false
 
+-- whether two tuples have the same values in the same order
 abbrev pub tuple_eq : Tuple → Tuple → Bool
-tuple_eq [] [] = true
-tuple_eq (v ∷ vs) (w ∷ ws) = value_eq v w && tuple_eq vs ws
-tuple_eq [] (w ∷ ws) = false
-tuple_eq (v ∷ vs) [] = false
+tuple_eq = pointwise value_eq
 
 -- whether a row is among these
 abbrev pub has_row : List Tuple → Tuple → Bool
@@ -72,3 +66,11 @@ rows_of relations name = rows_in (relation_of relations name)
 -- the query of a name
 abbrev pub query_of : List Query → Bytes → Option Query
 query_of queries name = find (λ q. bytes_eq q.name name) queries
+
+-- the cell of a row at a column
+abbrev pub cell_at : Tuple → ℕ → Value
+cell_at row column = slice_index_or row column (Int (pos 0))
+
+-- the cells of a row at columns, in the columns' order
+abbrev pub cells_at : List ℕ → Tuple → Tuple
+cells_at columns row = map (cell_at row) columns

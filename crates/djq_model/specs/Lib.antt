@@ -1,3 +1,4 @@
 pub mod Padded
 pub mod Data
 pub mod Answer
+pub mod Equality

@@ -7,10 +7,10 @@ pub const NAME_BYTES: usize = 32;
 
 /// The name of a relation, a query, a cursor or a variable: at most 32 bytes, held inline.
 /// Contracts see the list of its bytes.
-#[derive(Clone, Copy, PartialEq, Eq)]
+#[derive(Clone, Copy, Debug)]
 pub struct Name {
-    // zeros stand behind the name, so that equal names are equal fields
-    bytes: [u8; 32],
+    // zeros stand behind the name, so that a list of bytes is the name of one value alone
+    bytes: [u8; NAME_BYTES],
     len: u8,
 }
 
@@ -21,10 +21,11 @@ impl Model for Name {
 
     ghost use Rattle.std.specs.Prelude.{◌≡◌, ◌≤◌, take};
     ghost use Rattle.djq_model.specs.Padded.{zeros_after, padded, padded_back};
+    ghost use Rattle.djq_model.specs.declared.name.TheConstants.{NAME_BYTES};
 
     ghost view = { λ n. take n.len n.bytes };
 
-    ghost invariant = { λ n. (n.len ≤ 32) × (n.bytes ≡ zeros_after (take n.len n.bytes)) };
+    ghost invariant = { λ n. (n.len ≤ NAME_BYTES) × (n.bytes ≡ zeros_after (take n.len n.bytes)) };
 
     ghost inverse = { λ xs. padded xs };
 
@@ -34,10 +35,10 @@ impl Model for Name {
 impl Name {
     /// The name of these bytes, of which there are at most 32.
     pub fn new(from: &[u8]) -> Self
-        requires { length from.now ≤ 32 }
+        requires { length from.now ≤ NAME_BYTES }
         ensures { result ≡ from.now }
     {
-        let mut bytes = [0; 32];
+        let mut bytes = [0; NAME_BYTES];
         let count = from.len();
         bytes[..count].copy_from_slice(from);
         Name {
@@ -49,7 +50,7 @@ impl Name {
     /// The number of its bytes.
     pub fn len(&self) -> usize
         ensures value { result ≡ length self.now }
-        ensures short { result ≤ 32 }
+        ensures short { result ≤ NAME_BYTES }
     {
         self.len as usize
     }
@@ -59,5 +60,19 @@ impl Name {
         ensures { result.now ≡ self.now }
     {
         &self.bytes[..self.len as usize]
+    }
+}
+
+impl PartialEq for Name {
+    ghost use Rattle.djq_model.specs.Data.{bytes_eq};
+    ghost use Rattle.std.specs.Cmp.{nat_eq_equiv, partial_equiv_from_equiv};
+    ghost use Rattle.std.specs.Cmp.Lexicographic.{lists_equiv};
+
+    ghost eq = { bytes_eq };
+
+    ghost laws = { partial_equiv_from_equiv (lists_equiv nat_eq_equiv) };
+
+    fn eq(&self, other: &Self) -> bool {
+        self.as_bytes() == other.as_bytes()
     }
 }

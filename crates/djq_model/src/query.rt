@@ -1,9 +1,9 @@
 use crate::name::Name;
+use crate::sequence::Sequence;
 use crate::value::Value;
-use std::marker::Model;
 
 /// What stands in an atom for a column: a variable, a hole or a constant.
-#[derive(Drop)]
+#[derive(Debug, Drop)]
 pub enum Term {
     /// A variable, by its name.
     Variable(Name),
@@ -13,24 +13,11 @@ pub enum Term {
     Constant(Value),
 }
 
-/// The terms of an atom, one for each column. Contracts see a list.
-#[derive(Drop)]
-pub struct Terms {
-    /// The terms.
-    pub terms: Vec<Term>,
-}
-
-impl Model for Terms {
-    ghost use Rattle.std.specs.Prelude.{List};
-    ghost use Rattle.djq_model.specs.declared.query.Term.{Term};
-
-    ghost Value = { List Term };
-
-    ghost view = { λ t. t.terms.items };
-}
+/// The terms of an atom, one for each column.
+pub type Terms = Sequence<Term>;
 
 /// An atom of a query's body: a relation, and a term for each of its columns.
-#[derive(Drop)]
+#[derive(Debug, Drop)]
 pub struct Atom {
     /// The relation's name.
     pub relation: Name,
@@ -38,39 +25,14 @@ pub struct Atom {
     pub terms: Terms,
 }
 
-/// The atoms of a query's body. Contracts see a list.
-#[derive(Drop)]
-pub struct Atoms {
-    /// The atoms, in the order in which they are written.
-    pub atoms: Vec<Atom>,
-}
+/// The atoms of a query's body, in the order in which they are written.
+pub type Atoms = Sequence<Atom>;
 
-impl Model for Atoms {
-    ghost use Rattle.std.specs.Prelude.{List};
-    ghost use Rattle.djq_model.specs.declared.query.Atom.{Atom};
-
-    ghost Value = { List Atom };
-
-    ghost view = { λ a. a.atoms.items };
-}
-
-/// A list of names, as a query's head. Contracts see a list of lists of bytes.
-#[derive(Drop)]
-pub struct Names {
-    /// The names.
-    pub names: Vec<Name>,
-}
-
-impl Model for Names {
-    ghost use Rattle.std.specs.Prelude.{List, ℕ};
-
-    ghost Value = { List (List ℕ) };
-
-    ghost view = { λ n. n.names.items };
-}
+/// A list of names, as a query's head.
+pub type Names = Sequence<Name>;
 
 /// A conjunctive query: `name(head) <- atoms`.
-#[derive(Drop)]
+#[derive(Debug, Drop)]
 pub struct Query {
     /// Its name.
     pub name: Name,

@@ -1,9 +1,9 @@
 use crate::name::Name;
+use crate::sequence::Sequence;
 use crate::value::Rows;
-use std::marker::Model;
 
 /// What the cells of a column hold.
-#[derive(Clone, Copy, PartialEq, Eq)]
+#[derive(Clone, Copy, Debug, PartialEq, Eq)]
 pub enum ColumnType {
     /// Integers.
     Int,
@@ -11,24 +11,11 @@ pub enum ColumnType {
     Text,
 }
 
-/// The types of a relation's columns. Contracts see a list.
-#[derive(Drop)]
-pub struct Types {
-    /// One type for each column.
-    pub types: Vec<ColumnType>,
-}
-
-impl Model for Types {
-    ghost use Rattle.std.specs.Prelude.{List};
-    ghost use Rattle.djq_model.specs.declared.relation.ColumnType.{ColumnType};
-
-    ghost Value = { List ColumnType };
-
-    ghost view = { λ t. t.types.items };
-}
+/// The types of a relation's columns.
+pub type Types = Sequence<ColumnType>;
 
 /// A relation: its name, the types of its columns, and its rows.
-#[derive(Drop)]
+#[derive(Debug, Drop)]
 pub struct Relation {
     /// Its name.
     pub name: Name,

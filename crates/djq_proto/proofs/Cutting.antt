@@ -3,7 +3,7 @@ use Rattle.std.proofs.Common.{◌≡◌, ℕ, zero, suc, ◌+◌, ◌<◌, ◌�
 use Rattle.std.proofs.lemmas.List.{length-take, take_all, drop_all, append-nil}
 use Rattle.std.proofs.lemmas.Bool.{ne_eqb, eq-eqb, cases_lt, le-leb, leb-false, or_left, or_parts, cond-true, cond-false}
 use Rattle.djq_model.specs.Data.{Bytes}
-use Rattle.djq_machine.specs.Line.{before_lf, behind_lf, without_cr, is_long, front_of, line_or_dry, dry, too_long, a_line}
+use Rattle.djq_lines.specs.Line.{before_lf, behind_lf, without_cr, is_long, front_of, line_or_dry, dry, too_long, a_line}
 use Rattle.djq_proto.specs.Splitting.{IsFirstLf, HasNoLf}
 
 pub before_lf-at : (bytes : Bytes) (at : ℕ) → IsFirstLf bytes at → before_lf bytes ≡ take at bytes

@@ -1,10 +1,7 @@
 pub mod Cutting
-pub mod Lexes
-pub mod Words
 pub mod Lists
 pub mod Rows
 pub mod Commands
-pub mod Spellings
 pub mod Reorderings
 pub mod Sayings
 pub mod Spelled

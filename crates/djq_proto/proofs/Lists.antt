@@ -3,8 +3,9 @@ use Rattle.std.proofs.Common.{◌≡◌, ◌≤◌, true, ◌&&◌, List, [], �
 use Rattle.std.specs.List.{list_all}
 use Rattle.std.proofs.lemmas.Bool.{and_parts, leb-true}
 use Rattle.djq_model.specs.Data.{Bytes}
-use Rattle.djq_machine.specs.Token.{Token}
-use Rattle.djq_machine.specs.Grammar.{is_digit, is_lower, is_name, names_in}
+use Rattle.djq_value.specs.Token.{Token}
+use Rattle.djq_value.specs.Literal.{is_digit, is_lower, is_name}
+use Rattle.djq_lines.specs.Grammar.{names_in}
 use Rattle.djq_proto.specs.Listed.{listed}
 
 -- What stands behind some names of a list decides what the whole is.

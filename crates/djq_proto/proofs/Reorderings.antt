@@ -7,7 +7,7 @@ use Rattle.std.proofs.lemmas.List.Elements.{Contains-get_or, Contains-append_lef
 use Rattle.std.proofs.lemmas.List.Sorted.{IsPermutation-refl, IsPermutation-sym, IsPermutation-trans, IsPermutation-cons, IsPermutation-middle, length_permutation, Contains-permutation}
 use Rattle.std.proofs.lemmas.Bool.{and_parts, and_from, or_cases, or_left, or_right, not-true, not_from_false, false_from_ne_true, eqb-true, eq-eqb, both_ways}
 use Rattle.djq_model.specs.Data.{Bytes, bytes_eq}
-use Rattle.djq_machine.specs.Grammar.{has_name, are_different, is_reordered}
+use Rattle.djq_value.specs.Literal.{has_name, are_different, is_reordered}
 use Rattle.djq_proto.specs.Saying.{IsReordering}
 
 pub bytes_eq-true : (xs ys : Bytes) → bytes_eq xs ys ≡ true → xs ≡ ys

@@ -9,10 +9,11 @@ use Rattle.djq_model.specs.declared.value.Value.{Value}
 use Rattle.djq_model.specs.declared.value.Value.TheVariants.{Int}
 use Rattle.djq_model.specs.declared.relation.ColumnType.{ColumnType}
 use Rattle.djq_model.specs.declared.relation.ColumnType.TheVariants.{Int as IntColumn}
-use Rattle.djq_machine.specs.Token.{Token, word, open_paren, close_paren, comma, arrow, stray}
-use Rattle.djq_machine.specs.Grammar.{types_in, values_in, in_front, is_small, is_small_value}
-use Rattle.djq_proto.specs.Number.{integer_in_token, number_of}
-use Rattle.djq_proto.specs.declared.number.Number.TheVariants.{Wide, Small}
+use Rattle.djq_value.specs.Token.{Token, word, open_paren, close_paren, comma, arrow, stray}
+use Rattle.djq_value.specs.Literal.{is_small, is_small_value}
+use Rattle.djq_lines.specs.Grammar.{types_in, values_in, in_front}
+use Rattle.djq_value.specs.Number.{integer_in_token, number_of}
+use Rattle.djq_value.specs.declared.number.Number.TheVariants.{Wide, Small}
 use Rattle.djq_proto.specs.Reading.{is_int_token}
 
 -- What was read of a list, and what is kept of it.

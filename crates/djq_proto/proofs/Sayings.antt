@@ -11,10 +11,11 @@ use Rattle.djq_model.specs.declared.value.Value.TheVariants.{Int, Text}
 use Rattle.djq_model.specs.declared.relation.ColumnType.{ColumnType}
 use Rattle.djq_model.specs.declared.relation.ColumnType.TheVariants.{Int as IntColumn}
 use Rattle.djq_model.specs.declared.query.Atom.{Atom}
-use Rattle.djq_machine.specs.declared.command.Command.{Command}
-use Rattle.djq_machine.specs.declared.command.Command.TheVariants.{Rel, Add, Del, Query as Register, Open, Next, Close}
-use Rattle.djq_machine.specs.Token.{Token, word, open_paren, close_paren, comma, arrow}
-use Rattle.djq_machine.specs.Grammar.{is_digit, is_name, digits_value, natural_of, minus, integer_of, types_in, in_front, values_in, names_in, list_in, rel_in, row_in, body_in, atom_in, query_in, open_in, is_count, count_in, next_in, close_in, command_in, is_reordered}
+use Rattle.djq_lines.specs.declared.command.Command.{Command}
+use Rattle.djq_lines.specs.declared.command.Command.TheVariants.{Rel, Add, Del, Query as Register, Open, Next, Close}
+use Rattle.djq_value.specs.Token.{Token, word, open_paren, close_paren, comma, arrow}
+use Rattle.djq_value.specs.Literal.{is_digit, is_name, digits_value, natural_of, minus, integer_of, is_reordered}
+use Rattle.djq_lines.specs.Grammar.{types_in, in_front, values_in, names_in, list_in, rel_in, row_in, body_in, atom_in, query_in, open_in, is_count, count_in, next_in, close_in, command_in}
 use Rattle.djq_proto.specs.Reading.{query_over}
 use Rattle.djq_proto.specs.Saying.{IsName, IsNumeral, IsInteger, IsValue, SaysRow, Says, IsReordering, decimal, more_names, name_list}
 use Rattle.djq_proto.proofs.Reorderings.{bytes_eq-true, is_reordered-true, is_reordered-from}
@@ -311,6 +312,7 @@ said_read (Open n q) ts s = ap command_in s.2 ∙ cond-true _ _ _ (and_from (is_
 said_read (Next n k) ts s =
     ap command_in s.5 ∙ cond-true _ _ _ s.1 ∙ ap (count_in n) (numeral_from s.0 k s.2) ∙ cond-true _ _ _ (and_from (leb 1 k) (leb k 1000) (le-leb 1 k s.3) (le-leb k 1000 s.4))
 said_read (Close n) ts s = ap command_in s.1 ∙ cond-true _ _ _ s.0
+said_read _ ts s = absurd s
 
 pub commands_are_said : (ts : List Token) (c : Command) → (command_in ts ≡ Some c) ↔ Says c ts
 commands_are_said ts c = (command_said ts c, said_read c ts)

@@ -1,19 +1,15 @@
 -- The laws of reading, over the definitions alone.
 use Rattle.std.specs.Prelude.{◌≡◌, ◌↔◌, List, Some}
 use Rattle.djq_model.specs.Data.{Bytes}
-use Rattle.djq_machine.specs.declared.command.Command.{Command}
-use Rattle.djq_machine.specs.Token.{Token, tokens}
-use Rattle.djq_machine.specs.Grammar.{command_in, command_of}
-use Rattle.djq_proto.specs.Spelling.{IsSpelling}
+use Rattle.djq_lines.specs.declared.command.Command.{Command}
+use Rattle.djq_value.specs.Token.{Token}
+use Rattle.djq_lines.specs.Grammar.{command_in, command_of}
+use Rattle.djq_value.specs.Spelling.{IsSpelling}
 use Rattle.djq_proto.specs.Saying.{Says}
 
 -- a line that spells a command
 abbrev pub Spells : Command → Bytes → Type 0
 Spells c line = (ts : List Token) × Says c ts × IsSpelling ts line
-
--- The tokens of a line are the ones that it spells, and no others.
-abbrev pub TokensAreSpelled : Type 0
-TokensAreSpelled = (line : Bytes) (ts : List Token) → (tokens line ≡ ts) ↔ IsSpelling ts line
 
 -- Tokens are read as a command exactly where they say it.
 abbrev pub CommandsAreSaid : Type 0

@@ -1,10 +1,6 @@
 pub mod Splitting
-pub mod Lexing
-pub mod Number
-pub mod Word
 pub mod Reading
 pub mod Listed
 pub mod Listing
-pub mod Spelling
 pub mod Saying
 pub mod Laws

@@ -3,8 +3,9 @@ use Rattle.std.specs.Prelude.{◌≡◌, ◌∷◌, [], List, Bool, true, false,
 use Rattle.std.specs.Borrow.{Bor}
 use Rattle.std.specs.List.{list_all}
 use Rattle.djq_model.specs.Data.{Bytes}
-use Rattle.djq_machine.specs.Token.{Token, open_paren}
-use Rattle.djq_machine.specs.Grammar.{is_name, list_in, names_in}
+use Rattle.djq_value.specs.Token.{Token, open_paren}
+use Rattle.djq_value.specs.Literal.{is_name}
+use Rattle.djq_lines.specs.Grammar.{list_in, names_in}
 use Rattle.djq_proto.specs.Listed.{listed}
 
 -- The first name is taken; none is given where none is left.

@@ -1,12 +1,13 @@
 -- What reading a line answers.
-use Rattle.std.specs.Prelude.{◌≡◌, ◌∷◌, [], List, Bool, true, false, Option, None, Some, option_map, Result, Ok, Err, codes, map, if◌then◌else◌}
+use Rattle.std.specs.Prelude.{◌≡◌, ℕ, ◌∷◌, [], List, Bool, true, false, Option, None, Some, option_map, Result, Ok, Err, codes, map, if◌then◌else◌}
 use Rattle.djq_model.specs.Data.{Bytes, Tuple, bytes_eq}
 use Rattle.djq_model.specs.declared.relation.ColumnType.{ColumnType}
 use Rattle.djq_model.specs.declared.query.Query.{Query}
 use Rattle.djq_model.specs.declared.query.Term.TheVariants.{Variable}
-use Rattle.djq_machine.specs.declared.command.Command.{Command}
-use Rattle.djq_machine.specs.Token.{Token as Lexeme, word}
-use Rattle.djq_machine.specs.Grammar.{command_of, is_in_range, is_name, takes_memory_to_read, types_in, values_in}
+use Rattle.djq_lines.specs.declared.command.Command.{Command}
+use Rattle.djq_value.specs.Token.{Token as Lexeme, word}
+use Rattle.djq_value.specs.Literal.{is_name}
+use Rattle.djq_lines.specs.Grammar.{command_of, is_count, is_in_range, takes_memory_to_read, types_in, values_in}
 use Rattle.djq_proto.specs.declared.command.LineRefusal.{LineRefusal}
 use Rattle.djq_proto.specs.declared.command.LineRefusal.TheVariants.{Range, Later, NoMem}
 
@@ -45,3 +46,8 @@ named_row _ = None
 -- the query over one atom
 abbrev pub query_over : Bytes → List Bytes → Bytes → List Bytes → Query
 query_over name head relation body = record { name = name; head = head; atoms = record { relation = relation; terms = map (λ x. Variable x) body } ∷ [] }
+
+-- a number that is a count of answers
+abbrev pub count_of : Option ℕ → Option ℕ
+count_of None = None
+count_of (Some k) = if is_count k then Some k else None

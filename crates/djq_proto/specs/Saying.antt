@@ -6,10 +6,10 @@ use Rattle.djq_model.specs.declared.value.Value.{Value}
 use Rattle.djq_model.specs.declared.value.Value.TheVariants.{Int, Text}
 use Rattle.djq_model.specs.declared.relation.ColumnType.TheVariants.{Int as IntColumn}
 use Rattle.djq_model.specs.declared.query.Term.TheVariants.{Variable}
-use Rattle.djq_machine.specs.declared.command.Command.{Command}
-use Rattle.djq_machine.specs.declared.command.Command.TheVariants.{Rel, Add, Del, Query as Register, Open, Next, Close}
-use Rattle.djq_machine.specs.Token.{Token, word, open_paren, close_paren, comma, arrow}
-use Rattle.djq_machine.specs.Grammar.{is_digit, is_name}
+use Rattle.djq_lines.specs.declared.command.Command.{Command}
+use Rattle.djq_lines.specs.declared.command.Command.TheVariants.{Rel, Add, Del, Query as Register, Open, Next, Close}
+use Rattle.djq_value.specs.Token.{Token, word, open_paren, close_paren, comma, arrow}
+use Rattle.djq_value.specs.Literal.{is_digit, is_name}
 
 abbrev pub IsName : Bytes → Type 0
 IsName w = is_name w ≡ true
@@ -64,3 +64,4 @@ Says (Register q) ts = (relation : Bytes) × (body : List Bytes) × (q.atoms ≡
 Says (Open c q) ts = IsName c × IsName q × (ts ≡ word (codes "open") ∷ word c ∷ word q ∷ [])
 Says (Next c k) ts = (ds : Bytes) × IsName c × IsNumeral ds k × (1 ≤ k) × (k ≤ 1000) × (ts ≡ word (codes "next") ∷ word c ∷ word ds ∷ [])
 Says (Close c) ts = IsName c × (ts ≡ word (codes "close") ∷ word c ∷ [])
+Says _ ts = ⊥

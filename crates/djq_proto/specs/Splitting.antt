@@ -1,7 +1,7 @@
 -- What the splitter's answer says of the bytes.
 use Rattle.std.specs.Prelude.{ℕ, ◌≡◌, ◌≢◌, ◌≤◌, ◌<◌, length, take, drop, slice_index}
 use Rattle.djq_model.specs.Data.{Bytes}
-use Rattle.djq_machine.specs.Line.{dry, too_long, a_line, front_of}
+use Rattle.djq_lines.specs.Line.{dry, too_long, a_line, front_of}
 use Rattle.djq_proto.specs.declared.splitter.Front.{Front}
 use Rattle.djq_proto.specs.declared.splitter.Front.TheVariants.{Line, Dry, Long}
 

@@ -1,14 +1,13 @@
 ghost use Rattle.std.specs.Prelude.{◌≡◌, ◌∷◌};
-ghost use Rattle.djq_machine.specs.Grammar.{close_in, command_in, next_in, open_in};
-ghost use Rattle.djq_machine.specs.Token.{word as word_token};
+ghost use Rattle.djq_lines.specs.Grammar.{close_in, command_in, next_in, open_in};
+ghost use Rattle.djq_value.specs.Token.{word as word_token};
 ghost use Rattle.djq_proto.specs.Reading.{Gives, Reads};
 
-use crate::lexer::{Lexer, Token};
-use crate::number::read_count;
+use crate::count::read_count;
 use crate::query::read_query;
 use crate::row::{read_named_row, read_named_types};
-use crate::word::{is_text, next_name, next_word};
-use djq_machine::Command;
+use djq_lines::Command;
+use djq_value::{Lexer, is_text, next_name, next_word};
 use std::alloc::Global;
 
 /// Why a line gives no command.
@@ -45,17 +44,17 @@ fn read_after(alloc: Global, keyword: &[u8], lexer: &mut Lexer<'_>) -> Result<Co
 {
     if is_text(keyword, b"rel") {
         match read_named_types(alloc, lexer) {
-            Ok((name, types)) => Ok(Command::Rel(name, types)),
+            Ok((name, types)) => Ok(Command::Rel { name, types }),
             Err(refusal) => Err(refusal),
         }
     } else if is_text(keyword, b"add") {
         match read_named_row(alloc, lexer) {
-            Ok((name, row)) => Ok(Command::Add(name, row)),
+            Ok((name, row)) => Ok(Command::Add { name, row }),
             Err(refusal) => Err(refusal),
         }
     } else if is_text(keyword, b"del") {
         match read_named_row(alloc, lexer) {
-            Ok((name, row)) => Ok(Command::Del(name, row)),
+            Ok((name, row)) => Ok(Command::Del { name, row }),
             Err(refusal) => Err(refusal),
         }
     } else if is_text(keyword, b"query") {
@@ -79,7 +78,7 @@ fn read_open(lexer: &mut Lexer<'_>) -> Result<Command, LineRefusal>
         Some(cursor) => match next_name(lexer) {
             Some(query) => {
                 if lexer.is_done() {
-                    Ok(Command::Open(cursor, query))
+                    Ok(Command::Open { cursor, query })
                 } else {
                     Err(LineRefusal::Later)
                 }
@@ -99,7 +98,7 @@ fn read_next(lexer: &mut Lexer<'_>) -> Result<Command, LineRefusal>
             Some(word) => match read_count(word) {
                 Some(count) => {
                     if lexer.is_done() {
-                        Ok(Command::Next(cursor, count))
+                        Ok(Command::Next { cursor, count })
                     } else {
                         Err(LineRefusal::Later)
                     }
@@ -119,7 +118,7 @@ fn read_close(lexer: &mut Lexer<'_>) -> Result<Command, LineRefusal>
     match next_name(lexer) {
         Some(cursor) => {
             if lexer.is_done() {
-                Ok(Command::Close(cursor))
+                Ok(Command::Close { cursor })
             } else {
                 Err(LineRefusal::Later)
             }

@@ -1,11 +1,6 @@
 // What is read of a line, said of the line alone. The functions do nothing: what they ensure holds of the
 // definitions.
-ghost use Rattle.djq_proto.specs.Laws.{CommandsAreSaid, CommandsAreSpelled, TokensAreSpelled};
-
-/// The tokens of a line are the ones that it spells, and no others.
-pub fn tokens_are_spelled()
-    ensures { TokensAreSpelled }
-{}
+ghost use Rattle.djq_proto.specs.Laws.{CommandsAreSaid, CommandsAreSpelled};
 
 /// Tokens are read as a command exactly where they say it.
 pub fn commands_are_said()

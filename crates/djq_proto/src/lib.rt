@@ -1,7 +1,7 @@
 //! From a session's bytes to lines, and from a line to a command.
 //!
-//! `Splitter` finds the line in front of the bytes that a session holds, `Lexer` gives the tokens of a
-//! line, and `read_command` the command that a line says. Nothing here keeps state between lines, and
+//! `Splitter` finds the line in front of the bytes that a session holds, and `read_command` gives the
+//! command that a line says. Nothing here keeps state between lines, and
 //! only what a command holds (types, a row, a query) takes memory.
 //!
 //! ```text
@@ -10,19 +10,16 @@
 #![tactic(auto)]
 
 pub use command::{LineRefusal, read_command};
-pub use laws::{commands_are_said, commands_are_spelled, tokens_are_spelled};
-pub use lexer::{Lexer, Token};
+pub use laws::{commands_are_said, commands_are_spelled};
 pub use splitter::{Front, Splitter, is_blank};
 
 mod command;
+mod count;
 mod draft;
 mod laws;
-mod lexer;
 mod list;
-mod number;
 mod query;
 mod row;
 mod splitter;
 #[cfg(test)]
 mod tests;
-mod word;

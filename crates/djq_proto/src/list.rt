@@ -4,13 +4,12 @@
 ghost use Rattle.std.specs.Prelude.{◌≡◌, ◌==◌, IfOk, length, map, true};
 ghost use Rattle.std.specs.List.{list_all};
 ghost use Rattle.djq_model.specs.declared.query.Term.TheVariants.{Variable};
-ghost use Rattle.djq_machine.specs.Grammar.{are_different as are_different_of, has_name as has_name_of, is_name as is_name_of, is_reordered as is_reordered_of};
+ghost use Rattle.djq_value.specs.Literal.{are_different as are_different_of, has_name as has_name_of, is_name as is_name_of, is_reordered as is_reordered_of};
 ghost use Rattle.djq_proto.specs.Listing.{PassesList, PassesNames, TakesFirst, TakesList};
 
-use crate::lexer::{Lexer, Token};
-use crate::word::{is_name, is_text, next_word};
-use djq_model::{Name, Names, Term, Terms};
-use std::alloc::{AllocError, Global};
+use djq_model::{Name, Names, NoMem, Term, Terms};
+use djq_value::{Lexer, Token, is_name, is_text, next_word};
+use std::alloc::Global;
 use std::marker::Model;
 
 // The names of a list, from some name on. Contracts see them as a list.
@@ -159,27 +158,27 @@ fn have_same_length(names: &NameList<'_>, others: &NameList<'_>) -> bool
 }
 
 // The names, kept.
-pub(crate) fn names_of(alloc: Global, names: &NameList<'_>) -> Result<Names, AllocError>
+pub(crate) fn names_of(alloc: Global, names: &NameList<'_>) -> Result<Names, NoMem>
     requires { list_all is_name_of names.now ≡ true }
     ensures { IfOk result (λ kept. kept ≡ names.now) }
 {
-    let mut kept = Vec::new(alloc);
+    let mut kept = Names::new(alloc);
     let mut rest = names.fork();
     'names: while let Some(name) = rest.next() {
         kept.push(Name::new(name))?;
     }
-    Ok(Names { names: kept })
+    Ok(kept)
 }
 
 // The names as variables.
-pub(crate) fn variables_of(alloc: Global, names: &NameList<'_>) -> Result<Terms, AllocError>
+pub(crate) fn variables_of(alloc: Global, names: &NameList<'_>) -> Result<Terms, NoMem>
     requires { list_all is_name_of names.now ≡ true }
     ensures { IfOk result (λ terms. terms ≡ map (λ x. Variable x) names.now) }
 {
-    let mut terms = Vec::new(alloc);
+    let mut terms = Terms::new(alloc);
     let mut rest = names.fork();
     'names: while let Some(name) = rest.next() {
         terms.push(Term::Variable(Name::new(name)))?;
     }
-    Ok(Terms { terms })
+    Ok(terms)
 }

@@ -1,16 +1,16 @@
 // The lines that register a query.
 ghost use Rattle.std.specs.Prelude.{◌≡◌, Some, true, IfOk};
 ghost use Rattle.std.specs.List.{list_all};
-ghost use Rattle.djq_machine.specs.Grammar.{atom_in, is_name as is_name_of, one_atom, query_in};
+ghost use Rattle.djq_value.specs.Literal.{is_name as is_name_of};
+ghost use Rattle.djq_lines.specs.Grammar.{atom_in, one_atom, query_in};
 ghost use Rattle.djq_proto.specs.Reading.{Gives, query_over};
 
 use crate::command::LineRefusal;
-use crate::lexer::{Lexer, Token};
 use crate::list::{NameList, is_reordered, names_of, read_list, variables_of};
-use crate::word::next_name;
-use djq_machine::Command;
-use djq_model::{Atom, Atoms, Name, Query};
-use std::alloc::{AllocError, Global};
+use djq_lines::Command;
+use djq_model::{Atom, Atoms, Name, NoMem, Query};
+use djq_value::{Lexer, Token, next_name};
+use std::alloc::Global;
 
 // What follows `query`.
 pub(crate) fn read_query(alloc: Global, lexer: &mut Lexer<'_>) -> Result<Command, LineRefusal>
@@ -68,7 +68,7 @@ fn registered(
         return Err(LineRefusal::Later);
     }
     match make_query(alloc, name, head, relation, body) {
-        Ok(query) => Ok(Command::Query(query)),
+        Ok(query) => Ok(Command::Query { query }),
         Err(_) => Err(LineRefusal::NoMem),
     }
 }
@@ -79,18 +79,14 @@ fn make_query(
     head: &NameList<'_>,
     relation: Name,
     body: &NameList<'_>,
-) -> Result<Query, AllocError>
+) -> Result<Query, NoMem>
     requires head { list_all is_name_of head.now ≡ true }
     requires body { list_all is_name_of body.now ≡ true }
     ensures { IfOk result (λ query. query ≡ query_over name head.now relation body.now) }
 {
     let head = names_of(alloc, head)?;
     let terms = variables_of(alloc, body)?;
-    let mut atoms = Vec::with_capacity(alloc, 1)?;
+    let mut atoms = Atoms::new(alloc);
     atoms.push(Atom { relation, terms })?;
-    Ok(Query {
-        name,
-        head,
-        atoms: Atoms { atoms },
-    })
+    Ok(Query { name, head, atoms })
 }

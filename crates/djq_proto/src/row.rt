@@ -1,16 +1,15 @@
 // Types and values, from where a lexer stands to the line's end.
 ghost use Rattle.std.specs.Prelude.{◌≡◌, true};
 ghost use Rattle.std.specs.List.{list_all};
-ghost use Rattle.djq_machine.specs.Grammar.{is_small_value, types_in, values_in};
-ghost use Rattle.djq_proto.specs.Lexing.{lexeme_of};
+ghost use Rattle.djq_value.specs.Literal.{is_small_value};
+ghost use Rattle.djq_lines.specs.Grammar.{types_in, values_in};
+ghost use Rattle.djq_value.specs.Lexing.{lexeme_of};
 ghost use Rattle.djq_proto.specs.Reading.{Answers, is_int_token, named_row, named_types};
 
 use crate::command::LineRefusal;
 use crate::draft::Draft;
-use crate::lexer::{Lexer, Token};
-use crate::number::{Number, number_in};
-use crate::word::{is_text, next_name};
 use djq_model::{ColumnType, Name, Row, Types, Value};
+use djq_value::{Lexer, Number, Token, is_text, next_name, number_in};
 use std::alloc::Global;
 
 // A name and the types of its columns, of which there is one at least.
@@ -45,7 +44,7 @@ fn read_types(alloc: Global, lexer: &mut Lexer<'_>) -> Result<Types, LineRefusal
         types.push(ColumnType::Int);
     }
     match types.finish() {
-        Ok(types) => Ok(Types { types }),
+        Ok(types) => Ok(types),
         Err(_) => Err(LineRefusal::NoMem),
     }
 }
@@ -99,7 +98,7 @@ fn read_row(alloc: Global, lexer: &mut Lexer<'_>) -> Result<Row, LineRefusal>
         return Err(LineRefusal::Range);
     }
     match cells.finish() {
-        Ok(cells) => Ok(Row { cells }),
+        Ok(row) => Ok(row),
         Err(_) => Err(LineRefusal::NoMem),
     }
 }

@@ -1,5 +1,5 @@
 ghost use Rattle.std.specs.Prelude.{◌≡◌, ◌≤◌, length, take};
-ghost use Rattle.djq_machine.specs.Line.{is_blank as is_blank_line, is_long as is_long_line, without_cr};
+ghost use Rattle.djq_lines.specs.Line.{is_blank as is_blank_line, is_long as is_long_line, without_cr};
 ghost use Rattle.djq_proto.specs.Splitting.{IsFront, IsFirstLf};
 
 use memchr::memchr;

@@ -1,18 +1,19 @@
 use super::*;
-use djq_machine::Command;
+use djq_lines::Command;
 use djq_model::Value;
 use std::alloc::{AllocError, Global};
 
 // One letter for what a line says.
 fn letter(alloc: Global, line: &[u8]) -> char {
     match read_command(alloc, line) {
-        Ok(Command::Rel(_, _)) => 'r',
-        Ok(Command::Add(_, _)) => 'a',
-        Ok(Command::Del(_, _)) => 'd',
-        Ok(Command::Query(_)) => 'q',
-        Ok(Command::Open(_, _)) => 'o',
-        Ok(Command::Next(_, _)) => 'n',
-        Ok(Command::Close(_)) => 'c',
+        Ok(Command::Rel { .. }) => 'r',
+        Ok(Command::Add { .. }) => 'a',
+        Ok(Command::Del { .. }) => 'd',
+        Ok(Command::Query { .. }) => 'q',
+        Ok(Command::Open { .. }) => 'o',
+        Ok(Command::Next { .. }) => 'n',
+        Ok(Command::Close { .. }) => 'c',
+        Ok(_) => '?',
         Err(LineRefusal::Range) => 'R',
         Err(LineRefusal::Later) => 'L',
         Err(LineRefusal::NoMem) => 'M',
@@ -71,7 +72,7 @@ fn reads_lines(rt: HostRuntime) {
 // The value in a row of one value, or none where the line is refused.
 fn value(alloc: Global, line: &[u8]) -> Option<i64> {
     match read_command(alloc, line) {
-        Ok(Command::Add(_, row)) => match row.cells.first() {
+        Ok(Command::Add { row, .. }) => match row.get(0) {
             Some(Value::Int(i)) => Some(*i),
             _ => None,
         },
@@ -101,12 +102,12 @@ fn reads_integers(rt: HostRuntime) {
 // The numbers of a query's head names, atoms and terms.
 fn sizes(alloc: Global, line: &[u8]) -> (usize, usize, usize) {
     match read_command(alloc, line) {
-        Ok(Command::Query(query)) => {
+        Ok(Command::Query { query }) => {
             let mut terms = 0;
-            for atom in &query.atoms.atoms {
-                terms = atom.terms.terms.len();
+            for atom in query.atoms.as_slice() {
+                terms = atom.terms.len();
             }
-            (query.head.names.len(), query.atoms.atoms.len(), terms)
+            (query.head.len(), query.atoms.len(), terms)
         }
         _ => (0, 0, 0),
     }

@@ -1,1 +1,5 @@
+pub mod Lexes
+pub mod Spellings
+pub mod Words
+pub mod Escapes
 pub mod Putting

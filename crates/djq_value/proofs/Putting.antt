@@ -1,9 +1,10 @@
 -- How texts are put behind one another, and taken back.
 use Rattle.std.proofs.Common.{ℕ, zero, suc, get_or, drop, List, [], ◌∷◌, ◌++◌, ◌+◌, ◌≡◌, ◌<◌, ◌≤◌, length, take, refl, sym, ap, ◌∙◌, append_assoc, append-nil, arith, length-append}
-use Rattle.std.proofs.lemmas.List.{take_at}
+use Rattle.std.proofs.lemmas.List.{take_at, take_more}
 use Rattle.std.specs.List.{flat_map}
+use Rattle.std.proofs.lemmas.Grind.{flat_map-append}
 use Rattle.bytes.specs.Filled.{Filled}
-use Rattle.djq_value.specs.Output.{Put, Lacks}
+use Rattle.djq_value.specs.Output.{Put, Lacks, Says}
 
 -- A first part of a text was put.
 pub record Part (old now : Filled) (text : List ℕ) : Type 0 where
@@ -38,3 +39,15 @@ pub texts_at : {X : Type 0} (f : X → List ℕ) (xs : List X) (k : ℕ) (d : X)
 texts_at f [] k d h = absurd (omega arith)
 texts_at f (x ∷ xs) zero d h = refl
 texts_at f (x ∷ xs) (suc k) d h = ap (λ r. f x ++ r) (texts_at f xs k d (omega arith)) ∙ simp append_assoc
+
+-- a text that was put in two parts
+pub says_more : (old mid new : Filled) (text more : List ℕ) → Says old mid text → Says mid new more → Says old new (text ++ more)
+says_more old mid new text more p h = record {
+  items = h.items ∙ ap (λ xs. xs ++ more) p.items ∙ append_assoc old.items text more;
+  spare = omega (arith, p.spare, h.spare, length-append text more);
+}
+
+-- the texts up to behind a place
+pub texts_more : {X : Type 0} (f : X → List ℕ) (xs : List X) (k : ℕ) (d : X) → k < length xs
+    → flat_map f (take (k + 1) xs) ≡ flat_map f (take k xs) ++ f (get_or xs k d)
+texts_more f xs k d h = ap (flat_map f) (take_more xs k d h) ∙ flat_map-append f (take k xs) (get_or xs k d ∷ []) ∙ ap (λ r. flat_map f (take k xs) ++ r) (append-nil (f (get_or xs k d)))

@@ -1,12 +1,16 @@
 -- How values are printed.
-use Rattle.std.specs.Prelude.{ℕ, ◌∷◌, [], ◌==◌, ◌++◌, if◌then◌else◌, codes}
+use Rattle.std.specs.Prelude.{ℕ, ◌∷◌, [], ◌==◌, ◌||◌, ◌++◌, Bool, if◌then◌else◌, codes}
 use Rattle.std.specs.List.{flat_map}
 use Rattle.std.specs.Fmt.{signed_decimal}
 use Rattle.djq_model.specs.declared.value.Value.{Value}
 use Rattle.djq_model.specs.declared.value.Value.TheVariants.{Int, Text}
 use Rattle.djq_model.specs.Data.{Bytes}
 
--- in a text printed, quote, backslash and LF have a backslash before them
+-- the bytes of a text that are printed with a backslash before them: quote, backslash and LF
+abbrev pub is_escaped : ℕ → Bool
+is_escaped b = b == 34 || b == 92 || b == 10
+
+-- a byte as it is printed in a text
 abbrev pub escaped : ℕ → Bytes
 escaped b = if b == 34 then codes "\\\"" else (if b == 92 then codes "\\\\" else (if b == 10 then codes "\\n" else b ∷ []))
 

@@ -1,16 +1,25 @@
-//! Printing: values, answers and the words of replies, as bytes that are queued.
+//! Tokens and literals: what the words of a line are, and how values are printed.
+//!
+//! `Lexer` gives the tokens of a line, `read_integer` and `next_name` say what a word is, `print_value`
+//! appends the text of a value. Nothing here knows of commands or replies.
 //!
 //! Output goes into a `BytesMut`, of which contracts see the bytes and the room behind them. Whoever
 //! prints leaves 32 bytes of room, so that a session's last line never needs memory. What is printed
-//! for want of memory in part only is taken back: a call appends its text whole, or nothing.
+//! in part only, out of memory, is taken back: a call appends its text whole, or nothing.
 #![tactic(auto)]
 
-pub use output::{KEPT, NoMem, put, say, say_number};
-pub use print::{print_answer, print_value};
-pub use words::refusal_words;
+pub use laws::tokens_are_spelled;
+pub use lexer::{Lexer, Token};
+pub use number::{Number, number_in, read_natural};
+pub use output::{KEPT, put};
+pub use print::print_value;
+pub use word::{is_name, is_text, next_name, next_word, read_name};
 
+mod laws;
+mod lexer;
+mod number;
 mod output;
 mod print;
 #[cfg(test)]
 mod tests;
-mod words;
+mod word;

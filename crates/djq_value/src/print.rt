@@ -1,14 +1,19 @@
-ghost use Rattle.std.specs.Prelude.{◌<◌, ◌≤◌, ◌∷◌, All, length};
-ghost use Rattle.djq_machine.specs.Reply.{value_text, quoted, escaped, line};
-ghost use Rattle.djq_value.specs.Output.{Puts, cells_text};
+ghost use Rattle.std.specs.Prelude.{◌≡◌, ◌*◌, ◌≤◌, count_by, length};
 ghost use Rattle.std.specs.List.{flat_map};
+ghost use Rattle.djq_model.specs.declared.value.TheConstants.{TEXT_BYTES};
+ghost use Rattle.djq_value.specs.Output.{Puts, Says};
+ghost use Rattle.djq_value.specs.ValueText.{escaped, is_escaped as is_escaped_of, quoted, value_text};
 
-use crate::output::{NoMem, put};
+use crate::output::{KEPT, put};
 use bytes::BytesMut;
-use djq_model::Value;
+use djq_model::{NoMem, Value};
 use itoa::Buffer;
 
 /// Appends a value as it is printed: an integer in decimal, a text in quotes with its escapes.
+///
+/// # Errors
+///
+/// `NoMem` comes only where the room is too small and can't grow; the output is then as before.
 pub fn print_value(value: &Value, out: &mut BytesMut) -> Result<(), NoMem>
     ensures { Puts out.old out.new (value_text value.now) result }
 {
@@ -17,115 +22,65 @@ pub fn print_value(value: &Value, out: &mut BytesMut) -> Result<(), NoMem>
             let mut buffer = Buffer::new();
             put(out, buffer.format(*number).as_bytes())
         }
-        Value::Text(text) => print_text(text.bytes.as_slice(), out),
+        Value::Text(text) => print_text(text.as_bytes(), out),
+    }
+}
+
+// A text in quotes. Room for the whole of it is taken at once.
+fn print_text(text: &[u8], out: &mut BytesMut) -> Result<(), NoMem>
+    requires { length text.now ≤ TEXT_BYTES }
+    ensures { Puts out.old out.new (quoted text.now) result }
+{
+    out.reserve(escaped_len(text) + 2 + KEPT)?;
+    out.extend_reserved(b"\"");
+    extend_escaped(text, out);
+    out.extend_reserved(b"\"");
+    Ok(())
+}
+
+// The number of bytes of a text with its escapes.
+fn escaped_len(text: &[u8]) -> usize
+    requires { length text.now ≤ TEXT_BYTES }
+    ensures value { result ≡ length (flat_map escaped text.now) }
+    ensures short { result ≤ 2 * TEXT_BYTES }
+{
+    text.len() + escape_count(text)
+}
+
+// How many bytes of a text need an escape.
+fn escape_count(text: &[u8]) -> usize
+    ensures value { result ≡ count_by is_escaped_of text.now }
+    ensures few { result ≤ length text.now }
+{
+    text.iter().filter(|b| is_escaped(**b)).count()
+}
+
+// Whether a byte of a text needs an escape.
+fn is_escaped(byte: u8) -> bool
+    ensures { result ≡ is_escaped_of byte }
+{
+    matches!(byte, b'"' | b'\\' | b'\n')
+}
+
+// The bytes of a text with their escapes.
+fn extend_escaped(text: &[u8], out: &mut BytesMut)
+    requires { length (flat_map escaped text.now) ≤ out.old.spare }
+    ensures { Says out.old out.new (flat_map escaped text.now) }
+{
+    for byte in text {
+        extend_byte(*byte, out);
     }
 }
 
 // A byte as it stands in a text that is printed.
-fn put_escaped(byte: u8, out: &mut BytesMut) -> Result<(), NoMem>
-    ensures { Puts out.old out.new (escaped byte) result }
+fn extend_byte(byte: u8, out: &mut BytesMut)
+    requires { length (escaped byte) ≤ out.old.spare }
+    ensures { Says out.old out.new (escaped byte) }
 {
     match byte {
-        b'"' => put(out, b"\\\""),
-        b'\\' => put(out, b"\\\\"),
-        b'\n' => put(out, b"\\n"),
-        other => put(out, &[other]),
-    }
-}
-
-// A text with its escapes.
-fn print_escaped(text: &[u8], out: &mut BytesMut) -> Result<(), NoMem>
-    requires { 32 ≤ out.old.spare }
-    ensures { Puts out.old out.new (flat_map escaped text.now) result }
-{
-    let start = out.len();
-    for byte in text {
-        match put_escaped(*byte, out) {
-            Ok(()) => {}
-            Err(_) => {
-                out.truncate(start);
-                return Err(NoMem);
-            }
-        }
-    }
-    Ok(())
-}
-
-// A text in quotes.
-fn print_text(text: &[u8], out: &mut BytesMut) -> Result<(), NoMem>
-    ensures { Puts out.old out.new (quoted text.now) result }
-{
-    let start = out.len();
-    put(out, b"\"")?;
-    match print_escaped(text, out) {
-        Ok(()) => {}
-        Err(_) => {
-            out.truncate(start);
-            return Err(NoMem);
-        }
-    }
-    match put(out, b"\"") {
-        Ok(()) => Ok(()),
-        Err(_) => {
-            out.truncate(start);
-            Err(NoMem)
-        }
-    }
-}
-
-// The value of a cell behind a space.
-fn print_cell(value: &Value, out: &mut BytesMut) -> Result<(), NoMem>
-    ensures { Puts out.old out.new (32 ∷ value_text value.now) result }
-{
-    let start = out.len();
-    put(out, b" ")?;
-    match print_value(value, out) {
-        Ok(()) => Ok(()),
-        Err(_) => {
-            out.truncate(start);
-            Err(NoMem)
-        }
-    }
-}
-
-// The cells at these columns, each behind a space.
-fn print_cells(row: &[Value], columns: &[usize], out: &mut BytesMut) -> Result<(), NoMem>
-    requires inside { All (λ i. i < length row.now) columns.now }
-    requires kept { 32 ≤ out.old.spare }
-    ensures { Puts out.old out.new (cells_text row.now columns.now) result }
-{
-    let start = out.len();
-    for column in columns {
-        match print_cell(&row[*column], out) {
-            Ok(()) => {}
-            Err(_) => {
-                out.truncate(start);
-                return Err(NoMem);
-            }
-        }
-    }
-    Ok(())
-}
-
-/// Appends the answer that a row gives at these columns, as a line.
-pub fn print_answer(row: &[Value], columns: &[usize], out: &mut BytesMut) -> Result<(), NoMem>
-    requires { All (λ i. i < length row.now) columns.now }
-    ensures { Puts out.old out.new (line (61 ∷ cells_text row.now columns.now)) result }
-{
-    let start = out.len();
-    put(out, b"=")?;
-    match print_cells(row, columns, out) {
-        Ok(()) => {}
-        Err(_) => {
-            out.truncate(start);
-            return Err(NoMem);
-        }
-    }
-    match put(out, b"\n") {
-        Ok(()) => Ok(()),
-        Err(_) => {
-            out.truncate(start);
-            Err(NoMem)
-        }
+        b'"' => out.extend_reserved(b"\\\""),
+        b'\\' => out.extend_reserved(b"\\\\"),
+        b'\n' => out.extend_reserved(b"\\n"),
+        other => out.extend_reserved(&[other]),
     }
 }

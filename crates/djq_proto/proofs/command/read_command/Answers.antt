@@ -1,8 +1,8 @@
 use Rattle.std.proofs.Common.{◌∙◌, List, sym, ap, subst, Option, refl, Err}
 use Rattle.djq_proto.specs.declared.command.LineRefusal.TheVariants.{Later}
-use Rattle.djq_machine.specs.declared.command.Command.{Command}
-use Rattle.djq_machine.specs.Token.{Token}
-use Rattle.djq_machine.specs.Grammar.{command_of, command_in}
+use Rattle.djq_lines.specs.declared.command.Command.{Command}
+use Rattle.djq_value.specs.Token.{Token}
+use Rattle.djq_lines.specs.Grammar.{command_of, command_in}
 use Rattle.djq_proto.specs.Reading.{Gives}
 use Rattle.djq_proto.proofs.Commands.{command_in-no_word}
 use Rattle.djq_proto.proofs.command.read_command.Goals as goal

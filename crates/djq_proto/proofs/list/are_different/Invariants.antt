@@ -1,5 +1,5 @@
 use Rattle.std.proofs.Common.{◌≡◌, length}
-use Rattle.djq_machine.specs.Grammar.{are_different}
+use Rattle.djq_value.specs.Literal.{are_different}
 use Rattle.djq_proto.proofs.list.are_different.Given as goal
 
 abbrev pub invariant-names : goal.invariant-names

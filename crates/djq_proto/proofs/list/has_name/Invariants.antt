@@ -1,5 +1,5 @@
 use Rattle.std.proofs.Common.{◌≡◌, length}
-use Rattle.djq_machine.specs.Grammar.{has_name}
+use Rattle.djq_value.specs.Literal.{has_name}
 use Rattle.djq_proto.proofs.list.has_name.Given as goal
 
 abbrev pub invariant-names : goal.invariant-names

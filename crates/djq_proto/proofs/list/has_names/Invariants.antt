@@ -1,6 +1,6 @@
 use Rattle.std.proofs.Common.{◌≡◌, length}
 use Rattle.std.specs.List.{list_all}
-use Rattle.djq_machine.specs.Grammar.{has_name}
+use Rattle.djq_value.specs.Literal.{has_name}
 use Rattle.djq_proto.proofs.list.has_names.Given as goal
 
 abbrev pub invariant-names : goal.invariant-names

@@ -10,7 +10,7 @@ values-preserved-in-Small c =
     let v = c.in-Small.value in
     let fits : SFits w64 v = search rules in
     row_small _ _ _ _ _ _ _ _ _ v c.values.invariant c.in-Some.ensures (sym c.in-Small.is ∙ c.number_in.ensures) c.push.ensures.kept
-    (λ kept. c.push.ensures.items kept ∙ ap (λ (i : ℤ). c.values.cells.items.items ++ Int i ∷ []) (to_z-of_z w64 v fits))
+    (λ kept. c.push.ensures.items kept ∙ ap (λ (i : ℤ). c.values.cells.items ++ Int i ∷ []) (to_z-of_z w64 v fits))
 
 pub values-preserved : goal.values-preserved
 values-preserved c =

@@ -1,5 +1,5 @@
 use Rattle.std.proofs.Common.{◌∙◌, ◌≡◌, sym, subst, ℕ, take, true, false}
-use Rattle.djq_machine.specs.Line.{is_long}
+use Rattle.djq_lines.specs.Line.{is_long}
 use Rattle.djq_proto.proofs.Cutting.{front_of-no_lf_long, front_of-no_lf_dry, no_lf_from_search}
 use Rattle.djq_proto.proofs.splitter.Splitter.front.Goals as goal
 

@@ -1,0 +1,25 @@
+-- How many bytes a text has with its escapes.
+use Rattle.std.proofs.Common.{◌≡◌, ◌+◌, ◌∷◌, ◌++◌, [], ℕ, List, length, cond, true, false, Bool, eqb, refl, ap, ◌∙◌, arith, length-append, count_by, ◌||◌, add-one, suc}
+use Rattle.std.specs.List.{flat_map}
+use Rattle.std.proofs.lemmas.List.Sums.{sum_by-cons}
+use Rattle.djq_value.specs.ValueText.{escaped, is_escaped}
+
+-- a byte has one more where it needs an escape
+length-escaped : (b : ℕ) → length (escaped b) ≡ cond (is_escaped b) 2 1
+length-escaped b = quote_first (eqb b 34) (eqb b 92) (eqb b 10)
+  where
+    quote_first : (p q r : Bool) → length (cond p (92 ∷ 34 ∷ []) (cond q (92 ∷ 92 ∷ []) (cond r (92 ∷ 110 ∷ []) (b ∷ [])))) ≡ cond (p || q || r) 2 1
+    quote_first true q r = refl
+    quote_first false true r = refl
+    quote_first false false true = refl
+    quote_first false false false = refl
+
+counted : (p : Bool) (b e n k m : ℕ) → b ≡ cond p 2 1 → e ≡ n + k → m ≡ cond p 1 0 + k → b + e ≡ suc n + m
+counted true b e n k m f g h = omega (arith, f, g, h)
+counted false b e n k m f g h = omega (arith, f, g, h)
+
+pub length-flat_map-escaped : (t : List ℕ) → length (flat_map escaped t) ≡ length t + count_by is_escaped t
+length-flat_map-escaped [] = refl
+length-flat_map-escaped (b ∷ bs) =
+    length-append (escaped b) (flat_map escaped bs)
+    ∙ counted (is_escaped b) (length (escaped b)) (length (flat_map escaped bs)) (length bs) (count_by is_escaped bs) (count_by is_escaped (b ∷ bs)) (length-escaped b) (length-flat_map-escaped bs) (sum_by-cons (λ x. cond (is_escaped x) 1 0) b bs)

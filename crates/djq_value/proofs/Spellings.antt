@@ -1,0 +1,188 @@
+-- The tokens of a line are those that it spells.
+use Rattle.std.proofs.Common.{◌≡◌, ℕ, zero, suc, ◌≤◌, Bool, true, false, cond, not, ◌||◌, List, [], ◌∷◌, ◌++◌, length, Option, Some, None, refl, sym, ap, ap₂, subst, ◌∙◌, arith, eqb, All, ◌↔◌, inl, inr}
+use Rattle.std.proofs.lemmas.List.{append-nil}
+use Rattle.std.proofs.lemmas.List.Elements.{All-nil, All-cons, All-head, All-tail}
+use Rattle.std.proofs.lemmas.List.Sums.{take_while-cons}
+use Rattle.std.proofs.lemmas.Bool.{cond-true, cond-false, cond_both, cases_Bool, eqb-true, eq-eqb, ne_eqb, eqb-false, or_parts, or_from}
+use Rattle.djq_model.specs.Data.{Bytes}
+use Rattle.djq_value.specs.Token.{Token, word, open_paren, close_paren, comma, arrow, stray, ends_word, behind_spaces, behind_word, word_front, arrow_front, token_front, token_at, and_then, tokens_within, tokens}
+use Rattle.djq_value.specs.Spelling.{IsSpaces, IsToken, MayFollow, IsSpelling, text_of}
+use Rattle.djq_value.proofs.Lexes.{IsShorter, token_shorter, tokens-none, tokens-some}
+
+front_stop : (c : ℕ) (cs : Bytes) → ends_word c ≡ true → word_front (c ∷ cs) ≡ []
+front_stop c cs e = take_while-cons (λ b. not (ends_word b)) c cs ∙ cond-false _ _ _ (ap not e)
+
+front_go : (c : ℕ) (cs : Bytes) → ends_word c ≡ false → word_front (c ∷ cs) ≡ c ∷ word_front cs
+front_go c cs e = take_while-cons (λ b. not (ends_word b)) c cs ∙ cond-true _ _ _ (ap not e)
+
+-- From tokens that are spelled to tokens that are read.
+
+spaces_passed : (front bs : Bytes) → IsSpaces front → behind_spaces (front ++ bs) ≡ behind_spaces bs
+spaces_passed [] bs h = refl
+spaces_passed (b ∷ front) bs h =
+    cond-true _ _ _ (eq-eqb b 32 (All-head (λ x. x ≡ 32) b front h)) ∙ spaces_passed front bs (All-tail (λ x. x ≡ 32) b front h)
+
+-- what may stand behind a word may stand behind any
+any_word : (v w behind : Bytes) → MayFollow (word v) behind → MayFollow (word w) behind
+any_word v w [] f = tt
+any_word v w (c ∷ cs) f = f
+
+front_all : (w behind : Bytes) → All (λ b. ends_word b ≡ false) w → MayFollow (word w) behind → word_front (w ++ behind) ≡ w
+front_all [] [] h f = refl
+front_all [] (b ∷ bs) h f = front_stop b bs f
+front_all (b ∷ w) behind h f =
+    front_go b (w ++ behind) (All-head (λ x. ends_word x ≡ false) b w h)
+    ∙ ap (λ xs. b ∷ xs) (front_all w behind (All-tail (λ x. ends_word x ≡ false) b w h) (any_word (b ∷ w) w behind f))
+
+behind_all : (w behind : Bytes) → All (λ b. ends_word b ≡ false) w → MayFollow (word w) behind → behind_word (w ++ behind) ≡ behind
+behind_all [] [] h f = refl
+behind_all [] (b ∷ bs) h f = cond-true _ _ _ f
+behind_all (b ∷ w) behind h f =
+    cond-false _ _ _ (All-head (λ x. ends_word x ≡ false) b w h)
+    ∙ behind_all w behind (All-tail (λ x. ends_word x ≡ false) b w h) (any_word (b ∷ w) w behind f)
+
+-- a byte of a word is none of the bytes that end one
+pub record IsInner (b : ℕ) : Type 0 where
+  space : eqb b 32 ≡ false
+  open_sign : eqb b 40 ≡ false
+  close_sign : eqb b 41 ≡ false
+  comma_sign : eqb b 44 ≡ false
+  angle : eqb b 60 ≡ false
+
+inner : (b : ℕ) → ends_word b ≡ false → IsInner b
+inner b e =
+    let at_angle = or_parts (eqb b 32 || eqb b 40 || eqb b 41 || eqb b 44) (eqb b 60) e in
+    let at_comma = or_parts (eqb b 32 || eqb b 40 || eqb b 41) (eqb b 44) at_angle.0 in
+    let at_close = or_parts (eqb b 32 || eqb b 40) (eqb b 41) at_comma.0 in
+    let at_open = or_parts (eqb b 32) (eqb b 40) at_close.0 in
+    record { space = at_open.0; open_sign = at_open.1; close_sign = at_close.1; comma_sign = at_comma.1; angle = at_angle.1 }
+
+token_read : (t : Token) (behind : Bytes) → IsToken t → MayFollow t behind → token_front (text_of t ++ behind) ≡ Some (t, behind)
+token_read open_paren behind h f = refl
+token_read close_paren behind h f = refl
+token_read comma behind h f = refl
+token_read arrow behind h f = refl
+token_read stray [] h f = refl
+token_read stray (b ∷ bs) h f = ap (λ p. Some p) (cond-false _ _ _ (ne_eqb b 45 f))
+token_read (word []) behind h f = absurd (omega (arith, h.0))
+token_read (word (b ∷ w)) behind h f =
+    let here = inner b (All-head (λ x. ends_word x ≡ false) b w h.1) in
+    let more = All-tail (λ x. ends_word x ≡ false) b w h.1 in
+    let after = any_word (b ∷ w) w behind f in
+    ap (λ p. Some p)
+    (cond-false _ _ _ here.open_sign ∙ cond-false _ _ _ here.close_sign ∙ cond-false _ _ _ here.comma_sign ∙ cond-false _ _ _ here.angle
+    ∙ ap₂ (λ (xs ys : Bytes). (word (b ∷ xs), ys)) (front_all w behind more after) (behind_all w behind more after))
+
+no_space : (t : Token) (behind : Bytes) → IsToken t → behind_spaces (text_of t ++ behind) ≡ text_of t ++ behind
+no_space open_paren behind h = refl
+no_space close_paren behind h = refl
+no_space comma behind h = refl
+no_space arrow behind h = refl
+no_space stray behind h = refl
+no_space (word []) behind h = absurd (omega (arith, h.0))
+no_space (word (b ∷ w)) behind h = cond-false _ _ _ (inner b (All-head (λ x. ends_word x ≡ false) b w h.1)).space
+
+pub spelled_read : (ts : List Token) (line : Bytes) → IsSpelling ts line → tokens line ≡ ts
+spelled_read [] line s = tokens-none line (ap token_front (ap behind_spaces (sym (append-nil line)) ∙ spaces_passed line [] s))
+spelled_read (t ∷ ts) line s =
+    let front = s.0 in
+    let behind = s.1 in
+    tokens-some line t behind
+    (ap token_at s.3 ∙ ap token_front (spaces_passed front (text_of t ++ behind) s.2 ∙ no_space t behind s.4) ∙ token_read t behind s.4 s.5)
+    ∙ ap (λ more. t ∷ more) (spelled_read ts behind s.6)
+
+-- From tokens that are read to tokens that are spelled.
+
+cut_spaces : (bs : Bytes) → (front : Bytes) × IsSpaces front × (bs ≡ front ++ behind_spaces bs)
+cut_spaces [] = ([], All-nil (λ x. x ≡ 32), refl)
+cut_spaces (b ∷ bs) = cut (eqb b 32) refl (cut_spaces bs)
+  where
+    cut : (t : Bool) → t ≡ eqb b 32 → ((front : Bytes) × IsSpaces front × (bs ≡ front ++ behind_spaces bs)) → (front : Bytes) × IsSpaces front × (b ∷ bs ≡ front ++ cond t (behind_spaces bs) (b ∷ bs))
+    cut true e more = (b ∷ more.0, All-cons (λ x. x ≡ 32) b more.0 (eqb-true b 32 (sym e)) more.1, ap (λ xs. b ∷ xs) more.2)
+    cut false e more = ([], All-nil (λ x. x ≡ 32), refl)
+
+-- bytes that begin with no space
+abbrev HasNoSpaceFirst : Bytes → Type 0
+HasNoSpaceFirst [] = Unit {0}
+HasNoSpaceFirst (b ∷ bs) = eqb b 32 ≡ false
+
+no_space_first : (bs : Bytes) → HasNoSpaceFirst (behind_spaces bs)
+no_space_first [] = tt
+no_space_first (b ∷ bs) = cond_both (eqb b 32) (behind_spaces bs) (b ∷ bs) HasNoSpaceFirst (λ e. no_space_first bs) (λ e. e)
+
+-- a token in front of bytes, and what is behind it
+abbrev IsFirstToken : Bytes → Token × Bytes → Type 0
+IsFirstToken bs p = (bs ≡ text_of p.0 ++ p.1) × IsToken p.0 × MayFollow p.0 p.1
+
+word_cut : (cs : Bytes) → cs ≡ word_front cs ++ behind_word cs
+word_cut [] = refl
+word_cut (c ∷ cs) = elim (cases_Bool (ends_word c)) [
+  | inl ends ↦ sym (ap₂ (λ (xs ys : Bytes). xs ++ ys) (front_stop c cs ends) (cond-true _ _ _ ends))
+  | inr more ↦ ap (λ xs. c ∷ xs) (word_cut cs) ∙ sym (ap₂ (λ (xs ys : Bytes). xs ++ ys) (front_go c cs more) (cond-false _ _ _ more))
+]
+
+word_all : (cs : Bytes) → All (λ b. ends_word b ≡ false) (word_front cs)
+word_all [] = All-nil (λ b. ends_word b ≡ false)
+word_all (c ∷ cs) = elim (cases_Bool (ends_word c)) [
+  | inl ends ↦ subst (λ (xs : Bytes). All (λ b. ends_word b ≡ false) xs) (sym (front_stop c cs ends)) (All-nil (λ b. ends_word b ≡ false))
+  | inr more ↦ subst (λ (xs : Bytes). All (λ b. ends_word b ≡ false) xs) (sym (front_go c cs more)) (All-cons (λ b. ends_word b ≡ false) c (word_front cs) more (word_all cs))
+]
+
+word_end : (w cs : Bytes) → MayFollow (word w) (behind_word cs)
+word_end w [] = tt
+word_end w (c ∷ cs) = cond_both (ends_word c) (c ∷ cs) (behind_word cs) (MayFollow (word w)) (λ e. e) (λ e. word_end w cs)
+
+inner_first : (b : ℕ) → eqb b 32 ≡ false → eqb b 40 ≡ false → eqb b 41 ≡ false → eqb b 44 ≡ false → eqb b 60 ≡ false → ends_word b ≡ false
+inner_first b e f g h i = or_from _ _ (or_from _ _ (or_from _ _ (or_from _ _ e f) g) h) i
+
+arrow_first : (b : ℕ) (cs : Bytes) → b ≡ 60 → IsFirstToken (b ∷ cs) (arrow_front cs)
+arrow_first b [] e = (ap (λ x. x ∷ []) e, tt, tt)
+arrow_first b (c ∷ cs) e =
+    cond_both (eqb c 45) (arrow, cs) (stray, c ∷ cs) (IsFirstToken (b ∷ c ∷ cs))
+    (λ is. (ap₂ (λ (x y : ℕ). x ∷ y ∷ cs) e (eqb-true c 45 is), tt, tt))
+    (λ no. (ap (λ x. x ∷ c ∷ cs) e, tt, eqb-false c 45 no))
+
+first_token : (b : ℕ) (cs : Bytes) → eqb b 32 ≡ false → IsFirstToken (b ∷ cs) (
+    cond (eqb b 40) (open_paren, cs) (cond (eqb b 41) (close_paren, cs) (cond (eqb b 44) (comma, cs) (cond (eqb b 60) (arrow_front cs) (word (b ∷ word_front cs), behind_word cs)))))
+first_token b cs no_space =
+    let P = IsFirstToken (b ∷ cs) in
+    cond_both (eqb b 40) _ _ P (λ is. (ap (λ x. x ∷ cs) (eqb-true b 40 is), tt, tt)) (λ no_open.
+    cond_both (eqb b 41) _ _ P (λ is. (ap (λ x. x ∷ cs) (eqb-true b 41 is), tt, tt)) (λ no_close.
+    cond_both (eqb b 44) _ _ P (λ is. (ap (λ x. x ∷ cs) (eqb-true b 44 is), tt, tt)) (λ no_comma.
+    cond_both (eqb b 60) _ _ P (λ is. arrow_first b cs (eqb-true b 60 is)) (λ no_angle.
+    (ap (λ xs. b ∷ xs) (word_cut cs), (omega arith, All-cons (λ x. ends_word x ≡ false) b (word_front cs) (inner_first b no_space no_open no_close no_comma no_angle) (word_all cs)), word_end (b ∷ word_front cs) cs)))))
+
+-- what is known of the first token
+abbrev IsFirst : Bytes → Option (Token × Bytes) → Type 0
+IsFirst bs None = bs ≡ []
+IsFirst bs (Some p) = IsFirstToken bs p
+
+front_first : (bs : Bytes) → HasNoSpaceFirst bs → IsFirst bs (token_front bs)
+front_first [] h = refl
+front_first (b ∷ cs) h = first_token b cs h
+
+spell_step : (bs : Bytes) (n : ℕ) (o : Option (Token × Bytes)) → IsFirst (behind_spaces bs) o → IsShorter (suc n) o → ((cs : Bytes) → length cs ≤ n → IsSpelling (tokens_within n cs) cs) → IsSpelling (and_then (tokens_within n) o) bs
+spell_step bs n None first s more =
+    let cut = cut_spaces bs in
+    let all : bs ≡ cut.0 = cut.2 ∙ ap (λ xs. cut.0 ++ xs) first ∙ append-nil cut.0 in
+    subst IsSpaces (sym all) cut.1
+spell_step bs n (Some p) first s more =
+    let cut = cut_spaces bs in
+    (cut.0, p.1, cut.1, cut.2 ∙ ap (λ xs. cut.0 ++ xs) first.0, first.1, first.2, more p.1 (omega (arith, s)))
+
+shorter_more : (o : Option (Token × Bytes)) (m n : ℕ) → m ≤ n → IsShorter m o → IsShorter n o
+shorter_more None m n h s = tt
+shorter_more (Some t) m n h s = omega (arith, s)
+
+read_spelled : (n : ℕ) (bs : Bytes) → length bs ≤ n → IsSpelling (tokens_within n bs) bs
+read_spelled zero [] h = All-nil (λ x. x ≡ 32)
+read_spelled zero (b ∷ bs) h = absurd (omega (arith, h))
+read_spelled (suc n) bs h =
+    spell_step bs n (token_at bs) (front_first (behind_spaces bs) (no_space_first bs)) (shorter_more (token_at bs) (length bs) (suc n) h (token_shorter bs)) (λ cs k. read_spelled n cs k)
+
+pub tokens_spelled : (line : Bytes) (ts : List Token) → tokens line ≡ ts → IsSpelling ts line
+unfolding tokens
+tokens_spelled line ts e = subst (λ (us : List Token). IsSpelling us line) e (read_spelled (length line) line (omega arith))
+
+pub tokens_are_spelled : (line : Bytes) (ts : List Token) → (tokens line ≡ ts) ↔ IsSpelling ts line
+tokens_are_spelled line ts = (tokens_spelled line ts, spelled_read ts line)

@@ -1,0 +1,5 @@
+use Rattle.djq_value.proofs.Spellings.{tokens_are_spelled}
+use Rattle.djq_value.proofs.laws.tokens_are_spelled.Goals as goal
+
+pub returns : goal.returns
+returns c = tokens_are_spelled

@@ -1,0 +1,47 @@
+-- What the lexer's answers say of the tokens that are left.
+use Rattle.std.specs.Prelude.{◌≡◌, List, [], ◌∷◌, Option, None, Some, Bool, false, true}
+use Rattle.std.specs.Borrow.{Bor}
+use Rattle.djq_model.specs.Data.{Bytes}
+use Rattle.djq_value.specs.Literal.{is_name}
+use Rattle.djq_value.specs.Token.{Token as Lexeme, word, open_paren, close_paren, comma, arrow, stray}
+use Rattle.djq_value.specs.declared.lexer.Token.{Token}
+use Rattle.djq_value.specs.declared.lexer.Token.TheVariants.{Word, Open, Close, Comma, Arrow, Stray}
+
+-- the token of the definitions that a token of the lexer stands for
+abbrev pub lexeme_of : Token → Lexeme
+lexeme_of (Word w) = word w.now
+lexeme_of Open = open_paren
+lexeme_of Close = close_paren
+lexeme_of Comma = comma
+lexeme_of Arrow = arrow
+lexeme_of Stray = stray
+
+-- The first token is taken from those that are left; none is given where none is left.
+abbrev pub Takes : List Lexeme → Option Token → List Lexeme → Type 0
+Takes old None new = (old ≡ []) × (new ≡ [])
+Takes old (Some t) new = old ≡ lexeme_of t ∷ new
+
+-- the word that a token is
+abbrev pub word_of : Lexeme → Option Bytes
+word_of (word w) = Some w
+word_of _ = None
+
+-- the word in front
+abbrev pub first_word : List Lexeme → Option Bytes
+first_word [] = None
+first_word (t ∷ ts) = word_of t
+
+-- The word in front is taken; none is given where no word is in front.
+abbrev pub TakesWord : List Lexeme → Option (Bor Bytes) → List Lexeme → Type 0
+TakesWord old None new = first_word old ≡ None
+TakesWord old (Some w) new = old ≡ word w.now ∷ new
+
+-- whether a name is in front
+abbrev pub has_name_first : List Lexeme → Bool
+has_name_first (word w ∷ ts) = is_name w
+has_name_first _ = false
+
+-- The name in front is taken; none is given where no name is in front.
+abbrev pub TakesName : List Lexeme → Option Bytes → List Lexeme → Type 0
+TakesName old None new = has_name_first old ≡ false
+TakesName old (Some n) new = (old ≡ word n ∷ new) × (is_name n ≡ true)

@@ -1,0 +1,149 @@
+ghost use Rattle.std.specs.Prelude.{◌≡◌, ◌↔◌, [], IsTrue, ◌<◌, ◌≤◌, Some, drop, length, take};
+ghost use Rattle.std.specs.Option.{option_copied};
+ghost use Rattle.djq_value.specs.Token.{arrow_front, behind_spaces, behind_word, ends_word as ends_word_of, token_front, tokens, word_front};
+ghost use Rattle.djq_value.specs.Lexing.{Takes, lexeme_of, word_of};
+
+use std::marker::Model;
+
+/// A token of a line.
+#[derive(Clone, Copy)]
+pub enum Token<'a> {
+    /// A run of bytes that are no spaces and no signs.
+    Word(&'a [u8]),
+    /// `(`.
+    Open,
+    /// `)`.
+    Close,
+    /// `,`.
+    Comma,
+    /// `<-`.
+    Arrow,
+    /// A `<` that begins no arrow.
+    Stray,
+}
+
+impl<'a> Token<'a> {
+    /// The word that the token is.
+    pub fn word(self) -> Option<&'a [u8]>
+        ensures { option_copied result ≡ word_of (lexeme_of self.entry) }
+    {
+        match self {
+            Token::Word(word) => Some(word),
+            _ => None,
+        }
+    }
+}
+
+/// Gives the tokens of a line, one by one. Contracts see the list of the tokens that are left.
+#[derive(Drop)]
+pub struct Lexer<'a> {
+    rest: &'a [u8],
+}
+
+impl<'a> Model for Lexer<'a> {
+    ghost use Rattle.std.specs.Prelude.{List};
+    ghost use Rattle.djq_value.specs.Token.{Token as Lexeme, tokens};
+
+    ghost Value = { List Lexeme };
+
+    ghost view = { λ l. tokens l.rest.now };
+}
+
+impl<'a> Lexer<'a> {
+    /// A lexer that stands in front of a line.
+    pub fn new(line: &'a [u8]) -> Self
+        ensures { result ≡ tokens line.now }
+    {
+        Lexer { rest: line }
+    }
+
+    // A second lexer at the same place.
+    pub fn fork(&self) -> Self
+        ensures { result ≡ self.now }
+    {
+        Lexer { rest: self.rest }
+    }
+
+    /// Whether no token is left.
+    pub fn is_done(&self) -> bool
+        ensures { IsTrue result ↔ (self.now ≡ []) }
+    {
+        space_count(self.rest) == self.rest.len()
+    }
+
+    /// The next token; none exactly where only spaces are left.
+    pub fn next(&mut self) -> Option<Token<'a>>
+        ensures { Takes self.old result self.new }
+    {
+        let bytes = &self.rest[space_count(self.rest)..];
+        if bytes.is_empty() {
+            self.rest = bytes;
+            None
+        } else {
+            let (token, rest) = front_token(bytes);
+            self.rest = rest;
+            Some(token)
+        }
+    }
+}
+
+// The token that begins with the first byte, and what is behind it.
+fn front_token(bytes: &[u8]) -> (Token<'_>, &[u8])
+    requires { 0 < length bytes.now }
+    ensures { token_front bytes.now ≡ Some (lexeme_of result.0, result.1.now) }
+{
+    let behind = &bytes[1..];
+    match bytes[0] {
+        b'(' => (Token::Open, behind),
+        b')' => (Token::Close, behind),
+        b',' => (Token::Comma, behind),
+        b'<' => arrow_or_stray(behind),
+        _ => {
+            let len = word_len(behind);
+            (Token::Word(&bytes[..len + 1]), &behind[len..])
+        }
+    }
+}
+
+// What a `<` begins, by what is behind it.
+fn arrow_or_stray(behind: &[u8]) -> (Token<'_>, &[u8])
+    ensures { arrow_front behind.now ≡ (lexeme_of result.0, result.1.now) }
+{
+    if !behind.is_empty() && behind[0] == b'-' {
+        (Token::Arrow, &behind[1..])
+    } else {
+        (Token::Stray, behind)
+    }
+}
+
+// How many spaces stand in front.
+fn space_count(bytes: &[u8]) -> usize
+    ensures within { result ≤ length bytes.now }
+    ensures behind { drop result bytes.now ≡ behind_spaces bytes.now }
+{
+    let mut count = 0;
+    while count < bytes.len() && bytes[count] == b' ' {
+        count += 1;
+    }
+    count
+}
+
+// How many bytes in front are of a word.
+fn word_len(bytes: &[u8]) -> usize
+    ensures within { result ≤ length bytes.now }
+    ensures word { take result bytes.now ≡ word_front bytes.now }
+    ensures behind { drop result bytes.now ≡ behind_word bytes.now }
+{
+    let mut len = 0;
+    while len < bytes.len() && !ends_word(bytes[len]) {
+        len += 1;
+    }
+    len
+}
+
+// Whether a byte ends a word: spaces and signs do.
+fn ends_word(byte: u8) -> bool
+    ensures { result ≡ ends_word_of byte }
+{
+    matches!(byte, b' ' | b'(' | b')' | b',' | b'<')
+}

@@ -1,0 +1,87 @@
+// What a word may be: a keyword or a name.
+ghost use Rattle.std.specs.Prelude.{◌≡◌, Some, None, if◌then◌else◌};
+ghost use Rattle.std.specs.List.{list_all};
+ghost use Rattle.djq_model.specs.Data.{bytes_eq};
+ghost use Rattle.djq_value.specs.Literal.{is_lower, is_name as is_name_of};
+ghost use Rattle.djq_value.specs.Lexing.{TakesName, TakesWord};
+ghost use Rattle.djq_value.specs.Word.{is_tail_of, may_follow_of};
+
+use crate::lexer::{Lexer, Token};
+use djq_model::Name;
+
+/// The most bytes that a name has behind its first.
+const MORE_BYTES: usize = 31;
+
+// Whether a word is this text.
+pub fn is_text(word: &[u8], text: &[u8]) -> bool
+    ensures { result ≡ bytes_eq word.now text.now }
+{
+    word == text
+}
+
+// The name that a word is: a letter, then letters, digits and `_`, 32 bytes at most.
+pub fn read_name(word: &[u8]) -> Option<Name>
+    ensures { result ≡ (if is_name_of word.now then Some word.now else None) }
+{
+    if is_name(word) {
+        Some(Name::new(word))
+    } else {
+        None
+    }
+}
+
+pub fn is_name(word: &[u8]) -> bool
+    ensures { result ≡ is_name_of word.now }
+{
+    if word.is_empty() {
+        return false;
+    }
+    let tail = is_tail(&word[1..]);
+    is_letter(word[0]) && tail
+}
+
+// Whether these may be the bytes of a name behind its first.
+fn is_tail(bytes: &[u8]) -> bool
+    ensures { result ≡ is_tail_of bytes.now }
+{
+    all_follow(bytes) && bytes.len() <= MORE_BYTES
+}
+
+fn all_follow(bytes: &[u8]) -> bool
+    ensures { result ≡ list_all may_follow_of bytes.now }
+{
+    bytes.iter().all(|b| may_follow(*b))
+}
+
+fn is_letter(byte: u8) -> bool
+    ensures { result ≡ is_lower byte }
+{
+    byte >= b'a' && byte <= b'z'
+}
+
+// Whether a byte may stand in a name behind its first.
+fn may_follow(byte: u8) -> bool
+    ensures { result ≡ may_follow_of byte }
+{
+    is_letter(byte) || (byte >= b'0' && byte <= b'9') || byte == b'_'
+}
+
+// The word in front, where one is there.
+pub fn next_word<'a>(lexer: &mut Lexer<'a>) -> Option<&'a [u8]>
+    ensures { TakesWord lexer.old result lexer.new }
+{
+    match lexer.next() {
+        Some(token) => token.word(),
+        None => None,
+    }
+}
+
+// The name in front, where one is there.
+pub fn next_name(lexer: &mut Lexer<'_>) -> Option<Name>
+    ensures { TakesName lexer.old result lexer.new }
+{
+    match next_word(lexer) {
+        Some(word) => read_name(word),
+        None => None,
+    }
+}
