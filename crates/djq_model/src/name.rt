@@ -57,7 +57,8 @@ impl Name {
 
     /// The bytes of the name.
     pub fn as_bytes(&self) -> &[u8]
-        ensures { result.now ≡ self.now }
+        ensures bytes { result.now ≡ self.now }
+        ensures short { length result.now ≤ NAME_BYTES }
     {
         &self.bytes[..self.len as usize]
     }

@@ -1,0 +1,37 @@
+// The lines that end a session, in the room that is kept for its last line.
+ghost use Rattle.std.specs.Prelude.{◌≡◌, ◌≤◌};
+ghost use Rattle.djq_lines.specs.Reply.{end_line, input_cut};
+ghost use Rattle.djq_lines.specs.declared.limits.TheConstants.{LAST_LINE_BYTES};
+ghost use Rattle.djq_value.specs.Output.{Says};
+
+use crate::short::say;
+use bytes::BytesMut;
+use djq_lines::EndLine;
+
+/// Tells that the input ended within a line.
+pub fn say_cut(out: &mut BytesMut)
+    requires { LAST_LINE_BYTES ≤ out.old.spare }
+    ensures { Says out.old out.new input_cut }
+{
+    say(out, b"err 13 cut");
+}
+
+/// Tells why the session is ended.
+pub fn say_end(out: &mut BytesMut, end: EndLine)
+    requires { LAST_LINE_BYTES ≤ out.old.spare }
+    ensures { Says out.old out.new (end_line end) }
+{
+    out.extend_reserved(end_bytes(end));
+}
+
+/// The line that tells why a session is ended, for one that has no output.
+pub fn end_bytes(end: EndLine) -> &'static [u8]
+    ensures { result.now ≡ end_line end }
+{
+    match end {
+        EndLine::Long => b"end long\n",
+        EndLine::Slow => b"end slow\n",
+        EndLine::Memory => b"end memory\n",
+        EndLine::Full => b"end full\n",
+    }
+}

@@ -1,0 +1,179 @@
+// The lines of listings and changes, which are of any length.
+//
+// A line is printed piece by piece. Out of memory its pieces are taken back, once for the whole line.
+ghost use Rattle.std.specs.Prelude.{◌≡◌, ◌<◌, ◌≤◌, ◌∷◌, All, length};
+ghost use Rattle.djq_model.specs.Data.{cells_at};
+ghost use Rattle.djq_lines.specs.Reply.{answer_line, at_line, cells_text, change_line, last_line, sign_text as sign_text_of};
+ghost use Rattle.djq_reply.specs.Adding.{Adds};
+ghost use Rattle.djq_value.specs.Output.{Puts};
+ghost use Rattle.djq_value.specs.ValueText.{value_text};
+
+use bytes::BytesMut;
+use djq_lines::Sign;
+use djq_model::{Name, NoMem, Value};
+use djq_value::{print_value, put};
+use itoa::Buffer;
+
+/// Appends an answer that `next` lists.
+///
+/// # Errors
+///
+/// `NoMem` comes only where the room is too small and can't grow; the output is then as before.
+pub fn put_answer(answer: &[Value], out: &mut BytesMut) -> Result<(), NoMem>
+    ensures { Puts out.old out.new (answer_line answer.now) result }
+{
+    let start = out.len();
+    let outcome = add_answer(answer, out);
+    if outcome.is_err() {
+        out.truncate(start);
+    }
+    outcome
+}
+
+fn add_answer(answer: &[Value], out: &mut BytesMut) -> Result<(), NoMem>
+    ensures { Adds out.old out.new (answer_line answer.now) result }
+{
+    put(out, b"=")?;
+    add_cells(answer, out)?;
+    put(out, b"\n")
+}
+
+/// Appends the answer that a row gives at these columns, as `next` lists it.
+///
+/// # Errors
+///
+/// `NoMem` comes only where the room is too small and can't grow; the output is then as before.
+pub fn put_answer_at(row: &[Value], columns: &[usize], out: &mut BytesMut) -> Result<(), NoMem>
+    requires { All (λ i. i < length row.now) columns.now }
+    ensures { Puts out.old out.new (answer_line (cells_at columns.now row.now)) result }
+{
+    let start = out.len();
+    let outcome = add_answer_at(row, columns, out);
+    if outcome.is_err() {
+        out.truncate(start);
+    }
+    outcome
+}
+
+fn add_answer_at(row: &[Value], columns: &[usize], out: &mut BytesMut) -> Result<(), NoMem>
+    requires { All (λ i. i < length row.now) columns.now }
+    ensures { Adds out.old out.new (answer_line (cells_at columns.now row.now)) result }
+{
+    put(out, b"=")?;
+    add_cells_at(row, columns, out)?;
+    put(out, b"\n")
+}
+
+/// Appends an answer that came or went, as a watch reports it.
+///
+/// # Errors
+///
+/// `NoMem` comes only where the room is too small and can't grow; the output is then as before.
+pub fn put_change(
+    sign: Sign,
+    query: &Name,
+    answer: &[Value],
+    out: &mut BytesMut,
+) -> Result<(), NoMem>
+    ensures { Puts out.old out.new (change_line sign query.now answer.now) result }
+{
+    let start = out.len();
+    let outcome = add_change(sign, query, answer, out);
+    if outcome.is_err() {
+        out.truncate(start);
+    }
+    outcome
+}
+
+fn add_change(sign: Sign, query: &Name, answer: &[Value], out: &mut BytesMut) -> Result<(), NoMem>
+    ensures { Adds out.old out.new (change_line sign query.now answer.now) result }
+{
+    put(out, sign_text(sign))?;
+    put(out, query.as_bytes())?;
+    add_cells(answer, out)?;
+    put(out, b"\n")
+}
+
+fn sign_text(sign: Sign) -> &'static [u8]
+    ensures { result.now ≡ sign_text_of sign }
+{
+    match sign {
+        Sign::Came => b"+ ",
+        Sign::Went => b"- ",
+    }
+}
+
+/// Appends the line behind the answers that came or went with a change: the query, and the number of
+/// the change.
+///
+/// # Errors
+///
+/// `NoMem` comes only where the room is too small and can't grow; the output is then as before.
+pub fn put_at(query: &Name, seq: u64, out: &mut BytesMut) -> Result<(), NoMem>
+    ensures { Puts out.old out.new (at_line query.now seq) result }
+{
+    let start = out.len();
+    let outcome = add_at(query, seq, out);
+    if outcome.is_err() {
+        out.truncate(start);
+    }
+    outcome
+}
+
+fn add_at(query: &Name, seq: u64, out: &mut BytesMut) -> Result<(), NoMem>
+    ensures { Adds out.old out.new (at_line query.now seq) result }
+{
+    let mut buffer = Buffer::new();
+    let digits = buffer.format(seq).as_bytes();
+    put(out, b"at ")?;
+    put(out, query.as_bytes())?;
+    put(out, b" ")?;
+    put(out, digits)?;
+    put(out, b"\n")
+}
+
+/// Appends the last line of a listing.
+///
+/// # Errors
+///
+/// `NoMem` comes only where the room is too small and can't grow; the output is then as before.
+pub fn put_last(is_end: bool, out: &mut BytesMut) -> Result<(), NoMem>
+    ensures { Puts out.old out.new (last_line is_end) result }
+{
+    if is_end {
+        put(out, b"end\n")
+    } else {
+        put(out, b"more\n")
+    }
+}
+
+// Values, each behind a space.
+fn add_cells(cells: &[Value], out: &mut BytesMut) -> Result<(), NoMem>
+    requires { 32 ≤ out.old.spare }
+    ensures { Adds out.old out.new (cells_text cells.now) result }
+{
+    for cell in cells {
+        add_cell(cell, out)?;
+    }
+    Ok(())
+}
+
+// The cells of a row at these columns, each behind a space.
+fn add_cells_at(row: &[Value], columns: &[usize], out: &mut BytesMut) -> Result<(), NoMem>
+    requires inside { All (λ i. i < length row.now) columns.now }
+    requires kept { 32 ≤ out.old.spare }
+    ensures { Adds out.old out.new (cells_text (cells_at columns.now row.now)) result }
+{
+    for column in columns {
+        add_cell(&row[*column], out)?;
+    }
+    Ok(())
+}
+
+// A value behind a space.
+fn add_cell(cell: &Value, out: &mut BytesMut) -> Result<(), NoMem>
+    ensures { Adds out.old out.new (32 ∷ value_text cell.now) result }
+{
+    put(out, b" ")?;
+    print_value(cell, out)
+}

@@ -1,0 +1,151 @@
+// Replies of at most 256 bytes, in room that was kept.
+ghost use Rattle.std.specs.Prelude.{◌≡◌, ◌+◌, ◌≤◌, codes, length};
+ghost use Rattle.djq_lines.specs.Reply.{add_reply, bye, delete_reply, has_reply, line, numbered, ok_reply, query_reply, refusal_line, stale_line, watch_reply};
+ghost use Rattle.djq_lines.specs.declared.limits.TheConstants.{LAST_LINE_BYTES, REPLY_BYTES};
+ghost use Rattle.djq_value.specs.Output.{Says};
+
+use crate::refusal::refusal_words;
+use bytes::BytesMut;
+use djq_lines::{AddOutcome, DeleteOutcome, Refusal};
+use djq_model::Name;
+use itoa::Buffer;
+
+// A line of words.
+pub(crate) fn say(out: &mut BytesMut, words: &[u8])
+    requires { length words.now + 1 ≤ out.old.spare }
+    ensures { Says out.old out.new (line words.now) }
+{
+    out.extend_reserved(words);
+    out.extend_reserved(b"\n");
+}
+
+// A line of words and a number, which has 20 digits at most.
+fn say_number(out: &mut BytesMut, words: &[u8], number: u64)
+    requires { length words.now + 21 + LAST_LINE_BYTES ≤ out.old.spare }
+    ensures kept { LAST_LINE_BYTES ≤ out.new.spare }
+    ensures says { Says out.old out.new (numbered words.now number) }
+{
+    let mut buffer = Buffer::new();
+    let digits = buffer.format(number).as_bytes();
+    out.extend_reserved(words);
+    out.extend_reserved(digits);
+    out.extend_reserved(b"\n");
+}
+
+/// Answers a refusal.
+pub fn say_refused(out: &mut BytesMut, refusal: Refusal)
+    requires room { REPLY_BYTES + LAST_LINE_BYTES ≤ out.old.spare }
+    ensures kept { LAST_LINE_BYTES ≤ out.new.spare }
+    ensures says { Says out.old out.new (refusal_line refusal) }
+{
+    say(out, refusal_words(refusal));
+}
+
+/// Answers `rel`, `drop`, `close` and `unwatch`.
+pub fn say_done(out: &mut BytesMut, outcome: Result<(), Refusal>)
+    requires room { REPLY_BYTES + LAST_LINE_BYTES ≤ out.old.spare }
+    ensures kept { LAST_LINE_BYTES ≤ out.new.spare }
+    ensures says { Says out.old out.new (ok_reply (codes "ok") outcome) }
+{
+    match outcome {
+        Ok(()) => say(out, b"ok"),
+        Err(refusal) => say_refused(out, refusal),
+    }
+}
+
+/// Answers `open`.
+pub fn say_opened(out: &mut BytesMut, outcome: Result<(), Refusal>)
+    requires room { REPLY_BYTES + LAST_LINE_BYTES ≤ out.old.spare }
+    ensures kept { LAST_LINE_BYTES ≤ out.new.spare }
+    ensures says { Says out.old out.new (ok_reply (codes "ok open") outcome) }
+{
+    match outcome {
+        Ok(()) => say(out, b"ok open"),
+        Err(refusal) => say_refused(out, refusal),
+    }
+}
+
+/// Answers `add`, at a number of changes.
+pub fn say_added(out: &mut BytesMut, outcome: Result<AddOutcome, Refusal>, seq: u64)
+    requires room { REPLY_BYTES + LAST_LINE_BYTES ≤ out.old.spare }
+    ensures kept { LAST_LINE_BYTES ≤ out.new.spare }
+    ensures says { Says out.old out.new (add_reply outcome seq) }
+{
+    match outcome {
+        Ok(AddOutcome::Added) => say_number(out, b"ok added ", seq),
+        Ok(AddOutcome::Same) => say_number(out, b"ok same ", seq),
+        Err(refusal) => say_refused(out, refusal),
+    }
+}
+
+/// Answers `del`, at a number of changes.
+pub fn say_deleted(out: &mut BytesMut, outcome: Result<DeleteOutcome, Refusal>, seq: u64)
+    requires room { REPLY_BYTES + LAST_LINE_BYTES ≤ out.old.spare }
+    ensures kept { LAST_LINE_BYTES ≤ out.new.spare }
+    ensures says { Says out.old out.new (delete_reply outcome seq) }
+{
+    match outcome {
+        Ok(DeleteOutcome::Removed) => say_number(out, b"ok removed ", seq),
+        Ok(DeleteOutcome::Absent) => say_number(out, b"ok absent ", seq),
+        Err(refusal) => say_refused(out, refusal),
+    }
+}
+
+/// Answers `query`, by the most lookups and links for one of its answers.
+pub fn say_registered(out: &mut BytesMut, outcome: Result<u64, Refusal>)
+    requires room { REPLY_BYTES + LAST_LINE_BYTES ≤ out.old.spare }
+    ensures kept { LAST_LINE_BYTES ≤ out.new.spare }
+    ensures says { Says out.old out.new (query_reply outcome) }
+{
+    match outcome {
+        Ok(most) => say_number(out, b"ok query ", most),
+        Err(refusal) => say_refused(out, refusal),
+    }
+}
+
+/// Answers `has`.
+pub fn say_has(out: &mut BytesMut, outcome: Result<bool, Refusal>)
+    requires room { REPLY_BYTES + LAST_LINE_BYTES ≤ out.old.spare }
+    ensures kept { LAST_LINE_BYTES ≤ out.new.spare }
+    ensures says { Says out.old out.new (has_reply outcome) }
+{
+    match outcome {
+        Ok(true) => say(out, b"yes"),
+        Ok(false) => say(out, b"no"),
+        Err(refusal) => say_refused(out, refusal),
+    }
+}
+
+/// Answers `watch`, at a number of changes.
+pub fn say_watched(out: &mut BytesMut, outcome: Result<(), Refusal>, seq: u64)
+    requires room { REPLY_BYTES + LAST_LINE_BYTES ≤ out.old.spare }
+    ensures kept { LAST_LINE_BYTES ≤ out.new.spare }
+    ensures says { Says out.old out.new (watch_reply outcome seq) }
+{
+    match outcome {
+        Ok(()) => say_number(out, b"ok watch ", seq),
+        Err(refusal) => say_refused(out, refusal),
+    }
+}
+
+/// Answers `next` on a stale cursor, by its name, the relation that changed and the number of the change.
+pub fn say_stale(out: &mut BytesMut, cursor: &Name, relation: &Name, seq: u64)
+    requires room { REPLY_BYTES + LAST_LINE_BYTES ≤ out.old.spare }
+    ensures kept { LAST_LINE_BYTES ≤ out.new.spare }
+    ensures says { Says out.old out.new (stale_line cursor.now relation.now seq) }
+{
+    out.extend_reserved(b"stale ");
+    out.extend_reserved(cursor.as_bytes());
+    out.extend_reserved(b" ");
+    out.extend_reserved(relation.as_bytes());
+    say_number(out, b" ", seq);
+}
+
+/// Answers `quit` and `stop`.
+pub fn say_bye(out: &mut BytesMut)
+    requires room { REPLY_BYTES + LAST_LINE_BYTES ≤ out.old.spare }
+    ensures kept { LAST_LINE_BYTES ≤ out.new.spare }
+    ensures says { Says out.old out.new bye }
+{
+    say(out, b"bye");
+}
