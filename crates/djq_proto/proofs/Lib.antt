@@ -1,7 +1,7 @@
 pub mod Cutting
-pub mod Lists
-pub mod Rows
-pub mod Commands
-pub mod Reorderings
-pub mod Sayings
-pub mod Spelled
+pub mod Listing
+pub mod NameReading
+pub mod Bodies
+pub mod Served
+pub mod Utf8
+pub mod Making

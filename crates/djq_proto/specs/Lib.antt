@@ -1,6 +1,5 @@
 pub mod Splitting
+pub mod Refusing
 pub mod Reading
 pub mod Listed
-pub mod Listing
-pub mod Saying
-pub mod Laws
+pub mod NameLists

@@ -1,5 +1,0 @@
-use Rattle.djq_proto.proofs.Sayings.{commands_are_said}
-use Rattle.djq_proto.proofs.laws.commands_are_said.Goals as goal
-
-pub returns : goal.returns
-returns c = commands_are_said
