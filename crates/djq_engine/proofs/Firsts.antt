@@ -1,8 +1,35 @@
 -- What the place of the first that passes tells of look-ups and changes.
-use Rattle.std.proofs.Common.{ℕ, zero, suc, List, [], ◌∷◌, ◌≡◌, ◌<◌, Bool, true, false, refl, ap, ◌∙◌, length, get_or, set, take, drop, ◌++◌, arith}
-use Rattle.std.specs.Prelude.{Option, None, Some, is_some, find, cond}
-use Rattle.djq_model.specs.Data.{Tuple, tuple_eq, has_row, without_row, change_first, drop_first}
-use Rattle.djq_engine.specs.Finding.{IsFirst, Finds}
+use Rattle.std.proofs.Common.{ℕ, zero, suc, List, [], ◌∷◌, ◌++◌, ◌≡◌, ◌<◌, ◌≤◌, ◌⊎◌, inl, inr, Bool, true, false, refl, sym, ap, ◌∙◌, subst, length, get_or, set, take, drop, arith, length-append}
+use Rattle.std.specs.Prelude.{Option, None, Some, is_some, find, position, cond, map, option_map, nat_lt}
+use Rattle.std.specs.List.{position_or_len}
+use Rattle.std.proofs.lemmas.Bool.{ltb-false, cases_order}
+use Rattle.std.proofs.lemmas.Option.{slice_get_past}
+use Rattle.std.proofs.lemmas.List.{get_or_append_left, get_or-map, length-map}
+use Rattle.std.proofs.lemmas.List.Folds.{find_at}
+use Rattle.std.proofs.lemmas.List.Quantifiers.{position-Some}
+use Rattle.djq_model.specs.Data.{change_first}
+use Rattle.djq_engine.specs.Finding.{IsFirst}
+
+-- what a search gives
+
+pub first_of_position : {A : Type 0} (p : A → Bool) (xs : List A) (i : ℕ) → position p xs ≡ Some i → IsFirst p xs i
+first_of_position p [] i e = absurd cc
+first_of_position p (x ∷ xs) i e = record {
+  below = (position-Some p (x ∷ xs) i x e).0;
+  passes = λ d. (position-Some p (x ∷ xs) i d e).1;
+  before = λ k d l. (position-Some p (x ∷ xs) i d e).2 k l;
+}
+
+none_below : (b : Bool) (n : ℕ) → cond b (Some n) None ≡ None → b ≡ false
+none_below true n e = absurd cc
+none_below false n e = refl
+
+pub none_of_position : {A : Type 0} (p : A → Bool) (xs : List A) → position p xs ≡ None → find p xs ≡ None
+none_of_position p xs e =
+    find_at p xs ∙ slice_get_past xs (position_or_len p xs)
+    (ltb-false (position_or_len p xs) (length xs) (none_below (nat_lt (position_or_len p xs) (length xs)) (position_or_len p xs) e))
+
+-- a first one, and look-ups
 
 first_behind : {A : Type 0} (p : A → Bool) (x : A) (xs : List A) (i : ℕ) → IsFirst p (x ∷ xs) (suc i) → IsFirst p xs i
 first_behind p x xs i h = record {
@@ -22,33 +49,51 @@ first_changed p f (x ∷ xs) zero d h = let e : p x ≡ true = h.passes d in rw 
 first_changed p f (x ∷ xs) (suc i) d h = let e : p x ≡ false = h.before zero d (omega arith) in
     rw e (ap (λ r. x ∷ r) (first_changed p f xs i d (first_behind p x xs i h)))
 
-pub first_dropped : {A : Type 0} (p : A → Bool) (xs : List A) (i : ℕ) → A → IsFirst p xs i → drop_first p xs ≡ take i xs ++ drop (suc i) xs
-first_dropped p [] i d h = absurd (omega (arith, h.below))
-first_dropped p (x ∷ xs) zero d h = let e : p x ≡ true = h.passes d in rw e refl
-first_dropped p (x ∷ xs) (suc i) d h = let e : p x ≡ false = h.before zero d (omega arith) in
-    rw e (ap (λ r. x ∷ r) (first_dropped p xs i d (first_behind p x xs i h)))
+not_both : {A : Type 0} (b : Bool) → b ≡ true → b ≡ false → A
+not_both true e f = absurd cc
+not_both false e f = absurd cc
 
--- none passes
-pub none_found : {A : Type 0} (p : A → Bool) (xs : List A) → ((k : ℕ) (d : A) → k < length xs → p (get_or xs k d) ≡ false) → find p xs ≡ None
-none_found p [] h = refl
-none_found p (x ∷ xs) h = let e : p x ≡ false = h 0 x (omega arith) in
-    rw e (none_found p xs (λ k d l. h (suc k) d (omega arith)))
-
--- a row is there where it is found
-pub row_there : (rows : List Tuple) (row : Tuple) → has_row rows row ≡ is_some (find (λ r. tuple_eq r row) rows)
-row_there [] row = refl
-row_there (r ∷ rs) row = there_step (tuple_eq r row) r rs row (row_there rs row)
+-- two first ones are one
+pub firsts_same : {A : Type 0} (p : A → Bool) (xs : List A) (i j : ℕ) (d : A) → IsFirst p xs i → IsFirst p xs j → i ≡ j
+firsts_same p xs i j d f g = by_order (cases_order i j)
   where
-    there_step : (b : Bool) (r : Tuple) (rs : List Tuple) (row : Tuple) → has_row rs row ≡ is_some (find (λ r. tuple_eq r row) rs)
-        → cond b true (has_row rs row) ≡ is_some (cond b (Some r) (find (λ r. tuple_eq r row) rs))
-    there_step true r rs row e = refl
-    there_step false r rs row e = e
+    by_order : (i ≡ j) ⊎ ((i < j) ⊎ (j < i)) → i ≡ j
+    by_order (inl e) = e
+    by_order (inr (inl l)) = not_both (p (get_or xs i d)) (f.passes d) (g.before i d l)
+    by_order (inr (inr l)) = not_both (p (get_or xs j d)) (g.passes d) (f.before j d l)
 
--- the rows without one are those without the first that is equal
-pub row_dropped : (rows : List Tuple) (row : Tuple) → without_row rows row ≡ drop_first (λ r. tuple_eq r row) rows
-row_dropped [] row = refl
-row_dropped (r ∷ rs) row = ap (λ more. cond (tuple_eq r row) rs (r ∷ more)) (row_dropped rs row)
+-- the same test, on images and on longer lists
 
-pub finds_there : (rows : List Tuple) (row : Tuple) (o : Option ℕ) → Finds (λ r. tuple_eq r row) rows o → has_row rows row ≡ is_some o
-finds_there rows row None h = row_there rows row ∙ ap is_some h
-finds_there rows row (Some i) h = row_there rows row ∙ ap is_some (first_found (λ r. tuple_eq r row) rows i row h)
+pub first_mapped : {A B : Type 0} (p : B → Bool) (f : A → B) (xs : List A) (i : ℕ) (b : B) → IsFirst (λ x. p (f x)) xs i → IsFirst p (map f xs) i
+first_mapped p f [] i b h = absurd (omega (arith, h.below))
+first_mapped p f (x ∷ xs) i b h =
+    let size = length-map (x ∷ xs) f in record {
+      below = omega (arith, h.below, size);
+      passes = λ d. ap p (get_or-map f (x ∷ xs) i x d h.below) ∙ h.passes x;
+      before = λ k d l. ap p (get_or-map f (x ∷ xs) k x d (omega (arith, h.below))) ∙ h.before k x l;
+    }
+
+pub find_mapped : {A B : Type 0} (p : B → Bool) (f : A → B) (xs : List A) → find p (map f xs) ≡ option_map f (find (λ x. p (f x)) xs)
+find_mapped p f [] = refl
+find_mapped p f (x ∷ xs) = step (p (f x)) (find_mapped p f xs)
+  where
+    step : (b : Bool) → find p (map f xs) ≡ option_map f (find (λ x. p (f x)) xs)
+        → cond b (Some (f x)) (find p (map f xs)) ≡ option_map f (cond b (Some x) (find (λ x. p (f x)) xs))
+    step true e = refl
+    step false e = e
+
+pub first_more : {A : Type 0} (p : A → Bool) (xs ys : List A) (i : ℕ) → IsFirst p xs i → IsFirst p (xs ++ ys) i
+first_more p xs ys i h = record {
+  below = omega (arith, h.below, length-append xs ys);
+  passes = λ d. ap p (get_or_append_left xs ys d i h.below) ∙ h.passes d;
+  before = λ k d l. ap p (get_or_append_left xs ys d k (omega (arith, h.below))) ∙ h.before k d l;
+}
+
+-- the same list but for what the test doesn't see
+pub first_as : {A : Type 0} (p : A → Bool) (xs ys : List A) (i : ℕ) (e : A) → length ys ≡ length xs → ((k : ℕ) (d : A) → k < length xs → p (get_or ys k d) ≡ p (get_or xs k d))
+    → IsFirst p xs i → IsFirst p ys i
+first_as p xs ys i e size same h = record {
+  below = omega (arith, h.below, size);
+  passes = λ d. same i d h.below ∙ h.passes d;
+  before = λ k d l. same k d (omega (arith, h.below)) ∙ h.before k d l;
+}

@@ -1,46 +1,40 @@
 -- The answers of a served query are its relation's rows at the columns of its head, each once.
 use Rattle.std.proofs.Common.{ℕ, zero, suc, List, [], ◌∷◌, ◌++◌, ◌+◌, ◌≡◌, ◌<◌, ◌≤◌, Bool, true, false, refl, sym, ap, ap₂, ◌∙◌, subst, length, get_or, take, drop, arith, eqb-true}
-use Rattle.std.specs.Prelude.{◌==◌, ◌&&◌, ◌||◌, not, cond, map, Option, None, Some, is_some, option_map, All, Contains}
+use Rattle.std.specs.Prelude.{◌==◌, ◌&&◌, ◌||◌, not, cond, map, Option, None, Some, All, Contains}
 use Rattle.std.specs.List.{list_all}
-use Rattle.std.proofs.Math.Seq.{take-add}
-use Rattle.std.proofs.lemmas.Bool.{leb-true, leb-false}
-use Rattle.std.proofs.lemmas.List.{get_or-map, get_or-take, length-map, length-take, length-drop, take_all}
-use Rattle.std.proofs.lemmas.List.Elements.{All-take, All-drop, All-cons, All-nil}
-use Rattle.std.proofs.lemmas.List.Kept.{AllPairs-cons}
+use Rattle.std.proofs.lemmas.List.{get_or-map, get_or-take, length-map, length-take, take_all, take_more, get_or_default}
+use Rattle.std.proofs.lemmas.List.Elements.{All-cons, All-nil}
 use Rattle.djq_model.specs.declared.value.Value.{Value}
 use Rattle.djq_model.specs.declared.relation.Relation.{Relation}
 use Rattle.djq_model.specs.declared.query.Query.{Query}
 use Rattle.djq_model.specs.declared.query.Atom.{Atom}
 use Rattle.djq_model.specs.declared.query.Term.{Term}
 use Rattle.djq_model.specs.declared.query.Term.TheVariants.{Variable, Hole, Constant}
-use Rattle.djq_model.specs.Data.{Bytes, Tuple, bytes_eq, relation_of, rows_of, rows_in, query_of}
+use Rattle.djq_model.specs.Data.{Bytes, Tuple, bytes_eq, rows_of}
+use Rattle.djq_model.specs.Equality.{bytes_eq-decides}
 use Rattle.djq_model.specs.Answer.{Assignment, StandForAll, Satisfies, IsAnswer, AreDifferent}
-use Rattle.djq_machine.specs.Grammar.{has_name, are_different}
-use Rattle.djq_machine.specs.Store.{Tells, types_of}
-use Rattle.djq_value.specs.Output.{cell_at}
-use Rattle.djq_engine.specs.Served.{is_served_by, is_variable, are_same, names_of, relation_in, body_in, place_in}
-use Rattle.djq_engine.specs.Answers.{cells_at, answers_of}
-use Rattle.djq_engine.specs.Sound.{RowsFit, IsFresh, RowsDiffer, RelationsSound, IsReady, QueriesReady, queries_in}
+use Rattle.djq_value.specs.Literal.{has_name, are_different}
+use Rattle.djq_machine.specs.Store.{IsLeft, AreAll}
+use Rattle.djq_engine.specs.declared.table.Table.{Table}
 use Rattle.djq_engine.specs.declared.registered.Registered.{Registered}
-use Rattle.djq_engine.specs.Lists.{told_from, is_end}
-use Rattle.djq_engine.specs.Finding.{IsFirst}
-use Rattle.djq_engine.specs.Change.{store, relation_at}
-use Rattle.djq_engine.proofs.Keeping.{bytes_same}
-use Rattle.djq_engine.proofs.Firsts.{first_found}
-use Rattle.djq_engine.proofs.Doing.{rows_named}
-use Rattle.djq_engine.proofs.Queries.{both_true, names_length, query_found}
+use Rattle.djq_engine.specs.Served.{is_served_by, is_variable, are_same, names_of, relation_in, body_in, place_in}
+use Rattle.djq_engine.specs.Answers.{cell_at, cells_at, columns_of, answers_of}
+use Rattle.djq_engine.specs.Tables.{table_at, relations_in, answers_at, store_of}
+use Rattle.djq_engine.specs.Sound.{RowsSound, IsReady}
+use Rattle.djq_engine.proofs.Conditions.{both_true, not_true}
+use Rattle.djq_engine.proofs.Changing.{rows_named}
 
-pub bytes_alike : (xs ys : Bytes) → bytes_eq xs ys ≡ true → xs ≡ ys
-bytes_alike [] [] h = refl
-bytes_alike [] (y ∷ ys) h = absurd cc
-bytes_alike (x ∷ xs) [] h = absurd cc
-bytes_alike (x ∷ xs) (y ∷ ys) h =
-    let b = both_true (x == y) (bytes_eq xs ys) h in
-    ap₂ (λ z zs. z ∷ zs) (eqb-true x y b.0) (bytes_alike xs ys b.1)
+bytes_alike : (xs ys : Bytes) → bytes_eq xs ys ≡ true → xs ≡ ys
+bytes_alike xs ys e = (bytes_eq-decides xs ys).0 e
 
-not_true : (b : Bool) → not b ≡ true → b ≡ false
-not_true true e = absurd cc
-not_true false e = refl
+bytes_same : (xs : Bytes) → bytes_eq xs xs ≡ true
+bytes_same xs = (bytes_eq-decides xs xs).1 refl
+
+pub names_length : (ts : List Term) → list_all is_variable ts ≡ true → length (names_of ts) ≡ length ts
+names_length [] e = refl
+names_length (Variable x ∷ ts) e = let k = names_length ts e in omega (arith, k)
+names_length (Hole ∷ ts) e = absurd cc
+names_length (Constant c ∷ ts) e = absurd cc
 
 -- a name that is in a list isn't one that isn't
 apart : (x y : Bytes) (ns : List Bytes) → has_name ns x ≡ false → has_name ns y ≡ true → bytes_eq x y ≡ false
@@ -207,124 +201,77 @@ rows_apart head atom row other s l k e =
 
 -- whole lists
 
-get_or_any : {A : Type 0} (xs : List A) (i : ℕ) (d e : A) → i < length xs → get_or xs i d ≡ get_or xs i e
-get_or_any [] i d e l = absurd (omega arith)
-get_or_any (x ∷ xs) zero d e l = refl
-get_or_any (x ∷ xs) (suc i) d e l = get_or_any xs i d e (omega arith)
-
-fit_all : (n : ℕ) (rows : List Tuple) → RowsFit n rows → All (λ row. length row ≡ n) rows
-fit_all n [] h = All-nil (λ row. length row ≡ n)
-fit_all n (r ∷ rs) h = All-cons (λ row. length row ≡ n) r rs h.0 (fit_all n rs h.1)
+-- What a list of all answers is, each once.
+pub record ListsAll (relations : List Relation) (q : Query) (ts : List Tuple) : Type 0 where
+  pub answers : All (IsAnswer relations q) ts
+  pub different : AreDifferent ts
+  pub complete : (t : Tuple) → IsAnswer relations q t → Contains ts t
 
 contains_map : (f : Tuple → Tuple) (rows : List Tuple) (row t : Tuple) → Contains rows row → f row ≡ t → Contains (map f rows) t
 contains_map f rows row t c e = (c.0, omega (arith, length-map rows f, c.1), get_or-map f rows c.0 row t c.1 ∙ ap f c.2 ∙ e)
-
-fresh_map : (head : List Bytes) (atom : Atom) (row : Tuple) (rows : List Tuple) → Served head atom → length row ≡ length atom.terms → RowsFit (length atom.terms) rows → IsFresh row rows
-    → All (λ t. cells_at (map (place_in (names_of atom.terms)) head) row ≡ t → ⊥) (map (cells_at (map (place_in (names_of atom.terms)) head)) rows)
-fresh_map head atom row [] s l h f = All-nil (λ t. cells_at (map (place_in (names_of atom.terms)) head) row ≡ t → ⊥)
-fresh_map head atom row (r ∷ rs) s l h f = let cut = cells_at (map (place_in (names_of atom.terms)) head) in
-    All-cons (λ t. cut row ≡ t → ⊥) (cut r) (map cut rs) (λ e. f.0 (rows_apart head atom row r s l h.0 e)) (fresh_map head atom row rs s l h.1 f.1)
-
-different_map : (head : List Bytes) (atom : Atom) (rows : List Tuple) → Served head atom → RowsFit (length atom.terms) rows → RowsDiffer rows
-    → AreDifferent (map (cells_at (map (place_in (names_of atom.terms)) head)) rows)
-different_map head atom [] s h d = λ i j x l k. absurd (omega arith)
-different_map head atom (r ∷ rs) s h d = let cut = cells_at (map (place_in (names_of atom.terms)) head) in
-    AllPairs-cons (λ a b. a ≡ b → ⊥) (cut r) (map cut rs) (fresh_map head atom r rs s h.0 h.1 d.0) (different_map head atom rs s h.1 d.1)
-
-different_take : (n : ℕ) (ts : List Tuple) → AreDifferent ts → AreDifferent (take n ts)
-different_take n ts d = λ i j x l k e. let below = length-take n ts in
-    d i j x l (omega (arith, below)) (sym (get_or-take n ts i x (omega (arith, below))) ∙ e ∙ get_or-take n ts j x (omega (arith, below)))
-
--- the one behind a prefix isn't in it
-not_before : (n : ℕ) (ts : List Tuple) → AreDifferent ts → n < length ts → Contains (take n ts) (get_or ts n []) → ⊥
-not_before n ts d l c = let t = get_or ts n [] in let below = length-take n ts in
-    d c.0 n t (omega (arith, below, c.1)) l (sym (get_or-take n ts c.0 t (omega (arith, below, c.1))) ∙ c.2 ∙ get_or_any ts n [] t l)
-
--- what is told of answers that are all, different, from a place on
-pub tells_of : (rs : List Relation) (q : Query) (ts : List Tuple) (at count : ℕ) → All (IsAnswer rs q) ts → AreDifferent ts → ((t : Tuple) → IsAnswer rs q t → Contains ts t)
-    → at ≤ length ts → Tells rs q (take at ts) count (told_from ts at count) (is_end ts at count)
-tells_of rs q ts at count answers different complete inside =
-    let prefix : take at ts ++ take count (drop at ts) ≡ take (at + count) ts = sym (take-add at count ts) in record {
-      answers = All-take (IsAnswer rs q) count (drop at ts) (All-drop (IsAnswer rs q) at ts answers);
-      different = subst (λ xs. AreDifferent xs) (sym prefix) (different_take (at + count) ts different);
-      none_left = λ e t h. subst (λ xs. Contains xs t) (sym (prefix ∙ take_all (at + count) ts (leb-true (length ts) (at + count) e))) (complete t h);
-      some_left = λ e. let l = leb-false (length ts) (at + count) e in (
-        get_or ts (at + count) [],
-        answers (at + count) [] l,
-        λ c. not_before (at + count) ts different l (subst (λ xs. Contains xs (get_or ts (at + count) [])) prefix c),
-      );
-      at_most = omega (arith, length-take count (drop at ts));
-      all_asked = λ e. omega (arith, leb-false (length ts) (at + count) e, length-take count (drop at ts), length-drop at ts);
-    }
 
 all_map : (f : Tuple → Tuple) (P : Tuple → Type 0) (rows : List Tuple) → ((row : Tuple) → Contains rows row → P (f row)) → All P (map f rows)
 all_map f P rows h = λ k d l.
     let below : k < length rows = omega (arith, length-map rows f) in
     let row = get_or rows k [] in
-    subst P (sym (get_or-map f rows k [] d below)) (h row (k, below, get_or_any rows k row [] below))
+    subst P (sym (get_or-map f rows k [] d below)) (h row (k, below, get_or_default rows k row [] below))
 
-fit_row : (n : ℕ) (rows : List Tuple) (row : Tuple) → RowsFit n rows → Contains rows row → length row ≡ n
-fit_row n rows row h c = ap length (sym c.2) ∙ fit_all n rows h c.0 row c.1
+fit_row : (n : ℕ) (rows : List Tuple) (row : Tuple) → All (λ row. length row ≡ n) rows → Contains rows row → length row ≡ n
+fit_row n rows row h c = ap length (sym c.2) ∙ h c.0 row c.1
 
-atom_tells : (rs : List Relation) (name : Bytes) (head : List Bytes) (atom : Atom) (at count : ℕ) → Served head atom → RowsFit (length atom.terms) (rows_of rs atom.relation) → RowsDiffer (rows_of rs atom.relation)
-    → (let ts = map (cells_at (map (place_in (names_of atom.terms)) head)) (rows_of rs atom.relation) in at ≤ length ts
-    → Tells rs (record { name = name; head = head; atoms = atom ∷ [] }) (take at ts) count (told_from ts at count) (is_end ts at count))
-atom_tells rs name head atom at count s fit differ =
-    let rows = rows_of rs atom.relation in
+different_map : (head : List Bytes) (atom : Atom) (rows : List Tuple) → Served head atom → All (λ row. length row ≡ length atom.terms) rows → AreDifferent rows
+    → AreDifferent (map (cells_at (map (place_in (names_of atom.terms)) head)) rows)
+different_map head atom rows s fit differ = λ i j d l k e.
     let cut = cells_at (map (place_in (names_of atom.terms)) head) in
-    let q : Query = record { name = name; head = head; atoms = atom ∷ [] } in
-    tells_of rs q (map cut rows) at count
-    (all_map cut (IsAnswer rs q) rows (λ row c. row_answers rs name head atom row s (fit_row (length atom.terms) rows row fit c) c))
-    (different_map head atom rows s fit differ)
-    (λ t h. let r = answer_row rs name head atom t s h in contains_map cut rows r.0 t r.1 r.2)
+    let size = length-map rows cut in
+    let j_below : j < length rows = omega (arith, size) in
+    let i_below : i < length rows = omega (arith, size) in
+    differ i j [] l j_below (rows_apart head atom (get_or rows i []) (get_or rows j []) s (fit i [] i_below) (fit j [] j_below)
+    (sym (get_or-map cut rows i [] d i_below) ∙ e ∙ get_or-map cut rows j [] d j_below))
 
--- the rows of a name fit its types, and differ
-record RowsSound (r : Option Relation) : Type 0 where
-  fit : RowsFit (length (types_of r)) (rows_in r)
-  differ : RowsDiffer (rows_in r)
+atom_lists : (rs : List Relation) (name : Bytes) (head : List Bytes) (atom : Atom) (rows : List Tuple) → Served head atom → rows ≡ rows_of rs atom.relation
+    → All (λ row. length row ≡ length atom.terms) rows → AreDifferent rows
+    → ListsAll rs (record { name = name; head = head; atoms = atom ∷ [] }) (map (cells_at (map (place_in (names_of atom.terms)) head)) rows)
+atom_lists rs name head atom rows s is fit differ =
+    let cut = cells_at (map (place_in (names_of atom.terms)) head) in
+    let q : Query = record { name = name; head = head; atoms = atom ∷ [] } in record {
+      answers = all_map cut (IsAnswer rs q) rows (λ row c. row_answers rs name head atom row s (fit_row (length atom.terms) rows row fit c) (subst (λ rows. Contains rows row) is c));
+      different = different_map head atom rows s fit differ;
+      complete = λ t h. let r = answer_row rs name head atom t s h in contains_map cut rows r.0 t (subst (λ rows. Contains rows r.0) (sym is) r.1) r.2;
+    }
 
-sound_named : (rs : List Relation) (name : Bytes) → RelationsSound rs → RowsSound (relation_of rs name)
-sound_named [] name h = record { fit = tt; differ = tt }
-sound_named (r ∷ rs) name h = by_name (bytes_eq r.name name) (sound_named rs name h.2)
-  where
-    by_name : (b : Bool) → RowsSound (relation_of rs name) → RowsSound (cond b (Some r) (relation_of rs name))
-    by_name true more = record { fit = h.0; differ = h.1 }
-    by_name false more = more
-
-query_tells : (rs : List Relation) (seq : ℕ) (qs : List Query) (name : Bytes) (head : List Bytes) (atoms : List Atom) (at count : ℕ) → is_served_by head atoms ≡ true
-    → length (types_of (relation_of rs (relation_in atoms))) ≡ length (body_in atoms) → RelationsSound rs
-    → (let q : Query = record { name = name; head = head; atoms = atoms } in at ≤ length (answers_of (store rs qs seq) q)
-    → Tells rs q (take at (answers_of (store rs qs seq) q)) count (told_from (answers_of (store rs qs seq) q) at count) (is_end (answers_of (store rs qs seq) q) at count))
-query_tells rs seq qs name head [] at count served arity h = absurd cc
-query_tells rs seq qs name head (a ∷ b ∷ more) at count served arity h = absurd cc
-query_tells rs seq qs name head (a ∷ []) at count served arity h =
+query_lists : (rs : List Relation) (name : Bytes) (head : List Bytes) (atoms : List Atom) (n : ℕ) (rows : List Tuple) → is_served_by head atoms ≡ true → rows ≡ rows_of rs (relation_in atoms)
+    → n ≡ length (body_in atoms) → All (λ row. length row ≡ n) rows → AreDifferent rows
+    → (let q : Query = record { name = name; head = head; atoms = atoms } in ListsAll rs q (map (cells_at (columns_of q)) rows))
+query_lists rs name head [] n rows served is arity fit differ = absurd cc
+query_lists rs name head (a ∷ b ∷ more) n rows served is arity fit differ = absurd cc
+query_lists rs name head (a ∷ []) n rows served is arity fit differ =
     let s = served_parts head a served in
-    let sound = sound_named rs a.relation h in
-    let columns : length (types_of (relation_of rs a.relation)) ≡ length a.terms = arity ∙ names_length a.terms s.plain in
-    atom_tells rs name head a at count s (subst (λ n. RowsFit n (rows_of rs a.relation)) columns sound.fit) sound.differ
+    atom_lists rs name head a rows s is (subst (λ m. All (λ row. length row ≡ m) rows) (arity ∙ names_length a.terms s.plain) fit) differ
 
--- a registered query's answers, from a place on
-pub ready_tells : (rs : List Relation) (seq : ℕ) (qs : List Query) (g : Registered) (at count : ℕ) → IsReady rs g → RelationsSound rs
-    → at ≤ length (answers_of (store rs qs seq) g.query)
-    → Tells rs g.query (take at (answers_of (store rs qs seq) g.query)) count (told_from (answers_of (store rs qs seq) g.query) at count) (is_end (answers_of (store rs qs seq) g.query) at count)
-ready_tells rs seq qs g at count r h = query_tells rs seq qs g.query.name g.query.head g.query.atoms at count r.served
-    (ap (λ n. length (types_of (relation_of rs n))) (sym r.relation) ∙ r.arity) h
+-- the answers of a registered query
+pub ready_lists : (tables : List Table) (g : Registered) → IsReady tables g → RowsSound (table_at tables g.relation).relation → ListsAll (relations_in tables) g.query (answers_at tables g)
+ready_lists tables g r s =
+    let rows = (table_at tables g.relation).relation.rows in
+    subst (λ columns. ListsAll (relations_in tables) g.query (map (cells_at columns) rows)) (sym r.columns)
+    (query_lists (relations_in tables) g.query.name g.query.head g.query.atoms (length (table_at tables g.relation).relation.types) rows r.served
+    (sym (rows_named tables (relation_in g.query.atoms) g.relation r.relation)) r.arity s.fit s.differ)
 
--- what is kept of a registered query
+pub answers_are : (tables : List Table) (gs : List Registered) (seq : ℕ) (g : Registered) → IsReady tables g → answers_at tables g ≡ answers_of (store_of tables gs seq) g.query
+answers_are tables gs seq g r =
+    ap₂ (λ columns rows. map (cells_at columns) rows) r.columns (sym (rows_named tables (relation_in g.query.atoms) g.relation r.relation))
 
-pub ready_at : (rs : List Relation) (gs : List Registered) (place : ℕ) (g : Registered) → QueriesReady rs gs → place < length gs → g ≡ get_or gs place g → IsReady rs g
-ready_at rs [] place g h l e = absurd (omega arith)
-ready_at rs (x ∷ gs) zero g h l e = subst (λ y. IsReady rs y) (sym e) h.0
-ready_at rs (x ∷ gs) (suc place) g h l e = ready_at rs gs place g h.1 (omega arith) e
+-- the one behind a prefix is left, and none is behind the whole
 
-pub relation_there : (rs : List Relation) (g : Registered) → IsReady rs g → relation_of rs g.relation ≡ None → ⊥
-relation_there rs g r e = let k : is_some (relation_of rs g.relation) ≡ false = ap is_some e in let there = r.there in cc
+not_before : (n : ℕ) (ts : List Tuple) → AreDifferent ts → n < length ts → Contains (take n ts) (get_or ts n []) → ⊥
+not_before n ts d l c = let t = get_or ts n [] in let below = length-take n ts in
+    d c.0 n t (omega (arith, below, c.1)) l (sym (get_or-take n ts c.0 t (omega (arith, below, c.1))) ∙ c.2 ∙ get_or_default ts n [] t l)
 
--- the answers are those of the rows of its relation
-pub answers_are : (rs : List Relation) (g : Registered) (found : ℕ) (rows : List Tuple) → IsReady rs g → IsFirst (λ r. bytes_eq r.name g.relation) rs found
-    → rows ≡ (relation_at rs found).rows → map (cells_at g.columns) rows ≡ answers_of (store rs [] 0) g.query
-answers_are rs g found rows r h e =
-    ap₂ (λ cs xs. map (cells_at cs) xs) r.columns (e ∙ sym (rows_named rs g.relation found h) ∙ ap (λ n. rows_of rs n) r.relation)
+pub one_left : (rs : List Relation) (q : Query) (ts : List Tuple) (n : ℕ) → ListsAll rs q ts → n < length ts → IsLeft (IsAnswer rs q) (take n ts) (get_or ts n [])
+one_left rs q ts n h l = (h.answers n [] l, not_before n ts h.different l)
+
+pub all_given : (rs : List Relation) (q : Query) (ts : List Tuple) (n : ℕ) → ListsAll rs q ts → length ts ≤ n → AreAll (IsAnswer rs q) (take n ts)
+all_given rs q ts n h l = λ t a. subst (λ xs. Contains xs t) (sym (take_all n ts l)) (h.complete t a)
 
 -- each column is one of each row
 
@@ -342,23 +289,13 @@ places_below [] ns h = All-nil (λ i. i < length ns)
 places_below (x ∷ xs) ns h = let b = both_true (has_name ns x) (list_all (has_name ns) xs) h in
     All-cons (λ i. i < length ns) (place_in ns x) (map (place_in ns) xs) (place_below ns x b.0) (places_below xs ns b.1)
 
-columns_within : (name : Bytes) (head : List Bytes) (atoms : List Atom) → is_served_by head atoms ≡ true
-    → All (λ i. i < length (body_in atoms)) (map (place_in (body_in atoms)) head)
-columns_within name head [] e = absurd cc
-columns_within name head (a ∷ b ∷ more) e = absurd cc
-columns_within name head (a ∷ []) e = places_below head (names_of a.terms) (served_parts head a e).within
+columns_within : (head : List Bytes) (atoms : List Atom) → is_served_by head atoms ≡ true → All (λ i. i < length (body_in atoms)) (map (place_in (body_in atoms)) head)
+columns_within head [] e = absurd cc
+columns_within head (a ∷ b ∷ more) e = absurd cc
+columns_within head (a ∷ []) e = places_below head (names_of a.terms) (served_parts head a e).within
 
-pub columns_fit : (rs : List Relation) (g : Registered) (found : ℕ) (rows : List Tuple) → IsReady rs g → RelationsSound rs → IsFirst (λ r. bytes_eq r.name g.relation) rs found
-    → rows ≡ (relation_at rs found).rows → All (λ row. All (λ i. i < length row) g.columns) rows
-columns_fit rs g found rows r h first e =
-    let sound = sound_named rs g.relation h in
-    let n = length (types_of (relation_of rs g.relation)) in
-    let is : rows ≡ rows_of rs g.relation = e ∙ sym (rows_named rs g.relation found first) in
-    let fit : RowsFit n rows = subst (λ xs. RowsFit n xs) (sym is) sound.fit in
-    let within : All (λ i. i < length (body_in g.query.atoms)) g.columns = subst (λ cs. All (λ i. i < length (body_in g.query.atoms)) cs) (sym r.columns) (columns_within g.query.name g.query.head g.query.atoms r.served) in
-    λ k d l i x m. omega (arith, within i x m, r.arity, fit_all n rows fit k d l)
-
--- a place found among the registered is that of the query of the name
-pub query_at : (gs : List Registered) (name : Bytes) (place : ℕ) (g : Registered) → IsFirst (λ g. bytes_eq g.query.name name) gs place → g ≡ get_or gs place g
-    → query_of (queries_in gs) name ≡ Some g.query
-query_at gs name place g h e = query_found gs name ∙ ap (λ o. option_map (λ (x : Registered). x.query) o) (first_found (λ x. bytes_eq x.query.name name) gs place g h ∙ ap Some (sym e))
+pub columns_inside : (tables : List Table) (g : Registered) (i : ℕ) → IsReady tables g → RowsSound (table_at tables g.relation).relation → i < length (table_at tables g.relation).relation.rows
+    → All (λ k. k < length (get_or (table_at tables g.relation).relation.rows i [])) g.columns
+columns_inside tables g i r s l =
+    let within : All (λ k. k < length (body_in g.query.atoms)) g.columns = subst (λ cs. All (λ k. k < length (body_in g.query.atoms)) cs) (sym r.columns) (columns_within g.query.head g.query.atoms r.served) in
+    λ k d m. omega (arith, within k d m, r.arity, s.fit i [] l)

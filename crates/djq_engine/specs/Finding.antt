@@ -1,11 +1,12 @@
 -- The first of a list that passes a test.
 use Rattle.std.specs.Prelude.{ℕ, List, ◌≡◌, ◌<◌, Bool, true, false, Option, None, MatchOption, find, length, slice_index_or}
 
+-- The first that passes stands at this place.
 pub record IsFirst {A : Type 0} (p : A → Bool) (xs : List A) (i : ℕ) : Type 0 where
   pub below : i < length xs
   pub passes : (d : A) → p (slice_index_or xs i d) ≡ true
   pub before : (k : ℕ) (d : A) → k < i → p (slice_index_or xs k d) ≡ false
 
--- the place of the first, or none where none passes
+-- The place of the first that passes, or none where none does.
 abbrev pub Finds : {A : Type 0} → (A → Bool) → List A → Option ℕ → Type 0
 Finds p xs result = MatchOption result (find p xs ≡ None) (IsFirst p xs)

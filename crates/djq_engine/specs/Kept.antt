@@ -1,5 +1,5 @@
--- What contracts see of an engine, its cursors, and what its calls do to them.
-use Rattle.std.specs.Prelude.{ℕ, List, [], ◌∷◌, ◌==◌, ◌≡◌, ◌≤◌, ◌+◌, ◌++◌, ◌<◌, ◌&&◌, Bool, true, false, Option, None, Some, is_none, IsSome, IsSomeAnd, Result, Ok, Err, if◌then◌else◌, map, find, length, slice_index_or, ⊤}
+-- What contracts see of an engine, and what its calls do to its cursors.
+use Rattle.std.specs.Prelude.{ℕ, List, [], ◌∷◌, ◌==◌, ◌≡◌, ◌≤◌, ◌+◌, ◌++◌, ◌<◌, ◌&&◌, Bool, true, false, Option, None, Some, is_none, IsSome, IsSomeAnd, Result, Err, if◌then◌else◌, All, map, find, length, slice_index_or, ⊤}
 use Rattle.djq_model.specs.declared.query.Query.{Query}
 use Rattle.djq_model.specs.Data.{Bytes, Tuple, query_of}
 use Rattle.djq_model.specs.Answer.{IsAnswer}
@@ -13,7 +13,7 @@ use Rattle.djq_engine.specs.declared.cursor.CursorId.{CursorId}
 use Rattle.djq_engine.specs.declared.cursor.Answer.{Answer}
 use Rattle.djq_engine.specs.declared.cursor.Next.{Next}
 use Rattle.djq_engine.specs.declared.cursor.Next.TheVariants.{Given, End, Stale}
-use Rattle.djq_engine.specs.Answers.{answers_of}
+use Rattle.djq_engine.specs.Answers.{cells_at, answers_of}
 
 -- A cursor that the engine keeps: over which query, and how far it has come.
 pub record Held : Type 0 where
@@ -33,6 +33,10 @@ same_id a b = (a.query.at == b.query.at) && (a.cursor == b.cursor)
 -- the cursor of an id
 abbrev pub held_at : List Held → CursorId → Option Held
 held_at hs id = find (λ h. same_id h.id id) hs
+
+-- All cursors are as before.
+abbrev pub SameCursors : List Held → List Held → Type 0
+SameCursors old new = (id : CursorId) → held_at new id ≡ held_at old id
 
 -- All other cursors are as before.
 abbrev pub OthersStay : List Held → CursorId → List Held → Type 0
@@ -93,20 +97,34 @@ pub record MoreGives (old : Kept) (id : CursorId) (result : Bool) (new : Kept) (
   pub gives : IsSomeAnd (held_at old.cursors id) (λ h. IsSomeAnd (query_of (old.store).queries h.query) (λ q.
       MoreGivesAt old h q h.position result new × (now ≤ before + most_steps (length q.head))))
 
--- that an engine holds a cursor, and its query is registered
+-- that an engine holds a cursor
 abbrev pub IsHeld : Kept → CursorId → Type 0
-IsHeld k id = IsSomeAnd (held_at k.cursors id) (λ h. IsSome (query_of (k.store).queries h.query))
+IsHeld k id = IsSome (held_at k.cursors id)
 
--- that it isn't stale
+-- that a position isn't stale
+abbrev pub IsOpenAt : Position → Type 0
+IsOpenAt (open_at given ended) = Unit {0}
+IsOpenAt (stale r n) = ⊥
+
+-- that a cursor is held, and isn't stale
 abbrev pub IsFresh : Kept → CursorId → Type 0
 IsFresh k id = IsSomeAnd (held_at k.cursors id) (λ h. IsOpenAt h.position)
-  where
-    IsOpenAt : Position → Type 0
-    IsOpenAt (open_at given ended) = ⊤
-    IsOpenAt (stale r n) = ⊥
 
 -- A cursor is gone, and nothing else.
 pub record ClosesCursor (old : Kept) (id : CursorId) (new : Kept) : Type 0 where
   pub gone : held_at new.cursors id ≡ None
   pub others : OthersStay old.cursors id new.cursors
   pub store : new.store ≡ old.store
+
+-- what holds of a cursor's query
+abbrev pub OfQuery : Kept → CursorId → (Query → Type 0) → Type 0
+OfQuery k id P = IsSomeAnd (held_at k.cursors id) (λ h. IsSomeAnd (query_of (k.store).queries h.query) P)
+
+-- that an answer which a cursor gave is still there
+abbrev pub IsThere : Kept → CursorId → Answer → Type 0
+IsThere k id a = OfQuery k id (λ q. a.at < length (answers_of k.store q))
+
+-- An answer is lent as a row and the columns of its cells.
+pub record LendsAnswer (k : Kept) (id : CursorId) (a : Answer) (row : Tuple) (columns : List ℕ) : Type 0 where
+  pub cells : OfQuery k id (λ q. AnswerIs k.store q a (cells_at columns row))
+  pub inside : All (λ i. i < length row) columns

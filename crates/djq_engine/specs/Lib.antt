@@ -1,8 +1,8 @@
 pub mod Finding
-pub mod Refusing
-pub mod Change
 pub mod Served
 pub mod Answers
+pub mod Kept
+pub mod Rows
+pub mod Cursors
+pub mod Tables
 pub mod Sound
-pub mod Lists
-pub mod Registering

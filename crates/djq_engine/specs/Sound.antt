@@ -1,45 +1,35 @@
--- What the engine keeps: rows fit their relation and differ, and each registered query is served over a relation that is there.
-use Rattle.std.specs.Prelude.{ℕ, List, [], ◌∷◌, ◌≡◌, true, is_some, length, map}
+-- What holds of what the engine keeps, between any two calls.
+use Rattle.std.specs.Prelude.{ℕ, List, [], ◌∷◌, ◌==◌, ◌≡◌, ◌<◌, ◌≤◌, Bool, true, Some, All, length}
 use Rattle.djq_model.specs.declared.relation.Relation.{Relation}
-use Rattle.djq_model.specs.Data.{Tuple, relation_of}
-use Rattle.djq_machine.specs.Store.{types_of}
-use Rattle.djq_model.specs.declared.query.Query.{Query}
+use Rattle.djq_model.specs.Data.{bytes_eq}
+use Rattle.djq_model.specs.Answer.{AreDifferent}
+use Rattle.djq_engine.specs.declared.cursors.Progress.TheVariants.{Open}
+use Rattle.djq_engine.specs.declared.table.Table.{Table}
 use Rattle.djq_engine.specs.declared.registered.Registered.{Registered}
+use Rattle.djq_engine.specs.Finding.{IsFirst}
 use Rattle.djq_engine.specs.Served.{is_served, relation_in, body_in}
 use Rattle.djq_engine.specs.Answers.{columns_of}
+use Rattle.djq_engine.specs.Cursors.{slot_at}
+use Rattle.djq_engine.specs.Tables.{table_at, query_at, is_reader}
 
-abbrev pub RowsFit : ℕ → List Tuple → Type 0
-RowsFit n [] = Unit {0}
-RowsFit n (row ∷ rows) = (length row ≡ n) × RowsFit n rows
+-- The rows of a relation have a cell for each column, and differ.
+pub record RowsSound (r : Relation) : Type 0 where
+  pub fit : All (λ row. length row ≡ length r.types) r.rows
+  pub differ : AreDifferent r.rows
 
--- a row is none of these
-abbrev pub IsFresh : Tuple → List Tuple → Type 0
-IsFresh row [] = Unit {0}
-IsFresh row (r ∷ rs) = (row ≡ r → ⊥) × IsFresh row rs
-
-abbrev pub RowsDiffer : List Tuple → Type 0
-RowsDiffer [] = Unit {0}
-RowsDiffer (row ∷ rows) = IsFresh row rows × RowsDiffer rows
-
-abbrev pub RelationsSound : List Relation → Type 0
-RelationsSound [] = Unit {0}
-RelationsSound (r ∷ rs) = RowsFit (length r.types) r.rows × RowsDiffer r.rows × RelationsSound rs
-
--- a registered query is served, its relation is there with a column for each variable, and its columns are known
-pub record IsReady (relations : List Relation) (g : Registered) : Type 0 where
+-- A registered query is served, its relation stands at its place with a column for each variable, its columns are the head's,
+-- and no cursor has given more answers than there are.
+pub record IsReady (tables : List Table) (g : Registered) : Type 0 where
   pub served : is_served g.query ≡ true
-  pub relation : g.relation ≡ relation_in g.query.atoms
-  pub there : is_some (relation_of relations g.relation) ≡ true
-  pub arity : length (types_of (relation_of relations g.relation)) ≡ length (body_in g.query.atoms)
+  pub relation : IsFirst (λ t. bytes_eq t.relation.name (relation_in g.query.atoms)) tables g.relation
+  pub arity : length (table_at tables g.relation).relation.types ≡ length (body_in g.query.atoms)
   pub columns : g.columns ≡ columns_of g.query
+  pub inside : (k given : ℕ) (ended : Bool) → slot_at g.cursors k ≡ Some (Open given ended) → given ≤ length (table_at tables g.relation).relation.rows
 
-abbrev pub QueriesReady : List Relation → List Registered → Type 0
-QueriesReady relations [] = Unit {0}
-QueriesReady relations (g ∷ gs) = IsReady relations g × QueriesReady relations gs
-
-abbrev pub queries_in : List Registered → List Query
-queries_in gs = map (λ (g : Registered). g.query) gs
-
-pub record IsSound (relations : List Relation) (registered : List Registered) : Type 0 where
-  pub rows : RelationsSound relations
-  pub queries : QueriesReady relations registered
+-- All rows and queries are so, queries' names differ, and the readers of a relation are the queries over it.
+pub record IsSound (tables : List Table) (gs : List Registered) : Type 0 where
+  pub rows : (r : ℕ) → r < length tables → RowsSound (table_at tables r).relation
+  pub ready : (i : ℕ) → i < length gs → IsReady tables (query_at gs i)
+  pub named : (i : ℕ) → i < length gs → IsFirst (λ g. bytes_eq g.query.name (query_at gs i).query.name) gs i
+  pub below : (r i : ℕ) → is_reader (table_at tables r).readers i ≡ true → i < length gs
+  pub readers : (r i : ℕ) → r < length tables → i < length gs → is_reader (table_at tables r).readers i ≡ ((query_at gs i).relation == r)

@@ -1,3 +1,5 @@
+use djq_model::Name;
+
 /// Names a registered query of an engine, as long as that is registered.
 #[derive(Clone, Copy, Debug, PartialEq, Eq)]
 pub struct QueryId {

@@ -1,52 +1,55 @@
-ghost use Rattle.std.specs.Prelude.{◌≡◌, ◌<◌, ◌≤◌, true, length, IfSome, is_some};
-ghost use Rattle.djq_model.specs.Data.{query_of};
+ghost use Rattle.std.specs.Prelude.{◌≡◌, [], ◌<◌, true, length, None, Some, IfOk, IfErr, OnOk, OnErr};
+ghost use Rattle.djq_model.specs.Data.{bytes_eq, rows_of};
 ghost use Rattle.djq_machine.specs.State.{opening};
-ghost use Rattle.djq_machine.specs.Store.{Relates, Adds, Deletes, Registers};
-ghost use Rattle.djq_engine.specs.Served.{is_served, ReadsRelation};
-ghost use Rattle.djq_engine.specs.Answers.{answers_of};
-ghost use Rattle.djq_engine.specs.Lists.{ListsQuery};
+ghost use Rattle.djq_machine.specs.Store.{MakesRelation, AddsRow, DeletesRow, RegistersQuery, query_refusal};
+ghost use Rattle.djq_machine.specs.Stale.{add_outdates, delete_outdates};
+ghost use Rattle.djq_engine.specs.Finding.{IsFirst};
+ghost use Rattle.djq_engine.specs.Served.{is_served, relation_in};
+ghost use Rattle.djq_engine.specs.Tables.{store_of, Registers};
+ghost use Rattle.djq_engine.specs.Kept.{SameCursors, Outdates, OpenGives, NextGives, MoreGives, ClosesCursor, IsHeld, IsFresh, IsThere, LendsAnswer};
 
-use crate::change::{add_row, delete_row, make_relation};
-use crate::listing::{Listed, list_query};
-use crate::registered::Registered;
-use crate::registering::{register, relation_read};
-use bytes::BytesMut;
-use djq_machine::{Added, Deleted, Refusal};
-use djq_model::{Name, Query, Relation, Row, Types};
-use djq_steps::Tally;
+use crate::cursor::{Answer, CursorId, Next, QueryId};
+use crate::cursors::Progress;
+use crate::registered::{Registered, find_query, outdate};
+use crate::table::{Table, find_table};
+use djq_lines::limits::{COLUMNS, QUERIES, RELATIONS};
+use djq_lines::{AddOutcome, DeleteOutcome, Refusal};
+use djq_model::{Name, NoMem, Query, Row, Types, Value};
+use djq_steps::{Ledgers, Listing, Tally};
 use std::alloc::Global;
 use std::marker::Model;
-use std::sync::ledger::Ledger;
 
-/// The relations with their rows, the registered queries, and the number of changes.
-/// Contracts see the store of the join machine.
+/// The relations with their rows, the registered queries with their cursors, and the number of changes.
 #[derive(Drop)]
 pub struct Engine {
-    relations: Vec<Relation>,
+    alloc: Global,
+    tables: Vec<Table>,
     queries: Vec<Registered>,
     seq: u64,
 }
 
 impl Model for Engine {
-    ghost use Rattle.djq_machine.specs.State.{Store};
+    ghost use Rattle.djq_engine.specs.Kept.{Kept};
 
-    ghost Value = { Store };
+    ghost Value = { Kept };
 
-    ghost use Rattle.std.specs.Prelude.{[]};
-    ghost use Rattle.djq_engine.specs.Sound.{IsSound, queries_in};
+    ghost use Rattle.djq_engine.specs.Tables.{kept_of};
+    ghost use Rattle.djq_engine.specs.Sound.{IsSound};
 
-    ghost view = { λ e. record { relations = e.relations.items; texts = []; queries = queries_in e.queries.items; seq = e.seq } };
+    ghost view = { λ e. kept_of e.tables.items e.queries.items e.seq };
 
-    ghost invariant = { λ e. IsSound e.relations.items e.queries.items };
+    ghost invariant = { λ e. IsSound e.tables.items e.queries.items };
 }
 
 impl Engine {
-    /// Nothing yet.
+    /// An engine without relations, queries and cursors. It takes no memory.
     pub fn new(alloc: Global) -> Self
-        ensures { result ≡ opening.store }
+        ensures store { result.store ≡ opening.store }
+        ensures cursors { result.cursors ≡ [] }
     {
         Engine {
-            relations: Vec::new(alloc),
+            alloc,
+            tables: Vec::new(alloc),
             queries: Vec::new(alloc),
             seq: 0,
         }
@@ -54,70 +57,237 @@ impl Engine {
 
     /// The number of accepted changes of rows.
     pub fn seq(&self) -> u64
-        ensures { result ≡ self.now.seq }
+        ensures { result ≡ self.now.store.seq }
     {
         self.seq
     }
 
+    /// The number of rows of a relation, 0 where there is none of the name.
+    pub fn rows(&self, name: &Name) -> u64
+        ensures { result ≡ length (rows_of self.now.store.relations name.now) }
+    {
+        match find_table(self.tables.as_slice(), name) {
+            Some(at) => self.tables[at].relation.rows.len() as u64,
+            None => 0,
+        }
+    }
+
     /// Makes a relation without rows.
-    pub fn rel(&mut self, alloc: Global, name: Name, types: Types) -> Result<(), Refusal>
-        ensures { Relates self.old name types result self.new }
+    ///
+    /// # Errors
+    ///
+    /// `Taken` where a relation has the name; `Limit` past [`COLUMNS`] columns and at [`RELATIONS`] relations; `NoMemory`
+    /// out of memory. Nothing has changed.
+    pub fn rel(&mut self, name: Name, types: Types) -> Result<(), Refusal>
+        ensures makes { MakesRelation self.old.store name types result self.new.store }
+        ensures cursors { SameCursors self.old.cursors self.new.cursors }
     {
-        make_relation(alloc, &mut self.relations, name, types)
+        if find_table(self.tables.as_slice(), &name).is_some() {
+            return Err(Refusal::Taken);
+        }
+        if types.len() > COLUMNS || self.tables.len() >= RELATIONS {
+            return Err(Refusal::Limit);
+        }
+        let table = Table::new(self.alloc, name, types);
+        let Ok(()) = self.tables.push(table) else {
+            return Err(Refusal::NoMemory);
+        };
+        Ok(())
     }
 
-    /// Adds a row to a relation. Where it is there already, nothing changes.
-    pub fn add(&mut self, name: &Name, row: Row) -> Result<Added, Refusal>
-        ensures { Adds self.old name.now row result self.new }
+    /// Adds a row to a relation. Where it is there already, nothing changes; where it wasn't, cursors over the relation become stale.
+    ///
+    /// # Errors
+    ///
+    /// `NoRelation` where none has the name; `Arity` and `WrongType` where the row doesn't suit its columns; `Limit` where the
+    /// relation or the number of changes is at its limit; `NoMemory` out of memory, and cursors over the relation are stale.
+    pub fn add(&mut self, name: &Name, row: Row) -> Result<AddOutcome, Refusal>
+        ensures adds { AddsRow self.old.store name.now row result self.new.store }
+        ensures outdates { Outdates self.old name.now (add_outdates result) self.new }
     {
-        add_row(&mut self.relations, &mut self.seq, name, row)
+        let Some(at) = find_table(self.tables.as_slice(), name) else {
+            return Err(Refusal::NoRelation);
+        };
+        match self.tables[at].add(row, self.seq) {
+            Ok(AddOutcome::Added) => self.seq += 1,
+            Ok(AddOutcome::Same) => return Ok(AddOutcome::Same),
+            Err(Refusal::NoMemory) => {
+                let readers = self.tables[at].readers.as_slice();
+                outdate(self.queries.as_mut_slice(), readers, *name, self.seq);
+                return Err(Refusal::NoMemory);
+            }
+            Err(refusal) => return Err(refusal),
+        }
+        let readers = self.tables[at].readers.as_slice();
+        outdate(self.queries.as_mut_slice(), readers, *name, self.seq);
+        Ok(AddOutcome::Added)
     }
 
-    /// Takes a row out of a relation. Where it isn't there, nothing changes.
-    pub fn del(&mut self, name: &Name, row: &Row) -> Result<Deleted, Refusal>
-        ensures { Deletes self.old name.now row.now result self.new }
+    /// Deletes a row from a relation. Where it isn't there, nothing changes; where it was, cursors over the relation become
+    /// stale. It takes no memory.
+    ///
+    /// # Errors
+    ///
+    /// `NoRelation` where none has the name; `Arity` and `WrongType` where the row doesn't suit its columns; `Limit` where the
+    /// number of changes is at its limit.
+    pub fn del(&mut self, name: &Name, row: &Row) -> Result<DeleteOutcome, Refusal>
+        ensures deletes { DeletesRow self.old.store name.now row.now result self.new.store }
+        ensures outdates { Outdates self.old name.now (delete_outdates result) self.new }
     {
-        delete_row(&mut self.relations, &mut self.seq, name, row)
+        let Some(at) = find_table(self.tables.as_slice(), name) else {
+            return Err(Refusal::NoRelation);
+        };
+        match self.tables[at].delete(row, self.seq) {
+            Ok(DeleteOutcome::Removed) => self.seq += 1,
+            Ok(DeleteOutcome::Absent) => return Ok(DeleteOutcome::Absent),
+            Err(refusal) => return Err(refusal),
+        }
+        let readers = self.tables[at].readers.as_slice();
+        outdate(self.queries.as_mut_slice(), readers, *name, self.seq);
+        Ok(DeleteOutcome::Removed)
     }
 
     /// Registers a query of one atom over different variables, with a head that names each of them once.
     /// Tells how many lookups and links one of its answers takes at most.
-    pub fn query(&mut self, alloc: Global, query: Query) -> Result<u64, Refusal>
+    ///
+    /// # Errors
+    ///
+    /// `Taken` where a query has the name; `NoRelation` where the atom's relation isn't there; `Arity` where it has another
+    /// number of columns; `Limit` at [`QUERIES`] queries; `NoMemory` out of memory. Nothing has changed.
+    pub fn query(&mut self, query: Query) -> Result<u64, Refusal>
         requires { is_served query ≡ true }
-        ensures { Registers self.old query result self.new }
+        ensures registers { RegistersQuery self.old.store query result self.new.store }
+        ensures cursors { SameCursors self.old.cursors self.new.cursors }
     {
-        register(alloc, &self.relations, &mut self.queries, query)
+        let relation = suits(self.tables.as_slice(), self.queries.as_slice(), &query)?;
+        let most = 2 * query.head.as_slice().len() as u64 + 1;
+        let alloc = self.alloc;
+        let Ok(()) = register(alloc, &mut self.tables, &mut self.queries, query, relation) else {
+            return Err(Refusal::NoMemory);
+        };
+        Ok(most)
     }
 
-    /// The relation that a registered query reads.
-    pub fn relation_of(&self, query: &Name) -> Option<Name>
-        ensures { ReadsRelation (query_of self.now.queries query.now) result }
+    /// Opens a cursor in front of the answers of a query.
+    ///
+    /// # Errors
+    ///
+    /// `NoQuery` where none has the name; `NoMemory` out of memory. Nothing has changed.
+    pub fn open(&mut self, query: &Name) -> Result<CursorId, Refusal>
+        ensures { OpenGives self.old query.now result self.new }
     {
-        relation_read(&self.queries, query)
+        let Some(at) = find_query(self.queries.as_slice(), query) else {
+            return Err(Refusal::NoQuery);
+        };
+        let Ok(cursor) = self.queries[at].cursors.open() else {
+            return Err(Refusal::NoMemory);
+        };
+        Ok(CursorId {
+            query: QueryId { at },
+            cursor,
+        })
     }
 
-    /// Lists the answers of a registered query, from a position among them on and at most so many.
-    pub fn list<L: Ledger>(
-        &self,
-        query: &Name,
-        at: usize,
-        count: u32,
-        out: &mut BytesMut,
-        listing: &mut Tally<L>,
-    ) -> Listed
-        requires known { is_some (query_of self.now.queries query.now) ≡ true }
-        requires inside { IfSome (query_of self.now.queries query.now) (λ q. at ≤ length (answers_of self.now q)) }
-        requires room { 288 ≤ out.old.spare }
-        ensures { IfSome (query_of self.now.queries query.now) (λ q. ListsQuery self.now q at count result out.old out.new listing.old listing.new) }
+    /// Reads an open cursor: gives a further answer, or says that none is left, or what made it stale. It takes no memory.
+    /// One link is followed, whichever answer it is.
+    pub fn next<L: Ledgers>(&mut self, id: CursorId, listing: &mut Tally<Listing<L>>) -> Next
+        requires { IsHeld self.old id }
+        ensures { NextGives self.old id result self.new listing.old listing.new }
     {
-        list_query(
-            &self.relations,
-            &self.queries,
-            query,
-            at,
-            count,
-            out,
-            listing,
-        )
+        let registered = &mut self.queries[id.query.at];
+        let given = match registered.cursors.get(id.cursor) {
+            Progress::Open { given, ended: _ } => given,
+            Progress::Stale { relation, seq } => return Next::Stale { relation, seq },
+        };
+        listing.link();
+        if given >= self.tables[registered.relation].relation.rows.len() {
+            registered.cursors.set(id.cursor, Progress::Open { given, ended: true });
+            return Next::End;
+        }
+        let progress = Progress::Open {
+            given: given + 1,
+            ended: false,
+        };
+        registered.cursors.set(id.cursor, progress);
+        Next::Given(Answer { at: given })
     }
+
+    /// Whether a further answer is left for a cursor that isn't stale; where none is, it stands at its end. It takes no
+    /// memory, and follows one link.
+    pub fn more<L: Ledgers>(&mut self, id: CursorId, listing: &mut Tally<Listing<L>>) -> bool
+        requires held { IsHeld self.old id }
+        requires fresh { IsFresh self.old id }
+        ensures { MoreGives self.old id result self.new listing.old listing.new }
+    {
+        let registered = &mut self.queries[id.query.at];
+        let given = match registered.cursors.get(id.cursor) {
+            Progress::Open { given, ended: _ } => given,
+            Progress::Stale { .. } => unreachable!(),
+        };
+        listing.link();
+        let left = given < self.tables[registered.relation].relation.rows.len();
+        let progress = Progress::Open { given, ended: !left };
+        registered.cursors.set(id.cursor, progress);
+        left
+    }
+
+    /// Gives up an open cursor. Its id may come again from [`open`](Engine::open).
+    pub fn close(&mut self, id: CursorId)
+        requires { IsHeld self.old id }
+        ensures { ClosesCursor self.old id self.new }
+    {
+        self.queries[id.query.at].cursors.close(id.cursor);
+    }
+
+    /// Lends an answer that an open cursor gave: a row, and the columns of the answer's cells.
+    pub fn answer(&self, id: CursorId, answer: Answer) -> (&[Value], &[usize])
+        requires { IsThere self.now id answer }
+        ensures { LendsAnswer self.now id answer result.0.now result.1.now }
+    {
+        let registered = &self.queries[id.query.at];
+        let row = &self.tables[registered.relation].relation.rows.as_slice()[answer.at];
+        (row.as_slice(), registered.columns.as_slice())
+    }
+}
+
+// The place of the relation of a query that may be registered.
+fn suits(tables: &[Table], queries: &[Registered], query: &Query) -> Result<usize, Refusal>
+    requires { is_served query.now ≡ true }
+    ensures ok { IfOk result (λ at. (query_refusal (store_of tables.now queries.now 0) query.now ≡ None) × IsFirst (λ t. bytes_eq t.relation.name (relation_in query.now.atoms)) tables.now at) }
+    ensures err { IfErr result (λ r. query_refusal (store_of tables.now queries.now 0) query.now ≡ Some r) }
+{
+    if find_query(queries, &query.name).is_some() {
+        return Err(Refusal::Taken);
+    }
+    let atom = &query.atoms.as_slice()[0];
+    let Some(at) = find_table(tables, &atom.relation) else {
+        return Err(Refusal::NoRelation);
+    };
+    if tables[at].relation.types.len() != atom.terms.len() {
+        return Err(Refusal::Arity);
+    }
+    if queries.len() >= QUERIES {
+        return Err(Refusal::Limit);
+    }
+    Ok(at)
+}
+
+// Puts a query behind the others, and its place among the readers of its relation; or changes nothing, out of memory.
+fn register(
+    alloc: Global,
+    tables: &mut Vec<Table>,
+    queries: &mut Vec<Registered>,
+    query: Query,
+    relation: usize,
+) -> Result<(), NoMem>
+    requires served { is_served query ≡ true }
+    requires there { relation < length tables.old.items }
+    ensures ok { OnOk result (Registers tables.old.items queries.old.items query relation tables.new.items queries.new.items) }
+    ensures err { OnErr result ((tables.new.items ≡ tables.old.items) × (queries.new.items ≡ queries.old.items)) }
+{
+    let registered = Registered::new(alloc, query, relation)?;
+    queries.reserve(1)?;
+    tables[relation].readers.push(queries.len())?;
+    queries.push_reserved(registered);
+    Ok(())
 }

@@ -1,28 +1,91 @@
-use djq_model::{Name, Query};
-use std::marker::Model;
+ghost use Rattle.std.specs.Prelude.{◌≡◌, [], ◌<◌, true, All, length, map, IfOk, position};
+ghost use Rattle.std.specs.List.{list_all};
+ghost use Rattle.djq_model.specs.Data.{bytes_eq};
+ghost use Rattle.djq_engine.specs.Served.{is_served, is_variable, names_of, place_in, is_term_named};
+ghost use Rattle.djq_engine.specs.Answers.{columns_of};
+ghost use Rattle.djq_engine.specs.Tables.{OutdatesReaders};
 
-/// A query that is registered.
+use crate::cursors::Cursors;
+use djq_model::{Name, NoMem, Query, Sequence, Term};
+use std::alloc::Global;
+
+/// A registered query, with what its answers are read from, and its cursors.
 #[derive(Drop)]
 pub struct Registered {
     /// The query.
     pub query: Query,
-    /// The relation of its one atom.
-    pub relation: Name,
+    /// The place of its one atom's relation.
+    pub relation: usize,
     /// The column of each head variable.
-    pub columns: Columns,
+    pub columns: Sequence<usize>,
+    /// Its cursors.
+    pub cursors: Cursors,
 }
 
-/// Columns of a relation, counted from 0. Contracts see a list of numbers.
-#[derive(Drop)]
-pub struct Columns {
-    /// The columns.
-    pub columns: Vec<usize>,
+impl Registered {
+    /// A served query over the relation at a place, with no cursors.
+    ///
+    /// # Errors
+    ///
+    /// `NoMem` out of memory.
+    pub fn new(alloc: Global, query: Query, relation: usize) -> Result<Self, NoMem>
+        requires { is_served query ≡ true }
+        ensures { IfOk result (λ g. g ≡ record { query = query; relation = relation; columns = columns_of query; cursors = [] }) }
+    {
+        let terms = query.atoms.as_slice()[0].terms.as_slice();
+        let columns = head_columns(alloc, query.head.as_slice(), terms)?;
+        Ok(Registered {
+            query,
+            relation,
+            columns,
+            cursors: Cursors::new(alloc),
+        })
+    }
 }
 
-impl Model for Columns {
-    ghost use Rattle.std.specs.Prelude.{List, ℕ};
+// Whether a term is a variable of this name.
+fn is_named(term: &Term, name: &Name) -> bool
+    ensures { result ≡ is_term_named term.now name.now }
+{
+    match term {
+        Term::Variable(variable) => variable == name,
+        Term::Hole => false,
+        Term::Constant(_) => false,
+    }
+}
 
-    ghost Value = { List ℕ };
+// The place of the first term that is a variable of this name.
+fn place_of(terms: &[Term], name: &Name) -> Option<usize>
+    ensures { result ≡ position (λ t. is_term_named t name.now) terms.now }
+{
+    terms.iter().position(|term| is_named(term, name))
+}
 
-    ghost view = { λ c. c.columns.items };
+// The columns at which the variables of a head stand among the terms of an atom.
+fn head_columns(alloc: Global, head: &[Name], terms: &[Term]) -> Result<Sequence<usize>, NoMem>
+    requires { list_all is_variable terms.now ≡ true }
+    ensures { IfOk result (λ columns. columns ≡ map (place_in (names_of terms.now)) head.now) }
+{
+    let mut columns = Sequence::new(alloc);
+    for name in head {
+        columns.push(place_of(terms, name).unwrap_or(terms.len()))?;
+    }
+    Ok(columns)
+}
+
+/// The place of the query of a name.
+pub fn find_query(queries: &[Registered], name: &Name) -> Option<usize>
+    ensures { result ≡ position (λ g. bytes_eq g.query.name name.now) queries.now }
+{
+    queries.iter().position(|registered| registered.query.name == *name)
+}
+
+/// Makes the cursors of these queries stale by a change of a relation.
+pub fn outdate(queries: &mut [Registered], readers: &[usize], relation: Name, seq: u64)
+    requires { All (λ i. i < length queries.old) readers.now }
+    ensures { OutdatesReaders readers.now relation seq queries.old queries.new }
+{
+    for reader in readers {
+        queries[*reader].cursors.outdate(relation, seq);
+    }
 }

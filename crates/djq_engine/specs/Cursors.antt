@@ -1,0 +1,29 @@
+-- The cursors of one query, in their slots.
+use Rattle.std.specs.Prelude.{ℕ, List, ◌≡◌, ◌≢◌, Option, None, Some, option_map, map, take, slice_index_or}
+use Rattle.djq_model.specs.Data.{Bytes, Tuple}
+use Rattle.djq_machine.specs.State.{Position, open_at, stale}
+use Rattle.djq_engine.specs.declared.cursors.Progress.{Progress}
+use Rattle.djq_engine.specs.declared.cursors.Progress.TheVariants.{Open, Stale}
+
+-- the cursor in a slot, where there is one
+abbrev pub slot_at : List (Option Progress) → ℕ → Option Progress
+slot_at slots k = slice_index_or slots k None
+
+-- One slot becomes this, and all others are as before.
+pub record SetsSlot (old : List (Option Progress)) (k : ℕ) (slot : Option Progress) (new : List (Option Progress)) : Type 0 where
+  pub there : slot_at new k ≡ slot
+  pub others : (j : ℕ) → j ≢ k → slot_at new j ≡ slot_at old j
+
+-- An open cursor becomes stale by a change of this number; a stale one keeps the change that made it so.
+abbrev pub outdated_progress : Bytes → ℕ → Progress → Progress
+outdated_progress relation n (Open given ended) = Stale relation n
+outdated_progress relation n (Stale r m) = Stale r m
+
+-- all cursors after such a change
+abbrev pub outdated_slots : Bytes → ℕ → List (Option Progress) → List (Option Progress)
+outdated_slots relation n slots = map (option_map (outdated_progress relation n)) slots
+
+-- where a cursor over these answers stands
+abbrev pub position_in : List Tuple → Progress → Position
+position_in answers (Open given ended) = open_at (take given answers) ended
+position_in answers (Stale r n) = stale r n
