@@ -1,4 +1,7 @@
 pub mod Views
 pub mod Sound
-pub mod Runs
+pub mod Performs
 pub mod Opens
+pub mod Ends
+pub mod Listing
+pub mod Stepping

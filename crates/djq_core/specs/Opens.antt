@@ -1,31 +1,29 @@
--- What opening a cursor does to the cursors that are kept.
-use Rattle.std.specs.Prelude.{List, [], ◌∷◌, ◌≡◌, ◌++◌, true, false, nat_le, Option, is_some, is_none, IsSomeAnd, Result, Ok, Err, length, find, ⊤}
-use Rattle.djq_model.specs.Data.{Bytes, bytes_eq, query_of}
-use Rattle.djq_machine.specs.declared.answer.Refusal.{Refusal}
-use Rattle.djq_machine.specs.declared.answer.Refusal.TheVariants.{Taken, NoQuery, Limit}
-use Rattle.djq_machine.specs.State.{Store}
-use Rattle.djq_machine.specs.Store.{first_of, Answers}
-use Rattle.djq_engine.specs.Served.{is_served, relation_in}
-use Rattle.djq_core.specs.declared.cursor.Place.TheVariants.{Open}
-use Rattle.djq_core.specs.declared.cursor.Cursor.{Cursor as Kept}
+-- What opening a cursor does to the engine and to a session.
+use Rattle.std.specs.Prelude.{ℕ, List, [], ◌∷◌, ◌≡◌, ◌++◌, Bool, nat_le, Option, None, is_some, is_none, Result, Ok, Err, length, ⊤}
+use Rattle.djq_model.specs.Data.{Bytes, query_of}
+use Rattle.djq_lines.specs.declared.limits.TheConstants.{CURSORS}
+use Rattle.djq_lines.specs.declared.answer.Refusal.{Refusal}
+use Rattle.djq_lines.specs.declared.answer.Refusal.TheVariants.{Taken, NoQuery, Limit}
+use Rattle.djq_machine.specs.Conditions.{first_of, Answers, OutOfMemoryWhere}
+use Rattle.djq_session.specs.Dialog.{named}
+use Rattle.djq_engine.specs.declared.cursor.CursorId.{CursorId}
+use Rattle.djq_engine.specs.Kept.{Kept, held_at, OpensCursor, SameCursors}
+use Rattle.djq_core.specs.Views.{Talk}
 
--- the cursor of a name
-abbrev pub kept_of : List Kept → Bytes → Option Kept
-kept_of ks name = find (λ k. bytes_eq k.name name) ks
+-- why a cursor isn't opened
+abbrev pub refusal_of : Kept → Talk → Bytes → Bytes → Option Refusal
+refusal_of k d c q = first_of (
+    (is_some (named d.cursors c), Taken)
+    ∷ (is_none (query_of (k.store).queries q), NoQuery)
+    ∷ (nat_le CURSORS (length d.cursors), Limit)
+    ∷ [])
 
--- a cursor that has given nothing
-abbrev pub new_kept : Bytes → Bytes → Bytes → Kept
-new_kept name query relation = record { name = name; query = query; relation = relation; place = Open 0 false }
+-- The session has a cursor more, which is a new one of the engine; or all is as before.
+abbrev pub OpensTo : Kept → Talk → Bytes → Bytes → Result ⊤ Refusal → Kept → Talk → Type 0
+OpensTo old before c q (Ok _) new after = (id : CursorId) × OpensCursor old q id new
+    × (after ≡ record before { cursors = before.cursors ++ record { name = c; cursor = id } ∷ [] })
+OpensTo old before c q (Err _) new after = (new.store ≡ old.store) × SameCursors old.cursors new.cursors × (after ≡ before)
 
--- A name that is taken, no such query, and the limit refuse it in this order. It stands in front of its query's answers.
-abbrev pub OpensTo : Store → List Kept → Bytes → Bytes → Result ⊤ Refusal → List Kept → Type 0
-OpensTo st ks c q (Ok _) new = IsSomeAnd (query_of st.queries q) (λ p. (is_served p ≡ true) × (new ≡ ks ++ new_kept c q (relation_in p.atoms) ∷ []))
-OpensTo st ks c q (Err _) new = new ≡ ks
-
-pub record Opens (st : Store) (ks : List Kept) (c q : Bytes) (result : Result ⊤ Refusal) (new : List Kept) : Type 0 where
-  pub answer : Answers (first_of (
-      (is_some (kept_of ks c), Taken)
-      ∷ (is_none (query_of st.queries q), NoQuery)
-      ∷ (nat_le 16 (length ks), Limit)
-      ∷ [])) result (λ _. ⊤) ⊤
-  pub opens : OpensTo st ks c q result new
+pub record Opens (old : Kept) (before : Talk) (c q : Bytes) (result : Result ⊤ Refusal) (new : Kept) (after : Talk) : Type 0 where
+  pub answer : Answers (refusal_of old before c q) result (λ _. ⊤) (OutOfMemoryWhere ⊤)
+  pub opens : OpensTo old before c q result new after

@@ -1,38 +1,84 @@
--- What the core keeps: 32 bytes of room for a session's last line, and cursors over the queries that are registered.
-use Rattle.std.specs.Prelude.{List, ◌≡◌, ◌≤◌, ◌&&◌, Bool, true, false, nat_le, Option, None, Some, length}
-use Rattle.std.specs.List.{list_all}
-use Rattle.djq_model.specs.declared.query.Query.{Query}
-use Rattle.djq_model.specs.Data.{Tuple, bytes_eq, query_of}
-use Rattle.djq_machine.specs.State.{Store}
-use Rattle.djq_engine.specs.Served.{is_served, relation_in}
-use Rattle.djq_engine.specs.Answers.{answers_of}
-use Rattle.djq_core.specs.declared.cursor.Place.{Place as KeptPlace}
-use Rattle.djq_core.specs.declared.cursor.Place.TheVariants.{Open, Stale}
-use Rattle.djq_core.specs.declared.cursor.Cursor.{Cursor as Kept}
-use Rattle.djq_core.specs.Views.{Side}
+-- What holds of the core's sessions between its calls.
+use Rattle.std.specs.Prelude.{ℕ, List, [], ◌∷◌, ◌≡◌, ◌+◌, ◌++◌, ◌<◌, ◌≤◌, Bool, false, Option, None, Some, length, map, ⊤}
+use Rattle.djq_model.specs.Answer.{AreDifferent}
+use Rattle.djq_lines.specs.declared.answer.EndCause.{EndCause}
+use Rattle.djq_lines.specs.declared.limits.TheConstants.{SESSIONS, REPLY_BYTES, LAST_LINE_BYTES}
+use Rattle.djq_session.specs.declared.named.NamedCursor.{NamedCursor}
+use Rattle.djq_engine.specs.declared.cursor.CursorId.{CursorId}
+use Rattle.djq_engine.specs.Kept.{Kept, Held, held_at, same_id, IsHeld}
+use Rattle.djq_machine.specs.State.{Position, open_at, stale}
+use Rattle.djq_core.specs.declared.open.OpenSession.{OpenSession}
+use Rattle.djq_core.specs.Views.{Talk, position_in}
 
--- whether a place is inside the answers
-abbrev pub is_inside : List Tuple → KeptPlace → Bool
-is_inside answers (Open at ended) = nat_le at (length answers)
-is_inside answers (Stale relation n) = true
+-- each number of a list is below the later ones
+abbrev pub IsBelow : ℕ → List ℕ → Type 0
+IsBelow n [] = ⊤
+IsBelow n (m ∷ ms) = (n < m) × IsBelow n ms
 
--- whether a cursor fits its query: that is served over the cursor's relation, and the cursor stands inside its answers
-abbrev pub fits_query : Store → Kept → Option Query → Bool
-fits_query st k None = false
-fits_query st k (Some q) = is_served q && (bytes_eq k.relation (relation_in q.atoms) && is_inside (answers_of st q) k.place)
+abbrev pub Rises : List ℕ → Type 0
+Rises [] = ⊤
+Rises (n ∷ ns) = IsBelow n ns × Rises ns
 
-abbrev pub fits_store : Store → Kept → Bool
-fits_store st k = fits_query st k (query_of st.queries k.query)
+-- the engine's cursors of a session, and of all sessions
+abbrev pub ids_of : List (NamedCursor CursorId) → List CursorId
+ids_of names = map (λ n. n.cursor) names
 
--- While a session has no end cause, there is room for its last line, and its cursors fit the store; else it has no cursors.
-pub record IsSound (st : Store) (side : Side) : Type 0 where
-  pub room : side.cause ≡ None → 32 ≤ side.pending.spare
-  pub cursors : list_all (fits_store st) side.cursors ≡ true
-  pub ended : (side.cause ≡ None → ⊥) → length side.cursors ≡ 0
+abbrev pub all_ids : List OpenSession → List CursorId
+all_ids [] = []
+all_ids (x ∷ xs) = ids_of (x.session).cursors ++ all_ids xs
 
--- A command may begin: the session hasn't ended, there is room for a reply of 256 bytes and for the last line, and its
--- cursors fit the store.
-pub record IsReady (st : Store) (side : Side) : Type 0 where
-  pub running : side.cause ≡ None
-  pub room : 288 ≤ side.pending.spare
-  pub cursors : list_all (fits_store st) side.cursors ≡ true
+-- the answers that an open cursor has given are different
+abbrev pub GivesApart : Position → Type 0
+GivesApart (open_at given ended) = AreDifferent given
+GivesApart (stale r n) = ⊤
+
+-- The engine holds each of these cursors, which has given different answers.
+abbrev pub AreHeld : List Held → List CursorId → Type 0
+AreHeld hs [] = ⊤
+AreHeld hs (c ∷ cs) = ((h : Held) × (held_at hs c ≡ Some h) × GivesApart h.position) × AreHeld hs cs
+
+-- a cursor is none of these
+abbrev pub IsApart : CursorId → List CursorId → Type 0
+IsApart c [] = ⊤
+IsApart c (d ∷ ds) = (same_id d c ≡ false) × IsApart c ds
+
+-- no two are the same
+abbrev pub AreApart : List CursorId → Type 0
+AreApart [] = ⊤
+AreApart (c ∷ cs) = IsApart c cs × AreApart cs
+
+-- a session that has ended has no cursors
+abbrev pub NoneOnceEnded : Option EndCause → List (NamedCursor CursorId) → Type 0
+NoneOnceEnded None names = ⊤
+NoneOnceEnded (Some c) names = names ≡ []
+
+abbrev pub AreEndedWithout : List OpenSession → Type 0
+AreEndedWithout [] = ⊤
+AreEndedWithout (x ∷ xs) = NoneOnceEnded (x.session).cause (x.session).cursors × AreEndedWithout xs
+
+-- The ids of the sessions rise, and there are at most so many; the engine holds their cursors, no two of which are the
+-- same; and those that have ended have none.
+pub record IsSound (k : Kept) (xs : List OpenSession) : Type 0 where
+  pub rising : Rises (map (λ x. x.id) xs)
+  pub few : length xs ≤ SESSIONS
+  pub cursors_held : AreHeld k.cursors (all_ids xs)
+  pub apart : AreApart (all_ids xs)
+  pub ended : AreEndedWithout xs
+
+-- A session's own cursors are held by the engine, and no two are the same.
+pub record IsOwn (k : Kept) (d : Talk) : Type 0 where
+  pub cursors_held : AreHeld k.cursors (ids_of d.cursors)
+  pub apart : AreApart (ids_of d.cursors)
+
+-- A session's command begins: it goes on, and there is room for a reply and for its last line.
+pub record IsReady (k : Kept) (d : Talk) : Type 0 where
+  pub own : IsOwn k d
+  pub running : d.cause ≡ None
+  pub room : REPLY_BYTES + LAST_LINE_BYTES ≤ d.room
+
+-- What holds of the core: the ids are those of the sessions, which are sound, and there is room for as many as may be open.
+pub record IsCore (k : Kept) (ids : List ℕ) (xs : List OpenSession) (id_room room : ℕ) : Type 0 where
+  pub ids_are : ids ≡ map (λ (x : OpenSession). x.id) xs
+  pub sound : IsSound k xs
+  pub room_for_ids : SESSIONS ≤ id_room
+  pub room_for_all : SESSIONS ≤ room

@@ -1,56 +1,39 @@
--- What contracts see: the state of the join machine with session 1 alone.
-use Rattle.std.specs.Prelude.{ℕ, List, [], ◌∷◌, false, Option, None, Some, if◌then◌else◌, map, take}
-use Rattle.bytes.specs.Filled.{Filled}
-use Rattle.djq_model.specs.declared.query.Query.{Query}
-use Rattle.djq_model.specs.Data.{Bytes, Tuple, bytes_eq, query_of}
-use Rattle.djq_machine.specs.declared.answer.Cause.{Cause}
-use Rattle.djq_machine.specs.State.{Store, Place, open_at, stale, Cursor, Session, State}
-use Rattle.djq_engine.specs.Answers.{answers_of}
-use Rattle.djq_core.specs.declared.cursor.Place.{Place as KeptPlace}
-use Rattle.djq_core.specs.declared.cursor.Place.TheVariants.{Open, Stale}
-use Rattle.djq_core.specs.declared.cursor.Cursor.{Cursor as Kept}
+-- What the join machine sees of what the core keeps.
+use Rattle.std.specs.Prelude.{ℕ, List, [], Bool, Option, None, Some, map}
+use Rattle.djq_model.specs.Data.{Bytes}
+use Rattle.djq_session.specs.declared.named.NamedCursor.{NamedCursor}
+use Rattle.djq_session.specs.Dialog.{Dialog}
+use Rattle.djq_engine.specs.declared.cursor.CursorId.{CursorId}
+use Rattle.djq_engine.specs.declared.cursor.QueryId.{QueryId}
+use Rattle.djq_engine.specs.Kept.{Kept, Held, held_at}
+use Rattle.djq_machine.specs.State.{Position, stale, Cursor, Session, State}
+use Rattle.djq_core.specs.declared.open.OpenSession.{OpenSession}
 
--- the answers of a query, where there is one
-abbrev pub answers_in : Store → Option Query → List Tuple
-answers_in st None = []
-answers_in st (Some q) = answers_of st q
+-- A session over the engine: its cursors are the engine's.
+abbrev pub Talk : Type 0
+Talk = Dialog CursorId QueryId
 
--- An open cursor has given the answers before its position.
-abbrev pub place_in : List Tuple → KeptPlace → Place
-place_in answers (Open at ended) = open_at (take at answers) ended
-place_in answers (Stale relation n) = stale relation n
+-- the query and the position of a cursor that the engine holds; it holds each that a session has
+abbrev pub query_in : Option Held → Bytes
+query_in None = []
+query_in (Some h) = h.query
 
-abbrev pub cursor_in : Store → Kept → Cursor
-cursor_in st k = record { name = k.name; query = k.query; place = place_in (answers_in st (query_of st.queries k.query)) k.place }
+abbrev pub position_in : Option Held → Position
+position_in None = stale [] 0
+position_in (Some h) = h.position
 
-abbrev pub cursors_in : Store → List Kept → List Cursor
-cursors_in st ks = map (cursor_in st) ks
+-- a cursor of a session
+abbrev pub cursor_in : List Held → NamedCursor CursorId → Cursor
+cursor_in hs n = record { name = n.name; query = query_in (held_at hs n.cursor); position = position_in (held_at hs n.cursor) }
 
--- what is kept of a session beside the bytes that came
-pub record Side : Type 0 where
-  pub pending : Filled
-  pub cause : Option Cause
-  pub cursors : List Kept
+-- a session of this id
+abbrev pub session_in : List Held → ℕ → Talk → Session
+session_in hs s d = record { id = s; held = d.held; pending = d.pending; cause = d.cause; cursors = map (cursor_in hs) d.cursors; watches = [] }
 
-abbrev pub session_in : Store → Bytes → Side → Session
-session_in st held side = record {
-  id = 1;
-  held = held;
-  pending = side.pending.items;
-  cause = side.cause;
-  cursors = cursors_in st side.cursors;
-  watches = [];
-}
+-- an open session
+abbrev pub open_in : List Held → OpenSession → Session
+open_in hs x = session_in hs x.id x.session
 
--- the state with this one session
-abbrev pub state_in : Store → Bytes → Side → State
-state_in st held side = record { store = st; stopped = false; sessions = session_in st held side ∷ [] }
-
--- a place after a change of the relation
-abbrev pub outdated_place : Bytes → ℕ → KeptPlace → KeptPlace
-outdated_place relation n (Open at ended) = Stale relation n
-outdated_place relation n (Stale r m) = Stale r m
-
--- a cursor after a change of a relation
-abbrev pub outdated_kept : Bytes → ℕ → Kept → Kept
-outdated_kept relation n k = if bytes_eq k.relation relation then record k { place = outdated_place relation n k.place } else k
+-- the state of the join machine
+abbrev pub state_in : Kept → Bool → List OpenSession → State
+state_in k stopped xs = record { store = k.store; stopped = stopped; sessions = map (open_in k.cursors) xs }

@@ -1,99 +1,176 @@
-ghost use Rattle.std.specs.Prelude.{◌≡◌, None};
-ghost use Rattle.djq_machine.specs.Grammar.{command_of};
-ghost use Rattle.djq_machine.specs.Step.{Obeys, RunsLine};
-ghost use Rattle.djq_core.specs.Runs.{Executes, IsServedIn, LineGives, Performs, side_of};
-ghost use Rattle.djq_core.specs.Sound.{IsReady, IsSound};
+//! The order of checks before a line is run, and which command it says.
+ghost use Rattle.std.specs.Prelude.{◌≡◌, ◌≤◌, ◌||◌, None, Bool, false, length, take, drop};
+ghost use Rattle.djq_lines.specs.Line.{a_line, front_of, is_blank as is_blank_line};
+ghost use Rattle.djq_lines.specs.declared.limits.TheConstants.{PENDING_BYTES};
+ghost use Rattle.djq_machine.specs.LineStep.{run};
+ghost use Rattle.djq_core.specs.Performs.{Executes};
+ghost use Rattle.djq_core.specs.Sound.{IsOwn, IsReady};
+ghost use Rattle.djq_core.specs.Stepping.{Fronts, IsRunnable, StepsTo, refused_as};
 
-use crate::commands::{run_add, run_close, run_del, run_next, run_open, run_query, run_rel};
-use crate::dialog::{Dialog, end_with};
-use crate::replies::say_refused;
-use djq_engine::Engine;
-use djq_machine::{Cause, Command, Refusal, Stepped};
-use djq_proto::{LineRefusal, is_blank, read_command};
-use djq_steps::Tally;
-use djq_value::KEPT;
+use crate::commands::{
+    run_add, run_close, run_del, run_open, run_query, run_quit, run_rel, run_stop,
+};
+use crate::ending::end_by;
+use crate::listing::run_next;
+use djq_engine::{CursorId, Engine, QueryId};
+use djq_lines::limits::{PENDING_BYTES, REPLY_BYTES};
+use djq_lines::{Command, EndCause, EndLine, Refusal};
+use djq_machine::Stepped;
+use djq_proto::{Front, LineRefusal, is_blank, read_command};
+use djq_session::Session;
+use djq_steps::{Ledgers, Listing, Tally};
 use std::alloc::Global;
-use std::sync::ledger::Ledger;
 
-/// The most bytes that are pending as a command begins.
-const MOST_PENDING: usize = 1_048_576;
-
-/// The room that a reply may count on, beside what is kept for the last line.
-const REPLY: usize = 256;
-
-// What a command does.
-fn obey<L: Ledger>(
-    alloc: Global,
+// Runs a command, and tells whether it stops the server.
+fn obey<L: Ledgers>(
     engine: &mut Engine,
-    dialog: &mut Dialog,
+    session: &mut Session<CursorId, QueryId>,
     command: Command,
-    listing: &mut Tally<L>,
-)
-    requires ready { IsReady engine.old (side_of dialog.old) }
-    requires served { IsServedIn command }
-    ensures { Executes command engine.old dialog.old engine.new dialog.new listing.old listing.new }
+    listing: &mut Tally<Listing<L>>,
+) -> bool
+    requires ready { IsReady engine.old session.old }
+    requires served { IsRunnable command }
+    ensures { Executes command result engine.old session.old engine.new session.new listing.old listing.new }
 {
     match command {
-        Command::Rel(name, types) => run_rel(alloc, engine, dialog, name, types),
-        Command::Add(name, row) => run_add(engine, dialog, &name, row),
-        Command::Del(name, row) => run_del(engine, dialog, &name, &row),
-        Command::Query(query) => run_query(alloc, engine, dialog, query),
-        Command::Open(name, query) => run_open(engine, dialog, &name, &query),
-        Command::Next(name, count) => run_next(engine, dialog, &name, count, listing),
-        Command::Close(name) => run_close(engine, dialog, &name),
+        Command::Rel { name, types } => {
+            run_rel(engine, session, name, types);
+            false
+        }
+        Command::Add { name, row } => {
+            run_add(engine, session, &name, row);
+            false
+        }
+        Command::Del { name, row } => {
+            run_del(engine, session, &name, &row);
+            false
+        }
+        Command::Query { query } => {
+            run_query(engine, session, query);
+            false
+        }
+        Command::Open { cursor, query } => {
+            run_open(engine, session, &cursor, &query);
+            false
+        }
+        Command::Next { cursor, count } => {
+            run_next(engine, session, &cursor, count, listing);
+            false
+        }
+        Command::Close { cursor } => {
+            run_close(engine, session, &cursor);
+            false
+        }
+        Command::Quit => {
+            run_quit(engine, session);
+            false
+        }
+        Command::Stop => {
+            run_stop(engine, session);
+            true
+        }
+        Command::Drop { .. }
+        | Command::Has { .. }
+        | Command::Watch { .. }
+        | Command::Unwatch { .. }
+        | Command::Explain { .. } => unreachable!(),
     }
 }
 
-// The command that a line says, or why it isn't run.
-fn run_command<L: Ledger>(
+// Takes the line in front, runs what it says, and tells whether that stops the server. Room for a reply was kept.
+fn run_line<L: Ledgers>(
     alloc: Global,
     engine: &mut Engine,
-    dialog: &mut Dialog,
-    line: &[u8],
-    listing: &mut Tally<L>,
-)
-    requires { IsReady engine.old (side_of dialog.old) }
-    ensures { Performs (λ old x e new. Obeys old 1 x (command_of line.now) e new) engine.old
-        (side_of dialog.old) engine.new (side_of dialog.new) listing.old listing.new }
+    session: &mut Session<CursorId, QueryId>,
+    end: usize,
+    rest: usize,
+    listing: &mut Tally<Listing<L>>,
+) -> bool
+    requires ready { IsReady engine.old session.old }
+    requires front { front_of session.old.held ≡ a_line (take end session.old.held) (drop rest session.old.held) }
+    requires within { (end ≤ length session.old.held) × (rest ≤ length session.old.held) }
+    requires said { is_blank_line (take end session.old.held) ≡ false }
+    requires few { length session.old.pending ≤ PENDING_BYTES }
+    ensures { Fronts (run (take end session.old.held)) result engine.old session.old engine.new session.new listing.old listing.new }
 {
-    match read_command(alloc, line) {
-        Ok(command) => obey(alloc, engine, dialog, command, listing),
-        Err(LineRefusal::Later) => say_refused(&mut dialog.pending, Refusal::Later),
-        Err(LineRefusal::Range) => say_refused(&mut dialog.pending, Refusal::WrongType),
-        Err(LineRefusal::NoMem) => say_refused(&mut dialog.pending, Refusal::NoMemory),
+    let command = read_command(alloc, &session.held()[..end]);
+    session.take_line(rest);
+    match command {
+        Ok(command) => obey(engine, session, command, listing),
+        Err(refusal) => {
+            session.refuse(refusal_of(refusal));
+            false
+        }
     }
 }
 
-/// Runs a line of a session that hasn't ended. Where too much is pending, or memory for a reply is wanted, the session
-/// ends instead.
-pub fn run_line<L: Ledger>(
+// What a line that gives no command is answered.
+fn refusal_of(refusal: LineRefusal) -> Refusal
+    ensures { result ≡ refused_as refusal }
+{
+    match refusal {
+        LineRefusal::Later => Refusal::Later,
+        LineRefusal::Range => Refusal::WrongType,
+        LineRefusal::NoMem => Refusal::NoMemory,
+    }
+}
+
+// Runs the line in front of a session that goes on, in the order of checks, and tells whether that stops the server.
+fn step_line<L: Ledgers>(
     alloc: Global,
     engine: &mut Engine,
-    dialog: &mut Dialog,
-    line: &[u8],
-    listing: &mut Tally<L>,
-) -> Stepped
-    requires running { dialog.old.cause ≡ None }
-    requires sound { IsSound engine.old (side_of dialog.old) }
-    ensures performs { Performs (λ old x e new. RunsLine old 1 x line.now e new) engine.old
-        (side_of dialog.old) engine.new (side_of dialog.new) listing.old listing.new }
-    ensures answer { LineGives result dialog.new.cause }
+    session: &mut Session<CursorId, QueryId>,
+    end: usize,
+    rest: usize,
+    listing: &mut Tally<Listing<L>>,
+) -> (Stepped, bool)
+    requires own { IsOwn engine.old session.old }
+    requires running { session.old.cause ≡ None }
+    requires front { front_of session.old.held ≡ a_line (take end session.old.held) (drop rest session.old.held) }
+    requires within { (end ≤ length session.old.held) × (rest ≤ length session.old.held) }
+    ensures { StepsTo result.0 result.1 engine.old session.old engine.new session.new listing.old listing.new }
 {
-    if is_blank(line) {
-        return Stepped::Ran;
+    if is_blank(&session.held()[..end]) {
+        session.take_line(rest);
+        return (Stepped::Ran, false);
     }
-    if dialog.pending.len() > MOST_PENDING {
-        end_with(dialog, b"end slow", Cause::Slow);
-        return Stepped::Ended(Cause::Slow);
+    if session.pending().len() > PENDING_BYTES {
+        session.take_line(rest);
+        end_by(engine, session, EndLine::Slow, EndCause::Slow);
+        return (Stepped::Ended(EndCause::Slow), false);
     }
-    match dialog.pending.reserve(REPLY + KEPT) {
+    match session.keep(REPLY_BYTES) {
         Ok(()) => {
-            run_command(alloc, engine, dialog, line, listing);
-            Stepped::Ran
+            let stops = run_line(alloc, engine, session, end, rest, listing);
+            (Stepped::Ran, stops)
         }
         Err(_) => {
-            end_with(dialog, b"end memory", Cause::Memory);
-            Stepped::Ended(Cause::Memory)
+            session.take_line(rest);
+            end_by(engine, session, EndLine::Memory, EndCause::Memory);
+            (Stepped::Ended(EndCause::Memory), false)
         }
+    }
+}
+
+/// Runs the line in front of a session, unless it has ended, and tells whether that stops the server.
+pub(crate) fn step_session<L: Ledgers>(
+    alloc: Global,
+    engine: &mut Engine,
+    session: &mut Session<CursorId, QueryId>,
+    listing: &mut Tally<Listing<L>>,
+) -> (Stepped, bool)
+    requires { IsOwn engine.old session.old }
+    ensures { StepsTo result.0 result.1 engine.old session.old engine.new session.new listing.old listing.new }
+{
+    if let Some(cause) = session.cause() {
+        return (Stepped::Ended(cause), false);
+    }
+    match session.front() {
+        Front::Dry => (Stepped::Dry, false),
+        Front::Long => {
+            end_by(engine, session, EndLine::Long, EndCause::Long);
+            (Stepped::Ended(EndCause::Long), false)
+        }
+        Front::Line { end, rest } => step_line(alloc, engine, session, end, rest, listing),
     }
 }

@@ -1,20 +1,23 @@
-use Rattle.std.proofs.Common.{◌≡◌, List, None, Some, position, sym, subst}
-use Rattle.djq_core.specs.declared.cursor.Cursor.{Cursor as Kept}
-use Rattle.djq_core.specs.Runs.{side_of}
-use Rattle.djq_core.proofs.Pointing.{named, does_close, does_close_none, found_at}
+use Rattle.std.proofs.Common.{sym, subst}
+use Rattle.djq_engine.specs.declared.cursor.CursorId.{CursorId}
+use Rattle.djq_engine.specs.Kept.{IsHeld, ClosesCursor}
+use Rattle.djq_session.specs.Dialog.{named}
+use Rattle.djq_core.proofs.Cursors.{named_some, named_none}
+use Rattle.djq_core.proofs.Naming.{is_held, does_close, does_close_none}
 use Rattle.djq_core.proofs.commands.run_close.Goals as goal
+
+pub close-requires : goal.close-requires
+close-requires c =
+    let f = named_some (named c.args.session.now.cursors c.args.name.now) c.in-Some.id (sym c.in-Some.ensures) in
+    subst (λ (id : CursorId). IsHeld c.args.engine.now id) f.2 (is_held c.args.engine.now c.args.session.now.cursors c.args.name.now f.0 c.requires.own.cursors_held f.1)
 
 pub returns-in-None : goal.returns-in-None
 returns-in-None c =
-    does_close_none c.args.engine.now (side_of c.args.dialog.now) c.say_refused.new.out c.args.name.now c.requires
-    (subst (λ (xs : List Kept). position (named c.args.name.now) xs ≡ None) c.as_slice.ensures.value (sym c.in-None.ensures))
-    c.say_refused.ensures.says c.say_refused.ensures.kept
+    does_close_none c.args.engine.now c.args.session.now c.refuse.new.self c.args.name.now
+    (named_none (named c.args.session.now.cursors c.args.name.now) (sym c.in-None.ensures)) c.refuse.ensures
 
 pub returns-in-Some : goal.returns-in-Some
 returns-in-Some c =
-    let ks = c.args.dialog.now.cursors.items in
-    let at = c.in-Some.at in
-    let place = subst (λ (xs : List Kept). position (named c.args.name.now) xs ≡ Some at) c.as_slice.ensures.value (sym c.in-Some.ensures) in
-    does_close c.args.engine.now (side_of c.args.dialog.now) c.say_short.new.out c.remove-closed.new.self.items c.args.name.now at c.remove-closed.result c.requires
-    (found_at ks c.args.name.now at c.remove-closed.result place c.remove-closed.ensures.value)
-    c.remove-closed.ensures.items c.say_short.ensures.says c.say_short.ensures.kept
+    let f = named_some (named c.args.session.now.cursors c.args.name.now) c.in-Some.id (sym c.in-Some.ensures) in
+    does_close c.args.engine.now c.close.new.self c.args.session.now c.drop_cursor.new.self c.answer_done.new.self c.args.name.now f.0 c.requires f.1
+    (subst (λ (id : CursorId). ClosesCursor c.args.engine.now id c.close.new.self) (sym f.2) c.close.ensures) c.drop_cursor.ensures c.answer_done.ensures

@@ -1,30 +1,34 @@
-use Rattle.std.proofs.Common.{codes, sym, ◌∙◌, arith}
-use Rattle.djq_machine.specs.declared.answer.Cause.TheVariants.{Slow, Memory}
-use Rattle.djq_core.specs.Runs.{side_of}
-use Rattle.djq_core.proofs.Lines.{ends, line_blank, line_slow, line_no_room, line_obeyed, same_items}
+use Rattle.std.proofs.Common.{ℕ, sym, subst, take, drop, false, Ok, Err}
+use Rattle.djq_model.specs.Data.{Bytes}
+use Rattle.djq_lines.specs.Reply.{refusal_line}
+use Rattle.djq_lines.specs.declared.answer.Refusal.{Refusal}
+use Rattle.djq_proto.specs.Reading.{Reads}
+use Rattle.djq_session.specs.Dialog.{Replies}
+use Rattle.djq_core.specs.Views.{Talk}
+use Rattle.djq_core.specs.Sound.{IsReady}
+use Rattle.djq_core.proofs.Taking.{runs, reads_command}
+use Rattle.djq_core.proofs.Saying.{reads_as, reads_err, runnable}
 use Rattle.djq_core.proofs.line.run_line.Goals as goal
 
-pub returns-then-is_blank-clause-performs : goal.returns-then-is_blank-clause-performs
-returns-then-is_blank-clause-performs g c =
-    line_blank c.args.engine.now (side_of c.args.dialog.now) c.args.line.now c.args.listing.now c.requires.sound (sym c.is_blank.ensures ∙ c.if-is_blank.true)
+pub obey-requires-clause-served : goal.obey-requires-clause-served
+obey-requires-clause-served g c = runnable (take c.args.end c.held.result.now) c.in-Ok.command c.in-Ok.ensures
 
-pub returns-then-len-gt-MOST_PENDING-clause-performs : goal.returns-then-len-gt-MOST_PENDING-clause-performs
-returns-then-len-gt-MOST_PENDING-clause-performs g c =
-    line_slow c.args.engine.now c.args.engine.now (side_of c.args.dialog.now) (side_of c.end_with.new.dialog) c.args.line.now c.args.listing.now c.args.listing.now
-    (sym c.is_blank.ensures ∙ c.if-is_blank.false) (omega (arith, c.len.ensures.value, c.if-len-gt-MOST_PENDING.true))
-    (ends c.args.engine.now (side_of c.args.dialog.now) (side_of c.end_with.new.dialog) (codes "end slow") Slow c.args.listing.now c.end_with.ensures.says c.end_with.ensures.cause c.end_with.ensures.cursors)
+pub returns-in-Ok : goal.returns-in-Ok
+returns-in-Ok g c =
+    let old = c.args.session.now in
+    let line = take c.args.end old.held in
+    let said = subst (λ (bs : Bytes). Reads (take c.args.end bs) (Ok c.in-Ok.command)) c.held.ensures c.in-Ok.ensures in
+    runs c.obey.result c.args.engine.now old c.take_line.new.self line (drop c.args.rest old.held) c.obey.new.engine c.obey.new.session c.args.listing.now c.obey.new.listing
+    c.requires.front c.take_line.ensures c.requires.said c.requires.few
+    (reads_command c.obey.result c.args.engine.now c.take_line.new.self line c.in-Ok.command c.obey.new.engine c.obey.new.session c.args.listing.now c.obey.new.listing
+    (reads_as line c.in-Ok.command said) c.obey.ensures)
 
-pub returns-in-Ok-clause-performs : goal.returns-in-Ok-clause-performs
-returns-in-Ok-clause-performs g c =
-    let before = side_of c.args.dialog.now in
-    line_obeyed c.args.engine.now c.run_command.new.engine before (side_of c.run_command.new.dialog) c.args.line.now c.args.listing.now c.run_command.new.listing
-    (sym c.is_blank.ensures ∙ c.if-is_blank.false) (omega (arith, c.len.ensures.value, c.if-len-gt-MOST_PENDING.false))
-    (same_items _ c.args.engine.now c.run_command.new.engine before (side_of c.run_command.new.dialog) c.reserve.new.self c.args.listing.now c.run_command.new.listing c.reserve.ensures.items c.run_command.ensures)
-
-pub returns-in-Err-clause-performs : goal.returns-in-Err-clause-performs
-returns-in-Err-clause-performs g c =
-    let before = side_of c.args.dialog.now in
-    line_no_room c.args.engine.now c.args.engine.now before (side_of c.end_with-in-Err.new.dialog) c.args.line.now c.args.listing.now c.args.listing.now
-    (sym c.is_blank.ensures ∙ c.if-is_blank.false) (omega (arith, c.len.ensures.value, c.if-len-gt-MOST_PENDING.false))
-    (same_items _ c.args.engine.now c.args.engine.now before (side_of c.end_with-in-Err.new.dialog) c.reserve.new.self c.args.listing.now c.args.listing.now c.reserve.ensures.items
-    (ends c.args.engine.now (record before { pending = c.reserve.new.self }) (side_of c.end_with-in-Err.new.dialog) (codes "end memory") Memory c.args.listing.now c.end_with-in-Err.ensures.says c.end_with-in-Err.ensures.cause c.end_with-in-Err.ensures.cursors))
+pub returns-in-Err : goal.returns-in-Err
+returns-in-Err g c =
+    let old = c.args.session.now in
+    let line = take c.args.end old.held in
+    let said = subst (λ (bs : Bytes). Reads (take c.args.end bs) (Err c.in-Err.refusal)) c.held.ensures c.in-Err.ensures in
+    let reply = subst (λ (r : Refusal). Replies c.take_line.new.self c.refuse.new.self (refusal_line r)) c.refusal_of.ensures c.refuse.ensures in
+    runs false c.args.engine.now old c.take_line.new.self line (drop c.args.rest old.held) c.args.engine.now c.refuse.new.self c.args.listing.now c.args.listing.now
+    c.requires.front c.take_line.ensures c.requires.said c.requires.few
+    (reads_err c.args.engine.now c.take_line.new.self c.refuse.new.self line c.in-Err.refusal c.args.listing.now said reply)

@@ -1,0 +1,176 @@
+-- A session that gives up its cursors, and ends.
+use Rattle.std.proofs.Common.{ℕ, ◌+◌, ◌≤◌, ◌≡◌, ◌++◌, ◌||◌, Bool, true, false, List, [], ◌∷◌, map, Option, None, Some, refl, sym, ap, ap₂, ◌∙◌, subst, arith, append_assoc, append-nil, is_some, eqb, length}
+use Rattle.std.specs.Prelude.{⊤}
+use Rattle.std.proofs.lemmas.Bool.{eqb-true}
+use Rattle.djq_model.specs.Data.{Bytes}
+use Rattle.djq_lines.specs.declared.answer.EndCause.{EndCause}
+use Rattle.djq_lines.specs.Reply.{input_cut}
+use Rattle.djq_machine.specs.State.{Session, State, Cursor, with_session, ended_by}
+use Rattle.djq_machine.specs.Effect.{Effect}
+use Rattle.djq_session.specs.declared.named.NamedCursor.{NamedCursor}
+use Rattle.djq_session.specs.Dialog.{PopsCursor}
+use Rattle.djq_engine.specs.declared.cursor.CursorId.{CursorId}
+use Rattle.djq_engine.specs.Kept.{Kept, Held, held_at, same_id, IsHeld, ClosesCursor}
+use Rattle.djq_core.specs.declared.open.OpenSession.{OpenSession}
+use Rattle.djq_core.specs.Views.{Talk, session_in, open_in, state_in}
+use Rattle.djq_core.specs.Sound.{ids_of, all_ids, AreHeld, IsApart, AreApart, IsOwn, IsSound}
+use Rattle.djq_core.specs.Ends.{GivesUp, cut_text}
+use Rattle.djq_core.specs.Performs.{among, to_one, behind, unqueued, Performs}
+use Rattle.djq_core.proofs.Ids.{Agree, agree_others, agree_held, apart_split, apart_join, taken_out, held_split, same_id_flip}
+use Rattle.djq_core.proofs.Around.{Around, parts, whole, state_is, changed_here, around}
+use Rattle.djq_core.proofs.Cursors.{ids_append, moved}
+
+-- One cursor after another is given up.
+
+pub record Giving (old : Kept) (before : Talk) (k : Kept) (d : Talk) : Type 0 where
+  pub own : IsOwn k d
+  pub store : k.store ≡ old.store
+  pub others : (c : CursorId) → IsApart c (ids_of before.cursors) → held_at k.cursors c ≡ held_at old.cursors c
+  pub session : d ≡ record before { cursors = d.cursors }
+  pub gone : (gone : List (NamedCursor CursorId)) × (before.cursors ≡ d.cursors ++ gone)
+
+pub giving_starts : (k : Kept) (d : Talk) → IsOwn k d → Giving k d k d
+giving_starts k d own = record { own = own; store = refl; others = λ c a. refl; session = refl; gone = ([], sym (append-nil d.cursors)) }
+
+-- the cursor that is popped is held
+pub popped_held : (k : Kept) (d e : Talk) (id : CursorId) → IsOwn k d → PopsCursor d e (Some id) → IsHeld k id
+popped_held k d e id own p =
+    let cs = subst (λ (ns : List (NamedCursor CursorId)). AreHeld k.cursors (ids_of ns)) p.1 own.cursors_held in
+    let r = held_split k.cursors (ids_of e.cursors) (id ∷ []) (subst (λ (xs : List CursorId). AreHeld k.cursors xs) (ids_append e.cursors (record { name = p.0; cursor = id } ∷ [])) cs) in
+    ap (λ (o : Option Held). is_some o) r.1.0.1
+
+pub giving_goes_on : (old : Kept) (before : Talk) (k : Kept) (d e : Talk) (k' : Kept) (id : CursorId) → Giving old before k d → PopsCursor d e (Some id) → ClosesCursor k id k'
+    → Giving old before k' e
+giving_goes_on old before k d e k' id g p o =
+    let ids : ids_of d.cursors ≡ ids_of e.cursors ++ id ∷ [] = ap ids_of p.1 ∙ ids_append e.cursors (record { name = p.0; cursor = id } ∷ []) in
+    let apart = taken_out (ids_of e.cursors) id [] (subst AreApart ids g.own.apart) in
+    let held = held_split k.cursors (ids_of e.cursors) (id ∷ []) (subst (λ (cs : List CursorId). AreHeld k.cursors cs) ids g.own.cursors_held) in
+    let all : ids_of before.cursors ≡ (ids_of e.cursors ++ id ∷ []) ++ ids_of g.gone.0 = ap ids_of g.gone.1 ∙ ids_append d.cursors g.gone.0 ∙ ap (λ (cs : List CursorId). cs ++ ids_of g.gone.0) ids in
+    record {
+      own = record {
+        cursors_held = agree_held k.cursors k'.cursors (ids_of e.cursors) (agree_others k.cursors k'.cursors id (ids_of e.cursors) o.others apart.0) held.0;
+        apart = subst AreApart (append-nil (ids_of e.cursors)) apart.1.1;
+      };
+      store = o.store ∙ g.store;
+      others = λ c a.
+          let front = (apart_split c (ids_of e.cursors ++ id ∷ []) (ids_of g.gone.0) (subst (IsApart c) all a)).0 in
+          let one = (apart_split c (ids_of e.cursors) (id ∷ []) front).1 in
+          o.others c (same_id_flip id c one.0) ∙ g.others c a;
+      session = p.2 ∙ ap (λ (x : Talk). record x { cursors = e.cursors }) g.session;
+      gone = (record { name = p.0; cursor = id } ∷ g.gone.0, g.gone.1 ∙ ap (λ (ns : List (NamedCursor CursorId)). ns ++ g.gone.0) p.1 ∙ append_assoc e.cursors (record { name = p.0; cursor = id } ∷ []) g.gone.0);
+    }
+
+pub given_up : (old : Kept) (before : Talk) (k : Kept) (d e : Talk) → Giving old before k d → PopsCursor d e None → GivesUp old before k e
+given_up old before k d e g p = record {
+  store = g.store;
+  others = g.others;
+  session = p.1 ∙ g.session ∙ ap (λ (ns : List (NamedCursor CursorId)). record before { cursors = ns }) p.0;
+}
+
+-- The cursors of the other sessions.
+
+abbrev pub all_apart : List CursorId → List CursorId → Type 0
+all_apart [] bs = ⊤
+all_apart (a ∷ cs) bs = IsApart a bs × all_apart cs bs
+
+apart_fronts : (xs bs cs : List CursorId) → AreApart (xs ++ (bs ++ cs)) → all_apart xs bs
+apart_fronts [] bs cs h = tt
+apart_fronts (a ∷ xs) bs cs h = ((apart_split a bs cs (apart_split a xs (bs ++ cs) h.0).1).0, apart_fronts xs bs cs h.1)
+
+apart_rest : (xs bs : List CursorId) → AreApart (xs ++ bs) → AreApart bs
+apart_rest [] bs h = h
+apart_rest (a ∷ xs) bs h = apart_rest xs bs h.1
+
+one_more : (b : CursorId) (bs cs : List CursorId) → IsApart b cs → all_apart cs bs → all_apart cs (b ∷ bs)
+one_more b bs [] h g = tt
+one_more b bs (c ∷ cs) h g = ((same_id_flip c b h.0, g.0), one_more b bs cs h.1 g.1)
+
+none_more : (cs : List CursorId) → all_apart cs []
+none_more [] = tt
+none_more (c ∷ cs) = (tt, none_more cs)
+
+apart_backs : (bs cs : List CursorId) → AreApart (bs ++ cs) → all_apart cs bs
+apart_backs [] cs h = none_more cs
+apart_backs (b ∷ bs) cs h = one_more b bs cs (apart_split b bs cs h.0).1 (apart_backs bs cs h.1)
+
+without : (xs bs cs : List CursorId) → AreApart (xs ++ (bs ++ cs)) → AreApart (xs ++ cs)
+without [] bs cs h = apart_rest bs cs h
+without (a ∷ xs) bs cs h =
+    let s = apart_split a xs (bs ++ cs) h.0 in
+    (apart_join a xs cs s.0 (apart_split a bs cs s.1).1, without xs bs cs h.1)
+
+agree_apart : (old new : List Held) (bs cs : List CursorId) → ((c : CursorId) → IsApart c bs → held_at new c ≡ held_at old c) → all_apart cs bs → Agree old new cs
+agree_apart old new bs [] h a = tt
+agree_apart old new bs (c ∷ cs) h a = (h c a.0, agree_apart old new bs cs h a.1)
+
+-- A session that has given up its cursors and ends, among others.
+ends_among : (old new : Kept) (before : Talk) (cause : EndCause) (stopped : Bool) (room : ℕ) (pending : Bytes) → GivesUp old before new (record before { cursors = [] })
+    → (front back : List OpenSession) (s : ℕ) → Around old.cursors front s before back
+    → (state_in new stopped (among front s (record before { cursors = []; room = room; cause = Some cause }) back) ≡ with_session (state_in old stopped (among front s before back)) s (ended_by cause))
+    × Around new.cursors front s (record before { cursors = []; room = room; cause = Some cause; pending = pending }) back
+ends_among old new before cause stopped room pending g front back s p =
+    let ids = ids_of before.cursors in
+    let ga = agree_apart old.cursors new.cursors ids (all_ids front) g.others (apart_fronts (all_ids front) ids (all_ids back) p.apart) in
+    let ge = agree_apart old.cursors new.cursors ids (all_ids back) g.others (apart_backs ids (all_ids back) (apart_rest (all_ids front) (ids ++ all_ids back) p.apart)) in
+    (
+      moved old new stopped front s before (record before { cursors = []; room = room; cause = Some cause }) back (ended_by cause) p ga ge g.store refl,
+      record {
+        rising = p.rising;
+        few = p.few;
+        held_front = agree_held old.cursors new.cursors (all_ids front) ga p.held_front;
+        held_here = tt;
+        held_back = agree_held old.cursors new.cursors (all_ids back) ge p.held_back;
+        apart = without (all_ids front) ids (all_ids back) p.apart;
+        ended_front = p.ended_front;
+        ended_here = refl;
+        ended_back = p.ended_back;
+      }
+    )
+
+-- A session gives up its cursors and ends, for a cause; a text may be queued to it.
+pub ends_costing : (M : State → ℕ → Session → Effect → State → Type 0) (stops : Bool) (old new : Kept) (before after : Talk) (text : Option Bytes) (cost : ℕ) (cause : EndCause) (was now : ℕ)
+    → GivesUp old before new (record before { cursors = [] }) → after ≡ record before { cursors = []; room = after.room; cause = Some cause; pending = behind before.pending text }
+    → now ≤ was + cost
+    → ((st : State) (s : ℕ) (x : Session) → st.store ≡ old.store → x ≡ session_in old.cursors s before → M st s x (to_one s text cost) (with_session (record st { stopped = stops || st.stopped }) s (ended_by cause)))
+    → Performs M stops old before new after was now
+ends_costing M stops old new before after text cost cause was now up left counted does = record {
+  text = text;
+  cost = cost;
+  pending = ap (λ (d : Talk). d.pending) left;
+  does = λ front back s stopped sound.
+      let p = parts old front s before back sound in
+      let step = ends_among old new before cause (stops || stopped) after.room before.pending up front back s p in
+      subst (λ (d : Talk). M (state_in old stopped (among front s before back)) s (session_in old.cursors s before) (to_one s text cost) (state_in new (stops || stopped) (among front s (unqueued before d) back)))
+      (sym left)
+      (subst (λ (st : State). M (state_in old stopped (among front s before back)) s (session_in old.cursors s before) (to_one s text cost) st) (sym step.0)
+      (does (state_in old stopped (among front s before back)) s (session_in old.cursors s before) refl refl));
+  sound = λ front back s sound.
+      let p = parts old front s before back sound in
+      subst (λ (d : Talk). IsSound new (among front s d back)) (sym left)
+      (whole new front s (record before { cursors = []; room = after.room; cause = Some cause; pending = behind before.pending text }) back
+      (ends_among old new before cause false after.room (behind before.pending text) up front back s p).1);
+  counted = counted;
+}
+
+pub ends : (M : State → ℕ → Session → Effect → State → Type 0) (stops : Bool) (old new : Kept) (before mid after : Talk) (text : Option Bytes) (cause : EndCause)
+    → GivesUp old before new mid → after ≡ record mid { pending = behind mid.pending text; room = after.room; cause = Some cause }
+    → ((st : State) (s : ℕ) (x : Session) → M st s x (to_one s text 0) (with_session (record st { stopped = stops || st.stopped }) s (ended_by cause)))
+    → Performs M stops old before new after 0 0
+ends M stops old new before mid after text cause g same does =
+    let left : after ≡ record before { cursors = []; room = after.room; cause = Some cause; pending = behind before.pending text }
+          = same ∙ ap (λ (d : Talk). record d { pending = behind d.pending text; room = after.room; cause = Some cause }) g.session in
+    let up : GivesUp old before new (record before { cursors = [] }) = record { store = g.store; others = g.others; session = refl } in
+    ends_costing M stops old new before after text 0 cause 0 0 up left (omega arith) (λ st s x e f. does st s x)
+
+-- whether bytes are held decides what is said of them
+pub cut_none : (held : Bytes) → eqb (length held) 0 ≡ true → cut_text held ≡ None
+cut_none [] h = refl
+cut_none (b ∷ bs) h = let none : length (b ∷ bs) ≡ 0 = eqb-true (length (b ∷ bs)) 0 h in absurd (omega arith)
+
+pub cut_some : (held : Bytes) → eqb (length held) 0 ≡ false → cut_text held ≡ Some input_cut
+cut_some [] h = absurd (cc)
+cut_some (b ∷ bs) h = refl
+
+-- a cause that is kept alone
+pub quiet_end : (d e : Talk) (cause : EndCause) → e ≡ record d { cause = Some cause } → e ≡ record d { pending = d.pending; room = e.room; cause = Some cause }
+quiet_end d e cause h = h ∙ ap (λ (r : ℕ). record d { room = r; cause = Some cause }) (sym (ap (λ (x : Talk). x.room) h))

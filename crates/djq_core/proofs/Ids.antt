@@ -1,0 +1,178 @@
+-- Cursors of the engine: told apart, held, and as they were.
+use Rattle.std.proofs.Common.{ℕ, ◌≡◌, ◌≢◌, ◌++◌, ◌&&◌, Bool, true, false, List, [], ◌∷◌, map, find, option_map, cond, Option, None, Some, eqb, refl, sym, ap, ◌∙◌, subst, ap₂}
+use Rattle.std.specs.Prelude.{⊤}
+use Rattle.std.proofs.lemmas.Bool.{eqb-true, eq-eqb}
+use Rattle.djq_model.specs.Data.{Bytes}
+use Rattle.djq_model.specs.declared.query.Query.{Query}
+use Rattle.djq_session.specs.declared.named.NamedCursor.{NamedCursor}
+use Rattle.djq_engine.specs.declared.cursor.CursorId.{CursorId}
+use Rattle.djq_engine.specs.Kept.{Held, held_at, same_id, SameCursors, OthersStay, outdated_held}
+use Rattle.djq_machine.specs.State.{Cursor, Session, Position, open_at, stale}
+use Rattle.djq_machine.specs.Stale.{outdated, outdater_of, by_relation, outdated_cursor, outdated_sessions}
+use Rattle.djq_core.specs.declared.open.OpenSession.{OpenSession}
+use Rattle.djq_core.specs.Views.{query_in, position_in, cursor_in, open_in}
+use Rattle.djq_core.specs.Sound.{ids_of, all_ids, GivesApart, AreHeld, IsApart, AreApart}
+
+first_true : (a b : Bool) → (a && b) ≡ true → a ≡ true
+first_true true b h = refl
+first_true false b h = absurd (cc)
+
+second_true : (a b : Bool) → (a && b) ≡ true → b ≡ true
+second_true true b h = h
+second_true false b h = absurd (cc)
+
+-- ids that are told to be the same are
+pub same_id_same : (a b : CursorId) → same_id a b ≡ true → a ≡ b
+same_id_same a b h =
+    let query : a.query.at ≡ b.query.at = eqb-true a.query.at b.query.at (first_true (eqb a.query.at b.query.at) (eqb a.cursor b.cursor) h) in
+    let cursor : a.cursor ≡ b.cursor = eqb-true a.cursor b.cursor (second_true (eqb a.query.at b.query.at) (eqb a.cursor b.cursor) h) in
+    ap₂ id_of query cursor
+  where
+    id_of : ℕ → ℕ → CursorId
+    id_of q c = record { query = record { at = q }; cursor = c }
+
+pub same_id_refl : (a : CursorId) → same_id a a ≡ true
+same_id_refl a = rw (eq-eqb a.query.at a.query.at refl, eq-eqb a.cursor a.cursor refl) refl
+
+-- and the other way round
+pub same_id_flip : (a b : CursorId) → same_id a b ≡ false → same_id b a ≡ false
+same_id_flip a b h = step (same_id b a) refl
+  where
+    step : (v : Bool) → same_id b a ≡ v → v ≡ false
+    step true e = let same : b ≡ a = same_id_same b a e in absurd (cc (same_id_refl a, ap (λ (x : CursorId). same_id a x) same))
+    step false e = refl
+
+-- Cursors told apart.
+
+pub apart_split : (c : CursorId) (xs ys : List CursorId) → IsApart c (xs ++ ys) → IsApart c xs × IsApart c ys
+apart_split c [] ys h = (tt, h)
+apart_split c (x ∷ xs) ys h = let r = apart_split c xs ys h.1 in ((h.0, r.0), r.1)
+
+pub apart_join : (c : CursorId) (xs ys : List CursorId) → IsApart c xs → IsApart c ys → IsApart c (xs ++ ys)
+apart_join c [] ys h g = g
+apart_join c (x ∷ xs) ys h g = (h.0, apart_join c xs ys h.1 g)
+
+-- One is taken out of those that are apart.
+pub taken_out : (xs : List CursorId) (c : CursorId) (ys : List CursorId) → AreApart (xs ++ c ∷ ys) → IsApart c xs × (IsApart c ys × AreApart (xs ++ ys))
+taken_out [] c ys h = (tt, (h.0, h.1))
+taken_out (x ∷ xs) c ys h =
+    let r = taken_out xs c ys h.1 in
+    let a = apart_split x xs (c ∷ ys) h.0 in
+    ((same_id_flip c x a.1.0, r.0), (r.1.0, (apart_join x xs ys a.0 a.1.1, r.1.1)))
+
+-- One that is apart from all is put among them.
+pub put_in : (xs : List CursorId) (c : CursorId) (ys : List CursorId) → AreApart (xs ++ ys) → IsApart c xs → IsApart c ys → AreApart (xs ++ c ∷ ys)
+put_in [] c ys h a b = (b, h)
+put_in (x ∷ xs) c ys h a b =
+    let r = apart_split x xs ys h.0 in
+    (apart_join x xs (c ∷ ys) r.0 (same_id_flip x c a.0, r.1), put_in xs c ys h.1 a.1 b)
+
+-- Cursors held.
+
+pub held_split : (hs : List Held) (xs ys : List CursorId) → AreHeld hs (xs ++ ys) → AreHeld hs xs × AreHeld hs ys
+held_split hs [] ys h = (tt, h)
+held_split hs (x ∷ xs) ys h = let r = held_split hs xs ys h.1 in ((h.0, r.0), r.1)
+
+pub held_join : (hs : List Held) (xs ys : List CursorId) → AreHeld hs xs → AreHeld hs ys → AreHeld hs (xs ++ ys)
+held_join hs [] ys h g = g
+held_join hs (x ∷ xs) ys h g = (h.0, held_join hs xs ys h.1 g)
+
+-- A cursor that isn't held is none of those that are.
+pub fresh_apart : (hs : List Held) (c : CursorId) (cs : List CursorId) → held_at hs c ≡ None → AreHeld hs cs → IsApart c cs
+fresh_apart hs c [] n h = tt
+fresh_apart hs c (d ∷ ds) n h = (step (same_id d c) refl, fresh_apart hs c ds n h.1)
+  where
+    step : (v : Bool) → same_id d c ≡ v → v ≡ false
+    step true e = let same : d ≡ c = same_id_same d c e in absurd (cc (h.0.1, n, ap (λ (x : CursorId). held_at hs x) same))
+    step false e = refl
+
+-- The engine holds these cursors as it did.
+abbrev pub Agree : List Held → List Held → List CursorId → Type 0
+Agree old new [] = ⊤
+Agree old new (c ∷ cs) = (held_at new c ≡ held_at old c) × Agree old new cs
+
+pub agree_same : (old new : List Held) (cs : List CursorId) → SameCursors old new → Agree old new cs
+agree_same old new [] h = tt
+agree_same old new (c ∷ cs) h = (h c, agree_same old new cs h)
+
+pub agree_others : (old new : List Held) (id : CursorId) (cs : List CursorId) → OthersStay old id new → IsApart id cs → Agree old new cs
+agree_others old new id [] h a = tt
+agree_others old new id (c ∷ cs) h a = (h c a.0, agree_others old new id cs h a.1)
+
+pub agree_held : (old new : List Held) (cs : List CursorId) → Agree old new cs → AreHeld old cs → AreHeld new cs
+agree_held old new [] g h = tt
+agree_held old new (c ∷ cs) g h = ((h.0.0, g.0 ∙ h.0.1, h.0.2), agree_held old new cs g.1 h.1)
+
+pub agree_names : (old new : List Held) (names : List (NamedCursor CursorId)) → Agree old new (ids_of names) → map (cursor_in new) names ≡ map (cursor_in old) names
+agree_names old new [] g = refl
+agree_names old new (n ∷ names) g =
+    let rest = agree_names old new names g.1 in
+    let here : cursor_in new n ≡ cursor_in old n = ap (λ (o : Option Held). record { name = n.name; query = query_in o; position = position_in o }) g.0 in cc
+
+pub agree_split : (old new : List Held) (xs ys : List CursorId) → Agree old new (xs ++ ys) → Agree old new xs × Agree old new ys
+agree_split old new [] ys g = (tt, g)
+agree_split old new (x ∷ xs) ys g = let r = agree_split old new xs ys g.1 in ((g.0, r.0), r.1)
+
+pub agree_open : (old new : List Held) (xs : List OpenSession) → Agree old new (all_ids xs) → map (open_in new) xs ≡ map (open_in old) xs
+agree_open old new [] g = refl
+agree_open old new (x ∷ xs) g =
+    let parts = agree_split old new (ids_of (x.session).cursors) (all_ids xs) g in
+    let rest = agree_open old new xs parts.1 in
+    let names = agree_names old new (x.session).cursors parts.0 in
+    let here : open_in new x ≡ open_in old x = ap (λ (cs : List Cursor). record (open_in old x) { cursors = cs }) names in cc
+
+-- A change of a relation.
+
+-- each cursor is as the change leaves it
+abbrev pub Outdated : List Query → Bytes → ℕ → List Held → List Held → Type 0
+Outdated queries relation n old new = (c : CursorId) → held_at new c ≡ option_map (outdated_held queries relation n) (held_at old c)
+
+pub outdated_find : (queries : List Query) (relation : Bytes) (n : ℕ) (hs : List Held) (c : CursorId)
+    → held_at (map (outdated_held queries relation n) hs) c ≡ option_map (outdated_held queries relation n) (held_at hs c)
+outdated_find queries relation n [] c = refl
+outdated_find queries relation n (h ∷ hs) c = step (same_id h.id c) (outdated_find queries relation n hs c)
+  where
+    step : (b : Bool) → held_at (map (outdated_held queries relation n) hs) c ≡ option_map (outdated_held queries relation n) (held_at hs c)
+        → cond b (Some (outdated_held queries relation n h)) (held_at (map (outdated_held queries relation n) hs) c) ≡ option_map (outdated_held queries relation n) (cond b (Some h) (held_at hs c))
+    step true r = refl
+    step false r = r
+
+still_apart : (queries : List Query) (relation : Bytes) (n : ℕ) (o : Option Bytes) (p : Position) → GivesApart p → GivesApart (outdated o n p)
+still_apart queries relation n None p g = g
+still_apart queries relation n (Some r) (open_at given ended) g = tt
+still_apart queries relation n (Some r) (stale s m) g = tt
+
+pub outdated_all_held : (queries : List Query) (relation : Bytes) (n : ℕ) (old new : List Held) (cs : List CursorId) → Outdated queries relation n old new → AreHeld old cs → AreHeld new cs
+outdated_all_held queries relation n old new [] out h = tt
+outdated_all_held queries relation n old new (c ∷ cs) out h = (
+  (outdated_held queries relation n h.0.0, out c ∙ ap (option_map (outdated_held queries relation n)) h.0.1,
+    still_apart queries relation n (outdater_of queries (by_relation relation) (h.0.0).query) (h.0.0).position h.0.2),
+  outdated_all_held queries relation n old new cs out h.1,
+)
+
+stale_stays : (o : Option Bytes) (n : ℕ) → stale [] 0 ≡ outdated o n (stale [] 0)
+stale_stays None n = refl
+stale_stays (Some r) n = refl
+
+outdated_one : (queries : List Query) (relation : Bytes) (n : ℕ) (name : Bytes) (o : Option Held)
+    → record { name = name; query = query_in (option_map (outdated_held queries relation n) o); position = position_in (option_map (outdated_held queries relation n) o) }
+    ≡ outdated_cursor queries (by_relation relation) n (record { name = name; query = query_in o; position = position_in o })
+outdated_one queries relation n name None = ap (λ (p : Position). record { name = name; query = []; position = p }) (stale_stays (outdater_of queries (by_relation relation) []) n)
+outdated_one queries relation n name (Some h) = refl
+
+pub outdated_names : (queries : List Query) (relation : Bytes) (n : ℕ) (old new : List Held) (names : List (NamedCursor CursorId)) → Outdated queries relation n old new
+    → map (cursor_in new) names ≡ map (outdated_cursor queries (by_relation relation) n) (map (cursor_in old) names)
+outdated_names queries relation n old new [] out = refl
+outdated_names queries relation n old new (x ∷ names) out =
+    let rest = outdated_names queries relation n old new names out in
+    let moved : cursor_in new x ≡ record { name = x.name; query = query_in (option_map (outdated_held queries relation n) (held_at old x.cursor)); position = position_in (option_map (outdated_held queries relation n) (held_at old x.cursor)) }
+          = ap (λ (o : Option Held). record { name = x.name; query = query_in o; position = position_in o }) (out x.cursor) in
+    let here : cursor_in new x ≡ outdated_cursor queries (by_relation relation) n (cursor_in old x) = moved ∙ outdated_one queries relation n x.name (held_at old x.cursor) in cc
+
+pub outdated_open : (queries : List Query) (relation : Bytes) (n : ℕ) (old new : List Held) (xs : List OpenSession) → Outdated queries relation n old new
+    → map (open_in new) xs ≡ outdated_sessions queries (by_relation relation) n (map (open_in old) xs)
+outdated_open queries relation n old new [] out = refl
+outdated_open queries relation n old new (x ∷ xs) out =
+    let rest = outdated_open queries relation n old new xs out in
+    let names = outdated_names queries relation n old new (x.session).cursors out in
+    let here : open_in new x ≡ record (open_in old x) { cursors = map (outdated_cursor queries (by_relation relation) n) (open_in old x).cursors } = ap (λ (cs : List Cursor). record (open_in old x) { cursors = cs }) names in cc

@@ -1,0 +1,106 @@
+-- A line is taken of a session's bytes, and what is done behind it.
+use Rattle.std.proofs.Common.{ℕ, ◌+◌, ◌<◌, ◌≤◌, ◌≡◌, ◌++◌, ◌||◌, Bool, true, false, List, [], ◌∷◌, length, take, drop, Option, None, Some, Result, Ok, Err, refl, sym, ap, ap₂, ◌∙◌, subst, arith}
+use Rattle.std.specs.Prelude.{⊤}
+use Rattle.djq_model.specs.Data.{Bytes}
+use Rattle.djq_lines.specs.declared.limits.TheConstants.{PENDING_BYTES}
+use Rattle.djq_lines.specs.declared.answer.Refusal.{Refusal}
+use Rattle.djq_lines.specs.declared.answer.Refusal.TheVariants.{NoMemory}
+use Rattle.djq_lines.specs.declared.command.Command.{Command}
+use Rattle.djq_lines.specs.Line.{a_line, front_of, is_blank}
+use Rattle.djq_lines.specs.Grammar.{Reading, refused as is_refused, says, reading_of, takes_memory_to_read}
+use Rattle.djq_lines.specs.Reply.{refusal_line}
+use Rattle.djq_machine.specs.State.{Session, State, with_session}
+use Rattle.djq_machine.specs.Effect.{Effect, RefusedStep}
+use Rattle.djq_machine.specs.LineStep.{LineOutcome, long, blank, slow, no_room, run, FrontStep, TakenLine, behind_line, ReadStep}
+use Rattle.djq_session.specs.Dialog.{Replies}
+use Rattle.djq_engine.specs.Kept.{Kept}
+use Rattle.djq_core.specs.declared.open.OpenSession.{OpenSession}
+use Rattle.djq_core.specs.Views.{Talk, session_in, open_in, state_in}
+use Rattle.djq_core.specs.Sound.{IsSound, IsReady, IsOwn}
+use Rattle.djq_core.specs.Performs.{among, to_one, unqueued, Performs, Executes}
+use Rattle.djq_core.specs.Stepping.{Fronts}
+use Rattle.djq_core.proofs.Around.{Around, parts, whole, becomes, looks}
+use Rattle.djq_core.proofs.Replying.{refused, around_bytes}
+use Rattle.djq_core.proofs.Continuing.{counting}
+
+-- a session with other bytes held is as sound
+pub sound_bytes : (k : Kept) (front : List OpenSession) (s : ℕ) (d : Talk) (held pending : Bytes) (room : ℕ) (back : List OpenSession) → IsSound k (among front s d back)
+    → IsSound k (among front s (record d { held = held; pending = pending; room = room }) back)
+sound_bytes k front s d held pending room back sound =
+    whole k front s (record d { held = held; pending = pending; room = room }) back (around_bytes k.cursors front s d held pending room back (parts k front s d back sound))
+
+-- What is done with more room is done.
+pub with_room : (M : State → ℕ → Session → Effect → State → Type 0) (stops : Bool) (old : Kept) (before mid : Talk) (new : Kept) (after : Talk) (was now : ℕ)
+    → mid ≡ record before { room = mid.room } → Performs M stops old mid new after was now → Performs M stops old before new after was now
+with_room M stops old before mid new after was now e p =
+    let q : Performs M stops old (record before { room = mid.room }) new after was now = subst (λ (d : Talk). Performs M stops old d new after was now) e p in
+    record {
+      text = q.text;
+      cost = q.cost;
+      pending = q.pending;
+      does = λ front back s stopped sound.
+          subst (λ (st : State). M st s (session_in old.cursors s before) (to_one s q.text q.cost) (state_in new (stops || stopped) (among front s (unqueued before after) back)))
+          (looks old stopped front s before (record before { room = mid.room }) back refl)
+          (q.does front back s stopped (sound_bytes old front s before before.held before.pending mid.room back sound));
+      sound = λ front back s sound. q.sound front back s (sound_bytes old front s before before.held before.pending mid.room back sound);
+      counted = q.counted;
+    }
+
+-- What is done behind a line that was taken.
+pub taking : (P M : State → ℕ → Session → Effect → State → Type 0) (stops : Bool) (old : Kept) (before mid : Talk) (l rest : Bytes) (new : Kept) (after : Talk) (was now : ℕ)
+    → front_of before.held ≡ a_line l rest → mid ≡ record before { held = rest }
+    → ((st st' : State) (s : ℕ) (x : Session) (e : Effect) → x.held ≡ before.held → x.pending ≡ before.pending → TakenLine st s x l (λ mid y. P mid s y e st') → M st s x e st')
+    → Performs P stops old mid new after was now → Performs M stops old before new after was now
+taking P M stops old before mid l rest new after was now f e wrap p =
+    let q : Performs P stops old (record before { held = rest }) new after was now = subst (λ (d : Talk). Performs P stops old d new after was now) e p in
+    record {
+      text = q.text;
+      cost = q.cost;
+      pending = q.pending;
+      does = λ front back s stopped sound.
+          wrap (state_in old stopped (among front s before back)) (state_in new (stops || stopped) (among front s (unqueued before after) back)) s (session_in old.cursors s before) (to_one s q.text q.cost) refl refl
+          (record {
+            rest = rest;
+            front = f;
+            then = subst (λ (st : State). P st s (session_in old.cursors s (record before { held = rest })) (to_one s q.text q.cost) (state_in new (stops || stopped) (among front s (unqueued before after) back)))
+                (becomes old stopped front s before (record before { held = rest }) back (behind_line rest) (parts old front s before back sound) refl)
+                (q.does front back s stopped (sound_bytes old front s before rest before.pending before.room back sound));
+          });
+      sound = λ front back s sound. q.sound front back s (sound_bytes old front s before rest before.pending before.room back sound);
+      counted = q.counted;
+    }
+
+-- a line that is run
+pub runs : (stops : Bool) (old : Kept) (before mid : Talk) (l rest : Bytes) (new : Kept) (after : Talk) (was now : ℕ)
+    → front_of before.held ≡ a_line l rest → mid ≡ record before { held = rest } → is_blank l ≡ false → length before.pending ≤ PENDING_BYTES
+    → Performs (λ st s x e st'. ReadStep st s x (reading_of l) e st') stops old mid new after was now → Fronts (run l) stops old before new after was now
+runs stops old before mid l rest new after was now f e said few p =
+    taking _ _ stops old before mid l rest new after was now f e (λ st st' s x e h q t. (said, subst (λ (bs : Bytes). length bs ≤ PENDING_BYTES) (sym q) few, t)) p
+
+-- a line that says a command
+pub reads_command : (stops : Bool) (old : Kept) (before : Talk) (l : Bytes) (command : Command) (new : Kept) (after : Talk) (was now : ℕ)
+    → reading_of l ≡ says command → Executes command stops old before new after was now → Performs (λ st s x e st'. ReadStep st s x (reading_of l) e st') stops old before new after was now
+reads_command stops old before l command new after was now r p = record {
+  text = p.text;
+  cost = p.cost;
+  pending = p.pending;
+  does = λ front back s stopped sound.
+      subst (λ (r : Reading). ReadStep (state_in old stopped (among front s before back)) s (session_in old.cursors s before) r (to_one s p.text p.cost) (state_in new (stops || stopped) (among front s (unqueued before after) back)))
+      (sym r) (true, p.does front back s stopped sound);
+  sound = p.sound;
+  counted = p.counted;
+}
+
+-- a line that is refused whatever the state is
+pub reads_refused : (k : Kept) (before after : Talk) (l : Bytes) (why : Refusal) (was : ℕ)
+    → reading_of l ≡ is_refused why → Replies before after (refusal_line why) → Performs (λ st s x e st'. ReadStep st s x (reading_of l) e st') false k before k after was was
+reads_refused k before after l why was r reply =
+    counting _ false k before k after was was (omega arith)
+    (refused _ k before after (refusal_line why) reply (λ st s x store same. subst (λ (r : Reading). ReadStep st s x r (to_one s (Some (refusal_line why)) 0) st) (sym r) (refl, refl)))
+
+-- a line for whose command there was no memory
+pub reads_nothing : (k : Kept) (before after : Talk) (l : Bytes) (command : Command) (was : ℕ)
+    → reading_of l ≡ says command → takes_memory_to_read command ≡ true → Replies before after (refusal_line NoMemory) → Performs (λ st s x e st'. ReadStep st s x (reading_of l) e st') false k before k after was was
+reads_nothing k before after l command was r takes reply =
+    counting _ false k before k after was was (omega arith)
+    (refused _ k before after (refusal_line NoMemory) reply (λ st s x store same. subst (λ (r : Reading). ReadStep st s x r (to_one s (Some (refusal_line NoMemory)) 0) st) (sym r) (false, (takes, (refl, refl)))))

@@ -1,0 +1,27 @@
+-- What a session's end does to the engine and to the session.
+use Rattle.std.specs.Prelude.{ℕ, List, [], ◌∷◌, ◌≡◌, Option, None, Some}
+use Rattle.djq_model.specs.Data.{Bytes}
+use Rattle.djq_lines.specs.declared.answer.EndCause.TheVariants.{Input}
+use Rattle.djq_lines.specs.Reply.{input_cut}
+use Rattle.djq_machine.specs.State.{State, with_session, ended_by}
+use Rattle.djq_machine.specs.Effect.{Effect}
+use Rattle.djq_engine.specs.declared.cursor.CursorId.{CursorId}
+use Rattle.djq_engine.specs.Kept.{Kept, held_at}
+use Rattle.djq_core.specs.Views.{Talk}
+use Rattle.djq_core.specs.Sound.{ids_of, IsApart}
+use Rattle.djq_core.specs.Performs.{to_one}
+
+-- The cursors of a session are gone, and nothing else.
+pub record GivesUp (old : Kept) (before : Talk) (new : Kept) (after : Talk) : Type 0 where
+  pub store : new.store ≡ old.store
+  pub others : (c : CursorId) → IsApart c (ids_of before.cursors) → held_at new.cursors c ≡ held_at old.cursors c
+  pub session : after ≡ record before { cursors = [] }
+
+-- that bytes are held which no line end follows
+abbrev pub cut_text : Bytes → Option Bytes
+cut_text [] = None
+cut_text (b ∷ bs) = Some input_cut
+
+-- A session ends with its input.
+abbrev pub EndsQuietly : Bytes → State → ℕ → Effect → State → Type 0
+EndsQuietly held old s e new = (e ≡ to_one s (cut_text held) 0) × (new ≡ with_session old s (ended_by Input))

@@ -1,0 +1,45 @@
+-- What the functions of the core do to one session and the engine, as the machine says it of all sessions.
+use Rattle.std.specs.Prelude.{ℕ, List, [], ◌∷◌, ◌≡◌, ◌+◌, ◌++◌, ◌≤◌, ◌||◌, Bool, false, Option, None, Some}
+use Rattle.djq_model.specs.Data.{Bytes}
+use Rattle.djq_lines.specs.declared.command.Command.{Command}
+use Rattle.djq_machine.specs.State.{Session, State}
+use Rattle.djq_machine.specs.Effect.{Effect}
+use Rattle.djq_machine.specs.Command.{CommandStep}
+use Rattle.djq_engine.specs.Kept.{Kept}
+use Rattle.djq_core.specs.declared.open.OpenSession.{OpenSession}
+use Rattle.djq_core.specs.Views.{Talk, session_in, state_in}
+use Rattle.djq_core.specs.Sound.{IsSound}
+
+-- a session among others
+abbrev pub among : List OpenSession → ℕ → Talk → List OpenSession → List OpenSession
+among front s d back = front ++ record { id = s; session = d } ∷ back
+
+-- what is queued to one session, where anything is, and what it may cost
+abbrev pub to_one : ℕ → Option Bytes → ℕ → Effect
+to_one s None cost = record { queued = []; cost = cost }
+to_one s (Some text) cost = record { queued = (s, text) ∷ []; cost = cost }
+
+-- bytes with a text behind them, where there is one
+abbrev pub behind : Bytes → Option Bytes → Bytes
+behind pending None = pending
+behind pending (Some text) = pending ++ text
+
+-- a session before its bytes are queued
+abbrev pub unqueued : Talk → Talk → Talk
+unqueued before after = record after { pending = before.pending }
+
+-- Something of the machine is done to a session, whatever sessions there are besides: a text may be queued to it, and no
+-- more is counted than that may cost. What holds between calls holds afterwards.
+pub record Performs (Machine : State → ℕ → Session → Effect → State → Type 0) (stops : Bool) (old : Kept) (before : Talk) (new : Kept) (after : Talk) (was now : ℕ) : Type 0 where
+  pub text : Option Bytes
+  pub cost : ℕ
+  pub pending : after.pending ≡ behind before.pending text
+  pub does : (front back : List OpenSession) (s : ℕ) (stopped : Bool) → IsSound old (among front s before back)
+      → Machine (state_in old stopped (among front s before back)) s (session_in old.cursors s before) (to_one s text cost)
+        (state_in new (stops || stopped) (among front s (unqueued before after) back))
+  pub sound : (front back : List OpenSession) (s : ℕ) → IsSound old (among front s before back) → IsSound new (among front s after back)
+  pub counted : now ≤ was + cost
+
+-- A command is done.
+abbrev pub Executes : Command → Bool → Kept → Talk → Kept → Talk → ℕ → ℕ → Type 0
+Executes command stops old before new after was now = Performs (λ st s x e st'. CommandStep st s x command e st') stops old before new after was now

@@ -1,0 +1,173 @@
+ghost use Rattle.std.specs.Prelude.{◌≡◌, ◌<◌, IfOk, length, slice_index, Contains};
+ghost use Rattle.djq_model.specs.Data.{rows_of};
+ghost use Rattle.djq_machine.specs.State.{opening};
+ghost use Rattle.djq_core.specs.Sound.{Rises};
+
+use crate::ending::{end_by, end_input, give_up};
+use crate::line::step_session;
+use crate::open::OpenSession;
+use djq_engine::Engine;
+use djq_lines::limits::SESSIONS;
+use djq_lines::{EndCause, EndLine};
+use djq_machine::{Fed, Machine, OpenRefusal, Stepped};
+use djq_model::{Name, NoMem};
+use djq_session::Session;
+use djq_steps::{Ledgers, Steps};
+use std::alloc::Global;
+use std::marker::Model;
+
+/// The join machine: an engine, and the open sessions. Contracts see its state.
+///
+/// ```text
+/// ids:     [ 1, 4, 5 ]              rising; a session is found by binary search
+/// open:    [ s1, s4, s5 ]           each with its bytes and its cursors by name
+/// engine:  relations, queries, and the cursors that the names stand for
+/// ```
+#[derive(Drop)]
+pub struct Core {
+    engine: Engine,
+    ids: Vec<u64>,
+    open: Vec<OpenSession>,
+    stopped: bool,
+    alloc: Global,
+}
+
+impl Model for Core {
+    ghost use Rattle.djq_machine.specs.State.{State};
+
+    ghost Value = { State };
+
+    ghost use Rattle.std.specs.Prelude.{vec_capacity};
+    ghost use Rattle.djq_core.specs.Views.{state_in};
+    ghost use Rattle.djq_core.specs.Sound.{IsCore};
+
+    ghost view = { λ c. state_in c.engine c.stopped c.open.items };
+
+    ghost invariant = { λ c. IsCore c.engine c.ids.items c.open.items (vec_capacity c.ids) (vec_capacity c.open) };
+}
+
+impl Core {
+    /// The state in which nothing has happened. It takes the room for all sessions.
+    ///
+    /// # Errors
+    ///
+    /// `NoMem` out of memory.
+    pub fn new(alloc: Global) -> Result<Core, NoMem>
+        ensures { IfOk result (λ core. core ≡ opening) }
+    {
+        Ok(Core {
+            engine: Engine::new(alloc),
+            ids: Vec::with_capacity(alloc, SESSIONS)?,
+            open: Vec::with_capacity(alloc, SESSIONS)?,
+            stopped: false,
+            alloc,
+        })
+    }
+
+    /// The number of accepted changes of rows.
+    pub fn seq(&self) -> u64
+        ensures { result ≡ self.now.store.seq }
+    {
+        self.engine.seq()
+    }
+
+    /// The number of rows of a relation, 0 where there is none of the name.
+    pub fn rows(&self, name: &Name) -> u64
+        ensures { result ≡ length (rows_of self.now.store.relations name.now) }
+    {
+        self.engine.rows(name)
+    }
+}
+
+impl Machine for Core {
+    ghost state = { λ c. c };
+
+    fn open_session(&mut self, id: u64) -> Result<(), OpenRefusal> {
+        if self.ids.len() >= SESSIONS {
+            return Err(OpenRefusal::Full);
+        }
+        match Session::new(self.alloc) {
+            Ok(session) => {
+                self.ids.push_reserved(id);
+                self.open.push_reserved(OpenSession { id, session });
+                Ok(())
+            }
+            Err(_) => Err(OpenRefusal::NoMem),
+        }
+    }
+
+    fn feed(&mut self, id: u64, piece: &[u8]) -> Fed {
+        let at = place_of(self.ids.as_slice(), id);
+        let open = &mut self.open[at];
+        if let Some(cause) = open.session.cause() {
+            return Fed::Ended(cause);
+        }
+        match open.session.feed(piece) {
+            Ok(()) => Fed::Held,
+            Err(_) => {
+                end_by(&mut self.engine, &mut open.session, EndLine::Memory, EndCause::Memory);
+                Fed::Ended(EndCause::Memory)
+            }
+        }
+    }
+
+    fn step<L: Ledgers>(&mut self, id: u64, steps: &mut Steps<L>) -> Stepped {
+        let at = place_of(self.ids.as_slice(), id);
+        let open = &mut self.open[at];
+        let (stepped, stops) = step_session(self.alloc, &mut self.engine, &mut open.session, &mut steps.listing);
+        self.stopped = stops || self.stopped;
+        stepped
+    }
+
+    fn pending(&self, id: u64) -> &[u8] {
+        let at = place_of(self.ids.as_slice(), id);
+        self.open[at].session.pending()
+    }
+
+    fn took(&mut self, id: u64, count: usize) {
+        let at = place_of(self.ids.as_slice(), id);
+        self.open[at].session.took(count);
+    }
+
+    fn end_session(&mut self, id: u64) {
+        let at = place_of(self.ids.as_slice(), id);
+        let open = &mut self.open[at];
+        if open.session.cause().is_none() {
+            end_input(&mut self.engine, &mut open.session);
+        }
+    }
+
+    fn close_session(&mut self, id: u64) {
+        let at = place_of(self.ids.as_slice(), id);
+        let open = &mut self.open[at];
+        give_up(&mut self.engine, &mut open.session);
+        let _id = self.ids.remove(at);
+        let _closed = self.open.remove(at);
+    }
+
+    fn ids(&self) -> &[u64] {
+        self.ids.as_slice()
+    }
+
+    fn cause(&self, id: u64) -> Option<EndCause> {
+        let at = place_of(self.ids.as_slice(), id);
+        self.open[at].session.cause()
+    }
+
+    fn stopped(&self) -> bool {
+        self.stopped
+    }
+}
+
+// Where the session of an id stands.
+fn place_of(ids: &[u64], id: u64) -> usize
+    requires rising { Rises ids.now }
+    requires there { Contains ids.now id }
+    ensures within { result < length ids.now }
+    ensures there { slice_index ids.now result ≡ id }
+{
+    match ids.binary_search(&id) {
+        Ok(at) => at,
+        Err(_) => unreachable!(),
+    }
+}

@@ -1,0 +1,83 @@
+-- What contracts see of a session, and what its calls do to it.
+use Rattle.std.specs.Prelude.{ℕ, List, [], ◌∷◌, ◌≡◌, ◌+◌, ◌++◌, ◌≤◌, ◌<◌, Bool, false, Option, None, Some, Result, Ok, Err, length, find, AllPairs}
+use Rattle.djq_model.specs.Data.{Bytes, bytes_eq}
+use Rattle.djq_lines.specs.declared.limits.TheConstants.{CURSORS, LAST_LINE_BYTES}
+use Rattle.djq_lines.specs.declared.answer.EndCause.{EndCause}
+use Rattle.djq_session.specs.declared.named.NamedCursor.{NamedCursor}
+use Rattle.djq_session.specs.Keeps.{KeepsRoom}
+
+-- A session.
+pub record Dialog (C Q : Type 0) : Type 0 where
+  -- bytes that came and aren't run
+  pub held : Bytes
+  -- bytes that were queued and aren't taken
+  pub pending : Bytes
+  -- how many bytes more can be queued without taking memory
+  pub room : ℕ
+  -- why it takes no further commands
+  pub cause : Option EndCause
+  -- in the order in which they were opened
+  pub cursors : List (NamedCursor C)
+  -- what it watches, in the order in which it came
+  pub watches : List Q
+
+-- the cursor of a name
+abbrev pub named : {C : Type 0} → List (NamedCursor C) → Bytes → Option (NamedCursor C)
+named cursors name = find (λ n. bytes_eq n.name name) cursors
+
+-- whether a cursor has this name
+abbrev pub is_named : {C : Type 0} → Bytes → NamedCursor C → Bool
+is_named name n = bytes_eq n.name name
+
+-- A session has few cursors, whose names differ, and room for its last line as long as it goes on.
+pub record IsKept {C : Type 0} (why : Option EndCause) (spare : ℕ) (names : List (NamedCursor C)) : Type 0 where
+  pub room : KeepsRoom why spare
+  pub few : length names ≤ CURSORS
+  pub different : AllPairs (λ a b. bytes_eq a.name b.name ≡ false) names
+
+-- Nothing came, nothing is queued, and nothing is named.
+pub record IsFresh {C Q : Type 0} (d : Dialog C Q) : Type 0 where
+  pub held : d.held ≡ []
+  pub pending : d.pending ≡ []
+  pub cause : d.cause ≡ None
+  pub cursors : d.cursors ≡ []
+  pub watches : d.watches ≡ []
+
+-- A reply is queued in the room that there is, and nothing else changes.
+abbrev pub Replies : {C Q : Type 0} → Dialog C Q → Dialog C Q → Bytes → Type 0
+Replies old new text = new ≡ record old { pending = old.pending ++ text; room = new.room }
+
+-- A text is queued, and nothing else changes. The room, with what is in it, doesn't fall.
+pub record Queues {C Q : Type 0} (old new : Dialog C Q) (text : Bytes) : Type 0 where
+  pub queued : new ≡ record old { pending = old.pending ++ text; room = new.room }
+  pub kept : LAST_LINE_BYTES ≤ new.room
+  pub room : old.room ≤ new.room + length text
+
+-- The room was too small for a text and the last line, and nothing else changes.
+pub record Lacks {C Q : Type 0} (old new : Dialog C Q) (text : Bytes) : Type 0 where
+  pub same : new ≡ record old { room = new.room }
+  pub room : old.room ≤ new.room
+  pub lacks : old.room < length text + LAST_LINE_BYTES
+
+abbrev pub MayQueue : {C Q A E : Type 0} → Dialog C Q → Dialog C Q → Bytes → Result A E → Type 0
+MayQueue old new text (Ok a) = Queues old new text
+MayQueue old new text (Err e) = Lacks old new text
+
+-- Room is made for a text of this length and the last line, or as much as there was is left.
+abbrev pub KeepsFor : {A E : Type 0} → ℕ → ℕ → ℕ → Result A E → Type 0
+KeepsFor count old new (Ok a) = (count + LAST_LINE_BYTES ≤ new) × (old ≤ new)
+KeepsFor count old new (Err e) = old ≤ new
+
+-- A line is queued, and the cause kept.
+abbrev pub EndsWith : {C Q : Type 0} → Dialog C Q → Dialog C Q → Bytes → EndCause → Type 0
+EndsWith old new line cause = new ≡ record old { pending = old.pending ++ line; room = new.room; cause = Some cause }
+
+-- The last cursor is gone, and what was kept for it is given back.
+abbrev pub PopsCursor : {C Q : Type 0} → Dialog C Q → Dialog C Q → Option C → Type 0
+PopsCursor old new None = (old.cursors ≡ []) × (new ≡ old)
+PopsCursor {C = C} old new (Some c) = (name : Bytes) × (old.cursors ≡ new.cursors ++ record { name = name; cursor = c } ∷ []) × (new ≡ record old { cursors = new.cursors })
+
+-- The last watch is gone, and is given back.
+abbrev pub PopsWatch : {C Q : Type 0} → Dialog C Q → Dialog C Q → Option Q → Type 0
+PopsWatch old new None = (old.watches ≡ []) × (new ≡ old)
+PopsWatch old new (Some q) = (old.watches ≡ new.watches ++ q ∷ []) × (new ≡ record old { watches = new.watches })

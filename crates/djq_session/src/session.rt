@@ -1,0 +1,69 @@
+ghost use Rattle.std.specs.Prelude.{IfOk};
+ghost use Rattle.djq_session.specs.Dialog.{IsFresh};
+
+use crate::named::NamedCursor;
+use bytes::BytesMut;
+use djq_lines::EndCause;
+use djq_lines::limits::LAST_LINE_BYTES;
+use djq_model::NoMem;
+use std::alloc::Global;
+use std::marker::Model;
+
+mod cursors;
+mod end;
+mod input;
+mod output;
+mod replies;
+mod watches;
+
+// A buffer above this size that is empty is given back.
+const IDLE_BYTES: usize = 16_384;
+
+/// What is kept of a session. `C` is kept for each of its cursors, and `Q` names a query that it watches.
+/// Contracts see a record, `Dialog`.
+#[derive(Drop)]
+pub struct Session<C, Q> {
+    input: BytesMut,
+    output: BytesMut,
+    cause: Option<EndCause>,
+    cursors: Vec<NamedCursor<C>>,
+    watches: Vec<Q>,
+    alloc: Global,
+}
+
+impl<C, Q> Model for Session<C, Q> {
+    ghost use Rattle.djq_session.specs.Dialog.{Dialog, IsKept};
+
+    ghost Value = { Dialog C Q };
+
+    ghost view = { λ s. record {
+      held = s.input.items;
+      pending = s.output.items;
+      room = s.output.spare;
+      cause = s.cause;
+      cursors = s.cursors.items;
+      watches = s.watches.items;
+    } };
+
+    ghost invariant = { λ s. IsKept s.cause s.output.spare s.cursors.items };
+}
+
+impl<C: Copy, Q: Copy + Eq> Session<C, Q> {
+    /// A session as it opens. It takes the room that is kept for its last line.
+    ///
+    /// # Errors
+    ///
+    /// `NoMem` out of memory.
+    pub fn new(alloc: Global) -> Result<Self, NoMem>
+        ensures { IfOk result IsFresh }
+    {
+        Ok(Session {
+            input: BytesMut::new(alloc),
+            output: BytesMut::with_capacity(alloc, LAST_LINE_BYTES)?,
+            cause: None,
+            cursors: Vec::new(alloc),
+            watches: Vec::new(alloc),
+            alloc,
+        })
+    }
+}

@@ -1,0 +1,52 @@
+ghost use Rattle.std.specs.Prelude.{◌≡◌, ◌+◌, ◌≤◌, ◌++◌, None, Some};
+ghost use Rattle.djq_lines.specs.Reply.{bye, end_line, input_cut};
+ghost use Rattle.djq_lines.specs.declared.limits.TheConstants.{LAST_LINE_BYTES, REPLY_BYTES};
+ghost use Rattle.djq_lines.specs.declared.answer.EndCause.TheVariants.{Input};
+ghost use Rattle.djq_session.specs.Dialog.{EndsWith};
+
+use super::Session;
+use djq_lines::{EndCause, EndLine};
+use djq_reply::{say_bye, say_cut, say_end};
+
+impl<C: Copy, Q: Copy + Eq> Session<C, Q> {
+    /// Why it takes no further commands. `None` exactly where it goes on.
+    pub fn cause(&self) -> Option<EndCause>
+        ensures { result ≡ self.now.cause }
+    {
+        self.cause
+    }
+
+    /// It takes no further commands, for a cause.
+    pub fn end(&mut self, cause: EndCause)
+        ensures { self.new ≡ record self.old { cause = Some cause } }
+    {
+        self.cause = Some(cause);
+    }
+
+    /// It takes no further commands, for a cause, and is told so by a last line.
+    pub fn end_by(&mut self, line: EndLine, cause: EndCause)
+        requires { self.old.cause ≡ None }
+        ensures { EndsWith self.old self.new (end_line line) cause }
+    {
+        say_end(&mut self.output, line);
+        self.cause = Some(cause);
+    }
+
+    /// Its input has ended within a line, and it is told so.
+    pub fn end_cut(&mut self)
+        requires { self.old.cause ≡ None }
+        ensures { EndsWith self.old self.new input_cut Input }
+    {
+        say_cut(&mut self.output);
+        self.cause = Some(EndCause::Input);
+    }
+
+    /// It takes its leave, which is answered.
+    pub fn end_bye(&mut self, cause: EndCause)
+        requires { REPLY_BYTES + LAST_LINE_BYTES ≤ self.old.room }
+        ensures { EndsWith self.old self.new bye cause }
+    {
+        say_bye(&mut self.output);
+        self.cause = Some(cause);
+    }
+}

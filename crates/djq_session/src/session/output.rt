@@ -1,0 +1,65 @@
+ghost use Rattle.std.specs.Prelude.{◌≡◌, ◌+◌, ◌≤◌, drop, length};
+ghost use Rattle.djq_lines.specs.declared.limits.TheConstants.{LAST_LINE_BYTES};
+ghost use Rattle.djq_session.specs.Dialog.{KeepsFor, MayQueue};
+
+use super::{IDLE_BYTES, Session};
+use bytes::BytesMut;
+use djq_lines::limits::LAST_LINE_BYTES;
+use djq_model::NoMem;
+
+impl<C: Copy, Q: Copy + Eq> Session<C, Q> {
+    /// Makes room for so many bytes of output, and for the last line behind them.
+    ///
+    /// # Errors
+    ///
+    /// `NoMem` out of memory; all is as before.
+    pub fn keep(&mut self, count: usize) -> Result<(), NoMem>
+        requires { count ≤ 65536 }
+        ensures others { self.new ≡ record self.old { room = self.new.room } }
+        ensures room { KeepsFor count self.old.room self.new.room result }
+    {
+        self.output.reserve(count + LAST_LINE_BYTES)?;
+        Ok(())
+    }
+
+    /// Queues bytes, and leaves room for the last line behind them.
+    ///
+    /// # Errors
+    ///
+    /// `NoMem` only where the room was too small and can't grow; all is as before.
+    pub fn queue(&mut self, bytes: &[u8]) -> Result<(), NoMem>
+        ensures { MayQueue self.old self.new bytes.now result }
+    {
+        self.output.reserve(bytes.len() + LAST_LINE_BYTES)?;
+        self.output.extend_reserved(bytes);
+        Ok(())
+    }
+
+    /// The bytes that are queued and aren't taken.
+    pub fn pending(&self) -> &[u8]
+        ensures { result.now ≡ self.now.pending }
+    {
+        self.output.as_slice()
+    }
+
+    /// The first bytes that are pending are taken.
+    pub fn took(&mut self, count: usize)
+        requires { count ≤ length self.old.pending }
+        ensures { self.new ≡ record self.old { pending = drop count self.old.pending; room = self.new.room } }
+    {
+        self.output.advance(count);
+        if self.output.is_empty() && self.output.capacity() > IDLE_BYTES {
+            self.shrink();
+        }
+    }
+
+    // Gives a large buffer back, where there is memory for a small one.
+    fn shrink(&mut self)
+        requires { length self.old.pending ≡ 0 }
+        ensures { self.new ≡ record self.old { room = self.new.room } }
+    {
+        if let Ok(small) = BytesMut::with_capacity(self.alloc, LAST_LINE_BYTES) {
+            self.output = small;
+        }
+    }
+}

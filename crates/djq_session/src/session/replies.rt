@@ -1,0 +1,95 @@
+// What a session is answered. Short replies stand in the room that `keep` made before the command.
+ghost use Rattle.std.specs.Prelude.{◌+◌, ◌≤◌, ◌<◌, All, codes, length};
+ghost use Rattle.djq_model.specs.Data.{cells_at};
+ghost use Rattle.djq_lines.specs.Reply.{add_reply, answer_line, delete_reply, last_line, ok_reply, query_reply, refusal_line, stale_line};
+ghost use Rattle.djq_lines.specs.declared.limits.TheConstants.{LAST_LINE_BYTES, REPLY_BYTES};
+ghost use Rattle.djq_session.specs.Dialog.{MayQueue, Replies};
+
+use super::Session;
+use djq_lines::{AddOutcome, DeleteOutcome, Refusal};
+use djq_model::{Name, NoMem, Value};
+use djq_reply::{
+    put_answer_at, put_last, say_added, say_deleted, say_done, say_opened, say_refused,
+    say_registered, say_stale,
+};
+
+impl<C: Copy, Q: Copy + Eq> Session<C, Q> {
+    /// A refused command is answered.
+    pub fn refuse(&mut self, refusal: Refusal)
+        requires { REPLY_BYTES + LAST_LINE_BYTES ≤ self.old.room }
+        ensures { Replies self.old self.new (refusal_line refusal) }
+    {
+        say_refused(&mut self.output, refusal);
+    }
+
+    /// `rel` and `close` are answered.
+    pub fn answer_done(&mut self, outcome: Result<(), Refusal>)
+        requires { REPLY_BYTES + LAST_LINE_BYTES ≤ self.old.room }
+        ensures { Replies self.old self.new (ok_reply (codes "ok") outcome) }
+    {
+        say_done(&mut self.output, outcome);
+    }
+
+    /// `open` is answered.
+    pub fn answer_opened(&mut self, outcome: Result<(), Refusal>)
+        requires { REPLY_BYTES + LAST_LINE_BYTES ≤ self.old.room }
+        ensures { Replies self.old self.new (ok_reply (codes "ok open") outcome) }
+    {
+        say_opened(&mut self.output, outcome);
+    }
+
+    /// `add` is answered, at a number of changes.
+    pub fn answer_added(&mut self, outcome: Result<AddOutcome, Refusal>, seq: u64)
+        requires { REPLY_BYTES + LAST_LINE_BYTES ≤ self.old.room }
+        ensures { Replies self.old self.new (add_reply outcome seq) }
+    {
+        say_added(&mut self.output, outcome, seq);
+    }
+
+    /// `del` is answered, at a number of changes.
+    pub fn answer_deleted(&mut self, outcome: Result<DeleteOutcome, Refusal>, seq: u64)
+        requires { REPLY_BYTES + LAST_LINE_BYTES ≤ self.old.room }
+        ensures { Replies self.old self.new (delete_reply outcome seq) }
+    {
+        say_deleted(&mut self.output, outcome, seq);
+    }
+
+    /// `query` is answered, by the most lookups and links for one of its answers.
+    pub fn answer_registered(&mut self, outcome: Result<u64, Refusal>)
+        requires { REPLY_BYTES + LAST_LINE_BYTES ≤ self.old.room }
+        ensures { Replies self.old self.new (query_reply outcome) }
+    {
+        say_registered(&mut self.output, outcome);
+    }
+
+    /// `next` is answered on a stale cursor, by the relation that changed and the number of the change.
+    pub fn answer_stale(&mut self, cursor: &Name, relation: &Name, seq: u64)
+        requires { REPLY_BYTES + LAST_LINE_BYTES ≤ self.old.room }
+        ensures { Replies self.old self.new (stale_line cursor.now relation.now seq) }
+    {
+        say_stale(&mut self.output, cursor, relation, seq);
+    }
+
+    /// An answer that `next` lists is queued: that of a row at these columns.
+    ///
+    /// # Errors
+    ///
+    /// `NoMem` only where the room was too small and can't grow; all is as before.
+    pub fn queue_answer(&mut self, row: &[Value], columns: &[usize]) -> Result<(), NoMem>
+        requires { All (λ i. i < length row.now) columns.now }
+        ensures { MayQueue self.old self.new (answer_line (cells_at columns.now row.now)) result }
+    {
+        put_answer_at(row, columns, &mut self.output)
+    }
+
+    /// The last line of a listing is queued.
+    ///
+    /// # Errors
+    ///
+    /// `NoMem` only where the room was too small and can't grow; all is as before.
+    pub fn queue_last(&mut self, is_end: bool) -> Result<(), NoMem>
+        ensures { MayQueue self.old self.new (last_line is_end) result }
+    {
+        put_last(is_end, &mut self.output)
+    }
+}
