@@ -1,8 +1,8 @@
 -- A change of one relation: what is kept, and which cursors become stale.
-use Rattle.std.proofs.Common.{ℕ, zero, suc, List, [], ◌∷◌, ◌++◌, ◌+◌, ◌≡◌, ◌<◌, ◌≤◌, ◌⊎◌, inl, inr, Bool, true, false, refl, sym, ap, ap₂, ◌∙◌, subst, length, get_or, set, take, arith}
-use Rattle.std.specs.Prelude.{◌==◌, ◌||◌, Option, None, Some, option_map, find, map, cond, All}
+use Rattle.std.proofs.Common.{ℕ, zero, List, [], ◌∷◌, ◌≡◌, ◌<◌, ◌≤◌, ◌⊎◌, inl, inr, Bool, true, false, refl, sym, ap, ap₂, ◌∙◌, subst, length, set, take, arith}
+use Rattle.std.specs.Prelude.{◌==◌, ◌||◌, Option, None, Some, option_map, map, cond}
 use Rattle.std.specs.List.{list_any}
-use Rattle.std.proofs.lemmas.Bool.{eqb-true, eq-eqb, cases_order, cases_lt}
+use Rattle.std.proofs.lemmas.Bool.{eq-eqb, cases_order, cases_lt}
 use Rattle.std.proofs.lemmas.List.{get_or-set_same, get_or-set_other, length-set, map-set, same_lists, get_or-map, length-map, get_or_default, get_or_past, set-get_or}
 use Rattle.djq_model.specs.declared.relation.Relation.{Relation}
 use Rattle.djq_model.specs.declared.query.Query.{Query}
@@ -99,8 +99,8 @@ first_kept tables at r m i l e f =
     let size = tables_length tables at r in
     first_as p tables (with_relation tables at r) i no_table size
     (λ k d b. ap p (get_or_default (with_relation tables at r) k d no_table (omega (arith, size)))
-        ∙ ap (λ n. bytes_eq n m) (table_field (λ (t : Table). t.relation.name) tables at r l e k)
-        ∙ ap p (get_or_default tables k no_table d b)) f
+    ∙ ap (λ n. bytes_eq n m) (table_field (λ (t : Table). t.relation.name) tables at r l e k)
+    ∙ ap p (get_or_default tables k no_table d b)) f
 
 -- queries
 
@@ -223,7 +223,7 @@ module _ (tables : List Table) (gs : List Registered) (at : ℕ) (r : Relation) 
       subst (λ (m : Bytes). IsFirst (λ g. bytes_eq g.query.name m) gs' i) (sym name_is)
       (first_as p gs gs' i no_query c.outdates.length
       (λ k d b. ap p (get_or_default gs' k d no_query (omega (arith, c.outdates.length))) ∙ ap (λ (q : Query). bytes_eq q.name (query_at gs i).query.name) (same_query k)
-          ∙ ap p (get_or_default gs k no_query d b)) (c.sound.named i l))
+      ∙ ap p (get_or_default gs k no_query d b)) (c.sound.named i l))
 
   pub changed_sound : IsSound (with_relation tables at r) gs'
   changed_sound =
@@ -256,7 +256,7 @@ module _ (tables : List Table) (gs : List Registered) (at : ℕ) (r : Relation) 
       let h = c.sound.ready i l in
       ap (λ o. outdater_by o) (query_kept tables gs i l c.sound)
       ∙ ap (λ x. cond x (Some name) None) (reads_is (query_at gs i).query name h.served ∙ same_place tables name (relation_in (query_at gs i).query.atoms) at (query_at gs i).relation c.first h.relation
-          ∙ sym (is_over i l) ∙ e)
+      ∙ sym (is_over i l) ∙ e)
     where
       outdater_by : Option Query → Option Bytes
       outdater_by None = None
@@ -314,7 +314,7 @@ relations_changed tables name at rows f =
     let relation_of_table = λ (t : Table). t.relation in
     map-set relation_of_table tables at (record t { relation = record r { rows = rows } })
     ∙ sym (first_changed (λ r. bytes_eq r.name name) (λ (r : Relation). record r { rows = rows }) (relations_in tables) at r (first_mapped (λ r. bytes_eq r.name name) relation_of_table tables at r f)
-        ∙ ap (λ (x : Relation). set (relations_in tables) at (record x { rows = rows })) (get_or-map relation_of_table tables at no_table r f.below))
+    ∙ ap (λ (x : Relation). set (relations_in tables) at (record x { rows = rows })) (get_or-map relation_of_table tables at no_table r f.below))
 
 pub relations_same : (tables : List Table) (at : ℕ) → at < length tables → with_relation tables at (table_at tables at).relation ≡ tables
 relations_same tables at l = set-get_or tables at no_table

@@ -1,6 +1,6 @@
 -- The column at which a variable stands among the terms of an atom.
 use Rattle.std.proofs.Common.{ℕ, zero, suc, List, [], ◌∷◌, ◌++◌, ◌≡◌, ◌<◌, ◌≤◌, ◌+◌, Bool, true, false, refl, sym, ap, ◌∙◌, length, get_or, take, arith}
-use Rattle.std.specs.Prelude.{Option, None, Some, position, cond, nat_lt, not, unwrap_or, map}
+use Rattle.std.specs.Prelude.{None, Some, position, cond, nat_lt, not, unwrap_or, map}
 use Rattle.std.specs.List.{list_all, position_or_len, prefix_len}
 use Rattle.std.proofs.lemmas.Bool.{ltb-false}
 use Rattle.std.proofs.lemmas.List.{take_more, map-append}
@@ -38,7 +38,7 @@ pub place_found : (ts : List Term) (name : Bytes) → list_all is_variable ts �
 place_found ts name e =
     let n = position_or_len (λ t. is_term_named t name) ts in
     sym (place_is ts name e ∙ or_len (nat_lt n (length ts)) n (length ts) (λ f. let above : length ts ≤ n = ltb-false n (length ts) f in
-        let below : n ≤ length ts = within (λ t. not (is_term_named t name)) ts in omega arith))
+    let below : n ≤ length ts = within (λ t. not (is_term_named t name)) ts in omega arith))
 
 -- one head variable more
 pub columns_more : (f : Bytes → ℕ) (head : List Bytes) (k : ℕ) (name : Bytes) → k < length head → name ≡ get_or head k name

@@ -1,6 +1,6 @@
 -- What the place of the first that passes tells of look-ups and changes.
-use Rattle.std.proofs.Common.{ℕ, zero, suc, List, [], ◌∷◌, ◌++◌, ◌≡◌, ◌<◌, ◌≤◌, ◌⊎◌, inl, inr, Bool, true, false, refl, sym, ap, ◌∙◌, subst, length, get_or, set, take, drop, arith, length-append}
-use Rattle.std.specs.Prelude.{Option, None, Some, is_some, find, position, cond, map, option_map, nat_lt}
+use Rattle.std.proofs.Common.{ℕ, zero, suc, List, [], ◌∷◌, ◌++◌, ◌≡◌, ◌<◌, ◌⊎◌, inl, inr, Bool, true, false, refl, ap, ◌∙◌, length, get_or, set, arith, length-append}
+use Rattle.std.specs.Prelude.{None, Some, find, position, cond, map, option_map, nat_lt}
 use Rattle.std.specs.List.{position_or_len}
 use Rattle.std.proofs.lemmas.Bool.{ltb-false, cases_order}
 use Rattle.std.proofs.lemmas.Option.{slice_get_past}

@@ -1,6 +1,6 @@
 -- A cursor is found among all by the place of its query and its slot.
-use Rattle.std.proofs.Common.{ℕ, zero, suc, List, [], ◌∷◌, ◌++◌, ◌+◌, ◌≡◌, ◌<◌, Bool, true, false, refl, sym, ap, ap₂, ◌∙◌, arith}
-use Rattle.std.specs.Prelude.{◌==◌, ◌&&◌, Option, None, Some, option_map, find, cond, map}
+use Rattle.std.proofs.Common.{ℕ, zero, suc, List, [], ◌∷◌, ◌+◌, ◌≡◌, ◌<◌, Bool, true, false, refl, sym, ap, ap₂, ◌∙◌, arith}
+use Rattle.std.specs.Prelude.{◌==◌, ◌&&◌, Option, None, Some, option_map, cond}
 use Rattle.std.specs.Option.{option_or}
 use Rattle.std.proofs.lemmas.Bool.{eq-eqb}
 use Rattle.std.proofs.lemmas.List.Folds.{find-append}
@@ -9,8 +9,8 @@ use Rattle.djq_engine.specs.declared.cursor.CursorId.{CursorId}
 use Rattle.djq_engine.specs.declared.cursors.Progress.{Progress}
 use Rattle.djq_engine.specs.declared.table.Table.{Table}
 use Rattle.djq_engine.specs.declared.registered.Registered.{Registered}
-use Rattle.djq_engine.specs.Cursors.{slot_at, position_in}
-use Rattle.djq_engine.specs.Kept.{Held, same_id, held_at}
+use Rattle.djq_engine.specs.Cursors.{slot_at}
+use Rattle.djq_engine.specs.Kept.{same_id, held_at}
 use Rattle.djq_engine.specs.Tables.{query_at, answers_at, held_as, held_in, held_from, held_by}
 use Rattle.djq_engine.proofs.Outdating.{apart}
 
@@ -30,7 +30,7 @@ slots_other answers name at k [] id d = refl
 slots_other answers name at k (None ∷ slots) id d = slots_other answers name at (suc k) slots id d
 slots_other answers name at k (Some c ∷ slots) id d =
     ap (λ b. cond (b && (k == id.cursor)) (Some (held_as answers name (record { query = record { at = at }; cursor = k }) c))
-        (held_at (held_in answers name at (suc k) slots) id)) (apart at id.query.at d)
+    (held_at (held_in answers name at (suc k) slots) id)) (apart at id.query.at d)
     ∙ slots_other answers name at (suc k) slots id d
 
 slots_passed : (answers : List Tuple) (name : Bytes) (at k : ℕ) (slots : List (Option Progress)) (id : CursorId) → id.cursor < k
@@ -39,7 +39,7 @@ slots_passed answers name at k [] id l = refl
 slots_passed answers name at k (None ∷ slots) id l = slots_passed answers name at (suc k) slots id (omega arith)
 slots_passed answers name at k (Some c ∷ slots) id l =
     ap (λ b. cond b (Some (held_as answers name (record { query = record { at = at }; cursor = k }) c))
-        (held_at (held_in answers name at (suc k) slots) id)) (and_false (at == id.query.at) (k == id.cursor) (apart k id.cursor (λ e. omega arith)))
+    (held_at (held_in answers name at (suc k) slots) id)) (and_false (at == id.query.at) (k == id.cursor) (apart k id.cursor (λ e. omega arith)))
     ∙ slots_passed answers name at (suc k) slots id (omega arith)
 
 slots_here : (answers : List Tuple) (name : Bytes) (at k j : ℕ) (slots : List (Option Progress)) (id : CursorId) → at ≡ id.query.at → k + j ≡ id.cursor
@@ -51,11 +51,11 @@ slots_here answers name at k (suc j) (None ∷ slots) id e f = slots_here answer
 slots_here answers name at k zero (Some c ∷ slots) id e f =
     let k_is : k ≡ id.cursor = omega arith in
     ap (λ b. cond b (Some (held_as answers name (record { query = record { at = at }; cursor = k }) c))
-        (held_at (held_in answers name at (suc k) slots) id)) (both (at == id.query.at) (k == id.cursor) (eq-eqb at id.query.at e) (eq-eqb k id.cursor k_is))
+    (held_at (held_in answers name at (suc k) slots) id)) (both (at == id.query.at) (k == id.cursor) (eq-eqb at id.query.at e) (eq-eqb k id.cursor k_is))
     ∙ ap₂ (λ (a : ℕ) (s : ℕ). Some (held_as answers name (record { query = record { at = a }; cursor = s }) c)) e k_is
 slots_here answers name at k (suc j) (Some c ∷ slots) id e f =
     ap (λ b. cond b (Some (held_as answers name (record { query = record { at = at }; cursor = k }) c))
-        (held_at (held_in answers name at (suc k) slots) id)) (and_false (at == id.query.at) (k == id.cursor) (apart k id.cursor (λ s. omega arith)))
+    (held_at (held_in answers name at (suc k) slots) id)) (and_false (at == id.query.at) (k == id.cursor) (apart k id.cursor (λ s. omega arith)))
     ∙ slots_here answers name at (suc k) j slots id e (omega arith)
 
 -- all queries

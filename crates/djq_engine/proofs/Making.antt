@@ -1,5 +1,5 @@
 -- A relation more: what is kept, and what the machine says.
-use Rattle.std.proofs.Common.{ℕ, zero, suc, List, [], ◌∷◌, ◌++◌, ◌+◌, ◌≡◌, ◌<◌, ◌≤◌, ◌⊎◌, inl, inr, Bool, true, false, refl, sym, ap, ap₂, ◌∙◌, subst, length, get_or, arith, length-append}
+use Rattle.std.proofs.Common.{ℕ, zero, List, [], ◌∷◌, ◌++◌, ◌+◌, ◌≡◌, ◌<◌, ◌≤◌, ◌⊎◌, inl, inr, Bool, true, false, refl, sym, ap, ap₂, ◌∙◌, subst, length, arith, length-append}
 use Rattle.std.specs.Prelude.{◌==◌, Option, None, Some, is_some, cond, Ok, Err, option_map, map, position, nat_le, nat_lt}
 use Rattle.std.proofs.lemmas.Bool.{cases_lt, cases_order, le-leb, lt-leb, lt-ltb, le-ltb}
 use Rattle.std.proofs.lemmas.List.{get_or_append_left, map-append, get_or_past, length-map}
@@ -9,18 +9,16 @@ use Rattle.djq_model.specs.declared.relation.Relation.{Relation}
 use Rattle.djq_model.specs.declared.relation.ColumnType.{ColumnType}
 use Rattle.djq_model.specs.Data.{Bytes, Tuple, bytes_eq, relation_of}
 use Rattle.djq_lines.specs.declared.limits.TheConstants.{COLUMNS, RELATIONS}
-use Rattle.djq_lines.specs.declared.answer.Refusal.{Refusal}
 use Rattle.djq_lines.specs.declared.answer.Refusal.TheVariants.{Taken, Limit, NoMemory}
 use Rattle.djq_machine.specs.State.{Store}
 use Rattle.djq_machine.specs.Store.{rel_refusal, MakesRelation}
-use Rattle.djq_engine.specs.declared.cursor.CursorId.{CursorId}
 use Rattle.djq_engine.specs.declared.table.Table.{Table}
 use Rattle.djq_engine.specs.declared.registered.Registered.{Registered}
 use Rattle.djq_engine.specs.Served.{relation_in}
 use Rattle.djq_engine.specs.Answers.{cells_at}
 use Rattle.djq_engine.specs.Cursors.{slot_at}
-use Rattle.djq_engine.specs.Kept.{Kept, held_at, SameCursors}
-use Rattle.djq_engine.specs.Tables.{no_table, table_at, query_at, relations_in, is_reader, answers_at, held_as, held_by, held_from, store_of, kept_of}
+use Rattle.djq_engine.specs.Kept.{Kept, SameCursors}
+use Rattle.djq_engine.specs.Tables.{no_table, table_at, query_at, relations_in, is_reader, held_as, held_by, held_from, store_of, kept_of}
 use Rattle.djq_engine.specs.Sound.{RowsSound, IsReady, IsSound}
 use Rattle.djq_engine.proofs.Firsts.{first_of_position, first_more}
 use Rattle.djq_engine.proofs.Conditions.{answers_refused, answers_done, answers_lacking}

@@ -1,20 +1,20 @@
 -- One cursor is opened, moved or closed: what is kept, and where all cursors stand.
-use Rattle.std.proofs.Common.{ℕ, zero, suc, List, [], ◌∷◌, ◌++◌, ◌+◌, ◌≡◌, ◌<◌, ◌≤◌, ◌⊎◌, inl, inr, Bool, true, false, refl, sym, ap, ap₂, ◌∙◌, subst, length, get_or, set, take, arith}
-use Rattle.std.specs.Prelude.{◌==◌, ◌&&◌, Option, None, Some, IsSome, option_map, map}
+use Rattle.std.proofs.Common.{ℕ, zero, List, ◌≡◌, ◌<◌, ◌≤◌, ◌⊎◌, inl, inr, Bool, true, false, refl, sym, ap, ap₂, ◌∙◌, subst, length, get_or, set, arith}
+use Rattle.std.specs.Prelude.{◌==◌, ◌&&◌, Option, None, Some, IsSome, option_map}
 use Rattle.std.proofs.lemmas.Bool.{eq-eqb, cases_lt, cases_order}
 use Rattle.std.proofs.lemmas.List.{get_or-set_same, get_or-set_other, length-set, set-get_or, get_or_default, get_or_past}
 use Rattle.std.proofs.Math.Seq.{map-set_same}
 use Rattle.djq_model.specs.declared.query.Query.{Query}
-use Rattle.djq_model.specs.Data.{Bytes, Tuple, bytes_eq}
+use Rattle.djq_model.specs.Data.{Bytes, bytes_eq}
 use Rattle.djq_machine.specs.State.{Store}
 use Rattle.djq_engine.specs.declared.cursor.CursorId.{CursorId}
 use Rattle.djq_engine.specs.declared.cursors.Progress.{Progress}
-use Rattle.djq_engine.specs.declared.cursors.Progress.TheVariants.{Open, Stale}
+use Rattle.djq_engine.specs.declared.cursors.Progress.TheVariants.{Open}
 use Rattle.djq_engine.specs.declared.table.Table.{Table}
 use Rattle.djq_engine.specs.declared.registered.Registered.{Registered}
 use Rattle.djq_engine.specs.Finding.{IsFirst}
-use Rattle.djq_engine.specs.Cursors.{slot_at, SetsSlot, position_in}
-use Rattle.djq_engine.specs.Kept.{Held, Kept, same_id, held_at, IsHeld, OthersStay, ClosesCursor}
+use Rattle.djq_engine.specs.Cursors.{slot_at, SetsSlot}
+use Rattle.djq_engine.specs.Kept.{Held, Kept, held_at, IsHeld, OthersStay, ClosesCursor}
 use Rattle.djq_engine.specs.Tables.{no_query, no_table, table_at, query_at, queries_in, answers_at, held_as, held_by, held_from, store_of, kept_of}
 use Rattle.djq_engine.specs.Sound.{IsReady, IsSound}
 use Rattle.djq_engine.proofs.Firsts.{first_as}

@@ -1,9 +1,8 @@
 -- What opening a cursor answers.
 use Rattle.std.proofs.Common.{ℕ, List, [], ◌∷◌, ◌≡◌, refl, sym, ap, ◌∙◌, subst}
-use Rattle.std.specs.Prelude.{Option, None, Some, is_none, Ok, Err, position, option_map, map}
+use Rattle.std.specs.Prelude.{Option, None, Some, is_none, Ok, Err, position, option_map}
 use Rattle.djq_model.specs.declared.query.Query.{Query}
 use Rattle.djq_model.specs.Data.{Bytes, bytes_eq, query_of}
-use Rattle.djq_lines.specs.declared.answer.Refusal.{Refusal}
 use Rattle.djq_lines.specs.declared.answer.Refusal.TheVariants.{NoQuery, NoMemory}
 use Rattle.djq_machine.specs.Conditions.{first_of}
 use Rattle.djq_engine.specs.declared.cursor.CursorId.{CursorId}

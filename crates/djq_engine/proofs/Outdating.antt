@@ -1,7 +1,6 @@
 -- The cursors of the readers of a relation become stale, one reader after another.
 use Rattle.std.proofs.Common.{ℕ, zero, suc, List, [], ◌∷◌, ◌++◌, ◌+◌, ◌≡◌, ◌<◌, ◌⊎◌, inl, inr, Bool, true, false, refl, sym, ap, ap₂, ◌∙◌, subst, length, get_or, set, take, arith, length-set}
-use Rattle.std.specs.Prelude.{◌==◌, ◌||◌, Option, None, Some, option_map, map, cond}
-use Rattle.std.specs.List.{list_any}
+use Rattle.std.specs.Prelude.{◌==◌, ◌||◌, Option, None, Some, option_map, cond}
 use Rattle.std.proofs.lemmas.Bool.{eqb-true, eq-eqb, cases_order}
 use Rattle.std.proofs.lemmas.List.{get_or-set_same, get_or-set_other, take_more}
 use Rattle.djq_model.specs.Data.{Bytes}
@@ -82,7 +81,7 @@ outdates_one readers relation n old mid new i h l e = record {
     by_apart j d d' =
         ap (λ gs. query_at gs j) e ∙ get_or-set_other mid i j (outdated_query relation n (query_at mid i)) no_query d' ∙ h.each j
         ∙ ap (λ b. cond b (outdated_query relation n (query_at old j)) (query_at old j))
-            (sym (reader_more readers i j ∙ ap (λ b. is_reader readers j || b) (apart i j d) ∙ or_false (is_reader readers j)))
+        (sym (reader_more readers i j ∙ ap (λ b. is_reader readers j || b) (apart i j d) ∙ or_false (is_reader readers j)))
 
     by_place : (j : ℕ) → (i ≡ j) ⊎ ((i < j) ⊎ (j < i)) → query_at new j ≡ cond (is_reader (readers ++ i ∷ []) j) (outdated_query relation n (query_at old j)) (query_at old j)
     by_place j (inl same) =
@@ -90,7 +89,7 @@ outdates_one readers relation n old mid new i h l e = record {
         (ap (λ gs. query_at gs i) e ∙ get_or-set_same mid i (outdated_query relation n (query_at mid i)) no_query l
         ∙ outdated_here relation n (query_at old i) (query_at mid i) (is_reader readers i) (h.each i)
         ∙ ap (λ b. cond b (outdated_query relation n (query_at old i)) (query_at old i))
-            (sym (reader_more readers i i ∙ ap (λ b. is_reader readers i || b) (eq-eqb i i refl) ∙ or_true (is_reader readers i))))
+        (sym (reader_more readers i i ∙ ap (λ b. is_reader readers i || b) (eq-eqb i i refl) ∙ or_true (is_reader readers i))))
     by_place j (inr (inl m)) = by_apart j (λ s. omega arith) (λ s. omega arith)
     by_place j (inr (inr m)) = by_apart j (λ s. omega arith) (λ s. omega arith)
 

@@ -1,13 +1,12 @@
 -- What opening, reading and closing a cursor gives.
-use Rattle.std.proofs.Common.{ℕ, zero, suc, List, [], ◌∷◌, ◌++◌, ◌+◌, ◌≡◌, ◌<◌, ◌≤◌, Bool, true, false, refl, sym, ap, ap₂, ◌∙◌, subst, length, get_or, set, take, arith}
-use Rattle.std.specs.Prelude.{Option, None, Some, IsSome, IsSomeAnd, Ok, Err, option_map, map, All, not, nat_lt}
+use Rattle.std.proofs.Common.{ℕ, zero, List, [], ◌∷◌, ◌++◌, ◌+◌, ◌≡◌, ◌<◌, ◌≤◌, Bool, true, false, refl, sym, ap, ◌∙◌, subst, length, get_or, take, arith}
+use Rattle.std.specs.Prelude.{Option, None, Some, IsSome, IsSomeAnd, option_map, not, nat_lt}
 use Rattle.std.proofs.lemmas.Bool.{ltb-true, ltb-false}
 use Rattle.std.proofs.lemmas.List.{length-map, get_or-map, take_more}
 use Rattle.djq_model.specs.declared.query.Query.{Query}
-use Rattle.djq_model.specs.Data.{Bytes, Tuple, bytes_eq, query_of}
+use Rattle.djq_model.specs.Data.{Bytes, bytes_eq, query_of}
 use Rattle.djq_model.specs.Equality.{bytes_eq-decides}
-use Rattle.djq_model.specs.Answer.{IsAnswer}
-use Rattle.djq_machine.specs.State.{Position, open_at, stale}
+use Rattle.djq_machine.specs.State.{open_at}
 use Rattle.djq_machine.specs.Store.{most_steps}
 use Rattle.djq_engine.specs.declared.cursor.CursorId.{CursorId}
 use Rattle.djq_engine.specs.declared.cursor.Answer.{Answer}
@@ -19,12 +18,12 @@ use Rattle.djq_engine.specs.declared.registered.Registered.{Registered}
 use Rattle.djq_engine.specs.Finding.{IsFirst}
 use Rattle.djq_engine.specs.Answers.{cells_at, answers_of}
 use Rattle.djq_engine.specs.Cursors.{slot_at, SetsSlot, position_in}
-use Rattle.djq_engine.specs.Kept.{Held, Kept, held_at, MovesCursor, OpensCursor, NextGives, NextGivesAt, MoreGives, MoreGivesAt, OfQuery, IsHeld, IsThere, IsFresh, IsOpenAt, AnswerIs, LendsAnswer}
+use Rattle.djq_engine.specs.Kept.{Held, Kept, held_at, MovesCursor, OpensCursor, NextGives, NextGivesAt, MoreGives, MoreGivesAt, IsHeld, IsThere, IsFresh, IsOpenAt, AnswerIs, LendsAnswer}
 use Rattle.djq_engine.specs.Tables.{no_query, table_at, query_at, relations_in, queries_in, answers_at, held_as, held_from, store_of, kept_of}
 use Rattle.djq_engine.specs.Sound.{RowsSound, IsReady, IsSound}
 use Rattle.djq_engine.proofs.Held.{held_is}
 use Rattle.djq_engine.proofs.Changing.{query_kept}
-use Rattle.djq_engine.proofs.Moving.{HeldCursor, with_cursors, moved_sound, moved_store, moved_there, moved_others}
+use Rattle.djq_engine.proofs.Moving.{with_cursors, moved_sound, moved_store, moved_there, moved_others}
 use Rattle.djq_engine.proofs.Telling.{ListsAll, ready_lists, answers_are, one_left, all_given, columns_inside}
 
 module _ (tables : List Table) (gs : List Registered) (seq : ℕ) (id : CursorId) (below : id.query.at < length gs) (s : IsSound tables gs) where
@@ -116,13 +115,15 @@ given_gives tables gs items seq old id given ended cursors before now v s below 
       moves_sound tables gs seq id below s (Open given ended) slot (Open (given + 1) false) cursors items e moved inside,
       record {
         gives = subst (λ (k : Kept). OfBoth k k) v (of_both tables gs seq id below s (Open given ended) slot
-            (λ h q. NextGivesAt (kept_of tables gs seq) h q h.position (Given (record { at = given })) (kept_of tables items seq) × (now ≤ before + most_steps (length q.head)))
-            ((
+            (λ h q. NextGivesAt (kept_of tables gs seq) h q h.position (Given (record { at = given })) (kept_of tables items seq) × (now ≤ before + most_steps (length q.head))) (
+              (
                 t,
                 one_left (relations_in tables) g.query ts given (listed tables gs seq id below s) more,
                 (omega (arith, ap length same), ap (λ xs. get_or xs given []) same),
                 subst (λ xs. MovesCursor (kept_of tables gs seq) (held_as ts g.query.name id (Open given ended)) (open_at xs false) (kept_of tables items seq)) front moves,
-              ), omega arith));
+              ),
+              omega arith,
+            ));
       },
     )
   where
@@ -142,11 +143,13 @@ end_gives tables gs items seq old id given ended cursors before now v s below sl
       moves_sound tables gs seq id below s (Open given ended) slot (Open given true) cursors items e moved inside,
       record {
         gives = subst (λ (k : Kept). OfBoth k k) v (of_both tables gs seq id below s (Open given ended) slot
-            (λ h q. NextGivesAt (kept_of tables gs seq) h q h.position End (kept_of tables items seq) × (now ≤ before + most_steps (length q.head)))
-            ((
+            (λ h q. NextGivesAt (kept_of tables gs seq) h q h.position End (kept_of tables items seq) × (now ≤ before + most_steps (length q.head))) (
+              (
                 all_given (relations_in tables) g.query ts given (listed tables gs seq id below s) (omega (arith, answers_length tables gs seq id below s)),
                 moves_cursor tables gs seq id below s (Open given ended) slot (Open given true) cursors items e moved inside,
-              ), omega arith));
+              ),
+              omega arith,
+            ));
       },
     )
   where

@@ -1,22 +1,21 @@
 -- A query more: why it is refused, what is kept, and what the machine says.
-use Rattle.std.proofs.Common.{ℕ, zero, suc, List, [], ◌∷◌, ◌++◌, ◌+◌, ◌*◌, ◌≡◌, ◌<◌, ◌≤◌, ◌⊎◌, inl, inr, Bool, true, false, refl, sym, ap, ap₂, ◌∙◌, subst, length, get_or, set, arith, length-append}
+use Rattle.std.proofs.Common.{ℕ, zero, suc, List, [], ◌∷◌, ◌++◌, ◌+◌, ◌≡◌, ◌<◌, ◌≤◌, ◌⊎◌, inl, inr, Bool, true, false, refl, sym, ap, ap₂, ◌∙◌, subst, length, get_or, set, arith, length-append}
 use Rattle.std.specs.Prelude.{◌==◌, ◌||◌, not, Option, None, Some, is_some, is_none, cond, Ok, Err, option_map, map, position, find, nat_le}
 use Rattle.std.specs.List.{list_all, list_any}
-use Rattle.std.proofs.lemmas.Bool.{cases_lt, cases_order, le-leb, lt-leb, eqb-true, eq-eqb}
+use Rattle.std.proofs.lemmas.Bool.{cases_order, le-leb, lt-leb, eqb-true, eq-eqb}
 use Rattle.std.proofs.lemmas.List.{get_or_append_left, map-append, get_or_past, length-map, get_or-set_same, get_or-set_other, length-set, get_or_default}
 use Rattle.std.proofs.Math.Seq.{get_or-append_seam, map-set_same}
 use Rattle.djq_model.specs.declared.relation.Relation.{Relation}
 use Rattle.djq_model.specs.declared.query.Query.{Query}
 use Rattle.djq_model.specs.declared.query.Atom.{Atom}
 use Rattle.djq_model.specs.declared.query.Term.{Term}
-use Rattle.djq_model.specs.Data.{Bytes, Tuple, bytes_eq, relation_of, query_of}
+use Rattle.djq_model.specs.Data.{Bytes, bytes_eq, relation_of, query_of}
 use Rattle.djq_model.specs.Equality.{bytes_eq-decides}
 use Rattle.djq_lines.specs.declared.limits.TheConstants.{QUERIES}
 use Rattle.djq_lines.specs.declared.answer.Refusal.{Refusal}
 use Rattle.djq_lines.specs.declared.answer.Refusal.TheVariants.{Taken, NoRelation, Arity, Limit, NoMemory}
 use Rattle.djq_machine.specs.State.{Store}
 use Rattle.djq_machine.specs.Store.{types_of, query_refusal, most_steps, RegistersQuery}
-use Rattle.djq_engine.specs.declared.cursor.CursorId.{CursorId}
 use Rattle.djq_engine.specs.declared.table.Table.{Table}
 use Rattle.djq_engine.specs.declared.registered.Registered.{Registered}
 use Rattle.djq_engine.specs.Finding.{IsFirst}
@@ -212,7 +211,7 @@ module _ (tables : List Table) (gs : List Registered) (q : Query) (relation : �
       let p = λ (t : Table). bytes_eq t.relation.name m in
       first_as p tables (with_reader tables relation (length gs)) r no_table tables_size
       (λ k d b. ap p (get_or_default (with_reader tables relation (length gs)) k d no_table (omega (arith, tables_size)))
-          ∙ ap (λ (x : Relation). bytes_eq x.name m) (same_relation k) ∙ ap p (get_or_default tables k no_table d b)) f
+      ∙ ap (λ (x : Relation). bytes_eq x.name m) (same_relation k) ∙ ap p (get_or_default tables k no_table d b)) f
 
   ready_kept : (g : Registered) → IsReady tables g → IsReady (with_reader tables relation (length gs)) g
   ready_kept g r = record {
@@ -288,13 +287,13 @@ module _ (tables : List Table) (gs : List Registered) (q : Query) (relation : �
   readers_are = everywhere (λ r. r < length tables → (i : ℕ) → i < length (gs ++ new_query q relation ∷ [])
       → is_reader (table_at (with_reader tables relation (length gs)) r).readers i ≡ ((query_at (gs ++ new_query q relation ∷ []) i).relation == r)) relation
       (λ l. all_queries (λ i g. is_reader (table_at (with_reader tables relation (length gs)) relation).readers i ≡ (g.relation == relation))
-          (λ i m. reader_here i ∙ ap (λ b. is_reader (table_at tables relation).readers i || b) (apart (length gs) i (λ e. omega arith)) ∙ or_false (is_reader (table_at tables relation).readers i)
-              ∙ s.readers relation i l m)
-          (reader_here (length gs) ∙ ap (λ b. is_reader (table_at tables relation).readers (length gs) || b) (eq-eqb (length gs) (length gs) refl)
-              ∙ or_true (is_reader (table_at tables relation).readers (length gs)) ∙ sym (eq-eqb relation relation refl)))
+      (λ i m. reader_here i ∙ ap (λ b. is_reader (table_at tables relation).readers i || b) (apart (length gs) i (λ e. omega arith)) ∙ or_false (is_reader (table_at tables relation).readers i)
+      ∙ s.readers relation i l m)
+      (reader_here (length gs) ∙ ap (λ b. is_reader (table_at tables relation).readers (length gs) || b) (eq-eqb (length gs) (length gs) refl)
+      ∙ or_true (is_reader (table_at tables relation).readers (length gs)) ∙ sym (eq-eqb relation relation refl)))
       (λ r d l. all_queries (λ i g. is_reader (table_at (with_reader tables relation (length gs)) r).readers i ≡ (g.relation == r))
-          (λ i m. ap (λ (t : Table). is_reader t.readers i) (table_elsewhere r d) ∙ s.readers r i l m)
-          (ap (λ (t : Table). is_reader t.readers (length gs)) (table_elsewhere r d) ∙ not_yet r ∙ sym (apart relation r (λ e. d (sym e)))))
+      (λ i m. ap (λ (t : Table). is_reader t.readers i) (table_elsewhere r d) ∙ s.readers r i l m)
+      (ap (λ (t : Table). is_reader t.readers (length gs)) (table_elsewhere r d) ∙ not_yet r ∙ sym (apart relation r (λ e. d (sym e)))))
 
   pub registered_sound : IsSound (with_reader tables relation (length gs)) (gs ++ new_query q relation ∷ [])
   registered_sound = record {

@@ -1,8 +1,8 @@
 -- A row among the rows of a relation, and what adding and deleting it come to.
 use Rattle.std.proofs.Common.{ℕ, zero, suc, List, [], ◌∷◌, ◌++◌, ◌≡◌, ◌<◌, ◌≤◌, ◌⊎◌, Bool, true, false, refl, sym, ap, ap₂, ◌∙◌, subst, length, get_or, take, drop, arith, inl, inr}
-use Rattle.std.specs.Prelude.{◌==◌, ◌&&◌, not, nat_le, Option, None, Some, is_some, Ok, Err, find, position, cond, remove, All}
+use Rattle.std.specs.Prelude.{◌==◌, ◌&&◌, not, nat_le, Option, None, Some, is_some, Ok, Err, find, position, cond, remove}
 use Rattle.std.specs.List.{list_all, zip}
-use Rattle.std.proofs.lemmas.Bool.{eqb-true, eq-eqb, le-leb, lt-leb, leb-true, leb-false}
+use Rattle.std.proofs.lemmas.Bool.{eqb-true, eq-eqb, le-leb, lt-leb}
 use Rattle.std.proofs.lemmas.List.Elements.{All-push, All-append, All-take, All-drop}
 use Rattle.std.proofs.lemmas.List.Quantifiers.{all_pairs_push, all_pairs_remove}
 use Rattle.djq_model.specs.declared.relation.Relation.{Relation}
@@ -17,7 +17,7 @@ use Rattle.djq_lines.specs.declared.answer.DeleteOutcome.TheVariants.{Removed, A
 use Rattle.djq_machine.specs.Conditions.{first_of}
 use Rattle.djq_machine.specs.Store.{fits, is_of}
 use Rattle.djq_engine.specs.Finding.{IsFirst}
-use Rattle.djq_engine.specs.Rows.{misfits, add_refusals, delete_refusals, add_refused, delete_refused, AddsToAs, AddsTo, DeletesFromAs, DeletesFrom}
+use Rattle.djq_engine.specs.Rows.{misfits, add_refused, delete_refused, AddsToAs, AddsTo, DeletesFromAs, DeletesFrom}
 use Rattle.djq_engine.specs.Sound.{RowsSound}
 use Rattle.djq_engine.proofs.Firsts.{first_of_position, none_of_position, first_found}
 use Rattle.djq_engine.proofs.Conditions.{answers_refused, answers_done, answers_lacking, front_refuses, front_passes, first_false, not_false, done_of}

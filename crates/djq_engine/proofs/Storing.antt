@@ -1,15 +1,13 @@
 -- What adding and deleting do to the store, in the machine's words.
-use Rattle.std.proofs.Common.{ℕ, zero, List, [], ◌∷◌, ◌++◌, ◌+◌, ◌≡◌, ◌<◌, ◌≤◌, Bool, true, false, refl, sym, ap, ap₂, ◌∙◌, subst, length, set, take, drop, arith, append-nil}
-use Rattle.std.specs.Prelude.{Option, None, Some, Result, Ok, Err, OnErr, IfErr, position, map, option_map}
-use Rattle.std.proofs.lemmas.List.{take_at, take_all, drop_all}
+use Rattle.std.proofs.Common.{ℕ, List, [], ◌∷◌, ◌++◌, ◌+◌, ◌≡◌, ◌<◌, false, refl, sym, ap, ap₂, ◌∙◌, subst, length, set, take, drop, arith, append-nil}
+use Rattle.std.specs.Prelude.{None, Some, Ok, Err, position, option_map}
+use Rattle.std.proofs.lemmas.List.{take_all, drop_all}
 use Rattle.djq_model.specs.declared.relation.Relation.{Relation}
 use Rattle.djq_model.specs.declared.query.Query.{Query}
 use Rattle.djq_model.specs.Data.{Bytes, Tuple, bytes_eq, has_row, without_row, relation_of, rows_of}
 use Rattle.djq_lines.specs.declared.answer.Refusal.{Refusal}
-use Rattle.djq_lines.specs.declared.answer.Refusal.TheVariants.{NoRelation, NoMemory, Syntax, Taken, NoQuery, NoCursor, Arity, WrongType, HeadUnbound, HeadRepeated, VariableType, Limit, InUse, Later}
-use Rattle.djq_lines.specs.declared.answer.AddOutcome.{AddOutcome}
+use Rattle.djq_lines.specs.declared.answer.Refusal.TheVariants.{NoRelation, NoMemory}
 use Rattle.djq_lines.specs.declared.answer.AddOutcome.TheVariants.{Added, Same}
-use Rattle.djq_lines.specs.declared.answer.DeleteOutcome.{DeleteOutcome}
 use Rattle.djq_lines.specs.declared.answer.DeleteOutcome.TheVariants.{Removed, Absent}
 use Rattle.djq_machine.specs.State.{Store}
 use Rattle.djq_machine.specs.Stale.{add_outdates}
@@ -18,11 +16,10 @@ use Rattle.djq_engine.specs.declared.table.Table.{Table}
 use Rattle.djq_engine.specs.declared.registered.Registered.{Registered}
 use Rattle.djq_engine.specs.Finding.{IsFirst}
 use Rattle.djq_engine.specs.Rows.{AddsTo, AddsToAs, add_refused, DeletesFrom, DeletesFromAs, delete_refused}
-use Rattle.djq_engine.specs.Kept.{Kept, SameCursors, Outdates}
-use Rattle.djq_engine.specs.Tables.{table_at, relations_in, queries_in, store_of, kept_of, held_from, OutdatesReaders}
+use Rattle.djq_engine.specs.Tables.{table_at, relations_in, queries_in, store_of, OutdatesReaders}
 use Rattle.djq_engine.specs.Sound.{RowsSound, IsSound}
 use Rattle.djq_engine.proofs.Firsts.{first_of_position, none_of_position, find_mapped}
-use Rattle.djq_engine.proofs.Conditions.{answers_refused, answers_done, answers_lacking, refused_as, done_of}
+use Rattle.djq_engine.proofs.Conditions.{answers_refused, answers_done, refused_as, done_of}
 use Rattle.djq_engine.proofs.Rows.{sound_of_add, sound_of_delete}
 use Rattle.djq_engine.proofs.Changing.{with_relation, relation_named, rows_named, relations_changed, relations_same, Changes}
 
@@ -74,7 +71,7 @@ stored_added tables gs gs' seq name at row r f q a =
             ap (λ x. has_row x row) rows ∙ d.1.0,
             store_as (relations_in (with_relation tables at r)) (with_rows (relations_in tables) name (rows_of (relations_in tables) name ++ row ∷ [])) (queries_in gs') (queries_in gs) (seq + 1)
                 (ap (λ (x : Relation). relations_in (with_relation tables at x)) d.1.1 ∙ relations_changed tables name at (old.rows ++ row ∷ []) f
-                    ∙ ap (λ x. with_rows (relations_in tables) name (x ++ row ∷ [])) (sym rows)) q,
+                ∙ ap (λ x. with_rows (relations_in tables) name (x ++ row ∷ [])) (sym rows)) q,
           );
       stays = tt;
     }
@@ -129,7 +126,7 @@ stored_removed tables gs gs' seq name at row r f q a =
             ap (λ x. has_row x row) rows ∙ d.1.0,
             store_as (relations_in (with_relation tables at r)) (with_rows (relations_in tables) name (without_row (rows_of (relations_in tables) name) row)) (queries_in gs') (queries_in gs) (seq + 1)
                 (ap (λ (x : Relation). relations_in (with_relation tables at x)) d.1.1 ∙ relations_changed tables name at (without_row old.rows row) f
-                    ∙ ap (λ x. with_rows (relations_in tables) name (without_row x row)) (sym rows)) q,
+                ∙ ap (λ x. with_rows (relations_in tables) name (without_row x row)) (sym rows)) q,
           );
       stays = tt;
     }

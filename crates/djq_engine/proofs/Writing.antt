@@ -1,9 +1,8 @@
 -- A table that is written back, with what `add` and `del` did to its relation.
-use Rattle.std.proofs.Common.{ℕ, zero, suc, List, [], ◌∷◌, ◌++◌, ◌+◌, ◌≡◌, ◌<◌, Bool, true, false, refl, sym, ap, ap₂, ◌∙◌, subst, length, set, take, drop, get_or, arith}
-use Rattle.std.specs.Prelude.{Option, Some, Ok, Err, Result, position, map, ◌||◌, ◌==◌}
+use Rattle.std.proofs.Common.{ℕ, zero, suc, List, [], ◌∷◌, ◌++◌, ◌+◌, ◌≡◌, ◌<◌, true, refl, sym, ap, ap₂, ◌∙◌, subst, length, set, take, drop, get_or, arith}
+use Rattle.std.specs.Prelude.{Some, Ok, Err, position, map, ◌||◌, ◌==◌}
 use Rattle.std.proofs.lemmas.List.{get_or_default, get_or-set_same}
 use Rattle.std.proofs.lemmas.Bool.{eq-eqb}
-use Rattle.djq_model.specs.declared.relation.Relation.{Relation}
 use Rattle.djq_model.specs.Data.{Bytes, Tuple, bytes_eq}
 use Rattle.djq_lines.specs.declared.answer.Refusal.{Refusal}
 use Rattle.djq_lines.specs.declared.answer.AddOutcome.TheVariants.{Added, Same}

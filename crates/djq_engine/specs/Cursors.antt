@@ -1,5 +1,5 @@
 -- The cursors of one query, in their slots.
-use Rattle.std.specs.Prelude.{ℕ, List, ◌≡◌, ◌≢◌, Option, None, Some, option_map, map, take, slice_index_or}
+use Rattle.std.specs.Prelude.{ℕ, List, ◌≡◌, ◌≢◌, Option, None, option_map, map, take, slice_index_or}
 use Rattle.djq_model.specs.Data.{Bytes, Tuple}
 use Rattle.djq_machine.specs.State.{Position, open_at, stale}
 use Rattle.djq_engine.specs.declared.cursors.Progress.{Progress}

@@ -1,5 +1,5 @@
 -- What holds of what the engine keeps, between any two calls.
-use Rattle.std.specs.Prelude.{ℕ, List, [], ◌∷◌, ◌==◌, ◌≡◌, ◌<◌, ◌≤◌, Bool, true, Some, All, length}
+use Rattle.std.specs.Prelude.{ℕ, List, ◌==◌, ◌≡◌, ◌<◌, ◌≤◌, Bool, true, Some, All, length}
 use Rattle.djq_model.specs.declared.relation.Relation.{Relation}
 use Rattle.djq_model.specs.Data.{bytes_eq}
 use Rattle.djq_model.specs.Answer.{AreDifferent}

@@ -201,7 +201,9 @@ impl Engine {
         };
         listing.link();
         if given >= self.tables[registered.relation].relation.rows.len() {
-            registered.cursors.set(id.cursor, Progress::Open { given, ended: true });
+            registered
+                .cursors
+                .set(id.cursor, Progress::Open { given, ended: true });
             return Next::End;
         }
         let progress = Progress::Open {
@@ -226,7 +228,10 @@ impl Engine {
         };
         listing.link();
         let left = given < self.tables[registered.relation].relation.rows.len();
-        let progress = Progress::Open { given, ended: !left };
+        let progress = Progress::Open {
+            given,
+            ended: !left,
+        };
         registered.cursors.set(id.cursor, progress);
         left
     }

@@ -77,7 +77,9 @@ fn head_columns(alloc: Global, head: &[Name], terms: &[Term]) -> Result<Sequence
 pub fn find_query(queries: &[Registered], name: &Name) -> Option<usize>
     ensures { result ≡ position (λ g. bytes_eq g.query.name name.now) queries.now }
 {
-    queries.iter().position(|registered| registered.query.name == *name)
+    queries
+        .iter()
+        .position(|registered| registered.query.name == *name)
 }
 
 /// Makes the cursors of these queries stale by a change of a relation.

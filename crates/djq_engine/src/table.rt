@@ -60,7 +60,11 @@ impl Table {
     fn find(&self, row: &Row) -> Option<usize>
         ensures { result ≡ position (λ r. tuple_eq r row.now) self.now.relation.rows }
     {
-        self.relation.rows.as_slice().iter().position(|other| other == row)
+        self.relation
+            .rows
+            .as_slice()
+            .iter()
+            .position(|other| other == row)
     }
 
     // Whether a row suits the columns.

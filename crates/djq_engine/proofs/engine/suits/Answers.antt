@@ -1,4 +1,4 @@
-use Rattle.std.proofs.Common.{◌≡◌, ◌∙◌, ap, sym, arith, get_or, List, length}
+use Rattle.std.proofs.Common.{◌∙◌, ap, sym, arith, get_or, List, length}
 use Rattle.djq_model.specs.declared.query.Atom.{Atom}
 use Rattle.std.proofs.lemmas.List.{get_or_default}
 use Rattle.djq_engine.specs.declared.table.Table.{Table}

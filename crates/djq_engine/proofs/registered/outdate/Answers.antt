@@ -5,7 +5,7 @@ use Rattle.djq_engine.specs.declared.cursors.Progress.{Progress}
 use Rattle.djq_engine.specs.declared.registered.Registered.{Registered}
 use Rattle.djq_engine.specs.Cursors.{outdated_slots}
 use Rattle.djq_engine.specs.Tables.{no_query, query_at}
-use Rattle.djq_engine.proofs.Outdating.{no_readers, outdates_more}
+use Rattle.djq_engine.proofs.Outdating.{outdates_more}
 use Rattle.djq_engine.proofs.registered.outdate.Goals as goal
 
 pub loop-reader-preserved : goal.loop-reader-preserved
@@ -16,4 +16,4 @@ loop-reader-preserved c =
     let here : get_or gs i c.index-queries-reader.result ≡ query_at gs i = get_or_default gs i c.index-queries-reader.result no_query below in
     outdates_more c.args.readers.now c.loop-reader.reader-index c.args.relation c.args.seq c.args.queries.now gs _ i c.loop-reader-test.true refl c.loop-reader.invariant below
     (ap₂ (λ (g : Registered) (cs : List (Option Progress)). set gs i (record g { cursors = cs })) here
-        (c.outdate.ensures ∙ ap (λ (g : Registered). outdated_slots c.args.relation c.args.seq g.cursors) here))
+    (c.outdate.ensures ∙ ap (λ (g : Registered). outdated_slots c.args.relation c.args.seq g.cursors) here))

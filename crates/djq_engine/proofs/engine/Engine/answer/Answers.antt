@@ -1,4 +1,4 @@
-use Rattle.std.proofs.Common.{rules, ◌≡◌, ◌<◌, ◌∙◌, ap, ap₂, sym, subst, arith, length, get_or, List, ℕ, []}
+use Rattle.std.proofs.Common.{◌≡◌, ◌<◌, ◌∙◌, ap, sym, subst, arith, length, get_or, List, ℕ, []}
 use Rattle.std.proofs.lemmas.List.{get_or_default}
 use Rattle.djq_model.specs.Data.{Tuple}
 use Rattle.djq_engine.specs.declared.table.Table.{Table}

@@ -1,4 +1,4 @@
-use Rattle.std.proofs.Common.{◌≡◌, ◌∙◌, ap, arith}
+use Rattle.std.proofs.Common.{◌∙◌, ap, arith}
 use Rattle.std.specs.Prelude.{None, slice_set}
 use Rattle.djq_engine.specs.declared.registered.Registered.{Registered}
 use Rattle.djq_engine.specs.Cursors.{slot_at}

@@ -1,4 +1,4 @@
-use Rattle.std.proofs.Common.{◌≡◌, ◌∙◌, sym, ap, subst, ℕ, ◌+◌}
+use Rattle.std.proofs.Common.{◌∙◌, ap, subst, ◌+◌}
 use Rattle.std.specs.Prelude.{position, Err}
 use Rattle.djq_model.specs.Data.{bytes_eq}
 use Rattle.djq_lines.specs.declared.answer.Refusal.TheVariants.{NoRelation}

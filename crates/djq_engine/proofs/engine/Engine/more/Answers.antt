@@ -1,11 +1,10 @@
-use Rattle.std.proofs.Common.{◌≡◌, ◌<◌, ◌≤◌, ◌∙◌, ap, sym, refl, arith, length, ℕ, ◌+◌, false, true}
-use Rattle.std.specs.Prelude.{Some, None, slice_set, not, nat_lt}
-use Rattle.djq_engine.specs.declared.cursors.Progress.TheVariants.{Open, Stale}
+use Rattle.std.proofs.Common.{◌∙◌, ap, sym, arith, length}
+use Rattle.std.specs.Prelude.{Some, slice_set, not, nat_lt}
+use Rattle.djq_engine.specs.declared.cursors.Progress.TheVariants.{Open}
 use Rattle.djq_engine.specs.declared.table.Table.{Table}
 use Rattle.djq_engine.specs.declared.registered.Registered.{Registered}
 use Rattle.djq_engine.specs.Cursors.{slot_at}
-use Rattle.djq_engine.specs.Tables.{table_at, query_at}
-use Rattle.djq_engine.proofs.Moving.{held_cursor, some_slot, slot_set, query_read, cursors_written, cursors_kept, rows_read, relation_below}
+use Rattle.djq_engine.proofs.Moving.{held_cursor, some_slot, slot_set, query_read, cursors_written, rows_read, relation_below}
 use Rattle.djq_engine.proofs.Reading.{more_gives, fresh_isnt_stale}
 use Rattle.djq_engine.proofs.engine.Engine.more.Goals as goal
 

@@ -1,10 +1,9 @@
-use Rattle.std.proofs.Common.{◌≡◌, ◌∙◌, ap, sym, subst, refl, false}
+use Rattle.std.proofs.Common.{◌∙◌, ap, sym, subst, refl, false}
 use Rattle.std.specs.Prelude.{Some, position}
 use Rattle.djq_model.specs.Data.{bytes_eq}
 use Rattle.djq_engine.specs.declared.cursors.Progress.TheVariants.{Open}
 use Rattle.djq_engine.specs.declared.registered.Registered.{Registered}
 use Rattle.djq_engine.specs.Cursors.{slot_at, SetsSlot}
-use Rattle.djq_engine.specs.Sound.{IsSound}
 use Rattle.djq_engine.proofs.Moving.{query_read, cursors_written, cursors_kept_as}
 use Rattle.djq_engine.proofs.Reading.{opens}
 use Rattle.djq_engine.proofs.Opening.{first_query, open_refused, open_lacks, open_gives}

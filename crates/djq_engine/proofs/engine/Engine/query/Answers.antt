@@ -1,9 +1,9 @@
-use Rattle.std.proofs.Common.{rules, ◌≡◌, ◌∙◌, ◌*◌, ◌+◌, ap, ap₂, sym, length, List}
+use Rattle.std.proofs.Common.{◌∙◌, ◌*◌, ◌+◌, ap, ap₂, sym, length, List}
 use Rattle.std.proofs.lemmas.Result.{err_from_is_err_and}
 use Rattle.djq_model.specs.Data.{Bytes}
 use Rattle.djq_machine.specs.Store.{query_refusal}
 use Rattle.djq_engine.specs.Tables.{store_of}
-use Rattle.djq_engine.proofs.Registering.{may_register, query_refused, query_lacks, query_registered}
+use Rattle.djq_engine.proofs.Registering.{may_register, query_refused, query_registered}
 use Rattle.djq_engine.proofs.engine.Engine.query.Goals as goal
 
 pub returns-in_err-relation-clause-registers : goal.returns-in_err-relation-clause-registers

@@ -1,4 +1,4 @@
-use Rattle.std.proofs.Common.{◌≡◌, ◌++◌, ◌∷◌, [], ◌∙◌, ap, ap₂, sym, subst, arith, inl, inr, zero}
+use Rattle.std.proofs.Common.{◌++◌, ◌∷◌, [], ◌∙◌, ap, sym, subst, arith, inl, inr, zero}
 use Rattle.std.specs.Prelude.{position}
 use Rattle.djq_model.specs.Data.{bytes_eq}
 use Rattle.djq_engine.specs.declared.table.Table.{Table}
@@ -15,8 +15,10 @@ returns-then-is_some-clause-makes c = rel_taken c.self.inside.tables.items c.sel
 pub returns-then-len-gt-COLUMNS-clause-makes : goal.returns-then-len-gt-COLUMNS-clause-makes
 returns-then-len-gt-COLUMNS-clause-makes c =
     rel_limited c.self.inside.tables.items c.self.inside.queries.items c.self.inside.seq c.args.self.now c.args.name c.args.types c.find_table.result c.self.view_is (c.find_table.ensures ∙ ap (position (λ t. bytes_eq t.relation.name c.args.name)) c.as_slice.ensures.value) (sym c.is_some.ensures ∙ c.if-is_some.false)
-    (elim c.then-len-gt-COLUMNS.branch [ then-len-gt-COLUMNS-via-then-len-gt-COLUMNS w ↦ inl (omega arith)
-    | then-len-gt-COLUMNS-via-else-len-gt-COLUMNS+then-len-ge-RELATIONS w ↦ inr (omega (arith, c.self.inside.tables.ok.0, w.len-else-len-gt-COLUMNS.ensures, w.if-len-ge-RELATIONS.true)) ])
+    (elim c.then-len-gt-COLUMNS.branch [
+      | then-len-gt-COLUMNS-via-then-len-gt-COLUMNS w ↦ inl (omega arith)
+      | then-len-gt-COLUMNS-via-else-len-gt-COLUMNS+then-len-ge-RELATIONS w ↦ inr (omega (arith, c.self.inside.tables.ok.0, w.len-else-len-gt-COLUMNS.ensures, w.if-len-ge-RELATIONS.true))
+    ])
 
 pub returns-in_default-clause-makes : goal.returns-in_default-clause-makes
 returns-in_default-clause-makes c =

@@ -1,5 +1,5 @@
-use Rattle.std.proofs.Common.{◌≡◌, ◌∙◌, sym, ap, arith, true, false}
-use Rattle.std.specs.Prelude.{is_some, Some, None}
+use Rattle.std.proofs.Common.{◌∙◌, arith}
+use Rattle.std.specs.Prelude.{Some, None}
 use Rattle.djq_engine.proofs.Rows.{found_row, removed_is, delete_absent, delete_limited, delete_removed}
 use Rattle.djq_engine.proofs.table.Table.delete.Goals as goal
 

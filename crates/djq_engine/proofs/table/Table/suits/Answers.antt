@@ -1,6 +1,4 @@
-use Rattle.std.proofs.Common.{◌≡◌, arith, true, false}
-use Rattle.std.specs.List.{list_all, zip}
-use Rattle.djq_machine.specs.Store.{is_of}
+use Rattle.std.proofs.Common.{true, false}
 use Rattle.djq_engine.proofs.Rows.{row_misfits}
 use Rattle.djq_engine.proofs.table.Table.suits.Goals as goal
 
