@@ -90,13 +90,13 @@ pub stale_gives : (tables : List Table) (gs items : List Registered) (seq : ℕ)
     → slot_at (query_at gs id.query.at).cursors id.cursor ≡ Some (Stale relation n) → items ≡ gs → NextGives old id (StaleNext relation n) (kept_of tables items seq) before before
 stale_gives tables gs items seq old id relation n before v s below slot e = record {
   gives = subst (λ (k : Kept). OfBoth k k) v (of_both tables gs seq id below s (Stale relation n) slot
-      (λ h q. NextGivesAt (kept_of tables gs seq) h q h.position (StaleNext relation n) (kept_of tables items seq) × (before ≤ before + most_steps (length q.head)))
+      (λ h q. NextGivesAt (kept_of tables gs seq) h q h.position (StaleNext relation n) (kept_of tables items seq) × (before ≤ before + 0))
       ((refl, refl, ap (λ qs. kept_of tables qs seq) e), omega arith));
 }
   where
     OfBoth : Kept → Kept → Type 0
     OfBoth k k' = IsSomeAnd (held_at k.cursors id) (λ h. IsSomeAnd (query_of k.store.queries h.query) (λ q.
-        NextGivesAt k' h q h.position (StaleNext relation n) (kept_of tables items seq) × (before ≤ before + most_steps (length q.head))))
+        NextGivesAt k' h q h.position (StaleNext relation n) (kept_of tables items seq) × (before ≤ before + 0)))
 
 pub given_gives : (tables : List Table) (gs items : List Registered) (seq : ℕ) (old : Kept) (id : CursorId) (given : ℕ) (ended : Bool) (cursors : List (Option Progress)) (before now : ℕ)
     → kept_of tables gs seq ≡ old → IsSound tables gs → (below : id.query.at < length gs) → slot_at (query_at gs id.query.at).cursors id.cursor ≡ Some (Open given ended)

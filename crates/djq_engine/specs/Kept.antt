@@ -82,10 +82,15 @@ NextGivesAt old h q (open_at given ended) (Stale relation n) new = ⊥
 NextGivesAt old h q (stale r m) (Stale relation n) new = (relation ≡ r) × (n ≡ m) × (new ≡ old)
 NextGivesAt old h q (stale r m) _ new = ⊥
 
+-- what a read counts at most: a stale cursor costs nothing
+abbrev pub read_steps : Next → ℕ → ℕ
+read_steps (Stale relation n) h = 0
+read_steps _ h = most_steps h
+
 -- A read of a cursor, and what it counts at most.
 pub record NextGives (old : Kept) (id : CursorId) (result : Next) (new : Kept) (before now : ℕ) : Type 0 where
   pub gives : IsSomeAnd (held_at old.cursors id) (λ h. IsSomeAnd (query_of (old.store).queries h.query) (λ q.
-      NextGivesAt old h q h.position result new × (now ≤ before + most_steps (length q.head))))
+      NextGivesAt old h q h.position result new × (now ≤ before + read_steps result (length q.head))))
 
 -- Whether a further answer is left is known of a cursor that isn't stale; where none is, it stands at its end.
 abbrev pub MoreGivesAt : Kept → Held → Query → Position → Bool → Kept → Type 0

@@ -1,5 +1,5 @@
-ghost use Rattle.std.specs.Prelude.{◌≡◌, [], ◌<◌, true, length, None, Some, IfOk, IfErr, OnOk, OnErr};
-ghost use Rattle.djq_model.specs.Data.{bytes_eq, rows_of};
+ghost use Rattle.std.specs.Prelude.{◌≡◌, is_some, [], ◌<◌, true, length, None, Some, IfOk, IfErr, OnOk, OnErr};
+ghost use Rattle.djq_model.specs.Data.{bytes_eq, query_of, rows_of};
 ghost use Rattle.djq_machine.specs.State.{opening};
 ghost use Rattle.djq_machine.specs.Store.{MakesRelation, AddsRow, DeletesRow, RegistersQuery, query_refusal};
 ghost use Rattle.djq_machine.specs.Stale.{add_outdates, delete_outdates};
@@ -69,6 +69,16 @@ impl Engine {
         match find_table(self.tables.as_slice(), name) {
             Some(at) => self.tables[at].relation.rows.len() as u64,
             None => 0,
+        }
+    }
+
+    /// The id of a query. `None` exactly where no query has the name.
+    pub fn query_id(&self, name: &Name) -> Option<QueryId>
+        ensures { is_some result ≡ is_some (query_of self.now.store.queries name.now) }
+    {
+        match find_query(self.queries.as_slice(), name) {
+            Some(at) => Some(QueryId { at }),
+            None => None,
         }
     }
 
