@@ -8,6 +8,7 @@ use Rattle.djq_index.specs.Changes.{Inserted, Removed, Touched, Supported}
 use Rattle.djq_index.proofs.Tuples.{same_is, same_refl, one_le, one_same, one_other, one_true, one_false}
 use Rattle.djq_index.proofs.Counts.{cnt_cons, many_cons, cnt-append, many-append, cnt_middle, many_middle, supp_middle, cnt_split, many_split}
 use Rattle.djq_index.proofs.Apart.{cnt_once, apart_in, apart_out, apart_here, apart_same, supp_at, supported_in, supported_out}
+use Rattle.djq_index.proofs.Places.{at_in, at_out, at_same, at_here}
 use Rattle.djq_index.proofs.Marks.{marks_middle, plain_middle, marks_yes, plain_no, marks-append, plain-append, last_in, last_out, last_same}
 
 length_middle : (xs : List Entry) (e : Entry) (ys : List Entry) → length (xs ++ e ∷ ys) ≡ length (xs ++ ys) + 1
@@ -130,3 +131,17 @@ touched_apart key old new u t h =
     let was : AreApart (t.front ++ t.before ∷ t.back) = subst AreApart t.was h in
     let none : cnt (t.front ++ t.back) t.after.tuple ≡ 0 = subst (λ v. cnt (t.front ++ t.back) v ≡ 0) (t.tuple ∙ sym t.same_tuple) (apart_here t.front t.before t.back was) in
     subst AreApart (sym t.is) (apart_in t.fore t.after t.rest (subst AreApart t.between (apart_out t.front t.before t.back was)) (subst (λ es. cnt es t.after.tuple ≡ 0) t.between none))
+
+-- places stay valid
+pub inserted_at : (key : List ℕ) (old new : List Entry) (u : List ℕ) → Inserted key old new u → (p : Place) (v : List ℕ) → IsAt old p v → IsAt new p v
+inserted_at key old new u i p v a = subst (λ es. IsAt es p v) (sym i.is) (at_in i.front i.entry i.back p v (subst (λ es. IsAt es p v) i.was a))
+
+pub removed_at : (old new : List Entry) (u : List ℕ) → Removed old new u → ArePlaced old → (p : Place) (v : List ℕ) → (v ≡ u → ⊥) → IsAt old p v → IsAt new p v
+removed_at old new u r h p v other a =
+    let was : IsAt (r.front ++ r.entry ∷ r.back) p v = subst (λ es. IsAt es p v) r.was a in
+    let apart : r.entry.at ≡ p → ⊥ = (λ k. other (sym (at_here r.front r.entry r.back v (subst ArePlaced r.was h) (subst (λ q. IsAt (r.front ++ r.entry ∷ r.back) q v) (sym k) was)) ∙ r.tuple)) in
+    subst (λ es. IsAt es p v) (sym r.is) (at_out r.front r.entry r.back p v apart was)
+
+pub supported_at : (old new : List Entry) (u : List ℕ) (from to : ℕ) → Supported old new u from to → (p : Place) (v : List ℕ) → IsAt old p v → IsAt new p v
+supported_at old new u from to s p v a =
+    subst (λ es. IsAt es p v) (sym s.is) (at_same s.front s.before s.after s.back p v (s.same_tuple ∙ sym s.tuple) s.same_place (subst (λ es. IsAt es p v) s.was a))
