@@ -1,2 +1,5 @@
 pub mod Lists
 pub mod Chaining
+pub mod Choosing
+pub mod Storing
+pub mod Filling

@@ -217,3 +217,12 @@ ends_empty (x ∷ xs) h = absurd (some_last x xs h)
 pub starts_empty : (xs : List ℕ) → first_of xs ≡ None → xs ≡ []
 starts_empty [] h = refl
 starts_empty (x ∷ xs) h = absurd cc
+
+-- without the part in the middle
+pub out_middles : (i : ℕ) (xs ys zs : List ℕ) → IsOut i (xs ++ (ys ++ zs)) → IsOut i (xs ++ zs)
+out_middles i xs ys zs h = out_append i xs zs (out_front i xs (ys ++ zs) h) (out_back i ys zs (out_back i xs (ys ++ zs) h))
+
+pub without_middle : (xs ys zs : List ℕ) → AreDifferent (xs ++ (ys ++ zs)) → AreDifferent (xs ++ zs)
+unfolding AreDifferent
+without_middle [] ys zs h = different_back ys zs h
+without_middle (x ∷ xs) ys zs h = (out_middles x xs ys zs h.0, without_middle xs ys zs h.1)

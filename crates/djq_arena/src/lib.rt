@@ -3,6 +3,7 @@
 
 mod chain;
 mod link;
+mod store;
 
-pub use chain::{Pair, enter, leave};
+pub use chain::{Ends, Pair, cut, enter, grown, leave};
 pub use link::Link;
