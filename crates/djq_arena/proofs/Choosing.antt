@@ -72,17 +72,19 @@ last_passes : (p : ℕ → Bool) (o : Option ℕ) (xs : List ℕ) → Passes p o
 unfolding chosen Passes
 last_passes p o [] h = h
 last_passes p o (x ∷ xs) h =
-    elim (cases_Bool (p x))
-    [ inl here ↦ rw here (last_passes p (Some x) xs here)
-    | inr other ↦ rw other (last_passes p o xs h) ]
+    elim (cases_Bool (p x)) [
+      | inl here ↦ rw here (last_passes p (Some x) xs here)
+      | inr other ↦ rw other (last_passes p o xs h)
+    ]
 
 first_passes : (p : ℕ → Bool) (xs : List ℕ) → Passes p (first_of (chosen p xs))
 unfolding chosen Passes
 first_passes p [] = tt
 first_passes p (x ∷ xs) =
-    elim (cases_Bool (p x))
-    [ inl here ↦ rw here here
-    | inr other ↦ rw other (first_passes p xs) ]
+    elim (cases_Bool (p x)) [
+      | inl here ↦ rw here here
+      | inr other ↦ rw other (first_passes p xs)
+    ]
 
 differs_passing : (p q : ℕ → Bool) (o : Option ℕ) (x : ℕ) → ((i : ℕ) → p i ≡ true → q i ≡ true → ⊥) → Passes q o → p x ≡ true → Differs o x
 unfolding Passes
@@ -93,9 +95,10 @@ avoids_passing : (p q : ℕ → Bool) (o : Option ℕ) (xs : List ℕ) → ((i :
 unfolding chosen Avoids
 avoids_passing p q o [] apart h = tt
 avoids_passing p q o (x ∷ xs) apart h =
-    elim (cases_Bool (p x))
-    [ inl here ↦ rw here (differs_passing p q o x apart h here, avoids_passing p q o xs apart h)
-    | inr other ↦ rw other (avoids_passing p q o xs apart h) ]
+    elim (cases_Bool (p x)) [
+      | inl here ↦ rw here (differs_passing p q o x apart h here, avoids_passing p q o xs apart h)
+      | inr other ↦ rw other (avoids_passing p q o xs apart h)
+    ]
 
 -- buckets have no slot in common
 pub bucket_apart : (m width : ℕ) (cells : List ℕ) (j k : ℕ) → (j ≡ k → ⊥) → (i : ℕ) → is_of m width cells j i ≡ true → is_of m width cells k i ≡ true → ⊥
@@ -119,28 +122,36 @@ pub entered_buckets : (m width : ℕ) (cells : List ℕ) (bucket : List Pair) (h
 entered_buckets m width cells bucket heads xs i k b d below out within inside its = record {
   long = length-set heads k (Some i) ∙ b.long;
   chained = λ j h. elim (cases_eq j k) [ inl here ↦ subst (λ n. Linked (entered (slice_index_or heads k None) i bucket) None (chosen (is_of m width cells n) (xs ++ i ∷ [])) None) (sym here) mine | inr other ↦ others j h other ];
-  headed = λ j h. elim (cases_eq j k) [ inl here ↦ subst (λ n. slice_index_or (slice_set heads k (Some i)) n None ≡ last_of (chosen (is_of m width cells n) (xs ++ i ∷ []))) (sym here) headed_mine | inr other ↦ headed_others j h other ] }
+  headed = λ j h. elim (cases_eq j k) [ inl here ↦ subst (λ n. slice_index_or (slice_set heads k (Some i)) n None ≡ last_of (chosen (is_of m width cells n) (xs ++ i ∷ []))) (sym here) headed_mine | inr other ↦ headed_others j h other ];
+}
   where
-  p : ℕ → Bool
-  p = is_of m width cells k
-  zs : List ℕ
-  zs = chosen p xs
-  more : chosen p (xs ++ i ∷ []) ≡ zs ++ i ∷ []
-  more = chosen-append p xs (i ∷ []) ∙ ap (λ (ys : List ℕ). zs ++ ys) (chosen_in p i [] (is_its m width cells k i its) ∙ ap (λ (ys : List ℕ). i ∷ ys) (chosen_nil p))
-  mine : Linked (entered (slice_index_or heads k None) i bucket) None (chosen p (xs ++ i ∷ [])) None
-  mine = rw (more, b.headed k inside) (entered_linked bucket zs i (chosen_different p xs d) (chosen_below p (length bucket) xs below) (chosen_out p i xs out) within (b.chained k inside))
-  same : (j : ℕ) → (j ≡ k → ⊥) → chosen (is_of m width cells j) (xs ++ i ∷ []) ≡ chosen (is_of m width cells j) xs
-  same j other = chosen-append (is_of m width cells j) xs (i ∷ []) ∙ ap (λ (ys : List ℕ). chosen (is_of m width cells j) xs ++ ys) (chosen_not (is_of m width cells j) i [] (is_no_other m width cells j k i its other) ∙ chosen_nil (is_of m width cells j)) ∙ append-nil (chosen (is_of m width cells j) xs)
-  others : (j : ℕ) → j < m → (j ≡ k → ⊥) → Linked (entered (slice_index_or heads k None) i bucket) None (chosen (is_of m width cells j) (xs ++ i ∷ [])) None
-  others j h other = rw (same j other) (linked_same bucket (entered (slice_index_or heads k None) i bucket) None (chosen (is_of m width cells j) xs) None
-      (entered_agree bucket (slice_index_or heads k None) i (chosen (is_of m width cells j) xs)
+    p : ℕ → Bool
+    p = is_of m width cells k
+
+    zs : List ℕ
+    zs = chosen p xs
+
+    more : chosen p (xs ++ i ∷ []) ≡ zs ++ i ∷ []
+    more = chosen-append p xs (i ∷ []) ∙ ap (λ (ys : List ℕ). zs ++ ys) (chosen_in p i [] (is_its m width cells k i its) ∙ ap (λ (ys : List ℕ). i ∷ ys) (chosen_nil p))
+
+    mine : Linked (entered (slice_index_or heads k None) i bucket) None (chosen p (xs ++ i ∷ [])) None
+    mine = rw (more, b.headed k inside) (entered_linked bucket zs i (chosen_different p xs d) (chosen_below p (length bucket) xs below) (chosen_out p i xs out) within (b.chained k inside))
+
+    same : (j : ℕ) → (j ≡ k → ⊥) → chosen (is_of m width cells j) (xs ++ i ∷ []) ≡ chosen (is_of m width cells j) xs
+    same j other = chosen-append (is_of m width cells j) xs (i ∷ []) ∙ ap (λ (ys : List ℕ). chosen (is_of m width cells j) xs ++ ys) (chosen_not (is_of m width cells j) i [] (is_no_other m width cells j k i its other) ∙ chosen_nil (is_of m width cells j)) ∙ append-nil (chosen (is_of m width cells j) xs)
+
+    others : (j : ℕ) → j < m → (j ≡ k → ⊥) → Linked (entered (slice_index_or heads k None) i bucket) None (chosen (is_of m width cells j) (xs ++ i ∷ [])) None
+    others j h other = rw (same j other) (linked_same bucket (entered (slice_index_or heads k None) i bucket) None (chosen (is_of m width cells j) xs) None
+        (entered_agree bucket (slice_index_or heads k None) i (chosen (is_of m width cells j) xs)
         (avoids_passing (is_of m width cells j) p (slice_index_or heads k None) xs (bucket_apart m width cells j k other) (subst (Passes p) (sym (b.headed k inside)) (last_passes p None xs (nothing p))))
         (chosen_out (is_of m width cells j) i xs out))
-      (b.chained j h))
-  headed_mine : slice_index_or (slice_set heads k (Some i)) k None ≡ last_of (chosen p (xs ++ i ∷ []))
-  headed_mine = get_or-set_same heads k (Some i) None (rw b.long inside) ∙ sym (ap last_of more ∙ last_one zs i)
-  headed_others : (j : ℕ) → j < m → (j ≡ k → ⊥) → slice_index_or (slice_set heads k (Some i)) j None ≡ last_of (chosen (is_of m width cells j) (xs ++ i ∷ []))
-  headed_others j h other = get_or-set_other heads k j (Some i) None other ∙ b.headed j h ∙ ap last_of (sym (same j other))
+        (b.chained j h))
+
+    headed_mine : slice_index_or (slice_set heads k (Some i)) k None ≡ last_of (chosen p (xs ++ i ∷ []))
+    headed_mine = get_or-set_same heads k (Some i) None (rw b.long inside) ∙ sym (ap last_of more ∙ last_one zs i)
+
+    headed_others : (j : ℕ) → j < m → (j ≡ k → ⊥) → slice_index_or (slice_set heads k (Some i)) j None ≡ last_of (chosen (is_of m width cells j) (xs ++ i ∷ []))
+    headed_others j h other = get_or-set_other heads k j (Some i) None other ∙ b.headed j h ∙ ap last_of (sym (same j other))
 
 -- without a slot of bucket k
 last_more : (xs : List ℕ) (i : ℕ) (y : ℕ) (ys : List ℕ) → last_of (xs ++ y ∷ ys) ≡ last_of (xs ++ i ∷ (y ∷ ys))
@@ -170,65 +181,87 @@ pub left_buckets : (m width : ℕ) (cells : List ℕ) (bucket : List Pair) (head
 left_buckets m width cells bucket heads xs i ys k b d below inside its = record {
   long = length-unheaded (pair_at bucket i) k heads ∙ b.long;
   chained = λ j h. elim (cases_eq j k) [ inl here ↦ subst (λ n. Linked (left (pair_at bucket i) bucket) None (chosen (is_of m width cells n) (xs ++ ys)) None) (sym here) mine | inr other ↦ others j h other ];
-  headed = λ j h. elim (cases_eq j k) [ inl here ↦ subst (λ n. slice_index_or (unheaded (pair_at bucket i) k heads) n None ≡ last_of (chosen (is_of m width cells n) (xs ++ ys))) (sym here) headed_mine | inr other ↦ headed_others j h other ] }
+  headed = λ j h. elim (cases_eq j k) [ inl here ↦ subst (λ n. slice_index_or (unheaded (pair_at bucket i) k heads) n None ≡ last_of (chosen (is_of m width cells n) (xs ++ ys))) (sym here) headed_mine | inr other ↦ headed_others j h other ];
+}
   where
-  p : ℕ → Bool
-  p = is_of m width cells k
-  zs : List ℕ
-  zs = chosen p xs
-  ws : List ℕ
-  ws = chosen p ys
-  was : chosen p (xs ++ i ∷ ys) ≡ zs ++ i ∷ ws
-  was = chosen-append p xs (i ∷ ys) ∙ ap (λ (vs : List ℕ). zs ++ vs) (chosen_in p i ys (is_its m width cells k i its))
-  now : chosen p (xs ++ ys) ≡ zs ++ ws
-  now = chosen-append p xs ys
-  different : AreDifferent (zs ++ i ∷ ws)
-  different = subst AreDifferent was (chosen_different p (xs ++ i ∷ ys) d)
-  chain : Linked bucket None (zs ++ i ∷ ws) None
-  chain = subst (λ vs. Linked bucket None vs None) was (b.chained k inside)
-  prev : (pair_at bucket i).prev ≡ last_of zs
-  prev = prev_here bucket zs i ws chain
-  next : (pair_at bucket i).next ≡ first_of ws
-  next = next_here bucket zs i ws chain
-  mine : Linked (left (pair_at bucket i) bucket) None (chosen p (xs ++ ys)) None
-  mine = rw now (left_linked bucket zs i ws different (subst (AreBelow (length bucket)) was (chosen_below p (length bucket) (xs ++ i ∷ ys) below)) chain)
-  same : (j : ℕ) → (j ≡ k → ⊥) → chosen (is_of m width cells j) (xs ++ i ∷ ys) ≡ chosen (is_of m width cells j) (xs ++ ys)
-  same j other = chosen-append (is_of m width cells j) xs (i ∷ ys) ∙ ap (λ (vs : List ℕ). chosen (is_of m width cells j) xs ++ vs) (chosen_not (is_of m width cells j) i ys (is_no_other m width cells j k i its other)) ∙ sym (chosen-append (is_of m width cells j) xs ys)
-  prev_passes : Passes p (pair_at bucket i).prev
-  prev_passes = subst (Passes p) (sym prev) (last_passes p None xs (nothing p))
-  next_passes : Passes p (pair_at bucket i).next
-  next_passes = subst (Passes p) (sym next) (first_passes p ys)
-  others : (j : ℕ) → j < m → (j ≡ k → ⊥) → Linked (left (pair_at bucket i) bucket) None (chosen (is_of m width cells j) (xs ++ ys)) None
-  others j h other = linked_same bucket (left (pair_at bucket i) bucket) None (chosen (is_of m width cells j) (xs ++ ys)) None
-      (left_agree bucket (pair_at bucket i) (chosen (is_of m width cells j) (xs ++ ys))
+    p : ℕ → Bool
+    p = is_of m width cells k
+
+    zs : List ℕ
+    zs = chosen p xs
+
+    ws : List ℕ
+    ws = chosen p ys
+
+    was : chosen p (xs ++ i ∷ ys) ≡ zs ++ i ∷ ws
+    was = chosen-append p xs (i ∷ ys) ∙ ap (λ (vs : List ℕ). zs ++ vs) (chosen_in p i ys (is_its m width cells k i its))
+
+    now : chosen p (xs ++ ys) ≡ zs ++ ws
+    now = chosen-append p xs ys
+
+    different : AreDifferent (zs ++ i ∷ ws)
+    different = subst AreDifferent was (chosen_different p (xs ++ i ∷ ys) d)
+
+    chain : Linked bucket None (zs ++ i ∷ ws) None
+    chain = subst (λ vs. Linked bucket None vs None) was (b.chained k inside)
+
+    prev : (pair_at bucket i).prev ≡ last_of zs
+    prev = prev_here bucket zs i ws chain
+
+    next : (pair_at bucket i).next ≡ first_of ws
+    next = next_here bucket zs i ws chain
+
+    mine : Linked (left (pair_at bucket i) bucket) None (chosen p (xs ++ ys)) None
+    mine = rw now (left_linked bucket zs i ws different (subst (AreBelow (length bucket)) was (chosen_below p (length bucket) (xs ++ i ∷ ys) below)) chain)
+
+    same : (j : ℕ) → (j ≡ k → ⊥) → chosen (is_of m width cells j) (xs ++ i ∷ ys) ≡ chosen (is_of m width cells j) (xs ++ ys)
+    same j other = chosen-append (is_of m width cells j) xs (i ∷ ys) ∙ ap (λ (vs : List ℕ). chosen (is_of m width cells j) xs ++ vs) (chosen_not (is_of m width cells j) i ys (is_no_other m width cells j k i its other)) ∙ sym (chosen-append (is_of m width cells j) xs ys)
+
+    prev_passes : Passes p (pair_at bucket i).prev
+    prev_passes = subst (Passes p) (sym prev) (last_passes p None xs (nothing p))
+
+    next_passes : Passes p (pair_at bucket i).next
+    next_passes = subst (Passes p) (sym next) (first_passes p ys)
+
+    others : (j : ℕ) → j < m → (j ≡ k → ⊥) → Linked (left (pair_at bucket i) bucket) None (chosen (is_of m width cells j) (xs ++ ys)) None
+    others j h other = linked_same bucket (left (pair_at bucket i) bucket) None (chosen (is_of m width cells j) (xs ++ ys)) None
+        (left_agree bucket (pair_at bucket i) (chosen (is_of m width cells j) (xs ++ ys))
         (avoids_passing (is_of m width cells j) p (pair_at bucket i).prev (xs ++ ys) (bucket_apart m width cells j k other) prev_passes)
         (avoids_passing (is_of m width cells j) p (pair_at bucket i).next (xs ++ ys) (bucket_apart m width cells j k other) next_passes))
-      (subst (λ vs. Linked bucket None vs None) (same j other) (b.chained j h))
-  headed_mine : slice_index_or (unheaded (pair_at bucket i) k heads) k None ≡ last_of (chosen p (xs ++ ys))
-  headed_mine = unheaded_is (pair_at bucket i) k m heads zs i ws b.long inside prev next (b.headed k inside ∙ ap last_of was) ∙ sym (ap last_of now)
-  headed_others : (j : ℕ) → j < m → (j ≡ k → ⊥) → slice_index_or (unheaded (pair_at bucket i) k heads) j None ≡ last_of (chosen (is_of m width cells j) (xs ++ ys))
-  headed_others j h other = unheaded_other (pair_at bucket i).next (pair_at bucket i).prev j k heads other ∙ b.headed j h ∙ ap last_of (same j other)
+        (subst (λ vs. Linked bucket None vs None) (same j other) (b.chained j h))
+
+    headed_mine : slice_index_or (unheaded (pair_at bucket i) k heads) k None ≡ last_of (chosen p (xs ++ ys))
+    headed_mine = unheaded_is (pair_at bucket i) k m heads zs i ws b.long inside prev next (b.headed k inside ∙ ap last_of was) ∙ sym (ap last_of now)
+
+    headed_others : (j : ℕ) → j < m → (j ≡ k → ⊥) → slice_index_or (unheaded (pair_at bucket i) k heads) j None ≡ last_of (chosen (is_of m width cells j) (xs ++ ys))
+    headed_others j h other = unheaded_other (pair_at bucket i).next (pair_at bucket i).prev j k heads other ∙ b.headed j h ∙ ap last_of (same j other)
 
 -- the neighbours in a bucket, and its head, are slots
 pub its_prev : (m width : ℕ) (cells : List ℕ) (bucket : List Pair) (heads : List (Option ℕ)) (xs : List ℕ) (i : ℕ) (ys : List ℕ) (k n : ℕ)
     → AreBuckets m width cells bucket heads (xs ++ i ∷ ys) → AreBelow n (xs ++ i ∷ ys) → k < m → k ≡ class m (cells_at width cells i)
     → IsWithin n (pair_at bucket i).prev × IsWithin n (pair_at bucket i).next
-its_prev m width cells bucket heads xs i ys k n b below inside its =
-    (rw (prev_here bucket zs i ws chain) (last_within n None zs tt (below_front n zs (i ∷ ws) within)),
-     rw (next_here bucket zs i ws chain) (first_within n ws (below_back n zs ws (below_out n zs i ws within))))
+its_prev m width cells bucket heads xs i ys k n b below inside its = (
+  rw (prev_here bucket zs i ws chain) (last_within n None zs tt (below_front n zs (i ∷ ws) within)),
+  rw (next_here bucket zs i ws chain) (first_within n ws (below_back n zs ws (below_out n zs i ws within))),
+)
   where
-  p : ℕ → Bool
-  p = is_of m width cells k
-  zs : List ℕ
-  zs = chosen p xs
-  ws : List ℕ
-  ws = chosen p ys
-  was : chosen p (xs ++ i ∷ ys) ≡ zs ++ i ∷ ws
-  was = chosen-append p xs (i ∷ ys) ∙ ap (λ (vs : List ℕ). zs ++ vs) (chosen_in p i ys (is_its m width cells k i its))
-  chain : Linked bucket None (zs ++ i ∷ ws) None
-  chain = subst (λ vs. Linked bucket None vs None) was (b.chained k inside)
-  within : AreBelow n (zs ++ i ∷ ws)
-  within = subst (AreBelow n) was (chosen_below p n (xs ++ i ∷ ys) below)
+    p : ℕ → Bool
+    p = is_of m width cells k
+
+    zs : List ℕ
+    zs = chosen p xs
+
+    ws : List ℕ
+    ws = chosen p ys
+
+    was : chosen p (xs ++ i ∷ ys) ≡ zs ++ i ∷ ws
+    was = chosen-append p xs (i ∷ ys) ∙ ap (λ (vs : List ℕ). zs ++ vs) (chosen_in p i ys (is_its m width cells k i its))
+
+    chain : Linked bucket None (zs ++ i ∷ ws) None
+    chain = subst (λ vs. Linked bucket None vs None) was (b.chained k inside)
+
+    within : AreBelow n (zs ++ i ∷ ws)
+    within = subst (AreBelow n) was (chosen_below p n (xs ++ i ∷ ys) below)
 
 pub its_head : (m width : ℕ) (cells : List ℕ) (bucket : List Pair) (heads : List (Option ℕ)) (xs : List ℕ) (k n : ℕ)
     → AreBuckets m width cells bucket heads xs → AreBelow n xs → k < m → IsWithin n (slice_index_or heads k None)

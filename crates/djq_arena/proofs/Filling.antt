@@ -60,7 +60,8 @@ pub buckets_moved : (m w : ℕ) (old new : List ℕ) (bucket more : List Pair) (
 buckets_moved m w old new bucket more heads xs b h a = record {
   long = b.long;
   chained = λ k inside. rw (chosen_alike m w old new k xs h) (linked_same bucket more None (chosen (is_of m w old k) xs) None (agree_chosen (is_of m w old k) bucket more xs a) (b.chained k inside));
-  headed = λ k inside. rw (chosen_alike m w old new k xs h) (b.headed k inside) }
+  headed = λ k inside. rw (chosen_alike m w old new k xs h) (b.headed k inside);
+}
 
 -- a new slot
 pub record Extends (a b : Store) (u : List ℕ) : Type 0 where
@@ -102,18 +103,20 @@ extend_store a b xs fs u h e wide room = record {
   order = rw e.order (linked_same a.order.items (a.order.items ++ e.pair ∷ []) None xs None (agree_append a.order.items e.pair xs (below_front (length a.order.items) xs fs h.below)) h.order);
   rest = rw e.order (linked_same a.order.items (a.order.items ++ e.pair ∷ []) None fs None (agree_append a.order.items e.pair fs (below_back (length a.order.items) xs fs h.below)) h.rest);
   buckets = rw (e.heads, e.width, e.cells, e.bucket) (buckets_moved (length a.heads.items) a.width a.cells.items (a.cells.items ++ u) a.bucket.items (a.bucket.items ++ e.other ∷ []) a.heads.items xs h.buckets
-    (rows_stay a.width a.cells.items u (length a.order.items) xs h.cells (below_front (length a.order.items) xs fs h.below))
-    (agree_append a.bucket.items e.other xs (rw h.pairs (below_front (length a.order.items) xs fs h.below))));
+      (rows_stay a.width a.cells.items u (length a.order.items) xs h.cells (below_front (length a.order.items) xs fs h.below))
+      (agree_append a.bucket.items e.other xs (rw h.pairs (below_front (length a.order.items) xs fs h.below))));
   some = rw e.heads h.some;
   pairs = ap (λ (ls : List Pair). length ls) e.bucket ∙ length-append a.bucket.items (e.other ∷ []) ∙ ap (λ (n : ℕ). n + 1) h.pairs ∙ sym longer;
   cells = ap (λ (ls : List ℕ). length ls) e.cells ∙ length-append a.cells.items u ∙ grown ∙ sym (ap₂ (λ (n w : ℕ). n * w) longer e.width);
   room = omega (arith, h.room, longer, e.len, e.spare);
-  numbers = omega (arith, longer, room) }
+  numbers = omega (arith, longer, room);
+}
   where
-  longer : length b.order.items ≡ length a.order.items + 1
-  longer = ap (λ (ls : List Pair). length ls) e.order ∙ length-append a.order.items (e.pair ∷ [])
-  grown : length a.cells.items + length u ≡ (length a.order.items + 1) * a.width
-  grown = omega (arith, h.cells, wide)
+    longer : length b.order.items ≡ length a.order.items + 1
+    longer = ap (λ (ls : List Pair). length ls) e.order ∙ length-append a.order.items (e.pair ∷ [])
+
+    grown : length a.cells.items + length u ≡ (length a.order.items + 1) * a.width
+    grown = omega (arith, h.cells, wide)
 
 pub extends : (a b : Store) (u : List ℕ) → IsSound a → Extends a b u → length u ≡ a.width → length a.order.items < 4294967295 → IsPrepared a b (length a.order.items) u
 unfolding rows_of
@@ -126,16 +129,18 @@ extends a b u h e wide room =
       loose = record {
         out = rw (live, free_is b (live_of a) (free_of a) s) (below_unlike (length a.order.items) (live_of a ++ free_of a) h.store.below);
         within = omega (arith, longer);
-        room = omega (arith, longer, e.len, e.spare, h.store.room) };
+        room = omega (arith, longer, e.len, e.spare, h.store.room);
+      };
       live = live;
       width = e.width;
       here = rw (e.width, e.cells) (row_comes a.width a.cells.items u (length a.order.items) h.store.cells wide);
       rows = rows_same live;
-      slots = longer ∙ omega arith }
+      slots = longer ∙ omega arith;
+    }
   where
-  rows_same : live_of b ≡ live_of a → rows_of b ≡ rows_of a
-  rows_same live = ap (λ (xs : List ℕ). rows_in b.width b.cells.items xs) live ∙ ap₂ (λ (w : ℕ) (cs : List ℕ). rows_in w cs (live_of a)) e.width e.cells
-    ∙ rows_alike a.width a.cells.items (a.cells.items ++ u) (live_of a) (rows_stay a.width a.cells.items u (length a.order.items) (live_of a) h.store.cells (below_front (length a.order.items) (live_of a) (free_of a) h.store.below))
+    rows_same : live_of b ≡ live_of a → rows_of b ≡ rows_of a
+    rows_same live = ap (λ (xs : List ℕ). rows_in b.width b.cells.items xs) live ∙ ap₂ (λ (w : ℕ) (cs : List ℕ). rows_in w cs (live_of a)) e.width e.cells
+        ∙ rows_alike a.width a.cells.items (a.cells.items ++ u) (live_of a) (rows_stay a.width a.cells.items u (length a.order.items) (live_of a) h.store.cells (below_front (length a.order.items) (live_of a) (free_of a) h.store.below))
 
 -- the same store, with arrays that may have moved
 pub record Stays (a b : Store) : Type 0 where
@@ -164,14 +169,16 @@ stay_store a b xs fs h s = record {
   pairs = rw (s.bucket, s.order) h.pairs;
   cells = rw (s.cells, s.width, s.order) h.cells;
   room = rw (s.len, s.spare, s.order) h.room;
-  numbers = rw s.order h.numbers }
+  numbers = rw s.order h.numbers;
+}
 
 pub stays : (a b : Store) → IsSound a → Stays a b → IsSame a b
 stays a b h s =
     let k = stay_store a b (live_of a) (free_of a) h.store s in
     record {
       alike = record { sound = sound b (live_of a) (free_of a) k; width = s.width; cells = s.cells; slots = ap (λ (ls : List Pair). length ls) s.order };
-      live = live_is b (live_of a) (free_of a) k }
+      live = live_is b (live_of a) (free_of a) k;
+    }
 
 -- a row that is written over another
 written : List ℕ → ℕ → List ℕ → List ℕ
@@ -208,13 +215,14 @@ pub record Reuses (a b : Store) (i : ℕ) (u : List ℕ) : Type 0 where
 row_kept : (w : ℕ) (cells : List ℕ) (i : ℕ) (u : List ℕ) (n x : ℕ) → length cells ≡ n * w → length u ≡ w → i < n → x < n → x ≢ i → cells_at w (written cells (i * w) u) x ≡ cells_at w cells x
 unfolding cells_at
 row_kept w cells i u n x long wide within inside other =
-    elim (cases_order x i)
-    [ inl same ↦ absurd (other same)
-    | inr (inl before) ↦ part_before cells (i * w) u (x * w) w fits (row_fits x i w before)
-    | inr (inr after) ↦ part_after cells (i * w) u (x * w) w fits (omega (arith, row_fits i x w after, wide)) ]
+    elim (cases_order x i) [
+      | inl same ↦ absurd (other same)
+      | inr (inl before) ↦ part_before cells (i * w) u (x * w) w fits (row_fits x i w before)
+      | inr (inr after) ↦ part_after cells (i * w) u (x * w) w fits (omega (arith, row_fits i x w after, wide))
+    ]
   where
-  fits : i * w + length u ≤ length cells
-  fits = omega (arith, row_fits i n w within, long, wide)
+    fits : i * w + length u ≤ length cells
+    fits = omega (arith, row_fits i n w within, long, wide)
 
 rows_kept : (w : ℕ) (cells : List ℕ) (i : ℕ) (u : List ℕ) (n : ℕ) (xs : List ℕ) → length cells ≡ n * w → length u ≡ w → i < n → AreBelow n xs → IsOut i xs → Alike w cells (written cells (i * w) u) xs
 unfolding Alike AreBelow IsOut
@@ -272,36 +280,39 @@ module _ (a b : Store) (xs gs : List ℕ) (i : ℕ) (u : List ℕ) (h : IsStore 
     apart = reuse_different;
     below = rw (r.order, length-left) reuse_inside;
     order = rw r.order (linked_same a.order.items (left (pair_at a.order.items i) a.order.items) None xs None
-      (left_agree a.order.items (pair_at a.order.items i) xs (subst (λ o. Avoids o xs) (sym reuse_prev) (last_avoids None gs xs (avoids_none xs) (different_swap xs gs reuse_different))) (subst (λ o. Avoids o xs) (sym reuse_next) (avoids_none xs)))
-      h.order);
+        (left_agree a.order.items (pair_at a.order.items i) xs (subst (λ o. Avoids o xs) (sym reuse_prev) (last_avoids None gs xs (avoids_none xs) (different_swap xs gs reuse_different))) (subst (λ o. Avoids o xs) (sym reuse_next) (avoids_none xs)))
+        h.order);
     rest = rw r.order (subst (λ zs. Linked (left (pair_at a.order.items i) a.order.items) None zs None) (append-nil gs)
-      (left_linked a.order.items gs i [] (different_back xs (gs ++ i ∷ []) h.apart) (below_back (length a.order.items) xs (gs ++ i ∷ []) h.below) h.rest));
+        (left_linked a.order.items gs i [] (different_back xs (gs ++ i ∷ []) h.apart) (below_back (length a.order.items) xs (gs ++ i ∷ []) h.below) h.rest));
     buckets = rw (r.heads, r.width, reuse_cells, r.bucket) (buckets_moved (length a.heads.items) a.width a.cells.items (written a.cells.items (i * a.width) u) a.bucket.items a.bucket.items a.heads.items xs h.buckets reuse_alike (agree_self a.bucket.items xs));
     some = rw r.heads h.some;
     pairs = rw (r.bucket, r.order, length-left) h.pairs;
     cells = rw (reuse_cells, r.width, r.order, length-left, reuse_long) h.cells;
     room = rw (r.len, r.spare, r.order, length-left) (omega (arith, h.room));
-    numbers = rw (r.order, length-left) h.numbers }
+    numbers = rw (r.order, length-left) h.numbers;
+  }
 
   reuse_rows : live_of b ≡ live_of a → live_of a ≡ xs → rows_of b ≡ rows_of a
   unfolding rows_of
   reuse_rows live is = ap (λ (ys : List ℕ). rows_in b.width b.cells.items ys) (live ∙ is) ∙ ap₂ (λ (w : ℕ) (cs : List ℕ). rows_in w cs xs) r.width reuse_cells
-    ∙ rows_alike a.width a.cells.items (written a.cells.items (i * a.width) u) xs reuse_alike ∙ ap (λ (ys : List ℕ). rows_in a.width a.cells.items ys) (sym is)
+      ∙ rows_alike a.width a.cells.items (written a.cells.items (i * a.width) u) xs reuse_alike ∙ ap (λ (ys : List ℕ). rows_in a.width a.cells.items ys) (sym is)
 
   reuse_prepared : live_of a ≡ xs → IsPrepared a b i u
   reuse_prepared is =
-    let live = live_is b xs gs reuse_store ∙ sym is in
-    record {
-      sound = sound b xs gs reuse_store;
-      loose = record {
-        out = rw (live_is b xs gs reuse_store, free_is b xs gs reuse_store) reuse_out;
-        within = rw (r.order, length-left) reuse_within;
-        room = rw (r.len, r.spare, r.order, length-left) (omega (arith, h.room, h.spare, length-append gs (i ∷ []))) };
-      live = live;
-      width = r.width;
-      here = rw (r.width, reuse_cells) (row_written a.width a.cells.items i u (length a.order.items) h.cells wide reuse_within);
-      rows = reuse_rows live is;
-      slots = ap (λ (ls : List Pair). length ls) r.order ∙ length-left a.order.items (pair_at a.order.items i) ∙ omega (arith, reuse_within) }
+      let live = live_is b xs gs reuse_store ∙ sym is in
+      record {
+        sound = sound b xs gs reuse_store;
+        loose = record {
+          out = rw (live_is b xs gs reuse_store, free_is b xs gs reuse_store) reuse_out;
+          within = rw (r.order, length-left) reuse_within;
+          room = rw (r.len, r.spare, r.order, length-left) (omega (arith, h.room, h.spare, length-append gs (i ∷ [])));
+        };
+        live = live;
+        width = r.width;
+        here = rw (r.width, reuse_cells) (row_written a.width a.cells.items i u (length a.order.items) h.cells wide reuse_within);
+        rows = reuse_rows live is;
+        slots = ap (λ (ls : List Pair). length ls) r.order ∙ length-left a.order.items (pair_at a.order.items i) ∙ omega (arith, reuse_within);
+      }
 
 pub reuses : (a b : Store) (i : ℕ) (u : List ℕ) → IsSound a → a.free.last ≡ Some i → Reuses a b i u → length u ≡ a.width → IsPrepared a b i u
 reuses a b i u h newest r wide =
@@ -313,10 +324,11 @@ pub newest_free : (a : Store) (i : ℕ) → IsSound a → a.free.last ≡ Some i
 newest_free a i h newest =
     let e = ends_with (free_of a) i (ap (λ (v : Ends). v.last) (sym h.store.free) ∙ newest) in
     let s = subst (IsStore a (live_of a)) e.is h.store in
-    let below = below_back (length a.order.items) (live_of a) (e.front ++ i ∷ []) s.below in
-    (below_here (length a.order.items) e.front i [] below,
-     rw (prev_here a.order.items e.front i [] s.rest) (last_within (length a.order.items) None e.front tt (below_front (length a.order.items) e.front (i ∷ []) below)),
-     rw (next_here a.order.items e.front i [] s.rest) tt)
+    let below = below_back (length a.order.items) (live_of a) (e.front ++ i ∷ []) s.below in (
+      below_here (length a.order.items) e.front i [] below,
+      rw (prev_here a.order.items e.front i [] s.rest) (last_within (length a.order.items) None e.front tt (below_front (length a.order.items) e.front (i ∷ []) below)),
+      rw (next_here a.order.items e.front i [] s.rest) tt,
+    )
 
 pub newest_fits : (a : Store) (i : ℕ) (u : List ℕ) → IsSound a → a.free.last ≡ Some i → length u ≡ a.width → i * a.width + length u ≤ length a.cells.items
 newest_fits a i u h newest wide = omega (arith, row_fits i (length a.order.items) a.width (newest_free a i h newest).0, h.store.cells, wide)

@@ -3,3 +3,5 @@ pub mod Chaining
 pub mod Choosing
 pub mod Storing
 pub mod Filling
+pub mod Growing
+pub mod RowLemmas

@@ -56,19 +56,22 @@ link_store a b xs fs i k h r out within room inside its = record {
   pairs = rw (r.bucket, r.order, length-entered, length-entered) h.pairs;
   cells = rw (r.cells, r.width, r.order, length-entered) h.cells;
   room = rw (r.len, r.spare, r.order, length-entered) (omega (arith, room));
-  numbers = rw (r.order, length-entered) h.numbers }
+  numbers = rw (r.order, length-entered) h.numbers;
+}
   where
-  pairs_below : AreBelow (length a.bucket.items) xs
-  pairs_below = rw h.pairs (below_front (length a.order.items) xs fs h.below)
-  buckets_are : AreBuckets (length b.heads.items) b.width b.cells.items b.bucket.items b.heads.items (xs ++ i ∷ [])
-  buckets_are = rw (r.heads, length-set, r.width, r.cells, r.bucket) (entered_buckets (length a.heads.items) a.width a.cells.items a.bucket.items a.heads.items xs i k h.buckets (different_front xs fs h.apart) pairs_below (out_front i xs fs out) (rw h.pairs within) inside its)
+    pairs_below : AreBelow (length a.bucket.items) xs
+    pairs_below = rw h.pairs (below_front (length a.order.items) xs fs h.below)
+
+    buckets_are : AreBuckets (length b.heads.items) b.width b.cells.items b.bucket.items b.heads.items (xs ++ i ∷ [])
+    buckets_are = rw (r.heads, length-set, r.width, r.cells, r.bucket) (entered_buckets (length a.heads.items) a.width a.cells.items a.bucket.items a.heads.items xs i k h.buckets (different_front xs fs h.apart) pairs_below (out_front i xs fs out) (rw h.pairs within) inside its)
 
 pub links : (a b : Store) (i k : ℕ) → IsSound a → IsLoose a i → Relinks a b i k → k < length a.heads.items → k ≡ class (length a.heads.items) (cells_at a.width a.cells.items i) → IsLinked a b i
 links a b i k h l r inside its =
     let s = link_store a b (live_of a) (free_of a) i k h.store r l.out l.within l.room inside its in
     record {
       alike = record { sound = sound b (live_of a ++ i ∷ []) (free_of a) s; width = r.width; cells = r.cells; slots = ap (λ (ls : List Pair). length ls) r.order ∙ length-entered a.order.items a.live.last i };
-      live = live_is b (live_of a ++ i ∷ []) (free_of a) s }
+      live = live_is b (live_of a ++ i ∷ []) (free_of a) s;
+    }
 
 -- what is asked where a slot comes in
 pub last_in_order : (a : Store) → IsSound a → IsWithin (length a.order.items) a.live.last
@@ -119,31 +122,39 @@ unlink_store a b xs i ys fs k h u inside its = record {
   below = rw (u.order, length-left, append_assoc) (below_out (length a.order.items) xs i (ys ++ fs) below_all);
   order = rw u.order (left_linked a.order.items xs i ys (different_front (xs ++ i ∷ ys) fs h.apart) (below_front (length a.order.items) (xs ++ i ∷ ys) fs h.below) h.order);
   rest = rw u.order (linked_same a.order.items (left (pair_at a.order.items i) a.order.items) None fs None
-    (left_agree a.order.items (pair_at a.order.items i) fs (subst (λ o. Avoids o fs) (sym prev) (last_avoids None xs fs (avoids_none fs) apart_front)) (subst (λ o. Avoids o fs) (sym next) (first_avoids ys fs apart_back)))
-    h.rest);
+      (left_agree a.order.items (pair_at a.order.items i) fs (subst (λ o. Avoids o fs) (sym prev) (last_avoids None xs fs (avoids_none fs) apart_front)) (subst (λ o. Avoids o fs) (sym next) (first_avoids ys fs apart_back)))
+      h.rest);
   buckets = buckets_are;
   some = rw (u.heads, length-unheaded) h.some;
   pairs = rw (u.bucket, u.order, length-left (a.bucket.items), length-left (a.order.items)) h.pairs;
   cells = rw (u.cells, u.width, u.order, length-left) h.cells;
   room = rw (u.len, u.spare, u.order, length-left) (omega (arith, h.room));
-  numbers = rw (u.order, length-left) h.numbers }
+  numbers = rw (u.order, length-left) h.numbers;
+}
   where
-  prev : (pair_at a.order.items i).prev ≡ last_of xs
-  prev = prev_here a.order.items xs i ys h.order
-  next : (pair_at a.order.items i).next ≡ first_of ys
-  next = next_here a.order.items xs i ys h.order
-  apart_all : AreDifferent (xs ++ i ∷ (ys ++ fs))
-  apart_all = subst AreDifferent (append_assoc xs (i ∷ ys) fs) h.apart
-  below_all : AreBelow (length a.order.items) (xs ++ i ∷ (ys ++ fs))
-  below_all = subst (AreBelow (length a.order.items)) (append_assoc xs (i ∷ ys) fs) h.below
-  apart_rest : AreDifferent ((xs ++ ys) ++ fs)
-  apart_rest = rw append_assoc (different_out xs i (ys ++ fs) apart_all)
-  apart_back : AreDifferent (ys ++ fs)
-  apart_back = different_back xs (ys ++ fs) (different_out xs i (ys ++ fs) apart_all)
-  apart_front : AreDifferent (xs ++ fs)
-  apart_front = without_middle xs ys fs (different_out xs i (ys ++ fs) apart_all)
-  buckets_are : AreBuckets (length b.heads.items) b.width b.cells.items b.bucket.items b.heads.items (xs ++ ys)
-  buckets_are = rw (u.heads, length-unheaded, u.width, u.cells, u.bucket) (left_buckets (length a.heads.items) a.width a.cells.items a.bucket.items a.heads.items xs i ys k h.buckets (different_front (xs ++ i ∷ ys) fs h.apart) (rw h.pairs (below_front (length a.order.items) (xs ++ i ∷ ys) fs h.below)) inside its)
+    prev : (pair_at a.order.items i).prev ≡ last_of xs
+    prev = prev_here a.order.items xs i ys h.order
+
+    next : (pair_at a.order.items i).next ≡ first_of ys
+    next = next_here a.order.items xs i ys h.order
+
+    apart_all : AreDifferent (xs ++ i ∷ (ys ++ fs))
+    apart_all = subst AreDifferent (append_assoc xs (i ∷ ys) fs) h.apart
+
+    below_all : AreBelow (length a.order.items) (xs ++ i ∷ (ys ++ fs))
+    below_all = subst (AreBelow (length a.order.items)) (append_assoc xs (i ∷ ys) fs) h.below
+
+    apart_rest : AreDifferent ((xs ++ ys) ++ fs)
+    apart_rest = rw append_assoc (different_out xs i (ys ++ fs) apart_all)
+
+    apart_back : AreDifferent (ys ++ fs)
+    apart_back = different_back xs (ys ++ fs) (different_out xs i (ys ++ fs) apart_all)
+
+    apart_front : AreDifferent (xs ++ fs)
+    apart_front = without_middle xs ys fs (different_out xs i (ys ++ fs) apart_all)
+
+    buckets_are : AreBuckets (length b.heads.items) b.width b.cells.items b.bucket.items b.heads.items (xs ++ ys)
+    buckets_are = rw (u.heads, length-unheaded, u.width, u.cells, u.bucket) (left_buckets (length a.heads.items) a.width a.cells.items a.bucket.items a.heads.items xs i ys k h.buckets (different_front (xs ++ i ∷ ys) fs h.apart) (rw h.pairs (below_front (length a.order.items) (xs ++ i ∷ ys) fs h.below)) inside its)
 
 pub unlinks : (a b : Store) (i k : ℕ) → IsSound a → Holds (live_of a) i → Unlinks a b i k → k < length a.heads.items → k ≡ class (length a.heads.items) (cells_at a.width a.cells.items i) → IsUnlinked a b i
 unlinks a b i k h held u inside its =
@@ -155,7 +166,9 @@ unlinks a b i k h held u inside its =
       loose = record {
         out = rw (live_is b (held.front ++ held.back) (free_of a) s, free_is b (held.front ++ held.back) (free_of a) s, append_assoc) (different_here held.front i (held.back ++ free_of a) (subst AreDifferent (append_assoc held.front (i ∷ held.back) (free_of a)) was.apart));
         within = rw (u.order, length-left) (below_here (length a.order.items) held.front i held.back (below_front (length a.order.items) (held.front ++ i ∷ held.back) (free_of a) was.below));
-        room = rw (u.len, u.spare, u.order, length-left) (omega (arith, was.room, was.count, length-append held.front (i ∷ held.back))) } }
+        room = rw (u.len, u.spare, u.order, length-left) (omega (arith, was.room, was.count, length-append held.front (i ∷ held.back)));
+      };
+    }
 
 -- what is asked where a slot goes
 pub held_within : (a : Store) (i : ℕ) → IsSound a → Holds (live_of a) i → i < length a.order.items
@@ -198,14 +211,16 @@ release_store a b xs fs i h r out within room = record {
   pairs = rw (r.bucket, r.order, length-entered) h.pairs;
   cells = rw (r.cells, r.width, r.order, length-entered) h.cells;
   room = rw (r.len, r.spare, r.order, length-entered) (omega (arith, room));
-  numbers = rw (r.order, length-entered) h.numbers }
+  numbers = rw (r.order, length-entered) h.numbers;
+}
 
 pub releases : (a b : Store) (i : ℕ) → IsSound a → IsLoose a i → Releases a b i → IsSame a b
 releases a b i h l r =
     let s = release_store a b (live_of a) (free_of a) i h.store r l.out l.within l.room in
     record {
       alike = record { sound = sound b (live_of a) (free_of a ++ i ∷ []) s; width = r.width; cells = r.cells; slots = ap (λ (ls : List Pair). length ls) r.order ∙ length-entered a.order.items a.free.last i };
-      live = live_is b (live_of a) (free_of a ++ i ∷ []) s }
+      live = live_is b (live_of a) (free_of a ++ i ∷ []) s;
+    }
 
 pub head_within : (a : Store) (k : ℕ) → IsSound a → k < length a.heads.items → IsWithin (length a.bucket.items) (slice_index_or a.heads.items k None)
 head_within a k h inside =

@@ -28,8 +28,8 @@ shrunk p e = record { first = beside p.prev p.next e.first; last = beside p.next
 abbrev pub mixed : ℕ → ℕ → ℕ
 mixed h x = stirred (bit_xor h x * 11400714819323198485 % 2 ^ 64)
   where
-  stirred : ℕ → ℕ
-  stirred m = bit_xor m (m / 2 ^ 32)
+    stirred : ℕ → ℕ
+    stirred m = bit_xor m (m / 2 ^ 32)
 
 -- the hash of a row
 unfoldable pub hash : List ℕ → ℕ
@@ -39,9 +39,9 @@ hash u = fold mixed 0 u
 abbrev pub unheaded : Pair → ℕ → List (Option ℕ) → List (Option ℕ)
 unheaded p k heads = beside p.next
   where
-  beside : Option ℕ → List (Option ℕ)
-  beside None = slice_set heads k p.prev
-  beside (Some x) = heads
+    beside : Option ℕ → List (Option ℕ)
+    beside None = slice_set heads k p.prev
+    beside (Some x) = heads
 
 -- a row's bucket, of m
 unfoldable pub class : ℕ → List ℕ → ℕ
@@ -158,3 +158,20 @@ pub record IsPrepared (old new : Store) (i : ℕ) (u : List ℕ) : Type 0 where
   pub here : cells_at new.width new.cells.items i ≡ u
   pub rows : rows_of new ≡ rows_of old
   pub slots : length new.order.items ≡ max (length old.order.items) (i + 1)
+
+-- a row came, behind all others
+pub record IsPut (old new : Store) (i : ℕ) (u : List ℕ) : Type 0 where
+  pub sound : IsSound new
+  pub width : new.width ≡ old.width
+  pub rows : rows_of new ≡ rows_of old ++ record { slot = i; cells = u } ∷ []
+  pub slots : length new.order.items ≡ max (length old.order.items) (i + 1)
+
+-- the row in slot i went
+pub record IsTaken (old new : Store) (i : ℕ) : Type 0 where
+  pub alike : IsAlike old new
+  pub live : (xs ys : List ℕ) → live_of old ≡ xs ++ i ∷ ys → live_of new ≡ xs ++ ys
+
+-- the row in slot i is behind all others now
+pub record IsRenewed (old new : Store) (i : ℕ) : Type 0 where
+  pub alike : IsAlike old new
+  pub live : (xs ys : List ℕ) → live_of old ≡ xs ++ i ∷ ys → live_of new ≡ (xs ++ ys) ++ i ∷ []

@@ -70,7 +70,6 @@ pub fn leave(links: &mut Vec<Pair>, pair: &Pair)
     point_back(links, pair.next, pair.prev);
 }
 
-
 /// The ends of a chain that a slot has entered.
 pub fn grown(ends: &Ends, slot: u32) -> Ends
     requires { slot < 4294967295 }

@@ -1,5 +1,5 @@
-ghost use Rattle.std.specs.Prelude.{◌≡◌, ◌+◌, ◌*◌, ◌<◌, ◌≤◌, ◌++◌, ◌∷◌, [], length, take, drop, slice_index_or, Some, None, ℕ, IfOk, OnErr};
-ghost use Rattle.djq_arena.specs.Store.{mixed, hash, unheaded, class, cells_at, Enlists, IsPrepared, IsSound, IsLoose, IsLinked, IsUnlinked, IsSame, Holds, live_of};
+ghost use Rattle.std.specs.Prelude.{◌≡◌, ◌+◌, ◌*◌, ◌<◌, ◌≤◌, ◌++◌, ◌∷◌, [], length, take, drop, slice_index_or, Some, None, ℕ, IfOk, OnErr, replicate};
+ghost use Rattle.djq_arena.specs.Store.{mixed, hash, unheaded, class, cells_at, Enlists, IsPrepared, IsPut, IsTaken, IsRenewed, IsSound, IsLoose, IsLinked, IsUnlinked, IsSame, Holds, live_of};
 ghost use Rattle.djq_arena.specs.Chains.{IsWithin};
 
 use crate::chain::{Ends, Pair, cut, enter, grown, leave, pair_of};
@@ -183,4 +183,100 @@ fn fresh(store: &mut Store, cells: &[u64]) -> Result<u32, AllocError>
         next: Link::none(),
     });
     Ok(slot as u32)
+}
+
+/// Puts all rows into other buckets, which are empty yet, the oldest first.
+fn rebuild(store: &mut Store, heads: Vec<Link>)
+    requires sound { IsSound store.old }
+    requires some { 0 < length heads.items }
+    requires empty { heads.items ≡ replicate (length heads.items) None }
+    ensures same { IsSame store.old store.new }
+{
+    let mut at = store.live.first;
+    store.heads = heads;
+    for _done in 0..store.len {
+        match at.get() {
+            None => return,
+            Some(slot) => {
+                enlist(store, slot);
+                at = pair_of(&store.order, slot).next;
+            }
+        }
+    }
+}
+
+/// Twice as many buckets. Where there is no memory, all stays as it was.
+fn grow(store: &mut Store, alloc: Global) -> Result<(), AllocError>
+    requires { IsSound store.old }
+    ensures { IsSame store.old store.new }
+{
+    let count = store.heads.len();
+    if count > usize::MAX / 2 {
+        return Err(AllocError);
+    }
+    let mut heads = Vec::new(alloc);
+    heads.resize(2 * count, Link::none())?;
+    rebuild(store, heads);
+    Ok(())
+}
+
+/// Twice as many buckets, where there are no more buckets than rows.
+fn make_room(store: &mut Store, alloc: Global) -> Result<(), AllocError>
+    requires { IsSound store.old }
+    ensures { IsSame store.old store.new }
+{
+    if store.heads.len() <= store.len as usize {
+        grow(store, alloc)
+    } else {
+        Ok(())
+    }
+}
+
+/// Writes a row into a slot that holds none.
+fn prepare(store: &mut Store, cells: &[u64]) -> Result<u32, AllocError>
+    requires sound { IsSound store.old }
+    requires wide { length cells.now ≡ store.old.width }
+    ensures prepared { IfOk result (λ slot. IsPrepared store.old store.new slot cells.now) }
+    ensures refused { OnErr result (IsSame store.old store.new) }
+{
+    match store.free.last.get() {
+        Some(slot) => {
+            reuse(store, slot, cells);
+            Ok(slot)
+        }
+        None => fresh(store, cells),
+    }
+}
+
+/// Puts in a row behind all others. Where there is no memory, all stays as it was.
+pub fn put(store: &mut Store, alloc: Global, cells: &[u64]) -> Result<u32, AllocError>
+    requires sound { IsSound store.old }
+    requires wide { length cells.now ≡ store.old.width }
+    ensures put { IfOk result (λ slot. IsPut store.old store.new slot cells.now) }
+    ensures refused { OnErr result (IsSame store.old store.new) }
+{
+    make_room(store, alloc)?;
+    let slot = prepare(store, cells)?;
+    link(store, slot);
+    Ok(slot)
+}
+
+/// Takes a row out.
+pub fn take(store: &mut Store, slot: u32)
+    requires sound { IsSound store.old }
+    requires held { Holds (live_of store.old) slot }
+    ensures taken { IsTaken store.old store.new slot }
+{
+    unlink(store, slot);
+    release(store, slot);
+}
+
+/// Puts a row behind all others; its slot stays.
+pub fn renew(store: &mut Store, slot: u32)
+    requires sound { IsSound store.old }
+    requires held { Holds (live_of store.old) slot }
+    ensures renewed { IsRenewed store.old store.new slot }
+{
+    unlink(store, slot);
+    link(store, slot);
 }

@@ -18,9 +18,18 @@ pub returns : goal.returns
 returns c =
     let e = c.enlist.ensures.enlisted in
     let a = c.args.store.now in
-    record { linked = links a _ c.args.slot (class (length a.heads.items) (cells_at a.width a.cells.items c.args.slot)) c.requires.sound c.requires.loose
-      (record { width = e.width; cells = e.cells;
-        order = c.enter.ensures ∙ ap₂ (λ (v : Ends) (ls : List Pair). entered v.last c.args.slot ls) e.live e.order;
-        live = c.grown-store.ensures ∙ ap (λ (v : Ends). extended c.args.slot v) e.live;
-        bucket = e.bucket; heads = e.heads; free = e.free; len = ap (λ (n : ℕ). n + 1) e.len; spare = e.spare })
-      e.within refl }
+    record {
+      linked = links a _ c.args.slot (class (length a.heads.items) (cells_at a.width a.cells.items c.args.slot)) c.requires.sound c.requires.loose
+          (record {
+            width = e.width;
+            cells = e.cells;
+            order = c.enter.ensures ∙ ap₂ (λ (v : Ends) (ls : List Pair). entered v.last c.args.slot ls) e.live e.order;
+            live = c.grown-store.ensures ∙ ap (λ (v : Ends). extended c.args.slot v) e.live;
+            bucket = e.bucket;
+            heads = e.heads;
+            free = e.free;
+            len = ap (λ (n : ℕ). n + 1) e.len;
+            spare = e.spare;
+          })
+          e.within refl;
+    }

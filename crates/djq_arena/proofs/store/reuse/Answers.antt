@@ -21,10 +21,18 @@ pub overwrite-requires : goal.overwrite-requires
 overwrite-requires c = newest_fits c.args.store.now c.args.slot c.args.cells.now c.requires.sound c.requires.newest c.requires.wide
 
 pub returns : goal.returns
-returns c = record { prepared = reuses c.args.store.now _ c.args.slot c.args.cells.now c.requires.sound c.requires.newest
-      (record { width = refl; cells = c.overwrite.ensures;
+returns c = record {
+  prepared = reuses c.args.store.now _ c.args.slot c.args.cells.now c.requires.sound c.requires.newest
+      (record {
+        width = refl;
+        cells = c.overwrite.ensures;
         order = c.leave.ensures ∙ ap (λ (p : Pair). left p c.args.store.now.order.items) c.pair_of-neighbours.ensures;
-        live = refl; bucket = refl; heads = refl;
+        live = refl;
+        bucket = refl;
+        heads = refl;
         free = c.cut-store.ensures ∙ ap (λ (p : Pair). shrunk p c.args.store.now.free) c.pair_of-neighbours.ensures;
-        len = refl; spare = refl })
-      c.requires.wide }
+        len = refl;
+        spare = refl;
+      })
+      c.requires.wide;
+}

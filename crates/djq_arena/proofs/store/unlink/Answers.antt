@@ -27,11 +27,18 @@ pub leave-requires-2-clause-next : goal.leave-requires-2-clause-next
 leave-requires-2-clause-next c = subst (λ (p : Pair). IsWithin (length c.args.store.now.bucket.items) p.next) (sym c.pair_of-others.ensures) (held_in_bucket c.args.store.now c.args.slot c.class_at-class.result c.requires.sound c.requires.held c.class_at-class.ensures.within c.class_at-class.ensures.class).1
 
 pub returns : goal.returns
-returns c = record { unlinked = unlinks c.args.store.now _ c.args.slot c.class_at-class.result c.requires.sound c.requires.held
-      (record { width = refl; cells = refl;
+returns c = record {
+  unlinked = unlinks c.args.store.now _ c.args.slot c.class_at-class.result c.requires.sound c.requires.held
+      (record {
+        width = refl;
+        cells = refl;
         order = c.leave.ensures ∙ ap (λ (p : Pair). left p c.args.store.now.order.items) c.pair_of-neighbours.ensures;
         live = c.cut-store.ensures ∙ ap (λ (p : Pair). shrunk p c.args.store.now.live) c.pair_of-neighbours.ensures;
         bucket = c.leave-2.ensures ∙ ap (λ (p : Pair). left p c.args.store.now.bucket.items) c.pair_of-others.ensures;
         heads = c.unhead.ensures ∙ ap (λ (p : Pair). unheaded p c.class_at-class.result c.args.store.now.heads.items) c.pair_of-others.ensures;
-        free = refl; len = refl; spare = refl })
-      c.class_at-class.ensures.within c.class_at-class.ensures.class }
+        free = refl;
+        len = refl;
+        spare = refl;
+      })
+      c.class_at-class.ensures.within c.class_at-class.ensures.class;
+}
