@@ -5,3 +5,4 @@ pub mod Storing
 pub mod Filling
 pub mod Growing
 pub mod RowLemmas
+pub mod Seeking

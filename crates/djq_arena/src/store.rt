@@ -1,5 +1,6 @@
-ghost use Rattle.std.specs.Prelude.{◌≡◌, ◌+◌, ◌*◌, ◌<◌, ◌≤◌, ◌++◌, ◌∷◌, [], length, take, drop, slice_index_or, Some, None, ℕ, IfOk, OnErr, replicate};
-ghost use Rattle.djq_arena.specs.Store.{mixed, hash, unheaded, class, cells_at, Enlists, IsPrepared, IsPut, IsTaken, IsRenewed, IsSound, IsLoose, IsLinked, IsUnlinked, IsSame, Holds, live_of};
+ghost use Rattle.std.specs.Prelude.{◌≡◌, ◌+◌, ◌*◌, ◌<◌, ◌≤◌, ◌++◌, ◌∷◌, [], length, take, drop, slice_index_or, Some, None, ℕ, IfOk, OnErr, replicate, IsTrue, ◌↔◌, MatchOption};
+ghost use Rattle.djq_arena.specs.Rows.{IsAbsent, IsRow};
+ghost use Rattle.djq_arena.specs.Store.{mixed, hash, unheaded, class, cells_at, Enlists, IsPrepared, IsPut, IsTaken, IsRenewed, IsSound, IsLoose, IsLinked, IsUnlinked, IsSame, Holds, live_of, rows_of};
 ghost use Rattle.djq_arena.specs.Chains.{IsWithin};
 
 use crate::chain::{Ends, Pair, cut, enter, grown, leave, pair_of};
@@ -70,6 +71,43 @@ fn class_at(store: &Store, slot: u32) -> usize
     ensures within { result < length store.now.heads.items }
 {
     class_of(store.heads.len(), cells_of(store, slot))
+}
+
+/// Whether the row in a slot has these cells.
+fn reads(store: &Store, slot: u32, cells: &[u64]) -> bool
+    requires cells { length store.now.cells.items ≡ length store.now.order.items * store.now.width }
+    requires slot { slot < length store.now.order.items }
+    ensures { IsTrue result ↔ (cells_at store.now.width store.now.cells.items slot ≡ cells.now) }
+{
+    cells_of(store, slot) == cells
+}
+
+/// The head of the bucket that a row with these cells is in.
+fn head_of(store: &Store, cells: &[u64]) -> Link
+    requires { 0 < length store.now.heads.items }
+    ensures { result ≡ slice_index_or store.now.heads.items (class (length store.now.heads.items) cells.now) None }
+{
+    store.heads[class_of(store.heads.len(), cells)]
+}
+
+/// The slot of a row with these cells: a walk through one bucket.
+pub fn find(store: &Store, cells: &[u64]) -> Option<u32>
+    requires { IsSound store.now }
+    ensures { MatchOption result (IsAbsent (rows_of store.now) cells.now) (λ slot. IsRow (rows_of store.now) slot cells.now) }
+{
+    let mut at = head_of(store, cells);
+    for _step in 0..store.len {
+        match at.get() {
+            None => return None,
+            Some(slot) => {
+                if reads(store, slot, cells) {
+                    return Some(slot);
+                }
+                at = pair_of(&store.bucket, slot).prev;
+            }
+        }
+    }
+    None
 }
 
 /// Puts a slot at the head of its bucket.
@@ -279,4 +317,29 @@ pub fn renew(store: &mut Store, slot: u32)
 {
     unlink(store, slot);
     link(store, slot);
+}
+
+/// A store without rows. It fails only for want of memory.
+pub fn empty(alloc: Global, width: usize) -> Result<Store, AllocError>
+    ensures { IfOk result (λ s. IsSound s × (s.width ≡ width) × (s.order.items ≡ []) × (rows_of s ≡ [])) }
+{
+    let mut heads = Vec::new(alloc);
+    heads.resize(16, Link::none())?;
+    Ok(Store {
+        width,
+        order: Vec::new(alloc),
+        bucket: Vec::new(alloc),
+        cells: Vec::new(alloc),
+        heads,
+        live: Ends {
+            first: Link::none(),
+            last: Link::none(),
+        },
+        free: Ends {
+            first: Link::none(),
+            last: Link::none(),
+        },
+        len: 0,
+        spare: 0,
+    })
 }
