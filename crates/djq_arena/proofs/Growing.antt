@@ -5,7 +5,7 @@ use Rattle.std.proofs.lemmas.List.{append-nil, map-append, take_all, get_or-repl
 use Rattle.djq_arena.specs.declared.chain.Pair.{Pair}
 use Rattle.djq_arena.specs.declared.store.Store.{Store}
 use Rattle.djq_arena.specs.Chains.{pair_at, first_or, last_from, first_of, last_of, Linked, IsOut, AreDifferent, AreBelow, entered, IsWithin}
-use Rattle.djq_arena.specs.Store.{chosen, is_of, class, cells_at, AreBuckets, IsStore, live_of, free_of, IsSound, IsLoose, rows_in, rows_of, IsAlike, IsLinked, IsSame, Holds, Enlists, IsPrepared, IsPut}
+use Rattle.djq_arena.specs.Store.{ends_of, chosen, is_of, class, cells_at, AreBuckets, IsStore, live_of, free_of, IsSound, IsLoose, rows_in, rows_of, IsAlike, IsLinked, IsSame, Holds, Enlists, IsPrepared, IsPut}
 use Rattle.djq_arena.specs.Rows.{Row}
 use Rattle.djq_arena.proofs.Lists.{out_front, different_front, different_out, different_here, below_front, below_here, starts_empty}
 use Rattle.djq_arena.proofs.Chaining.{next_here, length-entered}
@@ -146,3 +146,31 @@ rebuilt a b o j h r over = record {
       room = rw (r.len, r.spare, r.order) h.store.room;
       numbers = rw r.order h.store.numbers;
     }
+
+-- a store without rows
+pub empty_store : (s : Store) (n : ℕ) → s.order.items ≡ [] → s.bucket.items ≡ [] → s.cells.items ≡ [] → s.heads.items ≡ replicate n None → 0 < n → s.live ≡ ends_of [] → s.free ≡ ends_of [] → s.len ≡ 0 → s.spare ≡ 0 → IsStore s [] []
+unfolding AreDifferent AreBelow Linked
+empty_store s n order bucket cells heads some live free len spare = record {
+  live = live;
+  free = free;
+  count = sym len;
+  spare = sym spare;
+  apart = tt;
+  below = tt;
+  order = tt;
+  rest = tt;
+  buckets = empty_buckets (length s.heads.items) s.width s.cells.items s.bucket.items s.heads.items (heads ∙ ap (λ (k : ℕ). replicate k None) (sym (ap (λ (ls : List (Option ℕ)). length ls) heads ∙ length-replicate n None))) refl;
+  some = rw (heads, length-replicate) some;
+  pairs = rw (bucket, order) refl;
+  cells = rw (cells, order) (omega arith);
+  room = rw (len, spare, order) (omega arith);
+  numbers = rw order (omega arith);
+}
+
+empty_rows : (w : ℕ) (cells : List ℕ) → rows_in w cells [] ≡ []
+unfolding rows_in
+empty_rows w cells = refl
+
+pub empty_is : (s : Store) → IsStore s [] [] → rows_of s ≡ []
+unfolding rows_of
+empty_is s h = ap (rows_in s.width s.cells.items) (live_is s [] [] h) ∙ empty_rows s.width s.cells.items

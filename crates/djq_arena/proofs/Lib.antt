@@ -6,3 +6,4 @@ pub mod Filling
 pub mod Growing
 pub mod RowLemmas
 pub mod Seeking
+pub mod Accounts

@@ -48,7 +48,8 @@ unfolding rows_of
 holds_row a i u h here = record {
   front = rows_in a.width a.cells.items h.front;
   back = rows_in a.width a.cells.items h.back;
-  is = ap (rows_in a.width a.cells.items) h.is ∙ rows_in-append a.width a.cells.items h.front (i ∷ h.back) ∙ ap (λ (rs : List Row). rows_in a.width a.cells.items h.front ++ rs) (rows_in_cons a.width a.cells.items i u h.back here) }
+  is = ap (rows_in a.width a.cells.items) h.is ∙ rows_in-append a.width a.cells.items h.front (i ∷ h.back) ∙ ap (λ (rs : List Row). rows_in a.width a.cells.items h.front ++ rs) (rows_in_cons a.width a.cells.items i u h.back here);
+}
 
 -- the slots of rows, and the rows of slots
 pub slots-append : (rs ss : List Row) → slots (rs ++ ss) ≡ slots rs ++ slots ss
@@ -114,5 +115,5 @@ renewed_rows a b i h xs r ys is at =
     ap (λ (zs : List ℕ). rows_in b.width b.cells.items zs) (h.live (slots xs) (slots ys) (s.live ∙ ap (λ (n : ℕ). slots xs ++ n ∷ slots ys) at))
     ∙ alike_rows a b h.alike ((slots xs ++ slots ys) ++ i ∷ []) ∙ rows_in-append a.width a.cells.items (slots xs ++ slots ys) (i ∷ [])
     ∙ ap₂ (λ (f g : List Row). f ++ g)
-      (rows_in-append a.width a.cells.items (slots xs) (slots ys) ∙ ap₂ (λ (f g : List Row). f ++ g) s.front s.back)
-      (rows_in_one a.width a.cells.items i r.cells (ap (cells_at a.width a.cells.items) (sym at) ∙ s.cells) ∙ ap (λ (n : ℕ). record { slot = n; cells = r.cells } ∷ []) (sym at))
+    (rows_in-append a.width a.cells.items (slots xs) (slots ys) ∙ ap₂ (λ (f g : List Row). f ++ g) s.front s.back)
+    (rows_in_one a.width a.cells.items i r.cells (ap (cells_at a.width a.cells.items) (sym at) ∙ s.cells) ∙ ap (λ (n : ℕ). record { slot = n; cells = r.cells } ∷ []) (sym at))

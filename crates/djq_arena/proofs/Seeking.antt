@@ -42,9 +42,10 @@ here_or_later x xs zs i (y ∷ f) b rest h = let k : zs ≡ f ++ i ∷ b = cc in
 pub chosen_holds : (p : ℕ → Bool) (xs : List ℕ) (f : List ℕ) (i : ℕ) (b : List ℕ) → chosen p xs ≡ f ++ i ∷ b → Holds xs i
 chosen_holds p [] f i b h = absurd (no_slots p f i b h)
 chosen_holds p (x ∷ xs) f i b h =
-    elim (cases_Bool (p x))
-    [ inl here ↦ here_or_later x xs (chosen p xs) i f b (λ g k. chosen_holds p xs g i b k) (sym (chosen_in p x xs here) ∙ h)
-    | inr other ↦ more_holds x xs i (chosen_holds p xs f i b (sym (chosen_not p x xs other) ∙ h)) ]
+    elim (cases_Bool (p x)) [
+      | inl here ↦ here_or_later x xs (chosen p xs) i f b (λ g k. chosen_holds p xs g i b k) (sym (chosen_in p x xs here) ∙ h)
+      | inr other ↦ more_holds x xs i (chosen_holds p xs f i b (sym (chosen_not p x xs other) ∙ h))
+    ]
 
 class_other : (m w : ℕ) (cells : List ℕ) (u : List ℕ) (x : ℕ) → is_of m w cells (class m u) x ≡ false → cells_at w cells x ≡ u → ⊥
 unfolding is_of
@@ -74,10 +75,11 @@ misses_nil w cells u = tt
 pub missed : (m w : ℕ) (cells : List ℕ) (u : List ℕ) (xs : List ℕ) → Misses w cells u (chosen (is_of m w cells (class m u)) xs) → IsAbsent (rows_in w cells xs) u
 missed m w cells u [] h = absent_nil w cells u
 missed m w cells u (x ∷ xs) h =
-    elim (cases_Bool (is_of m w cells (class m u) x))
-    [ inl here ↦ (let k = misses_first w cells u x (chosen (is_of m w cells (class m u)) xs) (subst (Misses w cells u) (chosen_in (is_of m w cells (class m u)) x xs here) h) in
-        absent_cons w cells u x xs k.0 (missed m w cells u xs k.1))
-    | inr other ↦ absent_cons w cells u x xs (class_other m w cells u x other) (missed m w cells u xs (subst (Misses w cells u) (chosen_not (is_of m w cells (class m u)) x xs other) h)) ]
+    elim (cases_Bool (is_of m w cells (class m u) x)) [
+      | inl here ↦ (let k = misses_first w cells u x (chosen (is_of m w cells (class m u)) xs) (subst (Misses w cells u) (chosen_in (is_of m w cells (class m u)) x xs here) h) in
+          absent_cons w cells u x xs k.0 (missed m w cells u xs k.1))
+      | inr other ↦ absent_cons w cells u x xs (class_other m w cells u x other) (missed m w cells u xs (subst (Misses w cells u) (chosen_not (is_of m w cells (class m u)) x xs other) h))
+    ]
 
 -- the slots of the bucket of the cells u
 pub its_bucket : Store → List ℕ → List ℕ
@@ -95,11 +97,13 @@ pub record Seeking (a : Store) (u : List ℕ) (at : Option ℕ) (step : ℕ) : T
 pub seeking : (a : Store) (u : List ℕ) (at : Option ℕ) → IsSound a → class (length a.heads.items) u < length a.heads.items → at ≡ slice_index_or a.heads.items (class (length a.heads.items) u) None → Seeking a u at 0
 unfolding its_bucket
 seeking a u at h inside head = record {
-  front = its_bucket a u; back = [];
+  front = its_bucket a u;
+  back = [];
   is = sym (append-nil (its_bucket a u));
   last = head ∙ h.store.buckets.headed (class (length a.heads.items) u) inside;
   misses = misses_nil a.width a.cells.items u;
-  room = omega (arith, length_chosen (is_of (length a.heads.items) a.width a.cells.items (class (length a.heads.items) u)) (live_of a), h.store.count) }
+  room = omega (arith, length_chosen (is_of (length a.heads.items) a.width a.cells.items (class (length a.heads.items) u)) (live_of a), h.store.count);
+}
 
 pub over : (a : Store) (u : List ℕ) (at : Option ℕ) (step : ℕ) → Seeking a u at step → at ≡ None → IsAbsent (rows_of a) u
 unfolding its_bucket rows_of
@@ -109,9 +113,9 @@ over a u at step s none =
 pub over_steps : (a : Store) (u : List ℕ) (at : Option ℕ) (step : ℕ) → Seeking a u at step → a.len ≤ step → IsAbsent (rows_of a) u
 over_steps a u at step s h = over a u at step s (s.last ∙ ap last_of (empty s.front (omega (arith, s.room, h))))
   where
-  empty : (xs : List ℕ) → length xs ≤ 0 → xs ≡ []
-  empty [] h = refl
-  empty (x ∷ xs) h = absurd (omega (arith, h))
+    empty : (xs : List ℕ) → length xs ≤ 0 → xs ≡ []
+    empty [] h = refl
+    empty (x ∷ xs) h = absurd (omega (arith, h))
 
 pub record Stop (a : Store) (u : List ℕ) (i : ℕ) (step : ℕ) : Type 0 where
   pub front : List ℕ
@@ -124,16 +128,18 @@ pub stop : (a : Store) (u : List ℕ) (i step : ℕ) → Seeking a u (Some i) st
 stop a u i step s =
     let e = ends_with s.front i (sym s.last) in
     record {
-      front = e.front; back = s.back;
+      front = e.front;
+      back = s.back;
       is = s.is ∙ ap (λ (f : List ℕ). f ++ s.back) e.is ∙ append_assoc e.front (i ∷ []) s.back;
       misses = s.misses;
-      room = omega (arith, s.room, ap (λ (f : List ℕ). length f) e.is, length-append e.front (i ∷ [])) }
+      room = omega (arith, s.room, ap (λ (f : List ℕ). length f) e.is, length-append e.front (i ∷ []));
+    }
 
 pub stop_within : (a : Store) (u : List ℕ) (i step : ℕ) → IsSound a → Stop a u i step → i < length a.order.items
 unfolding its_bucket
 stop_within a u i step h s =
     below_here (length a.order.items) s.front i s.back (subst (AreBelow (length a.order.items)) s.is
-      (chosen_below (is_of (length a.heads.items) a.width a.cells.items (class (length a.heads.items) u)) (length a.order.items) (live_of a) (below_front (length a.order.items) (live_of a) (free_of a) h.store.below)))
+    (chosen_below (is_of (length a.heads.items) a.width a.cells.items (class (length a.heads.items) u)) (length a.order.items) (live_of a) (below_front (length a.order.items) (live_of a) (free_of a) h.store.below)))
 
 pub found : (a : Store) (u : List ℕ) (i step : ℕ) → Stop a u i step → cells_at a.width a.cells.items i ≡ u → IsRow (rows_of a) i u
 unfolding its_bucket
@@ -142,11 +148,13 @@ found a u i step s here = holds_row a i u (chosen_holds (is_of (length a.heads.i
 pub further : (a : Store) (u : List ℕ) (i step : ℕ) (next : Option ℕ) → IsSound a → class (length a.heads.items) u < length a.heads.items → Stop a u i step → cells_at a.width a.cells.items i ≢ u → next ≡ (pair_at a.bucket.items i).prev → Seeking a u next (step + 1)
 unfolding its_bucket
 further a u i step next h inside s other is = record {
-  front = s.front; back = i ∷ s.back;
+  front = s.front;
+  back = i ∷ s.back;
   is = s.is;
   last = is ∙ prev_here a.bucket.items s.front i s.back (subst (λ xs. Linked a.bucket.items None xs None) s.is (h.store.buckets.chained (class (length a.heads.items) u) inside));
   misses = misses_more a.width a.cells.items u i s.back other s.misses;
-  room = omega (arith, s.room) }
+  room = omega (arith, s.room);
+}
 
 pub class_inside : (m : ℕ) (u : List ℕ) → 0 < m → class m u < m
 unfolding class

@@ -1,5 +1,6 @@
 -- What an arena holds, as a list of rows.
-use Rattle.std.specs.Prelude.{◌≡◌, ◌≢◌, ⊤, ℕ, ◌<◌, List, [], ◌∷◌, ◌++◌, map, length}
+use Rattle.std.specs.Prelude.{◌≡◌, ◌≢◌, ⊤, ℕ, ◌<◌, ◌≤◌, List, [], ◌∷◌, ◌++◌, map, length}
+use Rattle.djq_arena.specs.Chains.{AreDifferent, AreBelow}
 
 -- a row: its slot, and its cells
 pub record Row : Type 0 where
@@ -31,3 +32,16 @@ pub record IsRow (rows : List Row) (slot : ℕ) (cells : List ℕ) : Type 0 wher
 pub record IsHeld (rows : List Row) (slot : ℕ) : Type 0 where
   pub cells : List ℕ
   pub row : IsRow rows slot cells
+
+-- each row has this many cells
+unfoldable pub AreWide : ℕ → List Row → Type 0
+AreWide width [] = ⊤
+AreWide width (r ∷ rs) = (length r.cells ≡ width) × AreWide width rs
+
+-- what holds of every arena: no two rows lie in one slot, each slot is one of the room, and each row has
+-- the width
+pub record AreRows (a : Rows) : Type 0 where
+  pub different : AreDifferent (slots a.rows)
+  pub below : AreBelow a.room (slots a.rows)
+  pub numbers : a.room ≤ 4294967295
+  pub wide : AreWide a.width a.rows

@@ -1,9 +1,11 @@
 //! Rows of one width, in the order in which they came, found by their cells.
 #![tactic(auto)]
 
+mod arena;
 mod chain;
 mod link;
 mod store;
 
+pub use arena::Arena;
 pub use chain::{Ends, Pair, cut, enter, grown, leave};
 pub use link::Link;

@@ -1,7 +1,7 @@
-ghost use Rattle.std.specs.Prelude.{◌≡◌, ◌+◌, ◌*◌, ◌<◌, ◌≤◌, ◌++◌, ◌∷◌, [], length, take, drop, slice_index_or, Some, None, ℕ, IfOk, OnErr, replicate, IsTrue, ◌↔◌, MatchOption};
-ghost use Rattle.djq_arena.specs.Rows.{IsAbsent, IsRow};
-ghost use Rattle.djq_arena.specs.Store.{mixed, hash, unheaded, class, cells_at, Enlists, IsPrepared, IsPut, IsTaken, IsRenewed, IsSound, IsLoose, IsLinked, IsUnlinked, IsSame, Holds, live_of, rows_of};
-ghost use Rattle.djq_arena.specs.Chains.{IsWithin};
+ghost use Rattle.std.specs.Prelude.{◌≡◌, ◌+◌, ◌*◌, ◌<◌, ◌≤◌, ◌++◌, ◌∷◌, [], length, take, drop, slice_index_or, Some, None, ℕ, IfOk, OnErr, replicate, IsTrue, ◌↔◌, MatchOption, List, max};
+ghost use Rattle.djq_arena.specs.Rows.{Row, slots, IsAbsent, IsRow, IsHeld};
+ghost use Rattle.djq_arena.specs.Store.{mixed, hash, unheaded, class, cells_at, Enlists, IsPrepared, IsPut, IsTaken, IsRenewed, IsSound, IsLoose, IsLinked, IsUnlinked, IsSame, Holds, SameRows, live_of, rows_of};
+ghost use Rattle.djq_arena.specs.Chains.{IsWithin, first_of, last_of};
 
 use crate::chain::{Ends, Pair, cut, enter, grown, leave, pair_of};
 use crate::link::Link;
@@ -243,6 +243,15 @@ fn rebuild(store: &mut Store, heads: Vec<Link>)
     }
 }
 
+/// So many empty buckets.
+fn buckets(alloc: Global, count: usize) -> Result<Vec<Link>, AllocError>
+    ensures { IfOk result (λ heads. heads.items ≡ replicate count None) }
+{
+    let mut heads = Vec::new(alloc);
+    heads.resize(count, Link::none())?;
+    Ok(heads)
+}
+
 /// Twice as many buckets. Where there is no memory, all stays as it was.
 fn grow(store: &mut Store, alloc: Global) -> Result<(), AllocError>
     requires { IsSound store.old }
@@ -252,8 +261,7 @@ fn grow(store: &mut Store, alloc: Global) -> Result<(), AllocError>
     if count > usize::MAX / 2 {
         return Err(AllocError);
     }
-    let mut heads = Vec::new(alloc);
-    heads.resize(2 * count, Link::none())?;
+    let heads = buckets(alloc, 2 * count)?;
     rebuild(store, heads);
     Ok(())
 }
@@ -323,8 +331,7 @@ pub fn renew(store: &mut Store, slot: u32)
 pub fn empty(alloc: Global, width: usize) -> Result<Store, AllocError>
     ensures { IfOk result (λ s. IsSound s × (s.width ≡ width) × (s.order.items ≡ []) × (rows_of s ≡ [])) }
 {
-    let mut heads = Vec::new(alloc);
-    heads.resize(16, Link::none())?;
+    let heads = buckets(alloc, 16)?;
     Ok(Store {
         width,
         order: Vec::new(alloc),
@@ -342,4 +349,71 @@ pub fn empty(alloc: Global, width: usize) -> Result<Store, AllocError>
         len: 0,
         spare: 0,
     })
+}
+
+/// Puts in a row behind all others; the rows' account of [`put`].
+pub fn push_row(store: &mut Store, alloc: Global, cells: &[u64]) -> Result<u32, AllocError>
+    requires sound { IsSound store.old }
+    requires wide { length cells.now ≡ store.old.width }
+    ensures sound { IsSound store.new }
+    ensures pushed { IfOk result (λ slot. rows_of store.new ≡ rows_of store.old ++ record { slot = slot; cells = cells.now } ∷ []) }
+    ensures room { IfOk result (λ slot. length store.new.order.items ≡ max (length store.old.order.items) (slot + 1)) }
+    ensures refused { OnErr result (SameRows store.old store.new) }
+    ensures width { store.new.width ≡ store.old.width }
+{
+    match put(store, alloc, cells) {
+        Ok(slot) => Ok(slot),
+        Err(e) => Err(e),
+    }
+}
+
+/// Takes a row out; the rows' account of [`take`].
+pub fn remove_row(store: &mut Store, slot: u32)
+    requires sound { IsSound store.old }
+    requires held { IsHeld (rows_of store.old) slot }
+    ensures sound { IsSound store.new }
+    ensures removed { (xs : List Row) (r : Row) (ys : List Row) → rows_of store.old ≡ xs ++ r ∷ ys → r.slot ≡ slot → rows_of store.new ≡ xs ++ ys }
+    ensures room { length store.new.order.items ≡ length store.old.order.items }
+    ensures width { store.new.width ≡ store.old.width }
+{
+    take(store, slot);
+}
+
+/// Puts a row behind all others; the rows' account of [`renew`].
+pub fn renew_row(store: &mut Store, slot: u32)
+    requires sound { IsSound store.old }
+    requires held { IsHeld (rows_of store.old) slot }
+    ensures sound { IsSound store.new }
+    ensures renewed { (xs : List Row) (r : Row) (ys : List Row) → rows_of store.old ≡ xs ++ r ∷ ys → r.slot ≡ slot → rows_of store.new ≡ (xs ++ ys) ++ r ∷ [] }
+    ensures room { length store.new.order.items ≡ length store.old.order.items }
+    ensures width { store.new.width ≡ store.old.width }
+{
+    renew(store, slot);
+}
+
+/// The cells of the row in a slot.
+pub fn cells_in(store: &Store, slot: u32) -> &[u64]
+    requires sound { IsSound store.now }
+    requires held { IsHeld (rows_of store.now) slot }
+    ensures { (xs : List Row) (r : Row) (ys : List Row) → rows_of store.now ≡ xs ++ r ∷ ys → r.slot ≡ slot → result.now ≡ r.cells }
+{
+    cells_of(store, slot)
+}
+
+/// The slot of the row that came next.
+pub fn newer(store: &Store, slot: u32) -> Option<u32>
+    requires sound { IsSound store.now }
+    requires held { IsHeld (rows_of store.now) slot }
+    ensures { (xs : List Row) (r : Row) (ys : List Row) → rows_of store.now ≡ xs ++ r ∷ ys → r.slot ≡ slot → result ≡ first_of (slots ys) }
+{
+    pair_of(&store.order, slot).next.get()
+}
+
+/// The slot of the row that came before.
+pub fn older(store: &Store, slot: u32) -> Option<u32>
+    requires sound { IsSound store.now }
+    requires held { IsHeld (rows_of store.now) slot }
+    ensures { (xs : List Row) (r : Row) (ys : List Row) → rows_of store.now ≡ xs ++ r ∷ ys → r.slot ≡ slot → result ≡ last_of (slots xs) }
+{
+    pair_of(&store.order, slot).prev.get()
 }
