@@ -7,5 +7,5 @@ mod link;
 mod store;
 
 pub use arena::Arena;
-pub use chain::{Ends, Pair, cut, enter, grown, leave};
+pub use chain::{Ends, Pair, cut, enter, grown, leave, pair_of};
 pub use link::Link;

@@ -6,3 +6,4 @@ pub mod Marks
 pub mod Places
 pub mod Changing
 pub mod Stub
+pub mod Parts

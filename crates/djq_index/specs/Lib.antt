@@ -2,3 +2,4 @@ pub mod Tuple
 pub mod Entries
 pub mod Table
 pub mod Changes
+pub mod Raw

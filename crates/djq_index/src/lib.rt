@@ -4,6 +4,7 @@
 #![tactic(auto)]
 
 mod place;
+mod raw;
 mod table;
 
 pub use place::Place;
