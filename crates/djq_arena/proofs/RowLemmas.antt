@@ -40,6 +40,7 @@ puts a m d e i u same p l = record {
   width = l.alike.width ∙ p.width ∙ same.alike.width;
   rows = linked_rows d e i u l p.here ∙ ap (λ (rs : List Row). rs ++ record { slot = i; cells = u } ∷ []) (p.rows ∙ same_rows a m same);
   slots = l.alike.slots ∙ p.slots ∙ ap (λ (n : ℕ). max n (i + 1)) same.alike.slots;
+  fits = omega (arith, p.fits, same.alike.slots);
 }
 
 -- a slot that holds a row

@@ -158,6 +158,7 @@ pub record IsPrepared (old new : Store) (i : ℕ) (u : List ℕ) : Type 0 where
   pub here : cells_at new.width new.cells.items i ≡ u
   pub rows : rows_of new ≡ rows_of old
   pub slots : length new.order.items ≡ max (length old.order.items) (i + 1)
+  pub fits : i ≤ length old.order.items
 
 -- a row came, behind all others
 pub record IsPut (old new : Store) (i : ℕ) (u : List ℕ) : Type 0 where
@@ -165,6 +166,7 @@ pub record IsPut (old new : Store) (i : ℕ) (u : List ℕ) : Type 0 where
   pub width : new.width ≡ old.width
   pub rows : rows_of new ≡ rows_of old ++ record { slot = i; cells = u } ∷ []
   pub slots : length new.order.items ≡ max (length old.order.items) (i + 1)
+  pub fits : i ≤ length old.order.items
 
 -- the row in slot i went
 pub record IsTaken (old new : Store) (i : ℕ) : Type 0 where

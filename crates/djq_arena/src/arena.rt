@@ -1,4 +1,4 @@
-ghost use Rattle.std.specs.Prelude.{◌≡◌, ℕ, ◌+◌, ◌<◌, ◌==◌, max, List, [], ◌∷◌, ◌++◌, length, IfOk, OnErr, MatchOption};
+ghost use Rattle.std.specs.Prelude.{◌≡◌, ℕ, ◌+◌, ◌<◌, ◌≤◌, ◌==◌, max, List, [], ◌∷◌, ◌++◌, length, IfOk, OnErr, MatchOption};
 ghost use Rattle.djq_arena.specs.Chains.{first_of, last_of};
 ghost use Rattle.djq_arena.specs.Rows.{Row, slots, IsAbsent, IsRow, IsHeld, AreRows};
 
@@ -84,6 +84,7 @@ impl Arena {
         requires { length cells.now ≡ self.old.width }
         ensures pushed { IfOk result (λ slot. self.new.rows ≡ self.old.rows ++ record { slot = slot; cells = cells.now } ∷ []) }
         ensures room { IfOk result (λ slot. self.new.room ≡ max self.old.room (slot + 1)) }
+        ensures slot { IfOk result (λ slot. slot ≤ self.old.room) }
         ensures refused { OnErr result (self.new ≡ self.old) }
         ensures width { self.new.width ≡ self.old.width }
     {

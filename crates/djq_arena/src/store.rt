@@ -358,6 +358,7 @@ pub fn push_row(store: &mut Store, alloc: Global, cells: &[u64]) -> Result<u32, 
     ensures sound { IsSound store.new }
     ensures pushed { IfOk result (λ slot. rows_of store.new ≡ rows_of store.old ++ record { slot = slot; cells = cells.now } ∷ []) }
     ensures room { IfOk result (λ slot. length store.new.order.items ≡ max (length store.old.order.items) (slot + 1)) }
+    ensures slot { IfOk result (λ slot. slot ≤ length store.old.order.items) }
     ensures refused { OnErr result (SameRows store.old store.new) }
     ensures width { store.new.width ≡ store.old.width }
 {

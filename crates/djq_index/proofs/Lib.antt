@@ -7,3 +7,4 @@ pub mod Places
 pub mod Changing
 pub mod Stub
 pub mod Parts
+pub mod Grouping

@@ -138,7 +138,7 @@ last_snoc : (es : List Entry) (e : Entry) → last_at (es ++ e ∷ []) ≡ Some 
 unfolding last_at head_at
 last_snoc es e = rw (reverse-append es (e ∷ [])) refl
 
-slots_nil : slots_at [] ≡ []
+pub slots_nil : slots_at [] ≡ []
 unfolding slots_at
 slots_nil = refl
 

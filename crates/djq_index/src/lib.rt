@@ -3,6 +3,7 @@
 //! The surface alone so far: its one table is always empty, and every insertion answers want of memory.
 #![tactic(auto)]
 
+mod heads;
 mod place;
 mod raw;
 mod table;

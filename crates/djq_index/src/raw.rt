@@ -5,6 +5,7 @@ ghost use Rattle.djq_index.specs.Changes.{Inserted, Removed, Touched, Supported}
 ghost use Rattle.djq_index.specs.Raw.{IsRaw, entries_of, slots_at, place_of, note_at, ends_at};
 ghost use Rattle.djq_arena.specs.Store.{ends_of};
 
+use crate::heads::{known_ends, none};
 use crate::place::Place;
 use djq_arena::{Arena, Ends, Link, Pair, pair_of};
 
@@ -37,14 +38,6 @@ fn note_of(notes: &Vec<Note>, slot: u32) -> Note
     notes[slot as usize]
 }
 
-/// The ends that a head knows.
-fn known_ends(ends: &Vec<Ends>, head: u32) -> Ends
-    requires { head < length ends.now.items }
-    ensures { result ≡ ends_at ends.now.items head }
-{
-    ends[head as usize]
-}
-
 /// The place of a slot.
 fn placed(slot: Option<u32>) -> Option<Place>
     ensures { result ≡ place_of slot }
@@ -71,10 +64,7 @@ fn ends_in(raw: &Raw, cells: &[u64]) -> Ends
     ensures { result ≡ ends_of (slots_at (grp raw.now.key.items (entries_of raw.now) cells.now)) }
 {
     match raw.keys.find(cells) {
-        None => Ends {
-            first: Link::none(),
-            last: Link::none(),
-        },
+        None => none(),
         Some(head) => known_ends(&raw.ends, head),
     }
 }

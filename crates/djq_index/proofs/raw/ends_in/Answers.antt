@@ -17,7 +17,7 @@ known_ends-requires c = omega (arith, row_below c.args.raw.now.keys.room c.args.
 
 pub returns-in-None : goal.returns-in-None
 returns-in-None c =
-    ap₂ (λ (f l : Option ℕ). record { first = f; last = l }) c.none.ensures c.none-in-None.ensures
+    c.none.ensures
     ∙ sym (no_ends c.args.raw.now.key.items (entries_of c.args.raw.now) c.args.cells.now (c.requires.groups.none c.args.cells.now c.in-None.ensures))
 
 pub returns-in-Some : goal.returns-in-Some
