@@ -8,3 +8,4 @@ pub mod Changing
 pub mod Stub
 pub mod Parts
 pub mod Grouping
+pub mod Columns

@@ -178,7 +178,7 @@ slot_first : (r : Row) (rs : List Row) → slots (r ∷ rs) ≡ r.slot ∷ slots
 unfolding slots
 slot_first r rs = refl
 
-row_at_first : (r : Row) (rs : List Row) (i : ℕ) → r.slot ≡ i → row_at (r ∷ rs) i ≡ Some r.cells
+pub row_at_first : (r : Row) (rs : List Row) (i : ℕ) → r.slot ≡ i → row_at (r ∷ rs) i ≡ Some r.cells
 unfolding row_at
 row_at_first r rs i h = rw (eq-eqb r.slot i h) refl
 

@@ -1,4 +1,4 @@
-ghost use Rattle.std.specs.Prelude.{◌≡◌, ◌≢◌, ℕ, ◌+◌, ◌<◌, ◌≤◌, List, [], ◌∷◌, ◌++◌, length, slice_set, IfOk, OnErr, Some, None};
+ghost use Rattle.std.specs.Prelude.{◌≡◌, ◌≢◌, ℕ, ◌+◌, ◌<◌, ◌≤◌, List, [], ◌∷◌, ◌++◌, length, slice_set, slice_index, IfOk, OnErr, Some, None};
 ghost use Rattle.djq_arena.specs.Chains.{pair_at, entered, left, IsWithin};
 ghost use Rattle.djq_arena.specs.Store.{extended, shrunk};
 ghost use Rattle.djq_arena.specs.Rows.{Row, AreRows, IsHeld};
@@ -66,6 +66,14 @@ pub fn prune(keys: &mut Arena, ends: &Vec<Ends>, head: u32)
     }
 }
 
+/// One cell of a tuple.
+fn cell_at(tuple: &[u64], column: usize) -> u64
+    requires { column < length tuple.now }
+    ensures { result ≡ slice_index tuple.now column }
+{
+    tuple[column]
+}
+
 /// Writes the cells of a tuple's key into a buffer.
 fn project(cells: &mut Vec<u64>, key: &[usize], tuple: &[u64]) -> Result<(), AllocError>
     requires { AreColumns (length tuple.now) key.now }
@@ -73,7 +81,7 @@ fn project(cells: &mut Vec<u64>, key: &[usize], tuple: &[u64]) -> Result<(), All
 {
     cells.clear();
     for column in key {
-        cells.push(tuple[*column])?;
+        cells.push(cell_at(tuple, *column))?;
     }
     Ok(())
 }
