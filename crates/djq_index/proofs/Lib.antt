@@ -9,3 +9,4 @@ pub mod Stub
 pub mod Parts
 pub mod Grouping
 pub mod Columns
+pub mod Keeping

@@ -61,11 +61,11 @@ cut_entries notes (r ∷ rs) (x ∷ xs) e ys h =
     let c = cut_entries notes rs xs e ys rest in
     record { front = r ∷ c.front; row = c.row; back = c.back; is = ap (λ (qs : List Row). r ∷ qs) c.is; xs_is = ap₂ (λ (d : Entry) (ds : List Entry). d ∷ ds) first c.xs_is ∙ sym (entries_in_cons notes r c.front); e_is = c.e_is; ys_is = c.ys_is }
 
-entry_tuple : (notes : List Note) (r : Row) → (entry_of notes r).tuple ≡ r.cells
+pub entry_tuple : (notes : List Note) (r : Row) → (entry_of notes r).tuple ≡ r.cells
 unfolding entry_of
 entry_tuple notes r = refl
 
-entry_at : (notes : List Note) (r : Row) → (entry_of notes r).at ≡ record { slot = r.slot }
+pub entry_at : (notes : List Note) (r : Row) → (entry_of notes r).at ≡ record { slot = r.slot }
 unfolding entry_of
 entry_at notes r = refl
 
@@ -253,7 +253,7 @@ marks_nil : marks [] ≡ []
 unfolding marks
 marks_nil = refl
 
-all_marks : (es : List Entry) → AreAllMarked es → marks es ≡ es
+pub all_marks : (es : List Entry) → AreAllMarked es → marks es ≡ es
 unfolding AreAllMarked
 all_marks [] h = marks_nil
 all_marks (e ∷ es) h = marks_yes e es h.0 ∙ ap (λ (ds : List Entry). e ∷ ds) (all_marks es h.1)
@@ -262,7 +262,7 @@ plain_nil : plain [] ≡ []
 unfolding plain
 plain_nil = refl
 
-all_plain : (es : List Entry) → AreAllMarked es → plain es ≡ []
+pub all_plain : (es : List Entry) → AreAllMarked es → plain es ≡ []
 unfolding AreAllMarked
 all_plain [] h = plain_nil
 all_plain (e ∷ es) h = plain_yes e es h.0 ∙ all_plain es h.1

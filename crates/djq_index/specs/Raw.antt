@@ -1,8 +1,8 @@
 -- A table's parts: its tuples as the rows of an arena, a note for each slot, and for each group a head.
-use Rattle.std.specs.Prelude.{◌≡◌, ⊤, ℕ, ◌+◌, ◌<◌, ◌≤◌, ◌==◌, Bool, true, false, cond, List, [], ◌∷◌, ◌++◌, map, length, slice_index_or, Option, Some, None}
+use Rattle.std.specs.Prelude.{◌≡◌, ◌≢◌, ◌⊎◌, ⊤, ℕ, ◌+◌, ◌<◌, ◌≤◌, ◌==◌, Bool, true, false, cond, List, [], ◌∷◌, ◌++◌, map, length, slice_index_or, Option, Some, None}
 use Rattle.djq_arena.specs.declared.chain.Pair.{Pair}
 use Rattle.djq_arena.specs.declared.chain.Ends.{Ends}
-use Rattle.djq_arena.specs.Rows.{Row, Rows, AreRows, IsAbsent}
+use Rattle.djq_arena.specs.Rows.{Row, Rows, AreRows, IsAbsent, IsRow}
 use Rattle.djq_arena.specs.Chains.{Linked, first_of, last_of}
 use Rattle.djq_arena.specs.Store.{ends_of}
 use Rattle.djq_index.specs.declared.place.Place.{Place}
@@ -80,3 +80,14 @@ pub record IsRaw (r : Raw) : Type 0 where
 abbrev pub place_of : Option ℕ → Option Place
 place_of None = None
 place_of (Some i) = Some (record { slot = i })
+
+-- head h is the head of the group with the cells w: an old one, or a new one of an empty group
+abbrev pub IsSeat : List Row → List Row → List Ends → List Ends → ℕ → List ℕ → Type 0
+IsSeat old new ends more h w =
+    (IsRow old h w × (new ≡ old) × ((k : ℕ) → ends_at more k ≡ ends_at ends k))
+    ⊎ (IsAbsent old w × (new ≡ old ++ record { slot = h; cells = w } ∷ []) × (ends_at more h ≡ record { first = None; last = None }) × ((k : ℕ) → k ≢ h → ends_at more k ≡ ends_at ends k))
+
+-- the first marked slot, once slot i, which is followed by the slot `next`, is gone
+abbrev pub passed : Option ℕ → ℕ → Option ℕ → Option ℕ
+passed None i next = None
+passed (Some m) i next = cond (m == i) next (Some m)

@@ -75,7 +75,7 @@ fn cell_at(tuple: &[u64], column: usize) -> u64
 }
 
 /// Writes the cells of a tuple's key into a buffer.
-fn project(cells: &mut Vec<u64>, key: &[usize], tuple: &[u64]) -> Result<(), AllocError>
+pub fn project(cells: &mut Vec<u64>, key: &[usize], tuple: &[u64]) -> Result<(), AllocError>
     requires { AreColumns (length tuple.now) key.now }
     ensures { IfOk result (λ _. cells.new.items ≡ pick key.now tuple.now) }
 {
@@ -87,7 +87,7 @@ fn project(cells: &mut Vec<u64>, key: &[usize], tuple: &[u64]) -> Result<(), All
 }
 
 /// A new head, of an empty group.
-fn found(keys: &mut Arena, ends: &mut Vec<Ends>, cells: &[u64]) -> Result<u32, AllocError>
+pub fn found(keys: &mut Arena, ends: &mut Vec<Ends>, cells: &[u64]) -> Result<u32, AllocError>
     requires rows { AreRows keys.old }
     requires wide { length cells.now ≡ keys.old.width }
     requires ends { keys.old.room ≤ length ends.old.items }

@@ -13,4 +13,4 @@ use Rattle.djq_index.proofs.Parts.{absent_cnt, row_is_at, at_row, live_held, liv
 use Rattle.djq_index.proofs.raw.first_marked_in.Goals as goal
 
 pub returns : goal.returns
-returns c = c.placed.ensures ∙ ap place_of (c.get.ensures ∙ c.requires.marked) ∙ sym (head_place (marks (entries_of c.args.raw.now)))
+returns c = c.placed.ensures ∙ ap place_of c.requires.marked ∙ sym (head_place (marks (entries_of c.args.raw.now)))
