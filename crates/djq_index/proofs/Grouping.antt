@@ -207,7 +207,8 @@ module _ (key : List ℕ) (notes more : List Note) (links : List Pair) (keys : L
     | inr other ↦ rw (group_else key es e v (λ q. other (g.once k h w (subst (λ u. row_at keys k ≡ Some u) (sym q ∙ its) r) g.mine)))
         (get_or-set_other ends h k (extended i (ends_at ends h)) (record { first = None; last = None }) other ∙ g.headed k v r) ]
 
-  join_groups : AreGroups key more joined keys (slice_set ends h (extended i (ends_at ends h))) (es ++ e ∷ [])
+  pub join_groups : AreGroups key more (entered (ends_at ends h).last i links) keys (slice_set ends h (extended i (ends_at ends h))) (es ++ e ∷ [])
+  unfolding joined
   join_groups = record {
     chained = join_chained;
     headed = join_headed;
@@ -315,8 +316,8 @@ module _ (key : List ℕ) (notes : List Note) (links : List Pair) (keys : List R
     | inr other ↦ rw (← (group_past key xs e ys v (λ q. other (g.once k h (pick key e.tuple) (subst (λ u. row_at keys k ≡ Some u) (sym q) r) its_head))))
         (get_or-set_other ends h k (shrunk (pair_at links i) (ends_at ends h)) (record { first = None; last = None }) other ∙ g.headed k v r) ]
 
-  part_groups : AreGroupsBut key notes parted keys (slice_set ends h (shrunk (pair_at links i) (ends_at ends h))) (xs ++ ys) its_key h
-  unfolding its_key
+  pub part_groups : AreGroupsBut key notes (left (pair_at links i) links) keys (slice_set ends h (shrunk (pair_at links i) (ends_at ends h))) (xs ++ ys) (pick key e.tuple) h
+  unfolding its_key parted
   part_groups = record {
     chained = part_chained;
     headed = part_headed;

@@ -5,9 +5,9 @@ use Rattle.std.proofs.lemmas.Bool.{cases_Bool, false≢true, cases_eq, ne_eqb}
 use Rattle.djq_arena.specs.declared.chain.Pair.{Pair}
 use Rattle.djq_arena.specs.declared.chain.Ends.{Ends}
 use Rattle.djq_arena.specs.Rows.{Row, Rows, AreRows, IsAbsent, IsRow, slots}
-use Rattle.djq_arena.specs.Chains.{Linked, first_of, last_of, first_or, AreDifferent, AreBelow, IsOut, Agree, pair_at}
+use Rattle.djq_arena.specs.Chains.{Linked, first_of, last_of, first_or, AreDifferent, AreBelow, IsOut, Agree, Differs, pair_at}
 use Rattle.djq_arena.specs.Store.{ends_of, beside}
-use Rattle.djq_arena.proofs.Lists.{different_here, out_front, out_back, below_here, first_append}
+use Rattle.djq_arena.proofs.Lists.{different_here, out_front, out_back, below_here, first_append, first_differs}
 use Rattle.djq_arena.proofs.Chaining.{linked_same}
 use Rattle.djq_arena.proofs.RowLemmas.{slots-append}
 use Rattle.djq_index.specs.declared.place.Place.{Place}
@@ -56,6 +56,10 @@ note_same notes i n h = get_or-set_same notes i n (record { supports = 0; head =
 
 note_other : (notes : List Note) (i k : ℕ) (n : Note) → (k ≡ i → ⊥) → note_at (slice_set notes i n) k ≡ note_at notes k
 note_other notes i k n h = get_or-set_other notes i k n (record { supports = 0; head = 0; marked = false }) h
+
+out_more : (i x : ℕ) (xs : List ℕ) → (x ≡ i → ⊥) → IsOut i xs → IsOut i (x ∷ xs)
+unfolding IsOut
+out_more i x xs h k = (h, k)
 
 out_cons : (i x : ℕ) (xs : List ℕ) → IsOut i (x ∷ xs) → (x ≡ i → ⊥) × IsOut i xs
 unfolding IsOut
@@ -177,3 +181,125 @@ mark_push es e i m at =
     first_push (slots_at (marks es)) i
     ∙ ap first_of (ap (λ (j : ℕ). slots_at (marks es) ++ j ∷ []) (sym at) ∙ sym (ap (λ (zs : List ℕ). slots_at (marks es) ++ e.at.slot ∷ zs) slots_nil) ∙ sym (slots_at_middle (marks es) e []))
     ∙ ap (λ (ms : List Entry). first_of (slots_at ms)) (ap (λ (ms : List Entry). marks es ++ ms) (sym (marks_yes e [] m ∙ ap (λ (ms : List Entry). e ∷ ms) marks_none)) ∙ sym (marks-append es (e ∷ [])))
+
+-- entries that differ in supports and marks alone
+unfoldable pub AreAlike : List Entry → List Entry → Type 0
+AreAlike [] [] = Unit {0}
+AreAlike (d ∷ ds) (e ∷ es) = (e.at ≡ d.at) × (e.tuple ≡ d.tuple) × AreAlike ds es
+AreAlike [] (e ∷ es) = ⊥
+AreAlike (d ∷ ds) [] = ⊥
+
+pub alike_notes : (notes more : List Note) (rows : List Row) → AreAlike (entries_in notes rows) (entries_in more rows)
+unfolding AreAlike entries_in entry_of
+alike_notes notes more [] = tt
+alike_notes notes more (r ∷ rs) = (refl, refl, alike_notes notes more rs)
+
+alike_cond : (b c : Bool) (d e : Entry) (ds es : List Entry) → b ≡ c → e.at ≡ d.at → slots_at ds ≡ slots_at es → slots_at (cond b (d ∷ ds) ds) ≡ slots_at (cond c (e ∷ es) es)
+unfolding slots_at
+alike_cond true true d e ds es h at s = ap₂ (λ (p : Place) (zs : List ℕ). p.slot ∷ zs) (sym at) s
+alike_cond false false d e ds es h at s = s
+alike_cond true false d e ds es h at s = absurd (false≢true (sym h))
+alike_cond false true d e ds es h at s = absurd (false≢true h)
+
+alike_groups : (key : List ℕ) (ds es : List Entry) (w : List ℕ) → AreAlike ds es → slots_at (grp key ds w) ≡ slots_at (grp key es w)
+unfolding AreAlike grp
+alike_groups key [] [] w h = refl
+alike_groups key (d ∷ ds) (e ∷ es) w h = alike_cond (same (pick key d.tuple) w) (same (pick key e.tuple) w) d e (grp key ds w) (grp key es w) (ap (λ (u : List ℕ). same (pick key u) w) (sym h.1)) h.0 (alike_groups key ds es w h.2)
+alike_groups key [] (e ∷ es) w h = absurd h
+alike_groups key (d ∷ ds) [] w h = absurd h
+
+alike_many : (key : List ℕ) (ds es : List Entry) (w : List ℕ) → AreAlike ds es → many key ds w ≡ many key es w
+unfolding AreAlike many
+alike_many key [] [] w h = refl
+alike_many key (d ∷ ds) (e ∷ es) w h = ap₂ (λ (u : List ℕ) (n : ℕ). one (same (pick key u) w) + n) (sym h.1) (alike_many key ds es w h.2)
+alike_many key [] (e ∷ es) w h = absurd h
+alike_many key (d ∷ ds) [] w h = absurd h
+
+alike_cnt : (ds es : List Entry) (u : List ℕ) → AreAlike ds es → cnt ds u ≡ cnt es u
+unfolding AreAlike cnt
+alike_cnt [] [] u h = refl
+alike_cnt (d ∷ ds) (e ∷ es) u h = ap₂ (λ (v : List ℕ) (n : ℕ). one (same v u) + n) (sym h.1) (alike_cnt ds es u h.2)
+alike_cnt [] (e ∷ es) u h = absurd h
+alike_cnt (d ∷ ds) [] u h = absurd h
+
+pub alike_apart : (ds es : List Entry) → AreAlike ds es → AreApart ds → AreApart es
+unfolding AreAlike AreApart
+alike_apart [] [] h a = a
+alike_apart (d ∷ ds) (e ∷ es) h a = (ap (λ (u : List ℕ). cnt es u) h.1 ∙ sym (alike_cnt ds es d.tuple h.2) ∙ a.0, alike_apart ds es h.2 a.1)
+alike_apart [] (e ∷ es) h a = absurd h
+alike_apart (d ∷ ds) [] h a = absurd h
+
+alike_seated : (key : List ℕ) (notes : List Note) (keys : List Row) (ds es : List Entry) → AreAlike ds es → AreSeated key notes keys ds → AreSeated key notes keys es
+unfolding AreAlike AreSeated
+alike_seated key notes keys [] [] h s = tt
+alike_seated key notes keys (d ∷ ds) (e ∷ es) h s =
+    (ap (λ (p : Place). row_at keys (note_at notes p.slot).head) h.0 ∙ s.0 ∙ ap (λ (u : List ℕ). Some (pick key u)) (sym h.1), alike_seated key notes keys ds es h.2 s.1)
+alike_seated key notes keys [] (e ∷ es) h s = absurd h
+alike_seated key notes keys (d ∷ ds) [] h s = absurd h
+
+pub groups_alike : (key : List ℕ) (notes : List Note) (links : List Pair) (keys : List Row) (ends : List Ends) (ds es : List Entry) → AreAlike ds es → AreGroups key notes links keys ends ds → AreGroups key notes links keys ends es
+groups_alike key notes links keys ends ds es h g = record {
+  chained = λ w. subst (λ zs. Linked links None zs None) (alike_groups key ds es w h) (g.chained w);
+  headed = λ k w r. g.headed k w r ∙ ap ends_of (alike_groups key ds es w h);
+  some = λ k w r. subst (λ n. 0 < n) (alike_many key ds es w h) (g.some k w r);
+  none = λ w absent. sym (alike_many key ds es w h) ∙ g.none w absent;
+  once = g.once;
+  seated = alike_seated key notes keys ds es h g.seated }
+
+-- the first mark, once a slot is gone
+passed_other : (o : Option ℕ) (i : ℕ) (n : Option ℕ) → Differs o i → passed o i n ≡ o
+passed_other None i n h = refl
+passed_other (Some m) i n h = rw (ne_eqb m i h) refl
+
+passed_here : (i : ℕ) (n : Option ℕ) → passed (Some i) i n ≡ n
+passed_here i n = rw (eq-eqb i i refl) refl
+
+marks_out : (i : ℕ) (es : List Entry) → IsOut i (slots_at es) → IsOut i (slots_at (marks es))
+marks_out i [] h = subst (λ ms. IsOut i (slots_at ms)) (sym marks_none) h
+marks_out i (e ∷ es) h =
+    let k = out_cons i e.at.slot (slots_at es) (subst (IsOut i) (slots_at_cons e es) h) in
+    elim (cases_Bool e.marked)
+    [ inl here ↦ rw (marks_yes e es here, slots_at_cons) (out_more i e.at.slot (slots_at (marks es)) k.0 (marks_out i es k.1))
+    | inr other ↦ rw (marks_no e es other) (marks_out i es k.1) ]
+
+first_differs_of : (xs : List ℕ) (i : ℕ) → IsOut i xs → Differs (first_of xs) i
+first_differs_of xs i h = first_differs xs None i tt h
+
+trailing_first : (e : Entry) (es : List Entry) → AreTrailing (e ∷ es) → (e.marked ≡ true → AreAllMarked es) × AreTrailing es
+unfolding AreTrailing
+trailing_first e es h = h
+
+different_cons : (x : ℕ) (xs : List ℕ) → AreDifferent (x ∷ xs) → IsOut x xs × AreDifferent xs
+unfolding AreDifferent
+different_cons x xs h = h
+
+out_of_middle : (x : ℕ) (xs : List ℕ) (i : ℕ) (ys : List ℕ) → IsOut x (xs ++ i ∷ ys) → x ≡ i → ⊥
+unfolding IsOut
+out_of_middle x [] i ys h same_one = h.0 (sym same_one)
+out_of_middle x (z ∷ xs) i ys h same_one = out_of_middle x xs i ys h.1 same_one
+
+pub mark_out : (xs : List Entry) (e : Entry) (ys : List Entry) (i : ℕ) → AreTrailing (xs ++ e ∷ ys) → AreDifferent (slots_at (xs ++ e ∷ ys)) → e.at.slot ≡ i
+    → passed (first_of (slots_at (marks (xs ++ e ∷ ys)))) i (first_of (slots_at ys)) ≡ first_of (slots_at (marks (xs ++ ys)))
+mark_out [] e ys i t d at =
+    let out = subst (λ j. IsOut j (slots_at ys)) at (different_cons e.at.slot (slots_at ys) (subst AreDifferent (slots_at_cons e ys) d)).0 in
+    elim (cases_Bool e.marked)
+    [ inl here ↦ (let all = all_marks ys ((trailing_first e ys t).0 here) in
+        ap (λ (ms : List Entry). passed (first_of (slots_at ms)) i (first_of (slots_at ys))) (marks_yes e ys here)
+        ∙ ap (λ (zs : List ℕ). passed (first_of zs) i (first_of (slots_at ys))) (slots_at_cons e (marks ys))
+        ∙ ap (λ (j : ℕ). passed (Some j) i (first_of (slots_at ys))) at ∙ passed_here i (first_of (slots_at ys))
+        ∙ ap (λ (ms : List Entry). first_of (slots_at ms)) (sym all))
+    | inr other ↦ ap (λ (ms : List Entry). passed (first_of (slots_at ms)) i (first_of (slots_at ys))) (marks_no e ys other)
+        ∙ passed_other (first_of (slots_at (marks ys))) i (first_of (slots_at ys)) (first_differs_of (slots_at (marks ys)) i (marks_out i ys out)) ]
+mark_out (x ∷ xs) e ys i t d at =
+    let k = different_cons x.at.slot (slots_at (xs ++ e ∷ ys)) (subst AreDifferent (slots_at_cons x (xs ++ e ∷ ys)) d) in
+    let apart = out_of_middle x.at.slot (slots_at xs) e.at.slot (slots_at ys) (subst (IsOut x.at.slot) (slots_at_middle xs e ys) k.0) in
+    elim (cases_Bool x.marked)
+    [ inl here ↦
+        ap (λ (ms : List Entry). passed (first_of (slots_at ms)) i (first_of (slots_at ys))) (marks_yes x (xs ++ e ∷ ys) here)
+        ∙ ap (λ (zs : List ℕ). passed (first_of zs) i (first_of (slots_at ys))) (slots_at_cons x (marks (xs ++ e ∷ ys)))
+        ∙ passed_other (Some x.at.slot) i (first_of (slots_at ys)) (λ q. apart (q ∙ sym at))
+        ∙ sym (ap first_of (slots_at_cons x (marks (xs ++ ys)))) ∙ ap (λ (ms : List Entry). first_of (slots_at ms)) (sym (marks_yes x (xs ++ ys) here))
+    | inr other ↦
+        ap (λ (ms : List Entry). passed (first_of (slots_at ms)) i (first_of (slots_at ys))) (marks_no x (xs ++ e ∷ ys) other)
+        ∙ mark_out xs e ys i (trailing_first x (xs ++ e ∷ ys) t).1 k.1 at
+        ∙ ap (λ (ms : List Entry). first_of (slots_at ms)) (sym (marks_no x (xs ++ ys) other)) ]

@@ -10,3 +10,4 @@ pub mod Parts
 pub mod Grouping
 pub mod Columns
 pub mod Keeping
+pub mod Inserting
