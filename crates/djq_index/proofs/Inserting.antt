@@ -16,7 +16,7 @@ use Rattle.djq_index.specs.Tuple.{same, pick, one}
 use Rattle.djq_index.specs.Entries.{Entry, cnt, many, grp, marks}
 use Rattle.djq_index.specs.Table.{AreApart, AreColumns, IsAt}
 use Rattle.djq_index.specs.Changes.{Inserted}
-use Rattle.djq_index.specs.Raw.{note_at, entry_of, entries_in, entries_of, slots_at, row_at, AreSeated, ends_at, AreGroups, AreTrailing, IsRaw, IsSeat}
+use Rattle.djq_index.specs.Raw.{note_at, entry_of, entries_in, entries_of, slots_at, row_at, AreSeated, ends_at, AreGroups, AreTrailing, IsRaw, IsSeat, IsReady, IsSettled}
 use Rattle.djq_index.proofs.Apart.{apart_in}
 use Rattle.djq_index.proofs.Places.{is_here}
 use Rattle.djq_index.proofs.Parts.{slots_are, row_at_row, row_below, entries_nil}
@@ -31,22 +31,7 @@ many_zero : (key : List ℕ) (w : List ℕ) → many key [] w ≡ 0
 unfolding many
 many_zero key w = refl
 
--- the tuple is laid, and has a head
-pub record Ready (a : Raw) (rows : Rows) (notes : List Note) (links : List Pair) (keys : Rows) (ends : List Ends) (i h : ℕ) (u : List ℕ) : Type 0 where
-  pub rows_law : AreRows rows
-  pub width : rows.width ≡ a.rows.width
-  pub laid : rows.rows ≡ a.rows.rows ++ record { slot = i; cells = u } ∷ []
-  pub room_notes : rows.room ≤ length notes
-  pub room_links : rows.room ≤ length links
-  pub same_notes : (k : ℕ) → note_at notes k ≡ note_at a.notes.items k
-  pub same_links : (k : ℕ) → pair_at links k ≡ pair_at a.links.items k
-  pub longer : length a.links.items ≤ length links
-  pub keys_law : AreRows keys
-  pub keys_width : keys.width ≡ a.keys.width
-  pub room_ends : keys.room ≤ length ends
-  pub seat : IsSeat a.keys.rows keys.rows a.ends.items ends h (pick a.key.items u)
-
-module _ (a : Raw) (rows : Rows) (notes : List Note) (links : List Pair) (keys : Rows) (ends : List Ends) (i h : ℕ) (u : List ℕ) (raw : IsRaw a) (r : Ready a rows notes links keys ends i h u) where
+module _ (a : Raw) (rows : Rows) (notes : List Note) (links : List Pair) (keys : Rows) (ends : List Ends) (i h : ℕ) (u : List ℕ) (raw : IsRaw a) (r : IsReady a rows notes links keys ends i h u) where
   laid_slots : slots rows.rows ≡ slots_at (entries_of a) ++ i ∷ []
   laid_slots = ap slots r.laid ∙ slots_row a.rows.rows (record { slot = i; cells = u }) [] ∙ ap₂ (λ (xs ys : List ℕ). xs ++ i ∷ ys) (sym (slots_are a.notes.items a.rows.rows)) slots_none
 
@@ -102,18 +87,8 @@ module _ (a : Raw) (rows : Rows) (notes : List Note) (links : List Pair) (keys :
   last_links = subst (IsWithin (length links)) (sym (ap (λ (v : Ends). v.last) (ready_but.headed h (pick a.key.items u) ready_but.mine)))
     (last_within (length links) None (slots_at (grp a.key.items (entries_of a) (pick a.key.items u))) tt (group_below (length links) a.key.items (entries_of a) (pick a.key.items u) old_below))
 
--- and the rest of the insertion
-pub record Ends_in (a b : Raw) (rows : Rows) (notes : List Note) (links : List Pair) (keys : Rows) (ends : List Ends) (i h : ℕ) : Type 0 where
-  pub key : b.key.items ≡ a.key.items
-  pub rows_are : b.rows ≡ rows
-  pub notes_are : b.notes.items ≡ slice_set notes i (record { supports = 1; head = h; marked = true })
-  pub links_are : b.links.items ≡ entered (ends_at ends h).last i links
-  pub keys_are : b.keys ≡ keys
-  pub ends_are : b.ends.items ≡ slice_set ends h (extended i (ends_at ends h))
-  pub marked : b.marked ≡ beside a.marked (Some i) a.marked
-
 module _ (a b : Raw) (rows : Rows) (notes : List Note) (links : List Pair) (keys : Rows) (ends : List Ends) (i h : ℕ) (u : List ℕ)
-    (raw : IsRaw a) (absent : cnt (entries_of a) u ≡ 0) (r : Ready a rows notes links keys ends i h u) (f : Ends_in a b rows notes links keys ends i h) where
+    (raw : IsRaw a) (absent : cnt (entries_of a) u ≡ 0) (r : IsReady a rows notes links keys ends i h u) (f : IsSettled a b rows notes links keys ends i h) where
   pub came_entries : entries_of b ≡ entries_of a ++ (record { at = record { slot = i }; tuple = u; supports = 1; marked = true }) ∷ []
   came_entries =
     ap₂ (λ (ns : List Note) (rs : Rows). entries_in ns rs.rows) f.notes_are f.rows_are

@@ -1,10 +1,10 @@
 -- A table's parts: its tuples as the rows of an arena, a note for each slot, and for each group a head.
-use Rattle.std.specs.Prelude.{◌≡◌, ◌≢◌, ◌⊎◌, ⊤, ℕ, ◌+◌, ◌<◌, ◌≤◌, ◌==◌, Bool, true, false, cond, List, [], ◌∷◌, ◌++◌, map, length, slice_index_or, Option, Some, None}
+use Rattle.std.specs.Prelude.{◌≡◌, ◌≢◌, ◌⊎◌, ⊤, ℕ, ◌+◌, ◌<◌, ◌≤◌, ◌==◌, Bool, true, false, cond, List, [], ◌∷◌, ◌++◌, map, length, slice_index_or, slice_set, Option, Some, None}
 use Rattle.djq_arena.specs.declared.chain.Pair.{Pair}
 use Rattle.djq_arena.specs.declared.chain.Ends.{Ends}
 use Rattle.djq_arena.specs.Rows.{Row, Rows, AreRows, IsAbsent, IsRow}
-use Rattle.djq_arena.specs.Chains.{Linked, first_of, last_of}
-use Rattle.djq_arena.specs.Store.{ends_of}
+use Rattle.djq_arena.specs.Chains.{Linked, first_of, last_of, pair_at, entered, left}
+use Rattle.djq_arena.specs.Store.{ends_of, extended, shrunk, beside}
 use Rattle.djq_index.specs.declared.place.Place.{Place}
 use Rattle.djq_index.specs.declared.raw.Note.{Note}
 use Rattle.djq_index.specs.declared.raw.Raw.{Raw}
@@ -91,3 +91,28 @@ IsSeat old new ends more h w =
 abbrev pub passed : Option ℕ → ℕ → Option ℕ → Option ℕ
 passed None i next = None
 passed (Some m) i next = cond (m == i) next (Some m)
+
+-- the tuple is laid, and has a head
+pub record IsReady (a : Raw) (rows : Rows) (notes : List Note) (links : List Pair) (keys : Rows) (ends : List Ends) (i h : ℕ) (u : List ℕ) : Type 0 where
+  pub rows_law : AreRows rows
+  pub width : rows.width ≡ a.rows.width
+  pub laid : rows.rows ≡ a.rows.rows ++ record { slot = i; cells = u } ∷ []
+  pub room_notes : rows.room ≤ length notes
+  pub room_links : rows.room ≤ length links
+  pub same_notes : (k : ℕ) → note_at notes k ≡ note_at a.notes.items k
+  pub same_links : (k : ℕ) → pair_at links k ≡ pair_at a.links.items k
+  pub longer : length a.links.items ≤ length links
+  pub keys_law : AreRows keys
+  pub keys_width : keys.width ≡ a.keys.width
+  pub room_ends : keys.room ≤ length ends
+  pub seat : IsSeat a.keys.rows keys.rows a.ends.items ends h (pick a.key.items u)
+
+-- the tuple in slot i joins the group of head h, marked and with one support
+pub record IsSettled (a b : Raw) (rows : Rows) (notes : List Note) (links : List Pair) (keys : Rows) (ends : List Ends) (i h : ℕ) : Type 0 where
+  pub key : b.key.items ≡ a.key.items
+  pub rows_are : b.rows ≡ rows
+  pub notes_are : b.notes.items ≡ slice_set notes i (record { supports = 1; head = h; marked = true })
+  pub links_are : b.links.items ≡ entered (ends_at ends h).last i links
+  pub keys_are : b.keys ≡ keys
+  pub ends_are : b.ends.items ≡ slice_set ends h (extended i (ends_at ends h))
+  pub marked : b.marked ≡ beside a.marked (Some i) a.marked

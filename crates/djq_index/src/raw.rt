@@ -1,12 +1,12 @@
 ghost use Rattle.std.specs.Prelude.{◌≡◌, ℕ, ◌+◌, ◌-◌, ◌<◌, ◌≤◌, List, [], ◌∷◌, ◌++◌, length, slice_set, vec_len, vec_capacity, IfOk, OnErr, MatchOption, Some, None};
-ghost use Rattle.djq_arena.specs.Chains.{pair_at};
-ghost use Rattle.djq_arena.specs.Rows.{AreRows};
+ghost use Rattle.djq_arena.specs.Chains.{pair_at, IsWithin};
+ghost use Rattle.djq_arena.specs.Rows.{Row, AreRows, IsHeld};
 ghost use Rattle.djq_index.specs.Tuple.{pick};
 ghost use Rattle.djq_index.specs.Entries.{Entry, supp, cnt, grp, marks, is_marked, unmarked, head_at, last_at};
 ghost use Rattle.djq_index.specs.Table.{IsAt, IsLive, IsUnmarked, IsRaisable, IsLowerable, AreColumns};
 ghost use Rattle.djq_index.specs.Changes.{Inserted, Removed, Touched, Supported};
-ghost use Rattle.djq_index.specs.Raw.{IsRaw, entries_of, slots_at, place_of, note_at, ends_at, IsSeat};
-ghost use Rattle.djq_arena.specs.Store.{ends_of};
+ghost use Rattle.djq_index.specs.Raw.{IsRaw, entries_of, slots_at, place_of, note_at, ends_at, IsSeat, IsSettled, passed};
+ghost use Rattle.djq_arena.specs.Store.{ends_of, beside};
 
 use crate::heads::{found, join, known_ends, none, part, project, prune};
 use crate::place::Place;
@@ -245,4 +245,182 @@ fn seat(
         Some(head) => Ok(head),
         None => found(keys, ends, cells.as_slice()),
     }
+}
+
+/// The first marked slot, where this one is marked as the last of all.
+fn or_slot(marked: Option<u32>, slot: u32) -> Option<u32>
+    ensures { result ≡ beside marked (Some slot) marked }
+{
+    match marked {
+        None => Some(slot),
+        Some(_first) => marked,
+    }
+}
+
+/// The first marked slot, once this one, which is followed by `next`, is gone.
+fn pass(marked: Option<u32>, slot: u32, next: Option<u32>) -> Option<u32>
+    ensures { result ≡ passed marked slot next }
+{
+    match marked {
+        None => None,
+        Some(first) => {
+            if first == slot {
+                next
+            } else {
+                Some(first)
+            }
+        }
+    }
+}
+
+/// Takes a row out.
+fn withdraw(rows: &mut Arena, slot: u32)
+    requires { IsHeld rows.old.rows slot }
+    ensures rows { AreRows rows.new }
+    ensures width { rows.new.width ≡ rows.old.width }
+    ensures room { rows.new.room ≡ rows.old.room }
+    ensures removed { (xs : List Row) (r : Row) (ys : List Row) → rows.old.rows ≡ xs ++ r ∷ ys → r.slot ≡ slot → rows.new.rows ≡ xs ++ ys }
+{
+    rows.remove(slot);
+    rows.laws();
+}
+
+/// Puts a row behind all others.
+fn renew(rows: &mut Arena, slot: u32)
+    requires { IsHeld rows.old.rows slot }
+    ensures rows { AreRows rows.new }
+    ensures width { rows.new.width ≡ rows.old.width }
+    ensures room { rows.new.room ≡ rows.old.room }
+    ensures renewed { (xs : List Row) (r : Row) (ys : List Row) → rows.old.rows ≡ xs ++ r ∷ ys → r.slot ≡ slot → rows.new.rows ≡ (xs ++ ys) ++ r ∷ [] }
+{
+    rows.renew(slot);
+    rows.laws();
+}
+
+/// Puts a laid tuple behind its group, marked and with one support.
+fn settle(raw: &mut Raw, slot: u32, head: u32)
+    requires notes { slot < length raw.old.notes.items }
+    requires links { slot < length raw.old.links.items }
+    requires number { slot < 4294967295 }
+    requires head { head < length raw.old.ends.items }
+    requires last { IsWithin (length raw.old.links.items) (ends_at raw.old.ends.items head).last }
+    ensures settled { IsSettled raw.old raw.new raw.old.rows raw.old.notes.items raw.old.links.items raw.old.keys raw.old.ends.items slot head }
+{
+    join(&mut raw.links, &mut raw.ends, slot, head);
+    let note = Note {
+        supports: 1,
+        head,
+        marked: true,
+    };
+    set_note(&mut raw.notes, slot, note);
+    raw.marked = or_slot(raw.marked, slot);
+}
+
+/// Puts in a tuple that isn't there. Where there is no memory, the entries stay as they were.
+pub fn insert_in(raw: &mut Raw, tuple: &[u64]) -> Result<Place, AllocError>
+    requires raw { IsRaw raw.old }
+    requires absent { cnt (entries_of raw.old) tuple.now ≡ 0 }
+    requires wide { length tuple.now ≡ raw.old.rows.width }
+    ensures raw { IsRaw raw.new }
+    ensures inserted { IfOk result (λ p. Inserted raw.old.key.items (entries_of raw.old) (entries_of raw.new) tuple.now) }
+    ensures at { IfOk result (λ p. IsAt (entries_of raw.new) p tuple.now) }
+    ensures refused { OnErr result (entries_of raw.new ≡ entries_of raw.old) }
+    ensures key { raw.new.key.items ≡ raw.old.key.items }
+    ensures width { raw.new.rows.width ≡ raw.old.rows.width }
+{
+    let slot = lay(&mut raw.rows, &mut raw.notes, &mut raw.links, tuple)?;
+    match seat(
+        &mut raw.keys,
+        &mut raw.ends,
+        &mut raw.cells,
+        raw.key.as_slice(),
+        tuple,
+    ) {
+        Err(e) => {
+            withdraw(&mut raw.rows, slot);
+            Err(e)
+        }
+        Ok(head) => {
+            settle(raw, slot, head);
+            Ok(Place::new(slot))
+        }
+    }
+}
+
+/// Takes the tuple at a place out, and its group's head with the last of the group.
+pub fn remove_in(raw: &mut Raw, place: Place)
+    requires raw { IsRaw raw.old }
+    requires live { IsLive (entries_of raw.old) place }
+    ensures raw { IsRaw raw.new }
+    ensures removed { (u : List ℕ) → IsAt (entries_of raw.old) place u → Removed (entries_of raw.old) (entries_of raw.new) u }
+    ensures key { raw.new.key.items ≡ raw.old.key.items }
+    ensures width { raw.new.rows.width ≡ raw.old.rows.width }
+{
+    let slot = place.slot();
+    let head = note_of(&raw.notes, slot).head;
+    raw.marked = pass(raw.marked, slot, raw.rows.next(slot));
+    part(&mut raw.links, &mut raw.ends, slot, head);
+    prune(&mut raw.keys, &raw.ends, head);
+    withdraw(&mut raw.rows, slot);
+}
+
+/// Marks the tuple at a place, and puts it behind its group.
+pub fn touch_in(raw: &mut Raw, place: Place)
+    requires raw { IsRaw raw.old }
+    requires unmarked { IsUnmarked (entries_of raw.old) place }
+    ensures raw { IsRaw raw.new }
+    ensures touched { (u : List ℕ) → IsAt (entries_of raw.old) place u → Touched raw.old.key.items (entries_of raw.old) (entries_of raw.new) u }
+    ensures key { raw.new.key.items ≡ raw.old.key.items }
+    ensures width { raw.new.rows.width ≡ raw.old.rows.width }
+{
+    let slot = place.slot();
+    let note = note_of(&raw.notes, slot);
+    part(&mut raw.links, &mut raw.ends, slot, note.head);
+    join(&mut raw.links, &mut raw.ends, slot, note.head);
+    renew(&mut raw.rows, slot);
+    let marked = Note {
+        supports: note.supports,
+        head: note.head,
+        marked: true,
+    };
+    set_note(&mut raw.notes, slot, marked);
+    raw.marked = or_slot(raw.marked, slot);
+}
+
+/// Gives the tuple at a place one support more.
+pub fn raise_in(raw: &mut Raw, place: Place)
+    requires raw { IsRaw raw.old }
+    requires raisable { IsRaisable (entries_of raw.old) place }
+    ensures raw { IsRaw raw.new }
+    ensures raised { (u : List ℕ) → IsAt (entries_of raw.old) place u → Supported (entries_of raw.old) (entries_of raw.new) u (supp (entries_of raw.old) u) (supp (entries_of raw.old) u + 1) }
+    ensures key { raw.new.key.items ≡ raw.old.key.items }
+    ensures width { raw.new.rows.width ≡ raw.old.rows.width }
+{
+    let slot = place.slot();
+    let note = note_of(&raw.notes, slot);
+    let raised = Note {
+        supports: note.supports + 1,
+        head: note.head,
+        marked: note.marked,
+    };
+    set_note(&mut raw.notes, slot, raised);
+}
+
+/// Takes one support of the tuple at a place away.
+pub fn lower_in(raw: &mut Raw, place: Place)
+    requires raw { IsRaw raw.old }
+    requires lowerable { IsLowerable (entries_of raw.old) place }
+    ensures raw { IsRaw raw.new }
+    ensures lowered { (u : List ℕ) → IsAt (entries_of raw.old) place u → Supported (entries_of raw.old) (entries_of raw.new) u (supp (entries_of raw.old) u) (supp (entries_of raw.old) u - 1) }
+    ensures key { raw.new.key.items ≡ raw.old.key.items }
+    ensures width { raw.new.rows.width ≡ raw.old.rows.width }
+{
+    let slot = place.slot();
+    let note = note_of(&raw.notes, slot);
+    let lowered = Note {
+        supports: note.supports - 1,
+        head: note.head,
+        marked: note.marked,
+    };
+    set_note(&mut raw.notes, slot, lowered);
 }
