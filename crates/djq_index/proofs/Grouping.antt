@@ -239,7 +239,7 @@ no_slots [] h = refl
 no_slots (e ∷ es) h = absurd cc
 
 -- a slot leaves its group
-group_middle : (key : List ℕ) (xs : List Entry) (e : Entry) (ys : List Entry) (w : List ℕ) → pick key e.tuple ≡ w → grp key (xs ++ e ∷ ys) w ≡ grp key xs w ++ e ∷ grp key ys w
+pub group_middle : (key : List ℕ) (xs : List Entry) (e : Entry) (ys : List Entry) (w : List ℕ) → pick key e.tuple ≡ w → grp key (xs ++ e ∷ ys) w ≡ grp key xs w ++ e ∷ grp key ys w
 group_middle key xs e ys w h = grp-append key xs (e ∷ ys) w ∙ ap (λ (g : List Entry). grp key xs w ++ g) (grp_yes key e ys w (is_same (pick key e.tuple) w h))
 
 group_past : (key : List ℕ) (xs : List Entry) (e : Entry) (ys : List Entry) (v : List ℕ) → (pick key e.tuple ≡ v → ⊥) → grp key (xs ++ e ∷ ys) v ≡ grp key (xs ++ ys) v

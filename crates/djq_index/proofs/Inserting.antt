@@ -1,5 +1,6 @@
 -- A tuple comes into a table's parts.
-use Rattle.std.proofs.Common.{◌≡◌, ◌≢◌, ℕ, zero, suc, ◌+◌, ◌≤◌, ◌<◌, List, [], ◌∷◌, ◌++◌, length, slice_set, Option, Some, None, refl, ap, ap₂, subst, sym, ◌∙◌, arith, append_assoc, Bool, true, false, ◌⊎◌, inl, inr, length-set}
+use Rattle.std.proofs.Common.{◌≡◌, ◌≢◌, ℕ, zero, suc, ◌+◌, ◌≤◌, ◌<◌, List, [], ◌∷◌, ◌++◌, length, slice_set, Option, Some, None, Result, Ok, Err, refl, ap, ap₂, subst, sym, ◌∙◌, arith, append_assoc, Bool, true, false, ◌⊎◌, inl, inr, length-set}
+use Rattle.std.specs.Result.{OnErr}
 use Rattle.std.proofs.lemmas.List.{append-nil}
 use Rattle.djq_arena.specs.declared.chain.Pair.{Pair}
 use Rattle.djq_arena.specs.declared.chain.Ends.{Ends}
@@ -127,3 +128,45 @@ module _ (a b : Raw) (rows : Rows) (notes : List Note) (links : List Pair) (keys
 
   pub came_at : IsAt (entries_of b) (record { slot = i }) u
   came_at = record { front = entries_of a; back = []; entry = (record { at = record { slot = i }; tuple = u; supports = 1; marked = true }); is = came_entries; tuple = refl; at = refl }
+
+-- a refused insertion leaves all as it was
+pub record Refuses (a b : Raw) : Type 0 where
+  pub key : b.key.items ≡ a.key.items
+  pub rows_law : AreRows b.rows
+  pub width : b.rows.width ≡ a.rows.width
+  pub rows : b.rows.rows ≡ a.rows.rows
+  pub room_notes : b.rows.room ≤ length b.notes.items
+  pub room_links : b.rows.room ≤ length b.links.items
+  pub same_notes : (k : ℕ) → note_at b.notes.items k ≡ note_at a.notes.items k
+  pub same_links : (k : ℕ) → pair_at b.links.items k ≡ pair_at a.links.items k
+  pub keys_law : AreRows b.keys
+  pub keys_width : b.keys.width ≡ a.keys.width
+  pub keys : b.keys.rows ≡ a.keys.rows
+  pub room_ends : b.keys.room ≤ length b.ends.items
+  pub same_ends : (k : ℕ) → ends_at b.ends.items k ≡ ends_at a.ends.items k
+  pub marked : b.marked ≡ a.marked
+
+pub refused_entries : (a b : Raw) → Refuses a b → entries_of b ≡ entries_of a
+refused_entries a b r = ap (entries_in b.notes.items) r.rows ∙ entries_like a.notes.items b.notes.items a.rows.rows r.same_notes
+
+pub refused_raw : (a b : Raw) → IsRaw a → Refuses a b → IsRaw b
+refused_raw a b raw r = record {
+  rows = r.rows_law;
+  keys = r.keys_law;
+  columns = rw (r.key, r.width) raw.columns;
+  key_width = rw (r.key, r.keys_width) raw.key_width;
+  notes = r.room_notes;
+  links = r.room_links;
+  ends = r.room_ends;
+  apart = rw same raw.apart;
+  groups = rw (same, r.key, r.keys) (groups_like a.key.items a.notes.items b.notes.items a.links.items b.links.items a.keys.rows a.ends.items b.ends.items (entries_of a) raw.groups (λ k. ap (λ (n : Note). n.head) (r.same_notes k)) r.same_links r.same_ends);
+  trailing = rw same raw.trailing;
+  marked = r.marked ∙ raw.marked ∙ ap (λ (es : List Entry). first_of (slots_at (marks es))) (sym same) }
+  where
+  same : entries_of b ≡ entries_of a
+  same = refused_entries a b r
+
+-- what holds in any case
+pub on_err_of : {T E : Type 0} (r : Result T E) (P : Type 0) → P → OnErr r P
+on_err_of (Ok x) P p = tt
+on_err_of (Err e) P p = p

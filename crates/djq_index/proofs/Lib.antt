@@ -11,3 +11,4 @@ pub mod Grouping
 pub mod Columns
 pub mod Keeping
 pub mod Inserting
+pub mod Leaving
