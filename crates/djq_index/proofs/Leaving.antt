@@ -274,3 +274,139 @@ module _ (a b : Raw) (p : Place) (u : List ℕ) (note : Note) (raw : IsRaw a) (f
     same_place = sym (entry_at a.notes.items (record { slot = p.slot; cells = u }));
     same_mark = same_mark;
     had = entry_supports a.notes.items (record { slot = p.slot; cells = u }) ∙ had; has = has }
+
+-- what a touch does to the parts
+pub record Touches (a b : Raw) (i : ℕ) : Type 0 where
+  pub key : b.key.items ≡ a.key.items
+  pub rows_law : AreRows b.rows
+  pub width : b.rows.width ≡ a.rows.width
+  pub room : b.rows.room ≡ a.rows.room
+  pub renewed : (rs : List Row) (r : Row) (ss : List Row) → a.rows.rows ≡ rs ++ r ∷ ss → r.slot ≡ i → b.rows.rows ≡ (rs ++ ss) ++ r ∷ []
+  pub notes : b.notes.items ≡ slice_set a.notes.items i (record { supports = (note_at a.notes.items i).supports; head = (note_at a.notes.items i).head; marked = true })
+  pub known : List Ends
+  pub known_is : known ≡ slice_set a.ends.items (note_at a.notes.items i).head (shrunk (pair_at a.links.items i) (ends_at a.ends.items (note_at a.notes.items i).head))
+  pub links : b.links.items ≡ entered (ends_at known (note_at a.notes.items i).head).last i (left (pair_at a.links.items i) a.links.items)
+  pub ends : b.ends.items ≡ slice_set known (note_at a.notes.items i).head (extended i (ends_at known (note_at a.notes.items i).head))
+  pub keys : b.keys ≡ a.keys
+  pub marked : b.marked ≡ beside a.marked (Some i) a.marked
+
+many_none : (key : List ℕ) (w : List ℕ) → many key [] w ≡ 0
+unfolding many
+many_none key w = refl
+
+-- what is asked for joining again
+module _ (a : Raw) (p : Place) (u : List ℕ) (raw : IsRaw a) (f : Found a p u) where
+  rest_different : AreDifferent (slots_at (xs a p u raw f ++ ys a p u raw f))
+  rest_different = subst AreDifferent (sym (slots_at-append (xs a p u raw f) (ys a p u raw f))) (different_out (slots_at (xs a p u raw f)) (e a p u raw f).at.slot (slots_at (ys a p u raw f)) (subst AreDifferent (slots_at_middle (xs a p u raw f) (e a p u raw f) (ys a p u raw f)) (all_different a p u raw f)))
+
+  rest_out : IsOut p.slot (slots_at (xs a p u raw f ++ ys a p u raw f))
+  rest_out = subst (λ i. IsOut i (slots_at (xs a p u raw f ++ ys a p u raw f))) (e_slot a p u raw f) (subst (IsOut (e a p u raw f).at.slot) (sym (slots_at-append (xs a p u raw f) (ys a p u raw f))) (different_here (slots_at (xs a p u raw f)) (e a p u raw f).at.slot (slots_at (ys a p u raw f)) (subst AreDifferent (slots_at_middle (xs a p u raw f) (e a p u raw f) (ys a p u raw f)) (all_different a p u raw f))))
+
+  rest_below : AreBelow (length (left (pair_at a.links.items p.slot) a.links.items)) (slots_at (xs a p u raw f ++ ys a p u raw f))
+  rest_below = rw length-left (subst (AreBelow (length a.links.items)) (sym (slots_at-append (xs a p u raw f) (ys a p u raw f))) (below_out (length a.links.items) (slots_at (xs a p u raw f)) (e a p u raw f).at.slot (slots_at (ys a p u raw f)) (subst (AreBelow (length a.links.items)) (slots_at_middle (xs a p u raw f) (e a p u raw f) (ys a p u raw f)) (links_below a p u raw f))))
+
+  pub its_number : p.slot < 4294967295
+  its_number = omega (arith, its_room a p u raw f, raw.rows.numbers)
+
+  pub its_last_within : (h : ℕ) (known : List Ends) → h ≡ (note_at a.notes.items p.slot).head → known ≡ slice_set a.ends.items h (shrunk (pair_at a.links.items p.slot) (ends_at a.ends.items h))
+      → IsWithin (length (left (pair_at a.links.items p.slot) a.links.items)) (ends_at known h).last
+  its_last_within h known hi is =
+      let head = (note_at a.notes.items p.slot).head in
+      let g = its_parted a p u raw f in
+      let all : known ≡ slice_set a.ends.items head (shrunk (pair_at a.links.items p.slot) (ends_at a.ends.items head)) = is ∙ ap (λ (k : ℕ). slice_set a.ends.items k (shrunk (pair_at a.links.items p.slot) (ends_at a.ends.items k))) hi in
+      subst (IsWithin (length (left (pair_at a.links.items p.slot) a.links.items)))
+        (sym (ap₂ (λ (ks : List Ends) (k : ℕ). (ends_at ks k).last) all hi ∙ ap (λ (v : Ends). v.last) (g.headed head (pick a.key.items u) g.mine)))
+        (last_within (length (left (pair_at a.links.items p.slot) a.links.items)) None (slots_at (grp a.key.items (xs a p u raw f ++ ys a p u raw f) (pick a.key.items u))) tt
+          (group_below (length (left (pair_at a.links.items p.slot) a.links.items)) a.key.items (xs a p u raw f ++ ys a p u raw f) (pick a.key.items u) rest_below))
+
+module _ (a b : Raw) (p : Place) (u : List ℕ) (raw : IsRaw a) (f : Found a p u) (plain_one : is_marked (entries_of a) u ≡ false) (at : IsAt (entries_of a) p u) (t : Touches a b p.slot) where
+  new_note : Note
+  new_note = record { supports = (note_at a.notes.items p.slot).supports; head = (note_at a.notes.items p.slot).head; marked = true }
+
+  new_entry : Entry
+  new_entry = record { at = record { slot = p.slot }; tuple = u; supports = (note_at a.notes.items p.slot).supports; marked = true }
+
+  notes_within : p.slot < length a.notes.items
+  notes_within = omega (arith, its_room a p u raw f, raw.notes)
+
+  rows_are : b.rows.rows ≡ (f.front ++ f.back) ++ record { slot = p.slot; cells = u } ∷ []
+  rows_are = t.renewed f.front (record { slot = p.slot; cells = u }) f.back f.rows refl
+
+  touched_is : entries_of b ≡ (xs a p u raw f ++ ys a p u raw f) ++ new_entry ∷ []
+  unfolding xs ys new_entry
+  touched_is = ap (λ (ns : List Note). entries_in ns b.rows.rows) t.notes ∙ ap (entries_in (slice_set a.notes.items p.slot (record { supports = (note_at a.notes.items p.slot).supports; head = (note_at a.notes.items p.slot).head; marked = true }))) rows_are
+    ∙ entries_set a.notes.items p.slot (record { supports = (note_at a.notes.items p.slot).supports; head = (note_at a.notes.items p.slot).head; marked = true }) (f.front ++ f.back) (record { slot = p.slot; cells = u }) [] refl notes_within (subst (λ rs. AreDifferent (slots rs)) rows_are t.rows_law.different)
+    ∙ ap₂ (λ (ds es : List Entry). ds ++ record { at = record { slot = p.slot }; tuple = u; supports = (note_at a.notes.items p.slot).supports; marked = true } ∷ es) (entries_in-append a.notes.items f.front f.back) (entries_nil a.notes.items)
+
+  e_plain : (e a p u raw f).marked ≡ false
+  unfolding e its_entry
+  e_plain = entry_marked a.notes.items (record { slot = p.slot; cells = u }) ∙ note_marked a p u raw at ∙ plain_one
+
+  touched_groups : AreGroups a.key.items b.notes.items b.links.items a.keys.rows b.ends.items ((xs a p u raw f ++ ys a p u raw f) ++ new_entry ∷ [])
+  unfolding new_entry
+  touched_groups = rw (t.notes, t.links, t.ends)
+    (join_groups a.key.items a.notes.items (slice_set a.notes.items p.slot (record { supports = (note_at a.notes.items p.slot).supports; head = (note_at a.notes.items p.slot).head; marked = true }))
+      (left (pair_at a.links.items p.slot) a.links.items) a.keys.rows t.known (xs a p u raw f ++ ys a p u raw f) (pick a.key.items u) (note_at a.notes.items p.slot).head
+      (record { at = record { slot = p.slot }; tuple = u; supports = (note_at a.notes.items p.slot).supports; marked = true }) p.slot
+      parted refl refl (rest_out a p u raw f) (rest_different a p u raw f) (rest_below a p u raw f)
+      (rw length-left (omega (arith, its_room a p u raw f, raw.links)))
+      (rw (t.known_is, length-set) (its_head_room a p u raw f))
+      (seated_out a.key.items a.notes.items p.slot (record { supports = (note_at a.notes.items p.slot).supports; head = (note_at a.notes.items p.slot).head; marked = true }) a.keys.rows (xs a p u raw f ++ ys a p u raw f) (rest_out a p u raw f) parted.seated)
+      (seat_noted a.notes.items p.slot (record { supports = (note_at a.notes.items p.slot).supports; head = (note_at a.notes.items p.slot).head; marked = true }) notes_within))
+    where
+    parted : AreGroupsBut a.key.items a.notes.items (left (pair_at a.links.items p.slot) a.links.items) a.keys.rows t.known (xs a p u raw f ++ ys a p u raw f) (pick a.key.items u) (note_at a.notes.items p.slot).head
+    parted = subst (λ ks. AreGroupsBut a.key.items a.notes.items (left (pair_at a.links.items p.slot) a.links.items) a.keys.rows ks (xs a p u raw f ++ ys a p u raw f) (pick a.key.items u) (note_at a.notes.items p.slot).head) (sym t.known_is) (its_parted a p u raw f)
+
+  pub touched_raw : IsRaw b
+  unfolding new_entry
+  touched_raw = record {
+    rows = t.rows_law;
+    keys = rw t.keys raw.keys;
+    columns = rw (t.key, t.width) raw.columns;
+    key_width = rw (t.key, t.keys) raw.key_width;
+    notes = rw (t.room, t.notes, length-set) raw.notes;
+    links = rw (t.room, t.links, length-entered, length-left) raw.links;
+    ends = rw (t.keys, t.ends, length-set, t.known_is, length-set) raw.ends;
+    apart = rw touched_is (apart_in (xs a p u raw f ++ ys a p u raw f) new_entry [] (rw append-nil (apart_out (xs a p u raw f) (e a p u raw f) (ys a p u raw f) was_apart)) (rw append-nil absent));
+    groups = rw (touched_is, t.key, t.keys) touched_groups;
+    trailing = rw touched_is (trailing_push (xs a p u raw f ++ ys a p u raw f) new_entry (trailing_out (xs a p u raw f) (e a p u raw f) (ys a p u raw f) (subst AreTrailing (cut_is a p u raw f) raw.trailing)) refl);
+    marked = t.marked ∙ ap (λ (o : Option ℕ). beside o (Some p.slot) o) (raw.marked ∙ ap (λ (es : List Entry). first_of (slots_at (marks es))) (cut_is a p u raw f) ∙ ap (λ (ms : List Entry). first_of (slots_at ms)) (marks_middle (xs a p u raw f) (e a p u raw f) (ys a p u raw f) e_plain))
+      ∙ mark_push (xs a p u raw f ++ ys a p u raw f) new_entry p.slot refl refl ∙ ap (λ (es : List Entry). first_of (slots_at (marks es))) (sym touched_is) }
+    where
+    was_apart : AreApart (xs a p u raw f ++ e a p u raw f ∷ ys a p u raw f)
+    was_apart = subst AreApart (cut_is a p u raw f) raw.apart
+    absent : cnt (xs a p u raw f ++ ys a p u raw f) u ≡ 0
+    absent = subst (λ v. cnt (xs a p u raw f ++ ys a p u raw f) v ≡ 0) (e_tuple a p u raw f) (apart_here (xs a p u raw f) (e a p u raw f) (ys a p u raw f) was_apart)
+
+  pub touched_one : Touched a.key.items (entries_of a) (entries_of b) u
+  unfolding new_entry e its_entry
+  touched_one = record {
+    front = xs a p u raw f; back = ys a p u raw f; before = e a p u raw f; after = new_entry; fore = xs a p u raw f ++ ys a p u raw f; rest = [];
+    was = cut_is a p u raw f; between = sym (append-nil (xs a p u raw f ++ ys a p u raw f)); is = touched_is;
+    tuple = e_tuple a p u raw f; same_tuple = refl; same_place = sym (entry_at a.notes.items (record { slot = p.slot; cells = u }));
+    same_supports = sym (entry_supports a.notes.items (record { slot = p.slot; cells = u })); plain = e_plain; marked = refl;
+    last = many_none a.key.items (pick a.key.items u) }
+
+-- the same, as the calls say it
+pub touches_from : (a b : Raw) (i j : ℕ) (note : Note) → j ≡ i → note ≡ note_at a.notes.items i
+    → b.key.items ≡ a.key.items → AreRows b.rows → b.rows.width ≡ a.rows.width → b.rows.room ≡ a.rows.room
+    → ((rs : List Row) (r : Row) (ss : List Row) → a.rows.rows ≡ rs ++ r ∷ ss → r.slot ≡ j → b.rows.rows ≡ (rs ++ ss) ++ r ∷ [])
+    → b.notes.items ≡ slice_set a.notes.items j (record { supports = note.supports; head = note.head; marked = true })
+    → (known : List Ends) → known ≡ slice_set a.ends.items note.head (shrunk (pair_at a.links.items j) (ends_at a.ends.items note.head))
+    → (links : List Pair) → links ≡ left (pair_at a.links.items j) a.links.items
+    → b.links.items ≡ entered (ends_at known note.head).last j links
+    → b.ends.items ≡ slice_set known note.head (extended j (ends_at known note.head))
+    → b.keys ≡ a.keys → b.marked ≡ beside a.marked (Some j) a.marked → Touches a b i
+touches_from a b i j note ji ni key law width room renewed notes known known_is links links_is more ends keys marked = record {
+  key = key; rows_law = law; width = width; room = room;
+  renewed = λ rs r ss is at. renewed rs r ss is (at ∙ sym ji);
+  notes = notes ∙ ap₂ (λ (k : ℕ) (n : Note). slice_set a.notes.items k (record { supports = n.supports; head = n.head; marked = true })) ji ni;
+  known = known;
+  known_is = known_is ∙ ap₂ (λ (k : ℕ) (n : Note). slice_set a.ends.items n.head (shrunk (pair_at a.links.items k) (ends_at a.ends.items n.head))) ji ni;
+  links = more ∙ ap₂ (λ (k : ℕ) (n : Note). entered (ends_at known n.head).last k links) ji ni ∙ ap (λ (ls : List Pair). entered (ends_at known (note_at a.notes.items i).head).last i ls) (links_is ∙ ap (λ (k : ℕ). left (pair_at a.links.items k) a.links.items) ji);
+  ends = ends ∙ ap₂ (λ (k : ℕ) (n : Note). slice_set known n.head (extended k (ends_at known n.head))) ji ni;
+  keys = keys;
+  marked = marked ∙ ap (λ (k : ℕ). beside a.marked (Some k) a.marked) ji }
+
+pub same_tuple_at : (a : Raw) (p : Place) (u v : List ℕ) → IsRaw a → IsAt (entries_of a) p u → IsAt (entries_of a) p v → is_marked (entries_of a) v ≡ false → is_marked (entries_of a) u ≡ false
+same_tuple_at a p u v raw at other none = sym (note_marked a p u raw at) ∙ note_marked a p v raw other ∙ none
