@@ -135,7 +135,8 @@ extends a b u h e wide room =
       width = e.width;
       here = rw (e.width, e.cells) (row_comes a.width a.cells.items u (length a.order.items) h.store.cells wide);
       rows = rows_same live;
-      slots = longer ∙ omega arith; fits = omega arith;
+      slots = longer ∙ omega arith;
+      fits = omega arith;
     }
   where
     rows_same : live_of b ≡ live_of a → rows_of b ≡ rows_of a
@@ -311,7 +312,8 @@ module _ (a b : Store) (xs gs : List ℕ) (i : ℕ) (u : List ℕ) (h : IsStore 
         width = r.width;
         here = rw (r.width, reuse_cells) (row_written a.width a.cells.items i u (length a.order.items) h.cells wide reuse_within);
         rows = reuse_rows live is;
-        slots = ap (λ (ls : List Pair). length ls) r.order ∙ length-left a.order.items (pair_at a.order.items i) ∙ omega (arith, reuse_within); fits = omega (arith, reuse_within);
+        slots = ap (λ (ls : List Pair). length ls) r.order ∙ length-left a.order.items (pair_at a.order.items i) ∙ omega (arith, reuse_within);
+        fits = omega (arith, reuse_within);
       }
 
 pub reuses : (a b : Store) (i : ℕ) (u : List ℕ) → IsSound a → a.free.last ≡ Some i → Reuses a b i u → length u ≡ a.width → IsPrepared a b i u

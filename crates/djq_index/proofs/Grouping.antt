@@ -42,9 +42,10 @@ pub group_out : (i : ℕ) (key : List ℕ) (es : List Entry) (w : List ℕ) → 
 group_out i key [] w h = rw (grp_nil key w, slots_nil) (out_nil i)
 group_out i key (e ∷ es) w h =
     let k = out_first i e.at.slot (slots_at es) (subst (IsOut i) (slots_at_cons e es) h) in
-    elim (cases_Bool (same (pick key e.tuple) w))
-    [ inl here ↦ rw (grp_yes key e es w here, slots_at_cons) (out_more i e.at.slot (slots_at (grp key es w)) k.0 (group_out i key es w k.1))
-    | inr other ↦ rw (grp_no key e es w other) (group_out i key es w k.1) ]
+    elim (cases_Bool (same (pick key e.tuple) w)) [
+      | inl here ↦ rw (grp_yes key e es w here, slots_at_cons) (out_more i e.at.slot (slots_at (grp key es w)) k.0 (group_out i key es w k.1))
+      | inr other ↦ rw (grp_no key e es w other) (group_out i key es w k.1)
+    ]
 
 different_first : (x : ℕ) (xs : List ℕ) → AreDifferent (x ∷ xs) → IsOut x xs × AreDifferent xs
 unfolding AreDifferent
@@ -62,9 +63,10 @@ pub group_different : (key : List ℕ) (es : List Entry) (w : List ℕ) → AreD
 group_different key [] w h = rw (grp_nil key w, slots_nil) different_nil
 group_different key (e ∷ es) w h =
     let k = different_first e.at.slot (slots_at es) (subst AreDifferent (slots_at_cons e es) h) in
-    elim (cases_Bool (same (pick key e.tuple) w))
-    [ inl here ↦ rw (grp_yes key e es w here, slots_at_cons) (different_more e.at.slot (slots_at (grp key es w)) (group_out e.at.slot key es w k.0) (group_different key es w k.1))
-    | inr other ↦ rw (grp_no key e es w other) (group_different key es w k.1) ]
+    elim (cases_Bool (same (pick key e.tuple) w)) [
+      | inl here ↦ rw (grp_yes key e es w here, slots_at_cons) (different_more e.at.slot (slots_at (grp key es w)) (group_out e.at.slot key es w k.0) (group_different key es w k.1))
+      | inr other ↦ rw (grp_no key e es w other) (group_different key es w k.1)
+    ]
 
 below_first : (n x : ℕ) (xs : List ℕ) → AreBelow n (x ∷ xs) → (x < n) × AreBelow n xs
 unfolding AreBelow
@@ -82,9 +84,10 @@ pub group_below : (n : ℕ) (key : List ℕ) (es : List Entry) (w : List ℕ) �
 group_below n key [] w h = rw (grp_nil key w, slots_nil) (below_nil n)
 group_below n key (e ∷ es) w h =
     let k = below_first n e.at.slot (slots_at es) (subst (AreBelow n) (slots_at_cons e es) h) in
-    elim (cases_Bool (same (pick key e.tuple) w))
-    [ inl here ↦ rw (grp_yes key e es w here, slots_at_cons) (below_more n e.at.slot (slots_at (grp key es w)) k.0 (group_below n key es w k.1))
-    | inr other ↦ rw (grp_no key e es w other) (group_below n key es w k.1) ]
+    elim (cases_Bool (same (pick key e.tuple) w)) [
+      | inl here ↦ rw (grp_yes key e es w here, slots_at_cons) (below_more n e.at.slot (slots_at (grp key es w)) k.0 (group_below n key es w k.1))
+      | inr other ↦ rw (grp_no key e es w other) (group_below n key es w k.1)
+    ]
 
 -- two groups have no slot in common
 outs_nil : (ys : List ℕ) → AreOut [] ys
@@ -100,12 +103,14 @@ groups_apart key [] v w other h = rw (grp_nil key v, slots_nil) (outs_nil (slots
 groups_apart key (e ∷ es) v w other h =
     let k = different_first e.at.slot (slots_at es) (subst AreDifferent (slots_at_cons e es) h) in
     let rest = groups_apart key es v w other k.1 in
-    elim (same_cases (pick key e.tuple) v)
-    [ inl here ↦ rw (grp_yes key e es v (is_same (pick key e.tuple) v here), grp_no key e es w (same_other (pick key e.tuple) w (λ there_too. other (sym here ∙ there_too))), slots_at_cons)
-        (outs_more e.at.slot (slots_at (grp key es v)) (slots_at (grp key es w)) (group_out e.at.slot key es w k.0) rest)
-    | inr no_v ↦ elim (cases_Bool (same (pick key e.tuple) w))
-      [ inl in_w ↦ rw (grp_no key e es v no_v, grp_yes key e es w in_w, slots_at_cons) (outs_swap (e.at.slot ∷ slots_at (grp key es w)) (slots_at (grp key es v)) (outs_more e.at.slot (slots_at (grp key es w)) (slots_at (grp key es v)) (group_out e.at.slot key es v k.0) (outs_swap (slots_at (grp key es v)) (slots_at (grp key es w)) rest)))
-      | inr no_w ↦ rw (grp_no key e es v no_v, grp_no key e es w no_w) rest ] ]
+    elim (same_cases (pick key e.tuple) v) [
+      | inl here ↦ rw (grp_yes key e es v (is_same (pick key e.tuple) v here), grp_no key e es w (same_other (pick key e.tuple) w (λ there_too. other (sym here ∙ there_too))), slots_at_cons)
+          (outs_more e.at.slot (slots_at (grp key es v)) (slots_at (grp key es w)) (group_out e.at.slot key es w k.0) rest)
+      | inr no_v ↦ elim (cases_Bool (same (pick key e.tuple) w)) [
+        | inl in_w ↦ rw (grp_no key e es v no_v, grp_yes key e es w in_w, slots_at_cons) (outs_swap (e.at.slot ∷ slots_at (grp key es w)) (slots_at (grp key es v)) (outs_more e.at.slot (slots_at (grp key es w)) (slots_at (grp key es v)) (group_out e.at.slot key es v k.0) (outs_swap (slots_at (grp key es v)) (slots_at (grp key es w)) rest)))
+        | inr no_w ↦ rw (grp_no key e es v no_v, grp_no key e es w no_w) rest
+      ]
+    ]
 
 -- all groups are right, but that of w, whose head is h, may be empty
 pub record AreGroupsBut (key : List ℕ) (notes : List Note) (links : List Pair) (keys : List Row) (ends : List Ends) (es : List Entry) (w : List ℕ) (h : ℕ) : Type 0 where
@@ -185,39 +190,42 @@ module _ (key : List ℕ) (notes more : List Note) (links : List Pair) (keys : L
   join_mine : Linked joined None (slots_at (grp key (es ++ e ∷ []) w)) None
   unfolding joined
   join_mine = rw (group_push key es e w its, slots_push (grp key es w) e i at, last_is)
-    (entered_linked links (slots_at (grp key es w)) i (group_different key es w d) (group_below (length links) key es w b) (group_out i key es w out) within (g.chained w))
+      (entered_linked links (slots_at (grp key es w)) i (group_different key es w d) (group_below (length links) key es w b) (group_out i key es w out) within (g.chained w))
 
   join_other : (v : List ℕ) → (v ≡ w → ⊥) → Linked joined None (slots_at (grp key (es ++ e ∷ []) v)) None
   unfolding joined
   join_other v other = rw (group_else key es e v (λ k. other (sym k ∙ its)), last_is)
-    (linked_same links (entered (last_of (slots_at (grp key es w))) i links) None (slots_at (grp key es v)) None
+      (linked_same links (entered (last_of (slots_at (grp key es w))) i links) None (slots_at (grp key es v)) None
       (entered_agree links (last_of (slots_at (grp key es w))) i (slots_at (grp key es v))
-        (avoid_last (slots_at (grp key es w)) (slots_at (grp key es v)) (group_different key es w d) (group_different key es v d) (groups_apart key es w v (λ k. other (sym k)) d))
-        (group_out i key es v out))
+      (avoid_last (slots_at (grp key es w)) (slots_at (grp key es v)) (group_different key es w d) (group_different key es v d) (groups_apart key es w v (λ k. other (sym k)) d))
+      (group_out i key es v out))
       (g.chained v))
 
   join_chained : (v : List ℕ) → Linked joined None (slots_at (grp key (es ++ e ∷ []) v)) None
   join_chained v = elim (same_cases v w) [ inl here ↦ subst (λ u. Linked joined None (slots_at (grp key (es ++ e ∷ []) u)) None) (sym here) join_mine | inr other ↦ join_other v (differs v w other) ]
 
   join_headed : (k : ℕ) (v : List ℕ) → row_at keys k ≡ Some v → ends_at (slice_set ends h (extended i (ends_at ends h))) k ≡ ends_of (slots_at (grp key (es ++ e ∷ []) v))
-  join_headed k v r = elim (cases_eq k h)
-    [ inl here ↦ (let same_key : v ≡ w = one_row keys h v w (subst (λ j. row_at keys j ≡ Some v) here r) g.mine in
+  join_headed k v r = elim (cases_eq k h) [
+    | inl here ↦ (let same_key : v ≡ w = one_row keys h v w (subst (λ j. row_at keys j ≡ Some v) here r) g.mine in
         rw (here, same_key, group_push key es e w its, slots_push (grp key es w) e i at)
         (get_or-set_same ends h (extended i (ends_at ends h)) (record { first = None; last = None }) inside ∙ ap (extended i) (g.headed h w g.mine) ∙ extended_is (slots_at (grp key es w)) i))
     | inr other ↦ rw (group_else key es e v (λ q. other (g.once k h w (subst (λ u. row_at keys k ≡ Some u) (sym q ∙ its) r) g.mine)))
-        (get_or-set_other ends h k (extended i (ends_at ends h)) (record { first = None; last = None }) other ∙ g.headed k v r) ]
+        (get_or-set_other ends h k (extended i (ends_at ends h)) (record { first = None; last = None }) other ∙ g.headed k v r)
+  ]
 
   pub join_groups : AreGroups key more (entered (ends_at ends h).last i links) keys (slice_set ends h (extended i (ends_at ends h))) (es ++ e ∷ [])
   unfolding joined
   join_groups = record {
     chained = join_chained;
     headed = join_headed;
-    some = λ k v r. elim (same_cases v w)
-      [ inl here ↦ omega (arith, many_push key es e v, one_true (same (pick key e.tuple) v) (is_same (pick key e.tuple) v (its ∙ sym here)))
-      | inr other ↦ (let old = g.some k v r (differs v w other) in omega (arith, many_push key es e v, old)) ];
+    some = λ k v r. elim (same_cases v w) [
+      | inl here ↦ omega (arith, many_push key es e v, one_true (same (pick key e.tuple) v) (is_same (pick key e.tuple) v (its ∙ sym here)))
+      | inr other ↦ (let old = g.some k v r (differs v w other) in omega (arith, many_push key es e v, old))
+    ];
     none = λ v absent. omega (arith, many_push key es e v, g.none v absent, one_false (same (pick key e.tuple) v) (same_other (pick key e.tuple) v (λ q. present keys h w v g.mine (sym its ∙ q) absent)));
     once = g.once;
-    seated = seated_push key more keys es e seats (ap (λ (j : ℕ). row_at keys (note_at more j).head) at ∙ ap (row_at keys) seat ∙ g.mine ∙ ap Some (sym its)) }
+    seated = seated_push key more keys es e seats (ap (λ (j : ℕ). row_at keys (note_at more j).head) at ∙ ap (row_at keys) seat ∙ g.mine ∙ ap Some (sym its));
+  }
 
 outs_front : (xs ys zs : List ℕ) → AreOut (xs ++ ys) zs → AreOut xs zs
 unfolding AreOut
@@ -281,8 +289,8 @@ module _ (key : List ℕ) (notes : List Note) (links : List Pair) (keys : List R
   part_mine : Linked parted None (slots_at (grp key (xs ++ ys) its_key)) None
   unfolding parted
   part_mine = rw rest_slots (left_linked links (slots_at (grp key xs its_key)) i (slots_at (grp key ys its_key))
-    (subst AreDifferent its_slots (group_different key (xs ++ e ∷ ys) its_key d))
-    (subst (AreBelow (length links)) its_slots (group_below (length links) key (xs ++ e ∷ ys) its_key b)) its_chain)
+      (subst AreDifferent its_slots (group_different key (xs ++ e ∷ ys) its_key d))
+      (subst (AreBelow (length links)) its_slots (group_below (length links) key (xs ++ e ∷ ys) its_key b)) its_chain)
 
   mine_out : (v : List ℕ) → (v ≡ its_key → ⊥) → AreOut (slots_at (grp key xs its_key) ++ i ∷ slots_at (grp key ys its_key)) (slots_at (grp key (xs ++ e ∷ ys) v))
   mine_out v other = subst (λ zs. AreOut zs (slots_at (grp key (xs ++ e ∷ ys) v))) its_slots (groups_apart key (xs ++ e ∷ ys) its_key v (λ k. other (sym k)) d)
@@ -290,16 +298,16 @@ module _ (key : List ℕ) (notes : List Note) (links : List Pair) (keys : List R
   part_other : (v : List ℕ) → (v ≡ its_key → ⊥) → Linked parted None (slots_at (grp key (xs ++ ys) v)) None
   unfolding parted its_key
   part_other v other = rw (← (group_past key xs e ys v (λ k. other (sym k))))
-    (linked_same links (left (pair_at links i) links) None (slots_at (grp key (xs ++ e ∷ ys) v)) None
+      (linked_same links (left (pair_at links i) links) None (slots_at (grp key (xs ++ e ∷ ys) v)) None
       (left_agree links (pair_at links i) (slots_at (grp key (xs ++ e ∷ ys) v))
-        (rw its_prev (avoid_last (slots_at (grp key xs its_key)) (slots_at (grp key (xs ++ e ∷ ys) v))
-          (group_different key xs its_key (different_front (slots_at xs) (slots_at (e ∷ ys)) (subst AreDifferent (slots_at-append xs (e ∷ ys)) d)))
-          (group_different key (xs ++ e ∷ ys) v d)
-          (outs_front (slots_at (grp key xs its_key)) (i ∷ slots_at (grp key ys its_key)) (slots_at (grp key (xs ++ e ∷ ys) v)) (mine_out v other))))
-        (rw its_next (avoid_first (slots_at (grp key ys its_key)) (slots_at (grp key (xs ++ e ∷ ys) v))
-          (group_different key ys its_key (different_rest e.at.slot (slots_at ys) (subst AreDifferent (slots_at_cons e ys) (different_back (slots_at xs) (slots_at (e ∷ ys)) (subst AreDifferent (slots_at-append xs (e ∷ ys)) d)))))
-          (group_different key (xs ++ e ∷ ys) v d)
-          (outs_back (slots_at (grp key xs its_key)) i (slots_at (grp key ys its_key)) (slots_at (grp key (xs ++ e ∷ ys) v)) (mine_out v other)))))
+      (rw its_prev (avoid_last (slots_at (grp key xs its_key)) (slots_at (grp key (xs ++ e ∷ ys) v))
+      (group_different key xs its_key (different_front (slots_at xs) (slots_at (e ∷ ys)) (subst AreDifferent (slots_at-append xs (e ∷ ys)) d)))
+      (group_different key (xs ++ e ∷ ys) v d)
+      (outs_front (slots_at (grp key xs its_key)) (i ∷ slots_at (grp key ys its_key)) (slots_at (grp key (xs ++ e ∷ ys) v)) (mine_out v other))))
+      (rw its_next (avoid_first (slots_at (grp key ys its_key)) (slots_at (grp key (xs ++ e ∷ ys) v))
+      (group_different key ys its_key (different_rest e.at.slot (slots_at ys) (subst AreDifferent (slots_at_cons e ys) (different_back (slots_at xs) (slots_at (e ∷ ys)) (subst AreDifferent (slots_at-append xs (e ∷ ys)) d)))))
+      (group_different key (xs ++ e ∷ ys) v d)
+      (outs_back (slots_at (grp key xs its_key)) i (slots_at (grp key ys its_key)) (slots_at (grp key (xs ++ e ∷ ys) v)) (mine_out v other)))))
       (g.chained v))
 
   part_chained : (v : List ℕ) → Linked parted None (slots_at (grp key (xs ++ ys) v)) None
@@ -307,14 +315,15 @@ module _ (key : List ℕ) (notes : List Note) (links : List Pair) (keys : List R
 
   part_headed : (k : ℕ) (v : List ℕ) → row_at keys k ≡ Some v → ends_at (slice_set ends h (shrunk (pair_at links i) (ends_at ends h))) k ≡ ends_of (slots_at (grp key (xs ++ ys) v))
   unfolding its_key
-  part_headed k v r = elim (cases_eq k h)
-    [ inl here ↦ (let same_key : v ≡ pick key e.tuple = one_row keys h v (pick key e.tuple) (subst (λ j. row_at keys j ≡ Some v) here r) its_head in
+  part_headed k v r = elim (cases_eq k h) [
+    | inl here ↦ (let same_key : v ≡ pick key e.tuple = one_row keys h v (pick key e.tuple) (subst (λ j. row_at keys j ≡ Some v) here r) its_head in
         rw (here, same_key, rest_slots)
         (get_or-set_same ends h (shrunk (pair_at links i) (ends_at ends h)) (record { first = None; last = None }) inside
-         ∙ ap (shrunk (pair_at links i)) (g.headed h (pick key e.tuple) its_head ∙ ap ends_of its_slots)
-         ∙ shrunk_is (pair_at links i) (slots_at (grp key xs (pick key e.tuple))) i (slots_at (grp key ys (pick key e.tuple))) its_prev its_next))
+        ∙ ap (shrunk (pair_at links i)) (g.headed h (pick key e.tuple) its_head ∙ ap ends_of its_slots)
+        ∙ shrunk_is (pair_at links i) (slots_at (grp key xs (pick key e.tuple))) i (slots_at (grp key ys (pick key e.tuple))) its_prev its_next))
     | inr other ↦ rw (← (group_past key xs e ys v (λ q. other (g.once k h (pick key e.tuple) (subst (λ u. row_at keys k ≡ Some u) (sym q) r) its_head))))
-        (get_or-set_other ends h k (shrunk (pair_at links i) (ends_at ends h)) (record { first = None; last = None }) other ∙ g.headed k v r) ]
+        (get_or-set_other ends h k (shrunk (pair_at links i) (ends_at ends h)) (record { first = None; last = None }) other ∙ g.headed k v r)
+  ]
 
   pub part_groups : AreGroupsBut key notes (left (pair_at links i) links) keys (slice_set ends h (shrunk (pair_at links i) (ends_at ends h))) (xs ++ ys) (pick key e.tuple) h
   unfolding its_key parted
@@ -325,7 +334,8 @@ module _ (key : List ℕ) (notes : List Note) (links : List Pair) (keys : List R
     none = λ v absent. omega (arith, many_middle key xs e ys v, g.none v absent);
     once = g.once;
     seated = (seated_out key notes keys xs e ys g.seated).0;
-    mine = its_head }
+    mine = its_head;
+  }
 
 -- a head goes with its last tuple
 slots_first : (q : Row) (qs : List Row) → slots (q ∷ qs) ≡ q.slot ∷ slots qs
@@ -335,9 +345,10 @@ slots_first q qs = refl
 row_gone : (ks : List Row) (r : Row) (ls : List Row) (k : ℕ) → (k ≡ r.slot → ⊥) → row_at (ks ++ ls) k ≡ row_at (ks ++ r ∷ ls) k
 row_gone [] r ls k other = sym (row_at_other r ls k (λ q. other (sym q)))
 row_gone (q ∷ ks) r ls k other =
-    elim (cases_eq q.slot k)
-    [ inl here ↦ row_at_first q (ks ++ ls) k here ∙ sym (row_at_first q (ks ++ r ∷ ls) k here)
-    | inr no_q ↦ row_at_other q (ks ++ ls) k no_q ∙ row_gone ks r ls k other ∙ sym (row_at_other q (ks ++ r ∷ ls) k no_q) ]
+    elim (cases_eq q.slot k) [
+      | inl here ↦ row_at_first q (ks ++ ls) k here ∙ sym (row_at_first q (ks ++ r ∷ ls) k here)
+      | inr no_q ↦ row_at_other q (ks ++ ls) k no_q ∙ row_gone ks r ls k other ∙ sym (row_at_other q (ks ++ r ∷ ls) k no_q)
+    ]
 
 no_row : (rs : List Row) (k : ℕ) → IsOut k (slots rs) → row_at rs k ≡ None
 no_row [] k h = row_at_nil k
@@ -388,18 +399,23 @@ pruned key notes links ks r ls ends es w h g at d empty = record {
   some = λ k v q. g.some k v (back k v q) (λ s. other k v q (g.once k h w (subst (λ u. row_at (ks ++ r ∷ ls) k ≡ Some u) s (back k v q)) g.mine));
   none = λ v absent. elim (same_cases v w) [ inl here ↦ subst (λ u. many key es u ≡ 0) (sym here) empty | inr no_w ↦ g.none v (absent_in ks r ls v (λ q. differs v w no_w (sym (sym cells ∙ q))) absent) ];
   once = λ j k v p q. g.once j k v (back j v p) (back k v q);
-  seated = seated_gone key notes ks r ls es (subst (λ j. row_at (ks ++ r ∷ ls) j ≡ Some r.cells) refl mine) (subst (λ u. many key es u ≡ 0) (sym cells) empty) g.seated }
+  seated = seated_gone key notes ks r ls es (subst (λ j. row_at (ks ++ r ∷ ls) j ≡ Some r.cells) refl mine) (subst (λ u. many key es u ≡ 0) (sym cells) empty) g.seated;
+}
   where
-  mine : row_at (ks ++ r ∷ ls) r.slot ≡ Some r.cells
-  mine = row_at_middle ks r.slot r.cells ls d
-  cells : r.cells ≡ w
-  cells = one_row (ks ++ r ∷ ls) r.slot r.cells w mine (subst (λ j. row_at (ks ++ r ∷ ls) j ≡ Some w) (sym at) g.mine)
-  gone : row_at (ks ++ ls) h ≡ None
-  gone = subst (λ j. row_at (ks ++ ls) j ≡ None) at (no_row (ks ++ ls) r.slot (out_of_rest ks r ls d))
-  other : (k : ℕ) (v : List ℕ) → row_at (ks ++ ls) k ≡ Some v → k ≡ h → ⊥
-  other k v q s = none_some (row_at (ks ++ ls) h) v gone (subst (λ j. row_at (ks ++ ls) j ≡ Some v) s q)
-  back : (k : ℕ) (v : List ℕ) → row_at (ks ++ ls) k ≡ Some v → row_at (ks ++ r ∷ ls) k ≡ Some v
-  back k v q = sym (row_gone ks r ls k (λ s. other k v q (s ∙ at))) ∙ q
+    mine : row_at (ks ++ r ∷ ls) r.slot ≡ Some r.cells
+    mine = row_at_middle ks r.slot r.cells ls d
+
+    cells : r.cells ≡ w
+    cells = one_row (ks ++ r ∷ ls) r.slot r.cells w mine (subst (λ j. row_at (ks ++ r ∷ ls) j ≡ Some w) (sym at) g.mine)
+
+    gone : row_at (ks ++ ls) h ≡ None
+    gone = subst (λ j. row_at (ks ++ ls) j ≡ None) at (no_row (ks ++ ls) r.slot (out_of_rest ks r ls d))
+
+    other : (k : ℕ) (v : List ℕ) → row_at (ks ++ ls) k ≡ Some v → k ≡ h → ⊥
+    other k v q s = none_some (row_at (ks ++ ls) h) v gone (subst (λ j. row_at (ks ++ ls) j ≡ Some v) s q)
+
+    back : (k : ℕ) (v : List ℕ) → row_at (ks ++ ls) k ≡ Some v → row_at (ks ++ r ∷ ls) k ≡ Some v
+    back k v q = sym (row_gone ks r ls k (λ s. other k v q (s ∙ at))) ∙ q
 
 -- where the head knows an end, its group isn't empty
 first_none : (es : List Entry) → es ≡ [] → first_of (slots_at es) ≡ None
@@ -408,12 +424,17 @@ first_none es h = ap (λ (g : List Entry). first_of (slots_at g)) h ∙ ap first
 pub kept : (key : List ℕ) (notes : List Note) (links : List Pair) (keys : List Row) (ends : List Ends) (es : List Entry) (w : List ℕ) (h : ℕ)
     → AreGroupsBut key notes links keys ends es w h → ((ends_at ends h).first ≡ None → ⊥) → AreGroups key notes links keys ends es
 kept key notes links keys ends es w h g some_end = record {
-  chained = g.chained; headed = g.headed; none = g.none; once = g.once; seated = g.seated;
-  some = λ k v q. elim (same_cases v w) [ inl here ↦ subst (λ u. 0 < many key es u) (sym here) (positive (many key es w) refl) | inr other ↦ g.some k v q (differs v w other) ] }
+  chained = g.chained;
+  headed = g.headed;
+  none = g.none;
+  once = g.once;
+  seated = g.seated;
+  some = λ k v q. elim (same_cases v w) [ inl here ↦ subst (λ u. 0 < many key es u) (sym here) (positive (many key es w) refl) | inr other ↦ g.some k v q (differs v w other) ];
+}
   where
-  positive : (n : ℕ) → many key es w ≡ n → 0 < many key es w
-  positive zero k = absurd (some_end (ap (λ (v : Ends). v.first) (g.headed h w g.mine) ∙ first_none (grp key es w) (no_group key es w k)))
-  positive (suc n) k = omega (arith, k)
+    positive : (n : ℕ) → many key es w ≡ n → 0 < many key es w
+    positive zero k = absurd (some_end (ap (λ (v : Ends). v.first) (g.headed h w g.mine) ∙ first_none (grp key es w) (no_group key es w k)))
+    positive (suc n) k = omega (arith, k)
 
 pub emptied : (key : List ℕ) (es : List Entry) (w : List ℕ) (o : Option ℕ) → o ≡ first_of (slots_at (grp key es w)) → o ≡ None → many key es w ≡ 0
 emptied key es w o h none = sym (length_grp key es w) ∙ ap (λ (g : List Entry). length g) (no_slots (grp key es w) (sym h ∙ none))
@@ -441,27 +462,35 @@ pub founded : (key : List ℕ) (notes : List Note) (links : List Pair) (keys : L
     → AreGroupsBut key notes links (keys ++ record { slot = h; cells = w } ∷ []) more es w h
 founded key notes links keys h w ends more es g absent d blank others = record {
   chained = g.chained;
-  headed = λ k v q. elim (cases_eq k h)
-    [ inl here ↦ (let same_key : v ≡ w = one_row (keys ++ r ∷ []) h v w (subst (λ j. row_at (keys ++ r ∷ []) j ≡ Some v) here q) mine in
+  headed = λ k v q. elim (cases_eq k h) [
+    | inl here ↦ (let same_key : v ≡ w = one_row (keys ++ r ∷ []) h v w (subst (λ j. row_at (keys ++ r ∷ []) j ≡ Some v) here q) mine in
         rw (here, same_key) (blank ∙ sym (no_ends key es w (g.none w absent))))
-    | inr other ↦ others k other ∙ g.headed k v (sym (row_push keys r k other) ∙ q) ];
-  some = λ k v q no_w. elim (cases_eq k h)
-    [ inl here ↦ absurd (no_w (one_row (keys ++ r ∷ []) h v w (subst (λ j. row_at (keys ++ r ∷ []) j ≡ Some v) here q) mine))
-    | inr other ↦ g.some k v (sym (row_push keys r k other) ∙ q) ];
+    | inr other ↦ others k other ∙ g.headed k v (sym (row_push keys r k other) ∙ q)
+  ];
+  some = λ k v q no_w. elim (cases_eq k h) [
+    | inl here ↦ absurd (no_w (one_row (keys ++ r ∷ []) h v w (subst (λ j. row_at (keys ++ r ∷ []) j ≡ Some v) here q) mine))
+    | inr other ↦ g.some k v (sym (row_push keys r k other) ∙ q)
+  ];
   none = λ v none. g.none v (absent_push keys r v none);
-  once = λ j k v p q. elim (cases_eq j h)
-    [ inl j_is ↦ elim (cases_eq k h)
-      [ inl k_is ↦ j_is ∙ sym k_is
-      | inr k_not ↦ absurd (present keys k v w (sym (row_push keys r k k_not) ∙ q) (one_row (keys ++ r ∷ []) h v w (subst (λ i. row_at (keys ++ r ∷ []) i ≡ Some v) j_is p) mine) absent) ]
-    | inr j_not ↦ elim (cases_eq k h)
-      [ inl k_is ↦ absurd (present keys j v w (sym (row_push keys r j j_not) ∙ p) (one_row (keys ++ r ∷ []) h v w (subst (λ i. row_at (keys ++ r ∷ []) i ≡ Some v) k_is q) mine) absent)
-      | inr k_not ↦ g.once j k v (sym (row_push keys r j j_not) ∙ p) (sym (row_push keys r k k_not) ∙ q) ] ];
+  once = λ j k v p q. elim (cases_eq j h) [
+    | inl j_is ↦ elim (cases_eq k h) [
+      | inl k_is ↦ j_is ∙ sym k_is
+      | inr k_not ↦ absurd (present keys k v w (sym (row_push keys r k k_not) ∙ q) (one_row (keys ++ r ∷ []) h v w (subst (λ i. row_at (keys ++ r ∷ []) i ≡ Some v) j_is p) mine) absent)
+    ]
+    | inr j_not ↦ elim (cases_eq k h) [
+      | inl k_is ↦ absurd (present keys j v w (sym (row_push keys r j j_not) ∙ p) (one_row (keys ++ r ∷ []) h v w (subst (λ i. row_at (keys ++ r ∷ []) i ≡ Some v) k_is q) mine) absent)
+      | inr k_not ↦ g.once j k v (sym (row_push keys r j j_not) ∙ p) (sym (row_push keys r k k_not) ∙ q)
+    ]
+  ];
   seated = seated_found key notes keys r es gone g.seated;
-  mine = mine }
+  mine = mine;
+}
   where
-  r : Row
-  r = record { slot = h; cells = w }
-  mine : row_at (keys ++ r ∷ []) h ≡ Some w
-  mine = row_at_middle keys h w [] d
-  gone : row_at keys h ≡ None
-  gone = no_row keys h (subst (IsOut h) (ap slots (append-nil keys)) (out_of_rest keys r [] d))
+    r : Row
+    r = record { slot = h; cells = w }
+
+    mine : row_at (keys ++ r ∷ []) h ≡ Some w
+    mine = row_at_middle keys h w [] d
+
+    gone : row_at keys h ≡ None
+    gone = no_row keys h (subst (IsOut h) (ap slots (append-nil keys)) (out_of_rest keys r [] d))

@@ -66,9 +66,9 @@ module _ (a : Raw) (rows : Rows) (notes : List Note) (links : List Pair) (keys :
   pub head_ends : h < length ends
   head_ends = omega (arith, of_seat r.seat, r.room_ends)
     where
-    of_seat : IsSeat a.keys.rows keys.rows a.ends.items ends h (pick a.key.items u) → h < keys.room
-    of_seat (inl s) = row_below keys.room keys.rows h (pick a.key.items u) r.keys_law.below (subst (λ rs. IsRow rs h (pick a.key.items u)) (sym s.1) s.0)
-    of_seat (inr s) = row_below keys.room keys.rows h (pick a.key.items u) r.keys_law.below (record { front = a.keys.rows; back = []; is = s.1 })
+      of_seat : IsSeat a.keys.rows keys.rows a.ends.items ends h (pick a.key.items u) → h < keys.room
+      of_seat (inl s) = row_below keys.room keys.rows h (pick a.key.items u) r.keys_law.below (subst (λ rs. IsRow rs h (pick a.key.items u)) (sym s.1) s.0)
+      of_seat (inr s) = row_below keys.room keys.rows h (pick a.key.items u) r.keys_law.below (record { front = a.keys.rows; back = []; is = s.1 })
 
   like : AreGroups a.key.items notes links a.keys.rows a.ends.items (entries_of a)
   like = groups_like a.key.items a.notes.items notes a.links.items links a.keys.rows a.ends.items a.ends.items (entries_of a) raw.groups (λ k. ap (λ (n : Note). n.head) (r.same_notes k)) r.same_links (λ k. refl)
@@ -76,36 +76,36 @@ module _ (a : Raw) (rows : Rows) (notes : List Note) (links : List Pair) (keys :
   ready_but : AreGroupsBut a.key.items notes links keys.rows ends (entries_of a) (pick a.key.items u) h
   ready_but = of_seat r.seat
     where
-    of_seat : IsSeat a.keys.rows keys.rows a.ends.items ends h (pick a.key.items u) → AreGroupsBut a.key.items notes links keys.rows ends (entries_of a) (pick a.key.items u) h
-    of_seat (inl s) = subst (λ rs. AreGroupsBut a.key.items notes links rs ends (entries_of a) (pick a.key.items u) h) (sym s.1)
-      (but a.key.items notes links a.keys.rows ends (entries_of a) (pick a.key.items u) h
-        (groups_like a.key.items notes notes links links a.keys.rows a.ends.items ends (entries_of a) like (λ k. refl) (λ k. refl) s.2)
-        (row_at_row a.keys.rows h (pick a.key.items u) raw.keys.different s.0))
-    of_seat (inr s) = subst (λ rs. AreGroupsBut a.key.items notes links rs ends (entries_of a) (pick a.key.items u) h) (sym s.1)
-      (founded a.key.items notes links a.keys.rows h (pick a.key.items u) a.ends.items ends (entries_of a) like s.0 (subst (λ rs. AreDifferent (slots rs)) s.1 r.keys_law.different) s.2 s.3)
+      of_seat : IsSeat a.keys.rows keys.rows a.ends.items ends h (pick a.key.items u) → AreGroupsBut a.key.items notes links keys.rows ends (entries_of a) (pick a.key.items u) h
+      of_seat (inl s) = subst (λ rs. AreGroupsBut a.key.items notes links rs ends (entries_of a) (pick a.key.items u) h) (sym s.1)
+          (but a.key.items notes links a.keys.rows ends (entries_of a) (pick a.key.items u) h
+          (groups_like a.key.items notes notes links links a.keys.rows a.ends.items ends (entries_of a) like (λ k. refl) (λ k. refl) s.2)
+          (row_at_row a.keys.rows h (pick a.key.items u) raw.keys.different s.0))
+      of_seat (inr s) = subst (λ rs. AreGroupsBut a.key.items notes links rs ends (entries_of a) (pick a.key.items u) h) (sym s.1)
+          (founded a.key.items notes links a.keys.rows h (pick a.key.items u) a.ends.items ends (entries_of a) like s.0 (subst (λ rs. AreDifferent (slots rs)) s.1 r.keys_law.different) s.2 s.3)
 
   pub last_links : IsWithin (length links) (ends_at ends h).last
   last_links = subst (IsWithin (length links)) (sym (ap (λ (v : Ends). v.last) (ready_but.headed h (pick a.key.items u) ready_but.mine)))
-    (last_within (length links) None (slots_at (grp a.key.items (entries_of a) (pick a.key.items u))) tt (group_below (length links) a.key.items (entries_of a) (pick a.key.items u) old_below))
+      (last_within (length links) None (slots_at (grp a.key.items (entries_of a) (pick a.key.items u))) tt (group_below (length links) a.key.items (entries_of a) (pick a.key.items u) old_below))
 
 module _ (a b : Raw) (rows : Rows) (notes : List Note) (links : List Pair) (keys : Rows) (ends : List Ends) (i h : ℕ) (u : List ℕ)
     (raw : IsRaw a) (absent : cnt (entries_of a) u ≡ 0) (r : IsReady a rows notes links keys ends i h u) (f : IsSettled a b rows notes links keys ends i h) where
   pub came_entries : entries_of b ≡ entries_of a ++ (record { at = record { slot = i }; tuple = u; supports = 1; marked = true }) ∷ []
   came_entries =
-    ap₂ (λ (ns : List Note) (rs : Rows). entries_in ns rs.rows) f.notes_are f.rows_are
-    ∙ ap (λ (rs : List Row). entries_in (slice_set notes i (record { supports = 1; head = h; marked = true })) rs) r.laid
-    ∙ entries_set notes i (record { supports = 1; head = h; marked = true }) a.rows.rows (record { slot = i; cells = u }) [] refl (slot_notes a rows notes links keys ends i h u raw r) (subst (λ rs. AreDifferent (slots rs)) r.laid r.rows_law.different)
-    ∙ ap₂ (λ (xs ys : List Entry). xs ++ record { at = record { slot = i }; tuple = u; supports = 1; marked = true } ∷ ys) (entries_like a.notes.items notes a.rows.rows r.same_notes) (entries_nil notes)
+      ap₂ (λ (ns : List Note) (rs : Rows). entries_in ns rs.rows) f.notes_are f.rows_are
+      ∙ ap (λ (rs : List Row). entries_in (slice_set notes i (record { supports = 1; head = h; marked = true })) rs) r.laid
+      ∙ entries_set notes i (record { supports = 1; head = h; marked = true }) a.rows.rows (record { slot = i; cells = u }) [] refl (slot_notes a rows notes links keys ends i h u raw r) (subst (λ rs. AreDifferent (slots rs)) r.laid r.rows_law.different)
+      ∙ ap₂ (λ (xs ys : List Entry). xs ++ record { at = record { slot = i }; tuple = u; supports = 1; marked = true } ∷ ys) (entries_like a.notes.items notes a.rows.rows r.same_notes) (entries_nil notes)
 
   came_groups : AreGroups a.key.items (slice_set notes i (record { supports = 1; head = h; marked = true })) (entered (ends_at ends h).last i links) keys.rows (slice_set ends h (extended i (ends_at ends h))) (entries_of a ++ (record { at = record { slot = i }; tuple = u; supports = 1; marked = true }) ∷ [])
   came_groups = join_groups a.key.items notes (slice_set notes i (record { supports = 1; head = h; marked = true })) links keys.rows ends (entries_of a) (pick a.key.items u) h
-    (record { at = record { slot = i }; tuple = u; supports = 1; marked = true }) i
-    (ready_but a rows notes links keys ends i h u raw r) refl refl
-    (laid_out a rows notes links keys ends i h u raw r)
-    (different_front (slots_at (entries_of a)) (i ∷ []) (laid_different a rows notes links keys ends i h u raw r))
-    (old_below a rows notes links keys ends i h u raw r) (slot_links a rows notes links keys ends i h u raw r) (head_ends a rows notes links keys ends i h u raw r)
-    (seated_out a.key.items notes i (record { supports = 1; head = h; marked = true }) keys.rows (entries_of a) (laid_out a rows notes links keys ends i h u raw r) (ready_but a rows notes links keys ends i h u raw r).seated)
-    (seat_noted notes i (record { supports = 1; head = h; marked = true }) (slot_notes a rows notes links keys ends i h u raw r))
+      (record { at = record { slot = i }; tuple = u; supports = 1; marked = true }) i
+      (ready_but a rows notes links keys ends i h u raw r) refl refl
+      (laid_out a rows notes links keys ends i h u raw r)
+      (different_front (slots_at (entries_of a)) (i ∷ []) (laid_different a rows notes links keys ends i h u raw r))
+      (old_below a rows notes links keys ends i h u raw r) (slot_links a rows notes links keys ends i h u raw r) (head_ends a rows notes links keys ends i h u raw r)
+      (seated_out a.key.items notes i (record { supports = 1; head = h; marked = true }) keys.rows (entries_of a) (laid_out a rows notes links keys ends i h u raw r) (ready_but a rows notes links keys ends i h u raw r).seated)
+      (seat_noted notes i (record { supports = 1; head = h; marked = true }) (slot_notes a rows notes links keys ends i h u raw r))
 
   pub came_raw : IsRaw b
   came_raw = record {
@@ -119,12 +119,21 @@ module _ (a b : Raw) (rows : Rows) (notes : List Note) (links : List Pair) (keys
     apart = rw came_entries (apart_in (entries_of a) (record { at = record { slot = i }; tuple = u; supports = 1; marked = true }) [] (subst AreApart (sym (append-nil (entries_of a))) raw.apart) (subst (λ es. cnt es u ≡ 0) (sym (append-nil (entries_of a))) absent));
     groups = rw (came_entries, f.key, f.notes_are, f.links_are, f.keys_are, f.ends_are) came_groups;
     trailing = rw came_entries (trailing_push (entries_of a) (record { at = record { slot = i }; tuple = u; supports = 1; marked = true }) raw.trailing refl);
-    marked = f.marked ∙ ap (λ (o : Option ℕ). beside o (Some i) o) raw.marked ∙ mark_push (entries_of a) (record { at = record { slot = i }; tuple = u; supports = 1; marked = true }) i refl refl ∙ ap (λ (es : List Entry). first_of (slots_at (marks es))) (sym came_entries) }
+    marked = f.marked ∙ ap (λ (o : Option ℕ). beside o (Some i) o) raw.marked ∙ mark_push (entries_of a) (record { at = record { slot = i }; tuple = u; supports = 1; marked = true }) i refl refl ∙ ap (λ (es : List Entry). first_of (slots_at (marks es))) (sym came_entries);
+  }
 
   pub came_inserted : Inserted a.key.items (entries_of a) (entries_of b) u
   came_inserted = record {
-    front = entries_of a; back = []; entry = (record { at = record { slot = i }; tuple = u; supports = 1; marked = true }); was = sym (append-nil (entries_of a)); is = came_entries; tuple = refl; supports = refl; marked = refl;
-    last = many_zero a.key.items (pick a.key.items u) }
+    front = entries_of a;
+    back = [];
+    entry = (record { at = record { slot = i }; tuple = u; supports = 1; marked = true });
+    was = sym (append-nil (entries_of a));
+    is = came_entries;
+    tuple = refl;
+    supports = refl;
+    marked = refl;
+    last = many_zero a.key.items (pick a.key.items u);
+  }
 
   pub came_at : IsAt (entries_of b) (record { slot = i }) u
   came_at = record { front = entries_of a; back = []; entry = (record { at = record { slot = i }; tuple = u; supports = 1; marked = true }); is = came_entries; tuple = refl; at = refl }
@@ -161,10 +170,11 @@ refused_raw a b raw r = record {
   apart = rw same raw.apart;
   groups = rw (same, r.key, r.keys) (groups_like a.key.items a.notes.items b.notes.items a.links.items b.links.items a.keys.rows a.ends.items b.ends.items (entries_of a) raw.groups (λ k. ap (λ (n : Note). n.head) (r.same_notes k)) r.same_links r.same_ends);
   trailing = rw same raw.trailing;
-  marked = r.marked ∙ raw.marked ∙ ap (λ (es : List Entry). first_of (slots_at (marks es))) (sym same) }
+  marked = r.marked ∙ raw.marked ∙ ap (λ (es : List Entry). first_of (slots_at (marks es))) (sym same);
+}
   where
-  same : entries_of b ≡ entries_of a
-  same = refused_entries a b r
+    same : entries_of b ≡ entries_of a
+    same = refused_entries a b r
 
 -- what holds in any case
 pub on_err_of : {T E : Type 0} (r : Result T E) (P : Type 0) → P → OnErr r P

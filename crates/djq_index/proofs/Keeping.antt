@@ -47,8 +47,11 @@ pub groups_like : (key : List ℕ) (notes more : List Note) (links new : List Pa
 groups_like key notes more links new keys ends known es g n l e = record {
   chained = λ w. linked_same links new None (slots_at (grp key es w)) None (agree_all links new (slots_at (grp key es w)) l) (g.chained w);
   headed = λ h w r. e h ∙ g.headed h w r;
-  some = g.some; none = g.none; once = g.once;
-  seated = seated_like key notes more keys es n g.seated }
+  some = g.some;
+  none = g.none;
+  once = g.once;
+  seated = seated_like key notes more keys es n g.seated;
+}
 
 -- a note that changes
 note_same : (notes : List Note) (i : ℕ) (n : Note) → i < length notes → note_at (slice_set notes i n) i ≡ n
@@ -95,14 +98,15 @@ entries_set notes i n rs r ss at within d =
     let o = rows_apart rs r ss i at d in
     entries_in-append (slice_set notes i n) rs (r ∷ ss)
     ∙ ap₂ (λ (f g : List Entry). f ++ g) (entries_out notes i n rs o.0)
-      (entries_in_cons (slice_set notes i n) r ss ∙ ap₂ (λ (e : Entry) (es : List Entry). e ∷ es)
-        (noted (slice_set notes i n) r n (ap (note_at (slice_set notes i n)) at ∙ note_same notes i n within) ∙ ap (λ (j : ℕ). record { at = record { slot = j }; tuple = r.cells; supports = n.supports; marked = n.marked }) at)
-        (entries_out notes i n ss o.1))
+    (entries_in_cons (slice_set notes i n) r ss ∙ ap₂ (λ (e : Entry) (es : List Entry). e ∷ es)
+    (noted (slice_set notes i n) r n (ap (note_at (slice_set notes i n)) at ∙ note_same notes i n within) ∙ ap (λ (j : ℕ). record { at = record { slot = j }; tuple = r.cells; supports = n.supports; marked = n.marked }) at)
+    (entries_out notes i n ss o.1))
 
 head_kept : (notes : List Note) (i : ℕ) (n : Note) → n.head ≡ (note_at notes i).head → i < length notes → (k : ℕ) → (note_at (slice_set notes i n) k).head ≡ (note_at notes k).head
-head_kept notes i n h within k = elim (cases_eq k i)
-    [ inl here ↦ rw here (ap (λ (m : Note). m.head) (note_same notes i n within) ∙ h)
-    | inr other ↦ ap (λ (m : Note). m.head) (note_other notes i k n other) ]
+head_kept notes i n h within k = elim (cases_eq k i) [
+  | inl here ↦ rw here (ap (λ (m : Note). m.head) (note_same notes i n within) ∙ h)
+  | inr other ↦ ap (λ (m : Note). m.head) (note_other notes i k n other)
+]
 
 pub groups_noted : (key : List ℕ) (notes : List Note) (i : ℕ) (n : Note) (links : List Pair) (keys : List Row) (ends : List Ends) (es : List Entry)
     → n.head ≡ (note_at notes i).head → i < length notes → AreGroups key notes links keys ends es → AreGroups key (slice_set notes i n) links keys ends es
@@ -244,7 +248,8 @@ groups_alike key notes links keys ends ds es h g = record {
   some = λ k w r. subst (λ n. 0 < n) (alike_many key ds es w h) (g.some k w r);
   none = λ w absent. sym (alike_many key ds es w h) ∙ g.none w absent;
   once = g.once;
-  seated = alike_seated key notes keys ds es h g.seated }
+  seated = alike_seated key notes keys ds es h g.seated;
+}
 
 -- the first mark, once a slot is gone
 passed_other : (o : Option ℕ) (i : ℕ) (n : Option ℕ) → Differs o i → passed o i n ≡ o
@@ -258,9 +263,10 @@ marks_out : (i : ℕ) (es : List Entry) → IsOut i (slots_at es) → IsOut i (s
 marks_out i [] h = subst (λ ms. IsOut i (slots_at ms)) (sym marks_none) h
 marks_out i (e ∷ es) h =
     let k = out_cons i e.at.slot (slots_at es) (subst (IsOut i) (slots_at_cons e es) h) in
-    elim (cases_Bool e.marked)
-    [ inl here ↦ rw (marks_yes e es here, slots_at_cons) (out_more i e.at.slot (slots_at (marks es)) k.0 (marks_out i es k.1))
-    | inr other ↦ rw (marks_no e es other) (marks_out i es k.1) ]
+    elim (cases_Bool e.marked) [
+      | inl here ↦ rw (marks_yes e es here, slots_at_cons) (out_more i e.at.slot (slots_at (marks es)) k.0 (marks_out i es k.1))
+      | inr other ↦ rw (marks_no e es other) (marks_out i es k.1)
+    ]
 
 first_differs_of : (xs : List ℕ) (i : ℕ) → IsOut i xs → Differs (first_of xs) i
 first_differs_of xs i h = first_differs xs None i tt h
@@ -282,24 +288,26 @@ pub mark_out : (xs : List Entry) (e : Entry) (ys : List Entry) (i : ℕ) → Are
     → passed (first_of (slots_at (marks (xs ++ e ∷ ys)))) i (first_of (slots_at ys)) ≡ first_of (slots_at (marks (xs ++ ys)))
 mark_out [] e ys i t d at =
     let out = subst (λ j. IsOut j (slots_at ys)) at (different_cons e.at.slot (slots_at ys) (subst AreDifferent (slots_at_cons e ys) d)).0 in
-    elim (cases_Bool e.marked)
-    [ inl here ↦ (let all = all_marks ys ((trailing_first e ys t).0 here) in
-        ap (λ (ms : List Entry). passed (first_of (slots_at ms)) i (first_of (slots_at ys))) (marks_yes e ys here)
-        ∙ ap (λ (zs : List ℕ). passed (first_of zs) i (first_of (slots_at ys))) (slots_at_cons e (marks ys))
-        ∙ ap (λ (j : ℕ). passed (Some j) i (first_of (slots_at ys))) at ∙ passed_here i (first_of (slots_at ys))
-        ∙ ap (λ (ms : List Entry). first_of (slots_at ms)) (sym all))
-    | inr other ↦ ap (λ (ms : List Entry). passed (first_of (slots_at ms)) i (first_of (slots_at ys))) (marks_no e ys other)
-        ∙ passed_other (first_of (slots_at (marks ys))) i (first_of (slots_at ys)) (first_differs_of (slots_at (marks ys)) i (marks_out i ys out)) ]
+    elim (cases_Bool e.marked) [
+      | inl here ↦ (let all = all_marks ys ((trailing_first e ys t).0 here) in
+          ap (λ (ms : List Entry). passed (first_of (slots_at ms)) i (first_of (slots_at ys))) (marks_yes e ys here)
+          ∙ ap (λ (zs : List ℕ). passed (first_of zs) i (first_of (slots_at ys))) (slots_at_cons e (marks ys))
+          ∙ ap (λ (j : ℕ). passed (Some j) i (first_of (slots_at ys))) at ∙ passed_here i (first_of (slots_at ys))
+          ∙ ap (λ (ms : List Entry). first_of (slots_at ms)) (sym all))
+      | inr other ↦ ap (λ (ms : List Entry). passed (first_of (slots_at ms)) i (first_of (slots_at ys))) (marks_no e ys other)
+          ∙ passed_other (first_of (slots_at (marks ys))) i (first_of (slots_at ys)) (first_differs_of (slots_at (marks ys)) i (marks_out i ys out))
+    ]
 mark_out (x ∷ xs) e ys i t d at =
     let k = different_cons x.at.slot (slots_at (xs ++ e ∷ ys)) (subst AreDifferent (slots_at_cons x (xs ++ e ∷ ys)) d) in
     let apart = out_of_middle x.at.slot (slots_at xs) e.at.slot (slots_at ys) (subst (IsOut x.at.slot) (slots_at_middle xs e ys) k.0) in
-    elim (cases_Bool x.marked)
-    [ inl here ↦
-        ap (λ (ms : List Entry). passed (first_of (slots_at ms)) i (first_of (slots_at ys))) (marks_yes x (xs ++ e ∷ ys) here)
-        ∙ ap (λ (zs : List ℕ). passed (first_of zs) i (first_of (slots_at ys))) (slots_at_cons x (marks (xs ++ e ∷ ys)))
-        ∙ passed_other (Some x.at.slot) i (first_of (slots_at ys)) (λ q. apart (q ∙ sym at))
-        ∙ sym (ap first_of (slots_at_cons x (marks (xs ++ ys)))) ∙ ap (λ (ms : List Entry). first_of (slots_at ms)) (sym (marks_yes x (xs ++ ys) here))
-    | inr other ↦
-        ap (λ (ms : List Entry). passed (first_of (slots_at ms)) i (first_of (slots_at ys))) (marks_no x (xs ++ e ∷ ys) other)
-        ∙ mark_out xs e ys i (trailing_first x (xs ++ e ∷ ys) t).1 k.1 at
-        ∙ ap (λ (ms : List Entry). first_of (slots_at ms)) (sym (marks_no x (xs ++ ys) other)) ]
+    elim (cases_Bool x.marked) [
+      | inl here ↦
+          ap (λ (ms : List Entry). passed (first_of (slots_at ms)) i (first_of (slots_at ys))) (marks_yes x (xs ++ e ∷ ys) here)
+          ∙ ap (λ (zs : List ℕ). passed (first_of zs) i (first_of (slots_at ys))) (slots_at_cons x (marks (xs ++ e ∷ ys)))
+          ∙ passed_other (Some x.at.slot) i (first_of (slots_at ys)) (λ q. apart (q ∙ sym at))
+          ∙ sym (ap first_of (slots_at_cons x (marks (xs ++ ys)))) ∙ ap (λ (ms : List Entry). first_of (slots_at ms)) (sym (marks_yes x (xs ++ ys) here))
+      | inr other ↦
+          ap (λ (ms : List Entry). passed (first_of (slots_at ms)) i (first_of (slots_at ys))) (marks_no x (xs ++ e ∷ ys) other)
+          ∙ mark_out xs e ys i (trailing_first x (xs ++ e ∷ ys) t).1 k.1 at
+          ∙ ap (λ (ms : List Entry). first_of (slots_at ms)) (sym (marks_no x (xs ++ ys) other))
+    ]

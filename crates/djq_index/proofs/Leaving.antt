@@ -94,10 +94,10 @@ module _ (a : Raw) (p : Place) (u : List ℕ) (raw : IsRaw a) (f : Found a p u) 
   its_head_room = omega (arith, row_below a.keys.room a.keys.rows (note_at a.notes.items p.slot).head (pick a.key.items u) raw.keys.below its_head_row, raw.ends)
 
   its_parted : AreGroupsBut a.key.items a.notes.items (left (pair_at a.links.items p.slot) a.links.items) a.keys.rows
-    (slice_set a.ends.items (note_at a.notes.items p.slot).head (shrunk (pair_at a.links.items p.slot) (ends_at a.ends.items (note_at a.notes.items p.slot).head))) (xs ++ ys) (pick a.key.items u) (note_at a.notes.items p.slot).head
+      (slice_set a.ends.items (note_at a.notes.items p.slot).head (shrunk (pair_at a.links.items p.slot) (ends_at a.ends.items (note_at a.notes.items p.slot).head))) (xs ++ ys) (pick a.key.items u) (note_at a.notes.items p.slot).head
   its_parted = subst (λ v. AreGroupsBut a.key.items a.notes.items (left (pair_at a.links.items p.slot) a.links.items) a.keys.rows
       (slice_set a.ends.items (note_at a.notes.items p.slot).head (shrunk (pair_at a.links.items p.slot) (ends_at a.ends.items (note_at a.notes.items p.slot).head))) (xs ++ ys) (pick a.key.items v) (note_at a.notes.items p.slot).head) e_tuple
-    (part_groups a.key.items a.notes.items a.links.items a.keys.rows a.ends.items xs e ys (note_at a.notes.items p.slot).head p.slot its_groups e_slot refl all_different links_below its_head_room)
+      (part_groups a.key.items a.notes.items a.links.items a.keys.rows a.ends.items xs e ys (note_at a.notes.items p.slot).head p.slot its_groups e_slot refl all_different links_below its_head_room)
 
   -- the neighbours are slots
   group_chain : Linked a.links.items None (slots_at (grp a.key.items xs (pick a.key.items u)) ++ p.slot ∷ slots_at (grp a.key.items ys (pick a.key.items u))) None
@@ -108,13 +108,13 @@ module _ (a : Raw) (p : Place) (u : List ℕ) (raw : IsRaw a) (f : Found a p u) 
 
   pub its_prev_within : IsWithin (length a.links.items) (pair_at a.links.items p.slot).prev
   its_prev_within = rw (prev_here a.links.items (slots_at (grp a.key.items xs (pick a.key.items u))) p.slot (slots_at (grp a.key.items ys (pick a.key.items u))) group_chain)
-    (last_within (length a.links.items) None (slots_at (grp a.key.items xs (pick a.key.items u))) tt (below_front (length a.links.items) (slots_at (grp a.key.items xs (pick a.key.items u))) (p.slot ∷ slots_at (grp a.key.items ys (pick a.key.items u))) chain_below))
+      (last_within (length a.links.items) None (slots_at (grp a.key.items xs (pick a.key.items u))) tt (below_front (length a.links.items) (slots_at (grp a.key.items xs (pick a.key.items u))) (p.slot ∷ slots_at (grp a.key.items ys (pick a.key.items u))) chain_below))
 
   pub its_next_within : IsWithin (length a.links.items) (pair_at a.links.items p.slot).next
   its_next_within = rw (next_here a.links.items (slots_at (grp a.key.items xs (pick a.key.items u))) p.slot (slots_at (grp a.key.items ys (pick a.key.items u))) group_chain)
-    (first_within (length a.links.items) (slots_at (grp a.key.items ys (pick a.key.items u)))
+      (first_within (length a.links.items) (slots_at (grp a.key.items ys (pick a.key.items u)))
       (below_back (length a.links.items) (slots_at (grp a.key.items xs (pick a.key.items u))) (slots_at (grp a.key.items ys (pick a.key.items u)))
-        (below_out (length a.links.items) (slots_at (grp a.key.items xs (pick a.key.items u))) p.slot (slots_at (grp a.key.items ys (pick a.key.items u))) chain_below)))
+      (below_out (length a.links.items) (slots_at (grp a.key.items xs (pick a.key.items u))) p.slot (slots_at (grp a.key.items ys (pick a.key.items u))) chain_below)))
 
 -- what a removal does to the parts
 pub record Goes (a b : Raw) (i : ℕ) (follower : Option ℕ) : Type 0 where
@@ -150,15 +150,16 @@ module _ (a b : Raw) (p : Place) (u : List ℕ) (n : Option ℕ) (raw : IsRaw a)
   gone_but = rw (g.links, g.ends) (its_parted a p u raw f)
 
   gone_groups : AreGroups a.key.items a.notes.items b.links.items b.keys.rows b.ends.items rest
-  gone_groups = elim (none_or_some (ends_at b.ends.items (note_at a.notes.items p.slot).head).first)
-    [ inl none ↦ (let row = its_head_row a p u raw f in
+  gone_groups = elim (none_or_some (ends_at b.ends.items (note_at a.notes.items p.slot).head).first) [
+    | inl none ↦ (let row = its_head_row a p u raw f in
         let h = (note_at a.notes.items p.slot).head in
         subst (λ rs. AreGroups a.key.items a.notes.items b.links.items rs b.ends.items rest) (sym (g.emptied none row.front (record { slot = h; cells = pick a.key.items u }) row.back row.is refl))
         (pruned a.key.items a.notes.items b.links.items row.front (record { slot = h; cells = pick a.key.items u }) row.back b.ends.items rest (pick a.key.items u) h
-          (subst (λ ks. AreGroupsBut a.key.items a.notes.items b.links.items ks b.ends.items rest (pick a.key.items u) h) row.is gone_but) refl
-          (subst (λ ks. AreDifferent (slots ks)) row.is raw.keys.different)
-          (emptied a.key.items rest (pick a.key.items u) (ends_at b.ends.items h).first (ap (λ (v : Ends). v.first) (gone_but.headed h (pick a.key.items u) gone_but.mine)) none)))
-    | inr some ↦ subst (λ rs. AreGroups a.key.items a.notes.items b.links.items rs b.ends.items rest) (sym (g.kept some)) (kept a.key.items a.notes.items b.links.items a.keys.rows b.ends.items rest (pick a.key.items u) (note_at a.notes.items p.slot).head gone_but some) ]
+        (subst (λ ks. AreGroupsBut a.key.items a.notes.items b.links.items ks b.ends.items rest (pick a.key.items u) h) row.is gone_but) refl
+        (subst (λ ks. AreDifferent (slots ks)) row.is raw.keys.different)
+        (emptied a.key.items rest (pick a.key.items u) (ends_at b.ends.items h).first (ap (λ (v : Ends). v.first) (gone_but.headed h (pick a.key.items u) gone_but.mine)) none)))
+    | inr some ↦ subst (λ rs. AreGroups a.key.items a.notes.items b.links.items rs b.ends.items rest) (sym (g.kept some)) (kept a.key.items a.notes.items b.links.items a.keys.rows b.ends.items rest (pick a.key.items u) (note_at a.notes.items p.slot).head gone_but some)
+  ]
 
   pub gone_raw : IsRaw b
   unfolding rest xs ys e
@@ -174,8 +175,9 @@ module _ (a b : Raw) (p : Place) (u : List ℕ) (n : Option ℕ) (raw : IsRaw a)
     groups = rw (rest_is, g.key, g.notes) gone_groups;
     trailing = rw rest_is (trailing_out (xs a p u raw f) (e a p u raw f) (ys a p u raw f) (subst AreTrailing (cut_is a p u raw f) raw.trailing));
     marked = g.marked ∙ ap₂ (λ (o m : Option ℕ). passed o p.slot m) (raw.marked ∙ ap (λ (es : List Entry). first_of (slots_at (marks es))) (cut_is a p u raw f)) (g.next f.front (record { slot = p.slot; cells = u }) f.back f.rows refl ∙ ap first_of (sym (slots_are a.notes.items f.back)))
-      ∙ mark_out (xs a p u raw f) (e a p u raw f) (ys a p u raw f) p.slot (subst AreTrailing (cut_is a p u raw f) raw.trailing) (all_different a p u raw f) (e_slot a p u raw f)
-      ∙ ap (λ (es : List Entry). first_of (slots_at (marks es))) (sym rest_is) }
+        ∙ mark_out (xs a p u raw f) (e a p u raw f) (ys a p u raw f) p.slot (subst AreTrailing (cut_is a p u raw f) raw.trailing) (all_different a p u raw f) (e_slot a p u raw f)
+        ∙ ap (λ (es : List Entry). first_of (slots_at (marks es))) (sym rest_is);
+  }
 
   pub gone_removed : Removed (entries_of a) (entries_of b) u
   unfolding rest xs ys e
@@ -194,24 +196,31 @@ pub goes_from : (a b : Raw) (i j h : ℕ) (follower : Option ℕ) → j ≡ i �
     → ((rs : List Row) (r : Row) (ss : List Row) → a.rows.rows ≡ rs ++ r ∷ ss → r.slot ≡ j → follower ≡ first_of (slots ss))
     → Goes a b i follower
 goes_from a b i j h follower ji hi key law width room removed notes links ends klaw kwidth kroom emptied_one kept_one marked next = record {
-  key = key; rows_law = law; width = width; room = room;
+  key = key;
+  rows_law = law;
+  width = width;
+  room = room;
   removed = λ rs r ss is at. removed rs r ss is (at ∙ sym ji);
   notes = notes;
   links = links ∙ ap (λ (k : ℕ). left (pair_at a.links.items k) a.links.items) ji;
   ends = ends ∙ ap₂ (λ (k m : ℕ). slice_set a.ends.items k (shrunk (pair_at a.links.items m) (ends_at a.ends.items k))) hi ji;
-  keys_law = klaw; keys_width = kwidth; keys_room = kroom;
+  keys_law = klaw;
+  keys_width = kwidth;
+  keys_room = kroom;
   emptied = λ none ks r ls is at. emptied_one (ap (λ (k : ℕ). (ends_at b.ends.items k).first) hi ∙ none) ks r ls is (at ∙ sym hi);
   kept = λ some. kept_one (λ none. some (sym (ap (λ (k : ℕ). (ends_at b.ends.items k).first) hi) ∙ none));
   marked = marked ∙ ap (λ (k : ℕ). passed a.marked k follower) ji;
-  next = λ rs r ss is at. next rs r ss is (at ∙ sym ji) }
+  next = λ rs r ss is at. next rs r ss is (at ∙ sym ji);
+}
 
 marks_slots : (ds : List Entry) (d c : Entry) (es : List Entry) → c.marked ≡ d.marked → c.at.slot ≡ d.at.slot → slots_at (marks (ds ++ c ∷ es)) ≡ slots_at (marks (ds ++ d ∷ es))
 marks_slots ds d c es m s =
-    elim (cases_Bool d.marked)
-    [ inl here ↦ ap slots_at (marks-append ds (c ∷ es) ∙ ap (λ (ms : List Entry). marks ds ++ ms) (marks_yes c es (m ∙ here))) ∙ slots_at_middle (marks ds) c (marks es)
-        ∙ ap (λ (j : ℕ). slots_at (marks ds) ++ j ∷ slots_at (marks es)) s
-        ∙ sym (ap slots_at (marks-append ds (d ∷ es) ∙ ap (λ (ms : List Entry). marks ds ++ ms) (marks_yes d es here)) ∙ slots_at_middle (marks ds) d (marks es))
-    | inr other ↦ ap slots_at (marks_middle ds c es (m ∙ other) ∙ sym (marks_middle ds d es other)) ]
+    elim (cases_Bool d.marked) [
+      | inl here ↦ ap slots_at (marks-append ds (c ∷ es) ∙ ap (λ (ms : List Entry). marks ds ++ ms) (marks_yes c es (m ∙ here))) ∙ slots_at_middle (marks ds) c (marks es)
+          ∙ ap (λ (j : ℕ). slots_at (marks ds) ++ j ∷ slots_at (marks es)) s
+          ∙ sym (ap slots_at (marks-append ds (d ∷ es) ∙ ap (λ (ms : List Entry). marks ds ++ ms) (marks_yes d es here)) ∙ slots_at_middle (marks ds) d (marks es))
+      | inr other ↦ ap slots_at (marks_middle ds c es (m ∙ other) ∙ sym (marks_middle ds d es other))
+    ]
 
 -- a note that changes but for its head
 pub record Renotes (a b : Raw) (i : ℕ) (note : Note) : Type 0 where
@@ -235,7 +244,7 @@ module _ (a b : Raw) (p : Place) (u : List ℕ) (note : Note) (raw : IsRaw a) (f
   renoted_is : entries_of b ≡ xs a p u raw f ++ after ∷ ys a p u raw f
   unfolding xs ys after
   renoted_is = ap₂ (λ (ns : List Note) (rs : Rows). entries_in ns rs.rows) r.notes r.rows ∙ ap (entries_in (slice_set a.notes.items p.slot note)) f.rows
-    ∙ entries_set a.notes.items p.slot note f.front (record { slot = p.slot; cells = u }) f.back refl note_within (subst (λ rs. AreDifferent (slots rs)) f.rows raw.rows.different)
+      ∙ entries_set a.notes.items p.slot note f.front (record { slot = p.slot; cells = u }) f.back refl note_within (subst (λ rs. AreDifferent (slots rs)) f.rows raw.rows.different)
 
   renoted_alike : AreAlike (entries_of a) (entries_of b)
   renoted_alike = subst (λ rs. AreAlike (entries_of a) (entries_in b.notes.items rs.rows)) (sym r.rows) (alike_notes a.notes.items b.notes.items a.rows.rows)
@@ -262,18 +271,27 @@ module _ (a b : Raw) (p : Place) (u : List ℕ) (note : Note) (raw : IsRaw a) (f
     ends = rw (r.keys, r.ends) raw.ends;
     apart = alike_apart (entries_of a) (entries_of b) renoted_alike raw.apart;
     groups = groups_alike b.key.items b.notes.items b.links.items b.keys.rows b.ends.items (entries_of a) (entries_of b) renoted_alike
-      (rw (r.key, r.notes, r.links, r.keys, r.ends) (groups_noted a.key.items a.notes.items p.slot note a.links.items a.keys.rows a.ends.items (entries_of a) r.head note_within raw.groups));
+        (rw (r.key, r.notes, r.links, r.keys, r.ends) (groups_noted a.key.items a.notes.items p.slot note a.links.items a.keys.rows a.ends.items (entries_of a) r.head note_within raw.groups));
     trailing = rw renoted_is (trailing_same (xs a p u raw f) (e a p u raw f) after (ys a p u raw f) same_mark (subst AreTrailing (cut_is a p u raw f) raw.trailing));
-    marked = r.marked ∙ raw.marked ∙ ap (λ (es : List Entry). first_of (slots_at (marks es))) (cut_is a p u raw f) ∙ sym (marks_same (xs a p u raw f) (e a p u raw f) after (ys a p u raw f) same_mark after_slot) ∙ ap (λ (es : List Entry). first_of (slots_at (marks es))) (sym renoted_is) }
+    marked = r.marked ∙ raw.marked ∙ ap (λ (es : List Entry). first_of (slots_at (marks es))) (cut_is a p u raw f) ∙ sym (marks_same (xs a p u raw f) (e a p u raw f) after (ys a p u raw f) same_mark after_slot) ∙ ap (λ (es : List Entry). first_of (slots_at (marks es))) (sym renoted_is);
+  }
 
   pub renoted_supported : (from to : ℕ) → (note_at a.notes.items p.slot).supports ≡ from → note.supports ≡ to → Supported (entries_of a) (entries_of b) u from to
   unfolding after e its_entry xs ys
   renoted_supported from to had has = record {
-    front = xs a p u raw f; back = ys a p u raw f; before = e a p u raw f; after = after;
-    was = cut_is a p u raw f; is = renoted_is; tuple = e_tuple a p u raw f; same_tuple = refl;
+    front = xs a p u raw f;
+    back = ys a p u raw f;
+    before = e a p u raw f;
+    after = after;
+    was = cut_is a p u raw f;
+    is = renoted_is;
+    tuple = e_tuple a p u raw f;
+    same_tuple = refl;
     same_place = sym (entry_at a.notes.items (record { slot = p.slot; cells = u }));
     same_mark = same_mark;
-    had = entry_supports a.notes.items (record { slot = p.slot; cells = u }) ∙ had; has = has }
+    had = entry_supports a.notes.items (record { slot = p.slot; cells = u }) ∙ had;
+    has = has;
+  }
 
 -- what a touch does to the parts
 pub record Touches (a b : Raw) (i : ℕ) : Type 0 where
@@ -315,9 +333,9 @@ module _ (a : Raw) (p : Place) (u : List ℕ) (raw : IsRaw a) (f : Found a p u) 
       let g = its_parted a p u raw f in
       let all : known ≡ slice_set a.ends.items head (shrunk (pair_at a.links.items p.slot) (ends_at a.ends.items head)) = is ∙ ap (λ (k : ℕ). slice_set a.ends.items k (shrunk (pair_at a.links.items p.slot) (ends_at a.ends.items k))) hi in
       subst (IsWithin (length (left (pair_at a.links.items p.slot) a.links.items)))
-        (sym (ap₂ (λ (ks : List Ends) (k : ℕ). (ends_at ks k).last) all hi ∙ ap (λ (v : Ends). v.last) (g.headed head (pick a.key.items u) g.mine)))
-        (last_within (length (left (pair_at a.links.items p.slot) a.links.items)) None (slots_at (grp a.key.items (xs a p u raw f ++ ys a p u raw f) (pick a.key.items u))) tt
-          (group_below (length (left (pair_at a.links.items p.slot) a.links.items)) a.key.items (xs a p u raw f ++ ys a p u raw f) (pick a.key.items u) rest_below))
+      (sym (ap₂ (λ (ks : List Ends) (k : ℕ). (ends_at ks k).last) all hi ∙ ap (λ (v : Ends). v.last) (g.headed head (pick a.key.items u) g.mine)))
+      (last_within (length (left (pair_at a.links.items p.slot) a.links.items)) None (slots_at (grp a.key.items (xs a p u raw f ++ ys a p u raw f) (pick a.key.items u))) tt
+      (group_below (length (left (pair_at a.links.items p.slot) a.links.items)) a.key.items (xs a p u raw f ++ ys a p u raw f) (pick a.key.items u) rest_below))
 
 module _ (a b : Raw) (p : Place) (u : List ℕ) (raw : IsRaw a) (f : Found a p u) (plain_one : is_marked (entries_of a) u ≡ false) (at : IsAt (entries_of a) p u) (t : Touches a b p.slot) where
   new_note : Note
@@ -335,8 +353,8 @@ module _ (a b : Raw) (p : Place) (u : List ℕ) (raw : IsRaw a) (f : Found a p u
   touched_is : entries_of b ≡ (xs a p u raw f ++ ys a p u raw f) ++ new_entry ∷ []
   unfolding xs ys new_entry
   touched_is = ap (λ (ns : List Note). entries_in ns b.rows.rows) t.notes ∙ ap (entries_in (slice_set a.notes.items p.slot (record { supports = (note_at a.notes.items p.slot).supports; head = (note_at a.notes.items p.slot).head; marked = true }))) rows_are
-    ∙ entries_set a.notes.items p.slot (record { supports = (note_at a.notes.items p.slot).supports; head = (note_at a.notes.items p.slot).head; marked = true }) (f.front ++ f.back) (record { slot = p.slot; cells = u }) [] refl notes_within (subst (λ rs. AreDifferent (slots rs)) rows_are t.rows_law.different)
-    ∙ ap₂ (λ (ds es : List Entry). ds ++ record { at = record { slot = p.slot }; tuple = u; supports = (note_at a.notes.items p.slot).supports; marked = true } ∷ es) (entries_in-append a.notes.items f.front f.back) (entries_nil a.notes.items)
+      ∙ entries_set a.notes.items p.slot (record { supports = (note_at a.notes.items p.slot).supports; head = (note_at a.notes.items p.slot).head; marked = true }) (f.front ++ f.back) (record { slot = p.slot; cells = u }) [] refl notes_within (subst (λ rs. AreDifferent (slots rs)) rows_are t.rows_law.different)
+      ∙ ap₂ (λ (ds es : List Entry). ds ++ record { at = record { slot = p.slot }; tuple = u; supports = (note_at a.notes.items p.slot).supports; marked = true } ∷ es) (entries_in-append a.notes.items f.front f.back) (entries_nil a.notes.items)
 
   e_plain : (e a p u raw f).marked ≡ false
   unfolding e its_entry
@@ -345,7 +363,7 @@ module _ (a b : Raw) (p : Place) (u : List ℕ) (raw : IsRaw a) (f : Found a p u
   touched_groups : AreGroups a.key.items b.notes.items b.links.items a.keys.rows b.ends.items ((xs a p u raw f ++ ys a p u raw f) ++ new_entry ∷ [])
   unfolding new_entry
   touched_groups = rw (t.notes, t.links, t.ends)
-    (join_groups a.key.items a.notes.items (slice_set a.notes.items p.slot (record { supports = (note_at a.notes.items p.slot).supports; head = (note_at a.notes.items p.slot).head; marked = true }))
+      (join_groups a.key.items a.notes.items (slice_set a.notes.items p.slot (record { supports = (note_at a.notes.items p.slot).supports; head = (note_at a.notes.items p.slot).head; marked = true }))
       (left (pair_at a.links.items p.slot) a.links.items) a.keys.rows t.known (xs a p u raw f ++ ys a p u raw f) (pick a.key.items u) (note_at a.notes.items p.slot).head
       (record { at = record { slot = p.slot }; tuple = u; supports = (note_at a.notes.items p.slot).supports; marked = true }) p.slot
       parted refl refl (rest_out a p u raw f) (rest_different a p u raw f) (rest_below a p u raw f)
@@ -354,8 +372,8 @@ module _ (a b : Raw) (p : Place) (u : List ℕ) (raw : IsRaw a) (f : Found a p u
       (seated_out a.key.items a.notes.items p.slot (record { supports = (note_at a.notes.items p.slot).supports; head = (note_at a.notes.items p.slot).head; marked = true }) a.keys.rows (xs a p u raw f ++ ys a p u raw f) (rest_out a p u raw f) parted.seated)
       (seat_noted a.notes.items p.slot (record { supports = (note_at a.notes.items p.slot).supports; head = (note_at a.notes.items p.slot).head; marked = true }) notes_within))
     where
-    parted : AreGroupsBut a.key.items a.notes.items (left (pair_at a.links.items p.slot) a.links.items) a.keys.rows t.known (xs a p u raw f ++ ys a p u raw f) (pick a.key.items u) (note_at a.notes.items p.slot).head
-    parted = subst (λ ks. AreGroupsBut a.key.items a.notes.items (left (pair_at a.links.items p.slot) a.links.items) a.keys.rows ks (xs a p u raw f ++ ys a p u raw f) (pick a.key.items u) (note_at a.notes.items p.slot).head) (sym t.known_is) (its_parted a p u raw f)
+      parted : AreGroupsBut a.key.items a.notes.items (left (pair_at a.links.items p.slot) a.links.items) a.keys.rows t.known (xs a p u raw f ++ ys a p u raw f) (pick a.key.items u) (note_at a.notes.items p.slot).head
+      parted = subst (λ ks. AreGroupsBut a.key.items a.notes.items (left (pair_at a.links.items p.slot) a.links.items) a.keys.rows ks (xs a p u raw f ++ ys a p u raw f) (pick a.key.items u) (note_at a.notes.items p.slot).head) (sym t.known_is) (its_parted a p u raw f)
 
   pub touched_raw : IsRaw b
   unfolding new_entry
@@ -371,21 +389,35 @@ module _ (a b : Raw) (p : Place) (u : List ℕ) (raw : IsRaw a) (f : Found a p u
     groups = rw (touched_is, t.key, t.keys) touched_groups;
     trailing = rw touched_is (trailing_push (xs a p u raw f ++ ys a p u raw f) new_entry (trailing_out (xs a p u raw f) (e a p u raw f) (ys a p u raw f) (subst AreTrailing (cut_is a p u raw f) raw.trailing)) refl);
     marked = t.marked ∙ ap (λ (o : Option ℕ). beside o (Some p.slot) o) (raw.marked ∙ ap (λ (es : List Entry). first_of (slots_at (marks es))) (cut_is a p u raw f) ∙ ap (λ (ms : List Entry). first_of (slots_at ms)) (marks_middle (xs a p u raw f) (e a p u raw f) (ys a p u raw f) e_plain))
-      ∙ mark_push (xs a p u raw f ++ ys a p u raw f) new_entry p.slot refl refl ∙ ap (λ (es : List Entry). first_of (slots_at (marks es))) (sym touched_is) }
+        ∙ mark_push (xs a p u raw f ++ ys a p u raw f) new_entry p.slot refl refl ∙ ap (λ (es : List Entry). first_of (slots_at (marks es))) (sym touched_is);
+  }
     where
-    was_apart : AreApart (xs a p u raw f ++ e a p u raw f ∷ ys a p u raw f)
-    was_apart = subst AreApart (cut_is a p u raw f) raw.apart
-    absent : cnt (xs a p u raw f ++ ys a p u raw f) u ≡ 0
-    absent = subst (λ v. cnt (xs a p u raw f ++ ys a p u raw f) v ≡ 0) (e_tuple a p u raw f) (apart_here (xs a p u raw f) (e a p u raw f) (ys a p u raw f) was_apart)
+      was_apart : AreApart (xs a p u raw f ++ e a p u raw f ∷ ys a p u raw f)
+      was_apart = subst AreApart (cut_is a p u raw f) raw.apart
+
+      absent : cnt (xs a p u raw f ++ ys a p u raw f) u ≡ 0
+      absent = subst (λ v. cnt (xs a p u raw f ++ ys a p u raw f) v ≡ 0) (e_tuple a p u raw f) (apart_here (xs a p u raw f) (e a p u raw f) (ys a p u raw f) was_apart)
 
   pub touched_one : Touched a.key.items (entries_of a) (entries_of b) u
   unfolding new_entry e its_entry
   touched_one = record {
-    front = xs a p u raw f; back = ys a p u raw f; before = e a p u raw f; after = new_entry; fore = xs a p u raw f ++ ys a p u raw f; rest = [];
-    was = cut_is a p u raw f; between = sym (append-nil (xs a p u raw f ++ ys a p u raw f)); is = touched_is;
-    tuple = e_tuple a p u raw f; same_tuple = refl; same_place = sym (entry_at a.notes.items (record { slot = p.slot; cells = u }));
-    same_supports = sym (entry_supports a.notes.items (record { slot = p.slot; cells = u })); plain = e_plain; marked = refl;
-    last = many_none a.key.items (pick a.key.items u) }
+    front = xs a p u raw f;
+    back = ys a p u raw f;
+    before = e a p u raw f;
+    after = new_entry;
+    fore = xs a p u raw f ++ ys a p u raw f;
+    rest = [];
+    was = cut_is a p u raw f;
+    between = sym (append-nil (xs a p u raw f ++ ys a p u raw f));
+    is = touched_is;
+    tuple = e_tuple a p u raw f;
+    same_tuple = refl;
+    same_place = sym (entry_at a.notes.items (record { slot = p.slot; cells = u }));
+    same_supports = sym (entry_supports a.notes.items (record { slot = p.slot; cells = u }));
+    plain = e_plain;
+    marked = refl;
+    last = many_none a.key.items (pick a.key.items u);
+  }
 
 -- the same, as the calls say it
 pub touches_from : (a b : Raw) (i j : ℕ) (note : Note) → j ≡ i → note ≡ note_at a.notes.items i
@@ -398,7 +430,10 @@ pub touches_from : (a b : Raw) (i j : ℕ) (note : Note) → j ≡ i → note �
     → b.ends.items ≡ slice_set known note.head (extended j (ends_at known note.head))
     → b.keys ≡ a.keys → b.marked ≡ beside a.marked (Some j) a.marked → Touches a b i
 touches_from a b i j note ji ni key law width room renewed notes known known_is links links_is more ends keys marked = record {
-  key = key; rows_law = law; width = width; room = room;
+  key = key;
+  rows_law = law;
+  width = width;
+  room = room;
   renewed = λ rs r ss is at. renewed rs r ss is (at ∙ sym ji);
   notes = notes ∙ ap₂ (λ (k : ℕ) (n : Note). slice_set a.notes.items k (record { supports = n.supports; head = n.head; marked = true })) ji ni;
   known = known;
@@ -406,7 +441,8 @@ touches_from a b i j note ji ni key law width room renewed notes known known_is 
   links = more ∙ ap₂ (λ (k : ℕ) (n : Note). entered (ends_at known n.head).last k links) ji ni ∙ ap (λ (ls : List Pair). entered (ends_at known (note_at a.notes.items i).head).last i ls) (links_is ∙ ap (λ (k : ℕ). left (pair_at a.links.items k) a.links.items) ji);
   ends = ends ∙ ap₂ (λ (k : ℕ) (n : Note). slice_set known n.head (extended k (ends_at known n.head))) ji ni;
   keys = keys;
-  marked = marked ∙ ap (λ (k : ℕ). beside a.marked (Some k) a.marked) ji }
+  marked = marked ∙ ap (λ (k : ℕ). beside a.marked (Some k) a.marked) ji;
+}
 
 pub same_tuple_at : (a : Raw) (p : Place) (u v : List ℕ) → IsRaw a → IsAt (entries_of a) p u → IsAt (entries_of a) p v → is_marked (entries_of a) v ≡ false → is_marked (entries_of a) u ≡ false
 same_tuple_at a p u v raw at other none = sym (note_marked a p u raw at) ∙ note_marked a p v raw other ∙ none

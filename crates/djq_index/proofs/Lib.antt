@@ -5,10 +5,11 @@ pub mod Groups
 pub mod Marks
 pub mod Places
 pub mod Changing
-pub mod Stub
 pub mod Parts
 pub mod Grouping
 pub mod Columns
 pub mod Keeping
 pub mod Inserting
 pub mod Leaving
+pub mod Clearing
+pub mod Tabling

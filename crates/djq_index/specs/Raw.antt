@@ -116,3 +116,7 @@ pub record IsSettled (a b : Raw) (rows : Rows) (notes : List Note) (links : List
   pub keys_are : b.keys ≡ keys
   pub ends_are : b.ends.items ≡ slice_set ends h (extended i (ends_at ends h))
   pub marked : b.marked ≡ beside a.marked (Some i) a.marked
+
+-- a note without its mark
+abbrev pub without_mark : Note → Note
+without_mark n = record { supports = n.supports; head = n.head; marked = false }

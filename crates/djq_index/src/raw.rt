@@ -1,17 +1,19 @@
 ghost use Rattle.std.specs.Prelude.{◌≡◌, ℕ, ◌+◌, ◌-◌, ◌<◌, ◌≤◌, List, [], ◌∷◌, ◌++◌, length, slice_set, vec_len, vec_capacity, IfOk, OnErr, MatchOption, Some, None};
-ghost use Rattle.djq_arena.specs.Chains.{pair_at, IsWithin};
+ghost use Rattle.djq_arena.specs.Chains.{pair_at, IsWithin, first_of};
 ghost use Rattle.djq_arena.specs.Rows.{Row, AreRows, IsHeld};
 ghost use Rattle.djq_index.specs.Tuple.{pick};
 ghost use Rattle.djq_index.specs.Entries.{Entry, supp, cnt, grp, marks, is_marked, unmarked, head_at, last_at};
 ghost use Rattle.djq_index.specs.Table.{IsAt, IsLive, IsUnmarked, IsRaisable, IsLowerable, AreColumns};
 ghost use Rattle.djq_index.specs.Changes.{Inserted, Removed, Touched, Supported};
-ghost use Rattle.djq_index.specs.Raw.{IsRaw, entries_of, slots_at, place_of, note_at, ends_at, IsSeat, IsSettled, passed};
+ghost use Rattle.djq_index.specs.Raw.{IsRaw, entries_of, slots_at, place_of, note_at, ends_at, IsSeat, IsSettled, passed, entries_in, AreTrailing, without_mark};
 ghost use Rattle.djq_arena.specs.Store.{ends_of, beside};
 
 use crate::heads::{found, join, known_ends, none, part, project, prune};
 use crate::place::Place;
 use djq_arena::{Arena, Ends, Link, Pair, pair_of};
-use std::alloc::AllocError;
+use djq_steps::Tally;
+use std::alloc::{AllocError, Global};
+use std::sync::ledger::Ledger;
 
 /// What a slot's tuple has besides its cells.
 #[derive(Clone, Copy)]
@@ -263,13 +265,7 @@ fn pass(marked: Option<u32>, slot: u32, next: Option<u32>) -> Option<u32>
 {
     match marked {
         None => None,
-        Some(first) => {
-            if first == slot {
-                next
-            } else {
-                Some(first)
-            }
-        }
+        Some(first) => { if first == slot { next } else { Some(first) } }
     }
 }
 
@@ -423,4 +419,85 @@ pub fn lower_in(raw: &mut Raw, place: Place)
         marked: note.marked,
     };
     set_note(&mut raw.notes, slot, lowered);
+}
+
+/// Takes the mark of a slot's note away.
+fn unmark(notes: &mut Vec<Note>, slot: u32)
+    requires { slot < length notes.old.items }
+    ensures { notes.new.items ≡ slice_set notes.old.items slot (without_mark (note_at notes.old.items slot)) }
+{
+    let note = note_of(notes, slot);
+    let bare = Note {
+        supports: note.supports,
+        head: note.head,
+        marked: false,
+    };
+    set_note(notes, slot, bare);
+}
+
+/// Takes all marks away, from the first marked slot on.
+fn unmark_all<L: Ledger>(
+    notes: &mut Vec<Note>,
+    rows: &Arena,
+    first: Option<u32>,
+    tally: &mut Tally<L>,
+)
+    requires rows { AreRows rows.now }
+    requires notes { rows.now.room ≤ length notes.old.items }
+    requires trailing { AreTrailing (entries_in notes.old.items rows.now.rows) }
+    requires first { first ≡ first_of (slots_at (marks (entries_in notes.old.items rows.now.rows))) }
+    ensures cleared { entries_in notes.new.items rows.now.rows ≡ unmarked (entries_in notes.old.items rows.now.rows) }
+    ensures heads { (k : ℕ) → (note_at notes.new.items k).head ≡ (note_at notes.old.items k).head }
+    ensures long { length notes.new.items ≡ length notes.old.items }
+    ensures counted { tally.new ≡ tally.old + length (marks (entries_in notes.old.items rows.now.rows)) }
+{
+    let mut at = first;
+    for _done in 0..rows.len() {
+        match at {
+            None => return,
+            Some(slot) => {
+                unmark(notes, slot);
+                at = rows.next(slot);
+                tally.link();
+            }
+        }
+    }
+}
+
+/// Takes all marks away. It counts a link for each.
+pub fn clear_in<L: Ledger>(raw: &mut Raw, tally: &mut Tally<L>)
+    requires { IsRaw raw.old }
+    ensures raw { IsRaw raw.new }
+    ensures cleared { entries_of raw.new ≡ unmarked (entries_of raw.old) }
+    ensures key { raw.new.key.items ≡ raw.old.key.items }
+    ensures width { raw.new.rows.width ≡ raw.old.rows.width }
+    ensures counted { tally.new ≡ tally.old + length (marks (entries_of raw.old)) }
+{
+    unmark_all(&mut raw.notes, &raw.rows, raw.marked, tally);
+    raw.marked = None;
+}
+
+/// The parts of a table without tuples. It fails only for want of memory.
+pub fn empty_in(alloc: Global, width: usize, key: &[usize]) -> Result<Raw, AllocError>
+    requires { AreColumns width key.now }
+    ensures raw { IfOk result (λ r. IsRaw r) }
+    ensures width { IfOk result (λ r. r.rows.width ≡ width) }
+    ensures key { IfOk result (λ r. r.key.items ≡ key.now) }
+    ensures empty { IfOk result (λ r. entries_of r ≡ []) }
+{
+    let columns = Vec::from_slice(alloc, key)?;
+    let rows = Arena::new(alloc, width)?;
+    rows.laws();
+    let keys = Arena::new(alloc, key.len())?;
+    keys.laws();
+    Ok(Raw {
+        key: columns,
+        rows,
+        notes: Vec::new(alloc),
+        links: Vec::new(alloc),
+        keys,
+        ends: Vec::new(alloc),
+        marked: None,
+        cells: Vec::new(alloc),
+    })
 }

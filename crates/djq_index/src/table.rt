@@ -4,6 +4,11 @@ ghost use Rattle.djq_index.specs.Table.{IsTable, IsAt, IsLive, IsUnmarked, IsRai
 ghost use Rattle.djq_index.specs.Changes.{Inserted, Removed, Touched, Supported};
 
 use crate::place::Place;
+use crate::raw::{
+    Raw, clear_in, empty_in, find_in, first_in, first_marked_in, insert_in, last_in, lower_in,
+    marked_in, next_in, next_marked_in, prev_in, raise_in, remove_in, supports_in, touch_in,
+    tuple_in,
+};
 use djq_steps::Tally;
 use std::alloc::{AllocError, Global};
 use std::marker::Model;
@@ -15,22 +20,22 @@ use std::sync::ledger::Ledger;
 /// the marks are cleared, so the marked ones of a group are its last.
 #[derive(Drop)]
 pub struct Table {
-    width: usize,
-    key: Vec<usize>,
+    raw: Raw,
 }
 
 impl Model for Table {
-    ghost use Rattle.std.specs.Prelude.{[]};
     ghost use Rattle.djq_index.specs.Table as spec;
 
     ghost Value = { spec.Table };
 
-    ghost view = { λ t. record { width = t.width; key = t.key.items; entries = [] } };
+    ghost use Rattle.djq_index.specs.Raw.{entries_of, IsRaw};
 
-    ghost invariant = { λ t. spec.AreColumns t.width t.key.items };
+    ghost view = { λ t. record { width = t.raw.rows.width; key = t.raw.key.items; entries = entries_of t.raw } };
+
+    ghost invariant = { λ t. IsRaw t.raw };
 }
 
-#[tactic(auto, using(crate::proofs::Stub::stub), unfolding(crate::specs::Entries::cnt, crate::specs::Entries::grp, crate::specs::Entries::marks, crate::specs::Entries::unmarked, crate::specs::Entries::head_at, crate::specs::Entries::last_at))]
+#[tactic(auto, using(crate::proofs::Tabling::raw_table))]
 impl Table {
     /// An empty table of tuples of this width, in groups by the cells at these columns. It fails only
     /// for want of memory.
@@ -38,23 +43,22 @@ impl Table {
         requires { AreColumns width key.now }
         ensures { IfOk result (λ t. t ≡ record { width = width; key = key.now; entries = [] }) }
     {
-        let key = Vec::from_slice(alloc, key)?;
-        Ok(Table { width, key })
+        let raw = empty_in(alloc, width, key)?;
+        Ok(Table { raw })
     }
 
     /// What holds of every table. It does nothing.
     pub fn laws(&self)
         ensures { IsTable self.now }
     {
-        let _ = &self.key;
+        let _ = &self.raw;
     }
 
     /// How many tuples there are.
     pub fn len(&self) -> usize
         ensures { result ≡ length self.now.entries }
     {
-        let _ = &self.key;
-        0
+        self.raw.rows.len()
     }
 
     /// Whether there is no tuple.
@@ -68,14 +72,14 @@ impl Table {
     pub fn width(&self) -> usize
         ensures { result ≡ self.now.width }
     {
-        self.width
+        self.raw.rows.width()
     }
 
     /// The columns of the key.
     pub fn key(&self) -> &[usize]
         ensures { result.now ≡ self.now.key }
     {
-        self.key.as_slice()
+        self.raw.key.as_slice()
     }
 
     /// Where this tuple lies; none exactly where it is absent. It counts one look-up.
@@ -83,9 +87,8 @@ impl Table {
         ensures found { MatchOption result (cnt self.now.entries tuple.now ≡ 0) (λ p. IsAt self.now.entries p tuple.now) }
         ensures counted { tally.new ≡ tally.old + 1 }
     {
-        let _ = &self.key;
         tally.lookup();
-        None
+        find_in(&self.raw, tuple)
     }
 
     /// The first of the group with these cells; none exactly where there is no such group. It counts
@@ -94,9 +97,8 @@ impl Table {
         ensures found { result ≡ head_at (grp self.now.key self.now.entries cells.now) }
         ensures counted { tally.new ≡ tally.old + 1 }
     {
-        let _ = &self.key;
         tally.lookup();
-        None
+        first_in(&self.raw, cells)
     }
 
     /// The last of the group with these cells.
@@ -104,9 +106,8 @@ impl Table {
         ensures found { result ≡ last_at (grp self.now.key self.now.entries cells.now) }
         ensures counted { tally.new ≡ tally.old + 1 }
     {
-        let _ = &self.key;
         tally.lookup();
-        None
+        last_in(&self.raw, cells)
     }
 
     /// The next one of its group; none exactly at the group's end. It counts one link, as `prev` does.
@@ -115,9 +116,8 @@ impl Table {
         ensures found { (w : List ℕ) (xs : List Entry) (e : Entry) (ys : List Entry) → grp self.now.key self.now.entries w ≡ xs ++ e ∷ ys → e.at ≡ place → result ≡ head_at ys }
         ensures counted { tally.new ≡ tally.old + 1 }
     {
-        let _ = &self.key;
         tally.link();
-        None
+        next_in(&self.raw, place)
     }
 
     /// The one before it in its group; none exactly at the group's start.
@@ -126,9 +126,8 @@ impl Table {
         ensures found { (w : List ℕ) (xs : List Entry) (e : Entry) (ys : List Entry) → grp self.now.key self.now.entries w ≡ xs ++ e ∷ ys → e.at ≡ place → result ≡ last_at xs }
         ensures counted { tally.new ≡ tally.old + 1 }
     {
-        let _ = &self.key;
         tally.link();
-        None
+        prev_in(&self.raw, place)
     }
 
     /// The first marked tuple; none exactly where there are no marks. It counts one link, as
@@ -137,9 +136,8 @@ impl Table {
         ensures found { result ≡ head_at (marks self.now.entries) }
         ensures counted { tally.new ≡ tally.old + 1 }
     {
-        let _ = &self.key;
         tally.link();
-        None
+        first_marked_in(&self.raw)
     }
 
     /// The next marked tuple after a marked one; none exactly behind the last.
@@ -148,9 +146,8 @@ impl Table {
         ensures found { (xs : List Entry) (e : Entry) (ys : List Entry) → marks self.now.entries ≡ xs ++ e ∷ ys → e.at ≡ place → result ≡ head_at ys }
         ensures counted { tally.new ≡ tally.old + 1 }
     {
-        let _ = &self.key;
         tally.link();
-        None
+        next_marked_in(&self.raw, place)
     }
 
     /// The tuple at a place.
@@ -158,8 +155,7 @@ impl Table {
         requires { IsLive self.now.entries place }
         ensures { (u : List ℕ) → IsAt self.now.entries place u → result.now ≡ u }
     {
-        let _ = &self.key;
-        &[]
+        tuple_in(&self.raw, place)
     }
 
     /// How many supports the tuple at a place has.
@@ -167,8 +163,7 @@ impl Table {
         requires { IsLive self.now.entries place }
         ensures { (u : List ℕ) → IsAt self.now.entries place u → result ≡ supp self.now.entries u }
     {
-        let _ = &self.key;
-        0
+        supports_in(&self.raw, place)
     }
 
     /// Whether the tuple at a place is marked.
@@ -176,8 +171,7 @@ impl Table {
         requires { IsLive self.now.entries place }
         ensures { (u : List ℕ) → IsAt self.now.entries place u → result ≡ is_marked self.now.entries u }
     {
-        let _ = &self.key;
-        false
+        marked_in(&self.raw, place)
     }
 
     /// Puts in a tuple that isn't there: last in its group, marked, with one support. Where there is no
@@ -197,9 +191,8 @@ impl Table {
         ensures counted { tally.new ≡ tally.old + 1 }
         ensures table { IsTable self.new }
     {
-        let _ = &self.key;
         tally.edit();
-        Err(AllocError)
+        insert_in(&mut self.raw, tuple)
     }
 
     /// Takes the tuple at a place out. Other places stay valid.
@@ -211,8 +204,8 @@ impl Table {
         ensures counted { tally.new ≡ tally.old + 1 }
         ensures table { IsTable self.new }
     {
-        let _ = &self.key;
         tally.edit();
+        remove_in(&mut self.raw, place);
     }
 
     /// Marks the unmarked tuple at a place, and moves it to the end of its group.
@@ -224,8 +217,8 @@ impl Table {
         ensures counted { tally.new ≡ tally.old + 1 }
         ensures table { IsTable self.new }
     {
-        let _ = &self.key;
         tally.edit();
+        touch_in(&mut self.raw, place);
     }
 
     /// Takes all marks away. It counts a link for each mark besides.
@@ -236,8 +229,8 @@ impl Table {
         ensures counted { tally.new ≡ tally.old + 1 + length (marks self.old.entries) }
         ensures table { IsTable self.new }
     {
-        let _ = &self.key;
         tally.edit();
+        clear_in(&mut self.raw, tally);
     }
 
     /// Gives the tuple at a place one support more.
@@ -249,8 +242,8 @@ impl Table {
         ensures counted { tally.new ≡ tally.old + 1 }
         ensures table { IsTable self.new }
     {
-        let _ = &self.key;
         tally.edit();
+        raise_in(&mut self.raw, place);
     }
 
     /// Takes one support of the tuple at a place away.
@@ -262,7 +255,7 @@ impl Table {
         ensures counted { tally.new ≡ tally.old + 1 }
         ensures table { IsTable self.new }
     {
-        let _ = &self.key;
         tally.edit();
+        lower_in(&mut self.raw, place);
     }
 }

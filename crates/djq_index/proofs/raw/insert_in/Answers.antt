@@ -29,74 +29,146 @@ returns-in-Err-clause-refused c = let b : Raw = record { key = c.args.raw.now.ke
 pub settle-requires-clause-notes : goal.settle-requires-clause-notes
 settle-requires-clause-notes c =
     let r : IsReady c.args.raw.now c.lay.new.rows c.lay.new.notes.items c.lay.new.links.items c.seat.new.keys c.seat.new.ends.items c.in_ok-slot.slot c.in-Ok.head c.args.tuple.now = record {
-      rows_law = c.in_ok-slot.ensures.rows; width = c.in_ok-slot.ensures.width; laid = c.in_ok-slot.ensures.laid; room_notes = c.in_ok-slot.ensures.notes; room_links = c.in_ok-slot.ensures.links;
-      same_notes = c.in_ok-slot.ensures.same_notes; same_links = c.in_ok-slot.ensures.same_links; longer = c.in_ok-slot.ensures.longer;
-      keys_law = c.in-Ok.ensures.rows; keys_width = c.in-Ok.ensures.width; room_ends = c.in-Ok.ensures.ends;
-      seat = subst (λ (key : List ℕ). IsSeat c.args.raw.now.keys.rows c.seat.new.keys.rows c.args.raw.now.ends.items c.seat.new.ends.items c.in-Ok.head (pick key c.args.tuple.now)) c.as_slice.ensures.value c.in-Ok.ensures.seated } in
+      rows_law = c.in_ok-slot.ensures.rows;
+      width = c.in_ok-slot.ensures.width;
+      laid = c.in_ok-slot.ensures.laid;
+      room_notes = c.in_ok-slot.ensures.notes;
+      room_links = c.in_ok-slot.ensures.links;
+      same_notes = c.in_ok-slot.ensures.same_notes;
+      same_links = c.in_ok-slot.ensures.same_links;
+      longer = c.in_ok-slot.ensures.longer;
+      keys_law = c.in-Ok.ensures.rows;
+      keys_width = c.in-Ok.ensures.width;
+      room_ends = c.in-Ok.ensures.ends;
+      seat = subst (λ (key : List ℕ). IsSeat c.args.raw.now.keys.rows c.seat.new.keys.rows c.args.raw.now.ends.items c.seat.new.ends.items c.in-Ok.head (pick key c.args.tuple.now)) c.as_slice.ensures.value c.in-Ok.ensures.seated;
+    } in
     slot_notes c.args.raw.now c.lay.new.rows c.lay.new.notes.items c.lay.new.links.items c.seat.new.keys c.seat.new.ends.items c.in_ok-slot.slot c.in-Ok.head c.args.tuple.now c.requires.raw r
 
 pub settle-requires-clause-links : goal.settle-requires-clause-links
 settle-requires-clause-links c =
     let r : IsReady c.args.raw.now c.lay.new.rows c.lay.new.notes.items c.lay.new.links.items c.seat.new.keys c.seat.new.ends.items c.in_ok-slot.slot c.in-Ok.head c.args.tuple.now = record {
-      rows_law = c.in_ok-slot.ensures.rows; width = c.in_ok-slot.ensures.width; laid = c.in_ok-slot.ensures.laid; room_notes = c.in_ok-slot.ensures.notes; room_links = c.in_ok-slot.ensures.links;
-      same_notes = c.in_ok-slot.ensures.same_notes; same_links = c.in_ok-slot.ensures.same_links; longer = c.in_ok-slot.ensures.longer;
-      keys_law = c.in-Ok.ensures.rows; keys_width = c.in-Ok.ensures.width; room_ends = c.in-Ok.ensures.ends;
-      seat = subst (λ (key : List ℕ). IsSeat c.args.raw.now.keys.rows c.seat.new.keys.rows c.args.raw.now.ends.items c.seat.new.ends.items c.in-Ok.head (pick key c.args.tuple.now)) c.as_slice.ensures.value c.in-Ok.ensures.seated } in
+      rows_law = c.in_ok-slot.ensures.rows;
+      width = c.in_ok-slot.ensures.width;
+      laid = c.in_ok-slot.ensures.laid;
+      room_notes = c.in_ok-slot.ensures.notes;
+      room_links = c.in_ok-slot.ensures.links;
+      same_notes = c.in_ok-slot.ensures.same_notes;
+      same_links = c.in_ok-slot.ensures.same_links;
+      longer = c.in_ok-slot.ensures.longer;
+      keys_law = c.in-Ok.ensures.rows;
+      keys_width = c.in-Ok.ensures.width;
+      room_ends = c.in-Ok.ensures.ends;
+      seat = subst (λ (key : List ℕ). IsSeat c.args.raw.now.keys.rows c.seat.new.keys.rows c.args.raw.now.ends.items c.seat.new.ends.items c.in-Ok.head (pick key c.args.tuple.now)) c.as_slice.ensures.value c.in-Ok.ensures.seated;
+    } in
     slot_links c.args.raw.now c.lay.new.rows c.lay.new.notes.items c.lay.new.links.items c.seat.new.keys c.seat.new.ends.items c.in_ok-slot.slot c.in-Ok.head c.args.tuple.now c.requires.raw r
 
 pub settle-requires-clause-number : goal.settle-requires-clause-number
 settle-requires-clause-number c =
     let r : IsReady c.args.raw.now c.lay.new.rows c.lay.new.notes.items c.lay.new.links.items c.seat.new.keys c.seat.new.ends.items c.in_ok-slot.slot c.in-Ok.head c.args.tuple.now = record {
-      rows_law = c.in_ok-slot.ensures.rows; width = c.in_ok-slot.ensures.width; laid = c.in_ok-slot.ensures.laid; room_notes = c.in_ok-slot.ensures.notes; room_links = c.in_ok-slot.ensures.links;
-      same_notes = c.in_ok-slot.ensures.same_notes; same_links = c.in_ok-slot.ensures.same_links; longer = c.in_ok-slot.ensures.longer;
-      keys_law = c.in-Ok.ensures.rows; keys_width = c.in-Ok.ensures.width; room_ends = c.in-Ok.ensures.ends;
-      seat = subst (λ (key : List ℕ). IsSeat c.args.raw.now.keys.rows c.seat.new.keys.rows c.args.raw.now.ends.items c.seat.new.ends.items c.in-Ok.head (pick key c.args.tuple.now)) c.as_slice.ensures.value c.in-Ok.ensures.seated } in
+      rows_law = c.in_ok-slot.ensures.rows;
+      width = c.in_ok-slot.ensures.width;
+      laid = c.in_ok-slot.ensures.laid;
+      room_notes = c.in_ok-slot.ensures.notes;
+      room_links = c.in_ok-slot.ensures.links;
+      same_notes = c.in_ok-slot.ensures.same_notes;
+      same_links = c.in_ok-slot.ensures.same_links;
+      longer = c.in_ok-slot.ensures.longer;
+      keys_law = c.in-Ok.ensures.rows;
+      keys_width = c.in-Ok.ensures.width;
+      room_ends = c.in-Ok.ensures.ends;
+      seat = subst (λ (key : List ℕ). IsSeat c.args.raw.now.keys.rows c.seat.new.keys.rows c.args.raw.now.ends.items c.seat.new.ends.items c.in-Ok.head (pick key c.args.tuple.now)) c.as_slice.ensures.value c.in-Ok.ensures.seated;
+    } in
     slot_number c.args.raw.now c.lay.new.rows c.lay.new.notes.items c.lay.new.links.items c.seat.new.keys c.seat.new.ends.items c.in_ok-slot.slot c.in-Ok.head c.args.tuple.now c.requires.raw r
 
 pub settle-requires-clause-head : goal.settle-requires-clause-head
 settle-requires-clause-head c =
     let r : IsReady c.args.raw.now c.lay.new.rows c.lay.new.notes.items c.lay.new.links.items c.seat.new.keys c.seat.new.ends.items c.in_ok-slot.slot c.in-Ok.head c.args.tuple.now = record {
-      rows_law = c.in_ok-slot.ensures.rows; width = c.in_ok-slot.ensures.width; laid = c.in_ok-slot.ensures.laid; room_notes = c.in_ok-slot.ensures.notes; room_links = c.in_ok-slot.ensures.links;
-      same_notes = c.in_ok-slot.ensures.same_notes; same_links = c.in_ok-slot.ensures.same_links; longer = c.in_ok-slot.ensures.longer;
-      keys_law = c.in-Ok.ensures.rows; keys_width = c.in-Ok.ensures.width; room_ends = c.in-Ok.ensures.ends;
-      seat = subst (λ (key : List ℕ). IsSeat c.args.raw.now.keys.rows c.seat.new.keys.rows c.args.raw.now.ends.items c.seat.new.ends.items c.in-Ok.head (pick key c.args.tuple.now)) c.as_slice.ensures.value c.in-Ok.ensures.seated } in
+      rows_law = c.in_ok-slot.ensures.rows;
+      width = c.in_ok-slot.ensures.width;
+      laid = c.in_ok-slot.ensures.laid;
+      room_notes = c.in_ok-slot.ensures.notes;
+      room_links = c.in_ok-slot.ensures.links;
+      same_notes = c.in_ok-slot.ensures.same_notes;
+      same_links = c.in_ok-slot.ensures.same_links;
+      longer = c.in_ok-slot.ensures.longer;
+      keys_law = c.in-Ok.ensures.rows;
+      keys_width = c.in-Ok.ensures.width;
+      room_ends = c.in-Ok.ensures.ends;
+      seat = subst (λ (key : List ℕ). IsSeat c.args.raw.now.keys.rows c.seat.new.keys.rows c.args.raw.now.ends.items c.seat.new.ends.items c.in-Ok.head (pick key c.args.tuple.now)) c.as_slice.ensures.value c.in-Ok.ensures.seated;
+    } in
     head_ends c.args.raw.now c.lay.new.rows c.lay.new.notes.items c.lay.new.links.items c.seat.new.keys c.seat.new.ends.items c.in_ok-slot.slot c.in-Ok.head c.args.tuple.now c.requires.raw r
 
 pub settle-requires-clause-last : goal.settle-requires-clause-last
 settle-requires-clause-last c =
     let r : IsReady c.args.raw.now c.lay.new.rows c.lay.new.notes.items c.lay.new.links.items c.seat.new.keys c.seat.new.ends.items c.in_ok-slot.slot c.in-Ok.head c.args.tuple.now = record {
-      rows_law = c.in_ok-slot.ensures.rows; width = c.in_ok-slot.ensures.width; laid = c.in_ok-slot.ensures.laid; room_notes = c.in_ok-slot.ensures.notes; room_links = c.in_ok-slot.ensures.links;
-      same_notes = c.in_ok-slot.ensures.same_notes; same_links = c.in_ok-slot.ensures.same_links; longer = c.in_ok-slot.ensures.longer;
-      keys_law = c.in-Ok.ensures.rows; keys_width = c.in-Ok.ensures.width; room_ends = c.in-Ok.ensures.ends;
-      seat = subst (λ (key : List ℕ). IsSeat c.args.raw.now.keys.rows c.seat.new.keys.rows c.args.raw.now.ends.items c.seat.new.ends.items c.in-Ok.head (pick key c.args.tuple.now)) c.as_slice.ensures.value c.in-Ok.ensures.seated } in
+      rows_law = c.in_ok-slot.ensures.rows;
+      width = c.in_ok-slot.ensures.width;
+      laid = c.in_ok-slot.ensures.laid;
+      room_notes = c.in_ok-slot.ensures.notes;
+      room_links = c.in_ok-slot.ensures.links;
+      same_notes = c.in_ok-slot.ensures.same_notes;
+      same_links = c.in_ok-slot.ensures.same_links;
+      longer = c.in_ok-slot.ensures.longer;
+      keys_law = c.in-Ok.ensures.rows;
+      keys_width = c.in-Ok.ensures.width;
+      room_ends = c.in-Ok.ensures.ends;
+      seat = subst (λ (key : List ℕ). IsSeat c.args.raw.now.keys.rows c.seat.new.keys.rows c.args.raw.now.ends.items c.seat.new.ends.items c.in-Ok.head (pick key c.args.tuple.now)) c.as_slice.ensures.value c.in-Ok.ensures.seated;
+    } in
     last_links c.args.raw.now c.lay.new.rows c.lay.new.notes.items c.lay.new.links.items c.seat.new.keys c.seat.new.ends.items c.in_ok-slot.slot c.in-Ok.head c.args.tuple.now c.requires.raw r
 
 pub returns-in-Ok-clause-raw : goal.returns-in-Ok-clause-raw
 returns-in-Ok-clause-raw c =
     let r : IsReady c.args.raw.now c.lay.new.rows c.lay.new.notes.items c.lay.new.links.items c.seat.new.keys c.seat.new.ends.items c.in_ok-slot.slot c.in-Ok.head c.args.tuple.now = record {
-      rows_law = c.in_ok-slot.ensures.rows; width = c.in_ok-slot.ensures.width; laid = c.in_ok-slot.ensures.laid; room_notes = c.in_ok-slot.ensures.notes; room_links = c.in_ok-slot.ensures.links;
-      same_notes = c.in_ok-slot.ensures.same_notes; same_links = c.in_ok-slot.ensures.same_links; longer = c.in_ok-slot.ensures.longer;
-      keys_law = c.in-Ok.ensures.rows; keys_width = c.in-Ok.ensures.width; room_ends = c.in-Ok.ensures.ends;
-      seat = subst (λ (key : List ℕ). IsSeat c.args.raw.now.keys.rows c.seat.new.keys.rows c.args.raw.now.ends.items c.seat.new.ends.items c.in-Ok.head (pick key c.args.tuple.now)) c.as_slice.ensures.value c.in-Ok.ensures.seated } in
+      rows_law = c.in_ok-slot.ensures.rows;
+      width = c.in_ok-slot.ensures.width;
+      laid = c.in_ok-slot.ensures.laid;
+      room_notes = c.in_ok-slot.ensures.notes;
+      room_links = c.in_ok-slot.ensures.links;
+      same_notes = c.in_ok-slot.ensures.same_notes;
+      same_links = c.in_ok-slot.ensures.same_links;
+      longer = c.in_ok-slot.ensures.longer;
+      keys_law = c.in-Ok.ensures.rows;
+      keys_width = c.in-Ok.ensures.width;
+      room_ends = c.in-Ok.ensures.ends;
+      seat = subst (λ (key : List ℕ). IsSeat c.args.raw.now.keys.rows c.seat.new.keys.rows c.args.raw.now.ends.items c.seat.new.ends.items c.in-Ok.head (pick key c.args.tuple.now)) c.as_slice.ensures.value c.in-Ok.ensures.seated;
+    } in
     let s = c.settle.ensures.settled in
     came_raw c.args.raw.now c.settle.new.raw c.lay.new.rows c.lay.new.notes.items c.lay.new.links.items c.seat.new.keys c.seat.new.ends.items c.in_ok-slot.slot c.in-Ok.head c.args.tuple.now c.requires.raw c.requires.absent r (record { key = s.key; rows_are = s.rows_are; notes_are = s.notes_are; links_are = s.links_are; keys_are = s.keys_are; ends_are = s.ends_are; marked = s.marked })
 
 pub returns-in-Ok-clause-inserted : goal.returns-in-Ok-clause-inserted
 returns-in-Ok-clause-inserted c =
     let r : IsReady c.args.raw.now c.lay.new.rows c.lay.new.notes.items c.lay.new.links.items c.seat.new.keys c.seat.new.ends.items c.in_ok-slot.slot c.in-Ok.head c.args.tuple.now = record {
-      rows_law = c.in_ok-slot.ensures.rows; width = c.in_ok-slot.ensures.width; laid = c.in_ok-slot.ensures.laid; room_notes = c.in_ok-slot.ensures.notes; room_links = c.in_ok-slot.ensures.links;
-      same_notes = c.in_ok-slot.ensures.same_notes; same_links = c.in_ok-slot.ensures.same_links; longer = c.in_ok-slot.ensures.longer;
-      keys_law = c.in-Ok.ensures.rows; keys_width = c.in-Ok.ensures.width; room_ends = c.in-Ok.ensures.ends;
-      seat = subst (λ (key : List ℕ). IsSeat c.args.raw.now.keys.rows c.seat.new.keys.rows c.args.raw.now.ends.items c.seat.new.ends.items c.in-Ok.head (pick key c.args.tuple.now)) c.as_slice.ensures.value c.in-Ok.ensures.seated } in
+      rows_law = c.in_ok-slot.ensures.rows;
+      width = c.in_ok-slot.ensures.width;
+      laid = c.in_ok-slot.ensures.laid;
+      room_notes = c.in_ok-slot.ensures.notes;
+      room_links = c.in_ok-slot.ensures.links;
+      same_notes = c.in_ok-slot.ensures.same_notes;
+      same_links = c.in_ok-slot.ensures.same_links;
+      longer = c.in_ok-slot.ensures.longer;
+      keys_law = c.in-Ok.ensures.rows;
+      keys_width = c.in-Ok.ensures.width;
+      room_ends = c.in-Ok.ensures.ends;
+      seat = subst (λ (key : List ℕ). IsSeat c.args.raw.now.keys.rows c.seat.new.keys.rows c.args.raw.now.ends.items c.seat.new.ends.items c.in-Ok.head (pick key c.args.tuple.now)) c.as_slice.ensures.value c.in-Ok.ensures.seated;
+    } in
     let s = c.settle.ensures.settled in
     came_inserted c.args.raw.now c.settle.new.raw c.lay.new.rows c.lay.new.notes.items c.lay.new.links.items c.seat.new.keys c.seat.new.ends.items c.in_ok-slot.slot c.in-Ok.head c.args.tuple.now c.requires.raw c.requires.absent r (record { key = s.key; rows_are = s.rows_are; notes_are = s.notes_are; links_are = s.links_are; keys_are = s.keys_are; ends_are = s.ends_are; marked = s.marked })
 
 pub returns-in-Ok-clause-at : goal.returns-in-Ok-clause-at
 returns-in-Ok-clause-at c =
     let r : IsReady c.args.raw.now c.lay.new.rows c.lay.new.notes.items c.lay.new.links.items c.seat.new.keys c.seat.new.ends.items c.in_ok-slot.slot c.in-Ok.head c.args.tuple.now = record {
-      rows_law = c.in_ok-slot.ensures.rows; width = c.in_ok-slot.ensures.width; laid = c.in_ok-slot.ensures.laid; room_notes = c.in_ok-slot.ensures.notes; room_links = c.in_ok-slot.ensures.links;
-      same_notes = c.in_ok-slot.ensures.same_notes; same_links = c.in_ok-slot.ensures.same_links; longer = c.in_ok-slot.ensures.longer;
-      keys_law = c.in-Ok.ensures.rows; keys_width = c.in-Ok.ensures.width; room_ends = c.in-Ok.ensures.ends;
-      seat = subst (λ (key : List ℕ). IsSeat c.args.raw.now.keys.rows c.seat.new.keys.rows c.args.raw.now.ends.items c.seat.new.ends.items c.in-Ok.head (pick key c.args.tuple.now)) c.as_slice.ensures.value c.in-Ok.ensures.seated } in
+      rows_law = c.in_ok-slot.ensures.rows;
+      width = c.in_ok-slot.ensures.width;
+      laid = c.in_ok-slot.ensures.laid;
+      room_notes = c.in_ok-slot.ensures.notes;
+      room_links = c.in_ok-slot.ensures.links;
+      same_notes = c.in_ok-slot.ensures.same_notes;
+      same_links = c.in_ok-slot.ensures.same_links;
+      longer = c.in_ok-slot.ensures.longer;
+      keys_law = c.in-Ok.ensures.rows;
+      keys_width = c.in-Ok.ensures.width;
+      room_ends = c.in-Ok.ensures.ends;
+      seat = subst (λ (key : List ℕ). IsSeat c.args.raw.now.keys.rows c.seat.new.keys.rows c.args.raw.now.ends.items c.seat.new.ends.items c.in-Ok.head (pick key c.args.tuple.now)) c.as_slice.ensures.value c.in-Ok.ensures.seated;
+    } in
     let s = c.settle.ensures.settled in
     subst (λ (p : Place). IsAt (entries_of c.settle.new.raw) p c.args.tuple.now) (sym c.new.ensures) (came_at c.args.raw.now c.settle.new.raw c.lay.new.rows c.lay.new.notes.items c.lay.new.links.items c.seat.new.keys c.seat.new.ends.items c.in_ok-slot.slot c.in-Ok.head c.args.tuple.now c.requires.raw c.requires.absent r (record { key = s.key; rows_are = s.rows_are; notes_are = s.notes_are; links_are = s.links_are; keys_are = s.keys_are; ends_are = s.ends_are; marked = s.marked }))

@@ -45,4 +45,4 @@ returns-clause-lowered c = λ u at.
     let n : c.note_of-note.result ≡ note_at c.args.raw.now.notes.items c.args.place.slot = c.note_of-note.ensures ∙ ap (note_at c.args.raw.now.notes.items) c.slot-slot.ensures in
     let s : (note_at c.args.raw.now.notes.items c.args.place.slot).supports ≡ supp (entries_of c.args.raw.now) u = note_supports c.args.raw.now c.args.place u c.requires.raw at in
     renoted_supported c.args.raw.now b c.args.place u (record { supports = c.note_of-note.result.supports - 1; head = c.note_of-note.result.head; marked = c.note_of-note.result.marked }) c.requires.raw f (record { key = refl; rows = refl; notes = c.set_note.ensures ∙ ap (λ (i : ℕ). slice_set c.args.raw.now.notes.items i (record { supports = c.note_of-note.result.supports - 1; head = c.note_of-note.result.head; marked = c.note_of-note.result.marked })) c.slot-slot.ensures; links = refl; keys = refl; ends = refl; marked = refl; head = ap (λ (m : Note). m.head) n; mark = ap (λ (m : Note). m.marked) n })
-      (supp (entries_of c.args.raw.now) u) (supp (entries_of c.args.raw.now) u - 1) s (ap (λ (k : ℕ). k - 1) (ap (λ (m : Note). m.supports) n ∙ s))
+    (supp (entries_of c.args.raw.now) u) (supp (entries_of c.args.raw.now) u - 1) s (ap (λ (k : ℕ). k - 1) (ap (λ (m : Note). m.supports) n ∙ s))
