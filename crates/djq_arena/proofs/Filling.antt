@@ -1,0 +1,344 @@
+-- Rows that are written into slots.
+use Rattle.std.proofs.Common.{◌≡◌, ◌≢◌, ℕ, zero, suc, ◌+◌, ◌-◌, ◌*◌, ◌≤◌, ◌<◌, ◌==◌, Bool, true, false, cond, List, [], ◌∷◌, ◌++◌, length, map, take, drop, slice_set, slice_index_or, get_or, Option, Some, None, refl, ap, ap₂, subst, sym, ◌∙◌, arith, length-append, length-set, append_assoc, ◌⊎◌, inl, inr, min, max, length-take, length-drop, rules, Result, Ok, Err}
+use Rattle.std.specs.Result.{OnErr}
+use Rattle.std.proofs.lemmas.List.{append-nil, map-append, get_or_default, take_all, take_at, drop_at, drop-append-le, take-append-le, places, get_or_append_left, drop-drop, same_lists}
+use Rattle.std.proofs.lemmas.Bool.{cases_Bool, cases_order}
+use Rattle.djq_arena.specs.declared.chain.Pair.{Pair}
+use Rattle.djq_arena.specs.declared.chain.Ends.{Ends}
+use Rattle.djq_arena.specs.declared.store.Store.{Store}
+use Rattle.djq_arena.specs.Chains.{pair_at, first_or, last_from, first_of, last_of, Linked, IsOut, AreDifferent, AreBelow, Agree, entered, left, IsWithin, Differs, Avoids, trail}
+use Rattle.djq_arena.specs.Rows.{Row}
+use Rattle.djq_arena.specs.Store.{chosen, is_of, class, cells_at, AreBuckets, unheaded, ends_of, extended, shrunk, beside, IsStore, live_of, free_of, IsSound, IsLoose, rows_in, rows_of, IsAlike, IsLinked, IsUnlinked, IsSame, Holds, IsPrepared}
+use Rattle.djq_arena.proofs.Lists.{last_append, first_append, out_front, out_back, out_append, different_front, different_back, different_out, different_here, different_swap, below_front, below_back, below_out, below_in, below_here, below_more, below_unlike, last_avoids, avoids_none, first_avoids, last_within, first_within, ends_with}
+use Rattle.djq_arena.proofs.Chaining.{linked_same, left_linked, left_agree, length-left, prev_here, next_here}
+use Rattle.djq_arena.proofs.Choosing.{entered_buckets}
+use Rattle.djq_arena.proofs.Storing.{live_is, free_is, sound, shrunk_is}
+
+-- the cells of a row fit before the end
+pub row_fits : (x n w : ℕ) → x < n → x * w + w ≤ n * w
+row_fits x n w h = grind arith
+
+-- two arrays of cells have the same rows in these slots
+unfoldable pub Alike : ℕ → List ℕ → List ℕ → List ℕ → Type 0
+Alike w old new [] = Unit {0}
+Alike w old new (x ∷ xs) = (cells_at w new x ≡ cells_at w old x) × Alike w old new xs
+
+alike_cond : (b c : Bool) (x : ℕ) (ys zs : List ℕ) → b ≡ c → ys ≡ zs → cond b (x ∷ ys) ys ≡ cond c (x ∷ zs) zs
+alike_cond b c x ys zs h k = rw (h, k) refl
+
+pub chosen_alike : (m w : ℕ) (old new : List ℕ) (k : ℕ) (xs : List ℕ) → Alike w old new xs → chosen (is_of m w new k) xs ≡ chosen (is_of m w old k) xs
+unfolding Alike chosen is_of
+chosen_alike m w old new k [] h = refl
+chosen_alike m w old new k (x ∷ xs) h = alike_cond (is_of m w new k x) (is_of m w old k x) x (chosen (is_of m w new k) xs) (chosen (is_of m w old k) xs) (ap (λ (u : List ℕ). class m u == k) h.0) (chosen_alike m w old new k xs h.1)
+
+pub rows_alike : (w : ℕ) (old new : List ℕ) (xs : List ℕ) → Alike w old new xs → rows_in w new xs ≡ rows_in w old xs
+unfolding Alike rows_in
+rows_alike w old new [] h = refl
+rows_alike w old new (x ∷ xs) h = ap₂ (λ (u : List ℕ) (rs : List Row). record { slot = x; cells = u } ∷ rs) h.0 (rows_alike w old new xs h.1)
+
+agree_cond : (b : Bool) (ls ms : List Pair) (x : ℕ) (xs : List ℕ) → pair_at ms x ≡ pair_at ls x → Agree ls ms xs → Agree ls ms (cond b (x ∷ xs) xs)
+unfolding Agree
+agree_cond true ls ms x xs h k = (h, k)
+agree_cond false ls ms x xs h k = k
+
+pub agree_chosen : (p : ℕ → Bool) (ls ms : List Pair) (xs : List ℕ) → Agree ls ms xs → Agree ls ms (chosen p xs)
+unfolding Agree chosen
+agree_chosen p ls ms [] h = tt
+agree_chosen p ls ms (x ∷ xs) h = agree_cond (p x) ls ms x (chosen p xs) h.0 (agree_chosen p ls ms xs h.1)
+
+pub agree_append : (ls : List Pair) (p : Pair) (xs : List ℕ) → AreBelow (length ls) xs → Agree ls (ls ++ p ∷ []) xs
+unfolding Agree AreBelow
+agree_append ls p [] h = tt
+agree_append ls p (x ∷ xs) h = (get_or_append_left ls (p ∷ []) (record { prev = None; next = None }) x h.0, agree_append ls p xs h.1)
+
+pub agree_self : (ls : List Pair) (xs : List ℕ) → Agree ls ls xs
+unfolding Agree
+agree_self ls [] = tt
+agree_self ls (x ∷ xs) = (refl, agree_self ls xs)
+
+pub buckets_moved : (m w : ℕ) (old new : List ℕ) (bucket more : List Pair) (heads : List (Option ℕ)) (xs : List ℕ) → AreBuckets m w old bucket heads xs → Alike w old new xs → Agree bucket more xs → AreBuckets m w new more heads xs
+buckets_moved m w old new bucket more heads xs b h a = record {
+  long = b.long;
+  chained = λ k inside. rw (chosen_alike m w old new k xs h) (linked_same bucket more None (chosen (is_of m w old k) xs) None (agree_chosen (is_of m w old k) bucket more xs a) (b.chained k inside));
+  headed = λ k inside. rw (chosen_alike m w old new k xs h) (b.headed k inside);
+}
+
+-- a new slot
+pub record Extends (a b : Store) (u : List ℕ) : Type 0 where
+  pub pair : Pair
+  pub other : Pair
+  pub width : b.width ≡ a.width
+  pub cells : b.cells.items ≡ a.cells.items ++ u
+  pub order : b.order.items ≡ a.order.items ++ pair ∷ []
+  pub live : b.live ≡ a.live
+  pub bucket : b.bucket.items ≡ a.bucket.items ++ other ∷ []
+  pub heads : b.heads.items ≡ a.heads.items
+  pub free : b.free ≡ a.free
+  pub len : b.len ≡ a.len
+  pub spare : b.spare ≡ a.spare
+
+row_stays : (w : ℕ) (cells u : List ℕ) (n x : ℕ) → length cells ≡ n * w → x < n → cells_at w (cells ++ u) x ≡ cells_at w cells x
+unfolding cells_at
+row_stays w cells u n x long h =
+    let fits : x * w + w ≤ length cells = omega (arith, row_fits x n w h, long) in
+    ap (take w) (drop-append-le (x * w) cells u (omega (arith, fits))) ∙ take-append-le w (drop (x * w) cells) u (simp length-drop (omega (arith, fits)))
+
+rows_stay : (w : ℕ) (cells u : List ℕ) (n : ℕ) (xs : List ℕ) → length cells ≡ n * w → AreBelow n xs → Alike w cells (cells ++ u) xs
+unfolding Alike AreBelow
+rows_stay w cells u n [] long h = tt
+rows_stay w cells u n (x ∷ xs) long h = (row_stays w cells u n x long h.0, rows_stay w cells u n xs long h.1)
+
+row_comes : (w : ℕ) (cells u : List ℕ) (n : ℕ) → length cells ≡ n * w → length u ≡ w → cells_at w (cells ++ u) n ≡ u
+unfolding cells_at
+row_comes w cells u n long wide = ap (take w) (drop_at cells u (n * w) long) ∙ take_all w u (omega (arith, wide))
+
+extend_store : (a b : Store) (xs fs u : List ℕ) → IsStore a xs fs → Extends a b u → length u ≡ a.width → length a.order.items < 4294967295 → IsStore b xs fs
+extend_store a b xs fs u h e wide room = record {
+  live = e.live ∙ h.live;
+  free = e.free ∙ h.free;
+  count = h.count ∙ sym e.len;
+  spare = h.spare ∙ sym e.spare;
+  apart = h.apart;
+  below = subst (λ n. AreBelow n (xs ++ fs)) (sym longer) (below_more (length a.order.items) (length a.order.items + 1) (xs ++ fs) (omega arith) h.below);
+  order = rw e.order (linked_same a.order.items (a.order.items ++ e.pair ∷ []) None xs None (agree_append a.order.items e.pair xs (below_front (length a.order.items) xs fs h.below)) h.order);
+  rest = rw e.order (linked_same a.order.items (a.order.items ++ e.pair ∷ []) None fs None (agree_append a.order.items e.pair fs (below_back (length a.order.items) xs fs h.below)) h.rest);
+  buckets = rw (e.heads, e.width, e.cells, e.bucket) (buckets_moved (length a.heads.items) a.width a.cells.items (a.cells.items ++ u) a.bucket.items (a.bucket.items ++ e.other ∷ []) a.heads.items xs h.buckets
+      (rows_stay a.width a.cells.items u (length a.order.items) xs h.cells (below_front (length a.order.items) xs fs h.below))
+      (agree_append a.bucket.items e.other xs (rw h.pairs (below_front (length a.order.items) xs fs h.below))));
+  some = rw e.heads h.some;
+  pairs = ap (λ (ls : List Pair). length ls) e.bucket ∙ length-append a.bucket.items (e.other ∷ []) ∙ ap (λ (n : ℕ). n + 1) h.pairs ∙ sym longer;
+  cells = ap (λ (ls : List ℕ). length ls) e.cells ∙ length-append a.cells.items u ∙ grown ∙ sym (ap₂ (λ (n w : ℕ). n * w) longer e.width);
+  room = omega (arith, h.room, longer, e.len, e.spare);
+  numbers = omega (arith, longer, room);
+}
+  where
+    longer : length b.order.items ≡ length a.order.items + 1
+    longer = ap (λ (ls : List Pair). length ls) e.order ∙ length-append a.order.items (e.pair ∷ [])
+
+    grown : length a.cells.items + length u ≡ (length a.order.items + 1) * a.width
+    grown = omega (arith, h.cells, wide)
+
+pub extends : (a b : Store) (u : List ℕ) → IsSound a → Extends a b u → length u ≡ a.width → length a.order.items < 4294967295 → IsPrepared a b (length a.order.items) u
+unfolding rows_of
+extends a b u h e wide room =
+    let s = extend_store a b (live_of a) (free_of a) u h.store e wide room in
+    let live = live_is b (live_of a) (free_of a) s in
+    let longer : length b.order.items ≡ length a.order.items + 1 = ap (λ (ls : List Pair). length ls) e.order ∙ length-append a.order.items (e.pair ∷ []) in
+    record {
+      sound = sound b (live_of a) (free_of a) s;
+      loose = record {
+        out = rw (live, free_is b (live_of a) (free_of a) s) (below_unlike (length a.order.items) (live_of a ++ free_of a) h.store.below);
+        within = omega (arith, longer);
+        room = omega (arith, longer, e.len, e.spare, h.store.room);
+      };
+      live = live;
+      width = e.width;
+      here = rw (e.width, e.cells) (row_comes a.width a.cells.items u (length a.order.items) h.store.cells wide);
+      rows = rows_same live;
+      slots = longer ∙ omega arith;
+      fits = omega arith;
+    }
+  where
+    rows_same : live_of b ≡ live_of a → rows_of b ≡ rows_of a
+    rows_same live = ap (λ (xs : List ℕ). rows_in b.width b.cells.items xs) live ∙ ap₂ (λ (w : ℕ) (cs : List ℕ). rows_in w cs (live_of a)) e.width e.cells
+        ∙ rows_alike a.width a.cells.items (a.cells.items ++ u) (live_of a) (rows_stay a.width a.cells.items u (length a.order.items) (live_of a) h.store.cells (below_front (length a.order.items) (live_of a) (free_of a) h.store.below))
+
+-- the same store, with arrays that may have moved
+pub record Stays (a b : Store) : Type 0 where
+  pub width : b.width ≡ a.width
+  pub cells : b.cells.items ≡ a.cells.items
+  pub order : b.order.items ≡ a.order.items
+  pub live : b.live ≡ a.live
+  pub bucket : b.bucket.items ≡ a.bucket.items
+  pub heads : b.heads.items ≡ a.heads.items
+  pub free : b.free ≡ a.free
+  pub len : b.len ≡ a.len
+  pub spare : b.spare ≡ a.spare
+
+pub stay_store : (a b : Store) (xs fs : List ℕ) → IsStore a xs fs → Stays a b → IsStore b xs fs
+stay_store a b xs fs h s = record {
+  live = s.live ∙ h.live;
+  free = s.free ∙ h.free;
+  count = h.count ∙ sym s.len;
+  spare = h.spare ∙ sym s.spare;
+  apart = h.apart;
+  below = rw s.order h.below;
+  order = rw s.order h.order;
+  rest = rw s.order h.rest;
+  buckets = rw (s.heads, s.width, s.cells, s.bucket) h.buckets;
+  some = rw s.heads h.some;
+  pairs = rw (s.bucket, s.order) h.pairs;
+  cells = rw (s.cells, s.width, s.order) h.cells;
+  room = rw (s.len, s.spare, s.order) h.room;
+  numbers = rw s.order h.numbers;
+}
+
+pub stays : (a b : Store) → IsSound a → Stays a b → IsSame a b
+stays a b h s =
+    let k = stay_store a b (live_of a) (free_of a) h.store s in
+    record {
+      alike = record { sound = sound b (live_of a) (free_of a) k; width = s.width; cells = s.cells; slots = ap (λ (ls : List Pair). length ls) s.order };
+      live = live_is b (live_of a) (free_of a) k;
+    }
+
+-- a row that is written over another
+written : List ℕ → ℕ → List ℕ → List ℕ
+written cells from u = take from cells ++ u ++ drop (from + length u) cells
+
+length_written : (cells : List ℕ) (from : ℕ) (u : List ℕ) → from + length u ≤ length cells → length (written cells from u) ≡ length cells
+unfolding written
+length_written cells from u h = simp (length-append, length-take, length-drop) (omega (arith, h))
+
+part_before : (cells : List ℕ) (from : ℕ) (u : List ℕ) (j w : ℕ) → from + length u ≤ length cells → j + w ≤ from → take w (drop j (written cells from u)) ≡ take w (drop j cells)
+unfolding written
+part_before cells from u j w h k = same_lists _ _ (search (rules, places)) (λ i d l. grind (arith, places))
+
+part_after : (cells : List ℕ) (from : ℕ) (u : List ℕ) (j w : ℕ) → from + length u ≤ length cells → from + length u ≤ j → take w (drop j (written cells from u)) ≡ take w (drop j cells)
+unfolding written
+part_after cells from u j w h k = same_lists _ _ (search (rules, places)) (λ i d l. grind (arith, places))
+
+part_here : (cells : List ℕ) (from : ℕ) (u : List ℕ) (w : ℕ) → from + length u ≤ length cells → length u ≡ w → take w (drop from (written cells from u)) ≡ u
+unfolding written
+part_here cells from u w h k = same_lists _ _ (search (rules, places)) (λ i d l. grind (arith, places))
+
+-- a slot that was free
+pub record Reuses (a b : Store) (i : ℕ) (u : List ℕ) : Type 0 where
+  pub width : b.width ≡ a.width
+  pub cells : b.cells.items ≡ take (i * a.width) a.cells.items ++ u ++ drop (i * a.width + length u) a.cells.items
+  pub order : b.order.items ≡ left (pair_at a.order.items i) a.order.items
+  pub live : b.live ≡ a.live
+  pub bucket : b.bucket.items ≡ a.bucket.items
+  pub heads : b.heads.items ≡ a.heads.items
+  pub free : b.free ≡ shrunk (pair_at a.order.items i) a.free
+  pub len : b.len ≡ a.len
+  pub spare : b.spare ≡ a.spare - 1
+
+row_kept : (w : ℕ) (cells : List ℕ) (i : ℕ) (u : List ℕ) (n x : ℕ) → length cells ≡ n * w → length u ≡ w → i < n → x < n → x ≢ i → cells_at w (written cells (i * w) u) x ≡ cells_at w cells x
+unfolding cells_at
+row_kept w cells i u n x long wide within inside other =
+    elim (cases_order x i) [
+      | inl same ↦ absurd (other same)
+      | inr (inl before) ↦ part_before cells (i * w) u (x * w) w fits (row_fits x i w before)
+      | inr (inr after) ↦ part_after cells (i * w) u (x * w) w fits (omega (arith, row_fits i x w after, wide))
+    ]
+  where
+    fits : i * w + length u ≤ length cells
+    fits = omega (arith, row_fits i n w within, long, wide)
+
+rows_kept : (w : ℕ) (cells : List ℕ) (i : ℕ) (u : List ℕ) (n : ℕ) (xs : List ℕ) → length cells ≡ n * w → length u ≡ w → i < n → AreBelow n xs → IsOut i xs → Alike w cells (written cells (i * w) u) xs
+unfolding Alike AreBelow IsOut
+rows_kept w cells i u n [] long wide within b o = tt
+rows_kept w cells i u n (x ∷ xs) long wide within b o = (row_kept w cells i u n x long wide within b.0 o.0, rows_kept w cells i u n xs long wide within b.1 o.1)
+
+row_written : (w : ℕ) (cells : List ℕ) (i : ℕ) (u : List ℕ) (n : ℕ) → length cells ≡ n * w → length u ≡ w → i < n → cells_at w (written cells (i * w) u) i ≡ u
+unfolding cells_at
+row_written w cells i u n long wide within = part_here cells (i * w) u w (omega (arith, row_fits i n w within, long, wide)) wide
+
+written_is : (cells : List ℕ) (from : ℕ) (u : List ℕ) → written cells from u ≡ take from cells ++ u ++ drop (from + length u) cells
+unfolding written
+written_is cells from u = refl
+
+module _ (a b : Store) (xs gs : List ℕ) (i : ℕ) (u : List ℕ) (h : IsStore a xs (gs ++ i ∷ [])) (r : Reuses a b i u) (wide : length u ≡ a.width) where
+  reuse_cells : b.cells.items ≡ written a.cells.items (i * a.width) u
+  reuse_cells = r.cells ∙ sym (written_is a.cells.items (i * a.width) u)
+
+  reuse_apart : AreDifferent ((xs ++ gs) ++ i ∷ [])
+  reuse_apart = subst AreDifferent (sym (append_assoc xs gs (i ∷ []))) h.apart
+
+  reuse_below : AreBelow (length a.order.items) ((xs ++ gs) ++ i ∷ [])
+  reuse_below = subst (AreBelow (length a.order.items)) (sym (append_assoc xs gs (i ∷ []))) h.below
+
+  reuse_within : i < length a.order.items
+  reuse_within = below_here (length a.order.items) (xs ++ gs) i [] reuse_below
+
+  reuse_out : IsOut i (xs ++ gs)
+  reuse_out = subst (IsOut i) (append-nil (xs ++ gs)) (different_here (xs ++ gs) i [] reuse_apart)
+
+  reuse_different : AreDifferent (xs ++ gs)
+  reuse_different = subst AreDifferent (append-nil (xs ++ gs)) (different_out (xs ++ gs) i [] reuse_apart)
+
+  reuse_inside : AreBelow (length a.order.items) (xs ++ gs)
+  reuse_inside = below_front (length a.order.items) (xs ++ gs) (i ∷ []) reuse_below
+
+  reuse_prev : (pair_at a.order.items i).prev ≡ last_of gs
+  reuse_prev = prev_here a.order.items gs i [] h.rest
+
+  reuse_next : (pair_at a.order.items i).next ≡ None
+  reuse_next = next_here a.order.items gs i [] h.rest
+
+  reuse_alike : Alike a.width a.cells.items (written a.cells.items (i * a.width) u) xs
+  reuse_alike = rows_kept a.width a.cells.items i u (length a.order.items) xs h.cells wide reuse_within (below_front (length a.order.items) xs gs reuse_inside) (out_front i xs gs reuse_out)
+
+  reuse_long : length (written a.cells.items (i * a.width) u) ≡ length a.cells.items
+  reuse_long = length_written a.cells.items (i * a.width) u (omega (arith, row_fits i (length a.order.items) a.width reuse_within, h.cells, wide))
+
+  reuse_store : IsStore b xs gs
+  reuse_store = record {
+    live = r.live ∙ h.live;
+    free = r.free ∙ ap (shrunk (pair_at a.order.items i)) h.free ∙ shrunk_is (pair_at a.order.items i) gs i [] reuse_prev reuse_next ∙ ap ends_of (append-nil gs);
+    count = h.count ∙ sym r.len;
+    spare = omega (arith, h.spare, length-append gs (i ∷ []), r.spare);
+    apart = reuse_different;
+    below = rw (r.order, length-left) reuse_inside;
+    order = rw r.order (linked_same a.order.items (left (pair_at a.order.items i) a.order.items) None xs None
+        (left_agree a.order.items (pair_at a.order.items i) xs (subst (λ o. Avoids o xs) (sym reuse_prev) (last_avoids None gs xs (avoids_none xs) (different_swap xs gs reuse_different))) (subst (λ o. Avoids o xs) (sym reuse_next) (avoids_none xs)))
+        h.order);
+    rest = rw r.order (subst (λ zs. Linked (left (pair_at a.order.items i) a.order.items) None zs None) (append-nil gs)
+        (left_linked a.order.items gs i [] (different_back xs (gs ++ i ∷ []) h.apart) (below_back (length a.order.items) xs (gs ++ i ∷ []) h.below) h.rest));
+    buckets = rw (r.heads, r.width, reuse_cells, r.bucket) (buckets_moved (length a.heads.items) a.width a.cells.items (written a.cells.items (i * a.width) u) a.bucket.items a.bucket.items a.heads.items xs h.buckets reuse_alike (agree_self a.bucket.items xs));
+    some = rw r.heads h.some;
+    pairs = rw (r.bucket, r.order, length-left) h.pairs;
+    cells = rw (reuse_cells, r.width, r.order, length-left, reuse_long) h.cells;
+    room = rw (r.len, r.spare, r.order, length-left) (omega (arith, h.room));
+    numbers = rw (r.order, length-left) h.numbers;
+  }
+
+  reuse_rows : live_of b ≡ live_of a → live_of a ≡ xs → rows_of b ≡ rows_of a
+  unfolding rows_of
+  reuse_rows live is = ap (λ (ys : List ℕ). rows_in b.width b.cells.items ys) (live ∙ is) ∙ ap₂ (λ (w : ℕ) (cs : List ℕ). rows_in w cs xs) r.width reuse_cells
+      ∙ rows_alike a.width a.cells.items (written a.cells.items (i * a.width) u) xs reuse_alike ∙ ap (λ (ys : List ℕ). rows_in a.width a.cells.items ys) (sym is)
+
+  reuse_prepared : live_of a ≡ xs → IsPrepared a b i u
+  reuse_prepared is =
+      let live = live_is b xs gs reuse_store ∙ sym is in
+      record {
+        sound = sound b xs gs reuse_store;
+        loose = record {
+          out = rw (live_is b xs gs reuse_store, free_is b xs gs reuse_store) reuse_out;
+          within = rw (r.order, length-left) reuse_within;
+          room = rw (r.len, r.spare, r.order, length-left) (omega (arith, h.room, h.spare, length-append gs (i ∷ [])));
+        };
+        live = live;
+        width = r.width;
+        here = rw (r.width, reuse_cells) (row_written a.width a.cells.items i u (length a.order.items) h.cells wide reuse_within);
+        rows = reuse_rows live is;
+        slots = ap (λ (ls : List Pair). length ls) r.order ∙ length-left a.order.items (pair_at a.order.items i) ∙ omega (arith, reuse_within);
+        fits = omega (arith, reuse_within);
+      }
+
+pub reuses : (a b : Store) (i : ℕ) (u : List ℕ) → IsSound a → a.free.last ≡ Some i → Reuses a b i u → length u ≡ a.width → IsPrepared a b i u
+reuses a b i u h newest r wide =
+    let e = ends_with (free_of a) i (ap (λ (v : Ends). v.last) (sym h.store.free) ∙ newest) in
+    reuse_prepared a b (live_of a) e.front i u (subst (IsStore a (live_of a)) e.is h.store) r wide refl
+
+-- what is asked of the newest free slot
+pub newest_free : (a : Store) (i : ℕ) → IsSound a → a.free.last ≡ Some i → (i < length a.order.items) × IsWithin (length a.order.items) (pair_at a.order.items i).prev × IsWithin (length a.order.items) (pair_at a.order.items i).next
+newest_free a i h newest =
+    let e = ends_with (free_of a) i (ap (λ (v : Ends). v.last) (sym h.store.free) ∙ newest) in
+    let s = subst (IsStore a (live_of a)) e.is h.store in
+    let below = below_back (length a.order.items) (live_of a) (e.front ++ i ∷ []) s.below in (
+      below_here (length a.order.items) e.front i [] below,
+      rw (prev_here a.order.items e.front i [] s.rest) (last_within (length a.order.items) None e.front tt (below_front (length a.order.items) e.front (i ∷ []) below)),
+      rw (next_here a.order.items e.front i [] s.rest) tt,
+    )
+
+pub newest_fits : (a : Store) (i : ℕ) (u : List ℕ) → IsSound a → a.free.last ≡ Some i → length u ≡ a.width → i * a.width + length u ≤ length a.cells.items
+newest_fits a i u h newest wide = omega (arith, row_fits i (length a.order.items) a.width (newest_free a i h newest).0, h.store.cells, wide)
+
+-- what holds anyway holds on an error
+pub on_err : {T E : Type 0} (r : Result T E) (P : Type 0) → P → OnErr r P
+on_err (Ok x) P p = tt
+on_err (Err e) P p = p
+
+pub extends_at : (a b : Store) (u : List ℕ) (n : ℕ) → length a.order.items ≡ n → IsSound a → Extends a b u → length u ≡ a.width → n < 4294967295 → IsPrepared a b n u
+extends_at a b u n long h e wide room = subst (λ m. IsPrepared a b m u) long (extends a b u h e wide (omega (arith, long, room)))

@@ -1,0 +1,4 @@
+pub mod Link
+pub mod Chains
+pub mod Rows
+pub mod Store

@@ -1,0 +1,185 @@
+-- Slots with the cells of a row each, chained in two ways: the rows in the order in which they came, and
+-- those of one bucket.
+use Rattle.std.specs.Prelude.{◌≡◌, ◌≢◌, ⊤, ℕ, zero, suc, ◌+◌, ◌-◌, ◌*◌, ◌/◌, ◌%◌, ◌^◌, ◌<◌, ◌≤◌, ◌==◌, Bool, true, false, cond, List, [], ◌∷◌, ◌++◌, map, take, drop, length, fold, bit_and, bit_xor, slice_index_or, slice_set, max, Option, Some, None}
+use Rattle.djq_arena.specs.declared.chain.Pair.{Pair}
+use Rattle.djq_arena.specs.declared.chain.Ends.{Ends}
+use Rattle.djq_arena.specs.declared.store.Store.{Store}
+use Rattle.djq_arena.specs.Chains.{first_of, last_of, Linked, IsOut, AreDifferent, AreBelow, trail, pair_at, entered}
+use Rattle.djq_arena.specs.Rows.{Row}
+
+-- the ends of a list
+abbrev pub ends_of : List ℕ → Ends
+ends_of xs = record { first = first_of xs; last = last_of xs }
+
+-- the one end where there is no neighbour on its side, else as it was
+abbrev pub beside : Option ℕ → Option ℕ → Option ℕ → Option ℕ
+beside None other end = other
+beside (Some x) other end = end
+
+-- the ends with another slot behind the last one
+abbrev pub extended : ℕ → Ends → Ends
+extended i e = record { first = beside e.first (Some i) e.first; last = Some i }
+
+-- the ends without a slot that had these neighbours
+abbrev pub shrunk : Pair → Ends → Ends
+shrunk p e = record { first = beside p.prev p.next e.first; last = beside p.next p.prev e.last }
+
+-- one more cell in a row's hash
+abbrev pub mixed : ℕ → ℕ → ℕ
+mixed h x = stirred (bit_xor h x * 11400714819323198485 % 2 ^ 64)
+  where
+    stirred : ℕ → ℕ
+    stirred m = bit_xor m (m / 2 ^ 32)
+
+-- the hash of a row
+unfoldable pub hash : List ℕ → ℕ
+hash u = fold mixed 0 u
+
+-- the heads without a slot of bucket k that had these neighbours
+abbrev pub unheaded : Pair → ℕ → List (Option ℕ) → List (Option ℕ)
+unheaded p k heads = beside p.next
+  where
+    beside : Option ℕ → List (Option ℕ)
+    beside None = slice_set heads k p.prev
+    beside (Some x) = heads
+
+-- a row's bucket, of m
+unfoldable pub class : ℕ → List ℕ → ℕ
+class m u = bit_and (hash u) (m - 1)
+
+-- the cells in slot i
+unfoldable pub cells_at : ℕ → List ℕ → ℕ → List ℕ
+cells_at width cells i = take width (drop (i * width) cells)
+
+-- whether slot i is of bucket k, of m
+unfoldable pub is_of : ℕ → ℕ → List ℕ → ℕ → ℕ → Bool
+is_of m width cells k i = class m (cells_at width cells i) == k
+
+-- those of the list that pass the test
+unfoldable pub chosen : (ℕ → Bool) → List ℕ → List ℕ
+chosen p [] = []
+chosen p (x ∷ xs) = cond (p x) (x ∷ chosen p xs) (chosen p xs)
+
+-- the rows that lie in these slots
+unfoldable pub rows_in : ℕ → List ℕ → List ℕ → List Row
+rows_in width cells xs = map (λ i. record { slot = i; cells = cells_at width cells i }) xs
+
+-- each of the m buckets' slots are chained, and its head is the last of them
+pub record AreBuckets (m width : ℕ) (cells : List ℕ) (bucket : List Pair) (heads : List (Option ℕ)) (xs : List ℕ) : Type 0 where
+  pub long : length heads ≡ m
+  pub chained : (k : ℕ) → k < m → Linked bucket None (chosen (is_of m width cells k) xs) None
+  pub headed : (k : ℕ) → k < m → slice_index_or heads k None ≡ last_of (chosen (is_of m width cells k) xs)
+
+-- the slots xs hold the rows, in this order, and the slots fs are free
+pub record IsStore (s : Store) (xs fs : List ℕ) : Type 0 where
+  pub live : s.live ≡ ends_of xs
+  pub free : s.free ≡ ends_of fs
+  pub count : length xs ≡ s.len
+  pub spare : length fs ≡ s.spare
+  pub apart : AreDifferent (xs ++ fs)
+  pub below : AreBelow (length s.order.items) (xs ++ fs)
+  pub order : Linked s.order.items None xs None
+  pub rest : Linked s.order.items None fs None
+  pub buckets : AreBuckets (length s.heads.items) s.width s.cells.items s.bucket.items s.heads.items xs
+  pub some : 0 < length s.heads.items
+  pub pairs : length s.bucket.items ≡ length s.order.items
+  pub cells : length s.cells.items ≡ length s.order.items * s.width
+  pub room : s.len + s.spare ≤ length s.order.items
+  pub numbers : length s.order.items ≤ 4294967295
+
+-- the slots of the rows, and the free ones
+unfoldable pub live_of : Store → List ℕ
+live_of s = trail s.len s.order.items s.live.first
+
+unfoldable pub free_of : Store → List ℕ
+free_of s = trail s.spare s.order.items s.free.first
+
+pub record IsSound (s : Store) : Type 0 where
+  pub store : IsStore s (live_of s) (free_of s)
+
+-- slot i holds no row, and isn't free
+pub record IsLoose (s : Store) (i : ℕ) : Type 0 where
+  pub out : IsOut i (live_of s ++ free_of s)
+  pub within : i < length s.order.items
+  pub room : s.len + s.spare < length s.order.items
+
+-- the rows
+unfoldable pub rows_of : Store → List Row
+rows_of s = rows_in s.width s.cells.items (live_of s)
+
+-- slot i is in the list
+pub record Holds (xs : List ℕ) (i : ℕ) : Type 0 where
+  pub front : List ℕ
+  pub back : List ℕ
+  pub is : xs ≡ front ++ i ∷ back
+
+-- slots and cells are as they were
+pub record IsAlike (old new : Store) : Type 0 where
+  pub sound : IsSound new
+  pub width : new.width ≡ old.width
+  pub cells : new.cells.items ≡ old.cells.items
+  pub slots : length new.order.items ≡ length old.order.items
+
+-- slot i came in behind all
+pub record IsLinked (old new : Store) (i : ℕ) : Type 0 where
+  pub alike : IsAlike old new
+  pub live : live_of new ≡ live_of old ++ i ∷ []
+
+-- slot i went, and is loose
+pub record IsUnlinked (old new : Store) (i : ℕ) : Type 0 where
+  pub alike : IsAlike old new
+  pub live : (xs ys : List ℕ) → live_of old ≡ xs ++ i ∷ ys → live_of new ≡ xs ++ ys
+  pub loose : IsLoose new i
+
+-- the same slots hold rows
+pub record IsSame (old new : Store) : Type 0 where
+  pub alike : IsAlike old new
+  pub live : live_of new ≡ live_of old
+
+-- slot i came in as the newest of its bucket
+pub record Enlists (old new : Store) (i : ℕ) : Type 0 where
+  pub width : new.width ≡ old.width
+  pub cells : new.cells.items ≡ old.cells.items
+  pub order : new.order.items ≡ old.order.items
+  pub live : new.live ≡ old.live
+  pub free : new.free ≡ old.free
+  pub len : new.len ≡ old.len
+  pub spare : new.spare ≡ old.spare
+  pub bucket : new.bucket.items ≡ entered (slice_index_or old.heads.items (class (length old.heads.items) (cells_at old.width old.cells.items i)) None) i old.bucket.items
+  pub heads : new.heads.items ≡ slice_set old.heads.items (class (length old.heads.items) (cells_at old.width old.cells.items i)) (Some i)
+  pub within : class (length old.heads.items) (cells_at old.width old.cells.items i) < length old.heads.items
+
+-- slot i, which held no row, is loose, and has these cells
+pub record IsPrepared (old new : Store) (i : ℕ) (u : List ℕ) : Type 0 where
+  pub sound : IsSound new
+  pub loose : IsLoose new i
+  pub live : live_of new ≡ live_of old
+  pub width : new.width ≡ old.width
+  pub here : cells_at new.width new.cells.items i ≡ u
+  pub rows : rows_of new ≡ rows_of old
+  pub slots : length new.order.items ≡ max (length old.order.items) (i + 1)
+  pub fits : i ≤ length old.order.items
+
+-- a row came, behind all others
+pub record IsPut (old new : Store) (i : ℕ) (u : List ℕ) : Type 0 where
+  pub sound : IsSound new
+  pub width : new.width ≡ old.width
+  pub rows : rows_of new ≡ rows_of old ++ record { slot = i; cells = u } ∷ []
+  pub slots : length new.order.items ≡ max (length old.order.items) (i + 1)
+  pub fits : i ≤ length old.order.items
+
+-- the row in slot i went
+pub record IsTaken (old new : Store) (i : ℕ) : Type 0 where
+  pub alike : IsAlike old new
+  pub live : (xs ys : List ℕ) → live_of old ≡ xs ++ i ∷ ys → live_of new ≡ xs ++ ys
+
+-- the row in slot i is behind all others now
+pub record IsRenewed (old new : Store) (i : ℕ) : Type 0 where
+  pub alike : IsAlike old new
+  pub live : (xs ys : List ℕ) → live_of old ≡ xs ++ i ∷ ys → live_of new ≡ (xs ++ ys) ++ i ∷ []
+
+-- the same rows in the same slots
+pub record SameRows (old new : Store) : Type 0 where
+  pub width : new.width ≡ old.width
+  pub room : length new.order.items ≡ length old.order.items
+  pub rows : rows_of new ≡ rows_of old

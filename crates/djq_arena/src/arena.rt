@@ -1,0 +1,151 @@
+ghost use Rattle.std.specs.Prelude.{◌≡◌, ℕ, ◌+◌, ◌<◌, ◌≤◌, ◌==◌, max, List, [], ◌∷◌, ◌++◌, length, IfOk, OnErr, MatchOption};
+ghost use Rattle.djq_arena.specs.Chains.{first_of, last_of};
+ghost use Rattle.djq_arena.specs.Rows.{Row, slots, IsAbsent, IsRow, IsHeld, AreRows};
+
+use crate::store::{Store, cells_in, empty, find, newer, older, push_row, remove_row, renew_row};
+use std::alloc::{AllocError, Global};
+use std::marker::Model;
+
+/// Rows of one width, in the order in which they came. Each lies in a slot, whose number stays the
+/// same until the row is removed, and is then used again.
+#[derive(Drop)]
+pub struct Arena {
+    store: Store,
+    alloc: Global,
+}
+
+impl Model for Arena {
+    ghost use Rattle.djq_arena.specs.Rows.{Rows};
+
+    ghost Value = { Rows };
+
+    ghost use Rattle.std.specs.Prelude.{length};
+    ghost use Rattle.djq_arena.specs.Store.{rows_of, IsSound};
+
+    ghost view = { λ a. record { width = a.store.width; room = length a.store.order.items; rows = rows_of a.store } };
+
+    ghost invariant = { λ a. IsSound a.store };
+}
+
+impl Arena {
+    /// No rows, of this width. It fails only for want of memory.
+    pub fn new(alloc: Global, width: usize) -> Result<Arena, AllocError>
+        ensures { IfOk result (λ a. a ≡ record { width = width; room = 0; rows = [] }) }
+    {
+        let store = empty(alloc, width)?;
+        Ok(Arena { store, alloc })
+    }
+
+    /// What holds of every arena. It does nothing.
+    pub fn laws(&self)
+        ensures { AreRows self.now }
+    {
+        let _ = &self.store;
+    }
+
+    /// How many rows there are.
+    pub fn len(&self) -> usize
+        ensures { result ≡ length self.now.rows }
+    {
+        self.store.len as usize
+    }
+
+    /// Whether there are no rows.
+    pub fn is_empty(&self) -> bool
+        ensures { result ≡ (length self.now.rows == 0) }
+    {
+        self.len() == 0
+    }
+
+    /// How many cells a row has.
+    pub fn width(&self) -> usize
+        ensures { result ≡ self.now.width }
+    {
+        self.store.width
+    }
+
+    /// How many slots there are; each row's is below.
+    pub fn room(&self) -> usize
+        ensures { result ≡ self.now.room }
+    {
+        self.store.order.len()
+    }
+
+    /// The slot of a row with these cells; none exactly where there is no such row.
+    pub fn find(&self, cells: &[u64]) -> Option<u32>
+        ensures { MatchOption result (IsAbsent self.now.rows cells.now) (λ slot. IsRow self.now.rows slot cells.now) }
+    {
+        find(&self.store, cells)
+    }
+
+    /// Puts in a row behind all others. It fails only for want of memory, or of numbers for slots, and
+    /// then all stays as it was.
+    pub fn push(&mut self, cells: &[u64]) -> Result<u32, AllocError>
+        requires { length cells.now ≡ self.old.width }
+        ensures pushed { IfOk result (λ slot. self.new.rows ≡ self.old.rows ++ record { slot = slot; cells = cells.now } ∷ []) }
+        ensures room { IfOk result (λ slot. self.new.room ≡ max self.old.room (slot + 1)) }
+        ensures slot { IfOk result (λ slot. slot ≤ self.old.room) }
+        ensures refused { OnErr result (self.new ≡ self.old) }
+        ensures width { self.new.width ≡ self.old.width }
+    {
+        push_row(&mut self.store, self.alloc, cells)
+    }
+
+    /// Takes the row in a slot out.
+    pub fn remove(&mut self, slot: u32)
+        requires { IsHeld self.old.rows slot }
+        ensures removed { (xs : List Row) (r : Row) (ys : List Row) → self.old.rows ≡ xs ++ r ∷ ys → r.slot ≡ slot → self.new.rows ≡ xs ++ ys }
+        ensures room { self.new.room ≡ self.old.room }
+        ensures width { self.new.width ≡ self.old.width }
+    {
+        remove_row(&mut self.store, slot);
+    }
+
+    /// Puts the row in a slot behind all others. It keeps its slot.
+    pub fn renew(&mut self, slot: u32)
+        requires { IsHeld self.old.rows slot }
+        ensures renewed { (xs : List Row) (r : Row) (ys : List Row) → self.old.rows ≡ xs ++ r ∷ ys → r.slot ≡ slot → self.new.rows ≡ (xs ++ ys) ++ r ∷ [] }
+        ensures room { self.new.room ≡ self.old.room }
+        ensures width { self.new.width ≡ self.old.width }
+    {
+        renew_row(&mut self.store, slot);
+    }
+
+    /// The cells of the row in a slot.
+    pub fn cells(&self, slot: u32) -> &[u64]
+        requires { IsHeld self.now.rows slot }
+        ensures { (xs : List Row) (r : Row) (ys : List Row) → self.now.rows ≡ xs ++ r ∷ ys → r.slot ≡ slot → result.now ≡ r.cells }
+    {
+        cells_in(&self.store, slot)
+    }
+
+    /// The slot of the oldest row.
+    pub fn first(&self) -> Option<u32>
+        ensures { result ≡ first_of (slots self.now.rows) }
+    {
+        self.store.live.first.get()
+    }
+
+    /// The slot of the newest row.
+    pub fn last(&self) -> Option<u32>
+        ensures { result ≡ last_of (slots self.now.rows) }
+    {
+        self.store.live.last.get()
+    }
+
+    /// The slot of the row that came next after the one in a slot.
+    pub fn next(&self, slot: u32) -> Option<u32>
+        requires { IsHeld self.now.rows slot }
+        ensures { (xs : List Row) (r : Row) (ys : List Row) → self.now.rows ≡ xs ++ r ∷ ys → r.slot ≡ slot → result ≡ first_of (slots ys) }
+    {
+        newer(&self.store, slot)
+    }
+
+    /// The slot of the row that came before the one in a slot.
+    pub fn prev(&self, slot: u32) -> Option<u32>
+        requires { IsHeld self.now.rows slot }
+        ensures { (xs : List Row) (r : Row) (ys : List Row) → self.now.rows ≡ xs ++ r ∷ ys → r.slot ≡ slot → result ≡ last_of (slots xs) }
+    {
+        older(&self.store, slot)
+    }
+}

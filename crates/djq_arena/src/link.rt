@@ -1,0 +1,54 @@
+ghost use Rattle.std.specs.Prelude.{◌≡◌, ◌<◌, None, Some};
+
+use std::marker::Model;
+
+/// A slot's number or none, in four bytes.
+#[derive(Clone, Copy)]
+pub struct Link {
+    slot: u32,
+}
+
+impl Model for Link {
+    ghost use Rattle.std.specs.Prelude.{Option, ℕ};
+
+    ghost Value = { Option ℕ };
+
+    ghost use Rattle.djq_arena.specs.Link.{shown, number, shown_back};
+
+    ghost view = { λ l. shown l.slot };
+
+    ghost inverse = { λ o. record { slot = number o } };
+
+    ghost inverse_ok = { λ l h. shown_back l };
+}
+
+impl Link {
+    /// The highest number isn't a slot's: it stands for none.
+    const NONE: u32 = u32::MAX;
+
+    /// No slot.
+    pub fn none() -> Link
+        ensures { result ≡ None }
+    {
+        Link { slot: Self::NONE }
+    }
+
+    /// This slot.
+    pub fn to(slot: u32) -> Link
+        requires { slot < 4294967295 }
+        ensures { result ≡ Some slot }
+    {
+        Link { slot }
+    }
+
+    /// The slot, if any.
+    pub fn get(self) -> Option<u32>
+        ensures { result ≡ self }
+    {
+        if self.slot == Self::NONE {
+            None
+        } else {
+            Some(self.slot)
+        }
+    }
+}

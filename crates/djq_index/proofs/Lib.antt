@@ -1,0 +1,15 @@
+pub mod Tuples
+pub mod Counts
+pub mod Apart
+pub mod Groups
+pub mod Marks
+pub mod Places
+pub mod Changing
+pub mod Parts
+pub mod Grouping
+pub mod Columns
+pub mod Keeping
+pub mod Inserting
+pub mod Leaving
+pub mod Clearing
+pub mod Tabling

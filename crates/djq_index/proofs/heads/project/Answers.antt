@@ -1,0 +1,15 @@
+use Rattle.std.proofs.Common.{◌≡◌, ◌<◌, ◌+◌, ◌++◌, ◌∷◌, [], refl, sym, ◌∙◌, ap, ap₂, length, List, ℕ, slice_index_or, take}
+use Rattle.djq_index.specs.Tuple.{pick}
+use Rattle.djq_index.proofs.Columns.{pick_nil, pick_more, column_below}
+use Rattle.djq_index.proofs.heads.project.Goals as goal
+
+pub loop-column-init : goal.loop-column-init
+loop-column-init c = c.clear.ensures.items ∙ sym (pick_nil c.args.tuple.now)
+
+pub cell_at-requires : goal.cell_at-requires
+cell_at-requires c = column_below (length c.args.tuple.now) c.args.key.now c.loop-column.column-index c.requires c.loop-column-test.true
+
+pub loop-column-preserved : goal.loop-column-preserved
+loop-column-preserved c =
+    c.in_ok-push.ensures.items ∙ ap₂ (λ (u : List ℕ) (x : ℕ). u ++ x ∷ []) c.loop-column.invariant c.cell_at.ensures
+    ∙ sym (pick_more c.args.key.now c.loop-column.column-index c.args.tuple.now c.loop-column-test.true)

@@ -1,0 +1,11 @@
+use Rattle.std.proofs.Common.{◌≡◌, ◌+◌, ◌≤◌, length}
+use Rattle.djq_index.specs.Entries.{marks}
+use Rattle.djq_index.specs.Raw.{entries_in}
+use Rattle.djq_index.proofs.Clearing.{Clearing}
+use Rattle.djq_index.proofs.raw.unmark_all.Given as goal
+
+abbrev pub invariant-loop-done : goal.invariant-loop-done
+invariant-loop-done g l = record {
+  clearing : Clearing l.fn.notes.items l.notes.items l.rows.rows l.at l._done;
+  counted : l.tally ≡ l.fn.tally + l._done;
+}

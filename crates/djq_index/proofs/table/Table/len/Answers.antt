@@ -1,0 +1,8 @@
+use Rattle.std.proofs.Common.{◌≡◌, ◌∙◌, sym, ap, length}
+use Rattle.djq_index.specs.Table.{Table}
+use Rattle.djq_index.proofs.Tabling.{length_entries}
+use Rattle.djq_index.proofs.table.Table.len.Goals as goal
+
+pub returns : goal.returns
+returns c =
+    c.len.ensures ∙ sym (length_entries c.self.inside.raw.notes.items c.self.inside.raw.rows.rows) ∙ ap (λ (t : Table). length t.entries) c.self.view_is

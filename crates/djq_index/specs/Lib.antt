@@ -1,0 +1,5 @@
+pub mod Tuple
+pub mod Entries
+pub mod Table
+pub mod Changes
+pub mod Raw

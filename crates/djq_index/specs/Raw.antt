@@ -1,0 +1,122 @@
+-- A table's parts: its tuples as the rows of an arena, a note for each slot, and for each group a head.
+use Rattle.std.specs.Prelude.{◌≡◌, ◌≢◌, ◌⊎◌, ⊤, ℕ, ◌+◌, ◌<◌, ◌≤◌, ◌==◌, Bool, true, false, cond, List, [], ◌∷◌, ◌++◌, map, length, slice_index_or, slice_set, Option, Some, None}
+use Rattle.djq_arena.specs.declared.chain.Pair.{Pair}
+use Rattle.djq_arena.specs.declared.chain.Ends.{Ends}
+use Rattle.djq_arena.specs.Rows.{Row, Rows, AreRows, IsAbsent, IsRow}
+use Rattle.djq_arena.specs.Chains.{Linked, first_of, last_of, pair_at, entered, left}
+use Rattle.djq_arena.specs.Store.{ends_of, extended, shrunk, beside}
+use Rattle.djq_index.specs.declared.place.Place.{Place}
+use Rattle.djq_index.specs.declared.raw.Note.{Note}
+use Rattle.djq_index.specs.declared.raw.Raw.{Raw}
+use Rattle.djq_index.specs.Tuple.{same, pick}
+use Rattle.djq_index.specs.Entries.{Entry, cnt, many, grp, marks}
+use Rattle.djq_index.specs.Table.{AreApart, AreColumns}
+
+-- the note of a slot
+abbrev pub note_at : List Note → ℕ → Note
+note_at notes i = slice_index_or notes i (record { supports = 0; head = 0; marked = false })
+
+-- a row with its note
+unfoldable pub entry_of : List Note → Row → Entry
+entry_of notes r = record { at = record { slot = r.slot }; tuple = r.cells; supports = (note_at notes r.slot).supports; marked = (note_at notes r.slot).marked }
+
+unfoldable pub entries_in : List Note → List Row → List Entry
+entries_in notes rows = map (entry_of notes) rows
+
+abbrev pub entries_of : Raw → List Entry
+entries_of r = entries_in r.notes.items r.rows.rows
+
+-- the slots of entries
+unfoldable pub slots_at : List Entry → List ℕ
+slots_at es = map (λ e. e.at.slot) es
+
+-- the cells of the row in a slot
+unfoldable pub row_at : List Row → ℕ → Option (List ℕ)
+row_at [] i = None
+row_at (r ∷ rs) i = cond (r.slot == i) (Some r.cells) (row_at rs i)
+
+-- each entry's note names the head of its group
+unfoldable pub AreSeated : List ℕ → List Note → List Row → List Entry → Type 0
+AreSeated key notes keys [] = ⊤
+AreSeated key notes keys (e ∷ es) = (row_at keys (note_at notes e.at.slot).head ≡ Some (pick key e.tuple)) × AreSeated key notes keys es
+
+-- the ends of a head's group
+abbrev pub ends_at : List Ends → ℕ → Ends
+ends_at ends h = slice_index_or ends h (record { first = None; last = None })
+
+-- each group that has a tuple has one head, which knows its ends; each group is chained
+pub record AreGroups (key : List ℕ) (notes : List Note) (links : List Pair) (keys : List Row) (ends : List Ends) (es : List Entry) : Type 0 where
+  pub chained : (w : List ℕ) → Linked links None (slots_at (grp key es w)) None
+  pub headed : (h : ℕ) (w : List ℕ) → row_at keys h ≡ Some w → ends_at ends h ≡ ends_of (slots_at (grp key es w))
+  pub some : (h : ℕ) (w : List ℕ) → row_at keys h ≡ Some w → 0 < many key es w
+  pub none : (w : List ℕ) → IsAbsent keys w → many key es w ≡ 0
+  pub once : (h k : ℕ) (w : List ℕ) → row_at keys h ≡ Some w → row_at keys k ≡ Some w → h ≡ k
+  pub seated : AreSeated key notes keys es
+
+-- behind a marked entry all are marked
+unfoldable pub AreAllMarked : List Entry → Type 0
+AreAllMarked [] = ⊤
+AreAllMarked (e ∷ es) = (e.marked ≡ true) × AreAllMarked es
+
+unfoldable pub AreTrailing : List Entry → Type 0
+AreTrailing [] = ⊤
+AreTrailing (e ∷ es) = (e.marked ≡ true → AreAllMarked es) × AreTrailing es
+
+-- what holds of a table's parts
+pub record IsRaw (r : Raw) : Type 0 where
+  pub rows : AreRows r.rows
+  pub keys : AreRows r.keys
+  pub columns : AreColumns r.rows.width r.key.items
+  pub key_width : r.keys.width ≡ length r.key.items
+  pub notes : r.rows.room ≤ length r.notes.items
+  pub links : r.rows.room ≤ length r.links.items
+  pub ends : r.keys.room ≤ length r.ends.items
+  pub apart : AreApart (entries_of r)
+  pub groups : AreGroups r.key.items r.notes.items r.links.items r.keys.rows r.ends.items (entries_of r)
+  pub trailing : AreTrailing (entries_of r)
+  pub marked : r.marked ≡ first_of (slots_at (marks (entries_of r)))
+
+-- the place of a slot, if any
+abbrev pub place_of : Option ℕ → Option Place
+place_of None = None
+place_of (Some i) = Some (record { slot = i })
+
+-- head h is the head of the group with the cells w: an old one, or a new one of an empty group
+abbrev pub IsSeat : List Row → List Row → List Ends → List Ends → ℕ → List ℕ → Type 0
+IsSeat old new ends more h w =
+    (IsRow old h w × (new ≡ old) × ((k : ℕ) → ends_at more k ≡ ends_at ends k))
+    ⊎ (IsAbsent old w × (new ≡ old ++ record { slot = h; cells = w } ∷ []) × (ends_at more h ≡ record { first = None; last = None }) × ((k : ℕ) → k ≢ h → ends_at more k ≡ ends_at ends k))
+
+-- the first marked slot, once slot i, which is followed by the slot `next`, is gone
+abbrev pub passed : Option ℕ → ℕ → Option ℕ → Option ℕ
+passed None i next = None
+passed (Some m) i next = cond (m == i) next (Some m)
+
+-- the tuple is laid, and has a head
+pub record IsReady (a : Raw) (rows : Rows) (notes : List Note) (links : List Pair) (keys : Rows) (ends : List Ends) (i h : ℕ) (u : List ℕ) : Type 0 where
+  pub rows_law : AreRows rows
+  pub width : rows.width ≡ a.rows.width
+  pub laid : rows.rows ≡ a.rows.rows ++ record { slot = i; cells = u } ∷ []
+  pub room_notes : rows.room ≤ length notes
+  pub room_links : rows.room ≤ length links
+  pub same_notes : (k : ℕ) → note_at notes k ≡ note_at a.notes.items k
+  pub same_links : (k : ℕ) → pair_at links k ≡ pair_at a.links.items k
+  pub longer : length a.links.items ≤ length links
+  pub keys_law : AreRows keys
+  pub keys_width : keys.width ≡ a.keys.width
+  pub room_ends : keys.room ≤ length ends
+  pub seat : IsSeat a.keys.rows keys.rows a.ends.items ends h (pick a.key.items u)
+
+-- the tuple in slot i joins the group of head h, marked and with one support
+pub record IsSettled (a b : Raw) (rows : Rows) (notes : List Note) (links : List Pair) (keys : Rows) (ends : List Ends) (i h : ℕ) : Type 0 where
+  pub key : b.key.items ≡ a.key.items
+  pub rows_are : b.rows ≡ rows
+  pub notes_are : b.notes.items ≡ slice_set notes i (record { supports = 1; head = h; marked = true })
+  pub links_are : b.links.items ≡ entered (ends_at ends h).last i links
+  pub keys_are : b.keys ≡ keys
+  pub ends_are : b.ends.items ≡ slice_set ends h (extended i (ends_at ends h))
+  pub marked : b.marked ≡ beside a.marked (Some i) a.marked
+
+-- a note without its mark
+abbrev pub without_mark : Note → Note
+without_mark n = record { supports = n.supports; head = n.head; marked = false }

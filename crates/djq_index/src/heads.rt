@@ -1,0 +1,122 @@
+ghost use Rattle.std.specs.Prelude.{◌≡◌, ◌≢◌, ℕ, ◌+◌, ◌<◌, ◌≤◌, List, [], ◌∷◌, ◌++◌, length, slice_set, slice_index, IfOk, OnErr, Some, None};
+ghost use Rattle.djq_arena.specs.Chains.{pair_at, entered, left, IsWithin};
+ghost use Rattle.djq_arena.specs.Store.{extended, shrunk};
+ghost use Rattle.djq_arena.specs.Rows.{Row, AreRows, IsHeld};
+ghost use Rattle.djq_index.specs.Tuple.{pick};
+ghost use Rattle.djq_index.specs.Table.{AreColumns};
+ghost use Rattle.djq_index.specs.Raw.{ends_at};
+
+use djq_arena::{Arena, Ends, Link, Pair, cut, enter, grown, leave, pair_of};
+use std::alloc::AllocError;
+
+/// The ends that a head knows.
+pub fn known_ends(ends: &Vec<Ends>, head: u32) -> Ends
+    requires { head < length ends.now.items }
+    ensures { result ≡ ends_at ends.now.items head }
+{
+    ends[head as usize]
+}
+
+/// Puts a slot behind its group.
+pub fn join(links: &mut Vec<Pair>, ends: &mut Vec<Ends>, slot: u32, head: u32)
+    requires slot { slot < length links.old.items }
+    requires number { slot < 4294967295 }
+    requires head { head < length ends.old.items }
+    requires last { IsWithin (length links.old.items) (ends_at ends.old.items head).last }
+    ensures links { links.new.items ≡ entered (ends_at ends.old.items head).last slot links.old.items }
+    ensures ends { ends.new.items ≡ slice_set ends.old.items head (extended slot (ends_at ends.old.items head)) }
+{
+    let known = known_ends(ends, head);
+    enter(links, known.last, slot);
+    ends[head as usize] = grown(&known, slot);
+}
+
+/// Takes a slot out of its group.
+pub fn part(links: &mut Vec<Pair>, ends: &mut Vec<Ends>, slot: u32, head: u32)
+    requires slot { slot < length links.old.items }
+    requires head { head < length ends.old.items }
+    requires prev { IsWithin (length links.old.items) (pair_at links.old.items slot).prev }
+    requires next { IsWithin (length links.old.items) (pair_at links.old.items slot).next }
+    ensures links { links.new.items ≡ left (pair_at links.old.items slot) links.old.items }
+    ensures ends { ends.new.items ≡ slice_set ends.old.items head (shrunk (pair_at links.old.items slot) (ends_at ends.old.items head)) }
+{
+    let pair = pair_of(links, slot);
+    leave(links, &pair);
+    let known = known_ends(ends, head);
+    ends[head as usize] = cut(&known, &pair);
+}
+
+/// Takes a head out where its group is empty.
+pub fn prune(keys: &mut Arena, ends: &Vec<Ends>, head: u32)
+    requires held { IsHeld keys.old.rows head }
+    requires head { head < length ends.now.items }
+    requires rows { AreRows keys.old }
+    ensures rows { AreRows keys.new }
+    ensures width { keys.new.width ≡ keys.old.width }
+    ensures room { keys.new.room ≡ keys.old.room }
+    ensures emptied { (ends_at ends.now.items head).first ≡ None → (ks : List Row) (r : Row) (ls : List Row) → keys.old.rows ≡ ks ++ r ∷ ls → r.slot ≡ head → keys.new.rows ≡ ks ++ ls }
+    ensures kept { (ends_at ends.now.items head).first ≢ None → keys.new.rows ≡ keys.old.rows }
+{
+    match known_ends(ends, head).first.get() {
+        Some(_first) => {}
+        None => {
+            keys.remove(head);
+            keys.laws();
+        }
+    }
+}
+
+/// One cell of a tuple.
+fn cell_at(tuple: &[u64], column: usize) -> u64
+    requires { column < length tuple.now }
+    ensures { result ≡ slice_index tuple.now column }
+{
+    tuple[column]
+}
+
+/// Writes the cells of a tuple's key into a buffer.
+pub fn project(cells: &mut Vec<u64>, key: &[usize], tuple: &[u64]) -> Result<(), AllocError>
+    requires { AreColumns (length tuple.now) key.now }
+    ensures { IfOk result (λ _. cells.new.items ≡ pick key.now tuple.now) }
+{
+    cells.clear();
+    for column in key {
+        cells.push(cell_at(tuple, *column))?;
+    }
+    Ok(())
+}
+
+/// A new head, of an empty group.
+pub fn found(keys: &mut Arena, ends: &mut Vec<Ends>, cells: &[u64]) -> Result<u32, AllocError>
+    requires rows { AreRows keys.old }
+    requires wide { length cells.now ≡ keys.old.width }
+    requires ends { keys.old.room ≤ length ends.old.items }
+    ensures rows { AreRows keys.new }
+    ensures width { keys.new.width ≡ keys.old.width }
+    ensures room { keys.new.room ≤ length ends.new.items }
+    ensures refused { OnErr result (keys.new.rows ≡ keys.old.rows) }
+    ensures ends { OnErr result ((k : ℕ) → ends_at ends.new.items k ≡ ends_at ends.old.items k) }
+    ensures founded { IfOk result (λ head. keys.new.rows ≡ keys.old.rows ++ record { slot = head; cells = cells.now } ∷ []) }
+    ensures blank { IfOk result (λ head. ends_at ends.new.items head ≡ record { first = None; last = None }) }
+    ensures others { IfOk result (λ head. (k : ℕ) → k ≢ head → ends_at ends.new.items k ≡ ends_at ends.old.items k) }
+{
+    ends.reserve(1)?;
+    let head = keys.push(cells)?;
+    keys.laws();
+    if head as usize >= ends.len() {
+        ends.push_reserved(none());
+    } else {
+        ends[head as usize] = none();
+    }
+    Ok(head)
+}
+
+/// No ends.
+pub fn none() -> Ends
+    ensures { result ≡ record { first = None; last = None } }
+{
+    Ends {
+        first: Link::none(),
+        last: Link::none(),
+    }
+}

@@ -1,0 +1,27 @@
+//! Tables of different tuples of one width, in groups by the cells of a key.
+//!
+//! A [`Table`] is what query evaluation keeps of each relation and each intermediate result: it finds a
+//! tuple, and the first or last tuple of a group, in expected constant time whatever the sizes of groups,
+//! and goes from a tuple to its neighbours in the group. Each tuple has a number of supports, and a mark
+//! until the marks are cleared.
+//!
+//! It is no ordered index and no map: groups have no order among themselves, and a table knows no values.
+//! Contracts see a table as the list of its entries; a group is a part of that list.
+//!
+//! What surprises: a [`Place`] names a tuple only until that tuple is removed, and its slot is then used
+//! again. A touched tuple keeps its place, though it moves to the end of its group. Counts are numbers of
+//! contracts alone, on the [`Tally`](djq_steps::Tally) that each call takes.
+//!
+//! Inside, the tuples are the rows of a `djq_arena`, in the order in which they came or were touched. A
+//! note beside each row has its supports, its mark and the head of its group. The rows of a group are
+//! chained, and a second arena holds the cells of each group's key, beside which the ends of the chain are
+//! kept. The marked tuples are the newest, so the first of them is all that marks need.
+#![tactic(auto)]
+
+mod heads;
+mod place;
+mod raw;
+mod table;
+
+pub use place::Place;
+pub use table::Table;

@@ -1,0 +1,23 @@
+ghost use Rattle.std.specs.Prelude.{◌≡◌};
+
+/// Where a tuple of a table lies. It stays valid until that tuple is removed.
+#[derive(Clone, Copy, PartialEq, Eq, Debug)]
+pub struct Place {
+    slot: u32,
+}
+
+impl Place {
+    /// The place of a slot.
+    pub(crate) fn new(slot: u32) -> Place
+        ensures { result ≡ record { slot = slot } }
+    {
+        Place { slot }
+    }
+
+    /// Its slot.
+    pub(crate) fn slot(self) -> u32
+        ensures { result ≡ self.slot }
+    {
+        self.slot
+    }
+}

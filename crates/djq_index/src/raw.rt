@@ -1,0 +1,503 @@
+ghost use Rattle.std.specs.Prelude.{◌≡◌, ℕ, ◌+◌, ◌-◌, ◌<◌, ◌≤◌, List, [], ◌∷◌, ◌++◌, length, slice_set, vec_len, vec_capacity, IfOk, OnErr, MatchOption, Some, None};
+ghost use Rattle.djq_arena.specs.Chains.{pair_at, IsWithin, first_of};
+ghost use Rattle.djq_arena.specs.Rows.{Row, AreRows, IsHeld};
+ghost use Rattle.djq_index.specs.Tuple.{pick};
+ghost use Rattle.djq_index.specs.Entries.{Entry, supp, cnt, grp, marks, is_marked, unmarked, head_at, last_at};
+ghost use Rattle.djq_index.specs.Table.{IsAt, IsLive, IsUnmarked, IsRaisable, IsLowerable, AreColumns};
+ghost use Rattle.djq_index.specs.Changes.{Inserted, Removed, Touched, Supported};
+ghost use Rattle.djq_index.specs.Raw.{IsRaw, entries_of, slots_at, place_of, note_at, ends_at, IsSeat, IsSettled, passed, entries_in, AreTrailing, without_mark};
+ghost use Rattle.djq_arena.specs.Store.{ends_of, beside};
+
+use crate::heads::{found, join, known_ends, none, part, project, prune};
+use crate::place::Place;
+use djq_arena::{Arena, Ends, Link, Pair, pair_of};
+use djq_steps::Tally;
+use std::alloc::{AllocError, Global};
+use std::sync::ledger::Ledger;
+
+/// What a slot's tuple has besides its cells.
+#[derive(Clone, Copy)]
+pub struct Note {
+    pub supports: u32,
+    pub head: u32,
+    pub marked: bool,
+}
+
+/// The parts of a table.
+#[derive(Drop)]
+pub struct Raw {
+    pub key: Vec<usize>,
+    pub rows: Arena,
+    pub notes: Vec<Note>,
+    pub links: Vec<Pair>,
+    pub keys: Arena,
+    pub ends: Vec<Ends>,
+    pub marked: Option<u32>,
+    pub cells: Vec<u64>,
+}
+
+/// The note of a slot.
+fn note_of(notes: &Vec<Note>, slot: u32) -> Note
+    requires { slot < length notes.now.items }
+    ensures { result ≡ note_at notes.now.items slot }
+{
+    notes[slot as usize]
+}
+
+/// The place of a slot.
+fn placed(slot: Option<u32>) -> Option<Place>
+    ensures { result ≡ place_of slot }
+{
+    match slot {
+        None => None,
+        Some(slot) => Some(Place::new(slot)),
+    }
+}
+
+/// Where this tuple lies.
+pub fn find_in(raw: &Raw, tuple: &[u64]) -> Option<Place>
+    ensures { MatchOption result (cnt (entries_of raw.now) tuple.now ≡ 0) (λ p. IsAt (entries_of raw.now) p tuple.now) }
+{
+    match raw.rows.find(tuple) {
+        None => None,
+        Some(slot) => Some(Place::new(slot)),
+    }
+}
+
+/// The ends of the group with these cells.
+fn ends_in(raw: &Raw, cells: &[u64]) -> Ends
+    requires { IsRaw raw.now }
+    ensures { result ≡ ends_of (slots_at (grp raw.now.key.items (entries_of raw.now) cells.now)) }
+{
+    match raw.keys.find(cells) {
+        None => none(),
+        Some(head) => known_ends(&raw.ends, head),
+    }
+}
+
+/// The first of the group with these cells.
+pub fn first_in(raw: &Raw, cells: &[u64]) -> Option<Place>
+    requires { IsRaw raw.now }
+    ensures { result ≡ head_at (grp raw.now.key.items (entries_of raw.now) cells.now) }
+{
+    placed(ends_in(raw, cells).first.get())
+}
+
+/// The last of the group with these cells.
+pub fn last_in(raw: &Raw, cells: &[u64]) -> Option<Place>
+    requires { IsRaw raw.now }
+    ensures { result ≡ last_at (grp raw.now.key.items (entries_of raw.now) cells.now) }
+{
+    placed(ends_in(raw, cells).last.get())
+}
+
+/// The next one of its group.
+pub fn next_in(raw: &Raw, place: Place) -> Option<Place>
+    requires raw { IsRaw raw.now }
+    requires live { IsLive (entries_of raw.now) place }
+    ensures { (w : List ℕ) (xs : List Entry) (e : Entry) (ys : List Entry) → grp raw.now.key.items (entries_of raw.now) w ≡ xs ++ e ∷ ys → e.at ≡ place → result ≡ head_at ys }
+{
+    placed(pair_of(&raw.links, place.slot()).next.get())
+}
+
+/// The one before it in its group.
+pub fn prev_in(raw: &Raw, place: Place) -> Option<Place>
+    requires raw { IsRaw raw.now }
+    requires live { IsLive (entries_of raw.now) place }
+    ensures { (w : List ℕ) (xs : List Entry) (e : Entry) (ys : List Entry) → grp raw.now.key.items (entries_of raw.now) w ≡ xs ++ e ∷ ys → e.at ≡ place → result ≡ last_at xs }
+{
+    placed(pair_of(&raw.links, place.slot()).prev.get())
+}
+
+/// The first marked one.
+pub fn first_marked_in(raw: &Raw) -> Option<Place>
+    requires { IsRaw raw.now }
+    ensures { result ≡ head_at (marks (entries_of raw.now)) }
+{
+    placed(raw.marked)
+}
+
+/// The next marked one after a marked one.
+pub fn next_marked_in(raw: &Raw, place: Place) -> Option<Place>
+    requires raw { IsRaw raw.now }
+    requires live { IsLive (entries_of raw.now) place }
+    ensures { (xs : List Entry) (e : Entry) (ys : List Entry) → marks (entries_of raw.now) ≡ xs ++ e ∷ ys → e.at ≡ place → result ≡ head_at ys }
+{
+    placed(raw.rows.next(place.slot()))
+}
+
+/// The tuple at a place.
+pub fn tuple_in(raw: &Raw, place: Place) -> &[u64]
+    requires { IsLive (entries_of raw.now) place }
+    ensures { (u : List ℕ) → IsAt (entries_of raw.now) place u → result.now ≡ u }
+{
+    raw.rows.cells(place.slot())
+}
+
+/// The supports of the tuple at a place.
+pub fn supports_in(raw: &Raw, place: Place) -> u32
+    requires raw { IsRaw raw.now }
+    requires live { IsLive (entries_of raw.now) place }
+    ensures { (u : List ℕ) → IsAt (entries_of raw.now) place u → result ≡ supp (entries_of raw.now) u }
+{
+    note_of(&raw.notes, place.slot()).supports
+}
+
+/// Whether the tuple at a place is marked.
+pub fn marked_in(raw: &Raw, place: Place) -> bool
+    requires raw { IsRaw raw.now }
+    requires live { IsLive (entries_of raw.now) place }
+    ensures { (u : List ℕ) → IsAt (entries_of raw.now) place u → result ≡ is_marked (entries_of raw.now) u }
+{
+    note_of(&raw.notes, place.slot()).marked
+}
+
+/// Writes the note of a slot.
+fn set_note(notes: &mut Vec<Note>, slot: u32, note: Note)
+    requires { slot < length notes.old.items }
+    ensures { notes.new.items ≡ slice_set notes.old.items slot note }
+{
+    notes[slot as usize] = note;
+}
+
+/// Makes sure that a slot has a note. There is room for one more.
+fn cover_notes(notes: &mut Vec<Note>, slot: u32)
+    requires slot { slot ≤ length notes.old.items }
+    requires room { vec_len notes.old < vec_capacity notes.old }
+    ensures covered { slot < length notes.new.items }
+    ensures longer { length notes.old.items ≤ length notes.new.items }
+    ensures same { (k : ℕ) → note_at notes.new.items k ≡ note_at notes.old.items k }
+{
+    if slot as usize == notes.len() {
+        notes.push_reserved(Note {
+            supports: 0,
+            head: 0,
+            marked: false,
+        });
+    }
+}
+
+/// Makes sure that a slot has neighbours. There is room for one more.
+fn cover_links(links: &mut Vec<Pair>, slot: u32)
+    requires slot { slot ≤ length links.old.items }
+    requires room { vec_len links.old < vec_capacity links.old }
+    ensures covered { slot < length links.new.items }
+    ensures longer { length links.old.items ≤ length links.new.items }
+    ensures same { (k : ℕ) → pair_at links.new.items k ≡ pair_at links.old.items k }
+{
+    if slot as usize == links.len() {
+        links.push_reserved(Pair {
+            prev: Link::none(),
+            next: Link::none(),
+        });
+    }
+}
+
+/// Lays a tuple into a slot, behind all others. Where there is no memory, the rows stay as they were.
+fn lay(
+    rows: &mut Arena,
+    notes: &mut Vec<Note>,
+    links: &mut Vec<Pair>,
+    tuple: &[u64],
+) -> Result<u32, AllocError>
+    requires rows { AreRows rows.old }
+    requires wide { length tuple.now ≡ rows.old.width }
+    requires notes { rows.old.room ≤ length notes.old.items }
+    requires links { rows.old.room ≤ length links.old.items }
+    ensures rows { AreRows rows.new }
+    ensures width { rows.new.width ≡ rows.old.width }
+    ensures notes { rows.new.room ≤ length notes.new.items }
+    ensures links { rows.new.room ≤ length links.new.items }
+    ensures refused { OnErr result (rows.new.rows ≡ rows.old.rows) }
+    ensures laid { IfOk result (λ slot. rows.new.rows ≡ rows.old.rows ++ record { slot = slot; cells = tuple.now } ∷ []) }
+    ensures same_notes { (k : ℕ) → note_at notes.new.items k ≡ note_at notes.old.items k }
+    ensures same_links { (k : ℕ) → pair_at links.new.items k ≡ pair_at links.old.items k }
+    ensures longer { length links.old.items ≤ length links.new.items }
+{
+    notes.reserve(1)?;
+    links.reserve(1)?;
+    let slot = rows.push(tuple)?;
+    rows.laws();
+    cover_notes(notes, slot);
+    cover_links(links, slot);
+    Ok(slot)
+}
+
+/// The head of a tuple's group, which is made where there is none.
+fn seat(
+    keys: &mut Arena,
+    ends: &mut Vec<Ends>,
+    cells: &mut Vec<u64>,
+    key: &[usize],
+    tuple: &[u64],
+) -> Result<u32, AllocError>
+    requires rows { AreRows keys.old }
+    requires width { keys.old.width ≡ length key.now }
+    requires ends { keys.old.room ≤ length ends.old.items }
+    requires columns { AreColumns (length tuple.now) key.now }
+    ensures rows { AreRows keys.new }
+    ensures width { keys.new.width ≡ keys.old.width }
+    ensures ends { keys.new.room ≤ length ends.new.items }
+    ensures seated { IfOk result (λ head. IsSeat keys.old.rows keys.new.rows ends.old.items ends.new.items head (pick key.now tuple.now)) }
+    ensures refused { OnErr result (keys.new.rows ≡ keys.old.rows) }
+    ensures refused_ends { OnErr result ((k : ℕ) → ends_at ends.new.items k ≡ ends_at ends.old.items k) }
+{
+    project(cells, key, tuple)?;
+    match keys.find(cells.as_slice()) {
+        Some(head) => Ok(head),
+        None => found(keys, ends, cells.as_slice()),
+    }
+}
+
+/// The first marked slot, where this one is marked as the last of all.
+fn or_slot(marked: Option<u32>, slot: u32) -> Option<u32>
+    ensures { result ≡ beside marked (Some slot) marked }
+{
+    match marked {
+        None => Some(slot),
+        Some(_first) => marked,
+    }
+}
+
+/// The first marked slot, once this one, which is followed by `next`, is gone.
+fn pass(marked: Option<u32>, slot: u32, next: Option<u32>) -> Option<u32>
+    ensures { result ≡ passed marked slot next }
+{
+    match marked {
+        None => None,
+        Some(first) => { if first == slot { next } else { Some(first) } }
+    }
+}
+
+/// Takes a row out.
+fn withdraw(rows: &mut Arena, slot: u32)
+    requires { IsHeld rows.old.rows slot }
+    ensures rows { AreRows rows.new }
+    ensures width { rows.new.width ≡ rows.old.width }
+    ensures room { rows.new.room ≡ rows.old.room }
+    ensures removed { (xs : List Row) (r : Row) (ys : List Row) → rows.old.rows ≡ xs ++ r ∷ ys → r.slot ≡ slot → rows.new.rows ≡ xs ++ ys }
+{
+    rows.remove(slot);
+    rows.laws();
+}
+
+/// Puts a row behind all others.
+fn renew(rows: &mut Arena, slot: u32)
+    requires { IsHeld rows.old.rows slot }
+    ensures rows { AreRows rows.new }
+    ensures width { rows.new.width ≡ rows.old.width }
+    ensures room { rows.new.room ≡ rows.old.room }
+    ensures renewed { (xs : List Row) (r : Row) (ys : List Row) → rows.old.rows ≡ xs ++ r ∷ ys → r.slot ≡ slot → rows.new.rows ≡ (xs ++ ys) ++ r ∷ [] }
+{
+    rows.renew(slot);
+    rows.laws();
+}
+
+/// Puts a laid tuple behind its group, marked and with one support.
+fn settle(raw: &mut Raw, slot: u32, head: u32)
+    requires notes { slot < length raw.old.notes.items }
+    requires links { slot < length raw.old.links.items }
+    requires number { slot < 4294967295 }
+    requires head { head < length raw.old.ends.items }
+    requires last { IsWithin (length raw.old.links.items) (ends_at raw.old.ends.items head).last }
+    ensures settled { IsSettled raw.old raw.new raw.old.rows raw.old.notes.items raw.old.links.items raw.old.keys raw.old.ends.items slot head }
+{
+    join(&mut raw.links, &mut raw.ends, slot, head);
+    let note = Note {
+        supports: 1,
+        head,
+        marked: true,
+    };
+    set_note(&mut raw.notes, slot, note);
+    raw.marked = or_slot(raw.marked, slot);
+}
+
+/// Puts in a tuple that isn't there. Where there is no memory, the entries stay as they were.
+pub fn insert_in(raw: &mut Raw, tuple: &[u64]) -> Result<Place, AllocError>
+    requires raw { IsRaw raw.old }
+    requires absent { cnt (entries_of raw.old) tuple.now ≡ 0 }
+    requires wide { length tuple.now ≡ raw.old.rows.width }
+    ensures raw { IsRaw raw.new }
+    ensures inserted { IfOk result (λ p. Inserted raw.old.key.items (entries_of raw.old) (entries_of raw.new) tuple.now) }
+    ensures at { IfOk result (λ p. IsAt (entries_of raw.new) p tuple.now) }
+    ensures refused { OnErr result (entries_of raw.new ≡ entries_of raw.old) }
+    ensures key { raw.new.key.items ≡ raw.old.key.items }
+    ensures width { raw.new.rows.width ≡ raw.old.rows.width }
+{
+    let slot = lay(&mut raw.rows, &mut raw.notes, &mut raw.links, tuple)?;
+    match seat(
+        &mut raw.keys,
+        &mut raw.ends,
+        &mut raw.cells,
+        raw.key.as_slice(),
+        tuple,
+    ) {
+        Err(e) => {
+            withdraw(&mut raw.rows, slot);
+            Err(e)
+        }
+        Ok(head) => {
+            settle(raw, slot, head);
+            Ok(Place::new(slot))
+        }
+    }
+}
+
+/// Takes the tuple at a place out, and its group's head with the last of the group.
+pub fn remove_in(raw: &mut Raw, place: Place)
+    requires raw { IsRaw raw.old }
+    requires live { IsLive (entries_of raw.old) place }
+    ensures raw { IsRaw raw.new }
+    ensures removed { (u : List ℕ) → IsAt (entries_of raw.old) place u → Removed (entries_of raw.old) (entries_of raw.new) u }
+    ensures key { raw.new.key.items ≡ raw.old.key.items }
+    ensures width { raw.new.rows.width ≡ raw.old.rows.width }
+{
+    let slot = place.slot();
+    let head = note_of(&raw.notes, slot).head;
+    raw.marked = pass(raw.marked, slot, raw.rows.next(slot));
+    part(&mut raw.links, &mut raw.ends, slot, head);
+    prune(&mut raw.keys, &raw.ends, head);
+    withdraw(&mut raw.rows, slot);
+}
+
+/// Marks the tuple at a place, and puts it behind its group.
+pub fn touch_in(raw: &mut Raw, place: Place)
+    requires raw { IsRaw raw.old }
+    requires unmarked { IsUnmarked (entries_of raw.old) place }
+    ensures raw { IsRaw raw.new }
+    ensures touched { (u : List ℕ) → IsAt (entries_of raw.old) place u → Touched raw.old.key.items (entries_of raw.old) (entries_of raw.new) u }
+    ensures key { raw.new.key.items ≡ raw.old.key.items }
+    ensures width { raw.new.rows.width ≡ raw.old.rows.width }
+{
+    let slot = place.slot();
+    let note = note_of(&raw.notes, slot);
+    part(&mut raw.links, &mut raw.ends, slot, note.head);
+    join(&mut raw.links, &mut raw.ends, slot, note.head);
+    renew(&mut raw.rows, slot);
+    let marked = Note {
+        supports: note.supports,
+        head: note.head,
+        marked: true,
+    };
+    set_note(&mut raw.notes, slot, marked);
+    raw.marked = or_slot(raw.marked, slot);
+}
+
+/// Gives the tuple at a place one support more.
+pub fn raise_in(raw: &mut Raw, place: Place)
+    requires raw { IsRaw raw.old }
+    requires raisable { IsRaisable (entries_of raw.old) place }
+    ensures raw { IsRaw raw.new }
+    ensures raised { (u : List ℕ) → IsAt (entries_of raw.old) place u → Supported (entries_of raw.old) (entries_of raw.new) u (supp (entries_of raw.old) u) (supp (entries_of raw.old) u + 1) }
+    ensures key { raw.new.key.items ≡ raw.old.key.items }
+    ensures width { raw.new.rows.width ≡ raw.old.rows.width }
+{
+    let slot = place.slot();
+    let note = note_of(&raw.notes, slot);
+    let raised = Note {
+        supports: note.supports + 1,
+        head: note.head,
+        marked: note.marked,
+    };
+    set_note(&mut raw.notes, slot, raised);
+}
+
+/// Takes one support of the tuple at a place away.
+pub fn lower_in(raw: &mut Raw, place: Place)
+    requires raw { IsRaw raw.old }
+    requires lowerable { IsLowerable (entries_of raw.old) place }
+    ensures raw { IsRaw raw.new }
+    ensures lowered { (u : List ℕ) → IsAt (entries_of raw.old) place u → Supported (entries_of raw.old) (entries_of raw.new) u (supp (entries_of raw.old) u) (supp (entries_of raw.old) u - 1) }
+    ensures key { raw.new.key.items ≡ raw.old.key.items }
+    ensures width { raw.new.rows.width ≡ raw.old.rows.width }
+{
+    let slot = place.slot();
+    let note = note_of(&raw.notes, slot);
+    let lowered = Note {
+        supports: note.supports - 1,
+        head: note.head,
+        marked: note.marked,
+    };
+    set_note(&mut raw.notes, slot, lowered);
+}
+
+/// Takes the mark of a slot's note away.
+fn unmark(notes: &mut Vec<Note>, slot: u32)
+    requires { slot < length notes.old.items }
+    ensures { notes.new.items ≡ slice_set notes.old.items slot (without_mark (note_at notes.old.items slot)) }
+{
+    let note = note_of(notes, slot);
+    let bare = Note {
+        supports: note.supports,
+        head: note.head,
+        marked: false,
+    };
+    set_note(notes, slot, bare);
+}
+
+/// Takes all marks away, from the first marked slot on.
+fn unmark_all<L: Ledger>(
+    notes: &mut Vec<Note>,
+    rows: &Arena,
+    first: Option<u32>,
+    tally: &mut Tally<L>,
+)
+    requires rows { AreRows rows.now }
+    requires notes { rows.now.room ≤ length notes.old.items }
+    requires trailing { AreTrailing (entries_in notes.old.items rows.now.rows) }
+    requires first { first ≡ first_of (slots_at (marks (entries_in notes.old.items rows.now.rows))) }
+    ensures cleared { entries_in notes.new.items rows.now.rows ≡ unmarked (entries_in notes.old.items rows.now.rows) }
+    ensures heads { (k : ℕ) → (note_at notes.new.items k).head ≡ (note_at notes.old.items k).head }
+    ensures long { length notes.new.items ≡ length notes.old.items }
+    ensures counted { tally.new ≡ tally.old + length (marks (entries_in notes.old.items rows.now.rows)) }
+{
+    let mut at = first;
+    for _done in 0..rows.len() {
+        match at {
+            None => return,
+            Some(slot) => {
+                unmark(notes, slot);
+                at = rows.next(slot);
+                tally.link();
+            }
+        }
+    }
+}
+
+/// Takes all marks away. It counts a link for each.
+pub fn clear_in<L: Ledger>(raw: &mut Raw, tally: &mut Tally<L>)
+    requires { IsRaw raw.old }
+    ensures raw { IsRaw raw.new }
+    ensures cleared { entries_of raw.new ≡ unmarked (entries_of raw.old) }
+    ensures key { raw.new.key.items ≡ raw.old.key.items }
+    ensures width { raw.new.rows.width ≡ raw.old.rows.width }
+    ensures counted { tally.new ≡ tally.old + length (marks (entries_of raw.old)) }
+{
+    unmark_all(&mut raw.notes, &raw.rows, raw.marked, tally);
+    raw.marked = None;
+}
+
+/// The parts of a table without tuples. It fails only for want of memory.
+pub fn empty_in(alloc: Global, width: usize, key: &[usize]) -> Result<Raw, AllocError>
+    requires { AreColumns width key.now }
+    ensures raw { IfOk result (λ r. IsRaw r) }
+    ensures width { IfOk result (λ r. r.rows.width ≡ width) }
+    ensures key { IfOk result (λ r. r.key.items ≡ key.now) }
+    ensures empty { IfOk result (λ r. entries_of r ≡ []) }
+{
+    let columns = Vec::from_slice(alloc, key)?;
+    let rows = Arena::new(alloc, width)?;
+    rows.laws();
+    let keys = Arena::new(alloc, key.len())?;
+    keys.laws();
+    Ok(Raw {
+        key: columns,
+        rows,
+        notes: Vec::new(alloc),
+        links: Vec::new(alloc),
+        keys,
+        ends: Vec::new(alloc),
+        marked: None,
+        cells: Vec::new(alloc),
+    })
+}
