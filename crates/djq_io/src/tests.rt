@@ -78,59 +78,75 @@ fn a_piece_keeps_its_bytes(rt: HostRuntime) -> Result<(), Fail> {
 }
 
 /// Puts a turn at the end of a hub's script, after which sends to these sessions are blocked.
-fn script(hub: &mut MemHub, rt: &HostRuntime, turn: Incoming, blocked: &[u64]) -> Result<(), Fail> {
+fn add(hub: &mut MemHub, rt: &HostRuntime, turn: Incoming, blocked: &[u64]) -> Result<(), Fail> {
     let blocked = IdList::of(blocked.to_vec(rt.alloc())?);
     hub.push(Coming { turn, blocked })?;
     Ok(())
 }
 
-/// A piece of a session's bytes.
-fn bytes(rt: &HostRuntime, id: u64, bytes: &[u8]) -> Result<Incoming, Fail> {
-    Ok(Incoming::Brings(id, Piece::copy_of(rt.alloc(), bytes)?))
+/// Puts a piece of session 1 at the end of a hub's script.
+fn add_piece(hub: &mut MemHub, rt: &HostRuntime, bytes: &[u8]) -> Result<(), Fail> {
+    let piece = Piece::copy_of(rt.alloc(), bytes)?;
+    add(hub, rt, Incoming::Brings(1, piece), &[])
 }
 
-/// A hub with a script of two sessions.
-fn scripted(rt: &HostRuntime) -> Result<MemHub, Fail> {
-    let mut hub = MemHub::new(rt.alloc());
-    script(&mut hub, rt, Incoming::Opens(1), &[])?;
-    script(&mut hub, rt, Incoming::Opens(2), &[2])?;
-    script(&mut hub, rt, bytes(rt, 1, b"query q")?, &[])?;
-    script(&mut hub, rt, Incoming::Ends(1), &[])?;
-    script(&mut hub, rt, bytes(rt, 1, b"late")?, &[])?;
-    script(&mut hub, rt, Incoming::Nothing, &[])?;
-    Ok(hub)
+/// Gives a hub a script of two sessions.
+fn script(hub: &mut MemHub, rt: &HostRuntime) -> Result<(), Fail> {
+    add(hub, rt, Incoming::Opens(1), &[])?;
+    add(hub, rt, Incoming::Opens(2), &[2])?;
+    add_piece(hub, rt, b"query q")?;
+    add(hub, rt, Incoming::Ends(1), &[])?;
+    add_piece(hub, rt, b"late")?;
+    add(hub, rt, Incoming::Nothing, &[])
 }
 
-/// Takes turns until the hub is over or fails. It greets each session that opens, and closes each
-/// that ends.
+/// Takes turns until the hub is over or fails, which is the answer. It greets each session that
+/// opens, and closes each that ends.
 fn greet<H: Hub>(
     hub: &mut H,
     buf: &mut [u8],
     turns: &mut Vec<Turn>,
     sent: &mut Vec<Sent>,
-) -> Result<(), AllocError>
+) -> Result<Turn, AllocError>
     requires { 0 < length buf.old }
 {
     for _ in 0..u64::MAX {
-        let turn = hub.turn(buf);
-        turns.push(turn)?;
-        match turn {
-            Turn::Opened(id) => sent.push(hub.send(id, b"hello"))?,
-            Turn::Ended(id) => hub.close(id),
-            Turn::Bytes(_, _) | Turn::Idle => {}
-            Turn::Over | Turn::Failed => return Ok(()),
+        match hub.turn(buf) {
+            Turn::Opened(id) => {
+                turns.push(Turn::Opened(id))?;
+                sent.push(hub.send(id, b"hello"))?;
+            }
+            Turn::Ended(id) => {
+                turns.push(Turn::Ended(id))?;
+                hub.close(id);
+            }
+            Turn::Over => return Ok(Turn::Over),
+            Turn::Failed => return Ok(Turn::Failed),
+            turn => turns.push(turn)?,
         }
     }
-    Ok(())
+    Ok(Turn::Failed)
+}
+
+/// Whether a hub that is run by its script has these turns before the last one, and these sends.
+fn goes(
+    hub: &mut MemHub,
+    rt: &HostRuntime,
+    turns: &[Turn],
+    last: Turn,
+    sends: &[Sent],
+) -> Result<bool, Fail> {
+    let mut seen = Vec::new(rt.alloc());
+    let mut sent = Vec::new(rt.alloc());
+    let end = greet(hub, &mut [0; 4], &mut seen, &mut sent)?;
+    Ok(end == last && seen.as_slice() == turns && sent.as_slice() == sends)
 }
 
 #[test]
 fn a_hub_goes_by_its_script(rt: HostRuntime) -> Result<(), Fail> {
-    let mut hub = scripted(&rt)?;
-    let mut turns = Vec::new(rt.alloc());
-    let mut sent = Vec::new(rt.alloc());
-    greet(&mut hub, &mut [0; 4], &mut turns, &mut sent)?;
-    let wanted = [
+    let mut hub = MemHub::new(rt.alloc());
+    script(&mut hub, &rt)?;
+    let turns = [
         Turn::Opened(1),
         Turn::Opened(2),
         Turn::Bytes(1, 4),
@@ -138,26 +154,28 @@ fn a_hub_goes_by_its_script(rt: HostRuntime) -> Result<(), Fail> {
         Turn::Ended(1),
         Turn::Idle,
         Turn::Idle,
-        Turn::Over,
     ];
-    assert_eq!(rt; turns.as_slice(), wanted.as_slice());
-    assert_eq!(rt; sent.as_slice(), [Sent::Took(5), Sent::Again].as_slice());
-    assert_eq!(rt; hub.past().map(|past| past.len()), Some(11));
+    let sends = [Sent::Took(5), Sent::Again];
+    assert!(rt; goes(&mut hub, &rt, &turns, Turn::Over, &sends)?);
     Ok(())
+}
+
+/// Lets calls of a hub fail. Says whether a listen failed and is in the past.
+fn fail(hub: &mut MemHub) -> Result<bool, Fail> {
+    hub.fail(HubCall::Listen(1))?;
+    hub.fail(HubCall::Turn(3))?;
+    hub.fail(HubCall::Send(1, 1))?;
+    let listened = hub.listen("127.0.0.1:0");
+    Ok(listened == Listened::Failed && hub.past().is_some_and(|past| past.len() == 1))
 }
 
 #[test]
 fn a_hub_fails_where_it_was_told_to(rt: HostRuntime) -> Result<(), Fail> {
-    let mut hub = scripted(&rt)?;
-    hub.fail(HubCall::Listen(1))?;
-    hub.fail(HubCall::Turn(3))?;
-    hub.fail(HubCall::Send(1, 1))?;
-    let mut turns = Vec::new(rt.alloc());
-    let mut sent = Vec::new(rt.alloc());
-    assert_eq!(rt; hub.listen("127.0.0.1:0"), Listened::Failed);
-    greet(&mut hub, &mut [0; 4], &mut turns, &mut sent)?;
-    let wanted = [Turn::Opened(1), Turn::Opened(2), Turn::Failed];
-    assert_eq!(rt; turns.as_slice(), wanted.as_slice());
-    assert_eq!(rt; sent.as_slice(), [Sent::Gone, Sent::Again].as_slice());
+    let mut hub = MemHub::new(rt.alloc());
+    script(&mut hub, &rt)?;
+    assert!(rt; fail(&mut hub)?);
+    let turns = [Turn::Opened(1), Turn::Opened(2)];
+    let sends = [Sent::Gone, Sent::Again];
+    assert!(rt; goes(&mut hub, &rt, &turns, Turn::Failed, &sends)?);
     Ok(())
 }
