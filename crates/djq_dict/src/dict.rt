@@ -36,7 +36,7 @@ impl Model for Dict {
 impl Dict {
     /// The dictionary of no text.
     ///
-    /// Fails only for want of memory.
+    /// Fails only out of memory.
     pub fn new(alloc: Global) -> Result<Dict, NoMem>
         ensures { IfOk result (λ d. d ≡ []) }
     {
@@ -83,7 +83,7 @@ impl Dict {
     ///
     /// A known text takes no memory. For a new one all memory is taken before it becomes known, so a refusal
     /// leaves all as it was: [`InternRefusal::Full`] exactly where the text is unknown and [`MOST_TEXTS`] are
-    /// known, [`InternRefusal::NoMem`] for want of memory.
+    /// known, [`InternRefusal::NoMem`] out of memory.
     pub fn intern(&mut self, text: &[u8]) -> Result<u32, InternRefusal>
         ensures number { IfOk result (λ n. slice_get self.new n ≡ Some text.now) }
         ensures learned { OnOk result (Learns self.old text.now self.new) }
