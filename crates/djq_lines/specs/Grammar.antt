@@ -1,122 +1,238 @@
--- The lines that are served: what command a line says.
+-- The lines of the protocol: what command a line says.
 --
---     line  = "rel" name "int" *"int"
---           | "add" name integer *integer   | "del" name integer *integer
---           | "query" name list "<-" name list
---           | "open" name name              | "next" name count            | "close" name
---     list  = "(" [name *("," name)] ")"
+--     line  = "rel" name type *type           type = "int" | "text"
+--           | "add" name literal *literal     | "del" name literal *literal
+--           | "query" query                   | "drop" name
+--           | "open" name name                | "next" name count
+--           | "close" name                    | "has" name *literal
+--           | "watch" name                    | "unwatch" name
+--           | "explain" name                  | "quit" | "stop"
+--     query = name "(" [name *("," name)] ")" "<-" atom *("," atom)
+--     atom  = name "(" [term *("," term)] ")"
+--     term  = name | "_" | literal
 --
--- The names in a query's body are all different, and its head names each of them once.
-use Rattle.std.specs.Prelude.{ℕ, ℤ, List, [], ◌∷◌, ◌==◌, ◌&&◌, Bool, true, false, nat_le, Option, None, Some, if◌then◌else◌, option_map, length, map, codes}
+-- A literal is an integer or a text; a count is an integer of digits alone, from 1 to 1000. Keywords and types may be names too:
+-- the place tells them apart. The bytes of a line are UTF-8.
+use Rattle.std.specs.Prelude.{ℕ, zero, suc, List, [], ◌∷◌, ◌==◌, ◌&&◌, Bool, true, false, nat_le, Option, None, Some, if◌then◌else◌, option_map, length, map, codes}
 use Rattle.std.specs.List.{list_all}
-use Rattle.djq_model.specs.declared.value.Value.TheVariants.{Int}
+use Rattle.std.specs.Str.{is_utf8}
+use Rattle.djq_model.specs.declared.value.Value.{Value}
+use Rattle.djq_model.specs.declared.value.Value.TheVariants.{Int, Text}
 use Rattle.djq_model.specs.declared.relation.ColumnType.{ColumnType}
-use Rattle.djq_model.specs.declared.relation.ColumnType.TheVariants.{Int as IntColumn}
-use Rattle.djq_model.specs.declared.query.Term.TheVariants.{Variable}
+use Rattle.djq_model.specs.declared.relation.ColumnType.TheVariants.{Int as IntColumn, Text as TextColumn}
+use Rattle.djq_model.specs.declared.query.Term.{Term}
+use Rattle.djq_model.specs.declared.query.Term.TheVariants.{Variable, Hole, Constant}
+use Rattle.djq_model.specs.declared.query.Atom.{Atom}
+use Rattle.djq_model.specs.declared.query.Query.{Query}
 use Rattle.djq_model.specs.Data.{Bytes, Tuple, bytes_eq}
 use Rattle.djq_value.specs.Token.{Token, word, open_paren, close_paren, comma, arrow, tokens}
-use Rattle.djq_value.specs.Literal.{is_name, natural_of, integer_of, is_small_value, is_reordered}
+use Rattle.djq_value.specs.Literal.{are_different, is_name, is_reordered, is_small_value, literal_of, natural_of}
+use Rattle.djq_lines.specs.declared.limits.TheConstants.{NEXT_COUNT}
 use Rattle.djq_lines.specs.declared.answer.Refusal.{Refusal}
-use Rattle.djq_lines.specs.declared.answer.Refusal.TheVariants.{WrongType, Later}
+use Rattle.djq_lines.specs.declared.answer.Refusal.TheVariants.{Syntax, WrongType, Later}
+use Rattle.djq_lines.specs.declared.keyword.Keyword.{Keyword}
+use Rattle.djq_lines.specs.declared.keyword.Keyword.TheVariants.{Rel as RelWord, Add as AddWord, Del as DelWord, Query as QueryWord, Drop as DropWord, Open as OpenWord, Next as NextWord, Close as CloseWord, Has as HasWord, Watch as WatchWord, Unwatch as UnwatchWord, Explain as ExplainWord, Quit as QuitWord, Stop as StopWord}
 use Rattle.djq_lines.specs.declared.command.Command.{Command}
-use Rattle.djq_lines.specs.declared.command.Command.TheVariants.{Rel, Add, Del, Query as Register, Open, Next, Close}
+use Rattle.djq_lines.specs.declared.command.Command.TheVariants.{Rel, Add, Del, Query as Register, Drop, Open, Next, Close, Has, Watch, Unwatch, Explain, Quit, Stop}
 
--- Each of the following reads the tokens to the line's end, or says that they are outside the grammar.
+-- Items: what one token says.
 
-abbrev pub types_in : List Token → Option (List ColumnType)
-types_in [] = Some []
-types_in (word w ∷ ts) = if bytes_eq w (codes "int") then option_map (λ cs. IntColumn ∷ cs) (types_in ts) else None
-types_in (_ ∷ ts) = None
+-- a name
+abbrev pub name_of : Token → Option Bytes
+name_of (word w) = if is_name w then Some w else None
+name_of _ = None
 
--- one value in front of others
-abbrev pub in_front : Option ℤ → Option Tuple → Option Tuple
-in_front (Some i) (Some vs) = Some (Int i ∷ vs)
-in_front (Some i) None = None
+-- the type of a column
+abbrev pub type_of : Token → Option ColumnType
+type_of (word w) = if bytes_eq w (codes "int") then Some IntColumn else (if bytes_eq w (codes "text") then Some TextColumn else None)
+type_of _ = None
+
+-- a term of an atom: a variable, a hole or a constant
+abbrev pub term_of : Token → Option Term
+term_of (word w) =
+    if is_name w then Some (Variable w)
+    else (if bytes_eq w (codes "_") then Some Hole
+    else option_map (λ v. Constant v) (literal_of (word w)))
+term_of t = option_map (λ v. Constant v) (literal_of t)
+
+-- Lists of items.
+
+-- one item in front of others
+abbrev pub in_front : {A : Type 0} → Option A → Option (List A) → Option (List A)
+in_front (Some a) (Some more) = Some (a ∷ more)
+in_front (Some a) None = None
 in_front None _ = None
 
-abbrev pub values_in : List Token → Option Tuple
-values_in [] = Some []
-values_in (word w ∷ ts) = in_front (integer_of w) (values_in ts)
-values_in (_ ∷ ts) = None
+-- items to the line's end
+abbrev pub all_of : {A : Type 0} → (Token → Option A) → List Token → Option (List A)
+all_of item [] = Some []
+all_of item (t ∷ ts) = in_front (item t) (all_of item ts)
 
--- names behind the first one of a list, to its `)`, and what is behind that
-abbrev pub names_in : List Token → Option (List Bytes × List Token)
-names_in (close_paren ∷ ts) = Some ([], ts)
-names_in (comma ∷ word w ∷ ts) = if is_name w then option_map (λ r. (w ∷ r.0, r.1)) (names_in ts) else None
-names_in _ = None
+-- one item in front of others, and what is behind them
+abbrev pub put_first : {A : Type 0} → Option A → Option (List A × List Token) → Option (List A × List Token)
+put_first (Some a) (Some r) = Some (a ∷ r.0, r.1)
+put_first (Some a) None = None
+put_first None _ = None
 
--- a list of names in parentheses, and what is behind it
-abbrev pub list_in : List Token → Option (List Bytes × List Token)
-list_in (open_paren ∷ close_paren ∷ ts) = Some ([], ts)
-list_in (open_paren ∷ word w ∷ ts) = if is_name w then option_map (λ r. (w ∷ r.0, r.1)) (names_in ts) else None
-list_in _ = None
+-- the items of a list behind its first, to its `)`, and what is behind that
+abbrev pub more_in : {A : Type 0} → (Token → Option A) → List Token → Option (List A × List Token)
+more_in item (close_paren ∷ ts) = Some ([], ts)
+more_in item (comma ∷ t ∷ ts) = put_first (item t) (more_in item ts)
+more_in item _ = None
 
-abbrev pub rel_in : List Token → Option Command
-rel_in (word n ∷ t ∷ ts) = if is_name n then option_map (λ cs. Rel n cs) (types_in (t ∷ ts)) else None
-rel_in _ = None
+-- a list in parentheses, with commas between its items, and what is behind it
+abbrev pub list_in : {A : Type 0} → (Token → Option A) → List Token → Option (List A × List Token)
+list_in item (open_paren ∷ close_paren ∷ ts) = Some ([], ts)
+list_in item (open_paren ∷ t ∷ ts) = put_first (item t) (more_in item ts)
+list_in item _ = None
 
-abbrev pub row_in : (Bytes → Tuple → Command) → List Token → Option Command
-row_in command (word n ∷ t ∷ ts) = if is_name n then option_map (λ vs. command n vs) (values_in (t ∷ ts)) else None
-row_in command _ = None
+-- Queries.
 
-abbrev pub one_atom : Bytes → List Bytes → Bytes → List Bytes → Option Command
-one_atom name head relation body = if is_reordered head body
-    then Some (Register (record { name = name; head = head; atoms = record { relation = relation; terms = map (λ x. Variable x) body } ∷ [] }))
-    else None
+-- an atom over a relation, and what is behind it
+abbrev pub atom_over : Bytes → List Term × List Token → Atom × List Token
+atom_over relation r = (record { relation = relation; terms = r.0 }, r.1)
 
-abbrev pub body_in : Bytes → List Bytes → Bytes → Option (List Bytes × List Token) → Option Command
-body_in name head relation (Some (body, [])) = one_atom name head relation body
-body_in name head relation (Some (body, t ∷ ts)) = None
-body_in name head relation None = None
+abbrev pub atom_in : List Token → Option (Atom × List Token)
+atom_in (word r ∷ ts) = if is_name r then option_map (atom_over r) (list_in term_of ts) else None
+atom_in _ = None
 
-abbrev pub atom_in : Bytes → Option (List Bytes × List Token) → Option Command
-atom_in name (Some (head, arrow ∷ word r ∷ ts)) = if is_name r then body_in name head r (list_in ts) else None
-atom_in name _ = None
+-- an atom, and the atoms that stand behind a comma
+abbrev pub behind_atom : (List Token → Option (List Atom)) → Option (Atom × List Token) → Option (List Atom)
+behind_atom more None = None
+behind_atom more (Some (a, [])) = Some (a ∷ [])
+behind_atom more (Some (a, comma ∷ ts)) = in_front (Some a) (more ts)
+behind_atom more (Some (a, _ ∷ ts)) = None
 
-abbrev pub query_in : List Token → Option Command
-query_in (word n ∷ ts) = if is_name n then atom_in n (list_in ts) else None
+-- Each atom has a token at least, so the number of tokens is enough for all.
+abbrev pub atoms_within : ℕ → List Token → Option (List Atom)
+atoms_within zero ts = None
+atoms_within (suc n) ts = behind_atom (atoms_within n) (atom_in ts)
+
+-- atoms with commas between, to the line's end
+unfoldable pub atoms_in : List Token → Option (List Atom)
+atoms_in ts = atoms_within (length ts) ts
+
+-- behind the head of a query
+abbrev pub body_in : List Token → Option (List Atom)
+body_in (arrow ∷ ts) = atoms_in ts
+body_in _ = None
+
+-- behind the name of a query
+abbrev pub query_of : Bytes → Option (List Bytes × List Token) → Option Query
+query_of name None = None
+query_of name (Some head) = option_map (λ atoms. record { name = name; head = head.0; atoms = atoms }) (body_in head.1)
+
+abbrev pub query_in : List Token → Option Query
+query_in (word n ∷ ts) = if is_name n then query_of n (list_in name_of ts) else None
 query_in _ = None
 
-abbrev pub open_in : List Token → Option Command
-open_in (word c ∷ word q ∷ []) = if is_name c && is_name q then Some (Open c q) else None
-open_in _ = None
+-- What stands behind a keyword.
 
--- from 1 to 1000
+-- a name and items, if any, to the line's end
+abbrev pub named_any : {A : Type 0} → (Token → Option A) → List Token → Option (Bytes × List A)
+named_any item (word n ∷ ts) = if is_name n then option_map (λ xs. (n, xs)) (all_of item ts) else None
+named_any item _ = None
+
+-- a name and items, one at least, to the line's end
+abbrev pub named_some : {A : Type 0} → (Token → Option A) → List Token → Option (Bytes × List A)
+named_some item (word n ∷ t ∷ ts) = named_any item (word n ∷ t ∷ ts)
+named_some item _ = None
+
+-- one name
+abbrev pub one_name : List Token → Option Bytes
+one_name (word n ∷ []) = if is_name n then Some n else None
+one_name _ = None
+
+-- two names
+abbrev pub two_names : List Token → Option (Bytes × Bytes)
+two_names (word m ∷ word n ∷ []) = if is_name m && is_name n then Some (m, n) else None
+two_names _ = None
+
+-- a count of answers
 abbrev pub is_count : ℕ → Bool
-is_count k = nat_le 1 k && nat_le k 1000
+is_count k = nat_le 1 k && nat_le k NEXT_COUNT
 
-abbrev pub count_in : Bytes → Option ℕ → Option Command
-count_in c (Some k) = if is_count k then Some (Next c k) else None
-count_in c None = None
+abbrev pub count_of : Option ℕ → Option ℕ
+count_of (Some k) = if is_count k then Some k else None
+count_of None = None
 
-abbrev pub next_in : List Token → Option Command
-next_in (word c ∷ word k ∷ []) = if is_name c then count_in c (natural_of k) else None
-next_in _ = None
+-- a name and a count
+abbrev pub name_and_count : List Token → Option (Bytes × ℕ)
+name_and_count (word c ∷ word k ∷ []) = if is_name c then option_map (λ n. (c, n)) (count_of (natural_of k)) else None
+name_and_count _ = None
 
-abbrev pub close_in : List Token → Option Command
-close_in (word c ∷ []) = if is_name c then Some (Close c) else None
-close_in _ = None
+-- nothing
+abbrev pub nothing : Command → List Token → Option Command
+nothing command [] = Some command
+nothing command (t ∷ ts) = None
 
+-- Commands.
+
+-- the keyword that a word is
+abbrev pub keyword_of : Bytes → Option Keyword
+keyword_of w =
+    if bytes_eq w (codes "rel") then Some RelWord
+    else (if bytes_eq w (codes "add") then Some AddWord
+    else (if bytes_eq w (codes "del") then Some DelWord
+    else (if bytes_eq w (codes "query") then Some QueryWord
+    else (if bytes_eq w (codes "drop") then Some DropWord
+    else (if bytes_eq w (codes "open") then Some OpenWord
+    else (if bytes_eq w (codes "next") then Some NextWord
+    else (if bytes_eq w (codes "close") then Some CloseWord
+    else (if bytes_eq w (codes "has") then Some HasWord
+    else (if bytes_eq w (codes "watch") then Some WatchWord
+    else (if bytes_eq w (codes "unwatch") then Some UnwatchWord
+    else (if bytes_eq w (codes "explain") then Some ExplainWord
+    else (if bytes_eq w (codes "quit") then Some QuitWord
+    else (if bytes_eq w (codes "stop") then Some StopWord
+    else None)))))))))))))
+
+-- the command that stands behind a keyword
+abbrev pub command_behind : Keyword → List Token → Option Command
+command_behind RelWord ts = option_map (λ p. Rel p.0 p.1) (named_some type_of ts)
+command_behind AddWord ts = option_map (λ p. Add p.0 p.1) (named_some literal_of ts)
+command_behind DelWord ts = option_map (λ p. Del p.0 p.1) (named_some literal_of ts)
+command_behind QueryWord ts = option_map (λ q. Register q) (query_in ts)
+command_behind DropWord ts = option_map (λ q. Drop q) (one_name ts)
+command_behind OpenWord ts = option_map (λ p. Open p.0 p.1) (two_names ts)
+command_behind NextWord ts = option_map (λ p. Next p.0 p.1) (name_and_count ts)
+command_behind CloseWord ts = option_map (λ c. Close c) (one_name ts)
+command_behind HasWord ts = option_map (λ p. Has p.0 p.1) (named_any literal_of ts)
+command_behind WatchWord ts = option_map (λ q. Watch q) (one_name ts)
+command_behind UnwatchWord ts = option_map (λ q. Unwatch q) (one_name ts)
+command_behind ExplainWord ts = option_map (λ q. Explain q) (one_name ts)
+command_behind QuitWord ts = nothing Quit ts
+command_behind StopWord ts = nothing Stop ts
+
+abbrev pub command_with : Option Keyword → List Token → Option Command
+command_with None ts = None
+command_with (Some k) ts = command_behind k ts
+
+-- a keyword, and what stands behind it
 abbrev pub command_in : List Token → Option Command
-command_in (word w ∷ ts) =
-    if bytes_eq w (codes "rel") then rel_in ts
-    else (if bytes_eq w (codes "add") then row_in (λ n vs. Add n vs) ts
-    else (if bytes_eq w (codes "del") then row_in (λ n vs. Del n vs) ts
-    else (if bytes_eq w (codes "query") then query_in ts
-    else (if bytes_eq w (codes "open") then open_in ts
-    else (if bytes_eq w (codes "next") then next_in ts
-    else (if bytes_eq w (codes "close") then close_in ts
-    else None))))))
+command_in (word w ∷ ts) = command_with (keyword_of w) ts
 command_in _ = None
 
--- The command that a line says; none where the line isn't served.
+-- The command that a line says; none where it is outside the grammar.
 unfoldable pub command_of : Bytes → Option Command
-command_of line = command_in (tokens line)
+command_of line = if is_utf8 line then command_in (tokens line) else None
+
+-- Limits.
+
+-- a term whose literal, if it is one, is within its limit
+abbrev pub is_small_term : Term → Bool
+is_small_term (Constant v) = is_small_value v
+is_small_term _ = true
+
+abbrev pub is_small_atom : Atom → Bool
+is_small_atom a = list_all is_small_term a.terms
 
 -- whether each literal of a command is within its limit
 abbrev pub is_in_range : Command → Bool
 is_in_range (Add n row) = list_all is_small_value row
 is_in_range (Del n row) = list_all is_small_value row
+is_in_range (Has q row) = list_all is_small_value row
+is_in_range (Register q) = list_all is_small_atom q.atoms
 is_in_range _ = true
 
 -- a line of such a command may want memory as it is read
@@ -124,17 +240,59 @@ abbrev pub takes_memory_to_read : Command → Bool
 takes_memory_to_read (Rel n cs) = true
 takes_memory_to_read (Add n row) = true
 takes_memory_to_read (Del n row) = true
+takes_memory_to_read (Has q row) = true
 takes_memory_to_read (Register q) = true
 takes_memory_to_read _ = false
 
--- What a line says: why it isn't run, whatever the state is; or a command whose literals are within their limits.
+-- What is served.
+
+abbrev pub is_int_column : ColumnType → Bool
+is_int_column IntColumn = true
+is_int_column TextColumn = false
+
+abbrev pub is_integer : Value → Bool
+is_integer (Int i) = true
+is_integer (Text t) = false
+
+-- the variables that terms are, where each is one
+abbrev pub variable_of : Term → Option Bytes
+variable_of (Variable x) = Some x
+variable_of _ = None
+
+abbrev pub variables_of : List Term → Option (List Bytes)
+variables_of [] = Some []
+variables_of (t ∷ ts) = in_front (variable_of t) (variables_of ts)
+
+abbrev pub heads_all : List Bytes → Option (List Bytes) → Bool
+heads_all head None = false
+heads_all head (Some body) = is_reordered head body
+
+-- a query of one atom of different variables, each of which its head names once
+abbrev pub is_simple : List Bytes → List Atom → Bool
+is_simple head (a ∷ []) = heads_all head (variables_of a.terms)
+is_simple head _ = false
+
+-- whether a command is served yet
+abbrev pub is_served : Command → Bool
+is_served (Rel n cs) = list_all is_int_column cs
+is_served (Add n row) = list_all is_integer row
+is_served (Del n row) = list_all is_integer row
+is_served (Register q) = is_simple q.head q.atoms
+is_served (Open c q) = true
+is_served (Next c k) = true
+is_served (Close c) = true
+is_served Quit = true
+is_served Stop = true
+is_served _ = false
+
+-- What a line says: why it isn't run, whatever the state is; or a command that is served, whose literals are within their limits.
 pub data Reading : Type 0 where
   refused : Refusal → Reading
   says : Command → Reading
 
 abbrev pub reading_in : Option Command → Reading
-reading_in None = refused Later
-reading_in (Some c) = if is_in_range c then says c else refused WrongType
+reading_in None = refused Syntax
+reading_in (Some c) = if is_served c then (if is_in_range c then says c else refused WrongType) else refused Later
 
 abbrev pub reading_of : Bytes → Reading
 reading_of line = reading_in (command_of line)

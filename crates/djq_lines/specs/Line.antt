@@ -1,7 +1,8 @@
 -- How a session's bytes are cut into lines.
-use Rattle.std.specs.Prelude.{[], ◌∷◌, ◌==◌, ◌-◌, ◌&&◌, ◌||◌, Bool, not, nat_le, Option, None, Some, if◌then◌else◌, length, take, slice_index}
+use Rattle.std.specs.Prelude.{[], ◌∷◌, ◌==◌, ◌+◌, ◌-◌, ◌&&◌, ◌||◌, Bool, not, nat_le, Option, None, Some, if◌then◌else◌, length, take, slice_index}
 use Rattle.std.specs.List.{list_all}
 use Rattle.djq_model.specs.Data.{Bytes}
+use Rattle.djq_lines.specs.declared.limits.TheConstants.{LINE_BYTES}
 
 -- the bytes before the first LF, or all where there is none
 abbrev pub before_lf : Bytes → Bytes
@@ -19,7 +20,7 @@ without_cr bs = if slice_index bs (length bs - 1) == 13 then take (length bs - 1
 
 -- whether bytes are too many for a line: bytes without LF are long where they have a prefix of 4,097 bytes that doesn't end in CR, or 4,098 bytes.
 abbrev pub is_long : Bytes → Bool
-is_long bs = nat_le 4098 (length bs) || (nat_le 4097 (length bs) && not (slice_index bs 4096 == 13))
+is_long bs = nat_le (LINE_BYTES + 2) (length bs) || (nat_le (LINE_BYTES + 1) (length bs) && not (slice_index bs LINE_BYTES == 13))
 
 -- What stands in front of a session's bytes: no whole line, a line that is too long, or a line and what is behind it.
 pub data Front : Type 0 where

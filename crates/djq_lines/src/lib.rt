@@ -8,7 +8,9 @@
 
 pub use answer::{AddOutcome, DeleteOutcome, EndCause, EndLine, Refusal, Sign};
 pub use command::Command;
+pub use keyword::Keyword;
 
 mod answer;
 mod command;
+mod keyword;
 pub mod limits;

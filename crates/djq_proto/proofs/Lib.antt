@@ -1,7 +1,11 @@
-pub mod Cutting
+pub mod Numerals
 pub mod Lists
-pub mod Rows
-pub mod Commands
-pub mod Reorderings
+pub mod Cutting
+pub mod Listing
+pub mod NameReading
+pub mod Bodies
+pub mod Served
 pub mod Sayings
+pub mod Utf8
 pub mod Spelled
+pub mod Making

@@ -1,318 +1,359 @@
 -- Tokens are read as a command exactly where they say it.
-use Rattle.std.proofs.Common.{◌≡◌, ℕ, ℤ, pos, negsuc, neg_ℤ, zero, suc, ◌+◌, ◌-◌, ◌*◌, ◌^◌, ◌<◌, Bool, true, false, cond, ◌&&◌, List, [], ◌∷◌, ◌++◌, length, map, Option, Some, None, option_map, refl, sym, ap, ap₂, subst, ◌∙◌, arith, eqb, leb, All, ◌↔◌, inl, inr, codes}
-use Rattle.std.specs.List.{AllZip, list_all}
-use Rattle.std.proofs.Math.Dec.{eqb-suc-zero}
-use Rattle.std.proofs.Math.Nat.{pow-suc}
-use Rattle.std.proofs.lemmas.List.{length-map, append-nil}
-use Rattle.std.proofs.lemmas.List.Elements.{All-nil, All-cons, All-head, All-tail}
-use Rattle.std.proofs.lemmas.Bool.{cond-true, cond-false, cases_Bool, and_parts, and_from, eqb-true, ne_eqb, leb-true, le-leb}
+use Rattle.std.proofs.Common.{◌≡◌, ℕ, zero, suc, ◌<◌, ◌≤◌, Bool, true, false, cond, ◌&&◌, List, [], ◌∷◌, ◌++◌, length, Option, Some, None, option_map, refl, sym, ap, ap₂, subst, ◌∙◌, arith, eqb, leb, ◌↔◌, codes, append-nil}
+use Rattle.std.specs.List.{AllZip}
+use Rattle.std.proofs.lemmas.Bool.{cond-true, cond-false, and_parts, and_from, leb-true, le-leb}
 use Rattle.djq_model.specs.Data.{Bytes, Tuple, bytes_eq}
-use Rattle.djq_model.specs.declared.value.Value.TheVariants.{Int, Text}
+use Rattle.djq_model.specs.Equality.{bytes_eq-decides}
+use Rattle.djq_model.specs.declared.value.Value.{Value}
 use Rattle.djq_model.specs.declared.relation.ColumnType.{ColumnType}
-use Rattle.djq_model.specs.declared.relation.ColumnType.TheVariants.{Int as IntColumn}
 use Rattle.djq_model.specs.declared.query.Atom.{Atom}
+use Rattle.djq_model.specs.declared.query.Query.{Query}
+use Rattle.djq_model.specs.declared.query.Term.{Term}
 use Rattle.djq_lines.specs.declared.command.Command.{Command}
-use Rattle.djq_lines.specs.declared.command.Command.TheVariants.{Rel, Add, Del, Query as Register, Open, Next, Close}
-use Rattle.djq_value.specs.Token.{Token, word, open_paren, close_paren, comma, arrow}
-use Rattle.djq_value.specs.Literal.{is_digit, is_name, digits_value, natural_of, minus, integer_of, is_reordered}
-use Rattle.djq_lines.specs.Grammar.{types_in, in_front, values_in, names_in, list_in, rel_in, row_in, body_in, atom_in, query_in, open_in, is_count, count_in, next_in, close_in, command_in}
-use Rattle.djq_proto.specs.Reading.{query_over}
-use Rattle.djq_proto.specs.Saying.{IsName, IsNumeral, IsInteger, IsValue, SaysRow, Says, IsReordering, decimal, more_names, name_list}
-use Rattle.djq_proto.proofs.Reorderings.{bytes_eq-true, is_reordered-true, is_reordered-from}
-
-map_some : {A B : Type 0} (f : A → B) (o : Option A) (b : B) → option_map f o ≡ Some b → (a : A) × (o ≡ Some a) × (f a ≡ b)
-map_some f None b e = absurd cc
-map_some f (Some a) b e = (a, refl, cc)
-
-guard_some : {A : Type 0} (t : Bool) (o : Option A) (a : A) → cond t o None ≡ Some a → (t ≡ true) × (o ≡ Some a)
-guard_some true o a e = (refl, e)
-guard_some false o a e = absurd cc
+use Rattle.djq_lines.specs.declared.command.Command.TheVariants.{Rel, Add, Del, Query as Register, Drop, Open, Next, Close, Has, Watch, Unwatch, Explain, Quit, Stop}
+use Rattle.djq_lines.specs.declared.keyword.Keyword.{Keyword}
+use Rattle.djq_lines.specs.declared.keyword.Keyword.TheVariants.{Rel as RelWord, Add as AddWord, Del as DelWord, Query as QueryWord, Drop as DropWord, Open as OpenWord, Next as NextWord, Close as CloseWord, Has as HasWord, Watch as WatchWord, Unwatch as UnwatchWord, Explain as ExplainWord, Quit as QuitWord, Stop as StopWord}
+use Rattle.djq_value.specs.Token.{Token, word, text, open_paren, close_paren, comma, arrow, stray}
+use Rattle.djq_value.specs.Literal.{is_name, literal_of, natural_of}
+use Rattle.djq_lines.specs.Grammar.{all_of, atom_in, atom_over, atoms_in, atoms_within, behind_atom, body_in, command_behind, command_in, command_with, count_of, in_front, is_count, keyword_of, list_in, name_and_count, name_of, named_any, named_some, nothing, one_name, query_in, query_of, term_of, two_names, type_of}
+use Rattle.djq_proto.specs.Saying.{IsName, IsNumeral, Says, SaysAtom, SaysAtoms, SaysName, SaysOne, SaysQuery, SaysRow, SaysTerm, SaysType, SaysValue, list_tokens}
+use Rattle.djq_proto.proofs.Bodies.{atoms_in-step}
+use Rattle.djq_proto.proofs.Numerals.{guard_some, map_some, numeral_from, numeral_said}
+use Rattle.djq_proto.proofs.Lists.{IsList, all_from, all_said, list_from, list_said, name_from, name_said, pick, term_from, term_said, type_from, type_said, value_from, value_said}
 
 pair_same : {A B : Type 0} (x y : A × B) → Some x ≡ Some y → (x.0 ≡ y.0) × (x.1 ≡ y.1)
 pair_same {A} {B} x y e =
     let p : x ≡ y = cc in
     (ap (λ (z : A × B). z.0) p, ap (λ (z : A × B). z.1) p)
 
--- Numbers.
+-- Atoms.
 
-shifted : (n x p q r : ℕ) → r ≡ p * 10 → (n * 10 + x) * p + q ≡ n * r + (x * p + q)
-shifted n x p q r e = rw e (omega arith)
+-- the tokens of an atom, and what is behind it
+record IsAtom (a : Atom) (ts rest : List Token) : Type 0 where
+  front : List Token
+  say : SaysAtom a front
+  split : ts ≡ front ++ rest
 
-digits_value-decimal : (n : ℕ) (ds : Bytes) → digits_value n ds ≡ n * 10 ^ length ds + decimal ds
-digits_value-decimal n [] = omega arith
-digits_value-decimal n (d ∷ ds) =
-    digits_value-decimal (n * 10 + (d - 48)) ds ∙ shifted n (d - 48) (10 ^ length ds) (decimal ds) (10 ^ suc (length ds)) (pow-suc 10 (length ds))
+atom_said : (ts : List Token) (a : Atom) (rest : List Token) → atom_in ts ≡ Some (a, rest) → IsAtom a ts rest
+atom_said [] a rest e = absurd (cc)
+atom_said (word r ∷ ts) a rest e =
+    let guarded = guard_some (is_name r) (option_map (atom_over r) (list_in term_of ts)) (a, rest) e in
+    let found = map_some (atom_over r) (list_in term_of ts) (a, rest) guarded.1 in
+    let list = list_said term_of SaysTerm term_said ts found.0.0 found.0.1 found.1 in
+    let same : record { relation = r; terms = found.0.0 } ≡ a = ap (λ (z : Atom × List Token). z.0) found.2 in
+    let behind : found.0.1 ≡ rest = ap (λ (z : Atom × List Token). z.1) found.2 in
+    record {
+      front = word r ∷ list_tokens list.items;
+      say = subst (λ (b : Atom). SaysAtom b (word r ∷ list_tokens list.items)) same (list.items, guarded.0, list.say, refl);
+      split = ap (λ us. word r ∷ us) (list.split ∙ ap (λ us. list_tokens list.items ++ us) behind);
+    }
+atom_said (text t ∷ ts) a rest e = absurd (cc)
+atom_said (open_paren ∷ ts) a rest e = absurd (cc)
+atom_said (close_paren ∷ ts) a rest e = absurd (cc)
+atom_said (comma ∷ ts) a rest e = absurd (cc)
+atom_said (arrow ∷ ts) a rest e = absurd (cc)
+atom_said (stray ∷ ts) a rest e = absurd (cc)
 
-whole-decimal : (ds : Bytes) → digits_value 0 ds ≡ decimal ds
-whole-decimal ds = digits_value-decimal 0 ds ∙ omega arith
+atom_from : (a : Atom) (front rest : List Token) → SaysAtom a front → atom_in (front ++ rest) ≡ Some (a, rest)
+atom_from a front rest s =
+    ap (λ us. atom_in (us ++ rest)) s.3 ∙ cond-true _ _ _ s.1
+    ∙ ap (option_map (atom_over a.relation)) (list_from term_of SaysTerm term_from refl a.terms s.0 rest s.2)
 
-numeral_said : (ds : Bytes) (n : ℕ) → natural_of ds ≡ Some n → IsNumeral ds n
-numeral_said [] n e = absurd cc
-numeral_said (d ∷ ds) n e =
-    let parts = guard_some (list_all is_digit (d ∷ ds)) (Some (digits_value 0 (d ∷ ds))) n e in
-    let value : digits_value 0 (d ∷ ds) ≡ n = cc in
-    record { some = omega arith; digits = parts.0; value = sym value ∙ whole-decimal (d ∷ ds) }
+last_said : (a : Atom) (ts : List Token) → IsAtom a ts [] → SaysAtom a ts
+last_said a ts s = subst (SaysAtom a) (sym (s.split ∙ append-nil s.front)) s.say
 
-numeral_from : (ds : Bytes) (n : ℕ) → IsNumeral ds n → natural_of ds ≡ Some n
-numeral_from [] n h = absurd (omega (arith, h.some))
-numeral_from (d ∷ ds) n h = cond-true _ _ _ h.digits ∙ ap (λ k. Some k) (whole-decimal (d ∷ ds) ∙ sym h.value)
+several_said : (a : Atom) (more : List Atom) (ts us : List Token) → IsAtom a ts (comma ∷ us) → SaysAtoms more us → SaysAtoms (a ∷ more) ts
+several_said a [] ts us s m = absurd m
+several_said a (b ∷ bs) ts us s m = (s.front, us, s.say, m, s.split)
 
-minus-neg : (n : ℕ) → minus n ≡ neg_ℤ (pos n)
-minus-neg zero = refl
-minus-neg (suc n) = cond-false _ _ _ (eqb-suc-zero n) ∙ ap (λ k. negsuc k) (omega arith)
+front_parts : {A : Type 0} (a : A) (o : Option (List A)) (xs : List A) → in_front (Some a) o ≡ Some xs → (more : List A) × (o ≡ Some more) × (a ∷ more ≡ xs)
+front_parts a None xs e = absurd (cc)
+front_parts a (Some more) xs e = (more, refl, cc)
 
-integer_said : (w : Bytes) (i : ℤ) → integer_of w ≡ Some i → IsInteger w i
-integer_said [] i e = absurd cc
-integer_said (b ∷ bs) i e = elim (cases_Bool (eqb b 45)) [
-  | inl is ↦
-      let found = map_some minus (natural_of bs) i (sym (cond-true _ _ _ is) ∙ e) in
-      inr (bs, found.0, ap (λ x. x ∷ bs) (eqb-true b 45 is), numeral_said bs found.0 found.1, sym found.2 ∙ minus-neg found.0)
-  | inr other ↦
-      let found = map_some (λ n. pos n) (natural_of (b ∷ bs)) i (sym (cond-false _ _ _ other) ∙ e) in
-      inl (found.0, numeral_said (b ∷ bs) found.0 found.1, sym found.2)
-]
+atoms_said : (n : ℕ) (ts : List Token) (atoms : List Atom) → atoms_within n ts ≡ Some atoms → SaysAtoms atoms ts
+atoms_said zero ts atoms e = absurd (cc)
+atoms_said (suc n) ts atoms e = go (atom_in ts) refl e (λ us more h. atoms_said n us more h)
+  where
+    go : (o : Option (Atom × List Token)) → atom_in ts ≡ o → behind_atom (atoms_within n) o ≡ Some atoms → ((us : List Token) (more : List Atom) → atoms_within n us ≡ Some more → SaysAtoms more us) → SaysAtoms atoms ts
+    go None is e said = absurd (cc)
+    go (Some (a, [])) is e said =
+        let one : a ∷ [] ≡ atoms = cc in subst (λ (bs : List Atom). SaysAtoms bs ts) one (last_said a ts (atom_said ts a [] is))
+    go (Some (a, comma ∷ us)) is e said =
+        let parts = front_parts a (atoms_within n us) atoms e in
+        subst (λ (bs : List Atom). SaysAtoms bs ts) parts.2 (several_said a parts.0 ts us (atom_said ts a (comma ∷ us) is) (said us parts.0 parts.1))
+    go (Some (a, word w ∷ us)) is e said = absurd (cc)
+    go (Some (a, text t ∷ us)) is e said = absurd (cc)
+    go (Some (a, open_paren ∷ us)) is e said = absurd (cc)
+    go (Some (a, close_paren ∷ us)) is e said = absurd (cc)
+    go (Some (a, arrow ∷ us)) is e said = absurd (cc)
+    go (Some (a, stray ∷ us)) is e said = absurd (cc)
 
-digit_no_minus : (b : ℕ) (bs : Bytes) → list_all is_digit (b ∷ bs) ≡ true → eqb b 45 ≡ false
-digit_no_minus b bs h =
-    let low = leb-true 48 b (and_parts (leb 48 b) (leb b 57) (and_parts (is_digit b) (list_all is_digit bs) h).0).0 in
-    ne_eqb b 45 (λ e. absurd (omega (arith, e, low)))
+body_said : (ts : List Token) (atoms : List Atom) → atoms_in ts ≡ Some atoms → SaysAtoms atoms ts
+unfolding atoms_in
+body_said ts atoms e = atoms_said (length ts) ts atoms e
 
-integer_from : (w : Bytes) (i : ℤ) → IsInteger w i → integer_of w ≡ Some i
-integer_from [] i (inl h) = absurd (omega (arith, h.1.some))
-integer_from (b ∷ bs) i (inl h) =
-    cond-false _ _ _ (digit_no_minus b bs h.1.digits) ∙ ap (option_map (λ n. pos n)) (numeral_from (b ∷ bs) h.0 h.1) ∙ ap (λ k. Some k) (sym h.2)
-integer_from w i (inr h) =
-    ap integer_of h.2 ∙ ap (option_map minus) (numeral_from h.0 h.1 h.3) ∙ ap (λ k. Some k) (minus-neg h.1 ∙ sym h.4)
+atoms_from : (atoms : List Atom) (ts : List Token) → SaysAtoms atoms ts → atoms_in ts ≡ Some atoms
+atoms_from [] ts s = absurd s
+atoms_from (a ∷ []) ts s = atoms_in-step ts ∙ ap (behind_atom atoms_in) (ap atom_in (sym (append-nil ts)) ∙ atom_from a ts [] s)
+atoms_from (a ∷ b ∷ bs) ts s =
+    atoms_in-step ts ∙ ap (behind_atom atoms_in) (ap atom_in s.4 ∙ atom_from a s.0 (comma ∷ s.1) s.2) ∙ ap (in_front (Some a)) (atoms_from (b ∷ bs) s.1 s.3)
 
--- Types and values.
+-- Queries.
 
-types_said : (ts : List Token) (cs : List ColumnType) → types_in ts ≡ Some cs → All (λ c. c ≡ IntColumn) cs × (ts ≡ map (λ c. word (codes "int")) cs)
-types_said [] cs e =
-    let nil : [] ≡ cs = cc in
-    (subst (λ (us : List ColumnType). All (λ c. c ≡ IntColumn) us) nil (All-nil (λ c. c ≡ IntColumn)), ap (map (λ c. word (codes "int"))) nil)
-types_said (word w ∷ ts) cs e =
-    let guarded = guard_some (bytes_eq w (codes "int")) (option_map (λ us. IntColumn ∷ us) (types_in ts)) cs e in
-    let found = map_some (λ us. IntColumn ∷ us) (types_in ts) cs guarded.1 in
-    let more = types_said ts found.0 found.1 in (
-      subst (λ (us : List ColumnType). All (λ c. c ≡ IntColumn) us) found.2 (All-cons (λ c. c ≡ IntColumn) IntColumn found.0 refl more.0),
-      ap₂ (λ (v : Bytes) (us : List Token). word v ∷ us) (bytes_eq-true w (codes "int") guarded.0) more.1 ∙ ap (map (λ c. word (codes "int"))) found.2,
-    )
-types_said (_ ∷ ts) cs e = absurd cc
+arrow_said : (ts : List Token) (atoms : List Atom) → body_in ts ≡ Some atoms → (us : List Token) × (ts ≡ arrow ∷ us) × SaysAtoms atoms us
+arrow_said [] atoms e = absurd (cc)
+arrow_said (arrow ∷ us) atoms e = (us, refl, body_said us atoms e)
+arrow_said (word w ∷ us) atoms e = absurd (cc)
+arrow_said (text t ∷ us) atoms e = absurd (cc)
+arrow_said (open_paren ∷ us) atoms e = absurd (cc)
+arrow_said (close_paren ∷ us) atoms e = absurd (cc)
+arrow_said (comma ∷ us) atoms e = absurd (cc)
+arrow_said (stray ∷ us) atoms e = absurd (cc)
 
-types_from : (cs : List ColumnType) → All (λ c. c ≡ IntColumn) cs → types_in (map (λ c. word (codes "int")) cs) ≡ Some cs
-types_from [] h = refl
-types_from (c ∷ cs) h =
-    ap (option_map (λ us. IntColumn ∷ us)) (types_from cs (All-tail (λ x. x ≡ IntColumn) c cs h)) ∙ ap (λ x. Some (x ∷ cs)) (sym (All-head (λ x. x ≡ IntColumn) c cs h))
+head_parts : (n : Bytes) (o : Option (List Bytes × List Token)) (q : Query) → query_of n o ≡ Some q → (head : List Bytes) × (rest : List Token) × (atoms : List Atom)
+    × (o ≡ Some (head, rest)) × (body_in rest ≡ Some atoms) × (record { name = n; head = head; atoms = atoms } ≡ q)
+head_parts n None q e = absurd (cc)
+head_parts n (Some p) q e =
+    let found = map_some (λ (atoms : List Atom). record { name = n; head = p.0; atoms = atoms }) (body_in p.1) q e in
+    (p.0, p.1, found.0, refl, found.1, found.2)
 
-front_said : (o : Option ℤ) (p : Option Tuple) (vs : Tuple) → in_front o p ≡ Some vs → (i : ℤ) × (us : Tuple) × (o ≡ Some i) × (p ≡ Some us) × (Int i ∷ us ≡ vs)
-front_said None p vs e = absurd cc
-front_said (Some i) None vs e = absurd cc
-front_said (Some i) (Some us) vs e = (i, us, refl, refl, cc)
+query_said : (ts : List Token) (q : Query) → query_in ts ≡ Some q → SaysQuery q ts
+query_said [] q e = absurd (cc)
+query_said (word n ∷ ts) q e =
+    let guarded = guard_some (is_name n) (query_of n (list_in name_of ts)) q e in
+    let parts = head_parts n (list_in name_of ts) q guarded.1 in
+    let head = list_said name_of SaysName name_said ts parts.0 parts.1 parts.3 in
+    let body = arrow_said parts.1 parts.2 parts.4 in
+    subst (λ (p : Query). SaysQuery p (word n ∷ ts)) parts.5
+    (head.items, body.0, guarded.0, head.say, body.2, ap (λ us. word n ∷ us) (head.split ∙ ap (λ us. list_tokens head.items ++ us) body.1))
+query_said (text t ∷ ts) q e = absurd (cc)
+query_said (open_paren ∷ ts) q e = absurd (cc)
+query_said (close_paren ∷ ts) q e = absurd (cc)
+query_said (comma ∷ ts) q e = absurd (cc)
+query_said (arrow ∷ ts) q e = absurd (cc)
+query_said (stray ∷ ts) q e = absurd (cc)
 
-values_said : (ts : List Token) (vs : Tuple) → values_in ts ≡ Some vs → (ws : List Bytes) × AllZip IsValue ws vs × (ts ≡ map (λ w. word w) ws)
-values_said [] vs e =
-    let nil : [] ≡ vs = cc in
-    ([], subst (λ (us : Tuple). AllZip IsValue [] us) nil tt, refl)
-values_said (word w ∷ ts) vs e =
-    let found = front_said (integer_of w) (values_in ts) vs e in
-    let more = values_said ts found.1 found.3 in
-    (w ∷ more.0, subst (λ (us : Tuple). AllZip IsValue (w ∷ more.0) us) found.4 (integer_said w found.0 found.2, more.1), ap (λ us. word w ∷ us) more.2)
-values_said (_ ∷ ts) vs e = absurd cc
+query_from : (q : Query) (ts : List Token) → SaysQuery q ts → query_in ts ≡ Some q
+query_from q ts s =
+    ap query_in s.5 ∙ cond-true _ _ _ s.2
+    ∙ ap (query_of q.name) (list_from name_of SaysName name_from refl q.head s.0 (arrow ∷ s.1) s.3)
+    ∙ ap (option_map (λ (atoms : List Atom). record { name = q.name; head = q.head; atoms = atoms })) (atoms_from q.atoms s.1 s.4)
 
-values_from : (ws : List Bytes) (vs : Tuple) → AllZip IsValue ws vs → values_in (map (λ w. word w) ws) ≡ Some vs
-values_from [] [] h = refl
-values_from [] (v ∷ vs) h = absurd h
-values_from (w ∷ ws) [] h = absurd h
-values_from (w ∷ ws) (Int i ∷ vs) h = ap₂ in_front (integer_from w i h.0) (values_from ws vs h.1)
-values_from (w ∷ ws) (Text t ∷ vs) h = absurd h.0
+-- A name and items.
 
--- Lists of names.
+-- the tokens of a name and items
+record IsNamed {A : Type 0} (says : A → Token → Type 0) (n : Bytes) (xs : List A) (ts : List Token) : Type 0 where
+  items : List Token
+  named : IsName n
+  say : AllZip says xs items
+  split : ts ≡ word n ∷ items
 
-names_said : (ts : List Token) (ns : List Bytes) (rest : List Token) → names_in ts ≡ Some (ns, rest) → All IsName ns × (ts ≡ more_names ns ++ rest)
-names_said (close_paren ∷ ts) ns rest e =
-    let here : List Bytes × List Token = ([], ts) in
-    let there : List Bytes × List Token = (ns, rest) in
-    let same = pair_same here there e in
-    (subst (λ (us : List Bytes). All IsName us) same.0 (All-nil IsName), ap₂ (λ (us : List Bytes) (vs : List Token). more_names us ++ vs) same.0 same.1)
-names_said (comma ∷ word w ∷ ts) ns rest e =
-    let guarded = guard_some (is_name w) (option_map (λ (r : List Bytes × List Token). (w ∷ r.0, r.1)) (names_in ts)) (ns, rest) e in
-    let found = map_some (λ (r : List Bytes × List Token). (w ∷ r.0, r.1)) (names_in ts) (ns, rest) guarded.1 in
-    let more = names_said ts found.0.0 found.0.1 found.1 in
-    let front : w ∷ found.0.0 ≡ ns = ap (λ (x : List Bytes × List Token). x.0) found.2 in
-    let back : found.0.1 ≡ rest = ap (λ (x : List Bytes × List Token). x.1) found.2 in (
-      subst (λ (us : List Bytes). All IsName us) front (All-cons IsName w found.0.0 guarded.0 more.0),
-      ap (λ us. comma ∷ word w ∷ us) more.1 ∙ ap₂ (λ (us : List Bytes) (vs : List Token). more_names us ++ vs) front back,
-    )
-names_said _ ns rest e = absurd cc
+any_said : {A : Type 0} (of : Token → Option A) (says : A → Token → Type 0) → ((t : Token) (a : A) → of t ≡ Some a → says a t) → (ts : List Token) (p : Bytes × List A) → named_any of ts ≡ Some p → IsNamed says p.0 p.1 ts
+any_said of says item [] p e = absurd (cc)
+any_said {A} of says item (word n ∷ ts) p e =
+    let guarded = guard_some (is_name n) (option_map (λ (xs : List A). (n, xs)) (all_of of ts)) p e in
+    let found = map_some (λ (xs : List A). (n, xs)) (all_of of ts) p guarded.1 in
+    let name : n ≡ p.0 = ap (λ (z : Bytes × List A). z.0) found.2 in
+    record {
+      items = ts;
+      named = subst IsName name guarded.0;
+      say = subst (λ (xs : List A). AllZip says xs ts) (ap (λ (z : Bytes × List A). z.1) found.2) (all_said of says item ts found.0 found.1);
+      split = ap (λ w. word w ∷ ts) name;
+    }
+any_said of says item (text t ∷ ts) p e = absurd (cc)
+any_said of says item (open_paren ∷ ts) p e = absurd (cc)
+any_said of says item (close_paren ∷ ts) p e = absurd (cc)
+any_said of says item (comma ∷ ts) p e = absurd (cc)
+any_said of says item (arrow ∷ ts) p e = absurd (cc)
+any_said of says item (stray ∷ ts) p e = absurd (cc)
 
-names_from : (ns : List Bytes) (rest : List Token) → All IsName ns → names_in (more_names ns ++ rest) ≡ Some (ns, rest)
-names_from [] rest h = refl
-names_from (n ∷ ns) rest h =
-    cond-true _ _ _ (All-head IsName n ns h) ∙ ap (option_map (λ (r : List Bytes × List Token). (n ∷ r.0, r.1))) (names_from ns rest (All-tail IsName n ns h))
+any_from : {A : Type 0} (of : Token → Option A) (says : A → Token → Type 0) → ((t : Token) (a : A) → says a t → of t ≡ Some a) → (n : Bytes) (xs : List A) (us : List Token) → IsName n → AllZip says xs us
+    → named_any of (word n ∷ us) ≡ Some (n, xs)
+any_from {A} of says item n xs us named h = cond-true _ _ _ named ∙ ap (option_map (λ (ys : List A). (n, ys))) (all_from of says item xs us h)
 
-list_said : (ts : List Token) (ns : List Bytes) (rest : List Token) → list_in ts ≡ Some (ns, rest) → All IsName ns × (ts ≡ name_list ns ++ rest)
-list_said (open_paren ∷ close_paren ∷ ts) ns rest e =
-    let here : List Bytes × List Token = ([], ts) in
-    let there : List Bytes × List Token = (ns, rest) in
-    let same = pair_same here there e in
-    (subst (λ (us : List Bytes). All IsName us) same.0 (All-nil IsName), ap₂ (λ (us : List Bytes) (vs : List Token). name_list us ++ vs) same.0 same.1)
-list_said (open_paren ∷ word w ∷ ts) ns rest e =
-    let guarded = guard_some (is_name w) (option_map (λ (r : List Bytes × List Token). (w ∷ r.0, r.1)) (names_in ts)) (ns, rest) e in
-    let found = map_some (λ (r : List Bytes × List Token). (w ∷ r.0, r.1)) (names_in ts) (ns, rest) guarded.1 in
-    let more = names_said ts found.0.0 found.0.1 found.1 in
-    let front : w ∷ found.0.0 ≡ ns = ap (λ (x : List Bytes × List Token). x.0) found.2 in
-    let back : found.0.1 ≡ rest = ap (λ (x : List Bytes × List Token). x.1) found.2 in (
-      subst (λ (us : List Bytes). All IsName us) front (All-cons IsName w found.0.0 guarded.0 more.0),
-      ap (λ us. open_paren ∷ word w ∷ us) more.1 ∙ ap₂ (λ (us : List Bytes) (vs : List Token). name_list us ++ vs) front back,
-    )
-list_said _ ns rest e = absurd cc
+zip_some : {A : Type 0} (says : A → Token → Type 0) (xs : List A) (t : Token) (ts : List Token) → AllZip says xs (t ∷ ts) → 0 < length xs
+zip_some says [] t ts h = absurd h
+zip_some says (x ∷ xs) t ts h = omega arith
 
-list_from : (ns : List Bytes) (rest : List Token) → All IsName ns → list_in (name_list ns ++ rest) ≡ Some (ns, rest)
-list_from [] rest h = refl
-list_from (n ∷ ns) rest h =
-    cond-true _ _ _ (All-head IsName n ns h) ∙ ap (option_map (λ (r : List Bytes × List Token). (n ∷ r.0, r.1))) (names_from ns rest (All-tail IsName n ns h))
+some_said : {A : Type 0} (of : Token → Option A) (says : A → Token → Type 0) → ((t : Token) (a : A) → of t ≡ Some a → says a t) → (ts : List Token) (p : Bytes × List A) → named_some of ts ≡ Some p → IsNamed says p.0 p.1 ts × (0 < length p.1)
+some_said of says item [] p e = absurd (cc)
+some_said of says item (word n ∷ []) p e = absurd (cc)
+some_said {A} of says item (word n ∷ t ∷ ts) p e =
+    let named = any_said of says item (word n ∷ t ∷ ts) p e in
+    (named, more named.items named.say named.split)
+  where
+    more : (us : List Token) → AllZip says p.1 us → word n ∷ t ∷ ts ≡ word p.0 ∷ us → 0 < length p.1
+    more [] h s = absurd (cc)
+    more (u ∷ us) h s = zip_some says p.1 u us h
+some_said of says item (text t ∷ ts) p e = absurd (cc)
+some_said of says item (open_paren ∷ ts) p e = absurd (cc)
+some_said of says item (close_paren ∷ ts) p e = absurd (cc)
+some_said of says item (comma ∷ ts) p e = absurd (cc)
+some_said of says item (arrow ∷ ts) p e = absurd (cc)
+some_said of says item (stray ∷ ts) p e = absurd (cc)
+
+some_from : {A : Type 0} (of : Token → Option A) (says : A → Token → Type 0) → ((t : Token) (a : A) → says a t → of t ≡ Some a) → (n : Bytes) (xs : List A) (us : List Token) → IsName n → 0 < length xs → AllZip says xs us
+    → named_some of (word n ∷ us) ≡ Some (n, xs)
+some_from of says item n [] us named some h = absurd (omega (arith, some))
+some_from of says item n (x ∷ xs) [] named some h = absurd h
+some_from of says item n (x ∷ xs) (u ∷ us) named some h = any_from of says item n (x ∷ xs) (u ∷ us) named h
+
+-- One name, two names, a count.
+
+one_said : (ts : List Token) (n : Bytes) → one_name ts ≡ Some n → IsName n × (ts ≡ word n ∷ [])
+one_said (word m ∷ []) n e =
+    let guarded = guard_some (is_name m) (Some m) n e in
+    let same : m ≡ n = cc (guarded.1) in
+    (subst IsName same guarded.0, ap (λ w. word w ∷ []) same)
+one_said _ n e = absurd cc
+
+two_said : (ts : List Token) (p : Bytes × Bytes) → two_names ts ≡ Some p → IsName p.0 × IsName p.1 × (ts ≡ word p.0 ∷ word p.1 ∷ [])
+two_said (word m ∷ word n ∷ []) p e =
+    let guarded = guard_some (is_name m && is_name n) (Some (m, n)) p e in
+    let names = and_parts (is_name m) (is_name n) guarded.0 in
+    let same = pair_same (m, n) p guarded.1 in
+    (subst IsName same.0 names.0, subst IsName same.1 names.1, ap₂ (λ v w. word v ∷ word w ∷ []) same.0 same.1)
+two_said _ p e = absurd cc
+
+count_said : (o : Option ℕ) (k : ℕ) → count_of o ≡ Some k → (o ≡ Some k) × (is_count k ≡ true)
+count_said None k e = absurd (cc)
+count_said (Some n) k e =
+    let guarded = guard_some (is_count n) (Some n) k e in
+    let same : n ≡ k = cc (guarded.1) in
+    (guarded.1, subst (λ m. is_count m ≡ true) same guarded.0)
+
+next_said : (ts : List Token) (p : Bytes × ℕ) → name_and_count ts ≡ Some p → Says (Next p.0 p.1) (word (codes "next") ∷ ts)
+next_said (word c ∷ word w ∷ []) p e =
+    let guarded = guard_some (is_name c) (option_map (λ (n : ℕ). (c, n)) (count_of (natural_of w))) p e in
+    let found = map_some (λ (n : ℕ). (c, n)) (count_of (natural_of w)) p guarded.1 in
+    let count = count_said (natural_of w) found.0 found.1 in
+    let bounds = and_parts (leb 1 found.0) (leb found.0 1000) count.1 in
+    subst (λ (q : Bytes × ℕ). Says (Next q.0 q.1) (word (codes "next") ∷ word c ∷ word w ∷ [])) found.2
+    (w, guarded.0, numeral_said w found.0 count.0, leb-true 1 found.0 bounds.0, leb-true found.0 1000 bounds.1, refl)
+next_said _ p e = absurd cc
+
+nothing_said : (command c : Command) (ts : List Token) → nothing command ts ≡ Some c → (ts ≡ []) × (command ≡ c)
+nothing_said command c [] e = (refl, cc)
+nothing_said command c (t ∷ ts) e = absurd (cc)
+
+-- Keywords.
+
+abbrev keyword_text : Keyword → Bytes
+keyword_text RelWord = codes "rel"
+keyword_text AddWord = codes "add"
+keyword_text DelWord = codes "del"
+keyword_text QueryWord = codes "query"
+keyword_text DropWord = codes "drop"
+keyword_text OpenWord = codes "open"
+keyword_text NextWord = codes "next"
+keyword_text CloseWord = codes "close"
+keyword_text HasWord = codes "has"
+keyword_text WatchWord = codes "watch"
+keyword_text UnwatchWord = codes "unwatch"
+keyword_text ExplainWord = codes "explain"
+keyword_text QuitWord = codes "quit"
+keyword_text StopWord = codes "stop"
+
+-- a word that is a keyword is its text
+keyword_said : (w : Bytes) (k : Keyword) → keyword_of w ≡ Some k → w ≡ keyword_text k
+keyword_said w k e =
+    pick (bytes_eq w (codes "rel")) (Some RelWord) _ (Some k) e (λ is h. text_is w RelWord k is h) (λ _ e1.
+    pick (bytes_eq w (codes "add")) (Some AddWord) _ (Some k) e1 (λ is h. text_is w AddWord k is h) (λ _ e2.
+    pick (bytes_eq w (codes "del")) (Some DelWord) _ (Some k) e2 (λ is h. text_is w DelWord k is h) (λ _ e3.
+    pick (bytes_eq w (codes "query")) (Some QueryWord) _ (Some k) e3 (λ is h. text_is w QueryWord k is h) (λ _ e4.
+    pick (bytes_eq w (codes "drop")) (Some DropWord) _ (Some k) e4 (λ is h. text_is w DropWord k is h) (λ _ e5.
+    pick (bytes_eq w (codes "open")) (Some OpenWord) _ (Some k) e5 (λ is h. text_is w OpenWord k is h) (λ _ e6.
+    pick (bytes_eq w (codes "next")) (Some NextWord) _ (Some k) e6 (λ is h. text_is w NextWord k is h) (λ _ e7.
+    pick (bytes_eq w (codes "close")) (Some CloseWord) _ (Some k) e7 (λ is h. text_is w CloseWord k is h) (λ _ e8.
+    pick (bytes_eq w (codes "has")) (Some HasWord) _ (Some k) e8 (λ is h. text_is w HasWord k is h) (λ _ e9.
+    pick (bytes_eq w (codes "watch")) (Some WatchWord) _ (Some k) e9 (λ is h. text_is w WatchWord k is h) (λ _ e10.
+    pick (bytes_eq w (codes "unwatch")) (Some UnwatchWord) _ (Some k) e10 (λ is h. text_is w UnwatchWord k is h) (λ _ e11.
+    pick (bytes_eq w (codes "explain")) (Some ExplainWord) _ (Some k) e11 (λ is h. text_is w ExplainWord k is h) (λ _ e12.
+    pick (bytes_eq w (codes "quit")) (Some QuitWord) _ (Some k) e12 (λ is h. text_is w QuitWord k is h) (λ _ e13.
+    pick (bytes_eq w (codes "stop")) (Some StopWord) None (Some k) e13 (λ is h. text_is w StopWord k is h) (λ _ e14.
+    absurd (cc)))))))))))))))
+  where
+    text_is : (w : Bytes) (here k : Keyword) → bytes_eq w (keyword_text here) ≡ true → Some here ≡ Some k → w ≡ keyword_text k
+    text_is w here k is h = let same : here ≡ k = cc in (bytes_eq-decides w (keyword_text here)).0 is ∙ ap keyword_text same
 
 -- Commands.
 
--- a fact of a choice, from the fact of each branch
-pick : {A : Type 0} {P : Type 0} (t : Bool) (x y z : A) → cond t x y ≡ z → (t ≡ true → x ≡ z → P) → (t ≡ false → y ≡ z → P) → P
-pick true x y z e f g = f refl e
-pick false x y z e f g = g refl e
+row_said : (keyword : Bytes) (ts : List Token) (n : Bytes) (vs : Tuple) → IsNamed SaysValue n vs ts → SaysRow keyword n vs (word keyword ∷ ts)
+row_said keyword ts n vs h = (h.items, h.named, h.say, ap (λ us. word keyword ∷ us) h.split)
 
-rel_said : (ts : List Token) (c : Command) → rel_in ts ≡ Some c → Says c (word (codes "rel") ∷ ts)
-rel_said (word n ∷ t ∷ ts) c e =
-    let guarded = guard_some (is_name n) (option_map (λ cs. Rel n cs) (types_in (t ∷ ts))) c e in
-    let found = map_some (λ cs. Rel n cs) (types_in (t ∷ ts)) c guarded.1 in
-    let said = types_said (t ∷ ts) found.0 found.1 in
-    let some : 0 < length found.0 = omega (arith, ap length said.1, length-map found.0 (λ c. word (codes "int"))) in
-    subst (λ (d : Command). Says d (word (codes "rel") ∷ word n ∷ t ∷ ts)) found.2
-    (guarded.0, some, said.0, ap (λ us. word (codes "rel") ∷ word n ∷ us) said.1)
-rel_said _ c e = absurd cc
+named_one : (keyword : Bytes) (make : Bytes → Command) (ts : List Token) (c : Command) → ((n : Bytes) (us : List Token) → SaysOne keyword n us → Says (make n) us) → option_map make (one_name ts) ≡ Some c → Says c (word keyword ∷ ts)
+named_one keyword make ts c says e =
+    let found = map_some make (one_name ts) c e in
+    let one = one_said ts found.0 found.1 in
+    subst (λ (d : Command). Says d (word keyword ∷ ts)) found.2 (says found.0 (word keyword ∷ ts) (one.0, ap (λ us. word keyword ∷ us) one.1))
 
-zipped : (ws : List Bytes) (vs : Tuple) → AllZip IsValue ws vs → length ws ≡ length vs
-zipped [] [] h = refl
-zipped [] (v ∷ vs) h = absurd h
-zipped (w ∷ ws) [] h = absurd h
-zipped (w ∷ ws) (v ∷ vs) h = ap (λ n. suc n) (zipped ws vs h.1)
+behind_said : (k : Keyword) (ts : List Token) (c : Command) → command_behind k ts ≡ Some c → Says c (word (keyword_text k) ∷ ts)
+behind_said RelWord ts c e =
+    let found = map_some (λ (p : Bytes × List ColumnType). Rel p.0 p.1) (named_some type_of ts) c e in
+    let some = some_said type_of SaysType type_said ts found.0 found.1 in
+    subst (λ (d : Command). Says d (word (codes "rel") ∷ ts)) found.2 (some.0.items, some.0.named, some.1, some.0.say, ap (λ us. word (codes "rel") ∷ us) some.0.split)
+behind_said AddWord ts c e =
+    let found = map_some (λ (p : Bytes × Tuple). Add p.0 p.1) (named_some literal_of ts) c e in
+    let some = some_said literal_of SaysValue value_said ts found.0 found.1 in
+    subst (λ (d : Command). Says d (word (codes "add") ∷ ts)) found.2 (some.1, row_said (codes "add") ts found.0.0 found.0.1 some.0)
+behind_said DelWord ts c e =
+    let found = map_some (λ (p : Bytes × Tuple). Del p.0 p.1) (named_some literal_of ts) c e in
+    let some = some_said literal_of SaysValue value_said ts found.0 found.1 in
+    subst (λ (d : Command). Says d (word (codes "del") ∷ ts)) found.2 (some.1, row_said (codes "del") ts found.0.0 found.0.1 some.0)
+behind_said QueryWord ts c e =
+    let found = map_some (λ q. Register q) (query_in ts) c e in
+    subst (λ (d : Command). Says d (word (codes "query") ∷ ts)) found.2 (ts, query_said ts found.0 found.1, refl)
+behind_said DropWord ts c e = named_one (codes "drop") (λ q. Drop q) ts c (λ n us s. s) e
+behind_said OpenWord ts c e =
+    let found = map_some (λ (p : Bytes × Bytes). Open p.0 p.1) (two_names ts) c e in
+    let two = two_said ts found.0 found.1 in
+    subst (λ (d : Command). Says d (word (codes "open") ∷ ts)) found.2 (two.0, two.1, ap (λ us. word (codes "open") ∷ us) two.2)
+behind_said NextWord ts c e =
+    let found = map_some (λ (p : Bytes × ℕ). Next p.0 p.1) (name_and_count ts) c e in
+    subst (λ (d : Command). Says d (word (codes "next") ∷ ts)) found.2 (next_said ts found.0 found.1)
+behind_said CloseWord ts c e = named_one (codes "close") (λ q. Close q) ts c (λ n us s. s) e
+behind_said HasWord ts c e =
+    let found = map_some (λ (p : Bytes × Tuple). Has p.0 p.1) (named_any literal_of ts) c e in
+    subst (λ (d : Command). Says d (word (codes "has") ∷ ts)) found.2 (row_said (codes "has") ts found.0.0 found.0.1 (any_said literal_of SaysValue value_said ts found.0 found.1))
+behind_said WatchWord ts c e = named_one (codes "watch") (λ q. Watch q) ts c (λ n us s. s) e
+behind_said UnwatchWord ts c e = named_one (codes "unwatch") (λ q. Unwatch q) ts c (λ n us s. s) e
+behind_said ExplainWord ts c e = named_one (codes "explain") (λ q. Explain q) ts c (λ n us s. s) e
+behind_said QuitWord ts c e =
+    let none = nothing_said Quit c ts e in subst (λ (d : Command). Says d (word (codes "quit") ∷ ts)) none.1 (ap (λ us. word (codes "quit") ∷ us) none.0)
+behind_said StopWord ts c e =
+    let none = nothing_said Stop c ts e in subst (λ (d : Command). Says d (word (codes "stop") ∷ ts)) none.1 (ap (λ us. word (codes "stop") ∷ us) none.0)
 
-row_said : (make : Bytes → Tuple → Command) (ts : List Token) (c : Command) → row_in make ts ≡ Some c → (n : Bytes) × (vs : Tuple) × (make n vs ≡ c) × ((keyword : Bytes) → SaysRow keyword n vs (word keyword ∷ ts))
-row_said make (word n ∷ t ∷ ts) c e =
-    let guarded = guard_some (is_name n) (option_map (λ vs. make n vs) (values_in (t ∷ ts))) c e in
-    let found = map_some (λ vs. make n vs) (values_in (t ∷ ts)) c guarded.1 in
-    let said = values_said (t ∷ ts) found.0 found.1 in
-    let some : 0 < length found.0 = omega (arith, ap length said.2, length-map said.0 (λ w. word w), zipped said.0 found.0 said.1) in
-    (n, found.0, found.2, λ keyword. (said.0, guarded.0, some, said.1, ap (λ us. word keyword ∷ word n ∷ us) said.2))
-row_said make _ c e = absurd cc
-
-open_said : (ts : List Token) (c : Command) → open_in ts ≡ Some c → Says c (word (codes "open") ∷ ts)
-open_said (word n ∷ word q ∷ []) c e =
-    let guarded = guard_some (is_name n && is_name q) (Some (Open n q)) c e in
-    let names = and_parts (is_name n) (is_name q) guarded.0 in
-    let same : Open n q ≡ c = cc (guarded.1) in
-    subst (λ (d : Command). Says d (word (codes "open") ∷ word n ∷ word q ∷ [])) same (names.0, names.1, refl)
-open_said _ c e = absurd cc
-
-close_said : (ts : List Token) (c : Command) → close_in ts ≡ Some c → Says c (word (codes "close") ∷ ts)
-close_said (word n ∷ []) c e =
-    let guarded = guard_some (is_name n) (Some (Close n)) c e in
-    let same : Close n ≡ c = cc (guarded.1) in
-    subst (λ (d : Command). Says d (word (codes "close") ∷ word n ∷ [])) same (guarded.0, refl)
-close_said _ c e = absurd cc
-
-count_said : (n : Bytes) (o : Option ℕ) (c : Command) → count_in n o ≡ Some c → (k : ℕ) × (o ≡ Some k) × (is_count k ≡ true) × (Next n k ≡ c)
-count_said n None c e = absurd cc
-count_said n (Some k) c e =
-    let guarded = guard_some (is_count k) (Some (Next n k)) c e in
-    (k, refl, guarded.0, cc (guarded.1))
-
-next_said : (ts : List Token) (c : Command) → next_in ts ≡ Some c → Says c (word (codes "next") ∷ ts)
-next_said (word n ∷ word w ∷ []) c e =
-    let guarded = guard_some (is_name n) (count_in n (natural_of w)) c e in
-    let found = count_said n (natural_of w) c guarded.1 in
-    let bounds = and_parts (leb 1 found.0) (leb found.0 1000) found.2 in
-    subst (λ (d : Command). Says d (word (codes "next") ∷ word n ∷ word w ∷ [])) found.3
-    (w, guarded.0, numeral_said w found.0 found.1, leb-true 1 found.0 bounds.0, leb-true found.0 1000 bounds.1, refl)
-next_said _ c e = absurd cc
-
-body_said : (n : Bytes) (head : List Bytes) (r : Bytes) (o : Option (List Bytes × List Token)) (c : Command) → body_in n head r o ≡ Some c → (body : List Bytes) × (o ≡ Some (body, [])) × (is_reordered head body ≡ true) × (Register (query_over n head r body) ≡ c)
-body_said n head r None c e = absurd cc
-body_said n head r (Some (body, [])) c e =
-    let guarded = guard_some (is_reordered head body) (Some (Register (query_over n head r body))) c e in
-    (body, refl, guarded.0, cc (guarded.1))
-body_said n head r (Some (body, t ∷ ts)) c e = absurd cc
-
-atom_said : (n : Bytes) (o : Option (List Bytes × List Token)) (c : Command) → atom_in n o ≡ Some c → (head : List Bytes) × (r : Bytes) × (ts : List Token) × (o ≡ Some (head, arrow ∷ word r ∷ ts)) × (is_name r ≡ true) × (body_in n head r (list_in ts) ≡ Some c)
-atom_said n (Some (head, arrow ∷ word r ∷ ts)) c e =
-    let guarded = guard_some (is_name r) (body_in n head r (list_in ts)) c e in
-    (head, r, ts, refl, guarded.0, guarded.1)
-atom_said n _ c e = absurd cc
-
-query_said : (ts : List Token) (c : Command) → query_in ts ≡ Some c → Says c (word (codes "query") ∷ ts)
-query_said (word n ∷ ts) c e =
-    let guarded = guard_some (is_name n) (atom_in n (list_in ts)) c e in
-    let atom = atom_said n (list_in ts) c guarded.1 in
-    let head = atom.0 in
-    let relation = atom.1 in
-    let found = body_said n head relation (list_in atom.2) c atom.5 in
-    let body = found.0 in
-    let front = list_said ts head (arrow ∷ word relation ∷ atom.2) atom.3 in
-    let back = list_said atom.2 body [] found.1 in
-    let line : word (codes "query") ∷ word n ∷ ts ≡ word (codes "query") ∷ word n ∷ (name_list head ++ arrow ∷ word relation ∷ name_list body) =
-    ap (λ us. word (codes "query") ∷ word n ∷ us) (front.1 ∙ ap (λ us. name_list head ++ arrow ∷ word relation ∷ us) (back.1 ∙ append-nil (name_list body))) in
-    subst (λ (d : Command). Says d (word (codes "query") ∷ word n ∷ ts)) found.3
-    (relation, body, refl, guarded.0, front.0, atom.4, back.0, is_reordered-true head body found.2, line)
-query_said _ c e = absurd cc
-
-add_said : (ts : List Token) (c : Command) → row_in (λ n vs. Add n vs) ts ≡ Some c → Says c (word (codes "add") ∷ ts)
-add_said ts c e = let found = row_said (λ n vs. Add n vs) ts c e in subst (λ (d : Command). Says d (word (codes "add") ∷ ts)) found.2 (found.3 (codes "add"))
-
-del_said : (ts : List Token) (c : Command) → row_in (λ n vs. Del n vs) ts ≡ Some c → Says c (word (codes "del") ∷ ts)
-del_said ts c e = let found = row_said (λ n vs. Del n vs) ts c e in subst (λ (d : Command). Says d (word (codes "del") ∷ ts)) found.2 (found.3 (codes "del"))
-
--- a keyword in front
-keyed : (w k : Bytes) (ts : List Token) (c : Command) → bytes_eq w k ≡ true → Says c (word k ∷ ts) → Says c (word w ∷ ts)
-keyed w k ts c e s = subst (λ (v : Bytes). Says c (word v ∷ ts)) (sym (bytes_eq-true w k e)) s
+with_said : (w : Bytes) (o : Option Keyword) (ts : List Token) (c : Command) → keyword_of w ≡ o → command_with o ts ≡ Some c → Says c (word w ∷ ts)
+with_said w None ts c is e = absurd (cc)
+with_said w (Some k) ts c is e = subst (λ (v : Bytes). Says c (word v ∷ ts)) (sym (keyword_said w k is)) (behind_said k ts c e)
 
 command_said : (ts : List Token) (c : Command) → command_in ts ≡ Some c → Says c ts
-command_said (word w ∷ ts) c e =
-    pick (bytes_eq w (codes "rel")) _ _ (Some c) e (λ is h. keyed w _ ts c is (rel_said ts c h)) (λ _ e1.
-    pick (bytes_eq w (codes "add")) _ _ (Some c) e1 (λ is h. keyed w _ ts c is (add_said ts c h)) (λ _ e2.
-    pick (bytes_eq w (codes "del")) _ _ (Some c) e2 (λ is h. keyed w _ ts c is (del_said ts c h)) (λ _ e3.
-    pick (bytes_eq w (codes "query")) _ _ (Some c) e3 (λ is h. keyed w _ ts c is (query_said ts c h)) (λ _ e4.
-    pick (bytes_eq w (codes "open")) _ _ (Some c) e4 (λ is h. keyed w _ ts c is (open_said ts c h)) (λ _ e5.
-    pick (bytes_eq w (codes "next")) _ _ (Some c) e5 (λ is h. keyed w _ ts c is (next_said ts c h)) (λ _ e6.
-    pick (bytes_eq w (codes "close")) _ _ (Some c) e6 (λ is h. keyed w _ ts c is (close_said ts c h)) (λ _ e7. absurd cc)))))))
-command_said _ c e = absurd cc
-
-rel_from : (n : Bytes) (cs : List ColumnType) → IsName n → 0 < length cs → All (λ c. c ≡ IntColumn) cs → rel_in (word n ∷ map (λ c. word (codes "int")) cs) ≡ Some (Rel n cs)
-rel_from n [] named some all = absurd (omega (arith, some))
-rel_from n (c ∷ cs) named some all = cond-true _ _ _ named ∙ ap (option_map (λ us. Rel n us)) (types_from (c ∷ cs) all)
-
-row_from : (make : Bytes → Tuple → Command) (n : Bytes) (ws : List Bytes) (vs : Tuple) → IsName n → 0 < length vs → AllZip IsValue ws vs → row_in make (word n ∷ map (λ w. word w) ws) ≡ Some (make n vs)
-row_from make n [] [] named some all = absurd (omega (arith, some))
-row_from make n [] (v ∷ vs) named some all = absurd all
-row_from make n (w ∷ ws) vs named some all = cond-true _ _ _ named ∙ ap (option_map (λ us. make n us)) (values_from (w ∷ ws) vs all)
-
-query_from : (n : Bytes) (head : List Bytes) (r : Bytes) (body : List Bytes) → IsName n → All IsName head → IsName r → All IsName body → IsReordering head body → query_in (word n ∷ (name_list head ++ arrow ∷ word r ∷ name_list body)) ≡ Some (Register (query_over n head r body))
-query_from n head r body named heads of bodies reorder =
-    cond-true _ _ _ named
-    ∙ ap (atom_in n) (list_from head (arrow ∷ word r ∷ name_list body) heads)
-    ∙ cond-true _ _ _ of
-    ∙ ap (body_in n head r) (ap list_in (sym (append-nil (name_list body))) ∙ list_from body [] bodies)
-    ∙ cond-true _ _ _ (is_reordered-from head body reorder)
+command_said [] c e = absurd (cc)
+command_said (word w ∷ ts) c e = with_said w (keyword_of w) ts c refl e
+command_said (text t ∷ ts) c e = absurd (cc)
+command_said (open_paren ∷ ts) c e = absurd (cc)
+command_said (close_paren ∷ ts) c e = absurd (cc)
+command_said (comma ∷ ts) c e = absurd (cc)
+command_said (arrow ∷ ts) c e = absurd (cc)
+command_said (stray ∷ ts) c e = absurd (cc)
 
 said_read : (c : Command) (ts : List Token) → Says c ts → command_in ts ≡ Some c
-said_read (Rel n cs) ts s = ap command_in s.3 ∙ rel_from n cs s.0 s.1 s.2
-said_read (Add n vs) ts s = ap command_in s.4 ∙ row_from (λ m us. Add m us) n s.0 vs s.1 s.2 s.3
-said_read (Del n vs) ts s = ap command_in s.4 ∙ row_from (λ m us. Del m us) n s.0 vs s.1 s.2 s.3
-said_read (Register q) ts s =
-    ap command_in s.8 ∙ query_from q.name q.head s.0 s.1 s.3 s.4 s.5 s.6 s.7
-    ∙ ap (λ (atoms : List Atom). Some (Register (record { name = q.name; head = q.head; atoms = atoms }))) (sym s.2)
-said_read (Open n q) ts s = ap command_in s.2 ∙ cond-true _ _ _ (and_from (is_name n) (is_name q) s.0 s.1)
-said_read (Next n k) ts s =
-    ap command_in s.5 ∙ cond-true _ _ _ s.1 ∙ ap (count_in n) (numeral_from s.0 k s.2) ∙ cond-true _ _ _ (and_from (leb 1 k) (leb k 1000) (le-leb 1 k s.3) (le-leb k 1000 s.4))
-said_read (Close n) ts s = ap command_in s.1 ∙ cond-true _ _ _ s.0
-said_read _ ts s = absurd s
+said_read (Rel n cs) ts s = ap command_in s.4 ∙ ap (option_map (λ (p : Bytes × List ColumnType). Rel p.0 p.1)) (some_from type_of SaysType type_from n cs s.0 s.1 s.2 s.3)
+said_read (Add n vs) ts s = ap command_in s.1.3 ∙ ap (option_map (λ (p : Bytes × Tuple). Add p.0 p.1)) (some_from literal_of SaysValue value_from n vs s.1.0 s.1.1 s.0 s.1.2)
+said_read (Del n vs) ts s = ap command_in s.1.3 ∙ ap (option_map (λ (p : Bytes × Tuple). Del p.0 p.1)) (some_from literal_of SaysValue value_from n vs s.1.0 s.1.1 s.0 s.1.2)
+said_read (Register q) ts s = ap command_in s.2 ∙ ap (option_map (λ p. Register p)) (query_from q s.0 s.1)
+said_read (Drop q) ts s = ap command_in s.1 ∙ ap (option_map (λ n. Drop n)) (cond-true _ _ _ s.0)
+said_read (Open c q) ts s = ap command_in s.2 ∙ ap (option_map (λ (p : Bytes × Bytes). Open p.0 p.1)) (cond-true _ _ _ (and_from (is_name c) (is_name q) s.0 s.1))
+said_read (Next c k) ts s =
+    ap command_in s.5
+    ∙ ap (option_map (λ (p : Bytes × ℕ). Next p.0 p.1)) (cond-true _ _ _ s.1 ∙ ap (option_map (λ (n : ℕ). (c, n))) (ap count_of (numeral_from s.0 k s.2) ∙ cond-true _ _ _ (and_from (leb 1 k) (leb k 1000) (le-leb 1 k s.3) (le-leb k 1000 s.4))))
+said_read (Close c) ts s = ap command_in s.1 ∙ ap (option_map (λ n. Close n)) (cond-true _ _ _ s.0)
+said_read (Has q vs) ts s = ap command_in s.3 ∙ ap (option_map (λ (p : Bytes × Tuple). Has p.0 p.1)) (any_from literal_of SaysValue value_from q vs s.0 s.1 s.2)
+said_read (Watch q) ts s = ap command_in s.1 ∙ ap (option_map (λ n. Watch n)) (cond-true _ _ _ s.0)
+said_read (Unwatch q) ts s = ap command_in s.1 ∙ ap (option_map (λ n. Unwatch n)) (cond-true _ _ _ s.0)
+said_read (Explain q) ts s = ap command_in s.1 ∙ ap (option_map (λ n. Explain n)) (cond-true _ _ _ s.0)
+said_read Quit ts s = ap command_in s
+said_read Stop ts s = ap command_in s
 
 pub commands_are_said : (ts : List Token) (c : Command) → (command_in ts ≡ Some c) ↔ Says c ts
 commands_are_said ts c = (command_said ts c, said_read c ts)

@@ -1,16 +1,126 @@
 -- A line says a command exactly where it spells it.
-use Rattle.std.proofs.Common.{◌≡◌, ◌↔◌, Some, ap, ◌∙◌, refl}
-use Rattle.djq_model.specs.Data.{Bytes}
+use Rattle.std.proofs.Common.{◌≡◌, ◌↔◌, List, [], ◌∷◌, ◌++◌, Bool, true, Option, Some, None, sym, ap, subst, ◌∙◌, refl}
+use Rattle.std.specs.List.{AllZip}
+use Rattle.std.specs.Str.{is_utf8}
+use Rattle.std.proofs.lemmas.Bool.{cond-true}
+use Rattle.std.proofs.lemmas.Str.{IsUtf8-from_is_utf8}
+use Rattle.djq_model.specs.Data.{Bytes, Tuple}
+use Rattle.djq_model.specs.declared.value.Value.{Value}
+use Rattle.djq_model.specs.declared.value.Value.TheVariants.{Int, Text}
+use Rattle.djq_model.specs.declared.relation.ColumnType.{ColumnType}
+use Rattle.djq_model.specs.declared.relation.ColumnType.TheVariants.{Int as IntColumn, Text as TextColumn}
+use Rattle.djq_model.specs.declared.query.Atom.{Atom}
+use Rattle.djq_model.specs.declared.query.Term.{Term}
+use Rattle.djq_model.specs.declared.query.Term.TheVariants.{Variable, Hole, Constant}
 use Rattle.djq_lines.specs.declared.command.Command.{Command}
-use Rattle.djq_value.specs.Token.{tokens}
+use Rattle.djq_lines.specs.declared.command.Command.TheVariants.{Rel, Add, Del, Query as Register, Drop, Open, Next, Close, Has, Watch, Unwatch, Explain, Quit, Stop}
+use Rattle.djq_value.specs.Token.{Token, word, text, open_paren, close_paren, comma, arrow, stray, tokens}
+use Rattle.djq_value.specs.Spelling.{HasNoStray}
+use Rattle.djq_value.proofs.Spellings.{tokens_are_spelled}
 use Rattle.djq_lines.specs.Grammar.{command_in, command_of}
 use Rattle.djq_proto.specs.Laws.{Spells}
-use Rattle.djq_value.proofs.Spellings.{tokens_are_spelled}
+use Rattle.djq_proto.specs.Saying.{Says, SaysAtom, SaysAtoms, SaysName, SaysQuery, SaysTerm, SaysType, SaysValue, list_tokens, more_tokens}
+use Rattle.djq_proto.proofs.Numerals.{guard_some}
 use Rattle.djq_proto.proofs.Sayings.{commands_are_said}
+use Rattle.djq_proto.proofs.Utf8.{utf8_yes}
+
+-- What says a command has no stray token.
+
+-- tokens with none in front of others
+with_real : (t : Token) (ts : List Token) → HasNoStray (t ∷ []) → HasNoStray ts → HasNoStray (t ∷ ts)
+with_real stray ts h k = absurd h
+with_real (word w) ts h k = k
+with_real (text s) ts h k = k
+with_real open_paren ts h k = k
+with_real close_paren ts h k = k
+with_real comma ts h k = k
+with_real arrow ts h k = k
+
+append_real : (ts us : List Token) → HasNoStray ts → HasNoStray us → HasNoStray (ts ++ us)
+append_real [] us h k = k
+append_real (stray ∷ ts) us h k = absurd h
+append_real (word w ∷ ts) us h k = append_real ts us h k
+append_real (text s ∷ ts) us h k = append_real ts us h k
+append_real (open_paren ∷ ts) us h k = append_real ts us h k
+append_real (close_paren ∷ ts) us h k = append_real ts us h k
+append_real (comma ∷ ts) us h k = append_real ts us h k
+append_real (arrow ∷ ts) us h k = append_real ts us h k
+
+items_real : {A : Type 0} (says : A → Token → Type 0) → ((a : A) (t : Token) → says a t → HasNoStray (t ∷ [])) → (xs : List A) (us : List Token) → AllZip says xs us → HasNoStray us
+items_real says real [] [] h = tt
+items_real says real [] (u ∷ us) h = absurd h
+items_real says real (x ∷ xs) [] h = absurd h
+items_real says real (x ∷ xs) (u ∷ us) h = with_real u us (real x u h.0) (items_real says real xs us h.1)
+
+more_real : {A : Type 0} (says : A → Token → Type 0) → ((a : A) (t : Token) → says a t → HasNoStray (t ∷ [])) → (xs : List A) (us : List Token) → AllZip says xs us → HasNoStray (more_tokens us)
+more_real says real [] [] h = tt
+more_real says real [] (u ∷ us) h = absurd h
+more_real says real (x ∷ xs) [] h = absurd h
+more_real says real (x ∷ xs) (u ∷ us) h = with_real u (more_tokens us) (real x u h.0) (more_real says real xs us h.1)
+
+list_real : {A : Type 0} (says : A → Token → Type 0) → ((a : A) (t : Token) → says a t → HasNoStray (t ∷ [])) → (xs : List A) (us : List Token) → AllZip says xs us → HasNoStray (list_tokens us)
+list_real says real [] [] h = tt
+list_real says real [] (u ∷ us) h = absurd h
+list_real says real (x ∷ xs) [] h = absurd h
+list_real says real (x ∷ xs) (u ∷ us) h = with_real u (more_tokens us) (real x u h.0) (more_real says real xs us h.1)
+
+-- tokens that are these
+as_real : (ts us : List Token) → ts ≡ us → HasNoStray us → HasNoStray ts
+as_real ts us e h = subst HasNoStray (sym e) h
+
+name_real : (n : Bytes) (t : Token) → SaysName n t → HasNoStray (t ∷ [])
+name_real n t h = as_real (t ∷ []) (word n ∷ []) (ap (λ u. u ∷ []) h.1) tt
+
+type_real : (c : ColumnType) (t : Token) → SaysType c t → HasNoStray (t ∷ [])
+type_real IntColumn t h = as_real (t ∷ []) _ (ap (λ u. u ∷ []) h) tt
+type_real TextColumn t h = as_real (t ∷ []) _ (ap (λ u. u ∷ []) h) tt
+
+value_real : (v : Value) (t : Token) → SaysValue v t → HasNoStray (t ∷ [])
+value_real (Int i) t h = as_real (t ∷ []) _ (ap (λ u. u ∷ []) h.1) tt
+value_real (Text s) t h = as_real (t ∷ []) _ (ap (λ u. u ∷ []) h) tt
+
+term_real : (x : Term) (t : Token) → SaysTerm x t → HasNoStray (t ∷ [])
+term_real (Variable n) t h = name_real n t h
+term_real Hole t h = as_real (t ∷ []) _ (ap (λ u. u ∷ []) h) tt
+term_real (Constant v) t h = value_real v t h
+
+atom_real : (a : Atom) (ts : List Token) → SaysAtom a ts → HasNoStray ts
+atom_real a ts s = as_real ts (word a.relation ∷ list_tokens s.0) s.3 (list_real SaysTerm term_real a.terms s.0 s.2)
+
+atoms_real : (atoms : List Atom) (ts : List Token) → SaysAtoms atoms ts → HasNoStray ts
+atoms_real [] ts s = absurd s
+atoms_real (a ∷ []) ts s = atom_real a ts s
+atoms_real (a ∷ b ∷ bs) ts s = as_real ts (s.0 ++ comma ∷ s.1) s.4 (append_real s.0 (comma ∷ s.1) (atom_real a s.0 s.2) (atoms_real (b ∷ bs) s.1 s.3))
+
+says_real : (c : Command) (ts : List Token) → Says c ts → HasNoStray ts
+says_real (Rel n cs) ts s = as_real ts _ s.4 (items_real SaysType type_real cs s.0 s.3)
+says_real (Add n vs) ts s = as_real ts _ s.1.3 (items_real SaysValue value_real vs s.1.0 s.1.2)
+says_real (Del n vs) ts s = as_real ts _ s.1.3 (items_real SaysValue value_real vs s.1.0 s.1.2)
+says_real (Register q) ts s =
+    let r = s.1 in
+    as_real ts _ s.2 (as_real s.0 _ r.5 (append_real (list_tokens r.0) (arrow ∷ r.1) (list_real SaysName name_real q.head r.0 r.3) (atoms_real q.atoms r.1 r.4)))
+says_real (Drop q) ts s = as_real ts _ s.1 tt
+says_real (Open c q) ts s = as_real ts _ s.2 tt
+says_real (Next c k) ts s = as_real ts _ s.5 tt
+says_real (Close c) ts s = as_real ts _ s.1 tt
+says_real (Has q vs) ts s = as_real ts _ s.3 (items_real SaysValue value_real vs s.0 s.2)
+says_real (Watch q) ts s = as_real ts _ s.1 tt
+says_real (Unwatch q) ts s = as_real ts _ s.1 tt
+says_real (Explain q) ts s = as_real ts _ s.1 tt
+says_real Quit ts s = as_real ts _ s tt
+says_real Stop ts s = as_real ts _ s tt
+
+spelled : (line : Bytes) (c : Command) → command_of line ≡ Some c → Spells c line
+unfolding command_of
+spelled line c e =
+    let guarded = guard_some (is_utf8 line) (command_in (tokens line)) c e in
+    let said = (commands_are_said (tokens line) c).0 guarded.1 in
+    record { utf8 = IsUtf8-from_is_utf8 line guarded.0; tokens = tokens line; says = said; spelled = (tokens_are_spelled line (tokens line)).0 (refl, says_real c (tokens line) said) }
+
+read : (line : Bytes) (c : Command) → Spells c line → command_of line ≡ Some c
+unfolding command_of
+read line c s =
+    cond-true _ _ _ (utf8_yes line s.utf8) ∙ ap command_in ((tokens_are_spelled line s.tokens).1 s.spelled).0 ∙ (commands_are_said s.tokens c).1 s.says
 
 pub commands_are_spelled : (line : Bytes) (c : Command) → (command_of line ≡ Some c) ↔ Spells c line
-unfolding command_of
-commands_are_spelled line c = (
-  λ e. (tokens line, (commands_are_said (tokens line) c).0 e, (tokens_are_spelled line (tokens line)).0 refl),
-  λ s. ap command_in ((tokens_are_spelled line s.0).1 s.2) ∙ (commands_are_said s.0 c).1 s.1,
-)
+commands_are_spelled line c = (spelled line c, read line c)

@@ -1,15 +1,18 @@
 -- The laws of reading, over the definitions alone.
-use Rattle.std.specs.Prelude.{◌≡◌, ◌↔◌, List, Some}
+use Rattle.std.specs.Prelude.{◌≡◌, ◌↔◌, List, Some, IsUtf8}
 use Rattle.djq_model.specs.Data.{Bytes}
-use Rattle.djq_lines.specs.declared.command.Command.{Command}
 use Rattle.djq_value.specs.Token.{Token}
-use Rattle.djq_lines.specs.Grammar.{command_in, command_of}
 use Rattle.djq_value.specs.Spelling.{IsSpelling}
+use Rattle.djq_lines.specs.declared.command.Command.{Command}
+use Rattle.djq_lines.specs.Grammar.{command_in, command_of}
 use Rattle.djq_proto.specs.Saying.{Says}
 
--- a line that spells a command
-abbrev pub Spells : Command → Bytes → Type 0
-Spells c line = (ts : List Token) × Says c ts × IsSpelling ts line
+-- a line of UTF-8 that spells a command
+pub record Spells (c : Command) (line : Bytes) : Type 0 where
+  pub utf8 : IsUtf8 line
+  pub tokens : List Token
+  pub says : Says c tokens
+  pub spelled : IsSpelling tokens line
 
 -- Tokens are read as a command exactly where they say it.
 abbrev pub CommandsAreSaid : Type 0

@@ -1,6 +1,7 @@
 pub mod Splitting
+pub mod Refusing
 pub mod Reading
 pub mod Listed
-pub mod Listing
+pub mod NameLists
 pub mod Saying
 pub mod Laws

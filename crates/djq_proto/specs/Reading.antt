@@ -1,53 +1,73 @@
--- What reading a line answers.
-use Rattle.std.specs.Prelude.{◌≡◌, ℕ, ◌∷◌, [], List, Bool, true, false, Option, None, Some, option_map, Result, Ok, Err, codes, map, if◌then◌else◌}
-use Rattle.djq_model.specs.Data.{Bytes, Tuple, bytes_eq}
-use Rattle.djq_model.specs.declared.relation.ColumnType.{ColumnType}
+-- What reading a line, or a part of it, answers.
+use Rattle.std.specs.Prelude.{◌≡◌, List, Bool, true, false, Option, None, Some, Result, Ok, Err}
+use Rattle.std.specs.List.{list_all}
+use Rattle.djq_model.specs.Data.{Bytes}
+use Rattle.djq_model.specs.declared.query.Atom.{Atom}
 use Rattle.djq_model.specs.declared.query.Query.{Query}
-use Rattle.djq_model.specs.declared.query.Term.TheVariants.{Variable}
 use Rattle.djq_lines.specs.declared.command.Command.{Command}
-use Rattle.djq_value.specs.Token.{Token as Lexeme, word}
-use Rattle.djq_value.specs.Literal.{is_name}
-use Rattle.djq_lines.specs.Grammar.{command_of, is_count, is_in_range, takes_memory_to_read, types_in, values_in}
-use Rattle.djq_proto.specs.declared.command.LineRefusal.{LineRefusal}
-use Rattle.djq_proto.specs.declared.command.LineRefusal.TheVariants.{Range, Later, NoMem}
+use Rattle.djq_value.specs.Token.{Token, comma}
+use Rattle.djq_lines.specs.Grammar.{command_of, is_in_range, is_served, is_simple, is_small_atom, takes_memory_to_read}
+use Rattle.djq_proto.specs.declared.refusal.LineRefusal.{LineRefusal}
+use Rattle.djq_proto.specs.declared.refusal.LineRefusal.TheVariants.{Syntax, Later, Range, NoMem}
 
--- Nothing is there to be read, and `Later` is answered; or something is: then the answer is it where it is in range,
--- `Range` where it isn't, and want of memory only where it is in range and takes memory.
-abbrev pub Answers : {A : Type 0} → (A → Bool) → (A → Bool) → Option A → Result A LineRefusal → Type 0
-Answers in_range takes_memory None r = r ≡ Err Later
-Answers in_range takes_memory (Some a) (Ok b) = (b ≡ a) × (in_range a ≡ true)
-Answers in_range takes_memory (Some a) (Err Range) = in_range a ≡ false
-Answers in_range takes_memory (Some a) (Err NoMem) = (in_range a ≡ true) × (takes_memory a ≡ true)
-Answers in_range takes_memory (Some a) (Err Later) = ⊥
+-- Nothing is there to be read, and `Syntax` is answered; or something is. Then the answer is `Later` where it isn't served, else
+-- `Range` where it isn't in range, else it or out of memory.
+abbrev pub ReadsAs : {A : Type 0} → (A → Bool) → (A → Bool) → Option A → Result A LineRefusal → Type 0
+ReadsAs served in_range None r = r ≡ Err Syntax
+ReadsAs served in_range (Some a) (Ok b) = (b ≡ a) × (served a ≡ true) × (in_range a ≡ true)
+ReadsAs served in_range (Some a) (Err Later) = served a ≡ false
+ReadsAs served in_range (Some a) (Err Range) = (served a ≡ true) × (in_range a ≡ false)
+ReadsAs served in_range (Some a) (Err NoMem) = (served a ≡ true) × (in_range a ≡ true)
+ReadsAs served in_range (Some a) (Err Syntax) = ⊥
+
+-- The same of what stands in front of other tokens: these are left.
+abbrev pub ReadsPart : {A : Type 0} → (A → Bool) → (A → Bool) → Option (A × List Token) → Result A LineRefusal → List Token → Type 0
+ReadsPart served in_range None r left = r ≡ Err Syntax
+ReadsPart served in_range (Some p) r left = ReadsAs served in_range (Some p.0) r × (left ≡ p.1)
+
+-- whether each literal of a query is within its limit
+abbrev pub is_small_query : Query → Bool
+is_small_query q = list_all is_small_atom q.atoms
+
+-- whether a query is served
+abbrev pub is_simple_query : Query → Bool
+is_simple_query q = is_simple q.head q.atoms
+
+-- a body, where there is one, makes with this head a query that is served or not
+abbrev pub IfSimpleBody : List Bytes → Option (List Atom) → Bool → Type 0
+IfSimpleBody head None b = Unit {0}
+IfSimpleBody head (Some atoms) b = b ≡ is_simple head atoms
+
+-- a query, where there is one, is served or not
+abbrev pub IfSimple : Option Query → Bool → Type 0
+IfSimple None b = Unit {0}
+IfSimple (Some q) b = b ≡ is_simple_query q
+
+-- whether a token is a comma
+abbrev pub is_comma : Token → Bool
+is_comma comma = true
+is_comma _ = false
+
+-- whether something is outside the grammar
+abbrev pub is_outside : {A : Type 0} → Result A LineRefusal → Bool
+is_outside (Ok a) = false
+is_outside (Err Syntax) = true
+is_outside (Err _) = false
+
+-- what refuses something that isn't served
+abbrev pub refused_unserved : {A : Type 0} → Option A → LineRefusal
+refused_unserved None = Syntax
+refused_unserved (Some a) = Later
+
+-- Out of memory comes only where reading takes memory.
+abbrev pub TakesMemory : Option Command → Result Command LineRefusal → Type 0
+TakesMemory (Some c) (Err NoMem) = takes_memory_to_read c ≡ true
+TakesMemory o r = Unit {0}
 
 -- what reading a command answers
 abbrev pub Gives : Option Command → Result Command LineRefusal → Type 0
-Gives o r = Answers is_in_range takes_memory_to_read o r
+Gives o r = ReadsAs is_served is_in_range o r × TakesMemory o r
 
 -- what reading a line answers
 abbrev pub Reads : Bytes → Result Command LineRefusal → Type 0
 Reads line r = Gives (command_of line) r
-
--- whether a token is the type of integers
-abbrev pub is_int_token : Lexeme → Bool
-is_int_token (word w) = bytes_eq w (codes "int")
-is_int_token _ = false
-
--- a name and types to the line's end, one at least
-abbrev pub named_types : List Lexeme → Option (Bytes × List ColumnType)
-named_types (word n ∷ t ∷ ts) = if is_name n then option_map (λ cs. (n, cs)) (types_in (t ∷ ts)) else None
-named_types _ = None
-
--- a name and values to the line's end, one at least
-abbrev pub named_row : List Lexeme → Option (Bytes × Tuple)
-named_row (word n ∷ t ∷ ts) = if is_name n then option_map (λ vs. (n, vs)) (values_in (t ∷ ts)) else None
-named_row _ = None
-
--- the query over one atom
-abbrev pub query_over : Bytes → List Bytes → Bytes → List Bytes → Query
-query_over name head relation body = record { name = name; head = head; atoms = record { relation = relation; terms = map (λ x. Variable x) body } ∷ [] }
-
--- a number that is a count of answers
-abbrev pub count_of : Option ℕ → Option ℕ
-count_of None = None
-count_of (Some k) = if is_count k then Some k else None

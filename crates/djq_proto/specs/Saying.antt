@@ -1,16 +1,22 @@
--- What tokens say a command.
-use Rattle.std.specs.Prelude.{◌≡◌, ◌≢◌, ℕ, ℤ, pos, ◌+◌, ◌-◌, ◌*◌, ◌^◌, ◌<◌, ◌≤◌, ◌⊎◌, neg_ℤ, List, [], ◌∷◌, ◌++◌, true, All, AllPairs, IsPermutation, codes, length, map}
+-- What tokens say a command: the grammar as a relation, told without reading.
+use Rattle.std.specs.Prelude.{◌≡◌, ℕ, ℤ, pos, ◌-◌, ◌+◌, ◌*◌, ◌^◌, ◌<◌, ◌≤◌, ◌⊎◌, neg_ℤ, List, [], ◌∷◌, ◌++◌, true, codes, length}
 use Rattle.std.specs.List.{AllZip, list_all}
 use Rattle.djq_model.specs.Data.{Bytes, Tuple}
 use Rattle.djq_model.specs.declared.value.Value.{Value}
 use Rattle.djq_model.specs.declared.value.Value.TheVariants.{Int, Text}
-use Rattle.djq_model.specs.declared.relation.ColumnType.TheVariants.{Int as IntColumn}
-use Rattle.djq_model.specs.declared.query.Term.TheVariants.{Variable}
+use Rattle.djq_model.specs.declared.relation.ColumnType.{ColumnType}
+use Rattle.djq_model.specs.declared.relation.ColumnType.TheVariants.{Int as IntColumn, Text as TextColumn}
+use Rattle.djq_model.specs.declared.query.Term.{Term}
+use Rattle.djq_model.specs.declared.query.Term.TheVariants.{Variable, Hole, Constant}
+use Rattle.djq_model.specs.declared.query.Atom.{Atom}
+use Rattle.djq_model.specs.declared.query.Query.{Query}
+use Rattle.djq_lines.specs.declared.limits.TheConstants.{NEXT_COUNT}
 use Rattle.djq_lines.specs.declared.command.Command.{Command}
-use Rattle.djq_lines.specs.declared.command.Command.TheVariants.{Rel, Add, Del, Query as Register, Open, Next, Close}
-use Rattle.djq_value.specs.Token.{Token, word, open_paren, close_paren, comma, arrow}
+use Rattle.djq_lines.specs.declared.command.Command.TheVariants.{Rel, Add, Del, Query as Register, Drop, Open, Next, Close, Has, Watch, Unwatch, Explain, Quit, Stop}
+use Rattle.djq_value.specs.Token.{Token, word, text, open_paren, close_paren, comma, arrow}
 use Rattle.djq_value.specs.Literal.{is_digit, is_name}
 
+-- a letter, then letters, digits and `_`, 32 bytes at most
 abbrev pub IsName : Bytes → Type 0
 IsName w = is_name w ≡ true
 
@@ -29,39 +35,69 @@ pub record IsNumeral (ds : Bytes) (n : ℕ) : Type 0 where
 abbrev pub IsInteger : Bytes → ℤ → Type 0
 IsInteger w i = ((n : ℕ) × IsNumeral w n × (i ≡ pos n)) ⊎ ((ds : Bytes) × (n : ℕ) × (w ≡ codes "-" ++ ds) × IsNumeral ds n × (i ≡ neg_ℤ (pos n)))
 
-abbrev pub IsValue : Bytes → Value → Type 0
-IsValue w (Int i) = IsInteger w i
-IsValue w (Text t) = ⊥
+-- Which token says an item.
 
--- a keyword, a name, and the values of a row, one at least
+abbrev pub SaysName : Bytes → Token → Type 0
+SaysName n t = IsName n × (t ≡ word n)
+
+abbrev pub SaysType : ColumnType → Token → Type 0
+SaysType IntColumn t = t ≡ word (codes "int")
+SaysType TextColumn t = t ≡ word (codes "text")
+
+abbrev pub SaysValue : Value → Token → Type 0
+SaysValue (Int i) t = (w : Bytes) × (t ≡ word w) × IsInteger w i
+SaysValue (Text s) t = t ≡ text s
+
+abbrev pub SaysTerm : Term → Token → Type 0
+SaysTerm (Variable x) t = SaysName x t
+SaysTerm Hole t = t ≡ word (codes "_")
+SaysTerm (Constant v) t = SaysValue v t
+
+-- the tokens of a list behind its first item, with its `)`
+abbrev pub more_tokens : List Token → List Token
+more_tokens [] = close_paren ∷ []
+more_tokens (u ∷ us) = comma ∷ u ∷ more_tokens us
+
+-- the tokens of a list in parentheses, with commas between its items
+abbrev pub list_tokens : List Token → List Token
+list_tokens [] = open_paren ∷ close_paren ∷ []
+list_tokens (u ∷ us) = open_paren ∷ u ∷ more_tokens us
+
+-- a relation and a list of terms
+abbrev pub SaysAtom : Atom → List Token → Type 0
+SaysAtom a ts = (us : List Token) × IsName a.relation × AllZip SaysTerm a.terms us × (ts ≡ word a.relation ∷ list_tokens us)
+
+-- atoms, one at least, with commas between
+abbrev pub SaysAtoms : List Atom → List Token → Type 0
+SaysAtoms [] ts = ⊥
+SaysAtoms (a ∷ []) ts = SaysAtom a ts
+SaysAtoms (a ∷ b ∷ bs) ts = (front : List Token) × (back : List Token) × SaysAtom a front × SaysAtoms (b ∷ bs) back × (ts ≡ front ++ comma ∷ back)
+
+-- a name, a list of names, `<-` and atoms
+abbrev pub SaysQuery : Query → List Token → Type 0
+SaysQuery q ts = (us : List Token) × (body : List Token) × IsName q.name × AllZip SaysName q.head us × SaysAtoms q.atoms body × (ts ≡ word q.name ∷ (list_tokens us ++ arrow ∷ body))
+
+-- a keyword and a name
+abbrev pub SaysOne : Bytes → Bytes → List Token → Type 0
+SaysOne keyword n ts = IsName n × (ts ≡ word keyword ∷ word n ∷ [])
+
+-- a keyword, a name and a row
 abbrev pub SaysRow : Bytes → Bytes → Tuple → List Token → Type 0
-SaysRow keyword n vs ts = (ws : List Bytes) × IsName n × (0 < length vs) × AllZip IsValue ws vs × (ts ≡ word keyword ∷ word n ∷ map (λ w. word w) ws)
-
--- the names of a list behind its first, and its `)`
-abbrev pub more_names : List Bytes → List Token
-more_names [] = close_paren ∷ []
-more_names (n ∷ ns) = comma ∷ word n ∷ more_names ns
-
--- names in parentheses, with commas between
-abbrev pub name_list : List Bytes → List Token
-name_list [] = open_paren ∷ close_paren ∷ []
-name_list (n ∷ ns) = open_paren ∷ word n ∷ more_names ns
-
--- The names of the body are all different, and the head has the same names, each once.
-pub record IsReordering (head body : List Bytes) : Type 0 where
-  pub different : AllPairs ◌≢◌ body
-  pub once : AllPairs ◌≢◌ head
-  pub same : IsPermutation head body
+SaysRow keyword n vs ts = (us : List Token) × IsName n × AllZip SaysValue vs us × (ts ≡ word keyword ∷ word n ∷ us)
 
 -- the tokens that say a command
 abbrev pub Says : Command → List Token → Type 0
-Says (Rel n cs) ts = IsName n × (0 < length cs) × All (λ c. c ≡ IntColumn) cs × (ts ≡ word (codes "rel") ∷ word n ∷ map (λ c. word (codes "int")) cs)
-Says (Add n vs) ts = SaysRow (codes "add") n vs ts
-Says (Del n vs) ts = SaysRow (codes "del") n vs ts
-Says (Register q) ts = (relation : Bytes) × (body : List Bytes) × (q.atoms ≡ record { relation = relation; terms = map (λ x. Variable x) body } ∷ [])
-    × IsName q.name × All IsName q.head × IsName relation × All IsName body × IsReordering q.head body
-    × (ts ≡ word (codes "query") ∷ word q.name ∷ (name_list q.head ++ arrow ∷ word relation ∷ name_list body))
+Says (Rel n cs) ts = (us : List Token) × IsName n × (0 < length cs) × AllZip SaysType cs us × (ts ≡ word (codes "rel") ∷ word n ∷ us)
+Says (Add n vs) ts = (0 < length vs) × SaysRow (codes "add") n vs ts
+Says (Del n vs) ts = (0 < length vs) × SaysRow (codes "del") n vs ts
+Says (Register q) ts = (us : List Token) × SaysQuery q us × (ts ≡ word (codes "query") ∷ us)
+Says (Drop q) ts = SaysOne (codes "drop") q ts
 Says (Open c q) ts = IsName c × IsName q × (ts ≡ word (codes "open") ∷ word c ∷ word q ∷ [])
-Says (Next c k) ts = (ds : Bytes) × IsName c × IsNumeral ds k × (1 ≤ k) × (k ≤ 1000) × (ts ≡ word (codes "next") ∷ word c ∷ word ds ∷ [])
-Says (Close c) ts = IsName c × (ts ≡ word (codes "close") ∷ word c ∷ [])
-Says _ ts = ⊥
+Says (Next c k) ts = (ds : Bytes) × IsName c × IsNumeral ds k × (1 ≤ k) × (k ≤ NEXT_COUNT) × (ts ≡ word (codes "next") ∷ word c ∷ word ds ∷ [])
+Says (Close c) ts = SaysOne (codes "close") c ts
+Says (Has q vs) ts = SaysRow (codes "has") q vs ts
+Says (Watch q) ts = SaysOne (codes "watch") q ts
+Says (Unwatch q) ts = SaysOne (codes "unwatch") q ts
+Says (Explain q) ts = SaysOne (codes "explain") q ts
+Says Quit ts = ts ≡ word (codes "quit") ∷ []
+Says Stop ts = ts ≡ word (codes "stop") ∷ []

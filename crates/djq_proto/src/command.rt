@@ -1,128 +1,111 @@
-ghost use Rattle.std.specs.Prelude.{◌≡◌, ◌∷◌};
-ghost use Rattle.djq_lines.specs.Grammar.{close_in, command_in, next_in, open_in};
-ghost use Rattle.djq_value.specs.Token.{word as word_token};
-ghost use Rattle.djq_proto.specs.Reading.{Gives, Reads};
+ghost use Rattle.std.specs.Prelude.{◌≡◌, Err};
+ghost use Rattle.std.specs.Str.{is_utf8 as is_utf8_of};
+ghost use Rattle.djq_value.specs.Literal.{literal_of};
+ghost use Rattle.djq_lines.specs.Grammar.{command_behind, command_in, named_any};
+ghost use Rattle.djq_proto.specs.Reading.{Gives, Reads, refused_unserved};
 
-use crate::count::read_count;
+use crate::keyword::read_keyword;
+use crate::parts::{
+    read_count, read_named_any, read_named_some, read_nothing, read_one_name, read_two_names,
+};
 use crate::query::read_query;
-use crate::row::{read_named_row, read_named_types};
-use djq_lines::Command;
-use djq_value::{Lexer, is_text, next_name, next_word};
+use crate::refusal::LineRefusal;
+use djq_lines::{Command, Keyword};
+use djq_model::{ColumnType, Value};
+use djq_value::{Lexer, next_word};
 use std::alloc::Global;
-
-/// Why a line gives no command.
-#[derive(Clone, Copy, PartialEq, Eq)]
-pub enum LineRefusal {
-    /// A literal of the line is out of its range.
-    Range,
-    /// The line isn't served yet.
-    Later,
-    /// Memory was wanted.
-    NoMem,
-}
+use std::str;
 
 /// The command that a line says.
 ///
 /// # Errors
 ///
-/// `Later` exactly where the line says no command that is served. `Range` exactly where it says one that
-/// has an integer past 64 bits. `NoMem` where memory is wanted, for a line in range that holds types, a
-/// row or a query.
+/// `Syntax` exactly where the line is outside the grammar. Else `Later` exactly where its command isn't
+/// served, else `Range` exactly where a literal is past its limit. `NoMem` only for a line that is in
+/// range and holds types, literals or a query.
 pub fn read_command(alloc: Global, line: &[u8]) -> Result<Command, LineRefusal>
     ensures { Reads line.now result }
 {
+    if !is_utf8(line) {
+        return Err(LineRefusal::Syntax);
+    }
     let mut lexer = Lexer::new(line);
-    match next_word(&mut lexer) {
-        Some(keyword) => read_after(alloc, keyword, &mut lexer),
-        None => Err(LineRefusal::Later),
+    read_tokens(alloc, &mut lexer)
+}
+
+// Whether bytes are UTF-8.
+fn is_utf8(line: &[u8]) -> bool
+    ensures { result ≡ is_utf8_of line.now }
+{
+    str::from_utf8(line).is_ok()
+}
+
+// A keyword, and what stands behind it.
+fn read_tokens(alloc: Global, lexer: &mut Lexer<'_>) -> Result<Command, LineRefusal>
+    ensures { Gives (command_in lexer.old) result }
+{
+    let Some(word) = next_word(lexer) else {
+        return Err(LineRefusal::Syntax);
+    };
+    match read_keyword(word) {
+        Some(keyword) => read_behind(alloc, keyword, lexer),
+        None => Err(LineRefusal::Syntax),
     }
 }
 
-// What follows a line's first word.
-fn read_after(alloc: Global, keyword: &[u8], lexer: &mut Lexer<'_>) -> Result<Command, LineRefusal>
-    ensures { Gives (command_in (word_token keyword.now ∷ lexer.old)) result }
+// What stands behind a keyword.
+fn read_behind(
+    alloc: Global,
+    keyword: Keyword,
+    lexer: &mut Lexer<'_>,
+) -> Result<Command, LineRefusal>
+    ensures { Gives (command_behind keyword lexer.old) result }
 {
-    if is_text(keyword, b"rel") {
-        match read_named_types(alloc, lexer) {
-            Ok((name, types)) => Ok(Command::Rel { name, types }),
-            Err(refusal) => Err(refusal),
+    match keyword {
+        Keyword::Rel => {
+            let (name, types) = read_named_some::<ColumnType>(alloc, lexer)?;
+            Ok(Command::Rel { name, types })
         }
-    } else if is_text(keyword, b"add") {
-        match read_named_row(alloc, lexer) {
-            Ok((name, row)) => Ok(Command::Add { name, row }),
-            Err(refusal) => Err(refusal),
+        Keyword::Add => {
+            let (name, row) = read_named_some::<Value>(alloc, lexer)?;
+            Ok(Command::Add { name, row })
         }
-    } else if is_text(keyword, b"del") {
-        match read_named_row(alloc, lexer) {
-            Ok((name, row)) => Ok(Command::Del { name, row }),
-            Err(refusal) => Err(refusal),
+        Keyword::Del => {
+            let (name, row) = read_named_some::<Value>(alloc, lexer)?;
+            Ok(Command::Del { name, row })
         }
-    } else if is_text(keyword, b"query") {
-        read_query(alloc, lexer)
-    } else if is_text(keyword, b"open") {
-        read_open(lexer)
-    } else if is_text(keyword, b"next") {
-        read_next(lexer)
-    } else if is_text(keyword, b"close") {
-        read_close(lexer)
-    } else {
-        Err(LineRefusal::Later)
+        Keyword::Query => {
+            let query = read_query(alloc, lexer)?;
+            Ok(Command::Query { query })
+        }
+        Keyword::Open => {
+            let (cursor, query) = read_two_names(lexer)?;
+            Ok(Command::Open { cursor, query })
+        }
+        Keyword::Next => {
+            let (cursor, count) = read_count(lexer)?;
+            Ok(Command::Next { cursor, count })
+        }
+        Keyword::Close => {
+            let cursor = read_one_name(lexer)?;
+            Ok(Command::Close { cursor })
+        }
+        Keyword::Quit => read_nothing(lexer, Command::Quit),
+        Keyword::Stop => read_nothing(lexer, Command::Stop),
+        Keyword::Has => read_unserved_tuple(alloc, lexer),
+        Keyword::Drop | Keyword::Watch | Keyword::Unwatch | Keyword::Explain => {
+            read_one_name(lexer)?;
+            Err(LineRefusal::Later)
+        }
     }
 }
 
-// What follows `open`.
-fn read_open(lexer: &mut Lexer<'_>) -> Result<Command, LineRefusal>
-    ensures { Gives (open_in lexer.old) result }
+// A query's name and a tuple, which isn't served yet.
+fn read_unserved_tuple(alloc: Global, lexer: &mut Lexer<'_>) -> Result<Command, LineRefusal>
+    ensures { result ≡ Err (refused_unserved (named_any literal_of lexer.old)) }
 {
-    match next_name(lexer) {
-        Some(cursor) => match next_name(lexer) {
-            Some(query) => {
-                if lexer.is_done() {
-                    Ok(Command::Open { cursor, query })
-                } else {
-                    Err(LineRefusal::Later)
-                }
-            }
-            None => Err(LineRefusal::Later),
-        },
-        None => Err(LineRefusal::Later),
-    }
-}
-
-// What follows `next`.
-fn read_next(lexer: &mut Lexer<'_>) -> Result<Command, LineRefusal>
-    ensures { Gives (next_in lexer.old) result }
-{
-    match next_name(lexer) {
-        Some(cursor) => match next_word(lexer) {
-            Some(word) => match read_count(word) {
-                Some(count) => {
-                    if lexer.is_done() {
-                        Ok(Command::Next { cursor, count })
-                    } else {
-                        Err(LineRefusal::Later)
-                    }
-                }
-                None => Err(LineRefusal::Later),
-            },
-            None => Err(LineRefusal::Later),
-        },
-        None => Err(LineRefusal::Later),
-    }
-}
-
-// What follows `close`.
-fn read_close(lexer: &mut Lexer<'_>) -> Result<Command, LineRefusal>
-    ensures { Gives (close_in lexer.old) result }
-{
-    match next_name(lexer) {
-        Some(cursor) => {
-            if lexer.is_done() {
-                Ok(Command::Close { cursor })
-            } else {
-                Err(LineRefusal::Later)
-            }
-        }
-        None => Err(LineRefusal::Later),
+    match read_named_any::<Value>(alloc, lexer) {
+        Err(LineRefusal::Syntax) => Err(LineRefusal::Syntax),
+        _ => Err(LineRefusal::Later),
     }
 }

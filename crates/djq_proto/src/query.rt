@@ -1,92 +1,94 @@
 // The lines that register a query.
-ghost use Rattle.std.specs.Prelude.{◌≡◌, Some, true, IfOk};
+ghost use Rattle.std.specs.Prelude.{◌≡◌, true};
 ghost use Rattle.std.specs.List.{list_all};
-ghost use Rattle.djq_value.specs.Literal.{is_name as is_name_of};
-ghost use Rattle.djq_lines.specs.Grammar.{atom_in, one_atom, query_in};
-ghost use Rattle.djq_proto.specs.Reading.{Gives, query_over};
+ghost use Rattle.djq_lines.specs.Grammar.{atom_in, atoms_in, body_in, is_small_atom, query_in};
+ghost use Rattle.djq_value.specs.Lexing.{lexeme_of};
+ghost use Rattle.djq_proto.specs.Reading.{ReadsAs, ReadsPart, is_comma as is_comma_of, is_simple_query, is_small_query};
 
-use crate::command::LineRefusal;
-use crate::list::{NameList, is_reordered, names_of, read_list, variables_of};
-use djq_lines::Command;
-use djq_model::{Atom, Atoms, Name, NoMem, Query};
+use crate::items::{added, is_outside, read_list};
+use crate::refusal::LineRefusal;
+use crate::simple::is_simple;
+use djq_model::{Atom, Atoms, Name, Query, Sequence, Term};
 use djq_value::{Lexer, Token, next_name};
 use std::alloc::Global;
 
-// What follows `query`.
-pub(crate) fn read_query(alloc: Global, lexer: &mut Lexer<'_>) -> Result<Command, LineRefusal>
-    ensures { Gives (query_in lexer.old) result }
+// A query, to the line's end.
+pub(crate) fn read_query(alloc: Global, lexer: &mut Lexer<'_>) -> Result<Query, LineRefusal>
+    ensures { ReadsAs is_simple_query is_small_query (query_in lexer.old) result }
 {
-    match next_name(lexer) {
-        Some(name) => match read_list(lexer) {
-            Some(head) => read_body(alloc, name, &head, lexer),
-            None => Err(LineRefusal::Later),
-        },
-        None => Err(LineRefusal::Later),
+    let text = lexer.fork();
+    let query = read_any_query(alloc, lexer);
+    if is_outside(&query) {
+        return Err(LineRefusal::Syntax);
     }
-}
-
-// What follows the head.
-fn read_body(
-    alloc: Global,
-    name: Name,
-    head: &NameList<'_>,
-    lexer: &mut Lexer<'_>,
-) -> Result<Command, LineRefusal>
-    requires { list_all is_name_of head.now ≡ true }
-    ensures { Gives (atom_in name (Some (head.now, lexer.old))) result }
-{
-    match lexer.next() {
-        Some(Token::Arrow) => match next_name(lexer) {
-            Some(relation) => match read_list(lexer) {
-                Some(body) => {
-                    if !lexer.is_done() {
-                        return Err(LineRefusal::Later);
-                    }
-                    registered(alloc, name, head, relation, &body)
-                }
-                None => Err(LineRefusal::Later),
-            },
-            None => Err(LineRefusal::Later),
-        },
-        _ => Err(LineRefusal::Later),
-    }
-}
-
-// The command of a query over one atom, where its head names each of the body's names once.
-fn registered(
-    alloc: Global,
-    name: Name,
-    head: &NameList<'_>,
-    relation: Name,
-    body: &NameList<'_>,
-) -> Result<Command, LineRefusal>
-    requires head { list_all is_name_of head.now ≡ true }
-    requires body { list_all is_name_of body.now ≡ true }
-    ensures { Gives (one_atom name head.now relation body.now) result }
-{
-    if !is_reordered(head, body) {
+    if !is_simple(&text) {
         return Err(LineRefusal::Later);
     }
-    match make_query(alloc, name, head, relation, body) {
-        Ok(query) => Ok(Command::Query { query }),
-        Err(_) => Err(LineRefusal::NoMem),
+    query
+}
+
+// A query, served or not.
+fn read_any_query(alloc: Global, lexer: &mut Lexer<'_>) -> Result<Query, LineRefusal>
+    ensures { ReadsAs (λ _. true) is_small_query (query_in lexer.old) result }
+{
+    let Some(name) = next_name(lexer) else {
+        return Err(LineRefusal::Syntax);
+    };
+    let head = read_list::<Name>(alloc, lexer);
+    if is_outside(&head) {
+        return Err(LineRefusal::Syntax);
+    }
+    // the head's refusal can only be out of memory, which comes last
+    let atoms = read_body(alloc, lexer)?;
+    let head = head?;
+    Ok(Query { name, head, atoms })
+}
+
+// What stands behind the head.
+fn read_body(alloc: Global, lexer: &mut Lexer<'_>) -> Result<Atoms, LineRefusal>
+    ensures { ReadsAs (list_all (λ _. true)) (list_all is_small_atom) (body_in lexer.old) result }
+{
+    let Some(Token::Arrow) = lexer.next() else {
+        return Err(LineRefusal::Syntax);
+    };
+    read_atoms(alloc, lexer)
+}
+
+// Atoms with commas between, to the line's end.
+fn read_atoms(alloc: Global, lexer: &mut Lexer<'_>) -> Result<Atoms, LineRefusal>
+    ensures { ReadsAs (list_all (λ _. true)) (list_all is_small_atom) (atoms_in lexer.old) result }
+{
+    let mut atoms = Ok(Sequence::new(alloc));
+    'atoms: loop {
+        let atom = read_atom(alloc, lexer);
+        if is_outside(&atom) {
+            return Err(LineRefusal::Syntax);
+        }
+        atoms = added(atoms, atom);
+        match lexer.next() {
+            None => return atoms,
+            Some(token) => {
+                if !is_comma(&token) {
+                    return Err(LineRefusal::Syntax);
+                }
+            }
+        }
     }
 }
 
-fn make_query(
-    alloc: Global,
-    name: Name,
-    head: &NameList<'_>,
-    relation: Name,
-    body: &NameList<'_>,
-) -> Result<Query, NoMem>
-    requires head { list_all is_name_of head.now ≡ true }
-    requires body { list_all is_name_of body.now ≡ true }
-    ensures { IfOk result (λ query. query ≡ query_over name head.now relation body.now) }
+fn is_comma(token: &Token<'_>) -> bool
+    ensures { result ≡ is_comma_of (lexeme_of token.now) }
 {
-    let head = names_of(alloc, head)?;
-    let terms = variables_of(alloc, body)?;
-    let mut atoms = Atoms::new(alloc);
-    atoms.push(Atom { relation, terms })?;
-    Ok(Query { name, head, atoms })
+    matches!(token, Token::Comma)
+}
+
+// An atom: a relation and its terms.
+fn read_atom(alloc: Global, lexer: &mut Lexer<'_>) -> Result<Atom, LineRefusal>
+    ensures { ReadsPart (λ _. true) is_small_atom (atom_in lexer.old) result lexer.new }
+{
+    let Some(relation) = next_name(lexer) else {
+        return Err(LineRefusal::Syntax);
+    };
+    let terms = read_list::<Term>(alloc, lexer)?;
+    Ok(Atom { relation, terms })
 }

@@ -2,13 +2,11 @@ ghost use Rattle.std.specs.Prelude.{◌≡◌, ◌≤◌, length, take};
 ghost use Rattle.djq_lines.specs.Line.{is_blank as is_blank_line, is_long as is_long_line, without_cr};
 ghost use Rattle.djq_proto.specs.Splitting.{IsFront, IsFirstLf};
 
+use djq_lines::limits::LINE_BYTES;
 use memchr::memchr;
 
-/// The most bytes that a line has, without its line end.
-const LINE_BYTES: usize = 4096;
-
 /// What stands in front of a session's bytes.
-#[derive(Clone, Copy)]
+#[derive(Clone, Copy, Debug)]
 pub enum Front {
     /// A line: `end` bytes, and what is behind it begins at `rest`.
     Line {

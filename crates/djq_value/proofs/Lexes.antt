@@ -1,13 +1,28 @@
 -- The tokens of a line, one after the other.
 use Rattle.std.proofs.Common.{◌≡◌, ℕ, zero, suc, ◌<◌, ◌≤◌, Bool, true, false, cond, List, [], ◌∷◌, length, drop, Option, Some, None, refl, sym, ap, ◌∙◌, arith, eqb}
 use Rattle.std.proofs.lemmas.List.{nil_from_length, length-drop, drop_all}
+use Rattle.std.proofs.lemmas.Bool.{cond_both}
 use Rattle.djq_model.specs.Data.{Bytes}
-use Rattle.djq_value.specs.Token.{Token, arrow, stray, ends_word, behind_spaces, behind_word, arrow_front, token_front, token_at, and_then, tokens_within, tokens}
+use Rattle.djq_value.specs.Token.{Token, text, arrow, stray, ends_word, may_end, escape_of, in_text, text_in, text_front, behind_spaces, behind_word, arrow_front, token_front, token_at, and_then, tokens_within, tokens}
 
 -- Behind the first token of bytes are fewer than so many.
 abbrev pub IsShorter : ℕ → Option (Token × Bytes) → Type 0
 IsShorter n None = Unit {0}
 IsShorter n (Some t) = length t.1 < n
+
+-- Behind a text that ends are fewer than so many.
+abbrev IsShorterText : ℕ → Option (Bytes × Bytes) → Type 0
+IsShorterText n None = Unit {0}
+IsShorterText n (Some r) = length r.1 < n
+
+shorter_text : (o : Option (Bytes × Bytes)) (n : ℕ) → IsShorterText n o → IsShorterText (suc n) o
+shorter_text None n h = tt
+shorter_text (Some r) n h = omega (arith, h)
+
+in_text_shorter : (b : Option ℕ) (o : Option (Bytes × Bytes)) (n : ℕ) → IsShorterText n o → IsShorterText (suc n) (in_text b o)
+in_text_shorter None o n h = tt
+in_text_shorter (Some b) None n h = tt
+in_text_shorter (Some b) (Some r) n h = omega (arith, h)
 
 cond_le : (b : Bool) (xs ys : Bytes) (n : ℕ) → length xs ≤ n → length ys ≤ n → length (cond b xs ys) ≤ n
 cond_le true xs ys n h k = h
@@ -30,6 +45,20 @@ arrow_shorter [] = omega arith
 arrow_shorter (b ∷ bs) =
     let step = cond_shorter (eqb b 45) (arrow, bs) (stray, b ∷ bs) (suc (suc (length bs))) (omega arith) (omega arith) in omega (arith, step)
 
+-- what is behind a text is shorter
+text_shorter : (escape : Bool) (bs : Bytes) → IsShorterText (length bs) (text_in escape bs)
+text_shorter escape [] = tt
+text_shorter true (b ∷ bs) = in_text_shorter (escape_of b) (text_in false bs) (length bs) (text_shorter false bs)
+text_shorter false (b ∷ bs) =
+    let n = suc (length bs) in
+    cond_both (eqb b 34) _ _ (IsShorterText n) (λ _. omega arith) (λ _.
+    cond_both (eqb b 92) _ _ (IsShorterText n) (λ _. shorter_text (text_in true bs) (length bs) (text_shorter true bs)) (λ _.
+    cond_both (eqb b 10) _ _ (IsShorterText n) (λ _. tt) (λ _. in_text_shorter (Some b) (text_in false bs) (length bs) (text_shorter false bs))))
+
+text_front_shorter : (o : Option (Bytes × Bytes)) (n : ℕ) → 0 < n → IsShorterText n o → length (text_front o).1 < n
+text_front_shorter None n some h = some
+text_front_shorter (Some r) n some h = cond_shorter (may_end r.1) (text r.0, r.1) (stray, r.1) n h h
+
 front_shorter : (bs : Bytes) → IsShorter (length bs) (token_front bs)
 front_shorter [] = tt
 front_shorter (b ∷ bs) =
@@ -38,7 +67,9 @@ front_shorter (b ∷ bs) =
     cond_shorter (eqb b 40) _ _ n here
     (cond_shorter (eqb b 41) _ _ n here
     (cond_shorter (eqb b 44) _ _ n here
-    (cond_shorter (eqb b 60) _ _ n (omega (arith, arrow_shorter bs)) (omega (arith, length-behind_word bs)))))
+    (cond_shorter (eqb b 60) _ _ n (omega (arith, arrow_shorter bs))
+    (cond_shorter (eqb b 34) _ _ n (text_front_shorter (text_in false bs) n (omega arith) (shorter_text (text_in false bs) (length bs) (text_shorter false bs)))
+    (omega (arith, length-behind_word bs))))))
 
 shorter_within : (o : Option (Token × Bytes)) (m n : ℕ) → m ≤ n → IsShorter m o → IsShorter n o
 shorter_within None m n h s = tt

@@ -1,5 +1,7 @@
 pub mod Lexes
+pub mod Texts
 pub mod Spellings
+pub mod Scanning
 pub mod Words
 pub mod Escapes
 pub mod Putting

@@ -1,12 +1,15 @@
 -- The tokens of a line are those that it spells.
-use Rattle.std.proofs.Common.{◌≡◌, ℕ, zero, suc, ◌≤◌, Bool, true, false, cond, not, ◌||◌, List, [], ◌∷◌, ◌++◌, length, Option, Some, None, refl, sym, ap, ap₂, subst, ◌∙◌, arith, eqb, All, ◌↔◌, inl, inr}
+use Rattle.std.proofs.Common.{◌≡◌, ℕ, zero, suc, ◌≤◌, Bool, true, false, cond, not, ◌||◌, List, [], ◌∷◌, ◌++◌, append_assoc, length, Option, Some, None, refl, sym, ap, ap₂, subst, ◌∙◌, arith, eqb, All, ◌↔◌, inl, inr}
 use Rattle.std.proofs.lemmas.List.{append-nil}
 use Rattle.std.proofs.lemmas.List.Elements.{All-nil, All-cons, All-head, All-tail}
 use Rattle.std.proofs.lemmas.List.Sums.{take_while-cons}
 use Rattle.std.proofs.lemmas.Bool.{cond-true, cond-false, cond_both, cases_Bool, eqb-true, eq-eqb, ne_eqb, eqb-false, or_parts, or_from}
 use Rattle.djq_model.specs.Data.{Bytes}
-use Rattle.djq_value.specs.Token.{Token, word, open_paren, close_paren, comma, arrow, stray, ends_word, behind_spaces, behind_word, word_front, arrow_front, token_front, token_at, and_then, tokens_within, tokens}
-use Rattle.djq_value.specs.Spelling.{IsSpaces, IsToken, MayFollow, IsSpelling, text_of}
+use Rattle.djq_value.specs.Token.{Token, word, text, open_paren, close_paren, comma, arrow, stray, ends_word, may_end, behind_spaces, behind_word, word_front, arrow_front, text_front, text_in, token_front, token_at, and_then, tokens_within, tokens}
+use Rattle.djq_value.specs.Spelling.{HasNoStray, IsSpaces, IsToken, MayFollow, IsSpelling, text_of}
+use Rattle.djq_value.specs.ValueText.{escaped}
+use Rattle.djq_value.proofs.Texts.{IsSpelledText, text_read, text_spelled}
+use Rattle.std.specs.List.{flat_map}
 use Rattle.djq_value.proofs.Lexes.{IsShorter, token_shorter, tokens-none, tokens-some}
 
 front_stop : (c : ℕ) (cs : Bytes) → ends_word c ≡ true → word_front (c ∷ cs) ≡ []
@@ -22,24 +25,19 @@ spaces_passed [] bs h = refl
 spaces_passed (b ∷ front) bs h =
     cond-true _ _ _ (eq-eqb b 32 (All-head (λ x. x ≡ 32) b front h)) ∙ spaces_passed front bs (All-tail (λ x. x ≡ 32) b front h)
 
--- what may stand behind a word may stand behind any
-any_word : (v w behind : Bytes) → MayFollow (word v) behind → MayFollow (word w) behind
-any_word v w [] f = tt
-any_word v w (c ∷ cs) f = f
-
-front_all : (w behind : Bytes) → All (λ b. ends_word b ≡ false) w → MayFollow (word w) behind → word_front (w ++ behind) ≡ w
+front_all : (w behind : Bytes) → All (λ b. ends_word b ≡ false) w → may_end behind ≡ true → word_front (w ++ behind) ≡ w
 front_all [] [] h f = refl
 front_all [] (b ∷ bs) h f = front_stop b bs f
 front_all (b ∷ w) behind h f =
     front_go b (w ++ behind) (All-head (λ x. ends_word x ≡ false) b w h)
-    ∙ ap (λ xs. b ∷ xs) (front_all w behind (All-tail (λ x. ends_word x ≡ false) b w h) (any_word (b ∷ w) w behind f))
+    ∙ ap (λ xs. b ∷ xs) (front_all w behind (All-tail (λ x. ends_word x ≡ false) b w h) f)
 
-behind_all : (w behind : Bytes) → All (λ b. ends_word b ≡ false) w → MayFollow (word w) behind → behind_word (w ++ behind) ≡ behind
+behind_all : (w behind : Bytes) → All (λ b. ends_word b ≡ false) w → may_end behind ≡ true → behind_word (w ++ behind) ≡ behind
 behind_all [] [] h f = refl
 behind_all [] (b ∷ bs) h f = cond-true _ _ _ f
 behind_all (b ∷ w) behind h f =
     cond-false _ _ _ (All-head (λ x. ends_word x ≡ false) b w h)
-    ∙ behind_all w behind (All-tail (λ x. ends_word x ≡ false) b w h) (any_word (b ∷ w) w behind f)
+    ∙ behind_all w behind (All-tail (λ x. ends_word x ≡ false) b w h) f
 
 -- a byte of a word is none of the bytes that end one
 pub record IsInner (b : ℕ) : Type 0 where
@@ -57,28 +55,34 @@ inner b e =
     let at_open = or_parts (eqb b 32) (eqb b 40) at_close.0 in
     record { space = at_open.0; open_sign = at_open.1; close_sign = at_close.1; comma_sign = at_comma.1; angle = at_angle.1 }
 
-token_read : (t : Token) (behind : Bytes) → IsToken t → MayFollow t behind → token_front (text_of t ++ behind) ≡ Some (t, behind)
+text_read_front : (t behind : Bytes) → may_end behind ≡ true → text_front (text_in false ((flat_map escaped t ++ 34 ∷ []) ++ behind)) ≡ (text t, behind)
+text_read_front t behind f =
+    ap (λ xs. text_front (text_in false xs)) (append_assoc (flat_map escaped t) (34 ∷ []) behind)
+    ∙ ap text_front (text_read t behind) ∙ cond-true _ _ _ f
+
+pub token_read : (t : Token) (behind : Bytes) → IsToken t → MayFollow t behind → token_front (text_of t ++ behind) ≡ Some (t, behind)
 token_read open_paren behind h f = refl
 token_read close_paren behind h f = refl
 token_read comma behind h f = refl
 token_read arrow behind h f = refl
-token_read stray [] h f = refl
-token_read stray (b ∷ bs) h f = ap (λ p. Some p) (cond-false _ _ _ (ne_eqb b 45 f))
+token_read stray behind h f = absurd h
+token_read (text t) behind h f = ap (λ p. Some p) (text_read_front t behind f)
 token_read (word []) behind h f = absurd (omega (arith, h.0))
 token_read (word (b ∷ w)) behind h f =
     let here = inner b (All-head (λ x. ends_word x ≡ false) b w h.1) in
     let more = All-tail (λ x. ends_word x ≡ false) b w h.1 in
-    let after = any_word (b ∷ w) w behind f in
     ap (λ p. Some p)
     (cond-false _ _ _ here.open_sign ∙ cond-false _ _ _ here.close_sign ∙ cond-false _ _ _ here.comma_sign ∙ cond-false _ _ _ here.angle
-    ∙ ap₂ (λ (xs ys : Bytes). (word (b ∷ xs), ys)) (front_all w behind more after) (behind_all w behind more after))
+    ∙ cond-false _ _ _ (ne_eqb b 34 h.2)
+    ∙ ap₂ (λ (xs ys : Bytes). (word (b ∷ xs), ys)) (front_all w behind more f) (behind_all w behind more f))
 
-no_space : (t : Token) (behind : Bytes) → IsToken t → behind_spaces (text_of t ++ behind) ≡ text_of t ++ behind
+pub no_space : (t : Token) (behind : Bytes) → IsToken t → behind_spaces (text_of t ++ behind) ≡ text_of t ++ behind
 no_space open_paren behind h = refl
 no_space close_paren behind h = refl
 no_space comma behind h = refl
 no_space arrow behind h = refl
-no_space stray behind h = refl
+no_space stray behind h = absurd h
+no_space (text t) behind h = refl
 no_space (word []) behind h = absurd (omega (arith, h.0))
 no_space (word (b ∷ w)) behind h = cond-false _ _ _ (inner b (All-head (λ x. ends_word x ≡ false) b w h.1)).space
 
@@ -111,8 +115,16 @@ no_space_first [] = tt
 no_space_first (b ∷ bs) = cond_both (eqb b 32) (behind_spaces bs) (b ∷ bs) HasNoSpaceFirst (λ e. no_space_first bs) (λ e. e)
 
 -- a token in front of bytes, and what is behind it
+abbrev IsCut : Bytes → Token → Bytes → Type 0
+IsCut bs t behind = (bs ≡ text_of t ++ behind) × IsToken t × MayFollow t behind
+
+abbrev IsReal : Token → Type 0
+IsReal stray = ⊥
+IsReal _ = Unit {0}
+
+-- the same, where it is a token at all
 abbrev IsFirstToken : Bytes → Token × Bytes → Type 0
-IsFirstToken bs p = (bs ≡ text_of p.0 ++ p.1) × IsToken p.0 × MayFollow p.0 p.1
+IsFirstToken bs p = IsReal p.0 → IsCut bs p.0 p.1
 
 word_cut : (cs : Bytes) → cs ≡ word_front cs ++ behind_word cs
 word_cut [] = refl
@@ -128,29 +140,45 @@ word_all (c ∷ cs) = elim (cases_Bool (ends_word c)) [
   | inr more ↦ subst (λ (xs : Bytes). All (λ b. ends_word b ≡ false) xs) (sym (front_go c cs more)) (All-cons (λ b. ends_word b ≡ false) c (word_front cs) more (word_all cs))
 ]
 
-word_end : (w cs : Bytes) → MayFollow (word w) (behind_word cs)
-word_end w [] = tt
-word_end w (c ∷ cs) = cond_both (ends_word c) (c ∷ cs) (behind_word cs) (MayFollow (word w)) (λ e. e) (λ e. word_end w cs)
+word_end : (cs : Bytes) → may_end (behind_word cs) ≡ true
+word_end [] = refl
+word_end (c ∷ cs) = cond_both (ends_word c) (c ∷ cs) (behind_word cs) (λ xs. may_end xs ≡ true) (λ e. e) (λ e. word_end cs)
 
 inner_first : (b : ℕ) → eqb b 32 ≡ false → eqb b 40 ≡ false → eqb b 41 ≡ false → eqb b 44 ≡ false → eqb b 60 ≡ false → ends_word b ≡ false
 inner_first b e f g h i = or_from _ _ (or_from _ _ (or_from _ _ (or_from _ _ e f) g) h) i
 
 arrow_first : (b : ℕ) (cs : Bytes) → b ≡ 60 → IsFirstToken (b ∷ cs) (arrow_front cs)
-arrow_first b [] e = (ap (λ x. x ∷ []) e, tt, tt)
+arrow_first b [] e = λ real. absurd real
 arrow_first b (c ∷ cs) e =
     cond_both (eqb c 45) (arrow, cs) (stray, c ∷ cs) (IsFirstToken (b ∷ c ∷ cs))
-    (λ is. (ap₂ (λ (x y : ℕ). x ∷ y ∷ cs) e (eqb-true c 45 is), tt, tt))
-    (λ no. (ap (λ x. x ∷ c ∷ cs) e, tt, eqb-false c 45 no))
+    (λ is _. (ap₂ (λ (x y : ℕ). x ∷ y ∷ cs) e (eqb-true c 45 is), tt, tt))
+    (λ no real. absurd real)
+
+text_first : (b : ℕ) (cs : Bytes) (o : Option (Bytes × Bytes)) → b ≡ 34 → IsSpelledText false cs o → IsFirstToken (b ∷ cs) (text_front o)
+text_first b cs None e h = λ real. absurd real
+text_first b cs (Some r) e h =
+    cond_both (may_end r.1) (text r.0, r.1) (stray, r.1) (IsFirstToken (b ∷ cs))
+    (λ ends _. (ap₂ (λ (x : ℕ) (xs : Bytes). x ∷ xs) e (h ∙ sym (append_assoc (flat_map escaped r.0) (34 ∷ []) r.1)), tt, ends))
+    (λ no real. absurd real)
 
 first_token : (b : ℕ) (cs : Bytes) → eqb b 32 ≡ false → IsFirstToken (b ∷ cs) (
-    cond (eqb b 40) (open_paren, cs) (cond (eqb b 41) (close_paren, cs) (cond (eqb b 44) (comma, cs) (cond (eqb b 60) (arrow_front cs) (word (b ∷ word_front cs), behind_word cs)))))
-first_token b cs no_space =
+    cond (eqb b 40) (open_paren, cs) (cond (eqb b 41) (close_paren, cs) (cond (eqb b 44) (comma, cs) (cond (eqb b 60) (arrow_front cs)
+    (cond (eqb b 34) (text_front (text_in false cs)) (word (b ∷ word_front cs), behind_word cs))))))
+first_token b cs not_space =
     let P = IsFirstToken (b ∷ cs) in
-    cond_both (eqb b 40) _ _ P (λ is. (ap (λ x. x ∷ cs) (eqb-true b 40 is), tt, tt)) (λ no_open.
-    cond_both (eqb b 41) _ _ P (λ is. (ap (λ x. x ∷ cs) (eqb-true b 41 is), tt, tt)) (λ no_close.
-    cond_both (eqb b 44) _ _ P (λ is. (ap (λ x. x ∷ cs) (eqb-true b 44 is), tt, tt)) (λ no_comma.
+    cond_both (eqb b 40) _ _ P (λ is _. (ap (λ x. x ∷ cs) (eqb-true b 40 is), tt, tt)) (λ no_open.
+    cond_both (eqb b 41) _ _ P (λ is _. (ap (λ x. x ∷ cs) (eqb-true b 41 is), tt, tt)) (λ no_close.
+    cond_both (eqb b 44) _ _ P (λ is _. (ap (λ x. x ∷ cs) (eqb-true b 44 is), tt, tt)) (λ no_comma.
     cond_both (eqb b 60) _ _ P (λ is. arrow_first b cs (eqb-true b 60 is)) (λ no_angle.
-    (ap (λ xs. b ∷ xs) (word_cut cs), (omega arith, All-cons (λ x. ends_word x ≡ false) b (word_front cs) (inner_first b no_space no_open no_close no_comma no_angle) (word_all cs)), word_end (b ∷ word_front cs) cs)))))
+    cond_both (eqb b 34) _ _ P (λ is. text_first b cs (text_in false cs) (eqb-true b 34 is) (text_spelled false cs)) (λ no_quote _. (
+      ap (λ xs. b ∷ xs) (word_cut cs),
+      (
+        omega arith,
+        All-cons (λ x. ends_word x ≡ false) b (word_front cs) (inner_first b not_space no_open no_close no_comma no_angle) (word_all cs),
+        eqb-false b 34 no_quote,
+      ),
+      word_end cs,
+    ))))))
 
 -- what is known of the first token
 abbrev IsFirst : Bytes → Option (Token × Bytes) → Type 0
@@ -161,28 +189,51 @@ front_first : (bs : Bytes) → HasNoSpaceFirst bs → IsFirst bs (token_front bs
 front_first [] h = refl
 front_first (b ∷ cs) h = first_token b cs h
 
-spell_step : (bs : Bytes) (n : ℕ) (o : Option (Token × Bytes)) → IsFirst (behind_spaces bs) o → IsShorter (suc n) o → ((cs : Bytes) → length cs ≤ n → IsSpelling (tokens_within n cs) cs) → IsSpelling (and_then (tokens_within n) o) bs
-spell_step bs n None first s more =
+no_stray_first : (t : Token) (ts : List Token) → HasNoStray (t ∷ ts) → IsReal t × HasNoStray ts
+no_stray_first stray ts h = absurd h
+no_stray_first (word w) ts h = (tt, h)
+no_stray_first (text t) ts h = (tt, h)
+no_stray_first open_paren ts h = (tt, h)
+no_stray_first close_paren ts h = (tt, h)
+no_stray_first comma ts h = (tt, h)
+no_stray_first arrow ts h = (tt, h)
+
+spell_step : (bs : Bytes) (n : ℕ) (o : Option (Token × Bytes)) → IsFirst (behind_spaces bs) o → IsShorter (suc n) o → HasNoStray (and_then (tokens_within n) o)
+    → ((cs : Bytes) → length cs ≤ n → HasNoStray (tokens_within n cs) → IsSpelling (tokens_within n cs) cs) → IsSpelling (and_then (tokens_within n) o) bs
+spell_step bs n None first s real more =
     let cut = cut_spaces bs in
     let all : bs ≡ cut.0 = cut.2 ∙ ap (λ xs. cut.0 ++ xs) first ∙ append-nil cut.0 in
     subst IsSpaces (sym all) cut.1
-spell_step bs n (Some p) first s more =
+spell_step bs n (Some p) first s real more =
     let cut = cut_spaces bs in
-    (cut.0, p.1, cut.1, cut.2 ∙ ap (λ xs. cut.0 ++ xs) first.0, first.1, first.2, more p.1 (omega (arith, s)))
+    let parts = no_stray_first p.0 (tokens_within n p.1) real in
+    let here = first parts.0 in
+    (cut.0, p.1, cut.1, cut.2 ∙ ap (λ xs. cut.0 ++ xs) here.0, here.1, here.2, more p.1 (omega (arith, s)) parts.1)
 
 shorter_more : (o : Option (Token × Bytes)) (m n : ℕ) → m ≤ n → IsShorter m o → IsShorter n o
 shorter_more None m n h s = tt
 shorter_more (Some t) m n h s = omega (arith, s)
 
-read_spelled : (n : ℕ) (bs : Bytes) → length bs ≤ n → IsSpelling (tokens_within n bs) bs
-read_spelled zero [] h = All-nil (λ x. x ≡ 32)
-read_spelled zero (b ∷ bs) h = absurd (omega (arith, h))
-read_spelled (suc n) bs h =
-    spell_step bs n (token_at bs) (front_first (behind_spaces bs) (no_space_first bs)) (shorter_more (token_at bs) (length bs) (suc n) h (token_shorter bs)) (λ cs k. read_spelled n cs k)
+read_spelled : (n : ℕ) (bs : Bytes) → length bs ≤ n → HasNoStray (tokens_within n bs) → IsSpelling (tokens_within n bs) bs
+read_spelled zero [] h real = All-nil (λ x. x ≡ 32)
+read_spelled zero (b ∷ bs) h real = absurd (omega (arith, h))
+read_spelled (suc n) bs h real =
+    spell_step bs n (token_at bs) (front_first (behind_spaces bs) (no_space_first bs)) (shorter_more (token_at bs) (length bs) (suc n) h (token_shorter bs)) real (λ cs k r. read_spelled n cs k r)
 
-pub tokens_spelled : (line : Bytes) (ts : List Token) → tokens line ≡ ts → IsSpelling ts line
+pub tokens_spelled : (line : Bytes) (ts : List Token) → tokens line ≡ ts → HasNoStray ts → IsSpelling ts line
 unfolding tokens
-tokens_spelled line ts e = subst (λ (us : List Token). IsSpelling us line) e (read_spelled (length line) line (omega arith))
+tokens_spelled line ts e real =
+    subst (λ (us : List Token). IsSpelling us line) e (read_spelled (length line) line (omega arith) (subst HasNoStray (sym e) real))
 
-pub tokens_are_spelled : (line : Bytes) (ts : List Token) → (tokens line ≡ ts) ↔ IsSpelling ts line
-tokens_are_spelled line ts = (tokens_spelled line ts, spelled_read ts line)
+spelled_real : (ts : List Token) (line : Bytes) → IsSpelling ts line → HasNoStray ts
+spelled_real [] line s = tt
+spelled_real (stray ∷ ts) line s = absurd (s.4)
+spelled_real (word w ∷ ts) line s = spelled_real ts s.1 s.6
+spelled_real (text t ∷ ts) line s = spelled_real ts s.1 s.6
+spelled_real (open_paren ∷ ts) line s = spelled_real ts s.1 s.6
+spelled_real (close_paren ∷ ts) line s = spelled_real ts s.1 s.6
+spelled_real (comma ∷ ts) line s = spelled_real ts s.1 s.6
+spelled_real (arrow ∷ ts) line s = spelled_real ts s.1 s.6
+
+pub tokens_are_spelled : (line : Bytes) (ts : List Token) → ((tokens line ≡ ts) × HasNoStray ts) ↔ IsSpelling ts line
+tokens_are_spelled line ts = (λ h. tokens_spelled line ts h.0 h.1, λ s. (spelled_read ts line s, spelled_real ts line s))

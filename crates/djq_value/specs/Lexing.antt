@@ -3,13 +3,14 @@ use Rattle.std.specs.Prelude.{◌≡◌, List, [], ◌∷◌, Option, None, Some
 use Rattle.std.specs.Borrow.{Bor}
 use Rattle.djq_model.specs.Data.{Bytes}
 use Rattle.djq_value.specs.Literal.{is_name}
-use Rattle.djq_value.specs.Token.{Token as Lexeme, word, open_paren, close_paren, comma, arrow, stray}
+use Rattle.djq_value.specs.Token.{Token as Lexeme, word, text, open_paren, close_paren, comma, arrow, stray}
 use Rattle.djq_value.specs.declared.lexer.Token.{Token}
-use Rattle.djq_value.specs.declared.lexer.Token.TheVariants.{Word, Open, Close, Comma, Arrow, Stray}
+use Rattle.djq_value.specs.declared.lexer.Token.TheVariants.{Word, Text, Open, Close, Comma, Arrow, Stray}
 
 -- the token of the definitions that a token of the lexer stands for
 abbrev pub lexeme_of : Token → Lexeme
 lexeme_of (Word w) = word w.now
+lexeme_of (Text t) = text t
 lexeme_of Open = open_paren
 lexeme_of Close = close_paren
 lexeme_of Comma = comma

@@ -1,8 +1,11 @@
 pub mod Token
 pub mod Spelling
+pub mod TextAt
+pub mod Quoted
 pub mod Lexing
 pub mod Literal
 pub mod Word
 pub mod Number
+pub mod Reads
 pub mod ValueText
 pub mod Output

@@ -3,7 +3,9 @@ use Rattle.std.specs.Prelude.{ℕ, ℤ, pos, negsuc, List, [], ◌∷◌, ◌==�
 use Rattle.std.specs.List.{list_all, list_any}
 use Rattle.djq_model.specs.declared.value.Value.{Value}
 use Rattle.djq_model.specs.declared.value.Value.TheVariants.{Int, Text}
+use Rattle.djq_model.specs.declared.value.TheConstants.{TEXT_BYTES}
 use Rattle.djq_model.specs.Data.{Bytes, bytes_eq}
+use Rattle.djq_value.specs.Token.{Token, word, text}
 
 -- a lower-case letter
 abbrev pub is_lower : ℕ → Bool
@@ -55,7 +57,13 @@ are_different (n ∷ ns) = not (has_name ns n) && are_different ns
 abbrev pub is_reordered : List Bytes → List Bytes → Bool
 is_reordered head body = are_different head && (are_different body && ((length head == length body) && list_all (has_name body) head))
 
+-- the value that a token is
+abbrev pub literal_of : Token → Option Value
+literal_of (word w) = option_map (λ i. Int i) (integer_of w)
+literal_of (text t) = Some (Text t)
+literal_of _ = None
+
 -- a value within its limit: an integer of 64 bits, a text of at most 255 bytes
 abbrev pub is_small_value : Value → Bool
 is_small_value (Int i) = is_small i
-is_small_value (Text t) = nat_le (length t) 255
+is_small_value (Text t) = nat_le (length t) TEXT_BYTES

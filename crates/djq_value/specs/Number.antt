@@ -1,6 +1,5 @@
 -- What the readers of numbers answer.
 use Rattle.std.specs.Prelude.{ℕ, ℤ, min, Option, None, Some, if◌then◌else◌}
-use Rattle.djq_value.specs.Token.{Token as Lexeme, word}
 use Rattle.djq_value.specs.Literal.{integer_of, is_small}
 use Rattle.djq_value.specs.declared.number.Number.{Number}
 use Rattle.djq_value.specs.declared.number.Number.TheVariants.{Other, Wide, Small}
@@ -13,8 +12,3 @@ capped n = min n 18446744073709551615
 abbrev pub number_of : Option ℤ → Number
 number_of None = Other
 number_of (Some i) = if is_small i then Small i else Wide
-
--- the integer that a token is
-abbrev pub integer_in_token : Lexeme → Option ℤ
-integer_in_token (word w) = integer_of w
-integer_in_token _ = None

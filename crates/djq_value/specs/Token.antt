@@ -1,15 +1,17 @@
--- The tokens of a line: words, signs, and spaces between them.
-use Rattle.std.specs.Prelude.{ℕ, zero, suc, List, [], ◌∷◌, ◌==◌, ◌||◌, Bool, not, Option, None, Some, if◌then◌else◌, length, take_while}
+-- The tokens of a line: words, texts, signs, and spaces between them.
+use Rattle.std.specs.Prelude.{ℕ, zero, suc, List, [], ◌∷◌, ◌==◌, ◌||◌, Bool, true, false, not, Option, None, Some, if◌then◌else◌, length, take_while}
 use Rattle.djq_model.specs.Data.{Bytes}
 
 pub data Token : Type 0 where
-  -- a run of bytes that are no spaces and no signs: a keyword, a name, an integer, or none of them
+  -- a run of bytes that are no spaces and no signs: a keyword, a name, a hole, an integer, or none of them
   word : Bytes → Token
+  -- what stands between two quotes, its escapes taken for what they stand for
+  text : Bytes → Token
   open_paren : Token
   close_paren : Token
   comma : Token
   arrow : Token
-  -- a `<` that begins no arrow
+  -- no token: a `<` that begins no arrow, a text that doesn't end, that has an escape of no meaning, or that a word or another text touches
   stray : Token
 
 -- spaces and signs end a word
@@ -33,6 +35,36 @@ abbrev pub arrow_front : Bytes → Token × Bytes
 arrow_front [] = (stray, [])
 arrow_front (b ∷ bs) = if b == 45 then (arrow, bs) else (stray, b ∷ bs)
 
+-- what the byte behind a backslash stands for
+abbrev pub escape_of : ℕ → Option ℕ
+escape_of b = if b == 34 then Some 34 else (if b == 92 then Some 92 else (if b == 110 then Some 10 else None))
+
+-- one byte in front of a text
+abbrev pub in_text : Option ℕ → Option (Bytes × Bytes) → Option (Bytes × Bytes)
+in_text (Some b) (Some r) = Some (b ∷ r.0, r.1)
+in_text (Some b) None = None
+in_text None _ = None
+
+-- The text up to its closing quote, and what is behind that; `true` where a backslash stands before these bytes.
+abbrev pub text_in : Bool → Bytes → Option (Bytes × Bytes)
+text_in escape [] = None
+text_in true (b ∷ bs) = in_text (escape_of b) (text_in false bs)
+text_in false (b ∷ bs) =
+    if b == 34 then Some ([], bs)
+    else (if b == 92 then text_in true bs
+    else (if b == 10 then None
+    else in_text (Some b) (text_in false bs)))
+
+-- whether a word or a text may end in front of these bytes
+abbrev pub may_end : Bytes → Bool
+may_end [] = true
+may_end (b ∷ bs) = ends_word b
+
+-- behind an opening quote
+abbrev pub text_front : Option (Bytes × Bytes) → Token × Bytes
+text_front None = (stray, [])
+text_front (Some r) = if may_end r.1 then (text r.0, r.1) else (stray, r.1)
+
 -- the token that begins with these bytes, and what is behind it
 abbrev pub token_front : Bytes → Option (Token × Bytes)
 token_front [] = None
@@ -41,7 +73,8 @@ token_front (b ∷ bs) = Some (
     else (if b == 41 then (close_paren, bs)
     else (if b == 44 then (comma, bs)
     else (if b == 60 then arrow_front bs
-    else (word (b ∷ word_front bs), behind_word bs)))))
+    else (if b == 34 then text_front (text_in false bs)
+    else (word (b ∷ word_front bs), behind_word bs))))))
 
 -- the first token, and what is behind it; none where only spaces are left
 abbrev pub token_at : Bytes → Option (Token × Bytes)

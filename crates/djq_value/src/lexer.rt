@@ -1,15 +1,18 @@
-ghost use Rattle.std.specs.Prelude.{◌≡◌, ◌↔◌, [], IsTrue, ◌<◌, ◌≤◌, Some, drop, length, take};
+ghost use Rattle.std.specs.Prelude.{◌≡◌, ◌↔◌, [], false, IsTrue, ◌<◌, ◌≤◌, Some, drop, length, take};
 ghost use Rattle.std.specs.Option.{option_copied};
-ghost use Rattle.djq_value.specs.Token.{arrow_front, behind_spaces, behind_word, ends_word as ends_word_of, token_front, tokens, word_front};
+ghost use Rattle.djq_value.specs.Token.{arrow_front, behind_spaces, behind_word, ends_word as ends_word_of, may_end as may_end_of, text_front, text_in, token_front, tokens, word_front};
 ghost use Rattle.djq_value.specs.Lexing.{Takes, lexeme_of, word_of};
 
+use crate::quoted::{Quoted, text_end};
 use std::marker::Model;
 
 /// A token of a line.
-#[derive(Clone, Copy)]
+#[derive(Debug, Drop)]
 pub enum Token<'a> {
     /// A run of bytes that are no spaces and no signs.
     Word(&'a [u8]),
+    /// A text between quotes.
+    Text(Quoted<'a>),
     /// `(`.
     Open,
     /// `)`.
@@ -18,7 +21,7 @@ pub enum Token<'a> {
     Comma,
     /// `<-`.
     Arrow,
-    /// A `<` that begins no arrow.
+    /// What is no token: a `<` that begins no arrow, or a text that is spelled wrongly.
     Stray,
 }
 
@@ -35,7 +38,7 @@ impl<'a> Token<'a> {
 }
 
 /// Gives the tokens of a line, one by one. Contracts see the list of the tokens that are left.
-#[derive(Drop)]
+#[derive(Debug, Drop)]
 pub struct Lexer<'a> {
     rest: &'a [u8],
 }
@@ -98,6 +101,7 @@ fn front_token(bytes: &[u8]) -> (Token<'_>, &[u8])
         b')' => (Token::Close, behind),
         b',' => (Token::Comma, behind),
         b'<' => arrow_or_stray(behind),
+        b'"' => text_or_stray(behind),
         _ => {
             let len = word_len(behind);
             (Token::Word(&bytes[..len + 1]), &behind[len..])
@@ -113,6 +117,31 @@ fn arrow_or_stray(behind: &[u8]) -> (Token<'_>, &[u8])
         (Token::Arrow, &behind[1..])
     } else {
         (Token::Stray, behind)
+    }
+}
+
+// What an opening quote begins, by what is behind it.
+fn text_or_stray(behind: &[u8]) -> (Token<'_>, &[u8])
+    ensures { text_front (text_in false behind.now) ≡ (lexeme_of result.0, result.1.now) }
+{
+    let Some((end, len)) = text_end(behind) else {
+        return (Token::Stray, &[]);
+    };
+    let rest = &behind[end..];
+    if may_end(rest) {
+        (Token::Text(Quoted::new(behind, len)), rest)
+    } else {
+        (Token::Stray, rest)
+    }
+}
+
+// Whether a word or a text may end in front of these bytes.
+fn may_end(behind: &[u8]) -> bool
+    ensures { result ≡ may_end_of behind.now }
+{
+    match behind.first() {
+        Some(byte) => ends_word(*byte),
+        None => true,
     }
 }
 

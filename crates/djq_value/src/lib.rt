@@ -1,6 +1,6 @@
 //! Tokens and literals: what the words of a line are, and how values are printed.
 //!
-//! `Lexer` gives the tokens of a line, `read_integer` and `next_name` say what a word is, `print_value`
+//! `Lexer` gives the tokens of a line, `read_literal` and `read_name` say what a token is, `print_value`
 //! appends the text of a value. Nothing here knows of commands or replies.
 //!
 //! Output goes into a `BytesMut`, of which contracts see the bytes and the room behind them. Whoever
@@ -10,16 +10,20 @@
 
 pub use laws::tokens_are_spelled;
 pub use lexer::{Lexer, Token};
-pub use number::{Number, number_in, read_natural};
+pub use literal::{LiteralRefusal, read_literal};
+pub use number::read_natural;
 pub use output::{KEPT, put};
 pub use print::print_value;
+pub use quoted::Quoted;
 pub use word::{is_name, is_text, next_name, next_word, read_name};
 
 mod laws;
 mod lexer;
+mod literal;
 mod number;
 mod output;
 mod print;
+mod quoted;
 #[cfg(test)]
 mod tests;
 mod word;

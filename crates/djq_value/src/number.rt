@@ -1,14 +1,11 @@
 // What number a word is.
 ghost use Rattle.std.specs.Prelude.{◌≡◌, Some, pos, option_map};
 ghost use Rattle.djq_value.specs.Literal.{integer_of, minus, natural_of};
-ghost use Rattle.djq_value.specs.Lexing.{lexeme_of};
-ghost use Rattle.djq_value.specs.Number.{capped, integer_in_token, number_of};
-
-use crate::lexer::Token;
+ghost use Rattle.djq_value.specs.Number.{capped, number_of};
 
 // What a word says of an integer.
-#[derive(Clone, Copy)]
-pub enum Number {
+#[derive(Clone, Copy, Debug)]
+pub(crate) enum Number {
     // No integer.
     Other,
     // An integer past 64 bits.
@@ -38,7 +35,7 @@ pub fn read_natural(digits: &[u8]) -> Option<u64>
 }
 
 // An optional `-`, then digits.
-fn read_integer(word: &[u8]) -> Number
+pub(crate) fn read_integer(word: &[u8]) -> Number
     ensures { result ≡ number_of (integer_of word.now) }
 {
     if !word.is_empty() && word[0] == b'-' {
@@ -72,15 +69,5 @@ fn negative(size: u64) -> Number
         Number::Small(i64::MIN)
     } else {
         Number::Wide
-    }
-}
-
-// The integer that a token is.
-pub fn number_in(token: Token<'_>) -> Number
-    ensures { result ≡ number_of (integer_in_token (lexeme_of token.entry)) }
-{
-    match token.word() {
-        Some(word) => read_integer(word),
-        None => Number::Other,
     }
 }

@@ -1,18 +1,19 @@
-use Rattle.std.proofs.Common.{◌∙◌, List, sym, ap, subst, Option, refl, Err}
-use Rattle.djq_proto.specs.declared.command.LineRefusal.TheVariants.{Later}
+use Rattle.std.proofs.Common.{◌∙◌, sym, subst, refl, Result, Err}
+use Rattle.std.proofs.lemmas.Bool.{cond-false, cond-true}
+use Rattle.djq_lines.specs.Grammar.{command_in, command_of}
 use Rattle.djq_lines.specs.declared.command.Command.{Command}
-use Rattle.djq_value.specs.Token.{Token}
-use Rattle.djq_lines.specs.Grammar.{command_of, command_in}
 use Rattle.djq_proto.specs.Reading.{Gives}
-use Rattle.djq_proto.proofs.Commands.{command_in-no_word}
+use Rattle.djq_proto.specs.declared.refusal.LineRefusal.{LineRefusal}
+use Rattle.djq_proto.specs.declared.refusal.LineRefusal.TheVariants.{Syntax}
 use Rattle.djq_proto.proofs.command.read_command.Goals as goal
 
-pub returns-in-Some : goal.returns-in-Some
+pub returns-then-not-is_utf8 : goal.returns-then-not-is_utf8
 unfolding command_of
-returns-in-Some c =
-    subst (λ (ts : List Token). Gives (command_in ts) c.read_after.result) (sym c.in-Some.ensures ∙ c.new-lexer.ensures) c.read_after.ensures
+returns-then-not-is_utf8 c =
+    let r : Result Command LineRefusal = Err Syntax in
+    subst (λ o. Gives o r) (sym (cond-false _ _ _ (sym c.is_utf8.ensures ∙ c.if-not-is_utf8.true))) (refl, tt)
 
-pub returns-in-None : goal.returns-in-None
+pub returns : goal.returns
 unfolding command_of
-returns-in-None c =
-    subst (λ (o : Option Command). Gives o (Err Later)) (sym (command_in-no_word _ c.in-None.ensures) ∙ ap command_in c.new-lexer.ensures) refl
+returns c = subst (λ o. Gives o c.read_tokens.result) (sym (cond-true _ _ _ (sym c.is_utf8.ensures ∙ c.if-not-is_utf8.false)))
+    (subst (λ ts. Gives (command_in ts) c.read_tokens.result) c.new-lexer.ensures c.read_tokens.ensures)

@@ -13,4 +13,4 @@ returns-then-is_empty c =
 pub returns-else-is_empty : goal.returns-else-is_empty
 returns-else-is_empty c =
     let rest = c.self.inside.rest.now in
-    sym c.self.view_is ∙ next_some rest _ _ _ (take_rest rest c.space_count.result ∙ c.space_count.ensures.behind) c.front_token.ensures
+    sym c.self.view_is ∙ next_some rest _ _ _ (take_rest rest c.space_count.result ∙ c.space_count.ensures.behind) c.front_token-token.ensures

@@ -1,0 +1,32 @@
+/// The first word of a command.
+#[derive(Clone, Copy, Debug, PartialEq, Eq)]
+pub enum Keyword {
+    /// `rel`.
+    Rel,
+    /// `add`.
+    Add,
+    /// `del`.
+    Del,
+    /// `query`.
+    Query,
+    /// `drop`.
+    Drop,
+    /// `open`.
+    Open,
+    /// `next`.
+    Next,
+    /// `close`.
+    Close,
+    /// `has`.
+    Has,
+    /// `watch`.
+    Watch,
+    /// `unwatch`.
+    Unwatch,
+    /// `explain`.
+    Explain,
+    /// `quit`.
+    Quit,
+    /// `stop`.
+    Stop,
+}

@@ -1,0 +1,21 @@
+-- The text behind an opening quote.
+use Rattle.std.specs.Prelude.{◌≡◌, ◌≤◌, ℕ, [], true, false, Option, None, Some, is_some, drop, length}
+use Rattle.djq_model.specs.Data.{Bytes}
+use Rattle.djq_value.specs.Token.{text_in}
+
+abbrev pub text_or_none : Option (Bytes × Bytes) → Bytes
+text_or_none None = []
+text_or_none (Some r) = r.0
+
+-- the text up to its closing quote; nothing where there is none
+abbrev pub text_at : Bytes → Bytes
+text_at bs = text_or_none (text_in false bs)
+
+-- A text of so many bytes stands there.
+abbrev pub HasText : Bytes → ℕ → Type 0
+HasText bs n = (is_some (text_in false bs) ≡ true) × (length (text_at bs) ≡ n)
+
+-- Where the text ends and how many bytes it has; none where there is no text.
+abbrev pub Ends : Bytes → Option (ℕ × ℕ) → Type 0
+Ends bs None = text_in false bs ≡ None
+Ends bs (Some r) = (text_in false bs ≡ Some (text_at bs, drop r.0 bs)) × (length (text_at bs) ≡ r.1) × (r.0 ≤ length bs)
