@@ -1,20 +1,26 @@
 //! What a program meets outside: sources of bytes, sinks of bytes, and a hub of sessions.
 //!
-//! A [`Source`] has bytes left, a [`Sink`] has bytes taken, and a [`Hub`] has a script of turns to
-//! come and a past. Contracts name them where they are told, as `Some`: a source in memory tells
-//! all, the standard input tells nothing (`None`). So code that is generic in them is proved once
-//! for both, and a claim on bytes is made where they are told as the call returns.
+//! A [`Source`] has bytes left and pieces given, a [`Sink`] has bytes taken, and a [`Hub`] has a
+//! script of turns to come and a past. Contracts name them where they are told, as `Some`: an object
+//! in memory tells all, the standard input tells nothing (`None`). So code that is generic in them
+//! is proved once for both, and a claim on bytes is made where they are told as the call returns.
 //!
-//! Each of the three counts its faults. A call answers `Failed` only where its count *rose*: it is
-//! greater than at the call's start, or stands at the end of its range. The counts never fall.
+//! Each of the three counts its faults, and a hub also those of each session. A call answers
+//! `Failed` only where its count *rose*: it is greater than at the call's start, or stands at the end
+//! of its range. Every other answer leaves the count as it was, and no count falls.
 //!
 //! What this crate is not: it buffers nothing, retries nothing, and reads no lines.
 //!
-//! What surprises: a source that tells goes on to tell, while a sink or a hub may lose its record,
-//! where the memory for it was refused, and claims nothing from then on.
+//! What surprises: an object in memory may lose its record, where the memory for it was refused. It
+//! goes on, and claims nothing from then on. A turn of a script that can't come reads as nothing.
 //!
-//! [`MemSource`], [`MemSink`] and [`MemHub`] stand in memory and tell everything. [`StdSource`] and
-//! [`StdSink`] are a few lines over `std::io`, tell nothing, and are the trusted edge.
+//! [`MemSource`], [`MemSink`] and [`MemHub`] stand in memory, tell everything, and fail only at the
+//! calls that they were told to. [`StdSource`] and [`StdSink`] are a few lines over `std::io`, tell
+//! nothing, and are the trusted edge. [`Sessions`] keeps the ids and counts that every hub shows.
+//!
+//! How it works inside: a record is a list or lost; the calls that
+//! are to fail are counted down, and those at 0 are the faults so far; a script is a queue, before
+//! which stands the rest of a piece that was longer than the buffer.
 #![tactic(auto)]
 
 mod failing;

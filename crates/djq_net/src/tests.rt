@@ -2,7 +2,7 @@ ghost use Rattle.std.specs.Prelude.{◌<◌, length, Contains};
 
 use super::*;
 use djq_io::{Hub, Listened, Sent, Turn};
-use std::io::{Read, Write};
+use std::io::{self, Read, Write};
 use std::net::{Shutdown, TcpStream};
 use std::test::Fail;
 
@@ -48,38 +48,45 @@ fn flood<H: Hub>(hub: &mut H, id: u64)
     }
 }
 
+/// A client that sends these bytes, and no more where it says so.
+fn client(rt: &HostRuntime, port: u16, bytes: &[u8], ends: bool) -> io::Result<TcpStream> {
+    let mut client = TcpStream::connect(rt, ("127.0.0.1", port))?;
+    client.write_all(bytes)?;
+    if ends {
+        client.shutdown(Shutdown::Write)?;
+    }
+    Ok(client)
+}
+
+/// Whether a client has its bytes back beside one that reads nothing, and the session of that one
+/// ends where it resets.
+fn comes_back(hub: &mut TcpHub<HostRuntime>, rt: &HostRuntime, port: u16) -> Result<bool, Fail> {
+    let deaf = client(rt, port, b"hello", false)?;
+    let mut other = client(rt, port, b"rel r int\n", true)?;
+    let mut buf = [0; 4];
+    let first = serve(hub, &mut buf, 1);
+    let mut back = Vec::new(rt.alloc());
+    other.read_to_end(&mut back)?;
+    drop(deaf);
+    let second = serve(hub, &mut buf, 1);
+    Ok(
+        first == Turn::Ended(2)
+            && back.as_slice() == b"rel r int\n".as_slice()
+            && second == Turn::Ended(1),
+    )
+}
+
 #[test]
 fn what_a_client_sends_comes_back(rt: HostRuntime) -> Result<(), Fail> {
     let mut hub = TcpHub::new(rt, rt.alloc())?;
     assert_eq!(rt; hub.listen("127.0.0.1:0"), Listened::Ready);
-    let port = hub.port().ok_or("it listens at no port")?;
-    let mut deaf = TcpStream::connect(&rt, ("127.0.0.1", port))?;
-    deaf.write_all(b"hello")?;
-    let mut client = TcpStream::connect(&rt, ("127.0.0.1", port))?;
-    client.write_all(b"rel r int\n")?;
-    client.shutdown(Shutdown::Write)?;
-    let mut buf = [0; 4];
-    let last = serve(&mut hub, &mut buf, 1);
-    assert_eq!(rt;
-        last,
-        Turn::Ended(2),
-        "one that reads nothing delays no other"
-    );
-    let mut back = Vec::new(rt.alloc());
-    client.read_to_end(&mut back)?;
-    assert_eq!(rt; back.as_slice(), b"rel r int\n".as_slice());
-    drop(deaf);
-    let last = serve(&mut hub, &mut buf, 1);
-    assert_eq!(rt;
-        last,
-        Turn::Ended(1),
-        "a client that resets ends its session alone"
-    );
+    let port = hub.port().unwrap_or(0);
+    assert!(rt; comes_back(&mut hub, &rt, port)?);
     Ok(())
 }
 
 #[test]
-fn a_taken_port_is_a_fault(rt: HostRuntime) -> Result<(), Fail> {
+fn an_address_that_is_none_is_a_fault(rt: HostRuntime) -> Result<(), Fail> {
     let mut hub = TcpHub::new(rt, rt.alloc())?;
     assert_eq!(rt; hub.turn(&mut [0; 4]), Turn::Over, "nothing can come");
     assert_eq!(rt; hub.listen("no address"), Listened::Failed);
