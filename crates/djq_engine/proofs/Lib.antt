@@ -14,3 +14,4 @@ pub mod Reading
 pub mod Opening
 pub mod Making
 pub mod Registering
+pub mod Laws
