@@ -13,12 +13,13 @@
 //!                              n 4 trim 3 - out                     4: -     the root
 //! ```
 //!
-//! This crate has the tree with its invariant, its paths, its text, and the definition of the tree that
-//! belongs to a query: the choice rule on the current nodes, and the two stages in which the rule grows
-//! it. It makes no tree; `djq_plan` does. A tree may have nodes with equal or empty labels, and a single
-//! leaf without variables is one.
+//! This crate has the tree with its invariant, its paths, its text, the group keys and levels by which
+//! its nodes' tuples are kept and listed, and the law that a tree is small. It also has the definition of
+//! the tree that belongs to a query: the choice rule on the current nodes, and the two stages in which the
+//! rule grows it. It makes no tree; `djq_plan` does. A tree may have nodes with equal or empty labels, and
+//! a single leaf without variables is one.
 //!
-//! Inside, a tree is three lists side by side. A node's parent isn't stored: children have lower numbers,
+//! Inside, a tree is three lists side by side, with the head's variables. A node's parent isn't stored: children have lower numbers,
 //! so one pass up the nodes goes along a whole path.
 #![tactic(auto)]
 
