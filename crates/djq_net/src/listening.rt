@@ -14,9 +14,6 @@ pub(crate) struct Listening {
 /// The token of the listener, which is no session's id.
 pub(crate) const LISTENER: usize = 0;
 
-/// For how long a turn waits at most.
-const WAIT_MS: u64 = 250;
-
 impl Listening {
     /// Begins to accept connections at an address.
     pub fn at<R: Net<Listener = net::TcpListener, Stream = net::TcpStream>>(
@@ -50,8 +47,8 @@ impl Listening {
         Ok(stream)
     }
 
-    /// Waits until something is to be told of the sockets, or for a while.
-    pub fn wait(&mut self, events: &mut Events) -> io::Result<()> {
-        self.poll.poll(events, Some(Duration::from_millis(WAIT_MS)))
+    /// Waits until something is to be told of the sockets, or for so many milliseconds.
+    pub fn wait(&mut self, events: &mut Events, millis: u64) -> io::Result<()> {
+        self.poll.poll(events, Some(Duration::from_millis(millis)))
     }
 }

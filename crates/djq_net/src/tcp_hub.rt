@@ -1,4 +1,5 @@
 ghost use Rattle.std.specs.Prelude.{◌≡◌, ◌<◌, IfOk, IfSome, Contains, length};
+ghost use Rattle.djq_io.specs.Faults.{Counted};
 ghost use Rattle.djq_io.specs.Hub.{no_ids, Turns};
 ghost use Rattle.djq_io.specs.HubFaults.{CountsInTurn};
 ghost use Rattle.djq_io.specs.Sessions.{faults_of};
@@ -16,6 +17,9 @@ use std::net::{self, Net};
 /// that is told so and closed.
 pub const PLACES: usize = 65;
 
+/// For how many milliseconds a turn waits at most.
+const LONGEST_WAIT: u64 = 250;
+
 /// A hub over TCP. It tells no bytes, and shows the ids of its sessions and its counts of faults.
 ///
 /// Each call is a few lines over the system's. A turn waits at most a quarter of a second, and then
@@ -31,6 +35,8 @@ pub struct TcpHub<R: Net<Listener = net::TcpListener, Stream = net::TcpStream> +
     at: usize,
     /// Whether the listener may have a connection.
     knocks: bool,
+    /// Whether the last turn had something without asking the system, which may have more to tell.
+    busy: bool,
     faults: u64,
 }
 
@@ -58,6 +64,7 @@ impl<R: Net<Listener = net::TcpListener, Stream = net::TcpStream> + Drop> TcpHub
             sessions,
             at: 0,
             knocks: false,
+            busy: false,
             faults: 0,
         })
     }
@@ -154,7 +161,7 @@ impl<R: Net<Listener = net::TcpListener, Stream = net::TcpStream> + Drop> TcpHub
         ensures idle { result ≡ Turn.Idle → self.new ≡ self.old }
         ensures works { result ≡ Turn.Failed → ⊥ }
     {
-        for _ in 0..=PLACES {
+        for _ in 0..=self.conns.len() {
             match self.look(buf) {
                 Turn::Idle => {}
                 turn => return turn,
@@ -163,14 +170,24 @@ impl<R: Net<Listener = net::TcpListener, Stream = net::TcpStream> + Drop> TcpHub
         Turn::Idle
     }
 
-    /// Waits until the system tells something of a socket, or for a while, and notes it.
-    fn wait(&mut self) -> io::Result<()>
+    /// Counts a fault of the hub itself, and answers so.
+    fn fail(&mut self) -> Turn
+        ensures failed { result ≡ Turn.Failed }
+        ensures shown { self.new ≡ record self.old { faults = self.new.faults } }
+        ensures counted { Counted self.old.faults self.new.faults }
+    {
+        self.faults = self.faults.saturating_add(1);
+        Turn::Failed
+    }
+
+    /// Waits until the system tells something of a socket, or for so many milliseconds, and notes it.
+    fn wait(&mut self, millis: u64) -> io::Result<()>
         ensures { self.new ≡ self.old }
     {
         let Some(listening) = &mut self.listening else {
             return Ok(());
         };
-        listening.wait(&mut self.events)?;
+        listening.wait(&mut self.events, millis)?;
         for event in self.events.iter() {
             let Token(token) = event.token();
             if token == LISTENER {
@@ -212,16 +229,22 @@ impl<R: Net<Listener = net::TcpListener, Stream = net::TcpStream> + Drop> Hub fo
     }
 
     fn turn(&mut self, buf: &mut [u8]) -> Turn {
+        // A client that always has bytes doesn't keep the others from being heard.
+        if self.busy && self.wait(0).is_err() {
+            return self.fail();
+        }
         match self.go_round(buf) {
-            Turn::Idle => {}
-            turn => return turn,
+            Turn::Idle => self.busy = false,
+            turn => {
+                self.busy = true;
+                return turn;
+            }
         }
         if self.listening.is_none() {
             return Turn::Over;
         }
-        if self.wait().is_err() {
-            self.faults = self.faults.saturating_add(1);
-            return Turn::Failed;
+        if self.wait(LONGEST_WAIT).is_err() {
+            return self.fail();
         }
         self.go_round(buf)
     }
