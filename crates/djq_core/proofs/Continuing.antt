@@ -94,7 +94,7 @@ moved_among old new before c n h p cut held s front back i stopped room a =
     let id = n.cursor in
     let ids = ids_cut before.cursors c n cut in
     let apart = taken_out (all_ids front ++ ids_of cut.front) id (ids_of cut.back ++ all_ids back)
-          (subst AreApart (ap (λ (cs : List CursorId). all_ids front ++ (cs ++ all_ids back)) ids ∙ regroup (all_ids front) (ids_of cut.front) (ids_of cut.back) (all_ids back) id) a.apart) in
+    (subst AreApart (ap (λ (cs : List CursorId). all_ids front ++ (cs ++ all_ids back)) ids ∙ regroup (all_ids front) (ids_of cut.front) (ids_of cut.back) (all_ids back) id) a.apart) in
     let fronts = apart_split id (all_ids front) (ids_of cut.front) apart.0 in
     let backs = apart_split id (ids_of cut.back) (all_ids back) apart.1.0 in
     let ga = agree_others old.cursors new.cursors id (all_ids front) s.others fronts.0 in
@@ -102,14 +102,13 @@ moved_among old new before c n h p cut held s front back i stopped room a =
     let gf = agree_others old.cursors new.cursors id (ids_of cut.front) s.others fronts.1 in
     let gb = agree_others old.cursors new.cursors id (ids_of cut.back) s.others backs.0 in
     let here : cursor_in new.cursors n ≡ record (cursor_in old.cursors n) { position = p }
-          = ap (λ (o : Option Held). record { name = n.name; query = query_in o; position = position_in o }) s.there
-          ∙ ap (λ (o : Option Held). record { name = n.name; query = query_in o; position = p }) (sym held) in
+    = ap (λ (o : Option Held). record { name = n.name; query = query_in o; position = position_in o }) s.there
+    ∙ ap (λ (o : Option Held). record { name = n.name; query = query_in o; position = p }) (sym held) in
     let names : map (cursor_in new.cursors) before.cursors ≡ with_position (map (cursor_in old.cursors) before.cursors) c p
-          = ap (map (cursor_in new.cursors)) cut.list ∙ map_append (cursor_in new.cursors) cut.front (n ∷ cut.back)
-          ∙ joined (agree_names old.cursors new.cursors cut.front gf) here (agree_names old.cursors new.cursors cut.back gb)
-          ∙ sym (cut.changed old.cursors (λ k. record k { position = p })) in
-    let hs = held_split old.cursors (ids_of cut.front) (id ∷ ids_of cut.back) (subst (λ (cs : List CursorId). AreHeld old.cursors cs) ids a.held_here) in
-    (
+    = ap (map (cursor_in new.cursors)) cut.list ∙ map_append (cursor_in new.cursors) cut.front (n ∷ cut.back)
+    ∙ joined (agree_names old.cursors new.cursors cut.front gf) here (agree_names old.cursors new.cursors cut.back gb)
+    ∙ sym (cut.changed old.cursors (λ k. record k { position = p })) in
+    let hs = held_split old.cursors (ids_of cut.front) (id ∷ ids_of cut.back) (subst (λ (cs : List CursorId). AreHeld old.cursors cs) ids a.held_here) in (
       moved old new stopped front i before (record before { room = room }) back (λ x. record x { cursors = with_position x.cursors c p }) a ga ge s.store
           (ap (λ (cs : List Cursor). record (session_in old.cursors i before) { cursors = cs }) names),
       record {
@@ -124,7 +123,7 @@ moved_among old new before c n h p cut held s front back i stopped room a =
         ended_front = a.ended_front;
         ended_here = a.ended_here;
         ended_back = a.ended_back;
-      }
+      },
     )
   where
     joined : {xs ys zs ws : List Cursor} {x y : Cursor} → xs ≡ ys → x ≡ y → zs ≡ ws → xs ++ x ∷ zs ≡ ys ++ y ∷ ws
@@ -178,31 +177,31 @@ does_cut old mid new before between last after c n h q given ended count was now
     let text = lines ++ end_memory in
     let cut = name_cut before.cursors c n f in
     let up : GivesUp old before new (record before { cursors = [] }) = record {
-          store = g.store ∙ w.stands.store;
-          others = λ x a.
-              let same = ap (λ (d : Talk). ids_of d.cursors) w.queued in
-              let here = (apart_split x (ids_of cut.front) (n.cursor ∷ ids_of cut.back) (subst (IsApart x) (ids_cut before.cursors c n cut) a)).1.0 in
-              g.others x (subst (IsApart x) (sym same) a) ∙ w.stands.others x (same_id_flip n.cursor x here);
-          session = refl;
-        } in
+      store = g.store ∙ w.stands.store;
+      others = λ x a.
+          let same = ap (λ (d : Talk). ids_of d.cursors) w.queued in
+          let here = (apart_split x (ids_of cut.front) (n.cursor ∷ ids_of cut.back) (subst (IsApart x) (ids_cut before.cursors c n cut) a)).1.0 in
+          g.others x (subst (IsApart x) (sym same) a) ∙ w.stands.others x (same_id_flip n.cursor x here);
+      session = refl;
+    } in
     let left : after ≡ record before { cursors = []; room = after.room; cause = Some Memory; pending = behind before.pending (Some text) }
-          = r ∙ ap (λ (d : Talk). record d { pending = d.pending ++ end_memory; room = after.room; cause = Some Memory }) (g.session ∙ ap (λ (d : Talk). record d { cursors = [] }) w.queued)
-          ∙ ap (λ (bs : Bytes). record before { cursors = []; room = after.room; cause = Some Memory; pending = bs }) (append_assoc before.pending lines end_memory) in
+    = r ∙ ap (λ (d : Talk). record d { pending = d.pending ++ end_memory; room = after.room; cause = Some Memory }) (g.session ∙ ap (λ (d : Talk). record d { cursors = [] }) w.queued)
+    ∙ ap (λ (bs : Bytes). record before { cursors = []; room = after.room; cause = Some Memory; pending = bs }) (append_assoc before.pending lines end_memory) in
     ends_costing _ false old new before after (Some text) ((length w.told + 1) * most_steps (length q.head)) Memory was now up left w.counted (λ st s x store same.
-        let e = to_one s (Some text) ((length w.told + 1) * most_steps (length q.head)) in
-        next_at old before c n h q count st (with_session st s (ended_by Memory)) s x e f held known store same
-        (subst (λ (p : Position). NextStepAt st s c q count p e (with_session st s (ended_by Memory))) (sym at)
-        (inr (record {
-          told = w.told;
-          answers = subst (λ z. All (IsAnswer z.relations q) w.told) (sym store) w.answers;
-          different = w.different;
-          at_most = w.at_most;
-          lacking = w.lacking;
-          lacks = subst (λ z. IsNextLine (IsAnswer z.relations q) given count w.told w.lacking) (sym store) w.lacks;
-          above = w.above;
-          effect = refl;
-          state = refl;
-        }))))
+    let e = to_one s (Some text) ((length w.told + 1) * most_steps (length q.head)) in
+    next_at old before c n h q count st (with_session st s (ended_by Memory)) s x e f held known store same
+    (subst (λ (p : Position). NextStepAt st s c q count p e (with_session st s (ended_by Memory))) (sym at)
+    (inr (record {
+      told = w.told;
+      answers = subst (λ z. All (IsAnswer z.relations q) w.told) (sym store) w.answers;
+      different = w.different;
+      at_most = w.at_most;
+      lacking = w.lacking;
+      lacks = subst (λ z. IsNextLine (IsAnswer z.relations q) given count w.told w.lacking) (sym store) w.lacks;
+      above = w.above;
+      effect = refl;
+      state = refl;
+    }))))
 
 does_stale : (old new : Kept) (before mid after : Talk) (c : Bytes) (n : NamedCursor CursorId) (h : Held) (q : Query) (relation : Bytes) (seq count was now : ℕ) (r : Bytes) (m : ℕ)
     → named before.cursors c ≡ Some n → held_at old.cursors n.cursor ≡ Some h → query_of (old.store).queries h.query ≡ Some q → h.position ≡ stale relation seq
@@ -211,9 +210,9 @@ does_stale old new before mid after c n h q relation seq count was now r m f hel
     subst (λ (k : Kept). Executes (Next c count) false old before k after was now) (sym en)
     (counting _ false old before old after was now le
     (refused _ old before after (stale_line c r m) (subst (λ (d : Talk). Replies d after (stale_line c r m)) eb reply) (λ st s x store same.
-        next_at old before c n h q count st st s x (to_one s (Some (stale_line c r m)) 0) f held known store same
-        (subst (λ (p : Position). NextStepAt st s c q count p (to_one s (Some (stale_line c r m)) 0) st) (sym at)
-        (ap₂ (λ (x : Bytes) (y : ℕ). to_one s (Some (stale_line c x y)) 0) er em, refl)))))
+    next_at old before c n h q count st st s x (to_one s (Some (stale_line c r m)) 0) f held known store same
+    (subst (λ (p : Position). NextStepAt st s c q count p (to_one s (Some (stale_line c r m)) 0) st) (sym at)
+    (ap₂ (λ (x : Bytes) (y : ℕ). to_one s (Some (stale_line c x y)) 0) er em, refl)))))
 
 -- What a listing came to, by where its cursor stood.
 
@@ -271,8 +270,8 @@ pub does_next_none : (k : Kept) (before after : Talk) (c : Bytes) (count was : �
 does_next_none k before after c count was f r =
     counting _ false k before k after was was (omega arith)
     (refused _ k before after (refusal_line NoCursor) r (λ st s x store same.
-        subst (λ (y : Session). CommandStep st s y (Next c count) (to_one s (Some (refusal_line NoCursor)) 0) st) (sym same)
-        (at_none k.cursors before.cursors c _ (λ k'. IsSomeAnd (query_of (st.store).queries k'.query) (λ p. NextStepAt st s c p count k'.position (to_one s (Some (refusal_line NoCursor)) 0) st)) f (refl, refl))))
+    subst (λ (y : Session). CommandStep st s y (Next c count) (to_one s (Some (refusal_line NoCursor)) 0) st) (sym same)
+    (at_none k.cursors before.cursors c _ (λ k'. IsSomeAnd (query_of (st.store).queries k'.query) (λ p. NextStepAt st s c p count k'.position (to_one s (Some (refusal_line NoCursor)) 0) st)) f (refl, refl))))
 
 -- the cursor of a name is held
 pub named_held : (hs : List Held) (names : List (NamedCursor CursorId)) (c : Bytes) (n : NamedCursor CursorId) → named names c ≡ Some n → AreHeld hs (ids_of names) → AreHeld hs (n.cursor ∷ [])

@@ -58,11 +58,14 @@ is_dropped k before after l rest was f e said = record {
   text = None;
   cost = 0;
   pending = ap (λ (d : Talk). d.pending) e;
-  does = λ front back s stopped sound. (said, record {
-    rest = rest;
-    front = f;
-    then = (refl, ap (λ (d : Talk). state_in k stopped (among front s (unqueued before d) back)) e ∙ becomes k stopped front s before (record before { held = rest }) back (behind_line rest) (parts k front s before back sound) refl);
-  });
+  does = λ front back s stopped sound. (
+    said,
+    record {
+      rest = rest;
+      front = f;
+      then = (refl, ap (λ (d : Talk). state_in k stopped (among front s (unqueued before d) back)) e ∙ becomes k stopped front s before (record before { held = rest }) back (behind_line rest) (parts k front s before back sound) refl);
+    },
+  );
   sound = λ front back s sound. subst (λ (d : Talk). IsSound k (among front s d back)) (sym e) (sound_bytes k front s before rest before.pending before.room back sound);
   counted = omega arith;
 }

@@ -73,11 +73,11 @@ abbrev pub all_apart : List CursorId → List CursorId → Type 0
 all_apart [] bs = ⊤
 all_apart (a ∷ cs) bs = IsApart a bs × all_apart cs bs
 
-apart_fronts : (xs bs cs : List CursorId) → AreApart (xs ++ (bs ++ cs)) → all_apart xs bs
+pub apart_fronts : (xs bs cs : List CursorId) → AreApart (xs ++ (bs ++ cs)) → all_apart xs bs
 apart_fronts [] bs cs h = tt
 apart_fronts (a ∷ xs) bs cs h = ((apart_split a bs cs (apart_split a xs (bs ++ cs) h.0).1).0, apart_fronts xs bs cs h.1)
 
-apart_rest : (xs bs : List CursorId) → AreApart (xs ++ bs) → AreApart bs
+pub apart_rest : (xs bs : List CursorId) → AreApart (xs ++ bs) → AreApart bs
 apart_rest [] bs h = h
 apart_rest (a ∷ xs) bs h = apart_rest xs bs h.1
 
@@ -89,17 +89,17 @@ none_more : (cs : List CursorId) → all_apart cs []
 none_more [] = tt
 none_more (c ∷ cs) = (tt, none_more cs)
 
-apart_backs : (bs cs : List CursorId) → AreApart (bs ++ cs) → all_apart cs bs
+pub apart_backs : (bs cs : List CursorId) → AreApart (bs ++ cs) → all_apart cs bs
 apart_backs [] cs h = none_more cs
 apart_backs (b ∷ bs) cs h = one_more b bs cs (apart_split b bs cs h.0).1 (apart_backs bs cs h.1)
 
-without : (xs bs cs : List CursorId) → AreApart (xs ++ (bs ++ cs)) → AreApart (xs ++ cs)
+pub without : (xs bs cs : List CursorId) → AreApart (xs ++ (bs ++ cs)) → AreApart (xs ++ cs)
 without [] bs cs h = apart_rest bs cs h
 without (a ∷ xs) bs cs h =
     let s = apart_split a xs (bs ++ cs) h.0 in
     (apart_join a xs cs s.0 (apart_split a bs cs s.1).1, without xs bs cs h.1)
 
-agree_apart : (old new : List Held) (bs cs : List CursorId) → ((c : CursorId) → IsApart c bs → held_at new c ≡ held_at old c) → all_apart cs bs → Agree old new cs
+pub agree_apart : (old new : List Held) (bs cs : List CursorId) → ((c : CursorId) → IsApart c bs → held_at new c ≡ held_at old c) → all_apart cs bs → Agree old new cs
 agree_apart old new bs [] h a = tt
 agree_apart old new bs (c ∷ cs) h a = (h c a.0, agree_apart old new bs cs h a.1)
 
@@ -111,8 +111,7 @@ ends_among : (old new : Kept) (before : Talk) (cause : EndCause) (stopped : Bool
 ends_among old new before cause stopped room pending g front back s p =
     let ids = ids_of before.cursors in
     let ga = agree_apart old.cursors new.cursors ids (all_ids front) g.others (apart_fronts (all_ids front) ids (all_ids back) p.apart) in
-    let ge = agree_apart old.cursors new.cursors ids (all_ids back) g.others (apart_backs ids (all_ids back) (apart_rest (all_ids front) (ids ++ all_ids back) p.apart)) in
-    (
+    let ge = agree_apart old.cursors new.cursors ids (all_ids back) g.others (apart_backs ids (all_ids back) (apart_rest (all_ids front) (ids ++ all_ids back) p.apart)) in (
       moved old new stopped front s before (record before { cursors = []; room = room; cause = Some cause }) back (ended_by cause) p ga ge g.store refl,
       record {
         rising = p.rising;
@@ -124,7 +123,7 @@ ends_among old new before cause stopped room pending g front back s p =
         ended_front = p.ended_front;
         ended_here = refl;
         ended_back = p.ended_back;
-      }
+      },
     )
 
 -- A session gives up its cursors and ends, for a cause; a text may be queued to it.
@@ -158,7 +157,7 @@ pub ends : (M : State → ℕ → Session → Effect → State → Type 0) (stop
     → Performs M stops old before new after 0 0
 ends M stops old new before mid after text cause g same does =
     let left : after ≡ record before { cursors = []; room = after.room; cause = Some cause; pending = behind before.pending text }
-          = same ∙ ap (λ (d : Talk). record d { pending = behind d.pending text; room = after.room; cause = Some cause }) g.session in
+    = same ∙ ap (λ (d : Talk). record d { pending = behind d.pending text; room = after.room; cause = Some cause }) g.session in
     let up : GivesUp old before new (record before { cursors = [] }) = record { store = g.store; others = g.others; session = refl } in
     ends_costing M stops old new before after text 0 cause 0 0 up left (omega arith) (λ st s x e f. does st s x)
 

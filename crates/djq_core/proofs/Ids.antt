@@ -145,8 +145,11 @@ still_apart queries relation n (Some r) (stale s m) g = tt
 pub outdated_all_held : (queries : List Query) (relation : Bytes) (n : ℕ) (old new : List Held) (cs : List CursorId) → Outdated queries relation n old new → AreHeld old cs → AreHeld new cs
 outdated_all_held queries relation n old new [] out h = tt
 outdated_all_held queries relation n old new (c ∷ cs) out h = (
-  (outdated_held queries relation n h.0.0, out c ∙ ap (option_map (outdated_held queries relation n)) h.0.1,
-    still_apart queries relation n (outdater_of queries (by_relation relation) (h.0.0).query) (h.0.0).position h.0.2),
+  (
+    outdated_held queries relation n h.0.0,
+    out c ∙ ap (option_map (outdated_held queries relation n)) h.0.1,
+    still_apart queries relation n (outdater_of queries (by_relation relation) (h.0.0).query) (h.0.0).position h.0.2,
+  ),
   outdated_all_held queries relation n old new cs out h.1,
 )
 
@@ -166,7 +169,7 @@ outdated_names queries relation n old new [] out = refl
 outdated_names queries relation n old new (x ∷ names) out =
     let rest = outdated_names queries relation n old new names out in
     let moved : cursor_in new x ≡ record { name = x.name; query = query_in (option_map (outdated_held queries relation n) (held_at old x.cursor)); position = position_in (option_map (outdated_held queries relation n) (held_at old x.cursor)) }
-          = ap (λ (o : Option Held). record { name = x.name; query = query_in o; position = position_in o }) (out x.cursor) in
+    = ap (λ (o : Option Held). record { name = x.name; query = query_in o; position = position_in o }) (out x.cursor) in
     let here : cursor_in new x ≡ outdated_cursor queries (by_relation relation) n (cursor_in old x) = moved ∙ outdated_one queries relation n x.name (held_at old x.cursor) in cc
 
 pub outdated_open : (queries : List Query) (relation : Bytes) (n : ℕ) (old new : List Held) (xs : List OpenSession) → Outdated queries relation n old new

@@ -23,7 +23,7 @@ use Rattle.djq_core.proofs.Around.{Around, parts, found, becomes}
 use Rattle.djq_core.proofs.Replying.{around_bytes}
 
 -- the same relations, in the same order
-same_relations : (rs : List Relation) → SameRelations rs rs
+pub same_relations : (rs : List Relation) → SameRelations rs rs
 same_relations [] = tt
 same_relations (r ∷ rs) = (refl, refl, IsPermutation-refl r.rows, same_relations rs)
 
@@ -114,7 +114,7 @@ step_gives Dry stops old before new after was now update rows front back s stopp
 )
 step_gives (Ended c) stops old before new after was now update rows front back s stopped t sound =
     subst (λ (o : Option EndCause). MatchOption o (EndedStepAs c (state_in old stopped (among front s before back)) s (state_in new (stops || stopped) (among front s after back)) (counts was update rows) (counts now update rows))
-        (λ d. (d ≡ c) × (state_in new (stops || stopped) (among front s after back) ≡ state_in old stopped (among front s before back)) × (counts now update rows ≡ counts was update rows)))
+    (λ d. (d ≡ c) × (state_in new (stops || stopped) (among front s after back) ≡ state_in old stopped (among front s before back)) × (counts now update rows ≡ counts was update rows)))
     (sym (cause_is old stopped front s before back sound)) (by before.cause refl t)
   where
     by : (o : Option EndCause) → before.cause ≡ o → MatchOption o (EndsBefore c stops old before new after was now) (λ d. (d ≡ c) × Unchanged stops old before new after was now)

@@ -29,8 +29,8 @@ use Rattle.djq_core.proofs.Replying.{replied, refused, sound_replied, around_hel
 pub answered : (M : State → ℕ → Session → Effect → State → Type 0) (old new : Kept) (before mid after : Talk) (text : Bytes)
     → Replies mid after text → mid.pending ≡ before.pending
     → ((front back : List OpenSession) (s : ℕ) (stopped : Bool) → Around old.cursors front s before back
-        → (M (state_in old stopped (among front s before back)) s (session_in old.cursors s before) (to_one s (Some text) 0) (state_in new stopped (among front s (record mid { room = after.room }) back)))
-        × Around new.cursors front s mid back)
+    → (M (state_in old stopped (among front s before back)) s (session_in old.cursors s before) (to_one s (Some text) 0) (state_in new stopped (among front s (record mid { room = after.room }) back)))
+    × Around new.cursors front s mid back)
     → Performs M false old before new after 0 0
 answered M old new before mid after text r same does = record {
   text = Some text;
@@ -56,7 +56,7 @@ opens_apart a b id c h ia ib ic =
 opened : (old new : Kept) (before : Talk) (c q : Bytes) (id : CursorId) → OpensCursor old q id new → before.cause ≡ None
     → (front back : List OpenSession) (s : ℕ) (stopped : Bool) (room : ℕ) → Around old.cursors front s before back
     → (state_in new stopped (among front s (record before { cursors = before.cursors ++ record { name = c; cursor = id } ∷ []; room = room }) back)
-        ≡ with_session (state_in old stopped (among front s before back)) s (with_cursor c q))
+    ≡ with_session (state_in old stopped (among front s before back)) s (with_cursor c q))
     × Around new.cursors front s (record before { cursors = before.cursors ++ record { name = c; cursor = id } ∷ [] }) back
 opened old new before c q id o running front back s stopped room p =
     let added : NamedCursor CursorId = record { name = c; cursor = id } in
@@ -67,11 +67,10 @@ opened old new before c q id o running front back s stopped room p =
     let gb = agree_others old.cursors new.cursors id (ids_of before.cursors) o.others b in
     let ge = agree_others old.cursors new.cursors id (all_ids back) o.others e in
     let fresh_cursor : cursor_in new.cursors added ≡ record { name = c; query = q; position = open_at [] false }
-          = ap (λ (h : Option Held). record { name = c; query = query_in h; position = position_in h }) o.there in
+    = ap (λ (h : Option Held). record { name = c; query = query_in h; position = position_in h }) o.there in
     let names : map (cursor_in new.cursors) (before.cursors ++ added ∷ []) ≡ map (cursor_in old.cursors) before.cursors ++ record { name = c; query = q; position = open_at [] false } ∷ []
-          = map_append (cursor_in new.cursors) before.cursors (added ∷ [])
-          ∙ ap₂ (λ (xs : List Cursor) (x : Cursor). xs ++ x ∷ []) (agree_names old.cursors new.cursors before.cursors gb) fresh_cursor in
-    (
+    = map_append (cursor_in new.cursors) before.cursors (added ∷ [])
+    ∙ ap₂ (λ (xs : List Cursor) (x : Cursor). xs ++ x ∷ []) (agree_names old.cursors new.cursors before.cursors gb) fresh_cursor in (
       moved old new stopped front s before (record before { cursors = before.cursors ++ added ∷ []; room = room }) back (with_cursor c q) p ga ge o.store
           (ap (λ (cs : List Cursor). record (session_in old.cursors s before) { cursors = cs }) names),
       record {
@@ -86,7 +85,7 @@ opened old new before c q id o running front back s stopped room p =
         ended_front = p.ended_front;
         ended_here = subst (λ (cause : _). NoneOnceEnded cause (before.cursors ++ added ∷ [])) (sym running) tt;
         ended_back = p.ended_back;
-      }
+      },
     )
 
 pub does_open : (old new : Kept) (before mid after : Talk) (c q : Bytes) (result : Result ⊤ Refusal)
@@ -96,14 +95,15 @@ does_open old new before mid after c q (Ok u) ready opens r =
     let o = opens.opens in
     let same : mid ≡ record before { cursors = before.cursors ++ record { name = c; cursor = o.0 } ∷ [] } = o.2 in
     answered _ old new before mid after (ok_reply (codes "ok open") (Ok u)) r (ap (λ (d : Talk). d.pending) same) (λ front back s stopped p.
-        let step = opened old new before c q o.0 o.1 ready.running front back s stopped after.room p in
-        (record {
-            result = Ok u;
-            answer = subst (λ (w : Option Refusal). Answers w (Ok u) (λ _. ⊤) (OutOfMemoryWhere ⊤)) (refusal_same old before c q) opens.answer;
-            effect = refl;
-            state = ap (λ (d : Talk). state_in new stopped (among front s (record d { room = after.room }) back)) same ∙ step.0;
-          },
-          subst (λ (d : Talk). Around new.cursors front s d back) (sym same) step.1))
+    let step = opened old new before c q o.0 o.1 ready.running front back s stopped after.room p in (
+      record {
+        result = Ok u;
+        answer = subst (λ (w : Option Refusal). Answers w (Ok u) (λ _. ⊤) (OutOfMemoryWhere ⊤)) (refusal_same old before c q) opens.answer;
+        effect = refl;
+        state = ap (λ (d : Talk). state_in new stopped (among front s (record d { room = after.room }) back)) same ∙ step.0;
+      },
+      subst (λ (d : Talk). Around new.cursors front s d back) (sym same) step.1,
+    ))
 does_open old new before mid after c q (Err e) ready opens r =
     let o = opens.opens in
     let failed : Result ⊤ Refusal = Err e in
@@ -132,26 +132,25 @@ is_held k names c n h f =
 closed : (old new : Kept) (before : Talk) (c : Bytes) (n : NamedCursor CursorId) → ClosesCursor old n.cursor new → before.cause ≡ None → Cut (is_named c) before.cursors n
     → (front back : List OpenSession) (s : ℕ) (stopped : Bool) (room : ℕ) → Around old.cursors front s before back
     → (state_in new stopped (among front s (record before { cursors = drop_first (is_named c) before.cursors; room = room }) back)
-        ≡ with_session (state_in old stopped (among front s before back)) s (λ x. record x { cursors = drop_first (λ k. bytes_eq k.name c) x.cursors }))
+    ≡ with_session (state_in old stopped (among front s before back)) s (λ x. record x { cursors = drop_first (λ k. bytes_eq k.name c) x.cursors }))
     × Around new.cursors front s (record before { cursors = drop_first (is_named c) before.cursors }) back
 closed old new before c n o running cut front back s stopped room p =
     let id = n.cursor in
     let ids : ids_of before.cursors ≡ ids_of cut.front ++ id ∷ ids_of cut.back = ap ids_of cut.list ∙ ids_append cut.front (n ∷ cut.back) in
     let kept : ids_of (cut.front ++ cut.back) ≡ ids_of cut.front ++ ids_of cut.back = ids_append cut.front cut.back in
     let apart = taken_out (all_ids front ++ ids_of cut.front) id (ids_of cut.back ++ all_ids back)
-          (subst AreApart (ap (λ (cs : List CursorId). all_ids front ++ (cs ++ all_ids back)) ids ∙ regroup (all_ids front) (ids_of cut.front) (ids_of cut.back) (all_ids back) id) p.apart) in
+    (subst AreApart (ap (λ (cs : List CursorId). all_ids front ++ (cs ++ all_ids back)) ids ∙ regroup (all_ids front) (ids_of cut.front) (ids_of cut.back) (all_ids back) id) p.apart) in
     let fronts = apart_split id (all_ids front) (ids_of cut.front) apart.0 in
     let backs = apart_split id (ids_of cut.back) (all_ids back) apart.1.0 in
     let ga = agree_others old.cursors new.cursors id (all_ids front) o.others fronts.0 in
     let ge = agree_others old.cursors new.cursors id (all_ids back) o.others backs.1 in
     let gh : Agree old.cursors new.cursors (ids_of (cut.front ++ cut.back)) = subst (λ (cs : List CursorId). Agree old.cursors new.cursors cs) (sym kept)
-          (agree_others old.cursors new.cursors id (ids_of cut.front ++ ids_of cut.back) o.others (apart_join id (ids_of cut.front) (ids_of cut.back) fronts.1 backs.0)) in
+    (agree_others old.cursors new.cursors id (ids_of cut.front ++ ids_of cut.back) o.others (apart_join id (ids_of cut.front) (ids_of cut.back) fronts.1 backs.0)) in
     let held = held_split old.cursors (ids_of cut.front) (id ∷ ids_of cut.back) (subst (λ (cs : List CursorId). AreHeld old.cursors cs) ids p.held_here) in
     let left : AreHeld old.cursors (ids_of (cut.front ++ cut.back)) = subst (λ (cs : List CursorId). AreHeld old.cursors cs) (sym kept) (held_join old.cursors (ids_of cut.front) (ids_of cut.back) held.0 held.1.1) in
     let names : map (cursor_in new.cursors) (drop_first (is_named c) before.cursors) ≡ drop_first (λ (k : Cursor). bytes_eq k.name c) (map (cursor_in old.cursors) before.cursors)
-          = ap (map (cursor_in new.cursors)) cut.dropped ∙ agree_names old.cursors new.cursors (cut.front ++ cut.back) gh ∙ sym (ap (map (cursor_in old.cursors)) cut.dropped)
-          ∙ sym (drop-map (cursor_in old.cursors) (λ (k : Cursor). bytes_eq k.name c) before.cursors) in
-    (
+    = ap (map (cursor_in new.cursors)) cut.dropped ∙ agree_names old.cursors new.cursors (cut.front ++ cut.back) gh ∙ sym (ap (map (cursor_in old.cursors)) cut.dropped)
+    ∙ sym (drop-map (cursor_in old.cursors) (λ (k : Cursor). bytes_eq k.name c) before.cursors) in (
       moved old new stopped front s before (record before { cursors = drop_first (is_named c) before.cursors; room = room }) back (λ x. record x { cursors = drop_first (λ k. bytes_eq k.name c) x.cursors }) p ga ge o.store
           (ap (λ (cs : List Cursor). record (session_in old.cursors s before) { cursors = cs }) names),
       record {
@@ -166,7 +165,7 @@ closed old new before c n o running cut front back s stopped room p =
         ended_front = p.ended_front;
         ended_here = subst (λ (cause : _). NoneOnceEnded cause (drop_first (is_named c) before.cursors)) (sym running) tt;
         ended_back = p.ended_back;
-      }
+      },
     )
 
 -- the machine finds a session's cursor where the session does
@@ -183,12 +182,13 @@ pub does_close : (old new : Kept) (before mid after : Talk) (c : Bytes) (n : Nam
     → Replies mid after (line (codes "ok")) → Executes (Close c) false old before new after 0 0
 does_close old new before mid after c n ready f o same r =
     answered _ old new before mid after (line (codes "ok")) r (ap (λ (d : Talk). d.pending) same) (λ front back s stopped p.
-        let step = closed old new before c n o ready.running (cut_found (is_named c) before.cursors n f) front back s stopped after.room p in
-        (at_found old.cursors before.cursors c n _ _ f (refl, ap (λ (d : Talk). state_in new stopped (among front s (record d { room = after.room }) back)) same ∙ step.0),
-          subst (λ (d : Talk). Around new.cursors front s d back) (sym same) step.1))
+    let step = closed old new before c n o ready.running (cut_found (is_named c) before.cursors n f) front back s stopped after.room p in (
+      at_found old.cursors before.cursors c n _ _ f (refl, ap (λ (d : Talk). state_in new stopped (among front s (record d { room = after.room }) back)) same ∙ step.0),
+      subst (λ (d : Talk). Around new.cursors front s d back) (sym same) step.1,
+    ))
 
 pub does_close_none : (k : Kept) (before after : Talk) (c : Bytes) → named before.cursors c ≡ None → Replies before after (refusal_line NoCursor)
     → Executes (Close c) false k before k after 0 0
 does_close_none k before after c f r =
     refused _ k before after (refusal_line NoCursor) r (λ st s x store same.
-        subst (λ (y : Session). CommandStep st s y (Close c) (to_one s (Some (refusal_line NoCursor)) 0) st) (sym same) (at_none k.cursors before.cursors c _ _ f (refl, refl)))
+    subst (λ (y : Session). CommandStep st s y (Close c) (to_one s (Some (refusal_line NoCursor)) 0) st) (sym same) (at_none k.cursors before.cursors c _ _ f (refl, refl)))

@@ -80,8 +80,8 @@ replied M old new before after text r same does = record {
   does = λ front back s stopped sound.
       let xs = among front s before back in
       let eq : map (open_in new.cursors) (among front s (unqueued before after) back) ≡ map (open_in old.cursors) xs
-            = open_quiet new.cursors front s before (unqueued before after) back (quiet new.cursors s before after text r)
-            ∙ agree_open old.cursors new.cursors xs (agree_same old.cursors new.cursors (all_ids xs) same) in
+      = open_quiet new.cursors front s before (unqueued before after) back (quiet new.cursors s before after text r)
+      ∙ agree_open old.cursors new.cursors xs (agree_same old.cursors new.cursors (all_ids xs) same) in
       subst (λ (ys : List Session). M (state_in old stopped xs) s (session_in old.cursors s before) (to_one s (Some text) 0) (record { store = new.store; stopped = stopped; sessions = ys }))
       (sym eq) (does (state_in old stopped xs) s (session_in old.cursors s before) refl refl);
   sound = λ front back s sound.
@@ -144,8 +144,8 @@ changes M old new before after text name b r out does = record {
   does = λ front back s stopped sound.
       let xs = among front s before back in
       let eq : map (open_in new.cursors) (among front s (unqueued before after) back) ≡ _
-            = open_quiet new.cursors front s before (unqueued before after) back (quiet new.cursors s before after text r)
-            ∙ moves_open old new name b xs out in
+      = open_quiet new.cursors front s before (unqueued before after) back (quiet new.cursors s before after text r)
+      ∙ moves_open old new name b xs out in
       subst (λ (ys : List Session). M (state_in old stopped xs) s (session_in old.cursors s before) (to_one s (Some text) 0) (record { store = new.store; stopped = stopped; sessions = ys }))
       (sym eq) (does (state_in old stopped xs) s (session_in old.cursors s before) refl refl);
   sound = λ front back s sound.

@@ -1,55 +1,205 @@
--- What reading a line gives, as the machine says it.
-use Rattle.std.proofs.Common.{ℕ, ◌≡◌, true, false, Bool, Option, None, Some, Result, Ok, Err, cond, refl, sym, ap, ◌∙◌}
+-- What reading a line gives, as the machine says it; and that what is read is served.
+use Rattle.std.proofs.Common.{ℕ, ◌≡◌, ◌<◌, ◌≤◌, ◌&&◌, true, false, Bool, List, [], ◌∷◌, Option, None, Some, Result, Ok, Err, cond, option_map, refl, sym, ap, ap₂, ◌∙◌, subst, arith, nat_le}
+use Rattle.std.specs.List.{list_all}
+use Rattle.std.specs.Str.{is_utf8}
+use Rattle.std.proofs.lemmas.Bool.{and_parts, and_from, leb-true}
+use Rattle.djq_model.specs.declared.query.Query.{Query}
+use Rattle.djq_model.specs.declared.query.Atom.{Atom}
+use Rattle.djq_model.specs.declared.query.Term.{Term}
+use Rattle.djq_model.specs.declared.query.Term.TheVariants.{Variable, Hole, Constant}
 use Rattle.djq_model.specs.Data.{Bytes}
-use Rattle.djq_lines.specs.declared.answer.Refusal.TheVariants.{WrongType, Later as RefusedLater}
+use Rattle.djq_value.specs.Token.{Token, word, text, open_paren, close_paren, comma, arrow, stray, tokens}
+use Rattle.djq_value.specs.Literal.{is_reordered, are_different, has_name, is_name, natural_of, literal_of}
+use Rattle.djq_lines.specs.declared.answer.Refusal.TheVariants.{WrongType, Syntax, Later}
 use Rattle.djq_lines.specs.declared.command.Command.{Command}
-use Rattle.djq_lines.specs.Grammar.{Reading, refused, says, reading_in, reading_of, command_of, is_in_range, takes_memory_to_read}
-use Rattle.djq_proto.specs.declared.command.LineRefusal.{LineRefusal}
-use Rattle.djq_proto.specs.declared.command.LineRefusal.TheVariants.{Range, Later, NoMem}
-use Rattle.djq_proto.specs.Reading.{Gives, Reads}
+use Rattle.djq_lines.specs.declared.command.Command.TheVariants.{Rel, Add, Del, Query as Register, Drop, Open, Next, Close, Has, Watch, Unwatch, Explain, Quit, Stop}
+use Rattle.djq_lines.specs.declared.keyword.Keyword.{Keyword}
+use Rattle.djq_lines.specs.declared.keyword.Keyword.TheVariants.{Rel as RelWord, Add as AddWord, Del as DelWord, Query as QueryWord, Drop as DropWord, Open as OpenWord, Next as NextWord, Close as CloseWord, Has as HasWord, Watch as WatchWord, Unwatch as UnwatchWord, Explain as ExplainWord, Quit as QuitWord, Stop as StopWord}
 use Rattle.djq_lines.specs.Reply.{refusal_line}
+use Rattle.djq_lines.specs.Grammar.{Reading, refused, says, reading_in, reading_of, command_of, command_in, command_with, command_behind, is_served as is_served_line, is_in_range, takes_memory_to_read, is_simple, heads_all, variables_of, in_front, is_count, count_of, keyword_of, nothing, type_of, named_some, named_any, query_in, one_name, two_names, name_and_count}
+use Rattle.djq_proto.specs.declared.refusal.LineRefusal.{LineRefusal}
+use Rattle.djq_proto.specs.declared.refusal.LineRefusal.TheVariants.{Syntax as Outside, Later as Unserved, Range, NoMem}
+use Rattle.djq_proto.specs.Reading.{Gives, Reads}
 use Rattle.djq_machine.specs.LineStep.{ReadStep}
 use Rattle.djq_session.specs.Dialog.{Replies}
 use Rattle.djq_engine.specs.Kept.{Kept}
+use Rattle.djq_engine.specs.Served.{is_served, is_served_by, is_variable, names_of, are_same}
 use Rattle.djq_core.specs.Views.{Talk}
 use Rattle.djq_core.specs.Performs.{Performs}
 use Rattle.djq_core.specs.Stepping.{IsRunnable, refused_as}
 use Rattle.djq_core.proofs.Taking.{reads_refused, reads_nothing}
+use Rattle.djq_core.proofs.Reorderings.{none_left_out}
+
+-- what a command's two tests give
+read_by : (served in_range : Bool) (c : Command) (r : Reading) → served ≡ true → in_range ≡ true → cond served (cond in_range (says c) (refused WrongType)) (refused Later) ≡ says c
+read_by true true c r e f = refl
+read_by true false c r e f = absurd (cc)
+read_by false b c r e f = absurd (cc)
 
 in_says : (o : Option Command) (c : Command) → Gives o (Ok c) → reading_in o ≡ says c
-in_says None c g = absurd (cc)
-in_says (Some a) c g = ap (λ (b : Bool). cond b (says a) (refused WrongType)) g.1 ∙ ap (λ (x : Command). says x) (sym g.0)
+in_says None c g = absurd (cc (g.0))
+in_says (Some a) c g = read_by (is_served_line a) (is_in_range a) a (says a) g.0.1 g.0.2 ∙ ap (λ (x : Command). says x) (sym g.0.0)
 
 pub reads_as : (line : Bytes) (c : Command) → Reads line (Ok c) → reading_of line ≡ says c
 reads_as line c g = in_says (command_of line) c g
 
-in_later : (o : Option Command) → Gives o (Err Later) → reading_in o ≡ refused RefusedLater
-in_later None g = refl
-in_later (Some a) g = absurd g
+in_outside : (o : Option Command) → Gives o (Err Outside) → reading_in o ≡ refused Syntax
+in_outside None g = refl
+in_outside (Some a) g = absurd g.0
 
-pub reads_later : (line : Bytes) → Reads line (Err Later) → reading_of line ≡ refused RefusedLater
-reads_later line g = in_later (command_of line) g
+in_unserved : (o : Option Command) → Gives o (Err Unserved) → reading_in o ≡ refused Later
+in_unserved None g = absurd (cc (g.0))
+in_unserved (Some a) g = ap (λ (b : Bool). cond b (cond (is_in_range a) (says a) (refused WrongType)) (refused Later)) g.0
 
-in_range : (o : Option Command) → Gives o (Err Range) → reading_in o ≡ refused WrongType
-in_range None g = absurd (cc)
-in_range (Some a) g = ap (λ (b : Bool). cond b (says a) (refused WrongType)) g
-
-pub reads_range : (line : Bytes) → Reads line (Err Range) → reading_of line ≡ refused WrongType
-reads_range line g = in_range (command_of line) g
+in_range_past : (o : Option Command) → Gives o (Err Range) → reading_in o ≡ refused WrongType
+in_range_past None g = absurd (cc (g.0))
+in_range_past (Some a) g = ap₂ (λ (b d : Bool). cond b (cond d (says a) (refused WrongType)) (refused Later)) g.0.0 g.0.1
 
 in_memory : (o : Option Command) → Gives o (Err NoMem) → (c : Command) × (reading_in o ≡ says c) × (takes_memory_to_read c ≡ true)
-in_memory None g = absurd (cc)
-in_memory (Some a) g = (a, ap (λ (b : Bool). cond b (says a) (refused WrongType)) g.0, g.1)
-
-pub reads_memory : (line : Bytes) → Reads line (Err NoMem) → (c : Command) × (reading_of line ≡ says c) × (takes_memory_to_read c ≡ true)
-reads_memory line g = in_memory (command_of line) g
-
-pub runnable : (line : Bytes) (c : Command) → Reads line (Ok c) → IsRunnable c
-runnable line c g = ?
+in_memory None g = absurd (cc (g.0))
+in_memory (Some a) g = (a, read_by (is_served_line a) (is_in_range a) a (says a) g.0.0 g.0.1, g.1)
 
 -- a line that gives no command
 pub reads_err : (k : Kept) (before after : Talk) (line : Bytes) (r : LineRefusal) (was : ℕ) → Reads line (Err r) → Replies before after (refusal_line (refused_as r))
     → Performs (λ st s x e st'. ReadStep st s x (reading_of line) e st') false k before k after was was
-reads_err k before after line Later was g reply = reads_refused k before after line RefusedLater was (reads_later line g) reply
-reads_err k before after line Range was g reply = reads_refused k before after line WrongType was (reads_range line g) reply
-reads_err k before after line NoMem was g reply = let m = reads_memory line g in reads_nothing k before after line m.0 was m.1 m.2 reply
+reads_err k before after line Outside was g reply = reads_refused k before after line Syntax was (in_outside (command_of line) g) reply
+reads_err k before after line Unserved was g reply = reads_refused k before after line Later was (in_unserved (command_of line) g) reply
+reads_err k before after line Range was g reply = reads_refused k before after line WrongType was (in_range_past (command_of line) g) reply
+reads_err k before after line NoMem was g reply = let m = in_memory (command_of line) g in reads_nothing k before after line m.0 was m.1 m.2 reply
+
+-- A query that the grammar says is served is one that the engine serves.
+
+all_variables : (ts : List Term) (body : List Bytes) → variables_of ts ≡ Some body → (list_all is_variable ts ≡ true) × (names_of ts ≡ body)
+all_variables [] body e = (refl, cc)
+all_variables (Variable x ∷ ts) body e = step (variables_of ts) (λ more f. all_variables ts more f) refl e
+  where
+    step : (o : Option (List Bytes)) → ((more : List Bytes) → variables_of ts ≡ Some more → (list_all is_variable ts ≡ true) × (names_of ts ≡ more)) → variables_of ts ≡ o → in_front (Some x) o ≡ Some body
+        → (list_all is_variable ts ≡ true) × (x ∷ names_of ts ≡ body)
+    step None rest f e = absurd (cc)
+    step (Some more) rest f e = let r = rest more f in let same : x ∷ more ≡ body = cc in (r.0, ap (λ (ns : List Bytes). x ∷ ns) r.1 ∙ same)
+all_variables (Hole ∷ ts) body e = absurd (cc)
+all_variables (Constant v ∷ ts) body e = absurd (cc)
+
+served_with : (head : List Bytes) (a : Atom) (o : Option (List Bytes)) → variables_of a.terms ≡ o → heads_all head o ≡ true → is_served_by head (a ∷ []) ≡ true
+served_with head a None e h = absurd (cc)
+served_with head a (Some body) e h =
+    let v = all_variables a.terms body e in
+    let s = none_left_out head body h in
+    and_from (list_all is_variable a.terms) _ v.0
+    (subst (λ (names : List Bytes). are_same head names ≡ true) (sym v.1)
+    (and_from (are_different head && are_different body) _ (and_from (are_different head) (are_different body) s.0 s.1) (and_from (list_all (has_name body) head) (list_all (has_name head) body) s.2 s.3)))
+
+served_query : (head : List Bytes) (atoms : List Atom) → is_simple head atoms ≡ true → is_served_by head atoms ≡ true
+served_query head [] h = absurd (cc)
+served_query head (a ∷ []) h = served_with head a (variables_of a.terms) refl h
+served_query head (a ∷ b ∷ more) h = absurd (cc)
+
+-- A count that a line says is one at least.
+
+-- what a command that was made of something is
+made_of : {A : Type 0} (f : A → Command) (o : Option A) (command : Command) (P : Type 0) → ((a : A) → o ≡ Some a → f a ≡ command → P) → option_map f o ≡ Some command → P
+made_of f None command P h e = absurd (cc)
+made_of f (Some a) command P h e = h a refl (cc)
+
+one_at_least : (o : Option ℕ) (n : ℕ) → count_of o ≡ Some n → 1 ≤ n
+one_at_least None n e = absurd (cc)
+one_at_least (Some k) n e = step (is_count k) refl e
+  where
+    step : (b : Bool) → is_count k ≡ b → cond b (Some k) None ≡ Some n → 1 ≤ n
+    step true f e = let same : k ≡ n = cc in omega (arith, leb-true 1 k (and_parts (nat_le 1 k) _ f).0, same)
+    step false f e = absurd (cc)
+
+-- a name and a count that words say
+words_say : (c k : Bytes) (p : Bytes × ℕ) → name_and_count (word c ∷ word k ∷ []) ≡ Some p → 1 ≤ p.1
+words_say c k p e = step (is_name c) e
+  where
+    made : (o : Option ℕ) → option_map (λ n. (c, n)) o ≡ Some p → o ≡ Some p.1
+    made None e = absurd (cc)
+    made (Some n) e = let same : (c, n) ≡ p = cc in ap (λ (q : Bytes × ℕ). Some q.1) same
+
+    step : (b : Bool) → cond b (option_map (λ n. (c, n)) (count_of (natural_of k))) None ≡ Some p → 1 ≤ p.1
+    step true e = one_at_least (natural_of k) p.1 (made (count_of (natural_of k)) e)
+    step false e = absurd (cc)
+
+count_said : (ts : List Token) (p : Bytes × ℕ) → name_and_count ts ≡ Some p → 1 ≤ p.1
+count_said [] p e = absurd (cc)
+count_said (word c ∷ []) p e = absurd (cc)
+count_said (word c ∷ word k ∷ []) p e = words_say c k p e
+count_said (word c ∷ word k ∷ t ∷ ts) p e = absurd (cc)
+count_said (word c ∷ text k ∷ ts) p e = absurd (cc)
+count_said (word c ∷ open_paren ∷ ts) p e = absurd (cc)
+count_said (word c ∷ close_paren ∷ ts) p e = absurd (cc)
+count_said (word c ∷ comma ∷ ts) p e = absurd (cc)
+count_said (word c ∷ arrow ∷ ts) p e = absurd (cc)
+count_said (word c ∷ stray ∷ ts) p e = absurd (cc)
+count_said (text c ∷ ts) p e = absurd (cc)
+count_said (open_paren ∷ ts) p e = absurd (cc)
+count_said (close_paren ∷ ts) p e = absurd (cc)
+count_said (comma ∷ ts) p e = absurd (cc)
+count_said (arrow ∷ ts) p e = absurd (cc)
+count_said (stray ∷ ts) p e = absurd (cc)
+
+no_count : (command : Command) (ts : List Token) (other : Command) (P : Type 0) → (command ≡ other → P) → nothing command ts ≡ Some other → P
+no_count command [] other P h e = h (cc)
+no_count command (t ∷ ts) other P h e = absurd (cc)
+
+counted : (ts : List Token) (k : Keyword) (c : Bytes) (n : ℕ) → command_behind k ts ≡ Some (Next c n) → 1 ≤ n
+counted ts RelWord c n e = made_of (λ p. Rel p.0 p.1) (named_some type_of ts) (Next c n) (1 ≤ n) (λ a f g. absurd (cc)) e
+counted ts AddWord c n e = made_of (λ p. Add p.0 p.1) (named_some literal_of ts) (Next c n) (1 ≤ n) (λ a f g. absurd (cc)) e
+counted ts DelWord c n e = made_of (λ p. Del p.0 p.1) (named_some literal_of ts) (Next c n) (1 ≤ n) (λ a f g. absurd (cc)) e
+counted ts QueryWord c n e = made_of (λ q. Register q) (query_in ts) (Next c n) (1 ≤ n) (λ a f g. absurd (cc)) e
+counted ts DropWord c n e = made_of (λ q. Drop q) (one_name ts) (Next c n) (1 ≤ n) (λ a f g. absurd (cc)) e
+counted ts OpenWord c n e = made_of (λ p. Open p.0 p.1) (two_names ts) (Next c n) (1 ≤ n) (λ a f g. absurd (cc)) e
+counted ts NextWord c n e = made_of (λ p. Next p.0 p.1) (name_and_count ts) (Next c n) (1 ≤ n) (λ p f g. let same : p.1 ≡ n = cc in subst (λ (k : ℕ). 1 ≤ k) same (count_said ts p f)) e
+counted ts CloseWord c n e = made_of (λ q. Close q) (one_name ts) (Next c n) (1 ≤ n) (λ a f g. absurd (cc)) e
+counted ts HasWord c n e = made_of (λ p. Has p.0 p.1) (named_any literal_of ts) (Next c n) (1 ≤ n) (λ a f g. absurd (cc)) e
+counted ts WatchWord c n e = made_of (λ q. Watch q) (one_name ts) (Next c n) (1 ≤ n) (λ a f g. absurd (cc)) e
+counted ts UnwatchWord c n e = made_of (λ q. Unwatch q) (one_name ts) (Next c n) (1 ≤ n) (λ a f g. absurd (cc)) e
+counted ts ExplainWord c n e = made_of (λ q. Explain q) (one_name ts) (Next c n) (1 ≤ n) (λ a f g. absurd (cc)) e
+counted ts QuitWord c n e = no_count Quit ts (Next c n) (1 ≤ n) (λ g. absurd (cc)) e
+counted ts StopWord c n e = no_count Stop ts (Next c n) (1 ≤ n) (λ g. absurd (cc)) e
+
+counted_with : (o : Option Keyword) (ts : List Token) (c : Bytes) (n : ℕ) → command_with o ts ≡ Some (Next c n) → 1 ≤ n
+counted_with None ts c n e = absurd (cc)
+counted_with (Some k) ts c n e = counted ts k c n e
+
+counted_in : (ts : List Token) (c : Bytes) (n : ℕ) → command_in ts ≡ Some (Next c n) → 1 ≤ n
+counted_in [] c n e = absurd (cc)
+counted_in (word w ∷ ts) c n e = counted_with (keyword_of w) ts c n e
+counted_in (text w ∷ ts) c n e = absurd (cc)
+counted_in (open_paren ∷ ts) c n e = absurd (cc)
+counted_in (close_paren ∷ ts) c n e = absurd (cc)
+counted_in (comma ∷ ts) c n e = absurd (cc)
+counted_in (arrow ∷ ts) c n e = absurd (cc)
+counted_in (stray ∷ ts) c n e = absurd (cc)
+
+counted_of : (line : Bytes) (c : Bytes) (n : ℕ) → command_of line ≡ Some (Next c n) → 1 ≤ n
+unfolding command_of
+counted_of line c n e = step (is_utf8 line) e
+  where
+    step : (b : Bool) → cond b (command_in (tokens line)) None ≡ Some (Next c n) → 1 ≤ n
+    step true e = counted_in (tokens line) c n e
+    step false e = absurd (cc)
+
+run_as : (line : Bytes) (c : Command) → command_of line ≡ Some c → is_served_line c ≡ true → IsRunnable c
+run_as line (Rel n cs) e s = tt
+run_as line (Add n row) e s = tt
+run_as line (Del n row) e s = tt
+run_as line (Register q) e s = served_query q.head q.atoms s
+run_as line (Drop q) e s = absurd (cc)
+run_as line (Open c q) e s = tt
+run_as line (Next c n) e s = counted_of line c n e
+run_as line (Close c) e s = tt
+run_as line (Has q row) e s = absurd (cc)
+run_as line (Watch q) e s = absurd (cc)
+run_as line (Unwatch q) e s = absurd (cc)
+run_as line (Explain q) e s = absurd (cc)
+run_as line Quit e s = tt
+run_as line Stop e s = tt
+
+runnable_in : (line : Bytes) (o : Option Command) (c : Command) → command_of line ≡ o → Gives o (Ok c) → IsRunnable c
+runnable_in line None c e g = absurd (cc (g.0))
+runnable_in line (Some a) c e g = run_as line c (e ∙ ap (λ (x : Command). Some x) (sym g.0.0)) (subst (λ (x : Command). is_served_line x ≡ true) (sym g.0.0) g.0.1)
+
+pub runnable : (line : Bytes) (c : Command) → Reads line (Ok c) → IsRunnable c
+runnable line c g = runnable_in line (command_of line) c refl g

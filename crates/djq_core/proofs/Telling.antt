@@ -218,10 +218,11 @@ there_at : (old : Kept) (id : CursorId) (before : Talk) (h : Held) (p : Position
 there_at old id before h (open_at given ended) n k d was now answer k' now' e f t g =
     let r = read_open old id h (given ++ t.told) t.ended k (Given answer) k' now now' t.stands g in
     let x = further old id h given t.told t.ended k answer k' now now' e t.stands r in
-    let s = x.stands in
-    (subst (λ (o : Option Held). IsSomeAnd o (λ y. IsSomeAnd (query_of (k'.store).queries y.query) (λ q. answer.at < length (answers_of k'.store q)))) (sym s.there)
-    (subst (λ (o : Option Query). IsSomeAnd o (λ q. answer.at < length (answers_of k'.store q))) (sym (ap (λ st. query_of st.queries h.query) s.store ∙ r.registered)) x.is.0),
-      ap (λ (o : Option Held). is_some o) s.there)
+    let s = x.stands in (
+      subst (λ (o : Option Held). IsSomeAnd o (λ y. IsSomeAnd (query_of (k'.store).queries y.query) (λ q. answer.at < length (answers_of k'.store q)))) (sym s.there)
+          (subst (λ (o : Option Query). IsSomeAnd o (λ q. answer.at < length (answers_of k'.store q))) (sym (ap (λ st. query_of st.queries h.query) s.store ∙ r.registered)) x.is.0),
+      ap (λ (o : Option Held). is_some o) s.there,
+    )
 there_at old id before h (stale a b) n k d was now answer k' now' e f t g =
     let r = read_stale old id before h a b n k d was now (Given answer) k' now' e f t g in absurd r.gives
 
@@ -285,20 +286,23 @@ cut_at_answer old id before h (open_at given ended) n count k d was now answer k
     let r = read_open old id h (given ++ t.told) t.ended k (Given answer) k' now now' t.stands g in
     let x = further old id h given t.told t.ended k answer k' now now' e t.stands r in
     let cells = lent_is old id h (open_at (given ++ (t.told ++ x.tuple ∷ [])) false) k' answer r.query x.tuple row columns x.stands r.registered x.is lent in
-    let lacks' : Lacks d d' (answer_line x.tuple) = subst (λ (l : Bytes). Lacks d d' l) (ap answer_line cells) lacks in
-    (r.query, r.registered, record {
-      told = t.told;
-      answers = t.answers r.query r.registered;
-      different = t.stands.apart;
-      at_most = omega (arith, t.count);
-      lacking = answer_line x.tuple;
-      lacks = inl (x.tuple, x.left, (let c : length t.told < count = omega (arith, t.count) in c), refl);
-      above = above before.room d.room (text_of (map answer_line t.told)) (answer_line x.tuple) (map answer_line t.told) (answer_line x.tuple) (text_last (map answer_line t.told) (answer_line x.tuple)) room t.room lacks'.lacks;
-      position = open_at (given ++ (t.told ++ x.tuple ∷ [])) false;
-      stands = x.stands;
-      queued = lacked before d d' (text_of (map answer_line t.told)) (answer_line x.tuple) t.queued lacks';
-      counted = subst (λ (i : ℕ). now' ≤ was + (i + 1) * most_steps (length (r.query).head)) (sym t.count) (omega (arith, t.counted r.query r.registered, r.counted));
-    })
+    let lacks' : Lacks d d' (answer_line x.tuple) = subst (λ (l : Bytes). Lacks d d' l) (ap answer_line cells) lacks in (
+      r.query,
+      r.registered,
+      record {
+        told = t.told;
+        answers = t.answers r.query r.registered;
+        different = t.stands.apart;
+        at_most = omega (arith, t.count);
+        lacking = answer_line x.tuple;
+        lacks = inl (x.tuple, x.left, (let c : length t.told < count = omega (arith, t.count) in c), refl);
+        above = above before.room d.room (text_of (map answer_line t.told)) (answer_line x.tuple) (map answer_line t.told) (answer_line x.tuple) (text_last (map answer_line t.told) (answer_line x.tuple)) room t.room lacks'.lacks;
+        position = open_at (given ++ (t.told ++ x.tuple ∷ [])) false;
+        stands = x.stands;
+        queued = lacked before d d' (text_of (map answer_line t.told)) (answer_line x.tuple) t.queued lacks';
+        counted = subst (λ (i : ℕ). now' ≤ was + (i + 1) * most_steps (length (r.query).head)) (sym t.count) (omega (arith, t.counted r.query r.registered, r.counted));
+      },
+    )
 cut_at_answer old id before h (stale a b) n count k d was now answer k' d' now' row columns e f room below t g lent lacks =
     let r = read_stale old id before h a b n k d was now (Given answer) k' now' e f t g in absurd r.gives
 
@@ -317,45 +321,49 @@ last_put : (old : Kept) (id : CursorId) (before : Talk) (h : Held) (given : List
     → (query_of (old.store).queries h.query ≡ Some q) × ListsAt old id before count h q (open_at given e0) listed k' d' was now'
 last_put old id before h given e0 n count k d was now q end k' d' now' (Ok u) listed room t f le all left stands queued is cost =
     let tells : TellsAnswers (IsAnswer (old.store).relations q) given count t.told end = record {
-          answers = t.answers q f;
-          different = t.stands.apart;
-          none_left = all;
-          some_left = λ e. (left e).0;
-          at_most = omega (arith, t.count);
-          all_asked = λ e. t.count ∙ (left e).1;
-        } in
-    (f, subst (λ (x : Listed). ListsAt old id before count h q (open_at given e0) x k' d' was now') (sym is) (record {
-      told = t.told;
-      end = end;
-      tells = tells;
-      stands = stands;
-      queued = queued.queued ∙ ap (λ (y : Talk). record y { pending = y.pending ++ last_line end; room = d'.room }) t.queued
-          ∙ ap (λ (bs : Bytes). record before { pending = bs; room = d'.room }) (append_assoc before.pending (text_of (map answer_line t.told)) (last_line end)
-          ∙ ap (λ (bs : Bytes). before.pending ++ bs) (sym (text_last (map answer_line t.told) (last_line end))));
-      counted = subst (λ (i : ℕ). now' ≤ was + (i + 1) * most_steps (length q.head)) (sym t.count) (omega (arith, t.counted q f, cost));
-    }))
-last_put old id before h given e0 n count k d was now q end k' d' now' (Err r) listed room t f le all left stands lacks is cost =
-    let tells : TellsAnswers (IsAnswer (old.store).relations q) given count t.told end = record {
-          answers = t.answers q f;
-          different = t.stands.apart;
-          none_left = all;
-          some_left = λ e. (left e).0;
-          at_most = omega (arith, t.count);
-          all_asked = λ e. t.count ∙ (left e).1;
-        } in
-    (f, subst (λ (x : Listed). ListsAt old id before count h q (open_at given e0) x k' d' was now') (sym is) (record {
-      told = t.told;
       answers = t.answers q f;
       different = t.stands.apart;
+      none_left = all;
+      some_left = λ e. (left e).0;
       at_most = omega (arith, t.count);
-      lacking = last_line end;
-      lacks = inr (end, tells, refl);
-      above = above before.room d.room (text_of (map answer_line t.told)) (last_line end) (map answer_line t.told) (last_line end) (text_last (map answer_line t.told) (last_line end)) room t.room lacks.lacks;
-      position = open_at (given ++ t.told) end;
-      stands = stands;
-      queued = lacked before d d' (text_of (map answer_line t.told)) (last_line end) t.queued lacks;
-      counted = subst (λ (i : ℕ). now' ≤ was + (i + 1) * most_steps (length q.head)) (sym t.count) (omega (arith, t.counted q f, cost));
-    }))
+      all_asked = λ e. t.count ∙ (left e).1;
+    } in (
+      f,
+      subst (λ (x : Listed). ListsAt old id before count h q (open_at given e0) x k' d' was now') (sym is) (record {
+        told = t.told;
+        end = end;
+        tells = tells;
+        stands = stands;
+        queued = queued.queued ∙ ap (λ (y : Talk). record y { pending = y.pending ++ last_line end; room = d'.room }) t.queued
+            ∙ ap (λ (bs : Bytes). record before { pending = bs; room = d'.room }) (append_assoc before.pending (text_of (map answer_line t.told)) (last_line end)
+            ∙ ap (λ (bs : Bytes). before.pending ++ bs) (sym (text_last (map answer_line t.told) (last_line end))));
+        counted = subst (λ (i : ℕ). now' ≤ was + (i + 1) * most_steps (length q.head)) (sym t.count) (omega (arith, t.counted q f, cost));
+      }),
+    )
+last_put old id before h given e0 n count k d was now q end k' d' now' (Err r) listed room t f le all left stands lacks is cost =
+    let tells : TellsAnswers (IsAnswer (old.store).relations q) given count t.told end = record {
+      answers = t.answers q f;
+      different = t.stands.apart;
+      none_left = all;
+      some_left = λ e. (left e).0;
+      at_most = omega (arith, t.count);
+      all_asked = λ e. t.count ∙ (left e).1;
+    } in (
+      f,
+      subst (λ (x : Listed). ListsAt old id before count h q (open_at given e0) x k' d' was now') (sym is) (record {
+        told = t.told;
+        answers = t.answers q f;
+        different = t.stands.apart;
+        at_most = omega (arith, t.count);
+        lacking = last_line end;
+        lacks = inr (end, tells, refl);
+        above = above before.room d.room (text_of (map answer_line t.told)) (last_line end) (map answer_line t.told) (last_line end) (text_last (map answer_line t.told) (last_line end)) room t.room lacks.lacks;
+        position = open_at (given ++ t.told) end;
+        stands = stands;
+        queued = lacked before d d' (text_of (map answer_line t.told)) (last_line end) t.queued lacks;
+        counted = subst (λ (i : ℕ). now' ≤ was + (i + 1) * most_steps (length q.head)) (sym t.count) (omega (arith, t.counted q f, cost));
+      }),
+    )
 
 -- The end is read.
 end_at : (old : Kept) (id : CursorId) (before : Talk) (h : Held) (p : Position) (n count : ℕ) (k : Kept) (d : Talk) (was now : ℕ) (k' : Kept) (d' : Talk) (now' : ℕ) (outcome : Result ⊤ NoMem) (listed : Listed)

@@ -36,7 +36,7 @@ pub record Performs (Machine : State → ℕ → Session → Effect → State �
   pub pending : after.pending ≡ behind before.pending text
   pub does : (front back : List OpenSession) (s : ℕ) (stopped : Bool) → IsSound old (among front s before back)
       → Machine (state_in old stopped (among front s before back)) s (session_in old.cursors s before) (to_one s text cost)
-        (state_in new (stops || stopped) (among front s (unqueued before after) back))
+      (state_in new (stops || stopped) (among front s (unqueued before after) back))
   pub sound : (front back : List OpenSession) (s : ℕ) → IsSound old (among front s before back) → IsSound new (among front s after back)
   pub counted : now ≤ was + cost
 

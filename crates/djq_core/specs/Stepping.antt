@@ -7,9 +7,9 @@ use Rattle.djq_lines.specs.declared.answer.EndCause.TheVariants.{Long, Slow, Mem
 use Rattle.djq_lines.specs.declared.command.Command.{Command}
 use Rattle.djq_lines.specs.declared.command.Command.TheVariants.{Rel, Add, Del, Query as Register, Drop, Open, Next, Close, Has, Watch, Unwatch, Explain, Quit, Stop}
 use Rattle.djq_lines.specs.declared.answer.Refusal.{Refusal}
-use Rattle.djq_lines.specs.declared.answer.Refusal.TheVariants.{WrongType, NoMemory, Later}
-use Rattle.djq_proto.specs.declared.command.LineRefusal.{LineRefusal}
-use Rattle.djq_proto.specs.declared.command.LineRefusal.TheVariants.{Range, Later as LaterLine, NoMem}
+use Rattle.djq_lines.specs.declared.answer.Refusal.TheVariants.{Syntax, WrongType, NoMemory, Later}
+use Rattle.djq_proto.specs.declared.refusal.LineRefusal.{LineRefusal}
+use Rattle.djq_proto.specs.declared.refusal.LineRefusal.TheVariants.{Syntax as Outside, Later as Unserved, Range, NoMem}
 use Rattle.djq_machine.specs.declared.machine.Stepped.{Stepped}
 use Rattle.djq_machine.specs.declared.machine.Stepped.TheVariants.{Ran, Dry, Ended}
 use Rattle.djq_machine.specs.LineStep.{LineOutcome, long, blank, slow, no_room, run, FrontStep}
@@ -32,7 +32,8 @@ IsRunnable _ = ⊤
 
 -- what a line that gives no command is answered
 abbrev pub refused_as : LineRefusal → Refusal
-refused_as LaterLine = Later
+refused_as Outside = Syntax
+refused_as Unserved = Later
 refused_as Range = WrongType
 refused_as NoMem = NoMemory
 

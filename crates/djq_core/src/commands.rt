@@ -56,11 +56,7 @@ pub(crate) fn run_del(
 }
 
 /// `query`: a query is registered.
-pub(crate) fn run_query(
-    engine: &mut Engine,
-    session: &mut Session<CursorId, QueryId>,
-    query: Query,
-)
+pub(crate) fn run_query(engine: &mut Engine, session: &mut Session<CursorId, QueryId>, query: Query)
     requires ready { IsReady engine.old session.old }
     requires served { is_served query ≡ true }
     ensures { Executes (Register query) false engine.old session.old engine.new session.new 0 0 }
@@ -113,11 +109,7 @@ fn open_cursor(
 }
 
 /// `close`: a cursor is given up.
-pub(crate) fn run_close(
-    engine: &mut Engine,
-    session: &mut Session<CursorId, QueryId>,
-    name: &Name,
-)
+pub(crate) fn run_close(engine: &mut Engine, session: &mut Session<CursorId, QueryId>, name: &Name)
     requires { IsReady engine.old session.old }
     ensures { Executes (Close name.now) false engine.old session.old engine.new session.new 0 0 }
 {

@@ -1,5 +1,5 @@
 //! A session's end: its cursors are given up, and its last line is queued.
-ghost use Rattle.std.specs.Prelude.{◌≡◌, ◌+◌, ◌≤◌, false, None};
+ghost use Rattle.std.specs.Prelude.{◌≡◌, false, None, Some};
 ghost use Rattle.djq_lines.specs.Reply.{end_line, input_cut};
 ghost use Rattle.djq_lines.specs.declared.answer.EndCause.TheVariants.{Input};
 ghost use Rattle.djq_machine.specs.Effect.{EndsWith};
@@ -30,7 +30,8 @@ pub(crate) fn end_by(
 )
     requires own { IsOwn engine.old session.old }
     requires running { session.old.cause ≡ None }
-    ensures { Performs (λ st s x e st'. EndsWith (end_line line) cause st s e st') false engine.old session.old engine.new session.new 0 0 }
+    ensures performs { Performs (λ st s x e st'. EndsWith (end_line line) cause st s e st') false engine.old session.old engine.new session.new 0 0 }
+    ensures ended { session.new.cause ≡ Some cause }
 {
     give_up(engine, session);
     session.end_by(line, cause);

@@ -109,6 +109,7 @@ fn refusal_of(refusal: LineRefusal) -> Refusal
     ensures { result ≡ refused_as refusal }
 {
     match refusal {
+        LineRefusal::Syntax => Refusal::Syntax,
         LineRefusal::Later => Refusal::Later,
         LineRefusal::Range => Refusal::WrongType,
         LineRefusal::NoMem => Refusal::NoMemory,

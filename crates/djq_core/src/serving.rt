@@ -19,15 +19,15 @@ use std::marker::Model;
 /// The join machine: an engine, and the open sessions. Contracts see its state.
 ///
 /// ```text
-/// ids:     [ 1, 4, 5 ]              rising; a session is found by binary search
-/// open:    [ s1, s4, s5 ]           each with its bytes and its cursors by name
-/// engine:  relations, queries, and the cursors that the names stand for
+/// ids:      [ 1, 4, 5 ]              rising; a session is found by binary search
+/// sessions: [ s1, s4, s5 ]           each with its bytes and its cursors by name
+/// engine:   relations, queries, and the cursors that the names stand for
 /// ```
 #[derive(Drop)]
 pub struct Core {
     engine: Engine,
     ids: Vec<u64>,
-    open: Vec<OpenSession>,
+    sessions: Vec<OpenSession>,
     stopped: bool,
     alloc: Global,
 }
@@ -41,9 +41,9 @@ impl Model for Core {
     ghost use Rattle.djq_core.specs.Views.{state_in};
     ghost use Rattle.djq_core.specs.Sound.{IsCore};
 
-    ghost view = { λ c. state_in c.engine c.stopped c.open.items };
+    ghost view = { λ c. state_in c.engine c.stopped c.sessions.items };
 
-    ghost invariant = { λ c. IsCore c.engine c.ids.items c.open.items (vec_capacity c.ids) (vec_capacity c.open) };
+    ghost invariant = { λ c. IsCore c.engine c.ids.items c.sessions.items (vec_capacity c.ids) (vec_capacity c.sessions) };
 }
 
 impl Core {
@@ -58,7 +58,7 @@ impl Core {
         Ok(Core {
             engine: Engine::new(alloc),
             ids: Vec::with_capacity(alloc, SESSIONS)?,
-            open: Vec::with_capacity(alloc, SESSIONS)?,
+            sessions: Vec::with_capacity(alloc, SESSIONS)?,
             stopped: false,
             alloc,
         })
@@ -89,7 +89,7 @@ impl Machine for Core {
         match Session::new(self.alloc) {
             Ok(session) => {
                 self.ids.push_reserved(id);
-                self.open.push_reserved(OpenSession { id, session });
+                self.sessions.push_reserved(OpenSession { id, session });
                 Ok(())
             }
             Err(_) => Err(OpenRefusal::NoMem),
@@ -98,14 +98,19 @@ impl Machine for Core {
 
     fn feed(&mut self, id: u64, piece: &[u8]) -> Fed {
         let at = place_of(self.ids.as_slice(), id);
-        let open = &mut self.open[at];
-        if let Some(cause) = open.session.cause() {
+        let found = &mut self.sessions[at];
+        if let Some(cause) = found.session.cause() {
             return Fed::Ended(cause);
         }
-        match open.session.feed(piece) {
+        match found.session.feed(piece) {
             Ok(()) => Fed::Held,
             Err(_) => {
-                end_by(&mut self.engine, &mut open.session, EndLine::Memory, EndCause::Memory);
+                end_by(
+                    &mut self.engine,
+                    &mut found.session,
+                    EndLine::Memory,
+                    EndCause::Memory,
+                );
                 Fed::Ended(EndCause::Memory)
             }
         }
@@ -113,36 +118,42 @@ impl Machine for Core {
 
     fn step<L: Ledgers>(&mut self, id: u64, steps: &mut Steps<L>) -> Stepped {
         let at = place_of(self.ids.as_slice(), id);
-        let open = &mut self.open[at];
-        let (stepped, stops) = step_session(self.alloc, &mut self.engine, &mut open.session, &mut steps.listing);
-        self.stopped = stops || self.stopped;
+        let found = &mut self.sessions[at];
+        let (stepped, stops) = step_session(
+            self.alloc,
+            &mut self.engine,
+            &mut found.session,
+            &mut steps.listing,
+        );
+        self.stopped |= stops;
         stepped
     }
 
     fn pending(&self, id: u64) -> &[u8] {
         let at = place_of(self.ids.as_slice(), id);
-        self.open[at].session.pending()
+        self.sessions[at].session.pending()
     }
 
     fn took(&mut self, id: u64, count: usize) {
         let at = place_of(self.ids.as_slice(), id);
-        self.open[at].session.took(count);
+        self.sessions[at].session.took(count);
     }
 
     fn end_session(&mut self, id: u64) {
         let at = place_of(self.ids.as_slice(), id);
-        let open = &mut self.open[at];
-        if open.session.cause().is_none() {
-            end_input(&mut self.engine, &mut open.session);
+        let found = &mut self.sessions[at];
+        match found.session.cause() {
+            Some(_had_ended) => {}
+            None => end_input(&mut self.engine, &mut found.session),
         }
     }
 
     fn close_session(&mut self, id: u64) {
         let at = place_of(self.ids.as_slice(), id);
-        let open = &mut self.open[at];
-        give_up(&mut self.engine, &mut open.session);
+        let found = &mut self.sessions[at];
+        give_up(&mut self.engine, &mut found.session);
         let _id = self.ids.remove(at);
-        let _closed = self.open.remove(at);
+        let _closed = self.sessions.remove(at);
     }
 
     fn ids(&self) -> &[u64] {
@@ -151,7 +162,7 @@ impl Machine for Core {
 
     fn cause(&self, id: u64) -> Option<EndCause> {
         let at = place_of(self.ids.as_slice(), id);
-        self.open[at].session.cause()
+        self.sessions[at].session.cause()
     }
 
     fn stopped(&self) -> bool {

@@ -24,9 +24,11 @@ returns-then-pending-gt-PENDING_BYTES g c =
     let line = take c.args.end old.held in
     let said : is_blank line ≡ false = subst (λ (bs : Bytes). is_blank (take c.args.end bs) ≡ false) c.held.ensures (sym c.if-is_blank.ensures) in
     let many : PENDING_BYTES < length old.pending = subst (λ (bs : Bytes). PENDING_BYTES < length bs) c.pending.ensures c.if-pending-gt-PENDING_BYTES.true in
-    ended_before Slow c.args.engine.now old c.end_by.new.engine c.end_by.new.session c.args.listing.now c.requires.running
-    (line, is_slow c.args.engine.now c.end_by.new.engine old c.take_line-then-pending-gt-PENDING_BYTES.new.self c.end_by.new.session line (drop c.args.rest old.held) c.args.listing.now
-      c.requires.front c.take_line-then-pending-gt-PENDING_BYTES.ensures said many c.end_by.ensures)
+    ended_before Slow c.args.engine.now old c.end_by.new.engine c.end_by.new.session c.args.listing.now c.requires.running (
+      line,
+      is_slow c.args.engine.now c.end_by.new.engine old c.take_line-then-pending-gt-PENDING_BYTES.new.self c.end_by.new.session line (drop c.args.rest old.held) c.args.listing.now
+          c.requires.front c.take_line-then-pending-gt-PENDING_BYTES.ensures said many c.end_by.ensures.performs,
+    )
 
 pub returns-in-Err : goal.returns-in-Err
 returns-in-Err g c =
@@ -34,10 +36,12 @@ returns-in-Err g c =
     let line = take c.args.end old.held in
     let said : is_blank line ≡ false = subst (λ (bs : Bytes). is_blank (take c.args.end bs) ≡ false) c.held.ensures (sym c.if-is_blank.ensures) in
     let few : length old.pending ≤ PENDING_BYTES = subst (λ (bs : Bytes). length bs ≤ PENDING_BYTES) c.pending.ensures c.if-pending-gt-PENDING_BYTES.false in
-    ended_before Memory c.args.engine.now old c.end_by-in-Err.new.engine c.end_by-in-Err.new.session c.args.listing.now c.requires.running
-    (line, is_unheard c.args.engine.now c.end_by-in-Err.new.engine old c.keep.new.self c.take_line-in-Err.new.self c.end_by-in-Err.new.session line (drop c.args.rest old.held) c.args.listing.now
-      c.requires.front c.in-Err.ensures.others
-      (subst (λ (bs : Bytes). c.take_line-in-Err.new.self ≡ record c.keep.new.self { held = drop c.args.rest bs }) (ap (λ (d : Talk). d.held) c.in-Err.ensures.others) c.take_line-in-Err.ensures) said few c.end_by-in-Err.ensures)
+    ended_before Memory c.args.engine.now old c.end_by-in-Err.new.engine c.end_by-in-Err.new.session c.args.listing.now c.requires.running (
+      line,
+      is_unheard c.args.engine.now c.end_by-in-Err.new.engine old c.keep.new.self c.take_line-in-Err.new.self c.end_by-in-Err.new.session line (drop c.args.rest old.held) c.args.listing.now
+          c.requires.front c.in-Err.ensures.others
+          (subst (λ (bs : Bytes). c.take_line-in-Err.new.self ≡ record c.keep.new.self { held = drop c.args.rest bs }) (ap (λ (d : Talk). d.held) c.in-Err.ensures.others) c.take_line-in-Err.ensures) said few c.end_by-in-Err.ensures.performs,
+    )
 
 pub returns-in-Ok : goal.returns-in-Ok
 returns-in-Ok g c =
@@ -45,6 +49,6 @@ returns-in-Ok g c =
     let line = take c.args.end old.held in
     let same : c.keep.new.self.held ≡ old.held = ap (λ (d : Talk). d.held) c.in-Ok.ensures.others in
     let ran : Fronts (run line) c.run_line-stops.result c.args.engine.now c.keep.new.self c.run_line-stops.new.engine c.run_line-stops.new.session c.args.listing.now c.run_line-stops.new.listing
-          = subst (λ (bs : Bytes). Fronts (run (take c.args.end bs)) c.run_line-stops.result c.args.engine.now c.keep.new.self c.run_line-stops.new.engine c.run_line-stops.new.session c.args.listing.now c.run_line-stops.new.listing) same c.run_line-stops.ensures in
+    = subst (λ (bs : Bytes). Fronts (run (take c.args.end bs)) c.run_line-stops.result c.args.engine.now c.keep.new.self c.run_line-stops.new.engine c.run_line-stops.new.session c.args.listing.now c.run_line-stops.new.listing) same c.run_line-stops.ensures in
     ran_line c.run_line-stops.result c.args.engine.now old c.run_line-stops.new.engine c.run_line-stops.new.session line c.args.listing.now c.run_line-stops.new.listing c.requires.running
     (with_room _ c.run_line-stops.result c.args.engine.now old c.keep.new.self c.run_line-stops.new.engine c.run_line-stops.new.session c.args.listing.now c.run_line-stops.new.listing c.in-Ok.ensures.others ran)

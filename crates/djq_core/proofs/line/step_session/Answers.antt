@@ -7,4 +7,4 @@ pub returns-in-Long : goal.returns-in-Long
 returns-in-Long g c =
     let running = sym c.cause.ensures ∙ c.in_default.is in
     ended_before Long c.args.engine.now c.args.session.now c.end_by.new.engine c.end_by.new.session c.args.listing.now running
-    (is_too_long c.args.engine.now c.end_by.new.engine c.args.session.now c.end_by.new.session c.args.listing.now c.in-Long.ensures c.end_by.ensures)
+    (is_too_long c.args.engine.now c.end_by.new.engine c.args.session.now c.end_by.new.session c.args.listing.now c.in-Long.ensures c.end_by.ensures.performs)

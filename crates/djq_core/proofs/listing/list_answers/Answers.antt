@@ -10,13 +10,9 @@ loop-read-init g c = starts c.args.engine.now c.args.id c.args.session.now c.arg
 pub next-requires : goal.next-requires
 next-requires g c = is_held_still c.args.engine.now c.args.id c.args.session.now c.loop-read.read c.loop-read.engine c.loop-read.session c.args.listing.now c.loop-read.listing c.loop-read.invariant
 
-pub answer-requires-clause-there : goal.answer-requires-clause-there
-answer-requires-clause-there g c = (is_there c.args.engine.now c.args.id c.args.session.now c.loop-read.read c.loop-read.engine c.loop-read.session c.args.listing.now c.loop-read.listing c.in-Given.answer c.next.new.self c.next.new.listing
+pub answer-requires : goal.answer-requires
+answer-requires g c = (is_there c.args.engine.now c.args.id c.args.session.now c.loop-read.read c.loop-read.engine c.loop-read.session c.args.listing.now c.loop-read.listing c.in-Given.answer c.next.new.self c.next.new.listing
     c.loop-read.invariant c.in-Given.ensures).0
-
-pub answer-requires-clause-held : goal.answer-requires-clause-held
-answer-requires-clause-held g c = (is_there c.args.engine.now c.args.id c.args.session.now c.loop-read.read c.loop-read.engine c.loop-read.session c.args.listing.now c.loop-read.listing c.in-Given.answer c.next.new.self c.next.new.listing
-    c.loop-read.invariant c.in-Given.ensures).1
 
 pub returns-then-is_err : goal.returns-then-is_err
 returns-then-is_err g c = is_cut c.args.engine.now c.args.id c.args.session.now c.loop-read.read c.args.count c.loop-read.engine c.loop-read.session c.args.listing.now c.loop-read.listing c.in-Given.answer

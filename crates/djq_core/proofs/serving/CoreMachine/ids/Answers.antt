@@ -1,0 +1,10 @@
+use Rattle.std.proofs.Common.{ℕ, List, ◌≡◌, ◌<◌, ◌≤◌, ◌∙◌, ◌||◌, Bool, true, false, sym, ap, subst, length, get_or, set, take, drop, arith, Option, None, Some}
+use Rattle.djq_model.specs.Data.{Bytes}
+use Rattle.djq_machine.specs.State.{State}
+use Rattle.djq_core.specs.declared.open.OpenSession.{OpenSession}
+use Rattle.djq_machine.specs.Call.{ids_of}
+use Rattle.djq_core.proofs.Places.{ids_seen}
+use Rattle.djq_core.proofs.serving.CoreMachine.ids.Goals as goal
+
+pub returns : goal.returns
+returns c = c.as_slice.ensures.value ∙ c.self.invariant.ids_are ∙ sym (ids_seen c.self.inside.engine c.self.inside.stopped c.self.inside.sessions.items) ∙ ap ids_of c.self.view_is
