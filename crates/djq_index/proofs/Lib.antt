@@ -13,3 +13,4 @@ pub mod Inserting
 pub mod Leaving
 pub mod Clearing
 pub mod Tabling
+pub mod Walking

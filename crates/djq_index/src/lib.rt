@@ -25,3 +25,6 @@ mod table;
 
 pub use place::Place;
 pub use table::Table;
+
+#[cfg(test)]
+mod tests;

@@ -1,0 +1,21 @@
+use Rattle.std.proofs.Common.{◌≡◌, refl, sym, ◌∙◌, subst, ap, Option, Some, ℕ, drop, take, ◌+◌}
+use Rattle.djq_index.specs.declared.place.Place.{Place}
+use Rattle.djq_index.specs.Entries.{Entry, grp, marks, head_at}
+use Rattle.djq_index.specs.Table.{IsLive}
+use Rattle.djq_index.proofs.Walking.{walk_cut, group_live, marks_live, Backing, backing, backing_cut}
+use Rattle.djq_index.proofs.tests.marked.Goals as goal
+
+pub tuple-requires : goal.tuple-requires
+tuple-requires g c =
+    let w = walk_cut (marks c.args.table.now.entries) c.loop-step._step c.in-Some.place (sym c.loop-step.invariant ∙ c.in-Some.is) in
+    subst (IsLive c.args.table.now.entries) w.at (marks_live c.args.table.now.entries (take c.loop-step._step (marks c.args.table.now.entries)) w.entry (drop (c.loop-step._step + 1) (marks c.args.table.now.entries)) w.is)
+
+pub next_marked-at-requires : goal.next_marked-at-requires
+next_marked-at-requires g c =
+    let w = walk_cut (marks c.args.table.now.entries) c.loop-step._step c.in-Some.place (sym c.loop-step.invariant ∙ c.in-Some.is) in
+    subst (IsLive c.args.table.now.entries) w.at (marks_live c.args.table.now.entries (take c.loop-step._step (marks c.args.table.now.entries)) w.entry (drop (c.loop-step._step + 1) (marks c.args.table.now.entries)) w.is)
+
+pub loop-step-preserved : goal.loop-step-preserved
+loop-step-preserved g c =
+    let w = walk_cut (marks c.args.table.now.entries) c.loop-step._step c.in-Some.place (sym c.loop-step.invariant ∙ c.in-Some.is) in
+    c.next_marked-at.ensures.found (take c.loop-step._step (marks c.args.table.now.entries)) w.entry (drop (c.loop-step._step + 1) (marks c.args.table.now.entries)) w.is w.at
