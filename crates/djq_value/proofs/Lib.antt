@@ -5,3 +5,4 @@ pub mod Scanning
 pub mod Words
 pub mod Escapes
 pub mod Putting
+pub mod Literals

@@ -97,7 +97,7 @@ spelled_read (t ∷ ts) line s =
 
 -- From tokens that are read to tokens that are spelled.
 
-cut_spaces : (bs : Bytes) → (front : Bytes) × IsSpaces front × (bs ≡ front ++ behind_spaces bs)
+pub cut_spaces : (bs : Bytes) → (front : Bytes) × IsSpaces front × (bs ≡ front ++ behind_spaces bs)
 cut_spaces [] = ([], All-nil (λ x. x ≡ 32), refl)
 cut_spaces (b ∷ bs) = cut (eqb b 32) refl (cut_spaces bs)
   where
@@ -106,24 +106,24 @@ cut_spaces (b ∷ bs) = cut (eqb b 32) refl (cut_spaces bs)
     cut false e more = ([], All-nil (λ x. x ≡ 32), refl)
 
 -- bytes that begin with no space
-abbrev HasNoSpaceFirst : Bytes → Type 0
+abbrev pub HasNoSpaceFirst : Bytes → Type 0
 HasNoSpaceFirst [] = Unit {0}
 HasNoSpaceFirst (b ∷ bs) = eqb b 32 ≡ false
 
-no_space_first : (bs : Bytes) → HasNoSpaceFirst (behind_spaces bs)
+pub no_space_first : (bs : Bytes) → HasNoSpaceFirst (behind_spaces bs)
 no_space_first [] = tt
 no_space_first (b ∷ bs) = cond_both (eqb b 32) (behind_spaces bs) (b ∷ bs) HasNoSpaceFirst (λ e. no_space_first bs) (λ e. e)
 
 -- a token in front of bytes, and what is behind it
-abbrev IsCut : Bytes → Token → Bytes → Type 0
+abbrev pub IsCut : Bytes → Token → Bytes → Type 0
 IsCut bs t behind = (bs ≡ text_of t ++ behind) × IsToken t × MayFollow t behind
 
-abbrev IsReal : Token → Type 0
+abbrev pub IsReal : Token → Type 0
 IsReal stray = ⊥
 IsReal _ = Unit {0}
 
 -- the same, where it is a token at all
-abbrev IsFirstToken : Bytes → Token × Bytes → Type 0
+abbrev pub IsFirstToken : Bytes → Token × Bytes → Type 0
 IsFirstToken bs p = IsReal p.0 → IsCut bs p.0 p.1
 
 word_cut : (cs : Bytes) → cs ≡ word_front cs ++ behind_word cs
@@ -181,11 +181,11 @@ first_token b cs not_space =
     ))))))
 
 -- what is known of the first token
-abbrev IsFirst : Bytes → Option (Token × Bytes) → Type 0
+abbrev pub IsFirst : Bytes → Option (Token × Bytes) → Type 0
 IsFirst bs None = bs ≡ []
 IsFirst bs (Some p) = IsFirstToken bs p
 
-front_first : (bs : Bytes) → HasNoSpaceFirst bs → IsFirst bs (token_front bs)
+pub front_first : (bs : Bytes) → HasNoSpaceFirst bs → IsFirst bs (token_front bs)
 front_first [] h = refl
 front_first (b ∷ cs) h = first_token b cs h
 

@@ -20,7 +20,7 @@ is_name-letter w h e = is_name-cut w h ∙ ap (λ b. b && is_tail_of (take (leng
 pub is_name-other : (w : Bytes) → 0 < length w → is_lower (get_or w 0 0) ≡ false → is_name w ≡ false
 is_name-other w h e = is_name-cut w h ∙ ap (λ b. b && is_tail_of (take (length w - 1) (drop 1 w))) e
 
-digits_value-push : (n : ℕ) (xs : Bytes) (d : ℕ) → digits_value n (xs ++ d ∷ []) ≡ digits_value n xs * 10 + (d - 48)
+pub digits_value-push : (n : ℕ) (xs : Bytes) (d : ℕ) → digits_value n (xs ++ d ∷ []) ≡ digits_value n xs * 10 + (d - 48)
 digits_value-push n [] d = refl
 digits_value-push n (x ∷ xs) d = digits_value-push (n * 10 + (x - 48)) xs d
 
@@ -37,7 +37,7 @@ is_digit-within d low high = and_from _ _ (le-leb 48 d low) (le-leb d 57 high)
 pub digits-more : (ds : Bytes) (i : ℕ) → i < length ds → list_all is_digit (take i ds) ≡ true → 48 ≤ get_or ds i 0 → get_or ds i 0 ≤ 57 → list_all is_digit (take (i + 1) ds) ≡ true
 digits-more ds i h all low high = list_all_more is_digit ds i 0 h ∙ and_from _ _ all (is_digit-within (get_or ds i 0) low high)
 
-natural-some : (ds : Bytes) → 0 < length ds → natural_of ds ≡ cond (list_all is_digit ds) (Some (digits_value 0 ds)) None
+pub natural-some : (ds : Bytes) → 0 < length ds → natural_of ds ≡ cond (list_all is_digit ds) (Some (digits_value 0 ds)) None
 natural-some [] h = absurd (omega arith)
 natural-some (d ∷ ds) h = refl
 

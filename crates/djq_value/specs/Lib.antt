@@ -9,3 +9,4 @@ pub mod Number
 pub mod Reads
 pub mod ValueText
 pub mod Output
+pub mod ReadValue

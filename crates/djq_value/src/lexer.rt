@@ -91,7 +91,7 @@ impl<'a> Lexer<'a> {
 }
 
 // The token that begins with the first byte, and what is behind it.
-fn front_token(bytes: &[u8]) -> (Token<'_>, &[u8])
+pub(crate) fn front_token(bytes: &[u8]) -> (Token<'_>, &[u8])
     requires { 0 < length bytes.now }
     ensures { token_front bytes.now ≡ Some (lexeme_of result.0, result.1.now) }
 {
@@ -146,7 +146,7 @@ fn may_end(behind: &[u8]) -> bool
 }
 
 // How many spaces stand in front.
-fn space_count(bytes: &[u8]) -> usize
+pub(crate) fn space_count(bytes: &[u8]) -> usize
     ensures within { result ≤ length bytes.now }
     ensures behind { drop result bytes.now ≡ behind_spaces bytes.now }
 {

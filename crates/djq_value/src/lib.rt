@@ -8,13 +8,14 @@
 //! in part only, out of memory, is taken back: a call appends its text whole, or nothing.
 #![tactic(auto)]
 
-pub use laws::tokens_are_spelled;
+pub use laws::{tokens_are_spelled, values_are_read_back, values_are_spelled};
 pub use lexer::{Lexer, Token};
 pub use literal::{LiteralRefusal, read_literal};
 pub use number::read_natural;
 pub use output::{KEPT, put};
 pub use print::print_value;
 pub use quoted::Quoted;
+pub use reading::{ValueRefusal, read_value};
 pub use word::{is_name, is_text, next_name, next_word, read_name};
 
 mod laws;
@@ -24,6 +25,7 @@ mod number;
 mod output;
 mod print;
 mod quoted;
+mod reading;
 #[cfg(test)]
 mod tests;
 mod word;

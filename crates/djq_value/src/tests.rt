@@ -1,6 +1,7 @@
 use super::*;
 use bytes::BytesMut;
 use djq_model::{Text, Value};
+use std::alloc::{AllocError, Global};
 use std::test::Fail;
 
 #[test]
@@ -38,4 +39,85 @@ fn prints_texts_with_their_escapes(rt: HostRuntime) -> Result<(), Fail> {
         assert_eq!(rt; out.as_slice(), want);
     }
     Ok(())
+}
+
+// A text of so many bytes, in quotes.
+fn quoted(alloc: Global, count: usize) -> Result<Vec<u8>, AllocError> {
+    let mut bytes = vec![in alloc; b'a'; count + 2]?;
+    let end = bytes.len() - 1;
+    bytes[0] = b'"';
+    bytes[end] = b'"';
+    Ok(bytes)
+}
+
+#[test]
+fn values_are_read_back_as_printed(rt: HostRuntime) -> Result<(), Fail> {
+    let long = quoted(rt.alloc(), 255)?;
+    let cases: [&[u8]; 9] = [
+        b"-9223372036854775808",
+        b"-1",
+        b"0",
+        b"9223372036854775807",
+        b"\"\"",
+        b"\"a b\"",
+        b"\"b\\\"\\\\\\n\"",
+        b"\"\xc3\xa9\xe2\x82\xac\xf0\x9f\x98\x80\"",
+        long.as_slice(),
+    ];
+    for text in cases {
+        let mut out = BytesMut::new(rt.alloc());
+        match read_value(rt.alloc(), text) {
+            Ok((value, used)) => {
+                assert_eq!(rt; used, text.len());
+                print_value(&value, &mut out)?;
+            }
+            Err(refusal) => panic!(rt; "{refusal}"),
+        }
+        assert_eq!(rt; out.as_slice(), text);
+    }
+    Ok(())
+}
+
+#[test]
+fn says_why_no_value_is_read(rt: HostRuntime) -> Result<(), Fail> {
+    let long = quoted(rt.alloc(), 256)?;
+    let cases: [(&[u8], ValueRefusal); 10] = [
+        (b"", ValueRefusal::Syntax { at: 0 }),
+        (b"  ", ValueRefusal::Syntax { at: 2 }),
+        (b" -", ValueRefusal::Syntax { at: 1 }),
+        (b"x", ValueRefusal::Syntax { at: 0 }),
+        (b"--1", ValueRefusal::Syntax { at: 0 }),
+        (b"\"a", ValueRefusal::Syntax { at: 0 }),
+        (b"\"\\t\"", ValueRefusal::Syntax { at: 0 }),
+        (b"\"a\"1", ValueRefusal::Syntax { at: 0 }),
+        (b" 9223372036854775808", ValueRefusal::IntRange { at: 1 }),
+        (long.as_slice(), ValueRefusal::TextLong { at: 0 }),
+    ];
+    for (text, want) in cases {
+        match read_value(rt.alloc(), text) {
+            Ok(_) => panic!(rt; "no value stands there"),
+            Err(refusal) => assert_eq!(rt; refusal, want),
+        }
+    }
+    Ok(())
+}
+
+#[test]
+fn reads_the_tokens_of_a_line(rt: HostRuntime) {
+    let mut lexer = Lexer::new(b" q( x,_ )<-\"a\\n\" < 07");
+    let mut kinds = 0;
+    for _ in 0..10 {
+        kinds = match lexer.next() {
+            Some(Token::Word(_)) => kinds * 8 + 1,
+            Some(Token::Text(text)) => kinds * 8 + text.len() as u64,
+            Some(Token::Open) => kinds * 8 + 3,
+            Some(Token::Close) => kinds * 8 + 4,
+            Some(Token::Comma) => kinds * 8 + 5,
+            Some(Token::Arrow) => kinds * 8 + 6,
+            Some(Token::Stray) => kinds * 8 + 7,
+            None => kinds,
+        };
+    }
+    assert_eq!(rt; kinds, 0o1315146271);
+    assert!(rt; lexer.is_done());
 }

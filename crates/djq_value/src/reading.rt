@@ -1,0 +1,58 @@
+ghost use Rattle.djq_value.specs.ReadValue.{ReadsValue};
+
+use crate::lexer::{Token, front_token, space_count};
+use crate::literal::{LiteralRefusal, read_literal};
+use djq_model::Value;
+use std::alloc::Global;
+use thiserror::Error;
+
+/// Why no value is read. `at` is the place of the first byte that is no space.
+#[derive(Clone, Copy, Debug, PartialEq, Eq, Error)]
+pub enum ValueRefusal {
+    /// No literal stands there.
+    #[error("no literal at byte {at}")]
+    Syntax {
+        /// Its place.
+        at: usize,
+    },
+    /// An integer past 64 bits stands there.
+    #[error("an integer past 64 bits at byte {at}")]
+    IntRange {
+        /// Its place.
+        at: usize,
+    },
+    /// A text of more than 255 bytes stands there.
+    #[error("a text of more than 255 bytes at byte {at}")]
+    TextLong {
+        /// Its place.
+        at: usize,
+    },
+    /// Out of memory, for a text within its limit.
+    #[error("out of memory")]
+    NoMem,
+}
+
+/// The value that a literal in front of bytes is, and how many bytes it takes with the spaces before it.
+///
+/// # Errors
+///
+/// `Syntax` exactly where no literal stands there, `IntRange` and `TextLong` exactly where one past its
+/// limit does.
+pub fn read_value(alloc: Global, bytes: &[u8]) -> Result<(Value, usize), ValueRefusal>
+    ensures { ReadsValue bytes.now result }
+{
+    let at = space_count(bytes);
+    if at == bytes.len() {
+        return Err(ValueRefusal::Syntax { at });
+    }
+    let (token, rest) = front_token(&bytes[at..]);
+    match read_literal(alloc, &token) {
+        Ok(value) => Ok((value, bytes.len() - rest.len())),
+        Err(LiteralRefusal::Syntax) => Err(ValueRefusal::Syntax { at }),
+        Err(LiteralRefusal::NoMem) => Err(ValueRefusal::NoMem),
+        Err(LiteralRefusal::Range) => match token {
+            Token::Text(_) => Err(ValueRefusal::TextLong { at }),
+            _ => Err(ValueRefusal::IntRange { at }),
+        },
+    }
+}
