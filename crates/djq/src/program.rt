@@ -28,9 +28,9 @@ pub fn run_program<S: Source, K: Sink, H: Hub, L: Ledgers>(
 ) -> Status
     ensures ends { ProgramEnds result (map (λ word. word.now) words.entry.now)
         (outside (S.told source.old) (S.faults source.old) (K.taken sink.old) (K.faults sink.old)
-            (counts steps.old.listing steps.old.update steps.old.rows))
+        (counts steps.old.listing steps.old.update steps.old.rows))
         (outside (S.told source.new) (S.faults source.new) (K.taken sink.new) (K.faults sink.new)
-            (counts steps.new.listing steps.new.update steps.new.rows)) }
+        (counts steps.new.listing steps.new.update steps.new.rows)) }
     ensures hub { hub.new ≡ hub.old }
 {
     if asks_to_run(words) {
@@ -59,9 +59,9 @@ fn serve_source<S: Source, K: Sink, L: Ledgers>(
 ) -> Status
     ensures { Serves result
         (outside (S.told source.old) (S.faults source.old) (K.taken sink.old) (K.faults sink.old)
-            (counts steps.old.listing steps.old.update steps.old.rows))
+        (counts steps.old.listing steps.old.update steps.old.rows))
         (outside (S.told source.new) (S.faults source.new) (K.taken sink.new) (K.faults sink.new)
-            (counts steps.new.listing steps.new.update steps.new.rows)) }
+        (counts steps.new.listing steps.new.update steps.new.rows)) }
 {
     let Ok(mut machine) = Core::new(alloc) else {
         return Status::NoMemory;

@@ -165,31 +165,20 @@ fn a_failed_read_ends_the_program(rt: HostRuntime) -> Result<(), Fail> {
     Ok(())
 }
 
-/// The hundred answers come in any order.
+/// The two answers come in either order, and take more room than is kept for a reply.
 #[test]
 fn lists_more_than_the_room_kept_for_a_reply(rt: HostRuntime) -> Result<(), Fail> {
-    let alloc = rt.alloc();
-    let mut input = b"rel r int\nquery q(x) <- r(x)\n".to_vec(alloc)?;
-    let mut head = b"ok\nok query 3\n".to_vec(alloc)?;
-    for number in 100..200u32 {
-        let line = format!(in alloc; "add r {number}\n")?;
-        input.extend_from_slice(line.as_bytes())?;
-        let reply = format!(in alloc; "ok added {}\n", number - 99)?;
-        head.extend_from_slice(reply.as_bytes())?;
-    }
-    input.extend_from_slice(b"open c q\nnext c 1000\n")?;
-    head.extend_from_slice(b"ok open")?;
-    let mut source = MemSource::new(input, 8192);
-    let mut sink = MemSink::new(alloc);
+    let input =
+        b"rel r int int int int int int int int\nadd r -9223372036854775808 -9223372036854775808 -9223372036854775808 -9223372036854775808 -9223372036854775808 -9223372036854775808 -9223372036854775808 -9223372036854775808\nadd r -9223372036854775808 -9223372036854775808 -9223372036854775808 -9223372036854775808 -9223372036854775808 -9223372036854775808 -9223372036854775808 9223372036854775807\nquery q(a,b,c,d,e,f,g,h) <- r(a,b,c,d,e,f,g,h)\nopen c q\nnext c 3\n";
+    let replies =
+        b"ok\nok added 1\nok added 2\nok query 17\nok open\n= -9223372036854775808 -9223372036854775808 -9223372036854775808 -9223372036854775808 -9223372036854775808 -9223372036854775808 -9223372036854775808 -9223372036854775808\n= -9223372036854775808 -9223372036854775808 -9223372036854775808 -9223372036854775808 -9223372036854775808 -9223372036854775808 -9223372036854775808 9223372036854775807\nend\n";
+    let reordered =
+        b"ok\nok added 1\nok added 2\nok query 17\nok open\n= -9223372036854775808 -9223372036854775808 -9223372036854775808 -9223372036854775808 -9223372036854775808 -9223372036854775808 -9223372036854775808 9223372036854775807\n= -9223372036854775808 -9223372036854775808 -9223372036854775808 -9223372036854775808 -9223372036854775808 -9223372036854775808 -9223372036854775808 -9223372036854775808\nend\n";
+    let mut source = MemSource::new(input.to_vec(rt.alloc())?, 8192);
+    let mut sink = MemSink::new(rt.alloc());
     assert_eq!(rt; run_words(&rt, &RUN, &mut source, &mut sink), Status::Done);
     let taken = sink.taken().ok_or("the record is lost")?;
-    let listing = taken.strip_prefix(head.as_slice()).ok_or("another head")?;
-    let lines = str::from_utf8(listing).map_err(|_| "no text")?;
-    for number in 100..200u32 {
-        let line = format!(in alloc; "\n= {number}\n")?;
-        assert!(rt; lines.contains(line.as_str()), "without {number}");
-    }
-    assert_eq!(rt; lines.len(), 100 * "= 100\n".len() + "\nend\n".len());
+    assert!(rt; taken == replies.as_slice() || taken == reordered.as_slice());
     Ok(())
 }
 
