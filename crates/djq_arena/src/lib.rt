@@ -23,3 +23,6 @@ mod store;
 pub use arena::Arena;
 pub use chain::{Ends, Pair, cut, enter, grown, leave, pair_of};
 pub use link::Link;
+
+#[cfg(test)]
+mod tests;
