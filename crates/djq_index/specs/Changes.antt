@@ -1,0 +1,60 @@
+-- How one call changes the entries of a table. Where in the list an entry comes is said only as far as its
+-- group: behind all others of it.
+use Rattle.std.specs.Prelude.{◌≡◌, ℕ, Bool, true, false, List, [], ◌∷◌, ◌++◌}
+use Rattle.djq_index.specs.Tuple.{pick}
+use Rattle.djq_index.specs.Entries.{Entry, many}
+
+-- the tuple u came, marked and with one support, as the last of its group
+pub record Inserted (key : List ℕ) (old new : List Entry) (u : List ℕ) : Type 0 where
+  pub front : List Entry
+  pub back : List Entry
+  pub entry : Entry
+  pub was : old ≡ front ++ back
+  pub is : new ≡ front ++ entry ∷ back
+  pub tuple : entry.tuple ≡ u
+  pub supports : entry.supports ≡ 1
+  pub marked : entry.marked ≡ true
+  pub last : many key back (pick key u) ≡ 0
+
+-- the tuple u went
+pub record Removed (old new : List Entry) (u : List ℕ) : Type 0 where
+  pub front : List Entry
+  pub back : List Entry
+  pub entry : Entry
+  pub was : old ≡ front ++ entry ∷ back
+  pub is : new ≡ front ++ back
+  pub tuple : entry.tuple ≡ u
+
+-- the tuple u was unmarked, and is now marked and the last of its group
+pub record Touched (key : List ℕ) (old new : List Entry) (u : List ℕ) : Type 0 where
+  pub front : List Entry
+  pub back : List Entry
+  pub before : Entry
+  pub after : Entry
+  pub fore : List Entry
+  pub rest : List Entry
+  pub was : old ≡ front ++ before ∷ back
+  pub between : front ++ back ≡ fore ++ rest
+  pub is : new ≡ fore ++ after ∷ rest
+  pub tuple : before.tuple ≡ u
+  pub same_tuple : after.tuple ≡ u
+  pub same_place : after.at ≡ before.at
+  pub same_supports : after.supports ≡ before.supports
+  pub plain : before.marked ≡ false
+  pub marked : after.marked ≡ true
+  pub last : many key rest (pick key u) ≡ 0
+
+-- the tuple u, which had `from` supports, has `to`
+pub record Supported (old new : List Entry) (u : List ℕ) (from to : ℕ) : Type 0 where
+  pub front : List Entry
+  pub back : List Entry
+  pub before : Entry
+  pub after : Entry
+  pub was : old ≡ front ++ before ∷ back
+  pub is : new ≡ front ++ after ∷ back
+  pub tuple : before.tuple ≡ u
+  pub same_tuple : after.tuple ≡ u
+  pub same_place : after.at ≡ before.at
+  pub same_mark : after.marked ≡ before.marked
+  pub had : before.supports ≡ from
+  pub has : after.supports ≡ to

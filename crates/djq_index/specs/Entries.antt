@@ -1,0 +1,61 @@
+-- What a table holds, as a list of entries, and the numbers that describe it. Each of them is a sum over
+-- the list, so a change of one entry changes it by one summand.
+use Rattle.std.specs.Prelude.{◌≡◌, ℕ, ◌+◌, Bool, true, false, not, cond, List, [], ◌∷◌, ◌++◌, map, filter, reverse, Option, Some, None}
+use Rattle.djq_index.specs.declared.place.Place.{Place}
+use Rattle.djq_index.specs.Tuple.{same, pick, one}
+
+-- a tuple that a table holds: where it lies, how many supports it has, and whether it is marked
+pub record Entry : Type 0 where
+  pub at : Place
+  pub tuple : List ℕ
+  pub supports : ℕ
+  pub marked : Bool
+
+-- the supports of the tuple u, 0 where it is absent
+unfoldable pub supp : List Entry → List ℕ → ℕ
+supp [] u = 0
+supp (e ∷ es) u = cond (same e.tuple u) e.supports 0 + supp es u
+
+-- how many entries have the tuple u
+unfoldable pub cnt : List Entry → List ℕ → ℕ
+cnt [] u = 0
+cnt (e ∷ es) u = one (same e.tuple u) + cnt es u
+
+-- how many entries have the cells w at these columns: the length of their group
+unfoldable pub many : List ℕ → List Entry → List ℕ → ℕ
+many key [] w = 0
+many key (e ∷ es) w = one (same (pick key e.tuple) w) + many key es w
+
+-- the group of the entries that have the cells w at these columns, the oldest first
+unfoldable pub grp : List ℕ → List Entry → List ℕ → List Entry
+grp key [] w = []
+grp key (e ∷ es) w = cond (same (pick key e.tuple) w) (e ∷ grp key es w) (grp key es w)
+
+-- the marked entries, and the others
+unfoldable pub marks : List Entry → List Entry
+marks [] = []
+marks (e ∷ es) = cond e.marked (e ∷ marks es) (marks es)
+
+unfoldable pub plain : List Entry → List Entry
+plain [] = []
+plain (e ∷ es) = cond e.marked (plain es) (e ∷ plain es)
+
+-- whether the tuple u is marked
+unfoldable pub is_marked : List Entry → List ℕ → Bool
+is_marked [] u = false
+is_marked (e ∷ es) u = cond (same e.tuple u) e.marked (is_marked es u)
+
+-- the same entry without its mark, and the same entries
+unfoldable pub bare : Entry → Entry
+bare e = record e { marked = false }
+
+unfoldable pub unmarked : List Entry → List Entry
+unmarked es = map bare es
+
+-- where the first entry lies, and the last one
+unfoldable pub head_at : List Entry → Option Place
+head_at [] = None
+head_at (e ∷ es) = Some e.at
+
+unfoldable pub last_at : List Entry → Option Place
+last_at es = head_at (reverse es)

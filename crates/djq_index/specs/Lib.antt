@@ -1,0 +1,4 @@
+pub mod Tuple
+pub mod Entries
+pub mod Table
+pub mod Changes

@@ -1,0 +1,86 @@
+-- A table: different tuples of one width, in groups by the cells of their key.
+use Rattle.std.specs.Prelude.{◌≡◌, ◌≢◌, ⊤, ℕ, ◌+◌, ◌<◌, Bool, true, false, List, [], ◌∷◌, ◌++◌, length}
+use Rattle.djq_index.specs.declared.place.Place.{Place}
+use Rattle.djq_index.specs.Tuple.{same, pick, one}
+use Rattle.djq_index.specs.Entries.{Entry, supp, cnt, many, plain, is_marked}
+
+-- a table's width, the columns of its key, and its entries, the oldest first
+pub record Table : Type 0 where
+  pub width : ℕ
+  pub key : List ℕ
+  pub entries : List Entry
+
+-- no tuple stands twice
+unfoldable pub AreApart : List Entry → Type 0
+AreApart [] = ⊤
+AreApart (e ∷ es) = (cnt es e.tuple ≡ 0) × AreApart es
+
+-- an entry that lies at p isn't among these
+unfoldable pub IsElsewhere : Place → List Entry → Type 0
+IsElsewhere p [] = ⊤
+IsElsewhere p (e ∷ es) = (e.at ≢ p) × IsElsewhere p es
+
+-- no two entries lie at one place
+unfoldable pub ArePlaced : List Entry → Type 0
+ArePlaced [] = ⊤
+ArePlaced (e ∷ es) = IsElsewhere e.at es × ArePlaced es
+
+-- behind a marked entry no unmarked one of its group follows: in each group the marked ones are a suffix
+unfoldable pub AreLast : List ℕ → List Entry → Type 0
+AreLast key [] = ⊤
+AreLast key (e ∷ es) = (e.marked ≡ true → many key (plain es) (pick key e.tuple) ≡ 0) × AreLast key es
+
+-- each tuple has this many cells
+unfoldable pub AreWide : ℕ → List Entry → Type 0
+AreWide width [] = ⊤
+AreWide width (e ∷ es) = (length e.tuple ≡ width) × AreWide width es
+
+-- each of these columns is below the width
+unfoldable pub AreColumns : ℕ → List ℕ → Type 0
+AreColumns width [] = ⊤
+AreColumns width (c ∷ cs) = (c < width) × AreColumns width cs
+
+-- each tuple has a support at least
+unfoldable pub AreSupported : List Entry → Type 0
+AreSupported [] = ⊤
+AreSupported (e ∷ es) = (0 < e.supports) × AreSupported es
+
+-- what holds of every table
+pub record IsTable (t : Table) : Type 0 where
+  pub apart : AreApart t.entries
+  pub placed : ArePlaced t.entries
+  pub last : AreLast t.key t.entries
+  pub wide : AreWide t.width t.entries
+  pub columns : AreColumns t.width t.key
+
+-- the tuple u lies at p
+pub record IsAt (es : List Entry) (p : Place) (u : List ℕ) : Type 0 where
+  pub front : List Entry
+  pub back : List Entry
+  pub entry : Entry
+  pub is : es ≡ front ++ entry ∷ back
+  pub tuple : entry.tuple ≡ u
+  pub at : entry.at ≡ p
+
+-- a tuple lies at p
+pub record IsLive (es : List Entry) (p : Place) : Type 0 where
+  pub tuple : List ℕ
+  pub is_at : IsAt es p tuple
+
+-- an unmarked tuple lies at p
+pub record IsUnmarked (es : List Entry) (p : Place) : Type 0 where
+  pub tuple : List ℕ
+  pub is_at : IsAt es p tuple
+  pub plain : is_marked es tuple ≡ false
+
+-- a tuple that can have one more support lies at p
+pub record IsRaisable (es : List Entry) (p : Place) : Type 0 where
+  pub tuple : List ℕ
+  pub is_at : IsAt es p tuple
+  pub room : supp es tuple < 4294967295
+
+-- a tuple with a support lies at p
+pub record IsLowerable (es : List Entry) (p : Place) : Type 0 where
+  pub tuple : List ℕ
+  pub is_at : IsAt es p tuple
+  pub some : 0 < supp es tuple

@@ -1,0 +1,268 @@
+ghost use Rattle.std.specs.Prelude.{◌≡◌, ℕ, ◌+◌, ◌-◌, ◌<◌, ◌==◌, List, [], ◌∷◌, ◌++◌, length, IfOk, OnErr, MatchOption};
+ghost use Rattle.djq_index.specs.Entries.{Entry, supp, cnt, grp, marks, is_marked, unmarked, head_at, last_at};
+ghost use Rattle.djq_index.specs.Table.{IsTable, IsAt, IsLive, IsUnmarked, IsRaisable, IsLowerable, AreColumns};
+ghost use Rattle.djq_index.specs.Changes.{Inserted, Removed, Touched, Supported};
+
+use crate::place::Place;
+use djq_steps::Tally;
+use std::alloc::{AllocError, Global};
+use std::marker::Model;
+use std::sync::ledger::Ledger;
+
+/// Different tuples of one width, in groups by the cells of their key.
+///
+/// A group is a list: a new tuple comes last in it, and so does a touched one. Both are marked until
+/// the marks are cleared, so the marked ones of a group are its last.
+#[derive(Drop)]
+pub struct Table {
+    width: usize,
+    key: Vec<usize>,
+}
+
+impl Model for Table {
+    ghost use Rattle.std.specs.Prelude.{[]};
+    ghost use Rattle.djq_index.specs.Table as spec;
+
+    ghost Value = { spec.Table };
+
+    ghost view = { λ t. record { width = t.width; key = t.key.items; entries = [] } };
+
+    ghost invariant = { λ t. spec.AreColumns t.width t.key.items };
+}
+
+#[tactic(auto, using(crate::proofs::Stub::stub), unfolding(crate::specs::Entries::cnt, crate::specs::Entries::grp, crate::specs::Entries::marks, crate::specs::Entries::unmarked, crate::specs::Entries::head_at, crate::specs::Entries::last_at))]
+impl Table {
+    /// An empty table of tuples of this width, in groups by the cells at these columns. It fails only
+    /// for want of memory.
+    pub fn new(alloc: Global, width: usize, key: &[usize]) -> Result<Table, AllocError>
+        requires { AreColumns width key.now }
+        ensures { IfOk result (λ t. t ≡ record { width = width; key = key.now; entries = [] }) }
+    {
+        let key = Vec::from_slice(alloc, key)?;
+        Ok(Table { width, key })
+    }
+
+    /// What holds of every table. It does nothing.
+    pub fn laws(&self)
+        ensures { IsTable self.now }
+    {
+        let _ = &self.key;
+    }
+
+    /// How many tuples there are.
+    pub fn len(&self) -> usize
+        ensures { result ≡ length self.now.entries }
+    {
+        let _ = &self.key;
+        0
+    }
+
+    /// Whether there is no tuple.
+    pub fn is_empty(&self) -> bool
+        ensures { result ≡ (length self.now.entries == 0) }
+    {
+        self.len() == 0
+    }
+
+    /// How many cells each tuple has.
+    pub fn width(&self) -> usize
+        ensures { result ≡ self.now.width }
+    {
+        self.width
+    }
+
+    /// The columns of the key.
+    pub fn key(&self) -> &[usize]
+        ensures { result.now ≡ self.now.key }
+    {
+        self.key.as_slice()
+    }
+
+    /// Where this tuple lies; none exactly where it is absent. It counts one look-up.
+    pub fn find<L: Ledger>(&self, tuple: &[u64], tally: &mut Tally<L>) -> Option<Place>
+        ensures found { MatchOption result (cnt self.now.entries tuple.now ≡ 0) (λ p. IsAt self.now.entries p tuple.now) }
+        ensures counted { tally.new ≡ tally.old + 1 }
+    {
+        let _ = &self.key;
+        tally.lookup();
+        None
+    }
+
+    /// The first of the group with these cells; none exactly where there is no such group. It counts
+    /// one look-up, as `last` does.
+    pub fn first<L: Ledger>(&self, cells: &[u64], tally: &mut Tally<L>) -> Option<Place>
+        ensures found { result ≡ head_at (grp self.now.key self.now.entries cells.now) }
+        ensures counted { tally.new ≡ tally.old + 1 }
+    {
+        let _ = &self.key;
+        tally.lookup();
+        None
+    }
+
+    /// The last of the group with these cells.
+    pub fn last<L: Ledger>(&self, cells: &[u64], tally: &mut Tally<L>) -> Option<Place>
+        ensures found { result ≡ last_at (grp self.now.key self.now.entries cells.now) }
+        ensures counted { tally.new ≡ tally.old + 1 }
+    {
+        let _ = &self.key;
+        tally.lookup();
+        None
+    }
+
+    /// The next one of its group; none exactly at the group's end. It counts one link, as `prev` does.
+    pub fn next<L: Ledger>(&self, place: Place, tally: &mut Tally<L>) -> Option<Place>
+        requires { IsLive self.now.entries place }
+        ensures found { (w : List ℕ) (xs : List Entry) (e : Entry) (ys : List Entry) → grp self.now.key self.now.entries w ≡ xs ++ e ∷ ys → e.at ≡ place → result ≡ head_at ys }
+        ensures counted { tally.new ≡ tally.old + 1 }
+    {
+        let _ = &self.key;
+        tally.link();
+        None
+    }
+
+    /// The one before it in its group; none exactly at the group's start.
+    pub fn prev<L: Ledger>(&self, place: Place, tally: &mut Tally<L>) -> Option<Place>
+        requires { IsLive self.now.entries place }
+        ensures found { (w : List ℕ) (xs : List Entry) (e : Entry) (ys : List Entry) → grp self.now.key self.now.entries w ≡ xs ++ e ∷ ys → e.at ≡ place → result ≡ last_at xs }
+        ensures counted { tally.new ≡ tally.old + 1 }
+    {
+        let _ = &self.key;
+        tally.link();
+        None
+    }
+
+    /// The first marked tuple; none exactly where there are no marks. It counts one link, as
+    /// `next_marked` does.
+    pub fn first_marked<L: Ledger>(&self, tally: &mut Tally<L>) -> Option<Place>
+        ensures found { result ≡ head_at (marks self.now.entries) }
+        ensures counted { tally.new ≡ tally.old + 1 }
+    {
+        let _ = &self.key;
+        tally.link();
+        None
+    }
+
+    /// The next marked tuple after a marked one; none exactly behind the last.
+    pub fn next_marked<L: Ledger>(&self, place: Place, tally: &mut Tally<L>) -> Option<Place>
+        requires { IsLive self.now.entries place }
+        ensures found { (xs : List Entry) (e : Entry) (ys : List Entry) → marks self.now.entries ≡ xs ++ e ∷ ys → e.at ≡ place → result ≡ head_at ys }
+        ensures counted { tally.new ≡ tally.old + 1 }
+    {
+        let _ = &self.key;
+        tally.link();
+        None
+    }
+
+    /// The tuple at a place.
+    pub fn tuple(&self, place: Place) -> &[u64]
+        requires { IsLive self.now.entries place }
+        ensures { (u : List ℕ) → IsAt self.now.entries place u → result.now ≡ u }
+    {
+        let _ = &self.key;
+        &[]
+    }
+
+    /// How many supports the tuple at a place has.
+    pub fn supports(&self, place: Place) -> u32
+        requires { IsLive self.now.entries place }
+        ensures { (u : List ℕ) → IsAt self.now.entries place u → result ≡ supp self.now.entries u }
+    {
+        let _ = &self.key;
+        0
+    }
+
+    /// Whether the tuple at a place is marked.
+    pub fn marked(&self, place: Place) -> bool
+        requires { IsLive self.now.entries place }
+        ensures { (u : List ℕ) → IsAt self.now.entries place u → result ≡ is_marked self.now.entries u }
+    {
+        let _ = &self.key;
+        false
+    }
+
+    /// Puts in a tuple that isn't there: last in its group, marked, with one support. Where there is no
+    /// memory, all stays as it was. It counts one edit, as all calls below do.
+    pub fn insert<L: Ledger>(
+        &mut self,
+        tuple: &[u64],
+        tally: &mut Tally<L>,
+    ) -> Result<Place, AllocError>
+        requires absent { cnt self.old.entries tuple.now ≡ 0 }
+        requires wide { length tuple.now ≡ self.old.width }
+        ensures inserted { IfOk result (λ p. Inserted self.old.key self.old.entries self.new.entries tuple.now) }
+        ensures at { IfOk result (λ p. IsAt self.new.entries p tuple.now) }
+        ensures refused { OnErr result (self.new.entries ≡ self.old.entries) }
+        ensures key { self.new.key ≡ self.old.key }
+        ensures width { self.new.width ≡ self.old.width }
+        ensures counted { tally.new ≡ tally.old + 1 }
+        ensures table { IsTable self.new }
+    {
+        let _ = &self.key;
+        tally.edit();
+        Err(AllocError)
+    }
+
+    /// Takes the tuple at a place out. Other places stay valid.
+    pub fn remove<L: Ledger>(&mut self, place: Place, tally: &mut Tally<L>)
+        requires { IsLive self.old.entries place }
+        ensures removed { (u : List ℕ) → IsAt self.old.entries place u → Removed self.old.entries self.new.entries u }
+        ensures key { self.new.key ≡ self.old.key }
+        ensures width { self.new.width ≡ self.old.width }
+        ensures counted { tally.new ≡ tally.old + 1 }
+        ensures table { IsTable self.new }
+    {
+        let _ = &self.key;
+        tally.edit();
+    }
+
+    /// Marks the unmarked tuple at a place, and moves it to the end of its group.
+    pub fn touch<L: Ledger>(&mut self, place: Place, tally: &mut Tally<L>)
+        requires { IsUnmarked self.old.entries place }
+        ensures touched { (u : List ℕ) → IsAt self.old.entries place u → Touched self.old.key self.old.entries self.new.entries u }
+        ensures key { self.new.key ≡ self.old.key }
+        ensures width { self.new.width ≡ self.old.width }
+        ensures counted { tally.new ≡ tally.old + 1 }
+        ensures table { IsTable self.new }
+    {
+        let _ = &self.key;
+        tally.edit();
+    }
+
+    /// Takes all marks away. It counts a link for each mark besides.
+    pub fn clear_marks<L: Ledger>(&mut self, tally: &mut Tally<L>)
+        ensures cleared { self.new.entries ≡ unmarked self.old.entries }
+        ensures key { self.new.key ≡ self.old.key }
+        ensures width { self.new.width ≡ self.old.width }
+        ensures counted { tally.new ≡ tally.old + 1 + length (marks self.old.entries) }
+        ensures table { IsTable self.new }
+    {
+        let _ = &self.key;
+        tally.edit();
+    }
+
+    /// Gives the tuple at a place one support more.
+    pub fn raise<L: Ledger>(&mut self, place: Place, tally: &mut Tally<L>)
+        requires { IsRaisable self.old.entries place }
+        ensures raised { (u : List ℕ) → IsAt self.old.entries place u → Supported self.old.entries self.new.entries u (supp self.old.entries u) (supp self.old.entries u + 1) }
+        ensures key { self.new.key ≡ self.old.key }
+        ensures width { self.new.width ≡ self.old.width }
+        ensures counted { tally.new ≡ tally.old + 1 }
+        ensures table { IsTable self.new }
+    {
+        let _ = &self.key;
+        tally.edit();
+    }
+
+    /// Takes one support of the tuple at a place away.
+    pub fn lower<L: Ledger>(&mut self, place: Place, tally: &mut Tally<L>)
+        requires { IsLowerable self.old.entries place }
+        ensures lowered { (u : List ℕ) → IsAt self.old.entries place u → Supported self.old.entries self.new.entries u (supp self.old.entries u) (supp self.old.entries u - 1) }
+        ensures key { self.new.key ≡ self.old.key }
+        ensures width { self.new.width ≡ self.old.width }
+        ensures counted { tally.new ≡ tally.old + 1 }
+        ensures table { IsTable self.new }
+    {
+        let _ = &self.key;
+        tally.edit();
+    }
+}
