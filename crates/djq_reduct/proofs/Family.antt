@@ -1,20 +1,20 @@
 -- Reducts are known once the leaves' tuples are.
-use Rattle.std.proofs.Common.{◌≡◌, ℕ, zero, suc, ◌+◌, ◌*◌, ◌<◌, ◌≤◌, true, List, [], length, refl, ap, ap₂, subst, sym, ◌∙◌, arith, ◌⊎◌, inl, inr}
+use Rattle.std.proofs.Common.{◌≡◌, ℕ, zero, suc, ◌*◌, ◌<◌, ◌≤◌, List, [], length, refl, ap, ap₂, subst, sym, ◌∙◌, arith, inl, inr}
 use Rattle.std.proofs.lemmas.Bool.{cases_lt}
 use Rattle.std.specs.Prelude.{slice_index_or}
 use Rattle.std.proofs.lemmas.List.{get_or_past, get_or_read}
 use Rattle.djq_index.specs.Tuple.{pick}
 use Rattle.djq_index.specs.Entries.{Entry, supp, cnt, many}
-use Rattle.djq_index.specs.Table.{Table, IsTable, AreApart, ArePlaced, AreLast, AreWide, AreColumns, AreSupported}
+use Rattle.djq_index.specs.Table.{Table, IsTable, AreApart}
 use Rattle.djq_index.proofs.Groups.{cnt_same, many_same}
 use Rattle.djq_tree.specs.declared.node.Node.{Node}
 use Rattle.djq_tree.specs.declared.node.Node.TheVariants.{Leaf, Trim, Meet}
-use Rattle.djq_tree.specs.Tree.{Tree, IsTree, node_at}
+use Rattle.djq_tree.specs.Tree.{Tree, node_at}
 use Rattle.djq_tree.specs.Labels.{label_at}
 use Rattle.djq_tree.specs.Keys.{key_of}
 use Rattle.djq_reduct.specs.Columns.{columns}
-use Rattle.djq_reduct.specs.Tables.{no_table, table_at, entries_at, key_at, width_at, empty_table}
-use Rattle.djq_reduct.specs.Reducts.{Reducts, IsReductOf, IsKeyed, IsNarrow, IsReducts, SameLeaves, SameTables}
+use Rattle.djq_reduct.specs.Tables.{no_table, table_at, entries_at, key_at, width_at}
+use Rattle.djq_reduct.specs.Reducts.{Reducts, IsReductOf, IsReducts, SameLeaves, SameTables}
 
 -- the entries of a table that is a table
 pub apart_at : (ts : List Table) (k : ℕ) → IsTable (table_at ts k) → AreApart (entries_at ts k)
@@ -79,7 +79,7 @@ node_agrees r s k (Meet g d) hr hs h within e below u =
     let low : g < k = m.guard_lower in
     meet_law (node_at s.tree.nodes k) g d s.tables k other (hs.reduct k inside) u
     ∙ ap₂ (λ (a b : ℕ). a * b) (cnt_agree r s g hr hs (below g m.guard_lower) u)
-        (ap (λ (ks : List ℕ). cnt (entries_at s.tables d) (pick ks u)) (key_agree r s g hr hs h.same_tree (omega arith)) ∙ cnt_agree r s d hr hs (below d m.side_lower) (pick (key_at r.tables g) u))
+    (ap (λ (ks : List ℕ). cnt (entries_at s.tables d) (pick ks u)) (key_agree r s g hr hs h.same_tree (omega arith)) ∙ cnt_agree r s d hr hs (below d m.side_lower) (pick (key_at r.tables g) u))
     ∙ sym (meet_law (node_at r.tree.nodes k) g d r.tables k e (hr.reduct k within) u)
 
 past_agrees : (r s : Reducts) (k : ℕ) → IsReducts r → IsReducts s → SameLeaves r s → length r.tree.nodes ≤ k → Agree r s k

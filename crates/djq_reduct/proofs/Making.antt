@@ -1,12 +1,11 @@
 -- A tree's tables while no leaf has a tuple.
-use Rattle.std.proofs.Common.{◌≡◌, ℕ, zero, suc, ◌+◌, ◌*◌, ◌<◌, ◌≤◌, true, List, [], ◌∷◌, ◌++◌, length, refl, ap, subst, sym, ◌∙◌, arith, ◌⊎◌, inl, inr, length-append}
+use Rattle.std.proofs.Common.{◌≡◌, ℕ, zero, suc, ◌+◌, ◌*◌, ◌<◌, ◌≤◌, List, [], ◌∷◌, ◌++◌, length, refl, ap, subst, sym, ◌∙◌, arith, inl, inr, length-append}
 use Rattle.std.specs.Prelude.{slice_index_or}
 use Rattle.std.proofs.lemmas.Bool.{cases_lt, cases_eq}
 use Rattle.std.proofs.lemmas.List.{get_or_past, get_or_append_left}
 use Rattle.std.proofs.Math.Seq.{get_or-append_seam}
-use Rattle.djq_hyper.specs.Hypergraph.{subset}
 use Rattle.djq_index.specs.Tuple.{pick}
-use Rattle.djq_index.specs.Entries.{Entry, supp, cnt, many}
+use Rattle.djq_index.specs.Entries.{supp, cnt, many}
 use Rattle.djq_index.specs.Table.{Table, IsTable, AreApart, ArePlaced, AreLast, AreWide, AreColumns, AreSupported}
 use Rattle.djq_tree.specs.declared.node.Node.{Node}
 use Rattle.djq_tree.specs.declared.node.Node.TheVariants.{Leaf, Trim, Meet}
@@ -16,7 +15,7 @@ use Rattle.djq_tree.specs.Keys.{key_of}
 use Rattle.djq_tree.proofs.Keying.{key_within}
 use Rattle.djq_reduct.specs.Columns.{columns}
 use Rattle.djq_reduct.specs.Tables.{no_table, table_at, entries_at, key_at, width_at, empty_table}
-use Rattle.djq_reduct.specs.Reducts.{Reducts, IsReductOf, IsKeyed, IsNarrow, IsReducts}
+use Rattle.djq_reduct.specs.Reducts.{IsReductOf, IsKeyed, IsNarrow, IsReducts}
 use Rattle.djq_reduct.proofs.Placing.{columns_within}
 
 -- the empty tables of the first n nodes

@@ -1,4 +1,4 @@
-use Rattle.std.proofs.Common.{◌≡◌, arith}
+use Rattle.std.proofs.Common.{arith}
 use Rattle.djq_reduct.proofs.Placing.{column_found, column_missed, column_left, same_option, other_option}
 use Rattle.djq_reduct.proofs.columns.column_of.Goals as goal
 

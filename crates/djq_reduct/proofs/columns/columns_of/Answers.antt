@@ -1,4 +1,4 @@
-use Rattle.std.proofs.Common.{◌≡◌, ◌∙◌, List, ℕ, [], ◌∷◌, ◌++◌, sym, ap}
+use Rattle.std.proofs.Common.{◌∙◌, List, ℕ, [], ◌∷◌, ◌++◌, ap}
 use Rattle.djq_reduct.specs.Columns.{columns}
 use Rattle.djq_reduct.proofs.Placing.{columns_step, columns_end}
 use Rattle.djq_reduct.proofs.columns.columns_of.Goals as goal

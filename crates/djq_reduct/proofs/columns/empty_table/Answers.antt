@@ -1,6 +1,3 @@
-use Rattle.std.proofs.Common.{◌≡◌, List, ℕ, length, ap, ap₂, sym, subst, ◌∙◌}
-use Rattle.djq_index.specs.Table.{AreColumns}
-use Rattle.djq_reduct.specs.Columns.{columns}
 use Rattle.djq_reduct.proofs.Placing.{columns_within}
 use Rattle.djq_reduct.proofs.columns.empty_table.Goals as goal
 

@@ -1,8 +1,7 @@
-use Rattle.std.proofs.Common.{◌≡◌, ℕ, ◌+◌, List, ◌++◌, ◌∷◌, [], length, subst, sym, ap, arith, rules, ◌∙◌}
+use Rattle.std.proofs.Common.{◌≡◌, ℕ, List, ◌++◌, ◌∷◌, [], length, subst, sym, ap, arith, ◌∙◌}
 use Rattle.djq_index.specs.Table.{Table}
-use Rattle.djq_tree.specs.Tree.{IsTree}
-use Rattle.djq_reduct.specs.Tables.{entries_at, empty_table}
-use Rattle.djq_reduct.specs.Reducts.{Reducts, IsReducts}
+use Rattle.djq_reduct.specs.Tables.{entries_at}
+use Rattle.djq_reduct.specs.Reducts.{IsReducts}
 use Rattle.djq_reduct.proofs.Making.{empty_tables, made_reducts, made_none, made_on, made_entries}
 use Rattle.djq_reduct.proofs.reducts.Reducts.new.Goals as goal
 

@@ -1,5 +1,4 @@
-use Rattle.std.proofs.Common.{◌≡◌, ◌<◌, length, ap, subst, sym, ◌∙◌, arith}
-use Rattle.djq_index.specs.Table.{Table}
+use Rattle.std.proofs.Common.{◌≡◌, length, ap, arith}
 use Rattle.djq_reduct.specs.Tables.{table_at}
 use Rattle.djq_reduct.specs.Reducts.{Reducts}
 use Rattle.djq_reduct.proofs.Family.{at_place, read_at}
