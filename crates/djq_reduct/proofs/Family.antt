@@ -45,15 +45,15 @@ Agree r s k = (u : List ℕ) → supp (entries_at s.tables k) u ≡ supp (entrie
 
 cnt_agree : (r s : Reducts) (k : ℕ) → IsReducts r → IsReducts s → Agree r s k → (u : List ℕ) → cnt (entries_at s.tables k) u ≡ cnt (entries_at r.tables k) u
 cnt_agree r s k hr hs a =
-    cnt_same (entries_at s.tables k) (entries_at r.tables k) (apart_at s.tables k (hs.sound k)) (apart_at r.tables k (hr.sound k)) (hs.supported k) (hr.supported k) a
+    cnt_same (entries_at s.tables k) (entries_at r.tables k) (apart_at s.tables k (hs.family.sound k)) (apart_at r.tables k (hr.family.sound k)) (hs.family.supported k) (hr.family.supported k) a
 
 many_agree : (r s : Reducts) (k : ℕ) (key : List ℕ) → IsReducts r → IsReducts s → Agree r s k → (u : List ℕ) → many key (entries_at s.tables k) u ≡ many key (entries_at r.tables k) u
 many_agree r s k key hr hs a =
-    many_same key (entries_at s.tables k) (entries_at r.tables k) (apart_at s.tables k (hs.sound k)) (apart_at r.tables k (hr.sound k)) (hs.supported k) (hr.supported k) a
+    many_same key (entries_at s.tables k) (entries_at r.tables k) (apart_at s.tables k (hs.family.sound k)) (apart_at r.tables k (hr.family.sound k)) (hs.family.supported k) (hr.family.supported k) a
 
 key_agree : (r s : Reducts) (k : ℕ) → IsReducts r → IsReducts s → s.tree ≡ r.tree → k < length r.tree.nodes → key_at s.tables k ≡ key_at r.tables k
 key_agree r s k hr hs e h =
-    (hs.keyed k (subst (λ (t : Tree). k < length t.nodes) (sym e) h)).key ∙ ap (λ (t : Tree). columns (label_at t.labels k) (key_of t k)) e ∙ sym (hr.keyed k h).key
+    (hs.family.keyed k (subst (λ (t : Tree). k < length t.nodes) (sym e) h)).key ∙ ap (λ (t : Tree). columns (label_at t.labels k) (key_of t k)) e ∙ sym (hr.family.keyed k h).key
 
 -- a node agrees where its children do
 node_agrees : (r s : Reducts) (k : ℕ) (n : Node) → IsReducts r → IsReducts s → SameLeaves r s → k < length r.tree.nodes → node_at r.tree.nodes k ≡ n
@@ -61,31 +61,31 @@ node_agrees : (r s : Reducts) (k : ℕ) (n : Node) → IsReducts r → IsReducts
 node_agrees r s k (Leaf a) hr hs h within e below u =
     let other : node_at s.tree.nodes k ≡ Leaf a = ap (λ (t : Tree). node_at t.nodes k) h.same_tree ∙ e in
     let inside : k < length s.tree.nodes = subst (λ (t : Tree). k < length t.nodes) (sym h.same_tree) within in
-    leaf_law (node_at s.tree.nodes k) a s.tables k other (hs.reduct k inside) u
-    ∙ h.same k u (hr.is_tree.inner k a within e)
-    ∙ sym (leaf_law (node_at r.tree.nodes k) a r.tables k e (hr.reduct k within) u)
+    leaf_law (node_at s.tree.nodes k) a s.tables k other (hs.reduced.at k (omega arith) inside) u
+    ∙ h.same k u (hr.family.is_tree.inner k a within e)
+    ∙ sym (leaf_law (node_at r.tree.nodes k) a r.tables k e (hr.reduced.at k (omega arith) within) u)
 node_agrees r s k (Trim c) hr hs h within e below u =
     let other : node_at s.tree.nodes k ≡ Trim c = ap (λ (t : Tree). node_at t.nodes k) h.same_tree ∙ e in
     let inside : k < length s.tree.nodes = subst (λ (t : Tree). k < length t.nodes) (sym h.same_tree) within in
-    let lower : c < k = (hr.is_tree.trim k c e).lower in
-    trim_law (node_at s.tree.nodes k) c s.tables k other (hs.reduct k inside) u
+    let lower : c < k = (hr.family.is_tree.trim k c e).lower in
+    trim_law (node_at s.tree.nodes k) c s.tables k other (hs.reduced.at k (omega arith) inside) u
     ∙ ap (λ (ks : List ℕ). many ks (entries_at s.tables c) u) (key_agree r s c hr hs h.same_tree (omega arith))
     ∙ many_agree r s c (key_at r.tables c) hr hs (below c lower) u
-    ∙ sym (trim_law (node_at r.tree.nodes k) c r.tables k e (hr.reduct k within) u)
+    ∙ sym (trim_law (node_at r.tree.nodes k) c r.tables k e (hr.reduced.at k (omega arith) within) u)
 node_agrees r s k (Meet g d) hr hs h within e below u =
     let other : node_at s.tree.nodes k ≡ Meet g d = ap (λ (t : Tree). node_at t.nodes k) h.same_tree ∙ e in
     let inside : k < length s.tree.nodes = subst (λ (t : Tree). k < length t.nodes) (sym h.same_tree) within in
-    let m = hr.is_tree.meet k g d e in
+    let m = hr.family.is_tree.meet k g d e in
     let low : g < k = m.guard_lower in
-    meet_law (node_at s.tree.nodes k) g d s.tables k other (hs.reduct k inside) u
+    meet_law (node_at s.tree.nodes k) g d s.tables k other (hs.reduced.at k (omega arith) inside) u
     ∙ ap₂ (λ (a b : ℕ). a * b) (cnt_agree r s g hr hs (below g m.guard_lower) u)
     (ap (λ (ks : List ℕ). cnt (entries_at s.tables d) (pick ks u)) (key_agree r s g hr hs h.same_tree (omega arith)) ∙ cnt_agree r s d hr hs (below d m.side_lower) (pick (key_at r.tables g) u))
-    ∙ sym (meet_law (node_at r.tree.nodes k) g d r.tables k e (hr.reduct k within) u)
+    ∙ sym (meet_law (node_at r.tree.nodes k) g d r.tables k e (hr.reduced.at k (omega arith) within) u)
 
 past_agrees : (r s : Reducts) (k : ℕ) → IsReducts r → IsReducts s → SameLeaves r s → length r.tree.nodes ≤ k → Agree r s k
 past_agrees r s k hr hs h past u =
-    ap (λ (es : List Entry). supp es u) (entries_past s.tables k (rw hs.long (subst (λ (t : Tree). length t.nodes ≤ k) (sym h.same_tree) past)))
-    ∙ sym (ap (λ (es : List Entry). supp es u) (entries_past r.tables k (rw hr.long past)))
+    ap (λ (es : List Entry). supp es u) (entries_past s.tables k (rw hs.family.long (subst (λ (t : Tree). length t.nodes ≤ k) (sym h.same_tree) past)))
+    ∙ sym (ap (λ (es : List Entry). supp es u) (entries_past r.tables k (rw hr.family.long past)))
 
 -- so all agree, from the leaves up
 agree_below : (r s : Reducts) (n : ℕ) → IsReducts r → IsReducts s → SameLeaves r s → (k : ℕ) → k < n → Agree r s k

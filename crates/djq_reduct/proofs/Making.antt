@@ -108,11 +108,13 @@ none_reduct (Meet g s) ts k h = λ w. rw (h k, h g, h s) (no_supp w ∙ omega (a
 -- so they are reducts
 pub made_reducts : (t : Tree) → IsTree t → IsNarrow t → IsReducts (record { tree = t; tables = empty_tables t (length t.nodes) })
 made_reducts t h narrow = record {
-  is_tree = h;
-  narrow = narrow;
-  long = length_tables t (length t.nodes);
-  sound = λ k. made_sound t (length t.nodes) k h;
-  keyed = λ k within. made_keyed t (length t.nodes) k within;
-  supported = λ k. subst AreSupported (sym (made_entries t (length t.nodes) k)) none_supported;
-  reduct = λ k within. none_reduct (node_at t.nodes k) (empty_tables t (length t.nodes)) k (λ i. made_entries t (length t.nodes) i);
+  family = record {
+    is_tree = h;
+    narrow = narrow;
+    long = length_tables t (length t.nodes);
+    sound = λ k. made_sound t (length t.nodes) k h;
+    keyed = λ k within. made_keyed t (length t.nodes) k within;
+    supported = λ k. subst AreSupported (sym (made_entries t (length t.nodes) k)) none_supported;
+  };
+  reduced = record { at = λ k low within. none_reduct (node_at t.nodes k) (empty_tables t (length t.nodes)) k (λ i. made_entries t (length t.nodes) i) };
 }

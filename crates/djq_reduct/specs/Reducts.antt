@@ -34,17 +34,24 @@ pub record IsNarrow (t : Tree) : Type 0 where
   pub labels : (k : ℕ) → length (label_at t.labels k) ≤ 16
   pub head : length t.head ≤ 16
 
--- what holds of all reducts
+-- these are tables for the nodes of the tree, whatever the one has to do with the other: each with its
+-- node's columns and key, and with no tuple that has no support
+pub record IsFamily (t : Tree) (ts : List Table) : Type 0 where
+  pub is_tree : IsTree t
+  pub narrow : IsNarrow t
+  pub long : length ts ≡ length t.nodes
+  pub sound : (k : ℕ) → IsTable (table_at ts k)
+  pub keyed : (k : ℕ) → k < length t.nodes → IsKeyed t ts k
+  pub supported : (k : ℕ) → AreSupported (entries_at ts k)
+
+-- from the number `from` on each table is its node's reduct
+pub record AreReduced (t : Tree) (ts : List Table) (from : ℕ) : Type 0 where
+  pub at : (k : ℕ) → from ≤ k → k < length t.nodes → IsReductOf (node_at t.nodes k) ts k
+
+-- what holds of all reducts: each table is its node's reduct
 pub record IsReducts (r : Reducts) : Type 0 where
-  pub is_tree : IsTree r.tree
-  pub narrow : IsNarrow r.tree
-  pub long : length r.tables ≡ length r.tree.nodes
-  pub sound : (k : ℕ) → IsTable (table_at r.tables k)
-  pub keyed : (k : ℕ) → k < length r.tree.nodes → IsKeyed r.tree r.tables k
-  -- no tuple without a support is left
-  pub supported : (k : ℕ) → AreSupported (entries_at r.tables k)
-  -- each table is its node's reduct
-  pub reduct : (k : ℕ) → k < length r.tree.nodes → IsReductOf (node_at r.tree.nodes k) r.tables k
+  pub family : IsFamily r.tree r.tables
+  pub reduced : AreReduced r.tree r.tables 0
 
 -- the leaves of one tree hold the same tuples in both
 pub record SameLeaves (r s : Reducts) : Type 0 where

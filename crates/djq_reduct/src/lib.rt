@@ -14,11 +14,11 @@
 //! in rising order, and its key is the node's group key, by which its parent looks it up.
 #![tactic(auto)]
 
-mod answer;
+mod cells;
 mod columns;
 mod reducts;
 
-pub use answer::{Answer, CELLS};
+pub use cells::{Answer, CELLS, Cells};
 pub use reducts::Reducts;
 
 #[cfg(test)]
@@ -55,5 +55,10 @@ mod tests {
         answer.set(2, 7);
         assert_eq!(rt; answer.len(), 3);
         assert_eq!(rt; answer.as_slice(), [0, 5, 7].as_slice());
+        answer.push(9);
+        let copy = Cells::from_slice(answer.as_slice());
+        assert_eq!(rt; copy.as_slice(), [0, 5, 7, 9].as_slice());
+        let picked = Cells::pick(&[0, 5, 7], &[2, 0]);
+        assert_eq!(rt; picked.as_slice(), [7, 0].as_slice());
     }
 }
