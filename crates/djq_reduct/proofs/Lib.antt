@@ -1,0 +1,4 @@
+pub mod Placing
+pub mod Family
+pub mod Making
+pub mod Picking

@@ -1,0 +1,7 @@
+use Rattle.std.proofs.Common.{subst}
+use Rattle.djq_reduct.specs.Reducts.{IsReducts}
+use Rattle.djq_reduct.proofs.Family.{one_family}
+use Rattle.djq_reduct.proofs.reducts.Reducts.laws.Goals as goal
+
+pub returns-clause-only : goal.returns-clause-only
+returns-clause-only c other h same = one_family c.args.self.now other (subst IsReducts c.self.view_is c.self.invariant) h same

@@ -1,0 +1,64 @@
+//! Reducts: one table for each node of a generalised join tree, always as its children's tables say
+//! (Idris, Ugarte and Vansummeren 2017).
+//!
+//! The reduct of a leaf is the tuples of its atom. A trim's reduct is the projections of its child's
+//! tuples, each with as many supports as the child has tuples there; a meet's is the guard's tuples whose
+//! projection is in the side's reduct. So a tuple in the root's table says that the query has an answer,
+//! and a tuple in a table of the part `out` lies on the way to one.
+//!
+//! This crate has the tables with that law as an invariant. It evaluates no query and lists no answer.
+//! What surprises: a family of tables has no say in what it holds. Once the leaves' tuples are known, all
+//! others are ([`Reducts::laws`]), and a caller may cite that in place of the way on which they came.
+//!
+//! Inside, the tables stand in a list by the nodes' numbers. A table's columns are its label's variables
+//! in rising order, and its key is the node's group key, by which its parent looks it up.
+#![tactic(auto)]
+
+mod cells;
+mod columns;
+mod reducts;
+
+pub use cells::{Answer, CELLS, Cells};
+pub use reducts::Reducts;
+
+#[cfg(test)]
+mod tests {
+    use super::*;
+    use djq_hyper::VarSet;
+    use djq_tree::{Node, Tree};
+    use std::test::Fail;
+
+    // Larger trees are tested where rows come in.
+    #[test]
+    fn starts_without_tuples(rt: HostRuntime) -> Result<(), Fail> {
+        let alloc = rt.alloc();
+        let mut nodes = Vec::new(alloc);
+        nodes.push(Node::Leaf { atom: 0 })?;
+        let mut labels = Vec::new(alloc);
+        labels.push(VarSet::new())?;
+        let mut out = Vec::new(alloc);
+        out.push(true)?;
+        let tree = Tree::new(nodes, labels, out, VarSet::new(), 1, 1);
+        let reducts = Reducts::new(alloc, tree)?;
+        reducts.laws();
+        assert_eq!(rt; reducts.tree().len(), 1);
+        assert!(rt; reducts.table(0).is_empty());
+        assert_eq!(rt; reducts.table(0).width(), 0);
+        assert!(rt; reducts.table(0).key().is_empty());
+        Ok(())
+    }
+
+    #[test]
+    fn writes_cells(rt: HostRuntime) {
+        let mut answer = Answer::new(3);
+        answer.set(1, 5);
+        answer.set(2, 7);
+        assert_eq!(rt; answer.len(), 3);
+        assert_eq!(rt; answer.as_slice(), [0, 5, 7].as_slice());
+        answer.push(9);
+        let copy = Cells::from_slice(answer.as_slice());
+        assert_eq!(rt; copy.as_slice(), [0, 5, 7, 9].as_slice());
+        let picked = Cells::pick(&[0, 5, 7], &[2, 0]);
+        assert_eq!(rt; picked.as_slice(), [7, 0].as_slice());
+    }
+}

@@ -1,0 +1,77 @@
+ghost use Rattle.std.specs.Prelude.{◌≡◌, ℕ, ◌<◌, [], length, IfOk};
+ghost use Rattle.djq_index.specs.Table.{IsTable};
+ghost use Rattle.djq_tree.specs.Tree.{node_at};
+ghost use Rattle.djq_reduct.specs.Tables.{entries_at, key_at, width_at};
+ghost use Rattle.djq_reduct.specs.Reducts as spec;
+ghost use Rattle.djq_reduct.specs.Reducts.{
+  IsReducts,
+  IsReductOf,
+  IsNarrow,
+  SameLeaves,
+  SameTables,
+};
+
+use crate::columns::empty_table;
+use djq_index::Table;
+use djq_tree::Tree;
+use std::alloc::{AllocError, Global};
+use std::marker::Model;
+
+/// A tree, and for each of its nodes the table that is the node's reduct.
+#[derive(Drop)]
+pub struct Reducts {
+    tree: Tree,
+    tables: Vec<Table>,
+}
+
+impl Model for Reducts {
+    ghost use Rattle.djq_reduct.specs.Reducts as spec;
+
+    ghost Value = { spec.Reducts };
+
+    ghost view = { λ r. record { tree = r.tree; tables = r.tables.items } };
+
+    ghost invariant = { λ r. spec.IsReducts (record { tree = r.tree; tables = r.tables.items }) };
+}
+
+impl Reducts {
+    /// The reducts of a tree whose leaves have no tuple yet. It fails only for want of memory.
+    pub fn new(alloc: Global, tree: Tree) -> Result<Reducts, AllocError>
+        requires { IsNarrow tree }
+        ensures tree { IfOk result (λ r. r.tree ≡ tree) }
+        ensures empty { IfOk result (λ r. (k : ℕ) → entries_at r.tables k ≡ []) }
+    {
+        let mut tables = Vec::new(alloc);
+        for node in 0..tree.len() {
+            tables.push(empty_table(alloc, &tree, node)?)?;
+        }
+        Ok(Reducts { tree, tables })
+    }
+
+    /// The tree.
+    pub fn tree(&self) -> &Tree
+        ensures { result.now ≡ self.now.tree }
+    {
+        &self.tree
+    }
+
+    /// The table of a node: its reduct, given the tables of its children.
+    pub fn table(&self, node: usize) -> &Table
+        requires { node < length self.now.tree.nodes }
+        ensures entries { result.now.entries ≡ entries_at self.now.tables node }
+        ensures key { result.now.key ≡ key_at self.now.tables node }
+        ensures width { result.now.width ≡ width_at self.now.tables node }
+        ensures reduct { IsReductOf (node_at self.now.tree.nodes node) self.now.tables node }
+    {
+        &self.tables[node]
+    }
+
+    /// What holds of all reducts; and that tables with these laws are known once the leaves' tuples are.
+    /// It does nothing.
+    pub fn laws(&self)
+        ensures sound { IsReducts self.now }
+        ensures only { (other : spec.Reducts) → IsReducts other → SameLeaves self.now other → SameTables self.now other }
+    {
+        let _tables = &self.tables;
+    }
+}
