@@ -16,7 +16,11 @@ impl Kept {
         Ok(Kept { table })
     }
 
-    pub fn put<L: Ledger>(&mut self, tuple: &[u64], tally: &mut Tally<L>) -> Result<(), AllocError> {
+    pub fn put<L: Ledger>(
+        &mut self,
+        tuple: &[u64],
+        tally: &mut Tally<L>,
+    ) -> Result<(), AllocError> {
         if tuple.len() != self.table.width() {
             return Ok(());
         }

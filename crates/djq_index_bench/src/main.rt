@@ -108,7 +108,9 @@ fn measure<L: Ledgers>(rt: &HostRuntime, blanks: Blanks, entries: u64, group: u6
     }
     let take = spent(rt, start, entries)?;
     println!(rt; "table: find and insert {fill}, find {find}, miss {miss}, first {first}")?;
-    println!(rt; "table: clear {clear}, find and touch {touch}, find and remove {take} ({hits} hits, {ends} groups)")?;
+    println!(rt;
+        "table: clear {clear}, find and touch {touch}, find and remove {take} ({hits} hits, {ends} groups)"
+    )?;
     measure_maps(rt, entries, group)
 }
 

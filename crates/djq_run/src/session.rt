@@ -60,9 +60,9 @@ pub fn run_session<M: Machine, S: Source, K: Sink, L: Ledgers>(
     requires alone { (M.state machine.old).sessions ≡ [] }
     ensures { RunEnds result
         (outside (S.told source.old) (S.faults source.old) (K.taken sink.old) (K.faults sink.old)
-            (counts steps.old.listing steps.old.update steps.old.rows))
+        (counts steps.old.listing steps.old.update steps.old.rows))
         (outside (S.told source.new) (S.faults source.new) (K.taken sink.new) (K.faults sink.new)
-            (counts steps.new.listing steps.new.update steps.new.rows))
+        (counts steps.new.listing steps.new.update steps.new.rows))
         (M.state machine.old) (M.state machine.new) }
 {
     if machine.open_session(ID).is_err() {
@@ -89,9 +89,9 @@ fn serve_read<M: Machine, S: Source, K: Sink, L: Ledgers>(
     requires awaits { Awaits (M.state machine.old) }
     ensures { ReadEnds result
         (outside (S.told source.old) (S.faults source.old) (K.taken sink.old) (K.faults sink.old)
-            (counts steps.old.listing steps.old.update steps.old.rows))
+        (counts steps.old.listing steps.old.update steps.old.rows))
         (outside (S.told source.new) (S.faults source.new) (K.taken sink.new) (K.faults sink.new)
-            (counts steps.new.listing steps.new.update steps.new.rows))
+        (counts steps.new.listing steps.new.update steps.new.rows))
         (M.state machine.old) (M.state machine.new) }
 {
     match source.read(buffer) {
@@ -121,9 +121,9 @@ fn serve_held<M: Machine, K: Sink, L: Ledgers>(
     requires { IsOpen (M.state machine.old) 1 }
     ensures course { (o : Outside) → Course (M.state machine.old)
         (with_sink o (K.taken sink.old) (K.faults sink.old)
-            (counts steps.old.listing steps.old.update steps.old.rows))
+        (counts steps.old.listing steps.old.update steps.old.rows))
         (with_sink o (K.taken sink.new) (K.faults sink.new)
-            (counts steps.new.listing steps.new.update steps.new.rows)) (M.state machine.new) }
+        (counts steps.new.listing steps.new.update steps.new.rows)) (M.state machine.new) }
     ensures serves { Serves result (M.state machine.old) (M.state machine.new) }
     ensures faults { WritesCount result (K.faults sink.old) (K.faults sink.new) }
 {
