@@ -1,7 +1,8 @@
 -- What the list of ids tells of the open sessions.
-use Rattle.std.proofs.Common.{ℕ, zero, suc, ◌<◌, ◌≡◌, Bool, true, false, List, [], ◌∷◌, length, map, find, get_or, cond, Some, eqb, refl, subst, arith, is_some}
+use Rattle.std.proofs.Common.{ℕ, zero, suc, ◌<◌, ◌≡◌, Bool, true, false, List, [], ◌∷◌, length, map, find, get_or, cond, Some, eqb, refl, subst, arith, is_some, ◌∙◌}
 use Rattle.std.specs.Prelude.{All, Contains}
 use Rattle.std.proofs.lemmas.Bool.{eq-eqb, cond-true, cond-false}
+use Rattle.std.proofs.lemmas.Grind.{get_or_default_zero}
 use Rattle.djq_machine.specs.State.{Session, State}
 use Rattle.djq_machine.specs.Call.{IsOpen, ids_of}
 
@@ -24,3 +25,7 @@ pub listed_above : (xs : List Session) (s : ℕ) → ((k : ℕ) → k < length (
 listed_above [] s h k d l = absurd (omega arith)
 listed_above (x ∷ xs) s h zero d l = h 0 (omega arith)
 listed_above (x ∷ xs) s h (suc k) d l = listed_above xs s (λ j m. h (suc j) (omega (arith, m))) k d (omega (arith, l))
+
+-- an id that stands at a place of a list is in it
+pub listed_at : (ns : List ℕ) (s k : ℕ) → k < length ns → get_or ns k 0 ≡ s → Contains ns s
+listed_at ns s k h e = (k, h, get_or_default_zero ns k s h ∙ e)
