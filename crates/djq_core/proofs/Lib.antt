@@ -12,3 +12,4 @@ pub mod Saying
 pub mod Fronting
 pub mod Lifting
 pub mod Places
+pub mod Seen

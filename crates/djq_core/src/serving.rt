@@ -16,6 +16,9 @@ use djq_steps::{Ledgers, Steps};
 use std::alloc::Global;
 use std::marker::Model;
 
+#[cfg(test)]
+mod tests;
+
 /// The join machine: an engine, and the open sessions. Contracts see its state.
 ///
 /// ```text
