@@ -1,4 +1,0 @@
-use Rattle.djq_index_bench.proofs.main.Given as goal
-
-abbrev pub ghosts-measure : goal.ghosts-measure
-ghosts-measure a = record { listing = a.blanks.listing.name; update = a.blanks.update.name; rows = a.blanks.rows.name }
