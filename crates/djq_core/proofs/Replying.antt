@@ -1,16 +1,16 @@
 -- Commands that leave the session's cursors as they are.
 use Rattle.std.proofs.Common.{ℕ, ◌+◌, ◌≤◌, ◌≡◌, ◌++◌, Bool, true, false, List, [], ◌∷◌, map, cond, Option, None, Some, Result, Ok, Err, codes, refl, sym, ap, ◌∙◌, subst, arith}
 use Rattle.std.specs.Prelude.{⊤, if◌then◌else◌}
-use Rattle.djq_model.specs.Data.{Bytes, Tuple}
+use Rattle.djq_model.specs.Data.{Bytes, Tuple, query_of}
 use Rattle.djq_model.specs.declared.query.Query.{Query}
 use Rattle.djq_model.specs.declared.relation.ColumnType.{ColumnType}
 use Rattle.djq_lines.specs.declared.answer.Refusal.{Refusal}
 use Rattle.djq_lines.specs.declared.answer.AddOutcome.{AddOutcome}
 use Rattle.djq_lines.specs.declared.answer.DeleteOutcome.{DeleteOutcome}
-use Rattle.djq_lines.specs.declared.command.Command.TheVariants.{Rel, Add, Del, Query as Register}
-use Rattle.djq_lines.specs.Reply.{refusal_line, ok_reply, add_reply, delete_reply, query_reply}
+use Rattle.djq_lines.specs.declared.command.Command.TheVariants.{Rel, Add, Del, Query as Register, Has}
+use Rattle.djq_lines.specs.Reply.{refusal_line, ok_reply, add_reply, delete_reply, query_reply, has_reply}
 use Rattle.djq_machine.specs.State.{Session, State}
-use Rattle.djq_machine.specs.Store.{MakesRelation, AddsRow, DeletesRow, RegistersQuery}
+use Rattle.djq_machine.specs.Store.{MakesRelation, AddsRow, DeletesRow, RegistersQuery, TellsWhether, has_steps}
 use Rattle.djq_machine.specs.Stale.{by_relation, outdated_sessions, add_outdates, delete_outdates, changed}
 use Rattle.djq_machine.specs.Effect.{Effect, RefusedStep}
 use Rattle.djq_session.specs.Dialog.{Replies}
@@ -69,28 +69,34 @@ sound_replied k front s before after text back r p =
     (whole k front s (record before { pending = before.pending ++ text; room = after.room }) back (around_bytes k.cursors front s before before.held (before.pending ++ text) after.room back p))
 
 -- Something is done and answered, and the cursors stay as they are.
-pub replied : (M : State → ℕ → Session → Effect → State → Type 0) (old new : Kept) (before after : Talk) (text : Bytes)
-    → Replies before after text → SameCursors old.cursors new.cursors
-    → ((st : State) (s : ℕ) (x : Session) → st.store ≡ old.store → x ≡ session_in old.cursors s before → M st s x (to_one s (Some text) 0) (record st { store = new.store }))
-    → Performs M false old before new after 0 0
-replied M old new before after text r same does = record {
+pub replied_costing : (M : State → ℕ → Session → Effect → State → Type 0) (old new : Kept) (before after : Talk) (text : Bytes) (cost was now : ℕ)
+    → Replies before after text → SameCursors old.cursors new.cursors → now ≤ was + cost
+    → ((st : State) (s : ℕ) (x : Session) → st.store ≡ old.store → x ≡ session_in old.cursors s before → M st s x (to_one s (Some text) cost) (record st { store = new.store }))
+    → Performs M false old before new after was now
+replied_costing M old new before after text cost was now r same counted does = record {
   text = Some text;
-  cost = 0;
+  cost = cost;
   pending = ap (λ (d : Talk). d.pending) r;
   does = λ front back s stopped sound.
       let xs = among front s before back in
       let eq : map (open_in new.cursors) (among front s (unqueued before after) back) ≡ map (open_in old.cursors) xs
       = open_quiet new.cursors front s before (unqueued before after) back (quiet new.cursors s before after text r)
       ∙ agree_open old.cursors new.cursors xs (agree_same old.cursors new.cursors (all_ids xs) same) in
-      subst (λ (ys : List Session). M (state_in old stopped xs) s (session_in old.cursors s before) (to_one s (Some text) 0) (record { store = new.store; stopped = stopped; sessions = ys }))
+      subst (λ (ys : List Session). M (state_in old stopped xs) s (session_in old.cursors s before) (to_one s (Some text) cost) (record { store = new.store; stopped = stopped; sessions = ys }))
       (sym eq) (does (state_in old stopped xs) s (session_in old.cursors s before) refl refl);
   sound = λ front back s sound.
       let p = parts old front s before back sound in
       let move = λ (cs : _) (h : AreHeld old.cursors cs). agree_held old.cursors new.cursors cs (agree_same old.cursors new.cursors cs same) h in
       sound_replied new front s before after text back r
       (around_held old.cursors new.cursors front s before back (move (all_ids front)) (move (ids_of before.cursors)) (move (all_ids back)) p);
-  counted = omega arith;
+  counted = counted;
 }
+
+pub replied : (M : State → ℕ → Session → Effect → State → Type 0) (old new : Kept) (before after : Talk) (text : Bytes)
+    → Replies before after text → SameCursors old.cursors new.cursors
+    → ((st : State) (s : ℕ) (x : Session) → st.store ≡ old.store → x ≡ session_in old.cursors s before → M st s x (to_one s (Some text) 0) (record st { store = new.store }))
+    → Performs M false old before new after 0 0
+replied M old new before after text r same does = replied_costing M old new before after text 0 0 0 r same (omega arith) does
 
 pub refused : (M : State → ℕ → Session → Effect → State → Type 0) (k : Kept) (before after : Talk) (text : Bytes)
     → Replies before after text → ((st : State) (s : ℕ) (x : Session) → st.store ≡ k.store → x ≡ session_in k.cursors s before → M st s x (to_one s (Some text) 0) st) → Performs M false k before k after 0 0
@@ -177,4 +183,15 @@ does_delete old new before after name row result deletes out r =
       done = subst (λ store. DeletesRow store name row result new.store) (sym e) deletes;
       effect = refl;
       state = refl;
+    })
+
+pub does_has : (k : Kept) (before after : Talk) (q : Bytes) (t : Tuple) (result : Result Bool Refusal) (was now : ℕ)
+    → TellsWhether k.store q t result → now ≤ was + has_steps (query_of k.store.queries q) → Replies before after (has_reply result)
+    → Executes (Has q t) false k before k after was now
+does_has k before after q t result was now tells counted r =
+    replied_costing _ k k before after (has_reply result) (has_steps (query_of k.store.queries q)) was now r (λ id. refl) counted (λ st s x e f. record {
+      result = result;
+      tells = subst (λ store. TellsWhether store q t result) (sym e) tells;
+      effect = ap (λ store. to_one s (Some (has_reply result)) (has_steps (query_of store.queries q))) (sym e);
+      state = ap (λ store. record st { store = store }) (sym e);
     })

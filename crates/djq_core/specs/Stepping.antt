@@ -24,7 +24,6 @@ abbrev pub IsRunnable : Command → Type 0
 IsRunnable (Register q) = is_served q ≡ true
 IsRunnable (Next c count) = 1 ≤ count
 IsRunnable (Drop q) = ⊥
-IsRunnable (Has q row) = ⊥
 IsRunnable (Watch q) = ⊥
 IsRunnable (Unwatch q) = ⊥
 IsRunnable (Explain q) = ⊥

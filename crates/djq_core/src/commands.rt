@@ -1,6 +1,6 @@
-//! Commands that change the relations, the queries or a session's cursors.
+//! Commands on the relations, the queries and a session's cursors.
 ghost use Rattle.std.specs.Prelude.{◌≡◌, false, true};
-ghost use Rattle.djq_lines.specs.declared.command.Command.TheVariants.{Rel, Add, Del, Query as Register, Open, Close, Quit, Stop};
+ghost use Rattle.djq_lines.specs.declared.command.Command.TheVariants.{Rel, Add, Del, Query as Register, Open, Close, Has, Quit, Stop};
 ghost use Rattle.djq_engine.specs.Served.{is_served};
 ghost use Rattle.djq_core.specs.Opens.{Opens};
 ghost use Rattle.djq_core.specs.Performs.{Executes};
@@ -10,8 +10,9 @@ use crate::ending::give_up;
 use djq_engine::{CursorId, Engine, QueryId};
 use djq_lines::limits::CURSORS;
 use djq_lines::{EndCause, Refusal};
-use djq_model::{Name, Query, Row, Types};
+use djq_model::{Name, Query, Row, Types, Value};
 use djq_session::Session;
+use djq_steps::{Ledgers, Listing, Tally};
 
 /// `rel`: a new relation.
 pub(crate) fn run_rel(
@@ -121,6 +122,21 @@ pub(crate) fn run_close(engine: &mut Engine, session: &mut Session<CursorId, Que
             session.answer_done(Ok(()));
         }
     }
+}
+
+/// `has`: whether a tuple is an answer of a query.
+pub(crate) fn run_has<L: Ledgers>(
+    engine: &Engine,
+    session: &mut Session<CursorId, QueryId>,
+    query: &Name,
+    tuple: &[Value],
+    listing: &mut Tally<Listing<L>>,
+)
+    requires { IsReady engine.now session.old }
+    ensures { Executes (Has query.now tuple.now) false engine.now session.old engine.now session.new listing.old listing.new }
+{
+    let outcome = engine.has(query, tuple, listing);
+    session.answer_has(outcome);
 }
 
 /// `quit`: the session ends.

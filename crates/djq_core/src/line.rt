@@ -8,7 +8,7 @@ ghost use Rattle.djq_core.specs.Sound.{IsOwn, IsReady};
 ghost use Rattle.djq_core.specs.Stepping.{Fronts, IsRunnable, StepsTo, refused_as};
 
 use crate::commands::{
-    run_add, run_close, run_del, run_open, run_query, run_quit, run_rel, run_stop,
+    run_add, run_close, run_del, run_has, run_open, run_query, run_quit, run_rel, run_stop,
 };
 use crate::ending::end_by;
 use crate::listing::run_next;
@@ -61,6 +61,10 @@ fn obey<L: Ledgers>(
             run_close(engine, session, &cursor);
             false
         }
+        Command::Has { query, row } => {
+            run_has(engine, session, &query, row.as_slice(), listing);
+            false
+        }
         Command::Quit => {
             run_quit(engine, session);
             false
@@ -70,7 +74,6 @@ fn obey<L: Ledgers>(
             true
         }
         Command::Drop { .. }
-        | Command::Has { .. }
         | Command::Watch { .. }
         | Command::Unwatch { .. }
         | Command::Explain { .. } => unreachable!(),

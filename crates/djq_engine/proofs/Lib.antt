@@ -12,6 +12,7 @@ pub mod Telling
 pub mod Moving
 pub mod Reading
 pub mod Opening
+pub mod Containing
 pub mod Making
 pub mod Registering
 pub mod Laws

@@ -289,7 +289,7 @@ places_below [] ns h = All-nil (λ i. i < length ns)
 places_below (x ∷ xs) ns h = let b = both_true (has_name ns x) (list_all (has_name ns) xs) h in
     All-cons (λ i. i < length ns) (place_in ns x) (map (place_in ns) xs) (place_below ns x b.0) (places_below xs ns b.1)
 
-columns_within : (head : List Bytes) (atoms : List Atom) → is_served_by head atoms ≡ true → All (λ i. i < length (body_in atoms)) (map (place_in (body_in atoms)) head)
+pub columns_within : (head : List Bytes) (atoms : List Atom) → is_served_by head atoms ≡ true → All (λ i. i < length (body_in atoms)) (map (place_in (body_in atoms)) head)
 columns_within head [] e = absurd cc
 columns_within head (a ∷ b ∷ more) e = absurd cc
 columns_within head (a ∷ []) e = places_below head (names_of a.terms) (served_parts head a e).within

@@ -1,7 +1,7 @@
-ghost use Rattle.std.specs.Prelude.{◌≡◌, is_some, [], ◌<◌, true, length, None, Some, IfOk, IfErr, OnOk, OnErr};
+ghost use Rattle.std.specs.Prelude.{◌≡◌, ◌≤◌, ◌+◌, is_some, [], ◌<◌, true, length, None, Some, IfOk, IfErr, OnOk, OnErr};
 ghost use Rattle.djq_model.specs.Data.{bytes_eq, query_of, rows_of};
 ghost use Rattle.djq_machine.specs.State.{opening};
-ghost use Rattle.djq_machine.specs.Store.{MakesRelation, AddsRow, DeletesRow, RegistersQuery, query_refusal};
+ghost use Rattle.djq_machine.specs.Store.{MakesRelation, AddsRow, DeletesRow, RegistersQuery, TellsWhether, has_steps, query_refusal};
 ghost use Rattle.djq_machine.specs.Stale.{add_outdates, delete_outdates};
 ghost use Rattle.djq_engine.specs.Finding.{IsFirst};
 ghost use Rattle.djq_engine.specs.Served.{is_served, relation_in};
@@ -10,6 +10,7 @@ ghost use Rattle.djq_engine.specs.Kept.{SameCursors, Outdates, OpenGives, NextGi
 
 use crate::cursor::{Answer, CursorId, Next, QueryId};
 use crate::cursors::Progress;
+use crate::lookup::{fits_at, has_at};
 use crate::registered::{Registered, find_query, outdate};
 use crate::table::{Table, find_table};
 use djq_lines::limits::{COLUMNS, QUERIES, RELATIONS};
@@ -244,6 +245,36 @@ impl Engine {
         };
         registered.cursors.set(id.cursor, progress);
         left
+    }
+
+    /// Whether a tuple is an answer of a query. It takes no memory, and counts one lookup.
+    ///
+    /// # Errors
+    ///
+    /// `NoQuery` where none has the name; `Arity` and `WrongType` where the tuple doesn't suit the query's answers.
+    pub fn has<L: Ledgers>(
+        &self,
+        query: &Name,
+        tuple: &[Value],
+        listing: &mut Tally<Listing<L>>,
+    ) -> Result<bool, Refusal>
+        ensures tells { TellsWhether self.now.store query.now tuple.now result }
+        ensures counted { listing.new ≤ listing.old + has_steps (query_of self.now.store.queries query.now) }
+    {
+        let Some(at) = find_query(self.queries.as_slice(), query) else {
+            return Err(Refusal::NoQuery);
+        };
+        let registered = &self.queries[at];
+        let relation = &self.tables[registered.relation].relation;
+        let columns = registered.columns.as_slice();
+        if tuple.len() != columns.len() {
+            return Err(Refusal::Arity);
+        }
+        if !fits_at(relation.types.as_slice(), columns, tuple) {
+            return Err(Refusal::WrongType);
+        }
+        listing.lookup();
+        Ok(has_at(relation.rows.as_slice(), columns, tuple))
     }
 
     /// Gives up an open cursor. Its id may come again from [`open`](Engine::open).

@@ -20,6 +20,7 @@ pub use engine::Engine;
 mod cursor;
 mod cursors;
 mod engine;
+mod lookup;
 mod registered;
 mod table;
 #[cfg(test)]
