@@ -20,16 +20,14 @@ use Rattle.djq_machine.specs.Conditions.{first_of}
 use Rattle.djq_machine.specs.Store.{types_of, is_of, fits, type_among, variable_type, answer_types, has_refusal, Tells, TellsWhether, has_steps}
 use Rattle.djq_engine.specs.declared.table.Table.{Table}
 use Rattle.djq_engine.specs.declared.registered.Registered.{Registered}
-use Rattle.djq_engine.specs.Finding.{IsFirst}
 use Rattle.djq_engine.specs.Served.{is_served_by, is_variable, names_of, relation_in, body_in, place_in}
 use Rattle.djq_engine.specs.Answers.{cell_at, cells_at}
 use Rattle.djq_engine.specs.Lookup.{type_at}
 use Rattle.djq_engine.specs.Kept.{Kept}
-use Rattle.djq_engine.specs.Tables.{table_at, query_at, relations_in, queries_in, answers_at, store_of, kept_of}
+use Rattle.djq_engine.specs.Tables.{is_query, table_at, query_at, relations_in, queries_in, answers_at, store_of, kept_of}
 use Rattle.djq_engine.specs.Sound.{RowsSound, IsReady, IsSound}
 use Rattle.djq_engine.proofs.Conditions.{answers_refused, answers_done, both_true}
-use Rattle.djq_engine.proofs.Changing.{relation_named, query_named}
-use Rattle.djq_engine.proofs.Opening.{no_query_of}
+use Rattle.djq_engine.proofs.Changing.{Named, relation_named, query_named, no_query_of}
 use Rattle.djq_engine.proofs.Telling.{names_length, ready_lists, columns_within}
 
 -- the types of values, one by one
@@ -130,15 +128,15 @@ ready_types tables g r =
 
 -- What is looked up: the columns, the types and the rows of the query of a name.
 pub record Looked (tables : List Table) (gs : List Registered) (name : Bytes) (at : ℕ) (columns : List ℕ) (types : List ColumnType) (rows : List Tuple) : Type 0 where
-  pub first : IsFirst (λ g. bytes_eq g.query.name name) gs at
+  pub first : Named gs name at
   pub of_columns : columns ≡ (query_at gs at).columns
   pub of_types : types ≡ (table_at tables (query_at gs at).relation).relation.types
   pub of_rows : rows ≡ (table_at tables (query_at gs at).relation).relation.rows
 
-module _ (tables : List Table) (gs : List Registered) (seq : ℕ) (old : Kept) (name : Bytes) (at : ℕ) (columns : List ℕ) (types : List ColumnType) (rows : List Tuple) (tuple : Tuple)
-    (v : kept_of tables gs seq ≡ old) (s : IsSound tables gs) (k : Looked tables gs name at columns types rows) where
+module _ (tables : List Table) (gs : List Registered) (order : List ℕ) (seq : ℕ) (old : Kept) (name : Bytes) (at : ℕ) (columns : List ℕ) (types : List ColumnType) (rows : List Tuple) (tuple : Tuple)
+    (v : kept_of tables gs order seq ≡ old) (s : IsSound tables gs order) (k : Looked tables gs name at columns types rows) where
   ready : IsReady tables (query_at gs at)
-  ready = s.ready at k.first.below
+  ready = s.ready at k.first.live
 
   within : All (λ i. i < length (body_in (query_at gs at).query.atoms)) columns
   within = subst (λ cs. All (λ i. i < length (body_in (query_at gs at).query.atoms)) cs) (sym (k.of_columns ∙ ready.columns))
@@ -153,33 +151,33 @@ module _ (tables : List Table) (gs : List Registered) (seq : ℕ) (old : Kept) (
       let fit = subst (λ (rs : List Tuple). All (λ row. length row ≡ length (table_at tables g.relation).relation.types) rs) (sym k.of_rows) (s.rows g.relation ready.relation.below).fit in
       omega (arith, within i d l, ready.arity, fit j e m)
 
-  types_are : answer_types (relations_in tables) (query_of (queries_in gs) name) ≡ map (type_at types) columns
+  types_are : answer_types (relations_in tables) (query_of (queries_in gs order) name) ≡ map (type_at types) columns
   types_are =
-      ap (answer_types (relations_in tables)) (query_named gs name at k.first) ∙ ready_types tables (query_at gs at) ready
+      ap (answer_types (relations_in tables)) (query_named tables gs order name at k.first s) ∙ ready_types tables (query_at gs at) ready
       ∙ ap₂ (λ ts cs. map (type_at ts) cs) (sym k.of_types) (sym k.of_columns)
 
-  behind : has_refusal (store_of tables gs seq) name tuple ≡ cond (not (length tuple == length columns)) (Some Arity) (cond (not (fits (map (type_at types) columns) tuple)) (Some WrongType) None)
+  behind : has_refusal (store_of tables gs order seq) name tuple ≡ cond (not (length tuple == length columns)) (Some Arity) (cond (not (fits (map (type_at types) columns) tuple)) (Some WrongType) None)
   behind =
-      ap (λ (o : Option Query). first_of ((is_none o, NoQuery) ∷ (not (length tuple == length (answer_types (relations_in tables) (query_of (queries_in gs) name))), Arity)
-      ∷ (not (fits (answer_types (relations_in tables) (query_of (queries_in gs) name)) tuple), WrongType) ∷ [])) (query_named gs name at k.first)
+      ap (λ (o : Option Query). first_of ((is_none o, NoQuery) ∷ (not (length tuple == length (answer_types (relations_in tables) (query_of (queries_in gs order) name))), Arity)
+      ∷ (not (fits (answer_types (relations_in tables) (query_of (queries_in gs order) name)) tuple), WrongType) ∷ [])) (query_named tables gs order name at k.first s)
       ∙ ap (λ (ts : List ColumnType). cond (not (length tuple == length ts)) (Some Arity) (cond (not (fits ts tuple)) (Some WrongType) None)) types_are
       ∙ ap (λ n. cond (not (length tuple == n)) (Some Arity) (cond (not (fits (map (type_at types) columns) tuple)) (Some WrongType) None)) (length-map columns (type_at types))
 
   pub tells_arity : (length tuple ≡ length columns → ⊥) → TellsWhether old.store name tuple (Err Arity)
   tells_arity h = subst (λ (z : Kept). TellsWhether z.store name tuple (Err Arity)) v (record {
-    answer = answers_refused (has_refusal (store_of tables gs seq) name tuple) Arity _ _ (behind ∙ by_length (length tuple == length columns) refl);
+    answer = answers_refused (has_refusal (store_of tables gs order seq) name tuple) Arity _ _ (behind ∙ by_length (length tuple == length columns) refl);
   })
     where
       by_length : (b : Bool) → (length tuple == length columns) ≡ b → cond (not b) (Some Arity) (cond (not (fits (map (type_at types) columns) tuple)) (Some WrongType) None) ≡ Some Arity
       by_length true e = absurd (h (eqb-true (length tuple) (length columns) e))
       by_length false e = refl
 
-  sized : length tuple ≡ length columns → (b : Bool) → fits (map (type_at types) columns) tuple ≡ b → has_refusal (store_of tables gs seq) name tuple ≡ cond (not b) (Some WrongType) None
+  sized : length tuple ≡ length columns → (b : Bool) → fits (map (type_at types) columns) tuple ≡ b → has_refusal (store_of tables gs order seq) name tuple ≡ cond (not b) (Some WrongType) None
   sized e b f = behind ∙ ap₂ (λ c d. cond (not c) (Some Arity) (cond (not d) (Some WrongType) None)) (eq-eqb (length tuple) (length columns) e) f
 
   pub tells_type : length tuple ≡ length columns → fits (map (type_at types) columns) tuple ≡ false → TellsWhether old.store name tuple (Err WrongType)
   tells_type e f = subst (λ (z : Kept). TellsWhether z.store name tuple (Err WrongType)) v (record {
-    answer = answers_refused (has_refusal (store_of tables gs seq) name tuple) WrongType _ _ (sized e false f);
+    answer = answers_refused (has_refusal (store_of tables gs order seq) name tuple) WrongType _ _ (sized e false f);
   })
 
   told : (whether : Bool) → (whether ≡ true → Contains (map (cells_at columns) rows) tuple) → (whether ≡ false → Contains (map (cells_at columns) rows) tuple → ⊥)
@@ -197,9 +195,9 @@ module _ (tables : List Table) (gs : List Registered) (seq : ℕ) (old : Kept) (
   pub tells_whether : (whether : Bool) → length tuple ≡ length columns → fits (map (type_at types) columns) tuple ≡ true
       → (whether ≡ true → Contains (map (cells_at columns) rows) tuple) → (whether ≡ false → Contains (map (cells_at columns) rows) tuple → ⊥) → TellsWhether old.store name tuple (Ok whether)
   tells_whether whether e f there not_there = subst (λ (z : Kept). TellsWhether z.store name tuple (Ok whether)) v (record {
-    answer = answers_done (has_refusal (store_of tables gs seq) name tuple) whether
-        (λ b. IsSomeAnd (query_of (queries_in gs) name) (λ q. Tells (IsAnswer (relations_in tables) q tuple) b)) _ (sized e true f)
-        (subst (λ (o : Option Query). IsSomeAnd o (λ q. Tells (IsAnswer (relations_in tables) q tuple) whether)) (sym (query_named gs name at k.first)) (told whether there not_there));
+    answer = answers_done (has_refusal (store_of tables gs order seq) name tuple) whether
+        (λ b. IsSomeAnd (query_of (queries_in gs order) name) (λ q. Tells (IsAnswer (relations_in tables) q tuple) b)) _ (sized e true f)
+        (subst (λ (o : Option Query). IsSomeAnd o (λ q. Tells (IsAnswer (relations_in tables) q tuple) whether)) (sym (query_named tables gs order name at k.first s)) (told whether there not_there));
   })
 
   one_atom : (q : Query) → is_served_by q.head q.atoms ≡ true → length q.atoms ≡ 1
@@ -211,12 +209,12 @@ module _ (tables : List Table) (gs : List Registered) (seq : ℕ) (old : Kept) (
       one head (a ∷ b ∷ more) e = absurd cc
 
   pub steps_are : has_steps (query_of old.store.queries name) ≡ 1
-  steps_are = ap (λ (z : Kept). has_steps (query_of z.store.queries name)) (sym v) ∙ ap has_steps (query_named gs name at k.first) ∙ one_atom (query_at gs at).query ready.served
+  steps_are = ap (λ (z : Kept). has_steps (query_of z.store.queries name)) (sym v) ∙ ap has_steps (query_named tables gs order name at k.first s) ∙ one_atom (query_at gs at).query ready.served
 
-pub tells_none : (tables : List Table) (gs : List Registered) (seq : ℕ) (old : Kept) (name : Bytes) (tuple : Tuple) → kept_of tables gs seq ≡ old → None ≡ position (λ g. bytes_eq g.query.name name) gs
+pub tells_none : (tables : List Table) (gs : List Registered) (order : List ℕ) (seq : ℕ) (old : Kept) (name : Bytes) (tuple : Tuple) → kept_of tables gs order seq ≡ old → IsSound tables gs order → None ≡ position (is_query name) gs
     → TellsWhether old.store name tuple (Err NoQuery)
-tells_none tables gs seq old name tuple v e = subst (λ (z : Kept). TellsWhether z.store name tuple (Err NoQuery)) v (record {
-  answer = answers_refused (has_refusal (store_of tables gs seq) name tuple) NoQuery _ _
-      (ap (λ (o : Option Query). first_of ((is_none o, NoQuery) ∷ (not (length tuple == length (answer_types (relations_in tables) (query_of (queries_in gs) name))), Arity)
-      ∷ (not (fits (answer_types (relations_in tables) (query_of (queries_in gs) name)) tuple), WrongType) ∷ [])) (no_query_of gs name e));
+tells_none tables gs order seq old name tuple v s e = subst (λ (z : Kept). TellsWhether z.store name tuple (Err NoQuery)) v (record {
+  answer = answers_refused (has_refusal (store_of tables gs order seq) name tuple) NoQuery _ _
+      (ap (λ (o : Option Query). first_of ((is_none o, NoQuery) ∷ (not (length tuple == length (answer_types (relations_in tables) (query_of (queries_in gs order) name))), Arity)
+      ∷ (not (fits (answer_types (relations_in tables) (query_of (queries_in gs order) name)) tuple), WrongType) ∷ [])) (no_query_of tables gs order name e s));
 })

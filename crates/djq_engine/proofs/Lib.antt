@@ -4,6 +4,7 @@ pub mod Conditions
 pub mod Rows
 pub mod Columns
 pub mod Outdating
+pub mod Places
 pub mod Held
 pub mod Changing
 pub mod Storing
@@ -15,4 +16,5 @@ pub mod Opening
 pub mod Containing
 pub mod Making
 pub mod Registering
+pub mod Dropping
 pub mod Laws

@@ -257,8 +257,8 @@ ready_lists tables g r s =
     (query_lists (relations_in tables) g.query.name g.query.head g.query.atoms (length (table_at tables g.relation).relation.types) rows r.served
     (sym (rows_named tables (relation_in g.query.atoms) g.relation r.relation)) r.arity s.fit s.differ)
 
-pub answers_are : (tables : List Table) (gs : List Registered) (seq : ℕ) (g : Registered) → IsReady tables g → answers_at tables g ≡ answers_of (store_of tables gs seq) g.query
-answers_are tables gs seq g r =
+pub answers_are : (tables : List Table) (gs : List Registered) (order : List ℕ) (seq : ℕ) (g : Registered) → IsReady tables g → answers_at tables g ≡ answers_of (store_of tables gs order seq) g.query
+answers_are tables gs order seq g r =
     ap₂ (λ columns rows. map (cells_at columns) rows) r.columns (sym (rows_named tables (relation_in g.query.atoms) g.relation r.relation))
 
 -- the one behind a prefix is left, and none is behind the whole
