@@ -23,7 +23,6 @@ use Rattle.djq_core.specs.Performs.{Performs}
 abbrev pub IsRunnable : Command → Type 0
 IsRunnable (Register q) = is_served q ≡ true
 IsRunnable (Next c count) = 1 ≤ count
-IsRunnable (Drop q) = ⊥
 IsRunnable (Watch q) = ⊥
 IsRunnable (Unwatch q) = ⊥
 IsRunnable (Explain q) = ⊥

@@ -1,6 +1,6 @@
 //! Commands on the relations, the queries and a session's cursors.
 ghost use Rattle.std.specs.Prelude.{◌≡◌, false, true};
-ghost use Rattle.djq_lines.specs.declared.command.Command.TheVariants.{Rel, Add, Del, Query as Register, Open, Close, Has, Quit, Stop};
+ghost use Rattle.djq_lines.specs.declared.command.Command.TheVariants.{Rel, Add, Del, Query as Register, Drop, Open, Close, Has, Quit, Stop};
 ghost use Rattle.djq_engine.specs.Served.{is_served};
 ghost use Rattle.djq_core.specs.Opens.{Opens};
 ghost use Rattle.djq_core.specs.Performs.{Executes};
@@ -122,6 +122,15 @@ pub(crate) fn run_close(engine: &mut Engine, session: &mut Session<CursorId, Que
             session.answer_done(Ok(()));
         }
     }
+}
+
+/// `drop`: a query is registered no more.
+pub(crate) fn run_drop(engine: &mut Engine, session: &mut Session<CursorId, QueryId>, query: &Name)
+    requires { IsReady engine.old session.old }
+    ensures { Executes (Drop query.now) false engine.old session.old engine.new session.new 0 0 }
+{
+    let outcome = engine.drop_query(query);
+    session.answer_done(outcome);
 }
 
 /// `has`: whether a tuple is an answer of a query.

@@ -281,6 +281,7 @@ is_served (Register q) = is_simple q.head q.atoms
 is_served (Open c q) = true
 is_served (Next c k) = true
 is_served (Close c) = true
+is_served (Drop q) = true
 is_served (Has q row) = list_all is_integer row
 is_served Quit = true
 is_served Stop = true

@@ -89,13 +89,17 @@ fn read_behind(
             let cursor = read_one_name(lexer)?;
             Ok(Command::Close { cursor })
         }
+        Keyword::Drop => {
+            let query = read_one_name(lexer)?;
+            Ok(Command::Drop { query })
+        }
         Keyword::Has => {
             let (query, row) = read_named_any::<Value>(alloc, lexer)?;
             Ok(Command::Has { query, row })
         }
         Keyword::Quit => read_nothing(lexer, Command::Quit),
         Keyword::Stop => read_nothing(lexer, Command::Stop),
-        Keyword::Drop | Keyword::Watch | Keyword::Unwatch | Keyword::Explain => {
+        Keyword::Watch | Keyword::Unwatch | Keyword::Explain => {
             read_one_name(lexer)?;
             Err(LineRefusal::Later)
         }
