@@ -18,3 +18,5 @@ pub use session::Session;
 
 mod named;
 mod session;
+#[cfg(test)]
+mod tests;
