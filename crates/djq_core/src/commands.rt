@@ -1,7 +1,7 @@
 //! Commands that change the relations, the queries or a session's cursors.
 ghost use Rattle.std.specs.Prelude.{◌≡◌, false, true};
 ghost use Rattle.djq_lines.specs.declared.command.Command.TheVariants.{Rel, Add, Del, Query as Register, Open, Close, Quit, Stop};
-ghost use Rattle.djq_engine.specs.Served.{is_served};
+ghost use Rattle.djq_lines.specs.Grammar.{is_simple};
 ghost use Rattle.djq_core.specs.Opens.{Opens};
 ghost use Rattle.djq_core.specs.Performs.{Executes};
 ghost use Rattle.djq_core.specs.Sound.{IsReady};
@@ -58,7 +58,7 @@ pub(crate) fn run_del(
 /// `query`: a query is registered.
 pub(crate) fn run_query(engine: &mut Engine, session: &mut Session<CursorId, QueryId>, query: Query)
     requires ready { IsReady engine.old session.old }
-    requires served { is_served query ≡ true }
+    requires served { is_simple query.head query.atoms ≡ true }
     ensures { Executes (Register query) false engine.old session.old engine.new session.new 0 0 }
 {
     let outcome = engine.query(query);

@@ -77,7 +77,8 @@ fn obey<L: Ledgers>(
     }
 }
 
-// Takes the line in front, runs what it says, and tells whether that stops the server. Room for a reply was kept.
+// Takes the line in front, runs what it says, and tells whether that stops the server. Room for a
+// reply was kept.
 fn run_line<L: Ledgers>(
     alloc: Global,
     engine: &mut Engine,
@@ -116,7 +117,8 @@ fn refusal_of(refusal: LineRefusal) -> Refusal
     }
 }
 
-// Runs the line in front of a session that goes on, in the order of checks, and tells whether that stops the server.
+// Runs the line in front of a session that goes on, in the order of checks, and tells whether that
+// stops the server.
 fn step_line<L: Ledgers>(
     alloc: Global,
     engine: &mut Engine,
@@ -153,7 +155,8 @@ fn step_line<L: Ledgers>(
     }
 }
 
-/// Runs the line in front of a session, unless it has ended, and tells whether that stops the server.
+/// Runs the line in front of a session, unless it has ended, and tells whether that stops the
+/// server.
 pub(crate) fn step_session<L: Ledgers>(
     alloc: Global,
     engine: &mut Engine,

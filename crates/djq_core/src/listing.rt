@@ -24,7 +24,8 @@ pub(crate) enum Listed {
     Stale(Name, u64),
 }
 
-/// `next`: further answers, at most as many as asked for. Out of memory in a long reply, the session ends.
+/// `next`: further answers, at most as many as asked for. Out of memory in a long reply, the
+/// session ends.
 pub(crate) fn run_next<L: Ledgers>(
     engine: &mut Engine,
     session: &mut Session<CursorId, QueryId>,

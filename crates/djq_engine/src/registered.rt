@@ -1,7 +1,8 @@
 ghost use Rattle.std.specs.Prelude.{◌≡◌, [], ◌<◌, true, All, length, map, IfOk, position};
 ghost use Rattle.std.specs.List.{list_all};
 ghost use Rattle.djq_model.specs.Data.{bytes_eq};
-ghost use Rattle.djq_engine.specs.Served.{is_served, is_variable, names_of, place_in, is_term_named};
+ghost use Rattle.djq_lines.specs.Grammar.{is_simple};
+ghost use Rattle.djq_engine.specs.Served.{is_variable, names_of, place_in, is_term_named};
 ghost use Rattle.djq_engine.specs.Answers.{columns_of};
 ghost use Rattle.djq_engine.specs.Tables.{OutdatesReaders};
 
@@ -29,7 +30,7 @@ impl Registered {
     ///
     /// `NoMem` out of memory.
     pub fn new(alloc: Global, query: Query, relation: usize) -> Result<Self, NoMem>
-        requires { is_served query ≡ true }
+        requires { is_simple query.head query.atoms ≡ true }
         ensures { IfOk result (λ g. g ≡ record { query = query; relation = relation; columns = columns_of query; cursors = [] }) }
     {
         let terms = query.atoms.as_slice()[0].terms.as_slice();

@@ -86,8 +86,8 @@ impl Table {
     ///
     /// # Errors
     ///
-    /// `Arity` and `WrongType` where the row doesn't suit the columns; `Limit` at [`ROWS`] rows or the last change;
-    /// `NoMemory` out of memory. The relation is as it was.
+    /// `Arity` and `WrongType` where the row doesn't suit the columns; `Limit` at [`ROWS`] rows or
+    /// the last change; `NoMemory` out of memory. The relation is as it was.
     pub fn add(&mut self, row: Row, seq: u64) -> Result<AddOutcome, Refusal>
         ensures adds { AddsTo self.old.relation row seq result self.new.relation }
         ensures readers { self.new.readers ≡ self.old.readers }
@@ -105,7 +105,8 @@ impl Table {
         }
     }
 
-    /// Deletes a row, after so many changes. Where it isn't there, nothing changes. It takes no memory.
+    /// Deletes a row, after so many changes. Where it isn't there, nothing changes. It takes no
+    /// memory.
     ///
     /// # Errors
     ///
