@@ -1,7 +1,7 @@
 // Lists of items: to the line's end, or in parentheses.
 //
-// Out of memory, or behind an item that isn't served or isn't in range, the line is read on, since an item
-// that is outside the grammar comes first in the order of refusals.
+// Out of memory, or behind an item that isn't served or isn't in range, the line is read on, since
+// an item that is outside the grammar comes first in the order of refusals.
 ghost use Rattle.std.specs.Prelude.{◌≡◌, ◌∷◌, ◌++◌, [], Bool, List, Some};
 ghost use Rattle.std.specs.List.{list_all};
 ghost use Rattle.djq_lines.specs.Grammar.{all_of, list_in, more_in, put_first};

@@ -128,7 +128,8 @@ pub fn say_watched(out: &mut BytesMut, outcome: Result<(), Refusal>, seq: u64)
     }
 }
 
-/// Answers `next` on a stale cursor, by its name, the relation that changed and the number of the change.
+/// Answers `next` on a stale cursor, by its name, the relation that changed and the number of the
+/// change.
 pub fn say_stale(out: &mut BytesMut, cursor: &Name, relation: &Name, seq: u64)
     requires room { REPLY_BYTES + LAST_LINE_BYTES ≤ out.old.spare }
     ensures kept { LAST_LINE_BYTES ≤ out.new.spare }

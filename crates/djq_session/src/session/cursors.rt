@@ -59,7 +59,8 @@ impl<C: Copy, Q: Copy + Eq> Session<C, Q> {
         }
     }
 
-    /// The cursor that was opened last is gone, and what is kept for it is given back. `None` exactly where none is left.
+    /// The cursor that was opened last is gone, and what is kept for it is given back. `None`
+    /// exactly where none is left.
     pub fn pop_cursor(&mut self) -> Option<C>
         ensures { PopsCursor self.old self.new result }
     {

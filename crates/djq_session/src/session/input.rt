@@ -27,7 +27,8 @@ impl<C: Copy, Q: Copy + Eq> Session<C, Q> {
         self.input.as_slice()
     }
 
-    /// What stands in front of the bytes that are held. It looks at no more of them than a line may have.
+    /// What stands in front of the bytes that are held. It looks at no more of them than a line may
+    /// have.
     pub fn front(&self) -> Front
         ensures { IsFront self.now.held result }
     {

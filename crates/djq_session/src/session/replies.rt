@@ -62,7 +62,8 @@ impl<C: Copy, Q: Copy + Eq> Session<C, Q> {
         say_registered(&mut self.output, outcome);
     }
 
-    /// `next` is answered on a stale cursor, by the relation that changed and the number of the change.
+    /// `next` is answered on a stale cursor, by the relation that changed and the number of the
+    /// change.
     pub fn answer_stale(&mut self, cursor: &Name, relation: &Name, seq: u64)
         requires { REPLY_BYTES + LAST_LINE_BYTES ≤ self.old.room }
         ensures { Replies self.old self.new (stale_line cursor.now relation.now seq) }

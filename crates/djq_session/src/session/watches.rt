@@ -44,7 +44,8 @@ impl<C: Copy, Q: Copy + Eq> Session<C, Q> {
         }
     }
 
-    /// The query that it began to watch last is watched no more, and given back. `None` exactly where none is left.
+    /// The query that it began to watch last is watched no more, and given back. `None` exactly
+    /// where none is left.
     pub fn pop_watch(&mut self) -> Option<Q>
         ensures { PopsWatch self.old self.new result }
     {
