@@ -1,6 +1,8 @@
 //! Commands that change the relations, the queries or a session's cursors.
 ghost use Rattle.std.specs.Prelude.{◌≡◌, false, true};
-ghost use Rattle.djq_lines.specs.declared.command.Command.TheVariants.{Rel, Add, Del, Query as Register, Open, Close, Quit, Stop};
+ghost use Rattle.djq_lines.specs.declared.command.Command.TheVariants.{Rel, Add, Del};
+ghost use Rattle.djq_lines.specs.declared.command.Command.TheVariants.{Query as Register, Open};
+ghost use Rattle.djq_lines.specs.declared.command.Command.TheVariants.{Close, Quit, Stop};
 ghost use Rattle.djq_lines.specs.Grammar.{is_simple};
 ghost use Rattle.djq_core.specs.Opens.{Opens};
 ghost use Rattle.djq_core.specs.Performs.{Executes};
@@ -49,7 +51,8 @@ pub(crate) fn run_del(
     row: &Row,
 )
     requires { IsReady engine.old session.old }
-    ensures { Executes (Del name.now row.now) false engine.old session.old engine.new session.new 0 0 }
+    ensures { Executes (Del name.now row.now) false
+        engine.old session.old engine.new session.new 0 0 }
 {
     let outcome = engine.del(name, row);
     session.answer_deleted(outcome, engine.seq());
@@ -73,7 +76,8 @@ pub(crate) fn run_open(
     query: &Name,
 )
     requires { IsReady engine.old session.old }
-    ensures { Executes (Open name.now query.now) false engine.old session.old engine.new session.new 0 0 }
+    ensures { Executes (Open name.now query.now) false
+        engine.old session.old engine.new session.new 0 0 }
 {
     let outcome = open_cursor(engine, session, name, query);
     session.answer_opened(outcome);

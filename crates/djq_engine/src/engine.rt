@@ -1,13 +1,16 @@
-ghost use Rattle.std.specs.Prelude.{◌≡◌, is_some, [], ◌<◌, true, length, None, Some, IfOk, IfErr, OnOk, OnErr};
+ghost use Rattle.std.specs.Prelude.{◌≡◌, is_some, [], ◌<◌, true, length, None, Some, IfOk, IfErr};
+ghost use Rattle.std.specs.Prelude.{OnOk, OnErr};
 ghost use Rattle.djq_model.specs.Data.{bytes_eq, query_of, rows_of};
 ghost use Rattle.djq_lines.specs.Grammar.{is_simple};
 ghost use Rattle.djq_machine.specs.State.{opening};
-ghost use Rattle.djq_machine.specs.Store.{MakesRelation, AddsRow, DeletesRow, RegistersQuery, query_refusal};
+ghost use Rattle.djq_machine.specs.Store.{MakesRelation, AddsRow, DeletesRow, RegistersQuery};
+ghost use Rattle.djq_machine.specs.Store.{query_refusal};
 ghost use Rattle.djq_machine.specs.Stale.{add_outdates, delete_outdates};
 ghost use Rattle.djq_engine.specs.Finding.{IsFirst};
 ghost use Rattle.djq_engine.specs.Served.{relation_in};
 ghost use Rattle.djq_engine.specs.Tables.{store_of, Registers};
-ghost use Rattle.djq_engine.specs.Kept.{SameCursors, Outdates, OpenGives, NextGives, MoreGives, ClosesCursor, IsHeld, IsFresh, IsThere, LendsAnswer};
+ghost use Rattle.djq_engine.specs.Kept.{SameCursors, Outdates, OpenGives, NextGives, MoreGives};
+ghost use Rattle.djq_engine.specs.Kept.{ClosesCursor, IsHeld, IsFresh, IsThere, LendsAnswer};
 
 use crate::cursor::{Answer, CursorId, Next, QueryId};
 use crate::cursors::Progress;
@@ -273,8 +276,11 @@ impl Engine {
 // The place of the relation of a query that may be registered.
 fn suits(tables: &[Table], queries: &[Registered], query: &Query) -> Result<usize, Refusal>
     requires { is_simple query.now.head query.now.atoms ≡ true }
-    ensures ok { IfOk result (λ at. (query_refusal (store_of tables.now queries.now 0) query.now ≡ None) × IsFirst (λ t. bytes_eq t.relation.name (relation_in query.now.atoms)) tables.now at) }
-    ensures err { IfErr result (λ r. query_refusal (store_of tables.now queries.now 0) query.now ≡ Some r) }
+    ensures ok { IfOk result (λ at.
+        (query_refusal (store_of tables.now queries.now 0) query.now ≡ None)
+        × IsFirst (λ t. bytes_eq t.relation.name (relation_in query.now.atoms)) tables.now at) }
+    ensures err { IfErr result (λ r.
+        query_refusal (store_of tables.now queries.now 0) query.now ≡ Some r) }
 {
     if find_query(queries, &query.name).is_some() {
         return Err(Refusal::Taken);
@@ -303,8 +309,10 @@ fn register(
 ) -> Result<(), NoMem>
     requires served { is_simple query.head query.atoms ≡ true }
     requires there { relation < length tables.old.items }
-    ensures ok { OnOk result (Registers tables.old.items queries.old.items query relation tables.new.items queries.new.items) }
-    ensures err { OnErr result ((tables.new.items ≡ tables.old.items) × (queries.new.items ≡ queries.old.items)) }
+    ensures ok { OnOk result (Registers tables.old.items queries.old.items query relation
+        tables.new.items queries.new.items) }
+    ensures err { OnErr result ((tables.new.items ≡ tables.old.items)
+        × (queries.new.items ≡ queries.old.items)) }
 {
     let registered = Registered::new(alloc, query, relation)?;
     queries.reserve(1)?;

@@ -31,7 +31,12 @@ impl Registered {
     /// `NoMem` out of memory.
     pub fn new(alloc: Global, query: Query, relation: usize) -> Result<Self, NoMem>
         requires { is_simple query.head query.atoms ≡ true }
-        ensures { IfOk result (λ g. g ≡ record { query = query; relation = relation; columns = columns_of query; cursors = [] }) }
+        ensures { IfOk result (λ g. g ≡ record {
+          query = query;
+          relation = relation;
+          columns = columns_of query;
+          cursors = [];
+        }) }
     {
         let terms = query.atoms.as_slice()[0].terms.as_slice();
         let columns = head_columns(alloc, query.head.as_slice(), terms)?;

@@ -43,7 +43,10 @@ fn are_typed(types: &[ColumnType], row: &[Value]) -> bool
 impl Table {
     /// A relation without rows, which no query reads. It takes no memory.
     pub fn new(alloc: Global, name: Name, types: Types) -> Self
-        ensures { result ≡ record { relation = record { name = name; types = types; rows = [] }; readers = [] } }
+        ensures { result ≡ record {
+          relation = record { name = name; types = types; rows = [] };
+          readers = [];
+        } }
     {
         let relation = Relation {
             name,
@@ -70,7 +73,8 @@ impl Table {
     // Whether a row suits the columns.
     fn suits(&self, row: &Row) -> Result<(), Refusal>
         ensures ok { OnOk result (first_of (misfits self.now.relation.types row.now) ≡ None) }
-        ensures err { IfErr result (λ r. first_of (misfits self.now.relation.types row.now) ≡ Some r) }
+        ensures err { IfErr result (λ r. first_of (misfits self.now.relation.types row.now)
+            ≡ Some r) }
     {
         let types = self.relation.types.as_slice();
         if row.len() != types.len() {

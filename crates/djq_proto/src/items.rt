@@ -64,7 +64,8 @@ pub(crate) fn read_list<T: Item>(
     alloc: Global,
     lexer: &mut Lexer<'_>,
 ) -> Result<Sequence<T>, LineRefusal>
-    ensures { ReadsPart (list_all T.served) (list_all T.in_range) (list_in T.of lexer.old) result lexer.new }
+    ensures { ReadsPart (list_all T.served) (list_all T.in_range)
+        (list_in T.of lexer.old) result lexer.new }
 {
     let Some(Token::Open) = lexer.next() else {
         return Err(LineRefusal::Syntax);

@@ -3,7 +3,8 @@
 // whether a line is served comes before out of memory.
 ghost use Rattle.std.specs.Prelude.{◌≡◌, ◌==◌, length};
 ghost use Rattle.std.specs.List.{list_all};
-ghost use Rattle.djq_value.specs.Literal.{are_different as are_different_of, has_name as has_name_of, is_reordered as is_reordered_of};
+ghost use Rattle.djq_value.specs.Literal.{are_different as are_different_of};
+ghost use Rattle.djq_value.specs.Literal.{has_name as has_name_of, is_reordered as is_reordered_of};
 ghost use Rattle.djq_lines.specs.Grammar.{body_in, query_in};
 ghost use Rattle.djq_proto.specs.NameLists.{PassesList, PassesNames, TakesFirst, TakesList};
 ghost use Rattle.djq_proto.specs.Reading.{IfSimple, IfSimpleBody};

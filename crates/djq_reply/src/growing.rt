@@ -4,7 +4,8 @@
 // line.
 ghost use Rattle.std.specs.Prelude.{◌≡◌, ◌<◌, ◌≤◌, ◌∷◌, All, length};
 ghost use Rattle.djq_model.specs.Data.{cells_at};
-ghost use Rattle.djq_lines.specs.Reply.{answer_line, at_line, cells_text, change_line, last_line, sign_text as sign_text_of};
+ghost use Rattle.djq_lines.specs.Reply.{answer_line, at_line, cells_text, change_line, last_line};
+ghost use Rattle.djq_lines.specs.Reply.{sign_text as sign_text_of};
 ghost use Rattle.djq_reply.specs.Adding.{Adds};
 ghost use Rattle.djq_value.specs.Output.{Puts};
 ghost use Rattle.djq_value.specs.ValueText.{value_text};

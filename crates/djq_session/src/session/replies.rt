@@ -1,7 +1,8 @@
 // What a session is answered. Short replies stand in the room that `keep` made before the command.
 ghost use Rattle.std.specs.Prelude.{◌+◌, ◌≤◌, ◌<◌, All, codes, length};
 ghost use Rattle.djq_model.specs.Data.{cells_at};
-ghost use Rattle.djq_lines.specs.Reply.{add_reply, answer_line, delete_reply, last_line, ok_reply, query_reply, refusal_line, stale_line};
+ghost use Rattle.djq_lines.specs.Reply.{add_reply, answer_line, delete_reply, last_line, ok_reply};
+ghost use Rattle.djq_lines.specs.Reply.{query_reply, refusal_line, stale_line};
 ghost use Rattle.djq_lines.specs.declared.limits.TheConstants.{LAST_LINE_BYTES, REPLY_BYTES};
 ghost use Rattle.djq_session.specs.Dialog.{MayQueue, Replies};
 
