@@ -5,9 +5,9 @@ use Rattle.std.proofs.lemmas.List.Elements.{All-contains}
 use Rattle.djq_model.specs.declared.relation.Relation.{Relation}
 use Rattle.djq_model.specs.declared.query.Query.{Query}
 use Rattle.djq_model.specs.Data.{Tuple, query_of}
-use Rattle.djq_model.specs.Answer.{IsAnswer}
+use Rattle.djq_model.specs.Answer.{IsAnswer, IsListing}
 use Rattle.djq_machine.specs.State.{Position, open_at, Session, Cursor}
-use Rattle.djq_machine.specs.Gives.{IsListing, PositionGives}
+use Rattle.djq_machine.specs.Gives.{PositionGives}
 use Rattle.djq.specs.Finished.{FinishedCursors}
 
 listed : (relations : List Relation) (o : Option Query) (given : List Tuple) → PositionGives relations o (open_at given true) → IsSomeAnd o (λ q. IsListing (IsAnswer relations q) given)

@@ -1,9 +1,8 @@
 -- What a cursor that was told the end has listed.
 use Rattle.std.specs.Prelude.{List, ◌≡◌, true, IsSomeAnd, Contains}
 use Rattle.djq_model.specs.Data.{Tuple, query_of}
-use Rattle.djq_model.specs.Answer.{IsAnswer}
+use Rattle.djq_model.specs.Answer.{IsAnswer, IsListing}
 use Rattle.djq_machine.specs.State.{State, Session, Cursor, open_at, opening}
-use Rattle.djq_machine.specs.Gives.{IsListing}
 use Rattle.djq_laws.specs.Course.{Outside}
 use Rattle.djq_laws.specs.Given.{PassedThrough}
 use Rattle.djq_run.specs.declared.status.Status.{Status}

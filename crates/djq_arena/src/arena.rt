@@ -28,7 +28,7 @@ impl Model for Arena {
 }
 
 impl Arena {
-    /// No rows, of this width. It fails only for want of memory.
+    /// No rows, of this width. It fails only out of memory.
     pub fn new(alloc: Global, width: usize) -> Result<Arena, AllocError>
         ensures { IfOk result (λ a. a ≡ record { width = width; room = 0; rows = [] }) }
     {
@@ -78,8 +78,8 @@ impl Arena {
         find(&self.store, cells)
     }
 
-    /// Puts in a row behind all others. It fails only for want of memory, or of numbers for slots, and
-    /// then all stays as it was.
+    /// Puts in a row behind all others. It fails only out of memory, or where no number
+    /// for a slot is left, and then all stays as it was.
     pub fn push(&mut self, cells: &[u64]) -> Result<u32, AllocError>
         requires { length cells.now ≡ self.old.width }
         ensures pushed { IfOk result (λ slot. self.new.rows ≡ self.old.rows ++ record { slot = slot; cells = cells.now } ∷ []) }

@@ -327,7 +327,7 @@ pub fn renew(store: &mut Store, slot: u32)
     link(store, slot);
 }
 
-/// A store without rows. It fails only for want of memory.
+/// A store without rows. It fails only out of memory.
 pub fn empty(alloc: Global, width: usize) -> Result<Store, AllocError>
     ensures { IfOk result (λ s. IsSound s × (s.width ≡ width) × (s.order.items ≡ []) × (rows_of s ≡ [])) }
 {

@@ -7,7 +7,6 @@ pub mod GivingUp
 pub mod Telling
 pub mod Continuing
 pub mod Taking
-pub mod Reorderings
 pub mod Saying
 pub mod Fronting
 pub mod Lifting

@@ -1,34 +1,28 @@
 -- What reading a line gives, as the machine says it; and that what is read is served.
 use Rattle.std.proofs.Common.{ℕ, ◌≡◌, ◌<◌, ◌≤◌, ◌&&◌, true, false, Bool, List, [], ◌∷◌, Option, None, Some, Result, Ok, Err, cond, option_map, refl, sym, ap, ap₂, ◌∙◌, subst, arith, nat_le}
-use Rattle.std.specs.List.{list_all}
 use Rattle.std.specs.Str.{is_utf8}
-use Rattle.std.proofs.lemmas.Bool.{and_parts, and_from, leb-true}
+use Rattle.std.proofs.lemmas.Bool.{and_parts, leb-true}
 use Rattle.djq_model.specs.declared.query.Query.{Query}
-use Rattle.djq_model.specs.declared.query.Atom.{Atom}
-use Rattle.djq_model.specs.declared.query.Term.{Term}
-use Rattle.djq_model.specs.declared.query.Term.TheVariants.{Variable, Hole, Constant}
 use Rattle.djq_model.specs.Data.{Bytes}
 use Rattle.djq_value.specs.Token.{Token, word, text, open_paren, close_paren, comma, arrow, stray, tokens}
-use Rattle.djq_value.specs.Literal.{is_reordered, are_different, has_name, is_name, natural_of, literal_of}
+use Rattle.djq_value.specs.Literal.{is_name, natural_of, literal_of}
 use Rattle.djq_lines.specs.declared.answer.Refusal.TheVariants.{WrongType, Syntax, Later}
 use Rattle.djq_lines.specs.declared.command.Command.{Command}
 use Rattle.djq_lines.specs.declared.command.Command.TheVariants.{Rel, Add, Del, Query as Register, Drop, Open, Next, Close, Has, Watch, Unwatch, Explain, Quit, Stop}
 use Rattle.djq_lines.specs.declared.keyword.Keyword.{Keyword}
 use Rattle.djq_lines.specs.declared.keyword.Keyword.TheVariants.{Rel as RelWord, Add as AddWord, Del as DelWord, Query as QueryWord, Drop as DropWord, Open as OpenWord, Next as NextWord, Close as CloseWord, Has as HasWord, Watch as WatchWord, Unwatch as UnwatchWord, Explain as ExplainWord, Quit as QuitWord, Stop as StopWord}
 use Rattle.djq_lines.specs.Reply.{refusal_line}
-use Rattle.djq_lines.specs.Grammar.{Reading, refused, says, reading_in, reading_of, command_of, command_in, command_with, command_behind, is_served as is_served_line, is_in_range, takes_memory_to_read, is_simple, heads_all, variables_of, in_front, is_count, count_of, keyword_of, nothing, type_of, named_some, named_any, query_in, one_name, two_names, name_and_count}
+use Rattle.djq_lines.specs.Grammar.{Reading, refused, says, reading_in, reading_of, command_of, command_in, command_with, command_behind, is_served, is_in_range, takes_memory_to_read, is_count, count_of, keyword_of, nothing, type_of, named_some, named_any, query_in, one_name, two_names, name_and_count}
 use Rattle.djq_proto.specs.declared.refusal.LineRefusal.{LineRefusal}
 use Rattle.djq_proto.specs.declared.refusal.LineRefusal.TheVariants.{Syntax as Outside, Later as Unserved, Range, NoMem}
 use Rattle.djq_proto.specs.Reading.{Gives, Reads}
 use Rattle.djq_machine.specs.LineStep.{ReadStep}
 use Rattle.djq_session.specs.Dialog.{Replies}
 use Rattle.djq_engine.specs.Kept.{Kept}
-use Rattle.djq_engine.specs.Served.{is_served, is_served_by, is_variable, names_of, are_same}
 use Rattle.djq_core.specs.Views.{Talk}
 use Rattle.djq_core.specs.Performs.{Performs}
 use Rattle.djq_core.specs.Stepping.{IsRunnable, refused_as}
 use Rattle.djq_core.proofs.Taking.{reads_refused, reads_nothing}
-use Rattle.djq_core.proofs.Reorderings.{none_left_out}
 
 -- what a command's two tests give
 read_by : (served in_range : Bool) (c : Command) (r : Reading) → served ≡ true → in_range ≡ true → cond served (cond in_range (says c) (refused WrongType)) (refused Later) ≡ says c
@@ -38,7 +32,7 @@ read_by false b c r e f = absurd (cc)
 
 in_says : (o : Option Command) (c : Command) → Gives o (Ok c) → reading_in o ≡ says c
 in_says None c g = absurd (cc (g.0))
-in_says (Some a) c g = read_by (is_served_line a) (is_in_range a) a (says a) g.0.1 g.0.2 ∙ ap (λ (x : Command). says x) (sym g.0.0)
+in_says (Some a) c g = read_by (is_served a) (is_in_range a) a (says a) g.0.1 g.0.2 ∙ ap (λ (x : Command). says x) (sym g.0.0)
 
 pub reads_as : (line : Bytes) (c : Command) → Reads line (Ok c) → reading_of line ≡ says c
 reads_as line c g = in_says (command_of line) c g
@@ -57,7 +51,7 @@ in_range_past (Some a) g = ap₂ (λ (b d : Bool). cond b (cond d (says a) (refu
 
 in_memory : (o : Option Command) → Gives o (Err NoMem) → (c : Command) × (reading_in o ≡ says c) × (takes_memory_to_read c ≡ true)
 in_memory None g = absurd (cc (g.0))
-in_memory (Some a) g = (a, read_by (is_served_line a) (is_in_range a) a (says a) g.0.0 g.0.1, g.1)
+in_memory (Some a) g = (a, read_by (is_served a) (is_in_range a) a (says a) g.0.0 g.0.1, g.1)
 
 -- a line that gives no command
 pub reads_err : (k : Kept) (before after : Talk) (line : Bytes) (r : LineRefusal) (was : ℕ) → Reads line (Err r) → Replies before after (refusal_line (refused_as r))
@@ -66,33 +60,6 @@ reads_err k before after line Outside was g reply = reads_refused k before after
 reads_err k before after line Unserved was g reply = reads_refused k before after line Later was (in_unserved (command_of line) g) reply
 reads_err k before after line Range was g reply = reads_refused k before after line WrongType was (in_range_past (command_of line) g) reply
 reads_err k before after line NoMem was g reply = let m = in_memory (command_of line) g in reads_nothing k before after line m.0 was m.1 m.2 reply
-
--- A query that the grammar says is served is one that the engine serves.
-
-all_variables : (ts : List Term) (body : List Bytes) → variables_of ts ≡ Some body → (list_all is_variable ts ≡ true) × (names_of ts ≡ body)
-all_variables [] body e = (refl, cc)
-all_variables (Variable x ∷ ts) body e = step (variables_of ts) (λ more f. all_variables ts more f) refl e
-  where
-    step : (o : Option (List Bytes)) → ((more : List Bytes) → variables_of ts ≡ Some more → (list_all is_variable ts ≡ true) × (names_of ts ≡ more)) → variables_of ts ≡ o → in_front (Some x) o ≡ Some body
-        → (list_all is_variable ts ≡ true) × (x ∷ names_of ts ≡ body)
-    step None rest f e = absurd (cc)
-    step (Some more) rest f e = let r = rest more f in let same : x ∷ more ≡ body = cc in (r.0, ap (λ (ns : List Bytes). x ∷ ns) r.1 ∙ same)
-all_variables (Hole ∷ ts) body e = absurd (cc)
-all_variables (Constant v ∷ ts) body e = absurd (cc)
-
-served_with : (head : List Bytes) (a : Atom) (o : Option (List Bytes)) → variables_of a.terms ≡ o → heads_all head o ≡ true → is_served_by head (a ∷ []) ≡ true
-served_with head a None e h = absurd (cc)
-served_with head a (Some body) e h =
-    let v = all_variables a.terms body e in
-    let s = none_left_out head body h in
-    and_from (list_all is_variable a.terms) _ v.0
-    (subst (λ (names : List Bytes). are_same head names ≡ true) (sym v.1)
-    (and_from (are_different head && are_different body) _ (and_from (are_different head) (are_different body) s.0 s.1) (and_from (list_all (has_name body) head) (list_all (has_name head) body) s.2 s.3)))
-
-served_query : (head : List Bytes) (atoms : List Atom) → is_simple head atoms ≡ true → is_served_by head atoms ≡ true
-served_query head [] h = absurd (cc)
-served_query head (a ∷ []) h = served_with head a (variables_of a.terms) refl h
-served_query head (a ∷ b ∷ more) h = absurd (cc)
 
 -- A count that a line says is one at least.
 
@@ -181,11 +148,11 @@ counted_of line c n e = step (is_utf8 line) e
     step true e = counted_in (tokens line) c n e
     step false e = absurd (cc)
 
-run_as : (line : Bytes) (c : Command) → command_of line ≡ Some c → is_served_line c ≡ true → IsRunnable c
+run_as : (line : Bytes) (c : Command) → command_of line ≡ Some c → is_served c ≡ true → IsRunnable c
 run_as line (Rel n cs) e s = tt
 run_as line (Add n row) e s = tt
 run_as line (Del n row) e s = tt
-run_as line (Register q) e s = served_query q.head q.atoms s
+run_as line (Register q) e s = s
 run_as line (Drop q) e s = tt
 run_as line (Open c q) e s = tt
 run_as line (Next c n) e s = counted_of line c n e
@@ -199,7 +166,7 @@ run_as line Stop e s = tt
 
 runnable_in : (line : Bytes) (o : Option Command) (c : Command) → command_of line ≡ o → Gives o (Ok c) → IsRunnable c
 runnable_in line None c e g = absurd (cc (g.0))
-runnable_in line (Some a) c e g = run_as line c (e ∙ ap (λ (x : Command). Some x) (sym g.0.0)) (subst (λ (x : Command). is_served_line x ≡ true) (sym g.0.0) g.0.1)
+runnable_in line (Some a) c e g = run_as line c (e ∙ ap (λ (x : Command). Some x) (sym g.0.0)) (subst (λ (x : Command). is_served x ≡ true) (sym g.0.0) g.0.1)
 
 pub runnable : (line : Bytes) (c : Command) → Reads line (Ok c) → IsRunnable c
 runnable line c g = runnable_in line (command_of line) c refl g

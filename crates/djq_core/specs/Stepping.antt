@@ -10,18 +10,18 @@ use Rattle.djq_lines.specs.declared.answer.Refusal.{Refusal}
 use Rattle.djq_lines.specs.declared.answer.Refusal.TheVariants.{Syntax, WrongType, NoMemory, Later}
 use Rattle.djq_proto.specs.declared.refusal.LineRefusal.{LineRefusal}
 use Rattle.djq_proto.specs.declared.refusal.LineRefusal.TheVariants.{Syntax as Outside, Later as Unserved, Range, NoMem}
+use Rattle.djq_lines.specs.Grammar.{is_simple}
 use Rattle.djq_machine.specs.declared.machine.Stepped.{Stepped}
 use Rattle.djq_machine.specs.declared.machine.Stepped.TheVariants.{Ran, Dry, Ended}
 use Rattle.djq_machine.specs.LineStep.{LineOutcome, long, blank, slow, no_room, run, FrontStep}
 use Rattle.djq_machine.specs.Step.{is_dry}
 use Rattle.djq_engine.specs.Kept.{Kept}
-use Rattle.djq_engine.specs.Served.{is_served}
 use Rattle.djq_core.specs.Views.{Talk}
 use Rattle.djq_core.specs.Performs.{Performs}
 
 -- The command is served: its query is one that the engine serves, and it asks for an answer at least.
 abbrev pub IsRunnable : Command → Type 0
-IsRunnable (Register q) = is_served q ≡ true
+IsRunnable (Register q) = is_simple q.head q.atoms ≡ true
 IsRunnable (Next c count) = 1 ≤ count
 IsRunnable (Watch q) = ⊥
 IsRunnable (Unwatch q) = ⊥

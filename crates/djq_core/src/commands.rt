@@ -1,7 +1,9 @@
 //! Commands on the relations, the queries and a session's cursors.
 ghost use Rattle.std.specs.Prelude.{◌≡◌, false, true};
-ghost use Rattle.djq_lines.specs.declared.command.Command.TheVariants.{Rel, Add, Del, Query as Register, Drop, Open, Close, Has, Quit, Stop};
-ghost use Rattle.djq_engine.specs.Served.{is_served};
+ghost use Rattle.djq_lines.specs.declared.command.Command.TheVariants.{Rel, Add, Del};
+ghost use Rattle.djq_lines.specs.declared.command.Command.TheVariants.{Query as Register, Drop, Open};
+ghost use Rattle.djq_lines.specs.declared.command.Command.TheVariants.{Close, Has, Quit, Stop};
+ghost use Rattle.djq_lines.specs.Grammar.{is_simple};
 ghost use Rattle.djq_core.specs.Opens.{Opens};
 ghost use Rattle.djq_core.specs.Performs.{Executes};
 ghost use Rattle.djq_core.specs.Sound.{IsReady};
@@ -50,7 +52,8 @@ pub(crate) fn run_del(
     row: &Row,
 )
     requires { IsReady engine.old session.old }
-    ensures { Executes (Del name.now row.now) false engine.old session.old engine.new session.new 0 0 }
+    ensures { Executes (Del name.now row.now) false
+        engine.old session.old engine.new session.new 0 0 }
 {
     let outcome = engine.del(name, row);
     session.answer_deleted(outcome, engine.seq());
@@ -59,7 +62,7 @@ pub(crate) fn run_del(
 /// `query`: a query is registered.
 pub(crate) fn run_query(engine: &mut Engine, session: &mut Session<CursorId, QueryId>, query: Query)
     requires ready { IsReady engine.old session.old }
-    requires served { is_served query ≡ true }
+    requires served { is_simple query.head query.atoms ≡ true }
     ensures { Executes (Register query) false engine.old session.old engine.new session.new 0 0 }
 {
     let outcome = engine.query(query);
@@ -74,7 +77,8 @@ pub(crate) fn run_open(
     query: &Name,
 )
     requires { IsReady engine.old session.old }
-    ensures { Executes (Open name.now query.now) false engine.old session.old engine.new session.new 0 0 }
+    ensures { Executes (Open name.now query.now) false
+        engine.old session.old engine.new session.new 0 0 }
 {
     let outcome = open_cursor(engine, session, name, query);
     session.answer_opened(outcome);
@@ -142,7 +146,8 @@ pub(crate) fn run_has<L: Ledgers>(
     listing: &mut Tally<Listing<L>>,
 )
     requires { IsReady engine.now session.old }
-    ensures { Executes (Has query.now tuple.now) false engine.now session.old engine.now session.new listing.old listing.new }
+    ensures { Executes (Has query.now tuple.now) false engine.now session.old engine.now session.new
+        listing.old listing.new }
 {
     let outcome = engine.has(query, tuple, listing);
     session.answer_has(outcome);

@@ -30,7 +30,8 @@ pub(crate) fn end_by(
 )
     requires own { IsOwn engine.old session.old }
     requires running { session.old.cause ≡ None }
-    ensures performs { Performs (λ st s x e st'. EndsWith (end_line line) cause st s e st') false engine.old session.old engine.new session.new 0 0 }
+    ensures performs { Performs (λ st s x e st'. EndsWith (end_line line) cause st s e st') false
+        engine.old session.old engine.new session.new 0 0 }
     ensures ended { session.new.cause ≡ Some cause }
 {
     give_up(engine, session);
@@ -41,7 +42,8 @@ pub(crate) fn end_by(
 pub(crate) fn end_input(engine: &mut Engine, session: &mut Session<CursorId, QueryId>)
     requires own { IsOwn engine.old session.old }
     requires running { session.old.cause ≡ None }
-    ensures { Performs (λ st s x e st'. EndsQuietly session.old.held st s e st') false engine.old session.old engine.new session.new 0 0 }
+    ensures { Performs (λ st s x e st'. EndsQuietly session.old.held st s e st') false
+        engine.old session.old engine.new session.new 0 0 }
 {
     give_up(engine, session);
     if session.held().is_empty() {

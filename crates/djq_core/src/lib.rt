@@ -1,19 +1,21 @@
 //! The join machine over one engine, for up to 64 sessions.
 //!
-//! [`Core`] keeps the engine, the open sessions by rising id, and whether a session said `stop`. Each of its calls makes
-//! one step of the join machine, of which contracts see the state. It reads and sends nothing, and knows no time.
+//! [`Core`] keeps the engine, the open sessions by rising id, and whether a session said `stop`.
+//! Each of its calls makes one step of the join machine, of which contracts see the state. It reads
+//! and sends nothing, and knows no time.
 //!
-//! What surprises: a cursor's name belongs to its session, and stands for a cursor of the engine; so two sessions may use
-//! one name, and a change outdates cursors in the engine alone, whatever sessions they are of. A session's end gives up
-//! its cursors and nothing else.
+//! What surprises: a cursor's name belongs to its session, and stands for a cursor of the engine;
+//! so two sessions may use one name, and a change outdates cursors in the engine alone, whatever
+//! sessions they are of. A session's end gives up its cursors and nothing else.
 //!
-//! Every command is a command of *a session among others*. Each function that runs one is handed the engine and that
-//! session alone, and promises a step of the machine whatever sessions there are besides (`specs/Performs.antt`); so none
-//! of them can read or write another session, and a step costs nothing that grows with their number but the binary search
-//! for its id.
+//! Every command is a command of *a session among others*. Each function that runs one is handed
+//! the engine and that session alone, and promises a step of the machine whatever sessions there
+//! are besides (`specs/Performs.antt`); so none of them can read or write another session, and a
+//! step costs nothing that grows with their number but the binary search for its id.
 //!
-//! Inside: `serving` has the sessions by id and the calls; `line` the order of checks before a line is run; `commands`,
-//! `listing` and `ending` what commands do, `next` line by line, and a session's end.
+//! Inside: `serving` has the sessions by id and the calls; `line` the order of checks before a line
+//! is run; `commands`, `listing` and `ending` what commands do, `next` line by line, and a
+//! session's end.
 #![tactic(auto)]
 
 pub use serving::Core;

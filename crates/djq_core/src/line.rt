@@ -31,7 +31,8 @@ fn obey<L: Ledgers>(
 ) -> bool
     requires ready { IsReady engine.old session.old }
     requires served { IsRunnable command }
-    ensures { Executes command result engine.old session.old engine.new session.new listing.old listing.new }
+    ensures { Executes command result
+        engine.old session.old engine.new session.new listing.old listing.new }
 {
     match command {
         Command::Rel { name, types } => {
@@ -82,7 +83,8 @@ fn obey<L: Ledgers>(
     }
 }
 
-// Takes the line in front, runs what it says, and tells whether that stops the server. Room for a reply was kept.
+// Takes the line in front, runs what it says, and tells whether that stops the server. Room for a
+// reply was kept.
 fn run_line<L: Ledgers>(
     alloc: Global,
     engine: &mut Engine,
@@ -92,11 +94,13 @@ fn run_line<L: Ledgers>(
     listing: &mut Tally<Listing<L>>,
 ) -> bool
     requires ready { IsReady engine.old session.old }
-    requires front { front_of session.old.held ≡ a_line (take end session.old.held) (drop rest session.old.held) }
+    requires front { front_of session.old.held ≡ a_line (take end session.old.held)
+        (drop rest session.old.held) }
     requires within { (end ≤ length session.old.held) × (rest ≤ length session.old.held) }
     requires said { is_blank_line (take end session.old.held) ≡ false }
     requires few { length session.old.pending ≤ PENDING_BYTES }
-    ensures { Fronts (run (take end session.old.held)) result engine.old session.old engine.new session.new listing.old listing.new }
+    ensures { Fronts (run (take end session.old.held)) result
+        engine.old session.old engine.new session.new listing.old listing.new }
 {
     let command = read_command(alloc, &session.held()[..end]);
     session.take_line(rest);
@@ -121,7 +125,8 @@ fn refusal_of(refusal: LineRefusal) -> Refusal
     }
 }
 
-// Runs the line in front of a session that goes on, in the order of checks, and tells whether that stops the server.
+// Runs the line in front of a session that goes on, in the order of checks, and tells whether that
+// stops the server.
 fn step_line<L: Ledgers>(
     alloc: Global,
     engine: &mut Engine,
@@ -132,9 +137,11 @@ fn step_line<L: Ledgers>(
 ) -> (Stepped, bool)
     requires own { IsOwn engine.old session.old }
     requires running { session.old.cause ≡ None }
-    requires front { front_of session.old.held ≡ a_line (take end session.old.held) (drop rest session.old.held) }
+    requires front { front_of session.old.held ≡ a_line (take end session.old.held)
+        (drop rest session.old.held) }
     requires within { (end ≤ length session.old.held) × (rest ≤ length session.old.held) }
-    ensures { StepsTo result.0 result.1 engine.old session.old engine.new session.new listing.old listing.new }
+    ensures { StepsTo result.0 result.1
+        engine.old session.old engine.new session.new listing.old listing.new }
 {
     if is_blank(&session.held()[..end]) {
         session.take_line(rest);
@@ -158,7 +165,8 @@ fn step_line<L: Ledgers>(
     }
 }
 
-/// Runs the line in front of a session, unless it has ended, and tells whether that stops the server.
+/// Runs the line in front of a session, unless it has ended, and tells whether that stops the
+/// server.
 pub(crate) fn step_session<L: Ledgers>(
     alloc: Global,
     engine: &mut Engine,
@@ -166,7 +174,8 @@ pub(crate) fn step_session<L: Ledgers>(
     listing: &mut Tally<Listing<L>>,
 ) -> (Stepped, bool)
     requires { IsOwn engine.old session.old }
-    ensures { StepsTo result.0 result.1 engine.old session.old engine.new session.new listing.old listing.new }
+    ensures { StepsTo result.0 result.1
+        engine.old session.old engine.new session.new listing.old listing.new }
 {
     if let Some(cause) = session.cause() {
         return (Stepped::Ended(cause), false);

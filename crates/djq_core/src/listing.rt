@@ -24,7 +24,8 @@ pub(crate) enum Listed {
     Stale(Name, u64),
 }
 
-/// `next`: further answers, at most as many as asked for. Out of memory in a long reply, the session ends.
+/// `next`: further answers, at most as many as asked for. Out of memory in a long reply, the
+/// session ends.
 pub(crate) fn run_next<L: Ledgers>(
     engine: &mut Engine,
     session: &mut Session<CursorId, QueryId>,
@@ -34,7 +35,8 @@ pub(crate) fn run_next<L: Ledgers>(
 )
     requires ready { IsReady engine.old session.old }
     requires some { 1 ≤ count }
-    ensures { Executes (NextCommand name.now count) false engine.old session.old engine.new session.new listing.old listing.new }
+    ensures { Executes (NextCommand name.now count) false
+        engine.old session.old engine.new session.new listing.old listing.new }
 {
     match session.cursor(name) {
         None => session.refuse(Refusal::NoCursor),
@@ -60,7 +62,8 @@ fn list_answers<L: Ledgers>(
     requires held { AreHeld engine.old.cursors (id ∷ []) }
     requires room { REPLY_BYTES + LAST_LINE_BYTES ≤ session.old.room }
     requires some { 1 ≤ count }
-    ensures { Lists engine.old id session.old count result engine.new session.new listing.old listing.new }
+    ensures { Lists engine.old id session.old count result engine.new session.new listing.old
+        listing.new }
 {
     for read in 0..count {
         match engine.next(id, listing) {

@@ -46,7 +46,8 @@ impl Model for Core {
 
     ghost view = { λ c. state_in c.engine c.stopped c.sessions.items };
 
-    ghost invariant = { λ c. IsCore c.engine c.ids.items c.sessions.items (vec_capacity c.ids) (vec_capacity c.sessions) };
+    ghost invariant = { λ c. IsCore c.engine c.ids.items c.sessions.items (vec_capacity c.ids)
+        (vec_capacity c.sessions) };
 }
 
 impl Core {

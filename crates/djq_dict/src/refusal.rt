@@ -20,7 +20,7 @@ pub enum InternRefusal {
     /// The text is unknown, and as many texts are known as there may be.
     #[error("too many texts")]
     Full,
-    /// Want of memory.
+    /// Out of memory.
     #[error("out of memory")]
     NoMem,
 }

@@ -9,6 +9,7 @@ use Rattle.djq_model.specs.declared.query.Query.{Query}
 use Rattle.djq_model.specs.declared.query.Atom.{Atom}
 use Rattle.djq_model.specs.Data.{Bytes, Tuple, bytes_eq, relation_of, rows_of, rows_in, query_of}
 use Rattle.djq_model.specs.Equality.{bytes_eq-decides}
+use Rattle.djq_lines.specs.Grammar.{is_simple}
 use Rattle.djq_machine.specs.State.{Position, open_at, stale}
 use Rattle.djq_machine.specs.Stale.{reads, outdated, outdater_of, by_relation}
 use Rattle.djq_machine.specs.Store.{with_rows}
@@ -18,7 +19,7 @@ use Rattle.djq_engine.specs.declared.cursors.Progress.TheVariants.{Open, Stale}
 use Rattle.djq_engine.specs.declared.table.Table.{Table}
 use Rattle.djq_engine.specs.declared.registered.Registered.{Registered}
 use Rattle.djq_engine.specs.Finding.{IsFirst}
-use Rattle.djq_engine.specs.Served.{is_served, is_served_by, relation_in, body_in}
+use Rattle.djq_engine.specs.Served.{relation_in, body_in}
 use Rattle.djq_engine.specs.Answers.{cells_at, columns_of}
 use Rattle.djq_engine.specs.Cursors.{slot_at, position_in, outdated_slots, outdated_progress}
 use Rattle.djq_engine.specs.Kept.{Held, same_id, held_at, outdated_held}
@@ -187,10 +188,10 @@ or_none : (b : Bool) → (b || false) ≡ b
 or_none true = refl
 or_none false = refl
 
-reads_is : (q : Query) (name : Bytes) → is_served q ≡ true → reads q name ≡ bytes_eq (relation_in q.atoms) name
+reads_is : (q : Query) (name : Bytes) → is_simple q.head q.atoms ≡ true → reads q name ≡ bytes_eq (relation_in q.atoms) name
 reads_is q name served = one q.head q.atoms served
   where
-    one : (head : List Bytes) (atoms : List Atom) → is_served_by head atoms ≡ true → list_any (λ (a : Atom). bytes_eq a.relation name) atoms ≡ bytes_eq (relation_in atoms) name
+    one : (head : List Bytes) (atoms : List Atom) → is_simple head atoms ≡ true → list_any (λ (a : Atom). bytes_eq a.relation name) atoms ≡ bytes_eq (relation_in atoms) name
     one head [] e = absurd cc
     one head (a ∷ []) e = or_none (bytes_eq a.relation name)
     one head (a ∷ b ∷ more) e = absurd cc
@@ -280,7 +281,7 @@ module _ (tables : List Table) (gs : List Registered) (order : List ℕ) (at : �
       let g = query_at gs i in
       let g' = query_at gs' i in
       let h = c.sound.ready i l in record {
-        served = ap is_served (same_query i) ∙ h.served;
+        served = ap (λ (q : Query). is_simple q.head q.atoms) (same_query i) ∙ h.served;
         relation = subst (λ (q : Query). IsFirst (λ t. bytes_eq t.relation.name (relation_in q.atoms)) new g'.relation) (sym (same_query i))
             (subst (λ k. IsFirst (λ t. bytes_eq t.relation.name (relation_in g.query.atoms)) new k) (sym (same_relation i))
             (first_kept tables at r (relation_in g.query.atoms) g.relation c.below c.named h.relation));

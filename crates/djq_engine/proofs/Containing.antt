@@ -20,7 +20,8 @@ use Rattle.djq_machine.specs.Conditions.{first_of}
 use Rattle.djq_machine.specs.Store.{types_of, is_of, fits, type_among, variable_type, answer_types, has_refusal, Tells, TellsWhether, has_steps}
 use Rattle.djq_engine.specs.declared.table.Table.{Table}
 use Rattle.djq_engine.specs.declared.registered.Registered.{Registered}
-use Rattle.djq_engine.specs.Served.{is_served_by, is_variable, names_of, relation_in, body_in, place_in}
+use Rattle.djq_lines.specs.Grammar.{is_simple}
+use Rattle.djq_engine.specs.Served.{is_variable, names_of, relation_in, body_in, place_in}
 use Rattle.djq_engine.specs.Answers.{cell_at, cells_at}
 use Rattle.djq_engine.specs.Lookup.{type_at}
 use Rattle.djq_engine.specs.Kept.{Kept}
@@ -28,6 +29,7 @@ use Rattle.djq_engine.specs.Tables.{is_query, table_at, query_at, relations_in, 
 use Rattle.djq_engine.specs.Sound.{RowsSound, IsReady, IsSound}
 use Rattle.djq_engine.proofs.Conditions.{answers_refused, answers_done, both_true}
 use Rattle.djq_engine.proofs.Changing.{Named, relation_named, query_named, no_query_of}
+use Rattle.djq_engine.proofs.Simple.{simple_parts}
 use Rattle.djq_engine.proofs.Telling.{names_length, ready_lists, columns_within}
 
 -- the types of values, one by one
@@ -111,12 +113,12 @@ atom_types rs a types [] p is e = refl
 atom_types rs a types (x ∷ xs) p is e =
     ap₂ (λ c cs. c ∷ cs) (ap (λ ts. unwrap_or (type_among ts a.terms x) IntColumn) is ∙ type_placed types a.terms x p e) (atom_types rs a types xs p is e)
 
-query_types : (rs : List Relation) (head : List Bytes) (atoms : List Atom) (types : List ColumnType) → is_served_by head atoms ≡ true → types_of (relation_of rs (relation_in atoms)) ≡ types
+query_types : (rs : List Relation) (head : List Bytes) (atoms : List Atom) (types : List ColumnType) → is_simple head atoms ≡ true → types_of (relation_of rs (relation_in atoms)) ≡ types
     → length types ≡ length (body_in atoms) → map (variable_type rs atoms) head ≡ map (type_at types) (map (place_in (body_in atoms)) head)
 query_types rs head [] types served is e = absurd cc
 query_types rs head (a ∷ b ∷ more) types served is e = absurd cc
 query_types rs head (a ∷ []) types served is e =
-    let plain = (both_true (list_all is_variable a.terms) _ served).0 in
+    let plain = (simple_parts head a served).plain in
     atom_types rs a types head plain is (e ∙ names_length a.terms plain)
 
 ready_types : (tables : List Table) (g : Registered) → IsReady tables g
@@ -200,10 +202,10 @@ module _ (tables : List Table) (gs : List Registered) (order : List ℕ) (seq : 
         (subst (λ (o : Option Query). IsSomeAnd o (λ q. Tells (IsAnswer (relations_in tables) q tuple) whether)) (sym (query_named tables gs order name at k.first s)) (told whether there not_there));
   })
 
-  one_atom : (q : Query) → is_served_by q.head q.atoms ≡ true → length q.atoms ≡ 1
+  one_atom : (q : Query) → is_simple q.head q.atoms ≡ true → length q.atoms ≡ 1
   one_atom q h = one q.head q.atoms h
     where
-      one : (head : List Bytes) (atoms : List Atom) → is_served_by head atoms ≡ true → length atoms ≡ 1
+      one : (head : List Bytes) (atoms : List Atom) → is_simple head atoms ≡ true → length atoms ≡ 1
       one head [] e = absurd cc
       one head (a ∷ []) e = refl
       one head (a ∷ b ∷ more) e = absurd cc

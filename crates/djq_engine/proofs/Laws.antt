@@ -1,6 +1,6 @@
--- What callers may rely on from call to call: which cursors are held.
-use Rattle.std.proofs.Common.{ℕ, List, [], ◌∷◌, ◌≡◌, Bool, true, false, refl, sym, ap, ap₂, ◌∙◌, subst}
-use Rattle.std.specs.Prelude.{◌==◌, ◌&&◌, Option, None, Some, is_none, IsSome, IsSomeAnd, Ok, Err, find, map, option_map, if◌then◌else◌}
+-- What callers may rely on from call to call: which cursors are held, and which answers are there.
+use Rattle.std.proofs.Common.{ℕ, List, [], ◌∷◌, ◌≡◌, ◌<◌, ◌≤◌, ◌+◌, ◌++◌, length, Bool, true, false, refl, sym, ap, ap₂, ◌∙◌, subst}
+use Rattle.std.specs.Prelude.{◌==◌, ◌&&◌, Option, None, Some, is_none, IsSome, IsSomeAnd, Ok, Err, cond, find, map, option_map, if◌then◌else◌}
 use Rattle.std.proofs.lemmas.Bool.{eqb-true}
 use Rattle.djq_model.specs.declared.query.Query.{Query}
 use Rattle.djq_model.specs.Data.{Bytes, query_of}
@@ -9,9 +9,11 @@ use Rattle.djq_machine.specs.Conditions.{first_of}
 use Rattle.djq_machine.specs.State.{Position, open_at, stale}
 use Rattle.djq_machine.specs.Store.{most_steps}
 use Rattle.djq_engine.specs.declared.cursor.CursorId.{CursorId}
+use Rattle.djq_engine.specs.declared.cursor.Answer.{Answer}
 use Rattle.djq_engine.specs.declared.cursor.Next.{Next}
 use Rattle.djq_engine.specs.declared.cursor.Next.TheVariants.{Given, End, Stale}
-use Rattle.djq_engine.specs.Kept.{Held, Kept, same_id, held_at, SameCursors, OthersStay, Outdates, outdated_held, OpensCursor, OpenGives, MovesCursor, ClosesCursor, NextGives, NextGivesAt, MoreGives, MoreGivesAt, IsHeld}
+use Rattle.djq_engine.specs.Answers.{answers_of}
+use Rattle.djq_engine.specs.Kept.{Held, Kept, same_id, held_at, SameCursors, OthersStay, Outdates, outdated_held, OpensCursor, OpenGives, MovesCursor, ClosesCursor, NextGives, NextGivesAt, read_steps, MoreGives, MoreGivesAt, IsHeld, IsThere, IsOpenAt, IsFresh}
 use Rattle.djq_engine.proofs.Firsts.{find_mapped}
 use Rattle.djq_engine.proofs.Conditions.{both_true, done_of}
 
@@ -92,3 +94,37 @@ close_keeps_held old id new other e c held = held_same old.cursors new.cursors o
 pub open_gives_held : (old : Kept) (query : Bytes) (id : CursorId) (new : Kept) → OpenGives old query (Ok id) new → IsHeld new id
 open_gives_held old query id new g =
     opened_is_held old query id new (done_of (first_of ((is_none (query_of old.store.queries query), NoQuery) ∷ [])) id (λ id. OpensCursor old query id new) _ g.answer).1
+
+found_passes : {A : Type 0} (p : A → Bool) (xs : List A) (x : A) → find p xs ≡ Some x → p x ≡ true
+found_passes p [] x h = absurd (cc)
+found_passes p (y ∷ xs) x h = step (p y) refl (λ rest. found_passes p xs x rest) h
+  where
+    step : (b : Bool) → p y ≡ b → (find p xs ≡ Some x → p x ≡ true) → cond b (Some y) (find p xs) ≡ Some x → p x ≡ true
+    step true e rest h = let same : y ≡ x = cc in subst (λ z. p z ≡ true) same e
+    step false e rest h = rest h
+
+-- A cursor that is held under an id has it.
+pub held_id : (hs : List Held) (id : CursorId) (h : Held) → held_at hs id ≡ Some h → h.id ≡ id
+held_id hs id h e = same_id-true h.id id (found_passes (λ (x : Held). same_id x.id id) hs h e)
+
+-- An answer that is given is there to be lent, and its cursor isn't stale.
+pub given_is_there : (old : Kept) (id : CursorId) (answer : Answer) (new : Kept) (before now : ℕ) → NextGives old id (Given answer) new before now → IsThere new id answer × IsFresh new id
+given_is_there old id answer new before now g = at_held (held_at old.cursors id) refl g.gives
+  where
+    there : (h : Held) (q : Query) (p : Position) → h.id ≡ id → query_of old.store.queries h.query ≡ Some q → NextGivesAt old h q p (Given answer) new → IsThere new id answer × IsFresh new id
+    there h q (open_at given ended) same f y =
+        let moved = record h { position = open_at (given ++ y.0 ∷ []) false } in
+        let here : held_at new.cursors id ≡ Some moved = subst (λ (x : CursorId). held_at new.cursors x ≡ Some moved) same y.3.there in (
+          subst (λ (o : Option Held). IsSomeAnd o (λ x. IsSomeAnd (query_of new.store.queries x.query) (λ q. answer.at < length (answers_of new.store q)))) (sym here)
+              (subst (λ (o : Option Query). IsSomeAnd o (λ q. answer.at < length (answers_of new.store q))) (sym (ap (λ st. query_of st.queries h.query) y.3.store ∙ f)) y.2.0),
+          subst (λ (o : Option Held). IsSomeAnd o (λ x. IsOpenAt x.position)) (sym here) tt,
+        )
+    there h q (stale r m) same f y = absurd y
+
+    at_query : (h : Held) → h.id ≡ id → (o : Option Query) → query_of old.store.queries h.query ≡ o → IsSomeAnd o (λ q. NextGivesAt old h q h.position (Given answer) new × (now ≤ before + read_steps (Given answer) (length q.head))) → IsThere new id answer × IsFresh new id
+    at_query h same None f y = absurd y
+    at_query h same (Some q) f y = there h q h.position same f y.0
+
+    at_held : (o : Option Held) → held_at old.cursors id ≡ o → IsSomeAnd o (λ h. IsSomeAnd (query_of old.store.queries h.query) (λ q. NextGivesAt old h q h.position (Given answer) new × (now ≤ before + read_steps (Given answer) (length q.head)))) → IsThere new id answer × IsFresh new id
+    at_held None e y = absurd y
+    at_held (Some h) e y = at_query h (held_id old.cursors id h e) (query_of old.store.queries h.query) refl y

@@ -1,4 +1,6 @@
 pub mod Retained
+pub mod Reorderings
+pub mod Simple
 pub mod Firsts
 pub mod Conditions
 pub mod Rows

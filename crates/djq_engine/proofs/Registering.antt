@@ -15,13 +15,14 @@ use Rattle.djq_model.specs.Equality.{bytes_eq-decides}
 use Rattle.djq_lines.specs.declared.limits.TheConstants.{QUERIES}
 use Rattle.djq_lines.specs.declared.answer.Refusal.{Refusal}
 use Rattle.djq_lines.specs.declared.answer.Refusal.TheVariants.{Taken, NoRelation, Arity, Limit, NoMemory}
+use Rattle.djq_lines.specs.Grammar.{is_simple}
 use Rattle.djq_machine.specs.State.{Store}
 use Rattle.djq_machine.specs.Store.{types_of, query_refusal, most_steps, RegistersQuery}
 use Rattle.djq_engine.specs.declared.cursor.CursorId.{CursorId}
 use Rattle.djq_engine.specs.declared.table.Table.{Table}
 use Rattle.djq_engine.specs.declared.registered.Registered.{Registered}
 use Rattle.djq_engine.specs.Finding.{IsFirst}
-use Rattle.djq_engine.specs.Served.{is_served, is_served_by, is_variable, are_same, names_of, relation_in, body_in}
+use Rattle.djq_engine.specs.Served.{relation_in, body_in}
 use Rattle.djq_engine.specs.Answers.{cells_at, columns_of}
 use Rattle.djq_engine.specs.Cursors.{slot_at}
 use Rattle.djq_engine.specs.Kept.{Kept, held_at, SameCursors}
@@ -34,6 +35,7 @@ use Rattle.djq_engine.proofs.Places.{filter_members, map_members, once_push}
 use Rattle.djq_engine.proofs.Held.{held_is, slot_none}
 use Rattle.djq_engine.proofs.Changing.{everywhere, relation_named, first_query, query_there, query_named, no_query_of}
 use Rattle.djq_engine.proofs.Storing.{no_relation_of}
+use Rattle.djq_engine.proofs.Simple.{SimpleParts, simple_parts}
 use Rattle.djq_engine.proofs.Telling.{names_length}
 
 -- the terms of the first atom
@@ -42,34 +44,34 @@ terms_in [] = []
 terms_in (a ∷ more) = a.terms
 
 -- the first atom, as the code reads it
-pub first_atom : (head : List Bytes) (atoms : List Atom) (a : Atom) → is_served_by head atoms ≡ true → a ≡ get_or atoms 0 a → relation_in atoms ≡ a.relation
+pub first_atom : (head : List Bytes) (atoms : List Atom) (a : Atom) → is_simple head atoms ≡ true → a ≡ get_or atoms 0 a → relation_in atoms ≡ a.relation
 first_atom head [] a s e = absurd cc
 first_atom head (b ∷ c ∷ more) a s e = absurd cc
 first_atom head (b ∷ []) a s e = ap (λ (x : Atom). x.relation) (sym e)
 
-first_terms : (head : List Bytes) (atoms : List Atom) (a : Atom) → is_served_by head atoms ≡ true → a ≡ get_or atoms 0 a → terms_in atoms ≡ a.terms
+first_terms : (head : List Bytes) (atoms : List Atom) (a : Atom) → is_simple head atoms ≡ true → a ≡ get_or atoms 0 a → terms_in atoms ≡ a.terms
 unfolding terms_in
 first_terms head [] a s e = absurd cc
 first_terms head (b ∷ c ∷ more) a s e = absurd cc
 first_terms head (b ∷ []) a s e = ap (λ (x : Atom). x.terms) (sym e)
 
-pub has_atom : (head : List Bytes) (atoms : List Atom) → is_served_by head atoms ≡ true → 0 < length atoms
+pub has_atom : (head : List Bytes) (atoms : List Atom) → is_simple head atoms ≡ true → 0 < length atoms
 has_atom head [] e = absurd cc
 has_atom head (a ∷ b ∷ more) e = absurd cc
 has_atom head (a ∷ []) e = omega arith
 
-body_length : (head : List Bytes) (atoms : List Atom) → is_served_by head atoms ≡ true → length (body_in atoms) ≡ length (terms_in atoms)
+body_length : (head : List Bytes) (atoms : List Atom) → is_simple head atoms ≡ true → length (body_in atoms) ≡ length (terms_in atoms)
 unfolding terms_in
 body_length head [] e = absurd cc
 body_length head (a ∷ b ∷ more) e = absurd cc
-body_length head (a ∷ []) e = names_length a.terms (both_true (list_all is_variable a.terms) (are_same head (names_of a.terms)) e).0
+body_length head (a ∷ []) e = names_length a.terms (simple_parts head a e).plain
 
 -- the conditions of `query`
 
 any_one : {A : Type 0} (p : A → Bool) (a : A) → list_any p (a ∷ []) ≡ p a
 any_one p a = or_false (p a)
 
-refusal_by : (rs : List Relation) (qs : List Query) (seq : ℕ) (name : Bytes) (head : List Bytes) (atoms : List Atom) → is_served_by head atoms ≡ true
+refusal_by : (rs : List Relation) (qs : List Query) (seq : ℕ) (name : Bytes) (head : List Bytes) (atoms : List Atom) → is_simple head atoms ≡ true
     → query_refusal (record { relations = rs; texts = []; queries = qs; seq = seq }) (record { name = name; head = head; atoms = atoms })
     ≡ cond (is_some (query_of qs name)) (Some Taken) (cond (is_none (relation_of rs (relation_in atoms))) (Some NoRelation)
     (cond (not (length (terms_in atoms) == length (types_of (relation_of rs (relation_in atoms))))) (Some Arity) (cond (nat_le QUERIES (length qs)) (Some Limit) None)))
@@ -82,7 +84,7 @@ refusal_by rs qs seq name head (a ∷ []) e =
     (any_one (λ (a : Atom). not (length a.terms == length (types_of (relation_of rs a.relation)))) a)
 
 -- what each condition is comes one after another
-refusal_is : (tables : List Table) (gs : List Registered) (order : List ℕ) (q : Query) (t n m f : Bool) → is_served q ≡ true → is_some (query_of (queries_in gs order) q.name) ≡ t → is_none (relation_of (relations_in tables) (relation_in q.atoms)) ≡ n
+refusal_is : (tables : List Table) (gs : List Registered) (order : List ℕ) (q : Query) (t n m f : Bool) → is_simple q.head q.atoms ≡ true → is_some (query_of (queries_in gs order) q.name) ≡ t → is_none (relation_of (relations_in tables) (relation_in q.atoms)) ≡ n
     → not (length (terms_in q.atoms) == length (types_of (relation_of (relations_in tables) (relation_in q.atoms)))) ≡ m → nat_le QUERIES (length (queries_in gs order)) ≡ f
     → query_refusal (store_of tables gs order 0) q ≡ cond t (Some Taken) (cond n (Some NoRelation) (cond m (Some Arity) (cond f (Some Limit) None)))
 refusal_is tables gs order q t n m f served e g h i =
@@ -99,21 +101,21 @@ pub query_found : (tables : List Table) (gs : List Registered) (order : List ℕ
 query_found tables gs order name None e s = ap is_some (no_query_of tables gs order name e s)
 query_found tables gs order name (Some at) e s = ap is_some (query_named tables gs order name at (first_query gs name at e) s)
 
-pub refuses_taken : (tables : List Table) (gs : List Registered) (order : List ℕ) (s : IsSound tables gs order) (q : Query) (o : Option ℕ) → is_served q ≡ true → o ≡ position (is_query q.name) gs → is_some o ≡ true
+pub refuses_taken : (tables : List Table) (gs : List Registered) (order : List ℕ) (s : IsSound tables gs order) (q : Query) (o : Option ℕ) → is_simple q.head q.atoms ≡ true → o ≡ position (is_query q.name) gs → is_some o ≡ true
     → query_refusal (store_of tables gs order 0) q ≡ Some Taken
 refuses_taken tables gs order s q o served e t =
     refusal_is tables gs order q true (is_none (relation_of (relations_in tables) (relation_in q.atoms)))
     (not (length (terms_in q.atoms) == length (types_of (relation_of (relations_in tables) (relation_in q.atoms))))) (nat_le QUERIES (length (queries_in gs order)))
     served (query_found tables gs order q.name o e s ∙ t) refl refl refl
 
-pub refuses_relation : (tables : List Table) (gs : List Registered) (order : List ℕ) (s : IsSound tables gs order) (q : Query) (o : Option ℕ) (a : Atom) → is_served q ≡ true → o ≡ position (is_query q.name) gs → is_some o ≡ false
+pub refuses_relation : (tables : List Table) (gs : List Registered) (order : List ℕ) (s : IsSound tables gs order) (q : Query) (o : Option ℕ) (a : Atom) → is_simple q.head q.atoms ≡ true → o ≡ position (is_query q.name) gs → is_some o ≡ false
     → a ≡ get_or q.atoms 0 a → None ≡ position (λ t. bytes_eq t.relation.name a.relation) tables → query_refusal (store_of tables gs order 0) q ≡ Some NoRelation
 refuses_relation tables gs order s q o a served e t f p =
     refusal_is tables gs order q false true (not (length (terms_in q.atoms) == length (types_of (relation_of (relations_in tables) (relation_in q.atoms))))) (nat_le QUERIES (length (queries_in gs order)))
     served (query_found tables gs order q.name o e s ∙ t)
     (ap (λ (n : Bytes). is_none (relation_of (relations_in tables) n)) (first_atom q.head q.atoms a served f) ∙ ap is_none (no_relation_of tables a.relation p)) refl refl
 
-module _ (tables : List Table) (gs : List Registered) (order : List ℕ) (s : IsSound tables gs order) (q : Query) (o : Option ℕ) (a : Atom) (at : ℕ) (served : is_served q ≡ true) (e : o ≡ position (is_query q.name) gs) (t : is_some o ≡ false)
+module _ (tables : List Table) (gs : List Registered) (order : List ℕ) (s : IsSound tables gs order) (q : Query) (o : Option ℕ) (a : Atom) (at : ℕ) (served : is_simple q.head q.atoms ≡ true) (e : o ≡ position (is_query q.name) gs) (t : is_some o ≡ false)
     (f : a ≡ get_or q.atoms 0 a) (p : Some at ≡ position (λ t. bytes_eq t.relation.name a.relation) tables) where
   pub atom_first : IsFirst (λ t. bytes_eq t.relation.name (relation_in q.atoms)) tables at
   atom_first = subst (λ (n : Bytes). IsFirst (λ t. bytes_eq t.relation.name n) tables at) (sym (first_atom q.head q.atoms a served f))
@@ -147,7 +149,7 @@ module _ (tables : List Table) (gs : List Registered) (order : List ℕ) (s : Is
 
 -- What is known of a query that is registered: it is served, no condition refuses it, and its relation stands at this place.
 pub record MayRegister (tables : List Table) (gs : List Registered) (order : List ℕ) (q : Query) (relation : ℕ) : Type 0 where
-  pub served : is_served q ≡ true
+  pub served : is_simple q.head q.atoms ≡ true
   pub passes : query_refusal (store_of tables gs order 0) q ≡ None
   pub first : IsFirst (λ t. bytes_eq t.relation.name (relation_in q.atoms)) tables relation
 
@@ -387,7 +389,7 @@ query_registered tables items gs qs order places seq old q relation most v h s r
 )
 
 -- what the search for refusals tells, of slices that hold the same
-pub may_register : (tables slice : List Table) (gs queries : List Registered) (order : List ℕ) (q : Query) (relation : ℕ) → slice ≡ tables → queries ≡ gs → is_served q ≡ true
+pub may_register : (tables slice : List Table) (gs queries : List Registered) (order : List ℕ) (q : Query) (relation : ℕ) → slice ≡ tables → queries ≡ gs → is_simple q.head q.atoms ≡ true
     → (query_refusal (store_of slice queries order 0) q ≡ None) × IsFirst (λ t. bytes_eq t.relation.name (relation_in q.atoms)) slice relation → MayRegister tables gs order q relation
 may_register tables slice gs queries order q relation e f served h = record {
   served = served;

@@ -14,15 +14,17 @@ use Rattle.djq_model.specs.Data.{Bytes, Tuple, bytes_eq, rows_of}
 use Rattle.djq_model.specs.Equality.{bytes_eq-decides}
 use Rattle.djq_model.specs.Answer.{Assignment, StandForAll, Satisfies, IsAnswer, AreDifferent}
 use Rattle.djq_value.specs.Literal.{has_name, are_different}
+use Rattle.djq_lines.specs.Grammar.{is_simple}
 use Rattle.djq_machine.specs.Store.{IsLeft, AreAll}
 use Rattle.djq_engine.specs.declared.table.Table.{Table}
 use Rattle.djq_engine.specs.declared.registered.Registered.{Registered}
-use Rattle.djq_engine.specs.Served.{is_served_by, is_variable, are_same, names_of, relation_in, body_in, place_in}
+use Rattle.djq_engine.specs.Served.{is_variable, names_of, relation_in, body_in, place_in}
 use Rattle.djq_engine.specs.Answers.{cell_at, cells_at, columns_of, answers_of}
 use Rattle.djq_engine.specs.Tables.{table_at, relations_in, answers_at, store_of}
 use Rattle.djq_engine.specs.Sound.{RowsSound, IsReady}
 use Rattle.djq_engine.proofs.Conditions.{both_true, not_true}
 use Rattle.djq_engine.proofs.Changing.{rows_named}
+use Rattle.djq_engine.proofs.Simple.{SimpleParts, simple_parts}
 
 bytes_alike : (xs ys : Bytes) → bytes_eq xs ys ≡ true → xs ≡ ys
 bytes_alike xs ys e = (bytes_eq-decides xs ys).0 e
@@ -140,27 +142,11 @@ named_in ns (n ∷ xs) x h k = let b = both_true (has_name ns n) (list_all (has_
     by_name true e first more = ap (has_name ns) (bytes_alike x n e) ∙ first
     by_name false e first more = more (sym (ap (λ b. b || has_name xs x) e) ∙ k)
 
--- a served atom: what is said of its parts
-record Served (head : List Bytes) (a : Atom) : Type 0 where
-  plain : list_all is_variable a.terms ≡ true
-  apart_body : are_different (names_of a.terms) ≡ true
-  within : list_all (has_name (names_of a.terms)) head ≡ true
-  covers : list_all (has_name head) (names_of a.terms) ≡ true
-
-served_parts : (head : List Bytes) (a : Atom) → is_served_by head (a ∷ []) ≡ true → Served head a
-served_parts head a e =
-    let ns = names_of a.terms in
-    let p = both_true (list_all is_variable a.terms) (are_same head ns) e in
-    let q = both_true (are_different head && are_different ns) (list_all (has_name ns) head && list_all (has_name head) ns) p.1 in
-    let d = both_true (are_different head) (are_different ns) q.0 in
-    let w = both_true (list_all (has_name ns) head) (list_all (has_name head) ns) q.1 in
-    record { plain = p.0; apart_body = d.1; within = w.0; covers = w.1 }
-
 -- the answer of a row, by the columns and by the assignment that the row gives
 cells_assigned : (head ns : List Bytes) (row : Tuple) → cells_at (map (place_in ns) head) row ≡ map (λ y. cell_at row (place_in ns y)) head
 cells_assigned head ns row = map_twice (cell_at row) (place_in ns) head
 
-cells_given : (a : Assignment) (head : List Bytes) (atom : Atom) (row : Tuple) → Served head atom → StandForAll a atom.terms row
+cells_given : (a : Assignment) (head : List Bytes) (atom : Atom) (row : Tuple) → SimpleParts head atom → StandForAll a atom.terms row
     → cells_at (map (place_in (names_of atom.terms)) head) row ≡ map a head
 cells_given a head atom row s h = cells_assigned head (names_of atom.terms) row
     ∙ mapped_as (λ y. cell_at row (place_in (names_of atom.terms) y)) a head (names_of atom.terms) s.within
@@ -170,7 +156,7 @@ one_all : {A : Type 0} (P : A → Type 0) (x : A) → P x → All P (x ∷ [])
 one_all P x p = All-cons P x [] p (All-nil P)
 
 -- a row of the relation gives an answer
-row_answers : (rs : List Relation) (name : Bytes) (head : List Bytes) (atom : Atom) (row : Tuple) → Served head atom → length row ≡ length atom.terms
+row_answers : (rs : List Relation) (name : Bytes) (head : List Bytes) (atom : Atom) (row : Tuple) → SimpleParts head atom → length row ≡ length atom.terms
     → Contains (rows_of rs atom.relation) row → IsAnswer rs (record { name = name; head = head; atoms = atom ∷ [] }) (cells_at (map (place_in (names_of atom.terms)) head) row)
 row_answers rs name head atom row s l there =
     let a : Assignment = λ y. cell_at row (place_in (names_of atom.terms) y) in record {
@@ -180,7 +166,7 @@ row_answers rs name head atom row s l there =
     }
 
 -- an answer is that of a row
-answer_row : (rs : List Relation) (name : Bytes) (head : List Bytes) (atom : Atom) (t : Tuple) → Served head atom
+answer_row : (rs : List Relation) (name : Bytes) (head : List Bytes) (atom : Atom) (t : Tuple) → SimpleParts head atom
     → IsAnswer rs (record { name = name; head = head; atoms = atom ∷ [] }) t
     → (row : Tuple) × Contains (rows_of rs atom.relation) row × (cells_at (map (place_in (names_of atom.terms)) head) row ≡ t)
 answer_row rs name head atom t s h =
@@ -188,7 +174,7 @@ answer_row rs name head atom t s h =
     (sat.row, sat.is_there, cells_given h.assignment head atom sat.row s sat.stands ∙ sym h.on_head)
 
 -- different rows give different answers
-rows_apart : (head : List Bytes) (atom : Atom) (row other : Tuple) → Served head atom → length row ≡ length atom.terms → length other ≡ length atom.terms
+rows_apart : (head : List Bytes) (atom : Atom) (row other : Tuple) → SimpleParts head atom → length row ≡ length atom.terms → length other ≡ length atom.terms
     → cells_at (map (place_in (names_of atom.terms)) head) row ≡ cells_at (map (place_in (names_of atom.terms)) head) other → row ≡ other
 rows_apart head atom row other s l k e =
     let ns = names_of atom.terms in
@@ -219,7 +205,7 @@ all_map f P rows h = λ k d l.
 fit_row : (n : ℕ) (rows : List Tuple) (row : Tuple) → All (λ row. length row ≡ n) rows → Contains rows row → length row ≡ n
 fit_row n rows row h c = ap length (sym c.2) ∙ h c.0 row c.1
 
-different_map : (head : List Bytes) (atom : Atom) (rows : List Tuple) → Served head atom → All (λ row. length row ≡ length atom.terms) rows → AreDifferent rows
+different_map : (head : List Bytes) (atom : Atom) (rows : List Tuple) → SimpleParts head atom → All (λ row. length row ≡ length atom.terms) rows → AreDifferent rows
     → AreDifferent (map (cells_at (map (place_in (names_of atom.terms)) head)) rows)
 different_map head atom rows s fit differ = λ i j d l k e.
     let cut = cells_at (map (place_in (names_of atom.terms)) head) in
@@ -229,7 +215,7 @@ different_map head atom rows s fit differ = λ i j d l k e.
     differ i j [] l j_below (rows_apart head atom (get_or rows i []) (get_or rows j []) s (fit i [] i_below) (fit j [] j_below)
     (sym (get_or-map cut rows i [] d i_below) ∙ e ∙ get_or-map cut rows j [] d j_below))
 
-atom_lists : (rs : List Relation) (name : Bytes) (head : List Bytes) (atom : Atom) (rows : List Tuple) → Served head atom → rows ≡ rows_of rs atom.relation
+atom_lists : (rs : List Relation) (name : Bytes) (head : List Bytes) (atom : Atom) (rows : List Tuple) → SimpleParts head atom → rows ≡ rows_of rs atom.relation
     → All (λ row. length row ≡ length atom.terms) rows → AreDifferent rows
     → ListsAll rs (record { name = name; head = head; atoms = atom ∷ [] }) (map (cells_at (map (place_in (names_of atom.terms)) head)) rows)
 atom_lists rs name head atom rows s is fit differ =
@@ -240,13 +226,13 @@ atom_lists rs name head atom rows s is fit differ =
       complete = λ t h. let r = answer_row rs name head atom t s h in contains_map cut rows r.0 t (subst (λ rows. Contains rows r.0) (sym is) r.1) r.2;
     }
 
-query_lists : (rs : List Relation) (name : Bytes) (head : List Bytes) (atoms : List Atom) (n : ℕ) (rows : List Tuple) → is_served_by head atoms ≡ true → rows ≡ rows_of rs (relation_in atoms)
+query_lists : (rs : List Relation) (name : Bytes) (head : List Bytes) (atoms : List Atom) (n : ℕ) (rows : List Tuple) → is_simple head atoms ≡ true → rows ≡ rows_of rs (relation_in atoms)
     → n ≡ length (body_in atoms) → All (λ row. length row ≡ n) rows → AreDifferent rows
     → (let q : Query = record { name = name; head = head; atoms = atoms } in ListsAll rs q (map (cells_at (columns_of q)) rows))
 query_lists rs name head [] n rows served is arity fit differ = absurd cc
 query_lists rs name head (a ∷ b ∷ more) n rows served is arity fit differ = absurd cc
 query_lists rs name head (a ∷ []) n rows served is arity fit differ =
-    let s = served_parts head a served in
+    let s = simple_parts head a served in
     atom_lists rs name head a rows s is (subst (λ m. All (λ row. length row ≡ m) rows) (arity ∙ names_length a.terms s.plain) fit) differ
 
 -- the answers of a registered query
@@ -289,10 +275,10 @@ places_below [] ns h = All-nil (λ i. i < length ns)
 places_below (x ∷ xs) ns h = let b = both_true (has_name ns x) (list_all (has_name ns) xs) h in
     All-cons (λ i. i < length ns) (place_in ns x) (map (place_in ns) xs) (place_below ns x b.0) (places_below xs ns b.1)
 
-pub columns_within : (head : List Bytes) (atoms : List Atom) → is_served_by head atoms ≡ true → All (λ i. i < length (body_in atoms)) (map (place_in (body_in atoms)) head)
+pub columns_within : (head : List Bytes) (atoms : List Atom) → is_simple head atoms ≡ true → All (λ i. i < length (body_in atoms)) (map (place_in (body_in atoms)) head)
 columns_within head [] e = absurd cc
 columns_within head (a ∷ b ∷ more) e = absurd cc
-columns_within head (a ∷ []) e = places_below head (names_of a.terms) (served_parts head a e).within
+columns_within head (a ∷ []) e = places_below head (names_of a.terms) (simple_parts head a e).within
 
 pub columns_inside : (tables : List Table) (g : Registered) (i : ℕ) → IsReady tables g → RowsSound (table_at tables g.relation).relation → i < length (table_at tables g.relation).relation.rows
     → All (λ k. k < length (get_or (table_at tables g.relation).relation.rows i [])) g.columns

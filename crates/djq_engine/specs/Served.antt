@@ -1,12 +1,9 @@
--- The queries that are served: one atom whose terms are different variables, and a head that names each of them once.
-use Rattle.std.specs.Prelude.{ℕ, zero, suc, List, [], ◌∷◌, ◌&&◌, Bool, true, false, if◌then◌else◌}
-use Rattle.std.specs.List.{list_all}
-use Rattle.djq_model.specs.declared.query.Query.{Query}
+-- The parts of a query of one atom, which is what is served.
+use Rattle.std.specs.Prelude.{ℕ, zero, suc, List, [], ◌∷◌, Bool, true, false, if◌then◌else◌}
 use Rattle.djq_model.specs.declared.query.Atom.{Atom}
 use Rattle.djq_model.specs.declared.query.Term.{Term}
 use Rattle.djq_model.specs.declared.query.Term.TheVariants.{Variable, Hole, Constant}
 use Rattle.djq_model.specs.Data.{Bytes, bytes_eq}
-use Rattle.djq_value.specs.Literal.{has_name, are_different}
 
 -- whether a term is a variable with a name
 abbrev pub is_variable : Term → Bool
@@ -20,20 +17,6 @@ names_of [] = []
 names_of (Variable x ∷ ts) = x ∷ names_of ts
 names_of (Hole ∷ ts) = names_of ts
 names_of (Constant c ∷ ts) = names_of ts
-
--- whether both have the same names, each once
-abbrev pub are_same : List Bytes → List Bytes → Bool
-are_same head body = (are_different head && are_different body) && (list_all (has_name body) head && list_all (has_name head) body)
-
--- whether this head over these atoms is served
-abbrev pub is_served_by : List Bytes → List Atom → Bool
-is_served_by head [] = false
-is_served_by head (a ∷ []) = list_all is_variable a.terms && are_same head (names_of a.terms)
-is_served_by head (a ∷ b ∷ more) = false
-
--- whether a query is served
-abbrev pub is_served : Query → Bool
-is_served q = is_served_by q.head q.atoms
 
 -- the relation of the first atom
 abbrev pub relation_in : List Atom → Bytes

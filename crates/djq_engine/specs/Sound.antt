@@ -3,11 +3,12 @@ use Rattle.std.specs.Prelude.{ℕ, List, [], ◌∷◌, ◌==◌, ◌≡◌, ◌
 use Rattle.djq_model.specs.declared.relation.Relation.{Relation}
 use Rattle.djq_model.specs.Data.{bytes_eq}
 use Rattle.djq_model.specs.Answer.{AreDifferent}
+use Rattle.djq_lines.specs.Grammar.{is_simple}
 use Rattle.djq_engine.specs.declared.cursors.Progress.TheVariants.{Open}
 use Rattle.djq_engine.specs.declared.table.Table.{Table}
 use Rattle.djq_engine.specs.declared.registered.Registered.{Registered}
 use Rattle.djq_engine.specs.Finding.{IsFirst}
-use Rattle.djq_engine.specs.Served.{is_served, relation_in, body_in}
+use Rattle.djq_engine.specs.Served.{relation_in, body_in}
 use Rattle.djq_engine.specs.Answers.{columns_of}
 use Rattle.djq_engine.specs.Cursors.{slot_at}
 use Rattle.djq_engine.specs.Tables.{no_query, table_at, query_at, is_live, is_reader}
@@ -20,7 +21,7 @@ pub record RowsSound (r : Relation) : Type 0 where
 -- A registered query is served, its relation stands at its place with a column for each variable, its columns are the head's,
 -- and no cursor has given more answers than there are.
 pub record IsReady (tables : List Table) (g : Registered) : Type 0 where
-  pub served : is_served g.query ≡ true
+  pub served : is_simple g.query.head g.query.atoms ≡ true
   pub relation : IsFirst (λ t. bytes_eq t.relation.name (relation_in g.query.atoms)) tables g.relation
   pub arity : length (table_at tables g.relation).relation.types ≡ length (body_in g.query.atoms)
   pub columns : g.columns ≡ columns_of g.query

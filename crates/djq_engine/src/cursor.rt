@@ -15,7 +15,8 @@ pub struct CursorId {
     pub cursor: usize,
 }
 
-/// An answer that a cursor gave. It is lent as values by the engine that gave it, as long as no row changes.
+/// An answer that a cursor gave. It is lent as values by the engine that gave it, as long as no row
+/// changes.
 #[derive(Clone, Copy, Debug)]
 pub struct Answer {
     pub(crate) at: usize,

@@ -1,13 +1,18 @@
-ghost use Rattle.std.specs.Prelude.{◌≡◌, ◌≤◌, ◌+◌, is_some, [], ◌<◌, true, length, None, Some, IfOk, IfErr, OnOk, OnErr};
+ghost use Rattle.std.specs.Prelude.{◌≡◌, ◌≤◌, ◌+◌, is_some, [], ◌<◌, true, length, None, Some};
+ghost use Rattle.std.specs.Prelude.{IfOk, IfErr, OnOk, OnErr};
 ghost use Rattle.djq_model.specs.Data.{bytes_eq, query_of, rows_of};
+ghost use Rattle.djq_lines.specs.Grammar.{is_simple};
 ghost use Rattle.djq_machine.specs.State.{opening};
-ghost use Rattle.djq_machine.specs.Store.{MakesRelation, AddsRow, DeletesRow, RegistersQuery, TellsWhether, has_steps, query_refusal};
+ghost use Rattle.djq_machine.specs.Store.{MakesRelation, AddsRow, DeletesRow, RegistersQuery};
+ghost use Rattle.djq_machine.specs.Store.{TellsWhether, has_steps, query_refusal};
 ghost use Rattle.djq_machine.specs.Stale.{add_outdates, delete_outdates};
 ghost use Rattle.djq_engine.specs.Finding.{IsFirst};
-ghost use Rattle.djq_engine.specs.Served.{is_served, relation_in};
+ghost use Rattle.djq_engine.specs.Served.{relation_in};
 ghost use Rattle.djq_engine.specs.Tables.{store_of, Registers, SamePlaces};
 ghost use Rattle.djq_engine.specs.Sound.{IsSound};
-ghost use Rattle.djq_engine.specs.Kept.{SameCursors, Outdates, DropGives, OpenGives, NextGives, MoreGives, ClosesCursor, IsHeld, IsFresh, IsThere, LendsAnswer};
+ghost use Rattle.djq_engine.specs.Kept.{SameCursors, Outdates, DropGives, OpenGives, NextGives};
+ghost use Rattle.djq_engine.specs.Kept.{MoreGives, ClosesCursor, IsHeld, IsFresh, IsThere};
+ghost use Rattle.djq_engine.specs.Kept.{LendsAnswer};
 
 use crate::cursor::{Answer, CursorId, Next, QueryId};
 use crate::cursors::Progress;
@@ -21,7 +26,8 @@ use djq_steps::{Ledgers, Listing, Tally};
 use std::alloc::Global;
 use std::marker::Model;
 
-/// The relations with their rows, the registered queries with their cursors, and the number of changes.
+/// The relations with their rows, the registered queries with their cursors, and the number of
+/// changes.
 #[derive(Drop)]
 pub struct Engine {
     alloc: Global,
@@ -92,8 +98,8 @@ impl Engine {
     ///
     /// # Errors
     ///
-    /// `Taken` where a relation has the name; `Limit` past [`COLUMNS`] columns and at [`RELATIONS`] relations; `NoMemory`
-    /// out of memory. Nothing has changed.
+    /// `Taken` where a relation has the name; `Limit` past [`COLUMNS`] columns and at [`RELATIONS`]
+    /// relations; `NoMemory` out of memory. Nothing has changed.
     pub fn rel(&mut self, name: Name, types: Types) -> Result<(), Refusal>
         ensures makes { MakesRelation self.old.store name types result self.new.store }
         ensures cursors { SameCursors self.old.cursors self.new.cursors }
@@ -111,12 +117,14 @@ impl Engine {
         Ok(())
     }
 
-    /// Adds a row to a relation. Where it is there already, nothing changes; where it wasn't, cursors over the relation become stale.
+    /// Adds a row to a relation. Where it is there already, nothing changes; where it wasn't,
+    /// cursors over the relation become stale.
     ///
     /// # Errors
     ///
-    /// `NoRelation` where none has the name; `Arity` and `WrongType` where the row doesn't suit its columns; `Limit` where the
-    /// relation or the number of changes is at its limit; `NoMemory` out of memory, and cursors over the relation are stale.
+    /// `NoRelation` where none has the name; `Arity` and `WrongType` where the row doesn't suit its
+    /// columns; `Limit` where the relation or the number of changes is at its limit; `NoMemory` out
+    /// of memory, and cursors over the relation are stale.
     pub fn add(&mut self, name: &Name, row: Row) -> Result<AddOutcome, Refusal>
         ensures adds { AddsRow self.old.store name.now row result self.new.store }
         ensures outdates { Outdates self.old name.now (add_outdates result) self.new }
@@ -139,13 +147,13 @@ impl Engine {
         Ok(AddOutcome::Added)
     }
 
-    /// Deletes a row from a relation. Where it isn't there, nothing changes; where it was, cursors over the relation become
-    /// stale. It takes no memory.
+    /// Deletes a row from a relation. Where it isn't there, nothing changes; where it was, cursors
+    /// over the relation become stale. It takes no memory.
     ///
     /// # Errors
     ///
-    /// `NoRelation` where none has the name; `Arity` and `WrongType` where the row doesn't suit its columns; `Limit` where the
-    /// number of changes is at its limit.
+    /// `NoRelation` where none has the name; `Arity` and `WrongType` where the row doesn't suit its
+    /// columns; `Limit` where the number of changes is at its limit.
     pub fn del(&mut self, name: &Name, row: &Row) -> Result<DeleteOutcome, Refusal>
         ensures deletes { DeletesRow self.old.store name.now row.now result self.new.store }
         ensures outdates { Outdates self.old name.now (delete_outdates result) self.new }
@@ -163,15 +171,16 @@ impl Engine {
         Ok(DeleteOutcome::Removed)
     }
 
-    /// Registers a query of one atom over different variables, with a head that names each of them once.
-    /// Tells how many lookups and links one of its answers takes at most.
+    /// Registers a query of one atom over different variables, with a head that names each of them
+    /// once. Tells how many lookups and links one of its answers takes at most.
     ///
     /// # Errors
     ///
-    /// `Taken` where a query has the name; `NoRelation` where the atom's relation isn't there; `Arity` where it has another
-    /// number of columns; `Limit` at [`QUERIES`] queries; `NoMemory` out of memory. Nothing has changed.
+    /// `Taken` where a query has the name; `NoRelation` where the atom's relation isn't there;
+    /// `Arity` where it has another number of columns; `Limit` at [`QUERIES`] queries; `NoMemory`
+    /// out of memory. Nothing has changed.
     pub fn query(&mut self, query: Query) -> Result<u64, Refusal>
-        requires { is_served query ≡ true }
+        requires { is_simple query.head query.atoms ≡ true }
         ensures registers { RegistersQuery self.old.store query result self.new.store }
         ensures cursors { SameCursors self.old.cursors self.new.cursors }
     {
@@ -192,11 +201,13 @@ impl Engine {
         Ok(most)
     }
 
-    /// Drops a query: it is registered no more. The ids of other queries and of their cursors stay. It takes no memory.
+    /// Drops a query: it is registered no more. The ids of other queries and of their cursors stay.
+    /// It takes no memory.
     ///
     /// # Errors
     ///
-    /// `NoQuery` where none has the name; `InUse` where a cursor is over it, stale or not. Nothing has changed.
+    /// `NoQuery` where none has the name; `InUse` where a cursor is over it, stale or not. Nothing
+    /// has changed.
     pub fn drop_query(&mut self, query: &Name) -> Result<(), Refusal>
         ensures { DropGives self.old query.now result self.new }
     {
@@ -233,8 +244,8 @@ impl Engine {
         })
     }
 
-    /// Reads an open cursor: gives a further answer, or says that none is left, or what made it stale. It takes no memory.
-    /// One link is followed, whichever answer it is.
+    /// Reads an open cursor: gives a further answer, or says that none is left, or what made it
+    /// stale. It takes no memory. One link is followed, whichever answer it is.
     pub fn next<L: Ledgers>(&mut self, id: CursorId, listing: &mut Tally<Listing<L>>) -> Next
         requires { IsHeld self.old id }
         ensures { NextGives self.old id result self.new listing.old listing.new }
@@ -259,8 +270,8 @@ impl Engine {
         Next::Given(Answer { at: given })
     }
 
-    /// Whether a further answer is left for a cursor that isn't stale; where none is, it stands at its end. It takes no
-    /// memory, and follows one link.
+    /// Whether a further answer is left for a cursor that isn't stale; where none is, it stands at
+    /// its end. It takes no memory, and follows one link.
     pub fn more<L: Ledgers>(&mut self, id: CursorId, listing: &mut Tally<Listing<L>>) -> bool
         requires held { IsHeld self.old id }
         requires fresh { IsFresh self.old id }
@@ -285,7 +296,8 @@ impl Engine {
     ///
     /// # Errors
     ///
-    /// `NoQuery` where none has the name; `Arity` and `WrongType` where the tuple doesn't suit the query's answers.
+    /// `NoQuery` where none has the name; `Arity` and `WrongType` where the tuple doesn't suit the
+    /// query's answers.
     pub fn has<L: Ledgers>(
         &self,
         query: &Name,
@@ -337,10 +349,13 @@ fn suits(
     order: &Sequence<usize>,
     query: &Query,
 ) -> Result<usize, Refusal>
-    requires served { is_served query.now ≡ true }
+    requires served { is_simple query.now.head query.now.atoms ≡ true }
     requires sound { IsSound tables.now queries.now order.now }
-    ensures ok { IfOk result (λ at. (query_refusal (store_of tables.now queries.now order.now 0) query.now ≡ None) × IsFirst (λ t. bytes_eq t.relation.name (relation_in query.now.atoms)) tables.now at) }
-    ensures err { IfErr result (λ r. query_refusal (store_of tables.now queries.now order.now 0) query.now ≡ Some r) }
+    ensures ok { IfOk result (λ at.
+        (query_refusal (store_of tables.now queries.now order.now 0) query.now ≡ None)
+        × IsFirst (λ t. bytes_eq t.relation.name (relation_in query.now.atoms)) tables.now at) }
+    ensures err { IfErr result (λ r.
+        query_refusal (store_of tables.now queries.now order.now 0) query.now ≡ Some r) }
 {
     if find_query(queries, &query.name).is_some() {
         return Err(Refusal::Taken);
@@ -358,8 +373,8 @@ fn suits(
     Ok(at)
 }
 
-// Puts a query in a vacant place, behind the others in order and behind the readers of its relation; or changes nothing that
-// is seen, out of memory.
+// Puts a query in a vacant place, behind the others in order and behind the readers of its
+// relation; or changes nothing that is seen, out of memory.
 fn register(
     alloc: Global,
     tables: &mut Vec<Table>,
@@ -368,9 +383,10 @@ fn register(
     query: Query,
     relation: usize,
 ) -> Result<(), NoMem>
-    requires served { is_served query ≡ true }
+    requires served { is_simple query.head query.atoms ≡ true }
     requires there { relation < length tables.old.items }
-    ensures ok { OnOk result (Registers tables.old.items queries.old.items order.old query relation tables.new.items queries.new.items order.new) }
+    ensures ok { OnOk result (Registers tables.old.items queries.old.items order.old query relation
+        tables.new.items queries.new.items order.new) }
     ensures tables { OnErr result (tables.new.items ≡ tables.old.items) }
     ensures queries { OnErr result (SamePlaces queries.old.items queries.new.items) }
     ensures order { OnErr result (order.new ≡ order.old) }

@@ -1,6 +1,8 @@
-ghost use Rattle.std.specs.Prelude.{◌≡◌, ◌==◌, [], ◌<◌, true, false, not, All, filter, length, map, IfOk, position};
+ghost use Rattle.std.specs.Prelude.{◌≡◌, ◌==◌, [], ◌<◌, true, false, not, All, filter, length};
+ghost use Rattle.std.specs.Prelude.{map, IfOk, position};
 ghost use Rattle.std.specs.List.{list_all};
-ghost use Rattle.djq_engine.specs.Served.{is_served, is_variable, names_of, place_in, is_term_named};
+ghost use Rattle.djq_lines.specs.Grammar.{is_simple};
+ghost use Rattle.djq_engine.specs.Served.{is_variable, names_of, place_in, is_term_named};
 ghost use Rattle.djq_engine.specs.Answers.{columns_of};
 ghost use Rattle.djq_engine.specs.Tables.{no_query, is_live, is_query, OutdatesReaders, SamePlaces};
 ghost use Rattle.djq_engine.specs.Sound.{AreOnce};
@@ -49,8 +51,14 @@ impl Registered {
     ///
     /// `NoMem` out of memory.
     pub fn new(alloc: Global, query: Query, relation: usize) -> Result<Self, NoMem>
-        requires { is_served query ≡ true }
-        ensures { IfOk result (λ g. g ≡ record { live = true; query = query; relation = relation; columns = columns_of query; cursors = [] }) }
+        requires { is_simple query.head query.atoms ≡ true }
+        ensures { IfOk result (λ g. g ≡ record {
+          live = true;
+          query = query;
+          relation = relation;
+          columns = columns_of query;
+          cursors = [];
+        }) }
     {
         let terms = query.atoms.as_slice()[0].terms.as_slice();
         let columns = head_columns(alloc, query.head.as_slice(), terms)?;

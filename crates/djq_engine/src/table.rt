@@ -43,7 +43,10 @@ fn are_typed(types: &[ColumnType], row: &[Value]) -> bool
 impl Table {
     /// A relation without rows, which no query reads. It takes no memory.
     pub fn new(alloc: Global, name: Name, types: Types) -> Self
-        ensures { result ≡ record { relation = record { name = name; types = types; rows = [] }; readers = [] } }
+        ensures { result ≡ record {
+          relation = record { name = name; types = types; rows = [] };
+          readers = [];
+        } }
     {
         let relation = Relation {
             name,
@@ -70,7 +73,8 @@ impl Table {
     // Whether a row suits the columns.
     fn suits(&self, row: &Row) -> Result<(), Refusal>
         ensures ok { OnOk result (first_of (misfits self.now.relation.types row.now) ≡ None) }
-        ensures err { IfErr result (λ r. first_of (misfits self.now.relation.types row.now) ≡ Some r) }
+        ensures err { IfErr result (λ r. first_of (misfits self.now.relation.types row.now)
+            ≡ Some r) }
     {
         let types = self.relation.types.as_slice();
         if row.len() != types.len() {
@@ -86,8 +90,8 @@ impl Table {
     ///
     /// # Errors
     ///
-    /// `Arity` and `WrongType` where the row doesn't suit the columns; `Limit` at [`ROWS`] rows or the last change;
-    /// `NoMemory` out of memory. The relation is as it was.
+    /// `Arity` and `WrongType` where the row doesn't suit the columns; `Limit` at [`ROWS`] rows or
+    /// the last change; `NoMemory` out of memory. The relation is as it was.
     pub fn add(&mut self, row: Row, seq: u64) -> Result<AddOutcome, Refusal>
         ensures adds { AddsTo self.old.relation row seq result self.new.relation }
         ensures readers { self.new.readers ≡ self.old.readers }
@@ -105,7 +109,8 @@ impl Table {
         }
     }
 
-    /// Deletes a row, after so many changes. Where it isn't there, nothing changes. It takes no memory.
+    /// Deletes a row, after so many changes. Where it isn't there, nothing changes. It takes no
+    /// memory.
     ///
     /// # Errors
     ///

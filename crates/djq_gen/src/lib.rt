@@ -1,9 +1,10 @@
-//! A generated load: the lines of a session that fills two relations and reads their join now and then.
+//! A generated load: the lines of a session that fills two relations and reads their join now and
+//! then.
 //!
-//! A [`Load`] is made from a number of changes and a seed, and gives its lines one after another. Two loads
-//! of the same two numbers are the same lines, on any machine and in any version, so that runs can be
-//! compared. The numbers are drawn by a linear congruential generator with the constants of the C standard's
-//! example. They are no good for anything but filling tables.
+//! A [`Load`] is made from a number of changes and a seed, and gives its lines one after another.
+//! Two loads of the same two numbers are the same lines, on any machine and in any version, so that
+//! runs can be compared. The numbers are drawn by a linear congruential generator with the
+//! constants of the C standard's example. They are no good for anything but filling tables.
 //!
 //! ```text
 //! rel r int int                          add s 1 1
@@ -12,11 +13,11 @@
 //! add r 0 1                              add r 0 1        (5 changes, seed 1)
 //! ```
 //!
-//! The surprise: it ends with its last change, or with the cursor's lines after it. Whoever runs a load
-//! opens the last cursor and reads it to its end.
+//! The surprise: it ends with its last change, or with the cursor's lines after it. Whoever runs a
+//! load opens the last cursor and reads it to its end.
 //!
-//! It takes no memory: a line is written into a buffer of the caller's, with its line end, and a load is
-//! five numbers and what is due next.
+//! It takes no memory: a line is written into a buffer of the caller's, with its line end, and a
+//! load is five numbers and what is due next.
 #![tactic(auto)]
 
 mod draw;

@@ -76,8 +76,8 @@ impl Load {
         }
     }
 
-    /// Writes the next line at the front of a buffer, with its line end, and gives its length: none exactly
-    /// after the last line.
+    /// Writes the next line at the front of a buffer, with its line end, and gives its length: none
+    /// exactly after the last line.
     pub fn line(&mut self, line: &mut [u8; 64]) -> Option<usize>
         ensures given { IfSome result (λ n. (n ≤ 64) × (self.old ≡ take n line.new ∷ self.new)) }
         ensures over { IfNone result ((self.old ≡ []) × (self.new ≡ [])) }

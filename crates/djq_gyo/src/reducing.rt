@@ -20,11 +20,11 @@ pub struct Reduction {
 
 /// Reduces the edges as far as it goes (Graham 1979; Yu and Ozsoyoglu 1979).
 ///
-/// The rest is empty exactly where the edges have a join tree. Then the steps lead from the edges to edges
-/// without a variable; otherwise they lead to the rest, to which no step applies.
+/// The rest is empty exactly where the edges have a join tree. Then the steps lead from the edges
+/// to edges without a variable; otherwise they lead to the rest, to which no step applies.
 ///
-/// With m edges of at most v variables it takes at most mv + m steps, each found by O(m^2) operations on
-/// words. It makes no lists but those of the answer.
+/// With m edges of at most v variables it takes at most mv + m steps, each found by O(m^2)
+/// operations on words. It makes no lists but those of the answer.
 pub fn reduce(alloc: Global, edges: &Edges) -> Result<Reduction, AllocError>
     ensures acyclic { IfOk result (λ r. (r.rest ≡ []) ↔ HasJoinTree edges.now) }
     ensures to_bare { IfOk result (λ r. r.rest ≡ [] → LeadsToBare edges.now r.steps) }

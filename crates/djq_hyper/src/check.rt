@@ -37,12 +37,12 @@ fn link_fits(edges: &[VarSet], before: &[Link], seen: VarSet, link: Link) -> boo
     shared.is_subset(edges[link.parent])
 }
 
-/// Whether the tree is a join tree of the edges: each edge stands once in its order, each but the first
-/// hangs on an earlier one, and for each variable of an edge exactly one edge that has it is the first or
-/// hangs on one without it.
+/// Whether the tree is a join tree of the edges: each edge stands once in its order, each but the
+/// first hangs on an earlier one, and for each variable of an edge exactly one edge that has it is
+/// the first or hangs on one without it.
 ///
-/// Goes once through the links: an edge may share with those before it only what its parent has. With m
-/// edges it takes O(m^2) operations on words and no memory.
+/// Goes once through the links: an edge may share with those before it only what its parent has.
+/// With m edges it takes O(m^2) operations on words and no memory.
 pub fn check_join_tree(edges: &Edges, tree: &JoinTree) -> bool
     ensures { IsTrue result ↔ IsJoinTree edges.now (reverse tree.now) }
 {

@@ -3,7 +3,8 @@ ghost use Rattle.std.specs.Prelude.{◌≡◌, ◌<◌, ◌==◌, ◌++◌, ◌�
 use std::alloc::{AllocError, Global};
 use std::marker::Model;
 
-/// An edge of a join tree, and the edge that it hangs on, both by their positions in the list of edges.
+/// An edge of a join tree, and the edge that it hangs on, both by their positions in the list of
+/// edges.
 #[derive(Clone, Copy, Debug, PartialEq, Eq)]
 pub struct Link {
     /// The edge's position.
@@ -12,7 +13,8 @@ pub struct Link {
     pub parent: usize,
 }
 
-/// A proposed join tree of a list of edges: the edges in an order, with a parent for each but the first.
+/// A proposed join tree of a list of edges: the edges in an order, with a parent for each but the
+/// first.
 ///
 /// Contracts see the list of its links, the root's first.
 #[derive(Debug, Drop)]

@@ -1,17 +1,17 @@
 //! Hypergraphs and their join trees.
 //!
-//! A hypergraph is a list of edges, and an edge a set of at most [`VARIABLES`] variables. Equal edges,
-//! empty edges and no edge at all are fine. A join tree hangs each edge but the first on an earlier one so
-//! that the edges with any one variable hang together (Beeri, Fagin, Maier and Yannakakis 1983).
-//! A hypergraph that has a join tree is called acyclic.
+//! A hypergraph is a list of edges, and an edge a set of at most [`VARIABLES`] variables. Equal
+//! edges, empty edges and no edge at all are fine. A join tree hangs each edge but the first on an
+//! earlier one so that the edges with any one variable hang together (Beeri, Fagin, Maier and
+//! Yannakakis 1983). A hypergraph that has a join tree is called acyclic.
 //!
-//! This crate has the definitions (`specs/`), also of what refuses a query that isn't free-connex, the
-//! types, and [`check_join_tree`], which tells exactly whether a proposed tree is a join tree. It makes no
-//! tree: `djq_gyo` decides whether there is one. The first link's parent is never read, and a list of no
-//! edges has the tree of no links.
+//! This crate has the definitions (`specs/`), also of what refuses a query that isn't free-connex,
+//! the types, and [`check_join_tree`], which tells exactly whether a proposed tree is a join tree.
+//! It makes no tree: `djq_gyo` decides whether there is one. The first link's parent is never read,
+//! and a list of no edges has the tree of no links.
 //!
-//! Inside, a set of variables is one machine word, and contracts see it as the list of its variables in
-//! rising order. Only `var_set` and the lemmas about its words know of bits.
+//! Inside, a set of variables is one machine word, and contracts see it as the list of its
+//! variables in rising order. Only `var_set` and the lemmas about its words know of bits.
 #![tactic(auto)]
 
 mod check;

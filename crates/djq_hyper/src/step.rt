@@ -1,5 +1,5 @@
-/// A step of the reduction of Graham (1979) and of Yu and Ozsoyoglu (1979) on a list of edges. Positions
-/// are those of the list that the step is applied to.
+/// A step of the reduction of Graham (1979) and of Yu and Ozsoyoglu (1979) on a list of edges.
+/// Positions are those of the list that the step is applied to.
 #[derive(Clone, Copy, Debug, PartialEq, Eq)]
 pub enum Step {
     /// Takes a variable that lies in no other edge out of an edge.

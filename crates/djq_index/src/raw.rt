@@ -477,7 +477,7 @@ pub fn clear_in<L: Ledger>(raw: &mut Raw, tally: &mut Tally<L>)
     raw.marked = None;
 }
 
-/// The parts of a table without tuples. It fails only for want of memory.
+/// The parts of a table without tuples. It fails only out of memory.
 pub fn empty_in(alloc: Global, width: usize, key: &[usize]) -> Result<Raw, AllocError>
     requires { AreColumns width key.now }
     ensures raw { IfOk result (λ r. IsRaw r) }

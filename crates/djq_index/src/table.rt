@@ -38,7 +38,7 @@ impl Model for Table {
 #[tactic(auto, using(crate::proofs::Tabling::raw_table))]
 impl Table {
     /// An empty table of tuples of this width, in groups by the cells at these columns. It fails only
-    /// for want of memory.
+    /// out of memory.
     pub fn new(alloc: Global, width: usize, key: &[usize]) -> Result<Table, AllocError>
         requires { AreColumns width key.now }
         ensures { IfOk result (λ t. t ≡ record { width = width; key = key.now; entries = [] }) }

@@ -1,4 +1,7 @@
-//! The limits of the protocol. The most bytes of a name and of a text stand with these types, in djq_model.
+//! The limits of the protocol. The most bytes of a name and of a text stand with these types, in
+//! djq_model.
+
+use djq_value::KEPT;
 
 /// The most bytes of a line, without its LF and one CR before it.
 pub const LINE_BYTES: usize = 4096;
@@ -33,5 +36,6 @@ pub const PENDING_BYTES: usize = 1_048_576;
 /// The bytes of room that are kept for a reply before its command begins.
 pub const REPLY_BYTES: usize = 256;
 
-/// The bytes of room that are kept for a session's last line as long as it goes on.
-pub const LAST_LINE_BYTES: usize = 32;
+/// The bytes of room that are kept for a session's last line as long as it goes on: those that
+/// printing leaves.
+pub const LAST_LINE_BYTES: usize = KEPT;

@@ -3,15 +3,8 @@ use Rattle.std.specs.Prelude.{ℕ, List, ◌≡◌, Bool, true, Option, None, So
 use Rattle.djq_model.specs.declared.relation.Relation.{Relation}
 use Rattle.djq_model.specs.declared.query.Query.{Query}
 use Rattle.djq_model.specs.Data.{Bytes, Tuple, query_of}
-use Rattle.djq_model.specs.Answer.{IsAnswer, AreDifferent}
+use Rattle.djq_model.specs.Answer.{IsAnswer, IsListing, AreDifferent}
 use Rattle.djq_machine.specs.State.{State, Position, open_at, stale}
-use Rattle.djq_machine.specs.Store.{AreAll}
-
--- A listing has each answer once and nothing else.
-pub record IsListing (Answer : Tuple → Type 0) (ts : List Tuple) : Type 0 where
-  pub different : AreDifferent ts
-  pub answers : All Answer ts
-  pub complete : AreAll Answer ts
 
 -- A cursor has given different answers, and once its last answer was `end` all of them.
 pub record Gives (Answer : Tuple → Type 0) (given : List Tuple) (finished : Bool) : Type 0 where

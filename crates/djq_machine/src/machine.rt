@@ -35,7 +35,8 @@ pub enum OpenRefusal {
 
 /// A join machine: whatever keeps a state, and makes steps of the machine by its calls.
 ///
-/// A session is open from [`open_session`](Machine::open_session) until [`close_session`](Machine::close_session).
+/// A session is open from [`open_session`](Machine::open_session) until
+/// [`close_session`](Machine::close_session).
 pub trait Machine {
     ghost use Rattle.std.specs.Prelude.{◌≡◌, ◌<◌, ◌≤◌, ◌⊎◌, true, IsSome, All, length, take};
     ghost use Rattle.djq_machine.specs.State.{State};
@@ -50,7 +51,8 @@ pub trait Machine {
     ///
     /// # Errors
     ///
-    /// `Full` exactly where [`SESSIONS`](djq_lines::limits::SESSIONS) are open; `NoMem` below that, out of memory.
+    /// `Full` exactly where [`SESSIONS`](djq_lines::limits::SESSIONS) are open; `NoMem` below that,
+    /// out of memory.
     fn open_session(&mut self, id: u64) -> Result<(), OpenRefusal>
         requires { All (λ x. x.id < id) (state self.old).sessions }
         ensures { OpenGives (state self.old) id result (state self.new) };
@@ -78,7 +80,8 @@ pub trait Machine {
         requires pending { count ≤ length (pending_of (state self.old) id) }
         ensures { Makes (state self.old) (took id (take count (pending_of (state self.old) id))) (state self.new) };
 
-    /// The input of an open session has ended. It holds no line that could be run, or had ended before.
+    /// The input of an open session has ended. It holds no line that could be run, or had ended
+    /// before.
     fn end_session(&mut self, id: u64)
         requires open { IsOpen (state self.old) id }
         requires dry { IsSome (cause_of (state self.old) id) ⊎ (is_dry (held_of (state self.old) id) ≡ true) }

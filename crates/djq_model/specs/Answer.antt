@@ -42,7 +42,7 @@ abbrev pub AreDifferent : List Tuple → Type 0
 AreDifferent ts = AllPairs (λ s t. s ≡ t → ⊥) ts
 
 -- A listing has each answer once and nothing else.
-pub record IsListing (relations : List Relation) (q : Query) (ts : List Tuple) : Type 0 where
+pub record IsListing (Answer : Tuple → Type 0) (ts : List Tuple) : Type 0 where
   pub different : AreDifferent ts
-  pub answers : All (IsAnswer relations q) ts
-  pub complete : (t : Tuple) → IsAnswer relations q t → Contains ts t
+  pub answers : All Answer ts
+  pub complete : (t : Tuple) → Answer t → Contains ts t

@@ -6,11 +6,12 @@ ghost use Rattle.djq_tree.specs.Choosing.{choose, choose_equal, choose_inside, c
 use djq_hyper::{VarSet, own_variables};
 use djq_tree::Choice;
 
-/// The step that the rule names for the current labels, where the variables of `keep` may not be removed.
+/// The step that the rule names for the current labels, where the variables of `keep` may not be
+/// removed.
 ///
-/// The lowest node with a variable that lies in no other label and may be removed is trimmed of all such
-/// variables. Failing that, the lowest two nodes with equal labels meet; failing that, the lowest node
-/// whose label lies properly within another one meets the lowest such node.
+/// The lowest node with a variable that lies in no other label and may be removed is trimmed of all
+/// such variables. Failing that, the lowest two nodes with equal labels meet; failing that, the
+/// lowest node whose label lies properly within another one meets the lowest such node.
 pub(crate) fn choose_step(labels: &[VarSet], keep: VarSet) -> Choice
     ensures { result ≡ choose keep labels.now }
 {

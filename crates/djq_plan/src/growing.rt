@@ -110,8 +110,8 @@ impl Growing {
         }
     }
 
-    /// The first stage: steps that remove no variable of the head, until no others are left. Whether it
-    /// came to its end.
+    /// The first stage: steps that remove no variable of the head, until no others are left.
+    /// Whether it came to its end.
     pub(crate) fn run_first(&mut self, head: VarSet) -> Result<bool, AllocError>
         ensures { IfOk result (λ b. IsStageEnd (are_within head) head self.old self.new b) }
     {
@@ -123,8 +123,8 @@ impl Growing {
         Ok(true)
     }
 
-    /// The second stage: steps that may remove any variable, until one node without any is left. Whether it
-    /// came to its end.
+    /// The second stage: steps that may remove any variable, until one node without any is left.
+    /// Whether it came to its end.
     fn run_second(&mut self) -> Result<bool, AllocError>
         ensures { IfOk result (λ b. IsStageEnd is_root [] self.old self.new b) }
     {
@@ -136,8 +136,8 @@ impl Growing {
         Ok(true)
     }
 
-    /// Runs the second stage and says, where it comes to its end, which nodes are in `out`: those that were
-    /// current as it began, and all later ones.
+    /// Runs the second stage and says, where it comes to its end, which nodes are in `out`: those
+    /// that were current as it began, and all later ones.
     pub(crate) fn grow_out(&mut self, alloc: Global) -> Result<Option<Vec<bool>>, AllocError>
         ensures { IfOk result (λ out. MatchOption out (IsStuckAt is_root [] self.old self.new) (λ out. GrowsOut self.old self.new out.items)) }
     {
@@ -160,8 +160,8 @@ impl Growing {
         Ok(marks)
     }
 
-    /// The tree of the nodes, with the marks of `out`, the head's variables, the number of leaves, and the
-    /// number with which the second stage began.
+    /// The tree of the nodes, with the marks of `out`, the head's variables, the number of leaves,
+    /// and the number with which the second stage began.
     pub(crate) fn finish(
         self,
         out: Vec<bool>,

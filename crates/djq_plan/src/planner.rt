@@ -10,20 +10,21 @@ use djq_hyper::{Edges, VarSet};
 use djq_tree::Tree;
 use std::alloc::{AllocError, Global};
 
-/// The tree over which the answers of a query are kept and listed: that of the query with these edges, the
-/// sets of its atoms' variables, and this head.
+/// The tree over which the answers of a query are kept and listed: that of the query with these
+/// edges, the sets of its atoms' variables, and this head.
 ///
-/// It is `Ok` exactly where the query is free-connex (Bagan, Durand and Grandjean 2007), `Cyclic` exactly
-/// where the edges have no join tree, and `NotConnex` exactly where they have one, but the head's edge
-/// followed by them has none whose root is the head; these three exclude each other. Any of them may be
-/// replaced by `NoMem`.
+/// It is `Ok` exactly where the query is free-connex (Bagan, Durand and Grandjean 2007), `Cyclic`
+/// exactly where the edges have no join tree, and `NotConnex` exactly where they have one, but the
+/// head's edge followed by them has none whose root is the head; these three exclude each other.
+/// Any of them may be replaced by `NoMem`.
 ///
-/// The tree is the one that the choice rule of `djq_tree` names, step by step. Its labels in `out` have the
-/// head's variables and no others. With m edges, v variables and h head variables it has 2m - 1 nodes that
-/// aren't trims and at most v trims, of which at most h are of the second stage.
+/// The tree is the one that the choice rule of `djq_tree` names, step by step. Its labels in `out`
+/// have the head's variables and no others. With m edges, v variables and h head variables it has
+/// 2m - 1 nodes that aren't trims and at most v trims, of which at most h are of the second stage.
 ///
-/// Each of the at most 2m + v steps is found by O(m^2) operations on words; nothing is ever taken back.
-/// Beside the tree, the numbers and labels of the at most m current nodes take memory while it grows.
+/// Each of the at most 2m + v steps is found by O(m^2) operations on words; nothing is ever taken
+/// back. Beside the tree, the numbers and labels of the at most m current nodes take memory while
+/// it grows.
 pub fn plan(alloc: Global, edges: &Edges, head: &VarSet) -> Result<Tree, PlanRefusal>
     requires some { 0 < length edges.now }
     requires head { AreCovered head.now edges.now }

@@ -14,8 +14,8 @@ pub enum PlanRefusal {
     /// The edges have no join tree. A rest of their reduction shows it.
     #[error("the edges have no join tree")]
     Cyclic(Edges),
-    /// The edges have a join tree, but with the head's edge in front of them none whose root it is. A rest
-    /// of the reduction of these shows it.
+    /// The edges have a join tree, but with the head's edge in front of them none whose root it is.
+    /// A rest of the reduction of these shows it.
     #[error("the edges have no join tree rooted at the head")]
     NotConnex(Edges),
     /// Memory ran out.

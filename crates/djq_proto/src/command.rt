@@ -19,9 +19,9 @@ use std::str;
 ///
 /// # Errors
 ///
-/// `Syntax` exactly where the line is outside the grammar. Else `Later` exactly where its command isn't
-/// served, else `Range` exactly where a literal is past its limit. `NoMem` only for a line that is in
-/// range and holds types, literals or a query.
+/// `Syntax` exactly where the line is outside the grammar. Else `Later` exactly where its command
+/// isn't served, else `Range` exactly where a literal is past its limit. `NoMem` only for a line
+/// that is in range and holds types, literals or a query.
 pub fn read_command(alloc: Global, line: &[u8]) -> Result<Command, LineRefusal>
     ensures { Reads line.now result }
 {

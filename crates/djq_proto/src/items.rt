@@ -1,7 +1,7 @@
 // Lists of items: to the line's end, or in parentheses.
 //
-// Out of memory, or behind an item that isn't served or isn't in range, the line is read on, since an item
-// that is outside the grammar comes first in the order of refusals.
+// Out of memory, or behind an item that isn't served or isn't in range, the line is read on, since
+// an item that is outside the grammar comes first in the order of refusals.
 ghost use Rattle.std.specs.Prelude.{◌≡◌, ◌∷◌, ◌++◌, [], Bool, List, Some};
 ghost use Rattle.std.specs.List.{list_all};
 ghost use Rattle.djq_lines.specs.Grammar.{all_of, list_in, more_in, put_first};
@@ -64,7 +64,8 @@ pub(crate) fn read_list<T: Item>(
     alloc: Global,
     lexer: &mut Lexer<'_>,
 ) -> Result<Sequence<T>, LineRefusal>
-    ensures { ReadsPart (list_all T.served) (list_all T.in_range) (list_in T.of lexer.old) result lexer.new }
+    ensures { ReadsPart (list_all T.served) (list_all T.in_range)
+        (list_in T.of lexer.old) result lexer.new }
 {
     let Some(Token::Open) = lexer.next() else {
         return Err(LineRefusal::Syntax);

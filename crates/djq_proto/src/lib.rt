@@ -1,8 +1,8 @@
 //! From a session's bytes to lines, and from a line to a command.
 //!
-//! `Splitter` finds the line in front of the bytes that a session holds, and `read_command` gives the
-//! command that a line says. Nothing here keeps state between lines, and only what a command holds
-//! (types, a row, a query) takes memory.
+//! `Splitter` finds the line in front of the bytes that a session holds, and `read_command` gives
+//! the command that a line says. Nothing here keeps state between lines, and only what a command
+//! holds (types, a row, a query) takes memory.
 //!
 //! ```text
 //! add edge 1 -20   ->  Command::Add { name: "edge", row: [1, -20] }

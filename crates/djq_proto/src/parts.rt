@@ -3,7 +3,8 @@ ghost use Rattle.std.specs.Prelude.{◌≡◌, Err, Ok};
 ghost use Rattle.std.specs.List.{list_all};
 ghost use Rattle.std.specs.Option.{ok_or};
 ghost use Rattle.djq_value.specs.Literal.{natural_of};
-ghost use Rattle.djq_lines.specs.Grammar.{count_of, name_and_count, named_any, named_some, nothing, one_name, two_names};
+ghost use Rattle.djq_lines.specs.Grammar.{count_of, name_and_count, named_any, named_some, nothing};
+ghost use Rattle.djq_lines.specs.Grammar.{one_name, two_names};
 ghost use Rattle.djq_proto.specs.Reading.{ReadsAs};
 ghost use Rattle.djq_proto.specs.declared.refusal.LineRefusal.TheVariants.{Syntax};
 
@@ -21,7 +22,8 @@ pub(crate) fn read_named_some<T: Item>(
     alloc: Global,
     lexer: &mut Lexer<'_>,
 ) -> Result<(Name, Sequence<T>), LineRefusal>
-    ensures { ReadsAs (λ p. list_all T.served p.1) (λ p. list_all T.in_range p.1) (named_some T.of lexer.old) result }
+    ensures { ReadsAs (λ p. list_all T.served p.1) (λ p. list_all T.in_range p.1)
+        (named_some T.of lexer.old) result }
 {
     let Some(name) = next_name(lexer) else {
         return Err(LineRefusal::Syntax);
@@ -38,7 +40,8 @@ pub(crate) fn read_named_any<T: Item>(
     alloc: Global,
     lexer: &mut Lexer<'_>,
 ) -> Result<(Name, Sequence<T>), LineRefusal>
-    ensures { ReadsAs (λ p. list_all T.served p.1) (λ p. list_all T.in_range p.1) (named_any T.of lexer.old) result }
+    ensures { ReadsAs (λ p. list_all T.served p.1) (λ p. list_all T.in_range p.1)
+        (named_any T.of lexer.old) result }
 {
     let Some(name) = next_name(lexer) else {
         return Err(LineRefusal::Syntax);

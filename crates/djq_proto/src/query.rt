@@ -3,7 +3,8 @@ ghost use Rattle.std.specs.Prelude.{◌≡◌, true};
 ghost use Rattle.std.specs.List.{list_all};
 ghost use Rattle.djq_lines.specs.Grammar.{atom_in, atoms_in, body_in, is_small_atom, query_in};
 ghost use Rattle.djq_value.specs.Lexing.{lexeme_of};
-ghost use Rattle.djq_proto.specs.Reading.{ReadsAs, ReadsPart, is_comma as is_comma_of, is_simple_query, is_small_query};
+ghost use Rattle.djq_proto.specs.Reading.{ReadsAs, ReadsPart, is_comma as is_comma_of};
+ghost use Rattle.djq_proto.specs.Reading.{is_simple_query, is_small_query};
 
 use crate::items::{added, is_outside, read_list};
 use crate::refusal::LineRefusal;

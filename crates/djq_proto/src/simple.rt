@@ -1,9 +1,10 @@
-// Which queries are served yet: those of one atom of different variables, each of which the head names
-// once. The names stay where they stand in the line, so that the test takes no memory: whether a line is
-// served comes before out of memory.
+// Which queries are served yet: those of one atom of different variables, each of which the head
+// names once. The names stay where they stand in the line, so that the test takes no memory:
+// whether a line is served comes before out of memory.
 ghost use Rattle.std.specs.Prelude.{◌≡◌, ◌==◌, length};
 ghost use Rattle.std.specs.List.{list_all};
-ghost use Rattle.djq_value.specs.Literal.{are_different as are_different_of, has_name as has_name_of, is_reordered as is_reordered_of};
+ghost use Rattle.djq_value.specs.Literal.{are_different as are_different_of};
+ghost use Rattle.djq_value.specs.Literal.{has_name as has_name_of, is_reordered as is_reordered_of};
 ghost use Rattle.djq_lines.specs.Grammar.{body_in, query_in};
 ghost use Rattle.djq_proto.specs.NameLists.{PassesList, PassesNames, TakesFirst, TakesList};
 ghost use Rattle.djq_proto.specs.Reading.{IfSimple, IfSimpleBody};
@@ -25,8 +26,8 @@ pub(crate) fn is_simple(text: &Lexer<'_>) -> bool
     is_simple_body(&head, &mut text)
 }
 
-// Whether the body that stands to the line's end is one atom of different variables, each of which this
-// head names once.
+// Whether the body that stands to the line's end is one atom of different variables, each of which
+// this head names once.
 fn is_simple_body(head: &NameList<'_>, lexer: &mut Lexer<'_>) -> bool
     ensures { IfSimpleBody head.now (body_in lexer.old) result }
 {

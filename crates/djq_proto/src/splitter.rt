@@ -1,5 +1,6 @@
 ghost use Rattle.std.specs.Prelude.{◌≡◌, ◌≤◌, length, take};
-ghost use Rattle.djq_lines.specs.Line.{is_blank as is_blank_line, is_long as is_long_line, without_cr};
+ghost use Rattle.djq_lines.specs.Line.{is_blank as is_blank_line, is_long as is_long_line};
+ghost use Rattle.djq_lines.specs.Line.{without_cr};
 ghost use Rattle.djq_proto.specs.Splitting.{IsFront, IsFirstLf};
 
 use djq_lines::limits::LINE_BYTES;

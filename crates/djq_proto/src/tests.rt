@@ -26,8 +26,8 @@ fn letter(alloc: Global, line: &[u8]) -> char {
     }
 }
 
-// Lines and what they say: a letter for each command that is served, S for none of the grammar, L for one
-// that isn't served, R for a literal past its limit.
+// Lines and what they say: a letter for each command that is served, S for none of the grammar, L
+// for one that isn't served, R for a literal past its limit.
 const LINES: [(&[u8], char); 105] = [
     (b"rel r int", 'r'),
     (b"  rel  r_1 int   int ", 'r'),

@@ -35,7 +35,7 @@ impl Model for Reducts {
 }
 
 impl Reducts {
-    /// The reducts of a tree whose leaves have no tuple yet. It fails only for want of memory.
+    /// The reducts of a tree whose leaves have no tuple yet. It fails only out of memory.
     pub fn new(alloc: Global, tree: Tree) -> Result<Reducts, AllocError>
         requires { IsNarrow tree }
         ensures tree { IfOk result (λ r. r.tree ≡ tree) }

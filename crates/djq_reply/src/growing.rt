@@ -1,9 +1,11 @@
 // The lines of listings and changes, which are of any length.
 //
-// A line is printed piece by piece. Out of memory its pieces are taken back, once for the whole line.
+// A line is printed piece by piece. Out of memory its pieces are taken back, once for the whole
+// line.
 ghost use Rattle.std.specs.Prelude.{◌≡◌, ◌<◌, ◌≤◌, ◌∷◌, All, length};
 ghost use Rattle.djq_model.specs.Data.{cells_at};
-ghost use Rattle.djq_lines.specs.Reply.{answer_line, at_line, cells_text, change_line, last_line, sign_text as sign_text_of};
+ghost use Rattle.djq_lines.specs.Reply.{answer_line, at_line, cells_text, change_line, last_line};
+ghost use Rattle.djq_lines.specs.Reply.{sign_text as sign_text_of};
 ghost use Rattle.djq_reply.specs.Adding.{Adds};
 ghost use Rattle.djq_value.specs.Output.{Puts};
 ghost use Rattle.djq_value.specs.ValueText.{value_text};
@@ -103,8 +105,8 @@ fn sign_text(sign: Sign) -> &'static [u8]
     }
 }
 
-/// Appends the line behind the answers that came or went with a change: the query, and the number of
-/// the change.
+/// Appends the line behind the answers that came or went with a change: the query, and the number
+/// of the change.
 ///
 /// # Errors
 ///

@@ -1,11 +1,11 @@
 //! Every reply and end line of the protocol, as bytes that are queued for a session.
 //!
-//! A short reply goes into room that was kept before its command began: it takes no memory and leaves
-//! room for the session's last line. The lines of a listing and of a change are of any length: each is
-//! appended whole, or out of memory not at all.
+//! A short reply goes into room that was kept before its command began: it takes no memory and
+//! leaves room for the session's last line. The lines of a listing and of a change are of any
+//! length: each is appended whole, or out of memory not at all.
 //!
-//! `specs/Reply.antt` of djq_lines says what the bytes of each reply are. Nothing here decides which
-//! reply a command gets.
+//! `specs/Reply.antt` of djq_lines says what the bytes of each reply are. Nothing here decides
+//! which reply a command gets.
 #![tactic(auto)]
 
 pub use ending::{end_bytes, say_cut, say_end};

@@ -1,6 +1,8 @@
 // Replies of at most 256 bytes, in room that was kept.
 ghost use Rattle.std.specs.Prelude.{◌≡◌, ◌+◌, ◌≤◌, codes, length};
-ghost use Rattle.djq_lines.specs.Reply.{add_reply, bye, delete_reply, has_reply, line, numbered, ok_reply, query_reply, refusal_line, stale_line, watch_reply};
+ghost use Rattle.djq_lines.specs.Reply.{add_reply, bye, delete_reply, has_reply, line, numbered};
+ghost use Rattle.djq_lines.specs.Reply.{ok_reply, query_reply, refusal_line, stale_line};
+ghost use Rattle.djq_lines.specs.Reply.{watch_reply};
 ghost use Rattle.djq_lines.specs.declared.limits.TheConstants.{LAST_LINE_BYTES, REPLY_BYTES};
 ghost use Rattle.djq_value.specs.Output.{Says};
 
@@ -128,7 +130,8 @@ pub fn say_watched(out: &mut BytesMut, outcome: Result<(), Refusal>, seq: u64)
     }
 }
 
-/// Answers `next` on a stale cursor, by its name, the relation that changed and the number of the change.
+/// Answers `next` on a stale cursor, by its name, the relation that changed and the number of the
+/// change.
 pub fn say_stale(out: &mut BytesMut, cursor: &Name, relation: &Name, seq: u64)
     requires room { REPLY_BYTES + LAST_LINE_BYTES ≤ out.old.spare }
     ensures kept { LAST_LINE_BYTES ≤ out.new.spare }

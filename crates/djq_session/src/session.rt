@@ -19,8 +19,8 @@ mod watches;
 // A buffer above this size that is empty is given back.
 const IDLE_BYTES: usize = 16_384;
 
-/// What is kept of a session. `C` is kept for each of its cursors, and `Q` names a query that it watches.
-/// Contracts see a record, `Dialog`.
+/// What is kept of a session. `C` is kept for each of its cursors, and `Q` names a query that it
+/// watches. Contracts see a record, `Dialog`.
 #[derive(Drop)]
 pub struct Session<C, Q> {
     input: BytesMut,

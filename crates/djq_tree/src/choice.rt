@@ -1,6 +1,7 @@
 use djq_hyper::VarSet;
 
-/// What the planner's choice rule names as the next step, by places in the list of the current nodes.
+/// What the planner's choice rule names as the next step, by places in the list of the current
+/// nodes.
 #[derive(Clone, Copy, Debug, PartialEq, Eq)]
 pub enum Choice {
     /// A node loses variables that lie in no other current one.

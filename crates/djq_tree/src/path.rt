@@ -7,8 +7,8 @@ use std::marker::Model;
 
 /// The nodes of a path to the root, from where it stands: an iterator that takes no memory.
 ///
-/// Contracts see the list of the nodes that are still to come. The next one is found by going on through
-/// the nodes from the last one, so that a whole path looks at each node once.
+/// Contracts see the list of the nodes that are still to come. The next one is found by going on
+/// through the nodes from the last one, so that a whole path looks at each node once.
 #[derive(Debug, Drop)]
 pub struct Path<'a> {
     nodes: &'a [Node],

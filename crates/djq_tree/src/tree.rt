@@ -23,10 +23,12 @@ use djq_hyper::{Names, VarSet};
 use std::alloc::{AllocError, Global};
 use std::marker::Model;
 
-/// A generalised join tree of a query: how its atoms' tuples are projected and matched, step by step.
+/// A generalised join tree of a query: how its atoms' tuples are projected and matched, step by
+/// step.
 ///
-/// The leaves are the atoms. An inner node is a trim of one node or a meet of two, and each node but the
-/// root is a child of exactly one. The part `out` is where the query's answers are read off.
+/// The leaves are the atoms. An inner node is a trim of one node or a meet of two, and each node
+/// but the root is a child of exactly one. The part `out` is where the query's answers are read
+/// off.
 #[derive(Debug, Drop)]
 pub struct Tree {
     nodes: Vec<Node>,
@@ -48,8 +50,8 @@ impl Model for Tree {
 }
 
 impl Tree {
-    /// The tree with these nodes, labels, marks of `out` and head variables, of which the first `leaves`
-    /// are leaves, and whose second stage begins with the number `second_stage`.
+    /// The tree with these nodes, labels, marks of `out` and head variables, of which the first
+    /// `leaves` are leaves, and whose second stage begins with the number `second_stage`.
     pub fn new(
         nodes: Vec<Node>,
         labels: Vec<VarSet>,
@@ -142,8 +144,8 @@ impl Tree {
         Path::new(&self.nodes, leaf)
     }
 
-    /// The lowest node in `out` on the path from a leaf, which may be the leaf. The nodes below it on the
-    /// path aren't in `out`, and those from it on are.
+    /// The lowest node in `out` on the path from a leaf, which may be the leaf. The nodes below it
+    /// on the path aren't in `out`, and those from it on are.
     pub fn frontier(&self, leaf: usize) -> usize
         requires { leaf < self.now.leaves }
         ensures lowest { IsFrontier self.now leaf result }
@@ -156,8 +158,8 @@ impl Tree {
         node
     }
 
-    /// The variables of a node's group key: those by which its tuples are looked up together. Under a trim
-    /// they are the trim's, as a guard the side's, as a side or the root the node's own.
+    /// The variables of a node's group key: those by which its tuples are looked up together. Under
+    /// a trim they are the trim's, as a guard the side's, as a side or the root the node's own.
     pub fn key(&self, at: usize) -> VarSet
         requires { at < length self.now.nodes }
         ensures key { result ≡ key_of self.now at }
@@ -181,9 +183,9 @@ impl Tree {
         let _nodes = &self.nodes;
     }
 
-    /// The lines that explain the tree, one for each node in order of number: what the node is, its label,
-    /// and whether it is in `out`. `atoms` has the leaves' relation names, and `variables` a name for each
-    /// variable of a leaf.
+    /// The lines that explain the tree, one for each node in order of number: what the node is, its
+    /// label, and whether it is in `out`. `atoms` has the leaves' relation names, and `variables` a
+    /// name for each variable of a leaf.
     ///
     /// ```text
     /// n 0 leaf r x,y

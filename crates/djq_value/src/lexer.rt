@@ -1,6 +1,9 @@
-ghost use Rattle.std.specs.Prelude.{◌≡◌, ◌↔◌, [], false, IsTrue, ◌<◌, ◌≤◌, Some, drop, length, take};
+ghost use Rattle.std.specs.Prelude.{◌≡◌, ◌↔◌, [], false, IsTrue, ◌<◌, ◌≤◌, Some, drop, length};
+ghost use Rattle.std.specs.Prelude.{take};
 ghost use Rattle.std.specs.Option.{option_copied};
-ghost use Rattle.djq_value.specs.Token.{arrow_front, behind_spaces, behind_word, ends_word as ends_word_of, may_end as may_end_of, text_front, text_in, token_front, tokens, word_front};
+ghost use Rattle.djq_value.specs.Token.{arrow_front, behind_spaces, behind_word};
+ghost use Rattle.djq_value.specs.Token.{ends_word as ends_word_of, may_end as may_end_of};
+ghost use Rattle.djq_value.specs.Token.{text_front, text_in, token_front, tokens, word_front};
 ghost use Rattle.djq_value.specs.Lexing.{Takes, lexeme_of, word_of};
 
 use crate::quoted::{Quoted, text_end};

@@ -14,8 +14,8 @@ pub(crate) enum Number {
     Small(i64),
 }
 
-// The number that digits denote, or the greatest of 64 bits where it is above that; none where there is
-// another byte, or none at all.
+// The number that digits denote, or the greatest of 64 bits where it is above that; none where
+// there is another byte, or none at all.
 pub fn read_natural(digits: &[u8]) -> Option<u64>
     ensures { result ≡ option_map capped (natural_of digits.now) }
 {

@@ -2,7 +2,8 @@ ghost use Rattle.std.specs.Prelude.{◌≡◌, ◌*◌, ◌≤◌, count_by, len
 ghost use Rattle.std.specs.List.{flat_map};
 ghost use Rattle.djq_model.specs.declared.value.TheConstants.{TEXT_BYTES};
 ghost use Rattle.djq_value.specs.Output.{Puts, Says};
-ghost use Rattle.djq_value.specs.ValueText.{escaped, is_escaped as is_escaped_of, quoted, value_text};
+ghost use Rattle.djq_value.specs.ValueText.{escaped, is_escaped as is_escaped_of, quoted};
+ghost use Rattle.djq_value.specs.ValueText.{value_text};
 
 use crate::output::{KEPT, put};
 use bytes::BytesMut;

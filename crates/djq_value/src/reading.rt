@@ -32,12 +32,13 @@ pub enum ValueRefusal {
     NoMem,
 }
 
-/// The value that a literal in front of bytes is, and how many bytes it takes with the spaces before it.
+/// The value that a literal in front of bytes is, and how many bytes it takes with the spaces
+/// before it.
 ///
 /// # Errors
 ///
-/// `Syntax` exactly where no literal stands there, `IntRange` and `TextLong` exactly where one past its
-/// limit does.
+/// `Syntax` exactly where no literal stands there, `IntRange` and `TextLong` exactly where one past
+/// its limit does.
 pub fn read_value(alloc: Global, bytes: &[u8]) -> Result<(Value, usize), ValueRefusal>
     ensures { ReadsValue bytes.now result }
 {

@@ -68,7 +68,8 @@ fn close(core: &mut Core, id: u64) {
     }
 }
 
-// Two sessions have cursors of the same name; a change outdates both, and the end of one leaves the other's alone.
+// Two sessions have cursors of the same name; a change outdates both, and the end of one leaves the
+// other's alone.
 fn shares_an_engine<L: Ledgers>(rt: &HostRuntime, blanks: Blanks) -> Result<bool, NoMem>
     requires listing { blanks.listing.name ≡ L.listing }
     requires update { blanks.update.name ≡ L.update }
@@ -106,8 +107,8 @@ fn two_sessions_share_an_engine(rt: HostRuntime) -> Result<(), NoMem> {
     Ok(())
 }
 
-// A query that two sessions have cursors over is dropped once neither has, and its name is free; `has` finds an answer of the
-// query beside it, in the order of its head, and none that isn't there.
+// A query that two sessions have cursors over is dropped once neither has, and its name is free;
+// `has` finds an answer of the query beside it, in the order of its head, and none that isn't there.
 fn drops_and_has<L: Ledgers>(rt: &HostRuntime, blanks: Blanks) -> Result<bool, NoMem>
     requires listing { blanks.listing.name ≡ L.listing }
     requires update { blanks.update.name ≡ L.update }
@@ -166,7 +167,8 @@ fn a_query_in_use_stays(rt: HostRuntime) -> Result<(), NoMem> {
     Ok(())
 }
 
-// As many sessions as may be open are, and one more isn't until one is closed; `stop` is served, and no line behind it.
+// As many sessions as may be open are, and one more isn't until one is closed; `stop` is served,
+// and no line behind it.
 fn serves_many<L: Ledgers>(rt: &HostRuntime, blanks: Blanks) -> Result<bool, NoMem>
     requires listing { blanks.listing.name ≡ L.listing }
     requires update { blanks.update.name ≡ L.update }
@@ -210,7 +212,8 @@ fn add_thousand<L: Ledgers>(core: &mut Core, steps: &mut Steps<L>) {
     }
 }
 
-// A listing far above the bytes that are kept for a reply is told whole, while another session stops in its midst.
+// A listing far above the bytes that are kept for a reply is told whole, while another session
+// stops in its midst.
 fn lists_whole<L: Ledgers>(rt: &HostRuntime, blanks: Blanks) -> Result<bool, NoMem>
     requires listing { blanks.listing.name ≡ L.listing }
     requires update { blanks.update.name ≡ L.update }

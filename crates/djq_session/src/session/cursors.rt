@@ -1,4 +1,5 @@
-ghost use Rattle.std.specs.Prelude.{◌≡◌, ◌∷◌, ◌++◌, ◌<◌, [], length, None, option_map, position, OnOk, OnErr};
+ghost use Rattle.std.specs.Prelude.{◌≡◌, ◌∷◌, ◌++◌, ◌<◌, [], length, None, option_map, position};
+ghost use Rattle.std.specs.Prelude.{OnOk, OnErr};
 ghost use Rattle.djq_model.specs.Data.{drop_first};
 ghost use Rattle.djq_lines.specs.declared.limits.TheConstants.{CURSORS};
 ghost use Rattle.djq_session.specs.Dialog.{named, is_named, PopsCursor};
@@ -40,7 +41,8 @@ impl<C: Copy, Q: Copy + Eq> Session<C, Q> {
     pub fn add_cursor(&mut self, name: &Name, cursor: C) -> Result<(), NoMem>
         requires absent { named self.old.cursors name.now ≡ None }
         requires few { length self.old.cursors < CURSORS }
-        ensures there { OnOk result (self.new ≡ record self.old { cursors = self.old.cursors ++ record { name = name.now; cursor = cursor } ∷ [] }) }
+        ensures there { OnOk result (self.new ≡ record self.old
+            { cursors = self.old.cursors ++ record { name = name.now; cursor = cursor } ∷ [] }) }
         ensures stays { OnErr result (self.new ≡ self.old) }
     {
         self.cursors.push(NamedCursor {
@@ -52,14 +54,18 @@ impl<C: Copy, Q: Copy + Eq> Session<C, Q> {
 
     /// The cursor of a name is gone, where there is one.
     pub fn drop_cursor(&mut self, name: &Name)
-        ensures { self.new ≡ record self.old { cursors = drop_first (is_named name.now) self.old.cursors } }
+        ensures { self.new ≡ record self.old {
+          cursors = drop_first
+              (is_named name.now) self.old.cursors;
+        } }
     {
         if let Some(at) = place_of(self.cursors.as_slice(), name) {
             let _gone = self.cursors.remove(at);
         }
     }
 
-    /// The cursor that was opened last is gone, and what is kept for it is given back. `None` exactly where none is left.
+    /// The cursor that was opened last is gone, and what is kept for it is given back. `None`
+    /// exactly where none is left.
     pub fn pop_cursor(&mut self) -> Option<C>
         ensures { PopsCursor self.old self.new result }
     {

@@ -13,7 +13,8 @@ impl<C: Copy, Q: Copy + Eq> Session<C, Q> {
     ///
     /// `NoMem` out of memory; all is as before.
     pub fn feed(&mut self, piece: &[u8]) -> Result<(), NoMem>
-        ensures held { OnOk result (self.new ≡ record self.old { held = self.old.held ++ piece.now }) }
+        ensures held { OnOk result (self.new ≡ record self.old
+            { held = self.old.held ++ piece.now }) }
         ensures stays { OnErr result (self.new ≡ self.old) }
     {
         self.input.extend_from_slice(piece)?;
@@ -27,7 +28,8 @@ impl<C: Copy, Q: Copy + Eq> Session<C, Q> {
         self.input.as_slice()
     }
 
-    /// What stands in front of the bytes that are held. It looks at no more of them than a line may have.
+    /// What stands in front of the bytes that are held. It looks at no more of them than a line may
+    /// have.
     pub fn front(&self) -> Front
         ensures { IsFront self.now.held result }
     {

@@ -45,7 +45,11 @@ impl<C: Copy, Q: Copy + Eq> Session<C, Q> {
     /// The first bytes that are pending are taken.
     pub fn took(&mut self, count: usize)
         requires { count ≤ length self.old.pending }
-        ensures { self.new ≡ record self.old { pending = drop count self.old.pending; room = self.new.room } }
+        ensures { self.new ≡ record self.old {
+          pending = drop count self.old.pending;
+          room =
+              self.new.room;
+        } }
     {
         self.output.advance(count);
         if self.output.is_empty() && self.output.capacity() > IDLE_BYTES {

@@ -1,7 +1,8 @@
 // What a session is answered. Short replies stand in the room that `keep` made before the command.
 ghost use Rattle.std.specs.Prelude.{◌+◌, ◌≤◌, ◌<◌, All, codes, length};
 ghost use Rattle.djq_model.specs.Data.{cells_at};
-ghost use Rattle.djq_lines.specs.Reply.{add_reply, answer_line, delete_reply, has_reply, last_line, ok_reply, query_reply, refusal_line, stale_line};
+ghost use Rattle.djq_lines.specs.Reply.{add_reply, answer_line, delete_reply, has_reply, last_line};
+ghost use Rattle.djq_lines.specs.Reply.{ok_reply, query_reply, refusal_line, stale_line};
 ghost use Rattle.djq_lines.specs.declared.limits.TheConstants.{LAST_LINE_BYTES, REPLY_BYTES};
 ghost use Rattle.djq_session.specs.Dialog.{MayQueue, Replies};
 
@@ -70,7 +71,8 @@ impl<C: Copy, Q: Copy + Eq> Session<C, Q> {
         say_has(&mut self.output, outcome);
     }
 
-    /// `next` is answered on a stale cursor, by the relation that changed and the number of the change.
+    /// `next` is answered on a stale cursor, by the relation that changed and the number of the
+    /// change.
     pub fn answer_stale(&mut self, cursor: &Name, relation: &Name, seq: u64)
         requires { REPLY_BYTES + LAST_LINE_BYTES ≤ self.old.room }
         ensures { Replies self.old self.new (stale_line cursor.now relation.now seq) }

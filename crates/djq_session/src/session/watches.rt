@@ -21,7 +21,8 @@ impl<C: Copy, Q: Copy + Eq> Session<C, Q> {
     /// `NoMem` out of memory; all is as before.
     pub fn watch(&mut self, query: Q) -> Result<(), NoMem>
         requires { list_any (λ q. Q.eq q query) self.old.watches ≡ false }
-        ensures watched { OnOk result (self.new ≡ record self.old { watches = self.old.watches ++ query ∷ [] }) }
+        ensures watched { OnOk result (self.new ≡ record self.old
+            { watches = self.old.watches ++ query ∷ [] }) }
         ensures stays { OnErr result (self.new ≡ self.old) }
     {
         self.watches.push(query)?;
@@ -37,14 +38,18 @@ impl<C: Copy, Q: Copy + Eq> Session<C, Q> {
 
     /// It watches a query no more, where it did.
     pub fn unwatch(&mut self, query: Q)
-        ensures { self.new ≡ record self.old { watches = drop_first (λ q. Q.eq q query) self.old.watches } }
+        ensures { self.new ≡ record self.old {
+          watches = drop_first
+              (λ q. Q.eq q query) self.old.watches;
+        } }
     {
         if let Some(at) = place_of(self.watches.as_slice(), query) {
             let _gone = self.watches.remove(at);
         }
     }
 
-    /// The query that it began to watch last is watched no more, and given back. `None` exactly where none is left.
+    /// The query that it began to watch last is watched no more, and given back. `None` exactly
+    /// where none is left.
     pub fn pop_watch(&mut self) -> Option<Q>
         ensures { PopsWatch self.old self.new result }
     {
