@@ -1,5 +1,6 @@
 pub mod Ids
 pub mod Around
+pub mod Changing
 pub mod Replying
 pub mod Cursors
 pub mod Naming

@@ -1,6 +1,6 @@
 -- Commands that leave the session's cursors as they are.
 use Rattle.std.proofs.Common.{ℕ, ◌+◌, ◌≤◌, ◌≡◌, ◌++◌, Bool, true, false, List, [], ◌∷◌, map, cond, Option, None, Some, Result, Ok, Err, codes, refl, sym, ap, ◌∙◌, subst, arith, ◌||◌, ◌⊎◌, inl, inr, ap₂, option_map}
-use Rattle.std.specs.Prelude.{⊤, if◌then◌else◌, IsSome}
+use Rattle.std.specs.Prelude.{⊤, ◌==◌, if◌then◌else◌, find, IsSome, IsSomeAnd}
 use Rattle.djq_model.specs.Data.{Bytes, Tuple, query_of, bytes_eq}
 use Rattle.std.specs.List.{list_any}
 use Rattle.djq_model.specs.Equality.{bytes_eq-decides}
@@ -14,9 +14,10 @@ use Rattle.djq_lines.specs.declared.answer.AddOutcome.{AddOutcome}
 use Rattle.djq_lines.specs.declared.answer.DeleteOutcome.{DeleteOutcome}
 use Rattle.djq_lines.specs.declared.command.Command.TheVariants.{Rel, Add, Del, Query as Register, Has, Drop}
 use Rattle.djq_lines.specs.Reply.{refusal_line, ok_reply, add_reply, delete_reply, query_reply, has_reply}
-use Rattle.djq_machine.specs.State.{Session, State, Cursor}
+use Rattle.djq_machine.specs.State.{Session, State, Cursor, session_of}
 use Rattle.djq_machine.specs.Store.{MakesRelation, AddsRow, DeletesRow, RegistersQuery, TellsWhether, has_steps, DropsQuery}
-use Rattle.djq_machine.specs.Stale.{by_relation, outdated_sessions, add_outdates, delete_outdates, changed}
+use Rattle.djq_machine.specs.Stale.{by_relation, outdated_sessions, add_outdates, add_accepted, delete_outdates, changed}
+use Rattle.djq_machine.specs.Watch.{affected}
 use Rattle.djq_machine.specs.Effect.{Effect, RefusedStep}
 use Rattle.djq_session.specs.Dialog.{Replies}
 use Rattle.djq_engine.specs.Kept.{Kept, Held, held_at, SameCursors, Outdates, outdated_held, same_id, Uses, DropGives}
@@ -25,7 +26,8 @@ use Rattle.djq_core.specs.Views.{Talk, session_in, open_in, state_in, query_in, 
 use Rattle.djq_core.specs.Sound.{ids_of, all_ids, AreHeld, IsSound, is_among}
 use Rattle.djq_core.specs.Performs.{among, to_one, unqueued, Performs, Executes}
 use Rattle.djq_core.proofs.Ids.{Agree, agree_same, agree_held, agree_open, Outdated, outdated_find, outdated_all_held, outdated_open, owned_still, among_either, held_split, same_id_same, or_true}
-use Rattle.djq_core.proofs.Around.{Around, parts, whole, open_are, looks}
+use Rattle.djq_core.proofs.Around.{Around, parts, whole, open_are, looks, found}
+use Rattle.djq_core.proofs.Changing.{none_affected, change_replies}
 
 -- a reply changes nothing of a session that the machine sees but its bytes
 pub quiet : (hs : List Held) (s : ℕ) (before after : Talk) (text : Bytes) → Replies before after text → session_in hs s (unqueued before after) ≡ session_in hs s before
@@ -165,10 +167,11 @@ moves_open old new name false xs out = agree_open old.cursors new.cursors xs (ag
 
 -- A change of a relation, or none, is done and answered.
 pub changes : (M : State → ℕ → Session → Effect → State → Type 0) (old new : Kept) (before after : Talk) (text name : Bytes) (b : Bool)
-    → Replies before after text → Outdates old name b new
-    → ((st : State) (s : ℕ) (x : Session) → st.store ≡ old.store → x ≡ session_in old.cursors s before → M st s x (to_one s (Some text) 0) (changed st name b new.store))
+    → before.cause ≡ None → Replies before after text → Outdates old name b new
+    → ((st : State) (s : ℕ) (x : Session) → st.store ≡ old.store → affected st name ≡ [] → IsSomeAnd (session_of (changed st name b new.store) s) (λ y. y.cause ≡ None)
+    → M st s x (to_one s (Some text) 0) (changed st name b new.store))
     → Performs M false old before new after 0 0
-changes M old new before after text name b r out does = record {
+changes M old new before after text name b running r out does = record {
   text = Some text;
   cost = 0;
   pending = ap (λ (d : Talk). d.pending) r;
@@ -178,36 +181,38 @@ changes M old new before after text name b r out does = record {
       = open_quiet new.cursors front s before (unqueued before after) back (quiet new.cursors s before after text r)
       ∙ moves_open old new name b xs out in
       subst (λ (ys : List Session). M (state_in old stopped xs) s (session_in old.cursors s before) (to_one s (Some text) 0) (record { store = new.store; stopped = stopped; sessions = ys }))
-      (sym eq) (does (state_in old stopped xs) s (session_in old.cursors s before) refl refl);
+      (sym eq) (does (state_in old stopped xs) s (session_in old.cursors s before) refl (none_affected old stopped xs name)
+      (subst (λ (ys : List Session). IsSomeAnd (find (λ (y : Session). y.id == s) ys) (λ y. y.cause ≡ None)) (moves_open old new name b xs out)
+      (subst (λ (o : Option Session). IsSomeAnd o (λ y. y.cause ≡ None)) (sym (found new stopped front s before back (moved front back s (parts old front s before back sound)))) running)));
   sound = λ front back s sound.
-      let p = parts old front s before back sound in
-      sound_replied new front s before after text back r
-      (around_held old.cursors new.cursors front s before back (λ h. moves_held old new name b (all_ids front) out h) (λ h. moves_held old new name b (ids_of before.cursors) out h) (λ h. moves_held old new name b (all_ids back) out h) (λ c i. moves_still old new name b c out i) p);
+      sound_replied new front s before after text back r (moved front back s (parts old front s before back sound));
   counted = omega arith;
 }
+  where
+    moved : (front back : List OpenSession) (s : ℕ) → Around old.cursors front s before back → Around new.cursors front s before back
+    moved front back s p =
+        around_held old.cursors new.cursors front s before back (λ h. moves_held old new name b (all_ids front) out h) (λ h. moves_held old new name b (ids_of before.cursors) out h) (λ h. moves_held old new name b (all_ids back) out h) (λ c i. moves_still old new name b c out i) p
 
 pub does_add : (old new : Kept) (before after : Talk) (name : Bytes) (row : Tuple) (result : Result AddOutcome Refusal)
     → AddsRow old.store name row result new.store → Outdates old name (add_outdates result) new → Replies before after (add_reply result (new.store).seq)
-    → Executes (Add name row) false old before new after 0 0
-does_add old new before after name row result adds out r =
-    changes _ old new before after (add_reply result (new.store).seq) name (add_outdates result) r out (λ st s x e f. record {
+    → before.cause ≡ None → Executes (Add name row) false old before new after 0 0
+does_add old new before after name row result adds out r running =
+    changes _ old new before after (add_reply result (new.store).seq) name (add_outdates result) running r out (λ st s x e none on. record {
       result = result;
       store = new.store;
       done = subst (λ store. AddsRow store name row result new.store) (sym e) adds;
-      effect = refl;
-      state = refl;
+      change = change_replies st s name _ (add_outdates result) (add_accepted result) new.store (add_reply result (new.store).seq) none on;
     })
 
 pub does_delete : (old new : Kept) (before after : Talk) (name : Bytes) (row : Tuple) (result : Result DeleteOutcome Refusal)
     → DeletesRow old.store name row result new.store → Outdates old name (delete_outdates result) new → Replies before after (delete_reply result (new.store).seq)
-    → Executes (Del name row) false old before new after 0 0
-does_delete old new before after name row result deletes out r =
-    changes _ old new before after (delete_reply result (new.store).seq) name (delete_outdates result) r out (λ st s x e f. record {
+    → before.cause ≡ None → Executes (Del name row) false old before new after 0 0
+does_delete old new before after name row result deletes out r running =
+    changes _ old new before after (delete_reply result (new.store).seq) name (delete_outdates result) running r out (λ st s x e none on. record {
       result = result;
       store = new.store;
       done = subst (λ store. DeletesRow store name row result new.store) (sym e) deletes;
-      effect = refl;
-      state = refl;
+      change = change_replies st s name _ (delete_outdates result) (delete_outdates result) new.store (delete_reply result (new.store).seq) none on;
     })
 
 pub does_has : (k : Kept) (before after : Talk) (q : Bytes) (t : Tuple) (result : Result Bool Refusal) (was now : ℕ)

@@ -2,7 +2,9 @@
 use Rattle.std.specs.Prelude.{ℕ, List, [], ◌∷◌, ◌==◌, ◌≡◌, ◌++◌, ◌⊎◌, Bool, true, false, cond, Option, None, Some, IsSome, IsSomeAnd, MatchOption, find, map, codes, Result, Ok, Err, ⊤}
 use Rattle.std.proofs.Common.{refl, sym, ap, ap₂, ◌∙◌, subst, inl, inr}
 use Rattle.djq_model.specs.declared.query.Query.{Query}
-use Rattle.djq_model.specs.Data.{Bytes, change_first, drop_first, bytes_eq, query_of}
+use Rattle.std.proofs.lemmas.Bool.{eqb-true}
+use Rattle.std.proofs.lemmas.Grind.{flat_map-append}
+use Rattle.djq_model.specs.Data.{Bytes, Tuple, change_first, drop_first, bytes_eq, query_of}
 use Rattle.djq_lines.specs.declared.answer.EndCause.{EndCause}
 use Rattle.djq_lines.specs.declared.answer.EndCause.TheVariants.{Quit as SaidQuit, Stop as SaidStop, Memory}
 use Rattle.djq_lines.specs.declared.answer.Refusal.{Refusal}
@@ -10,27 +12,29 @@ use Rattle.djq_lines.specs.declared.answer.Refusal.TheVariants.{NoCursor, NoMemo
 use Rattle.djq_lines.specs.declared.command.Command.{Command}
 use Rattle.djq_lines.specs.declared.command.Command.TheVariants.{Rel, Add, Del, Query as Register, Drop, Open, Next, Close, Has, Watch, Unwatch, Explain, Quit, Stop}
 use Rattle.djq_lines.specs.Grammar.{Reading, refused, says as says_command}
-use Rattle.djq_lines.specs.Reply.{line, answer_line, refusal_line, ok_reply, add_reply, delete_reply, query_reply, has_reply, stale_line, text_of, listing_lines, bye, end_memory}
-use Rattle.djq_machine.specs.State.{Store, State, Session, Cursor, Position, open_at, stale, with_session, cursor_of, with_position, ended_by}
-use Rattle.djq_machine.specs.Stale.{changed, by_relation, outdated_sessions, outdated_cursor, add_outdates, delete_outdates}
+use Rattle.djq_lines.specs.Reply.{line, answer_line, refusal_line, ok_reply, add_reply, delete_reply, query_reply, has_reply, watch_reply, stale_line, text_of, listing_lines, bye, end_memory}
+use Rattle.djq_machine.specs.State.{Store, State, Session, Cursor, Position, open_at, stale, session_of, with_session, cursor_of, with_position, ended_by}
+use Rattle.djq_machine.specs.Stale.{by_relation, outdated_sessions, outdated_cursor}
+use Rattle.djq_machine.specs.Watch.{Telling, ChangeStep}
 use Rattle.djq_machine.specs.Store.{has_steps}
 use Rattle.djq_machine.specs.Effect.{Effect, nothing, says, EndsWith, RefusedStep}
-use Rattle.djq_machine.specs.Command.{OpensTo, with_cursor, NextStepAt, CloseStep, CommandStep}
+use Rattle.djq_machine.specs.Command.{OpensTo, BecomesWhere, with_watch, without_watch, with_cursor, NextStepAt, CloseStep, CommandStep}
 use Rattle.djq_machine.specs.LineStep.{ReadStep}
 use Rattle.djq_machine.specs.Run.{to_session, pending_in}
-use Rattle.djq_machine.specs.Call.{cause_in, held_in}
+use Rattle.djq_machine.specs.Call.{IsOpen, cause_in, held_in}
 use Rattle.djq_laws.specs.Moved.{EndsByRun}
 use Rattle.djq_laws.proofs.Finding.{some_and}
+use Rattle.djq_laws.proofs.Told.{change_keeps}
 
--- Nothing is queued to another session.
-abbrev pub ToAlone : ℕ → Effect → Type 0
-ToAlone s e = (t : ℕ) → (s == t) ≡ false → to_session t e.queued ≡ []
+-- What is queued to another session is queued to one that is open.
+pub record ToOpen (s : ℕ) (e : Effect) (mid : State) : Type 0 where
+  pub others : (t : ℕ) → (s == t) ≡ false → IsOpen mid t ⊎ (to_session t e.queued ≡ [])
 
-pub alone_nothing : (s : ℕ) (e : Effect) → e ≡ nothing → ToAlone s e
-alone_nothing s e h t ne = ap (λ (d : Effect). to_session t d.queued) h
+pub alone_nothing : {mid : State} (s : ℕ) (e : Effect) → e ≡ nothing → ToOpen s e mid
+alone_nothing s e h = record { others = λ t ne. inr (ap (λ (d : Effect). to_session t d.queued) h) }
 
-pub alone_text : (s : ℕ) (text : Bytes) (cost : ℕ) (e : Effect) → e ≡ record { queued = (s, text) ∷ []; cost = cost } → ToAlone s e
-alone_text s text cost e h t ne = ap (λ (d : Effect). to_session t d.queued) h ∙ rw ne refl
+pub alone_text : {mid : State} (s : ℕ) (text : Bytes) (cost : ℕ) (e : Effect) → e ≡ record { queued = (s, text) ∷ []; cost = cost } → ToOpen s e mid
+alone_text s text cost e h = record { others = λ t ne. inr (ap (λ (d : Effect). to_session t d.queued) h ∙ rw ne refl) }
 
 -- The end cause stays, or is one of these.
 module _ (May : EndCause → Type 0) where
@@ -52,6 +56,20 @@ module _ (May : EndCause → Type 0) where
 
   pub alike_same : (xs ys : List Session) → ys ≡ xs → Alike xs ys
   alike_same xs ys e = subst (λ (zs : List Session). Alike xs zs) (sym e) (alike_refl xs)
+
+  kept_then : (a b c : Option EndCause) → CauseKept a b → CauseKept b c → CauseKept a c
+  kept_then a b c h (inr k) = inr k
+  kept_then a b c (inl h) (inl k) = inl (k ∙ h)
+  kept_then a b c (inr h) (inl k) = inr (subst (λ (o : Option EndCause). IsSomeAnd o May) (sym k) h)
+
+  pub alike_then : (xs ys zs : List Session) → Alike xs ys → Alike ys zs → Alike xs zs
+  alike_then [] [] [] h k = tt
+  alike_then [] [] (z ∷ zs) h k = absurd k
+  alike_then [] (y ∷ ys) zs h k = absurd h
+  alike_then (x ∷ xs) [] zs h k = absurd h
+  alike_then (x ∷ xs) (y ∷ ys) [] h k = absurd k
+  alike_then (x ∷ xs) (y ∷ ys) (z ∷ zs) h k =
+      (k.0 ∙ h.0, (k.1.0 ∙ h.1.0, k.1.1 ∙ h.1.1, kept_then x.cause y.cause z.cause h.1.2 k.1.2), alike_then xs ys zs h.2 k.2)
 
   -- a change that keeps them so
   pub record Keeps (f : Session → Session) : Type 0 where
@@ -134,9 +152,9 @@ module _ (May : EndCause → Type 0) where
   alike_ids (x ∷ xs) [] h = absurd h
   alike_ids (x ∷ xs) (y ∷ ys) h = ap₂ (λ (i : ℕ) (is : List ℕ). i ∷ is) h.0 (alike_ids xs ys h.2)
 
-  -- The sessions stay alike, and nothing is said to another session.
+  -- The sessions stay alike, and what is said to another session is said to one that is open.
   abbrev pub KeepsAlike : State → ℕ → Effect → State → Type 0
-  KeepsAlike old s e new = Alike old.sessions new.sessions × ToAlone s e
+  KeepsAlike old s e new = Alike old.sessions new.sessions × ToOpen s e new
 
   pub nothing_keeps : (old : State) (s : ℕ) (e : Effect) (new : State) → e ≡ nothing → new ≡ old → KeepsAlike old s e new
   nothing_keeps old s e new none after = (alike_state old new after, alone_nothing s e none)
@@ -163,9 +181,43 @@ outdated_alike queries outdater n true xs =
     (keeps_cause EndsByRun (λ (x : Session). record x { cursors = map (outdated_cursor queries outdater n) x.cursors }) (λ x. refl) (λ x. refl) (λ x. refl) (λ x. refl))
 outdated_alike queries outdater n false xs = alike_refl EndsByRun xs
 
-changed_keeps : (old : State) (s : ℕ) (text name : Bytes) (b : Bool) (store : Store) (e : Effect) (new : State) → e ≡ says s text → new ≡ changed old name b store → Runs old s e new
-changed_keeps old s text name b store e new said after =
-    (subst (λ (st : State). Alike EndsByRun old.sessions st.sessions) (sym after) (outdated_alike old.store.queries (by_relation name) store.seq b old.sessions), alone_text s text 0 e said)
+-- The sessions stay alike as a change is told, and what is queued is queued to those that are open.
+record IsTelling (xs : List Session) (m : Telling) : Type 0 where
+  alike : Alike EndsByRun xs m.state.sessions
+  there : (t : ℕ) → IsOpen m.state t ⊎ (to_session t m.queued ≡ [])
+
+-- a further part, for a session that is open
+part_more : (xs : List Session) (m : Telling) (s : ℕ) (text : Bytes) (st : State) → IsOpen m.state s → Alike EndsByRun m.state.sessions st.sessions → IsTelling xs m
+    → IsTelling xs (record { state = st; queued = m.queued ++ (s, text) ∷ [] })
+part_more xs m s text st there same h = record {
+  alike = alike_then EndsByRun xs m.state.sessions st.sessions h.alike same;
+  there = λ t. by_test t (s == t) refl (h.there t);
+}
+  where
+    keeps_open : (t : ℕ) → IsOpen m.state t → IsOpen st t
+    keeps_open t o = alike_open EndsByRun (session_of m.state t) (session_of st t) (alike_found EndsByRun t m.state.sessions st.sessions same) o
+
+    by_test : (t : ℕ) (b : Bool) → (s == t) ≡ b → IsOpen m.state t ⊎ (to_session t m.queued ≡ []) → IsOpen st t ⊎ (to_session t (m.queued ++ (s, text) ∷ []) ≡ [])
+    by_test t true e k = inl (keeps_open t (subst (λ i. IsOpen m.state i) (eqb-true s t e) there))
+    by_test t false e (inl o) = inl (keeps_open t o)
+    by_test t false e (inr none) = inr (flat_map-append (λ (q : ℕ × Bytes). cond (q.0 == t) q.1 []) m.queued ((s, text) ∷ []) ∙ ap₂ (λ (a b : Bytes). a ++ b) none (rw e refl))
+
+change_alike : (old : State) (s : ℕ) (name : Bytes) (rows : List Tuple) (outdates accepted : Bool) (store : Store) (reply : Bytes) (e : Effect) (new : State)
+    → ChangeStep old s name rows outdates accepted store reply e new → Runs old s e new
+change_alike old s name rows outdates accepted store reply e new h =
+    let k = change_keeps (IsTelling old.sessions)
+    (λ m t text there p. part_more old.sessions m t text m.state there (alike_refl EndsByRun m.state.sessions) p)
+    (λ m t text cause may there p. part_more old.sessions m t text (with_session m.state t (ended_by cause)) there
+    (alike_change EndsByRun (λ (x : Session). x.id == t) (ended_by cause) m.state.sessions (keeps_ended EndsByRun cause may)) p)
+    old s name rows outdates accepted store reply e new h
+    (record { alike = outdated_alike old.store.queries (by_relation name) store.seq outdates old.sessions; there = λ t. inr refl }) in (
+      subst (λ (st : State). Alike EndsByRun old.sessions st.sessions) (sym h.state) k.alike,
+      record { others = λ t ne. as_new t (k.there t) },
+    )
+  where
+    as_new : (t : ℕ) → IsOpen h.last.state t ⊎ (to_session t h.last.queued ≡ []) → IsOpen new t ⊎ (to_session t e.queued ≡ [])
+    as_new t (inl o) = inl (subst (λ (st : State). IsOpen st t) (sym h.state) o)
+    as_new t (inr none) = inr (ap (λ (d : Effect). to_session t d.queued) h.effect ∙ none)
 
 next_keeps : (old : State) (s : ℕ) (c : Bytes) (q : Query) (count : ℕ) (p : Position) (e : Effect) (new : State) → NextStepAt old s c q count p e new → Runs old s e new
 next_keeps old s c q count (open_at given ended) e new (inl h) =
@@ -194,10 +246,14 @@ open_keeps old s c q text e new (Ok u) said h =
     says_keeps EndsByRun old s text (with_cursor c q) e new (keeps_cause EndsByRun (with_cursor c q) (λ x. refl) (λ x. refl) (λ x. refl) (λ x. refl)) said h
 open_keeps old s c q text e new (Err r) said h = stays_keeps EndsByRun old s text e new said h
 
+becomes_keeps : (old : State) (s : ℕ) (text : Bytes) (f : Session → Session) (e : Effect) (new : State) (r : Result ⊤ Refusal) → Keeps EndsByRun f → e ≡ says s text → BecomesWhere old s f new r → Runs old s e new
+becomes_keeps old s text f e new (Ok u) k said h = says_keeps EndsByRun old s text f e new k said h
+becomes_keeps old s text f e new (Err r) k said h = stays_keeps EndsByRun old s text e new said h
+
 command_keeps : (old : State) (s : ℕ) (x : Session) (c : Command) (e : Effect) (new : State) → CommandStep old s x c e new → Runs old s e new
 command_keeps old s x (Rel name types) e new h = store_keeps old s (ok_reply (codes "ok") h.result) h.store e new h.effect h.state
-command_keeps old s x (Add name row) e new h = changed_keeps old s (add_reply h.result (h.store).seq) name (add_outdates h.result) h.store e new h.effect h.state
-command_keeps old s x (Del name row) e new h = changed_keeps old s (delete_reply h.result (h.store).seq) name (delete_outdates h.result) h.store e new h.effect h.state
+command_keeps old s x (Add name row) e new h = change_alike old s name _ _ _ h.store _ e new h.change
+command_keeps old s x (Del name row) e new h = change_alike old s name _ _ _ h.store _ e new h.change
 command_keeps old s x (Register q) e new h = store_keeps old s (query_reply h.result) h.store e new h.effect h.state
 command_keeps old s x (Open c q) e new h = open_keeps old s c q (ok_reply (codes "ok open") h.result) e new h.result h.effect h.state
 command_keeps old s x (Next c count) e new h = next_found old s c count (cursor_of x.cursors c) e new h
@@ -206,8 +262,8 @@ command_keeps old s x Quit e new h = ends_keeps EndsByRun old s bye SaidQuit e n
 command_keeps old s x Stop e new h = ends_keeps EndsByRun (record old { stopped = true }) s bye SaidStop e new tt h
 command_keeps old s x (Drop q) e new h = store_keeps old s (ok_reply (codes "ok") h.result) h.store e new h.effect h.state
 command_keeps old s x (Has q row) e new h = (alike_state EndsByRun old new h.state, alone_text s (has_reply h.result) (has_steps (query_of old.store.queries q)) e h.effect)
-command_keeps old s x (Watch q) e new h = absurd h
-command_keeps old s x (Unwatch q) e new h = absurd h
+command_keeps old s x (Watch q) e new h = becomes_keeps old s (watch_reply h.result old.store.seq) (with_watch q) e new h.result (keeps_cause EndsByRun (with_watch q) (λ x. refl) (λ x. refl) (λ x. refl) (λ x. refl)) h.effect h.state
+command_keeps old s x (Unwatch q) e new h = becomes_keeps old s (ok_reply (codes "ok") h.result) (without_watch q) e new h.result (keeps_cause EndsByRun (without_watch q) (λ x. refl) (λ x. refl) (λ x. refl) (λ x. refl)) h.effect h.state
 command_keeps old s x (Explain q) e new h = absurd h
 
 pub read_keeps : (old : State) (s : ℕ) (x : Session) (r : Reading) (e : Effect) (new : State) → ReadStep old s x r e new → Runs old s e new

@@ -25,14 +25,16 @@ use Rattle.djq_machine.specs.State.{Store, State, Session, Cursor, Position, ope
 use Rattle.djq_machine.specs.Conditions.{first_of, Answers, OutOfMemoryWhere}
 use Rattle.djq_machine.specs.Store.{MakesRelation, AddsRow, AddsAs, DeletesRow, DeletesAs, RegistersQuery, DropsQuery, TellsAnswers, with_rows, rel_refusal, add_refusal, delete_refusal, query_refusal, drop_refusal, most_steps}
 use Rattle.djq_machine.specs.Stale.{reads, outdated, outdater_of, outdated_cursor, outdated_sessions, by_relation, add_outdates, delete_outdates, changed}
+use Rattle.djq_machine.specs.Watch.{Telling, ChangeStep}
 use Rattle.djq_machine.specs.Effect.{Effect, nothing, EndsWith, RefusedStep, queue_all, queue}
-use Rattle.djq_machine.specs.Command.{uses, open_refusal, with_cursor, OpensTo, NextStepAt, CloseStep, CommandStep}
+use Rattle.djq_machine.specs.Command.{uses, open_refusal, with_cursor, OpensTo, BecomesWhere, with_watch, without_watch, NextStepAt, CloseStep, CommandStep}
 use Rattle.djq_machine.specs.LineStep.{LineOutcome, long, blank, slow, no_room, run, ReadStep, FrontStep, behind_line}
 use Rattle.djq_machine.specs.Step.{Event, opened, fed, stepped, took, ended, closed, FedStep, TookStep, EndedStep, Acts, with_relations, Step}
 use Rattle.djq_machine.specs.Run.{Did}
 use Rattle.djq_machine.specs.Gives.{Gives, PositionGives, CursorsGive}
 use Rattle.djq_machine.proofs.Walks.{walk_keeps}
 use Rattle.djq_laws.proofs.Finding.{some_and, find_dropped}
+use Rattle.djq_laws.proofs.Told.{change_keeps}
 use Rattle.djq_laws.proofs.Queueing.{session_changed}
 use Rattle.djq_laws.specs.Given.{RunsGive}
 use Rattle.djq_laws.proofs.Changing.{all_changed, all_found, all_dropped, all_mapped}
@@ -296,10 +298,29 @@ close_gives old s c (Some k) e new h g =
 stopped_gives : (old : State) → CursorsGive old → CursorsGive (record old { stopped = true })
 stopped_gives old g = g
 
+-- a session whose cursors stay
+cursors_stay : (old new : State) (s : ℕ) (f : Session → Session) → ((x : Session) → (f x).cursors ≡ x.cursors) → new ≡ with_session old s f → CursorsGive old → CursorsGive new
+cursors_stay old new s f same after g =
+    session_gives old new s f after (λ x found k. subst (λ (cs : List Cursor). All (CursorGives old.store.relations old.store.queries) cs) (sym (same x)) k) g
+
+-- What a change tells ends sessions, and changes no cursor of the others.
+change_gives : (old : State) (s : ℕ) (name : Bytes) (rows : List Tuple) (outdates accepted : Bool) (store : Store) (reply : Bytes) (e : Effect) (new : State)
+    → ChangeStep old s name rows outdates accepted store reply e new → CursorsGive (changed old name outdates store) → CursorsGive new
+change_gives old s name rows outdates accepted store reply e new h g =
+    subst CursorsGive (sym h.state)
+    (change_keeps (λ (m : Telling). CursorsGive m.state) (λ m t text there k. k) (λ m t text cause may there k. ends_gives m.state t cause (with_session m.state t (ended_by cause)) refl k)
+    old s name rows outdates accepted store reply e new h g)
+
+becomes_gives : (old : State) (s : ℕ) (f : Session → Session) (new : State) (r : Result ⊤ Refusal) → ((x : Session) → (f x).cursors ≡ x.cursors) → BecomesWhere old s f new r → CursorsGive old → CursorsGive new
+becomes_gives old s f new (Ok u) same after g = cursors_stay old new s f same after g
+becomes_gives old s f new (Err r) same after g = same_gives old new after g
+
 command_gives : (old : State) (s : ℕ) (x : Session) (c : Command) (e : Effect) (new : State) → session_of old s ≡ Some x → CommandStep old s x c e new → CursorsGive old → CursorsGive new
 command_gives old s x (Rel name types) e new found h g = relation_gives old name types h.result h.store new h.done h.state g
-command_gives old s x (Add name row) e new found h g = add_gives old name row h.result h.store new h.done h.state g
-command_gives old s x (Del name row) e new found h g = delete_gives old name row h.result h.store new h.done h.state g
+command_gives old s x (Add name row) e new found h g =
+    change_gives old s name _ _ _ h.store _ e new h.change (add_gives old name row h.result h.store (changed old name (add_outdates h.result) h.store) h.done refl g)
+command_gives old s x (Del name row) e new found h g =
+    change_gives old s name _ _ _ h.store _ e new h.change (delete_gives old name row h.result h.store (changed old name (delete_outdates h.result) h.store) h.done refl g)
 command_gives old s x (Register q) e new found h g = query_gives old q h.result h.store new h.done h.state g
 command_gives old s x (Open c q) e new found h g = open_gives old s x c q h.result new h.answer h.state g
 command_gives old s x (Next c count) e new found h g = next_gives old s x c count (cursor_of x.cursors c) e new found refl h g
@@ -308,8 +329,8 @@ command_gives old s x Quit e new found h g = ends_gives old s _ new h.1 g
 command_gives old s x Stop e new found h g = ends_gives (record old { stopped = true }) s _ new h.1 (stopped_gives old g)
 command_gives old s x (Drop q) e new found h g = drop_gives old q h.result h.store new h.done h.state g
 command_gives old s x (Has q row) e new found h g = same_gives old new h.state g
-command_gives old s x (Watch q) e new found h g = absurd h
-command_gives old s x (Unwatch q) e new found h g = absurd h
+command_gives old s x (Watch q) e new found h g = becomes_gives old s (with_watch q) new h.result (λ y. refl) h.state g
+command_gives old s x (Unwatch q) e new found h g = becomes_gives old s (without_watch q) new h.result (λ y. refl) h.state g
 command_gives old s x (Explain q) e new found h g = absurd h
 
 -- The front of a session's bytes.
@@ -317,11 +338,6 @@ read_gives : (old : State) (s : ℕ) (x : Session) (r : Reading) (e : Effect) (n
 read_gives old s x (refused r) e new found h g = same_gives old new h.1 g
 read_gives old s x (says_command c) e new found (true, h) g = command_gives old s x c e new found h g
 read_gives old s x (says_command c) e new found (false, h) g = same_gives old new h.1.1 g
-
--- a session whose cursors stay
-cursors_stay : (old new : State) (s : ℕ) (f : Session → Session) → ((x : Session) → (f x).cursors ≡ x.cursors) → new ≡ with_session old s f → CursorsGive old → CursorsGive new
-cursors_stay old new s f same after g =
-    session_gives old new s f after (λ x found k. subst (λ (cs : List Cursor). All (CursorGives old.store.relations old.store.queries) cs) (sym (same x)) k) g
 
 without_line_gives : (old : State) (s : ℕ) (rest : Bytes) → CursorsGive old → CursorsGive (with_session old s (behind_line rest))
 without_line_gives old s rest g = cursors_stay old (with_session old s (behind_line rest)) s (behind_line rest) (λ x. refl) refl g

@@ -1,5 +1,6 @@
 pub mod Finding
 pub mod Queueing
+mod Told
 pub mod Changing
 pub mod Alike
 pub mod Touching

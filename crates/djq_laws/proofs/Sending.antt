@@ -36,7 +36,7 @@ touch_pending old s x e mid y gone t false apart h parts = alike_pending AnyCaus
 
 touch_there : (old : State) (s : ℕ) (x : Session) (e : Effect) (mid : State) (y : Session) (t : ℕ) (b : Bool) → (s == t) ≡ b → Touches old s x e mid y → IsOpen mid t ⊎ (to_session t e.queued ≡ [])
 touch_there old s x e mid y t true same h = let k : s ≡ t = eqb-true s t same in inl (subst (λ i. IsOpen mid i) k (rw h.now refl))
-touch_there old s x e mid y t false apart h = inr (h.alone t apart)
+touch_there old s x e mid y t false apart h = h.alone.others t apart
 
 touch_stays : (old : State) (s : ℕ) (x : Session) (e : Effect) (mid : State) (y : Session) (t : ℕ) (b : Bool) → (s == t) ≡ b → Touches old s x e mid y → IsOpen old t → IsOpen mid t
 touch_stays old s x e mid y t true same h o = let k : s ≡ t = eqb-true s t same in subst (λ i. IsOpen mid i) k (rw h.now refl)

@@ -15,7 +15,7 @@ use Rattle.djq_machine.specs.Step.{is_dry, FedStep, TookStep, EndedStep}
 use Rattle.djq_machine.specs.Run.{to_session}
 use Rattle.djq_laws.specs.Moved.{EndsByRun, CausedBy, LeavesHeld}
 use Rattle.djq_laws.proofs.Queueing.{session_changed, session_other}
-use Rattle.djq_laws.proofs.Alike.{ToAlone, alone_nothing, alone_text, CauseKept, SameBytes, AlikeFound, KeepsAlike, alike_found, read_keeps}
+use Rattle.djq_laws.proofs.Alike.{ToOpen, alone_nothing, alone_text, CauseKept, SameBytes, AlikeFound, KeepsAlike, alike_found, read_keeps}
 
 -- sessions may end by any cause
 abbrev pub AnyCause : EndCause → Type 0
@@ -26,7 +26,7 @@ pub record Touches (old : State) (s : ℕ) (x : Session) (e : Effect) (mid : Sta
   pub found : session_of old s ≡ Some x
   pub now : session_of mid s ≡ Some y
   pub others : (t : ℕ) → (s == t) ≡ false → AlikeFound AnyCause (session_of old t) (session_of mid t)
-  pub alone : ToAlone s e
+  pub alone : ToOpen s e mid
 
 found_itself : (o : Option Session) → AlikeFound AnyCause o o
 found_itself None = tt
@@ -37,7 +37,7 @@ found_same o p e = subst (λ (q : Option Session). AlikeFound AnyCause o q) (sym
 
 -- a change of the session
 pub touches_changed : (old : State) (s : ℕ) (x : Session) (f : Session → Session) (e : Effect) (mid : State) → session_of old s ≡ Some x → ((y : Session) → (f y).id ≡ y.id)
-    → mid ≡ with_session old s f → ToAlone s e → Touches old s x e mid (f x)
+    → mid ≡ with_session old s f → ToOpen s e mid → Touches old s x e mid (f x)
 touches_changed old s x f e mid found keeps after alone = record {
   found = found;
   now = ap (λ st. session_of st s) after ∙ session_changed old s f keeps ∙ ap (λ o. option_map f o) found;
@@ -120,7 +120,7 @@ cut_of : ℕ → Bytes → Effect
 cut_of s [] = nothing
 cut_of s (b ∷ bs) = says s input_cut
 
-cut_cases : (s : ℕ) (held : Bytes) (e : Effect) → e ≡ cut_of s held → ((to_session s e.queued ≡ []) ⊎ (to_session s e.queued ≡ input_cut)) × ToAlone s e
+cut_cases : {mid : State} (s : ℕ) (held : Bytes) (e : Effect) → e ≡ cut_of s held → ((to_session s e.queued ≡ []) ⊎ (to_session s e.queued ≡ input_cut)) × ToOpen s e mid
 unfolding cut_of
 cut_cases s [] e h = (inl (quiet s e h), alone_nothing s e h)
 cut_cases s (b ∷ bs) e h = (inr (said s input_cut e h), alone_text s input_cut 0 e h)
@@ -211,8 +211,8 @@ behind : (May : EndCause → Type 0) (old : State) (s : ℕ) (x : Session) (f : 
     → KeepsAlike May (with_session old s f) s e mid → Behind May old s x f e mid
 behind May old s x f e mid found keeps h =
     let between = with_session old s f in
-    let first = touches_changed old s x f e between found keeps refl h.1 in
-    let then = found_some May (f x) (session_of between s) (session_of mid s) first.now (alike_found May s between.sessions mid.sessions h.0) in
+    let now = session_changed old s f keeps ∙ ap (λ o. option_map f o) found in
+    let then = found_some May (f x) (session_of between s) (session_of mid s) now (alike_found May s between.sessions mid.sessions h.0) in
     record {
       session = then.session;
       touches = record {

@@ -53,6 +53,7 @@ abbrev pub EndsByRun : EndCause → Type 0
 EndsByRun Quit = Unit {0}
 EndsByRun Stop = Unit {0}
 EndsByRun Memory = Unit {0}
+EndsByRun Slow = Unit {0}
 EndsByRun _ = ⊥
 
 -- The end cause of a session whose front came to this.

@@ -11,6 +11,7 @@ use Rattle.djq_machine.specs.declared.machine.Fed.TheVariants.{Held, Ended as Ha
 use Rattle.djq_machine.specs.declared.machine.OpenRefusal.{OpenRefusal}
 use Rattle.djq_machine.specs.declared.machine.OpenRefusal.TheVariants.{Full, NoMem}
 use Rattle.djq_machine.specs.State.{State, Session, session_of, fresh}
+pub use Rattle.djq_machine.specs.State.{ids_of}
 use Rattle.djq_machine.specs.Effect.{Effect}
 use Rattle.djq_machine.specs.LineStep.{long, blank, slow, no_room, run}
 use Rattle.djq_machine.specs.Step.{Event, opened, stepped, Step, is_dry}
@@ -34,10 +35,6 @@ held_in (Some x) = x.held
 -- the bytes of a session that aren't run; none where it isn't open
 abbrev pub held_of : State → ℕ → Bytes
 held_of st s = held_in (session_of st s)
-
--- the ids of the open sessions
-abbrev pub ids_of : State → List ℕ
-ids_of st = map (λ (x : Session). x.id) st.sessions
 
 -- what was counted: lookups and links of listings, of updates, and of rows
 pub record Counts : Type 0 where

@@ -1,8 +1,8 @@
 -- What each command does to the state, and what it is answered.
-use Rattle.std.specs.Prelude.{ℕ, List, [], ◌∷◌, ◌==◌, ◌≡◌, ◌+◌, ◌*◌, ◌++◌, ◌<◌, ◌≤◌, ◌⊎◌, ◌||◌, Bool, true, false, nat_le, Option, None, Some, is_some, is_none, IsSomeAnd, MatchOption, Result, Ok, Err, length, map, codes, All, ⊤}
+use Rattle.std.specs.Prelude.{ℕ, List, [], ◌∷◌, ◌==◌, ◌≡◌, ◌+◌, ◌*◌, ◌++◌, ◌<◌, ◌≤◌, ◌⊎◌, ◌||◌, Bool, true, false, nat_le, Option, None, Some, is_some, is_none, IsSomeAnd, MatchOption, if◌then◌else◌, Result, Ok, Err, length, map, codes, All, ⊤}
 use Rattle.std.specs.List.{list_any}
 use Rattle.djq_model.specs.declared.query.Query.{Query}
-use Rattle.djq_model.specs.Data.{Bytes, Tuple, bytes_eq, drop_first, query_of}
+use Rattle.djq_model.specs.Data.{Bytes, Tuple, bytes_eq, drop_first, rows_of, without_row, query_of}
 use Rattle.djq_model.specs.Answer.{IsAnswer, AreDifferent}
 use Rattle.djq_lines.specs.declared.limits.TheConstants.{CURSORS, REPLY_BYTES}
 use Rattle.djq_lines.specs.declared.answer.Refusal.{Refusal}
@@ -12,11 +12,12 @@ use Rattle.djq_lines.specs.declared.answer.DeleteOutcome.{DeleteOutcome}
 use Rattle.djq_lines.specs.declared.answer.EndCause.TheVariants.{Quit as SaidQuit, Stop as SaidStop, Memory}
 use Rattle.djq_lines.specs.declared.command.Command.{Command}
 use Rattle.djq_lines.specs.declared.command.Command.TheVariants.{Rel, Add, Del, Query as Register, Drop, Open, Next, Close, Has, Watch, Unwatch, Explain, Quit, Stop}
-use Rattle.djq_lines.specs.Reply.{line, answer_line, last_line, listing_lines, text_of, stale_line, ok_reply, add_reply, delete_reply, query_reply, has_reply, bye, end_memory}
+use Rattle.djq_lines.specs.Reply.{line, answer_line, last_line, listing_lines, text_of, stale_line, ok_reply, add_reply, delete_reply, query_reply, has_reply, watch_reply, bye, end_memory}
 use Rattle.djq_machine.specs.State.{Store, Position, open_at, stale, Cursor, Session, State, with_session, cursor_of, with_position, ended_by}
 use Rattle.djq_machine.specs.Conditions.{first_of, Answers, OutOfMemoryWhere}
 use Rattle.djq_machine.specs.Store.{MakesRelation, AddsRow, DeletesRow, RegistersQuery, DropsQuery, TellsWhether, has_steps, TellsAnswers, IsLeft, AreAll, most_steps}
-use Rattle.djq_machine.specs.Stale.{changed, add_outdates, delete_outdates}
+use Rattle.djq_machine.specs.Stale.{add_outdates, add_accepted, delete_outdates}
+use Rattle.djq_machine.specs.Watch.{is_watching, ChangeStep}
 use Rattle.djq_machine.specs.Effect.{Effect, says, EndsWith, RefusedStep}
 
 -- `rel`: a relation is made.
@@ -27,21 +28,21 @@ pub record RelStep (old : State) (s : ℕ) (makes : Store → Result ⊤ Refusal
   pub effect : e ≡ says s (ok_reply (codes "ok") result)
   pub state : new ≡ record old { store = store }
 
--- `add`: a row goes in; cursors over queries that read its relation become stale.
+-- `add`: a row goes in, and that is told those who watch.
 pub record AddStep (old : State) (s : ℕ) (name : Bytes) (row : Tuple) (e : Effect) (new : State) : Type 0 where
   pub result : Result AddOutcome Refusal
   pub store : Store
   pub done : AddsRow old.store name row result store
-  pub effect : e ≡ says s (add_reply result store.seq)
-  pub state : new ≡ changed old name (add_outdates result) store
+  pub change : ChangeStep old s name (rows_of old.store.relations name ++ row ∷ [])
+      (add_outdates result) (add_accepted result) store (add_reply result store.seq) e new
 
 -- `del`: a row goes out, likewise.
 pub record DeleteStep (old : State) (s : ℕ) (name : Bytes) (row : Tuple) (e : Effect) (new : State) : Type 0 where
   pub result : Result DeleteOutcome Refusal
   pub store : Store
   pub done : DeletesRow old.store name row result store
-  pub effect : e ≡ says s (delete_reply result store.seq)
-  pub state : new ≡ changed old name (delete_outdates result) store
+  pub change : ChangeStep old s name (without_row (rows_of old.store.relations name) row)
+      (delete_outdates result) (delete_outdates result) store (delete_reply result store.seq) e new
 
 -- `query`: a query is registered.
 pub record QueryStep (old : State) (s : ℕ) (q : Query) (e : Effect) (new : State) : Type 0 where
@@ -53,7 +54,7 @@ pub record QueryStep (old : State) (s : ℕ) (q : Query) (e : Effect) (new : Sta
 
 -- whether a session uses a query: a cursor of it, stale or not, is over the query, or it watches the query
 abbrev pub uses : Bytes → Session → Bool
-uses q x = list_any (λ c. bytes_eq c.query q) x.cursors || list_any (λ w. bytes_eq w q) x.watches
+uses q x = list_any (λ c. bytes_eq c.query q) x.cursors || is_watching q x
 
 -- `drop`: a query that no session uses is registered no more.
 pub record DropStep (old : State) (s : ℕ) (q : Bytes) (e : Effect) (new : State) : Type 0 where
@@ -129,7 +130,37 @@ NextStepAt old s c q count (stale relation n) e new = (e ≡ says s (stale_line 
 abbrev pub CloseStep : State → ℕ → Bytes → Effect → State → Type 0
 CloseStep old s c e new = (e ≡ says s (line (codes "ok"))) × (new ≡ with_session old s (λ x. record x { cursors = drop_first (λ k. bytes_eq k.name c) x.cursors }))
 
--- A command of a session is done, or refused by the first condition that holds. Those that aren't served yet are never run.
+abbrev pub watch_refusal : Store → Bytes → Option Refusal
+watch_refusal st q = first_of ((is_none (query_of st.queries q), NoQuery) ∷ [])
+
+-- a session that watches a query, once
+abbrev pub with_watch : Bytes → Session → Session
+with_watch q x = record x { watches = if is_watching q x then x.watches else x.watches ++ q ∷ [] }
+
+-- A session is another, or nothing changes.
+abbrev pub BecomesWhere : {A : Type 0} → State → ℕ → (Session → Session) → State → Result A Refusal → Type 0
+BecomesWhere old s f new (Ok _) = new ≡ with_session old s f
+BecomesWhere old s f new (Err _) = new ≡ old
+
+-- `watch`: the session is told from now on how the answers of a query change.
+pub record WatchStep (old : State) (s : ℕ) (x : Session) (q : Bytes) (e : Effect) (new : State) : Type 0 where
+  pub result : Result ⊤ Refusal
+  pub answer : Answers (watch_refusal old.store q) result (λ _. ⊤) (OutOfMemoryWhere (is_watching q x ≡ false))
+  pub effect : e ≡ says s (watch_reply result old.store.seq)
+  pub state : BecomesWhere old s (with_watch q) new result
+
+-- a session that watches a query no more
+abbrev pub without_watch : Bytes → Session → Session
+without_watch q x = record x { watches = drop_first (λ w. bytes_eq w q) x.watches }
+
+-- `unwatch`: the session is told no more, where it was. It takes no memory.
+pub record UnwatchStep (old : State) (s : ℕ) (q : Bytes) (e : Effect) (new : State) : Type 0 where
+  pub result : Result ⊤ Refusal
+  pub answer : Answers (watch_refusal old.store q) result (λ _. ⊤) (OutOfMemoryWhere ⊥)
+  pub effect : e ≡ says s (ok_reply (codes "ok") result)
+  pub state : BecomesWhere old s (without_watch q) new result
+
+-- A command of a session is done, or refused by the first condition that holds. `explain` is never run yet.
 abbrev pub CommandStep : State → ℕ → Session → Command → Effect → State → Type 0
 CommandStep old s x (Rel name types) e new = RelStep old s (λ st. MakesRelation st name types) e new
 CommandStep old s x (Add name row) e new = AddStep old s name row e new
@@ -146,6 +177,6 @@ CommandStep old s x Quit e new = EndsWith bye SaidQuit old s e new
 CommandStep old s x Stop e new = EndsWith bye SaidStop (record old { stopped = true }) s e new
 CommandStep old s x (Drop q) e new = DropStep old s q e new
 CommandStep old s x (Has q row) e new = HasStep old s q row e new
-CommandStep old s x (Watch q) e new = ⊥
-CommandStep old s x (Unwatch q) e new = ⊥
+CommandStep old s x (Watch q) e new = WatchStep old s x q e new
+CommandStep old s x (Unwatch q) e new = UnwatchStep old s q e new
 CommandStep old s x (Explain q) e new = ⊥

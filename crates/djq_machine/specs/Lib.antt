@@ -9,3 +9,6 @@ pub mod Step
 pub mod Run
 pub mod Gives
 pub mod Call
+pub mod Walk
+pub mod Delta
+pub mod Watch

@@ -5,6 +5,7 @@ use Rattle.djq_model.specs.Data.{Bytes}
 use Rattle.djq_machine.specs.State.{State, Session, session_of}
 use Rattle.djq_lines.specs.Line.{a_line, front_of}
 use Rattle.djq_machine.specs.Effect.{Effect}
+pub use Rattle.djq_machine.specs.Walk.{Walk}
 use Rattle.djq_machine.specs.LineStep.{LineOutcome, long, blank, slow, no_room, run}
 use Rattle.djq_machine.specs.Step.{Event, fed, stepped, took, Step}
 
@@ -12,11 +13,6 @@ use Rattle.djq_machine.specs.Step.{Event, fed, stepped, took, Step}
 pub record Did : Type 0 where
   pub event : Event
   pub effect : Effect
-
--- one thing after another
-abbrev pub Walk : {D L : Type 0} → (D → L → D → Type 0) → D → List L → D → Type 0
-Walk May old [] new = new ≡ old
-Walk {D = D} May old (l ∷ more) new = (mid : D) × May old l mid × Walk May mid more new
 
 -- A run: one step after another.
 abbrev pub Run : State → List Did → State → Type 0

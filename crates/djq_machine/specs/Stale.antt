@@ -48,6 +48,12 @@ add_outdates (Ok Same) = false
 add_outdates (Err NoMemory) = true
 add_outdates (Err _) = false
 
+-- whether a row came
+abbrev pub add_accepted : Result AddOutcome Refusal → Bool
+add_accepted (Ok Added) = true
+add_accepted (Ok Same) = false
+add_accepted (Err _) = false
+
 -- A row that went outdates.
 abbrev pub delete_outdates : Result DeleteOutcome Refusal → Bool
 delete_outdates (Ok Removed) = true

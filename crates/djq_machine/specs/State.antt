@@ -1,5 +1,5 @@
 -- The state of the join machine.
-use Rattle.std.specs.Prelude.{ℕ, List, [], ◌==◌, Bool, false, Option, None, Some, find}
+use Rattle.std.specs.Prelude.{ℕ, List, [], ◌==◌, Bool, false, Option, None, Some, find, map}
 use Rattle.djq_model.specs.declared.relation.Relation.{Relation}
 use Rattle.djq_model.specs.declared.query.Query.{Query}
 use Rattle.djq_model.specs.Data.{Bytes, Tuple, bytes_eq, change_first}
@@ -55,6 +55,10 @@ opening = record { store = record { relations = []; texts = []; queries = []; se
 -- a session as it opens
 abbrev pub fresh : ℕ → Session
 fresh s = record { id = s; held = []; pending = []; cause = None; cursors = []; watches = [] }
+
+-- the ids of the open sessions
+abbrev pub ids_of : State → List ℕ
+ids_of st = map (λ (x : Session). x.id) st.sessions
 
 -- the open session of an id
 abbrev pub session_of : State → ℕ → Option Session

@@ -1,0 +1,110 @@
+-- What a change of rows tells the sessions that watch queries.
+use Rattle.std.specs.Prelude.{ℕ, List, [], ◌∷◌, ◌==◌, ◌≡◌, ◌+◌, ◌*◌, ◌++◌, ◌<◌, ◌≤◌, ◌⊎◌, ◌&&◌, Bool, true, Option, None, Some, IsSomeAnd, MatchOption, if◌then◌else◌, length, map, filter, sum_by, All}
+use Rattle.std.specs.List.{list_any}
+use Rattle.djq_model.specs.declared.relation.Relation.{Relation}
+use Rattle.djq_model.specs.declared.query.Query.{Query}
+use Rattle.djq_model.specs.Data.{Bytes, Tuple, bytes_eq}
+use Rattle.djq_model.specs.Answer.{IsAnswer}
+use Rattle.djq_lines.specs.declared.limits.TheConstants.{PENDING_BYTES}
+use Rattle.djq_lines.specs.declared.answer.EndCause.{EndCause}
+use Rattle.djq_lines.specs.declared.answer.EndCause.TheVariants.{Slow, Memory}
+use Rattle.djq_lines.specs.Reply.{text_of, end_slow, end_memory}
+use Rattle.djq_machine.specs.State.{Store, Session, State, session_of, with_session, ended_by, ids_of}
+use Rattle.djq_machine.specs.Effect.{Effect, queue_all}
+use Rattle.djq_machine.specs.Store.{with_rows, most_steps}
+use Rattle.djq_machine.specs.Stale.{reads, changed}
+use Rattle.djq_machine.specs.Delta.{Change, IsDelta, change_lines, delta_lines}
+use Rattle.djq_machine.specs.Walk.{Walk}
+
+-- whether a session watches a query
+abbrev pub is_watching : Bytes → Session → Bool
+is_watching q x = list_any (λ w. bytes_eq w q) x.watches
+
+-- the queries that read a relation and that a session watches, in order of registration
+abbrev pub affected : State → Bytes → List Query
+affected st relation =
+    filter (λ q. reads q relation && list_any (is_watching q.name) st.sessions) st.store.queries
+
+-- a query, and how its answers changed
+pub record Delta : Type 0 where
+  pub query : Query
+  pub changes : List Change
+
+-- The deltas of these queries, in order, as one list of relations becomes another.
+pub record AreDeltas (before after : List Relation) (queries : List Query) (deltas : List Delta) : Type 0 where
+  pub of_queries : map (λ d. d.query) deltas ≡ queries
+  pub are_deltas : All (λ d. IsDelta (IsAnswer before d.query) (IsAnswer after d.query) d.changes)
+      deltas
+
+-- the most lookups and links that listing a delta takes: as many as an answer for each that came or
+-- went, and for each atom over the relation that changed
+abbrev pub delta_steps : Bytes → Delta → ℕ
+delta_steps relation d =
+    (length d.changes + length (filter (λ a. bytes_eq a.relation relation) d.query.atoms))
+    * most_steps (length d.query.head)
+
+-- How far a change has been told: the state, and the parts that this step has queued so far.
+pub record Telling : Type 0 where
+  pub state : State
+  pub queued : List (ℕ × Bytes)
+
+-- further bytes for a session
+abbrev pub says_more : ℕ → Bytes → Telling → Telling
+says_more s text m = record { state = m.state; queued = m.queued ++ (s, text) ∷ [] }
+
+-- further bytes for a session, which ends with them
+abbrev pub ends_more : ℕ → Bytes → EndCause → Telling → Telling
+ends_more s text cause m =
+    record { state = with_session m.state s (ended_by cause); queued = m.queued ++ (s, text) ∷ [] }
+
+abbrev pub watching : Bytes → Option Session → Option Session
+watching q None = None
+watching q (Some x) = if is_watching q x then Some x else None
+
+-- the session of an id, where it watches a query: what this step has queued so far is pending for it
+abbrev pub watcher_of : Telling → Bytes → ℕ → Option Session
+watcher_of m q s = watching q (session_of (queue_all m.state m.queued) s)
+
+-- A watching session that too much is pending for ends. Else it is told the delta; or, out of
+-- memory, answers from its front, each in a whole line, and ends.
+abbrev pub TellsWatcher : Delta → ℕ → ℕ → Bytes → Telling → Telling → Type 0
+TellsWatcher d n s pending m new =
+    ((PENDING_BYTES < length pending) × (new ≡ ends_more s end_slow Slow m))
+    ⊎ ((length pending ≤ PENDING_BYTES)
+    × (new ≡ says_more s (text_of (delta_lines d.query.name d.changes n)) m))
+    ⊎ ((length pending ≤ PENDING_BYTES)
+    × (told : List Change) × (rest : List Change) × (d.changes ≡ told ++ rest)
+    × (new ≡ ends_more s (text_of (change_lines d.query.name told) ++ end_memory) Memory m))
+
+-- A session is told a delta where it watches the query.
+abbrev pub TellsSession : Delta → ℕ → Telling → ℕ → Telling → Type 0
+TellsSession d n m s new =
+    MatchOption (watcher_of m d.query.name s) (new ≡ m) (λ x. TellsWatcher d n s x.pending m new)
+
+-- The sessions are told a delta, in rising id.
+abbrev pub TellsDelta : ℕ → Telling → Delta → Telling → Type 0
+TellsDelta n m d new = Walk (TellsSession d n) m (ids_of m.state) new
+
+-- A command's reply comes last, where its session goes on. Behind lines of a delta to that session
+-- it may find no memory, and the session ends.
+abbrev pub RepliesLast : ℕ → Bytes → Telling → Telling → Type 0
+RepliesLast s reply m new = IsSomeAnd (session_of m.state s) (λ x. MatchOption x.cause
+    ((new ≡ says_more s reply m)
+    ⊎ ((list_any (λ part. part.0 == s) m.queued ≡ true) × (new ≡ ends_more s end_memory Memory m)))
+    (λ c. new ≡ m))
+
+-- A relation's rows change to these, or would have, and a command of a session is answered. Cursors
+-- over queries that read it become stale; the deltas of the affected queries are listed, and told
+-- where the change was accepted, one after another; then comes the reply.
+pub record ChangeStep (old : State) (s : ℕ) (relation : Bytes) (rows : List Tuple) (outdates accepted : Bool) (store : Store) (reply : Bytes) (e : Effect) (new : State) : Type 0 where
+  pub deltas : List Delta
+  pub listed : AreDeltas old.store.relations (with_rows old.store.relations relation rows)
+      (if outdates then affected old relation else []) deltas
+  pub told : Telling
+  pub tells : Walk (TellsDelta store.seq)
+      (record { state = changed old relation outdates store; queued = [] })
+      (if accepted then deltas else []) told
+  pub last : Telling
+  pub replies : RepliesLast s reply told last
+  pub effect : e ≡ record { queued = last.queued; cost = sum_by (delta_steps relation) deltas }
+  pub state : new ≡ last.state
