@@ -5,10 +5,10 @@ ghost use Rattle.djq_index.specs.Changes.{Inserted, Removed, Touched, Supported}
 
 use crate::place::Place;
 use crate::raw::{
-    Raw, clear_in, empty_in, find_in, first_in, first_marked_in, insert_in, last_in, lower_in,
-    marked_in, next_in, next_marked_in, prev_in, raise_in, remove_in, supports_in, touch_in,
-    tuple_in,
+    Raw, clear_in, empty_in, find_in, first_marked_in, insert_in, lower_in, marked_in,
+    next_marked_in, raise_in, remove_in, supports_in, touch_in, tuple_in,
 };
+use crate::walk::{first_in, last_in, next_in, prev_in};
 use djq_steps::Tally;
 use std::alloc::{AllocError, Global};
 use std::marker::Model;

@@ -1,4 +1,4 @@
-use crate::load::Load;
+use crate::load::{Load, Order};
 use anyhow::Result;
 use std::alloc::AllocError;
 use std::time::Instant;
@@ -23,7 +23,7 @@ pub fn tell(rt: &HostRuntime, name: &str, start: Instant, calls: u64) -> Result<
 }
 
 /// Puts all tuples in.
-pub fn fill<H: Held>(rt: &HostRuntime, load: &Load, held: &mut H) -> Result<()> {
+fn fill<H: Held>(rt: &HostRuntime, load: &Load, held: &mut H) -> Result<()> {
     let mut cells = load.buffer(rt.alloc())?;
     let start = Instant::now(rt)?;
     for i in 0..load.entries {
@@ -33,11 +33,12 @@ pub fn fill<H: Held>(rt: &HostRuntime, load: &Load, held: &mut H) -> Result<()> 
     tell(rt, "fill", start, load.entries)
 }
 
-/// Looks for the tuples whose numbers lie above `from`.
-pub fn find<H: Held>(
+/// Looks for the tuples whose numbers lie above `from`, in an order.
+fn find<H: Held>(
     rt: &HostRuntime,
     name: &str,
     load: &Load,
+    order: Order,
     from: u64,
     held: &mut H,
 ) -> Result<()> {
@@ -45,10 +46,7 @@ pub fn find<H: Held>(
     let mut hits = 0u64;
     let start = Instant::now(rt)?;
     for i in 0..load.entries {
-        load.write(
-            load.shuffled(i, load.entries).saturating_add(from),
-            &mut cells,
-        );
+        load.write(load.number(i, order).saturating_add(from), &mut cells);
         if held.has(&cells) {
             hits = hits.saturating_add(1);
         }
@@ -64,7 +62,7 @@ pub fn remove<H: Held>(rt: &HostRuntime, load: &Load, held: &mut H) -> Result<()
     let mut hits = 0u64;
     let start = Instant::now(rt)?;
     for i in 0..load.entries {
-        load.write(load.shuffled(i, load.entries), &mut cells);
+        load.write(load.number(i, Order::Shuffled), &mut cells);
         if held.take(&cells) {
             hits = hits.saturating_add(1);
         }
@@ -74,10 +72,16 @@ pub fn remove<H: Held>(rt: &HostRuntime, load: &Load, held: &mut H) -> Result<()
     Ok(())
 }
 
-/// Fills, looks for tuples that are there and that aren't, and empties.
-pub fn measure<H: Held>(rt: &HostRuntime, load: &Load, held: &mut H) -> Result<()> {
+/// Fills, and looks for tuples that are there and that aren't.
+pub fn fill_and_find<H: Held>(rt: &HostRuntime, load: &Load, held: &mut H) -> Result<()> {
     fill(rt, load, held)?;
-    find(rt, "find", load, 0, held)?;
-    find(rt, "miss", load, load.entries, held)?;
+    find(rt, "find", load, Order::Shuffled, 0, held)?;
+    find(rt, "find in order", load, Order::Coming, 0, held)?;
+    find(rt, "miss", load, Order::Shuffled, load.entries, held)
+}
+
+/// Measures what every container does.
+pub fn measure<H: Held>(rt: &HostRuntime, load: &Load, held: &mut H) -> Result<()> {
+    fill_and_find(rt, load, held)?;
     remove(rt, load, held)
 }

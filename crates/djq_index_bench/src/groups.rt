@@ -1,5 +1,5 @@
-use crate::calls::{fill, find, remove, tell};
-use crate::load::Load;
+use crate::calls::{fill_and_find, remove, tell};
+use crate::load::{Load, Order};
 use crate::rows::Rows;
 use anyhow::Result;
 use djq_steps::Ledgers;
@@ -21,7 +21,8 @@ fn first<L: Ledgers>(rt: &HostRuntime, load: &Load, rows: &mut Rows<L>) -> Resul
     Ok(())
 }
 
-/// How long the look-up of one group takes, with two readings of the clock: the shortest of three times.
+/// How long the look-up of one group takes, with two readings of the clock: the shortest of three
+/// times.
 fn quickest<L: Ledgers>(rt: &HostRuntime, rows: &mut Rows<L>, key: &[u64]) -> Result<Duration> {
     let mut least = Duration::MAX;
     for _try in 0..3 {
@@ -72,7 +73,7 @@ fn touch<L: Ledgers>(rt: &HostRuntime, load: &Load, rows: &mut Rows<L>) -> Resul
     let mut hits = 0u64;
     let start = Instant::now(rt)?;
     for i in 0..load.entries {
-        load.write(load.shuffled(i, load.entries), &mut cells);
+        load.write(load.number(i, Order::Shuffled), &mut cells);
         if rows.touch(&cells) {
             hits = hits.saturating_add(1);
         }
@@ -86,9 +87,7 @@ fn touch<L: Ledgers>(rt: &HostRuntime, load: &Load, rows: &mut Rows<L>) -> Resul
 
 /// Measures all calls of a table.
 pub fn measure_groups<L: Ledgers>(rt: &HostRuntime, load: &Load, rows: &mut Rows<L>) -> Result<()> {
-    fill(rt, load, rows)?;
-    find(rt, "find", load, 0, rows)?;
-    find(rt, "miss", load, load.entries, rows)?;
+    fill_and_find(rt, load, rows)?;
     first(rt, load, rows)?;
     slowest(rt, load, rows)?;
     walk(rt, load, rows)?;

@@ -9,6 +9,15 @@ pub enum Shape {
     Half,
 }
 
+/// An order in which tuples are taken.
+#[derive(Clone, Copy)]
+pub enum Order {
+    /// As they came.
+    Coming,
+    /// As good as at random.
+    Shuffled,
+}
+
 /// The tuples that a container is filled with.
 #[derive(Clone, Copy)]
 pub struct Load {
@@ -63,11 +72,19 @@ impl Load {
         }
     }
 
-    /// Writes the tuple of this number: its group into the key's cells, and the number, scattered over all
-    /// numbers, into the others.
+    /// The number of the i-th tuple in an order.
+    pub fn number(&self, i: u64, order: Order) -> u64 {
+        match order {
+            Order::Coming => i,
+            Order::Shuffled => self.shuffled(i, self.entries),
+        }
+    }
+
+    /// Writes the tuple of this number: its group into the key's cells, and the number, scattered over
+    /// all numbers, into the others.
     pub fn write(&self, number: u64, cells: &mut [u64]) {
         let group = self.group_of(number);
-        let scattered = number.wrapping_mul(0x9E37_79B9_7F4A_7C15);
+        let scattered = number.wrapping_mul(0xD134_2543_DE82_EF95);
         for (column, cell) in cells.iter_mut().enumerate() {
             *cell = if column < self.key { group } else { scattered };
         }

@@ -1,14 +1,16 @@
 //! Measures the calls of a table beside those of std's maps.
 //!
-//! `djq_index_bench KIND ENTRIES WIDTH KEY GROUP` fills one container with ENTRIES tuples of WIDTH cells, in groups by
-//! their first KEY cells, and prints a line for each kind of call, in nanoseconds a call. KIND is `table`, `hash` or
-//! `tree`; the two maps hold the tuples' first and last cells, and know no groups. GROUP is the number of tuples of a
-//! group, or `half`: one group with half of all tuples, and each other tuple alone. With other words it prints how it
-//! is used. The bytes are to be read from outside, as the peak of a run with one KIND.
+//! `djq_index_bench KIND ENTRIES WIDTH KEY GROUP` fills one container with ENTRIES tuples of WIDTH
+//! cells, in groups by their first KEY cells, and prints a line for each kind of call, in
+//! nanoseconds a call. KIND is `table`, `hash` or `tree`; the two maps hold the tuples' first and
+//! last cells, and know no groups. GROUP is the number of tuples of a group, or `half`: one group
+//! with half of all tuples, and each other tuple alone. With other words it prints how it is used.
+//! The bytes are to be read from outside, as the peak of a run.
 //!
-//! Look-ups go through the tuples in another order than they came, and the tuples of a group came one by one between
-//! those of others, so that neither cells nor links are met in the order of memory. `fill` and `remove` find the tuple
-//! first, as every caller does; a map's calls do so by themselves.
+//! Look-ups go through the tuples once as they came and once in another order, and the tuples of a
+//! group came one by one between those of others, so that neither cells nor links are met in the
+//! order of memory. `fill`, `touch` and `remove` find the tuple first, as every caller does; a
+//! map's calls do so by themselves.
 #![tactic(auto)]
 
 mod calls;
