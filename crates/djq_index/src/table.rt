@@ -17,7 +17,8 @@ use std::sync::ledger::Ledger;
 /// Different tuples of one width, in groups by the cells of their key.
 ///
 /// A group is a list: a new tuple comes last in it, and so does a touched one. Both are marked until
-/// the marks are cleared, so the marked ones of a group are its last.
+/// the marks are cleared, so the marked ones of a group are its last. With an empty key, and with one
+/// of all columns in their order, groups take no memory of their own.
 #[derive(Drop)]
 pub struct Table {
     raw: Raw,
