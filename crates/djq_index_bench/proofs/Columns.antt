@@ -6,7 +6,8 @@ pub none : (width : ℕ) → AreColumns width []
 unfolding AreColumns
 none width = tt
 
-pub one_more : (width c : ℕ) (cs : List ℕ) → AreColumns width cs → c < width → AreColumns width (cs ++ c ∷ [])
+pub one_more : (width c : ℕ) (cs : List ℕ) → AreColumns width cs → c < width
+    → AreColumns width (cs ++ c ∷ [])
 unfolding AreColumns
 one_more width c [] cs k = (k, tt)
 one_more width c (d ∷ ds) cs k = (cs.0, one_more width c ds cs.1 k)

@@ -80,8 +80,8 @@ impl Load {
         }
     }
 
-    /// Writes the tuple of this number: its group into the key's cells, and the number, scattered over
-    /// all numbers, into the others.
+    /// Writes the tuple of this number: its group into the key's cells, and the number, scattered
+    /// over all numbers, into the others.
     pub fn write(&self, number: u64, cells: &mut [u64]) {
         let group = self.group_of(number);
         let scattered = number.wrapping_mul(0xD134_2543_DE82_EF95);

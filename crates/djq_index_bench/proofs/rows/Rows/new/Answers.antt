@@ -6,4 +6,5 @@ use Rattle.djq_index_bench.proofs.rows.Rows.new.Goals as goal
 pub new-requires : goal.new-requires
 new-requires g c =
     let least : c.min.result ≤ c.args.load.now.width = omega (arith, c.min.ensures) in
-    subst (AreColumns c.args.load.now.width) (sym c.deref.ensures.value) (wider c.min.result c.args.load.now.width c.in_ok-key.key.items c.in_ok-key.ensures least)
+    subst (AreColumns c.args.load.now.width) (sym c.deref.ensures.value)
+    (wider c.min.result c.args.load.now.width c.in_ok-key.key.items c.in_ok-key.ensures least)
