@@ -38,3 +38,6 @@ pub use laws::{cells_differ, cells_stay, names_tell, texts_stay};
 pub use refusal::RowsRefusal;
 pub use relation_id::RelationId;
 pub use walk::Walk;
+
+#[cfg(test)]
+mod tests;
