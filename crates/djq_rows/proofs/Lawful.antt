@@ -13,7 +13,10 @@ differ texts types row other f g h k e =
     sym (row_back texts types row f h) ∙ ap (row_of texts types) e ∙ row_back texts types other g k
 
 pub stay : CellsStay
-stay texts more row h = (have_grown texts (texts ++ more) row (record { more = more; is = refl }) h, cells_grown texts (texts ++ more) row (record { more = more; is = refl }) h)
+stay texts more row h = (
+  have_grown texts (texts ++ more) row (record { more = more; is = refl }) h,
+  cells_grown texts (texts ++ more) row (record { more = more; is = refl }) h,
+)
 
 pub texts : TextsStay
 texts known learned = let g = all_grown known learned in (g.more, g.is)
@@ -22,5 +25,7 @@ pub names : NamesTell
 names [] at rows d low = absurd (omega arith)
 names (r ∷ rs) zero rows d low = rw (eq_refl r.name) refl
 names (r ∷ rs) (suc at) rows d low =
-    let other : bytes_eq r.name (relation_at rs at).name ≡ false = eq_other r.name (relation_at rs at).name (d zero (suc at) no_relation (omega arith) (omega arith)) in
-    rw other (ap (λ (l : List Relation). r ∷ l) (names rs at rows (λ i j x a b. d (suc i) (suc j) x (omega arith) (omega arith)) (omega arith)))
+    let other : bytes_eq r.name (relation_at rs at).name ≡ false = eq_other r.name (relation_at rs
+    at).name (d zero (suc at) no_relation (omega arith) (omega arith)) in
+    rw other (ap (λ (l : List Relation). r ∷ l) (names rs at rows (λ i j x a b. d (suc i) (suc j) x
+    (omega arith) (omega arith)) (omega arith)))

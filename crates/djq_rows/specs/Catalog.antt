@@ -1,12 +1,25 @@
 -- What contracts see of a catalog: its relations with their rows, and the known texts.
-use Rattle.std.specs.Prelude.{◌≡◌, ◌≢◌, ℕ, ◌≤◌, true, List, [], length, slice_index_or, slice_set, All, AllPairs}
+use Rattle.std.specs.Prelude.{
+  ◌≡◌,
+  ◌≢◌,
+  ℕ,
+  ◌≤◌,
+  true,
+  List,
+  [],
+  length,
+  slice_index_or,
+  slice_set,
+  All,
+  AllPairs,
+}
 use Rattle.djq_model.specs.declared.relation.Relation.{Relation}
 use Rattle.djq_model.specs.Data.{Bytes, Tuple}
 use Rattle.djq_model.specs.Answer.{AreDifferent}
 use Rattle.djq_model.specs.Typed.{fits}
 use Rattle.djq_lines.specs.declared.limits.TheConstants.{COLUMNS, RELATIONS}
 use Rattle.djq_dict.specs.declared.dict.TheConstants.{MOST_TEXTS}
-use Rattle.djq_rows.specs.Cells.{HaveCells}
+use Rattle.djq_rows.specs.Cells.{HaveCells, StandFor, AreCells}
 
 pub record Catalog : Type 0 where
   -- in the order in which they were made
@@ -25,6 +38,14 @@ relation_at relations at = slice_index_or relations at no_relation
 -- its rows
 abbrev pub rows_at : List Relation → ℕ → List Tuple
 rows_at relations at = (relation_at relations at).rows
+
+-- the cells stand for the row, in the columns of the relation at a place
+abbrev pub StandForRow : Catalog → ℕ → List ℕ → Tuple → Type 0
+StandForRow c at cells row = StandFor c.texts (relation_at c.relations at).types cells row
+
+-- they stand for some row
+abbrev pub AreCellsOf : Catalog → ℕ → List ℕ → Type 0
+AreCellsOf c at cells = AreCells c.texts (relation_at c.relations at).types cells
 
 -- the relations with other rows in the one at a place
 abbrev pub with_rows_at : List Relation → ℕ → List Tuple → List Relation

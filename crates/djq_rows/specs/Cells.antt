@@ -1,6 +1,19 @@
 -- The cells of a row: of an integer its 64 bits, of a text its number, the place where it stands
 -- among the known texts.
-use Rattle.std.specs.Prelude.{◌≡◌, ℕ, zero, suc, ⊤, true, List, [], ◌∷◌, map, if◌then◌else◌, FitsSigned}
+use Rattle.std.specs.Prelude.{
+  ◌≡◌,
+  ℕ,
+  zero,
+  suc,
+  ⊤,
+  true,
+  List,
+  [],
+  ◌∷◌,
+  map,
+  if◌then◌else◌,
+  FitsSigned,
+}
 use Rattle.std.specs.Int.{w64, cast_unsigned}
 use Rattle.djq_model.specs.declared.value.Value.{Value}
 use Rattle.djq_model.specs.declared.value.Value.TheVariants.{Int, Text}
@@ -33,10 +46,11 @@ HaveCells texts [] = ⊤
 HaveCells texts (v ∷ vs) = HasCell texts v × HaveCells texts vs
 
 -- in a column of this type, the cell stands for the value
-pub record StandsFor (texts : List Bytes) (column : ColumnType) (cell : ℕ) (value : Value) : Type 0 where
-  pub of : is_of column value ≡ true
-  pub has : HasCell texts value
-  pub is : cell ≡ cell_of texts value
+pub record StandsFor (texts : List Bytes) (column : ColumnType) (cell : ℕ) (value : Value) : Type 0
+  where
+    pub of : is_of column value ≡ true
+    pub has : HasCell texts value
+    pub is : cell ≡ cell_of texts value
 
 -- in a column of this type, the cell stands for some value
 pub record IsCell (texts : List Bytes) (column : ColumnType) (cell : ℕ) : Type 0 where
@@ -44,7 +58,8 @@ pub record IsCell (texts : List Bytes) (column : ColumnType) (cell : ℕ) : Type
   pub stands : StandsFor texts column cell value
 
 -- in columns of these types, the cells stand for the row
-pub record StandFor (texts : List Bytes) (types : List ColumnType) (cells : List ℕ) (row : Tuple) : Type 0 where
+pub record StandFor (texts : List Bytes) (types : List ColumnType) (cells : List ℕ) (row : Tuple) :
+    Type 0 where
   pub of : fits types row ≡ true
   pub have : HaveCells texts row
   pub are : cells ≡ cells_of texts row

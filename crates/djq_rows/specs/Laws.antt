@@ -21,9 +21,14 @@ CellsStay = (texts more : List Bytes) (row : Tuple) → HaveCells texts row
 
 -- what is learned comes behind what was known
 abbrev pub TextsStay : Type 0
-TextsStay = (texts learned : List Bytes) → (more : List Bytes) × (all_learned texts learned ≡ texts ++ more)
+TextsStay = (texts learned : List Bytes) → (more : List Bytes) × (all_learned texts learned ≡ texts
+    ++ more)
 
 -- where names differ, other rows for a name are other rows at its place
 abbrev pub NamesTell : Type 0
-NamesTell = (relations : List Relation) (at : ℕ) (rows : List Tuple) → AllPairs (λ r s. r.name ≢ s.name) relations → at < length relations
-    → change_first (λ r. bytes_eq r.name (relation_at relations at).name) (λ r. record r { rows = rows }) relations ≡ with_rows_at relations at rows
+NamesTell = (relations : List Relation) (at : ℕ) (rows : List Tuple) → AllPairs (λ r s. r.name ≢
+    s.name) relations → at < length relations
+    → change_first (λ r. bytes_eq r.name (relation_at relations at).name) (λ r. record r {
+      rows =
+          rows;
+    }) relations ≡ with_rows_at relations at rows

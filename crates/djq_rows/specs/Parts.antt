@@ -1,11 +1,29 @@
 -- A catalog's parts, and the catalog that they are.
-use Rattle.std.specs.Prelude.{◌≡◌, ℕ, ◌≤◌, ◌<◌, ◌^◌, ⊤, List, [], ◌∷◌, ◌++◌, map, length, slice_index_or}
+use Rattle.std.specs.Prelude.{
+  ◌≡◌,
+  ℕ,
+  ◌≤◌,
+  ◌<◌,
+  ◌^◌,
+  ⊤,
+  List,
+  [],
+  ◌∷◌,
+  ◌++◌,
+  map,
+  length,
+  slice_index_or,
+}
 use Rattle.std.specs.List.{AllByRecursion}
 use Rattle.std.specs.Int.{w64, cast_signed}
 use Rattle.djq_model.specs.declared.value.Value.{Value}
 use Rattle.djq_model.specs.declared.value.Value.TheVariants.{Int, Text}
 use Rattle.djq_model.specs.declared.relation.ColumnType.{ColumnType}
-use Rattle.djq_model.specs.declared.relation.ColumnType.TheVariants.{Int as IntColumn, Text as TextColumn}
+use Rattle.djq_model.specs.declared.relation.ColumnType.TheVariants.{
+  Int as IntColumn,
+  Text as
+      TextColumn,
+}
 use Rattle.djq_model.specs.declared.relation.Relation.{Relation}
 use Rattle.djq_model.specs.Data.{Bytes, Tuple}
 use Rattle.djq_lines.specs.declared.limits.TheConstants.{COLUMNS, RELATIONS}
@@ -33,7 +51,12 @@ tuples_of es = map (λ e. e.tuple) es
 
 -- the relation that is kept so
 unfoldable pub relation_in : List Bytes → Kept → Relation
-relation_in texts k = record { name = k.name; types = k.types; rows = map (row_of texts k.types) (tuples_of k.table.entries) }
+relation_in texts k = record {
+  name = k.name;
+  types = k.types;
+  rows = map (row_of texts k.types)
+      (tuples_of k.table.entries);
+}
 
 -- the relations that are kept so
 abbrev pub relations_of : List Bytes → List Kept → List Relation
@@ -79,10 +102,12 @@ pub record IsParts (p : Parts) : Type 0 where
   pub sound : AllByRecursion (IsSound p.texts) p.kept.items
 
 -- a relation without rows came behind the others
-pub record Pushes (old : Parts) (name : Bytes) (types : List ColumnType) (new : Parts) : Type 0 where
-  pub table : Table
-  pub is_table : IsTable table
-  pub empty : table ≡ record { width = length types; key = []; entries = [] }
-  pub names : new.names ≡ old.names ++ name ∷ []
-  pub named : AllDifferent new.names
-  pub kept : new.kept.items ≡ old.kept.items ++ record { name = name; types = types; table = table } ∷ []
+pub record Pushes (old : Parts) (name : Bytes) (types : List ColumnType) (new : Parts) : Type 0
+  where
+    pub table : Table
+    pub is_table : IsTable table
+    pub empty : table ≡ record { width = length types; key = []; entries = [] }
+    pub names : new.names ≡ old.names ++ name ∷ []
+    pub named : AllDifferent new.names
+    pub kept : new.kept.items ≡ old.kept.items ++ record { name = name; types = types; table = table }
+        ∷ []

@@ -1,5 +1,21 @@
 -- What adding a tuple to a table of one group does, and deleting one.
-use Rattle.std.specs.Prelude.{◌≡◌, ℕ, ◌≤◌, ◌<◌, Bool, true, false, List, [], ◌∷◌, ◌++◌, length, Result, Ok, Err}
+use Rattle.std.specs.Prelude.{
+  ◌≡◌,
+  ℕ,
+  ◌≤◌,
+  ◌<◌,
+  Bool,
+  true,
+  false,
+  List,
+  [],
+  ◌∷◌,
+  ◌++◌,
+  length,
+  Result,
+  Ok,
+  Err,
+}
 use Rattle.djq_lines.specs.declared.limits.TheConstants.{ROWS}
 use Rattle.djq_lines.specs.declared.answer.AddOutcome.{AddOutcome}
 use Rattle.djq_lines.specs.declared.answer.AddOutcome.TheVariants.{Added, Same}
@@ -38,7 +54,8 @@ HasTuple t u true = 0 < cnt t.entries u
 HasTuple t u false = cnt t.entries u ≡ 0
 
 abbrev pub AddsTupleAs : Table → List ℕ → Result AddOutcome RowsRefusal → Table → Type 0
-AddsTupleAs old u (Ok Added) new = (cnt old.entries u ≡ 0) × (length old.entries < ROWS) × Appended old new u
+AddsTupleAs old u (Ok Added) new = (cnt old.entries u ≡ 0) × (length old.entries < ROWS) × Appended
+    old new u
 AddsTupleAs old u (Ok Same) new = (0 < cnt old.entries u) × (new.entries ≡ old.entries)
 AddsTupleAs old u (Err NameTaken) new = ⊥
 AddsTupleAs old u (Err Full) new =
@@ -46,7 +63,8 @@ AddsTupleAs old u (Err Full) new =
 AddsTupleAs old u (Err NoMem) new =
     (cnt old.entries u ≡ 0) × (length old.entries < ROWS) × (new.entries ≡ old.entries)
 
-pub record AddsTuple (old : Table) (u : List ℕ) (result : Result AddOutcome RowsRefusal) (new : Table) : Type 0 where
+pub record AddsTuple (old : Table) (u : List ℕ) (result : Result AddOutcome RowsRefusal) (new :
+    Table) : Type 0 where
   pub stays : StaysTable old new
   pub adds : AddsTupleAs old u result new
 
@@ -54,6 +72,7 @@ abbrev pub DeletesTupleAs : Table → List ℕ → DeleteOutcome → Table → T
 DeletesTupleAs old u Removed new = Dropped old new u
 DeletesTupleAs old u Absent new = (cnt old.entries u ≡ 0) × (new.entries ≡ old.entries)
 
-pub record DeletesTuple (old : Table) (u : List ℕ) (result : DeleteOutcome) (new : Table) : Type 0 where
-  pub stays : StaysTable old new
-  pub deletes : DeletesTupleAs old u result new
+pub record DeletesTuple (old : Table) (u : List ℕ) (result : DeleteOutcome) (new : Table) : Type 0
+  where
+    pub stays : StaysTable old new
+    pub deletes : DeletesTupleAs old u result new

@@ -1,11 +1,32 @@
-ghost use Rattle.std.specs.Prelude.{◌≡◌, ℕ, ◌+◌, ◌<◌, ◌≤◌, ◌++◌, [], length, map, IfOk, IfNone, false};
+ghost use Rattle.std.specs.Prelude.{
+  ◌≡◌,
+  ℕ,
+  ◌+◌,
+  ◌<◌,
+  ◌≤◌,
+  [],
+  length,
+  map,
+  IfOk,
+  IfNone,
+  false,
+};
 ghost use Rattle.djq_model.specs.Data.{Tuple, Bytes, has_row};
 ghost use Rattle.djq_model.specs.Typed.{fits};
 ghost use Rattle.djq_model.specs.Lent.{value_lent};
 ghost use Rattle.djq_model.specs.declared.value.Value.{Value as Datum};
-ghost use Rattle.djq_rows.specs.Cells.{cells_of, HaveCells, StandsFor, IsCell, StandFor, AreCells};
-ghost use Rattle.djq_rows.specs.Catalog.{IsCatalog, relation_at, rows_at};
-ghost use Rattle.djq_rows.specs.Changes.{MakesRelation, FindsRelation, AddsRow, DeletesRow, InternsValue, InternsRow, TellsCell, TellsCells};
+ghost use Rattle.djq_rows.specs.Cells.{cells_of, StandsFor, IsCell};
+ghost use Rattle.djq_rows.specs.Catalog.{IsCatalog, StandForRow, AreCellsOf, relation_at, rows_at};
+ghost use Rattle.djq_rows.specs.Changes.{
+  MakesRelation,
+  FindsRelation,
+  AddsRow,
+  DeletesRow,
+  InternsValue,
+  InternsRow,
+  TellsCell,
+  TellsCells,
+};
 
 use crate::coding::{cell_in, cells_in, fits_in, value_in};
 use crate::parts::{
@@ -27,8 +48,8 @@ use std::sync::ledger::Ledger;
 
 /// Relations with their rows, and the texts that are known.
 ///
-/// Contracts see the relations, whose rows are lists of values, and the list of the texts, in which a
-/// text's number is its place.
+/// Contracts see the relations, whose rows are lists of values, and the list of the texts, in which
+/// a text's number is its place.
 #[derive(Drop)]
 pub struct Catalog {
     parts: Parts,
@@ -71,7 +92,7 @@ impl Catalog {
         self.parts.kept.len()
     }
 
-    /// The relation of a name; none exactly where no relation has it. No other relation is looked at.
+    /// The relation of a name; none exactly where no relation has it. No other is looked at.
     pub fn id(&self, name: &Name) -> Option<RelationId>
         ensures { FindsRelation self.now.relations name.now result }
     {
@@ -83,8 +104,8 @@ impl Catalog {
     /// # Errors
     ///
     /// [`RowsRefusal::NameTaken`] exactly where a relation has the name; else [`RowsRefusal::Full`]
-    /// exactly at [`RELATIONS`](djq_lines::limits::RELATIONS) relations; [`RowsRefusal::NoMem`] for want
-    /// of memory. Nothing has changed.
+    /// exactly at [`RELATIONS`](djq_lines::limits::RELATIONS) relations; [`RowsRefusal::NoMem`] for
+    /// want of memory. Nothing has changed.
     pub fn relation(&mut self, name: Name, types: Types) -> Result<RelationId, RowsRefusal>
         requires narrow { length types ≤ COLUMNS }
         ensures makes { MakesRelation self.old.relations name types result self.new.relations }
@@ -125,7 +146,8 @@ impl Catalog {
         self.parts.kept[id.at].table.len()
     }
 
-    /// A walk over its rows, in the order in which they came. It takes no memory, and counts one look-up.
+    /// A walk over its rows, in the order in which they came. It takes no memory, and counts one
+    /// look-up.
     pub fn rows<L: Ledger>(&self, id: RelationId, tally: &mut Tally<L>) -> Walk<'_>
         requires { id.at < length self.now.relations }
         ensures rest { result ≡ map (cells_of self.now.texts) (rows_at self.now.relations id.at) }
@@ -146,7 +168,8 @@ impl Catalog {
     pub fn cells(&self, row: &[Value]) -> Option<Cells>
         requires { length row.now ≤ CELLS }
         ensures tells { TellsCells self.now.texts row.now result }
-        ensures absent { IfNone result ((at : ℕ) → at < length self.now.relations → has_row (rows_at self.now.relations at) row.now ≡ false) }
+        ensures absent { IfNone result ((at : ℕ) → at < length self.now.relations
+            → has_row (rows_at self.now.relations at) row.now ≡ false) }
     {
         cells_in(&self.parts.texts, row)
     }
@@ -156,8 +179,8 @@ impl Catalog {
     /// # Errors
     ///
     /// [`InternRefusal::Full`] exactly where it is an unknown text and
-    /// [`MOST_TEXTS`](djq_dict::MOST_TEXTS) are known; [`InternRefusal::NoMem`] for want of memory, and
-    /// then too it is an unknown text. Nothing has changed.
+    /// [`MOST_TEXTS`](djq_dict::MOST_TEXTS) are known; [`InternRefusal::NoMem`] for want of memory,
+    /// and then too it is an unknown text. Nothing has changed.
     pub fn intern(&mut self, value: &Value) -> Result<u64, InternRefusal>
         ensures interns { InternsValue self.old.texts value.now result self.new.texts }
         ensures relations { self.new.relations ≡ self.old.relations }
@@ -170,8 +193,8 @@ impl Catalog {
     /// # Errors
     ///
     /// [`InternRefusal::Full`] exactly where there would be more texts than
-    /// [`MOST_TEXTS`](djq_dict::MOST_TEXTS); [`InternRefusal::NoMem`] for want of memory. The texts before
-    /// the one that was refused are known.
+    /// [`MOST_TEXTS`](djq_dict::MOST_TEXTS); [`InternRefusal::NoMem`] for want of memory. The texts
+    /// before the one that was refused are known.
     pub fn intern_row(&mut self, row: &[Value]) -> Result<Cells, InternRefusal>
         requires { length row.now ≤ CELLS }
         ensures interns { InternsRow self.old.texts row.now result self.new.texts }
@@ -183,7 +206,8 @@ impl Catalog {
     /// Whether the row that cells stand for is there. It counts one look-up.
     pub fn has_row<L: Ledger>(&self, id: RelationId, cells: &[u64], tally: &mut Tally<L>) -> bool
         requires { id.at < length self.now.relations }
-        ensures has { (row : Tuple) → StandFor self.now.texts (relation_at self.now.relations id.at).types cells.now row → result ≡ has_row (rows_at self.now.relations id.at) row }
+        ensures has { (row : Tuple) → StandForRow self.now id.at cells.now row
+            → result ≡ has_row (rows_at self.now.relations id.at) row }
         ensures counted { tally.new ≡ tally.old + 1 }
     {
         has_in(&self.parts, id, cells, tally)
@@ -194,8 +218,8 @@ impl Catalog {
     /// # Errors
     ///
     /// [`RowsRefusal::Full`] exactly where the row isn't there and the relation has
-    /// [`ROWS`](djq_lines::limits::ROWS) rows; [`RowsRefusal::NoMem`] for want of memory, and then too the
-    /// row isn't there. Nothing has changed.
+    /// [`ROWS`](djq_lines::limits::ROWS) rows; [`RowsRefusal::NoMem`] for want of memory, and then
+    /// too the row isn't there. Nothing has changed.
     pub fn add_row<L: Ledger>(
         &mut self,
         id: RelationId,
@@ -203,16 +227,17 @@ impl Catalog {
         tally: &mut Tally<L>,
     ) -> Result<AddOutcome, RowsRefusal>
         requires there { id.at < length self.old.relations }
-        requires row { AreCells self.old.texts (relation_at self.old.relations id.at).types cells.now }
-        ensures adds { (row : Tuple) → StandFor self.old.texts (relation_at self.old.relations id.at).types cells.now row → AddsRow self.old.relations id.at row result self.new.relations }
+        requires row { AreCellsOf self.old id.at cells.now }
+        ensures adds { (row : Tuple) → StandForRow self.old id.at cells.now row
+            → AddsRow self.old.relations id.at row result self.new.relations }
         ensures texts { self.new.texts ≡ self.old.texts }
         ensures counted { tally.new ≤ tally.old + 2 }
     {
         add_in(&mut self.parts, id, cells, tally)
     }
 
-    /// Deletes the row that cells stand for, where it is there. It takes no memory, and counts two at
-    /// most.
+    /// Deletes the row that cells stand for, where it is there. It takes no memory, and counts two
+    /// at most.
     pub fn delete_row<L: Ledger>(
         &mut self,
         id: RelationId,
@@ -220,8 +245,9 @@ impl Catalog {
         tally: &mut Tally<L>,
     ) -> DeleteOutcome
         requires there { id.at < length self.old.relations }
-        requires row { AreCells self.old.texts (relation_at self.old.relations id.at).types cells.now }
-        ensures deletes { (row : Tuple) → StandFor self.old.texts (relation_at self.old.relations id.at).types cells.now row → DeletesRow self.old.relations id.at row result self.new.relations }
+        requires row { AreCellsOf self.old id.at cells.now }
+        ensures deletes { (row : Tuple) → StandForRow self.old id.at cells.now row
+            → DeletesRow self.old.relations id.at row result self.new.relations }
         ensures texts { self.new.texts ≡ self.old.texts }
         ensures counted { tally.new ≤ tally.old + 2 }
     {
@@ -231,7 +257,8 @@ impl Catalog {
     /// The value that a cell of a column stands for. Its text is lent, so it takes no memory.
     pub fn value(&self, column: ColumnType, cell: u64) -> Lent<'_>
         requires { IsCell self.now.texts column cell }
-        ensures { (value : Datum) → StandsFor self.now.texts column cell value → value_lent result ≡ value }
+        ensures { (value : Datum) → StandsFor self.now.texts column cell value
+            → value_lent result ≡ value }
     {
         value_in(&self.parts.texts, column, cell)
     }

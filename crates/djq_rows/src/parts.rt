@@ -1,8 +1,15 @@
 ghost use Rattle.std.specs.Prelude.{◌≡◌, ℕ, ◌+◌, ◌<◌, ◌≤◌, [], length, map, IfOk, OnOk, OnErr};
 ghost use Rattle.djq_model.specs.Data.{Tuple, has_row};
-ghost use Rattle.djq_rows.specs.Cells.{cells_of, StandFor, AreCells};
-ghost use Rattle.djq_rows.specs.Catalog.{IsCatalog, relation_at, rows_at};
-ghost use Rattle.djq_rows.specs.Changes.{MakesRelation, FindsRelation, AddsRow, DeletesRow, InternsValue, InternsRow};
+ghost use Rattle.djq_rows.specs.Cells.{cells_of};
+ghost use Rattle.djq_rows.specs.Catalog.{IsCatalog, StandForRow, AreCellsOf, rows_at};
+ghost use Rattle.djq_rows.specs.Changes.{
+  MakesRelation,
+  FindsRelation,
+  AddsRow,
+  DeletesRow,
+  InternsValue,
+  InternsRow,
+};
 ghost use Rattle.djq_dict.specs.Known.{IsUnknown};
 ghost use Rattle.djq_rows.specs.Parts.{IsParts, Pushes, catalog_of};
 
@@ -76,7 +83,8 @@ pub fn make_in(parts: &mut Parts, name: Name, types: Types) -> Result<RelationId
     requires parts { IsParts parts.old }
     requires narrow { length types ≤ COLUMNS }
     ensures parts { IsParts parts.new }
-    ensures makes { MakesRelation (catalog_of parts.old).relations name types result (catalog_of parts.new).relations }
+    ensures makes { MakesRelation (catalog_of parts.old).relations name types result
+        (catalog_of parts.new).relations }
     ensures texts { parts.new.texts ≡ parts.old.texts }
 {
     if find_in(parts, &name).is_some() {
@@ -119,7 +127,8 @@ fn push_in(parts: &mut Parts, name: Name, types: Types) -> Result<(), NoMem>
 pub fn has_in<L: Ledger>(parts: &Parts, id: RelationId, cells: &[u64], tally: &mut Tally<L>) -> bool
     requires parts { IsParts parts.now }
     requires there { id.at < length (catalog_of parts.now).relations }
-    ensures has { (row : Tuple) → StandFor parts.now.texts (relation_at (catalog_of parts.now).relations id.at).types cells.now row → result ≡ has_row (rows_at (catalog_of parts.now).relations id.at) row }
+    ensures has { (row : Tuple) → StandForRow (catalog_of parts.now) id.at cells.now row
+        → result ≡ has_row (rows_at (catalog_of parts.now).relations id.at) row }
     ensures counted { tally.new ≡ tally.old + 1 }
 {
     parts.kept[id.at].has(cells, tally)
@@ -134,9 +143,11 @@ pub fn add_in<L: Ledger>(
 ) -> Result<AddOutcome, RowsRefusal>
     requires parts { IsParts parts.old }
     requires there { id.at < length (catalog_of parts.old).relations }
-    requires row { AreCells parts.old.texts (relation_at (catalog_of parts.old).relations id.at).types cells.now }
+    requires row { AreCellsOf (catalog_of parts.old) id.at cells.now }
     ensures parts { IsParts parts.new }
-    ensures adds { (row : Tuple) → StandFor parts.old.texts (relation_at (catalog_of parts.old).relations id.at).types cells.now row → AddsRow (catalog_of parts.old).relations id.at row result (catalog_of parts.new).relations }
+    ensures adds { (row : Tuple) → StandForRow (catalog_of parts.old) id.at cells.now row
+        → AddsRow (catalog_of parts.old).relations id.at row result
+        (catalog_of parts.new).relations }
     ensures texts { parts.new.texts ≡ parts.old.texts }
     ensures counted { tally.new ≤ tally.old + 2 }
 {
@@ -152,9 +163,11 @@ pub fn delete_in<L: Ledger>(
 ) -> DeleteOutcome
     requires parts { IsParts parts.old }
     requires there { id.at < length (catalog_of parts.old).relations }
-    requires row { AreCells parts.old.texts (relation_at (catalog_of parts.old).relations id.at).types cells.now }
+    requires row { AreCellsOf (catalog_of parts.old) id.at cells.now }
     ensures parts { IsParts parts.new }
-    ensures deletes { (row : Tuple) → StandFor parts.old.texts (relation_at (catalog_of parts.old).relations id.at).types cells.now row → DeletesRow (catalog_of parts.old).relations id.at row result (catalog_of parts.new).relations }
+    ensures deletes { (row : Tuple) → StandForRow (catalog_of parts.old) id.at cells.now row
+        → DeletesRow (catalog_of parts.old).relations id.at row result
+        (catalog_of parts.new).relations }
     ensures texts { parts.new.texts ≡ parts.old.texts }
     ensures counted { tally.new ≤ tally.old + 2 }
 {
@@ -186,7 +199,8 @@ pub fn intern_all_in(parts: &mut Parts, row: &[Value]) -> Result<Cells, InternRe
 pub fn walk_in<'a, L: Ledger>(parts: &'a Parts, id: RelationId, tally: &mut Tally<L>) -> Walk<'a>
     requires parts { IsParts parts.now }
     requires there { id.at < length (catalog_of parts.now).relations }
-    ensures rest { result ≡ map (cells_of parts.now.texts) (rows_at (catalog_of parts.now).relations id.at) }
+    ensures rest { result ≡ map (cells_of parts.now.texts)
+        (rows_at (catalog_of parts.now).relations id.at) }
     ensures counted { tally.new ≡ tally.old + 1 }
 {
     Walk::new(&parts.kept[id.at].table, tally)

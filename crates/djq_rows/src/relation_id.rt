@@ -1,4 +1,4 @@
-/// Names a relation of a catalog: its place among the relations, in the order in which they were made.
+/// Names a relation of a catalog: its place among the relations, in the order of their making.
 #[derive(Clone, Copy, Debug, PartialEq, Eq)]
 pub struct RelationId {
     /// The place.
