@@ -109,5 +109,5 @@ pub record Pushes (old : Parts) (name : Bytes) (types : List ColumnType) (new : 
     pub empty : table ≡ record { width = length types; key = []; entries = [] }
     pub names : new.names ≡ old.names ++ name ∷ []
     pub named : AllDifferent new.names
-    pub kept : new.kept.items ≡ old.kept.items ++ record { name = name; types = types; table = table }
-        ∷ []
+    pub kept : new.kept.items
+        ≡ old.kept.items ++ record { name = name; types = types; table = table } ∷ []
