@@ -16,20 +16,9 @@ use Rattle.djq_lines.specs.declared.answer.AddOutcome.{AddOutcome}
 use Rattle.djq_lines.specs.declared.answer.AddOutcome.TheVariants.{Added, Same}
 use Rattle.djq_lines.specs.declared.answer.DeleteOutcome.{DeleteOutcome}
 use Rattle.djq_lines.specs.declared.answer.DeleteOutcome.TheVariants.{Removed, Absent}
+pub use Rattle.djq_lines.specs.Columns.{types_of, is_of}
 use Rattle.djq_machine.specs.State.{Store}
 use Rattle.djq_machine.specs.Conditions.{first_of, Answers, OutOfMemoryWhere}
-
--- the column types of a relation; none where there is no relation
-abbrev pub types_of : Option Relation → List ColumnType
-types_of None = []
-types_of (Some r) = r.types
-
--- whether a value is of a column's type
-abbrev pub is_of : ColumnType → Value → Bool
-is_of IntColumn (Int i) = true
-is_of TextColumn (Text t) = true
-is_of IntColumn (Text t) = false
-is_of TextColumn (Int i) = false
 
 -- whether each value is of its column's type
 abbrev pub fits : List ColumnType → Tuple → Bool

@@ -1,0 +1,5 @@
+pub mod Columns
+pub mod Relating
+pub mod Differing
+pub mod Counting
+pub mod Faults
