@@ -1,11 +1,11 @@
 use Rattle.std.proofs.Common.{ℕ, List, ◌∷◌, ◌++◌, [], length, take, ap, sym, arith, ◌∙◌}
 use Rattle.std.specs.Prelude.{slice_index_or}
 use Rattle.std.proofs.lemmas.List.{length-take-le}
-use Rattle.djq_reduct.proofs.Picking.{pick_none, pick_on, length_pick, column_below}
-use Rattle.djq_reduct.proofs.cells.Cells.pick.Goals as goal
+use Rattle.djq_index.proofs.Columns.{pick_nil, pick_more, length_pick, column_below}
+use Rattle.djq_index.proofs.cells.Cells.pick.Goals as goal
 
 pub loop-column-init : goal.loop-column-init
-loop-column-init c = c.new-picked.ensures ∙ sym (pick_none c.args.tuple.now)
+loop-column-init c = c.new-picked.ensures ∙ sym (pick_nil c.args.tuple.now)
 
 pub offset_bounds-tuple-column : goal.offset_bounds-tuple-column
 offset_bounds-tuple-column c =
@@ -29,4 +29,4 @@ pub loop-column-preserved : goal.loop-column-preserved
 loop-column-preserved c =
     c.push.ensures
     ∙ ap (λ (l : List ℕ). l ++ slice_index_or c.args.tuple.now (slice_index_or c.args.columns.now c.loop-column.column-index 0) 0 ∷ []) c.loop-column.invariant
-    ∙ pick_on c.args.columns.now c.args.tuple.now c.loop-column.column-index c.loop-column-test.true
+    ∙ sym (pick_more c.args.columns.now c.loop-column.column-index c.args.tuple.now c.loop-column-test.true)

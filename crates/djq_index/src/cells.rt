@@ -7,7 +7,7 @@ use std::marker::Model;
 /// How many cells there is room for.
 pub const CELLS: usize = 16;
 
-/// The cells of a tuple or an answer, which stand inline, so that they take no memory.
+/// The cells of a tuple, which stand inline, so that they take no memory.
 #[derive(Debug, Drop)]
 pub struct Cells {
     cells: [u64; CELLS],
@@ -25,9 +25,6 @@ impl Model for Cells {
 
     ghost invariant = { λ a. a.len ≤ 16 };
 }
-
-/// An answer: a cell for each variable of the head, in rising order of the variables.
-pub type Answer = Cells;
 
 impl Cells {
     /// This many cells, all zero.
@@ -98,5 +95,24 @@ impl Cells {
             picked.push(tuple[*column]);
         }
         picked
+    }
+}
+
+#[cfg(test)]
+mod tests {
+    use super::*;
+
+    #[test]
+    fn writes_cells(rt: HostRuntime) {
+        let mut cells = Cells::new(3);
+        cells.set(1, 5);
+        cells.set(2, 7);
+        assert_eq!(rt; cells.len(), 3);
+        assert_eq!(rt; cells.as_slice(), [0, 5, 7].as_slice());
+        cells.push(9);
+        let copy = Cells::from_slice(cells.as_slice());
+        assert_eq!(rt; copy.as_slice(), [0, 5, 7, 9].as_slice());
+        let picked = Cells::pick(&[0, 5, 7], &[2, 0]);
+        assert_eq!(rt; picked.as_slice(), [7, 0].as_slice());
     }
 }
