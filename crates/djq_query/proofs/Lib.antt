@@ -3,3 +3,4 @@ pub mod Relating
 pub mod Differing
 pub mod Counting
 pub mod Faults
+pub mod Numbering

@@ -1,3 +1,4 @@
 pub mod Relations
 pub mod Clashes
 pub mod Standing
+pub mod Numbered
