@@ -63,3 +63,27 @@ clash_over rs q atoms e = ap (λ (ats : List Atom). any_place (λ t c. any_place
 
 pub unbound_over : (q : Query) (atoms : List Atom) (head : List Bytes) → atoms ≡ q.atoms → head ≡ q.head → has_unbound_head q ≡ list_any (λ x. not (stands_in atoms x)) head
 unbound_over q atoms head e f = ap₂ (λ (ats : List Atom) (xs : List Bytes). list_any (λ x. not (stands_in ats x)) xs) (sym e) (sym f)
+
+-- a query without a fault
+
+peel : (b : Bool) (r : Refusal) (o : Option Refusal) → cond b (Some r) o ≡ None → (b ≡ false) × (o ≡ None)
+peel true r o e = absurd cc
+peel false r o e = (refl, e)
+
+pub record IsSound (rs : List Relation) (q : Query) : Type 0 where
+  pub known : reads_unknown rs q ≡ false
+  pub arity : has_wrong_arity rs q ≡ false
+  pub clashes : has_clash rs q ≡ false
+  pub bound : has_unbound_head q ≡ false
+  pub small : is_too_large q ≡ false
+
+pub sound_of : (rs : List Relation) (q : Query) → query_fault rs q ≡ None → IsSound rs q
+sound_of rs q e =
+    let a = peel (reads_unknown rs q) NoRelation _ e in
+    let b = peel (has_wrong_arity rs q) Arity _ a.1 in
+    let c = peel (has_misfit rs q) WrongType _ b.1 in
+    let d = peel (has_clash rs q) VariableType _ c.1 in
+    let f = peel (repeats_head q) HeadRepeated _ d.1 in
+    let g = peel (has_unbound_head q) HeadUnbound _ f.1 in
+    let h = peel (is_too_large q) Limit None g.1 in
+    record { known = a.0; arity = b.0; clashes = d.0; bound = g.0; small = h.0 }

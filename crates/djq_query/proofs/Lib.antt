@@ -3,4 +3,6 @@ pub mod Relating
 pub mod Differing
 pub mod Counting
 pub mod Faults
-pub mod Numbering
+pub mod Numbers
+pub mod Within
+pub mod Edging

@@ -1,5 +1,5 @@
 -- Queries over numbers, and the numbering of a query.
-use Rattle.std.specs.Prelude.{ℕ, List, [], ◌∷◌, ◌++◌, ◌≡◌, ◌≤◌, Bool, true, false, nat_lt, Option, None, Some, if◌then◌else◌, length, map, slice_get}
+use Rattle.std.specs.Prelude.{ℕ, ◌==◌, List, [], ◌∷◌, ◌++◌, ◌≡◌, ◌≤◌, Bool, true, false, nat_lt, Option, None, Some, if◌then◌else◌, length, map, slice_get}
 use Rattle.std.specs.List.{list_all, list_any, fold, position_or_len}
 use Rattle.djq_model.specs.declared.relation.ColumnType.{ColumnType}
 use Rattle.djq_model.specs.declared.relation.Relation.{Relation}
@@ -90,3 +90,16 @@ pub record IsWithin (n : Numbered) : Type 0 where
   pub body : list_all (λ a. are_below (length n.variables) a.terms) n.atoms ≡ true
   pub narrow : length n.head ≤ HEAD_VARIABLES
   pub head : list_all (λ x. nat_lt x (length n.variables)) n.head ≡ true
+
+-- whether a term is the variable of this number
+abbrev pub is_number : ℕ → NumberedTerm → Bool
+is_number x (Number y) = x == y
+is_number x (Fixed v) = false
+
+-- the terms of the atom at a place, none past the end
+abbrev pub terms_in : Option NumberedAtom → List NumberedTerm
+terms_in None = []
+terms_in (Some a) = a.terms
+
+abbrev pub terms_at : List NumberedAtom → ℕ → List NumberedTerm
+terms_at atoms p = terms_in (slice_get atoms p)

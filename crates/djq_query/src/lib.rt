@@ -3,11 +3,13 @@
 
 pub use fault::query_fault;
 pub use numbered::{NumberedAtom, NumberedQuery, NumberedTerm, Variable};
+pub use numbering::number;
 pub use relations::Relations;
 
+mod edges;
 mod fault;
-mod number;
 mod numbered;
+mod numbering;
 mod places;
 mod relations;
 mod variables;

@@ -1,4 +1,5 @@
 ghost use Rattle.std.specs.Prelude.{◌≡◌};
+ghost use Rattle.djq_query.specs.Numbered.{IsWithin};
 
 use djq_model::{ColumnType, Name, Sequence, Value};
 use std::marker::Model;
@@ -50,6 +51,22 @@ impl Model for NumberedQuery {
 }
 
 impl NumberedQuery {
+    /// A query of these parts.
+    pub(crate) fn new(
+        head: Sequence<usize>,
+        atoms: Sequence<NumberedAtom>,
+        variables: Sequence<Variable>,
+    ) -> Self
+        requires { IsWithin (record { head = head; atoms = atoms; variables = variables }) }
+        ensures { result ≡ record { head = head; atoms = atoms; variables = variables } }
+    {
+        NumberedQuery {
+            head,
+            atoms,
+            variables,
+        }
+    }
+
     /// The numbers of the head's variables, in the head's order.
     pub fn head(&self) -> &[usize]
         ensures { result.now ≡ self.now.head }
@@ -69,5 +86,12 @@ impl NumberedQuery {
         ensures { result.now ≡ self.now.variables }
     {
         self.variables.as_slice()
+    }
+
+    /// The law that each number is that of a variable, and that there are few of them. It does nothing.
+    pub fn within(&self)
+        ensures { IsWithin self.now }
+    {
+        let _head = &self.head;
     }
 }

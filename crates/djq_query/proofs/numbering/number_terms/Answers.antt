@@ -2,8 +2,8 @@ use Rattle.std.proofs.Common.{◌≡◌, ◌+◌, refl, sym, ap, ap₂, ◌∙�
 use Rattle.djq_query.specs.declared.numbered.NumberedTerm.{NumberedTerm}
 use Rattle.djq_query.specs.declared.numbered.Variable.{Variable}
 use Rattle.djq_query.specs.Numbered.{labels, numbered, numbered_terms, with_places}
-use Rattle.djq_query.proofs.Numbering.{numbered_step, numbered_end, places_step, places_end}
-use Rattle.djq_query.proofs.number.number_terms.Goals as goal
+use Rattle.djq_query.proofs.Numbers.{numbered_step, numbered_end, places_step, places_end}
+use Rattle.djq_query.proofs.numbering.number_terms.Goals as goal
 
 pub terms-preserved : goal.terms-preserved
 terms-preserved c = record {

@@ -1,6 +1,6 @@
 use Rattle.std.proofs.Common.{◌≡◌, ◌++◌, drop}
 use Rattle.djq_query.specs.Numbered.{labels, numbered_terms, with_places}
-use Rattle.djq_query.proofs.number.number_terms.Given as goal
+use Rattle.djq_query.proofs.numbering.number_terms.Given as goal
 
 abbrev pub invariant-terms : goal.invariant-terms
 invariant-terms l = record {

@@ -2,8 +2,8 @@ use Rattle.std.proofs.Common.{◌≡◌, sym, ap, ◌∙◌, List}
 use Rattle.std.specs.Prelude.{position, Some, None}
 use Rattle.djq_lines.specs.Variables.{is_named}
 use Rattle.djq_query.specs.declared.numbered.Variable.{Variable}
-use Rattle.djq_query.proofs.Numbering.{known_found, known_missed, with_known, with_unknown}
-use Rattle.djq_query.proofs.number.number_name.Goals as goal
+use Rattle.djq_query.proofs.Numbers.{known_found, known_missed, with_known, with_unknown}
+use Rattle.djq_query.proofs.numbering.number_name.Goals as goal
 
 pub returns-in-Some-clause-number : goal.returns-in-Some-clause-number
 returns-in-Some-clause-number c =

@@ -1,6 +1,6 @@
 use Rattle.std.proofs.Common.{sym, ◌∙◌}
-use Rattle.djq_query.proofs.Numbering.{with_hole, with_constant}
-use Rattle.djq_query.proofs.number.number_term.Goals as goal
+use Rattle.djq_query.proofs.Numbers.{with_hole, with_constant}
+use Rattle.djq_query.proofs.numbering.number_term.Goals as goal
 
 pub returns-in_ok-push-in-Hole-clause-known : goal.returns-in_ok-push-in-Hole-clause-known
 returns-in_ok-push-in-Hole-clause-known c = c.in_ok-push-in-Hole.ensures.ok ∙ sym (with_hole c.args.known.now c.args.term.now c.args.column c.in-Hole.is)

@@ -1,4 +1,4 @@
-ghost use Rattle.std.specs.Prelude.{◌≡◌, IfOk, OnOk, length, map, is_none, position, false, ⊤, None};
+ghost use Rattle.std.specs.Prelude.{◌≡◌, IfOk, OnOk, length, map, is_none, not, ◌==◌, position, false, ⊤, None};
 ghost use Rattle.std.specs.List.{list_any, fold};
 ghost use Rattle.djq_model.specs.Data.{relation_of};
 ghost use Rattle.djq_lines.specs.Columns.{columns_of};
@@ -122,4 +122,70 @@ fn number_atom<R: Relations>(
     let columns = relations.columns(relation);
     let terms = number_terms(alloc, known, atom.terms.as_slice(), columns)?;
     Ok(NumberedAtom { relation, terms })
+}
+
+// The atoms of a body by number.
+fn number_body<R: Relations>(
+    alloc: Global,
+    relations: &R,
+    known: &mut Sequence<Variable>,
+    atoms: &[Atom],
+) -> Result<Sequence<NumberedAtom>, NoMem>
+    requires there { list_any (λ a. is_none (relation_of (R.relations relations.now) a.relation)) atoms.now ≡ false }
+    requires arity { list_any (λ a. not (length a.terms == length (columns_of (R.relations relations.now) a.relation))) atoms.now ≡ false }
+    ensures atoms { IfOk result (λ ns. AreNumbered (R.relations relations.now) (labels known.old) atoms.now ns) }
+    ensures known { OnOk result (known.new ≡ fold (with_columns (R.relations relations.now)) known.old atoms.now) }
+{
+    let mut numbered = Sequence::new(alloc);
+    'atoms: for i in 0..atoms.len() {
+        numbered.push(number_atom(alloc, relations, known, &atoms[i])?)?;
+    }
+    Ok(numbered)
+}
+
+// The numbers of a head's names.
+fn number_head(alloc: Global, known: &[Variable], head: &[Name]) -> Result<Sequence<usize>, NoMem>
+    ensures { IfOk result (λ ns. ns ≡ map (number_of (labels known.now)) head.now) }
+{
+    let mut numbers = Sequence::new(alloc);
+    for name in head {
+        numbers.push(place_of(known, name).unwrap_or(known.len()))?;
+    }
+    Ok(numbers)
+}
+
+/// The query by number over relations.
+///
+/// # Errors
+///
+/// Each refusal of [`query_fault`] exactly where that gives it; `NoMemory` out of memory.
+pub fn number<R: Relations>(
+    alloc: Global,
+    relations: &R,
+    query: &Query,
+) -> Result<NumberedQuery, Refusal>
+    ensures { Answers (query_fault_of (R.relations relations.now) query.now) result (IsNumbered (R.relations relations.now) query.now) (OutOfMemoryWhere ⊤) }
+{
+    if let Some(refusal) = query_fault(relations, query) {
+        return Err(refusal);
+    }
+    match number_sound(alloc, relations, query) {
+        Ok(numbered) => Ok(numbered),
+        Err(NoMem) => Err(Refusal::NoMemory),
+    }
+}
+
+// A query without a fault by number.
+fn number_sound<R: Relations>(
+    alloc: Global,
+    relations: &R,
+    query: &Query,
+) -> Result<NumberedQuery, NoMem>
+    requires { query_fault_of (R.relations relations.now) query.now ≡ None }
+    ensures { IfOk result (IsNumbered (R.relations relations.now) query.now) }
+{
+    let mut variables = Sequence::new(alloc);
+    let atoms = number_body(alloc, relations, &mut variables, query.atoms.as_slice())?;
+    let head = number_head(alloc, variables.as_slice(), query.head.as_slice())?;
+    Ok(NumberedQuery::new(head, atoms, variables))
 }
