@@ -6,3 +6,4 @@ pub mod Faults
 pub mod Numbers
 pub mod Within
 pub mod Edging
+pub mod Matching

@@ -2,3 +2,4 @@ pub mod Relations
 pub mod Clashes
 pub mod Standing
 pub mod Numbered
+pub mod Pattern
