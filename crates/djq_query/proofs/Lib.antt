@@ -7,3 +7,4 @@ pub mod Numbers
 pub mod Within
 pub mod Edging
 pub mod Matching
+pub mod Binding

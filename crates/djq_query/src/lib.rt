@@ -7,6 +7,7 @@ pub use numbering::number;
 pub use pattern::{Pattern, Slot};
 pub use relations::Relations;
 
+mod bind;
 mod edges;
 mod fault;
 mod numbered;

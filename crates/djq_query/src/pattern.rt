@@ -1,5 +1,5 @@
 ghost use Rattle.std.specs.Prelude.{◌≡◌, ◌↔◌, ℕ, List, ◌<◌, ◌≤◌, Some, true, length, IfOk, IfSome};
-ghost use Rattle.djq_query.specs.Pattern.{cell_of, filled, is_within, put_cell};
+ghost use Rattle.djq_query.specs.Pattern.{cell_of, filled, is_within, put_cell, IsPattern};
 
 use djq_index::Cells;
 use djq_model::Sequence;
@@ -57,6 +57,14 @@ fn put(tuple: &mut Cells, slot: Slot, cell: u64)
 }
 
 impl Pattern {
+    /// A pattern of these parts.
+    pub(crate) fn new(width: usize, slots: Sequence<Slot>) -> Self
+        requires { IsPattern (record { width = width; slots = slots }) }
+        ensures { result ≡ record { width = width; slots = slots } }
+    {
+        Pattern { width, slots }
+    }
+
     /// How many variables the atom has.
     pub fn width(&self) -> usize
         ensures { result ≡ self.now.width }
