@@ -8,3 +8,4 @@ pub mod Within
 pub mod Edging
 pub mod Matching
 pub mod Binding
+pub mod Found

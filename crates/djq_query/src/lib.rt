@@ -16,3 +16,5 @@ mod pattern;
 mod places;
 mod relations;
 mod variables;
+#[cfg(test)]
+mod tests;

@@ -72,6 +72,13 @@ impl Pattern {
         self.width
     }
 
+    /// How many columns it has.
+    pub fn columns(&self) -> usize
+        ensures { result ≡ length self.now.slots }
+    {
+        self.slots.len()
+    }
+
     /// The tuple of a row: its cells at the variables, where its constants are the atom's and a variable
     /// that stands twice has one cell. `None` exactly where no tuple put into the atom gives the row.
     /// It takes no memory.
