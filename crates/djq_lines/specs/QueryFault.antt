@@ -24,7 +24,8 @@ any_column p (t ∷ ts) (c ∷ cs) = p t c || any_column p ts cs
 
 -- the same somewhere in a body
 abbrev pub any_place : (Term → ColumnType → Bool) → List Relation → List Atom → Bool
-any_place p relations atoms = list_any (λ a. any_column p a.terms (columns_of relations a.relation)) atoms
+any_place p relations atoms =
+    list_any (λ a. any_column p a.terms (columns_of relations a.relation)) atoms
 
 -- An atom is over a relation that isn't there.
 abbrev pub reads_unknown : List Relation → Query → Bool
@@ -32,7 +33,8 @@ reads_unknown relations q = list_any (λ a. is_none (relation_of relations a.rel
 
 -- An atom has another number of terms than its relation has columns.
 abbrev pub has_wrong_arity : List Relation → Query → Bool
-has_wrong_arity relations q = list_any (λ a. not (length a.terms == length (columns_of relations a.relation))) q.atoms
+has_wrong_arity relations q =
+    list_any (λ a. not (length a.terms == length (columns_of relations a.relation))) q.atoms
 
 -- a constant at a column of another type
 abbrev pub is_misfit : Term → ColumnType → Bool
@@ -51,7 +53,8 @@ is_clash _ c _ d = false
 
 -- A variable stands at columns of two types.
 abbrev pub has_clash : List Relation → Query → Bool
-has_clash relations q = any_place (λ t c. any_place (is_clash t c) relations q.atoms) relations q.atoms
+has_clash relations q =
+    any_place (λ t c. any_place (is_clash t c) relations q.atoms) relations q.atoms
 
 -- A variable stands in the head twice.
 abbrev pub repeats_head : Query → Bool
@@ -63,7 +66,8 @@ has_unbound_head q = list_any (λ x. not (stands_in q.atoms x)) q.head
 
 -- It has too many atoms, variables or head variables.
 abbrev pub is_too_large : Query → Bool
-is_too_large q = nat_lt ATOMS (length q.atoms) || (nat_lt VARIABLES (length (variables_of q.atoms)) || nat_lt HEAD_VARIABLES (length q.head))
+is_too_large q =
+    nat_lt ATOMS (length q.atoms) || (nat_lt VARIABLES (length (variables_of q.atoms)) || nat_lt HEAD_VARIABLES (length q.head))
 
 -- what is wrong with a query, in the order in which it is tried
 abbrev pub query_faults : List Relation → Query → List (Bool × Refusal)

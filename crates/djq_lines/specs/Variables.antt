@@ -29,7 +29,8 @@ is_named x None = false
 abbrev pub is_known : List Label → Bytes → Bool
 is_known known x = list_any (is_named x) known
 
--- the variables that are known behind a term: a name becomes so where it first stands, and each hole is one of its own
+-- the variables that are known behind a term: a name becomes so where it first stands, and each
+-- hole is one of its own
 abbrev pub with_term : List Label → Term → List Label
 with_term known (Variable x) = if is_known known x then known else known ++ Some x ∷ []
 with_term known Hole = known ++ None ∷ []

@@ -1,9 +1,9 @@
 -- Atoms over the places of their variables.
-use Rattle.std.proofs.Common.{◌≡◌, ℕ, zero, suc, ◌+◌, ◌<◌, ◌≤◌, List, [], ◌∷◌, ◌++◌, Bool, true, false, length, get_or, drop, refl, sym, subst, ap, ap₂, ◌∙◌, arith, inl, inr, append_assoc, add-one, drop-cons, length-append, ltb, ◌-◌}
-use Rattle.std.specs.Prelude.{Option, None, Some, cond, not, position, unwrap_or, option_to_list, slice_index, ◌||◌, ◌&&◌, ◌==◌}
+use Rattle.std.proofs.Common.{◌≡◌, ℕ, zero, suc, ◌+◌, ◌<◌, ◌≤◌, List, [], ◌∷◌, ◌++◌, Bool, true, false, length, get_or, drop, refl, sym, ap, ap₂, ◌∙◌, arith, inl, inr, append_assoc, add-one, drop-cons, length-append, ltb, ◌-◌}
+use Rattle.std.specs.Prelude.{Option, None, Some, cond, not, position, unwrap_or, option_to_list, ◌||◌, ◌&&◌, ◌==◌}
 use Rattle.std.specs.List.{list_all, list_any, position_or_len, prefix_len}
 use Rattle.std.specs.List.Sorted.{IsStrictlyIncreasing}
-use Rattle.std.proofs.lemmas.Bool.{cases_eq, cases_lt, eq-eqb, ne_eqb, false≢true, lt-ltb, le-ltb, ltb-false}
+use Rattle.std.proofs.lemmas.Bool.{cases_eq, eq-eqb, ne_eqb, false≢true, lt-ltb, ltb-false}
 use Rattle.std.proofs.lemmas.List.{append-nil, drop_all}
 use Rattle.std.proofs.lemmas.List.Sums.{position_or_len_is}
 use Rattle.djq_model.specs.declared.value.Value.{Value}
@@ -13,7 +13,7 @@ use Rattle.djq_query.specs.declared.numbered.NumberedTerm.TheVariants.{Variable 
 use Rattle.djq_query.specs.declared.pattern.Slot.{Slot}
 use Rattle.djq_query.specs.declared.pattern.Slot.TheVariants.{Place, Cell}
 use Rattle.djq_query.specs.Numbered.{is_number}
-use Rattle.djq_query.specs.Pattern.{Shape, IsPattern, is_place, is_within, slot_of, bound}
+use Rattle.djq_query.specs.Pattern.{IsPattern, is_place, is_within, slot_of, bound}
 use Rattle.djq_query.proofs.Columns.{from_place}
 
 -- the members of a set, one after another

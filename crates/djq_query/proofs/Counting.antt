@@ -1,5 +1,5 @@
 -- How many variables are known behind terms and atoms.
-use Rattle.std.proofs.Common.{◌≡◌, ℕ, zero, suc, ◌+◌, ◌<◌, ◌≤◌, List, [], ◌∷◌, ◌++◌, Bool, true, false, length, get_or, take, drop, refl, sym, subst, ap, ap₂, ◌∙◌, arith, length-append, ltb, add-zero}
+use Rattle.std.proofs.Common.{◌≡◌, ℕ, ◌+◌, ◌<◌, ◌≤◌, List, [], ◌∷◌, ◌++◌, Bool, true, false, length, get_or, take, drop, refl, sym, subst, ap, ◌∙◌, arith, length-append, ltb, add-zero}
 use Rattle.std.specs.Prelude.{not, ◌||◌, cond, None, Some}
 use Rattle.std.specs.List.{list_any, fold}
 use Rattle.std.proofs.lemmas.Bool.{lt-ltb}

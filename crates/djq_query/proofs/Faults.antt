@@ -1,5 +1,5 @@
 -- The first fault of a query, told by the conditions in front of it.
-use Rattle.std.proofs.Common.{◌≡◌, List, Bool, true, false, refl, sym, ap, ap₂, ◌∙◌}
+use Rattle.std.proofs.Common.{◌≡◌, List, Bool, true, false, refl, sym, ap, ap₂}
 use Rattle.std.specs.Prelude.{Option, None, Some, cond, not}
 use Rattle.djq_model.specs.declared.relation.Relation.{Relation}
 use Rattle.djq_model.specs.declared.query.Query.{Query}

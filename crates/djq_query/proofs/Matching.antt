@@ -1,6 +1,6 @@
 -- Rows that an atom gives, column by column.
-use Rattle.std.proofs.Common.{◌≡◌, ℕ, ◌+◌, ◌<◌, ◌≤◌, List, [], ◌∷◌, ◌++◌, Bool, true, false, length, get_or, set, take, refl, sym, subst, ap, ap₂, ◌∙◌, arith, inl, inr, length-set}
-use Rattle.std.specs.Prelude.{◌||◌, slice_index, slice_set, map, ◌↔◌, Some, None}
+use Rattle.std.proofs.Common.{◌≡◌, ℕ, ◌+◌, ◌<◌, ◌≤◌, List, [], ◌∷◌, ◌++◌, Bool, true, false, length, get_or, set, take, refl, sym, ap, ap₂, ◌∙◌, arith, inl, inr, length-set}
+use Rattle.std.specs.Prelude.{◌||◌, slice_index, map, ◌↔◌, Some, None}
 use Rattle.std.specs.List.{list_all, list_any}
 use Rattle.std.proofs.lemmas.Bool.{cases_eq, ne_eqb, false≢true, ltb-true}
 use Rattle.std.proofs.lemmas.List.{get_or_default, get_or-map, get_or-set_same, get_or-set_other, take_all, take_more, map-append}

@@ -1,5 +1,5 @@
 -- Numbers of names, terms and atoms.
-use Rattle.std.proofs.Common.{◌≡◌, ℕ, zero, suc, ◌+◌, ◌<◌, ◌≤◌, List, [], ◌∷◌, ◌++◌, Bool, true, false, length, get_or, take, drop, refl, sym, subst, ap, ap₂, ◌∙◌, arith, ltb, append_assoc, add-one, drop-cons, length-append}
+use Rattle.std.proofs.Common.{◌≡◌, ℕ, suc, ◌+◌, ◌<◌, ◌≤◌, List, [], ◌∷◌, ◌++◌, Bool, true, false, length, get_or, take, drop, refl, sym, subst, ap, ap₂, ◌∙◌, arith, ltb, append_assoc, add-one, drop-cons, length-append}
 use Rattle.std.specs.Prelude.{unwrap_or, nat_lt, ◌&&◌, ◌==◌, Option, None, Some, cond, not, position, map, ◌||◌}
 use Rattle.std.specs.List.{fold, list_all, list_any, position_or_len, prefix_len}
 use Rattle.std.proofs.lemmas.List.{append-nil, drop_all, take_more, map-append}

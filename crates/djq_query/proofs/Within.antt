@@ -1,5 +1,5 @@
 -- Each number of a numbered query is that of a variable, and there are few of them.
-use Rattle.std.proofs.Common.{◌≡◌, ℕ, ◌≤◌, List, [], Bool, true, false, length, refl, sym, subst, ap, ap₂, ◌∙◌, arith}
+use Rattle.std.proofs.Common.{◌≡◌, ℕ, ◌≤◌, List, [], length, sym, ap, ap₂, ◌∙◌, arith}
 use Rattle.std.specs.Prelude.{None, map, nat_lt}
 use Rattle.std.specs.List.{fold, list_all}
 use Rattle.std.proofs.lemmas.Bool.{ltb-false}
@@ -11,7 +11,7 @@ use Rattle.djq_lines.specs.QueryFault.{query_fault}
 use Rattle.djq_lines.specs.Variables.{Label, variables_of}
 use Rattle.djq_query.specs.declared.numbered.NumberedAtom.{NumberedAtom}
 use Rattle.djq_query.specs.declared.numbered.Variable.{Variable}
-use Rattle.djq_query.specs.Numbered.{labels, number_of, with_columns, are_below, AreNumbered, IsWithin}
+use Rattle.djq_query.specs.Numbered.{labels, number_of, with_columns, AreNumbered, IsWithin}
 use Rattle.djq_query.proofs.Faults.{IsSound, sound_of}
 use Rattle.djq_query.proofs.Numbers.{both_false, labels_columns, length_labels, atoms_below, head_below}
 

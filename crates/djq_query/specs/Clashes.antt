@@ -1,5 +1,5 @@
 -- One variable at columns of two types, place by place.
-use Rattle.std.specs.Prelude.{List, ◌&&◌, Bool, true, false, not}
+use Rattle.std.specs.Prelude.{List, ◌&&◌, Bool, false, not}
 use Rattle.djq_model.specs.declared.relation.ColumnType.{ColumnType}
 use Rattle.djq_model.specs.declared.relation.Relation.{Relation}
 use Rattle.djq_model.specs.declared.query.Atom.{Atom}

@@ -1,6 +1,6 @@
 -- Queries over numbers, and the numbering of a query.
 use Rattle.std.specs.Prelude.{ℕ, ◌==◌, List, [], ◌∷◌, ◌++◌, ◌≡◌, ◌≤◌, Bool, true, false, nat_lt, Option, None, Some, if◌then◌else◌, length, map, slice_get}
-use Rattle.std.specs.List.{list_all, list_any, fold, position_or_len}
+use Rattle.std.specs.List.{list_all, fold, position_or_len}
 use Rattle.djq_model.specs.declared.relation.ColumnType.{ColumnType}
 use Rattle.djq_model.specs.declared.relation.Relation.{Relation}
 use Rattle.djq_model.specs.declared.query.Query.{Query}
@@ -44,18 +44,21 @@ numbered_terms known (t ∷ ts) = numbered known t ∷ numbered_terms (with_term
 
 -- An atom over the same relation, with the same terms by number.
 abbrev pub IsNumberedAtom : List Relation → List Label → Atom → NumberedAtom → Type 0
-IsNumberedAtom relations known a n = (slice_get relations n.relation ≡ relation_of relations a.relation) × (n.terms ≡ numbered_terms known a.terms)
+IsNumberedAtom relations known a n =
+    (slice_get relations n.relation ≡ relation_of relations a.relation) × (n.terms ≡ numbered_terms known a.terms)
 
 unfoldable pub AreNumbered : List Relation → List Label → List Atom → List NumberedAtom → Type 0
 AreNumbered relations known [] [] = Unit {0}
-AreNumbered relations known (a ∷ atoms) (n ∷ ns) = IsNumberedAtom relations known a n × AreNumbered relations (with_atom known a) atoms ns
+AreNumbered relations known (a ∷ atoms) (n ∷ ns) =
+    IsNumberedAtom relations known a n × AreNumbered relations (with_atom known a) atoms ns
 AreNumbered relations known [] (n ∷ ns) = ⊥
 AreNumbered relations known (a ∷ atoms) [] = ⊥
 
 -- The variables with their types: that of the column where each first stands.
 
 unfoldable pub with_place : List Variable → Term → ColumnType → List Variable
-with_place known (Named x) c = if is_known (labels known) x then known else known ++ record { name = Some x; column = c } ∷ []
+with_place known (Named x) c =
+    if is_known (labels known) x then known else known ++ record { name = Some x; column = c } ∷ []
 with_place known Hole c = known ++ record { name = None; column = c } ∷ []
 with_place known (Constant v) c = known
 

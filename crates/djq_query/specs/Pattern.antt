@@ -1,5 +1,5 @@
 -- Atoms whose constants are cells, and the rows that they give.
-use Rattle.std.specs.Prelude.{ℕ, ◌==◌, ◌≡◌, ◌≤◌, ◌<◌, List, [], ◌∷◌, Bool, true, false, nat_lt, length, map, slice_index, slice_set}
+use Rattle.std.specs.Prelude.{ℕ, ◌==◌, ◌≡◌, ◌≤◌, ◌<◌, List, [], ◌∷◌, Bool, true, false, nat_lt, map, slice_index, slice_set}
 use Rattle.std.specs.List.{list_all, list_any, position_or_len}
 use Rattle.djq_query.specs.declared.numbered.NumberedTerm.{NumberedTerm}
 use Rattle.djq_query.specs.declared.numbered.NumberedTerm.TheVariants.{Variable as Number, Constant as Fixed}
@@ -41,7 +41,8 @@ pub record IsPattern (p : Shape) : Type 0 where
   pub within : list_all (is_within p.width) p.slots ≡ true
   pub all : (x : ℕ) → x < p.width → list_any (is_place x) p.slots ≡ true
 
--- What stands at the columns of an atom over these variables: the place of a variable among them, and the cell of a constant.
+-- What stands at the columns of an atom over these variables: the place of a variable among them,
+-- and the cell of a constant.
 unfoldable pub slot_of : List ℕ → NumberedTerm → ℕ → Slot
 slot_of label (Number x) c = Place (position_or_len (λ y. y == x) label)
 slot_of label (Fixed v) c = Cell c

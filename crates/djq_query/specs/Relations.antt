@@ -8,7 +8,8 @@ use Rattle.djq_lines.specs.Columns.{types_of}
 -- The number of the relation of a name; none where no relation has it.
 abbrev pub IsId : List Relation → Bytes → Option ℕ → Type 0
 IsId relations name None = relation_of relations name ≡ None
-IsId relations name (Some id) = (id < length relations) × (slice_get relations id ≡ relation_of relations name)
+IsId relations name (Some id) =
+    (id < length relations) × (slice_get relations id ≡ relation_of relations name)
 
 -- the column types of the relation of a number
 abbrev pub columns_at : List Relation → ℕ → List ColumnType

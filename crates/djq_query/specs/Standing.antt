@@ -7,7 +7,8 @@ use Rattle.djq_model.specs.declared.query.Term.TheVariants.{Variable, Hole, Cons
 use Rattle.djq_lines.specs.declared.limits.TheConstants.{VARIABLES}
 use Rattle.djq_lines.specs.Variables.{is_variable, stands_in}
 
--- whether a term is a variable that is neither in the atoms before nor among the terms before it in its atom
+-- whether a term is a variable that is neither in the atoms before nor among the terms before it
+-- in its atom
 abbrev pub is_fresh : List Atom → List Term → Term → Bool
 is_fresh before beside (Variable x) = not (stands_in before x || list_any (is_variable x) beside)
 is_fresh before beside Hole = true

@@ -61,8 +61,8 @@ fn slots_of(
 }
 
 impl NumberedAtom {
-    /// The atom with its constants bound to cells. The label is the set of its variables, and there is a
-    /// cell for each term, which is read where the term is a constant.
+    /// The atom with its constants bound to cells. The label is the set of its variables, and there
+    /// is a cell for each term, which is read where the term is a constant.
     pub fn bind(&self, alloc: Global, label: VarSet, cells: &[u64]) -> Result<Pattern, NoMem>
         requires label { (x : ℕ) → member x label ≡ list_any (is_number x) self.now.terms }
         requires narrow { length label ≤ 16 }

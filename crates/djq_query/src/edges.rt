@@ -27,7 +27,8 @@ impl NumberedQuery {
     /// The query's hypergraph: for each atom the set of its variables.
     pub fn edges(&self, alloc: Global) -> Result<Edges, NoMem>
         ensures long { IfOk result (λ es. length es ≡ length self.now.atoms) }
-        ensures edges { IfOk result (λ es. (p x : ℕ) → member x (edge_at es p) ≡ list_any (is_number x) (terms_at self.now.atoms p)) }
+        ensures edges { IfOk result (λ es. (p x : ℕ)
+            → member x (edge_at es p) ≡ list_any (is_number x) (terms_at self.now.atoms p)) }
     {
         self.within();
         let mut edges = Edges::new(alloc);

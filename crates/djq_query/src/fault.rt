@@ -8,8 +8,8 @@ use djq_lines::Refusal;
 use djq_lines::limits::{ATOMS, HEAD_VARIABLES};
 use djq_model::Query;
 
-/// Why a query can't be asked over relations: the first of these that holds, and none where none does.
-/// It takes no memory.
+/// Why a query can't be asked over relations: the first of these that holds, and none where none
+/// does. It takes no memory.
 ///
 /// | refusal | an atom, a term or the head |
 /// |---|---|

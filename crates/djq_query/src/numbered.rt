@@ -31,8 +31,8 @@ pub struct NumberedAtom {
     pub terms: Sequence<NumberedTerm>,
 }
 
-/// A query whose variables are numbered from 0 in the order in which they first stand in the body, each
-/// hole one of its own. Every number is below that of the variables, and these are 64 at most.
+/// A query whose variables are numbered from 0 in the order in which they first stand in the body,
+/// each hole one of its own. Every number is below that of the variables, and these are 64 at most.
 #[derive(Debug, Drop)]
 pub struct NumberedQuery {
     head: Sequence<usize>,

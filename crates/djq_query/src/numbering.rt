@@ -1,12 +1,40 @@
-ghost use Rattle.std.specs.Prelude.{◌≡◌, IfOk, OnOk, length, map, is_none, not, ◌==◌, position, false, ⊤, None};
+ghost use Rattle.std.specs.Prelude.{
+  ◌≡◌,
+  IfOk,
+  OnOk,
+  length,
+  map,
+  is_none,
+  not,
+  ◌==◌,
+  position,
+  false,
+  ⊤,
+  None,
+};
 ghost use Rattle.std.specs.List.{list_any, fold};
 ghost use Rattle.djq_model.specs.Data.{relation_of};
 ghost use Rattle.djq_lines.specs.Columns.{columns_of};
 ghost use Rattle.djq_lines.specs.Conditions.{Answers, OutOfMemoryWhere};
-ghost use Rattle.djq_lines.specs.QueryFault.{query_fault as query_fault_of, reads_unknown, has_wrong_arity};
+ghost use Rattle.djq_lines.specs.QueryFault.{
+  query_fault as query_fault_of,
+  reads_unknown,
+  has_wrong_arity,
+};
 ghost use Rattle.djq_lines.specs.Variables.{is_named as is_label_named};
 ghost use Rattle.djq_model.specs.declared.query.Term.TheVariants.{Variable as Named};
-ghost use Rattle.djq_query.specs.Numbered.{labels, number_of, numbered, numbered_terms, with_place, with_places, with_columns, IsNumberedAtom, AreNumbered, IsNumbered};
+ghost use Rattle.djq_query.specs.Numbered.{
+  labels,
+  number_of,
+  numbered,
+  numbered_terms,
+  with_place,
+  with_places,
+  with_columns,
+  IsNumberedAtom,
+  AreNumbered,
+  IsNumbered,
+};
 
 use crate::fault::query_fault;
 use crate::numbered::{NumberedAtom, NumberedQuery, NumberedTerm, Variable};
@@ -112,9 +140,12 @@ fn number_atom<R: Relations>(
     atom: &Atom,
 ) -> Result<NumberedAtom, NoMem>
     requires there { is_none (relation_of (R.relations relations.now) atom.now.relation) ≡ false }
-    requires arity { length atom.now.terms ≡ length (columns_of (R.relations relations.now) atom.now.relation) }
-    ensures atom { IfOk result (λ n. IsNumberedAtom (R.relations relations.now) (labels known.old) atom.now n) }
-    ensures known { OnOk result (known.new ≡ with_columns (R.relations relations.now) known.old atom.now) }
+    requires arity { length atom.now.terms ≡ length (columns_of (R.relations relations.now)
+        atom.now.relation) }
+    ensures atom { IfOk result (λ n. IsNumberedAtom (R.relations relations.now) (labels known.old)
+        atom.now n) }
+    ensures known { OnOk result (known.new
+        ≡ with_columns (R.relations relations.now) known.old atom.now) }
 {
     let Some(relation) = relations.id(&atom.relation) else {
         unreachable!();
@@ -131,10 +162,15 @@ fn number_body<R: Relations>(
     known: &mut Sequence<Variable>,
     atoms: &[Atom],
 ) -> Result<Sequence<NumberedAtom>, NoMem>
-    requires there { list_any (λ a. is_none (relation_of (R.relations relations.now) a.relation)) atoms.now ≡ false }
-    requires arity { list_any (λ a. not (length a.terms == length (columns_of (R.relations relations.now) a.relation))) atoms.now ≡ false }
-    ensures atoms { IfOk result (λ ns. AreNumbered (R.relations relations.now) (labels known.old) atoms.now ns) }
-    ensures known { OnOk result (known.new ≡ fold (with_columns (R.relations relations.now)) known.old atoms.now) }
+    requires there { list_any
+        (λ a. is_none (relation_of (R.relations relations.now) a.relation)) atoms.now ≡ false }
+    requires arity { list_any
+        (λ a. not (length a.terms
+        == length (columns_of (R.relations relations.now) a.relation))) atoms.now ≡ false }
+    ensures atoms { IfOk result (λ ns.
+        AreNumbered (R.relations relations.now) (labels known.old) atoms.now ns) }
+    ensures known { OnOk result (known.new
+        ≡ fold (with_columns (R.relations relations.now)) known.old atoms.now) }
 {
     let mut numbered = Sequence::new(alloc);
     'atoms: for i in 0..atoms.len() {
@@ -164,7 +200,8 @@ pub fn number<R: Relations>(
     relations: &R,
     query: &Query,
 ) -> Result<NumberedQuery, Refusal>
-    ensures { Answers (query_fault_of (R.relations relations.now) query.now) result (IsNumbered (R.relations relations.now) query.now) (OutOfMemoryWhere ⊤) }
+    ensures { Answers (query_fault_of (R.relations relations.now) query.now) result (IsNumbered
+        (R.relations relations.now) query.now) (OutOfMemoryWhere ⊤) }
 {
     if let Some(refusal) = query_fault(relations, query) {
         return Err(refusal);

@@ -14,8 +14,8 @@ pub enum Slot {
     Cell(u64),
 }
 
-/// An atom whose constants are cells: it turns a row into a tuple over the atom's variables, in rising
-/// order of their numbers, or into nothing.
+/// An atom whose constants are cells: it turns a row into a tuple over the atom's variables, in
+/// rising order of their numbers, or into nothing.
 ///
 /// Contracts see how many variables the atom has, and what stands at each column.
 #[derive(Debug, Drop)]
@@ -79,13 +79,14 @@ impl Pattern {
         self.slots.len()
     }
 
-    /// The tuple of a row: its cells at the variables, where its constants are the atom's and a variable
-    /// that stands twice has one cell. `None` exactly where no tuple put into the atom gives the row.
-    /// It takes no memory.
+    /// The tuple of a row: its cells at the variables, where its constants are the atom's and a
+    /// variable that stands twice has one cell. `None` exactly where no tuple put into the atom
+    /// gives the row. It takes no memory.
     pub fn matches(&self, row: &[u64]) -> Option<Cells>
         requires { length row.now ≡ length self.now.slots }
         ensures wide { IfSome result (λ u. length u ≡ self.now.width) }
-        ensures exact { (u : List ℕ) → length u ≡ self.now.width → (result ≡ Some u) ↔ (filled u self.now.slots ≡ row.now) }
+        ensures exact { (u : List ℕ) → length u ≡ self.now.width → (result ≡ Some u) ↔ (filled u
+            self.now.slots ≡ row.now) }
     {
         let tuple = self.cells_of(row);
         if self.fills(&tuple, row) {
@@ -99,7 +100,8 @@ impl Pattern {
     fn cells_of(&self, row: &[u64]) -> Cells
         requires { length row.now ≡ length self.now.slots }
         ensures wide { length result ≡ self.now.width }
-        ensures only { (u : List ℕ) → length u ≡ self.now.width → filled u self.now.slots ≡ row.now → result ≡ u }
+        ensures only { (u : List ℕ) → length u ≡ self.now.width
+            → filled u self.now.slots ≡ row.now → result ≡ u }
     {
         let slots = self.slots.as_slice();
         let mut tuple = Cells::new(self.width);

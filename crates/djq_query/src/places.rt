@@ -3,7 +3,11 @@ ghost use Rattle.std.specs.Prelude.{◌≡◌, ◌==◌, not, is_none, length};
 ghost use Rattle.std.specs.List.{list_any};
 ghost use Rattle.djq_model.specs.Data.{relation_of};
 ghost use Rattle.djq_lines.specs.Columns as spec;
-ghost use Rattle.djq_lines.specs.Columns.{is_of as is_of_type, columns_of as columns_named, same_type as are_same};
+ghost use Rattle.djq_lines.specs.Columns.{
+  is_of as is_of_type,
+  columns_of as columns_named,
+  same_type as are_same,
+};
 ghost use Rattle.djq_lines.specs.QueryFault.{any_column, any_place, is_misfit, is_clash};
 ghost use Rattle.djq_query.specs.Clashes.{clashes_with, mixes};
 
@@ -110,7 +114,8 @@ fn any_mixed<R: Relations>(
     terms: &[Term],
     columns: &[ColumnType],
 ) -> bool
-    ensures { result ≡ any_column (mixes (R.relations relations.now) atoms.now) terms.now columns.now }
+    ensures { result ≡ any_column (mixes (R.relations relations.now) atoms.now) terms.now
+        columns.now }
 {
     'places: for i in 0..terms.len().min(columns.len()) {
         if is_mixed(relations, atoms, &terms[i], columns[i]) {
@@ -122,7 +127,8 @@ fn any_mixed<R: Relations>(
 
 /// Whether an atom is over a relation that isn't there.
 pub(crate) fn reads_unknown<R: Relations>(relations: &R, atoms: &[Atom]) -> bool
-    ensures { result ≡ list_any (λ a. is_none (relation_of (R.relations relations.now) a.relation)) atoms.now }
+    ensures { result ≡ list_any (λ a. is_none (relation_of (R.relations relations.now) a.relation))
+        atoms.now }
 {
     for atom in atoms {
         if relations.id(&atom.relation).is_none() {
@@ -134,7 +140,8 @@ pub(crate) fn reads_unknown<R: Relations>(relations: &R, atoms: &[Atom]) -> bool
 
 /// Whether an atom has another number of terms than its relation has columns.
 pub(crate) fn has_wrong_arity<R: Relations>(relations: &R, atoms: &[Atom]) -> bool
-    ensures { result ≡ list_any (λ a. not (length a.terms == length (columns_named (R.relations relations.now) a.relation))) atoms.now }
+    ensures { result ≡ list_any (λ a. not (length a.terms == length (columns_named (R.relations
+        relations.now) a.relation))) atoms.now }
 {
     for atom in atoms {
         if atom.terms.len() != columns_of(relations, &atom.relation).len() {
@@ -160,7 +167,8 @@ pub(crate) fn has_misfit<R: Relations>(relations: &R, atoms: &[Atom]) -> bool
 ///
 /// It compares each place with each other one, which takes no memory; a line's length bounds both.
 pub(crate) fn has_clash<R: Relations>(relations: &R, atoms: &[Atom]) -> bool
-    ensures { result ≡ any_place (mixes (R.relations relations.now) atoms.now) (R.relations relations.now) atoms.now }
+    ensures { result ≡ any_place (mixes (R.relations relations.now) atoms.now) (R.relations
+        relations.now) atoms.now }
 {
     for atom in atoms {
         let columns = columns_of(relations, &atom.relation);

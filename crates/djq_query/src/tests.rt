@@ -182,7 +182,8 @@ fn refuses_too_many_atoms(rt: HostRuntime) -> Result<(), Fail> {
     Ok(())
 }
 
-/// The number of the variable at a term of an atom; none for a constant and where there is no such term.
+/// The number of the variable at a term of an atom; none for a constant and where there is no such
+/// term.
 fn number_at(query: &NumberedQuery, atom: usize, term: usize) -> Option<usize> {
     match query.atoms().get(atom)?.terms.get(term)? {
         NumberedTerm::Variable(number) => Some(*number),

@@ -3,7 +3,13 @@ ghost use Rattle.std.specs.Prelude.{◌≡◌, ◌≤◌, ◌<◌, not, length, 
 ghost use Rattle.std.specs.List.{list_any};
 ghost use Rattle.djq_value.specs.Literal.{are_different, has_name};
 ghost use Rattle.djq_lines.specs.declared.limits.TheConstants.{VARIABLES};
-ghost use Rattle.djq_lines.specs.Variables.{is_variable as is_variable_named, stands_in as stands_in_atoms, is_known, with_terms, variables_of};
+ghost use Rattle.djq_lines.specs.Variables.{
+  is_variable as is_variable_named,
+  stands_in as stands_in_atoms,
+  is_known,
+  with_terms,
+  variables_of,
+};
 ghost use Rattle.djq_query.specs.Standing.{is_fresh as is_fresh_behind, CountsUpTo};
 
 use djq_lines::limits::VARIABLES;
@@ -80,7 +86,8 @@ pub(crate) fn are_different(names: &[Name]) -> bool
     true
 }
 
-// Whether a term brings a variable that isn't in the atoms before, nor among the terms before it in its atom.
+// Whether a term brings a variable that isn't in the atoms before, nor among the terms before it in
+// its atom.
 fn is_fresh(before: &[Atom], beside: &[Term], term: &Term) -> bool
     ensures { result ≡ is_fresh_behind before.now beside.now term.now }
 {
@@ -91,8 +98,8 @@ fn is_fresh(before: &[Atom], beside: &[Term], term: &Term) -> bool
     }
 }
 
-// How many variables there are with those of an atom's terms, given how many there are in the atoms before;
-// or a number above the limit, where there are more.
+// How many variables there are with those of an atom's terms, given how many there are in the atoms
+// before; or a number above the limit, where there are more.
 fn count_terms(before: &[Atom], terms: &[Term], count: usize) -> usize
     requires few { count ≤ VARIABLES }
     requires counted { count ≡ length (variables_of before.now) }

@@ -1,4 +1,4 @@
-use Rattle.std.proofs.Common.{◌≡◌, ◌∙◌, ap, sym, List, ℕ, ◌++◌, ◌∷◌, []}
+use Rattle.std.proofs.Common.{◌∙◌, ap, List, ℕ, ◌++◌}
 use Rattle.djq_query.proofs.Binding.{taken_on, taken_room, taken_all}
 use Rattle.djq_query.proofs.bind.members.Goals as goal
 

@@ -1,4 +1,4 @@
-use Rattle.std.proofs.Common.{◌≡◌, true, false, ◌∙◌, sym, ap}
+use Rattle.std.proofs.Common.{◌≡◌, true, false, ◌∙◌, sym}
 use Rattle.djq_value.specs.Literal.{are_different}
 use Rattle.djq_lines.specs.QueryFault.{reads_unknown, has_wrong_arity, has_misfit, has_clash, has_unbound_head, is_too_large}
 use Rattle.djq_query.proofs.Faults.{clash_over, unbound_over, fault_arity, fault_misfit, fault_clash, fault_repeated, fault_unbound, fault_limit, fault_none}

@@ -1,9 +1,9 @@
-use Rattle.std.proofs.Common.{◌≡◌, ◌+◌, sym, subst, ap, ap₂, ◌∙◌, List, ◌++◌, ◌∷◌, [], drop, length}
+use Rattle.std.proofs.Common.{◌+◌, sym, subst, ap, ◌∙◌, List, ◌++◌, drop}
 use Rattle.std.specs.List.{fold}
 use Rattle.djq_query.specs.declared.numbered.NumberedAtom.{NumberedAtom}
 use Rattle.djq_query.specs.declared.numbered.Variable.{Variable}
 use Rattle.djq_query.specs.Numbered.{labels, with_columns, AreNumbered}
-use Rattle.djq_query.proofs.Numbers.{arity_at, numbered_on, numbered_over, columns_on, columns_over}
+use Rattle.djq_query.proofs.Numbers.{arity_at, numbered_on, numbered_over, columns_on}
 use Rattle.djq_query.proofs.numbering.number_body.Goals as goal
 
 pub atoms-preserved : goal.atoms-preserved

@@ -1,4 +1,4 @@
-use Rattle.std.proofs.Common.{◌≡◌, ◌+◌, sym, ap, ap₂, ◌∙◌, List, ◌++◌, ◌∷◌, [], length}
+use Rattle.std.proofs.Common.{sym, ap, ap₂, ◌∙◌, ◌++◌, ◌∷◌, [], length}
 use Rattle.std.specs.Prelude.{unwrap_or}
 use Rattle.djq_query.specs.Numbered.{labels, number_of}
 use Rattle.djq_query.proofs.Numbers.{head_step, number_or}

@@ -1,4 +1,4 @@
-use Rattle.std.proofs.Common.{◌≡◌, sym, ap, ◌∙◌, List}
+use Rattle.std.proofs.Common.{◌≡◌, sym, ap, ◌∙◌}
 use Rattle.std.specs.Prelude.{position, Some, None}
 use Rattle.djq_lines.specs.Variables.{is_named}
 use Rattle.djq_query.specs.declared.numbered.Variable.{Variable}

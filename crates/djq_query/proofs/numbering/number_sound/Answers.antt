@@ -1,11 +1,11 @@
-use Rattle.std.proofs.Common.{◌≡◌, List, [], sym, subst, ap, ap₂, ◌∙◌}
+use Rattle.std.proofs.Common.{◌≡◌, List, [], subst, ap, ap₂, ◌∙◌}
 use Rattle.std.specs.Prelude.{map}
 use Rattle.std.specs.List.{fold}
 use Rattle.djq_model.specs.declared.query.Atom.{Atom}
 use Rattle.djq_model.specs.Data.{Bytes}
 use Rattle.djq_lines.specs.Variables.{Label}
 use Rattle.djq_query.specs.declared.numbered.Variable.{Variable}
-use Rattle.djq_query.specs.Numbered.{labels, number_of, with_columns, AreNumbered, IsWithin}
+use Rattle.djq_query.specs.Numbered.{labels, number_of, with_columns, AreNumbered}
 use Rattle.djq_query.proofs.Within.{within_of}
 use Rattle.djq_query.proofs.numbering.number_sound.Goals as goal
 

@@ -1,7 +1,7 @@
-use Rattle.std.proofs.Common.{◌≡◌, ◌+◌, refl, sym, ap, ap₂, ◌∙◌, arith, List, ◌++◌, ◌∷◌, [], drop}
+use Rattle.std.proofs.Common.{◌+◌, refl, sym, ap, ap₂, ◌∙◌, arith, List, ◌++◌, ◌∷◌, [], drop}
 use Rattle.djq_query.specs.declared.numbered.NumberedTerm.{NumberedTerm}
 use Rattle.djq_query.specs.declared.numbered.Variable.{Variable}
-use Rattle.djq_query.specs.Numbered.{labels, numbered, numbered_terms, with_places}
+use Rattle.djq_query.specs.Numbered.{labels, numbered_terms, with_places}
 use Rattle.djq_query.proofs.Numbers.{numbered_step, numbered_end, places_step, places_end}
 use Rattle.djq_query.proofs.numbering.number_terms.Goals as goal
 

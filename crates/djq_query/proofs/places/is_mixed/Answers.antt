@@ -1,6 +1,4 @@
-use Rattle.std.proofs.Common.{sym, ◌∙◌, ap, subst, ◌≡◌}
-use Rattle.djq_model.specs.declared.query.Term.{Term}
-use Rattle.djq_query.specs.Clashes.{mixes}
+use Rattle.std.proofs.Common.{sym, ◌∙◌}
 use Rattle.djq_query.proofs.Columns.{variable_mixes, hole_mixes, constant_mixes}
 use Rattle.djq_query.proofs.places.is_mixed.Goals as goal
 

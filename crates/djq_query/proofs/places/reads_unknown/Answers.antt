@@ -1,4 +1,4 @@
-use Rattle.std.proofs.Common.{sym, arith, ◌∙◌, ap, ap₂, List, ◌≡◌, false, get_or}
+use Rattle.std.proofs.Common.{sym, ◌∙◌, ap, ap₂, ◌≡◌, false}
 use Rattle.std.specs.Prelude.{is_none, not, ◌||◌}
 use Rattle.std.proofs.lemmas.List.Folds.{list_any_more}
 use Rattle.djq_model.specs.declared.query.Atom.{Atom}

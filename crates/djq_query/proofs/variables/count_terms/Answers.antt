@@ -1,5 +1,5 @@
-use Rattle.std.proofs.Common.{arith, ◌∙◌, sym, ◌+◌, length, take}
-use Rattle.djq_lines.specs.Variables.{variables_of, with_terms}
+use Rattle.std.proofs.Common.{arith, ◌∙◌, ◌+◌}
+use Rattle.djq_lines.specs.Variables.{variables_of}
 use Rattle.djq_query.proofs.Counting.{count_more, count_same, many_terms}
 use Rattle.djq_query.proofs.variables.count_terms.Goals.{then-is_fresh+else-count-gt-VARIABLES, else-is_fresh}
 use Rattle.djq_query.proofs.variables.count_terms.Goals as goal

@@ -1,4 +1,4 @@
-use Rattle.std.proofs.Common.{◌≡◌, ◌+◌, ◌<◌, ℕ, List, true, length, arith, sym, subst, ap, ◌∙◌, ◌++◌, ◌∷◌, [], get_or, length-append}
+use Rattle.std.proofs.Common.{◌≡◌, ◌+◌, ◌<◌, ℕ, List, length, arith, sym, subst, ap, ◌∙◌, ◌++◌, ◌∷◌, [], get_or, length-append}
 use Rattle.std.specs.List.{list_any}
 use Rattle.djq_hyper.specs.Hypergraph.{member, edge_at}
 use Rattle.djq_lines.specs.declared.limits.TheConstants.{VARIABLES}

@@ -1,4 +1,3 @@
-use Rattle.std.proofs.Common.{arith, ap, length, List, ℕ}
 use Rattle.djq_query.proofs.Edging.{head_on}
 use Rattle.djq_query.proofs.numbered.NumberedQuery.head_variables.Goals as goal
 

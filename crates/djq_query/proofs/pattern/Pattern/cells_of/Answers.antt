@@ -1,4 +1,4 @@
-use Rattle.std.proofs.Common.{◌≡◌, ◌<◌, ◌≤◌, ℕ, List, true, length, arith, sym, subst, ap, ◌∙◌, refl, get_or}
+use Rattle.std.proofs.Common.{◌≡◌, ◌≤◌, List, length, arith, subst, ap, ◌∙◌}
 use Rattle.djq_query.specs.declared.pattern.Slot.{Slot}
 use Rattle.djq_query.specs.Pattern.{Shape, IsPattern}
 use Rattle.djq_query.proofs.Matching.{within_read, put_wide, read_on, read_all}

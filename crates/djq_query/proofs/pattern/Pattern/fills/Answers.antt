@@ -1,7 +1,7 @@
-use Rattle.std.proofs.Common.{◌≡◌, ◌<◌, ◌≤◌, ℕ, List, true, length, arith, sym, ap, ◌∙◌, refl, get_or}
+use Rattle.std.proofs.Common.{◌≡◌, ◌<◌, List, length, arith, sym, ap, ◌∙◌}
 use Rattle.djq_query.specs.declared.pattern.Slot.{Slot}
-use Rattle.djq_query.specs.Pattern.{Shape, cell_of}
-use Rattle.djq_query.proofs.Matching.{cell_told, filled_none, filled_more, filled_apart, filled_all}
+use Rattle.djq_query.specs.Pattern.{Shape}
+use Rattle.djq_query.proofs.Matching.{cell_told, filled_none, filled_more, filled_apart}
 use Rattle.djq_query.proofs.pattern.Pattern.fills.Goals as goal
 
 pub columns-init : goal.columns-init
