@@ -9,3 +9,4 @@ pub mod Edging
 pub mod Matching
 pub mod Binding
 pub mod Found
+pub mod Showing

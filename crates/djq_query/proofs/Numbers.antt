@@ -138,7 +138,7 @@ pub both_false : (b c : Bool) → (b || c) ≡ false → (b ≡ false) × (c ≡
 both_false true c e = absurd (false≢true (sym e))
 both_false false c e = (refl, e)
 
-not_false : (b : Bool) → not b ≡ false → b ≡ true
+pub not_false : (b : Bool) → not b ≡ false → b ≡ true
 not_false true e = refl
 not_false false e = absurd (false≢true (sym e))
 
@@ -264,3 +264,9 @@ head_below atoms (x ∷ head) none =
 pub head_step : (f : Bytes → ℕ) (xs : List Bytes) (i : ℕ) (x : Bytes) → i < length xs → x ≡ get_or xs i x → map f (take (i + 1) xs) ≡ map f (take i xs) ++ f x ∷ []
 head_step f xs i x below is =
     ap (map f) (take_more xs i x below ∙ ap (λ (n : Bytes). take i xs ++ n ∷ []) (sym is)) ∙ map-append f (take i xs) (x ∷ [])
+
+-- a name that isn't known has the next number
+pub number_unknown : (known : List Label) (x : Bytes) → is_known known x ≡ false → number_of known x ≡ length known
+number_unknown known x e =
+    let past = ltb-false (number_of known x) (length known) (sym (any_at (is_named x) known) ∙ e) in
+    omega (arith, past, at_most (λ l. not (is_named x l)) known)

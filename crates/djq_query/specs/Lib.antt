@@ -3,3 +3,4 @@ pub mod Clashes
 pub mod Standing
 pub mod Numbered
 pub mod Pattern
+pub mod Meaning

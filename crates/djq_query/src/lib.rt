@@ -27,6 +27,7 @@
 #![tactic(auto)]
 
 pub use fault::query_fault;
+pub use laws::numbers_are_shown;
 pub use numbered::{NumberedAtom, NumberedQuery, NumberedTerm, Variable};
 pub use numbering::number;
 pub use pattern::{Pattern, Slot};
@@ -35,6 +36,7 @@ pub use relations::Relations;
 mod bind;
 mod edges;
 mod fault;
+mod laws;
 mod numbered;
 mod numbering;
 mod pattern;
