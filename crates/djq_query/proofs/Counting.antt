@@ -77,7 +77,7 @@ more_name : (known : List Label) (y : Bytes) (b : Bool) → length known ≤ len
 more_name known y true = omega arith
 more_name known y false = omega (arith, length-append known (Some y ∷ []))
 
-term_more : (known : List Label) (t : Term) → length known ≤ length (with_term known t)
+pub term_more : (known : List Label) (t : Term) → length known ≤ length (with_term known t)
 term_more known (Variable y) = more_name known y (is_known known y)
 term_more known Hole = omega (arith, length-append known (None ∷ []))
 term_more known (Constant v) = omega arith

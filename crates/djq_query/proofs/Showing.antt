@@ -18,8 +18,8 @@ use Rattle.djq_query.specs.declared.numbered.NumberedTerm.{NumberedTerm}
 use Rattle.djq_query.specs.declared.numbered.NumberedTerm.TheVariants.{Variable as Number, Constant as Fixed}
 use Rattle.djq_query.specs.declared.numbered.NumberedAtom.{NumberedAtom}
 use Rattle.djq_query.specs.Numbered.{Numbered, IsNumbered, labels, number_of, numbered, numbered_terms, AreNumbered}
-use Rattle.djq_query.specs.Meaning.{IsShown, AreShown, AreAtomsShown, IsShownBy}
-use Rattle.djq_query.proofs.Counting.{known_behind, or_false}
+use Rattle.djq_query.specs.Meaning.{Rise, holes_among, holes_in, IsShown, AreShown, AreAtomsShown, IsShownBy}
+use Rattle.djq_query.proofs.Counting.{term_more, known_behind, or_false}
 use Rattle.djq_query.proofs.Faults.{sound_of}
 use Rattle.djq_query.proofs.Numbers.{both_false, not_false, labels_columns, number_unknown}
 
@@ -163,6 +163,34 @@ atoms_unique known (a ∷ atoms) one k x h = atoms_unique (with_atom known a) at
 none_unique : (k : ℕ) (x : Bytes) → slice_get {X = Label} [] k ≡ Some (Some x) → number_of [] x ≡ k
 none_unique k x e = absurd cc
 
+-- each hole has a number of its own
+
+rise_from : (m k : ℕ) (xs : List ℕ) → m ≤ k → Rise k xs → Rise m xs
+unfolding Rise
+rise_from m k [] le h = tt
+rise_from m k (x ∷ xs) le h = (omega (arith, h.0), h.1)
+
+terms_rise : (known : List Label) (ts : List Term) (rest : List ℕ) → Rise (length (with_terms known ts)) rest → Rise (length known) (holes_among ts (numbered_terms known ts) ++ rest)
+unfolding holes_among numbered_terms Rise
+terms_rise known [] rest h = h
+terms_rise known (Named x ∷ ts) rest h =
+    rise_from (length known) (length (with_term known (Named x))) (holes_among ts (numbered_terms (with_term known (Named x)) ts) ++ rest)
+    (term_more known (Named x)) (terms_rise (with_term known (Named x)) ts rest h)
+terms_rise known (Hole ∷ ts) rest h = (
+  omega arith,
+  subst (λ (m : ℕ). Rise m (holes_among ts (numbered_terms (with_term known Hole) ts) ++ rest)) (length-append known (None ∷ [])) (terms_rise (with_term known Hole) ts rest h),
+)
+terms_rise known (Constant v ∷ ts) rest h = terms_rise known ts rest h
+
+atoms_rise : (rs : List Relation) (known : List Label) (atoms : List Atom) (ns : List NumberedAtom) → AreNumbered rs known atoms ns → Rise (length known) (holes_in atoms ns)
+unfolding AreNumbered holes_in Rise
+atoms_rise rs known [] [] h = tt
+atoms_rise rs known [] (n ∷ ns) h = absurd h
+atoms_rise rs known (a ∷ atoms) [] h = absurd h
+atoms_rise rs known (a ∷ atoms) (n ∷ ns) h =
+    subst (λ (ms : List NumberedTerm). Rise (length known) (holes_among a.terms ms ++ holes_in atoms ns)) (sym h.0.1)
+    (terms_rise known a.terms (holes_in atoms ns) (atoms_rise rs (with_atom known a) atoms ns h.1))
+
 head_shown : (atoms : List Atom) (head : List Bytes) → list_any (λ x. not (stands_in atoms x)) head ≡ false
     → map (slice_get (variables_of atoms)) (map (number_of (variables_of atoms)) head) ≡ map (λ x. Some (Some x)) head
 head_shown atoms [] none = refl
@@ -180,5 +208,6 @@ shown_by rs q n fault numbered =
     record {
       body = subst (λ (ls : List Label). AreAtomsShown rs ls q.atoms n.atoms) (sym named) (atoms_shown rs [] (variables_of q.atoms) q.atoms n.atoms (λ k l e. e) numbered.atoms);
       one = subst (λ (ls : List Label). (k : ℕ) (x : Bytes) → slice_get ls k ≡ Some (Some x) → number_of ls x ≡ k) (sym named) (atoms_unique [] q.atoms none_unique);
+      fresh = atoms_rise rs [] q.atoms n.atoms numbered.atoms;
       head = ap₂ (λ (ls : List Label) (ns : List ℕ). map (slice_get ls) ns) named heads ∙ head_shown q.atoms q.head sound.bound;
     }

@@ -1,5 +1,5 @@
 -- What the numbers of a query mean, said without the way in which they are given out.
-use Rattle.std.specs.Prelude.{ℕ, List, [], ◌∷◌, ◌≡◌, Option, None, Some, map, slice_get}
+use Rattle.std.specs.Prelude.{ℕ, ◌+◌, ◌≤◌, List, [], ◌∷◌, ◌++◌, ◌≡◌, Option, None, Some, map, slice_get}
 use Rattle.djq_model.specs.declared.relation.Relation.{Relation}
 use Rattle.djq_model.specs.declared.query.Query.{Query}
 use Rattle.djq_model.specs.declared.query.Atom.{Atom}
@@ -37,11 +37,32 @@ AreAtomsShown rs ls (a ∷ atoms) (n ∷ ns) =
 AreAtomsShown rs ls [] (n ∷ ns) = ⊥
 AreAtomsShown rs ls (a ∷ atoms) [] = ⊥
 
--- The numbers stand for the query: term by term, each name has one number, and the head's numbers
--- have the head's names.
+-- the numbers of the holes among terms, and in a body
+abbrev pub hole_of : Term → NumberedTerm → List ℕ
+hole_of Hole (Number k) = k ∷ []
+hole_of _ _ = []
+
+unfoldable pub holes_among : List Term → List NumberedTerm → List ℕ
+holes_among [] ns = []
+holes_among (t ∷ ts) [] = []
+holes_among (t ∷ ts) (n ∷ ns) = hole_of t n ++ holes_among ts ns
+
+unfoldable pub holes_in : List Atom → List NumberedAtom → List ℕ
+holes_in [] ns = []
+holes_in (a ∷ atoms) [] = []
+holes_in (a ∷ atoms) (n ∷ ns) = holes_among a.terms n.terms ++ holes_in atoms ns
+
+-- numbers from this one on, each above the one before, so that no two are the same
+unfoldable pub Rise : ℕ → List ℕ → Type 0
+Rise from [] = Unit {0}
+Rise from (k ∷ ks) = (from ≤ k) × Rise (k + 1) ks
+
+-- The numbers stand for the query: term by term, each name has one number, each hole has one of its
+-- own, and the head's numbers have the head's names.
 pub record IsShownBy (rs : List Relation) (q : Query) (n : Numbered) : Type 0 where
   pub body : AreAtomsShown rs (labels n.variables) q.atoms n.atoms
   pub one : (k : ℕ) (x : Bytes) → slice_get (labels n.variables) k ≡ Some (Some x) → number_of (labels n.variables) x ≡ k
+  pub fresh : Rise 0 (holes_in q.atoms n.atoms)
   pub head : map (slice_get (labels n.variables)) n.head ≡ map (λ x. Some (Some x)) q.head
 
 abbrev pub NumbersAreShown : Type 0
