@@ -1,6 +1,6 @@
 -- Rows that an atom gives, column by column.
 use Rattle.std.proofs.Common.{◌≡◌, ℕ, ◌+◌, ◌<◌, ◌≤◌, List, [], ◌∷◌, ◌++◌, Bool, true, false, length, get_or, set, take, refl, sym, ap, ap₂, ◌∙◌, arith, inl, inr, length-set}
-use Rattle.std.specs.Prelude.{◌||◌, slice_index, map, ◌↔◌, Some, None}
+use Rattle.std.specs.Prelude.{◌||◌, slice_index, map, ◌↔◌}
 use Rattle.std.specs.List.{list_all, list_any}
 use Rattle.std.proofs.lemmas.Bool.{cases_eq, ne_eqb, false≢true, ltb-true}
 use Rattle.std.proofs.lemmas.List.{get_or_default, get_or-map, get_or-set_same, get_or-set_other, take_all, take_more, map-append}
@@ -103,16 +103,6 @@ put_at t s p c e = ap (λ r. put_cell t r c) (sym e)
 pub put_fixed : (t : List ℕ) (s : Slot) (d c : ℕ) → s ≡ Cell d → t ≡ put_cell t s c
 unfolding put_cell
 put_fixed t s d c e = ap (λ r. put_cell t r c) (sym e)
-
--- where just the tuple that is told may give the row, the answer is exact
-pub exact_some : (t u row : List ℕ) (slots : List Slot) → filled t slots ≡ row → (filled u slots ≡ row → t ≡ u) → (Some t ≡ Some u) ↔ (filled u slots ≡ row)
-exact_some t u row slots fill only = (λ e. ap (λ (v : List ℕ). filled v slots) (sym (same_some t u e)) ∙ fill, λ e. ap (λ (v : List ℕ). Some v) (only e))
-  where
-    same_some : (t u : List ℕ) → Some t ≡ Some u → t ≡ u
-    same_some t u e = cc
-
-pub exact_none : (t u row : List ℕ) (slots : List Slot) → (filled t slots ≡ row → ⊥) → (filled u slots ≡ row → t ≡ u) → (None ≡ Some u) ↔ (filled u slots ≡ row)
-exact_none t u row slots unfit only = (λ e. absurd cc, λ e. absurd (unfit (ap (λ (v : List ℕ). filled v slots) (only e) ∙ e)))
 
 -- what a call told of a slot
 pub cell_told : (cells u : List ℕ) (s : Slot) (r : ℕ) → cells ≡ u → r ≡ cell_of cells s → cell_of u s ≡ r

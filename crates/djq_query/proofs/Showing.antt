@@ -1,7 +1,7 @@
 -- What the numbers of a query mean.
 use Rattle.std.proofs.Common.{◌≡◌, ℕ, zero, suc, ◌+◌, ◌<◌, ◌≤◌, List, [], ◌∷◌, ◌++◌, Bool, true, false, length, refl, sym, subst, ap, ap₂, ◌∙◌, arith, inl, inr, length-append}
 use Rattle.std.specs.Prelude.{Option, None, Some, cond, not, map, slice_get, ◌||◌}
-use Rattle.std.specs.List.{fold, list_any, find, position_or_len}
+use Rattle.std.specs.List.{fold, list_any, find}
 use Rattle.std.proofs.lemmas.Bool.{false≢true, ne_eqb, eq-eqb, cases_lt}
 use Rattle.std.proofs.lemmas.List.Folds.{find_at, position_or_len_push}
 use Rattle.std.proofs.lemmas.Option.{slice_get_within}
@@ -10,7 +10,7 @@ use Rattle.djq_model.specs.declared.query.Query.{Query}
 use Rattle.djq_model.specs.declared.query.Atom.{Atom}
 use Rattle.djq_model.specs.declared.query.Term.{Term}
 use Rattle.djq_model.specs.declared.query.Term.TheVariants.{Variable as Named, Hole, Constant}
-use Rattle.djq_model.specs.Data.{Bytes, bytes_eq, relation_of}
+use Rattle.djq_model.specs.Data.{Bytes, bytes_eq}
 use Rattle.djq_model.specs.Equality.{bytes_eq-decides}
 use Rattle.djq_lines.specs.QueryFault.{query_fault}
 use Rattle.djq_lines.specs.Variables.{Label, is_known, is_named, stands_in, variables_of, with_term, with_terms, with_atom}
