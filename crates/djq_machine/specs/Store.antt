@@ -14,13 +14,9 @@ use Rattle.djq_lines.specs.declared.answer.AddOutcome.{AddOutcome}
 use Rattle.djq_lines.specs.declared.answer.AddOutcome.TheVariants.{Added, Same}
 use Rattle.djq_lines.specs.declared.answer.DeleteOutcome.{DeleteOutcome}
 use Rattle.djq_lines.specs.declared.answer.DeleteOutcome.TheVariants.{Removed, Absent}
+pub use Rattle.djq_lines.specs.Columns.{types_of}
 use Rattle.djq_machine.specs.State.{Store}
 use Rattle.djq_machine.specs.Conditions.{first_of, Answers, OutOfMemoryWhere}
-
--- the column types of a relation; none where there is no relation
-abbrev pub types_of : Option Relation → List ColumnType
-types_of None = []
-types_of (Some r) = r.types
 
 -- the relations with other rows in one
 abbrev pub with_rows : List Relation → Bytes → List Tuple → List Relation
