@@ -30,8 +30,16 @@ SESSION = [
     (b"open c q", [b"ok open"]),
     (b"next c 2", [b"= 1 2", b"end"]),
     (b"next c 2", [b"end"]),
+    (b"has q 1 2", [b"yes"]),
+    (b"has q 3 4", [b"no"]),
+    (b"has q 1", [b"err 6 arity"]),
+    (b"drop q", [b"err 14 in use"]),
     (b"close c", [b"ok"]),
     (b"close c", [b"err 5 no cursor"]),
+    (b"drop q", [b"ok"]),
+    (b"has q 1 2", [b"err 4 no query"]),
+    (b"query q(y,x) <- r(x,y)", [b"ok query 5"]),
+    (b"has q 2 1", [b"yes"]),
 ]
 
 TESTS = []

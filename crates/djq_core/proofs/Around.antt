@@ -9,7 +9,7 @@ use Rattle.djq_engine.specs.Kept.{Kept, Held}
 use Rattle.djq_machine.specs.State.{Session, State, session_of, with_session}
 use Rattle.djq_core.specs.declared.open.OpenSession.{OpenSession}
 use Rattle.djq_core.specs.Views.{Talk, session_in, open_in, state_in}
-use Rattle.djq_core.specs.Sound.{IsBelow, Rises, ids_of, all_ids, AreHeld, AreApart, NoneOnceEnded, AreEndedWithout, IsSound}
+use Rattle.djq_core.specs.Sound.{IsBelow, Rises, ids_of, all_ids, AreHeld, AreApart, AreOwned, NoneOnceEnded, AreEndedWithout, IsSound}
 use Rattle.djq_core.specs.Performs.{among}
 use Rattle.djq_core.proofs.Ids.{held_split, held_join}
 
@@ -70,6 +70,7 @@ pub record Around (hs : List Held) (front : List OpenSession) (s : ℕ) (d : Tal
   pub held_here : AreHeld hs (ids_of d.cursors)
   pub held_back : AreHeld hs (all_ids back)
   pub apart : AreApart (all_ids front ++ (ids_of d.cursors ++ all_ids back))
+  pub owned : AreOwned hs (all_ids front ++ (ids_of d.cursors ++ all_ids back))
   pub ended_front : AreEndedWithout front
   pub ended_here : NoneOnceEnded d.cause d.cursors
   pub ended_back : AreEndedWithout back
@@ -95,6 +96,7 @@ parts k front s d back sound =
       held_here = two.0;
       held_back = two.1;
       apart = subst AreApart (cursors_are front s d back) sound.apart;
+      owned = subst (AreOwned k.cursors) (cursors_are front s d back) sound.owned;
       ended_front = ended.0;
       ended_here = ended.1.0;
       ended_back = ended.1.1;
@@ -107,6 +109,7 @@ whole k front s d back p = record {
   cursors_held = subst (λ (cs : List CursorId). AreHeld k.cursors cs) (sym (cursors_are front s d back))
       (held_join k.cursors (all_ids front) (ids_of d.cursors ++ all_ids back) p.held_front (held_join k.cursors (ids_of d.cursors) (all_ids back) p.held_here p.held_back));
   apart = subst AreApart (sym (cursors_are front s d back)) p.apart;
+  owned = subst (AreOwned k.cursors) (sym (cursors_are front s d back)) p.owned;
   ended = ended_join front (record { id = s; session = d } ∷ back) p.ended_front (p.ended_here, p.ended_back);
 }
 

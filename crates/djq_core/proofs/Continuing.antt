@@ -1,6 +1,6 @@
 -- What `next` does to the state.
 use Rattle.std.proofs.Common.{ℕ, suc, ◌+◌, ◌*◌, ◌<◌, ◌≤◌, ◌≡◌, ◌++◌, ◌||◌, Bool, true, false, List, [], ◌∷◌, length, map, find, cond, option_map, Option, None, Some, Result, Ok, Err, refl, sym, ap, ap₂, ◌∙◌, subst, arith, append_assoc, is_some, inl, inr}
-use Rattle.std.specs.Prelude.{⊤, MatchOption, IsSomeAnd, All}
+use Rattle.std.specs.Prelude.{⊤, MatchOption, IsSomeAnd, All, IsSome}
 use Rattle.djq_model.specs.declared.query.Query.{Query}
 use Rattle.djq_model.specs.Data.{Bytes, Tuple, bytes_eq, query_of, change_first}
 use Rattle.djq_model.specs.Answer.{IsAnswer}
@@ -20,11 +20,11 @@ use Rattle.djq_core.specs.declared.open.OpenSession.{OpenSession}
 use Rattle.djq_core.specs.declared.listing.Listed.{Listed}
 use Rattle.djq_core.specs.declared.listing.Listed.TheVariants.{Whole, Cut as WasCut, Stale as WasStale}
 use Rattle.djq_core.specs.Views.{Talk, query_in, position_in, cursor_in, session_in, open_in, state_in}
-use Rattle.djq_core.specs.Sound.{ids_of, all_ids, AreHeld, GivesApart, IsApart, AreApart, NoneOnceEnded, IsSound, IsOwn, IsReady}
+use Rattle.djq_core.specs.Sound.{ids_of, all_ids, AreHeld, GivesApart, IsApart, AreApart, NoneOnceEnded, IsSound, IsOwn, IsReady, is_among}
 use Rattle.djq_core.specs.Listing.{StandsAt, WholeListing, CutListing, ListsAt, Lists}
 use Rattle.djq_core.specs.Ends.{GivesUp}
 use Rattle.djq_core.specs.Performs.{among, to_one, behind, unqueued, Performs, Executes}
-use Rattle.djq_core.proofs.Ids.{Agree, agree_others, agree_held, agree_names, apart_split, apart_join, taken_out, held_split, held_join, same_id_flip, same_id_same}
+use Rattle.djq_core.proofs.Ids.{Agree, agree_others, agree_held, agree_names, apart_split, apart_join, taken_out, held_split, held_join, same_id_flip, same_id_same, owned_still}
 use Rattle.djq_core.proofs.Around.{Around, parts, whole, map_append}
 use Rattle.djq_core.proofs.Cursors.{cursor_seen, ids_append, regroup, moved}
 use Rattle.djq_core.proofs.Naming.{at_found, at_none}
@@ -120,12 +120,21 @@ moved_among old new before c n h p cut held s front back i stopped room a =
             ((record h { position = p }, s.there, s.apart), agree_held old.cursors new.cursors (ids_of cut.back) gb hs.1.1));
         held_back = agree_held old.cursors new.cursors (all_ids back) ge a.held_back;
         apart = a.apart;
+        owned = owned_still old.cursors new.cursors (all_ids front ++ (ids_of before.cursors ++ all_ids back)) still a.owned;
         ended_front = a.ended_front;
         ended_here = a.ended_here;
         ended_back = a.ended_back;
       },
     )
   where
+    -- the cursor that has moved was held, and the others are as they were
+    still : (x : CursorId) → IsSome (held_at new.cursors x) → IsSome (held_at old.cursors x)
+    still x there = step (same_id x n.cursor) refl
+      where
+        step : (b : Bool) → same_id x n.cursor ≡ b → IsSome (held_at old.cursors x)
+        step true e = subst (λ (o : Option Held). IsSome o) (sym (ap (held_at old.cursors) (same_id_same x n.cursor e) ∙ held)) refl
+        step false e = subst (λ (o : Option Held). IsSome o) (s.others x e) there
+
     joined : {xs ys zs ws : List Cursor} {x y : Cursor} → xs ≡ ys → x ≡ y → zs ≡ ws → xs ++ x ∷ zs ≡ ys ++ y ∷ ws
     joined e f g = cc
 
@@ -178,6 +187,7 @@ does_cut old mid new before between last after c n h q given ended count was now
     let cut = name_cut before.cursors c n f in
     let up : GivesUp old before new (record before { cursors = [] }) = record {
       store = g.store ∙ w.stands.store;
+      gone = λ x a. g.gone x (subst (λ (cs : List CursorId). is_among x cs ≡ true) (sym (ap (λ (d : Talk). ids_of d.cursors) w.queued)) a);
       others = λ x a.
           let same = ap (λ (d : Talk). ids_of d.cursors) w.queued in
           let here = (apart_split x (ids_of cut.front) (n.cursor ∷ ids_of cut.back) (subst (IsApart x) (ids_cut before.cursors c n cut) a)).1.0 in

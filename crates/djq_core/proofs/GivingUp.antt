@@ -13,10 +13,10 @@ use Rattle.djq_engine.specs.declared.cursor.CursorId.{CursorId}
 use Rattle.djq_engine.specs.Kept.{Kept, Held, held_at, same_id, IsHeld, ClosesCursor}
 use Rattle.djq_core.specs.declared.open.OpenSession.{OpenSession}
 use Rattle.djq_core.specs.Views.{Talk, session_in, open_in, state_in}
-use Rattle.djq_core.specs.Sound.{ids_of, all_ids, AreHeld, IsApart, AreApart, IsOwn, IsSound}
+use Rattle.djq_core.specs.Sound.{ids_of, all_ids, AreHeld, IsApart, AreApart, IsOwn, IsSound, is_among}
 use Rattle.djq_core.specs.Ends.{GivesUp, cut_text}
 use Rattle.djq_core.specs.Performs.{among, to_one, behind, unqueued, Performs}
-use Rattle.djq_core.proofs.Ids.{Agree, agree_others, agree_held, apart_split, apart_join, taken_out, held_split, same_id_flip}
+use Rattle.djq_core.proofs.Ids.{Agree, agree_others, agree_held, apart_split, apart_join, taken_out, held_split, same_id_flip, owned_without, same_id_same}
 use Rattle.djq_core.proofs.Around.{Around, parts, whole, state_is, changed_here, around}
 use Rattle.djq_core.proofs.Cursors.{ids_append, moved}
 
@@ -28,9 +28,10 @@ pub record Giving (old : Kept) (before : Talk) (k : Kept) (d : Talk) : Type 0 wh
   pub others : (c : CursorId) → IsApart c (ids_of before.cursors) → held_at k.cursors c ≡ held_at old.cursors c
   pub session : d ≡ record before { cursors = d.cursors }
   pub gone : (gone : List (NamedCursor CursorId)) × (before.cursors ≡ d.cursors ++ gone)
+  pub lost : (c : CursorId) → is_among c (ids_of gone.0) ≡ true → held_at k.cursors c ≡ None
 
 pub giving_starts : (k : Kept) (d : Talk) → IsOwn k d → Giving k d k d
-giving_starts k d own = record { own = own; store = refl; others = λ c a. refl; session = refl; gone = ([], sym (append-nil d.cursors)) }
+giving_starts k d own = record { own = own; store = refl; others = λ c a. refl; session = refl; gone = ([], sym (append-nil d.cursors)); lost = λ c a. absurd (cc (a)) }
 
 -- the cursor that is popped is held
 pub popped_held : (k : Kept) (d e : Talk) (id : CursorId) → IsOwn k d → PopsCursor d e (Some id) → IsHeld k id
@@ -58,11 +59,18 @@ giving_goes_on old before k d e k' id g p o =
           o.others c (same_id_flip id c one.0) ∙ g.others c a;
       session = p.2 ∙ ap (λ (x : Talk). record x { cursors = e.cursors }) g.session;
       gone = (record { name = p.0; cursor = id } ∷ g.gone.0, g.gone.1 ∙ ap (λ (ns : List (NamedCursor CursorId)). ns ++ g.gone.0) p.1 ∙ append_assoc e.cursors (record { name = p.0; cursor = id } ∷ []) g.gone.0);
+      lost = λ c a. step c (same_id id c) refl a;
     }
+  where
+    -- the one that is popped is gone, and so are those before it
+    step : (c : CursorId) (b : Bool) → same_id id c ≡ b → (b || is_among c (ids_of g.gone.0)) ≡ true → held_at k'.cursors c ≡ None
+    step c true e a = ap (held_at k'.cursors) (sym (same_id_same id c e)) ∙ o.gone
+    step c false e a = o.others c (same_id_flip id c e) ∙ g.lost c a
 
 pub given_up : (old : Kept) (before : Talk) (k : Kept) (d e : Talk) → Giving old before k d → PopsCursor d e None → GivesUp old before k e
 given_up old before k d e g p = record {
   store = g.store;
+  gone = λ c a. g.lost c (subst (λ (ns : List (NamedCursor CursorId)). is_among c (ids_of ns) ≡ true) (g.gone.1 ∙ ap (λ (ns : List (NamedCursor CursorId)). ns ++ g.gone.0) p.0) a);
   others = g.others;
   session = p.1 ∙ g.session ∙ ap (λ (ns : List (NamedCursor CursorId)). record before { cursors = ns }) p.0;
 }
@@ -120,6 +128,7 @@ ends_among old new before cause stopped room pending g front back s p =
         held_here = tt;
         held_back = agree_held old.cursors new.cursors (all_ids back) ge p.held_back;
         apart = without (all_ids front) ids (all_ids back) p.apart;
+        owned = owned_without old.cursors new.cursors (all_ids front) ids (all_ids back) g.gone g.others p.owned;
         ended_front = p.ended_front;
         ended_here = refl;
         ended_back = p.ended_back;
@@ -158,7 +167,7 @@ pub ends : (M : State → ℕ → Session → Effect → State → Type 0) (stop
 ends M stops old new before mid after text cause g same does =
     let left : after ≡ record before { cursors = []; room = after.room; cause = Some cause; pending = behind before.pending text }
     = same ∙ ap (λ (d : Talk). record d { pending = behind d.pending text; room = after.room; cause = Some cause }) g.session in
-    let up : GivesUp old before new (record before { cursors = [] }) = record { store = g.store; others = g.others; session = refl } in
+    let up : GivesUp old before new (record before { cursors = [] }) = record { store = g.store; gone = g.gone; others = g.others; session = refl } in
     ends_costing M stops old new before after text 0 cause 0 0 up left (omega arith) (λ st s x e f. does st s x)
 
 -- whether bytes are held decides what is said of them

@@ -1,6 +1,6 @@
 -- Cursors of the engine: told apart, held, and as they were.
-use Rattle.std.proofs.Common.{ℕ, ◌≡◌, ◌≢◌, ◌++◌, ◌&&◌, Bool, true, false, List, [], ◌∷◌, map, find, option_map, cond, Option, None, Some, eqb, refl, sym, ap, ◌∙◌, subst, ap₂}
-use Rattle.std.specs.Prelude.{⊤}
+use Rattle.std.proofs.Common.{ℕ, ◌≡◌, ◌≢◌, ◌++◌, ◌&&◌, Bool, true, false, List, [], ◌∷◌, map, find, option_map, cond, Option, None, Some, eqb, refl, sym, ap, ◌∙◌, subst, ap₂, ◌||◌, ◌⊎◌, inl, inr}
+use Rattle.std.specs.Prelude.{⊤, IsSome}
 use Rattle.std.proofs.lemmas.Bool.{eqb-true, eq-eqb}
 use Rattle.djq_model.specs.Data.{Bytes}
 use Rattle.djq_model.specs.declared.query.Query.{Query}
@@ -11,7 +11,7 @@ use Rattle.djq_machine.specs.State.{Cursor, Session, Position, open_at, stale}
 use Rattle.djq_machine.specs.Stale.{outdated, outdater_of, by_relation, outdated_cursor, outdated_sessions}
 use Rattle.djq_core.specs.declared.open.OpenSession.{OpenSession}
 use Rattle.djq_core.specs.Views.{query_in, position_in, cursor_in, open_in}
-use Rattle.djq_core.specs.Sound.{ids_of, all_ids, GivesApart, AreHeld, IsApart, AreApart}
+use Rattle.djq_core.specs.Sound.{ids_of, all_ids, GivesApart, AreHeld, IsApart, AreApart, is_among, AreOwned}
 
 first_true : (a b : Bool) → (a && b) ≡ true → a ≡ true
 first_true true b h = refl
@@ -120,6 +120,96 @@ agree_open old new (x ∷ xs) g =
     let rest = agree_open old new xs parts.1 in
     let names = agree_names old new (x.session).cursors parts.0 in
     let here : open_in new x ≡ open_in old x = ap (λ (cs : List Cursor). record (open_in old x) { cursors = cs }) names in cc
+
+-- Cursors of the engine, and whose they are.
+
+pub either : (b c : Bool) → (b || c) ≡ true → (b ≡ true) ⊎ (c ≡ true)
+either true c h = inl refl
+either false c h = inr h
+
+pub or_true : (b : Bool) → (b || true) ≡ true
+or_true true = refl
+or_true false = refl
+
+pub among_append : (c : CursorId) (xs ys : List CursorId) → is_among c (xs ++ ys) ≡ (is_among c xs || is_among c ys)
+among_append c [] ys = refl
+among_append c (x ∷ xs) ys = ap (λ b. same_id x c || b) (among_append c xs ys) ∙ step (same_id x c)
+  where
+    step : (b : Bool) → (b || (is_among c xs || is_among c ys)) ≡ ((b || is_among c xs) || is_among c ys)
+    step true = refl
+    step false = refl
+
+-- what is among a part is among the whole
+pub among_front : (c : CursorId) (xs ys : List CursorId) → is_among c xs ≡ true → is_among c (xs ++ ys) ≡ true
+among_front c xs ys h = among_append c xs ys ∙ ap (λ b. b || is_among c ys) h
+
+pub among_back : (c : CursorId) (xs ys : List CursorId) → is_among c ys ≡ true → is_among c (xs ++ ys) ≡ true
+among_back c xs ys h = among_append c xs ys ∙ ap (λ b. is_among c xs || b) h ∙ or_true (is_among c xs)
+
+pub among_either : (c : CursorId) (xs ys : List CursorId) → is_among c (xs ++ ys) ≡ true → (is_among c xs ≡ true) ⊎ (is_among c ys ≡ true)
+among_either c xs ys h = either (is_among c xs) (is_among c ys) (sym (among_append c xs ys) ∙ h)
+
+-- none of these, or one
+pub apart_or : (c : CursorId) (xs : List CursorId) → (IsApart c xs) ⊎ (is_among c xs ≡ true)
+apart_or c [] = inl tt
+apart_or c (x ∷ xs) = step (same_id x c) refl (apart_or c xs)
+  where
+    step : (b : Bool) → same_id x c ≡ b → (IsApart c xs) ⊎ (is_among c xs ≡ true) → (IsApart c (x ∷ xs)) ⊎ (is_among c (x ∷ xs) ≡ true)
+    step true e r = inr (ap (λ b. b || is_among c xs) e)
+    step false e (inl a) = inl (e, a)
+    step false e (inr h) = inr (ap (λ b. same_id x c || b) h ∙ or_true (same_id x c))
+
+-- the engine holds no more than it did
+pub owned_still : (old new : List Held) (cs : List CursorId) → ((c : CursorId) → IsSome (held_at new c) → IsSome (held_at old c)) → AreOwned old cs → AreOwned new cs
+owned_still old new cs f h c i = h c (f c i)
+
+-- the engine holds one more
+pub owned_more : (old new : List Held) (id : CursorId) (xs ys : List CursorId) → OthersStay old id new → AreOwned old (xs ++ ys) → AreOwned new (xs ++ id ∷ ys)
+owned_more old new id xs ys o h c i = step (same_id c id) refl
+  where
+    behind : (is_among c xs ≡ true) ⊎ (is_among c ys ≡ true) → is_among c (xs ++ id ∷ ys) ≡ true
+    behind (inl e) = among_front c xs (id ∷ ys) e
+    behind (inr e) = among_back c xs (id ∷ ys) (ap (λ b. same_id id c || b) e ∙ or_true (same_id id c))
+
+    step : (b : Bool) → same_id c id ≡ b → is_among c (xs ++ id ∷ ys) ≡ true
+    step true e =
+        let same : id ≡ c = sym (same_id_same c id e) in
+        among_back c xs (id ∷ ys) (ap (λ b. b || is_among c ys) (ap (λ d. same_id id d) (sym same) ∙ same_id_refl id))
+    step false e = behind (among_either c xs ys (h c (subst (λ (o : Option Held). IsSome o) (o c e) i)))
+
+-- it holds one less
+pub owned_less : (old new : List Held) (id : CursorId) (xs ys : List CursorId) → held_at new id ≡ None → OthersStay old id new → AreOwned old (xs ++ id ∷ ys) → AreOwned new (xs ++ ys)
+owned_less old new id xs ys gone o h c i = step (same_id c id) refl
+  where
+    behind : same_id c id ≡ false → (is_among c xs ≡ true) ⊎ (is_among c (id ∷ ys) ≡ true) → is_among c (xs ++ ys) ≡ true
+    behind e (inl f) = among_front c xs ys f
+    behind e (inr f) = among_back c xs ys (sym (ap (λ b. b || is_among c ys) (same_id_flip c id e)) ∙ f)
+
+    step : (b : Bool) → same_id c id ≡ b → is_among c (xs ++ ys) ≡ true
+    step true e =
+        let none : IsSome {T = Held} None = subst (λ (o : Option Held). IsSome o) (ap (held_at new) (same_id_same c id e) ∙ gone) i in absurd (cc)
+    step false e = behind e (among_either c xs (id ∷ ys) (h c (subst (λ (o : Option Held). IsSome o) (o c e) i)))
+
+-- it holds none of these any more
+pub owned_without : (old new : List Held) (xs ys zs : List CursorId) → ((c : CursorId) → is_among c ys ≡ true → held_at new c ≡ None) → ((c : CursorId) → IsApart c ys → held_at new c ≡ held_at old c)
+    → AreOwned old (xs ++ (ys ++ zs)) → AreOwned new (xs ++ zs)
+owned_without old new xs ys zs gone others h c i = step (apart_or c ys)
+  where
+    not_mine : IsApart c ys → (is_among c ys ≡ true) ⊎ (is_among c zs ≡ true) → is_among c zs ≡ true
+    not_mine a (inl e) = absurd (never ys a e)
+      where
+        never : (ys : List CursorId) → IsApart c ys → is_among c ys ≡ true → ⊥
+        never [] a e = cc
+        never (y ∷ ys) a e = never ys a.1 (sym (ap (λ b. b || is_among c ys) a.0) ∙ e)
+    not_mine a (inr e) = e
+
+    behind : IsApart c ys → (is_among c xs ≡ true) ⊎ (is_among c (ys ++ zs) ≡ true) → is_among c (xs ++ zs) ≡ true
+    behind a (inl e) = among_front c xs zs e
+    behind a (inr e) = among_back c xs zs (not_mine a (among_either c ys zs e))
+
+    step : (IsApart c ys) ⊎ (is_among c ys ≡ true) → is_among c (xs ++ zs) ≡ true
+    step (inr e) = let none : IsSome {T = Held} None = subst (λ (o : Option Held). IsSome o) (gone c e) i in absurd (cc)
+    step (inl a) = behind a (among_either c xs (ys ++ zs) (h c (subst (λ (o : Option Held). IsSome o) (others c a) i)))
 
 -- A change of a relation.
 

@@ -17,10 +17,10 @@ use Rattle.djq_engine.specs.declared.cursor.CursorId.{CursorId}
 use Rattle.djq_engine.specs.Kept.{Kept, Held, held_at, IsHeld, SameCursors, OpensCursor, ClosesCursor}
 use Rattle.djq_core.specs.declared.open.OpenSession.{OpenSession}
 use Rattle.djq_core.specs.Views.{Talk, query_in, position_in, cursor_in, session_in, open_in, state_in}
-use Rattle.djq_core.specs.Sound.{ids_of, all_ids, AreHeld, IsApart, AreApart, NoneOnceEnded, IsSound, IsReady}
+use Rattle.djq_core.specs.Sound.{ids_of, all_ids, AreHeld, IsApart, AreApart, NoneOnceEnded, IsSound, IsReady, AreOwned}
 use Rattle.djq_core.specs.Opens.{Opens, OpensTo, refusal_of}
 use Rattle.djq_core.specs.Performs.{among, to_one, unqueued, Performs, Executes}
-use Rattle.djq_core.proofs.Ids.{Agree, agree_same, agree_others, agree_held, agree_names, fresh_apart, apart_split, apart_join, taken_out, put_in, held_split, held_join}
+use Rattle.djq_core.proofs.Ids.{Agree, agree_same, agree_others, agree_held, agree_names, fresh_apart, apart_split, apart_join, taken_out, put_in, held_split, held_join, owned_more, owned_less}
 use Rattle.djq_core.proofs.Around.{Around, parts, whole, map_append, around}
 use Rattle.djq_core.proofs.Cursors.{Cut, cut_found, cursor_seen, drop-map, refusal_same, ids_append, regroup, ungroup, moved}
 use Rattle.djq_core.proofs.Replying.{replied, refused, sound_replied, around_held}
@@ -82,6 +82,10 @@ opened old new before c q id o running front back s stopped room p =
         held_back = agree_held old.cursors new.cursors (all_ids back) ge p.held_back;
         apart = subst (λ (cs : List CursorId). AreApart (all_ids front ++ (cs ++ all_ids back))) (sym (ids_append before.cursors (added ∷ [])))
             (opens_apart (all_ids front) (ids_of before.cursors) id (all_ids back) p.apart a b e);
+        owned = subst (λ (cs : List CursorId). AreOwned new.cursors (all_ids front ++ (cs ++ all_ids back))) (sym (ids_append before.cursors (added ∷ [])))
+            (subst (AreOwned new.cursors) (sym (regroup (all_ids front) (ids_of before.cursors) [] (all_ids back) id))
+            (owned_more old.cursors new.cursors id (all_ids front ++ ids_of before.cursors) (all_ids back) o.others
+            (subst (AreOwned old.cursors) (sym (append_assoc (all_ids front) (ids_of before.cursors) (all_ids back))) p.owned)));
         ended_front = p.ended_front;
         ended_here = subst (λ (cause : _). NoneOnceEnded cause (before.cursors ++ added ∷ [])) (sym running) tt;
         ended_back = p.ended_back;
@@ -162,6 +166,11 @@ closed old new before c n o running cut front back s stopped room p =
         apart = subst (λ (xs : List (NamedCursor CursorId)). AreApart (all_ids front ++ (ids_of xs ++ all_ids back))) (sym cut.dropped)
             (subst (λ (cs : List CursorId). AreApart (all_ids front ++ (cs ++ all_ids back))) (sym kept)
             (subst AreApart (ungroup (all_ids front) (ids_of cut.front) (ids_of cut.back) (all_ids back)) apart.1.1));
+        owned = subst (λ (xs : List (NamedCursor CursorId)). AreOwned new.cursors (all_ids front ++ (ids_of xs ++ all_ids back))) (sym cut.dropped)
+            (subst (λ (cs : List CursorId). AreOwned new.cursors (all_ids front ++ (cs ++ all_ids back))) (sym kept)
+            (subst (AreOwned new.cursors) (ungroup (all_ids front) (ids_of cut.front) (ids_of cut.back) (all_ids back))
+            (owned_less old.cursors new.cursors id (all_ids front ++ ids_of cut.front) (ids_of cut.back ++ all_ids back) o.gone o.others
+            (subst (AreOwned old.cursors) (ap (λ (cs : List CursorId). all_ids front ++ (cs ++ all_ids back)) ids ∙ regroup (all_ids front) (ids_of cut.front) (ids_of cut.back) (all_ids back) id) p.owned))));
         ended_front = p.ended_front;
         ended_here = subst (λ (cause : _). NoneOnceEnded cause (drop_first (is_named c) before.cursors)) (sym running) tt;
         ended_back = p.ended_back;

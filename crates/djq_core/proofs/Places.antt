@@ -22,11 +22,11 @@ use Rattle.djq_engine.specs.Kept.{Kept, Held as HeldCursor}
 use Rattle.djq_core.specs.declared.open.OpenSession.{OpenSession}
 use Rattle.djq_session.specs.Dialog.{IsFresh}
 use Rattle.djq_core.specs.Views.{Talk, cursor_in, session_in, open_in, state_in}
-use Rattle.djq_core.specs.Sound.{IsBelow, Rises, IsSound, IsOwn, IsCore, ids_of, all_ids, AreHeld, AreApart, IsApart, AreEndedWithout, NoneOnceEnded}
+use Rattle.djq_core.specs.Sound.{IsBelow, Rises, IsSound, IsOwn, IsCore, ids_of, all_ids, AreHeld, AreApart, IsApart, AreEndedWithout, NoneOnceEnded, AreOwned}
 use Rattle.djq_core.specs.Ends.{GivesUp, EndsQuietly, cut_text}
 use Rattle.djq_core.specs.Performs.{among, to_one, behind, unqueued, Performs}
 use Rattle.djq_core.specs.Stepping.{StepsTo}
-use Rattle.djq_core.proofs.Ids.{Agree, held_split, held_join, apart_split, agree_open, agree_held, apart_join}
+use Rattle.djq_core.proofs.Ids.{Agree, held_split, held_join, apart_split, agree_open, agree_held, apart_join, owned_without}
 use Rattle.djq_core.proofs.Around.{ended_join, Around, parts, whole, ids_are, cursors_are, open_are, found, becomes, rises_push, rises_without, IsAbove, above_front, map_append, around}
 use Rattle.djq_core.proofs.Taking.{sound_bytes}
 use Rattle.djq_core.proofs.GivingUp.{agree_apart, apart_fronts, apart_backs, apart_rest, without}
@@ -371,6 +371,7 @@ closes k new is xs id_room room at s e d stopped core h within g =
           few = omega (arith, p.few, length-append front back);
           cursors_held = subst (λ (cs : _). AreHeld new.cursors cs) (sym both) (agree_held k.cursors new.cursors (all_ids front ++ all_ids back) joined (held_join k.cursors (all_ids front) (all_ids back) p.held_front p.held_back));
           apart = subst AreApart (sym both) (without (all_ids front) mine (all_ids back) p.apart);
+          owned = subst (AreOwned new.cursors) (sym both) (owned_without k.cursors new.cursors (all_ids front) mine (all_ids back) g.gone g.others p.owned);
           ended = ended_join front back p.ended_front p.ended_back;
         });
         room_for_ids = core.room_for_ids;
@@ -406,6 +407,7 @@ opens k is xs id_room room s d st stopped core v less f above =
       few = omega (arith, few, length-append xs (record { id = s; session = d } ∷ []));
       cursors_held = subst (λ (cs : _). AreHeld k.cursors cs) (sym ids) core.sound.cursors_held;
       apart = subst AreApart (sym ids) core.sound.apart;
+      owned = subst (AreOwned k.cursors) (sym ids) core.sound.owned;
       ended = ended_join xs (record { id = s; session = d } ∷ []) core.sound.ended (subst (λ (c : Option EndCause). NoneOnceEnded c d.cursors) (sym f.cause) tt, tt);
     } in (
       (

@@ -1,25 +1,30 @@
 -- Commands that leave the session's cursors as they are.
-use Rattle.std.proofs.Common.{ℕ, ◌+◌, ◌≤◌, ◌≡◌, ◌++◌, Bool, true, false, List, [], ◌∷◌, map, cond, Option, None, Some, Result, Ok, Err, codes, refl, sym, ap, ◌∙◌, subst, arith}
-use Rattle.std.specs.Prelude.{⊤, if◌then◌else◌}
-use Rattle.djq_model.specs.Data.{Bytes, Tuple}
+use Rattle.std.proofs.Common.{ℕ, ◌+◌, ◌≤◌, ◌≡◌, ◌++◌, Bool, true, false, List, [], ◌∷◌, map, cond, Option, None, Some, Result, Ok, Err, codes, refl, sym, ap, ◌∙◌, subst, arith, ◌||◌, ◌⊎◌, inl, inr, ap₂, option_map}
+use Rattle.std.specs.Prelude.{⊤, if◌then◌else◌, IsSome}
+use Rattle.djq_model.specs.Data.{Bytes, Tuple, query_of, bytes_eq}
+use Rattle.std.specs.List.{list_any}
+use Rattle.djq_model.specs.Equality.{bytes_eq-decides}
 use Rattle.djq_model.specs.declared.query.Query.{Query}
+use Rattle.djq_session.specs.declared.named.NamedCursor.{NamedCursor}
+use Rattle.djq_engine.specs.declared.cursor.CursorId.{CursorId}
+use Rattle.djq_machine.specs.Command.{uses}
 use Rattle.djq_model.specs.declared.relation.ColumnType.{ColumnType}
 use Rattle.djq_lines.specs.declared.answer.Refusal.{Refusal}
 use Rattle.djq_lines.specs.declared.answer.AddOutcome.{AddOutcome}
 use Rattle.djq_lines.specs.declared.answer.DeleteOutcome.{DeleteOutcome}
-use Rattle.djq_lines.specs.declared.command.Command.TheVariants.{Rel, Add, Del, Query as Register}
-use Rattle.djq_lines.specs.Reply.{refusal_line, ok_reply, add_reply, delete_reply, query_reply}
-use Rattle.djq_machine.specs.State.{Session, State}
-use Rattle.djq_machine.specs.Store.{MakesRelation, AddsRow, DeletesRow, RegistersQuery}
+use Rattle.djq_lines.specs.declared.command.Command.TheVariants.{Rel, Add, Del, Query as Register, Has, Drop}
+use Rattle.djq_lines.specs.Reply.{refusal_line, ok_reply, add_reply, delete_reply, query_reply, has_reply}
+use Rattle.djq_machine.specs.State.{Session, State, Cursor}
+use Rattle.djq_machine.specs.Store.{MakesRelation, AddsRow, DeletesRow, RegistersQuery, TellsWhether, has_steps, DropsQuery}
 use Rattle.djq_machine.specs.Stale.{by_relation, outdated_sessions, add_outdates, delete_outdates, changed}
 use Rattle.djq_machine.specs.Effect.{Effect, RefusedStep}
 use Rattle.djq_session.specs.Dialog.{Replies}
-use Rattle.djq_engine.specs.Kept.{Kept, Held, held_at, SameCursors, Outdates, outdated_held}
+use Rattle.djq_engine.specs.Kept.{Kept, Held, held_at, SameCursors, Outdates, outdated_held, same_id, Uses, DropGives}
 use Rattle.djq_core.specs.declared.open.OpenSession.{OpenSession}
-use Rattle.djq_core.specs.Views.{Talk, session_in, open_in, state_in}
-use Rattle.djq_core.specs.Sound.{ids_of, all_ids, AreHeld, IsSound}
+use Rattle.djq_core.specs.Views.{Talk, session_in, open_in, state_in, query_in, cursor_in}
+use Rattle.djq_core.specs.Sound.{ids_of, all_ids, AreHeld, IsSound, is_among}
 use Rattle.djq_core.specs.Performs.{among, to_one, unqueued, Performs, Executes}
-use Rattle.djq_core.proofs.Ids.{Agree, agree_same, agree_held, agree_open, Outdated, outdated_find, outdated_all_held, outdated_open}
+use Rattle.djq_core.proofs.Ids.{Agree, agree_same, agree_held, agree_open, Outdated, outdated_find, outdated_all_held, outdated_open, owned_still, among_either, held_split, same_id_same, or_true}
 use Rattle.djq_core.proofs.Around.{Around, parts, whole, open_are, looks}
 
 -- a reply changes nothing of a session that the machine sees but its bytes
@@ -34,14 +39,15 @@ open_quiet hs front s d e back same = open_are hs front s e back ∙ ap (λ (x :
 -- what is known around a session holds at other cursors that are held, and with other bytes
 pub around_held : (old new : List Held) (front : List OpenSession) (s : ℕ) (d : Talk) (back : List OpenSession)
     → (AreHeld old (all_ids front) → AreHeld new (all_ids front)) → (AreHeld old (ids_of d.cursors) → AreHeld new (ids_of d.cursors)) → (AreHeld old (all_ids back) → AreHeld new (all_ids back))
-    → Around old front s d back → Around new front s d back
-around_held old new front s d back f h b p = record {
+    → ((c : CursorId) → IsSome (held_at new c) → IsSome (held_at old c)) → Around old front s d back → Around new front s d back
+around_held old new front s d back f h b o p = record {
   rising = p.rising;
   few = p.few;
   held_front = f p.held_front;
   held_here = h p.held_here;
   held_back = b p.held_back;
   apart = p.apart;
+  owned = owned_still old new (all_ids front ++ (ids_of d.cursors ++ all_ids back)) o p.owned;
   ended_front = p.ended_front;
   ended_here = p.ended_here;
   ended_back = p.ended_back;
@@ -56,6 +62,7 @@ around_bytes hs front s d held pending room back p = record {
   held_here = p.held_here;
   held_back = p.held_back;
   apart = p.apart;
+  owned = p.owned;
   ended_front = p.ended_front;
   ended_here = p.ended_here;
   ended_back = p.ended_back;
@@ -69,28 +76,43 @@ sound_replied k front s before after text back r p =
     (whole k front s (record before { pending = before.pending ++ text; room = after.room }) back (around_bytes k.cursors front s before before.held (before.pending ++ text) after.room back p))
 
 -- Something is done and answered, and the cursors stay as they are.
-pub replied : (M : State → ℕ → Session → Effect → State → Type 0) (old new : Kept) (before after : Talk) (text : Bytes)
-    → Replies before after text → SameCursors old.cursors new.cursors
-    → ((st : State) (s : ℕ) (x : Session) → st.store ≡ old.store → x ≡ session_in old.cursors s before → M st s x (to_one s (Some text) 0) (record st { store = new.store }))
-    → Performs M false old before new after 0 0
-replied M old new before after text r same does = record {
+pub replied_among : (M : State → ℕ → Session → Effect → State → Type 0) (old new : Kept) (before after : Talk) (text : Bytes) (cost was now : ℕ)
+    → Replies before after text → SameCursors old.cursors new.cursors → now ≤ was + cost
+    → ((front back : List OpenSession) (s : ℕ) (stopped : Bool) → IsSound old (among front s before back)
+    → (let st = state_in old stopped (among front s before back) in M st s (session_in old.cursors s before) (to_one s (Some text) cost) (record st { store = new.store })))
+    → Performs M false old before new after was now
+replied_among M old new before after text cost was now r same counted does = record {
   text = Some text;
-  cost = 0;
+  cost = cost;
   pending = ap (λ (d : Talk). d.pending) r;
   does = λ front back s stopped sound.
       let xs = among front s before back in
       let eq : map (open_in new.cursors) (among front s (unqueued before after) back) ≡ map (open_in old.cursors) xs
       = open_quiet new.cursors front s before (unqueued before after) back (quiet new.cursors s before after text r)
       ∙ agree_open old.cursors new.cursors xs (agree_same old.cursors new.cursors (all_ids xs) same) in
-      subst (λ (ys : List Session). M (state_in old stopped xs) s (session_in old.cursors s before) (to_one s (Some text) 0) (record { store = new.store; stopped = stopped; sessions = ys }))
-      (sym eq) (does (state_in old stopped xs) s (session_in old.cursors s before) refl refl);
+      subst (λ (ys : List Session). M (state_in old stopped xs) s (session_in old.cursors s before) (to_one s (Some text) cost) (record { store = new.store; stopped = stopped; sessions = ys }))
+      (sym eq) (does front back s stopped sound);
   sound = λ front back s sound.
       let p = parts old front s before back sound in
       let move = λ (cs : _) (h : AreHeld old.cursors cs). agree_held old.cursors new.cursors cs (agree_same old.cursors new.cursors cs same) h in
       sound_replied new front s before after text back r
-      (around_held old.cursors new.cursors front s before back (move (all_ids front)) (move (ids_of before.cursors)) (move (all_ids back)) p);
-  counted = omega arith;
+      (around_held old.cursors new.cursors front s before back (move (all_ids front)) (move (ids_of before.cursors)) (move (all_ids back)) (λ c i. subst (λ (o : Option Held). IsSome o) (same c) i) p);
+  counted = counted;
 }
+
+pub replied_costing : (M : State → ℕ → Session → Effect → State → Type 0) (old new : Kept) (before after : Talk) (text : Bytes) (cost was now : ℕ)
+    → Replies before after text → SameCursors old.cursors new.cursors → now ≤ was + cost
+    → ((st : State) (s : ℕ) (x : Session) → st.store ≡ old.store → x ≡ session_in old.cursors s before → M st s x (to_one s (Some text) cost) (record st { store = new.store }))
+    → Performs M false old before new after was now
+replied_costing M old new before after text cost was now r same counted does =
+    replied_among M old new before after text cost was now r same counted
+    (λ front back s stopped sound. does (state_in old stopped (among front s before back)) s (session_in old.cursors s before) refl refl)
+
+pub replied : (M : State → ℕ → Session → Effect → State → Type 0) (old new : Kept) (before after : Talk) (text : Bytes)
+    → Replies before after text → SameCursors old.cursors new.cursors
+    → ((st : State) (s : ℕ) (x : Session) → st.store ≡ old.store → x ≡ session_in old.cursors s before → M st s x (to_one s (Some text) 0) (record st { store = new.store }))
+    → Performs M false old before new after 0 0
+replied M old new before after text r same does = replied_costing M old new before after text 0 0 0 r same (omega arith) does
 
 pub refused : (M : State → ℕ → Session → Effect → State → Type 0) (k : Kept) (before after : Talk) (text : Bytes)
     → Replies before after text → ((st : State) (s : ℕ) (x : Session) → st.store ≡ k.store → x ≡ session_in k.cursors s before → M st s x (to_one s (Some text) 0) st) → Performs M false k before k after 0 0
@@ -126,6 +148,15 @@ moves_held old new name true cs out h =
     outdated_all_held (old.store).queries name (new.store).seq old.cursors new.cursors cs (λ c. out c ∙ outdated_find (old.store).queries name (new.store).seq old.cursors c) h
 moves_held old new name false cs out h = agree_held old.cursors new.cursors cs (agree_same old.cursors new.cursors cs out) h
 
+moves_still : (old new : Kept) (name : Bytes) (b : Bool) (c : CursorId) → Outdates old name b new → IsSome (held_at new.cursors c) → IsSome (held_at old.cursors c)
+moves_still old new name true c out i =
+    was (held_at old.cursors c) (subst (λ (o : Option Held). IsSome o) (out c ∙ outdated_find (old.store).queries name (new.store).seq old.cursors c) i)
+  where
+    was : (o : Option Held) → IsSome (option_map (outdated_held (old.store).queries name (new.store).seq) o) → IsSome o
+    was None h = absurd (cc)
+    was (Some x) h = refl
+moves_still old new name false c out i = subst (λ (o : Option Held). IsSome o) (out c) i
+
 moves_open : (old new : Kept) (name : Bytes) (b : Bool) (xs : List OpenSession) → Outdates old name b new
     → map (open_in new.cursors) xs ≡ (if b then outdated_sessions (old.store).queries (by_relation name) (new.store).seq (map (open_in old.cursors) xs) else map (open_in old.cursors) xs)
 moves_open old new name true xs out =
@@ -151,7 +182,7 @@ changes M old new before after text name b r out does = record {
   sound = λ front back s sound.
       let p = parts old front s before back sound in
       sound_replied new front s before after text back r
-      (around_held old.cursors new.cursors front s before back (λ h. moves_held old new name b (all_ids front) out h) (λ h. moves_held old new name b (ids_of before.cursors) out h) (λ h. moves_held old new name b (all_ids back) out h) p);
+      (around_held old.cursors new.cursors front s before back (λ h. moves_held old new name b (all_ids front) out h) (λ h. moves_held old new name b (ids_of before.cursors) out h) (λ h. moves_held old new name b (all_ids back) out h) (λ c i. moves_still old new name b c out i) p);
   counted = omega arith;
 }
 
@@ -175,6 +206,82 @@ does_delete old new before after name row result deletes out r =
       result = result;
       store = new.store;
       done = subst (λ store. DeletesRow store name row result new.store) (sym e) deletes;
+      effect = refl;
+      state = refl;
+    })
+
+pub does_has : (k : Kept) (before after : Talk) (q : Bytes) (t : Tuple) (result : Result Bool Refusal) (was now : ℕ)
+    → TellsWhether k.store q t result → now ≤ was + has_steps (query_of k.store.queries q) → Replies before after (has_reply result)
+    → Executes (Has q t) false k before k after was now
+does_has k before after q t result was now tells counted r =
+    replied_costing _ k k before after (has_reply result) (has_steps (query_of k.store.queries q)) was now r (λ id. refl) counted (λ st s x e f. record {
+      result = result;
+      tells = subst (λ store. TellsWhether store q t result) (sym e) tells;
+      effect = ap (λ store. to_one s (Some (has_reply result)) (has_steps (query_of store.queries q))) (sym e);
+      state = ap (λ store. record st { store = store }) (sym e);
+    })
+
+-- `drop`
+
+-- whether a session uses a query that a cursor of the engine is over
+
+other_query : (h : Held) (q : Bytes) → (h.query ≡ q → ⊥) → bytes_eq h.query q ≡ false
+other_query h q d = step (bytes_eq h.query q) refl
+  where
+    step : (b : Bool) → bytes_eq h.query q ≡ b → b ≡ false
+    step true e = absurd (d ((bytes_eq-decides h.query q).0 e))
+    step false e = refl
+
+names_unused : (hs : List Held) (q : Bytes) (names : List (NamedCursor CursorId)) → AreHeld hs (ids_of names) → ((id : CursorId) (h : Held) → held_at hs id ≡ Some h → h.query ≡ q → ⊥)
+    → list_any (λ (c : Cursor). bytes_eq c.query q) (map (cursor_in hs) names) ≡ false
+names_unused hs q [] held none = refl
+names_unused hs q (n ∷ names) held none =
+    ap₂ (λ b d. b || d) (ap (λ (o : Option Held). bytes_eq (query_in o) q) held.0.1 ∙ other_query held.0.0 q (none n.cursor held.0.0 held.0.1))
+    (names_unused hs q names held.1 none)
+
+sessions_unused : (hs : List Held) (q : Bytes) (xs : List OpenSession) → AreHeld hs (all_ids xs) → ((id : CursorId) (h : Held) → held_at hs id ≡ Some h → h.query ≡ q → ⊥)
+    → list_any (uses q) (map (open_in hs) xs) ≡ false
+sessions_unused hs q [] held none = refl
+sessions_unused hs q (x ∷ xs) held none =
+    let two = held_split hs (ids_of (x.session).cursors) (all_ids xs) held in
+    ap₂ (λ b d. (b || false) || d) (names_unused hs q (x.session).cursors two.0 none) (sessions_unused hs q xs two.1 none)
+
+names_used : (hs : List Held) (q : Bytes) (id : CursorId) (h : Held) (names : List (NamedCursor CursorId)) → held_at hs id ≡ Some h → h.query ≡ q → is_among id (ids_of names) ≡ true
+    → list_any (λ (c : Cursor). bytes_eq c.query q) (map (cursor_in hs) names) ≡ true
+names_used hs q id h [] found same there = absurd (cc)
+names_used hs q id h (n ∷ names) found same there = step (same_id n.cursor id) refl there (λ k. names_used hs q id h names found same k)
+  where
+    step : (b : Bool) → same_id n.cursor id ≡ b → (b || is_among id (ids_of names)) ≡ true
+        → (is_among id (ids_of names) ≡ true → list_any (λ (c : Cursor). bytes_eq c.query q) (map (cursor_in hs) names) ≡ true)
+        → (bytes_eq (query_in (held_at hs n.cursor)) q || list_any (λ (c : Cursor). bytes_eq c.query q) (map (cursor_in hs) names)) ≡ true
+    step true e k more =
+        let here : bytes_eq (query_in (held_at hs n.cursor)) q ≡ true =
+        ap (λ (o : Option Held). bytes_eq (query_in o) q) (ap (held_at hs) (same_id_same n.cursor id e) ∙ found) ∙ (bytes_eq-decides h.query q).1 same in
+        ap (λ b. b || list_any (λ (c : Cursor). bytes_eq c.query q) (map (cursor_in hs) names)) here
+    step false e k more =
+        ap (λ d. bytes_eq (query_in (held_at hs n.cursor)) q || d) (more k) ∙ or_true (bytes_eq (query_in (held_at hs n.cursor)) q)
+
+sessions_used : (hs : List Held) (q : Bytes) (id : CursorId) (h : Held) (xs : List OpenSession) → held_at hs id ≡ Some h → h.query ≡ q → is_among id (all_ids xs) ≡ true
+    → list_any (uses q) (map (open_in hs) xs) ≡ true
+sessions_used hs q id h [] found same there = absurd (cc)
+sessions_used hs q id h (x ∷ xs) found same there = step (among_either id (ids_of (x.session).cursors) (all_ids xs) there) (λ k. sessions_used hs q id h xs found same k)
+  where
+    step : (is_among id (ids_of (x.session).cursors) ≡ true) ⊎ (is_among id (all_ids xs) ≡ true) → (is_among id (all_ids xs) ≡ true → list_any (uses q) (map (open_in hs) xs) ≡ true)
+        → list_any (uses q) (map (open_in hs) (x ∷ xs)) ≡ true
+    step (inl e) more = ap (λ b. (b || false) || list_any (uses q) (map (open_in hs) xs)) (names_used hs q id h (x.session).cursors found same e)
+    step (inr e) more = ap (λ d. uses q (open_in hs x) || d) (more e) ∙ or_true (uses q (open_in hs x))
+
+use_is : (k : Kept) (q : Bytes) (used : Bool) (xs : List OpenSession) → IsSound k xs → Uses k q used → used ≡ list_any (uses q) (map (open_in k.cursors) xs)
+use_is k q true xs sound u = sym (sessions_used k.cursors q u.0 u.1 xs u.2 u.3 (sound.owned u.0 (subst (λ (o : Option Held). IsSome o) (sym u.2) refl)))
+use_is k q false xs sound u = sym (sessions_unused k.cursors q xs sound.cursors_held u)
+
+pub does_drop : (old new : Kept) (before after : Talk) (q : Bytes) (result : Result ⊤ Refusal)
+    → DropGives old q result new → Replies before after (ok_reply (codes "ok") result) → Executes (Drop q) false old before new after 0 0
+does_drop old new before after q result d r =
+    replied_among _ old new before after (ok_reply (codes "ok") result) 0 0 0 r d.cursors (omega arith) (λ front back s stopped sound. record {
+      result = result;
+      store = new.store;
+      done = subst (λ (used : Bool). DropsQuery old.store used q result new.store) (use_is old q d.used (among front s before back) sound d.is_used) d.store;
       effect = refl;
       state = refl;
     })

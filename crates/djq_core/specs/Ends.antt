@@ -1,5 +1,5 @@
 -- What a session's end does to the engine and to the session.
-use Rattle.std.specs.Prelude.{ℕ, List, [], ◌∷◌, ◌≡◌, Option, None, Some}
+use Rattle.std.specs.Prelude.{ℕ, List, [], ◌∷◌, ◌≡◌, true, Option, None, Some}
 use Rattle.djq_model.specs.Data.{Bytes}
 use Rattle.djq_lines.specs.declared.answer.EndCause.TheVariants.{Input}
 use Rattle.djq_lines.specs.Reply.{input_cut}
@@ -8,12 +8,13 @@ use Rattle.djq_machine.specs.Effect.{Effect}
 use Rattle.djq_engine.specs.declared.cursor.CursorId.{CursorId}
 use Rattle.djq_engine.specs.Kept.{Kept, held_at}
 use Rattle.djq_core.specs.Views.{Talk}
-use Rattle.djq_core.specs.Sound.{ids_of, IsApart}
+use Rattle.djq_core.specs.Sound.{ids_of, is_among, IsApart}
 use Rattle.djq_core.specs.Performs.{to_one}
 
 -- The cursors of a session are gone, and nothing else.
 pub record GivesUp (old : Kept) (before : Talk) (new : Kept) (after : Talk) : Type 0 where
   pub store : new.store ≡ old.store
+  pub gone : (c : CursorId) → is_among c (ids_of before.cursors) ≡ true → held_at new.cursors c ≡ None
   pub others : (c : CursorId) → IsApart c (ids_of before.cursors) → held_at new.cursors c ≡ held_at old.cursors c
   pub session : after ≡ record before { cursors = [] }
 

@@ -1,5 +1,6 @@
 -- What holds of the core's sessions between its calls.
-use Rattle.std.specs.Prelude.{ℕ, List, [], ◌∷◌, ◌≡◌, ◌+◌, ◌++◌, ◌<◌, ◌≤◌, Bool, false, Option, None, Some, length, map, ⊤}
+use Rattle.std.specs.Prelude.{ℕ, List, [], ◌∷◌, ◌≡◌, ◌+◌, ◌++◌, ◌<◌, ◌≤◌, Bool, true, false, Option, None, Some, IsSome, length, map, ⊤}
+use Rattle.std.specs.List.{list_any}
 use Rattle.djq_model.specs.Answer.{AreDifferent}
 use Rattle.djq_lines.specs.declared.answer.EndCause.{EndCause}
 use Rattle.djq_lines.specs.declared.limits.TheConstants.{SESSIONS, REPLY_BYTES, LAST_LINE_BYTES}
@@ -47,6 +48,14 @@ abbrev pub AreApart : List CursorId → Type 0
 AreApart [] = ⊤
 AreApart (c ∷ cs) = IsApart c cs × AreApart cs
 
+-- whether a cursor is one of these
+abbrev pub is_among : CursorId → List CursorId → Bool
+is_among c cs = list_any (λ d. same_id d c) cs
+
+-- The engine holds no other cursors than these.
+abbrev pub AreOwned : List Held → List CursorId → Type 0
+AreOwned hs cs = (c : CursorId) → IsSome (held_at hs c) → is_among c cs ≡ true
+
 -- a session that has ended has no cursors
 abbrev pub NoneOnceEnded : Option EndCause → List (NamedCursor CursorId) → Type 0
 NoneOnceEnded None names = ⊤
@@ -57,12 +66,13 @@ AreEndedWithout [] = ⊤
 AreEndedWithout (x ∷ xs) = NoneOnceEnded (x.session).cause (x.session).cursors × AreEndedWithout xs
 
 -- The ids of the sessions rise, and there are at most so many; the engine holds their cursors, no two of which are the
--- same; and those that have ended have none.
+-- same, and no others; and those that have ended have none.
 pub record IsSound (k : Kept) (xs : List OpenSession) : Type 0 where
   pub rising : Rises (map (λ x. x.id) xs)
   pub few : length xs ≤ SESSIONS
   pub cursors_held : AreHeld k.cursors (all_ids xs)
   pub apart : AreApart (all_ids xs)
+  pub owned : AreOwned k.cursors (all_ids xs)
   pub ended : AreEndedWithout xs
 
 -- A session's own cursors are held by the engine, and no two are the same.

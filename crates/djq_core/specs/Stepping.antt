@@ -23,8 +23,6 @@ use Rattle.djq_core.specs.Performs.{Performs}
 abbrev pub IsRunnable : Command → Type 0
 IsRunnable (Register q) = is_simple q.head q.atoms ≡ true
 IsRunnable (Next c count) = 1 ≤ count
-IsRunnable (Drop q) = ⊥
-IsRunnable (Has q row) = ⊥
 IsRunnable (Watch q) = ⊥
 IsRunnable (Unwatch q) = ⊥
 IsRunnable (Explain q) = ⊥

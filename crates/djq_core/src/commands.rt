@@ -1,8 +1,8 @@
-//! Commands that change the relations, the queries or a session's cursors.
+//! Commands on the relations, the queries and a session's cursors.
 ghost use Rattle.std.specs.Prelude.{◌≡◌, false, true};
 ghost use Rattle.djq_lines.specs.declared.command.Command.TheVariants.{Rel, Add, Del};
-ghost use Rattle.djq_lines.specs.declared.command.Command.TheVariants.{Query as Register, Open};
-ghost use Rattle.djq_lines.specs.declared.command.Command.TheVariants.{Close, Quit, Stop};
+ghost use Rattle.djq_lines.specs.declared.command.Command.TheVariants.{Query as Register, Drop, Open};
+ghost use Rattle.djq_lines.specs.declared.command.Command.TheVariants.{Close, Has, Quit, Stop};
 ghost use Rattle.djq_lines.specs.Grammar.{is_simple};
 ghost use Rattle.djq_core.specs.Opens.{Opens};
 ghost use Rattle.djq_core.specs.Performs.{Executes};
@@ -12,8 +12,9 @@ use crate::ending::give_up;
 use djq_engine::{CursorId, Engine, QueryId};
 use djq_lines::limits::CURSORS;
 use djq_lines::{EndCause, Refusal};
-use djq_model::{Name, Query, Row, Types};
+use djq_model::{Name, Query, Row, Types, Value};
 use djq_session::Session;
+use djq_steps::{Ledgers, Listing, Tally};
 
 /// `rel`: a new relation.
 pub(crate) fn run_rel(
@@ -125,6 +126,31 @@ pub(crate) fn run_close(engine: &mut Engine, session: &mut Session<CursorId, Que
             session.answer_done(Ok(()));
         }
     }
+}
+
+/// `drop`: a query is registered no more.
+pub(crate) fn run_drop(engine: &mut Engine, session: &mut Session<CursorId, QueryId>, query: &Name)
+    requires { IsReady engine.old session.old }
+    ensures { Executes (Drop query.now) false engine.old session.old engine.new session.new 0 0 }
+{
+    let outcome = engine.drop_query(query);
+    session.answer_done(outcome);
+}
+
+/// `has`: whether a tuple is an answer of a query.
+pub(crate) fn run_has<L: Ledgers>(
+    engine: &Engine,
+    session: &mut Session<CursorId, QueryId>,
+    query: &Name,
+    tuple: &[Value],
+    listing: &mut Tally<Listing<L>>,
+)
+    requires { IsReady engine.now session.old }
+    ensures { Executes (Has query.now tuple.now) false engine.now session.old engine.now session.new
+        listing.old listing.new }
+{
+    let outcome = engine.has(query, tuple, listing);
+    session.answer_has(outcome);
 }
 
 /// `quit`: the session ends.

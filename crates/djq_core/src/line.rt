@@ -8,7 +8,8 @@ ghost use Rattle.djq_core.specs.Sound.{IsOwn, IsReady};
 ghost use Rattle.djq_core.specs.Stepping.{Fronts, IsRunnable, StepsTo, refused_as};
 
 use crate::commands::{
-    run_add, run_close, run_del, run_open, run_query, run_quit, run_rel, run_stop,
+    run_add, run_close, run_del, run_drop, run_has, run_open, run_query, run_quit, run_rel,
+    run_stop,
 };
 use crate::ending::end_by;
 use crate::listing::run_next;
@@ -62,6 +63,14 @@ fn obey<L: Ledgers>(
             run_close(engine, session, &cursor);
             false
         }
+        Command::Drop { query } => {
+            run_drop(engine, session, &query);
+            false
+        }
+        Command::Has { query, row } => {
+            run_has(engine, session, &query, row.as_slice(), listing);
+            false
+        }
         Command::Quit => {
             run_quit(engine, session);
             false
@@ -70,11 +79,7 @@ fn obey<L: Ledgers>(
             run_stop(engine, session);
             true
         }
-        Command::Drop { .. }
-        | Command::Has { .. }
-        | Command::Watch { .. }
-        | Command::Unwatch { .. }
-        | Command::Explain { .. } => unreachable!(),
+        Command::Watch { .. } | Command::Unwatch { .. } | Command::Explain { .. } => unreachable!(),
     }
 }
 

@@ -1,6 +1,6 @@
 -- A change of one relation: what is kept, and which cursors become stale.
-use Rattle.std.proofs.Common.{ℕ, zero, List, [], ◌∷◌, ◌≡◌, ◌<◌, ◌≤◌, ◌⊎◌, inl, inr, Bool, true, false, refl, sym, ap, ap₂, ◌∙◌, subst, length, set, take, arith}
-use Rattle.std.specs.Prelude.{◌==◌, ◌||◌, Option, None, Some, option_map, map, cond}
+use Rattle.std.proofs.Common.{ℕ, zero, suc, get_or, List, [], ◌∷◌, ◌≡◌, ◌<◌, ◌≤◌, ◌⊎◌, inl, inr, Bool, true, false, refl, sym, ap, ap₂, ◌∙◌, subst, length, set, take, arith}
+use Rattle.std.specs.Prelude.{◌==◌, ◌&&◌, ◌||◌, Option, None, Some, option_map, find, map, position, cond}
 use Rattle.std.specs.List.{list_any}
 use Rattle.std.proofs.lemmas.Bool.{eq-eqb, cases_order, cases_lt}
 use Rattle.std.proofs.lemmas.List.{get_or-set_same, get_or-set_other, length-set, map-set, same_lists, get_or-map, length-map, get_or_default, get_or_past, set-get_or}
@@ -23,9 +23,11 @@ use Rattle.djq_engine.specs.Served.{relation_in, body_in}
 use Rattle.djq_engine.specs.Answers.{cells_at, columns_of}
 use Rattle.djq_engine.specs.Cursors.{slot_at, position_in, outdated_slots, outdated_progress}
 use Rattle.djq_engine.specs.Kept.{Held, same_id, held_at, outdated_held}
-use Rattle.djq_engine.specs.Tables.{no_table, no_query, table_at, query_at, relations_in, queries_in, is_reader, answers_at, held_as, held_by, held_from, outdated_query, OutdatesReaders}
+use Rattle.djq_engine.specs.Tables.{no_table, no_query, table_at, query_at, is_live, is_query, relations_in, queries_in, is_reader, answers_at, held_as, held_by, held_from, outdated_query, OutdatesReaders}
 use Rattle.djq_engine.specs.Sound.{RowsSound, IsReady, IsSound}
-use Rattle.djq_engine.proofs.Firsts.{first_found, first_changed, firsts_same, first_mapped, find_mapped, first_as}
+use Rattle.djq_engine.proofs.Firsts.{first_of_position, none_of_position, first_found, first_changed, firsts_same, first_mapped, find_mapped, first_as}
+use Rattle.djq_engine.proofs.Conditions.{both_true}
+use Rattle.djq_engine.proofs.Places.{reader_filter, filter_members, map_members, find_listed, none_listed}
 use Rattle.djq_engine.proofs.Outdating.{outdated_at, apart}
 use Rattle.djq_engine.proofs.Held.{held_is, slot_none}
 
@@ -41,14 +43,76 @@ pub rows_named : (tables : List Table) (name : Bytes) (at : ℕ) → IsFirst (λ
     → rows_of (relations_in tables) name ≡ (table_at tables at).relation.rows
 rows_named tables name at f = ap rows_in (relation_named tables name at f)
 
-pub query_named : (gs : List Registered) (name : Bytes) (i : ℕ) → IsFirst (λ g. bytes_eq g.query.name name) gs i → query_of (queries_in gs) name ≡ Some (query_at gs i).query
-query_named gs name i f =
-    find_mapped (λ q. bytes_eq q.name name) (λ (g : Registered). g.query) gs
-    ∙ ap (option_map (λ (g : Registered). g.query)) (first_found (λ g. bytes_eq g.query.name name) gs i no_query f)
+-- a place that is live is one of the vector
+pub live_below : (gs : List Registered) (i : ℕ) → is_live gs i ≡ true → i < length gs
+live_below gs i e = by_length (cases_lt i (length gs))
+  where
+    by_length : (i < length gs) ⊎ (length gs ≤ i) → i < length gs
+    by_length (inl l) = l
+    by_length (inr l) = let none : is_live gs i ≡ false = ap (λ (g : Registered). g.live) (get_or_past gs i no_query l) in absurd cc
+
+-- whether a query in a place reads a relation, and that readers are live
+
+pub reader_is : (tables : List Table) (gs : List Registered) (order : List ℕ) (r i : ℕ) → r < length tables → IsSound tables gs order
+    → is_reader (table_at tables r).readers i ≡ (is_live gs i && ((query_at gs i).relation == r))
+reader_is tables gs order r i l s =
+    ap (λ (rs : List ℕ). is_reader rs i) (s.readers r l) ∙ reader_filter (λ i. (query_at gs i).relation == r) order i ∙ ap (λ b. b && ((query_at gs i).relation == r)) (s.listed i)
+
+pub live_reader : (tables : List Table) (gs : List Registered) (order : List ℕ) (r i : ℕ) → r < length tables → is_live gs i ≡ true → IsSound tables gs order
+    → is_reader (table_at tables r).readers i ≡ ((query_at gs i).relation == r)
+live_reader tables gs order r i l v s = reader_is tables gs order r i l s ∙ ap (λ b. b && ((query_at gs i).relation == r)) v
+
+pub reader_live : (tables : List Table) (gs : List Registered) (order : List ℕ) (r i : ℕ) → IsSound tables gs order → is_reader (table_at tables r).readers i ≡ true → is_live gs i ≡ true
+reader_live tables gs order r i s e = by_length (cases_lt r (length tables))
+  where
+    by_length : (r < length tables) ⊎ (length tables ≤ r) → is_live gs i ≡ true
+    by_length (inl l) = (both_true (is_live gs i) ((query_at gs i).relation == r) (sym (reader_is tables gs order r i l s) ∙ e)).0
+    by_length (inr l) = let none : is_reader (table_at tables r).readers i ≡ false = ap (λ (t : Table). is_reader t.readers i) (get_or_past tables r no_table l) in absurd cc
 
 -- a query that is kept is found under its name
-pub query_kept : (tables : List Table) (gs : List Registered) (i : ℕ) → i < length gs → IsSound tables gs → query_of (queries_in gs) (query_at gs i).query.name ≡ Some (query_at gs i).query
-query_kept tables gs i l s = query_named gs (query_at gs i).query.name i (s.named i l)
+
+pub query_there : (tables : List Table) (gs : List Registered) (order : List ℕ) (name : Bytes) (i : ℕ) → is_live gs i ≡ true → (query_at gs i).query.name ≡ name → IsSound tables gs order
+    → query_of (queries_in gs order) name ≡ Some (query_at gs i).query
+query_there tables gs order name i v e s =
+    find_listed (λ i. (query_at gs i).query) order name i (s.listed i ∙ v) ((bytes_eq-decides (query_at gs i).query.name name).1 e)
+    (λ j l m. s.named j i (sym (s.listed j) ∙ l) v ((bytes_eq-decides (query_at gs j).query.name name).0 m ∙ sym e))
+
+pub query_kept : (tables : List Table) (gs : List Registered) (order : List ℕ) (i : ℕ) → is_live gs i ≡ true → IsSound tables gs order
+    → query_of (queries_in gs order) (query_at gs i).query.name ≡ Some (query_at gs i).query
+query_kept tables gs order i v s = query_there tables gs order (query_at gs i).query.name i v refl s
+
+-- the place of the query of a name
+pub record Named (gs : List Registered) (name : Bytes) (i : ℕ) : Type 0 where
+  pub live : is_live gs i ≡ true
+  pub called : (query_at gs i).query.name ≡ name
+
+pub first_query : (gs : List Registered) (name : Bytes) (at : ℕ) → Some at ≡ position (is_query name) gs → Named gs name at
+first_query gs name at e =
+    let b = both_true (is_live gs at) (bytes_eq (query_at gs at).query.name name) ((first_of_position (is_query name) gs at (sym e)).passes no_query) in
+    record { live = b.0; called = (bytes_eq-decides (query_at gs at).query.name name).0 b.1 }
+
+pub query_named : (tables : List Table) (gs : List Registered) (order : List ℕ) (name : Bytes) (i : ℕ) → Named gs name i → IsSound tables gs order
+    → query_of (queries_in gs order) name ≡ Some (query_at gs i).query
+query_named tables gs order name i n s = query_there tables gs order name i n.live n.called s
+
+none_passes : {A : Type 0} (p : A → Bool) (xs : List A) → find p xs ≡ None → (k : ℕ) (d : A) → k < length xs → p (get_or xs k d) ≡ false
+none_passes p [] e k d l = absurd (omega arith)
+none_passes p (x ∷ xs) e k d l = step (p x) refl e k l (none_passes p xs)
+  where
+    step : (b : Bool) → p x ≡ b → cond b (Some x) (find p xs) ≡ None → (k : ℕ) → k < suc (length xs)
+        → (find p xs ≡ None → (k : ℕ) (d : _) → k < length xs → p (get_or xs k d) ≡ false) → p (get_or (x ∷ xs) k d) ≡ false
+    step true f e k l more = absurd cc
+    step false f e zero l more = f
+    step false f e (suc k) l more = more e k d (omega arith)
+
+-- no live query has a name that isn't found
+pub unnamed : (gs : List Registered) (name : Bytes) (j : ℕ) → None ≡ position (is_query name) gs → is_live gs j ≡ true → bytes_eq (query_at gs j).query.name name ≡ false
+unnamed gs name j e v =
+    let f = none_passes (is_query name) gs (none_of_position (is_query name) gs (sym e)) j no_query (live_below gs j v) in
+    ap (λ b. b && bytes_eq (query_at gs j).query.name name) (sym v) ∙ f
+
+pub no_query_of : (tables : List Table) (gs : List Registered) (order : List ℕ) (name : Bytes) → None ≡ position (is_query name) gs → IsSound tables gs order → query_of (queries_in gs order) name ≡ None
+no_query_of tables gs order name e s = none_listed (λ i. (query_at gs i).query) order name (λ j l. unnamed gs name j e (sym (s.listed j) ∙ l))
 
 -- one table with another relation of the same name and types
 
@@ -56,14 +120,14 @@ abbrev pub with_relation : List Table → ℕ → Relation → List Table
 with_relation tables at r = let t = table_at tables at in set tables at (record t { relation = r })
 
 -- What a change of a relation is: it keeps its name and types, its rows are sound, and its readers' cursors become stale.
-pub record Changes (tables : List Table) (gs : List Registered) (at : ℕ) (r : Relation) (name : Bytes) (n : ℕ) (gs' : List Registered) : Type 0 where
+pub record Changes (tables : List Table) (gs : List Registered) (order : List ℕ) (at : ℕ) (r : Relation) (name : Bytes) (n : ℕ) (gs' : List Registered) : Type 0 where
   pub below : at < length tables
   pub first : IsFirst (λ t. bytes_eq t.relation.name name) tables at
   pub named : r.name ≡ (table_at tables at).relation.name
   pub typed : r.types ≡ (table_at tables at).relation.types
   pub rows : RowsSound r
   pub outdates : OutdatesReaders (table_at tables at).readers name n gs gs'
-  pub sound : IsSound tables gs
+  pub sound : IsSound tables gs order
 
 abbrev held_with : CursorId → Bytes → Position → Held
 held_with id q p = record { id = id; query = q; position = p }
@@ -163,13 +227,13 @@ step_other : (queries : List Query) (name q : Bytes) (n : ℕ) (id : CursorId) (
 step_other queries name q n id answers None e = refl
 step_other queries name q n id answers (Some c) e = ap (λ (o : Option Bytes). Some (held_with id q (outdated o n (position_in answers c)))) (sym e)
 
--- beyond the queries there are no cursors
-pub no_cursor : (tables : List Table) (gs : List Registered) (id : CursorId) → length gs ≤ id.query.at → held_by tables gs id ≡ None
-no_cursor tables gs id l =
-    ap (λ (g : Registered). option_map (held_as (answers_at tables g) g.query.name id) (slot_at g.cursors id.cursor)) (get_or_past gs id.query.at no_query l)
+-- where there is no query there are no cursors
+pub no_cursor : (tables : List Table) (gs : List Registered) (id : CursorId) → query_at gs id.query.at ≡ no_query → held_by tables gs id ≡ None
+no_cursor tables gs id e =
+    ap (λ (g : Registered). option_map (held_as (answers_at tables g) g.query.name id) (slot_at g.cursors id.cursor)) e
     ∙ ap (option_map (held_as (answers_at tables no_query) [] id)) (slot_none id.cursor)
 
-module _ (tables : List Table) (gs : List Registered) (at : ℕ) (r : Relation) (name : Bytes) (n : ℕ) (gs' : List Registered) (c : Changes tables gs at r name n gs') where
+module _ (tables : List Table) (gs : List Registered) (order : List ℕ) (at : ℕ) (r : Relation) (name : Bytes) (n : ℕ) (gs' : List Registered) (c : Changes tables gs order at r name n gs') where
   same_query : (i : ℕ) → (query_at gs' i).query ≡ (query_at gs i).query
   same_query i = query_field (λ (g : Registered). g.query) name n (query_at gs i) (query_at gs' i) (is_reader (table_at tables at).readers i) refl (c.outdates.each i)
 
@@ -179,18 +243,29 @@ module _ (tables : List Table) (gs : List Registered) (at : ℕ) (r : Relation) 
   same_columns : (i : ℕ) → (query_at gs' i).columns ≡ (query_at gs i).columns
   same_columns i = query_field (λ (g : Registered). g.columns) name n (query_at gs i) (query_at gs' i) (is_reader (table_at tables at).readers i) refl (c.outdates.each i)
 
-  is_over : (i : ℕ) → i < length gs → is_reader (table_at tables at).readers i ≡ ((query_at gs i).relation == at)
-  is_over i l = c.sound.readers at i c.below l
+  is_over : (i : ℕ) → is_live gs i ≡ true → is_reader (table_at tables at).readers i ≡ ((query_at gs i).relation == at)
+  is_over i l = live_reader tables gs order at i c.below l c.sound
+
+  same_live : (i : ℕ) → is_live gs' i ≡ is_live gs i
+  same_live i = query_field (λ (g : Registered). g.live) name n (query_at gs i) (query_at gs' i) (is_reader (table_at tables at).readers i) refl (c.outdates.each i)
+
+  -- a place without a query stays so
+  vacant_kept : (i : ℕ) → is_live gs i ≡ false → query_at gs' i ≡ no_query
+  vacant_kept i e = by_reader (is_reader (table_at tables at).readers i) (c.outdates.each i) (c.sound.vacant i e)
+    where
+      by_reader : (b : Bool) → query_at gs' i ≡ cond b (outdated_query name n (query_at gs i)) (query_at gs i) → query_at gs i ≡ no_query → query_at gs' i ≡ no_query
+      by_reader true f g = f ∙ ap (outdated_query name n) g
+      by_reader false f g = f ∙ g
 
   outdated_cursors : (i : ℕ) (b : Bool) → is_reader (table_at tables at).readers i ≡ b → (query_at gs' i).cursors ≡ cond b (outdated_slots name n (query_at gs i).cursors) (query_at gs i).cursors
   outdated_cursors i true e = ap (λ (g : Registered). g.cursors) (c.outdates.each i ∙ ap (λ b. cond b (outdated_query name n (query_at gs i)) (query_at gs i)) e)
   outdated_cursors i false e = ap (λ (g : Registered). g.cursors) (c.outdates.each i ∙ ap (λ b. cond b (outdated_query name n (query_at gs i)) (query_at gs i)) e)
 
-  elsewhere : (i : ℕ) → i < length gs → is_reader (table_at tables at).readers i ≡ false → table_at (with_relation tables at r) (query_at gs i).relation ≡ table_at tables (query_at gs i).relation
+  elsewhere : (i : ℕ) → is_live gs i ≡ true → is_reader (table_at tables at).readers i ≡ false → table_at (with_relation tables at r) (query_at gs i).relation ≡ table_at tables (query_at gs i).relation
   elsewhere i l e = table_other tables at r (query_at gs i).relation (λ s.
       let over : is_reader (table_at tables at).readers i ≡ true = is_over i l ∙ eq-eqb (query_at gs i).relation at s in absurd (cc))
 
-  inside_kept : (i : ℕ) → i < length gs → (b : Bool) → is_reader (table_at tables at).readers i ≡ b → (k given : ℕ) (ended : Bool) → slot_at (query_at gs' i).cursors k ≡ Some (Open given ended)
+  inside_kept : (i : ℕ) → is_live gs i ≡ true → (b : Bool) → is_reader (table_at tables at).readers i ≡ b → (k given : ℕ) (ended : Bool) → slot_at (query_at gs' i).cursors k ≡ Some (Open given ended)
       → given ≤ length (table_at (with_relation tables at r) (query_at gs' i).relation).relation.rows
   inside_kept i l true e k given ended h =
       absurd (never_open name n (query_at gs i).cursors k given ended (ap (λ cs. slot_at cs k) (sym (outdated_cursors i true e)) ∙ h))
@@ -200,7 +275,7 @@ module _ (tables : List Table) (gs : List Registered) (at : ℕ) (r : Relation) 
       ap (λ k. (table_at (with_relation tables at r) k).relation.rows) (same_relation i) ∙ ap (λ (t : Table). t.relation.rows) (elsewhere i l e) in
       subst (λ (rows : List Tuple). given ≤ length rows) (sym where_is) before
 
-  ready_kept : (i : ℕ) → i < length gs → IsReady (with_relation tables at r) (query_at gs' i)
+  ready_kept : (i : ℕ) → is_live gs i ≡ true → IsReady (with_relation tables at r) (query_at gs' i)
   ready_kept i l =
       let new = with_relation tables at r in
       let g = query_at gs i in
@@ -217,16 +292,10 @@ module _ (tables : List Table) (gs : List Registered) (at : ℕ) (r : Relation) 
         inside = inside_kept i l (is_reader (table_at tables at).readers i) refl;
       }
 
-  named_kept : (i : ℕ) → i < length gs → IsFirst (λ g. bytes_eq g.query.name (query_at gs' i).query.name) gs' i
-  named_kept i l =
-      let name_is : (query_at gs' i).query.name ≡ (query_at gs i).query.name = ap (λ (q : Query). q.name) (same_query i) in
-      let p = λ (g : Registered). bytes_eq g.query.name (query_at gs i).query.name in
-      subst (λ (m : Bytes). IsFirst (λ g. bytes_eq g.query.name m) gs' i) (sym name_is)
-      (first_as p gs gs' i no_query c.outdates.length
-      (λ k d b. ap p (get_or_default gs' k d no_query (omega (arith, c.outdates.length))) ∙ ap (λ (q : Query). bytes_eq q.name (query_at gs i).query.name) (same_query k)
-      ∙ ap p (get_or_default gs k no_query d b)) (c.sound.named i l))
+  name_is : (i : ℕ) → (query_at gs' i).query.name ≡ (query_at gs i).query.name
+  name_is i = ap (λ (q : Query). q.name) (same_query i)
 
-  pub changed_sound : IsSound (with_relation tables at r) gs'
+  pub changed_sound : IsSound (with_relation tables at r) gs' order
   changed_sound =
       let new = with_relation tables at r in
       let size = tables_length tables at r in
@@ -234,28 +303,25 @@ module _ (tables : List Table) (gs : List Registered) (at : ℕ) (r : Relation) 
         rows = everywhere (λ k. k < length new → RowsSound (table_at new k).relation) at
             (λ l. subst (λ (t : Table). RowsSound t.relation) (sym (table_same tables at r c.below)) c.rows)
             (λ k d l. subst (λ (t : Table). RowsSound t.relation) (sym (table_other tables at r k d)) (c.sound.rows k (omega (arith, size))));
-        ready = λ i l. ready_kept i (omega (arith, c.outdates.length));
-        named = λ i l. named_kept i (omega (arith, c.outdates.length));
-        below = λ k i e. omega (arith, c.sound.below k i (ap (λ rs. is_reader rs i) (sym (readers_same k)) ∙ e), c.outdates.length);
-        readers = λ k i l m. ap (λ rs. is_reader rs i) (readers_same k) ∙ c.sound.readers k i (omega (arith, size)) (omega (arith, c.outdates.length))
-            ∙ ap (λ j. j == k) (sym (same_relation i));
+        ready = λ i v. ready_kept i (sym (same_live i) ∙ v);
+        named = λ i j v w e. c.sound.named i j (sym (same_live i) ∙ v) (sym (same_live j) ∙ w) (sym (name_is i) ∙ e ∙ name_is j);
+        vacant = λ i e. vacant_kept i (sym (same_live i) ∙ e);
+        listed = λ i. c.sound.listed i ∙ sym (same_live i);
+        once = c.sound.once;
+        readers = λ k l. readers_same k ∙ c.sound.readers k (omega (arith, size))
+            ∙ filter_members (λ i. (query_at gs i).relation == k) (λ i. (query_at gs' i).relation == k) order (λ i e. ap (λ j. j == k) (sym (same_relation i)));
       }
 
-  pub changed_queries : queries_in gs' ≡ queries_in gs
-  changed_queries =
-      let f = λ (g : Registered). g.query in
-      let size = length-map gs f in
-      let size' = length-map gs' f in
-      same_lists (queries_in gs') (queries_in gs) (omega (arith, size, size', c.outdates.length))
-      (λ k d l. get_or-map f gs' k no_query d (omega (arith, size')) ∙ same_query k ∙ sym (get_or-map f gs k no_query d (omega (arith, size', c.outdates.length))))
+  pub changed_queries : queries_in gs' order ≡ queries_in gs order
+  changed_queries = map_members (λ i. (query_at gs' i).query) (λ i. (query_at gs i).query) order (λ i e. same_query i)
 
   -- cursors
 
-  outdater_is : (i : ℕ) → i < length gs → (b : Bool) → is_reader (table_at tables at).readers i ≡ b
-      → outdater_of (queries_in gs) (by_relation name) (query_at gs i).query.name ≡ cond b (Some name) None
+  outdater_is : (i : ℕ) → is_live gs i ≡ true → (b : Bool) → is_reader (table_at tables at).readers i ≡ b
+      → outdater_of (queries_in gs order) (by_relation name) (query_at gs i).query.name ≡ cond b (Some name) None
   outdater_is i l b e =
       let h = c.sound.ready i l in
-      ap (λ o. outdater_by o) (query_kept tables gs i l c.sound)
+      ap (λ o. outdater_by o) (query_kept tables gs order i l c.sound)
       ∙ ap (λ x. cond x (Some name) None) (reads_is (query_at gs i).query name h.served ∙ same_place tables name (relation_in (query_at gs i).query.atoms) at (query_at gs i).relation c.first h.relation
       ∙ sym (is_over i l) ∙ e)
     where
@@ -263,18 +329,18 @@ module _ (tables : List Table) (gs : List Registered) (at : ℕ) (r : Relation) 
       outdater_by None = None
       outdater_by (Some q) = by_relation name q
 
-  held_reader : (id : CursorId) → id.query.at < length gs → is_reader (table_at tables at).readers id.query.at ≡ true
-      → held_by (with_relation tables at r) gs' id ≡ option_map (outdated_held (queries_in gs) name n) (held_by tables gs id)
+  held_reader : (id : CursorId) → is_live gs id.query.at ≡ true → is_reader (table_at tables at).readers id.query.at ≡ true
+      → held_by (with_relation tables at r) gs' id ≡ option_map (outdated_held (queries_in gs order) name n) (held_by tables gs id)
   held_reader id l e =
       let g = query_at gs id.query.at in
       let g' = query_at gs' id.query.at in
       let named : g'.query.name ≡ g.query.name = ap (λ (q : Query). q.name) (same_query id.query.at) in
       ap₂ (λ (m : Bytes) cs. option_map (held_as (answers_at (with_relation tables at r) g') m id) (slot_at cs id.cursor)) named (outdated_cursors id.query.at true e)
       ∙ ap (option_map (held_as (answers_at (with_relation tables at r) g') g.query.name id)) (outdated_at name n g.cursors id.cursor)
-      ∙ step_reader (queries_in gs) name g.query.name n id (answers_at tables g) (answers_at (with_relation tables at r) g') (slot_at g.cursors id.cursor) (outdater_is id.query.at l true e)
+      ∙ step_reader (queries_in gs order) name g.query.name n id (answers_at tables g) (answers_at (with_relation tables at r) g') (slot_at g.cursors id.cursor) (outdater_is id.query.at l true e)
 
-  held_other : (id : CursorId) → id.query.at < length gs → is_reader (table_at tables at).readers id.query.at ≡ false
-      → held_by (with_relation tables at r) gs' id ≡ option_map (outdated_held (queries_in gs) name n) (held_by tables gs id)
+  held_other : (id : CursorId) → is_live gs id.query.at ≡ true → is_reader (table_at tables at).readers id.query.at ≡ false
+      → held_by (with_relation tables at r) gs' id ≡ option_map (outdated_held (queries_in gs order) name n) (held_by tables gs id)
   held_other id l e =
       let g = query_at gs id.query.at in
       let g' = query_at gs' id.query.at in
@@ -282,28 +348,28 @@ module _ (tables : List Table) (gs : List Registered) (at : ℕ) (r : Relation) 
       let rows : answers_at (with_relation tables at r) g ≡ answers_at tables g = ap (λ (t : Table). map (cells_at g.columns) t.relation.rows) (elsewhere id.query.at l e) in
       ap (λ (x : Registered). option_map (held_as (answers_at (with_relation tables at r) x) x.query.name id) (slot_at x.cursors id.cursor)) whole
       ∙ ap (λ ts. option_map (held_as ts g.query.name id) (slot_at g.cursors id.cursor)) rows
-      ∙ step_other (queries_in gs) name g.query.name n id (answers_at tables g) (slot_at g.cursors id.cursor) (outdater_is id.query.at l false e)
+      ∙ step_other (queries_in gs order) name g.query.name n id (answers_at tables g) (slot_at g.cursors id.cursor) (outdater_is id.query.at l false e)
 
-  held_past : (id : CursorId) → length gs ≤ id.query.at → held_by (with_relation tables at r) gs' id ≡ option_map (outdated_held (queries_in gs) name n) (held_by tables gs id)
-  held_past id l =
-      no_cursor (with_relation tables at r) gs' id (omega (arith, c.outdates.length)) ∙ sym (ap (option_map (outdated_held (queries_in gs) name n)) (no_cursor tables gs id l))
+  held_past : (id : CursorId) → is_live gs id.query.at ≡ false → held_by (with_relation tables at r) gs' id ≡ option_map (outdated_held (queries_in gs order) name n) (held_by tables gs id)
+  held_past id e =
+      no_cursor (with_relation tables at r) gs' id (vacant_kept id.query.at e) ∙ sym (ap (option_map (outdated_held (queries_in gs order) name n)) (no_cursor tables gs id (c.sound.vacant id.query.at e)))
 
-  pub changed_held : (id : CursorId) → held_by (with_relation tables at r) gs' id ≡ option_map (outdated_held (queries_in gs) name n) (held_by tables gs id)
-  changed_held id = by_place (cases_lt id.query.at (length gs))
+  pub changed_held : (id : CursorId) → held_by (with_relation tables at r) gs' id ≡ option_map (outdated_held (queries_in gs order) name n) (held_by tables gs id)
+  changed_held id = by_place (is_live gs id.query.at) refl
     where
-      by_reader : id.query.at < length gs → (b : Bool) → is_reader (table_at tables at).readers id.query.at ≡ b
-          → held_by (with_relation tables at r) gs' id ≡ option_map (outdated_held (queries_in gs) name n) (held_by tables gs id)
+      by_reader : is_live gs id.query.at ≡ true → (b : Bool) → is_reader (table_at tables at).readers id.query.at ≡ b
+          → held_by (with_relation tables at r) gs' id ≡ option_map (outdated_held (queries_in gs order) name n) (held_by tables gs id)
       by_reader l true e = held_reader id l e
       by_reader l false e = held_other id l e
 
-      by_place : (id.query.at < length gs) ⊎ (length gs ≤ id.query.at) → held_by (with_relation tables at r) gs' id ≡ option_map (outdated_held (queries_in gs) name n) (held_by tables gs id)
-      by_place (inl l) = by_reader l (is_reader (table_at tables at).readers id.query.at) refl
-      by_place (inr l) = held_past id l
+      by_place : (b : Bool) → is_live gs id.query.at ≡ b → held_by (with_relation tables at r) gs' id ≡ option_map (outdated_held (queries_in gs order) name n) (held_by tables gs id)
+      by_place true l = by_reader l (is_reader (table_at tables at).readers id.query.at) refl
+      by_place false e = held_past id e
 
-  pub changed_cursors : (id : CursorId) → held_at (held_from (with_relation tables at r) zero gs') id ≡ held_at (map (outdated_held (queries_in gs) name n) (held_from tables zero gs)) id
+  pub changed_cursors : (id : CursorId) → held_at (held_from (with_relation tables at r) zero gs') id ≡ held_at (map (outdated_held (queries_in gs order) name n) (held_from tables zero gs)) id
   changed_cursors id =
       held_is (with_relation tables at r) gs' id ∙ changed_held id
-      ∙ sym (find_mapped (λ h. same_id h.id id) (outdated_held (queries_in gs) name n) (held_from tables zero gs) ∙ ap (option_map (outdated_held (queries_in gs) name n)) (held_is tables gs id))
+      ∙ sym (find_mapped (λ h. same_id h.id id) (outdated_held (queries_in gs order) name n) (held_from tables zero gs) ∙ ap (option_map (outdated_held (queries_in gs order) name n)) (held_is tables gs id))
 
 -- the relations, in the machine's words
 

@@ -6,6 +6,7 @@ pub mod Conditions
 pub mod Rows
 pub mod Columns
 pub mod Outdating
+pub mod Places
 pub mod Held
 pub mod Changing
 pub mod Storing
@@ -14,6 +15,8 @@ pub mod Telling
 pub mod Moving
 pub mod Reading
 pub mod Opening
+pub mod Containing
 pub mod Making
 pub mod Registering
+pub mod Dropping
 pub mod Laws

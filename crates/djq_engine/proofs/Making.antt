@@ -1,6 +1,6 @@
 -- A relation more: what is kept, and what the machine says.
 use Rattle.std.proofs.Common.{ℕ, zero, List, [], ◌∷◌, ◌++◌, ◌+◌, ◌≡◌, ◌<◌, ◌≤◌, ◌⊎◌, inl, inr, Bool, true, false, refl, sym, ap, ap₂, ◌∙◌, subst, length, arith, length-append}
-use Rattle.std.specs.Prelude.{◌==◌, Option, None, Some, is_some, cond, Ok, Err, option_map, map, position, nat_le, nat_lt}
+use Rattle.std.specs.Prelude.{◌==◌, Option, None, Some, is_some, cond, Ok, Err, option_map, filter, map, position, nat_le, nat_lt}
 use Rattle.std.proofs.lemmas.Bool.{cases_lt, cases_order, le-leb, lt-leb, lt-ltb, le-ltb}
 use Rattle.std.proofs.lemmas.List.{get_or_append_left, map-append, get_or_past, length-map}
 use Rattle.std.proofs.lemmas.List.Elements.{All-nil}
@@ -18,11 +18,12 @@ use Rattle.djq_engine.specs.Served.{relation_in}
 use Rattle.djq_engine.specs.Answers.{cells_at}
 use Rattle.djq_engine.specs.Cursors.{slot_at}
 use Rattle.djq_engine.specs.Kept.{Kept, SameCursors}
-use Rattle.djq_engine.specs.Tables.{no_table, table_at, query_at, relations_in, is_reader, held_as, held_by, held_from, store_of, kept_of}
+use Rattle.djq_engine.specs.Tables.{no_table, table_at, query_at, is_live, relations_in, is_reader, held_as, held_by, held_from, store_of, kept_of}
 use Rattle.djq_engine.specs.Sound.{RowsSound, IsReady, IsSound}
 use Rattle.djq_engine.proofs.Firsts.{first_of_position, first_more}
 use Rattle.djq_engine.proofs.Conditions.{answers_refused, answers_done, answers_lacking}
 use Rattle.djq_engine.proofs.Outdating.{apart}
+use Rattle.djq_engine.proofs.Places.{filter_members}
 use Rattle.djq_engine.proofs.Held.{held_is}
 use Rattle.djq_engine.proofs.Changing.{relation_named, no_cursor}
 use Rattle.djq_engine.proofs.Storing.{no_relation_of}
@@ -30,7 +31,7 @@ use Rattle.djq_engine.proofs.Storing.{no_relation_of}
 abbrev pub new_table : Bytes → List ColumnType → Table
 new_table name types = record { relation = record { name = name; types = types; rows = [] }; readers = [] }
 
-module _ (tables : List Table) (gs : List Registered) (name : Bytes) (types : List ColumnType) (s : IsSound tables gs) where
+module _ (tables : List Table) (gs : List Registered) (order : List ℕ) (name : Bytes) (types : List ColumnType) (s : IsSound tables gs order) where
   size : length (tables ++ new_table name types ∷ []) ≡ length tables + 1
   size = length-append tables (new_table name types ∷ [])
 
@@ -56,7 +57,7 @@ module _ (tables : List Table) (gs : List Registered) (name : Bytes) (types : Li
     differ = λ i j d l k. absurd (omega arith);
   }
 
-  ready_more : (i : ℕ) → i < length gs → IsReady (tables ++ new_table name types ∷ []) (query_at gs i)
+  ready_more : (i : ℕ) → is_live gs i ≡ true → IsReady (tables ++ new_table name types ∷ []) (query_at gs i)
   ready_more i l =
       let h = s.ready i l in
       let g = query_at gs i in
@@ -68,32 +69,41 @@ module _ (tables : List Table) (gs : List Registered) (name : Bytes) (types : Li
         inside = λ k given ended e. subst (λ (t : Table). given ≤ length t.relation.rows) (sym same) (h.inside k given ended e);
       }
 
-  pub made_sound : IsSound (tables ++ new_table name types ∷ []) gs
+  pub made_sound : IsSound (tables ++ new_table name types ∷ []) gs order
   made_sound = record {
     rows = λ r l. all_tables (λ k t. k < length tables + 1 → RowsSound t.relation) (λ k m _. s.rows k m) (λ _. no_rows) (λ k m n. absurd (omega arith)) r (omega (arith, size));
     ready = ready_more;
     named = s.named;
-    below = λ r i. all_tables (λ k t. is_reader t.readers i ≡ true → i < length gs) (λ k m e. s.below k i e) (λ e. absurd (cc)) (λ k m e. absurd (cc)) r;
-    readers = λ r i l m. all_tables (λ k t. k < length tables + 1 → is_reader t.readers i ≡ ((query_at gs i).relation == k)) (λ k n _. s.readers k i n m)
-        (λ _. let b = (s.ready i m).relation.below in sym (apart (query_at gs i).relation (length tables) (λ e. omega arith)))
+    vacant = s.vacant;
+    listed = s.listed;
+    once = s.once;
+    readers = λ r l. all_tables (λ k t. k < length tables + 1 → t.readers ≡ filter (λ i. (query_at gs i).relation == k) order) (λ k m _. s.readers k m)
+        (λ _. sym (none_over order (λ i e. let b = (s.ready i (sym (s.listed i) ∙ e)).relation.below in apart (query_at gs i).relation (length tables) (λ f. omega arith))))
         (λ k n o. absurd (omega arith)) r (omega (arith, size));
   }
+    where
+      none_over : (xs : List ℕ) → ((i : ℕ) → is_reader xs i ≡ true → ((query_at gs i).relation == length tables) ≡ false) → filter (λ i. (query_at gs i).relation == length tables) xs ≡ []
+      none_over xs h = filter_members (λ i. (query_at gs i).relation == length tables) (λ i. false) xs h ∙ no_one xs
+        where
+          no_one : (xs : List ℕ) → filter (λ i. false) xs ≡ []
+          no_one [] = refl
+          no_one (x ∷ xs) = no_one xs
 
   pub made_cursors : SameCursors (held_from tables zero gs) (held_from (tables ++ new_table name types ∷ []) zero gs)
-  made_cursors id = held_is (tables ++ new_table name types ∷ []) gs id ∙ by_place (cases_lt id.query.at (length gs)) ∙ sym (held_is tables gs id)
+  made_cursors id = held_is (tables ++ new_table name types ∷ []) gs id ∙ by_place (is_live gs id.query.at) refl ∙ sym (held_is tables gs id)
     where
-      by_place : (id.query.at < length gs) ⊎ (length gs ≤ id.query.at) → held_by (tables ++ new_table name types ∷ []) gs id ≡ held_by tables gs id
-      by_place (inl l) =
+      by_place : (b : Bool) → is_live gs id.query.at ≡ b → held_by (tables ++ new_table name types ∷ []) gs id ≡ held_by tables gs id
+      by_place true l =
           let g = query_at gs id.query.at in
           ap (λ (t : Table). option_map (held_as (map (cells_at g.columns) t.relation.rows) g.query.name id) (slot_at g.cursors id.cursor)) (before g.relation (s.ready id.query.at l).relation.below)
-      by_place (inr l) = no_cursor (tables ++ new_table name types ∷ []) gs id l ∙ sym (no_cursor tables gs id l)
+      by_place false e = no_cursor (tables ++ new_table name types ∷ []) gs id (s.vacant id.query.at e) ∙ sym (no_cursor tables gs id (s.vacant id.query.at e))
 
 -- the conditions of `rel`
 
-rel_behind : (tables : List Table) (gs : List Registered) (seq : ℕ) (name : Bytes) (types : List ColumnType) (there wide full : Bool) → is_some (relation_of (relations_in tables) name) ≡ there
+rel_behind : (tables : List Table) (gs : List Registered) (order : List ℕ) (seq : ℕ) (name : Bytes) (types : List ColumnType) (there wide full : Bool) → is_some (relation_of (relations_in tables) name) ≡ there
     → nat_lt COLUMNS (length types) ≡ wide → nat_le RELATIONS (length (relations_in tables)) ≡ full
-    → rel_refusal (store_of tables gs seq) name types ≡ cond there (Some Taken) (cond wide (Some Limit) (cond full (Some Limit) None))
-rel_behind tables gs seq name types there wide full e f h =
+    → rel_refusal (store_of tables gs order seq) name types ≡ cond there (Some Taken) (cond wide (Some Limit) (cond full (Some Limit) None))
+rel_behind tables gs order seq name types there wide full e f h =
     ap (λ b. cond b (Some Taken) (cond (nat_lt COLUMNS (length types)) (Some Limit) (cond (nat_le RELATIONS (length (relations_in tables))) (Some Limit) None))) e
     ∙ ap₂ (λ x y. cond there (Some Taken) (cond x (Some Limit) (cond y (Some Limit) None))) f h
 
@@ -101,18 +111,18 @@ pub table_found : (tables : List Table) (name : Bytes) (o : Option ℕ) → o �
 table_found tables name None e = ap is_some (no_relation_of tables name e)
 table_found tables name (Some at) e = ap is_some (relation_named tables name at (first_of_position (λ t. bytes_eq t.relation.name name) tables at (sym e)))
 
-pub rel_taken : (tables : List Table) (gs : List Registered) (seq : ℕ) (old : Kept) (name : Bytes) (types : List ColumnType) (o : Option ℕ) → kept_of tables gs seq ≡ old
+pub rel_taken : (tables : List Table) (gs : List Registered) (order : List ℕ) (seq : ℕ) (old : Kept) (name : Bytes) (types : List ColumnType) (o : Option ℕ) → kept_of tables gs order seq ≡ old
     → o ≡ position (λ t. bytes_eq t.relation.name name) tables → is_some o ≡ true → MakesRelation old.store name types (Err Taken) old.store
-rel_taken tables gs seq old name types o v e t =
+rel_taken tables gs order seq old name types o v e t =
     subst (λ (k : Kept). MakesRelation k.store name types (Err Taken) k.store) v
     (record {
-      answer = answers_refused (rel_refusal (store_of tables gs seq) name types) Taken (λ _. Made) _
-          (rel_behind tables gs seq name types true (nat_lt COLUMNS (length types)) (nat_le RELATIONS (length (relations_in tables))) (table_found tables name o e ∙ t) refl refl);
+      answer = answers_refused (rel_refusal (store_of tables gs order seq) name types) Taken (λ _. Made) _
+          (rel_behind tables gs order seq name types true (nat_lt COLUMNS (length types)) (nat_le RELATIONS (length (relations_in tables))) (table_found tables name o e ∙ t) refl refl);
       stays = refl;
     })
   where
     Made : Type 0
-    Made = store_of tables gs seq ≡ record (store_of tables gs seq) { relations = relations_in tables ++ record { name = name; types = types; rows = [] } ∷ [] }
+    Made = store_of tables gs order seq ≡ record (store_of tables gs order seq) { relations = relations_in tables ++ record { name = name; types = types; rows = [] } ∷ [] }
 
 limits : (wide full : Bool) → (wide ≡ true) ⊎ (full ≡ true) → cond wide (Some Limit) (cond full (Some Limit) None) ≡ Some Limit
 limits true full h = refl
@@ -120,54 +130,54 @@ limits false true h = refl
 limits false false (inl e) = absurd cc
 limits false false (inr e) = absurd cc
 
-pub rel_limited : (tables : List Table) (gs : List Registered) (seq : ℕ) (old : Kept) (name : Bytes) (types : List ColumnType) (o : Option ℕ) → kept_of tables gs seq ≡ old
+pub rel_limited : (tables : List Table) (gs : List Registered) (order : List ℕ) (seq : ℕ) (old : Kept) (name : Bytes) (types : List ColumnType) (o : Option ℕ) → kept_of tables gs order seq ≡ old
     → o ≡ position (λ t. bytes_eq t.relation.name name) tables → is_some o ≡ false → (COLUMNS < length types) ⊎ (RELATIONS ≤ length tables) → MakesRelation old.store name types (Err Limit) old.store
-rel_limited tables gs seq old name types o v e t h =
+rel_limited tables gs order seq old name types o v e t h =
     subst (λ (k : Kept). MakesRelation k.store name types (Err Limit) k.store) v
     (record {
-      answer = answers_refused (rel_refusal (store_of tables gs seq) name types) Limit (λ _. Made) _
-          (rel_behind tables gs seq name types false (nat_lt COLUMNS (length types)) (nat_le RELATIONS (length (relations_in tables))) (table_found tables name o e ∙ t) refl refl
+      answer = answers_refused (rel_refusal (store_of tables gs order seq) name types) Limit (λ _. Made) _
+          (rel_behind tables gs order seq name types false (nat_lt COLUMNS (length types)) (nat_le RELATIONS (length (relations_in tables))) (table_found tables name o e ∙ t) refl refl
           ∙ limits (nat_lt COLUMNS (length types)) (nat_le RELATIONS (length (relations_in tables))) (by_limit h));
       stays = refl;
     })
   where
     Made : Type 0
-    Made = store_of tables gs seq ≡ record (store_of tables gs seq) { relations = relations_in tables ++ record { name = name; types = types; rows = [] } ∷ [] }
+    Made = store_of tables gs order seq ≡ record (store_of tables gs order seq) { relations = relations_in tables ++ record { name = name; types = types; rows = [] } ∷ [] }
 
     by_limit : (COLUMNS < length types) ⊎ (RELATIONS ≤ length tables) → (nat_lt COLUMNS (length types) ≡ true) ⊎ (nat_le RELATIONS (length (relations_in tables)) ≡ true)
     by_limit (inl l) = inl (lt-ltb COLUMNS (length types) l)
     by_limit (inr l) = inr (le-leb RELATIONS (length (relations_in tables)) (omega (arith, length-map tables (λ (t : Table). t.relation))))
 
-rel_passes : (tables : List Table) (gs : List Registered) (seq : ℕ) (name : Bytes) (types : List ColumnType) (o : Option ℕ) → o ≡ position (λ t. bytes_eq t.relation.name name) tables → is_some o ≡ false
-    → length types ≤ COLUMNS → length tables < RELATIONS → rel_refusal (store_of tables gs seq) name types ≡ None
-rel_passes tables gs seq name types o e t l m =
-    rel_behind tables gs seq name types false false false (table_found tables name o e ∙ t) (le-ltb COLUMNS (length types) l)
+rel_passes : (tables : List Table) (gs : List Registered) (order : List ℕ) (seq : ℕ) (name : Bytes) (types : List ColumnType) (o : Option ℕ) → o ≡ position (λ t. bytes_eq t.relation.name name) tables → is_some o ≡ false
+    → length types ≤ COLUMNS → length tables < RELATIONS → rel_refusal (store_of tables gs order seq) name types ≡ None
+rel_passes tables gs order seq name types o e t l m =
+    rel_behind tables gs order seq name types false false false (table_found tables name o e ∙ t) (le-ltb COLUMNS (length types) l)
     (lt-leb RELATIONS (length (relations_in tables)) (omega (arith, length-map tables (λ (t : Table). t.relation))))
 
-pub rel_made : (tables items : List Table) (gs : List Registered) (seq : ℕ) (old : Kept) (name : Bytes) (types : List ColumnType) (o : Option ℕ) → kept_of tables gs seq ≡ old
+pub rel_made : (tables items : List Table) (gs : List Registered) (order : List ℕ) (seq : ℕ) (old : Kept) (name : Bytes) (types : List ColumnType) (o : Option ℕ) → kept_of tables gs order seq ≡ old
     → o ≡ position (λ t. bytes_eq t.relation.name name) tables → is_some o ≡ false → length types ≤ COLUMNS → length tables < RELATIONS → items ≡ tables ++ new_table name types ∷ []
-    → MakesRelation old.store name types (Ok tt) (store_of items gs seq)
-rel_made tables items gs seq old name types o v e t l m f =
-    subst (λ (k : Kept). MakesRelation k.store name types (Ok tt) (store_of items gs seq)) v
+    → MakesRelation old.store name types (Ok tt) (store_of items gs order seq)
+rel_made tables items gs order seq old name types o v e t l m f =
+    subst (λ (k : Kept). MakesRelation k.store name types (Ok tt) (store_of items gs order seq)) v
     (record {
-      answer = answers_done (rel_refusal (store_of tables gs seq) name types) tt (λ _. Made) _ (rel_passes tables gs seq name types o e t l m)
-          (ap (λ (rs : List Relation). (let st : Store = record (store_of tables gs seq) { relations = rs } in st))
+      answer = answers_done (rel_refusal (store_of tables gs order seq) name types) tt (λ _. Made) _ (rel_passes tables gs order seq name types o e t l m)
+          (ap (λ (rs : List Relation). (let st : Store = record (store_of tables gs order seq) { relations = rs } in st))
           (ap relations_in f ∙ map-append (λ (t : Table). t.relation) tables (new_table name types ∷ [])));
       stays = tt;
     })
   where
     Made : Type 0
-    Made = store_of items gs seq ≡ record (store_of tables gs seq) { relations = relations_in tables ++ record { name = name; types = types; rows = [] } ∷ [] }
+    Made = store_of items gs order seq ≡ record (store_of tables gs order seq) { relations = relations_in tables ++ record { name = name; types = types; rows = [] } ∷ [] }
 
-pub rel_lacks : (tables items : List Table) (gs : List Registered) (seq : ℕ) (old : Kept) (name : Bytes) (types : List ColumnType) (o : Option ℕ) → kept_of tables gs seq ≡ old
+pub rel_lacks : (tables items : List Table) (gs : List Registered) (order : List ℕ) (seq : ℕ) (old : Kept) (name : Bytes) (types : List ColumnType) (o : Option ℕ) → kept_of tables gs order seq ≡ old
     → o ≡ position (λ t. bytes_eq t.relation.name name) tables → is_some o ≡ false → length types ≤ COLUMNS → length tables < RELATIONS → items ≡ tables
-    → MakesRelation old.store name types (Err NoMemory) (store_of items gs seq)
-rel_lacks tables items gs seq old name types o v e t l m f =
-    subst (λ (k : Kept). MakesRelation k.store name types (Err NoMemory) (store_of items gs seq)) v
+    → MakesRelation old.store name types (Err NoMemory) (store_of items gs order seq)
+rel_lacks tables items gs order seq old name types o v e t l m f =
+    subst (λ (k : Kept). MakesRelation k.store name types (Err NoMemory) (store_of items gs order seq)) v
     (record {
-      answer = answers_lacking (rel_refusal (store_of tables gs seq) name types) (λ _. Made) _ (rel_passes tables gs seq name types o e t l m) tt;
-      stays = ap (λ ts. store_of ts gs seq) f;
+      answer = answers_lacking (rel_refusal (store_of tables gs order seq) name types) (λ _. Made) _ (rel_passes tables gs order seq name types o e t l m) tt;
+      stays = ap (λ ts. store_of ts gs order seq) f;
     })
   where
     Made : Type 0
-    Made = store_of items gs seq ≡ record (store_of tables gs seq) { relations = relations_in tables ++ record { name = name; types = types; rows = [] } ∷ [] }
+    Made = store_of items gs order seq ≡ record (store_of tables gs order seq) { relations = relations_in tables ++ record { name = name; types = types; rows = [] } ∷ [] }

@@ -15,35 +15,38 @@ use Rattle.djq_engine.specs.declared.registered.Registered.{Registered}
 use Rattle.djq_engine.specs.Finding.{IsFirst}
 use Rattle.djq_engine.specs.Cursors.{slot_at, SetsSlot}
 use Rattle.djq_engine.specs.Kept.{Held, Kept, held_at, IsHeld, OthersStay, ClosesCursor}
-use Rattle.djq_engine.specs.Tables.{no_query, no_table, table_at, query_at, queries_in, answers_at, held_as, held_by, held_from, store_of, kept_of}
+use Rattle.djq_engine.specs.Tables.{no_query, no_table, table_at, query_at, is_live, queries_in, answers_at, held_as, held_by, held_from, store_of, kept_of}
 use Rattle.djq_engine.specs.Sound.{IsReady, IsSound}
 use Rattle.djq_engine.proofs.Firsts.{first_as}
 use Rattle.djq_engine.proofs.Held.{held_is}
-use Rattle.djq_engine.proofs.Changing.{everywhere, no_cursor}
+use Rattle.djq_engine.proofs.Places.{filter_members, map_members}
+use Rattle.djq_engine.proofs.Changing.{everywhere, live_below, no_cursor}
 
 -- a cursor that is held stands in a slot
 
 pub record HeldCursor (tables : List Table) (gs : List Registered) (id : CursorId) : Type 0 where
+  pub live : is_live gs id.query.at ≡ true
   pub below : id.query.at < length gs
   pub progress : Progress
   pub slot : slot_at (query_at gs id.query.at).cursors id.cursor ≡ Some progress
 
-pub held_cursor : (tables : List Table) (gs : List Registered) (seq : ℕ) (k : Kept) (id : CursorId) → kept_of tables gs seq ≡ k → IsHeld k id → HeldCursor tables gs id
-held_cursor tables gs seq k id v h =
+pub held_cursor : (tables : List Table) (gs : List Registered) (order : List ℕ) (seq : ℕ) (k : Kept) (id : CursorId) → kept_of tables gs order seq ≡ k → IsSound tables gs order → IsHeld k id
+    → HeldCursor tables gs id
+held_cursor tables gs order seq k id v s h =
     let there : IsSome (held_by tables gs id) = subst (λ (o : Option Held). IsSome o) (held_is tables gs id) (subst (λ (k : Kept). IsSome (held_at k.cursors id)) (sym v) h) in
-    by_place (cases_lt id.query.at (length gs)) there
+    by_place (is_live gs id.query.at) refl there
   where
     g : Registered
     g = query_at gs id.query.at
 
-    by_slot : id.query.at < length gs → (o : Option Progress) → slot_at (query_at gs id.query.at).cursors id.cursor ≡ o
+    by_slot : is_live gs id.query.at ≡ true → (o : Option Progress) → slot_at (query_at gs id.query.at).cursors id.cursor ≡ o
         → IsSome (option_map (held_as (answers_at tables (query_at gs id.query.at)) (query_at gs id.query.at).query.name id) o) → HeldCursor tables gs id
     by_slot l None e i = absurd cc
-    by_slot l (Some p) e i = record { below = l; progress = p; slot = e }
+    by_slot l (Some p) e i = record { live = l; below = live_below gs id.query.at l; progress = p; slot = e }
 
-    by_place : (id.query.at < length gs) ⊎ (length gs ≤ id.query.at) → IsSome (held_by tables gs id) → HeldCursor tables gs id
-    by_place (inl l) i = by_slot l (slot_at (query_at gs id.query.at).cursors id.cursor) refl i
-    by_place (inr l) i = let none : IsSome {T = Held} None = subst (λ (o : Option Held). IsSome o) (no_cursor tables gs id l) i in absurd cc
+    by_place : (b : Bool) → is_live gs id.query.at ≡ b → IsSome (held_by tables gs id) → HeldCursor tables gs id
+    by_place true l i = by_slot l (slot_at (query_at gs id.query.at).cursors id.cursor) refl i
+    by_place false e i = let none : IsSome {T = Held} None = subst (λ (o : Option Held). IsSome o) (no_cursor tables gs id (s.vacant id.query.at e)) i in absurd cc
 
 pub some_slot : (slots : List (Option Progress)) (k : ℕ) (p : Progress) → slot_at slots k ≡ Some p → IsSome (slot_at slots k)
 some_slot slots k p e = subst (λ (o : Option Progress). IsSome o) (sym e) refl
@@ -77,9 +80,12 @@ query_read gs at g l e = e ∙ get_or_default gs at g no_query l
 pub cursors_kept : (gs : List Registered) (at : ℕ) (g : Registered) → at < length gs → g ≡ get_or gs at g → set gs at g ≡ gs
 cursors_kept gs at g l e = ap (set gs at) (e ∙ get_or_default gs at g no_query l) ∙ set-get_or gs at no_query
 
-module _ (tables : List Table) (gs : List Registered) (id : CursorId) (slot : Option Progress) (cursors : List (Option Progress)) (below : id.query.at < length gs)
-    (moved : SetsSlot (query_at gs id.query.at).cursors id.cursor slot cursors) (s : IsSound tables gs)
+module _ (tables : List Table) (gs : List Registered) (order : List ℕ) (id : CursorId) (slot : Option Progress) (cursors : List (Option Progress)) (live : is_live gs id.query.at ≡ true)
+    (moved : SetsSlot (query_at gs id.query.at).cursors id.cursor slot cursors) (s : IsSound tables gs order)
     (inside : (given : ℕ) (ended : Bool) → slot ≡ Some (Open given ended) → given ≤ length (table_at tables (query_at gs id.query.at).relation).relation.rows) where
+  below : id.query.at < length gs
+  below = live_below gs id.query.at live
+
   size : length (with_cursors gs id.query.at cursors) ≡ length gs
   size = length-set gs id.query.at (record (query_at gs id.query.at) { cursors = cursors })
 
@@ -96,10 +102,10 @@ module _ (tables : List Table) (gs : List Registered) (id : CursorId) (slot : Op
   inside_here : (k given : ℕ) (ended : Bool) → slot_at cursors k ≡ Some (Open given ended) → given ≤ length (table_at tables (query_at gs id.query.at).relation).relation.rows
   inside_here = everywhere (λ k. (given : ℕ) (ended : Bool) → slot_at cursors k ≡ Some (Open given ended) → given ≤ length (table_at tables (query_at gs id.query.at).relation).relation.rows) id.cursor
       (λ given ended e. inside given ended (sym moved.there ∙ e))
-      (λ k d given ended e. (s.ready id.query.at below).inside k given ended (sym (moved.others k d) ∙ e))
+      (λ k d given ended e. (s.ready id.query.at live).inside k given ended (sym (moved.others k d) ∙ e))
 
   ready_here : IsReady tables (record (query_at gs id.query.at) { cursors = cursors })
-  ready_here = let h = s.ready id.query.at below in record {
+  ready_here = let h = s.ready id.query.at live in record {
     served = h.served;
     relation = h.relation;
     arity = h.arity;
@@ -107,29 +113,32 @@ module _ (tables : List Table) (gs : List Registered) (id : CursorId) (slot : Op
     inside = inside_here;
   }
 
-  pub moved_sound : IsSound tables (with_cursors gs id.query.at cursors)
+  live_same : (j : ℕ) → is_live (with_cursors gs id.query.at cursors) j ≡ is_live gs j
+  live_same = same_field (λ (g : Registered). g.live) refl
+
+  pub moved_sound : IsSound tables (with_cursors gs id.query.at cursors) order
   moved_sound =
       let new = with_cursors gs id.query.at cursors in
       let name_same : (j : ℕ) → (query_at new j).query.name ≡ (query_at gs j).query.name = same_field (λ (g : Registered). g.query.name) refl in record {
         rows = s.rows;
-        ready = everywhere (λ j. j < length new → IsReady tables (query_at new j)) id.query.at
+        ready = everywhere (λ j. is_live new j ≡ true → IsReady tables (query_at new j)) id.query.at
             (λ l. subst (λ (g : Registered). IsReady tables g) (sym query_here) ready_here)
-            (λ j d l. subst (λ (g : Registered). IsReady tables g) (sym (query_elsewhere j d)) (s.ready j (omega (arith, size))));
-        named = λ j l.
-            let p = λ (g : Registered). bytes_eq g.query.name (query_at gs j).query.name in
-            subst (λ (m : Bytes). IsFirst (λ g. bytes_eq g.query.name m) new j) (sym (name_same j))
-            (first_as p gs new j no_query size
-            (λ k d b. ap p (get_or_default new k d no_query (omega (arith, size))) ∙ ap (λ n. bytes_eq n (query_at gs j).query.name) (name_same k) ∙ ap p (get_or_default gs k no_query d b))
-            (s.named j (omega (arith, size))));
-        below = λ r i e. omega (arith, s.below r i e, size);
-        readers = λ r i l m. s.readers r i l (omega (arith, size)) ∙ ap (λ k. k == r) (sym (same_field (λ (g : Registered). g.relation) refl i));
+            (λ j d l. subst (λ (g : Registered). IsReady tables g) (sym (query_elsewhere j d)) (s.ready j (sym (live_same j) ∙ l)));
+        named = λ i j v w e. s.named i j (sym (live_same i) ∙ v) (sym (live_same j) ∙ w) (sym (name_same i) ∙ e ∙ name_same j);
+        vacant = everywhere (λ j. is_live new j ≡ false → query_at new j ≡ no_query) id.query.at
+            (λ e. let f : is_live gs id.query.at ≡ false = sym (live_same id.query.at) ∙ e in absurd (cc))
+            (λ j d e. query_elsewhere j d ∙ s.vacant j (sym (live_same j) ∙ e));
+        listed = λ j. s.listed j ∙ sym (live_same j);
+        once = s.once;
+        readers = λ r l. s.readers r l
+            ∙ filter_members (λ i. (query_at gs i).relation == r) (λ i. (query_at new i).relation == r) order (λ i e. ap (λ k. k == r) (sym (same_field (λ (g : Registered). g.relation) refl i)));
       }
 
-  pub moved_queries : queries_in (with_cursors gs id.query.at cursors) ≡ queries_in gs
-  moved_queries = map-set_same (λ (g : Registered). g.query) gs id.query.at (record (query_at gs id.query.at) { cursors = cursors }) no_query refl
+  pub moved_queries : queries_in (with_cursors gs id.query.at cursors) order ≡ queries_in gs order
+  moved_queries = map_members (λ j. (query_at (with_cursors gs id.query.at cursors) j).query) (λ j. (query_at gs j).query) order (λ j e. same_field (λ (g : Registered). g.query) refl j)
 
-  pub moved_store : (seq : ℕ) → store_of tables (with_cursors gs id.query.at cursors) seq ≡ store_of tables gs seq
-  moved_store seq = ap (λ (qs : List Query). (let st : Store = record (store_of tables gs seq) { queries = qs } in st)) moved_queries
+  pub moved_store : (seq : ℕ) → store_of tables (with_cursors gs id.query.at cursors) order seq ≡ store_of tables gs order seq
+  moved_store seq = ap (λ (qs : List Query). (let st : Store = record (store_of tables gs order seq) { queries = qs } in st)) moved_queries
 
   pub moved_there : held_at (held_from tables zero (with_cursors gs id.query.at cursors)) id ≡ (let g = query_at gs id.query.at in option_map (held_as (answers_at tables g) g.query.name id) slot)
   moved_there =
@@ -160,30 +169,30 @@ module _ (tables : List Table) (gs : List Registered) (id : CursorId) (slot : Op
       by_query (inr (inr l)) = ap (λ (x : Registered). option_map (held_as (answers_at tables x) x.query.name other) (slot_at x.cursors other.cursor)) (query_elsewhere other.query.at (λ e. omega arith))
 
 -- `close`
-pub closes : (tables : List Table) (gs items : List Registered) (seq : ℕ) (old : Kept) (id : CursorId) (cursors : List (Option Progress)) (below : id.query.at < length gs) → kept_of tables gs seq ≡ old
-    → items ≡ with_cursors gs id.query.at cursors → SetsSlot (query_at gs id.query.at).cursors id.cursor None cursors → IsSound tables gs
-    → IsSound tables items × ClosesCursor old id (kept_of tables items seq)
-closes tables gs items seq old id cursors below v e moved s =
+pub closes : (tables : List Table) (gs items : List Registered) (order : List ℕ) (seq : ℕ) (old : Kept) (id : CursorId) (cursors : List (Option Progress)) (live : is_live gs id.query.at ≡ true) → kept_of tables gs order seq ≡ old
+    → items ≡ with_cursors gs id.query.at cursors → SetsSlot (query_at gs id.query.at).cursors id.cursor None cursors → IsSound tables gs order
+    → IsSound tables items order × ClosesCursor old id (kept_of tables items order seq)
+closes tables gs items order seq old id cursors live v e moved s =
     let inside : (given : ℕ) (ended : Bool) → None ≡ Some (Open given ended) → given ≤ length (table_at tables (query_at gs id.query.at).relation).relation.rows = λ given ended f. absurd (cc) in (
-      subst (λ qs. IsSound tables qs) (sym e) (moved_sound tables gs id None cursors below moved s inside),
-      subst (λ (k : Kept). ClosesCursor k id (kept_of tables items seq)) v
-          (subst (λ qs. ClosesCursor (kept_of tables gs seq) id (kept_of tables qs seq)) (sym e)
+      subst (λ qs. IsSound tables qs order) (sym e) (moved_sound tables gs order id None cursors live moved s inside),
+      subst (λ (k : Kept). ClosesCursor k id (kept_of tables items order seq)) v
+          (subst (λ qs. ClosesCursor (kept_of tables gs order seq) id (kept_of tables qs order seq)) (sym e)
           (record {
-            gone = moved_there tables gs id None cursors below moved s inside;
-            others = moved_others tables gs id None cursors below moved s inside;
-            store = moved_store tables gs id None cursors below moved s inside seq;
+            gone = moved_there tables gs order id None cursors live moved s inside;
+            others = moved_others tables gs order id None cursors live moved s inside;
+            store = moved_store tables gs order id None cursors live moved s inside seq;
           })),
     )
 
 -- the table of a query, as the code reads it
 
-pub relation_below : (tables : List Table) (gs : List Registered) (at : ℕ) (g : Registered) → at < length gs → g ≡ query_at gs at → IsSound tables gs → g.relation < length tables
-relation_below tables gs at g l e s = subst (λ (x : Registered). x.relation < length tables) (sym e) (s.ready at l).relation.below
+pub relation_below : (tables : List Table) (gs : List Registered) (order : List ℕ) (at : ℕ) (g : Registered) → is_live gs at ≡ true → g ≡ query_at gs at → IsSound tables gs order → g.relation < length tables
+relation_below tables gs order at g l e s = subst (λ (x : Registered). x.relation < length tables) (sym e) (s.ready at l).relation.below
 
-pub rows_read : (tables : List Table) (gs : List Registered) (at : ℕ) (g : Registered) (t : Table) → at < length gs → g ≡ query_at gs at → IsSound tables gs → t ≡ get_or tables g.relation t
+pub rows_read : (tables : List Table) (gs : List Registered) (order : List ℕ) (at : ℕ) (g : Registered) (t : Table) → is_live gs at ≡ true → g ≡ query_at gs at → IsSound tables gs order → t ≡ get_or tables g.relation t
     → t ≡ table_at tables (query_at gs at).relation
-rows_read tables gs at g t l e s f =
-    f ∙ get_or_default tables g.relation t no_table (relation_below tables gs at g l e s) ∙ ap (λ (x : Registered). table_at tables x.relation) e
+rows_read tables gs order at g t l e s f =
+    f ∙ get_or_default tables g.relation t no_table (relation_below tables gs order at g l e s) ∙ ap (λ (x : Registered). table_at tables x.relation) e
 
 pub cursors_kept_as : (gs : List Registered) (at : ℕ) (g : Registered) (cursors : List (Option Progress)) → at < length gs → g ≡ get_or gs at g → cursors ≡ g.cursors
     → set gs at (record g { cursors = cursors }) ≡ gs

@@ -8,48 +8,39 @@ use Rattle.djq_machine.specs.Conditions.{first_of}
 use Rattle.djq_engine.specs.declared.cursor.CursorId.{CursorId}
 use Rattle.djq_engine.specs.declared.table.Table.{Table}
 use Rattle.djq_engine.specs.declared.registered.Registered.{Registered}
-use Rattle.djq_engine.specs.Finding.{IsFirst}
 use Rattle.djq_engine.specs.Kept.{Kept, OpensCursor, OpenGives}
-use Rattle.djq_engine.specs.Tables.{queries_in, kept_of}
-use Rattle.djq_engine.proofs.Firsts.{first_of_position, none_of_position, find_mapped}
+use Rattle.djq_engine.specs.Tables.{is_query, queries_in, kept_of}
+use Rattle.djq_engine.specs.Sound.{IsSound}
 use Rattle.djq_engine.proofs.Conditions.{answers_refused, answers_done, answers_lacking}
-use Rattle.djq_engine.proofs.Changing.{query_named}
+use Rattle.djq_engine.proofs.Changing.{Named, no_query_of, query_named}
 
-pub no_query_of : (gs : List Registered) (query : Bytes) → None ≡ position (λ g. bytes_eq g.query.name query) gs → query_of (queries_in gs) query ≡ None
-no_query_of gs query e =
-    find_mapped (λ q. bytes_eq q.name query) (λ (g : Registered). g.query) gs
-    ∙ ap (λ o. option_map (λ (g : Registered). g.query) o) (none_of_position (λ g. bytes_eq g.query.name query) gs (sym e))
-
-pub first_query : (gs : List Registered) (query : Bytes) (at : ℕ) → Some at ≡ position (λ g. bytes_eq g.query.name query) gs → IsFirst (λ g. bytes_eq g.query.name query) gs at
-first_query gs query at e = first_of_position (λ g. bytes_eq g.query.name query) gs at (sym e)
-
-pub open_refused : (tables : List Table) (gs : List Registered) (seq : ℕ) (old : Kept) (query : Bytes) → kept_of tables gs seq ≡ old → None ≡ position (λ g. bytes_eq g.query.name query) gs
+pub open_refused : (tables : List Table) (gs : List Registered) (order : List ℕ) (seq : ℕ) (old : Kept) (query : Bytes) → kept_of tables gs order seq ≡ old → IsSound tables gs order → None ≡ position (is_query query) gs
     → OpenGives old query (Err NoQuery) old
-open_refused tables gs seq old query v e =
+open_refused tables gs order seq old query v s e =
     subst (λ (k : Kept). OpenGives k query (Err NoQuery) k) v
     (record {
-      answer = answers_refused (first_of ((is_none (query_of (queries_in gs) query), NoQuery) ∷ [])) NoQuery (λ id. OpensCursor (kept_of tables gs seq) query id (kept_of tables gs seq)) _
-          (ap (λ (o : Option Query). first_of ((is_none o, NoQuery) ∷ [])) (no_query_of gs query e));
+      answer = answers_refused (first_of ((is_none (query_of (queries_in gs order) query), NoQuery) ∷ [])) NoQuery (λ id. OpensCursor (kept_of tables gs order seq) query id (kept_of tables gs order seq)) _
+          (ap (λ (o : Option Query). first_of ((is_none o, NoQuery) ∷ [])) (no_query_of tables gs order query e s));
       stays = λ r f. refl;
     })
 
-passes : (gs : List Registered) (query : Bytes) (at : ℕ) → IsFirst (λ g. bytes_eq g.query.name query) gs at → first_of ((is_none (query_of (queries_in gs) query), NoQuery) ∷ []) ≡ None
-passes gs query at f = ap (λ (o : Option Query). first_of ((is_none o, NoQuery) ∷ [])) (query_named gs query at f)
+passes : (tables : List Table) (gs : List Registered) (order : List ℕ) (query : Bytes) (at : ℕ) → Named gs query at → IsSound tables gs order → first_of ((is_none (query_of (queries_in gs order) query), NoQuery) ∷ []) ≡ None
+passes tables gs order query at f s = ap (λ (o : Option Query). first_of ((is_none o, NoQuery) ∷ [])) (query_named tables gs order query at f s)
 
-pub open_lacks : (tables : List Table) (gs items : List Registered) (seq : ℕ) (old : Kept) (query : Bytes) (at : ℕ) → kept_of tables gs seq ≡ old → IsFirst (λ g. bytes_eq g.query.name query) gs at
-    → items ≡ gs → OpenGives old query (Err NoMemory) (kept_of tables items seq)
-open_lacks tables gs items seq old query at v f e =
-    subst (λ (k : Kept). OpenGives k query (Err NoMemory) (kept_of tables items seq)) v
-    (subst (λ qs. OpenGives (kept_of tables gs seq) query (Err NoMemory) (kept_of tables qs seq)) (sym e)
+pub open_lacks : (tables : List Table) (gs items : List Registered) (order : List ℕ) (seq : ℕ) (old : Kept) (query : Bytes) (at : ℕ) → kept_of tables gs order seq ≡ old → Named gs query at → IsSound tables gs order
+    → items ≡ gs → OpenGives old query (Err NoMemory) (kept_of tables items order seq)
+open_lacks tables gs items order seq old query at v f s e =
+    subst (λ (k : Kept). OpenGives k query (Err NoMemory) (kept_of tables items order seq)) v
+    (subst (λ qs. OpenGives (kept_of tables gs order seq) query (Err NoMemory) (kept_of tables qs order seq)) (sym e)
     (record {
-      answer = answers_lacking (first_of ((is_none (query_of (queries_in gs) query), NoQuery) ∷ [])) (λ id. OpensCursor (kept_of tables gs seq) query id (kept_of tables gs seq)) _ (passes gs query at f) tt;
+      answer = answers_lacking (first_of ((is_none (query_of (queries_in gs order) query), NoQuery) ∷ [])) (λ id. OpensCursor (kept_of tables gs order seq) query id (kept_of tables gs order seq)) _ (passes tables gs order query at f s) tt;
       stays = λ r f. refl;
     }))
 
-pub open_gives : (tables : List Table) (gs items : List Registered) (seq : ℕ) (old : Kept) (query : Bytes) (id : CursorId) → kept_of tables gs seq ≡ old → IsFirst (λ g. bytes_eq g.query.name query) gs id.query.at
-    → OpensCursor old query id (kept_of tables items seq) → OpenGives old query (Ok id) (kept_of tables items seq)
-open_gives tables gs items seq old query id v f o = record {
-  answer = answers_done (first_of ((is_none (query_of old.store.queries query), NoQuery) ∷ [])) id (λ id. OpensCursor old query id (kept_of tables items seq)) _
-      (ap (λ (k : Kept). first_of ((is_none (query_of k.store.queries query), NoQuery) ∷ [])) (sym v) ∙ passes gs query id.query.at f) o;
+pub open_gives : (tables : List Table) (gs items : List Registered) (order : List ℕ) (seq : ℕ) (old : Kept) (query : Bytes) (id : CursorId) → kept_of tables gs order seq ≡ old → Named gs query id.query.at → IsSound tables gs order
+    → OpensCursor old query id (kept_of tables items order seq) → OpenGives old query (Ok id) (kept_of tables items order seq)
+open_gives tables gs items order seq old query id v f s o = record {
+  answer = answers_done (first_of ((is_none (query_of old.store.queries query), NoQuery) ∷ [])) id (λ id. OpensCursor old query id (kept_of tables items order seq)) _
+      (ap (λ (k : Kept). first_of ((is_none (query_of k.store.queries query), NoQuery) ∷ [])) (sym v) ∙ passes tables gs order query id.query.at f s) o;
   stays = λ r e. absurd (cc);
 }

@@ -19,16 +19,16 @@ use Rattle.djq_engine.specs.Finding.{IsFirst}
 use Rattle.djq_engine.specs.Answers.{cells_at, answers_of}
 use Rattle.djq_engine.specs.Cursors.{slot_at, SetsSlot, position_in}
 use Rattle.djq_engine.specs.Kept.{Held, Kept, held_at, MovesCursor, OpensCursor, NextGives, NextGivesAt, MoreGives, MoreGivesAt, IsHeld, IsThere, IsFresh, IsOpenAt, AnswerIs, LendsAnswer}
-use Rattle.djq_engine.specs.Tables.{no_query, table_at, query_at, relations_in, queries_in, answers_at, held_as, held_from, store_of, kept_of}
+use Rattle.djq_engine.specs.Tables.{no_query, table_at, query_at, is_live, relations_in, queries_in, answers_at, held_as, held_from, store_of, kept_of}
 use Rattle.djq_engine.specs.Sound.{RowsSound, IsReady, IsSound}
 use Rattle.djq_engine.proofs.Held.{held_is}
-use Rattle.djq_engine.proofs.Changing.{query_kept}
+use Rattle.djq_engine.proofs.Changing.{Named, query_kept}
 use Rattle.djq_engine.proofs.Moving.{with_cursors, moved_sound, moved_store, moved_there, moved_others}
 use Rattle.djq_engine.proofs.Telling.{ListsAll, ready_lists, answers_are, one_left, all_given, columns_inside}
 
-module _ (tables : List Table) (gs : List Registered) (seq : ℕ) (id : CursorId) (below : id.query.at < length gs) (s : IsSound tables gs) where
+module _ (tables : List Table) (gs : List Registered) (order : List ℕ) (seq : ℕ) (id : CursorId) (live : is_live gs id.query.at ≡ true) (s : IsSound tables gs order) where
   ready : IsReady tables (query_at gs id.query.at)
-  ready = s.ready id.query.at below
+  ready = s.ready id.query.at live
 
   rows_sound : RowsSound (table_at tables (query_at gs id.query.at).relation).relation
   rows_sound = s.rows (query_at gs id.query.at).relation ready.relation.below
@@ -39,44 +39,44 @@ module _ (tables : List Table) (gs : List Registered) (seq : ℕ) (id : CursorId
   answers_length : length (answers_at tables (query_at gs id.query.at)) ≡ length (table_at tables (query_at gs id.query.at).relation).relation.rows
   answers_length = let g = query_at gs id.query.at in length-map (table_at tables g.relation).relation.rows (cells_at g.columns)
 
-  query_found : query_of (queries_in gs) (query_at gs id.query.at).query.name ≡ Some (query_at gs id.query.at).query
-  query_found = query_kept tables gs id.query.at below s
+  query_found : query_of (queries_in gs order) (query_at gs id.query.at).query.name ≡ Some (query_at gs id.query.at).query
+  query_found = query_kept tables gs order id.query.at live s
 
   module _ (p : Progress) (slot : slot_at (query_at gs id.query.at).cursors id.cursor ≡ Some p) where
     pub cursor_found : held_at (held_from tables zero gs) id ≡ Some (let g = query_at gs id.query.at in held_as (answers_at tables g) g.query.name id p)
     cursor_found = let g = query_at gs id.query.at in held_is tables gs id ∙ ap (option_map (held_as (answers_at tables g) g.query.name id)) slot
 
     pub of_both : (P : Held → Query → Type 0) → (let g = query_at gs id.query.at in P (held_as (answers_at tables g) g.query.name id p) g.query)
-        → IsSomeAnd (held_at (held_from tables zero gs) id) (λ h. IsSomeAnd (query_of (queries_in gs) h.query) (λ q. P h q))
+        → IsSomeAnd (held_at (held_from tables zero gs) id) (λ h. IsSomeAnd (query_of (queries_in gs order) h.query) (λ q. P h q))
     of_both P x =
         let g = query_at gs id.query.at in
         let h = held_as (answers_at tables g) g.query.name id p in
-        subst (λ (o : Option Held). IsSomeAnd o (λ h. IsSomeAnd (query_of (queries_in gs) h.query) (λ q. P h q))) (sym cursor_found)
+        subst (λ (o : Option Held). IsSomeAnd o (λ h. IsSomeAnd (query_of (queries_in gs order) h.query) (λ q. P h q))) (sym cursor_found)
         (subst (λ (o : Option Query). IsSomeAnd o (λ q. P h q)) (sym query_found) x)
 
-    pub from_both : (P : Held → Query → Type 0) → IsSomeAnd (held_at (held_from tables zero gs) id) (λ h. IsSomeAnd (query_of (queries_in gs) h.query) (λ q. P h q))
+    pub from_both : (P : Held → Query → Type 0) → IsSomeAnd (held_at (held_from tables zero gs) id) (λ h. IsSomeAnd (query_of (queries_in gs order) h.query) (λ q. P h q))
         → (let g = query_at gs id.query.at in P (held_as (answers_at tables g) g.query.name id p) g.query)
     from_both P x =
         let g = query_at gs id.query.at in
         let h = held_as (answers_at tables g) g.query.name id p in
         subst (λ (o : Option Query). IsSomeAnd o (λ q. P h q)) query_found
-        (subst (λ (o : Option Held). IsSomeAnd o (λ h. IsSomeAnd (query_of (queries_in gs) h.query) (λ q. P h q))) cursor_found x)
+        (subst (λ (o : Option Held). IsSomeAnd o (λ h. IsSomeAnd (query_of (queries_in gs order) h.query) (λ q. P h q))) cursor_found x)
 
     module _ (p' : Progress) (cursors : List (Option Progress)) (items : List Registered) (written : items ≡ with_cursors gs id.query.at cursors)
         (moved : SetsSlot (query_at gs id.query.at).cursors id.cursor (Some p') cursors)
         (inside : (given : ℕ) (ended : Bool) → Some p' ≡ Some (Open given ended) → given ≤ length (table_at tables (query_at gs id.query.at).relation).relation.rows) where
-      pub moves_sound : IsSound tables items
-      moves_sound = subst (λ qs. IsSound tables qs) (sym written) (moved_sound tables gs id (Some p') cursors below moved s inside)
+      pub moves_sound : IsSound tables items order
+      moves_sound = subst (λ qs. IsSound tables qs order) (sym written) (moved_sound tables gs order id (Some p') cursors live moved s inside)
 
-      pub moves_cursor : MovesCursor (kept_of tables gs seq) (let g = query_at gs id.query.at in held_as (answers_at tables g) g.query.name id p)
-          (position_in (answers_at tables (query_at gs id.query.at)) p') (kept_of tables items seq)
+      pub moves_cursor : MovesCursor (kept_of tables gs order seq) (let g = query_at gs id.query.at in held_as (answers_at tables g) g.query.name id p)
+          (position_in (answers_at tables (query_at gs id.query.at)) p') (kept_of tables items order seq)
       moves_cursor =
-          subst (λ qs. MovesCursor (kept_of tables gs seq) (let g = query_at gs id.query.at in held_as (answers_at tables g) g.query.name id p)
-          (position_in (answers_at tables (query_at gs id.query.at)) p') (kept_of tables qs seq)) (sym written)
+          subst (λ qs. MovesCursor (kept_of tables gs order seq) (let g = query_at gs id.query.at in held_as (answers_at tables g) g.query.name id p)
+          (position_in (answers_at tables (query_at gs id.query.at)) p') (kept_of tables qs order seq)) (sym written)
           (record {
-            there = moved_there tables gs id (Some p') cursors below moved s inside;
-            others = moved_others tables gs id (Some p') cursors below moved s inside;
-            store = moved_store tables gs id (Some p') cursors below moved s inside seq;
+            there = moved_there tables gs order id (Some p') cursors live moved s inside;
+            others = moved_others tables gs order id (Some p') cursors live moved s inside;
+            store = moved_store tables gs order id (Some p') cursors live moved s inside seq;
           })
 
 -- how many answers a cursor has given, of those that there are
@@ -86,41 +86,41 @@ given_inside g g' ended n l given other e = let same : g ≡ given = cc in omega
 
 -- `next`
 
-pub stale_gives : (tables : List Table) (gs items : List Registered) (seq : ℕ) (old : Kept) (id : CursorId) (relation : Bytes) (n before : ℕ) → kept_of tables gs seq ≡ old → IsSound tables gs → id.query.at < length gs
-    → slot_at (query_at gs id.query.at).cursors id.cursor ≡ Some (Stale relation n) → items ≡ gs → NextGives old id (StaleNext relation n) (kept_of tables items seq) before before
-stale_gives tables gs items seq old id relation n before v s below slot e = record {
-  gives = subst (λ (k : Kept). OfBoth k k) v (of_both tables gs seq id below s (Stale relation n) slot
-      (λ h q. NextGivesAt (kept_of tables gs seq) h q h.position (StaleNext relation n) (kept_of tables items seq) × (before ≤ before + 0))
-      ((refl, refl, ap (λ qs. kept_of tables qs seq) e), omega arith));
+pub stale_gives : (tables : List Table) (gs items : List Registered) (order : List ℕ) (seq : ℕ) (old : Kept) (id : CursorId) (relation : Bytes) (n before : ℕ) → kept_of tables gs order seq ≡ old → IsSound tables gs order → is_live gs id.query.at ≡ true
+    → slot_at (query_at gs id.query.at).cursors id.cursor ≡ Some (Stale relation n) → items ≡ gs → NextGives old id (StaleNext relation n) (kept_of tables items order seq) before before
+stale_gives tables gs items order seq old id relation n before v s live slot e = record {
+  gives = subst (λ (k : Kept). OfBoth k k) v (of_both tables gs order seq id live s (Stale relation n) slot
+      (λ h q. NextGivesAt (kept_of tables gs order seq) h q h.position (StaleNext relation n) (kept_of tables items order seq) × (before ≤ before + 0))
+      ((refl, refl, ap (λ qs. kept_of tables qs order seq) e), omega arith));
 }
   where
     OfBoth : Kept → Kept → Type 0
     OfBoth k k' = IsSomeAnd (held_at k.cursors id) (λ h. IsSomeAnd (query_of k.store.queries h.query) (λ q.
-        NextGivesAt k' h q h.position (StaleNext relation n) (kept_of tables items seq) × (before ≤ before + 0)))
+        NextGivesAt k' h q h.position (StaleNext relation n) (kept_of tables items order seq) × (before ≤ before + 0)))
 
-pub given_gives : (tables : List Table) (gs items : List Registered) (seq : ℕ) (old : Kept) (id : CursorId) (given : ℕ) (ended : Bool) (cursors : List (Option Progress)) (before now : ℕ)
-    → kept_of tables gs seq ≡ old → IsSound tables gs → (below : id.query.at < length gs) → slot_at (query_at gs id.query.at).cursors id.cursor ≡ Some (Open given ended)
+pub given_gives : (tables : List Table) (gs items : List Registered) (order : List ℕ) (seq : ℕ) (old : Kept) (id : CursorId) (given : ℕ) (ended : Bool) (cursors : List (Option Progress)) (before now : ℕ)
+    → kept_of tables gs order seq ≡ old → IsSound tables gs order → (live : is_live gs id.query.at ≡ true) → slot_at (query_at gs id.query.at).cursors id.cursor ≡ Some (Open given ended)
     → given < length (table_at tables (query_at gs id.query.at).relation).relation.rows → items ≡ with_cursors gs id.query.at cursors
     → SetsSlot (query_at gs id.query.at).cursors id.cursor (Some (Open (given + 1) false)) cursors → now ≡ before + 1
-    → IsSound tables items × NextGives old id (Given (record { at = given })) (kept_of tables items seq) before now
-given_gives tables gs items seq old id given ended cursors before now v s below slot l e moved count =
+    → IsSound tables items order × NextGives old id (Given (record { at = given })) (kept_of tables items order seq) before now
+given_gives tables gs items order seq old id given ended cursors before now v s live slot l e moved count =
     let g = query_at gs id.query.at in
     let ts = answers_at tables g in
     let t = get_or ts given [] in
-    let more : given < length ts = omega (arith, answers_length tables gs seq id below s) in
+    let more : given < length ts = omega (arith, answers_length tables gs order seq id live s) in
     let inside = given_inside (given + 1) 0 false (length (table_at tables g.relation).relation.rows) (omega arith) in
     let front : take (given + 1) ts ≡ take given ts ++ t ∷ [] = take_more ts given [] more in
-    let same : ts ≡ answers_of (store_of tables items seq) g.query = answers_are tables items seq g (ready tables gs seq id below s) in
-    let moves = moves_cursor tables gs seq id below s (Open given ended) slot (Open (given + 1) false) cursors items e moved inside in (
-      moves_sound tables gs seq id below s (Open given ended) slot (Open (given + 1) false) cursors items e moved inside,
+    let same : ts ≡ answers_of (store_of tables items order seq) g.query = answers_are tables items order seq g (ready tables gs order seq id live s) in
+    let moves = moves_cursor tables gs order seq id live s (Open given ended) slot (Open (given + 1) false) cursors items e moved inside in (
+      moves_sound tables gs order seq id live s (Open given ended) slot (Open (given + 1) false) cursors items e moved inside,
       record {
-        gives = subst (λ (k : Kept). OfBoth k k) v (of_both tables gs seq id below s (Open given ended) slot
-            (λ h q. NextGivesAt (kept_of tables gs seq) h q h.position (Given (record { at = given })) (kept_of tables items seq) × (now ≤ before + most_steps (length q.head))) (
+        gives = subst (λ (k : Kept). OfBoth k k) v (of_both tables gs order seq id live s (Open given ended) slot
+            (λ h q. NextGivesAt (kept_of tables gs order seq) h q h.position (Given (record { at = given })) (kept_of tables items order seq) × (now ≤ before + most_steps (length q.head))) (
               (
                 t,
-                one_left (relations_in tables) g.query ts given (listed tables gs seq id below s) more,
+                one_left (relations_in tables) g.query ts given (listed tables gs order seq id live s) more,
                 (omega (arith, ap length same), ap (λ xs. get_or xs given []) same),
-                subst (λ xs. MovesCursor (kept_of tables gs seq) (held_as ts g.query.name id (Open given ended)) (open_at xs false) (kept_of tables items seq)) front moves,
+                subst (λ xs. MovesCursor (kept_of tables gs order seq) (held_as ts g.query.name id (Open given ended)) (open_at xs false) (kept_of tables items order seq)) front moves,
               ),
               omega arith,
             ));
@@ -129,24 +129,24 @@ given_gives tables gs items seq old id given ended cursors before now v s below 
   where
     OfBoth : Kept → Kept → Type 0
     OfBoth k k' = IsSomeAnd (held_at k.cursors id) (λ h. IsSomeAnd (query_of k.store.queries h.query) (λ q.
-        NextGivesAt k' h q h.position (Given (record { at = given })) (kept_of tables items seq) × (now ≤ before + most_steps (length q.head))))
+        NextGivesAt k' h q h.position (Given (record { at = given })) (kept_of tables items order seq) × (now ≤ before + most_steps (length q.head))))
 
-pub end_gives : (tables : List Table) (gs items : List Registered) (seq : ℕ) (old : Kept) (id : CursorId) (given : ℕ) (ended : Bool) (cursors : List (Option Progress)) (before now : ℕ)
-    → kept_of tables gs seq ≡ old → IsSound tables gs → (below : id.query.at < length gs) → slot_at (query_at gs id.query.at).cursors id.cursor ≡ Some (Open given ended)
+pub end_gives : (tables : List Table) (gs items : List Registered) (order : List ℕ) (seq : ℕ) (old : Kept) (id : CursorId) (given : ℕ) (ended : Bool) (cursors : List (Option Progress)) (before now : ℕ)
+    → kept_of tables gs order seq ≡ old → IsSound tables gs order → (live : is_live gs id.query.at ≡ true) → slot_at (query_at gs id.query.at).cursors id.cursor ≡ Some (Open given ended)
     → length (table_at tables (query_at gs id.query.at).relation).relation.rows ≤ given → items ≡ with_cursors gs id.query.at cursors
     → SetsSlot (query_at gs id.query.at).cursors id.cursor (Some (Open given true)) cursors → now ≡ before + 1
-    → IsSound tables items × NextGives old id End (kept_of tables items seq) before now
-end_gives tables gs items seq old id given ended cursors before now v s below slot l e moved count =
+    → IsSound tables items order × NextGives old id End (kept_of tables items order seq) before now
+end_gives tables gs items order seq old id given ended cursors before now v s live slot l e moved count =
     let g = query_at gs id.query.at in
     let ts = answers_at tables g in
-    let inside = given_inside given 0 true (length (table_at tables g.relation).relation.rows) ((ready tables gs seq id below s).inside id.cursor given ended slot) in (
-      moves_sound tables gs seq id below s (Open given ended) slot (Open given true) cursors items e moved inside,
+    let inside = given_inside given 0 true (length (table_at tables g.relation).relation.rows) ((ready tables gs order seq id live s).inside id.cursor given ended slot) in (
+      moves_sound tables gs order seq id live s (Open given ended) slot (Open given true) cursors items e moved inside,
       record {
-        gives = subst (λ (k : Kept). OfBoth k k) v (of_both tables gs seq id below s (Open given ended) slot
-            (λ h q. NextGivesAt (kept_of tables gs seq) h q h.position End (kept_of tables items seq) × (now ≤ before + most_steps (length q.head))) (
+        gives = subst (λ (k : Kept). OfBoth k k) v (of_both tables gs order seq id live s (Open given ended) slot
+            (λ h q. NextGivesAt (kept_of tables gs order seq) h q h.position End (kept_of tables items order seq) × (now ≤ before + most_steps (length q.head))) (
               (
-                all_given (relations_in tables) g.query ts given (listed tables gs seq id below s) (omega (arith, answers_length tables gs seq id below s)),
-                moves_cursor tables gs seq id below s (Open given ended) slot (Open given true) cursors items e moved inside,
+                all_given (relations_in tables) g.query ts given (listed tables gs order seq id live s) (omega (arith, answers_length tables gs order seq id live s)),
+                moves_cursor tables gs order seq id live s (Open given ended) slot (Open given true) cursors items e moved inside,
               ),
               omega arith,
             ));
@@ -155,95 +155,95 @@ end_gives tables gs items seq old id given ended cursors before now v s below sl
   where
     OfBoth : Kept → Kept → Type 0
     OfBoth k k' = IsSomeAnd (held_at k.cursors id) (λ h. IsSomeAnd (query_of k.store.queries h.query) (λ q.
-        NextGivesAt k' h q h.position End (kept_of tables items seq) × (now ≤ before + most_steps (length q.head))))
+        NextGivesAt k' h q h.position End (kept_of tables items order seq) × (now ≤ before + most_steps (length q.head))))
 
 -- `more`
 
-pub more_gives : (tables : List Table) (gs items : List Registered) (seq : ℕ) (old : Kept) (id : CursorId) (given : ℕ) (ended left : Bool) (cursors : List (Option Progress)) (before now : ℕ)
-    → kept_of tables gs seq ≡ old → IsSound tables gs → (below : id.query.at < length gs) → slot_at (query_at gs id.query.at).cursors id.cursor ≡ Some (Open given ended)
+pub more_gives : (tables : List Table) (gs items : List Registered) (order : List ℕ) (seq : ℕ) (old : Kept) (id : CursorId) (given : ℕ) (ended left : Bool) (cursors : List (Option Progress)) (before now : ℕ)
+    → kept_of tables gs order seq ≡ old → IsSound tables gs order → (live : is_live gs id.query.at ≡ true) → slot_at (query_at gs id.query.at).cursors id.cursor ≡ Some (Open given ended)
     → left ≡ nat_lt given (length (table_at tables (query_at gs id.query.at).relation).relation.rows) → items ≡ with_cursors gs id.query.at cursors
     → SetsSlot (query_at gs id.query.at).cursors id.cursor (Some (Open given (not left))) cursors → now ≡ before + 1
-    → IsSound tables items × MoreGives old id left (kept_of tables items seq) before now
-more_gives tables gs items seq old id given ended left cursors before now v s below slot f e moved count =
+    → IsSound tables items order × MoreGives old id left (kept_of tables items order seq) before now
+more_gives tables gs items order seq old id given ended left cursors before now v s live slot f e moved count =
     let g = query_at gs id.query.at in
-    let inside = given_inside given 0 (not left) (length (table_at tables g.relation).relation.rows) ((ready tables gs seq id below s).inside id.cursor given ended slot) in (
-      moves_sound tables gs seq id below s (Open given ended) slot (Open given (not left)) cursors items e moved inside,
+    let inside = given_inside given 0 (not left) (length (table_at tables g.relation).relation.rows) ((ready tables gs order seq id live s).inside id.cursor given ended slot) in (
+      moves_sound tables gs order seq id live s (Open given ended) slot (Open given (not left)) cursors items e moved inside,
       record {
-        gives = subst (λ (k : Kept). OfBoth k k) v (of_both tables gs seq id below s (Open given ended) slot
-            (λ h q. MoreGivesAt (kept_of tables gs seq) h q h.position left (kept_of tables items seq) × (now ≤ before + most_steps (length q.head)))
-            (by_left left f (moves_cursor tables gs seq id below s (Open given ended) slot (Open given (not left)) cursors items e moved inside), omega arith));
+        gives = subst (λ (k : Kept). OfBoth k k) v (of_both tables gs order seq id live s (Open given ended) slot
+            (λ h q. MoreGivesAt (kept_of tables gs order seq) h q h.position left (kept_of tables items order seq) × (now ≤ before + most_steps (length q.head)))
+            (by_left left f (moves_cursor tables gs order seq id live s (Open given ended) slot (Open given (not left)) cursors items e moved inside), omega arith));
       },
     )
   where
     OfBoth : Kept → Kept → Type 0
     OfBoth k k' = IsSomeAnd (held_at k.cursors id) (λ h. IsSomeAnd (query_of k.store.queries h.query) (λ q.
-        MoreGivesAt k' h q h.position left (kept_of tables items seq) × (now ≤ before + most_steps (length q.head))))
+        MoreGivesAt k' h q h.position left (kept_of tables items order seq) × (now ≤ before + most_steps (length q.head))))
 
     by_left : (left : Bool) → left ≡ nat_lt given (length (table_at tables (query_at gs id.query.at).relation).relation.rows)
-        → (let g = query_at gs id.query.at in MovesCursor (kept_of tables gs seq) (held_as (answers_at tables g) g.query.name id (Open given ended)) (open_at (take given (answers_at tables g)) (not left)) (kept_of tables items seq)
-        → MoreGivesAt (kept_of tables gs seq) (held_as (answers_at tables g) g.query.name id (Open given ended)) g.query (open_at (take given (answers_at tables g)) ended) left (kept_of tables items seq))
+        → (let g = query_at gs id.query.at in MovesCursor (kept_of tables gs order seq) (held_as (answers_at tables g) g.query.name id (Open given ended)) (open_at (take given (answers_at tables g)) (not left)) (kept_of tables items order seq)
+        → MoreGivesAt (kept_of tables gs order seq) (held_as (answers_at tables g) g.query.name id (Open given ended)) g.query (open_at (take given (answers_at tables g)) ended) left (kept_of tables items order seq))
     by_left true f m =
         let g = query_at gs id.query.at in
         let ts = answers_at tables g in
         let l = ltb-true given (length (table_at tables g.relation).relation.rows) (sym f) in
-        ((get_or ts given [], one_left (relations_in tables) g.query ts given (listed tables gs seq id below s) (omega (arith, l, answers_length tables gs seq id below s))), m)
+        ((get_or ts given [], one_left (relations_in tables) g.query ts given (listed tables gs order seq id live s) (omega (arith, l, answers_length tables gs order seq id live s))), m)
     by_left false f m =
         let g = query_at gs id.query.at in
         let ts = answers_at tables g in
         let l = ltb-false given (length (table_at tables g.relation).relation.rows) (sym f) in
-        (all_given (relations_in tables) g.query ts given (listed tables gs seq id below s) (omega (arith, l, answers_length tables gs seq id below s)), m)
+        (all_given (relations_in tables) g.query ts given (listed tables gs order seq id live s) (omega (arith, l, answers_length tables gs order seq id live s)), m)
 
 -- a cursor that is fresh isn't stale
-pub fresh_isnt_stale : (tables : List Table) (gs : List Registered) (seq : ℕ) (old : Kept) (id : CursorId) (relation : Bytes) (n : ℕ) → kept_of tables gs seq ≡ old → IsSound tables gs → id.query.at < length gs
+pub fresh_isnt_stale : (tables : List Table) (gs : List Registered) (order : List ℕ) (seq : ℕ) (old : Kept) (id : CursorId) (relation : Bytes) (n : ℕ) → kept_of tables gs order seq ≡ old → IsSound tables gs order → is_live gs id.query.at ≡ true
     → slot_at (query_at gs id.query.at).cursors id.cursor ≡ Some (Stale relation n) → IsFresh old id → ⊥
-fresh_isnt_stale tables gs seq old id relation n v s below slot fresh =
-    let here : IsFresh (kept_of tables gs seq) id = subst (λ (k : Kept). IsFresh k id) (sym v) fresh in
-    subst (λ (o : Option Held). IsSomeAnd o (λ h. IsOpenAt h.position)) (cursor_found tables gs seq id below s (Stale relation n) slot) here
+fresh_isnt_stale tables gs order seq old id relation n v s live slot fresh =
+    let here : IsFresh (kept_of tables gs order seq) id = subst (λ (k : Kept). IsFresh k id) (sym v) fresh in
+    subst (λ (o : Option Held). IsSomeAnd o (λ h. IsOpenAt h.position)) (cursor_found tables gs order seq id live s (Stale relation n) slot) here
 
 -- `open`
-pub opens : (tables : List Table) (gs items : List Registered) (seq : ℕ) (old : Kept) (query : Bytes) (id : CursorId) (cursors : List (Option Progress)) → kept_of tables gs seq ≡ old → IsSound tables gs
-    → IsFirst (λ g. bytes_eq g.query.name query) gs id.query.at → slot_at (query_at gs id.query.at).cursors id.cursor ≡ None → items ≡ with_cursors gs id.query.at cursors
-    → SetsSlot (query_at gs id.query.at).cursors id.cursor (Some (Open 0 false)) cursors → IsSound tables items × OpensCursor old query id (kept_of tables items seq)
-opens tables gs items seq old query id cursors v s first free e moved =
+pub opens : (tables : List Table) (gs items : List Registered) (order : List ℕ) (seq : ℕ) (old : Kept) (query : Bytes) (id : CursorId) (cursors : List (Option Progress)) → kept_of tables gs order seq ≡ old → IsSound tables gs order
+    → Named gs query id.query.at → slot_at (query_at gs id.query.at).cursors id.cursor ≡ None → items ≡ with_cursors gs id.query.at cursors
+    → SetsSlot (query_at gs id.query.at).cursors id.cursor (Some (Open 0 false)) cursors → IsSound tables items order × OpensCursor old query id (kept_of tables items order seq)
+opens tables gs items order seq old query id cursors v s first free e moved =
     let g = query_at gs id.query.at in
-    let below = first.below in
+    let live = first.live in
     let inside = given_inside 0 0 false (length (table_at tables g.relation).relation.rows) (omega arith) in
-    let named : g.query.name ≡ query = (bytes_eq-decides g.query.name query).0 (first.passes no_query) in
-    let there = moved_there tables gs id (Some (Open 0 false)) cursors below moved s inside in (
-      subst (λ qs. IsSound tables qs) (sym e) (moved_sound tables gs id (Some (Open 0 false)) cursors below moved s inside),
-      subst (λ (k : Kept). OpensCursor k query id (kept_of tables items seq)) v
-          (subst (λ qs. OpensCursor (kept_of tables gs seq) query id (kept_of tables qs seq)) (sym e)
+    let named : g.query.name ≡ query = first.called in
+    let there = moved_there tables gs order id (Some (Open 0 false)) cursors live moved s inside in (
+      subst (λ qs. IsSound tables qs order) (sym e) (moved_sound tables gs order id (Some (Open 0 false)) cursors live moved s inside),
+      subst (λ (k : Kept). OpensCursor k query id (kept_of tables items order seq)) v
+          (subst (λ qs. OpensCursor (kept_of tables gs order seq) query id (kept_of tables qs order seq)) (sym e)
           (record {
             fresh = held_is tables gs id ∙ ap (option_map (held_as (answers_at tables g) g.query.name id)) free;
             there = there ∙ ap (λ (m : Bytes). Some (held_as (answers_at tables g) m id (Open 0 false))) named;
-            others = moved_others tables gs id (Some (Open 0 false)) cursors below moved s inside;
-            store = moved_store tables gs id (Some (Open 0 false)) cursors below moved s inside seq;
+            others = moved_others tables gs order id (Some (Open 0 false)) cursors live moved s inside;
+            store = moved_store tables gs order id (Some (Open 0 false)) cursors live moved s inside seq;
           })),
     )
 
 -- `answer`
 
-pub answer_there : (tables : List Table) (gs : List Registered) (seq : ℕ) (old : Kept) (id : CursorId) (a : Answer) (p : Progress) → kept_of tables gs seq ≡ old → IsSound tables gs → id.query.at < length gs
+pub answer_there : (tables : List Table) (gs : List Registered) (order : List ℕ) (seq : ℕ) (old : Kept) (id : CursorId) (a : Answer) (p : Progress) → kept_of tables gs order seq ≡ old → IsSound tables gs order → is_live gs id.query.at ≡ true
     → slot_at (query_at gs id.query.at).cursors id.cursor ≡ Some p → IsThere old id a → a.at < length (table_at tables (query_at gs id.query.at).relation).relation.rows
-answer_there tables gs seq old id a p v s below slot there =
+answer_there tables gs order seq old id a p v s live slot there =
     let g = query_at gs id.query.at in
-    let here : IsThere (kept_of tables gs seq) id a = subst (λ (k : Kept). IsThere k id a) (sym v) there in
-    let l : a.at < length (answers_of (store_of tables gs seq) g.query) = from_both tables gs seq id below s p slot (λ h q. a.at < length (answers_of (store_of tables gs seq) q)) here in
-    omega (arith, l, ap length (answers_are tables gs seq g (ready tables gs seq id below s)), answers_length tables gs seq id below s)
+    let here : IsThere (kept_of tables gs order seq) id a = subst (λ (k : Kept). IsThere k id a) (sym v) there in
+    let l : a.at < length (answers_of (store_of tables gs order seq) g.query) = from_both tables gs order seq id live s p slot (λ h q. a.at < length (answers_of (store_of tables gs order seq) q)) here in
+    omega (arith, l, ap length (answers_are tables gs order seq g (ready tables gs order seq id live s)), answers_length tables gs order seq id live s)
 
-pub lends : (tables : List Table) (gs : List Registered) (seq : ℕ) (old : Kept) (id : CursorId) (a : Answer) (p : Progress) → kept_of tables gs seq ≡ old → IsSound tables gs → (below : id.query.at < length gs)
+pub lends : (tables : List Table) (gs : List Registered) (order : List ℕ) (seq : ℕ) (old : Kept) (id : CursorId) (a : Answer) (p : Progress) → kept_of tables gs order seq ≡ old → IsSound tables gs order → (live : is_live gs id.query.at ≡ true)
     → slot_at (query_at gs id.query.at).cursors id.cursor ≡ Some p → a.at < length (table_at tables (query_at gs id.query.at).relation).relation.rows
     → (let g = query_at gs id.query.at in LendsAnswer old id a (get_or (table_at tables g.relation).relation.rows a.at []) g.columns)
-lends tables gs seq old id a p v s below slot l =
+lends tables gs order seq old id a p v s live slot l =
     let g = query_at gs id.query.at in
     let rows = (table_at tables g.relation).relation.rows in
     let row = get_or rows a.at [] in
-    let same = answers_are tables gs seq g (ready tables gs seq id below s) in
+    let same = answers_are tables gs order seq g (ready tables gs order seq id live s) in
     subst (λ (k : Kept). LendsAnswer k id a row g.columns) v
     (record {
-      cells = of_both tables gs seq id below s p slot (λ h q. AnswerIs (store_of tables gs seq) q a (cells_at g.columns row))
-          (omega (arith, ap length same, answers_length tables gs seq id below s), sym (get_or-map (cells_at g.columns) rows a.at [] [] l) ∙ ap (λ xs. get_or xs a.at []) same);
-      inside = columns_inside tables g a.at (ready tables gs seq id below s) (rows_sound tables gs seq id below s) l;
+      cells = of_both tables gs order seq id live s p slot (λ h q. AnswerIs (store_of tables gs order seq) q a (cells_at g.columns row))
+          (omega (arith, ap length same, answers_length tables gs order seq id live s), sym (get_or-map (cells_at g.columns) rows a.at [] [] l) ∙ ap (λ xs. get_or xs a.at []) same);
+      inside = columns_inside tables g a.at (ready tables gs order seq id live s) (rows_sound tables gs order seq id live s) l;
     })
 
 -- an answer that is there is one of a cursor that is held

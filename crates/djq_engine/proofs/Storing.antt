@@ -48,52 +48,52 @@ written_back n new old e f =
 
 -- `add`
 
-add_conditions : (tables : List Table) (gs : List Registered) (seq : ℕ) (name : Bytes) (at : ℕ) (row : Tuple) → IsFirst (λ t. bytes_eq t.relation.name name) tables at
-    → add_refusal (store_of tables gs seq) name row ≡ add_refused (table_at tables at).relation row seq
-add_conditions tables gs seq name at row f = let e = relation_named tables name at f in rw e refl
+add_conditions : (tables : List Table) (gs : List Registered) (order : List ℕ) (seq : ℕ) (name : Bytes) (at : ℕ) (row : Tuple) → IsFirst (λ t. bytes_eq t.relation.name name) tables at
+    → add_refusal (store_of tables gs order seq) name row ≡ add_refused (table_at tables at).relation row seq
+add_conditions tables gs order seq name at row f = let e = relation_named tables name at f in rw e refl
 
-pub unknown_add : (tables : List Table) (gs : List Registered) (seq : ℕ) (name : Bytes) (row : Tuple) → None ≡ position (λ t. bytes_eq t.relation.name name) tables
-    → AddsRow (store_of tables gs seq) name row (Err NoRelation) (store_of tables gs seq)
-unknown_add tables gs seq name row p = let e = no_relation_of tables name p in record {
-  answer = answers_refused (add_refusal (store_of tables gs seq) name row) NoRelation (AddsAs (store_of tables gs seq) name row (store_of tables gs seq)) _ (rw e refl);
+pub unknown_add : (tables : List Table) (gs : List Registered) (order : List ℕ) (seq : ℕ) (name : Bytes) (row : Tuple) → None ≡ position (λ t. bytes_eq t.relation.name name) tables
+    → AddsRow (store_of tables gs order seq) name row (Err NoRelation) (store_of tables gs order seq)
+unknown_add tables gs order seq name row p = let e = no_relation_of tables name p in record {
+  answer = answers_refused (add_refusal (store_of tables gs order seq) name row) NoRelation (AddsAs (store_of tables gs order seq) name row (store_of tables gs order seq)) _ (rw e refl);
   stays = refl;
 }
 
-pub stored_added : (tables : List Table) (gs gs' : List Registered) (seq : ℕ) (name : Bytes) (at : ℕ) (row : Tuple) (r : Relation) → IsFirst (λ t. bytes_eq t.relation.name name) tables at
-    → queries_in gs' ≡ queries_in gs → AddsTo (table_at tables at).relation row seq (Ok Added) r
-    → AddsRow (store_of tables gs seq) name row (Ok Added) (store_of (with_relation tables at r) gs' (seq + 1))
-stored_added tables gs gs' seq name at row r f q a =
+pub stored_added : (tables : List Table) (gs gs' : List Registered) (order : List ℕ) (seq : ℕ) (name : Bytes) (at : ℕ) (row : Tuple) (r : Relation) → IsFirst (λ t. bytes_eq t.relation.name name) tables at
+    → queries_in gs' order ≡ queries_in gs order → AddsTo (table_at tables at).relation row seq (Ok Added) r
+    → AddsRow (store_of tables gs order seq) name row (Ok Added) (store_of (with_relation tables at r) gs' order (seq + 1))
+stored_added tables gs gs' order seq name at row r f q a =
     let old = (table_at tables at).relation in
     let d = done_of (add_refused old row seq) Added (AddsToAs old row r) _ a.answer in
     let rows = rows_named tables name at f in record {
-      answer = answers_done (add_refusal (store_of tables gs seq) name row) Added (AddsAs (store_of tables gs seq) name row (store_of (with_relation tables at r) gs' (seq + 1))) _
-          (add_conditions tables gs seq name at row f ∙ d.0) (
+      answer = answers_done (add_refusal (store_of tables gs order seq) name row) Added (AddsAs (store_of tables gs order seq) name row (store_of (with_relation tables at r) gs' order (seq + 1))) _
+          (add_conditions tables gs order seq name at row f ∙ d.0) (
             ap (λ x. has_row x row) rows ∙ d.1.0,
-            store_as (relations_in (with_relation tables at r)) (with_rows (relations_in tables) name (rows_of (relations_in tables) name ++ row ∷ [])) (queries_in gs') (queries_in gs) (seq + 1)
+            store_as (relations_in (with_relation tables at r)) (with_rows (relations_in tables) name (rows_of (relations_in tables) name ++ row ∷ [])) (queries_in gs' order) (queries_in gs order) (seq + 1)
                 (ap (λ (x : Relation). relations_in (with_relation tables at x)) d.1.1 ∙ relations_changed tables name at (old.rows ++ row ∷ []) f
                 ∙ ap (λ x. with_rows (relations_in tables) name (x ++ row ∷ [])) (sym rows)) q,
           );
       stays = tt;
     }
 
-pub stored_same : (tables : List Table) (gs : List Registered) (seq : ℕ) (name : Bytes) (at : ℕ) (row : Tuple) (r : Relation) → IsFirst (λ t. bytes_eq t.relation.name name) tables at
-    → AddsTo (table_at tables at).relation row seq (Ok Same) r → AddsRow (store_of tables gs seq) name row (Ok Same) (store_of tables gs seq)
-stored_same tables gs seq name at row r f a =
+pub stored_same : (tables : List Table) (gs : List Registered) (order : List ℕ) (seq : ℕ) (name : Bytes) (at : ℕ) (row : Tuple) (r : Relation) → IsFirst (λ t. bytes_eq t.relation.name name) tables at
+    → AddsTo (table_at tables at).relation row seq (Ok Same) r → AddsRow (store_of tables gs order seq) name row (Ok Same) (store_of tables gs order seq)
+stored_same tables gs order seq name at row r f a =
     let old = (table_at tables at).relation in
     let d = done_of (add_refused old row seq) Same (AddsToAs old row r) _ a.answer in record {
-      answer = answers_done (add_refusal (store_of tables gs seq) name row) Same (AddsAs (store_of tables gs seq) name row (store_of tables gs seq)) _
-          (add_conditions tables gs seq name at row f ∙ d.0) (ap (λ x. has_row x row) (rows_named tables name at f) ∙ d.1.0, refl);
+      answer = answers_done (add_refusal (store_of tables gs order seq) name row) Same (AddsAs (store_of tables gs order seq) name row (store_of tables gs order seq)) _
+          (add_conditions tables gs order seq name at row f ∙ d.0) (ap (λ x. has_row x row) (rows_named tables name at f) ∙ d.1.0, refl);
       stays = tt;
     }
 
-pub stored_add_refused : (tables : List Table) (gs gs' : List Registered) (seq : ℕ) (name : Bytes) (at : ℕ) (row : Tuple) (x : Refusal) (r : Relation) → IsFirst (λ t. bytes_eq t.relation.name name) tables at
-    → queries_in gs' ≡ queries_in gs → AddsTo (table_at tables at).relation row seq (Err x) r → AddsRow (store_of tables gs seq) name row (Err x) (store_of tables gs' seq)
-stored_add_refused tables gs gs' seq name at row x r f q a =
+pub stored_add_refused : (tables : List Table) (gs gs' : List Registered) (order : List ℕ) (seq : ℕ) (name : Bytes) (at : ℕ) (row : Tuple) (x : Refusal) (r : Relation) → IsFirst (λ t. bytes_eq t.relation.name name) tables at
+    → queries_in gs' order ≡ queries_in gs order → AddsTo (table_at tables at).relation row seq (Err x) r → AddsRow (store_of tables gs order seq) name row (Err x) (store_of tables gs' order seq)
+stored_add_refused tables gs gs' order seq name at row x r f q a =
     let old = (table_at tables at).relation in record {
-      answer = refused_as (add_refused old row seq) (add_refusal (store_of tables gs seq) name row) x (AddsToAs old row r) (AddsAs (store_of tables gs seq) name row (store_of tables gs' seq))
-          (has_row old.rows row ≡ false) (has_row (rows_of (relations_in tables) name) row ≡ false) (add_conditions tables gs seq name at row f)
+      answer = refused_as (add_refused old row seq) (add_refusal (store_of tables gs order seq) name row) x (AddsToAs old row r) (AddsAs (store_of tables gs order seq) name row (store_of tables gs' order seq))
+          (has_row old.rows row ≡ false) (has_row (rows_of (relations_in tables) name) row ≡ false) (add_conditions tables gs order seq name at row f)
           (λ h. ap (λ rows. has_row rows row) (rows_named tables name at f) ∙ h) a.answer;
-      stays = store_as (relations_in tables) (relations_in tables) (queries_in gs') (queries_in gs) seq refl q;
+      stays = store_as (relations_in tables) (relations_in tables) (queries_in gs' order) (queries_in gs order) seq refl q;
     }
 
 -- other refusals than out of memory make no cursor stale
@@ -103,58 +103,58 @@ outdates_none _ h = refl
 
 -- `del`
 
-delete_conditions : (tables : List Table) (gs : List Registered) (seq : ℕ) (name : Bytes) (at : ℕ) (row : Tuple) → IsFirst (λ t. bytes_eq t.relation.name name) tables at
-    → delete_refusal (store_of tables gs seq) name row ≡ delete_refused (table_at tables at).relation row seq
-delete_conditions tables gs seq name at row f = let e = relation_named tables name at f in rw e refl
+delete_conditions : (tables : List Table) (gs : List Registered) (order : List ℕ) (seq : ℕ) (name : Bytes) (at : ℕ) (row : Tuple) → IsFirst (λ t. bytes_eq t.relation.name name) tables at
+    → delete_refusal (store_of tables gs order seq) name row ≡ delete_refused (table_at tables at).relation row seq
+delete_conditions tables gs order seq name at row f = let e = relation_named tables name at f in rw e refl
 
-pub unknown_delete : (tables : List Table) (gs : List Registered) (seq : ℕ) (name : Bytes) (row : Tuple) → None ≡ position (λ t. bytes_eq t.relation.name name) tables
-    → DeletesRow (store_of tables gs seq) name row (Err NoRelation) (store_of tables gs seq)
-unknown_delete tables gs seq name row p = let e = no_relation_of tables name p in record {
-  answer = answers_refused (delete_refusal (store_of tables gs seq) name row) NoRelation (DeletesAs (store_of tables gs seq) name row (store_of tables gs seq)) _ (rw e refl);
+pub unknown_delete : (tables : List Table) (gs : List Registered) (order : List ℕ) (seq : ℕ) (name : Bytes) (row : Tuple) → None ≡ position (λ t. bytes_eq t.relation.name name) tables
+    → DeletesRow (store_of tables gs order seq) name row (Err NoRelation) (store_of tables gs order seq)
+unknown_delete tables gs order seq name row p = let e = no_relation_of tables name p in record {
+  answer = answers_refused (delete_refusal (store_of tables gs order seq) name row) NoRelation (DeletesAs (store_of tables gs order seq) name row (store_of tables gs order seq)) _ (rw e refl);
   stays = refl;
 }
 
-pub stored_removed : (tables : List Table) (gs gs' : List Registered) (seq : ℕ) (name : Bytes) (at : ℕ) (row : Tuple) (r : Relation) → IsFirst (λ t. bytes_eq t.relation.name name) tables at
-    → queries_in gs' ≡ queries_in gs → DeletesFrom (table_at tables at).relation row seq (Ok Removed) r
-    → DeletesRow (store_of tables gs seq) name row (Ok Removed) (store_of (with_relation tables at r) gs' (seq + 1))
-stored_removed tables gs gs' seq name at row r f q a =
+pub stored_removed : (tables : List Table) (gs gs' : List Registered) (order : List ℕ) (seq : ℕ) (name : Bytes) (at : ℕ) (row : Tuple) (r : Relation) → IsFirst (λ t. bytes_eq t.relation.name name) tables at
+    → queries_in gs' order ≡ queries_in gs order → DeletesFrom (table_at tables at).relation row seq (Ok Removed) r
+    → DeletesRow (store_of tables gs order seq) name row (Ok Removed) (store_of (with_relation tables at r) gs' order (seq + 1))
+stored_removed tables gs gs' order seq name at row r f q a =
     let old = (table_at tables at).relation in
     let d = done_of (delete_refused old row seq) Removed (DeletesFromAs old row r) _ a.answer in
     let rows = rows_named tables name at f in record {
-      answer = answers_done (delete_refusal (store_of tables gs seq) name row) Removed (DeletesAs (store_of tables gs seq) name row (store_of (with_relation tables at r) gs' (seq + 1))) _
-          (delete_conditions tables gs seq name at row f ∙ d.0) (
+      answer = answers_done (delete_refusal (store_of tables gs order seq) name row) Removed (DeletesAs (store_of tables gs order seq) name row (store_of (with_relation tables at r) gs' order (seq + 1))) _
+          (delete_conditions tables gs order seq name at row f ∙ d.0) (
             ap (λ x. has_row x row) rows ∙ d.1.0,
-            store_as (relations_in (with_relation tables at r)) (with_rows (relations_in tables) name (without_row (rows_of (relations_in tables) name) row)) (queries_in gs') (queries_in gs) (seq + 1)
+            store_as (relations_in (with_relation tables at r)) (with_rows (relations_in tables) name (without_row (rows_of (relations_in tables) name) row)) (queries_in gs' order) (queries_in gs order) (seq + 1)
                 (ap (λ (x : Relation). relations_in (with_relation tables at x)) d.1.1 ∙ relations_changed tables name at (without_row old.rows row) f
                 ∙ ap (λ x. with_rows (relations_in tables) name (without_row x row)) (sym rows)) q,
           );
       stays = tt;
     }
 
-pub stored_absent : (tables : List Table) (gs : List Registered) (seq : ℕ) (name : Bytes) (at : ℕ) (row : Tuple) (r : Relation) → IsFirst (λ t. bytes_eq t.relation.name name) tables at
-    → DeletesFrom (table_at tables at).relation row seq (Ok Absent) r → DeletesRow (store_of tables gs seq) name row (Ok Absent) (store_of tables gs seq)
-stored_absent tables gs seq name at row r f a =
+pub stored_absent : (tables : List Table) (gs : List Registered) (order : List ℕ) (seq : ℕ) (name : Bytes) (at : ℕ) (row : Tuple) (r : Relation) → IsFirst (λ t. bytes_eq t.relation.name name) tables at
+    → DeletesFrom (table_at tables at).relation row seq (Ok Absent) r → DeletesRow (store_of tables gs order seq) name row (Ok Absent) (store_of tables gs order seq)
+stored_absent tables gs order seq name at row r f a =
     let old = (table_at tables at).relation in
     let d = done_of (delete_refused old row seq) Absent (DeletesFromAs old row r) _ a.answer in record {
-      answer = answers_done (delete_refusal (store_of tables gs seq) name row) Absent (DeletesAs (store_of tables gs seq) name row (store_of tables gs seq)) _
-          (delete_conditions tables gs seq name at row f ∙ d.0) (ap (λ x. has_row x row) (rows_named tables name at f) ∙ d.1.0, refl);
+      answer = answers_done (delete_refusal (store_of tables gs order seq) name row) Absent (DeletesAs (store_of tables gs order seq) name row (store_of tables gs order seq)) _
+          (delete_conditions tables gs order seq name at row f ∙ d.0) (ap (λ x. has_row x row) (rows_named tables name at f) ∙ d.1.0, refl);
       stays = tt;
     }
 
-pub stored_delete_refused : (tables : List Table) (gs : List Registered) (seq : ℕ) (name : Bytes) (at : ℕ) (row : Tuple) (x : Refusal) (r : Relation) → IsFirst (λ t. bytes_eq t.relation.name name) tables at
-    → DeletesFrom (table_at tables at).relation row seq (Err x) r → DeletesRow (store_of tables gs seq) name row (Err x) (store_of tables gs seq)
-stored_delete_refused tables gs seq name at row x r f a =
+pub stored_delete_refused : (tables : List Table) (gs : List Registered) (order : List ℕ) (seq : ℕ) (name : Bytes) (at : ℕ) (row : Tuple) (x : Refusal) (r : Relation) → IsFirst (λ t. bytes_eq t.relation.name name) tables at
+    → DeletesFrom (table_at tables at).relation row seq (Err x) r → DeletesRow (store_of tables gs order seq) name row (Err x) (store_of tables gs order seq)
+stored_delete_refused tables gs order seq name at row x r f a =
     let old = (table_at tables at).relation in record {
-      answer = refused_as (delete_refused old row seq) (delete_refusal (store_of tables gs seq) name row) x (DeletesFromAs old row r) (DeletesAs (store_of tables gs seq) name row (store_of tables gs seq))
-          ⊥ ⊥ (delete_conditions tables gs seq name at row f) (λ h. h) a.answer;
+      answer = refused_as (delete_refused old row seq) (delete_refusal (store_of tables gs order seq) name row) x (DeletesFromAs old row r) (DeletesAs (store_of tables gs order seq) name row (store_of tables gs order seq))
+          ⊥ ⊥ (delete_conditions tables gs order seq name at row f) (λ h. h) a.answer;
       stays = refl;
     }
 
 -- what a change is made of
 
-pub added_changes : (tables : List Table) (gs : List Registered) (at : ℕ) (row : Tuple) (seq : ℕ) (r : Relation) (name : Bytes) (n : ℕ) (gs' : List Registered) → IsFirst (λ t. bytes_eq t.relation.name name) tables at
-    → AddsTo (table_at tables at).relation row seq (Ok Added) r → OutdatesReaders (table_at tables at).readers name n gs gs' → IsSound tables gs → Changes tables gs at r name n gs'
-added_changes tables gs at row seq r name n gs' f a o s =
+pub added_changes : (tables : List Table) (gs : List Registered) (order : List ℕ) (at : ℕ) (row : Tuple) (seq : ℕ) (r : Relation) (name : Bytes) (n : ℕ) (gs' : List Registered) → IsFirst (λ t. bytes_eq t.relation.name name) tables at
+    → AddsTo (table_at tables at).relation row seq (Ok Added) r → OutdatesReaders (table_at tables at).readers name n gs gs' → IsSound tables gs order → Changes tables gs order at r name n gs'
+added_changes tables gs order at row seq r name n gs' f a o s =
     let old = (table_at tables at).relation in
     let d = done_of (add_refused old row seq) Added (AddsToAs old row r) _ a.answer in record {
       below = f.below;
@@ -166,9 +166,9 @@ added_changes tables gs at row seq r name n gs' f a o s =
       sound = s;
     }
 
-pub removed_changes : (tables : List Table) (gs : List Registered) (at : ℕ) (row : Tuple) (seq : ℕ) (r : Relation) (name : Bytes) (n : ℕ) (gs' : List Registered) → IsFirst (λ t. bytes_eq t.relation.name name) tables at
-    → DeletesFrom (table_at tables at).relation row seq (Ok Removed) r → OutdatesReaders (table_at tables at).readers name n gs gs' → IsSound tables gs → Changes tables gs at r name n gs'
-removed_changes tables gs at row seq r name n gs' f a o s =
+pub removed_changes : (tables : List Table) (gs : List Registered) (order : List ℕ) (at : ℕ) (row : Tuple) (seq : ℕ) (r : Relation) (name : Bytes) (n : ℕ) (gs' : List Registered) → IsFirst (λ t. bytes_eq t.relation.name name) tables at
+    → DeletesFrom (table_at tables at).relation row seq (Ok Removed) r → OutdatesReaders (table_at tables at).readers name n gs gs' → IsSound tables gs order → Changes tables gs order at r name n gs'
+removed_changes tables gs order at row seq r name n gs' f a o s =
     let old = (table_at tables at).relation in
     let d = done_of (delete_refused old row seq) Removed (DeletesFromAs old row r) _ a.answer in record {
       below = f.below;
@@ -180,9 +180,9 @@ removed_changes tables gs at row seq r name n gs' f a o s =
       sound = s;
     }
 
-pub same_changes : (tables : List Table) (gs : List Registered) (at : ℕ) (r : Relation) (name : Bytes) (n : ℕ) (gs' : List Registered) → IsFirst (λ t. bytes_eq t.relation.name name) tables at
-    → r ≡ (table_at tables at).relation → OutdatesReaders (table_at tables at).readers name n gs gs' → IsSound tables gs → Changes tables gs at r name n gs'
-same_changes tables gs at r name n gs' f e o s = record {
+pub same_changes : (tables : List Table) (gs : List Registered) (order : List ℕ) (at : ℕ) (r : Relation) (name : Bytes) (n : ℕ) (gs' : List Registered) → IsFirst (λ t. bytes_eq t.relation.name name) tables at
+    → r ≡ (table_at tables at).relation → OutdatesReaders (table_at tables at).readers name n gs gs' → IsSound tables gs order → Changes tables gs order at r name n gs'
+same_changes tables gs order at r name n gs' f e o s = record {
   below = f.below;
   first = f;
   named = ap (λ (x : Relation). x.name) e;

@@ -243,8 +243,8 @@ ready_lists tables g r s =
     (query_lists (relations_in tables) g.query.name g.query.head g.query.atoms (length (table_at tables g.relation).relation.types) rows r.served
     (sym (rows_named tables (relation_in g.query.atoms) g.relation r.relation)) r.arity s.fit s.differ)
 
-pub answers_are : (tables : List Table) (gs : List Registered) (seq : ℕ) (g : Registered) → IsReady tables g → answers_at tables g ≡ answers_of (store_of tables gs seq) g.query
-answers_are tables gs seq g r =
+pub answers_are : (tables : List Table) (gs : List Registered) (order : List ℕ) (seq : ℕ) (g : Registered) → IsReady tables g → answers_at tables g ≡ answers_of (store_of tables gs order seq) g.query
+answers_are tables gs order seq g r =
     ap₂ (λ columns rows. map (cells_at columns) rows) r.columns (sym (rows_named tables (relation_in g.query.atoms) g.relation r.relation))
 
 -- the one behind a prefix is left, and none is behind the whole
@@ -275,7 +275,7 @@ places_below [] ns h = All-nil (λ i. i < length ns)
 places_below (x ∷ xs) ns h = let b = both_true (has_name ns x) (list_all (has_name ns) xs) h in
     All-cons (λ i. i < length ns) (place_in ns x) (map (place_in ns) xs) (place_below ns x b.0) (places_below xs ns b.1)
 
-columns_within : (head : List Bytes) (atoms : List Atom) → is_simple head atoms ≡ true → All (λ i. i < length (body_in atoms)) (map (place_in (body_in atoms)) head)
+pub columns_within : (head : List Bytes) (atoms : List Atom) → is_simple head atoms ≡ true → All (λ i. i < length (body_in atoms)) (map (place_in (body_in atoms)) head)
 columns_within head [] e = absurd cc
 columns_within head (a ∷ b ∷ more) e = absurd cc
 columns_within head (a ∷ []) e = places_below head (names_of a.terms) (simple_parts head a e).within

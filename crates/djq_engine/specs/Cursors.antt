@@ -1,5 +1,5 @@
 -- The cursors of one query, in their slots.
-use Rattle.std.specs.Prelude.{ℕ, List, ◌≡◌, ◌≢◌, Option, None, option_map, map, take, slice_index_or}
+use Rattle.std.specs.Prelude.{ℕ, List, ◌==◌, ◌≡◌, ◌≢◌, Bool, Option, None, is_some, count_by, option_map, map, take, slice_index_or}
 use Rattle.djq_model.specs.Data.{Bytes, Tuple}
 use Rattle.djq_machine.specs.State.{Position, open_at, stale}
 use Rattle.djq_engine.specs.declared.cursors.Progress.{Progress}
@@ -8,6 +8,10 @@ use Rattle.djq_engine.specs.declared.cursors.Progress.TheVariants.{Open, Stale}
 -- the cursor in a slot, where there is one
 abbrev pub slot_at : List (Option Progress) → ℕ → Option Progress
 slot_at slots k = slice_index_or slots k None
+
+-- whether no slot has a cursor
+abbrev pub are_vacant : List (Option Progress) → Bool
+are_vacant slots = count_by is_some slots == 0
 
 -- One slot becomes this, and all others are as before.
 pub record SetsSlot (old : List (Option Progress)) (k : ℕ) (slot : Option Progress) (new : List (Option Progress)) : Type 0 where

@@ -7,7 +7,7 @@ use Rattle.djq_lines.specs.declared.answer.Refusal.{Refusal}
 use Rattle.djq_lines.specs.declared.answer.Refusal.TheVariants.{NoQuery}
 use Rattle.djq_machine.specs.State.{Store, Position, open_at, stale}
 use Rattle.djq_machine.specs.Conditions.{first_of, Answers, OutOfMemoryWhere}
-use Rattle.djq_machine.specs.Store.{IsLeft, AreAll, most_steps}
+use Rattle.djq_machine.specs.Store.{DropsQuery, IsLeft, AreAll, most_steps}
 use Rattle.djq_machine.specs.Stale.{outdated, outdater_of, by_relation}
 use Rattle.djq_engine.specs.declared.cursor.CursorId.{CursorId}
 use Rattle.djq_engine.specs.declared.cursor.Answer.{Answer}
@@ -133,3 +133,15 @@ IsThere k id a = OfQuery k id (λ q. a.at < length (answers_of k.store q))
 pub record LendsAnswer (k : Kept) (id : CursorId) (a : Answer) (row : Tuple) (columns : List ℕ) : Type 0 where
   pub cells : OfQuery k id (λ q. AnswerIs k.store q a (cells_at columns row))
   pub inside : All (λ i. i < length row) columns
+
+-- Whether a cursor that is held, stale or not, is over a query.
+abbrev pub Uses : Kept → Bytes → Bool → Type 0
+Uses k query true = (id : CursorId) × (h : Held) × (held_at k.cursors id ≡ Some h) × (h.query ≡ query)
+Uses k query false = (id : CursorId) (h : Held) → held_at k.cursors id ≡ Some h → h.query ≡ query → ⊥
+
+-- A query that no cursor is over is registered no more, and all cursors are as before.
+pub record DropGives (old : Kept) (query : Bytes) (result : Result ⊤ Refusal) (new : Kept) : Type 0 where
+  pub used : Bool
+  pub is_used : Uses old query used
+  pub store : DropsQuery old.store used query result new.store
+  pub cursors : SameCursors old.cursors new.cursors

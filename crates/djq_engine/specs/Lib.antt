@@ -1,6 +1,7 @@
 pub mod Finding
 pub mod Served
 pub mod Answers
+pub mod Lookup
 pub mod Kept
 pub mod Rows
 pub mod Cursors

@@ -1,5 +1,5 @@
 -- What holds of what the engine keeps, between any two calls.
-use Rattle.std.specs.Prelude.{ℕ, List, ◌==◌, ◌≡◌, ◌<◌, ◌≤◌, Bool, true, Some, All, length}
+use Rattle.std.specs.Prelude.{ℕ, List, [], ◌∷◌, ◌==◌, ◌≡◌, ◌<◌, ◌≤◌, Bool, true, false, Some, All, filter, length, ⊤}
 use Rattle.djq_model.specs.declared.relation.Relation.{Relation}
 use Rattle.djq_model.specs.Data.{bytes_eq}
 use Rattle.djq_model.specs.Answer.{AreDifferent}
@@ -11,7 +11,7 @@ use Rattle.djq_engine.specs.Finding.{IsFirst}
 use Rattle.djq_engine.specs.Served.{relation_in, body_in}
 use Rattle.djq_engine.specs.Answers.{columns_of}
 use Rattle.djq_engine.specs.Cursors.{slot_at}
-use Rattle.djq_engine.specs.Tables.{table_at, query_at, is_reader}
+use Rattle.djq_engine.specs.Tables.{no_query, table_at, query_at, is_live, is_reader}
 
 -- The rows of a relation have a cell for each column, and differ.
 pub record RowsSound (r : Relation) : Type 0 where
@@ -27,10 +27,18 @@ pub record IsReady (tables : List Table) (g : Registered) : Type 0 where
   pub columns : g.columns ≡ columns_of g.query
   pub inside : (k given : ℕ) (ended : Bool) → slot_at g.cursors k ≡ Some (Open given ended) → given ≤ length (table_at tables g.relation).relation.rows
 
--- All rows and queries are so, queries' names differ, and the readers of a relation are the queries over it.
-pub record IsSound (tables : List Table) (gs : List Registered) : Type 0 where
+-- no two are the same
+abbrev pub AreOnce : List ℕ → Type 0
+AreOnce [] = ⊤
+AreOnce (i ∷ more) = (is_reader more i ≡ false) × AreOnce more
+
+-- All rows and queries are so, and queries' names differ. The order has each place where a query is registered once, and the
+-- readers of a relation are those over it, in that order. Nothing stands in any other place.
+pub record IsSound (tables : List Table) (gs : List Registered) (order : List ℕ) : Type 0 where
   pub rows : (r : ℕ) → r < length tables → RowsSound (table_at tables r).relation
-  pub ready : (i : ℕ) → i < length gs → IsReady tables (query_at gs i)
-  pub named : (i : ℕ) → i < length gs → IsFirst (λ g. bytes_eq g.query.name (query_at gs i).query.name) gs i
-  pub below : (r i : ℕ) → is_reader (table_at tables r).readers i ≡ true → i < length gs
-  pub readers : (r i : ℕ) → r < length tables → i < length gs → is_reader (table_at tables r).readers i ≡ ((query_at gs i).relation == r)
+  pub ready : (i : ℕ) → is_live gs i ≡ true → IsReady tables (query_at gs i)
+  pub named : (i j : ℕ) → is_live gs i ≡ true → is_live gs j ≡ true → (query_at gs i).query.name ≡ (query_at gs j).query.name → i ≡ j
+  pub vacant : (i : ℕ) → is_live gs i ≡ false → query_at gs i ≡ no_query
+  pub listed : (i : ℕ) → is_reader order i ≡ is_live gs i
+  pub once : AreOnce order
+  pub readers : (r : ℕ) → r < length tables → (table_at tables r).readers ≡ filter (λ i. (query_at gs i).relation == r) order

@@ -1,9 +1,9 @@
 -- The relations, the registered queries and their cursors, as the engine keeps them, and what contracts see of them.
-use Rattle.std.specs.Prelude.{ℕ, zero, suc, List, [], ◌∷◌, ◌++◌, ◌==◌, ◌≡◌, Bool, Option, None, Some, if◌then◌else◌, option_map, map, length, slice_index_or, slice_set}
+use Rattle.std.specs.Prelude.{ℕ, zero, suc, List, [], ◌∷◌, ◌++◌, ◌==◌, ◌≡◌, ◌&&◌, Bool, true, false, Option, None, Some, if◌then◌else◌, option_map, map, length, slice_index_or, slice_set}
 use Rattle.std.specs.List.{list_any}
 use Rattle.djq_model.specs.declared.relation.Relation.{Relation}
 use Rattle.djq_model.specs.declared.query.Query.{Query}
-use Rattle.djq_model.specs.Data.{Bytes, Tuple}
+use Rattle.djq_model.specs.Data.{Bytes, Tuple, bytes_eq}
 use Rattle.djq_machine.specs.State.{Store}
 use Rattle.djq_engine.specs.declared.cursor.CursorId.{CursorId}
 use Rattle.djq_engine.specs.declared.cursors.Progress.{Progress}
@@ -19,7 +19,7 @@ no_table = record { relation = record { name = []; types = []; rows = [] }; read
 
 -- what stands for the query at a place where there is none
 abbrev pub no_query : Registered
-no_query = record { query = record { name = []; head = []; atoms = [] }; relation = 0; columns = []; cursors = [] }
+no_query = record { live = false; query = record { name = []; head = []; atoms = [] }; relation = 0; columns = []; cursors = [] }
 
 abbrev pub table_at : List Table → ℕ → Table
 table_at tables at = slice_index_or tables at no_table
@@ -30,8 +30,17 @@ query_at gs at = slice_index_or gs at no_query
 abbrev pub relations_in : List Table → List Relation
 relations_in tables = map (λ (t : Table). t.relation) tables
 
-abbrev pub queries_in : List Registered → List Query
-queries_in gs = map (λ (g : Registered). g.query) gs
+-- whether a query is registered in a place
+abbrev pub is_live : List Registered → ℕ → Bool
+is_live gs i = (query_at gs i).live
+
+-- whether a place has the query of a name
+abbrev pub is_query : Bytes → Registered → Bool
+is_query name g = g.live && bytes_eq g.query.name name
+
+-- the queries in these places
+abbrev pub queries_in : List Registered → List ℕ → List Query
+queries_in gs order = map (λ i. (query_at gs i).query) order
 
 -- whether the query at a place is among the readers of a relation
 abbrev pub is_reader : List ℕ → ℕ → Bool
@@ -57,12 +66,13 @@ abbrev pub held_from : List Table → ℕ → List Registered → List Held
 held_from tables at [] = []
 held_from tables at (g ∷ gs) = held_in (answers_at tables g) g.query.name at zero g.cursors ++ held_from tables (suc at) gs
 
-abbrev pub store_of : List Table → List Registered → ℕ → Store
-store_of tables gs seq = record { relations = relations_in tables; texts = []; queries = queries_in gs; seq = seq }
+-- the store, with the queries in the order of registration
+abbrev pub store_of : List Table → List Registered → List ℕ → ℕ → Store
+store_of tables gs order seq = record { relations = relations_in tables; texts = []; queries = queries_in gs order; seq = seq }
 
 -- what contracts see
-abbrev pub kept_of : List Table → List Registered → ℕ → Kept
-kept_of tables gs seq = record { store = store_of tables gs seq; cursors = held_from tables zero gs }
+abbrev pub kept_of : List Table → List Registered → List ℕ → ℕ → Kept
+kept_of tables gs order seq = record { store = store_of tables gs order seq; cursors = held_from tables zero gs }
 
 -- the cursor of an id, looked up by its place
 abbrev pub held_by : List Table → List Registered → CursorId → Option Held
@@ -78,7 +88,15 @@ pub record OutdatesReaders (readers : List ℕ) (relation : Bytes) (n : ℕ) (ol
   pub length : length new ≡ length old
   pub each : (i : ℕ) → query_at new i ≡ (if is_reader readers i then outdated_query relation n (query_at old i) else query_at old i)
 
--- A query stands behind the others, and its place behind the readers of its relation.
-pub record Registers (tables : List Table) (gs : List Registered) (q : Query) (relation : ℕ) (tables' : List Table) (gs' : List Registered) : Type 0 where
-  pub query : gs' ≡ gs ++ record { query = q; relation = relation; columns = columns_of q; cursors = [] } ∷ []
-  pub reader : tables' ≡ slice_set tables relation (let t = table_at tables relation in record t { readers = t.readers ++ length gs ∷ [] })
+-- What stands in each place is as before.
+abbrev pub SamePlaces : List Registered → List Registered → Type 0
+SamePlaces old new = (i : ℕ) → query_at new i ≡ query_at old i
+
+-- A query stands in a place where none was, which comes behind the others in order, and behind the readers of its relation.
+pub record Registers (tables : List Table) (gs : List Registered) (order : List ℕ) (q : Query) (relation : ℕ) (tables' : List Table) (gs' : List Registered) (order' : List ℕ) : Type 0 where
+  pub place : ℕ
+  pub vacant : is_live gs place ≡ false
+  pub here : query_at gs' place ≡ record { live = true; query = q; relation = relation; columns = columns_of q; cursors = [] }
+  pub others : (i : ℕ) → (i ≡ place → ⊥) → query_at gs' i ≡ query_at gs i
+  pub last : order' ≡ order ++ place ∷ []
+  pub reader : tables' ≡ slice_set tables relation (let t = table_at tables relation in record t { readers = t.readers ++ place ∷ [] })

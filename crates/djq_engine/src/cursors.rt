@@ -1,6 +1,6 @@
 ghost use Rattle.std.specs.Prelude.{◌≡◌, [], ℕ, Some, None, IsSome, IfOk, OnErr, false, slice_set};
 ghost use Rattle.djq_engine.specs.declared.cursors.Progress.TheVariants.{Open};
-ghost use Rattle.djq_engine.specs.Cursors.{slot_at, SetsSlot, outdated_slots, outdated_progress};
+ghost use Rattle.djq_engine.specs.Cursors.{are_vacant, slot_at, SetsSlot, outdated_slots, outdated_progress};
 
 use djq_model::{Name, NoMem};
 use slab::Slab;
@@ -77,6 +77,13 @@ impl Cursors {
             Ok(slot) => Ok(slot),
             Err(_) => Err(NoMem),
         }
+    }
+
+    /// Whether there is no cursor.
+    pub fn is_empty(&self) -> bool
+        ensures { result ≡ are_vacant self.now }
+    {
+        self.slots.is_empty()
     }
 
     /// How far the cursor in a slot has come.

@@ -1,24 +1,27 @@
-ghost use Rattle.std.specs.Prelude.{◌≡◌, is_some, [], ◌<◌, true, length, None, Some, IfOk, IfErr};
-ghost use Rattle.std.specs.Prelude.{OnOk, OnErr};
+ghost use Rattle.std.specs.Prelude.{◌≡◌, ◌≤◌, ◌+◌, is_some, [], ◌<◌, true, length, None, Some};
+ghost use Rattle.std.specs.Prelude.{IfOk, IfErr, OnOk, OnErr};
 ghost use Rattle.djq_model.specs.Data.{bytes_eq, query_of, rows_of};
 ghost use Rattle.djq_lines.specs.Grammar.{is_simple};
 ghost use Rattle.djq_machine.specs.State.{opening};
 ghost use Rattle.djq_machine.specs.Store.{MakesRelation, AddsRow, DeletesRow, RegistersQuery};
-ghost use Rattle.djq_machine.specs.Store.{query_refusal};
+ghost use Rattle.djq_machine.specs.Store.{TellsWhether, has_steps, query_refusal};
 ghost use Rattle.djq_machine.specs.Stale.{add_outdates, delete_outdates};
 ghost use Rattle.djq_engine.specs.Finding.{IsFirst};
 ghost use Rattle.djq_engine.specs.Served.{relation_in};
-ghost use Rattle.djq_engine.specs.Tables.{store_of, Registers};
-ghost use Rattle.djq_engine.specs.Kept.{SameCursors, Outdates, OpenGives, NextGives, MoreGives};
-ghost use Rattle.djq_engine.specs.Kept.{ClosesCursor, IsHeld, IsFresh, IsThere, LendsAnswer};
+ghost use Rattle.djq_engine.specs.Tables.{store_of, Registers, SamePlaces};
+ghost use Rattle.djq_engine.specs.Sound.{IsSound};
+ghost use Rattle.djq_engine.specs.Kept.{SameCursors, Outdates, DropGives, OpenGives, NextGives};
+ghost use Rattle.djq_engine.specs.Kept.{MoreGives, ClosesCursor, IsHeld, IsFresh, IsThere};
+ghost use Rattle.djq_engine.specs.Kept.{LendsAnswer};
 
 use crate::cursor::{Answer, CursorId, Next, QueryId};
 use crate::cursors::Progress;
-use crate::registered::{Registered, find_query, outdate};
+use crate::lookup::{fits_at, has_at};
+use crate::registered::{Registered, find_query, leave_out, outdate, vacant_place};
 use crate::table::{Table, find_table};
 use djq_lines::limits::{COLUMNS, QUERIES, RELATIONS};
 use djq_lines::{AddOutcome, DeleteOutcome, Refusal};
-use djq_model::{Name, NoMem, Query, Row, Types, Value};
+use djq_model::{Name, NoMem, Query, Row, Sequence, Types, Value};
 use djq_steps::{Ledgers, Listing, Tally};
 use std::alloc::Global;
 use std::marker::Model;
@@ -29,7 +32,10 @@ use std::marker::Model;
 pub struct Engine {
     alloc: Global,
     tables: Vec<Table>,
+    // a place keeps its query until that is dropped, and is vacant then
     queries: Vec<Registered>,
+    // the places of the registered queries, in order of registration
+    order: Sequence<usize>,
     seq: u64,
 }
 
@@ -41,9 +47,9 @@ impl Model for Engine {
     ghost use Rattle.djq_engine.specs.Tables.{kept_of};
     ghost use Rattle.djq_engine.specs.Sound.{IsSound};
 
-    ghost view = { λ e. kept_of e.tables.items e.queries.items e.seq };
+    ghost view = { λ e. kept_of e.tables.items e.queries.items e.order e.seq };
 
-    ghost invariant = { λ e. IsSound e.tables.items e.queries.items };
+    ghost invariant = { λ e. IsSound e.tables.items e.queries.items e.order };
 }
 
 impl Engine {
@@ -56,6 +62,7 @@ impl Engine {
             alloc,
             tables: Vec::new(alloc),
             queries: Vec::new(alloc),
+            order: Sequence::new(alloc),
             seq: 0,
         }
     }
@@ -177,13 +184,44 @@ impl Engine {
         ensures registers { RegistersQuery self.old.store query result self.new.store }
         ensures cursors { SameCursors self.old.cursors self.new.cursors }
     {
-        let relation = suits(self.tables.as_slice(), self.queries.as_slice(), &query)?;
+        let (tables, queries) = (self.tables.as_slice(), self.queries.as_slice());
+        let relation = suits(tables, queries, &self.order, &query)?;
         let most = 2 * query.head.as_slice().len() as u64 + 1;
-        let alloc = self.alloc;
-        let Ok(()) = register(alloc, &mut self.tables, &mut self.queries, query, relation) else {
+        let registered = register(
+            self.alloc,
+            &mut self.tables,
+            &mut self.queries,
+            &mut self.order,
+            query,
+            relation,
+        );
+        let Ok(()) = registered else {
             return Err(Refusal::NoMemory);
         };
         Ok(most)
+    }
+
+    /// Drops a query: it is registered no more. The ids of other queries and of their cursors stay.
+    /// It takes no memory.
+    ///
+    /// # Errors
+    ///
+    /// `NoQuery` where none has the name; `InUse` where a cursor is over it, stale or not. Nothing
+    /// has changed.
+    pub fn drop_query(&mut self, query: &Name) -> Result<(), Refusal>
+        ensures { DropGives self.old query.now result self.new }
+    {
+        let Some(at) = find_query(self.queries.as_slice(), query) else {
+            return Err(Refusal::NoQuery);
+        };
+        if !self.queries[at].cursors.is_empty() {
+            return Err(Refusal::InUse);
+        }
+        let relation = self.queries[at].relation;
+        leave_out(&mut self.tables[relation].readers, at);
+        leave_out(&mut self.order, at);
+        self.queries[at] = Registered::vacant(self.alloc);
+        Ok(())
     }
 
     /// Opens a cursor in front of the answers of a query.
@@ -254,6 +292,37 @@ impl Engine {
         left
     }
 
+    /// Whether a tuple is an answer of a query. It takes no memory, and counts one lookup.
+    ///
+    /// # Errors
+    ///
+    /// `NoQuery` where none has the name; `Arity` and `WrongType` where the tuple doesn't suit the
+    /// query's answers.
+    pub fn has<L: Ledgers>(
+        &self,
+        query: &Name,
+        tuple: &[Value],
+        listing: &mut Tally<Listing<L>>,
+    ) -> Result<bool, Refusal>
+        ensures tells { TellsWhether self.now.store query.now tuple.now result }
+        ensures counted { listing.new ≤ listing.old + has_steps (query_of self.now.store.queries query.now) }
+    {
+        let Some(at) = find_query(self.queries.as_slice(), query) else {
+            return Err(Refusal::NoQuery);
+        };
+        let registered = &self.queries[at];
+        let relation = &self.tables[registered.relation].relation;
+        let columns = registered.columns.as_slice();
+        if tuple.len() != columns.len() {
+            return Err(Refusal::Arity);
+        }
+        if !fits_at(relation.types.as_slice(), columns, tuple) {
+            return Err(Refusal::WrongType);
+        }
+        listing.lookup();
+        Ok(has_at(relation.rows.as_slice(), columns, tuple))
+    }
+
     /// Gives up an open cursor. Its id may come again from [`open`](Engine::open).
     pub fn close(&mut self, id: CursorId)
         requires { IsHeld self.old id }
@@ -274,13 +343,19 @@ impl Engine {
 }
 
 // The place of the relation of a query that may be registered.
-fn suits(tables: &[Table], queries: &[Registered], query: &Query) -> Result<usize, Refusal>
-    requires { is_simple query.now.head query.now.atoms ≡ true }
+fn suits(
+    tables: &[Table],
+    queries: &[Registered],
+    order: &Sequence<usize>,
+    query: &Query,
+) -> Result<usize, Refusal>
+    requires served { is_simple query.now.head query.now.atoms ≡ true }
+    requires sound { IsSound tables.now queries.now order.now }
     ensures ok { IfOk result (λ at.
-        (query_refusal (store_of tables.now queries.now 0) query.now ≡ None)
+        (query_refusal (store_of tables.now queries.now order.now 0) query.now ≡ None)
         × IsFirst (λ t. bytes_eq t.relation.name (relation_in query.now.atoms)) tables.now at) }
     ensures err { IfErr result (λ r.
-        query_refusal (store_of tables.now queries.now 0) query.now ≡ Some r) }
+        query_refusal (store_of tables.now queries.now order.now 0) query.now ≡ Some r) }
 {
     if find_query(queries, &query.name).is_some() {
         return Err(Refusal::Taken);
@@ -292,31 +367,41 @@ fn suits(tables: &[Table], queries: &[Registered], query: &Query) -> Result<usiz
     if tables[at].relation.types.len() != atom.terms.len() {
         return Err(Refusal::Arity);
     }
-    if queries.len() >= QUERIES {
+    if order.len() >= QUERIES {
         return Err(Refusal::Limit);
     }
     Ok(at)
 }
 
-// Puts a query behind the others, and its place among the readers of its relation; or changes
-// nothing, out of memory.
+// Puts a query in a vacant place, behind the others in order and behind the readers of its
+// relation; or changes nothing that is seen, out of memory.
 fn register(
     alloc: Global,
     tables: &mut Vec<Table>,
     queries: &mut Vec<Registered>,
+    order: &mut Sequence<usize>,
     query: Query,
     relation: usize,
 ) -> Result<(), NoMem>
     requires served { is_simple query.head query.atoms ≡ true }
     requires there { relation < length tables.old.items }
-    ensures ok { OnOk result (Registers tables.old.items queries.old.items query relation
-        tables.new.items queries.new.items) }
-    ensures err { OnErr result ((tables.new.items ≡ tables.old.items)
-        × (queries.new.items ≡ queries.old.items)) }
+    ensures ok { OnOk result (Registers tables.old.items queries.old.items order.old query relation
+        tables.new.items queries.new.items order.new) }
+    ensures tables { OnErr result (tables.new.items ≡ tables.old.items) }
+    ensures queries { OnErr result (SamePlaces queries.old.items queries.new.items) }
+    ensures order { OnErr result (order.new ≡ order.old) }
 {
     let registered = Registered::new(alloc, query, relation)?;
-    queries.reserve(1)?;
-    tables[relation].readers.push(queries.len())?;
-    queries.push_reserved(registered);
-    Ok(())
+    let at = vacant_place(alloc, queries)?;
+    order.push(at)?;
+    match tables[relation].readers.push(at) {
+        Ok(()) => {
+            queries[at] = registered;
+            Ok(())
+        }
+        Err(error) => {
+            let _ = order.remove(order.len() - 1);
+            Err(error)
+        }
+    }
 }

@@ -1,18 +1,21 @@
-ghost use Rattle.std.specs.Prelude.{◌≡◌, [], ◌<◌, true, All, length, map, IfOk, position};
+ghost use Rattle.std.specs.Prelude.{◌≡◌, ◌==◌, [], ◌<◌, true, false, not, All, filter, length};
+ghost use Rattle.std.specs.Prelude.{map, IfOk, position};
 ghost use Rattle.std.specs.List.{list_all};
-ghost use Rattle.djq_model.specs.Data.{bytes_eq};
 ghost use Rattle.djq_lines.specs.Grammar.{is_simple};
 ghost use Rattle.djq_engine.specs.Served.{is_variable, names_of, place_in, is_term_named};
 ghost use Rattle.djq_engine.specs.Answers.{columns_of};
-ghost use Rattle.djq_engine.specs.Tables.{OutdatesReaders};
+ghost use Rattle.djq_engine.specs.Tables.{no_query, is_live, is_query, OutdatesReaders, SamePlaces};
+ghost use Rattle.djq_engine.specs.Sound.{AreOnce};
 
 use crate::cursors::Cursors;
 use djq_model::{Name, NoMem, Query, Sequence, Term};
 use std::alloc::Global;
 
-/// A registered query, with what its answers are read from, and its cursors.
+/// A place for a registered query, with what its answers are read from, and its cursors.
 #[derive(Drop)]
 pub struct Registered {
+    /// Whether a query is registered here. Where none is, the rest is empty.
+    pub live: bool,
     /// The query.
     pub query: Query,
     /// The place of its one atom's relation.
@@ -24,6 +27,24 @@ pub struct Registered {
 }
 
 impl Registered {
+    /// A place without a query. It takes no memory.
+    pub fn vacant(alloc: Global) -> Self
+        ensures { result ≡ no_query }
+    {
+        let query = Query {
+            name: Name::new(b""),
+            head: Sequence::new(alloc),
+            atoms: Sequence::new(alloc),
+        };
+        Registered {
+            live: false,
+            query,
+            relation: 0,
+            columns: Sequence::new(alloc),
+            cursors: Cursors::new(alloc),
+        }
+    }
+
     /// A served query over the relation at a place, with no cursors.
     ///
     /// # Errors
@@ -32,6 +53,7 @@ impl Registered {
     pub fn new(alloc: Global, query: Query, relation: usize) -> Result<Self, NoMem>
         requires { is_simple query.head query.atoms ≡ true }
         ensures { IfOk result (λ g. g ≡ record {
+          live = true;
           query = query;
           relation = relation;
           columns = columns_of query;
@@ -41,6 +63,7 @@ impl Registered {
         let terms = query.atoms.as_slice()[0].terms.as_slice();
         let columns = head_columns(alloc, query.head.as_slice(), terms)?;
         Ok(Registered {
+            live: true,
             query,
             relation,
             columns,
@@ -81,11 +104,44 @@ fn head_columns(alloc: Global, head: &[Name], terms: &[Term]) -> Result<Sequence
 
 /// The place of the query of a name.
 pub fn find_query(queries: &[Registered], name: &Name) -> Option<usize>
-    ensures { result ≡ position (λ g. bytes_eq g.query.name name.now) queries.now }
+    ensures { result ≡ position (is_query name.now) queries.now }
 {
-    queries
-        .iter()
-        .position(|registered| registered.query.name == *name)
+    queries.iter().position(|registered| registered.live && registered.query.name == *name)
+}
+
+/// A place where no query is registered, which is made where there is none.
+///
+/// # Errors
+///
+/// `NoMem` out of memory.
+pub fn vacant_place(alloc: Global, queries: &mut Vec<Registered>) -> Result<usize, NoMem>
+    ensures place { IfOk result (λ at. at < length queries.new.items) }
+    ensures vacant { IfOk result (λ at. is_live queries.new.items at ≡ false) }
+    ensures same { SamePlaces queries.old.items queries.new.items }
+{
+    if let Some(at) = queries.iter().position(|registered| !registered.live) {
+        return Ok(at);
+    }
+    let at = queries.len();
+    queries.push(Registered::vacant(alloc))?;
+    Ok(at)
+}
+
+// Where a place stands in a list of places.
+fn find_place(places: &[usize], at: usize) -> Option<usize>
+    ensures { result ≡ position (λ i. i == at) places.now }
+{
+    places.iter().position(|place| *place == at)
+}
+
+/// Takes a place out of a list of different places.
+pub fn leave_out(places: &mut Sequence<usize>, at: usize)
+    requires { AreOnce places.old }
+    ensures { places.new ≡ filter (λ i. not (i == at)) places.old }
+{
+    if let Some(place) = find_place(places.as_slice(), at) {
+        let _ = places.remove(place);
+    }
 }
 
 /// Makes the cursors of these queries stale by a change of a relation.

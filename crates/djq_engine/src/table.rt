@@ -19,8 +19,8 @@ pub struct Table {
     pub readers: Sequence<usize>,
 }
 
-// Whether a value is of a column's type.
-fn is_typed(column: ColumnType, value: &Value) -> bool
+/// Whether a value is of a column's type.
+pub fn is_typed(column: ColumnType, value: &Value) -> bool
     ensures { result ≡ is_of column value.now }
 {
     match (column, value) {

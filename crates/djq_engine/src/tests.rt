@@ -184,6 +184,43 @@ fn lists_and_outdates<L: Ledgers>(
     Ok(())
 }
 
+// A query that a cursor is over stays; once none is, it is gone, and its name is free.
+fn drops(rt: &impl Abort, alloc: Global) -> Result<(), Fail> {
+    let mut engine = Engine::new(alloc);
+    let (r, p, q) = (Name::new(b"r"), Name::new(b"p"), Name::new(b"q"));
+    assert!(rt; engine.rel(r, two_integers(alloc)?) == Ok(()));
+    assert!(rt; engine.query(swapped(alloc, p, r)?) == Ok(5));
+    assert!(rt; engine.query(swapped(alloc, q, r)?) == Ok(5));
+    let id = opened(&mut engine, &q)?;
+    assert!(rt; engine.drop_query(&q) == Err(Refusal::InUse));
+    engine.close(id);
+    assert!(rt; engine.drop_query(&q) == Ok(()));
+    assert!(rt; engine.drop_query(&q) == Err(Refusal::NoQuery));
+    assert!(rt; engine.query_id(&q).is_none() && engine.query_id(&p).is_some());
+    assert!(rt; engine.query(swapped(alloc, q, r)?) == Ok(5));
+    Ok(())
+}
+
+// An answer is told in the order of the head; a row of other length and a query that isn't there
+// are refused.
+fn tells_answers<L: Ledgers>(
+    rt: &impl Abort,
+    alloc: Global,
+    listing: &mut Tally<Listing<L>>,
+) -> Result<(), Fail> {
+    let mut engine = Engine::new(alloc);
+    let (r, q) = (Name::new(b"r"), Name::new(b"q"));
+    assert!(rt; engine.rel(r, two_integers(alloc)?) == Ok(()));
+    assert!(rt; engine.query(swapped(alloc, q, r)?) == Ok(5));
+    assert!(rt; engine.add(&r, row(alloc, 1, 2)?) == Ok(AddOutcome::Added));
+    let (there, absent) = (row(alloc, 2, 1)?, row(alloc, 1, 2)?);
+    assert!(rt; engine.has(&q, there.as_slice(), listing) == Ok(true));
+    assert!(rt; engine.has(&q, absent.as_slice(), listing) == Ok(false));
+    assert!(rt; engine.has(&q, &[], listing) == Err(Refusal::Arity));
+    assert!(rt; engine.has(&r, there.as_slice(), listing) == Err(Refusal::NoQuery));
+    Ok(())
+}
+
 fn counted<L: Ledgers>(
     host: &HostRuntime,
     rt: &impl Abort,
@@ -196,7 +233,9 @@ fn counted<L: Ledgers>(
 {
     let mut steps = Steps::<L>::new(host, blanks);
     lends_answers(rt, alloc, &mut steps.listing)?;
-    lists_and_outdates(rt, alloc, &mut steps.listing)
+    lists_and_outdates(rt, alloc, &mut steps.listing)?;
+    tells_answers(rt, alloc, &mut steps.listing)?;
+    drops(rt, alloc)
 }
 
 #[test]

@@ -10,9 +10,10 @@ use Rattle.djq_lines.specs.declared.answer.Refusal.TheVariants.{NoCursor, NoMemo
 use Rattle.djq_lines.specs.declared.command.Command.{Command}
 use Rattle.djq_lines.specs.declared.command.Command.TheVariants.{Rel, Add, Del, Query as Register, Drop, Open, Next, Close, Has, Watch, Unwatch, Explain, Quit, Stop}
 use Rattle.djq_lines.specs.Grammar.{Reading, refused, says as says_command}
-use Rattle.djq_lines.specs.Reply.{line, answer_line, refusal_line, ok_reply, add_reply, delete_reply, query_reply, stale_line, text_of, listing_lines, bye, end_memory}
+use Rattle.djq_lines.specs.Reply.{line, answer_line, refusal_line, ok_reply, add_reply, delete_reply, query_reply, has_reply, stale_line, text_of, listing_lines, bye, end_memory}
 use Rattle.djq_machine.specs.State.{Store, State, Session, Cursor, Position, open_at, stale, with_session, cursor_of, with_position, ended_by}
 use Rattle.djq_machine.specs.Stale.{changed, by_relation, outdated_sessions, outdated_cursor, add_outdates, delete_outdates}
+use Rattle.djq_machine.specs.Store.{has_steps}
 use Rattle.djq_machine.specs.Effect.{Effect, nothing, says, EndsWith, RefusedStep}
 use Rattle.djq_machine.specs.Command.{OpensTo, with_cursor, NextStepAt, CloseStep, CommandStep}
 use Rattle.djq_machine.specs.LineStep.{ReadStep}
@@ -203,8 +204,8 @@ command_keeps old s x (Next c count) e new h = next_found old s c count (cursor_
 command_keeps old s x (Close c) e new h = close_found old s c (cursor_of x.cursors c) e new h
 command_keeps old s x Quit e new h = ends_keeps EndsByRun old s bye SaidQuit e new tt h
 command_keeps old s x Stop e new h = ends_keeps EndsByRun (record old { stopped = true }) s bye SaidStop e new tt h
-command_keeps old s x (Drop q) e new h = absurd h
-command_keeps old s x (Has q row) e new h = absurd h
+command_keeps old s x (Drop q) e new h = store_keeps old s (ok_reply (codes "ok") h.result) h.store e new h.effect h.state
+command_keeps old s x (Has q row) e new h = (alike_state EndsByRun old new h.state, alone_text s (has_reply h.result) (has_steps (query_of old.store.queries q)) e h.effect)
 command_keeps old s x (Watch q) e new h = absurd h
 command_keeps old s x (Unwatch q) e new h = absurd h
 command_keeps old s x (Explain q) e new h = absurd h

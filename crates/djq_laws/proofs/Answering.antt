@@ -16,7 +16,7 @@ use Rattle.djq_machine.specs.Step.{SameRelations}
 use Rattle.djq_machine.specs.Gives.{Gives}
 use Rattle.djq_laws.proofs.Finding.{find_other}
 
-apart_from : (r name n : Bytes) (b : Bool) → bytes_eq r n ≡ b → bytes_eq n name ≡ false → bytes_eq r name ≡ true → b ≡ false
+pub apart_from : (r name n : Bytes) (b : Bool) → bytes_eq r n ≡ b → bytes_eq n name ≡ false → bytes_eq r name ≡ true → b ≡ false
 apart_from r name n false e ne same = refl
 apart_from r name n true e ne same =
     let k : r ≡ n = (bytes_eq-decides r n).0 e in
@@ -101,7 +101,7 @@ rows_apart rs name rows n ne =
     ap rows_in (find_other (λ (r : Relation). bytes_eq r.name name) (λ (r : Relation). bytes_eq r.name n) (λ (r : Relation). record r { rows = rows }) (λ r. refl)
     (λ r e. apart_from r.name name n (bytes_eq r.name n) refl ne e) rs)
 
-none_or : (a b : Bool) → (a || b) ≡ false → (a ≡ false) × (b ≡ false)
+pub none_or : (a b : Bool) → (a || b) ≡ false → (a ≡ false) × (b ≡ false)
 none_or false false h = (refl, refl)
 none_or false true h = absurd cc
 none_or true b h = absurd cc

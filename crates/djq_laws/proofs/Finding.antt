@@ -1,7 +1,7 @@
 -- What is found in a list after a change of it.
 use Rattle.std.specs.Prelude.{List, [], ◌∷◌, ◌≡◌, Bool, true, false, cond, Option, None, Some, IsSomeAnd, option_map, find}
 use Rattle.std.proofs.Common.{refl, ap}
-use Rattle.djq_model.specs.Data.{change_first}
+use Rattle.djq_model.specs.Data.{change_first, drop_first}
 
 -- what a fact of an option's value says: there is one, and the fact holds of it
 pub some_and : {A : Type 0} (o : Option A) (P : A → Type 0) → IsSomeAnd o P → (x : A) × (o ≡ Some x) × P x
@@ -34,3 +34,14 @@ pub find_other : {A : Type 0} (p q : A → Bool) (f : A → A) → ((x : A) → 
     → find q (change_first p f xs) ≡ find q xs
 find_other p q f keeps apart [] = refl
 find_other p q f keeps apart (x ∷ xs) = other_step p q f x xs (p x) (keeps x) (apart x) (find_other p q f keeps apart xs)
+
+-- what is dropped fails the test
+dropped_step : {A : Type 0} (p q : A → Bool) (x : A) (xs : List A) (b : Bool) → (b ≡ true → q x ≡ false)
+    → find q (drop_first p xs) ≡ find q xs
+    → find q (cond b xs (x ∷ drop_first p xs)) ≡ find q (x ∷ xs)
+dropped_step p q x xs true apart h = let fails = apart refl in rw fails refl
+dropped_step p q x xs false apart h = ap (λ r. cond (q x) (Some x) r) h
+
+pub find_dropped : {A : Type 0} (p q : A → Bool) → ((x : A) → p x ≡ true → q x ≡ false) → (xs : List A) → find q (drop_first p xs) ≡ find q xs
+find_dropped p q apart [] = refl
+find_dropped p q apart (x ∷ xs) = dropped_step p q x xs (p x) (apart x) (find_dropped p q apart xs)

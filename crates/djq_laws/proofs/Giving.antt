@@ -1,5 +1,6 @@
 -- What open cursors have given, along any run: different answers of their queries over the present rows, and all of them where the end was told.
 use Rattle.std.specs.Prelude.{ℕ, List, [], ◌∷◌, ◌==◌, ◌≡◌, ◌<◌, ◌+◌, ◌++◌, ◌⊎◌, Bool, true, false, not, cond, length, Option, None, Some, is_some, is_none, nat_le, IsSomeAnd, MatchOption, option_map, Result, Ok, Err, map, All, ⊤}
+use Rattle.std.specs.List.{list_any, slice_index_or}
 use Rattle.std.proofs.Common.{refl, sym, ap, ◌∙◌, subst, inl, inr, arith}
 use Rattle.std.proofs.lemmas.List.Elements.{All-nil, All-append, All-push, All-weaker, All-filter}
 use Rattle.djq_model.specs.declared.relation.Relation.{Relation}
@@ -10,7 +11,7 @@ use Rattle.djq_model.specs.Answer.{IsAnswer}
 use Rattle.djq_lines.specs.declared.answer.EndCause.{EndCause}
 use Rattle.djq_lines.specs.declared.answer.EndCause.TheVariants.{Input, Memory}
 use Rattle.djq_lines.specs.declared.answer.Refusal.{Refusal}
-use Rattle.djq_lines.specs.declared.answer.Refusal.TheVariants.{Taken, NoQuery, NoCursor, Limit, NoMemory}
+use Rattle.djq_lines.specs.declared.answer.Refusal.TheVariants.{Taken, NoQuery, NoCursor, Limit, NoMemory, InUse}
 use Rattle.djq_lines.specs.declared.answer.AddOutcome.{AddOutcome}
 use Rattle.djq_lines.specs.declared.answer.AddOutcome.TheVariants.{Added, Same}
 use Rattle.djq_lines.specs.declared.answer.DeleteOutcome.{DeleteOutcome}
@@ -22,20 +23,20 @@ use Rattle.djq_lines.specs.Grammar.{Reading, refused, says as says_command, read
 use Rattle.djq_lines.specs.Reply.{end_memory}
 use Rattle.djq_machine.specs.State.{Store, State, Session, Cursor, Position, open_at, stale, fresh, session_of, with_session, cursor_of, with_position, ended_by}
 use Rattle.djq_machine.specs.Conditions.{first_of, Answers, OutOfMemoryWhere}
-use Rattle.djq_machine.specs.Store.{MakesRelation, AddsRow, AddsAs, DeletesRow, DeletesAs, RegistersQuery, TellsAnswers, with_rows, rel_refusal, add_refusal, delete_refusal, query_refusal, most_steps}
+use Rattle.djq_machine.specs.Store.{MakesRelation, AddsRow, AddsAs, DeletesRow, DeletesAs, RegistersQuery, DropsQuery, TellsAnswers, with_rows, rel_refusal, add_refusal, delete_refusal, query_refusal, drop_refusal, most_steps}
 use Rattle.djq_machine.specs.Stale.{reads, outdated, outdater_of, outdated_cursor, outdated_sessions, by_relation, add_outdates, delete_outdates, changed}
 use Rattle.djq_machine.specs.Effect.{Effect, nothing, EndsWith, RefusedStep, queue_all, queue}
-use Rattle.djq_machine.specs.Command.{open_refusal, with_cursor, OpensTo, NextStepAt, CloseStep, CommandStep}
+use Rattle.djq_machine.specs.Command.{uses, open_refusal, with_cursor, OpensTo, NextStepAt, CloseStep, CommandStep}
 use Rattle.djq_machine.specs.LineStep.{LineOutcome, long, blank, slow, no_room, run, ReadStep, FrontStep, behind_line}
 use Rattle.djq_machine.specs.Step.{Event, opened, fed, stepped, took, ended, closed, FedStep, TookStep, EndedStep, Acts, with_relations, Step}
 use Rattle.djq_machine.specs.Run.{Did}
 use Rattle.djq_machine.specs.Gives.{Gives, PositionGives, CursorsGive}
 use Rattle.djq_machine.proofs.Walks.{walk_keeps}
-use Rattle.djq_laws.proofs.Finding.{some_and}
+use Rattle.djq_laws.proofs.Finding.{some_and, find_dropped}
 use Rattle.djq_laws.proofs.Queueing.{session_changed}
 use Rattle.djq_laws.specs.Given.{RunsGive}
 use Rattle.djq_laws.proofs.Changing.{all_changed, all_found, all_dropped, all_mapped}
-use Rattle.djq_laws.proofs.Answering.{SameAnswers, gives_kept, new_relation_same, reordered_same, unread_same}
+use Rattle.djq_laws.proofs.Answering.{SameAnswers, gives_kept, new_relation_same, reordered_same, unread_same, apart_from, none_or, none_pass}
 
 -- a cursor gives what it should, over these relations and queries
 abbrev pub CursorGives : List Relation → List Query → Cursor → Type 0
@@ -175,6 +176,34 @@ query_gives old q (Ok most) store new h after g =
     subst CursorsGive (sym (after ∙ ap (λ (st : Store). record old { store = st }) d.1)) (registered_give old.store.relations old.store.queries q old.sessions g)
 query_gives old q (Err r) store new h after g = same_gives old new (after ∙ ap (λ (st : Store). record old { store = st }) h.stays) g
 
+-- A query that no session uses is no cursor's.
+dropped_query : (qs : List Query) (name other : Bytes) → bytes_eq other name ≡ false → query_of (drop_first (λ p. bytes_eq p.name name) qs) other ≡ query_of qs other
+dropped_query qs name other ne =
+    find_dropped (λ (p : Query). bytes_eq p.name name) (λ (p : Query). bytes_eq p.name other) (λ p e. apart_from p.name name other (bytes_eq p.name other) refl ne e) qs
+
+dropped_give : (rs : List Relation) (qs : List Query) (q : Bytes) (xs : List Session) → list_any (uses q) xs ≡ false → SessionsGive rs qs xs → SessionsGive rs (drop_first (λ p. bytes_eq p.name q) qs) xs
+dropped_give rs qs q xs none h = λ k d lt.
+    let x = slice_index_or xs k d in
+    let unused = (none_or (list_any (λ (c : Cursor). bytes_eq c.query q) x.cursors) (list_any (λ w. bytes_eq w q) x.watches) (none_pass (uses q) xs none k d lt)).0 in
+    λ j e within.
+    let c = slice_index_or x.cursors j e in
+    subst (λ (o : Option Query). PositionGives rs o c.position) (sym (dropped_query qs q c.query (none_pass (λ (z : Cursor). bytes_eq z.query q) x.cursors unused j e within))) (h k d lt j e within)
+
+-- the condition on use doesn't hold of a query that is dropped
+unused_of : (a b : Bool) (r t : Refusal) (u : ⊤) (D : ⊤ → Type 0) (L : Refusal → Type 0) → Answers (cond a (Some r) (cond b (Some t) None)) (Ok u) D L → b ≡ false
+unused_of true b r t u D L h = absurd h
+unused_of false true r t u D L h = absurd h
+unused_of false false r t u D L h = refl
+
+drop_gives : (old : State) (q : Bytes) (r : Result ⊤ Refusal) (store : Store) (new : State) → DropsQuery old.store (list_any (uses q) old.sessions) q r store → new ≡ record old { store = store } → CursorsGive old → CursorsGive new
+drop_gives old q (Ok u) store new h after g =
+    let used = list_any (uses q) old.sessions in
+    let D = λ (_ : ⊤). store ≡ record old.store { queries = drop_first (λ p. bytes_eq p.name q) old.store.queries } in
+    let e = done_of (drop_refusal old.store used q) u D (OutOfMemoryWhere ⊥) h.answer in
+    let none = unused_of (is_none (query_of old.store.queries q)) used NoQuery InUse u D (OutOfMemoryWhere ⊥) h.answer in
+    subst CursorsGive (sym (after ∙ ap (λ (st : Store). record old { store = st }) e)) (dropped_give old.store.relations old.store.queries q old.sessions none g)
+drop_gives old q (Err r) store new h after g = same_gives old new (after ∙ ap (λ (st : Store). record old { store = st }) h.stays) g
+
 -- A cursor that opens has given nothing.
 opens_on : (o : Option Refusal) (u : ⊤) (L : Refusal → Type 0) → Answers o (Ok u) (λ _. ⊤) L → o ≡ None
 opens_on None u L h = refl
@@ -277,8 +306,8 @@ command_gives old s x (Next c count) e new found h g = next_gives old s x c coun
 command_gives old s x (Close c) e new found h g = close_gives old s c (cursor_of x.cursors c) e new h g
 command_gives old s x Quit e new found h g = ends_gives old s _ new h.1 g
 command_gives old s x Stop e new found h g = ends_gives (record old { stopped = true }) s _ new h.1 (stopped_gives old g)
-command_gives old s x (Drop q) e new found h g = absurd h
-command_gives old s x (Has q row) e new found h g = absurd h
+command_gives old s x (Drop q) e new found h g = drop_gives old q h.result h.store new h.done h.state g
+command_gives old s x (Has q row) e new found h g = same_gives old new h.state g
 command_gives old s x (Watch q) e new found h g = absurd h
 command_gives old s x (Unwatch q) e new found h g = absurd h
 command_gives old s x (Explain q) e new found h g = absurd h

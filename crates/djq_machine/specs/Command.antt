@@ -1,5 +1,6 @@
 -- What each command does to the state, and what it is answered.
-use Rattle.std.specs.Prelude.{ℕ, List, [], ◌∷◌, ◌==◌, ◌≡◌, ◌+◌, ◌*◌, ◌++◌, ◌<◌, ◌≤◌, ◌⊎◌, Bool, true, false, nat_le, Option, None, Some, is_some, is_none, IsSomeAnd, MatchOption, Result, Ok, Err, length, map, codes, All, ⊤}
+use Rattle.std.specs.Prelude.{ℕ, List, [], ◌∷◌, ◌==◌, ◌≡◌, ◌+◌, ◌*◌, ◌++◌, ◌<◌, ◌≤◌, ◌⊎◌, ◌||◌, Bool, true, false, nat_le, Option, None, Some, is_some, is_none, IsSomeAnd, MatchOption, Result, Ok, Err, length, map, codes, All, ⊤}
+use Rattle.std.specs.List.{list_any}
 use Rattle.djq_model.specs.declared.query.Query.{Query}
 use Rattle.djq_model.specs.Data.{Bytes, Tuple, bytes_eq, drop_first, query_of}
 use Rattle.djq_model.specs.Answer.{IsAnswer, AreDifferent}
@@ -11,10 +12,10 @@ use Rattle.djq_lines.specs.declared.answer.DeleteOutcome.{DeleteOutcome}
 use Rattle.djq_lines.specs.declared.answer.EndCause.TheVariants.{Quit as SaidQuit, Stop as SaidStop, Memory}
 use Rattle.djq_lines.specs.declared.command.Command.{Command}
 use Rattle.djq_lines.specs.declared.command.Command.TheVariants.{Rel, Add, Del, Query as Register, Drop, Open, Next, Close, Has, Watch, Unwatch, Explain, Quit, Stop}
-use Rattle.djq_lines.specs.Reply.{line, answer_line, last_line, listing_lines, text_of, stale_line, ok_reply, add_reply, delete_reply, query_reply, bye, end_memory}
+use Rattle.djq_lines.specs.Reply.{line, answer_line, last_line, listing_lines, text_of, stale_line, ok_reply, add_reply, delete_reply, query_reply, has_reply, bye, end_memory}
 use Rattle.djq_machine.specs.State.{Store, Position, open_at, stale, Cursor, Session, State, with_session, cursor_of, with_position, ended_by}
 use Rattle.djq_machine.specs.Conditions.{first_of, Answers, OutOfMemoryWhere}
-use Rattle.djq_machine.specs.Store.{MakesRelation, AddsRow, DeletesRow, RegistersQuery, TellsAnswers, IsLeft, AreAll, most_steps}
+use Rattle.djq_machine.specs.Store.{MakesRelation, AddsRow, DeletesRow, RegistersQuery, DropsQuery, TellsWhether, has_steps, TellsAnswers, IsLeft, AreAll, most_steps}
 use Rattle.djq_machine.specs.Stale.{changed, add_outdates, delete_outdates}
 use Rattle.djq_machine.specs.Effect.{Effect, says, EndsWith, RefusedStep}
 
@@ -49,6 +50,25 @@ pub record QueryStep (old : State) (s : ℕ) (q : Query) (e : Effect) (new : Sta
   pub done : RegistersQuery old.store q result store
   pub effect : e ≡ says s (query_reply result)
   pub state : new ≡ record old { store = store }
+
+-- whether a session uses a query: a cursor of it, stale or not, is over the query, or it watches the query
+abbrev pub uses : Bytes → Session → Bool
+uses q x = list_any (λ c. bytes_eq c.query q) x.cursors || list_any (λ w. bytes_eq w q) x.watches
+
+-- `drop`: a query that no session uses is registered no more.
+pub record DropStep (old : State) (s : ℕ) (q : Bytes) (e : Effect) (new : State) : Type 0 where
+  pub result : Result ⊤ Refusal
+  pub store : Store
+  pub done : DropsQuery old.store (list_any (uses q) old.sessions) q result store
+  pub effect : e ≡ says s (ok_reply (codes "ok") result)
+  pub state : new ≡ record old { store = store }
+
+-- `has`: whether a tuple is an answer of a query.
+pub record HasStep (old : State) (s : ℕ) (q : Bytes) (t : Tuple) (e : Effect) (new : State) : Type 0 where
+  pub result : Result Bool Refusal
+  pub tells : TellsWhether old.store q t result
+  pub effect : e ≡ record { queued = (s, has_reply result) ∷ []; cost = has_steps (query_of old.store.queries q) }
+  pub state : new ≡ old
 
 abbrev pub open_refusal : Store → List Cursor → Bytes → Bytes → Option Refusal
 open_refusal st cursors c q = first_of (
@@ -124,8 +144,8 @@ CommandStep old s x (Close c) e new = MatchOption (cursor_of x.cursors c)
     (λ k. CloseStep old s c e new)
 CommandStep old s x Quit e new = EndsWith bye SaidQuit old s e new
 CommandStep old s x Stop e new = EndsWith bye SaidStop (record old { stopped = true }) s e new
-CommandStep old s x (Drop q) e new = ⊥
-CommandStep old s x (Has q row) e new = ⊥
+CommandStep old s x (Drop q) e new = DropStep old s q e new
+CommandStep old s x (Has q row) e new = HasStep old s q row e new
 CommandStep old s x (Watch q) e new = ⊥
 CommandStep old s x (Unwatch q) e new = ⊥
 CommandStep old s x (Explain q) e new = ⊥

@@ -1,15 +1,19 @@
 -- What the commands do to the relations and queries, and what they answer.
-use Rattle.std.specs.Prelude.{ℕ, List, [], ◌∷◌, ◌==◌, ◌≡◌, ◌+◌, ◌*◌, ◌++◌, ◌≤◌, ◌&&◌, Bool, true, false, not, nat_le, nat_lt, Option, None, Some, is_some, is_none, Result, OnErr, length, All, Contains, ⊤}
+use Rattle.std.specs.Prelude.{ℕ, List, [], ◌∷◌, ◌==◌, ◌≡◌, ◌+◌, ◌*◌, ◌++◌, ◌≤◌, ◌&&◌, Bool, true, false, not, nat_le, nat_lt, Option, None, Some, is_some, is_none, IsSomeAnd, unwrap_or, if◌then◌else◌, Result, OnErr, length, map, All, Contains, ⊤}
 use Rattle.std.specs.List.{list_any}
 use Rattle.djq_model.specs.declared.relation.ColumnType.{ColumnType}
+use Rattle.djq_model.specs.declared.relation.ColumnType.TheVariants.{Int as IntColumn}
 use Rattle.djq_model.specs.declared.relation.Relation.{Relation}
 use Rattle.djq_model.specs.declared.query.Query.{Query}
-use Rattle.djq_model.specs.Data.{Bytes, Tuple, bytes_eq, change_first, relation_of, rows_of, query_of, has_row, without_row}
-use Rattle.djq_model.specs.Answer.{AreDifferent}
+use Rattle.djq_model.specs.declared.query.Atom.{Atom}
+use Rattle.djq_model.specs.declared.query.Term.{Term}
+use Rattle.djq_model.specs.declared.query.Term.TheVariants.{Variable, Hole, Constant}
+use Rattle.djq_model.specs.Data.{Bytes, Tuple, bytes_eq, change_first, drop_first, relation_of, rows_of, query_of, has_row, without_row}
+use Rattle.djq_model.specs.Answer.{IsAnswer, AreDifferent}
 pub use Rattle.djq_model.specs.Typed.{is_of, fits}
 use Rattle.djq_lines.specs.declared.limits.TheConstants.{COLUMNS, RELATIONS, QUERIES, ROWS, LAST_SEQ}
 use Rattle.djq_lines.specs.declared.answer.Refusal.{Refusal}
-use Rattle.djq_lines.specs.declared.answer.Refusal.TheVariants.{Taken, NoRelation, Arity, WrongType, Limit}
+use Rattle.djq_lines.specs.declared.answer.Refusal.TheVariants.{Taken, NoRelation, NoQuery, Arity, WrongType, Limit, InUse}
 use Rattle.djq_lines.specs.declared.answer.AddOutcome.{AddOutcome}
 use Rattle.djq_lines.specs.declared.answer.AddOutcome.TheVariants.{Added, Same}
 use Rattle.djq_lines.specs.declared.answer.DeleteOutcome.{DeleteOutcome}
@@ -98,6 +102,63 @@ pub record RegistersQuery (old : Store) (q : Query) (result : Result ℕ Refusal
   pub answer : Answers (query_refusal old q) result
       (λ most. (most ≡ most_steps (length q.head)) × (new ≡ record old { queries = old.queries ++ q ∷ [] })) (OutOfMemoryWhere ⊤)
   pub stays : OnErr result (new ≡ old)
+
+-- `drop`
+
+abbrev pub drop_refusal : Store → Bool → Bytes → Option Refusal
+drop_refusal st used name = first_of (
+    (is_none (query_of st.queries name), NoQuery)
+    ∷ (used, InUse)
+    ∷ [])
+
+-- A query that isn't used is registered no more, and the others stay in their order. It takes no memory.
+pub record DropsQuery (old : Store) (used : Bool) (name : Bytes) (result : Result ⊤ Refusal) (new : Store) : Type 0 where
+  pub answer : Answers (drop_refusal old used name) result
+      (λ _. new ≡ record old { queries = drop_first (λ q. bytes_eq q.name name) old.queries }) (OutOfMemoryWhere ⊥)
+  pub stays : OnErr result (new ≡ old)
+
+-- `has`
+
+-- the type of the first column where a variable stands among the terms of an atom
+abbrev pub type_among : List ColumnType → List Term → Bytes → Option ColumnType
+type_among (c ∷ cs) (Variable y ∷ ts) x = if bytes_eq y x then Some c else type_among cs ts x
+type_among (c ∷ cs) (Hole ∷ ts) x = type_among cs ts x
+type_among (c ∷ cs) (Constant v ∷ ts) x = type_among cs ts x
+type_among (c ∷ cs) [] x = None
+type_among [] ts x = None
+
+-- the type of a variable: that of the first column of a body where it stands; each variable of a head stands in one
+abbrev pub variable_type : List Relation → List Atom → Bytes → ColumnType
+variable_type relations [] x = IntColumn
+variable_type relations (a ∷ more) x =
+    unwrap_or (type_among (types_of (relation_of relations a.relation)) a.terms x) (variable_type relations more x)
+
+-- the types of the cells of a query's answers
+abbrev pub answer_types : List Relation → Option Query → List ColumnType
+answer_types relations None = []
+answer_types relations (Some q) = map (variable_type relations q.atoms) q.head
+
+abbrev pub has_refusal : Store → Bytes → Tuple → Option Refusal
+has_refusal st name t = let types = answer_types st.relations (query_of st.queries name) in first_of (
+    (is_none (query_of st.queries name), NoQuery)
+    ∷ (not (length t == length types), Arity)
+    ∷ (not (fits types t), WrongType)
+    ∷ [])
+
+-- Something holds or doesn't, as is told.
+abbrev pub Tells : Type 0 → Bool → Type 0
+Tells P true = P
+Tells P false = P → ⊥
+
+-- Whether a tuple is an answer of a query is told. It takes no memory.
+pub record TellsWhether (st : Store) (name : Bytes) (t : Tuple) (result : Result Bool Refusal) : Type 0 where
+  pub answer : Answers (has_refusal st name t) result
+      (λ yes. IsSomeAnd (query_of st.queries name) (λ q. Tells (IsAnswer st.relations q t) yes)) (OutOfMemoryWhere ⊥)
+
+-- the most lookups that it takes: one for each atom
+abbrev pub has_steps : Option Query → ℕ
+has_steps None = 0
+has_steps (Some q) = length q.atoms
 
 -- `next`
 

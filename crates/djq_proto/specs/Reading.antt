@@ -54,11 +54,6 @@ is_outside (Ok a) = false
 is_outside (Err Syntax) = true
 is_outside (Err _) = false
 
--- what refuses something that isn't served
-abbrev pub refused_unserved : {A : Type 0} → Option A → LineRefusal
-refused_unserved None = Syntax
-refused_unserved (Some a) = Later
-
 -- Out of memory comes only where reading takes memory.
 abbrev pub TakesMemory : Option Command → Result Command LineRefusal → Type 0
 TakesMemory (Some c) (Err NoMem) = takes_memory_to_read c ≡ true

@@ -1,8 +1,7 @@
-ghost use Rattle.std.specs.Prelude.{◌≡◌, Err};
+ghost use Rattle.std.specs.Prelude.{◌≡◌};
 ghost use Rattle.std.specs.Str.{is_utf8 as is_utf8_of};
-ghost use Rattle.djq_value.specs.Literal.{literal_of};
-ghost use Rattle.djq_lines.specs.Grammar.{command_behind, command_in, named_any};
-ghost use Rattle.djq_proto.specs.Reading.{Gives, Reads, refused_unserved};
+ghost use Rattle.djq_lines.specs.Grammar.{command_behind, command_in};
+ghost use Rattle.djq_proto.specs.Reading.{Gives, Reads};
 
 use crate::keyword::read_keyword;
 use crate::parts::{
@@ -90,22 +89,19 @@ fn read_behind(
             let cursor = read_one_name(lexer)?;
             Ok(Command::Close { cursor })
         }
+        Keyword::Drop => {
+            let query = read_one_name(lexer)?;
+            Ok(Command::Drop { query })
+        }
+        Keyword::Has => {
+            let (query, row) = read_named_any::<Value>(alloc, lexer)?;
+            Ok(Command::Has { query, row })
+        }
         Keyword::Quit => read_nothing(lexer, Command::Quit),
         Keyword::Stop => read_nothing(lexer, Command::Stop),
-        Keyword::Has => read_unserved_tuple(alloc, lexer),
-        Keyword::Drop | Keyword::Watch | Keyword::Unwatch | Keyword::Explain => {
+        Keyword::Watch | Keyword::Unwatch | Keyword::Explain => {
             read_one_name(lexer)?;
             Err(LineRefusal::Later)
         }
-    }
-}
-
-// A query's name and a tuple, which isn't served yet.
-fn read_unserved_tuple(alloc: Global, lexer: &mut Lexer<'_>) -> Result<Command, LineRefusal>
-    ensures { result ≡ Err (refused_unserved (named_any literal_of lexer.old)) }
-{
-    match read_named_any::<Value>(alloc, lexer) {
-        Err(LineRefusal::Syntax) => Err(LineRefusal::Syntax),
-        _ => Err(LineRefusal::Later),
     }
 }

@@ -14,6 +14,8 @@ fn letter(alloc: Global, line: &[u8]) -> char {
         Ok(Command::Open { .. }) => 'o',
         Ok(Command::Next { .. }) => 'n',
         Ok(Command::Close { .. }) => 'c',
+        Ok(Command::Drop { .. }) => 'p',
+        Ok(Command::Has { .. }) => 'h',
         Ok(Command::Quit) => 'x',
         Ok(Command::Stop) => 'y',
         Ok(_) => '?',
@@ -26,7 +28,7 @@ fn letter(alloc: Global, line: &[u8]) -> char {
 
 // Lines and what they say: a letter for each command that is served, S for none of the grammar, L
 // for one that isn't served, R for a literal past its limit.
-const LINES: [(&[u8], char); 104] = [
+const LINES: [(&[u8], char); 105] = [
     (b"rel r int", 'r'),
     (b"  rel  r_1 int   int ", 'r'),
     (b"rel rel int", 'r'),
@@ -106,7 +108,7 @@ const LINES: [(&[u8], char); 104] = [
     (b"query q(x) <- r(x, _, -3, \"a\")", 'L'),
     (b"query q(x) <- r(99999999999999999999,x)", 'L'),
     (b"query q(x) <- r(99999999999999999999,x", 'S'),
-    (b"drop q", 'L'),
+    (b"drop q", 'p'),
     (b"drop", 'S'),
     (b"drop q q", 'S'),
     (b"open c q", 'o'),
@@ -121,9 +123,10 @@ const LINES: [(&[u8], char); 104] = [
     (b"next c -1", 'S'),
     (b"next c 99999999999999999999", 'S'),
     (b"close c", 'c'),
-    (b"has q", 'L'),
+    (b"has q", 'h'),
+    (b"has q 1 -2", 'h'),
     (b"has q 1 \"a\"", 'L'),
-    (b"has q 99999999999999999999", 'L'),
+    (b"has q 99999999999999999999", 'R'),
     (b"has q x", 'S'),
     (b"watch q", 'L'),
     (b"unwatch q", 'L'),

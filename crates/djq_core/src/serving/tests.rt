@@ -107,6 +107,66 @@ fn two_sessions_share_an_engine(rt: HostRuntime) -> Result<(), NoMem> {
     Ok(())
 }
 
+// A query that two sessions have cursors over is dropped once neither has, and its name is free;
+// `has` finds an answer of the query beside it, in the order of its head, and none that isn't there.
+fn drops_and_has<L: Ledgers>(rt: &HostRuntime, blanks: Blanks) -> Result<bool, NoMem>
+    requires listing { blanks.listing.name ≡ L.listing }
+    requires update { blanks.update.name ≡ L.update }
+    requires rows { blanks.rows.name ≡ L.rows }
+{
+    let mut steps = Steps::<L>::new(rt, blanks);
+    let mut core = Core::new(rt.alloc())?;
+    let opened = open(&mut core, 1) && open(&mut core, 2);
+    say(
+        &mut core,
+        &mut steps,
+        1,
+        b"rel r int int\nquery p(x,y) <- r(x,y)\nquery q(y,x) <- r(x,y)\nopen c p\nadd r 1 2\n",
+    );
+    say(
+        &mut core,
+        &mut steps,
+        2,
+        b"open c p\nopen d q\ndrop p\ndrop s\n",
+    );
+    let refused = is_told(
+        &mut core,
+        2,
+        b"ok open\nok open\nerr 14 in use\nerr 4 no query\n",
+    );
+    close(&mut core, 2);
+    let first = is_told(
+        &mut core,
+        1,
+        b"ok\nok query 5\nok query 5\nok open\nok added 1\n",
+    );
+    say(
+        &mut core,
+        &mut steps,
+        1,
+        b"drop p\nclose c\nopen d q\ndrop p\nhas p 1 2\nquery p(x,y) <- r(x,y)\nnext d 1\n",
+    );
+    let dropped = is_told(
+        &mut core,
+        1,
+        b"err 14 in use\nok\nok open\nok\nerr 4 no query\nok query 5\n= 2 1\nend\n",
+    );
+    say(
+        &mut core,
+        &mut steps,
+        1,
+        b"has q 2 1\nhas q 1 2\nhas q 2\nhas p 1 2\nhas p 99999999999999999999 1\n",
+    );
+    let has = is_told(&mut core, 1, b"yes\nno\nerr 6 arity\nyes\nerr 7 type\n");
+    Ok(opened && refused && first && dropped && has)
+}
+
+#[test]
+fn a_query_in_use_stays(rt: HostRuntime) -> Result<(), NoMem> {
+    assert!(rt; drops_and_has::<Brand>(&rt, Blanks::new(&rt))?);
+    Ok(())
+}
+
 // As many sessions as may be open are, and one more isn't until one is closed; `stop` is served,
 // and no line behind it.
 fn serves_many<L: Ledgers>(rt: &HostRuntime, blanks: Blanks) -> Result<bool, NoMem>

@@ -1,8 +1,8 @@
 // What a session is answered. Short replies stand in the room that `keep` made before the command.
 ghost use Rattle.std.specs.Prelude.{◌+◌, ◌≤◌, ◌<◌, All, codes, length};
 ghost use Rattle.djq_model.specs.Data.{cells_at};
-ghost use Rattle.djq_lines.specs.Reply.{add_reply, answer_line, delete_reply, last_line, ok_reply};
-ghost use Rattle.djq_lines.specs.Reply.{query_reply, refusal_line, stale_line};
+ghost use Rattle.djq_lines.specs.Reply.{add_reply, answer_line, delete_reply, has_reply, last_line};
+ghost use Rattle.djq_lines.specs.Reply.{ok_reply, query_reply, refusal_line, stale_line};
 ghost use Rattle.djq_lines.specs.declared.limits.TheConstants.{LAST_LINE_BYTES, REPLY_BYTES};
 ghost use Rattle.djq_session.specs.Dialog.{MayQueue, Replies};
 
@@ -10,7 +10,7 @@ use super::Session;
 use djq_lines::{AddOutcome, DeleteOutcome, Refusal};
 use djq_model::{Name, NoMem, Value};
 use djq_reply::{
-    put_answer_at, put_last, say_added, say_deleted, say_done, say_opened, say_refused,
+    put_answer_at, put_last, say_added, say_deleted, say_done, say_has, say_opened, say_refused,
     say_registered, say_stale,
 };
 
@@ -23,7 +23,7 @@ impl<C: Copy, Q: Copy + Eq> Session<C, Q> {
         say_refused(&mut self.output, refusal);
     }
 
-    /// `rel` and `close` are answered.
+    /// `rel`, `drop` and `close` are answered.
     pub fn answer_done(&mut self, outcome: Result<(), Refusal>)
         requires { REPLY_BYTES + LAST_LINE_BYTES ≤ self.old.room }
         ensures { Replies self.old self.new (ok_reply (codes "ok") outcome) }
@@ -61,6 +61,14 @@ impl<C: Copy, Q: Copy + Eq> Session<C, Q> {
         ensures { Replies self.old self.new (query_reply outcome) }
     {
         say_registered(&mut self.output, outcome);
+    }
+
+    /// `has` is answered.
+    pub fn answer_has(&mut self, outcome: Result<bool, Refusal>)
+        requires { REPLY_BYTES + LAST_LINE_BYTES ≤ self.old.room }
+        ensures { Replies self.old self.new (has_reply outcome) }
+    {
+        say_has(&mut self.output, outcome);
     }
 
     /// `next` is answered on a stale cursor, by the relation that changed and the number of the
