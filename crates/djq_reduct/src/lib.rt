@@ -19,6 +19,7 @@ mod columns;
 mod reducts;
 
 pub use cells::{Answer, CELLS, Cells};
+pub use columns::column_of;
 pub use reducts::Reducts;
 
 #[cfg(test)]
