@@ -1,0 +1,2 @@
+pub mod Menus
+pub mod Walking

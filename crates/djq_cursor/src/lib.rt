@@ -1,0 +1,10 @@
+//! Listing the answers that reducts have, each once, at a bounded cost an answer (Idris, Ugarte and
+//! Vansummeren 2017).
+#![tactic(auto)]
+
+mod cursor;
+mod places;
+mod walk;
+
+pub use cursor::{Cursor, State};
+pub use places::{Choice, Places};
