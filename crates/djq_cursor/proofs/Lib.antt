@@ -1,2 +1,11 @@
 pub mod Menus
 pub mod Walking
+pub mod Columns
+pub mod Outs
+pub mod Groups
+pub mod Good
+pub mod Stepping
+pub mod Leaves
+pub mod Whole
+pub mod Seeking
+pub mod Tuples

@@ -1,29 +1,13 @@
 -- Menus split at a choice, and the members of joined menus.
 use Rattle.std.proofs.Common.{◌≡◌, ℕ, zero, suc, ◌<◌, Bool, true, false, cond, List, [], ◌∷◌, ◌++◌, length, refl, ap, sym, subst, ◌∙◌, ◌⊎◌, inl, inr, arith}
 use Rattle.std.specs.Prelude.{◌||◌, flat_map, All, AllPairs, Contains, slice_index_or}
-use Rattle.std.proofs.lemmas.Bool.{cases_Bool, false≢true}
+use Rattle.std.proofs.lemmas.Bool.{cases_Bool, false≢true, or_cases, or_left, or_right, or_parts}
 use Rattle.std.proofs.lemmas.List.Elements.{All-nil, All-cons, All-contains_itself}
 use Rattle.std.proofs.lemmas.List.Kept.{AllPairs-cons}
 use Rattle.djq_index.specs.Tuple.{same}
 use Rattle.djq_index.proofs.Tuples.{same_is, is_same, same_refl, same_sym}
 use Rattle.djq_cursor.specs.Listing.{AreDifferent}
 use Rattle.djq_cursor.specs.Menus.{has, AreOnce, ahead, behind, IsFirst}
-
-or_cases : (a b : Bool) → (a || b) ≡ true → (a ≡ true) ⊎ (b ≡ true)
-or_cases true b h = inl refl
-or_cases false b h = inr h
-
-or_right : (a b : Bool) → b ≡ true → (a || b) ≡ true
-or_right true b h = refl
-or_right false b h = h
-
-or_left : (a b : Bool) → a ≡ true → (a || b) ≡ true
-or_left true b h = refl
-or_left false b h = absurd (false≢true h)
-
-neither : (a b : Bool) → (a || b) ≡ false → (a ≡ false) × (b ≡ false)
-neither true b h = absurd (false≢true (sym h))
-neither false b h = (refl, h)
 
 or_assoc : (a b c : Bool) → (a || (b || c)) ≡ ((a || b) || c)
 or_assoc true b c = refl
@@ -153,7 +137,7 @@ once_append (x ∷ xs) ys h k alone =
 
 pub once_front : (xs ys : List (List ℕ)) → AreOnce (xs ++ ys) → AreOnce xs
 once_front [] ys h = tt
-once_front (x ∷ xs) ys h = ((neither (has xs x) (has ys x) (sym (has-append xs ys x) ∙ h.0)).0, once_front xs ys h.1)
+once_front (x ∷ xs) ys h = ((or_parts (has xs x) (has ys x) (sym (has-append xs ys x) ∙ h.0)).0, once_front xs ys h.1)
 
 fresh_of : (u : List ℕ) (us : List (List ℕ)) (v : List ℕ) → has us u ≡ false → has us v ≡ true → u ≡ v → ⊥
 fresh_of u us v h k e = false≢true (sym h ∙ ap (λ (y : List ℕ). has us y) e ∙ k)

@@ -10,8 +10,8 @@ use Rattle.djq_cursor.specs.declared.places.Choice.{Choice}
 use Rattle.djq_cursor.specs.declared.cursor.State.{State}
 use Rattle.djq_cursor.specs.declared.cursor.State.TheVariants.{Start, At, End}
 use Rattle.djq_cursor.specs.Answers.{on_node}
-use Rattle.djq_cursor.specs.Menus.{has, ahead, AreOnce}
-use Rattle.djq_cursor.specs.Levels.{IsNextLevel, source, tuple_at, step}
+use Rattle.djq_cursor.specs.Menus.{has, ahead, AreOnce, IsFirst}
+use Rattle.djq_cursor.specs.Levels.{IsLevel, IsNextLevel, source, tuple_at, step}
 
 -- the tuples to choose from, by the level and the cells of its label
 abbrev pub Menu : Type 0
@@ -64,6 +64,21 @@ IsOpen t menu (k ∷ ks) s = (menu_at t menu k s ≡ [] → ⊥) × ((u : List �
 -- an answer of which nothing is known
 abbrev pub blank : Tree → List ℕ
 blank t = replicate (length t.head) 0
+
+-- the choice has the first of these tuples, at a live place
+pub record IsFirstAt (r : Reducts) (us : List (List ℕ)) (c : Choice) : Type 0 where
+  pub live : IsLive (entries_at r.tables (source r.tree c.level)) c.place
+  pub first : IsFirst us (chosen r c)
+
+-- the choice is one of a level, at a live place
+pub record IsAlive (r : Reducts) (c : Choice) : Type 0 where
+  pub level : IsLevel r.tree c.level
+  pub live : IsLive (entries_at r.tables (source r.tree c.level)) c.place
+
+-- these choices go down from the root, and the answer is what they make
+pub record Stands (r : Reducts) (menu : Menu) (cs : List Choice) (a : List ℕ) : Type 0 where
+  pub follows : Follows r menu (length r.tree.nodes) (blank r.tree) cs
+  pub answer : a ≡ here r (blank r.tree) cs
 
 -- what is known of menus: none has a tuple twice, and where the listing may be entered none is empty
 pub record IsClear (t : Tree) (menu : Menu) (entered : Bool) : Type 0 where

@@ -2,9 +2,12 @@
 //! Vansummeren 2017).
 #![tactic(auto)]
 
+mod choices;
 mod cursor;
+mod levels;
 mod places;
 mod walk;
 
+pub use choices::Choices;
 pub use cursor::{Cursor, State};
 pub use places::{Choice, Places};
