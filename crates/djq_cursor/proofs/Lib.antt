@@ -9,3 +9,5 @@ pub mod Leaves
 pub mod Whole
 pub mod Seeking
 pub mod Tuples
+pub mod Filling
+pub mod Going

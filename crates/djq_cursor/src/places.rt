@@ -1,4 +1,4 @@
-ghost use Rattle.std.specs.Prelude.{◌≡◌, ◌<◌, [], ◌∷◌, ◌++◌, length, option_to_list};
+ghost use Rattle.std.specs.Prelude.{◌≡◌, ◌<◌, [], ◌∷◌, ◌++◌, length, option_to_list, IfNone};
 
 use djq_index::Place;
 use djq_reduct::CELLS;
@@ -68,7 +68,8 @@ impl Places {
 
     /// Takes the last choice away; none exactly where there is none.
     pub fn pop(&mut self) -> Option<Choice>
-        ensures { self.old ≡ self.new ++ option_to_list result }
+        ensures taken { self.old ≡ self.new ++ option_to_list result }
+        ensures none { IfNone result (self.old ≡ []) }
     {
         if self.len == 0 {
             return None;

@@ -1,1 +1,107 @@
+ghost use Rattle.std.specs.Prelude.{◌≡◌, ◌+◌, ◌*◌, ◌≤◌, [], ◌∷◌, ◌++◌, length, All, ℕ, List};
+ghost use Rattle.std.specs.Bool.{OnTrue, OnFalse};
+ghost use Rattle.djq_tree.specs.Levels.{levels, levels_below};
+ghost use Rattle.djq_cursor.specs.Menus.{AreOnce};
+ghost use Rattle.djq_cursor.specs.Walk.{
+  IsAlive,
+  IsClear,
+  IsOpen,
+  FitsBy,
+  Follows,
+  Stands,
+  all_given,
+  before,
+  blank,
+  given_by,
+  here,
+  leaves,
+  reached,
+};
 
+use crate::choices::Choices;
+use crate::cursor::{Cursor, State};
+use crate::levels::{level_below, project, write_choice};
+use crate::places::{Choice, Places};
+use djq_reduct::{Answer, Reducts};
+use djq_steps::Tally;
+use std::sync::ledger::Ledger;
+
+/// Chooses the first tuple at each level below a number.
+fn fill<C: Choices, L: Ledger>(
+    choices: &C,
+    reducts: &Reducts,
+    from: usize,
+    places: &mut Places,
+    answer: &mut Answer,
+    listing: &mut Tally<L>,
+)
+    requires opened { IsOpen reducts.now.tree (C.menu choices.now reducts.now) (levels reducts.now.tree) (blank reducts.now.tree) }
+    requires from { from ≡ reached (length reducts.now.tree.nodes) places.old }
+    requires stands { Stands reducts.now (C.menu choices.now reducts.now) places.old answer.old }
+    ensures stands { Stands reducts.now (C.menu choices.now reducts.now) places.new answer.new }
+    ensures whole { levels_below reducts.now.tree (reached (length reducts.now.tree.nodes) places.new) ≡ [] }
+    ensures before { before reducts.now (C.menu choices.now reducts.now) (blank reducts.now.tree) places.new ≡ before reducts.now (C.menu choices.now reducts.now) (blank reducts.now.tree) places.old }
+    ensures counted { listing.new ≡ listing.old + length (levels_below reducts.now.tree from) }
+{
+    reducts.laws();
+    reducts.tree().is_small();
+    let mut number = from;
+    while let Some(level) = level_below(reducts.tree(), number) {
+        let key = project(reducts, level, answer);
+        let Some(place) = choices.first(reducts, level, key.as_slice(), listing) else {
+            return;
+        };
+        let choice = Choice { level, place };
+        write_choice(reducts, choice, answer);
+        places.push(choice);
+        number = level;
+    }
+}
+
+/// Writes the tuples of choices into an answer of which nothing is known.
+fn rewrite(reducts: &Reducts, places: &Places, answer: &mut Answer)
+    requires { All (IsAlive reducts.now) places.now }
+    ensures { answer.new ≡ here reducts.now (blank reducts.now.tree) places.now }
+{
+    reducts.laws();
+    *answer = Answer::new(reducts.tree().head().len());
+    for choice in places.as_slice() {
+        write_choice(reducts, *choice, answer);
+    }
+}
+
+/// Goes on to the next answer: the last choice that has a next tuple takes it, and every later one starts again.
+fn go_on<C: Choices, L: Ledger>(
+    choices: &C,
+    reducts: &Reducts,
+    places: &mut Places,
+    answer: &mut Answer,
+    listing: &mut Tally<L>,
+) -> bool
+    requires once { (k : ℕ) (w : List ℕ) → AreOnce (C.menu choices.now reducts.now k w) }
+    requires opened { IsOpen reducts.now.tree (C.menu choices.now reducts.now) (levels reducts.now.tree) (blank reducts.now.tree) }
+    requires follows { Follows reducts.now (C.menu choices.now reducts.now) (length reducts.now.tree.nodes) (blank reducts.now.tree) places.old }
+    requires whole { levels_below reducts.now.tree (reached (length reducts.now.tree.nodes) places.old) ≡ [] }
+    ensures stands { OnTrue result (Stands reducts.now (C.menu choices.now reducts.now) places.new answer.new) }
+    ensures whole { OnTrue result (levels_below reducts.now.tree (reached (length reducts.now.tree.nodes) places.new) ≡ []) }
+    ensures before { OnTrue result (before reducts.now (C.menu choices.now reducts.now) (blank reducts.now.tree) places.new ≡ before reducts.now (C.menu choices.now reducts.now) (blank reducts.now.tree) places.old ++ here reducts.now (blank reducts.now.tree) places.old ∷ []) }
+    ensures all { OnFalse result (leaves reducts.now.tree (C.menu choices.now reducts.now) (levels reducts.now.tree) (blank reducts.now.tree) ≡ before reducts.now (C.menu choices.now reducts.now) (blank reducts.now.tree) places.old ++ here reducts.now (blank reducts.now.tree) places.old ∷ []) }
+    ensures counted { listing.new ≤ listing.old + 2 * length (levels reducts.now.tree) }
+{
+    reducts.laws();
+    reducts.tree().is_small();
+    while let Some(choice) = places.pop() {
+        if let Some(place) = choices.next(reducts, choice, listing) {
+            let next = Choice {
+                level: choice.level,
+                place,
+            };
+            rewrite(reducts, places, answer);
+            write_choice(reducts, next, answer);
+            places.push(next);
+            fill(choices, reducts, next.level, places, answer, listing);
+            return true;
+        }
+    }
+    false
+}
