@@ -73,15 +73,15 @@ group_has key es w u h e =
     let p = product_positive (cnt es u) (one (same (pick key u) w)) h (omega arith) in
     let c = cnt_grp key es w u in omega arith)
 
-apart_head : (e : Entry) (es : List Entry) → AreApart (e ∷ es) → cnt es e.tuple ≡ 0
+pub apart_head : (e : Entry) (es : List Entry) → AreApart (e ∷ es) → cnt es e.tuple ≡ 0
 unfolding AreApart
 apart_head e es h = h.0
 
-apart_tail : (e : Entry) (es : List Entry) → AreApart (e ∷ es) → AreApart es
+pub apart_tail : (e : Entry) (es : List Entry) → AreApart (e ∷ es) → AreApart es
 unfolding AreApart
 apart_tail e es h = h.1
 
-grp_nil : (key w : List ℕ) → grp key [] w ≡ []
+pub grp_nil : (key w : List ℕ) → grp key [] w ≡ []
 unfolding grp
 grp_nil key w = refl
 

@@ -6,8 +6,9 @@ pub mod Groups
 pub mod Good
 pub mod Stepping
 pub mod Leaves
-pub mod Whole
+pub mod Listed
 pub mod Seeking
 pub mod Tuples
 pub mod Filling
 pub mod Going
+pub mod Placing

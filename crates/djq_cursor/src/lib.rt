@@ -7,6 +7,7 @@ mod cursor;
 mod levels;
 mod places;
 mod walk;
+mod whole;
 
 pub use choices::Choices;
 pub use cursor::{Cursor, State};

@@ -105,3 +105,68 @@ fn go_on<C: Choices, L: Ledger>(
     }
     false
 }
+
+/// Enters a listing, and gives its first answer if there is any.
+fn begin<C: Choices, L: Ledger>(
+    choices: &C,
+    reducts: &Reducts,
+    cursor: &mut Cursor,
+    answer: &mut Answer,
+    listing: &mut Tally<L>,
+) -> bool
+    requires clear { IsClear reducts.now.tree (C.menu choices.now reducts.now) (C.entered choices.now reducts.now) }
+    requires none { cursor.old.places ≡ [] }
+    ensures fits { FitsBy reducts.now (C.menu choices.now reducts.now) (C.entered choices.now reducts.now) cursor.new.state cursor.new.places }
+    ensures one { OnTrue result (given_by reducts.now (C.menu choices.now reducts.now) (C.entered choices.now reducts.now) cursor.new.state cursor.new.places ≡ answer.new ∷ []) }
+    ensures none { OnFalse result (all_given reducts.now (C.menu choices.now reducts.now) (C.entered choices.now reducts.now) ≡ []) }
+    ensures end { OnFalse result (cursor.new.state ≡ State.End) }
+    ensures counted { listing.new ≤ listing.old + length (levels reducts.now.tree) + 1 }
+{
+    reducts.laws();
+    if !choices.enter(reducts, listing) {
+        cursor.state = State::End;
+        return false;
+    }
+    *answer = Answer::new(reducts.tree().head().len());
+    fill(
+        choices,
+        reducts,
+        reducts.tree().len(),
+        &mut cursor.places,
+        answer,
+        listing,
+    );
+    cursor.state = State::At;
+    true
+}
+
+/// Gives one answer more of a listing: true with one that is left, false exactly where none is. It counts at
+/// most two look-ups and links for each variable of the head, and one.
+pub fn advance_by<C: Choices, L: Ledger>(
+    choices: &C,
+    reducts: &Reducts,
+    cursor: &mut Cursor,
+    answer: &mut Answer,
+    listing: &mut Tally<L>,
+) -> bool
+    requires clear { IsClear reducts.now.tree (C.menu choices.now reducts.now) (C.entered choices.now reducts.now) }
+    requires fits { FitsBy reducts.now (C.menu choices.now reducts.now) (C.entered choices.now reducts.now) cursor.old.state cursor.old.places }
+    ensures fits { FitsBy reducts.now (C.menu choices.now reducts.now) (C.entered choices.now reducts.now) cursor.new.state cursor.new.places }
+    ensures one { OnTrue result (given_by reducts.now (C.menu choices.now reducts.now) (C.entered choices.now reducts.now) cursor.new.state cursor.new.places ≡ given_by reducts.now (C.menu choices.now reducts.now) (C.entered choices.now reducts.now) cursor.old.state cursor.old.places ++ answer.new ∷ []) }
+    ensures all { OnFalse result (given_by reducts.now (C.menu choices.now reducts.now) (C.entered choices.now reducts.now) cursor.old.state cursor.old.places ≡ all_given reducts.now (C.menu choices.now reducts.now) (C.entered choices.now reducts.now)) }
+    ensures same { OnFalse result (given_by reducts.now (C.menu choices.now reducts.now) (C.entered choices.now reducts.now) cursor.new.state cursor.new.places ≡ all_given reducts.now (C.menu choices.now reducts.now) (C.entered choices.now reducts.now)) }
+    ensures counted { listing.new ≤ listing.old + (2 * length reducts.now.tree.head + 1) }
+{
+    reducts.tree().is_small();
+    match cursor.state {
+        State::Start => begin(choices, reducts, cursor, answer, listing),
+        State::At => {
+            if go_on(choices, reducts, &mut cursor.places, answer, listing) {
+                return true;
+            }
+            cursor.state = State::End;
+            false
+        }
+        State::End => false,
+    }
+}
