@@ -12,3 +12,4 @@ pub mod Tuples
 pub mod Filling
 pub mod Going
 pub mod Placing
+pub mod Checking

@@ -1,6 +1,7 @@
 -- Whole groups as menus: they list the answers.
 use Rattle.std.proofs.Common.{◌≡◌, ℕ, zero, suc, ◌+◌, ◌-◌, ◌<◌, ◌≤◌, Bool, true, false, cond, List, [], ◌∷◌, ◌++◌, length, refl, ap, sym, subst, ◌∙◌, ◌⊎◌, inl, inr, arith}
-use Rattle.std.specs.Prelude.{nat_lt, flat_map, All, AllPairs, Contains, slice_index_or}
+use Rattle.std.specs.Prelude.{◌↔◌, nat_lt, flat_map, All, AllPairs, Contains, slice_index_or}
+use Rattle.std.specs.Bool.{OnTrue, OnFalse}
 use Rattle.std.proofs.lemmas.Bool.{cases_Bool, false≢true, lt-ltb, ltb-true}
 use Rattle.std.proofs.lemmas.List.{length_push, get_or_push, get_or_append_left, get_or_default}
 use Rattle.std.proofs.lemmas.List.Elements.{All-nil}
@@ -136,3 +137,50 @@ whole_clear r h = clear_of r (group_at r) (IsGood r) (IsAnswerOf r) (has_root r)
 
 pub whole_answers : (r : Reducts) → IsReducts r → Whole (IsAnswerOf r) (all_given r (group_at r) (has_root r))
 whole_answers r h = whole_of r (group_at r) (IsGood r) (IsAnswerOf r) (has_root r) h (whole_guide r h) (whole_entered r h)
+
+-- ---- a cursor over reducts
+
+pub start_fits : (r : Reducts) (cs : List Choice) → cs ≡ [] → Fits r (record { places = cs; state = Start })
+unfolding Fits
+start_fits r cs e = e
+
+pub start_given : (r : Reducts) (cs : List Choice) → given r (record { places = cs; state = Start }) ≡ []
+unfolding given
+start_given r cs = refl
+
+pub fits_by : (r : Reducts) (c : Cursor) → Fits r c → FitsBy r (group_at r) (has_root r) c.state c.places
+unfolding Fits
+fits_by r c f = f
+
+pub by_fits : (r : Reducts) (c : Cursor) → FitsBy r (group_at r) (has_root r) c.state c.places → Fits r c
+unfolding Fits
+by_fits r c f = f
+
+pub given_is : (r : Reducts) (c : Cursor) → given r c ≡ given_by r (group_at r) (has_root r) c.state c.places
+unfolding given
+given_is r c = refl
+
+pub cursor_answers : (r : Reducts) (c : Cursor) → IsReducts r → Fits r c → AreSome (IsAnswerOf r) (given r c)
+unfolding given Fits
+cursor_answers r c h f = given_some r (group_at r) (IsAnswerOf r) (has_root r) c.state c.places (whole_answers r h) f
+
+pub cursor_one : (r : Reducts) (old new : Cursor) (a : List ℕ) (b : Bool) → OnTrue b (given_by r (group_at r) (has_root r) new.state new.places ≡ given_by r (group_at r) (has_root r) old.state old.places ++ a ∷ []) → OnTrue b (given r new ≡ given r old ++ a ∷ [])
+unfolding given
+cursor_one r old new a b h = h
+
+on_false_both : (b : Bool) (x y z : List (List ℕ)) → OnFalse b (x ≡ z) → OnFalse b (y ≡ z) → OnFalse b (y ≡ x)
+on_false_both true x y z p q = tt
+on_false_both false x y z p q = q ∙ sym p
+
+pub cursor_same : (r : Reducts) (old new : Cursor) (b : Bool) → OnFalse b (given_by r (group_at r) (has_root r) old.state old.places ≡ all_given r (group_at r) (has_root r)) → OnFalse b (given_by r (group_at r) (has_root r) new.state new.places ≡ all_given r (group_at r) (has_root r))
+    → OnFalse b (given r new ≡ given r old)
+unfolding given
+cursor_same r old new b p q = on_false_both b (given_by r (group_at r) (has_root r) old.state old.places) (given_by r (group_at r) (has_root r) new.state new.places) (all_given r (group_at r) (has_root r)) p q
+
+pub cursor_end : (r : Reducts) (old new : Cursor) (a : List ℕ) (b : Bool) → IsReducts r → Fits r new → OnTrue b (given_by r (group_at r) (has_root r) new.state new.places ≡ given_by r (group_at r) (has_root r) old.state old.places ++ a ∷ [])
+    → OnFalse b (given_by r (group_at r) (has_root r) old.state old.places ≡ all_given r (group_at r) (has_root r)) → (b ≡ false) ↔ IsListing (IsAnswerOf r) (given r old)
+unfolding given Fits
+cursor_end r old new a true h f one all =
+    (λ e. absurd (false≢true (sym e)),
+     λ listing. absurd (one_left (IsAnswerOf r) (given r old) (given r new) a one (cursor_answers r new h f) listing))
+cursor_end r old new a false h f one all = (λ e. given_listing (IsAnswerOf r) (all_given r (group_at r) (has_root r)) (given r old) (whole_answers r h) all, λ listing. refl)

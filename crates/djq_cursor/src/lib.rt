@@ -4,11 +4,15 @@
 
 mod choices;
 mod cursor;
+
 mod levels;
+mod lookup;
 mod places;
 mod walk;
 mod whole;
 
 pub use choices::Choices;
 pub use cursor::{Cursor, State};
+pub use lookup::has;
 pub use places::{Choice, Places};
+pub use walk::advance_by;
