@@ -1,8 +1,8 @@
 -- Cells of tuples over labels.
-use Rattle.std.proofs.Common.{◌≡◌, ◌≢◌, ℕ, zero, suc, ◌+◌, ◌<◌, Bool, true, false, cond, List, [], ◌∷◌, length, map, refl, ap, ap₂, sym, subst, ◌∙◌, inl, inr, arith}
-use Rattle.std.specs.Prelude.{⊤, ◌==◌, ◌||◌, ◌&&◌, AllPairs, slice_index, slice_set, slice_index_or}
+use Rattle.std.proofs.Common.{◌≡◌, ◌≢◌, ℕ, suc, ◌<◌, Bool, true, false, List, [], ◌∷◌, length, map, refl, ap, ap₂, sym, ◌∙◌, inl, inr, arith}
+use Rattle.std.specs.Prelude.{⊤, ◌==◌, ◌&&◌, AllPairs, slice_index, slice_set, slice_index_or}
 use Rattle.std.specs.List.Sorted.{IsStrictlyIncreasing}
-use Rattle.std.proofs.lemmas.Bool.{cases_Bool, cases_eq, eq-eqb, ne_eqb, eqb-true, false≢true, or_cases, or_left, or_right, or_parts}
+use Rattle.std.proofs.lemmas.Bool.{cases_Bool, cases_eq, eq-eqb, eqb-true, false≢true, or_cases, or_left, or_right, or_parts}
 use Rattle.std.proofs.lemmas.List.{length-set, length-map, get_or-set_same, get_or-set_other}
 use Rattle.std.proofs.lemmas.List.Kept.{AllPairs-from_increasing}
 use Rattle.djq_hyper.specs.Hypergraph.{member, subset}
@@ -45,11 +45,13 @@ above x y (z ∷ l) h m =
 
 simple_pairs : (l : List ℕ) → AllPairs (λ x y. x < y) l → IsSimple l
 simple_pairs [] h = tt
-simple_pairs (x ∷ l) h =
-    (elim (cases_Bool (member x l)) [
-      | inl is ↦ absurd (let b = above x x l (λ k d i. h 0 (suc k) d (omega arith) (omega arith)) is in omega arith)
-      | inr isnt ↦ isnt
-    ], simple_pairs l (λ i j d a b. h (suc i) (suc j) d (omega arith) (omega arith)))
+simple_pairs (x ∷ l) h = (
+  elim (cases_Bool (member x l)) [
+    | inl is ↦ absurd (let b = above x x l (λ k d i. h 0 (suc k) d (omega arith) (omega arith)) is in omega arith)
+    | inr isnt ↦ isnt
+  ],
+  simple_pairs l (λ i j d a b. h (suc i) (suc j) d (omega arith) (omega arith)),
+)
 
 pub simple_of : (l : List ℕ) → IsStrictlyIncreasing l → IsSimple l
 simple_of l h = simple_pairs l (AllPairs-from_increasing l h)

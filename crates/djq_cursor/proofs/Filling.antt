@@ -1,25 +1,22 @@
 -- What the walk meets on its way.
-use Rattle.std.proofs.Common.{◌≡◌, ℕ, zero, suc, ◌+◌, ◌-◌, ◌*◌, ◌<◌, ◌≤◌, Bool, true, false, cond, List, [], ◌∷◌, ◌++◌, length, drop, Option, Some, None, refl, ap, ap₂, sym, subst, ◌∙◌, inl, inr, arith}
+use Rattle.std.proofs.Common.{◌≡◌, ℕ, zero, suc, ◌+◌, ◌<◌, ◌≤◌, Bool, true, false, cond, List, [], ◌∷◌, ◌++◌, length, drop, refl, ap, sym, subst, ◌∙◌, arith}
 use Rattle.std.specs.Prelude.{All, nat_le, slice_index_or}
-use Rattle.std.proofs.lemmas.Bool.{cases_Bool, leb-true}
+use Rattle.std.proofs.lemmas.Bool.{leb-true}
 use Rattle.std.proofs.lemmas.List.{drop_more}
 use Rattle.std.proofs.lemmas.List.Elements.{All-nil, All-cons}
-use Rattle.djq_index.specs.declared.place.Place.{Place}
-use Rattle.djq_index.specs.Table.{IsLive}
 use Rattle.djq_tree.specs.declared.node.Node.{Node}
 use Rattle.djq_tree.specs.declared.node.Node.TheVariants.{Leaf, Trim, Meet}
 use Rattle.djq_tree.specs.Counts.{is_trim, IsSmall}
-use Rattle.djq_tree.specs.Tree.{Tree, IsTree, node_at, is_out}
+use Rattle.djq_tree.specs.Tree.{Tree, node_at}
 use Rattle.djq_tree.specs.Levels.{levels, levels_below, level_on}
-use Rattle.djq_reduct.specs.Tables.{entries_at}
 use Rattle.djq_reduct.specs.Reducts.{Reducts, IsReducts}
 use Rattle.djq_cursor.specs.declared.places.Choice.{Choice}
-use Rattle.djq_cursor.specs.Menus.{has, IsFirst}
-use Rattle.djq_cursor.specs.Levels.{IsLevel, IsNextLevel, source, step}
+use Rattle.djq_cursor.specs.Menus.{IsFirst}
+use Rattle.djq_cursor.specs.Levels.{IsLevel, IsNextLevel, step}
 use Rattle.djq_cursor.specs.Walk.{Menu, menu_at, chosen, here, before, reached, Follows, IsOpen, IsAlive, IsFirstAt, Stands, blank}
 use Rattle.djq_cursor.proofs.Stepping.{step_wide}
 use Rattle.djq_cursor.proofs.Leaves.{blank_wide}
-use Rattle.djq_cursor.proofs.Walking.{Joins, joins_first, follows_push, here_push, before_first, reached_push, next_filled, length_levels}
+use Rattle.djq_cursor.proofs.Walking.{joins_first, follows_push, here_push, before_first, reached_push, next_filled, length_levels}
 
 -- ---- levels
 

@@ -1,30 +1,27 @@
 -- A state of a listing that can be made an answer.
-use Rattle.std.proofs.Common.{◌≡◌, ℕ, zero, suc, ◌+◌, ◌-◌, ◌*◌, ◌<◌, ◌≤◌, Bool, true, false, List, [], ◌∷◌, length, refl, ap, ap₂, sym, subst, ◌∙◌, ◌⊎◌, inl, inr, arith}
-use Rattle.std.specs.Prelude.{◌==◌, ◌||◌, slice_index}
-use Rattle.std.proofs.lemmas.Bool.{cases_Bool, cases_eq, cases_lt, eqb-true, eq-eqb, false≢true, or_cases}
+use Rattle.std.proofs.Common.{◌≡◌, ℕ, suc, ◌-◌, ◌*◌, ◌<◌, ◌≤◌, true, List, [], length, ap, ap₂, sym, subst, ◌∙◌, ◌⊎◌, inl, inr, arith}
+use Rattle.std.specs.Prelude.{◌==◌, ◌||◌}
+use Rattle.std.proofs.lemmas.Bool.{cases_eq, cases_lt, eqb-true, or_cases}
 use Rattle.djq_hyper.specs.Hypergraph.{member}
 use Rattle.djq_index.specs.Tuple.{pick}
 use Rattle.djq_index.specs.Entries.{Entry, cnt, supp, many}
-use Rattle.djq_index.specs.Table.{Table, IsTable, AreApart, AreWide, AreSupported}
 use Rattle.djq_index.proofs.Apart.{cnt_supp, supp_none}
 use Rattle.djq_index.proofs.Columns.{pick_nil}
 use Rattle.djq_tree.specs.declared.node.Node.{Node}
-use Rattle.djq_tree.specs.declared.node.Node.TheVariants.{Leaf, Trim, Meet}
+use Rattle.djq_tree.specs.declared.node.Node.TheVariants.{Trim, Meet}
 use Rattle.djq_tree.specs.Labels.{label_at}
 use Rattle.djq_tree.specs.Keys.{key_of}
-use Rattle.djq_tree.specs.Tree.{Tree, IsTree, node_at, has_child, is_out}
-use Rattle.djq_tree.proofs.Keying.{child_within, trim_child, guard_child, side_child, key_of_trim, key_of_guard}
-use Rattle.djq_reduct.specs.Columns.{column, columns}
-use Rattle.djq_reduct.specs.Tables.{entries_at, key_at, width_at, table_at}
-use Rattle.djq_reduct.specs.Reducts.{Reducts, IsReducts, IsReductOf}
-use Rattle.djq_reduct.proofs.Family.{apart_at, trim_law, meet_law}
+use Rattle.djq_tree.specs.Tree.{Tree, IsTree, node_at, has_child}
+use Rattle.djq_tree.proofs.Keying.{key_of_trim, key_of_guard}
+use Rattle.djq_reduct.specs.Columns.{columns}
+use Rattle.djq_reduct.specs.Tables.{entries_at, key_at}
+use Rattle.djq_reduct.specs.Reducts.{Reducts, IsReducts}
+use Rattle.djq_reduct.proofs.Family.{trim_law, meet_law}
 use Rattle.djq_reduct.proofs.Placing.{columns_none}
-use Rattle.djq_cursor.specs.Answers.{on_node, IsAnswerOf}
-use Rattle.djq_cursor.specs.Menus.{has}
-use Rattle.djq_cursor.specs.Levels.{IsLevel, source, group_at, written, step}
-use Rattle.djq_cursor.proofs.Columns.{IsSimple, Within, within_of, cell, cells_same, pick_same, pick_pick, pick_written, written_else, written_there, length_written, tuple_same}
-use Rattle.djq_cursor.proofs.Outs.{Parent, root_or_parent, LateParent, root_or_late, child_out, late_out, head_within, label_simple, head_simple, Covers, covered, kept, level_trim}
-use Rattle.djq_cursor.proofs.Groups.{group_says, group_has, many_of, both_positive, product_positive, group_filled}
+use Rattle.djq_cursor.specs.Answers.{on_node}
+use Rattle.djq_cursor.proofs.Columns.{Within, within_of, cell, cells_same, pick_same, pick_pick}
+use Rattle.djq_cursor.proofs.Outs.{root_or_parent}
+use Rattle.djq_cursor.proofs.Groups.{many_of, both_positive, product_positive}
 
 -- ---- projections
 

@@ -1,19 +1,15 @@
 -- Groups of a table as menus.
-use Rattle.std.proofs.Common.{◌≡◌, ℕ, zero, suc, ◌+◌, ◌*◌, ◌<◌, ◌≤◌, Bool, true, false, cond, List, [], ◌∷◌, ◌++◌, length, map, refl, ap, ap₂, sym, subst, ◌∙◌, inl, inr, arith}
-use Rattle.std.specs.Prelude.{◌||◌, ◌==◌, Option, Some, None}
+use Rattle.std.proofs.Common.{◌≡◌, ℕ, zero, suc, ◌*◌, ◌<◌, true, false, List, [], ◌∷◌, length, map, refl, ap, sym, subst, ◌∙◌, inl, inr, arith}
 use Rattle.std.proofs.Math.Nat.{suc-mul, mul-zero, zero-mul}
-use Rattle.std.proofs.lemmas.Bool.{cases_Bool, cases_eq, cases_lt, eq-eqb, ne_eqb, eqb-true, false≢true, or_cases, or_left, or_right}
+use Rattle.std.proofs.lemmas.Bool.{cases_Bool, cases_lt, false≢true, or_cases, or_left, or_right}
 use Rattle.std.proofs.lemmas.List.{length-map}
-use Rattle.djq_index.specs.declared.place.Place.{Place}
 use Rattle.djq_index.specs.Tuple.{same, pick, one}
-use Rattle.djq_index.specs.Entries.{Entry, cnt, supp, many, grp, head_at}
-use Rattle.djq_index.specs.Table.{AreApart, ArePlaced, IsAt, IsLive, IsElsewhere}
-use Rattle.djq_index.proofs.Tuples.{same_is, is_same, same_refl, one_true, one_false, one_other, true_from_one}
+use Rattle.djq_index.specs.Entries.{Entry, cnt, many, grp}
+use Rattle.djq_index.specs.Table.{AreApart}
+use Rattle.djq_index.proofs.Tuples.{same_is, is_same, one_true, one_false, true_from_one}
 use Rattle.djq_index.proofs.Counts.{cnt_cons, length_grp}
 use Rattle.djq_index.proofs.Groups.{cnt_grp, grp_yes, grp_no}
-use Rattle.djq_index.proofs.Apart.{stands}
-use Rattle.djq_cursor.specs.Menus.{has, AreOnce, ahead, behind, IsFirst}
-use Rattle.djq_cursor.specs.Levels.{tuple_at}
+use Rattle.djq_cursor.specs.Menus.{has, AreOnce}
 
 -- the tuples of entries
 abbrev pub tuples : List Entry → List (List ℕ)
@@ -52,9 +48,10 @@ none_of : (a b : ℕ) → a ≡ 0 → a * b ≡ 0
 none_of a b e = ap (λ (n : ℕ). n * b) e ∙ zero-mul b
 
 pub both_positive : (a b : ℕ) → 0 < a * b → (0 < a) × (0 < b)
-both_positive a b h =
-    (elim (cases_lt 0 a) [ inl low ↦ low | inr high ↦ absurd (let z = none_of a b (omega arith) in omega arith) ],
-     elim (cases_lt 0 b) [ inl low ↦ low | inr high ↦ absurd (let z = none_by a b (omega arith) in omega arith) ])
+both_positive a b h = (
+  elim (cases_lt 0 a) [ inl low ↦ low | inr high ↦ absurd (let z = none_of a b (omega arith) in omega arith) ],
+  elim (cases_lt 0 b) [ inl low ↦ low | inr high ↦ absurd (let z = none_by a b (omega arith) in omega arith) ],
+)
 
 pub product_positive : (a b : ℕ) → 0 < a → 0 < b → 0 < a * b
 product_positive a b h k = positive a b h k

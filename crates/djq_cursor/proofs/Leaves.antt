@@ -1,28 +1,27 @@
 -- The answers below a good state: each once, and nothing else.
-use Rattle.std.proofs.Common.{◌≡◌, ℕ, zero, suc, ◌+◌, ◌-◌, ◌<◌, ◌≤◌, Bool, true, false, cond, List, [], ◌∷◌, length, replicate, refl, ap, sym, subst, ◌∙◌, ◌⊎◌, inl, inr, arith}
-use Rattle.std.specs.Prelude.{nat_le, flat_map, All, AllPairs, Contains}
-use Rattle.std.proofs.lemmas.Bool.{cases_Bool, false≢true, le-leb, lt-leb, or_cases}
+use Rattle.std.proofs.Common.{◌≡◌, ℕ, zero, suc, ◌+◌, ◌-◌, ◌<◌, ◌≤◌, true, false, List, [], ◌∷◌, length, refl, ap, sym, subst, ◌∙◌, inl, inr, arith}
+use Rattle.std.specs.Prelude.{flat_map}
+use Rattle.std.proofs.lemmas.Bool.{false≢true, le-leb, lt-leb, or_cases}
 use Rattle.std.proofs.lemmas.List.{length-replicate}
 use Rattle.djq_index.specs.Tuple.{same}
 use Rattle.djq_index.specs.Entries.{cnt}
 use Rattle.djq_index.proofs.Tuples.{same_is}
 use Rattle.djq_tree.specs.declared.node.Node.{Node}
 use Rattle.djq_tree.specs.declared.node.Node.TheVariants.{Leaf, Trim, Meet}
-use Rattle.djq_tree.specs.Tree.{Tree, IsTree, node_at, has_child}
-use Rattle.djq_tree.specs.Levels.{levels, levels_below, level_on}
+use Rattle.djq_tree.specs.Tree.{Tree, node_at}
+use Rattle.djq_tree.specs.Levels.{levels_below, level_on}
 use Rattle.djq_tree.proofs.Keying.{child_within}
 use Rattle.djq_reduct.specs.Tables.{entries_at}
 use Rattle.djq_reduct.specs.Reducts.{Reducts, IsReducts}
-use Rattle.djq_cursor.specs.Listing.{IsListing}
 use Rattle.djq_cursor.specs.Answers.{on_node, IsAnswerOf}
 use Rattle.djq_cursor.specs.Menus.{has, AreOnce}
 use Rattle.djq_cursor.specs.Levels.{IsLevel, source, group_at, step}
-use Rattle.djq_cursor.specs.Walk.{Menu, menu_at, leaves, IsOpen, IsClear, blank, all_given}
-use Rattle.djq_cursor.proofs.Menus.{has_here, Branch, branch_of, has_branch, once_flat, all_of, different_of, contains_of}
+use Rattle.djq_cursor.specs.Walk.{Menu, menu_at, leaves, IsOpen, blank}
+use Rattle.djq_cursor.proofs.Menus.{has_here, branch_of, has_branch, once_flat}
 use Rattle.djq_cursor.proofs.Walking.{branch, leaves_next}
-use Rattle.djq_cursor.proofs.Outs.{trim_level, level_trim}
+use Rattle.djq_cursor.proofs.Outs.{trim_level}
 use Rattle.djq_cursor.proofs.Good.{IsGood, AreAlike, alike_meet}
-use Rattle.djq_cursor.proofs.Stepping.{Joins, joins, alike_back, alike_tuple, alike_step, alike_same}
+use Rattle.djq_cursor.proofs.Stepping.{joins, alike_back, alike_tuple, alike_step, alike_same}
 
 -- menus that lead to answers: which states are good, and which answers there are
 pub record IsGuide (r : Reducts) (menu : Menu) (Good : ℕ → List ℕ → Type 0) (Answer : List ℕ → Type 0) : Type 0 where
@@ -107,9 +106,9 @@ lists_trim r menu Good Answer k s h g l good next deeper =
       once =
           subst AreOnce (sym all)
           (once_flat f m (g.once k (on_node t k s)) (λ u on. (deeper u on).once)
-              (λ u v a on too p q.
-                  alike_tuple r k s u a h (join u on) ((deeper u on).alike a p)
-                  ∙ sym (alike_tuple r k s v a h (join v too) ((deeper v too).alike a q))));
+          (λ u v a on too p q.
+          alike_tuple r k s u a h (join u on) ((deeper u on).alike a p)
+          ∙ sym (alike_tuple r k s v a h (join v too) ((deeper v too).alike a q))));
       complete = λ a answer alike.
           let u = on_node t (source t k) a in
           let on = g.picked k s a l good answer alike in

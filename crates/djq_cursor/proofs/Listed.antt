@@ -1,12 +1,11 @@
 -- Whole groups as menus: they list the answers.
-use Rattle.std.proofs.Common.{◌≡◌, ℕ, zero, suc, ◌+◌, ◌-◌, ◌<◌, ◌≤◌, Bool, true, false, cond, List, [], ◌∷◌, ◌++◌, length, refl, ap, sym, subst, ◌∙◌, ◌⊎◌, inl, inr, arith}
-use Rattle.std.specs.Prelude.{◌↔◌, nat_lt, flat_map, All, AllPairs, Contains, slice_index_or}
+use Rattle.std.proofs.Common.{◌≡◌, ℕ, ◌-◌, ◌<◌, Bool, true, false, cond, List, [], ◌∷◌, ◌++◌, length, refl, ap, sym, subst, ◌∙◌, arith}
+use Rattle.std.specs.Prelude.{◌↔◌, slice_index_or}
 use Rattle.std.specs.Bool.{OnTrue, OnFalse}
-use Rattle.std.proofs.lemmas.Bool.{cases_Bool, false≢true, lt-ltb, ltb-true}
+use Rattle.std.proofs.lemmas.Bool.{false≢true, lt-ltb, ltb-true}
 use Rattle.std.proofs.lemmas.List.{length_push, get_or_push, get_or_append_left, get_or_default}
 use Rattle.std.proofs.lemmas.List.Elements.{All-nil}
 use Rattle.djq_index.specs.Entries.{cnt}
-use Rattle.djq_tree.specs.Tree.{Tree, IsTree}
 use Rattle.djq_tree.specs.Levels.{levels}
 use Rattle.djq_reduct.specs.Tables.{entries_at}
 use Rattle.djq_reduct.specs.Reducts.{Reducts, IsReducts}
@@ -14,17 +13,17 @@ use Rattle.djq_cursor.specs.declared.cursor.State.{State}
 use Rattle.djq_cursor.specs.declared.cursor.State.TheVariants.{Start, At, End}
 use Rattle.djq_cursor.specs.declared.cursor.Cursor.{Cursor}
 use Rattle.djq_cursor.specs.declared.places.Choice.{Choice}
-use Rattle.djq_cursor.specs.Listing.{AreDifferent, AreSome, IsListing}
+use Rattle.djq_cursor.specs.Listing.{AreSome, IsListing}
 use Rattle.djq_cursor.specs.Answers.{on_node, IsAnswerOf}
 use Rattle.djq_cursor.specs.Menus.{has, AreOnce}
 use Rattle.djq_cursor.specs.Levels.{group_at}
-use Rattle.djq_cursor.specs.Walk.{Menu, leaves, here, before, reached, Follows, IsClear, blank, all_given, given_by, FitsBy}
+use Rattle.djq_cursor.specs.Walk.{Menu, leaves, IsClear, blank, all_given, given_by, FitsBy}
 use Rattle.djq_cursor.specs.Given.{has_root, given, Fits}
 use Rattle.djq_cursor.proofs.Menus.{has_left, once_front, all_of, different_of, contains_of}
-use Rattle.djq_cursor.proofs.Walking.{Splits, leaves_split, given_whole}
-use Rattle.djq_cursor.proofs.Good.{IsIn, IsGood, root_node, node_in, good_meet}
+use Rattle.djq_cursor.proofs.Walking.{leaves_split, given_whole}
+use Rattle.djq_cursor.proofs.Good.{IsGood, root_node, node_in, good_meet}
 use Rattle.djq_cursor.proofs.Stepping.{joins, good_step, group_is_once, group_is_filled, answer_in, good_answer}
-use Rattle.djq_cursor.proofs.Leaves.{IsGuide, Lists, lists, alike_top, blank_wide, good_top}
+use Rattle.djq_cursor.proofs.Leaves.{IsGuide, lists, alike_top, blank_wide, good_top}
 
 pub whole_guide : (r : Reducts) → IsReducts r → IsGuide r (group_at r) (IsGood r) (IsAnswerOf r)
 whole_guide r h = record {
@@ -84,11 +83,12 @@ front_some Answer all front rest w e = record {
 given_front : (r : Reducts) (menu : Menu) (entered : Bool) (cs : List Choice) → FitsBy r menu entered At cs → (rest : List (List ℕ)) × (all_given r menu entered ≡ given_by r menu entered At cs ++ rest)
 given_front r menu entered cs f =
     let n = length r.tree.nodes in
-    let p = leaves_split r menu n (blank r.tree) cs f.1 in
-    (p.rest,
-     ap (λ (b : Bool). cond b (leaves r.tree menu (levels r.tree) (blank r.tree)) []) f.0
-     ∙ p.all
-     ∙ ap (λ (l : List (List ℕ)). l ++ p.rest) (given_whole r menu n (blank r.tree) cs f.2))
+    let p = leaves_split r menu n (blank r.tree) cs f.1 in (
+      p.rest,
+      ap (λ (b : Bool). cond b (leaves r.tree menu (levels r.tree) (blank r.tree)) []) f.0
+          ∙ p.all
+          ∙ ap (λ (l : List (List ℕ)). l ++ p.rest) (given_whole r menu n (blank r.tree) cs f.2),
+    )
 
 -- what was given is different answers
 pub given_some : (r : Reducts) (menu : Menu) (Answer : List ℕ → Type 0) (entered : Bool) (state : State) (cs : List Choice) → Whole Answer (all_given r menu entered) → FitsBy r menu entered state cs
@@ -180,7 +180,8 @@ cursor_same r old new b p q = on_false_both b (given_by r (group_at r) (has_root
 pub cursor_end : (r : Reducts) (old new : Cursor) (a : List ℕ) (b : Bool) → IsReducts r → Fits r new → OnTrue b (given_by r (group_at r) (has_root r) new.state new.places ≡ given_by r (group_at r) (has_root r) old.state old.places ++ a ∷ [])
     → OnFalse b (given_by r (group_at r) (has_root r) old.state old.places ≡ all_given r (group_at r) (has_root r)) → (b ≡ false) ↔ IsListing (IsAnswerOf r) (given r old)
 unfolding given Fits
-cursor_end r old new a true h f one all =
-    (λ e. absurd (false≢true (sym e)),
-     λ listing. absurd (one_left (IsAnswerOf r) (given r old) (given r new) a one (cursor_answers r new h f) listing))
+cursor_end r old new a true h f one all = (
+  λ e. absurd (false≢true (sym e)),
+  λ listing. absurd (one_left (IsAnswerOf r) (given r old) (given r new) a one (cursor_answers r new h f) listing),
+)
 cursor_end r old new a false h f one all = (λ e. given_listing (IsAnswerOf r) (all_given r (group_at r) (has_root r)) (given r old) (whole_answers r h) all, λ listing. refl)

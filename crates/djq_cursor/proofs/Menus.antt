@@ -1,11 +1,11 @@
 -- Menus split at a choice, and the members of joined menus.
-use Rattle.std.proofs.Common.{◌≡◌, ℕ, zero, suc, ◌<◌, Bool, true, false, cond, List, [], ◌∷◌, ◌++◌, length, refl, ap, sym, subst, ◌∙◌, ◌⊎◌, inl, inr, arith}
-use Rattle.std.specs.Prelude.{◌||◌, flat_map, All, AllPairs, Contains, slice_index_or}
+use Rattle.std.proofs.Common.{◌≡◌, ℕ, suc, Bool, true, false, cond, List, [], ◌∷◌, ◌++◌, refl, ap, sym, ◌∙◌, ◌⊎◌, inl, inr, arith}
+use Rattle.std.specs.Prelude.{◌||◌, flat_map, All, Contains}
 use Rattle.std.proofs.lemmas.Bool.{cases_Bool, false≢true, or_cases, or_left, or_right, or_parts}
-use Rattle.std.proofs.lemmas.List.Elements.{All-nil, All-cons, All-contains_itself}
+use Rattle.std.proofs.lemmas.List.Elements.{All-nil, All-cons}
 use Rattle.std.proofs.lemmas.List.Kept.{AllPairs-cons}
 use Rattle.djq_index.specs.Tuple.{same}
-use Rattle.djq_index.proofs.Tuples.{same_is, is_same, same_refl, same_sym}
+use Rattle.djq_index.proofs.Tuples.{same_is, is_same, same_refl}
 use Rattle.djq_cursor.specs.Listing.{AreDifferent}
 use Rattle.djq_cursor.specs.Menus.{has, AreOnce, ahead, behind, IsFirst}
 
@@ -149,8 +149,8 @@ once_flat f (u ∷ us) once each one =
     once_append (f u) (flat_map f us) (each u (has_here u us))
     (once_flat f us once.1 (λ v h. each v (or_right (same u v) (has us v) h)) (λ v w a h k l m. one v w a (or_right (same u v) (has us v) h) (or_right (same u w) (has us w) k) l m))
     (λ a l r.
-        let b = branch_of f us a r in
-        fresh_of u us b.branch once.0 b.on (one u b.branch a (has_here u us) (or_right (same u b.branch) (has us b.branch) b.on) l b.holds))
+    let b = branch_of f us a r in
+    fresh_of u us b.branch once.0 b.on (one u b.branch a (has_here u us) (or_right (same u b.branch) (has us b.branch) b.on) l b.holds))
 
 -- ---- in the words of std
 

@@ -1,22 +1,21 @@
 -- Tuples of a group by their places.
-use Rattle.std.proofs.Common.{◌≡◌, ℕ, zero, suc, ◌+◌, ◌-◌, ◌<◌, Bool, true, false, cond, List, [], ◌∷◌, ◌++◌, length, map, Option, Some, None, is_some, refl, ap, sym, subst, ◌∙◌, inl, inr, arith}
-use Rattle.std.specs.Prelude.{◌||◌, ◌==◌, nat_lt, IfSome, IfNone, MatchOption}
-use Rattle.std.proofs.lemmas.Bool.{cases_Bool, cases_eq, false≢true, or_cases, lt-ltb, le-ltb}
+use Rattle.std.proofs.Common.{◌≡◌, ℕ, ◌-◌, Bool, true, false, cond, List, [], ◌∷◌, ◌++◌, length, Option, Some, None, is_some, refl, ap, sym, subst, ◌∙◌, inl, inr, arith}
+use Rattle.std.specs.Prelude.{◌||◌, nat_lt, IfSome, IfNone, MatchOption}
+use Rattle.std.proofs.lemmas.Bool.{cases_Bool, false≢true, lt-ltb, le-ltb}
 use Rattle.djq_index.specs.declared.place.Place.{Place}
-use Rattle.djq_index.specs.Tuple.{same, pick, one}
+use Rattle.djq_index.specs.Tuple.{same, pick}
 use Rattle.djq_index.specs.Entries.{Entry, cnt, grp, head_at}
-use Rattle.djq_index.specs.Table.{AreApart, ArePlaced, IsAt, IsLive}
-use Rattle.djq_index.proofs.Tuples.{same_is, is_same, same_refl}
+use Rattle.djq_index.specs.Table.{AreApart, IsAt}
+use Rattle.djq_index.proofs.Tuples.{same_is, same_refl}
 use Rattle.djq_index.proofs.Groups.{grp_yes, grp_no}
 use Rattle.djq_index.proofs.Apart.{there}
 use Rattle.djq_index.proofs.Places.{at_of, live}
-use Rattle.djq_tree.specs.Tree.{Tree}
 use Rattle.djq_reduct.specs.Tables.{entries_at, key_at}
 use Rattle.djq_reduct.specs.Reducts.{Reducts, IsReducts}
 use Rattle.djq_reduct.proofs.Family.{apart_at}
 use Rattle.djq_cursor.specs.declared.places.Choice.{Choice}
-use Rattle.djq_cursor.specs.Menus.{has, behind, IsFirst}
-use Rattle.djq_cursor.specs.Levels.{IsLevel, source, tuple_at, group_at}
+use Rattle.djq_cursor.specs.Menus.{has, behind}
+use Rattle.djq_cursor.specs.Levels.{source, group_at}
 use Rattle.djq_cursor.specs.Walk.{IsAlive, IsFirstAt, chosen}
 use Rattle.djq_cursor.specs.Given.{has_root}
 use Rattle.djq_cursor.proofs.Groups.{tuples, grp_nil, apart_head, apart_tail}

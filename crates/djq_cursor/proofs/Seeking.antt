@@ -1,19 +1,19 @@
 -- Levels are found going down the nodes, and cells are read and written variable by variable.
-use Rattle.std.proofs.Common.{◌≡◌, ℕ, zero, suc, ◌+◌, ◌-◌, ◌<◌, ◌≤◌, Bool, true, false, List, [], ◌∷◌, ◌++◌, length, drop, Option, Some, None, refl, ap, sym, subst, ◌∙◌, arith, append_assoc}
-use Rattle.std.specs.Prelude.{◌&&◌, ◌==◌, nat_le, option_to_list, slice_index, slice_index_or, slice_set}
+use Rattle.std.proofs.Common.{◌≡◌, ℕ, zero, suc, ◌+◌, ◌-◌, ◌<◌, ◌≤◌, Bool, true, false, List, [], ◌∷◌, ◌++◌, length, drop, Option, Some, refl, ap, sym, subst, ◌∙◌, arith, append_assoc}
+use Rattle.std.specs.Prelude.{option_to_list, slice_index, slice_set}
 use Rattle.std.proofs.lemmas.Bool.{false≢true, le-leb, lt-leb, and_parts}
 use Rattle.std.proofs.lemmas.List.{drop_more, append-nil}
 use Rattle.djq_hyper.specs.Hypergraph.{member, subset}
 use Rattle.djq_index.specs.Tuple.{pick}
 use Rattle.djq_tree.specs.declared.node.Node.{Node}
 use Rattle.djq_tree.specs.declared.node.Node.TheVariants.{Leaf, Trim, Meet}
-use Rattle.djq_tree.specs.Tree.{Tree, IsTree, node_at}
+use Rattle.djq_tree.specs.Tree.{Tree, node_at}
 use Rattle.djq_tree.specs.Levels.{levels_below, level_on}
 use Rattle.djq_tree.specs.Counts.{is_trim}
 use Rattle.djq_reduct.specs.Columns.{column, columns}
-use Rattle.djq_reduct.proofs.Placing.{column_within, columns_on, columns_none}
+use Rattle.djq_reduct.proofs.Placing.{columns_on, columns_none}
 use Rattle.djq_index.proofs.Columns.{pick_nil}
-use Rattle.djq_cursor.specs.Levels.{IsLevel, IsNextLevel, written}
+use Rattle.djq_cursor.specs.Levels.{IsNextLevel, written}
 use Rattle.djq_cursor.proofs.Columns.{cell}
 
 -- ---- the next level

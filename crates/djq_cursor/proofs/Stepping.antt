@@ -1,28 +1,26 @@
 -- A tuple is chosen at a level.
-use Rattle.std.proofs.Common.{◌≡◌, ℕ, zero, suc, ◌+◌, ◌-◌, ◌<◌, ◌≤◌, Bool, true, false, cond, List, [], ◌∷◌, length, refl, ap, sym, subst, ◌∙◌, ◌⊎◌, inl, inr, arith}
-use Rattle.std.specs.Prelude.{◌==◌, ◌||◌}
-use Rattle.std.proofs.lemmas.Bool.{cases_Bool, cases_eq, eqb-true, false≢true}
+use Rattle.std.proofs.Common.{◌≡◌, ℕ, suc, ◌<◌, ◌≤◌, true, List, [], ◌∷◌, length, refl, ap, sym, subst, ◌∙◌, inl, inr, arith}
+use Rattle.std.proofs.lemmas.Bool.{cases_Bool, cases_eq}
 use Rattle.djq_hyper.specs.Hypergraph.{member}
 use Rattle.djq_index.specs.Tuple.{same, pick, one}
 use Rattle.djq_index.specs.Entries.{Entry, cnt}
-use Rattle.djq_index.specs.Table.{IsTable, AreWide}
+use Rattle.djq_index.specs.Table.{AreWide}
 use Rattle.djq_index.proofs.Tuples.{same_is, one_false}
 use Rattle.djq_index.proofs.Counts.{cnt_cons}
-use Rattle.djq_tree.specs.declared.node.Node.TheVariants.{Trim}
 use Rattle.djq_tree.specs.Labels.{label_at}
-use Rattle.djq_tree.specs.Tree.{Tree, IsTree, node_at, has_child, is_out}
+use Rattle.djq_tree.specs.Tree.{Tree, IsTree, node_at, has_child}
 use Rattle.djq_tree.proofs.Keying.{trim_child}
-use Rattle.djq_reduct.specs.Columns.{column, columns}
+use Rattle.djq_reduct.specs.Columns.{columns}
 use Rattle.djq_reduct.specs.Tables.{table_at, entries_at, key_at, width_at}
 use Rattle.djq_reduct.specs.Reducts.{Reducts, IsReducts}
 use Rattle.djq_reduct.proofs.Family.{apart_at}
 use Rattle.djq_cursor.specs.Answers.{on_node, IsAnswerOf}
 use Rattle.djq_cursor.specs.Menus.{has, AreOnce}
 use Rattle.djq_cursor.specs.Levels.{IsLevel, source, group_at, step}
-use Rattle.djq_cursor.proofs.Columns.{IsSimple, Within, within_of, cell, cells_same, pick_written, written_else, written_there, length_written, tuple_same}
-use Rattle.djq_cursor.proofs.Outs.{LateParent, root_or_late, child_out, head_within, label_simple, head_simple, covered, kept, level_trim, source_within}
+use Rattle.djq_cursor.proofs.Columns.{Within, within_of, cell, cells_same, pick_written, written_else, written_there, length_written, tuple_same}
+use Rattle.djq_cursor.proofs.Outs.{root_or_late, child_out, head_within, label_simple, head_simple, covered, kept, level_trim, source_within}
 use Rattle.djq_cursor.proofs.Groups.{group_says, group_has, group_once, group_filled}
-use Rattle.djq_cursor.proofs.Good.{IsIn, IsGood, AreAlike, root_in, node_in, node_alike, node_same, node_cells, trim_key, trim_only, trim_down, key_picks}
+use Rattle.djq_cursor.proofs.Good.{IsIn, IsGood, AreAlike, root_in, node_alike, node_same, node_cells, trim_key, trim_only, trim_down, key_picks}
 
 -- ---- a level's group
 
@@ -125,7 +123,7 @@ step_else r k i n s u h j from child other =
     let late = j.level.late in
     node_same t n (step t k s u) s
     (λ x m. step_cell r k x s u h j (head_within t n tree (child_out t i n tree (omega arith) child) x m)
-        (λ is. kept t k (source t k) i n x tree (level_trim t k j.level) from child other is m))
+    (λ is. kept t k (source t k) i n x tree (level_trim t k j.level) from child other is m))
 
 not_source : (t : Tree) (k i n : ℕ) → IsTree t → IsLevel t k → k < i → has_child (node_at t.nodes i) n ≡ true → n ≡ source t k → ⊥
 not_source t k i n h l above child e =
@@ -187,8 +185,8 @@ answer_in r k s a h l answer alike =
     in_group r k (on_node t k s) (on_node t c a)
     (answer.there c (child_out t k c tree l.late (source_child t k l)))
     (ap (λ (ks : List ℕ). pick ks (on_node t c a)) (trim_key r k c h l.within (level_trim t k l))
-        ∙ key_picks t c k a (within_of (label_at t.labels k) (label_at t.labels c) (tree.trim k c (level_trim t k l)).within)
-        ∙ sym (node_alike t k s a tree l.within alike))
+    ∙ key_picks t c k a (within_of (label_at t.labels k) (label_at t.labels c) (tree.trim k c (level_trim t k l)).within)
+    ∙ sym (node_alike t k s a tree l.within alike))
 
 -- ---- at the end
 

@@ -1,16 +1,15 @@
 -- The tuple at a place.
-use Rattle.std.proofs.Common.{◌≡◌, ℕ, ◌<◌, Bool, true, false, cond, List, [], ◌∷◌, ◌++◌, length, map, refl, ap, sym, subst, ◌∙◌, inl, inr, arith}
-use Rattle.std.specs.Prelude.{◌==◌}
-use Rattle.std.proofs.lemmas.Bool.{cases_eq, eq-eqb, ne_eqb}
+use Rattle.std.proofs.Common.{◌≡◌, ℕ, ◌<◌, Bool, true, cond, List, [], ◌∷◌, ◌++◌, length, refl, ap, sym, subst, ◌∙◌}
+use Rattle.std.proofs.lemmas.Bool.{eq-eqb, ne_eqb}
 use Rattle.djq_hyper.specs.Hypergraph.{subset}
 use Rattle.djq_index.specs.declared.place.Place.{Place}
 use Rattle.djq_index.specs.Entries.{Entry, cnt}
-use Rattle.djq_index.specs.Table.{IsTable, ArePlaced, IsAt, IsLive, IsElsewhere}
+use Rattle.djq_index.specs.Table.{ArePlaced, IsAt, IsElsewhere}
 use Rattle.djq_index.proofs.Apart.{there}
 use Rattle.djq_index.proofs.Places.{elsewhere_middle}
 use Rattle.djq_tree.specs.Labels.{label_at}
 use Rattle.djq_tree.specs.Tree.{Tree, IsTree}
-use Rattle.djq_reduct.specs.Tables.{entries_at, table_at}
+use Rattle.djq_reduct.specs.Tables.{entries_at}
 use Rattle.djq_reduct.specs.Reducts.{Reducts, IsReducts}
 use Rattle.djq_cursor.specs.declared.places.Choice.{Choice}
 use Rattle.djq_cursor.specs.Levels.{IsLevel, source, tuple_at, written, step}

@@ -1,17 +1,13 @@
 -- A listing goes on by one choice more, or one less.
-use Rattle.std.proofs.Common.{◌≡◌, ℕ, zero, suc, ◌+◌, ◌<◌, ◌≤◌, Bool, true, false, cond, List, [], ◌∷◌, ◌++◌, length, refl, ap, ap₂, sym, subst, ◌∙◌, arith}
+use Rattle.std.proofs.Common.{◌≡◌, ℕ, suc, ◌+◌, true, List, [], ◌∷◌, ◌++◌, length, refl, ap, ap₂, sym, subst, ◌∙◌, arith}
 use Rattle.std.specs.Prelude.{flat_map}
-use Rattle.std.proofs.lemmas.Bool.{false≢true}
 use Rattle.std.proofs.lemmas.List.{append-nil, append_assoc}
 use Rattle.std.proofs.lemmas.Grind.{flat_map-append}
-use Rattle.djq_index.specs.declared.place.Place.{Place}
 use Rattle.djq_index.specs.Table.{IsLive}
-use Rattle.djq_tree.specs.Tree.{Tree}
-use Rattle.djq_tree.specs.Levels.{levels, levels_below}
+use Rattle.djq_tree.specs.Levels.{levels_below}
 use Rattle.djq_reduct.specs.Tables.{entries_at}
 use Rattle.djq_reduct.specs.Reducts.{Reducts}
 use Rattle.djq_cursor.specs.declared.places.Choice.{Choice}
-use Rattle.djq_cursor.specs.Answers.{on_node}
 use Rattle.djq_cursor.specs.Menus.{has, AreOnce, ahead, behind, IsFirst}
 use Rattle.djq_cursor.specs.Levels.{IsNextLevel, source, step}
 use Rattle.djq_cursor.specs.Walk.{Menu, menu_at, chosen, leaves, here, before, reached, Follows, IsOpen}

@@ -1,5 +1,5 @@
 -- Menus, lists of different tuples, and a choice from one.
-use Rattle.std.specs.Prelude.{◌≡◌, ⊤, ℕ, Bool, true, false, cond, ◌||◌, List, [], ◌∷◌}
+use Rattle.std.specs.Prelude.{◌≡◌, ⊤, ℕ, Bool, false, cond, ◌||◌, List, [], ◌∷◌}
 use Rattle.djq_index.specs.Tuple.{same}
 
 -- whether a list of tuples has one

@@ -27,7 +27,10 @@ fn allows<L: Ledger>(
         return true;
     }
     let tuple = project(reducts, node, answer);
-    reducts.table(node).find(tuple.as_slice(), listing).is_some()
+    reducts
+        .table(node)
+        .find(tuple.as_slice(), listing)
+        .is_some()
 }
 
 /// Whether a tuple over the head is an answer of the reducts. It counts at most one look-up for each atom.

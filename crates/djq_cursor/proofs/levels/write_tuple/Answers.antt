@@ -1,4 +1,4 @@
-use Rattle.std.proofs.Common.{◌≡◌, ℕ, ◌<◌, length, ap, sym, arith}
+use Rattle.std.proofs.Common.{arith}
 use Rattle.djq_reduct.proofs.Placing.{column_within}
 use Rattle.djq_cursor.proofs.Seeking.{popped, pop_within}
 use Rattle.djq_cursor.proofs.levels.write_tuple.Goals as goal

@@ -1,4 +1,4 @@
-use Rattle.std.proofs.Common.{◌≡◌, ◌≤◌, ◌+◌, ◌++◌, true, length, drop}
+use Rattle.std.proofs.Common.{◌≡◌, ◌+◌, true, length, drop}
 use Rattle.djq_hyper.specs.Hypergraph.{subset}
 use Rattle.djq_cursor.specs.Levels.{written}
 use Rattle.djq_cursor.proofs.levels.write_tuple.Given as goal

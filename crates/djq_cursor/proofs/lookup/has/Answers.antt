@@ -1,4 +1,4 @@
-use Rattle.std.proofs.Common.{◌≡◌, ◌≤◌, refl, arith}
+use Rattle.std.proofs.Common.{◌≤◌, refl, arith}
 use Rattle.djq_cursor.proofs.Checking.{few_all, few_more, answer_upto}
 use Rattle.djq_cursor.proofs.lookup.has.Goals as goal
 

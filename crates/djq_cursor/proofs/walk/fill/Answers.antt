@@ -1,7 +1,6 @@
-use Rattle.std.proofs.Common.{◌≡◌, ◌∙◌, List, ℕ, suc, [], length, ap, sym, subst, arith, refl}
+use Rattle.std.proofs.Common.{◌∙◌, List, ℕ, length, ap, sym, subst, arith, refl}
 use Rattle.djq_cursor.specs.declared.places.Choice.{Choice}
-use Rattle.djq_cursor.specs.Levels.{IsLevel, IsNextLevel}
-use Rattle.djq_cursor.specs.Walk.{IsFirstAt, menu_at, chosen}
+use Rattle.djq_cursor.specs.Walk.{IsFirstAt}
 use Rattle.djq_cursor.proofs.Outs.{late_out}
 use Rattle.djq_cursor.proofs.Filling.{reached_within, some_first, chosen_first, room_for, stands_wide, next_in, level_in, small_in, next_count}
 use Rattle.djq_cursor.proofs.walk.fill.Goals as goal
@@ -30,8 +29,8 @@ returns-in_default-first-clause-whole g c =
     let k = c.in-Some.level in
     absurd
     (some_first r menu c.loop-level.number k c.loop-level.places c.loop-level.answer c.loop-level.invariant.stands c.loop-level.invariant.is c.requires.opened
-        (next_in r.tree c.tree-in-loop-level.result.now c.loop-level.number k c.tree-in-loop-level.ensures c.in-Some.ensures.next)
-        (ap (λ (w : List ℕ). menu k w) (sym (c.as_slice.ensures ∙ c.project-key.ensures)) ∙ c.in_default-first.ensures.none))
+    (next_in r.tree c.tree-in-loop-level.result.now c.loop-level.number k c.tree-in-loop-level.ensures c.in-Some.ensures.next)
+    (ap (λ (w : List ℕ). menu k w) (sym (c.as_slice.ensures ∙ c.project-key.ensures)) ∙ c.in_default-first.ensures.none))
 
 pub returns-in_default-first-clause-counted : goal.returns-in_default-first-clause-counted
 returns-in_default-first-clause-counted g c =
@@ -40,8 +39,8 @@ returns-in_default-first-clause-counted g c =
     let k = c.in-Some.level in
     absurd
     (some_first r menu c.loop-level.number k c.loop-level.places c.loop-level.answer c.loop-level.invariant.stands c.loop-level.invariant.is c.requires.opened
-        (next_in r.tree c.tree-in-loop-level.result.now c.loop-level.number k c.tree-in-loop-level.ensures c.in-Some.ensures.next)
-        (ap (λ (w : List ℕ). menu k w) (sym (c.as_slice.ensures ∙ c.project-key.ensures)) ∙ c.in_default-first.ensures.none))
+    (next_in r.tree c.tree-in-loop-level.result.now c.loop-level.number k c.tree-in-loop-level.ensures c.in-Some.ensures.next)
+    (ap (λ (w : List ℕ). menu k w) (sym (c.as_slice.ensures ∙ c.project-key.ensures)) ∙ c.in_default-first.ensures.none))
 
 pub write_choice-requires-clause-wide : goal.write_choice-requires-clause-wide
 write_choice-requires-clause-wide g c = stands_wide c.args.reducts.now (g.C.Choices.menu c.args.choices.now c.args.reducts.now) c.loop-level.places c.loop-level.answer c.loop-level.invariant.stands

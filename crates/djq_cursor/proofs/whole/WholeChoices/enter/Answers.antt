@@ -1,4 +1,4 @@
-use Rattle.std.proofs.Common.{◌≡◌, ◌∙◌, ℕ, ◌-◌, length, ap}
+use Rattle.std.proofs.Common.{◌∙◌, ℕ, ◌-◌, length, ap}
 use Rattle.djq_tree.specs.Tree.{Tree}
 use Rattle.djq_reduct.specs.Tables.{entries_at}
 use Rattle.djq_cursor.proofs.Placing.{root_found}
