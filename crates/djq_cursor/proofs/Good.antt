@@ -37,7 +37,7 @@ pub node_cells : (t : Tree) (j : ℕ) (s a : List ℕ) → on_node t j s ≡ on_
 unfolding on_node
 node_cells t j s a e x m = cells_same t.head t.head (label_at t.labels j) s a x e m
 
-node_label : (t : Tree) (j k : ℕ) (s : List ℕ) → label_at t.labels j ≡ label_at t.labels k → on_node t j s ≡ on_node t k s
+pub node_label : (t : Tree) (j k : ℕ) (s : List ℕ) → label_at t.labels j ≡ label_at t.labels k → on_node t j s ≡ on_node t k s
 unfolding on_node
 node_label t j k s e = ap (λ (l : List ℕ). pick (columns t.head l) s) e
 
@@ -83,7 +83,7 @@ trim_up r k c s h within e there =
     let m = many_of (key_at r.tables c) (entries_at r.tables c) w (on_node r.tree c s) there key in
     supp_cnt (entries_at r.tables k) w (omega arith)
 
-guard_pick : (r : Reducts) (k g d : ℕ) (s : List ℕ) → IsReducts r → k < length r.tree.nodes → node_at r.tree.nodes k ≡ Meet g d → pick (key_at r.tables g) (on_node r.tree k s) ≡ on_node r.tree d s
+pub guard_pick : (r : Reducts) (k g d : ℕ) (s : List ℕ) → IsReducts r → k < length r.tree.nodes → node_at r.tree.nodes k ≡ Meet g d → pick (key_at r.tables g) (on_node r.tree k s) ≡ on_node r.tree d s
 guard_pick r k g d s h within e =
     let m = h.family.is_tree.meet k g d e in
     ap (λ (ks : List ℕ). pick ks (on_node r.tree k s)) (meet_key r k g d h within e)
@@ -143,7 +143,7 @@ node_alike t k s a h within alike =
       | inr p ↦ (let b = p.above in alike.below p.parent k (omega arith) p.child)
     ]
 
-meet_child : (t : Tree) (k g d j : ℕ) → node_at t.nodes k ≡ Meet g d → has_child (node_at t.nodes k) j ≡ true → (g ≡ j) ⊎ (d ≡ j)
+pub meet_child : (t : Tree) (k g d j : ℕ) → node_at t.nodes k ≡ Meet g d → has_child (node_at t.nodes k) j ≡ true → (g ≡ j) ⊎ (d ≡ j)
 meet_child t k g d j e h =
     let c : ((g == j) || (d == j)) ≡ true = ap (λ (n : Node). has_child n j) (sym e) ∙ h in
     elim (or_cases (g == j) (d == j) c) [ inl first ↦ inl (eqb-true g j first) | inr second ↦ inr (eqb-true d j second) ]

@@ -1,0 +1,4 @@
+pub mod Paths
+pub mod Parts
+pub mod Marking
+pub mod Telling

@@ -1,0 +1,4 @@
+pub mod Path
+pub mod Marks
+pub mod Changed
+pub mod Given
