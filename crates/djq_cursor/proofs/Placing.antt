@@ -27,7 +27,7 @@ pub record Inside (es : List Entry) (e : Entry) : Type 0 where
   pub back : List Entry
   pub is : es ≡ front ++ e ∷ back
 
-further : (d : Entry) (es : List Entry) (e : Entry) → Inside es e → Inside (d ∷ es) e
+pub further : (d : Entry) (es : List Entry) (e : Entry) → Inside es e → Inside (d ∷ es) e
 further d es e i = record { front = d ∷ i.front; back = i.back; is = ap (λ (l : List Entry). d ∷ l) i.is }
 
 nothing : (xs : List Entry) (e : Entry) (ys : List Entry) → [] ≡ xs ++ e ∷ ys → ⊥
@@ -47,7 +47,7 @@ inside_group key (d ∷ es) w xs e ys h =
       | inr other ↦ further d es e (inside_group key es w xs e ys (sym (grp_no key d es w other) ∙ h))
     ]
 
-at_inside : (es : List Entry) (e : Entry) → Inside es e → IsAt es e.at e.tuple
+pub at_inside : (es : List Entry) (e : Entry) → Inside es e → IsAt es e.at e.tuple
 at_inside es e i = at_of es i.front e i.back i.is
 
 -- ---- a tuple lies at one place
@@ -70,14 +70,14 @@ place_middle (x ∷ xs) e ys h =
     (λ same_tuple. let z = apart_head x (xs ++ e ∷ ys) h in let s = there (xs ++ e ∷ ys) xs e ys x.tuple refl (sym same_tuple) in omega arith)
     ∙ place_middle xs e ys (apart_tail x (xs ++ e ∷ ys) h)
 
-place_is : (es : List Entry) (p : Place) (u : List ℕ) → AreApart es → IsAt es p u → place_in es u ≡ Some p
+pub place_is : (es : List Entry) (p : Place) (u : List ℕ) → AreApart es → IsAt es p u → place_in es u ≡ Some p
 place_is es p u h a =
     ap (λ (fs : List Entry). place_in fs u) a.is
     ∙ ap (λ (v : List ℕ). place_in (a.front ++ a.entry ∷ a.back) v) (sym a.tuple)
     ∙ place_middle a.front a.entry a.back (subst AreApart a.is h)
     ∙ ap (λ (q : Place). Some q) a.at
 
-one_place : (es : List Entry) (p q : Place) (u : List ℕ) → AreApart es → IsAt es p u → IsAt es q u → p ≡ q
+pub one_place : (es : List Entry) (p q : Place) (u : List ℕ) → AreApart es → IsAt es p u → IsAt es q u → p ≡ q
 one_place es p q u h a b = let e : Some p ≡ Some q = sym (place_is es p u h a) ∙ place_is es q u h b in cc
 
 -- ---- the tuple behind one
@@ -109,12 +109,12 @@ stood (d ∷ g) u h = stood_step (same d.tuple u) d g u refl h (stood g u)
 
 -- ---- the first of some entries of a table
 
-none_of : (es : List Entry) → head_at es ≡ None → tuples es ≡ []
+pub none_of : (es : List Entry) → head_at es ≡ None → tuples es ≡ []
 unfolding head_at
 none_of [] h = refl
 none_of (e ∷ es) h = absurd cc
 
-first_of : (r : Reducts) (k : ℕ) (es : List Entry) (p : Place) → IsReducts r → ((xs : List Entry) (e : Entry) (ys : List Entry) → es ≡ xs ++ e ∷ ys → Inside (entries_at r.tables (source r.tree k)) e) → head_at es ≡ Some p
+pub first_of : (r : Reducts) (k : ℕ) (es : List Entry) (p : Place) → IsReducts r → ((xs : List Entry) (e : Entry) (ys : List Entry) → es ≡ xs ++ e ∷ ys → Inside (entries_at r.tables (source r.tree k)) e) → head_at es ≡ Some p
     → IsFirstAt r (tuples es) (record { level = k; place = p })
 unfolding head_at chosen
 first_of r k [] p h inside e = absurd cc
@@ -186,7 +186,7 @@ root_found r es (Some p) e h = sym (ap (λ (fs : List Entry). nat_lt 0 (cnt fs [
 
 -- ---- the same in the words of the code, which reads a table of its own
 
-same_group : (r : Reducts) (k n : ℕ) (key : List ℕ) (es : List Entry) (w : List ℕ) → n ≡ source r.tree k → key ≡ key_at r.tables n → es ≡ entries_at r.tables n → grp key es w ≡ group_entries r k w
+pub same_group : (r : Reducts) (k n : ℕ) (key : List ℕ) (es : List Entry) (w : List ℕ) → n ≡ source r.tree k → key ≡ key_at r.tables n → es ≡ entries_at r.tables n → grp key es w ≡ group_entries r k w
 same_group r k n key es w at same_key same =
     ap (λ (l : List ℕ). grp l es w) same_key ∙ ap (λ (fs : List Entry). grp (key_at r.tables n) fs w) same ∙ ap (λ (i : ℕ). grp (key_at r.tables i) (entries_at r.tables i) w) at
 

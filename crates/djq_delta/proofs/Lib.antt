@@ -2,3 +2,4 @@ pub mod Paths
 pub mod Parts
 pub mod Marking
 pub mod Telling
+pub mod Backward
