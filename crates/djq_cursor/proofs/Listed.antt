@@ -168,7 +168,7 @@ pub cursor_one : (r : Reducts) (old new : Cursor) (a : List ℕ) (b : Bool) → 
 unfolding given
 cursor_one r old new a b h = h
 
-on_false_both : (b : Bool) (x y z : List (List ℕ)) → OnFalse b (x ≡ z) → OnFalse b (y ≡ z) → OnFalse b (y ≡ x)
+pub on_false_both : (b : Bool) (x y z : List (List ℕ)) → OnFalse b (x ≡ z) → OnFalse b (y ≡ z) → OnFalse b (y ≡ x)
 on_false_both true x y z p q = tt
 on_false_both false x y z p q = q ∙ sym p
 

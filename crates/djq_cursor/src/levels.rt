@@ -51,7 +51,7 @@ pub(crate) fn level_below(tree: &Tree, number: usize) -> Option<usize>
 }
 
 /// The node from whose table the tuple of a level is chosen.
-pub(crate) fn source(tree: &Tree, level: usize) -> usize
+pub fn source(tree: &Tree, level: usize) -> usize
     requires { IsLevel tree.now level }
     ensures source { result ≡ source tree.now level }
     ensures within { result < length tree.now.nodes }

@@ -41,6 +41,7 @@ mod whole;
 
 pub use choices::Choices;
 pub use cursor::{Cursor, State};
+pub use levels::source;
 pub use lookup::has;
 pub use places::{Choice, Places};
 pub use walk::advance_by;

@@ -25,7 +25,7 @@ use Rattle.djq_cursor.specs.Walk.{IsAlive, IsFirstAt, chosen}
 use Rattle.djq_cursor.proofs.Groups.{tuples, has_cnt, cnt_has, grp_nil, both_positive, group_says}
 use Rattle.djq_cursor.proofs.Tuples.{chosen_at, chosen_there}
 use Rattle.djq_cursor.proofs.Placing.{Inside, further, inside_group, at_inside, one_place, Stood, stood, none_of, first_of, group_entries, same_group}
-use Rattle.djq_delta.specs.Given.{marked_or, changed_at, root_marked}
+use Rattle.djq_delta.specs.Given.{marked_or, changed_at, root_marked, kept}
 use Rattle.djq_delta.proofs.Parts.{part, part_in, part_marked, group_marked, marked_in_group, marks_grp}
 
 -- ---- in a group the marked ones are the last
@@ -184,11 +184,6 @@ unmarked_by es u h none =
       | inl is ↦ absurd (let o = one_true (is_marked es u) is in omega arith)
       | inr isnt ↦ isnt
     ]
-
--- the tuple before a marked one is kept only if it is marked
-abbrev pub kept : Option Place → Bool → Bool → Option Place
-kept None here before = None
-kept (Some q) here before = cond (here && not before) None (Some q)
 
 kept_plain : (o : Option Place) (here before : Bool) → here ≡ false → kept o here before ≡ o
 kept_plain None here before e = refl
@@ -361,6 +356,23 @@ prior_live key es p q o l says found =
     let whole : grp key es w ≡ b.front ++ b.entry ∷ (a.entry ∷ grp key a.back w) = split ∙ ap (λ (f : List Entry). f ++ a.entry ∷ grp key a.back w) b.is ∙ append_assoc b.front (b.entry ∷ []) (a.entry ∷ grp key a.back w) in
     let i = inside_group key es w b.front b.entry (a.entry ∷ grp key a.back w) whole in
     subst (λ (x : Place). IsLive es x) b.at (live es b.entry.at b.entry.tuple (at_inside es b.entry i))
+
+-- what the table says of the two marks
+pub marks_say : (r : Reducts) (c : Choice) (n : ℕ) (es : List Entry) (o : Option Place) (here before : Bool) → IsReducts r → IsAlive r c → n ≡ source r.tree c.level → es ≡ entries_at r.tables n
+    → ((u : List ℕ) → IsAt es c.place u → here ≡ is_marked es u) → ((q : Place) (v : List ℕ) → o ≡ Some q → IsAt es q v → before ≡ is_marked es v) → Marked r c o here before
+marks_say r c n es o here before h l at same says prior =
+    let e : es ≡ entries_at r.tables (source r.tree c.level) = same ∙ ap (λ (i : ℕ). entries_at r.tables i) at in
+    let mine = subst (λ (u : List ℕ). IsAt (entries_at r.tables (source r.tree c.level)) c.place u) (sym (chosen_at r c l h)) l.live.is_at in
+    record {
+      at = says (chosen r c) (subst (λ (fs : List Entry). IsAt fs c.place (chosen r c)) (sym e) mine) ∙ ap (λ (fs : List Entry). is_marked fs (chosen r c)) e;
+      prior = λ q v found is. prior q v found (subst (λ (fs : List Entry). IsAt fs q v) (sym e) is) ∙ ap (λ (fs : List Entry). is_marked fs v) e;
+    }
+
+pub marks_none : (r : Reducts) (c : Choice) → Marked r c None (is_marked (entries_at r.tables (source r.tree c.level)) (chosen r c)) false
+marks_none r c = record { at = refl; prior = λ q v found is. absurd (let e : None ≡ Some q = found in cc) }
+
+pub live_in : (r : Reducts) (c : Choice) (n : ℕ) (es : List Entry) → IsAlive r c → n ≡ source r.tree c.level → es ≡ entries_at r.tables n → IsLive es c.place
+live_in r c n es l at same = subst (λ (fs : List Entry). IsLive fs c.place) (sym (same ∙ ap (λ (i : ℕ). entries_at r.tables i) at)) l.live
 
 -- ---- the root
 

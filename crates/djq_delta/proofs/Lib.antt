@@ -3,3 +3,4 @@ pub mod Parts
 pub mod Marking
 pub mod Telling
 pub mod Backward
+pub mod Told

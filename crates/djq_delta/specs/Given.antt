@@ -1,5 +1,6 @@
 -- What a delta cursor has given.
-use Rattle.std.specs.Prelude.{ℕ, ◌-◌, Bool, nat_lt, List, [], ◌∷◌, length, map, reverse}
+use Rattle.std.specs.Prelude.{ℕ, ◌-◌, Bool, cond, not, ◌&&◌, nat_lt, List, [], ◌∷◌, length, map, reverse, Option, Some, None}
+use Rattle.djq_index.specs.declared.place.Place.{Place}
 use Rattle.djq_index.specs.Entries.{Entry, cnt, grp, marks}
 use Rattle.djq_reduct.specs.Tables.{entries_at, key_at}
 use Rattle.djq_reduct.specs.Reducts.{Reducts}
@@ -18,6 +19,11 @@ unfoldable pub changed_at : Reducts → ℕ → List ℕ → List (List ℕ)
 changed_at r k w =
     let g = grp (key_at r.tables (source r.tree k)) (entries_at r.tables (source r.tree k)) w in
     map (λ e. e.tuple) (reverse (marked_or (marks g) g))
+
+-- the tuple before a marked one is kept only if it is marked, too
+abbrev pub kept : Option Place → Bool → Bool → Option Place
+kept None here before = None
+kept (Some q) here before = cond (here && not before) None (Some q)
 
 -- whether there is any answer to tell: the root's empty tuple is marked
 unfoldable pub root_marked : Reducts → Bool
