@@ -35,7 +35,8 @@ within_of (y ∷ k) l h x m =
     and_both true b h = (refl, h)
     and_both false b h = absurd (false≢true h)
 
-above : (x y : ℕ) (l : List ℕ) → ((k d : ℕ) → k < length l → x < slice_index_or l k d) → member y l ≡ true → x < y
+above : (x y : ℕ) (l : List ℕ) → ((k d : ℕ) → k < length l → x < slice_index_or l k d)
+    → member y l ≡ true → x < y
 above x y [] h m = absurd (false≢true m)
 above x y (z ∷ l) h m =
     elim (or_cases (y == z) (member y l) m) [
@@ -47,7 +48,8 @@ simple_pairs : (l : List ℕ) → AllPairs (λ x y. x < y) l → IsSimple l
 simple_pairs [] h = tt
 simple_pairs (x ∷ l) h = (
   elim (cases_Bool (member x l)) [
-    | inl is ↦ absurd (let b = above x x l (λ k d i. h 0 (suc k) d (omega arith) (omega arith)) is in omega arith)
+    | inl is ↦ absurd
+        (let b = above x x l (λ k d i. h 0 (suc k) d (omega arith) (omega arith)) is in omega arith)
     | inr isnt ↦ isnt
   ],
   simple_pairs l (λ i j d a b. h (suc i) (suc j) d (omega arith) (omega arith)),
@@ -75,7 +77,9 @@ column_same (z ∷ l) x y m e =
       | inl here ↦
           elim (cases_eq y z) [
             | inl too ↦ here ∙ sym too
-            | inr other ↦ absurd (let a = column_here z l x (sym here) in let b = column_on z l y (λ (k : z ≡ y). other (sym k)) in omega arith)
+            | inr other ↦ absurd
+                (let a = column_here z l x (sym here) in let b = column_on z l y
+                (λ (k : z ≡ y). other (sym k)) in omega arith)
           ]
       | inr there ↦
           let a = column_on z l x (λ (k : z ≡ x). there (sym k)) in
@@ -83,24 +87,31 @@ column_same (z ∷ l) x y m e =
             | inl too ↦ absurd (let b = column_here z l y (sym too) in omega arith)
             | inr other ↦
                 let b = column_on z l y (λ (k : z ≡ y). other (sym k)) in
-                let n : member x l ≡ true = elim (or_cases (x == z) (member x l) m) [ inl k ↦ absurd (there (eqb-true x z k)) | inr k ↦ k ] in
+                let n : member x l ≡ true = elim (or_cases (x == z) (member x l) m)
+                [ inl k ↦ absurd (there (eqb-true x z k)) | inr k ↦ k ] in
                 column_same l x y n (omega arith)
           ]
     ]
 
-map_there : (f : ℕ → ℕ) (l : List ℕ) (x : ℕ) → member x l ≡ true → slice_index (map f l) (column l x) ≡ f x
+map_there : (f : ℕ → ℕ) (l : List ℕ) (x : ℕ) → member x l ≡ true
+    → slice_index (map f l) (column l x) ≡ f x
 map_there f [] x m = absurd (false≢true m)
 map_there f (y ∷ l) x m =
     elim (cases_eq y x) [
-      | inl here ↦ ap (λ (i : ℕ). slice_index (f y ∷ map f l) i) (column_here y l x here) ∙ ap f here
+      | inl here ↦ ap (λ (i : ℕ). slice_index (f y ∷ map f l) i) (column_here y l x here)
+          ∙ ap f here
       | inr other ↦
-          let n : member x l ≡ true = elim (or_cases (x == y) (member x l) m) [ inl k ↦ absurd (other (sym (eqb-true x y k))) | inr k ↦ k ] in
+          let n : member x l ≡ true = elim (or_cases (x == y) (member x l) m)
+          [ inl k ↦ absurd (other (sym (eqb-true x y k))) | inr k ↦ k ] in
           ap (λ (i : ℕ). slice_index (f y ∷ map f l) i) (column_on y l x other) ∙ map_there f l x n
     ]
 
-pub map_same : (f g : ℕ → ℕ) (l : List ℕ) → ((x : ℕ) → member x l ≡ true → f x ≡ g x) → map f l ≡ map g l
+pub map_same : (f g : ℕ → ℕ) (l : List ℕ) → ((x : ℕ) → member x l ≡ true → f x ≡ g x)
+    → map f l ≡ map g l
 map_same f g [] h = refl
-map_same f g (x ∷ l) h = ap₂ (λ (y : ℕ) (ys : List ℕ). y ∷ ys) (h x (or_left (x == x) (member x l) (eq-eqb x x refl))) (map_same f g l (λ y m. h y (or_right (y == x) (member y l) m)))
+map_same f g (x ∷ l) h = ap₂ (λ (y : ℕ) (ys : List ℕ). y ∷ ys)
+    (h x (or_left (x == x) (member x l) (eq-eqb x x refl)))
+    (map_same f g l (λ y m. h y (or_right (y == x) (member y l) m)))
 
 -- ---- projections
 
@@ -116,16 +127,23 @@ pub pick_is : (F l s : List ℕ) → pick (columns F l) s ≡ map (λ x. cell F 
 unfolding pick columns
 pick_is F l s = map_twice (λ c. slice_index s c) (λ x. column F x) l
 
-pub pick_same : (F G l s a : List ℕ) → ((x : ℕ) → member x l ≡ true → cell F s x ≡ cell G a x) → pick (columns F l) s ≡ pick (columns G l) a
-pick_same F G l s a h = pick_is F l s ∙ map_same (λ x. cell F s x) (λ x. cell G a x) l h ∙ sym (pick_is G l a)
+pub pick_same : (F G l s a : List ℕ) → ((x : ℕ) → member x l ≡ true → cell F s x ≡ cell G a x)
+    → pick (columns F l) s ≡ pick (columns G l) a
+pick_same F G l s a h = pick_is F l s ∙ map_same (λ x. cell F s x) (λ x. cell G a x) l h
+    ∙ sym (pick_is G l a)
 
-pub cell_pick : (F l s : List ℕ) (x : ℕ) → member x l ≡ true → cell l (pick (columns F l) s) x ≡ cell F s x
-cell_pick F l s x m = ap (λ (u : List ℕ). slice_index u (column l x)) (pick_is F l s) ∙ map_there (λ x. cell F s x) l x m
+pub cell_pick : (F l s : List ℕ) (x : ℕ) → member x l ≡ true
+    → cell l (pick (columns F l) s) x ≡ cell F s x
+cell_pick F l s x m = ap (λ (u : List ℕ). slice_index u (column l x)) (pick_is F l s)
+    ∙ map_there (λ x. cell F s x) l x m
 
-pub cells_same : (F G l s a : List ℕ) (x : ℕ) → pick (columns F l) s ≡ pick (columns G l) a → member x l ≡ true → cell F s x ≡ cell G a x
-cells_same F G l s a x e m = sym (cell_pick F l s x m) ∙ ap (λ (u : List ℕ). slice_index u (column l x)) e ∙ cell_pick G l a x m
+pub cells_same : (F G l s a : List ℕ) (x : ℕ) → pick (columns F l) s ≡ pick (columns G l) a
+    → member x l ≡ true → cell F s x ≡ cell G a x
+cells_same F G l s a x e m = sym (cell_pick F l s x m)
+    ∙ ap (λ (u : List ℕ). slice_index u (column l x)) e ∙ cell_pick G l a x m
 
-pub pick_pick : (F k l s : List ℕ) → Within k l → pick (columns l k) (pick (columns F l) s) ≡ pick (columns F k) s
+pub pick_pick : (F k l s : List ℕ) → Within k l
+    → pick (columns l k) (pick (columns F l) s) ≡ pick (columns F k) s
 pick_pick F k l s h = pick_same l F k (pick (columns F l) s) s (λ x m. cell_pick F l s x (h x m))
 
 pub length_pick : (F l s : List ℕ) → length (pick (columns F l) s) ≡ length l
@@ -138,33 +156,42 @@ itself (x ∷ l) [] h e = absurd (omega arith)
 itself (x ∷ l) (c ∷ u) h e =
     ap₂ (λ (y : ℕ) (ys : List ℕ). y ∷ ys)
     (ap (λ (i : ℕ). slice_index (c ∷ u) i) (column_here x l x refl))
-    (map_same (λ y. cell (x ∷ l) (c ∷ u) y) (λ y. cell l u y) l (λ y m. ap (λ (i : ℕ). slice_index (c ∷ u) i) (column_on x l y (absent x y l h.0 m))) ∙ itself l u h.1 (omega arith))
+    (map_same (λ y. cell (x ∷ l) (c ∷ u) y) (λ y. cell l u y) l
+    (λ y m. ap (λ (i : ℕ). slice_index (c ∷ u) i) (column_on x l y (absent x y l h.0 m)))
+    ∙ itself l u h.1 (omega arith))
 
 pub pick_itself : (l u : List ℕ) → IsSimple l → length u ≡ length l → pick (columns l l) u ≡ u
 pick_itself l u h e = pick_is l l u ∙ itself l u h e
 
 -- tuples with the same cells are the same
-pub tuple_same : (l u v : List ℕ) → IsSimple l → length u ≡ length l → length v ≡ length l → ((x : ℕ) → member x l ≡ true → cell l u x ≡ cell l v x) → u ≡ v
-tuple_same l u v h e d same = sym (pick_itself l u h e) ∙ pick_same l l l u v same ∙ pick_itself l v h d
+pub tuple_same : (l u v : List ℕ) → IsSimple l → length u ≡ length l → length v ≡ length l
+    → ((x : ℕ) → member x l ≡ true → cell l u x ≡ cell l v x) → u ≡ v
+tuple_same l u v h e d same = sym (pick_itself l u h e) ∙ pick_same l l l u v same
+    ∙ pick_itself l v h d
 
 -- ---- a tuple written into an answer
 
 pub length_written : (F l us s : List ℕ) → length (written F l us s) ≡ length s
 length_written F [] us s = refl
 length_written F (x ∷ l) [] s = refl
-length_written F (x ∷ l) (u ∷ us) s = length_written F l us (slice_set s (column F x) u) ∙ length-set s (column F x) u
+length_written F (x ∷ l) (u ∷ us) s = length_written F l us (slice_set s (column F x) u)
+    ∙ length-set s (column F x) u
 
 -- elsewhere it is as before
-pub written_else : (F l us s : List ℕ) (y : ℕ) → Within l F → member y F ≡ true → member y l ≡ false → cell F (written F l us s) y ≡ cell F s y
+pub written_else : (F l us s : List ℕ) (y : ℕ) → Within l F → member y F ≡ true → member y l ≡ false
+    → cell F (written F l us s) y ≡ cell F s y
 written_else F [] us s y h m out = refl
 written_else F (x ∷ l) [] s y h m out = refl
 written_else F (x ∷ l) (u ∷ us) s y h m out =
     let parts = or_parts (y == x) (member y l) out in
-    let other : column F y ≢ column F x = λ (e : column F y ≡ column F x). false≢true (sym parts.0 ∙ eq-eqb y x (column_same F y x m e)) in
-    written_else F l us (slice_set s (column F x) u) y (within_tail x l F h) m parts.1 ∙ get_or-set_other s (column F x) (column F y) u 0 other
+    let other : column F y ≢ column F x = λ (e : column F y ≡ column F x). false≢true
+    (sym parts.0 ∙ eq-eqb y x (column_same F y x m e)) in
+    written_else F l us (slice_set s (column F x) u) y (within_tail x l F h) m parts.1
+    ∙ get_or-set_other s (column F x) (column F y) u 0 other
 
 -- there it is the tuple's
-pub written_there : (F l us s : List ℕ) (y : ℕ) → IsSimple l → Within l F → length us ≡ length l → length s ≡ length F → member y l ≡ true → cell F (written F l us s) y ≡ cell l us y
+pub written_there : (F l us s : List ℕ) (y : ℕ) → IsSimple l → Within l F → length us ≡ length l
+    → length s ≡ length F → member y l ≡ true → cell F (written F l us s) y ≡ cell l us y
 written_there F [] us s y simple h e d m = absurd (false≢true m)
 written_there F (x ∷ l) [] s y simple h e d m = absurd (omega arith)
 written_there F (x ∷ l) (u ∷ us) s y simple h e d m =
@@ -175,16 +202,21 @@ written_there F (x ∷ l) (u ∷ us) s y simple h e d m =
           let out : member y l ≡ false = ap (λ (z : ℕ). member z l) here ∙ simple.0 in
           let inside = within_head x l F h in
           let low : column F x < length s = (let w = column_within F x inside in omega arith) in
-          written_else F l us next y (within_tail x l F h) (ap (λ (z : ℕ). member z F) here ∙ inside) out
+          written_else F l us next y (within_tail x l F h)
+          (ap (λ (z : ℕ). member z F) here ∙ inside) out
           ∙ ap (λ (z : ℕ). cell F next z) here
           ∙ get_or-set_same s (column F x) u 0 low
           ∙ sym (ap (λ (i : ℕ). slice_index (u ∷ us) i) (column_here x l y (sym here)))
       | inr there ↦
-          let n : member y l ≡ true = elim (or_cases (y == x) (member y l) m) [ inl k ↦ absurd (there (eqb-true y x k)) | inr k ↦ k ] in
+          let n : member y l ≡ true = elim (or_cases (y == x) (member y l) m)
+          [ inl k ↦ absurd (there (eqb-true y x k)) | inr k ↦ k ] in
           written_there F l us next y simple.1 (within_tail x l F h) (omega arith) long n
-          ∙ sym (ap (λ (i : ℕ). slice_index (u ∷ us) i) (column_on x l y (λ (k : x ≡ y). there (sym k))))
+          ∙ sym (ap (λ (i : ℕ). slice_index (u ∷ us) i)
+          (column_on x l y (λ (k : x ≡ y). there (sym k))))
     ]
 
 -- so the projection on its label is the tuple
-pub pick_written : (F l us s : List ℕ) → IsSimple l → Within l F → length us ≡ length l → length s ≡ length F → pick (columns F l) (written F l us s) ≡ us
-pick_written F l us s simple h e d = pick_same F l l (written F l us s) us (λ y m. written_there F l us s y simple h e d m) ∙ pick_itself l us simple e
+pub pick_written : (F l us s : List ℕ) → IsSimple l → Within l F → length us ≡ length l
+    → length s ≡ length F → pick (columns F l) (written F l us s) ≡ us
+pick_written F l us s simple h e d = pick_same F l l (written F l us s) us
+    (λ y m. written_there F l us s y simple h e d m) ∙ pick_itself l us simple e

@@ -33,7 +33,9 @@ cnt_has [] u h = absurd (let n = no_cnt u in omega arith)
 cnt_has (e ∷ es) u h =
     elim (cases_Bool (same e.tuple u)) [
       | inl here ↦ or_left (same e.tuple u) (has (tuples es) u) here
-      | inr other ↦ or_right (same e.tuple u) (has (tuples es) u) (cnt_has es u (let c = cnt_cons e es u in let o = one_false (same e.tuple u) other in omega arith))
+      | inr other ↦ or_right (same e.tuple u) (has (tuples es) u)
+          (cnt_has es u
+          (let c = cnt_cons e es u in let o = one_false (same e.tuple u) other in omega arith))
     ]
 
 positive : (a b : ℕ) → 0 < a → 0 < b → 0 < a * b
@@ -49,21 +51,26 @@ none_of a b e = ap (λ (n : ℕ). n * b) e ∙ zero-mul b
 
 pub both_positive : (a b : ℕ) → 0 < a * b → (0 < a) × (0 < b)
 both_positive a b h = (
-  elim (cases_lt 0 a) [ inl low ↦ low | inr high ↦ absurd (let z = none_of a b (omega arith) in omega arith) ],
-  elim (cases_lt 0 b) [ inl low ↦ low | inr high ↦ absurd (let z = none_by a b (omega arith) in omega arith) ],
+  elim (cases_lt 0 a)
+      [ inl low ↦ low | inr high ↦ absurd (let z = none_of a b (omega arith) in omega arith) ],
+  elim (cases_lt 0 b)
+      [ inl low ↦ low | inr high ↦ absurd (let z = none_by a b (omega arith) in omega arith) ],
 )
 
 pub product_positive : (a b : ℕ) → 0 < a → 0 < b → 0 < a * b
 product_positive a b h k = positive a b h k
 
 -- a group has the tuples of the table with its cells
-pub group_says : (key : List ℕ) (es : List Entry) (w u : List ℕ) → has (tuples (grp key es w)) u ≡ true → (0 < cnt es u) × (pick key u ≡ w)
+pub group_says : (key : List ℕ) (es : List Entry) (w u : List ℕ)
+    → has (tuples (grp key es w)) u ≡ true → (0 < cnt es u) × (pick key u ≡ w)
 group_says key es w u h =
     let c = cnt_grp key es w u in
-    let p = both_positive (cnt es u) (one (same (pick key u) w)) (let q = has_cnt (grp key es w) u h in omega arith) in
+    let p = both_positive (cnt es u) (one (same (pick key u) w))
+    (let q = has_cnt (grp key es w) u h in omega arith) in
     (p.0, same_is (pick key u) w (true_from_one (same (pick key u) w) p.1))
 
-pub group_has : (key : List ℕ) (es : List Entry) (w u : List ℕ) → 0 < cnt es u → pick key u ≡ w → has (tuples (grp key es w)) u ≡ true
+pub group_has : (key : List ℕ) (es : List Entry) (w u : List ℕ) → 0 < cnt es u → pick key u ≡ w
+    → has (tuples (grp key es w)) u ≡ true
 group_has key es w u h e =
     cnt_has (grp key es w) u
     (let o = one_true (same (pick key u) w) (is_same (pick key u) w e) in
@@ -83,26 +90,33 @@ unfolding grp
 grp_nil key w = refl
 
 -- no tuple stands twice in it
-pub group_once : (key : List ℕ) (es : List Entry) (w : List ℕ) → AreApart es → AreOnce (tuples (grp key es w))
+pub group_once : (key : List ℕ) (es : List Entry) (w : List ℕ) → AreApart es
+    → AreOnce (tuples (grp key es w))
 group_once key [] w h = subst (λ (es : List Entry). AreOnce (tuples es)) (sym (grp_nil key w)) tt
 group_once key (e ∷ es) w h =
     let r = group_once key es w (apart_tail e es h) in
     elim (cases_Bool (same (pick key e.tuple) w)) [
-      | inl here ↦ subst (λ (fs : List Entry). AreOnce (tuples fs)) (sym (grp_yes key e es w here)) (fresh, r)
-      | inr other ↦ subst (λ (fs : List Entry). AreOnce (tuples fs)) (sym (grp_no key e es w other)) r
+      | inl here ↦ subst (λ (fs : List Entry). AreOnce (tuples fs)) (sym (grp_yes key e es w here))
+          (fresh, r)
+      | inr other ↦ subst (λ (fs : List Entry). AreOnce (tuples fs)) (sym (grp_no key e es w other))
+          r
     ]
   where
     fresh : has (tuples (grp key es w)) e.tuple ≡ false
     fresh =
         elim (cases_Bool (has (tuples (grp key es w)) e.tuple)) [
-          | inl is ↦ absurd (let g = (group_says key es w e.tuple is).0 in let z = apart_head e es h in omega arith)
+          | inl is ↦ absurd
+              (let g = (group_says key es w e.tuple is).0 in let z = apart_head e es h in omega
+              arith)
           | inr isnt ↦ isnt
         ]
 
-pub group_filled : (key : List ℕ) (es : List Entry) (w : List ℕ) → 0 < many key es w → tuples (grp key es w) ≡ [] → ⊥
+pub group_filled : (key : List ℕ) (es : List Entry) (w : List ℕ) → 0 < many key es w
+    → tuples (grp key es w) ≡ [] → ⊥
 group_filled key es w h e =
     let l = length_grp key es w in
-    let m : length (tuples (grp key es w)) ≡ length (grp key es w) = length-map (grp key es w) (λ (e : Entry). e.tuple) in
+    let m : length (tuples (grp key es w)) ≡ length (grp key es w) = length-map (grp key es w)
+    (λ (e : Entry). e.tuple) in
     let z : length (tuples (grp key es w)) ≡ 0 = ap (λ (us : List (List ℕ)). length us) e in
     omega arith
 
@@ -111,9 +125,11 @@ some_nil [] h = absurd (h refl)
 some_nil (e ∷ es) h = omega arith
 
 -- a tuple of the table makes a group
-pub many_of : (key : List ℕ) (es : List Entry) (w u : List ℕ) → 0 < cnt es u → pick key u ≡ w → 0 < many key es w
+pub many_of : (key : List ℕ) (es : List Entry) (w u : List ℕ) → 0 < cnt es u → pick key u ≡ w
+    → 0 < many key es w
 many_of key es w u h e =
     let g = group_has key es w u h e in
     let l = length_grp key es w in
-    let s = some_nil (grp key es w) (λ z. false≢true (ap (λ (us : List (List ℕ)). has us u) (sym z) ∙ g)) in
+    let s = some_nil (grp key es w)
+    (λ z. false≢true (ap (λ (us : List (List ℕ)). has us u) (sym z) ∙ g)) in
     omega arith

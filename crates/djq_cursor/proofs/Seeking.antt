@@ -18,8 +18,10 @@ use Rattle.djq_cursor.proofs.Columns.{cell}
 
 -- ---- the next level
 
-level_at : (t : Tree) (k : ℕ) (n : Node) → t.second_stage ≤ k → node_at t.nodes k ≡ n → levels_below t (suc k) ≡ level_on k n (levels_below t k)
-level_at t k n late e = rw (le-leb t.second_stage k late) (ap (λ (m : Node). level_on k m (levels_below t k)) e)
+level_at : (t : Tree) (k : ℕ) (n : Node) → t.second_stage ≤ k → node_at t.nodes k ≡ n
+    → levels_below t (suc k) ≡ level_on k n (levels_below t k)
+level_at t k n late e = rw (le-leb t.second_stage k late)
+    (ap (λ (m : Node). level_on k m (levels_below t k)) e)
 
 on_trim : (k : ℕ) (n : Node) (ks : List ℕ) → is_trim n ≡ true → level_on k n ks ≡ k ∷ ks
 on_trim k (Leaf a) ks h = absurd (false≢true h)
@@ -31,19 +33,28 @@ on_other k (Leaf a) ks h = refl
 on_other k (Trim c) ks h = absurd (false≢true (sym h))
 on_other k (Meet g s) ks h = refl
 
-just_below : (t : Tree) (n k : ℕ) (m : Node) → t.second_stage < n → k ≡ n - 1 → m ≡ node_at t.nodes k → levels_below t n ≡ level_on k m (levels_below t k)
+just_below : (t : Tree) (n k : ℕ) (m : Node) → t.second_stage < n → k ≡ n - 1
+    → m ≡ node_at t.nodes k → levels_below t n ≡ level_on k m (levels_below t k)
 just_below t zero k m low e is = absurd (omega arith)
 just_below t (suc n) k m low e is =
     let same : n ≡ k = omega arith in
-    subst (λ (i : ℕ). levels_below t (suc i) ≡ level_on k m (levels_below t k)) (sym same) (level_at t k m (omega arith) (sym is))
+    subst (λ (i : ℕ). levels_below t (suc i) ≡ level_on k m (levels_below t k)) (sym same)
+    (level_at t k m (omega arith) (sym is))
 
-pub level_found : (t : Tree) (number n k : ℕ) (m : Node) (b : Bool) → levels_below t number ≡ levels_below t n → t.second_stage < n → k ≡ n - 1 → m ≡ node_at t.nodes k → b ≡ is_trim m → b ≡ true → IsNextLevel t number k
-level_found t number n k m b same low e is test yes_trim = same ∙ just_below t n k m low e is ∙ on_trim k m (levels_below t k) (sym test ∙ yes_trim)
+pub level_found : (t : Tree) (number n k : ℕ) (m : Node) (b : Bool)
+    → levels_below t number ≡ levels_below t n → t.second_stage < n → k ≡ n - 1
+    → m ≡ node_at t.nodes k → b ≡ is_trim m → b ≡ true → IsNextLevel t number k
+level_found t number n k m b same low e is test yes_trim = same ∙ just_below t n k m low e is
+    ∙ on_trim k m (levels_below t k) (sym test ∙ yes_trim)
 
-pub level_not : (t : Tree) (number n k : ℕ) (m : Node) (b : Bool) → levels_below t number ≡ levels_below t n → t.second_stage < n → k ≡ n - 1 → m ≡ node_at t.nodes k → b ≡ is_trim m → b ≡ false → levels_below t number ≡ levels_below t k
-level_not t number n k m b same low e is test no_trim = same ∙ just_below t n k m low e is ∙ on_other k m (levels_below t k) (sym test ∙ no_trim)
+pub level_not : (t : Tree) (number n k : ℕ) (m : Node) (b : Bool)
+    → levels_below t number ≡ levels_below t n → t.second_stage < n → k ≡ n - 1
+    → m ≡ node_at t.nodes k → b ≡ is_trim m → b ≡ false → levels_below t number ≡ levels_below t k
+level_not t number n k m b same low e is test no_trim = same ∙ just_below t n k m low e is
+    ∙ on_other k m (levels_below t k) (sym test ∙ no_trim)
 
-pub no_level : (t : Tree) (number n : ℕ) → levels_below t number ≡ levels_below t n → n ≤ t.second_stage → levels_below t number ≡ []
+pub no_level : (t : Tree) (number n : ℕ) → levels_below t number ≡ levels_below t n
+    → n ≤ t.second_stage → levels_below t number ≡ []
 no_level t number n same low = same ∙ none t n low
   where
     none : (t : Tree) (k : ℕ) → k ≤ t.second_stage → levels_below t k ≡ []
@@ -52,14 +63,19 @@ no_level t number n same low = same ∙ none t n low
 
 -- ---- the lowest variable is taken out of a label
 
-pub popped : (o : Option ℕ) (old new : List ℕ) (x : ℕ) → old ≡ option_to_list o ++ new → o ≡ Some x → old ≡ x ∷ new
+pub popped : (o : Option ℕ) (old new : List ℕ) (x : ℕ) → old ≡ option_to_list o ++ new → o ≡ Some x
+    → old ≡ x ∷ new
 popped o old new x taken some = taken ∙ ap (λ (p : Option ℕ). option_to_list p ++ new) some
 
-pub pop_within : (F old new : List ℕ) (x : ℕ) → old ≡ x ∷ new → subset old F ≡ true → (member x F ≡ true) × (subset new F ≡ true)
-pop_within F old new x e h = and_parts (member x F) (subset new F) (ap (λ (l : List ℕ). subset l F) (sym e) ∙ h)
+pub pop_within : (F old new : List ℕ) (x : ℕ) → old ≡ x ∷ new → subset old F ≡ true
+    → (member x F ≡ true) × (subset new F ≡ true)
+pop_within F old new x e h = and_parts (member x F) (subset new F)
+    (ap (λ (l : List ℕ). subset l F) (sym e) ∙ h)
 
 -- a cell is read
-pub picked_next : (F old new s cells all : List ℕ) (x u : ℕ) → old ≡ x ∷ new → cells ++ pick (columns F old) s ≡ all → u ≡ cell F s x → (cells ++ u ∷ []) ++ pick (columns F new) s ≡ all
+pub picked_next : (F old new s cells all : List ℕ) (x u : ℕ) → old ≡ x ∷ new
+    → cells ++ pick (columns F old) s ≡ all → u ≡ cell F s x
+    → (cells ++ u ∷ []) ++ pick (columns F new) s ≡ all
 unfolding pick
 picked_next F old new s cells all x u e h is =
     append_assoc cells (u ∷ []) (pick (columns F new) s)
@@ -68,12 +84,18 @@ picked_next F old new s cells all x u e h is =
     ∙ ap (λ (l : List ℕ). cells ++ pick (columns F l) s) (sym e)
     ∙ h
 
-pub picked_all : (F old s cells all : List ℕ) → old ≡ [] → cells ++ pick (columns F old) s ≡ all → cells ≡ all
-picked_all F old s cells all e h = sym (append-nil cells) ∙ ap (λ (l : List ℕ). cells ++ l) (sym (ap (λ (l : List ℕ). pick (columns F l) s) e ∙ ap (λ (l : List ℕ). pick l s) (columns_none F) ∙ pick_nil s)) ∙ h
+pub picked_all : (F old s cells all : List ℕ) → old ≡ [] → cells ++ pick (columns F old) s ≡ all
+    → cells ≡ all
+picked_all F old s cells all e h = sym (append-nil cells)
+    ∙ ap (λ (l : List ℕ). cells ++ l)
+    (sym (ap (λ (l : List ℕ). pick (columns F l) s) e
+    ∙ ap (λ (l : List ℕ). pick l s) (columns_none F) ∙ pick_nil s)) ∙ h
 
 -- a cell is written
-pub written_next : (F old new tuple s : List ℕ) (x at u : ℕ) → old ≡ x ∷ new → at < length tuple → u ≡ slice_index tuple at
-    → written F old (drop at tuple) s ≡ written F new (drop (at + 1) tuple) (slice_set s (column F x) u)
+pub written_next : (F old new tuple s : List ℕ) (x at u : ℕ) → old ≡ x ∷ new → at < length tuple
+    → u ≡ slice_index tuple at
+    → written F old (drop at tuple) s ≡ written F new (drop (at + 1) tuple)
+    (slice_set s (column F x) u)
 written_next F old new tuple s x at u e low is =
     ap (λ (l : List ℕ). written F l (drop at tuple) s) e
     ∙ ap (λ (us : List ℕ). written F (x ∷ new) us s) (drop_more tuple at 0 low)

@@ -1,4 +1,5 @@
--- The levels of a listing: at each of them a tuple of the child of a trim is chosen, and its cells are written
+-- The levels of a listing: at each of them a tuple of the child of a trim is chosen, and its cells
+-- are written
 -- into the answer.
 use Rattle.std.specs.Prelude.{◌≡◌, ℕ, ◌<◌, ◌≤◌, true, cond, ◌==◌, List, [], ◌∷◌, map, length, slice_set}
 use Rattle.djq_index.specs.declared.place.Place.{Place}
@@ -40,7 +41,8 @@ tuple_at (e ∷ es) p = cond (e.at.slot == p.slot) e.tuple (tuple_at es p)
 
 -- the tuples of a level's group with these cells
 unfoldable pub group_at : Reducts → ℕ → List ℕ → List (List ℕ)
-group_at r k w = map (λ e. e.tuple) (grp (key_at r.tables (source r.tree k)) (entries_at r.tables (source r.tree k)) w)
+group_at r k w = map (λ e. e.tuple)
+    (grp (key_at r.tables (source r.tree k)) (entries_at r.tables (source r.tree k)) w)
 
 -- an answer over the head F, once the cells u of the variables l are written
 abbrev pub written : List ℕ → List ℕ → List ℕ → List ℕ → List ℕ

@@ -1,4 +1,5 @@
--- A listing goes through the levels of a tree from the highest one down. At each level it chooses a tuple from a
+-- A listing goes through the levels of a tree from the highest one down. At each level it chooses a
+-- tuple from a
 -- menu, which is known by the level and by the cells of its label, and these were chosen above.
 use Rattle.std.specs.Prelude.{◌≡◌, ⊤, ℕ, Bool, true, cond, List, [], ◌∷◌, ◌++◌, length, replicate, flat_map}
 use Rattle.djq_index.specs.Table.{IsLive}
@@ -39,7 +40,8 @@ here r s (c ∷ cs) = here r (step r.tree c.level s (chosen r c)) cs
 abbrev pub before : Reducts → Menu → List ℕ → List Choice → List (List ℕ)
 before r menu s [] = []
 before r menu s (c ∷ cs) =
-    flat_map (λ u. leaves r.tree menu (levels_below r.tree c.level) (step r.tree c.level s u)) (ahead (menu_at r.tree menu c.level s) (chosen r c))
+    flat_map (λ u. leaves r.tree menu (levels_below r.tree c.level) (step r.tree c.level s u))
+    (ahead (menu_at r.tree menu c.level s) (chosen r c))
     ++ before r menu (step r.tree c.level s (chosen r c)) cs
 
 -- the number below which the levels have no choice yet
@@ -59,11 +61,30 @@ Follows r menu n s (c ∷ cs) =
 -- no menu is empty, whatever is chosen above it
 abbrev pub IsOpen : Tree → Menu → List ℕ → List ℕ → Type 0
 IsOpen t menu [] s = ⊤
-IsOpen t menu (k ∷ ks) s = (menu_at t menu k s ≡ [] → ⊥) × ((u : List ℕ) → has (menu_at t menu k s) u ≡ true → IsOpen t menu ks (step t k s u))
+IsOpen t menu (k ∷ ks) s = (menu_at t menu k s ≡ [] → ⊥)
+    × ((u : List ℕ) → has (menu_at t menu k s) u ≡ true → IsOpen t menu ks (step t k s u))
 
 -- an answer of which nothing is known
 abbrev pub blank : Tree → List ℕ
 blank t = replicate (length t.head) 0
+
+-- the answer that choices from the root down make, and the answers ahead of it
+abbrev pub made_by : Reducts → List Choice → List ℕ
+made_by r cs = here r (blank r.tree) cs
+
+abbrev pub ahead_of : Reducts → Menu → List Choice → List (List ℕ)
+ahead_of r menu cs = before r menu (blank r.tree) cs
+
+-- all answers of the menus
+abbrev pub all_of : Tree → Menu → List (List ℕ)
+all_of t menu = leaves t menu (levels t) (blank t)
+
+-- the choices go down from the root, as far as they come; and they come to the end
+abbrev pub Descends : Reducts → Menu → List Choice → Type 0
+Descends r menu cs = Follows r menu (length r.tree.nodes) (blank r.tree) cs
+
+abbrev pub IsComplete : Reducts → List Choice → Type 0
+IsComplete r cs = levels_below r.tree (reached (length r.tree.nodes) cs) ≡ []
 
 -- the choice has the first of these tuples, at a live place
 pub record IsFirstAt (r : Reducts) (us : List (List ℕ)) (c : Choice) : Type 0 where
@@ -75,28 +96,29 @@ pub record IsAlive (r : Reducts) (c : Choice) : Type 0 where
   pub level : IsLevel r.tree c.level
   pub live : IsLive (entries_at r.tables (source r.tree c.level)) c.place
 
--- these choices go down from the root, and the answer is what they make
+-- the choices go down from the root, and the answer is what they make
 pub record Stands (r : Reducts) (menu : Menu) (cs : List Choice) (a : List ℕ) : Type 0 where
-  pub follows : Follows r menu (length r.tree.nodes) (blank r.tree) cs
-  pub answer : a ≡ here r (blank r.tree) cs
+  pub follows : Descends r menu cs
+  pub answer : a ≡ made_by r cs
 
--- what is known of menus: none has a tuple twice, and where the listing may be entered none is empty
+-- what is known of menus: none has a tuple twice, and where the listing may be entered none is
+-- empty
 pub record IsClear (t : Tree) (menu : Menu) (entered : Bool) : Type 0 where
   pub once : (k : ℕ) (w : List ℕ) → AreOnce (menu k w)
   pub filled : entered ≡ true → IsOpen t menu (levels t) (blank t)
 
 -- all answers, in the order in which they are given
 abbrev pub all_given : Reducts → Menu → Bool → List (List ℕ)
-all_given r menu entered = cond entered (leaves r.tree menu (levels r.tree) (blank r.tree)) []
+all_given r menu entered = cond entered (all_of r.tree menu) []
 
 -- what was given in this state, with these choices
 abbrev pub given_by : Reducts → Menu → Bool → State → List Choice → List (List ℕ)
 given_by r menu entered Start cs = []
-given_by r menu entered At cs = before r menu (blank r.tree) cs ++ here r (blank r.tree) cs ∷ []
+given_by r menu entered At cs = ahead_of r menu cs ++ made_by r cs ∷ []
 given_by r menu entered End cs = all_given r menu entered
 
 -- the state and the choices fit: there are none at the start, and later one at each level
 abbrev pub FitsBy : Reducts → Menu → Bool → State → List Choice → Type 0
 FitsBy r menu entered Start cs = cs ≡ []
-FitsBy r menu entered At cs = (entered ≡ true) × Follows r menu (length r.tree.nodes) (blank r.tree) cs × (levels_below r.tree (reached (length r.tree.nodes) cs) ≡ [])
+FitsBy r menu entered At cs = (entered ≡ true) × Descends r menu cs × IsComplete r cs
 FitsBy r menu entered End cs = ⊤

@@ -4,7 +4,8 @@ use djq_reduct::Reducts;
 use djq_steps::Tally;
 use std::sync::ledger::Ledger;
 
-/// What a listing chooses from at each level: whole groups, or the part of them that an update changed.
+/// What a listing chooses from at each level: whole groups, or the part of them that an update
+/// changed.
 pub trait Choices {
     ghost use Rattle.std.specs.Prelude.{◌≡◌, ℕ, ◌+◌, Bool, true, List, [], IfSome, IfNone};
     ghost use Rattle.djq_index.specs.Table.{IsLive};
@@ -25,7 +26,8 @@ pub trait Choices {
         ensures entered { result ≡ entered self.now reducts.now }
         ensures counted { listing.new ≡ listing.old + 1 };
 
-    /// The first tuple to choose at a level; none exactly where there is none. It counts one look-up.
+    /// The first tuple to choose at a level; none exactly where there is none. It counts one
+    /// look-up.
     fn first<L: Ledger>(
         &self,
         reducts: &Reducts,
@@ -34,7 +36,9 @@ pub trait Choices {
         listing: &mut Tally<L>,
     ) -> Option<Place>
         requires { IsLevel reducts.now.tree level }
-        ensures some { IfSome result (λ p. IsFirstAt reducts.now (menu self.now reducts.now level key.now) (record { level = level; place = p })) }
+        ensures some { IfSome result
+            (λ p. IsFirstAt reducts.now (menu self.now reducts.now level key.now)
+            (record { level = level; place = p })) }
         ensures none { IfNone result (menu self.now reducts.now level key.now ≡ []) }
         ensures counted { listing.new ≡ listing.old + 1 };
 
@@ -46,7 +50,15 @@ pub trait Choices {
         listing: &mut Tally<L>,
     ) -> Option<Place>
         requires { IsAlive reducts.now choice }
-        ensures some { IfSome result (λ p. (w : List ℕ) → has (menu self.now reducts.now choice.level w) (chosen reducts.now choice) ≡ true → IsFirstAt reducts.now (behind (menu self.now reducts.now choice.level w) (chosen reducts.now choice)) (record { level = choice.level; place = p })) }
-        ensures none { IfNone result ((w : List ℕ) → has (menu self.now reducts.now choice.level w) (chosen reducts.now choice) ≡ true → behind (menu self.now reducts.now choice.level w) (chosen reducts.now choice) ≡ []) }
+        ensures some { IfSome result
+            (λ p. (w : List ℕ)
+            → has (menu self.now reducts.now choice.level w) (chosen reducts.now choice) ≡ true
+            → IsFirstAt reducts.now
+            (behind (menu self.now reducts.now choice.level w) (chosen reducts.now choice))
+            (record { level = choice.level; place = p })) }
+        ensures none { IfNone result
+            ((w : List ℕ)
+            → has (menu self.now reducts.now choice.level w) (chosen reducts.now choice) ≡ true
+            → behind (menu self.now reducts.now choice.level w) (chosen reducts.now choice) ≡ []) }
         ensures counted { listing.new ≡ listing.old + 1 };
 }

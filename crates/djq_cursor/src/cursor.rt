@@ -25,7 +25,8 @@ pub enum State {
 
 /// A listing of the answers that reducts have, on its way. It takes no memory but its own.
 ///
-/// A cursor goes with reducts only as long as nothing changes them. It doesn't notice a change: a caller
+/// A cursor goes with reducts only as long as nothing changes them. It doesn't notice a change: a
+/// caller
 /// starts anew.
 #[derive(Debug, Drop)]
 pub struct Cursor {
@@ -45,7 +46,8 @@ impl Cursor {
         }
     }
 
-    /// Gives one answer that is left, and says so; false exactly where none is. Each call counts at most two
+    /// Gives one answer that is left, and says so; false exactly where none is. Each call counts at
+    /// most two
     /// look-ups and links for each variable of the head, and one.
     pub fn advance<L: Ledger>(
         &mut self,
@@ -55,10 +57,12 @@ impl Cursor {
     ) -> bool
         requires { Fits reducts.now self.old }
         ensures fits { Fits reducts.now self.new }
-        ensures one { OnTrue result (given reducts.now self.new ≡ given reducts.now self.old ++ answer.new ∷ []) }
+        ensures one { OnTrue result
+            (given reducts.now self.new ≡ given reducts.now self.old ++ answer.new ∷ []) }
         ensures same { OnFalse result (given reducts.now self.new ≡ given reducts.now self.old) }
         ensures answers { AreSome (IsAnswerOf reducts.now) (given reducts.now self.new) }
-        ensures end { result ≡ false ↔ IsListing (IsAnswerOf reducts.now) (given reducts.now self.old) }
+        ensures end { result ≡ false
+            ↔ IsListing (IsAnswerOf reducts.now) (given reducts.now self.old) }
         ensures counted { listing.new ≤ listing.old + (2 * length reducts.now.tree.head + 1) }
     {
         reducts.laws();

@@ -10,7 +10,8 @@ use djq_reduct::{Answer, Reducts};
 use djq_steps::Tally;
 use std::sync::ledger::Ledger;
 
-/// Whether a node isn't in `out`, or its table has the projection of the answer. It counts a look-up only where
+/// Whether a node isn't in `out`, or its table has the projection of the answer. It counts a
+/// look-up only where
 /// the node is in `out`.
 fn allows<L: Ledger>(
     reducts: &Reducts,
@@ -20,7 +21,9 @@ fn allows<L: Ledger>(
 ) -> bool
     requires within { node < length reducts.now.tree.nodes }
     requires wide { length answer.now ≡ length reducts.now.tree.head }
-    ensures exact { result ≡ true ↔ (is_out reducts.now.tree.out node ≡ true → 0 < cnt (entries_at reducts.now.tables node) (on_node reducts.now.tree node answer.now)) }
+    ensures exact { result ≡ true
+        ↔ (is_out reducts.now.tree.out node ≡ true
+        → 0 < cnt (entries_at reducts.now.tables node) (on_node reducts.now.tree node answer.now)) }
     ensures counted { listing.new ≡ listing.old + one (is_out reducts.now.tree.out node) }
 {
     if !reducts.tree().is_out(node) {
@@ -33,9 +36,11 @@ fn allows<L: Ledger>(
         .is_some()
 }
 
-/// Whether a tuple over the head is an answer of the reducts. It counts at most one look-up for each atom.
+/// Whether a tuple over the head is an answer of the reducts. It counts at most one look-up for
+/// each atom.
 ///
-/// It looks up the projections on the nodes of `out` that the first stage made. The others follow, since
+/// It looks up the projections on the nodes of `out` that the first stage made. The others follow,
+/// since
 /// each table is the reduct of its children's.
 pub fn has<L: Ledger>(reducts: &Reducts, answer: &Answer, listing: &mut Tally<L>) -> bool
     requires { length answer.now ≡ length reducts.now.tree.head }

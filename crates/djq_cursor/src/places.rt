@@ -12,7 +12,8 @@ pub struct Choice {
     pub place: Place,
 }
 
-/// The choices of a listing, from the highest level on. They stand inline, so that they take no memory.
+/// The choices of a listing, from the highest level on. They stand inline, so that they take no
+/// memory.
 #[derive(Debug, Drop)]
 pub struct Places {
     choices: [Choice; CELLS],

@@ -3,18 +3,19 @@ ghost use Rattle.std.specs.Bool.{OnTrue, OnFalse};
 ghost use Rattle.djq_tree.specs.Levels.{levels, levels_below};
 ghost use Rattle.djq_cursor.specs.Menus.{AreOnce};
 ghost use Rattle.djq_cursor.specs.Walk.{
+  Descends,
+  FitsBy,
   IsAlive,
   IsClear,
+  IsComplete,
   IsOpen,
-  FitsBy,
-  Follows,
   Stands,
+  ahead_of,
   all_given,
-  before,
+  all_of,
   blank,
   given_by,
-  here,
-  leaves,
+  made_by,
   reached,
 };
 
@@ -35,12 +36,14 @@ fn fill<C: Choices, L: Ledger>(
     answer: &mut Answer,
     listing: &mut Tally<L>,
 )
-    requires opened { IsOpen reducts.now.tree (C.menu choices.now reducts.now) (levels reducts.now.tree) (blank reducts.now.tree) }
+    requires opened { IsOpen reducts.now.tree (C.menu choices.now reducts.now) (levels reducts.now.tree)
+        (blank reducts.now.tree) }
     requires from { from ≡ reached (length reducts.now.tree.nodes) places.old }
     requires stands { Stands reducts.now (C.menu choices.now reducts.now) places.old answer.old }
     ensures stands { Stands reducts.now (C.menu choices.now reducts.now) places.new answer.new }
-    ensures whole { levels_below reducts.now.tree (reached (length reducts.now.tree.nodes) places.new) ≡ [] }
-    ensures before { before reducts.now (C.menu choices.now reducts.now) (blank reducts.now.tree) places.new ≡ before reducts.now (C.menu choices.now reducts.now) (blank reducts.now.tree) places.old }
+    ensures whole { IsComplete reducts.now places.new }
+    ensures before { ahead_of reducts.now (C.menu choices.now reducts.now) places.new ≡ ahead_of reducts.now
+        (C.menu choices.now reducts.now) places.old }
     ensures counted { listing.new ≡ listing.old + length (levels_below reducts.now.tree from) }
 {
     reducts.laws();
@@ -61,7 +64,7 @@ fn fill<C: Choices, L: Ledger>(
 /// Writes the tuples of choices into an answer of which nothing is known.
 fn rewrite(reducts: &Reducts, places: &Places, answer: &mut Answer)
     requires { All (IsAlive reducts.now) places.now }
-    ensures { answer.new ≡ here reducts.now (blank reducts.now.tree) places.now }
+    ensures { answer.new ≡ made_by reducts.now places.now }
 {
     reducts.laws();
     *answer = Answer::new(reducts.tree().head().len());
@@ -70,7 +73,8 @@ fn rewrite(reducts: &Reducts, places: &Places, answer: &mut Answer)
     }
 }
 
-/// Goes on to the next answer: the last choice that has a next tuple takes it, and every later one starts again.
+/// Goes on to the next answer: the last choice that has a next tuple takes it, and every later one
+/// starts again.
 fn go_on<C: Choices, L: Ledger>(
     choices: &C,
     reducts: &Reducts,
@@ -79,13 +83,18 @@ fn go_on<C: Choices, L: Ledger>(
     listing: &mut Tally<L>,
 ) -> bool
     requires once { (k : ℕ) (w : List ℕ) → AreOnce (C.menu choices.now reducts.now k w) }
-    requires opened { IsOpen reducts.now.tree (C.menu choices.now reducts.now) (levels reducts.now.tree) (blank reducts.now.tree) }
-    requires follows { Follows reducts.now (C.menu choices.now reducts.now) (length reducts.now.tree.nodes) (blank reducts.now.tree) places.old }
-    requires whole { levels_below reducts.now.tree (reached (length reducts.now.tree.nodes) places.old) ≡ [] }
+    requires opened { IsOpen reducts.now.tree (C.menu choices.now reducts.now) (levels reducts.now.tree)
+        (blank reducts.now.tree) }
+    requires follows { Descends reducts.now (C.menu choices.now reducts.now) places.old }
+    requires whole { IsComplete reducts.now places.old }
     ensures stands { OnTrue result (Stands reducts.now (C.menu choices.now reducts.now) places.new answer.new) }
-    ensures whole { OnTrue result (levels_below reducts.now.tree (reached (length reducts.now.tree.nodes) places.new) ≡ []) }
-    ensures before { OnTrue result (before reducts.now (C.menu choices.now reducts.now) (blank reducts.now.tree) places.new ≡ before reducts.now (C.menu choices.now reducts.now) (blank reducts.now.tree) places.old ++ here reducts.now (blank reducts.now.tree) places.old ∷ []) }
-    ensures all { OnFalse result (leaves reducts.now.tree (C.menu choices.now reducts.now) (levels reducts.now.tree) (blank reducts.now.tree) ≡ before reducts.now (C.menu choices.now reducts.now) (blank reducts.now.tree) places.old ++ here reducts.now (blank reducts.now.tree) places.old ∷ []) }
+    ensures whole { OnTrue result (IsComplete reducts.now places.new) }
+    ensures before { OnTrue result
+        (ahead_of reducts.now (C.menu choices.now reducts.now) places.new ≡ ahead_of reducts.now
+        (C.menu choices.now reducts.now) places.old ++ made_by reducts.now places.old ∷ []) }
+    ensures all { OnFalse result
+        (all_of reducts.now.tree (C.menu choices.now reducts.now) ≡ ahead_of reducts.now
+        (C.menu choices.now reducts.now) places.old ++ made_by reducts.now places.old ∷ []) }
     ensures counted { listing.new ≤ listing.old + 2 * length (levels reducts.now.tree) }
 {
     reducts.laws();
@@ -114,11 +123,17 @@ fn begin<C: Choices, L: Ledger>(
     answer: &mut Answer,
     listing: &mut Tally<L>,
 ) -> bool
-    requires clear { IsClear reducts.now.tree (C.menu choices.now reducts.now) (C.entered choices.now reducts.now) }
+    requires clear { IsClear reducts.now.tree (C.menu choices.now reducts.now)
+        (C.entered choices.now reducts.now) }
     requires none { cursor.old.places ≡ [] }
-    ensures fits { FitsBy reducts.now (C.menu choices.now reducts.now) (C.entered choices.now reducts.now) cursor.new.state cursor.new.places }
-    ensures one { OnTrue result (given_by reducts.now (C.menu choices.now reducts.now) (C.entered choices.now reducts.now) cursor.new.state cursor.new.places ≡ answer.new ∷ []) }
-    ensures none { OnFalse result (all_given reducts.now (C.menu choices.now reducts.now) (C.entered choices.now reducts.now) ≡ []) }
+    ensures fits { FitsBy reducts.now (C.menu choices.now reducts.now)
+        (C.entered choices.now reducts.now) cursor.new.state cursor.new.places }
+    ensures one { OnTrue result
+        (given_by reducts.now (C.menu choices.now reducts.now) (C.entered choices.now reducts.now)
+        cursor.new.state cursor.new.places ≡ answer.new ∷ []) }
+    ensures none { OnFalse result
+        (all_given reducts.now (C.menu choices.now reducts.now)
+        (C.entered choices.now reducts.now) ≡ []) }
     ensures end { OnFalse result (cursor.new.state ≡ State.End) }
     ensures counted { listing.new ≤ listing.old + length (levels reducts.now.tree) + 1 }
 {
@@ -140,7 +155,8 @@ fn begin<C: Choices, L: Ledger>(
     true
 }
 
-/// Gives one answer more of a listing: true with one that is left, false exactly where none is. It counts at
+/// Gives one answer more of a listing: true with one that is left, false exactly where none is. It
+/// counts at
 /// most two look-ups and links for each variable of the head, and one.
 pub fn advance_by<C: Choices, L: Ledger>(
     choices: &C,
@@ -149,12 +165,24 @@ pub fn advance_by<C: Choices, L: Ledger>(
     answer: &mut Answer,
     listing: &mut Tally<L>,
 ) -> bool
-    requires clear { IsClear reducts.now.tree (C.menu choices.now reducts.now) (C.entered choices.now reducts.now) }
-    requires fits { FitsBy reducts.now (C.menu choices.now reducts.now) (C.entered choices.now reducts.now) cursor.old.state cursor.old.places }
-    ensures fits { FitsBy reducts.now (C.menu choices.now reducts.now) (C.entered choices.now reducts.now) cursor.new.state cursor.new.places }
-    ensures one { OnTrue result (given_by reducts.now (C.menu choices.now reducts.now) (C.entered choices.now reducts.now) cursor.new.state cursor.new.places ≡ given_by reducts.now (C.menu choices.now reducts.now) (C.entered choices.now reducts.now) cursor.old.state cursor.old.places ++ answer.new ∷ []) }
-    ensures all { OnFalse result (given_by reducts.now (C.menu choices.now reducts.now) (C.entered choices.now reducts.now) cursor.old.state cursor.old.places ≡ all_given reducts.now (C.menu choices.now reducts.now) (C.entered choices.now reducts.now)) }
-    ensures same { OnFalse result (given_by reducts.now (C.menu choices.now reducts.now) (C.entered choices.now reducts.now) cursor.new.state cursor.new.places ≡ all_given reducts.now (C.menu choices.now reducts.now) (C.entered choices.now reducts.now)) }
+    requires clear { IsClear reducts.now.tree (C.menu choices.now reducts.now)
+        (C.entered choices.now reducts.now) }
+    requires fits { FitsBy reducts.now (C.menu choices.now reducts.now) (C.entered choices.now reducts.now)
+        cursor.old.state cursor.old.places }
+    ensures fits { FitsBy reducts.now (C.menu choices.now reducts.now)
+        (C.entered choices.now reducts.now) cursor.new.state cursor.new.places }
+    ensures one { OnTrue result
+        (given_by reducts.now (C.menu choices.now reducts.now) (C.entered choices.now reducts.now)
+        cursor.new.state cursor.new.places ≡ given_by reducts.now (C.menu choices.now reducts.now)
+        (C.entered choices.now reducts.now) cursor.old.state cursor.old.places ++ answer.new ∷ []) }
+    ensures all { OnFalse result
+        (given_by reducts.now (C.menu choices.now reducts.now) (C.entered choices.now reducts.now)
+        cursor.old.state cursor.old.places ≡ all_given reducts.now (C.menu choices.now reducts.now)
+        (C.entered choices.now reducts.now)) }
+    ensures same { OnFalse result
+        (given_by reducts.now (C.menu choices.now reducts.now) (C.entered choices.now reducts.now)
+        cursor.new.state cursor.new.places ≡ all_given reducts.now (C.menu choices.now reducts.now)
+        (C.entered choices.now reducts.now)) }
     ensures counted { listing.new ≤ listing.old + (2 * length reducts.now.tree.head + 1) }
 {
     reducts.tree().is_small();

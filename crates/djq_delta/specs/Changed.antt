@@ -1,5 +1,5 @@
 -- The answers that an update of one leaf changes.
-use Rattle.std.specs.Prelude.{◌≡◌, ◌≢◌, ℕ, ◌<◌, true, List}
+use Rattle.std.specs.Prelude.{◌≡◌, ◌≢◌, ℕ, true, List}
 use Rattle.djq_index.specs.Entries.{cnt, plain}
 use Rattle.djq_tree.specs.Levels.{is_start}
 use Rattle.djq_reduct.specs.Tables.{entries_at}
@@ -22,10 +22,14 @@ pub record IsGained (big small : Reducts) (b : List ℕ) : Type 0 where
   pub is : IsAnswerOf big b
   pub was_none : IsAnswerOf small b → ⊥
 
--- `small` are the reducts without what is marked: before an insertion, or once a removal is finished. Of the nodes of
+-- `small` are the reducts without what is marked: before an insertion, or once a removal is
+-- finished. Of the nodes of
 -- `out` that the first stage made, only that of the path has other tuples: those that aren't marked
 pub record IsWithout (big small : Reducts) (a : ℕ) : Type 0 where
   pub sound : IsReducts small
   pub same_tree : small.tree ≡ big.tree
-  pub unmarked : (u : List ℕ) → cnt (entries_at small.tables (entry_node big a)) u ≡ cnt (plain (entries_at big.tables (entry_node big a))) u
-  pub others : (j : ℕ) (u : List ℕ) → is_start big.tree j ≡ true → j ≢ entry_node big a → cnt (entries_at small.tables j) u ≡ cnt (entries_at big.tables j) u
+  pub unmarked : (u : List ℕ)
+      → cnt (entries_at small.tables (entry_node big a)) u ≡ cnt
+      (plain (entries_at big.tables (entry_node big a))) u
+  pub others : (j : ℕ) (u : List ℕ) → is_start big.tree j ≡ true → j ≢ entry_node big a
+      → cnt (entries_at small.tables j) u ≡ cnt (entries_at big.tables j) u

@@ -4,7 +4,6 @@ use Rattle.djq_index.specs.declared.place.Place.{Place}
 use Rattle.djq_index.specs.Entries.{Entry, cnt, grp, marks}
 use Rattle.djq_reduct.specs.Tables.{entries_at, key_at}
 use Rattle.djq_reduct.specs.Reducts.{Reducts}
-use Rattle.djq_cursor.specs.declared.cursor.Cursor.{Cursor}
 use Rattle.djq_cursor.specs.Levels.{source}
 use Rattle.djq_cursor.specs.Walk.{given_by, FitsBy}
 use Rattle.djq_delta.specs.declared.delta.DeltaCursor.{DeltaCursor}

@@ -12,7 +12,8 @@ use djq_reduct::{Answer, Reducts};
 use djq_steps::Tally;
 use std::sync::ledger::Ledger;
 
-/// A listing of the answers that an update of one leaf changes, on its way. It takes no memory but its own.
+/// A listing of the answers that an update of one leaf changes, on its way. It takes no memory but
+/// its own.
 ///
 /// It goes with reducts and their marks only as long as nothing changes them.
 #[derive(Debug, Drop)]
@@ -38,7 +39,8 @@ impl DeltaCursor {
         }
     }
 
-    /// Gives one changed answer that is left, and says so; false exactly where none is. Each call counts at
+    /// Gives one changed answer that is left, and says so; false exactly where none is. Each call
+    /// counts at
     /// most two look-ups and links for each variable of the head, and one.
     pub fn advance<L: Ledger>(
         &mut self,
@@ -50,10 +52,12 @@ impl DeltaCursor {
         requires fits { DeltaFits reducts.now self.old }
         ensures leaf { self.new.leaf ≡ self.old.leaf }
         ensures fits { DeltaFits reducts.now self.new }
-        ensures one { OnTrue result (told reducts.now self.new ≡ told reducts.now self.old ++ answer.new ∷ []) }
+        ensures one { OnTrue result
+            (told reducts.now self.new ≡ told reducts.now self.old ++ answer.new ∷ []) }
         ensures same { OnFalse result (told reducts.now self.new ≡ told reducts.now self.old) }
         ensures answers { AreSome (IsChanged reducts.now self.old.leaf) (told reducts.now self.new) }
-        ensures end { result ≡ false ↔ IsListing (IsChanged reducts.now self.old.leaf) (told reducts.now self.old) }
+        ensures end { result ≡ false
+            ↔ IsListing (IsChanged reducts.now self.old.leaf) (told reducts.now self.old) }
         ensures counted { listing.new ≤ listing.old + (2 * length reducts.now.tree.head + 1) }
     {
         reducts.laws();
@@ -61,11 +65,13 @@ impl DeltaCursor {
     }
 }
 
-/// What the changed answers are: those that the reducts have with what is marked, and don't have without it. So
+/// What the changed answers are: those that the reducts have with what is marked, and don't have
+/// without it. So
 /// they are what an insertion brought, or what a removal will take. It does nothing.
 pub fn changes_are(reducts: &Reducts, leaf: usize)
     requires { AreMarks reducts.now leaf }
-    ensures { (small : spec.Reducts) → IsWithout reducts.now small leaf → (b : List ℕ) → IsChanged reducts.now leaf b ↔ IsGained reducts.now small b }
+    ensures { (small : spec.Reducts) → IsWithout reducts.now small leaf → (b : List ℕ)
+        → IsChanged reducts.now leaf b ↔ IsGained reducts.now small b }
 {
     reducts.laws();
 }

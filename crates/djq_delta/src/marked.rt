@@ -7,9 +7,11 @@ use djq_reduct::Reducts;
 use djq_steps::Tally;
 use std::sync::ledger::Ledger;
 
-/// The choices that list the changed answers: the marked tuples of a group if there are any, else all of it.
+/// The choices that list the changed answers: the marked tuples of a group if there are any, else
+/// all of it.
 ///
-/// The marked ones are the last of their group, so it is gone through from its end. No look at the path is
+/// The marked ones are the last of their group, so it is gone through from its end. No look at the
+/// path is
 /// needed: where a chosen tuple is marked, the one before it must be, too.
 #[derive(Clone, Copy, Debug)]
 pub(crate) struct Marked;

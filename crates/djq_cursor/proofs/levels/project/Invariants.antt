@@ -7,7 +7,8 @@ use Rattle.djq_cursor.proofs.levels.project.Given as goal
 
 abbrev pub invariant-loop-variable : goal.invariant-loop-variable
 invariant-loop-variable l = record {
-  picked : l.cells ++ pick (columns l.head l.rest) l.answer ≡ pick (columns l.head (label_at l.reducts.tree.labels l.node)) l.answer;
+  picked : l.cells ++ pick (columns l.head l.rest) l.answer ≡ pick
+      (columns l.head (label_at l.reducts.tree.labels l.node)) l.answer;
   room : length l.cells + length l.rest ≤ 16;
   within : subset l.rest l.head ≡ true;
 }

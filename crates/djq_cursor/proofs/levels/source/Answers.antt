@@ -10,4 +10,6 @@ returns-clause-source c = c.child_of.ensures ∙ ap child_of c.node.ensures
 pub returns-clause-within : goal.returns-clause-within
 unfolding source
 returns-clause-within c =
-    subst (λ (n : ℕ). n < length c.args.tree.now.nodes) (sym (c.child_of.ensures ∙ ap child_of c.node.ensures)) (source_within c.args.tree.now c.args.level c.len-nodes.ensures.tree c.requires)
+    subst (λ (n : ℕ). n < length c.args.tree.now.nodes)
+    (sym (c.child_of.ensures ∙ ap child_of c.node.ensures))
+    (source_within c.args.tree.now c.args.level c.len-nodes.ensures.tree c.requires)

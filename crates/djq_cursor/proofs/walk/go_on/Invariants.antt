@@ -6,9 +6,12 @@ use Rattle.djq_cursor.proofs.walk.go_on.Given as goal
 
 abbrev pub invariant-loop-choice : goal.invariant-loop-choice
 invariant-loop-choice g l = record {
-  follows : Follows l.reducts (g.C.Choices.menu l.choices l.reducts) (length l.reducts.tree.nodes) (blank l.reducts.tree) l.places;
-  given : given_to l.reducts (g.C.Choices.menu l.choices l.reducts) (length l.reducts.tree.nodes) (blank l.reducts.tree) l.places
-      ≡ before l.reducts (g.C.Choices.menu l.choices l.reducts) (blank l.reducts.tree) l.fn.places ++ here l.reducts (blank l.reducts.tree) l.fn.places ∷ [];
+  follows : Follows l.reducts (g.C.Choices.menu l.choices l.reducts) (length l.reducts.tree.nodes)
+      (blank l.reducts.tree) l.places;
+  given : given_to l.reducts (g.C.Choices.menu l.choices l.reducts) (length l.reducts.tree.nodes)
+      (blank l.reducts.tree) l.places
+      ≡ before l.reducts (g.C.Choices.menu l.choices l.reducts) (blank l.reducts.tree)
+      l.fn.places ++ here l.reducts (blank l.reducts.tree) l.fn.places ∷ [];
   counted : l.listing + length l.places ≡ l.fn.listing + length (levels l.reducts.tree);
 }
 
