@@ -2,3 +2,4 @@ pub mod Path
 pub mod Marks
 pub mod Changed
 pub mod Given
+pub mod Log

@@ -22,6 +22,11 @@
 #![tactic(auto)]
 
 mod delta;
+mod log;
 mod marked;
 
 pub use delta::{DeltaCursor, changes_are};
+pub use log::{DeltaLog, Line};
+
+#[cfg(test)]
+mod tests;
