@@ -9,8 +9,7 @@ use Rattle.djq_reduct.specs.Tables.{entries_at}
 use Rattle.djq_reduct.specs.Reducts.{Reducts}
 
 -- the projection of an answer on the label of the node j; an answer has a cell for each variable of
--- the head,
--- in rising order
+-- the head, in rising order
 unfoldable pub on_node : Tree → ℕ → List ℕ → List ℕ
 on_node t j a = pick (columns t.head (label_at t.labels j)) a
 

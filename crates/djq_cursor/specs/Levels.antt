@@ -1,6 +1,5 @@
 -- The levels of a listing: at each of them a tuple of the child of a trim is chosen, and its cells
--- are written
--- into the answer.
+-- are written into the answer.
 use Rattle.std.specs.Prelude.{◌≡◌, ℕ, ◌<◌, ◌≤◌, true, cond, ◌==◌, List, [], ◌∷◌, map, length, slice_set}
 use Rattle.djq_index.specs.declared.place.Place.{Place}
 use Rattle.djq_index.specs.Entries.{Entry, grp}

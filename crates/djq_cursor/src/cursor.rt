@@ -26,8 +26,7 @@ pub enum State {
 /// A listing of the answers that reducts have, on its way. It takes no memory but its own.
 ///
 /// A cursor goes with reducts only as long as nothing changes them. It doesn't notice a change: a
-/// caller
-/// starts anew.
+/// caller starts anew.
 #[derive(Debug, Drop)]
 pub struct Cursor {
     pub places: Places,
@@ -47,8 +46,7 @@ impl Cursor {
     }
 
     /// Gives one answer that is left, and says so; false exactly where none is. Each call counts at
-    /// most two
-    /// look-ups and links for each variable of the head, and one.
+    /// most two look-ups and links for each variable of the head, and one.
     pub fn advance<L: Ledger>(
         &mut self,
         reducts: &Reducts,

@@ -11,8 +11,7 @@ use djq_steps::Tally;
 use std::sync::ledger::Ledger;
 
 /// Whether a node isn't in `out`, or its table has the projection of the answer. It counts a
-/// look-up only where
-/// the node is in `out`.
+/// look-up only where the node is in `out`.
 fn allows<L: Ledger>(
     reducts: &Reducts,
     node: usize,
@@ -40,8 +39,7 @@ fn allows<L: Ledger>(
 /// each atom.
 ///
 /// It looks up the projections on the nodes of `out` that the first stage made. The others follow,
-/// since
-/// each table is the reduct of its children's.
+/// since each table is the reduct of its children's.
 pub fn has<L: Ledger>(reducts: &Reducts, answer: &Answer, listing: &mut Tally<L>) -> bool
     requires { length answer.now ≡ length reducts.now.tree.head }
     ensures exact { result ≡ true ↔ IsAnswerOf reducts.now answer.now }

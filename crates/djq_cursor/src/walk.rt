@@ -156,8 +156,7 @@ fn begin<C: Choices, L: Ledger>(
 }
 
 /// Gives one answer more of a listing: true with one that is left, false exactly where none is. It
-/// counts at
-/// most two look-ups and links for each variable of the head, and one.
+/// counts at most two look-ups and links for each variable of the head, and one.
 pub fn advance_by<C: Choices, L: Ledger>(
     choices: &C,
     reducts: &Reducts,

@@ -23,8 +23,8 @@ pub record IsGained (big small : Reducts) (b : List ℕ) : Type 0 where
   pub was_none : IsAnswerOf small b → ⊥
 
 -- `small` are the reducts without what is marked: before an insertion, or once a removal is
--- finished. Of the nodes of
--- `out` that the first stage made, only that of the path has other tuples: those that aren't marked
+-- finished. Of the nodes of `out` that the first stage made, only that of the path has other
+-- tuples: those that aren't marked
 pub record IsWithout (big small : Reducts) (a : ℕ) : Type 0 where
   pub sound : IsReducts small
   pub same_tree : small.tree ≡ big.tree

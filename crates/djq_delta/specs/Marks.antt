@@ -23,10 +23,8 @@ agreeing (Meet g s) j ts w = cond (g == j) (cnt (marks (entries_at ts g)) w)
     (cnt (marks (entries_at ts s)) (pick (key_at ts g) w))
 
 -- in `out` the marks are those of an update of the leaf a: above the nodes that the first stage
--- made, a tuple of
--- the path is marked exactly where it agrees with a marked one of the path's next lower node, and
--- children off
--- the path have no marks
+-- made, a tuple of the path is marked exactly where it agrees with a marked one of the path's next
+-- lower node, and children off the path have no marks
 pub record AreMarks (r : Reducts) (a : ℕ) : Type 0 where
   pub leaf : a < r.tree.leaves
   pub above : (k : ℕ) (w : List ℕ) → r.tree.second_stage ≤ k

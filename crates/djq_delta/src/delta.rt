@@ -40,8 +40,7 @@ impl DeltaCursor {
     }
 
     /// Gives one changed answer that is left, and says so; false exactly where none is. Each call
-    /// counts at
-    /// most two look-ups and links for each variable of the head, and one.
+    /// counts at most two look-ups and links for each variable of the head, and one.
     pub fn advance<L: Ledger>(
         &mut self,
         reducts: &Reducts,
@@ -66,8 +65,7 @@ impl DeltaCursor {
 }
 
 /// What the changed answers are: those that the reducts have with what is marked, and don't have
-/// without it. So
-/// they are what an insertion brought, or what a removal will take. It does nothing.
+/// without it. So they are what an insertion brought, or what a removal will take. It does nothing.
 pub fn changes_are(reducts: &Reducts, leaf: usize)
     requires { AreMarks reducts.now leaf }
     ensures { (small : spec.Reducts) → IsWithout reducts.now small leaf → (b : List ℕ)

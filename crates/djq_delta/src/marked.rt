@@ -11,8 +11,7 @@ use std::sync::ledger::Ledger;
 /// all of it.
 ///
 /// The marked ones are the last of their group, so it is gone through from its end. No look at the
-/// path is
-/// needed: where a chosen tuple is marked, the one before it must be, too.
+/// path is needed: where a chosen tuple is marked, the one before it must be, too.
 #[derive(Clone, Copy, Debug)]
 pub(crate) struct Marked;
 
