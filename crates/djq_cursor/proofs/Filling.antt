@@ -1,5 +1,29 @@
 -- What the walk meets on its way.
-use Rattle.std.proofs.Common.{◌≡◌, ℕ, zero, suc, ◌+◌, ◌<◌, ◌≤◌, Bool, true, false, cond, List, [], ◌∷◌, ◌++◌, length, drop, refl, ap, sym, subst, ◌∙◌, arith}
+use Rattle.std.proofs.Common.{
+  ◌≡◌,
+  ℕ,
+  zero,
+  suc,
+  ◌+◌,
+  ◌<◌,
+  ◌≤◌,
+  Bool,
+  true,
+  false,
+  cond,
+  List,
+  [],
+  ◌∷◌,
+  ◌++◌,
+  length,
+  drop,
+  refl,
+  ap,
+  sym,
+  subst,
+  ◌∙◌,
+  arith,
+}
 use Rattle.std.specs.Prelude.{All, nat_le, slice_index_or}
 use Rattle.std.proofs.lemmas.Bool.{leb-true}
 use Rattle.std.proofs.lemmas.List.{drop_more}
@@ -13,10 +37,31 @@ use Rattle.djq_reduct.specs.Reducts.{Reducts, IsReducts}
 use Rattle.djq_cursor.specs.declared.places.Choice.{Choice}
 use Rattle.djq_cursor.specs.Menus.{IsFirst}
 use Rattle.djq_cursor.specs.Levels.{IsLevel, IsNextLevel, step}
-use Rattle.djq_cursor.specs.Walk.{Menu, menu_at, chosen, here, before, reached, Follows, IsOpen, IsAlive, IsFirstAt, Stands, blank}
+use Rattle.djq_cursor.specs.Walk.{
+  Menu,
+  menu_at,
+  chosen,
+  here,
+  before,
+  reached,
+  Follows,
+  IsOpen,
+  IsAlive,
+  IsFirstAt,
+  Stands,
+  blank,
+}
 use Rattle.djq_cursor.proofs.Stepping.{step_wide}
 use Rattle.djq_cursor.proofs.Leaves.{blank_wide}
-use Rattle.djq_cursor.proofs.Walking.{joins_first, follows_push, here_push, before_first, reached_push, next_filled, length_levels}
+use Rattle.djq_cursor.proofs.Walking.{
+  joins_first,
+  follows_push,
+  here_push,
+  before_first,
+  reached_push,
+  next_filled,
+  length_levels,
+}
 
 -- ---- levels
 

@@ -1,5 +1,23 @@
 -- Going on to the next answer.
-use Rattle.std.proofs.Common.{◌≡◌, ℕ, ◌+◌, ◌≤◌, true, List, [], ◌∷◌, ◌++◌, length, Option, Some, ap, sym, subst, ◌∙◌, arith}
+use Rattle.std.proofs.Common.{
+  ◌≡◌,
+  ℕ,
+  ◌+◌,
+  ◌≤◌,
+  true,
+  List,
+  [],
+  ◌∷◌,
+  ◌++◌,
+  length,
+  Option,
+  Some,
+  ap,
+  sym,
+  subst,
+  ◌∙◌,
+  arith,
+}
 use Rattle.std.specs.Prelude.{option_to_list}
 use Rattle.std.proofs.lemmas.List.{length_push}
 use Rattle.djq_tree.specs.Levels.{levels, levels_below}
@@ -9,8 +27,31 @@ use Rattle.djq_cursor.specs.declared.places.Choice.{Choice}
 use Rattle.djq_cursor.specs.Answers.{on_node}
 use Rattle.djq_cursor.specs.Menus.{has, AreOnce, behind}
 use Rattle.djq_cursor.specs.Levels.{step}
-use Rattle.djq_cursor.specs.Walk.{Menu, chosen, leaves, here, before, reached, Follows, IsAlive, IsFirstAt, Stands, blank}
-use Rattle.djq_cursor.proofs.Walking.{Joins, joins_next, follows_push, follows_pop, here_push, reached_push, length_levels, given_to, given_last, given_next}
+use Rattle.djq_cursor.specs.Walk.{
+  Menu,
+  chosen,
+  leaves,
+  here,
+  before,
+  reached,
+  Follows,
+  IsAlive,
+  IsFirstAt,
+  Stands,
+  blank,
+}
+use Rattle.djq_cursor.proofs.Walking.{
+  Joins,
+  joins_next,
+  follows_push,
+  follows_pop,
+  here_push,
+  reached_push,
+  length_levels,
+  given_to,
+  given_last,
+  given_next,
+}
 use Rattle.djq_cursor.proofs.Filling.{reached_within, next_is}
 
 pub pop_is : (old new : List Choice) (o : Option Choice) (c : Choice)

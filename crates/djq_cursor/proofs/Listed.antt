@@ -1,5 +1,25 @@
 -- Whole groups as menus: they list the answers.
-use Rattle.std.proofs.Common.{◌≡◌, ℕ, ◌-◌, ◌<◌, Bool, true, false, cond, List, [], ◌∷◌, ◌++◌, length, refl, ap, sym, subst, ◌∙◌, arith}
+use Rattle.std.proofs.Common.{
+  ◌≡◌,
+  ℕ,
+  ◌-◌,
+  ◌<◌,
+  Bool,
+  true,
+  false,
+  cond,
+  List,
+  [],
+  ◌∷◌,
+  ◌++◌,
+  length,
+  refl,
+  ap,
+  sym,
+  subst,
+  ◌∙◌,
+  arith,
+}
 use Rattle.std.specs.Prelude.{◌↔◌, slice_index_or}
 use Rattle.std.specs.Bool.{OnTrue, OnFalse}
 use Rattle.std.proofs.lemmas.Bool.{false≢true, lt-ltb, ltb-true}
@@ -22,7 +42,14 @@ use Rattle.djq_cursor.specs.Given.{has_root, given, Fits}
 use Rattle.djq_cursor.proofs.Menus.{has_left, once_front, all_of, different_of, contains_of}
 use Rattle.djq_cursor.proofs.Walking.{leaves_split, given_whole}
 use Rattle.djq_cursor.proofs.Good.{IsGood, root_node, node_in, good_meet}
-use Rattle.djq_cursor.proofs.Stepping.{joins, good_step, group_is_once, group_is_filled, answer_in, good_answer}
+use Rattle.djq_cursor.proofs.Stepping.{
+  joins,
+  good_step,
+  group_is_once,
+  group_is_filled,
+  answer_in,
+  good_answer,
+}
 use Rattle.djq_cursor.proofs.Leaves.{IsGuide, lists, alike_top, blank_wide, good_top}
 
 pub whole_guide : (r : Reducts) → IsReducts r → IsGuide r (group_at r) (IsGood r) (IsAnswerOf r)

@@ -1,5 +1,24 @@
 -- A tuple is chosen at a level.
-use Rattle.std.proofs.Common.{◌≡◌, ℕ, suc, ◌<◌, ◌≤◌, true, List, [], ◌∷◌, length, refl, ap, sym, subst, ◌∙◌, inl, inr, arith}
+use Rattle.std.proofs.Common.{
+  ◌≡◌,
+  ℕ,
+  suc,
+  ◌<◌,
+  ◌≤◌,
+  true,
+  List,
+  [],
+  ◌∷◌,
+  length,
+  refl,
+  ap,
+  sym,
+  subst,
+  ◌∙◌,
+  inl,
+  inr,
+  arith,
+}
 use Rattle.std.proofs.lemmas.Bool.{cases_Bool, cases_eq}
 use Rattle.djq_hyper.specs.Hypergraph.{member}
 use Rattle.djq_index.specs.Tuple.{same, pick, one}
@@ -17,10 +36,42 @@ use Rattle.djq_reduct.proofs.Family.{apart_at}
 use Rattle.djq_cursor.specs.Answers.{on_node, IsAnswerOf}
 use Rattle.djq_cursor.specs.Menus.{has, AreOnce}
 use Rattle.djq_cursor.specs.Levels.{IsLevel, source, group_at, step}
-use Rattle.djq_cursor.proofs.Columns.{Within, within_of, cell, cells_same, pick_written, written_else, written_there, length_written, tuple_same}
-use Rattle.djq_cursor.proofs.Outs.{root_or_late, child_out, head_within, label_simple, head_simple, covered, kept, level_trim, source_within}
+use Rattle.djq_cursor.proofs.Columns.{
+  Within,
+  within_of,
+  cell,
+  cells_same,
+  pick_written,
+  written_else,
+  written_there,
+  length_written,
+  tuple_same,
+}
+use Rattle.djq_cursor.proofs.Outs.{
+  root_or_late,
+  child_out,
+  head_within,
+  label_simple,
+  head_simple,
+  covered,
+  kept,
+  level_trim,
+  source_within,
+}
 use Rattle.djq_cursor.proofs.Groups.{group_says, group_has, group_once, group_filled}
-use Rattle.djq_cursor.proofs.Good.{IsIn, IsGood, AreAlike, root_in, node_alike, node_same, node_cells, trim_key, trim_only, trim_down, key_picks}
+use Rattle.djq_cursor.proofs.Good.{
+  IsIn,
+  IsGood,
+  AreAlike,
+  root_in,
+  node_alike,
+  node_same,
+  node_cells,
+  trim_key,
+  trim_only,
+  trim_down,
+  key_picks,
+}
 
 -- ---- a level's group
 

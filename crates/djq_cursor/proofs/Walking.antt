@@ -1,5 +1,23 @@
 -- A listing goes on by one choice more, or one less.
-use Rattle.std.proofs.Common.{◌≡◌, ℕ, suc, ◌+◌, true, List, [], ◌∷◌, ◌++◌, length, refl, ap, ap₂, sym, subst, ◌∙◌, arith}
+use Rattle.std.proofs.Common.{
+  ◌≡◌,
+  ℕ,
+  suc,
+  ◌+◌,
+  true,
+  List,
+  [],
+  ◌∷◌,
+  ◌++◌,
+  length,
+  refl,
+  ap,
+  ap₂,
+  sym,
+  subst,
+  ◌∙◌,
+  arith,
+}
 use Rattle.std.specs.Prelude.{flat_map}
 use Rattle.std.proofs.lemmas.List.{append-nil, append_assoc}
 use Rattle.std.proofs.lemmas.Grind.{flat_map-append}
@@ -10,8 +28,26 @@ use Rattle.djq_reduct.specs.Reducts.{Reducts}
 use Rattle.djq_cursor.specs.declared.places.Choice.{Choice}
 use Rattle.djq_cursor.specs.Menus.{has, AreOnce, ahead, behind, IsFirst}
 use Rattle.djq_cursor.specs.Levels.{IsNextLevel, source, step}
-use Rattle.djq_cursor.specs.Walk.{Menu, menu_at, chosen, leaves, here, before, reached, Follows, IsOpen}
-use Rattle.djq_cursor.proofs.Menus.{menu_split, next_has, next_ahead, last_split, first_has, first_ahead, next_first}
+use Rattle.djq_cursor.specs.Walk.{
+  Menu,
+  menu_at,
+  chosen,
+  leaves,
+  here,
+  before,
+  reached,
+  Follows,
+  IsOpen,
+}
+use Rattle.djq_cursor.proofs.Menus.{
+  menu_split,
+  next_has,
+  next_ahead,
+  last_split,
+  first_has,
+  first_ahead,
+  next_first,
+}
 
 -- the answers below a level's choice
 abbrev pub branch : Reducts → Menu → ℕ → List ℕ → List ℕ → List (List ℕ)

@@ -1,6 +1,20 @@
 -- The levels of a listing: at each of them a tuple of the child of a trim is chosen, and its cells
 -- are written into the answer.
-use Rattle.std.specs.Prelude.{◌≡◌, ℕ, ◌<◌, ◌≤◌, true, cond, ◌==◌, List, [], ◌∷◌, map, length, slice_set}
+use Rattle.std.specs.Prelude.{
+  ◌≡◌,
+  ℕ,
+  ◌<◌,
+  ◌≤◌,
+  true,
+  cond,
+  ◌==◌,
+  List,
+  [],
+  ◌∷◌,
+  map,
+  length,
+  slice_set,
+}
 use Rattle.djq_index.specs.declared.place.Place.{Place}
 use Rattle.djq_index.specs.Entries.{Entry, grp}
 use Rattle.djq_tree.specs.declared.node.Node.{Node}

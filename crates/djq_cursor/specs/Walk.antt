@@ -1,7 +1,21 @@
 -- A listing goes through the levels of a tree from the highest one down. At each level it chooses a
 -- tuple from a menu, which is known by the level and by the cells of its label, and these were
 -- chosen above.
-use Rattle.std.specs.Prelude.{◌≡◌, ⊤, ℕ, Bool, true, cond, List, [], ◌∷◌, ◌++◌, length, replicate, flat_map}
+use Rattle.std.specs.Prelude.{
+  ◌≡◌,
+  ⊤,
+  ℕ,
+  Bool,
+  true,
+  cond,
+  List,
+  [],
+  ◌∷◌,
+  ◌++◌,
+  length,
+  replicate,
+  flat_map,
+}
 use Rattle.djq_index.specs.Table.{IsLive}
 use Rattle.djq_tree.specs.Tree.{Tree}
 use Rattle.djq_tree.specs.Levels.{levels, levels_below}

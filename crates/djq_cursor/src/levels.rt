@@ -96,7 +96,8 @@ fn write_tuple(head: VarSet, label: VarSet, tuple: &[u64], answer: &mut Answer)
 pub(crate) fn write_choice(reducts: &Reducts, choice: Choice, answer: &mut Answer)
     requires alive { IsAlive reducts.now choice }
     requires wide { length answer.old ≡ length reducts.now.tree.head }
-    ensures { answer.new ≡ step reducts.now.tree choice.level answer.old (chosen reducts.now choice) }
+    ensures { answer.new
+        ≡ step reducts.now.tree choice.level answer.old (chosen reducts.now choice) }
 {
     reducts.laws();
     let tree = reducts.tree();

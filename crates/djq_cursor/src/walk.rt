@@ -36,14 +36,14 @@ fn fill<C: Choices, L: Ledger>(
     answer: &mut Answer,
     listing: &mut Tally<L>,
 )
-    requires opened { IsOpen reducts.now.tree (C.menu choices.now reducts.now) (levels reducts.now.tree)
-        (blank reducts.now.tree) }
+    requires opened { IsOpen reducts.now.tree (C.menu choices.now reducts.now)
+        (levels reducts.now.tree) (blank reducts.now.tree) }
     requires from { from ≡ reached (length reducts.now.tree.nodes) places.old }
     requires stands { Stands reducts.now (C.menu choices.now reducts.now) places.old answer.old }
     ensures stands { Stands reducts.now (C.menu choices.now reducts.now) places.new answer.new }
     ensures whole { IsComplete reducts.now places.new }
-    ensures before { ahead_of reducts.now (C.menu choices.now reducts.now) places.new ≡ ahead_of reducts.now
-        (C.menu choices.now reducts.now) places.old }
+    ensures before { ahead_of reducts.now (C.menu choices.now reducts.now) places.new
+        ≡ ahead_of reducts.now (C.menu choices.now reducts.now) places.old }
     ensures counted { listing.new ≡ listing.old + length (levels_below reducts.now.tree from) }
 {
     reducts.laws();
@@ -83,11 +83,12 @@ fn go_on<C: Choices, L: Ledger>(
     listing: &mut Tally<L>,
 ) -> bool
     requires once { (k : ℕ) (w : List ℕ) → AreOnce (C.menu choices.now reducts.now k w) }
-    requires opened { IsOpen reducts.now.tree (C.menu choices.now reducts.now) (levels reducts.now.tree)
-        (blank reducts.now.tree) }
+    requires opened { IsOpen reducts.now.tree (C.menu choices.now reducts.now)
+        (levels reducts.now.tree) (blank reducts.now.tree) }
     requires follows { Descends reducts.now (C.menu choices.now reducts.now) places.old }
     requires whole { IsComplete reducts.now places.old }
-    ensures stands { OnTrue result (Stands reducts.now (C.menu choices.now reducts.now) places.new answer.new) }
+    ensures stands { OnTrue result
+        (Stands reducts.now (C.menu choices.now reducts.now) places.new answer.new) }
     ensures whole { OnTrue result (IsComplete reducts.now places.new) }
     ensures before { OnTrue result
         (ahead_of reducts.now (C.menu choices.now reducts.now) places.new ≡ ahead_of reducts.now
@@ -166,8 +167,8 @@ pub fn advance_by<C: Choices, L: Ledger>(
 ) -> bool
     requires clear { IsClear reducts.now.tree (C.menu choices.now reducts.now)
         (C.entered choices.now reducts.now) }
-    requires fits { FitsBy reducts.now (C.menu choices.now reducts.now) (C.entered choices.now reducts.now)
-        cursor.old.state cursor.old.places }
+    requires fits { FitsBy reducts.now (C.menu choices.now reducts.now)
+        (C.entered choices.now reducts.now) cursor.old.state cursor.old.places }
     ensures fits { FitsBy reducts.now (C.menu choices.now reducts.now)
         (C.entered choices.now reducts.now) cursor.new.state cursor.new.places }
     ensures one { OnTrue result

@@ -1,12 +1,51 @@
 -- A group is gone through from its last tuple backwards, as long as its tuples are marked, if its
 -- last is.
-use Rattle.std.proofs.Common.{◌≡◌, ℕ, zero, suc, ◌-◌, ◌<◌, Bool, true, false, cond, List, [], ◌∷◌, ◌++◌, length, reverse, Option, Some, None, refl, ap, sym, subst, ◌∙◌, inl, inr, arith, append_assoc}
+use Rattle.std.proofs.Common.{
+  ◌≡◌,
+  ℕ,
+  zero,
+  suc,
+  ◌-◌,
+  ◌<◌,
+  Bool,
+  true,
+  false,
+  cond,
+  List,
+  [],
+  ◌∷◌,
+  ◌++◌,
+  length,
+  reverse,
+  Option,
+  Some,
+  None,
+  refl,
+  ap,
+  sym,
+  subst,
+  ◌∙◌,
+  inl,
+  inr,
+  arith,
+  append_assoc,
+}
 use Rattle.std.specs.Prelude.{◌&&◌, not, nat_lt, IfSome, IfNone}
 use Rattle.std.proofs.lemmas.Bool.{cases_Bool, cases_lt, lt-ltb, le-ltb}
 use Rattle.std.proofs.lemmas.List.{reverse-append, reverse-reverse, length-reverse, append-nil}
 use Rattle.djq_index.specs.declared.place.Place.{Place}
 use Rattle.djq_index.specs.Tuple.{same, pick, one}
-use Rattle.djq_index.specs.Entries.{Entry, cnt, many, grp, marks, plain, is_marked, head_at, last_at}
+use Rattle.djq_index.specs.Entries.{
+  Entry,
+  cnt,
+  many,
+  grp,
+  marks,
+  plain,
+  is_marked,
+  head_at,
+  last_at,
+}
 use Rattle.djq_index.specs.Table.{AreApart, AreLast, IsAt, IsLive}
 use Rattle.djq_index.proofs.Tuples.{same_is, is_same, one_true, one_false, true_from_one}
 use Rattle.djq_index.proofs.Counts.{cnt_split, cnt_length, length_grp}
@@ -25,7 +64,18 @@ use Rattle.djq_cursor.specs.Levels.{source}
 use Rattle.djq_cursor.specs.Walk.{IsAlive, IsFirstAt, chosen}
 use Rattle.djq_cursor.proofs.Groups.{tuples, cnt_has, grp_nil, both_positive, group_says}
 use Rattle.djq_cursor.proofs.Tuples.{chosen_at}
-use Rattle.djq_cursor.proofs.Placing.{Inside, inside_group, at_inside, one_place, Stood, stood, none_of, first_of, group_entries, same_group}
+use Rattle.djq_cursor.proofs.Placing.{
+  Inside,
+  inside_group,
+  at_inside,
+  one_place,
+  Stood,
+  stood,
+  none_of,
+  first_of,
+  group_entries,
+  same_group,
+}
 use Rattle.djq_delta.specs.Given.{marked_or, changed_at, root_marked, kept}
 use Rattle.djq_delta.proofs.Parts.{part, part_in, part_marked, group_marked, marked_in_group}
 

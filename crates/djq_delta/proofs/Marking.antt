@@ -1,5 +1,28 @@
 -- Marks go up the path with an answer, and down it with the choices.
-use Rattle.std.proofs.Common.{◌≡◌, ◌≢◌, ℕ, zero, suc, ◌+◌, ◌-◌, ◌<◌, ◌≤◌, Bool, true, cond, List, length, refl, ap, sym, subst, ◌∙◌, inl, inr, arith}
+use Rattle.std.proofs.Common.{
+  ◌≡◌,
+  ◌≢◌,
+  ℕ,
+  zero,
+  suc,
+  ◌+◌,
+  ◌-◌,
+  ◌<◌,
+  ◌≤◌,
+  Bool,
+  true,
+  cond,
+  List,
+  length,
+  refl,
+  ap,
+  sym,
+  subst,
+  ◌∙◌,
+  inl,
+  inr,
+  arith,
+}
 use Rattle.std.proofs.lemmas.Bool.{cases_Bool, false≢true, eq-eqb, ne_eqb}
 use Rattle.djq_index.specs.Tuple.{pick}
 use Rattle.djq_index.specs.Entries.{cnt, many, marks}
@@ -15,7 +38,17 @@ use Rattle.djq_cursor.specs.Levels.{IsLevel, source, step}
 use Rattle.djq_cursor.proofs.Columns.{within_of}
 use Rattle.djq_cursor.proofs.Outs.{late_out, level_trim}
 use Rattle.djq_cursor.proofs.Groups.{many_of}
-use Rattle.djq_cursor.proofs.Good.{IsGood, node_in, meet_child, trim_only, trim_key, key_picks, guard_pick, node_label, good_meet}
+use Rattle.djq_cursor.proofs.Good.{
+  IsGood,
+  node_in,
+  meet_child,
+  trim_only,
+  trim_key,
+  key_picks,
+  guard_pick,
+  node_label,
+  good_meet,
+}
 use Rattle.djq_cursor.proofs.Stepping.{Joins, source_child, step_child, step_else, good_step}
 use Rattle.djq_delta.specs.Path.{path_node}
 use Rattle.djq_delta.specs.Marks.{IsMarkedAt, agreeing, AreMarks}

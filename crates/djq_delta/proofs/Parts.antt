@@ -1,5 +1,27 @@
 -- The marked part of a group, the last first.
-use Rattle.std.proofs.Common.{◌≡◌, ℕ, zero, suc, ◌*◌, ◌<◌, ◌≤◌, true, List, [], ◌∷◌, ◌++◌, length, reverse, refl, ap, sym, ◌∙◌, inl, inr, arith}
+use Rattle.std.proofs.Common.{
+  ◌≡◌,
+  ℕ,
+  zero,
+  suc,
+  ◌*◌,
+  ◌<◌,
+  ◌≤◌,
+  true,
+  List,
+  [],
+  ◌∷◌,
+  ◌++◌,
+  length,
+  reverse,
+  refl,
+  ap,
+  sym,
+  ◌∙◌,
+  inl,
+  inr,
+  arith,
+}
 use Rattle.std.proofs.Math.Nat.{zero-mul, mul-zero}
 use Rattle.std.proofs.lemmas.Bool.{cases_Bool}
 use Rattle.std.proofs.lemmas.List.{length-reverse, length-map, reverse-append}
@@ -12,7 +34,14 @@ use Rattle.djq_index.proofs.Groups.{cnt_grp, grp_yes, grp_no}
 use Rattle.djq_index.proofs.Marks.{marks_yes, marks_no}
 use Rattle.djq_index.proofs.Apart.{cnt_once}
 use Rattle.djq_cursor.specs.Menus.{has, AreOnce}
-use Rattle.djq_cursor.proofs.Groups.{tuples, has_cnt, cnt_has, both_positive, product_positive, grp_nil}
+use Rattle.djq_cursor.proofs.Groups.{
+  tuples,
+  has_cnt,
+  cnt_has,
+  both_positive,
+  product_positive,
+  grp_nil,
+}
 use Rattle.djq_delta.specs.Given.{marked_or}
 
 no_cnt : (u : List ℕ) → cnt [] u ≡ 0

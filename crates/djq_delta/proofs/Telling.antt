@@ -1,5 +1,24 @@
 -- The marked parts of groups as menus: they list the answers that are changed.
-use Rattle.std.proofs.Common.{◌≡◌, ℕ, suc, ◌-◌, ◌<◌, true, false, List, [], length, refl, ap, sym, subst, ◌∙◌, inl, inr, arith}
+use Rattle.std.proofs.Common.{
+  ◌≡◌,
+  ℕ,
+  suc,
+  ◌-◌,
+  ◌<◌,
+  true,
+  false,
+  List,
+  [],
+  length,
+  refl,
+  ap,
+  sym,
+  subst,
+  ◌∙◌,
+  inl,
+  inr,
+  arith,
+}
 use Rattle.std.specs.Prelude.{◌↔◌, nat_lt}
 use Rattle.std.proofs.lemmas.Bool.{cases_eq, cases_lt, false≢true, lt-ltb, ltb-true, and_from}
 use Rattle.djq_index.specs.Tuple.{same, pick}
@@ -29,8 +48,24 @@ use Rattle.djq_delta.specs.Marks.{IsMarkedAt, AreMarks}
 use Rattle.djq_delta.specs.Changed.{entry_node, IsChanged, IsGained, IsWithout}
 use Rattle.djq_delta.specs.Given.{changed_at, root_marked}
 use Rattle.djq_delta.proofs.Paths.{path_up, path_top}
-use Rattle.djq_delta.proofs.Parts.{part_in, part_once, part_filled, part_marked, in_part, group_few, marked_group, marked_in_group, group_marked}
-use Rattle.djq_delta.proofs.Marking.{IsMarkedGood, marked_up, marked_meet, marked_step, group_has_marks}
+use Rattle.djq_delta.proofs.Parts.{
+  part_in,
+  part_once,
+  part_filled,
+  part_marked,
+  in_part,
+  group_few,
+  marked_group,
+  marked_in_group,
+  group_marked,
+}
+use Rattle.djq_delta.proofs.Marking.{
+  IsMarkedGood,
+  marked_up,
+  marked_meet,
+  marked_step,
+  group_has_marks,
+}
 
 -- ---- a level's menu
 

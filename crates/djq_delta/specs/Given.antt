@@ -1,5 +1,22 @@
 -- What a delta cursor has given.
-use Rattle.std.specs.Prelude.{ℕ, ◌-◌, Bool, cond, not, ◌&&◌, nat_lt, List, [], ◌∷◌, length, map, reverse, Option, Some, None}
+use Rattle.std.specs.Prelude.{
+  ℕ,
+  ◌-◌,
+  Bool,
+  cond,
+  not,
+  ◌&&◌,
+  nat_lt,
+  List,
+  [],
+  ◌∷◌,
+  length,
+  map,
+  reverse,
+  Option,
+  Some,
+  None,
+}
 use Rattle.djq_index.specs.declared.place.Place.{Place}
 use Rattle.djq_index.specs.Entries.{Entry, cnt, grp, marks}
 use Rattle.djq_reduct.specs.Tables.{entries_at, key_at}

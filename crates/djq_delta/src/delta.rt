@@ -54,7 +54,8 @@ impl DeltaCursor {
         ensures one { OnTrue result
             (told reducts.now self.new ≡ told reducts.now self.old ++ answer.new ∷ []) }
         ensures same { OnFalse result (told reducts.now self.new ≡ told reducts.now self.old) }
-        ensures answers { AreSome (IsChanged reducts.now self.old.leaf) (told reducts.now self.new) }
+        ensures answers { AreSome (IsChanged reducts.now self.old.leaf)
+            (told reducts.now self.new) }
         ensures end { result ≡ false
             ↔ IsListing (IsChanged reducts.now self.old.leaf) (told reducts.now self.old) }
         ensures counted { listing.new ≤ listing.old + (2 * length reducts.now.tree.head + 1) }

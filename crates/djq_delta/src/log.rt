@@ -62,7 +62,8 @@ impl DeltaLog {
     /// Puts in a line behind the others. Where there is no memory for it, all lines are lost; a
     /// lost log takes none.
     pub fn push(&mut self, came: bool, answer: &Answer)
-        ensures kept { self.new.lost ≡ false → self.new.lines ≡ self.old.lines ++ record { came = came; answer = answer.now } ∷ [] }
+        ensures kept { self.new.lost ≡ false
+            → self.new.lines ≡ self.old.lines ++ record { came = came; answer = answer.now } ∷ [] }
         ensures lost { self.old.lost ≡ true → self.new.lost ≡ true }
     {
         if self.lost {

@@ -1,4 +1,17 @@
-use Rattle.std.proofs.Common.{◌≡◌, ◌∙◌, List, ℕ, ◌<◌, ◌++◌, length, slice_index_or, ap, ap₂, arith, rules}
+use Rattle.std.proofs.Common.{
+  ◌≡◌,
+  ◌∙◌,
+  List,
+  ℕ,
+  ◌<◌,
+  ◌++◌,
+  length,
+  slice_index_or,
+  ap,
+  ap₂,
+  arith,
+  rules,
+}
 use Rattle.std.specs.Prelude.{slice_index}
 use Rattle.std.proofs.lemmas.List.{length_push}
 use Rattle.djq_index.specs.Tuple.{pick}

@@ -1,6 +1,14 @@
 use Rattle.std.proofs.Common.{◌∙◌, List, ℕ, length, ap, ap₂, sym}
 use Rattle.djq_hyper.specs.Hypergraph.{subset}
-use Rattle.djq_cursor.proofs.Tuples.{read_chosen, chosen_wide, written_chosen, head_is, node_is, label_is, source_subset}
+use Rattle.djq_cursor.proofs.Tuples.{
+  read_chosen,
+  chosen_wide,
+  written_chosen,
+  head_is,
+  node_is,
+  label_is,
+  source_subset,
+}
 use Rattle.djq_cursor.proofs.levels.write_choice.Goals as goal
 
 pub write_tuple-requires-clause-long : goal.write_tuple-requires-clause-long

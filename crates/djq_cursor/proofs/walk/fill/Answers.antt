@@ -2,7 +2,17 @@ use Rattle.std.proofs.Common.{◌∙◌, List, ℕ, length, ap, sym, subst, arit
 use Rattle.djq_cursor.specs.declared.places.Choice.{Choice}
 use Rattle.djq_cursor.specs.Walk.{IsFirstAt}
 use Rattle.djq_cursor.proofs.Outs.{late_out}
-use Rattle.djq_cursor.proofs.Filling.{reached_within, some_first, chosen_first, room_for, stands_wide, next_in, level_in, small_in, next_count}
+use Rattle.djq_cursor.proofs.Filling.{
+  reached_within,
+  some_first,
+  chosen_first,
+  room_for,
+  stands_wide,
+  next_in,
+  level_in,
+  small_in,
+  next_count,
+}
 use Rattle.djq_cursor.proofs.walk.fill.Goals as goal
 
 pub loop-level-init : goal.loop-level-init

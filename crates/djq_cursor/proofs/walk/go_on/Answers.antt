@@ -4,7 +4,14 @@ use Rattle.djq_cursor.specs.Walk.{before, here, blank}
 use Rattle.djq_cursor.proofs.Walking.{given_whole}
 use Rattle.djq_cursor.proofs.Leaves.{blank_wide}
 use Rattle.djq_cursor.proofs.Filling.{all_alive, here_wide, small_in}
-use Rattle.djq_cursor.proofs.Going.{pop_is, retreat, given_without, advances, all_levels, few_choices}
+use Rattle.djq_cursor.proofs.Going.{
+  pop_is,
+  retreat,
+  given_without,
+  advances,
+  all_levels,
+  few_choices,
+}
 use Rattle.djq_cursor.proofs.walk.go_on.Goals as goal
 
 pub loop-choice-init : goal.loop-choice-init

@@ -1,4 +1,12 @@
-use Rattle.djq_cursor.proofs.Listed.{whole_clear, fits_by, by_fits, cursor_answers, cursor_one, cursor_same, cursor_end}
+use Rattle.djq_cursor.proofs.Listed.{
+  whole_clear,
+  fits_by,
+  by_fits,
+  cursor_answers,
+  cursor_one,
+  cursor_same,
+  cursor_end,
+}
 use Rattle.djq_cursor.proofs.cursor.Cursor.advance.Goals as goal
 
 pub advance_by-requires-clause-clear : goal.advance_by-requires-clause-clear

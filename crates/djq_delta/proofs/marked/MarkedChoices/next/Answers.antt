@@ -7,7 +7,15 @@ use Rattle.djq_cursor.specs.Levels.{source}
 use Rattle.djq_cursor.specs.Walk.{chosen}
 use Rattle.djq_cursor.proofs.Tuples.{node_is}
 use Rattle.djq_delta.specs.Given.{kept}
-use Rattle.djq_delta.proofs.Backward.{Marked, if_next, if_last, marks_say, marks_none, live_in, prior_live}
+use Rattle.djq_delta.proofs.Backward.{
+  Marked,
+  if_next,
+  if_last,
+  marks_say,
+  marks_none,
+  live_in,
+  prior_live,
+}
 use Rattle.djq_delta.proofs.marked.MarkedChoices.next.Goals as goal
 
 pub returns-in_default-clause-none : goal.returns-in_default-clause-none
