@@ -83,6 +83,16 @@ impl Cells {
         }
     }
 
+    /// The same cells once more.
+    pub fn copy(&self) -> Cells
+        ensures { result ≡ self.now }
+    {
+        Cells {
+            cells: self.cells,
+            len: self.len,
+        }
+    }
+
     /// The cells of a tuple at these columns.
     pub fn pick(tuple: &[u64], columns: &[usize]) -> Cells
         requires few { length columns.now ≤ 16 }

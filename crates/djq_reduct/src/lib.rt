@@ -17,6 +17,7 @@
 mod columns;
 mod reducts;
 
+pub use columns::column_of;
 pub use djq_index::{CELLS, Cells};
 pub use reducts::Reducts;
 
