@@ -14,3 +14,4 @@ pub mod Leaving
 pub mod Clearing
 pub mod Tabling
 pub mod Walking
+pub mod Bounding
