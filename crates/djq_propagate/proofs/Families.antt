@@ -42,13 +42,13 @@ same_keys t ts us f g k =
 pub tuples_same : (t : Tree) (ts us : List Table) → IsFamily t ts → IsFamily t us → (k : ℕ) → ((v : List ℕ) → supp (entries_at us k) v ≡ supp (entries_at ts k) v) → (v : List ℕ) → cnt (entries_at us k) v ≡ cnt (entries_at ts k) v
 tuples_same t ts us f g k h = cnt_same (entries_at us k) (entries_at ts k) (apart_of t us g k) (apart_of t ts f k) (g.supported k) (f.supported k) h
 
-trim_has : (c : ℕ) → has_child (Trim c) c ≡ true
+pub trim_has : (c : ℕ) → has_child (Trim c) c ≡ true
 trim_has c = eq-eqb c c refl
 
-guard_has : (g s : ℕ) → has_child (Meet g s) g ≡ true
+pub guard_has : (g s : ℕ) → has_child (Meet g s) g ≡ true
 guard_has g s = rw (eq-eqb g g refl) refl
 
-side_has : (g s : ℕ) → has_child (Meet g s) s ≡ true
+pub side_has : (g s : ℕ) → has_child (Meet g s) s ≡ true
 side_has g s = rw (eq-eqb s s refl) (or-true (g == s))
 
 -- a node's equation goes on holding where its supports and its children's tuples stay

@@ -33,7 +33,7 @@ under_leaf t j k a o n s up is here e =
     let h : has_child (Leaf a) j ≡ true = subst (λ (m : Node). has_child m j ≡ true) (sym here ∙ e) (child_at t j k o s up is) in
     false≢true h
 
-trim_same : (c j : ℕ) → has_child (Trim c) j ≡ true → c ≡ j
+pub trim_same : (c j : ℕ) → has_child (Trim c) j ≡ true → c ≡ j
 trim_same c j h = eqb-true c j h
 
 pub under_trim : (t : Tree) (j k c : ℕ) (o : Option ℕ) (n : Node) → IsTree t → o ≡ parent t.nodes j → o ≡ Some k → k < length t.nodes → n ≡ node_at t.nodes k → n ≡ Trim c → IsUnder t k (Trim j) j
@@ -156,3 +156,15 @@ plain_none old new j c e = record { same = λ i v. ap (λ (es : List Entry). cnt
   where
     all : (i : ℕ) → entries_at new i ≡ entries_at old i
     all i = elim (cases_eq i j) [ inl here ↦ subst (λ (x : ℕ). entries_at new x ≡ entries_at old x) (sym here) e | inr apart ↦ c.others i apart ]
+
+-- the first of a group in the whole list
+cons_split : (x : Entry) (es : List Entry) (e : Entry) → (xs : List Entry) × (ys : List Entry) × (es ≡ xs ++ e ∷ ys) → (xs : List Entry) × (ys : List Entry) × (x ∷ es ≡ xs ++ e ∷ ys)
+cons_split x es e s = (x ∷ s.0, s.1, ap (λ (zs : List Entry). x ∷ zs) s.2)
+
+pub group_split : (key : List ℕ) (es : List Entry) (w : List ℕ) (e : Entry) (rest : List Entry) → grp key es w ≡ e ∷ rest → (xs : List Entry) × (ys : List Entry) × (es ≡ xs ++ e ∷ ys)
+group_split key [] w e rest h = absurd (no_group key w [] e rest h)
+group_split key (x ∷ es) w e rest h =
+    elim (cases_Bool (same (pick key x.tuple) w)) [
+      | inl here ↦ (let both : x ∷ grp key es w ≡ e ∷ rest = sym (grp_yes key x es w here) ∙ h in let first : x ≡ e = cc in ([], es, ap (λ (y : Entry). y ∷ es) first))
+      | inr other ↦ cons_split x es e (group_split key es w e rest (sym (grp_no key x es w other) ∙ h))
+    ]

@@ -5,3 +5,7 @@ pub mod Sides
 pub mod Gains
 pub mod Losses
 pub mod Going
+pub mod Touching
+pub mod Paths
+pub mod Updating
+pub mod Measuring

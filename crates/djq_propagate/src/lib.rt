@@ -1,7 +1,11 @@
-//! Updates of reducts: a tuple comes to a leaf or goes from it, and each table is its node's reduct again
-//! (Idris, Ugarte and Vansummeren 2017).
+//! Updates of reducts.
 #![tactic(auto)]
 
 mod kill;
 mod live;
+mod path;
 mod tables;
+mod touch;
+mod update;
+
+pub use update::{finish_insertion, finish_removal, insert_leaf, mark_removal, undo_insertion};
