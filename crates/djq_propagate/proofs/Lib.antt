@@ -9,3 +9,4 @@ pub mod Touching
 pub mod Paths
 pub mod Updating
 pub mod Measuring
+pub mod Marking

@@ -122,7 +122,7 @@ pub gate_open : (n : ℕ) → gate false n ≡ true
 unfolding gate
 gate_open n = refl
 
-gate_test : (n : ℕ) → gate true n ≡ (n == 0)
+pub gate_test : (n : ℕ) → gate true n ≡ (n == 0)
 unfolding gate
 gate_test n = refl
 

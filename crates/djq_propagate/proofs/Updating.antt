@@ -18,14 +18,16 @@ use Rattle.djq_reduct.specs.Reducts.{Reducts, IsReducts, IsReductOf, IsFamily, A
 use Rattle.djq_reduct.proofs.Family.{leaf_law, one_family}
 use Rattle.djq_reduct.specs.Marks.{path_at, on_path, IsOff, IsBare, AreOnPath, IsWithout}
 use Rattle.djq_propagate.specs.Walks.{Changed, Ready, Lived, Died, Refused, Fewer, SamePlain, IsBelow}
-use Rattle.djq_propagate.specs.Touches.{IsTouched, IsTouchedUp}
+use Rattle.djq_propagate.specs.Touches.{IsTouched, IsTouchedUp, CanWalk, IsWalked}
 use Rattle.djq_propagate.specs.Updates.{HasInserted, HasMarked, HasKept, HasDropped, HasTaken, HasCleared}
 use Rattle.djq_propagate.proofs.Families.{once, apart_of, same_keys, tuples_same, reduced_same}
 use Rattle.djq_propagate.proofs.Sides.{cond_one, head_none}
 use Rattle.djq_propagate.proofs.Plains.{fewer_refl, fewer_trans, plain_trans}
 use Rattle.djq_propagate.proofs.Going.{mark_at}
 use Rattle.djq_index.proofs.Counts.{cnt_cons}
-use Rattle.djq_propagate.proofs.Paths.{inner_high, off_same, on_within}
+use Rattle.djq_propagate.proofs.Paths.{inner_high, off_same, on_within, on_high}
+use Rattle.djq_propagate.proofs.Marking.{covered_new, plain_new}
+use Rattle.djq_tree.proofs.Climbing.{rising_of}
 
 -- a tree and its tables
 abbrev pub both : Tree → List Table → Reducts
@@ -101,9 +103,28 @@ refused_kept t old new a r x p b = record {
   bare = bare_same t old new r.family x.family x.supports p b;
 }
 
+-- before the walk
+pub can_insert : (t : Tree) (old mid : List Table) (a : ℕ) (u : List ℕ) → IsReducts (both t old) → a < t.leaves → IsBare old → Lived t old mid a u → SamePlain old mid → CanWalk t mid a false
+can_insert t old mid a u r h b l p = record {
+  reduced = (reducts_lived t old mid a u r h l).reduced;
+  covered = λ k high on.
+      covered_new t old mid a k r (reducts_lived t old mid a u r h l) b p (λ j w low apart. ap (λ (es : List Entry). cnt es w) (l.below j (leaf_below t a j r.family.is_tree low apart))) on;
+  bare = λ e. absurd (false≢true e);
+}
+
+pub can_remove : (t : Tree) (old mid : List Table) (a : ℕ) (f : List ℕ → ℕ) → IsReducts (both t old) → a < t.leaves → IsBare old → IsTouched t old mid a f → CanWalk t mid a true
+can_remove t old mid a f r h b y = record {
+  reduced = reduced_same t old mid 0 r.family y.family (λ i v. elim (cases_eq i a) [
+    | inl here ↦ subst (λ (z : ℕ). supp (entries_at mid z) v ≡ supp (entries_at old z) v) (sym here) (y.supports v)
+    | inr apart ↦ ap (λ (es : List Entry). supp es v) (y.others i apart)
+  ]) r.reduced;
+  covered = λ k high on. record { each = λ w some. absurd (let up = on_high t a k r.family.is_tree on in omega (arith, b.none k w, ap (λ (es : List Entry). cnt (marks es) w) (y.others k (omega arith)))) };
+  bare = λ e i apart v. ap (λ (es : List Entry). cnt (marks es) v) (y.others i apart) ∙ b.none i v;
+}
+
 -- an insertion
-pub inserted_all : (t : Tree) (old mid new : List Table) (a : ℕ) (u : List ℕ) → IsReducts (both t old) → a < t.leaves → IsBare old → Lived t old mid a u → SamePlain old mid → IsTouchedUp t mid new a → HasInserted (both t old) (both t new) a u
-inserted_all t old mid new a u r h b l p x = record {
+pub inserted_all : (t : Tree) (old mid new : List Table) (a : ℕ) (u : List ℕ) → IsReducts (both t old) → a < t.leaves → IsBare old → Lived t old mid a u → SamePlain old mid → IsTouchedUp t mid new a → IsWalked t mid new a false (length t.nodes) → HasInserted (both t old) (both t new) a u
+inserted_all t old mid new a u r h b l p x walk = record {
   sound = reducts_same t mid new m x.family x.supports;
   without = record {
     tree = refl;
@@ -111,18 +132,24 @@ inserted_all t old mid new a u r h b l p x = record {
     others = λ j v low apart. ap (λ (es : List Entry). cnt es v) (sym (x.leaves j low ∙ l.below j (leaf_below t a j r.family.is_tree low apart)));
   };
   marked = λ v. omega (arith, ap (λ (es : List Entry). cnt (marks es) v) (x.leaves a h), inserted_marks (key_at old a) (entries_at old a) (entries_at mid a) u l.gains v, b.none a v);
-  path = record {
-    off = λ i off v.
-        omega (
-          arith,
-          ap (λ (es : List Entry). cnt (marks es) v) (x.off i off),
-          p.same i v,
-          b.none i v,
-          cnt_split (entries_at old i) v,
-          cnt_split (entries_at mid i) v,
-          tuples_same t old mid r.family l.family i
-              (off_same t old mid a r.family l.family r.reduced m.reduced (λ j w low apart. ap (λ (es : List Entry). cnt es w) (l.below j (leaf_below t a j r.family.is_tree low apart))) (suc i) i (omega arith) off) v,
-        );
+  are_marks = record {
+    path = record {
+      off = λ i off v.
+          omega (
+            arith,
+            ap (λ (es : List Entry). cnt (marks es) v) (x.off i off),
+            p.same i v,
+            b.none i v,
+            cnt_split (entries_at old i) v,
+            cnt_split (entries_at mid i) v,
+            tuples_same t old mid r.family l.family i
+                (off_same t old mid a r.family l.family r.reduced m.reduced (λ j w low apart. ap (λ (es : List Entry). cnt es w) (l.below j (leaf_below t a j r.family.is_tree low apart))) (suc i) i (omega arith) off) v,
+          );
+    };
+    low = λ k second on.
+        plain_new t old new k (node_at t.nodes k) r.family x.family (r.reduced.at k (omega arith) (on_within t a k on))
+        (λ i less v. omega (arith, ap (λ (es : List Entry). cnt (plain es) v) (walk.skipped refl i (omega arith)), p.same i v, b.none i v, cnt_split (entries_at old i) v)) (rising_of t r.family.is_tree k);
+    high = λ k second on. walk.high k (on_within t a k on) second on;
   };
 }
   where
@@ -130,13 +157,17 @@ inserted_all t old mid new a u r h b l p x = record {
     m = reducts_lived t old mid a u r h l
 
 -- a tuple is marked for a removal
-pub marked_all : (t : Tree) (old mid new : List Table) (a : ℕ) (u : List ℕ) → IsReducts (both t old) → a < t.leaves → IsBare old → 0 < cnt (entries_at old a) u → IsTouched t old mid a (λ v. one (same u v)) → IsTouchedUp t mid new a → HasMarked (both t old) (both t new) a u
-marked_all t old mid new a u r h b there y x = record {
+pub marked_all : (t : Tree) (old mid new : List Table) (a : ℕ) (u : List ℕ) → IsReducts (both t old) → a < t.leaves → IsBare old → 0 < cnt (entries_at old a) u → IsTouched t old mid a (λ v. one (same u v)) → IsTouchedUp t mid new a → IsWalked t mid new a true (length t.nodes) → HasMarked (both t old) (both t new) a u
+marked_all t old mid new a u r h b there y x walk = record {
   sound = reducts_same t old new r x.family all;
   tree = refl;
   tables = tables_same t old new r.family x.family all;
   marked = λ v. ap (λ (es : List Entry). cnt (marks es) v) (x.leaves a h) ∙ mark v;
-  path = record { off = λ i off v. ap (λ (es : List Entry). cnt (marks es) v) (x.off i off ∙ y.others i off.0) ∙ b.none i v };
+  are_marks = record {
+    path = record { off = λ i off v. ap (λ (es : List Entry). cnt (marks es) v) (x.off i off ∙ y.others i off.0) ∙ b.none i v };
+    low = λ k second on. walk.low k (on_within t a k on) second refl on;
+    high = λ k second on. walk.high k (on_within t a k on) second on;
+  };
 }
   where
     all : (i : ℕ) (v : List ℕ) → supp (entries_at new i) v ≡ supp (entries_at old i) v

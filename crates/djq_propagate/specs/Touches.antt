@@ -7,8 +7,8 @@ use Rattle.djq_tree.specs.declared.node.Node.{Node}
 use Rattle.djq_tree.specs.declared.node.Node.TheVariants.{Leaf, Trim, Meet}
 use Rattle.djq_tree.specs.Tree.{Tree, node_at, has_child}
 use Rattle.djq_reduct.specs.Tables.{entries_at, key_at}
-use Rattle.djq_reduct.specs.Reducts.{IsFamily}
-use Rattle.djq_reduct.specs.Marks.{IsOff}
+use Rattle.djq_reduct.specs.Reducts.{IsFamily, AreReduced}
+use Rattle.djq_reduct.specs.Marks.{path_at, on_path, IsOff, agreeing, AgreeAt, ArePlainAt}
 
 -- those tuples of the node k that f counts are marked now, and nothing else changed but the order in groups
 pub record IsTouched (t : Tree) (old new : List Table) (k : ℕ) (f : List ℕ → ℕ) : Type 0 where
@@ -61,3 +61,22 @@ pub record IsTouchedUp (t : Tree) (old new : List Table) (a : ℕ) : Type 0 wher
   pub long : (i : ℕ) → length (entries_at new i) ≡ length (entries_at old i)
   pub leaves : (i : ℕ) → i < t.leaves → entries_at new i ≡ entries_at old i
   pub off : (i : ℕ) → IsOff t.nodes a i → entries_at new i ≡ entries_at old i
+
+-- each marked tuple of the node k agrees with a marked one of its child j
+pub record IsCovered (n : Node) (ts : List Table) (j k : ℕ) : Type 0 where
+  pub each : (w : List ℕ) → 0 < cnt (marks (entries_at ts k)) w → 0 < agreeing n j ts (marks (entries_at ts j)) w
+
+-- marks can be made along the path from the leaf a: those that stand above it follow from marks below, and
+-- before a removal there are none above it
+pub record CanWalk (t : Tree) (ts : List Table) (a : ℕ) (removal : Bool) : Type 0 where
+  pub reduced : AreReduced t ts 0
+  pub covered : (k : ℕ) → t.second_stage ≤ k → on_path t.nodes a k ≡ true → IsCovered (node_at t.nodes k) ts (path_at t.nodes a k) k
+  pub bare : removal ≡ true → (i : ℕ) → i ≢ a → (v : List ℕ) → cnt (marks (entries_at ts i)) v ≡ 0
+
+-- and they were, at the nodes with numbers below k
+pub record IsWalked (t : Tree) (old new : List Table) (a : ℕ) (removal : Bool) (k : ℕ) : Type 0 where
+  pub later : (i : ℕ) → k ≤ i → entries_at new i ≡ entries_at old i
+  pub keeps : (i : ℕ) (v : List ℕ) → cnt (marks (entries_at old i)) v ≤ cnt (marks (entries_at new i)) v
+  pub skipped : removal ≡ false → (i : ℕ) → i < t.second_stage → entries_at new i ≡ entries_at old i
+  pub low : (i : ℕ) → i < k → i < t.second_stage → removal ≡ true → on_path t.nodes a i ≡ true → ArePlainAt (node_at t.nodes i) new i
+  pub high : (i : ℕ) → i < k → t.second_stage ≤ i → on_path t.nodes a i ≡ true → AgreeAt (node_at t.nodes i) new (path_at t.nodes a i) i

@@ -8,7 +8,7 @@ use Rattle.djq_tree.specs.Tree.{Tree}
 use Rattle.djq_tree.specs.Counts.{trims}
 use Rattle.djq_reduct.specs.Tables.{entries_at}
 use Rattle.djq_reduct.specs.Reducts.{Reducts, IsReducts, IsFamily, SameTables}
-use Rattle.djq_reduct.specs.Marks.{on_path, IsOff, IsBare, AreOnPath, IsWithout}
+use Rattle.djq_reduct.specs.Marks.{on_path, IsOff, IsBare, AreMarks, IsWithout}
 use Rattle.djq_propagate.specs.Walks.{Fewer}
 
 -- the tuple u came to the leaf a, and is the marked one there
@@ -16,7 +16,7 @@ pub record HasInserted (old new : Reducts) (a : ℕ) (u : List ℕ) : Type 0 whe
   pub sound : IsReducts new
   pub without : IsWithout new old a
   pub marked : (v : List ℕ) → cnt (marks (entries_at new.tables a)) v ≡ one (same u v)
-  pub path : AreOnPath new.tree new.tables a
+  pub are_marks : AreMarks new.tree new.tables a
 
 -- the tuple u of the leaf a is the marked one there, and all tables hold what they held
 pub record HasMarked (old new : Reducts) (a : ℕ) (u : List ℕ) : Type 0 where
@@ -24,7 +24,7 @@ pub record HasMarked (old new : Reducts) (a : ℕ) (u : List ℕ) : Type 0 where
   pub tree : new.tree ≡ old.tree
   pub tables : SameTables old new
   pub marked : (v : List ℕ) → cnt (marks (entries_at new.tables a)) v ≡ one (same u v)
-  pub path : AreOnPath new.tree new.tables a
+  pub are_marks : AreMarks new.tree new.tables a
 
 -- all tables hold what they held, without a mark
 pub record HasKept (old new : Reducts) : Type 0 where

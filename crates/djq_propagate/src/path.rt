@@ -7,7 +7,7 @@ ghost use Rattle.djq_tree.specs.Tree.{node_at, has_child};
 ghost use Rattle.djq_reduct.specs.Tables.{entries_at};
 ghost use Rattle.djq_reduct.specs.Reducts.{IsFamily, IsReducts};
 ghost use Rattle.djq_propagate.specs.Sizes.{size};
-ghost use Rattle.djq_propagate.specs.Touches.{IsTouched, IsTouchedUp, reach};
+ghost use Rattle.djq_propagate.specs.Touches.{CanWalk, IsTouched, IsTouchedUp, IsWalked, reach};
 ghost use Rattle.djq_propagate.specs.Walks.{Changed};
 ghost use Rattle.djq_propagate.specs.Updates.{HasCleared, HasTaken, steps};
 
@@ -62,7 +62,9 @@ pub(crate) fn touch_path<L: Ledger>(
 )
     requires family { IsFamily tree.now tables.old.items }
     requires leaf { leaf < tree.now.leaves }
+    requires can { CanWalk tree.now tables.old.items leaf removal }
     ensures touched { IsTouchedUp tree.now tables.old.items tables.new.items leaf }
+    ensures walked { IsWalked tree.now tables.old.items tables.new.items leaf removal (length tree.now.nodes) }
     ensures counted { (n : ℕ) → ((i : ℕ) → length (entries_at tables.old.items i) ≤ n) → tally.new ≤ tally.old + steps tree.now.nodes leaf (length tree.now.nodes) * (1 + 5 * n) }
 {
     let mut at = leaf;

@@ -9,7 +9,7 @@ use Rattle.djq_propagate.specs.Updates.{HasInserted, HasMarked, HasKept, HasDrop
 use Rattle.djq_index.specs.Tuple.{one, same}
 use Rattle.djq_propagate.proofs.Going.{on_err}
 use Rattle.djq_propagate.proofs.Measuring.{put_counted, mark_counted, keep_counted, take_counted}
-use Rattle.djq_propagate.proofs.Updating.{both, leaf_within, ready_leaf, reducts_lived, refused_kept, inserted_all, marked_all, kept_all, dropped_all, undone}
+use Rattle.djq_propagate.proofs.Updating.{both, leaf_within, ready_leaf, reducts_lived, refused_kept, inserted_all, can_insert, can_remove, marked_all, kept_all, dropped_all, undone}
 use Rattle.djq_propagate.proofs.update.put.Goals as goal
 
 pub live-requires-clause-ready : goal.live-requires-clause-ready
@@ -36,17 +36,21 @@ pub touch_path-requires-clause-family : goal.touch_path-requires-clause-family
 touch_path-requires-clause-family g c =
     c.in_ok-live.ensures.ok.family
 
+pub touch_path-requires-clause-can : goal.touch_path-requires-clause-can
+touch_path-requires-clause-can g c =
+    can_insert c.args.tree.now c.args.tables.now.items c.live.new.tables.items c.args.leaf c.args.tuple.now c.requires.reducts c.requires.leaf c.requires.bare c.in_ok-live.ensures.ok c.live.ensures.plain
+
 pub touch_path-requires-clause-leaf : goal.touch_path-requires-clause-leaf
 touch_path-requires-clause-leaf g c =
     c.requires.leaf
 
 pub returns-clause-inserted : goal.returns-clause-inserted
 returns-clause-inserted g c =
-    inserted_all c.args.tree.now c.args.tables.now.items c.live.new.tables.items c.touch_path.new.tables.items c.args.leaf c.args.tuple.now c.requires.reducts c.requires.leaf c.requires.bare c.in_ok-live.ensures.ok c.live.ensures.plain c.touch_path.ensures.touched
+    inserted_all c.args.tree.now c.args.tables.now.items c.live.new.tables.items c.touch_path.new.tables.items c.args.leaf c.args.tuple.now c.requires.reducts c.requires.leaf c.requires.bare c.in_ok-live.ensures.ok c.live.ensures.plain c.touch_path.ensures.touched c.touch_path.ensures.walked
 
 pub returns-clause-counted : goal.returns-clause-counted
 returns-clause-counted g c =
-    λ n few. put_counted c.args.tree.now c.args.tables.now.items c.live.new.tables.items c.touch_path.new.tables.items c.args.leaf c.args.tuple.now n c.args.tally.now c.live.new.tally c.touch_path.new.tally c.requires.reducts c.requires.leaf c.in_ok-live.ensures.ok c.touch_path.ensures.touched (inserted_all c.args.tree.now c.args.tables.now.items c.live.new.tables.items c.touch_path.new.tables.items c.args.leaf c.args.tuple.now c.requires.reducts c.requires.leaf c.requires.bare c.in_ok-live.ensures.ok c.live.ensures.plain c.touch_path.ensures.touched).sound few c.in_ok-live.ensures.counted c.touch_path.ensures.counted
+    λ n few. put_counted c.args.tree.now c.args.tables.now.items c.live.new.tables.items c.touch_path.new.tables.items c.args.leaf c.args.tuple.now n c.args.tally.now c.live.new.tally c.touch_path.new.tally c.requires.reducts c.requires.leaf c.in_ok-live.ensures.ok c.touch_path.ensures.touched (inserted_all c.args.tree.now c.args.tables.now.items c.live.new.tables.items c.touch_path.new.tables.items c.args.leaf c.args.tuple.now c.requires.reducts c.requires.leaf c.requires.bare c.in_ok-live.ensures.ok c.live.ensures.plain c.touch_path.ensures.touched c.touch_path.ensures.walked).sound few c.in_ok-live.ensures.counted c.touch_path.ensures.counted
 
 pub returns-in_err-live-clause-counted : goal.returns-in_err-live-clause-counted
 returns-in_err-live-clause-counted g c =
