@@ -15,3 +15,4 @@ pub mod Clearing
 pub mod Tabling
 pub mod Walking
 pub mod Headless
+pub mod Bounding

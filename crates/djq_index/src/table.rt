@@ -1,4 +1,4 @@
-ghost use Rattle.std.specs.Prelude.{◌≡◌, ℕ, ◌+◌, ◌-◌, ◌<◌, ◌==◌, List, [], ◌∷◌, ◌++◌, length, IfOk, OnErr, MatchOption};
+ghost use Rattle.std.specs.Prelude.{◌≡◌, ℕ, ◌+◌, ◌-◌, ◌<◌, ◌≤◌, ◌==◌, List, [], ◌∷◌, ◌++◌, length, IfOk, OnErr, MatchOption};
 ghost use Rattle.djq_index.specs.Entries.{Entry, supp, cnt, grp, marks, is_marked, unmarked, head_at, last_at};
 ghost use Rattle.djq_index.specs.Table.{IsTable, IsAt, IsLive, IsUnmarked, IsRaisable, IsLowerable, AreColumns};
 ghost use Rattle.djq_index.specs.Changes.{Inserted, Removed, Touched, Supported};
@@ -51,6 +51,13 @@ impl Table {
     /// What holds of every table. It does nothing.
     pub fn laws(&self)
         ensures { IsTable self.now }
+    {
+        let _ = &self.raw;
+    }
+
+    /// The law that a table has at most 4,294,967,295 tuples. It does nothing.
+    pub fn is_small(&self)
+        ensures { length self.now.entries ≤ 4294967295 }
     {
         let _ = &self.raw;
     }
