@@ -61,5 +61,5 @@ entries_length r = length_entries r.notes.items r.rows.rows
 
 pub few_entries : (r : Raw) → IsRaw r → length (entries_of r) ≤ 4294967295
 few_entries r h =
-    let n = h.rows.numbers in
-    omega (arith, entries_length r, slots_length r.rows.rows, length_below r.rows.room (slots r.rows.rows) h.rows.different h.rows.below)
+    let n = h.bare.rows.numbers in
+    omega (arith, entries_length r, slots_length r.rows.rows, length_below r.rows.room (slots r.rows.rows) h.bare.rows.different h.bare.rows.below)
