@@ -1,5 +1,5 @@
 -- Why a query can't be asked over relations, whatever their rows are.
-use Rattle.std.specs.Prelude.{List, [], ◌∷◌, ◌++◌, ◌==◌, ◌&&◌, ◌||◌, Bool, true, false, not, nat_lt, Option, is_none, is_some, nat_le, length}
+use Rattle.std.specs.Prelude.{List, [], ◌∷◌, ◌++◌, ◌==◌, ◌&&◌, ◌||◌, Bool, false, not, nat_lt, Option, is_none, is_some, nat_le, length}
 use Rattle.std.specs.List.{list_any}
 use Rattle.djq_model.specs.declared.relation.ColumnType.{ColumnType}
 use Rattle.djq_model.specs.declared.relation.Relation.{Relation}
@@ -7,7 +7,7 @@ use Rattle.djq_model.specs.declared.query.Query.{Query}
 use Rattle.djq_model.specs.declared.query.Atom.{Atom}
 use Rattle.djq_model.specs.declared.query.Term.{Term}
 use Rattle.djq_model.specs.declared.query.Term.TheVariants.{Variable, Hole, Constant}
-use Rattle.djq_model.specs.Data.{Bytes, bytes_eq, query_of, relation_of}
+use Rattle.djq_model.specs.Data.{bytes_eq, query_of, relation_of}
 use Rattle.djq_value.specs.Literal.{are_different}
 use Rattle.djq_lines.specs.declared.limits.TheConstants.{ATOMS, VARIABLES, HEAD_VARIABLES, QUERIES}
 use Rattle.djq_lines.specs.declared.answer.Refusal.{Refusal}
