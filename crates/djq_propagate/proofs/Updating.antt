@@ -292,3 +292,8 @@ undone before middle after a r s x y = one_family before after r s (record {
     | inr apart ↦ (let low2 : j < middle.tree.leaves = subst (λ (t : Tree). j < t.leaves) x.tree low in y.others j u low2 apart ∙ sym (x.others j u low2 apart))
   ];
 })
+
+-- reducts without tuples have no marks
+pub bare_empty : (ts : List Table) → ((k : ℕ) → entries_at ts k ≡ []) → IsBare ts
+unfolding cnt marks
+bare_empty ts h = record { none = λ i v. ap (λ (es : List Entry). cnt (marks es) v) (h i) }
