@@ -19,8 +19,6 @@ pub enum Asked<'a> {
     Run,
     /// `serve ADDR [--turns N]`: the sessions that come to this address, for so many turns.
     Serve(&'a str, u64),
-    /// `replay`: the sessions of a schedule, from the source.
-    Replay,
 }
 
 /// The command `serve`.
@@ -47,8 +45,7 @@ fn djq_command<'a>(alloc: Global) -> Result<Command<'a>, AllocError>
         .disable_help_subcommand(true)
         .subcommand_required(true);
     bare.subcommand(Command::new(alloc, "run"))?
-        .subcommand(serve)?
-        .subcommand(Command::new(alloc, "replay"))
+        .subcommand(serve)
 }
 
 /// What these words ask for, of which the first is the program's name, or `None` where they are no
@@ -77,7 +74,6 @@ fn asked_by<'a>(matches: &ArgMatches<'a>) -> Option<Asked<'a>>
     let (name, inner) = matches.subcommand()?;
     match name {
         "run" => Some(Asked::Run),
-        "replay" => Some(Asked::Replay),
         "serve" => serve_asked(inner),
         _ => None,
     }
