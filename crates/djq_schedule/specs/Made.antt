@@ -18,7 +18,11 @@ in_grammar st line = if nat_le (length line) 8192 then standing st (order_of lin
 
 -- the turn of a line, with the sessions that are blocked behind it
 abbrev pub coming_of : Stage → Order → Coming
-coming_of st o = record { turn = turn_of o.0 o.1.0 o.1.1; blocked = blocked_after o.0 o.1.0 st.blocked }
+coming_of st o = record {
+  turn = turn_of o.0 o.1.0 o.1.1;
+  blocked =
+      blocked_after o.0 o.1.0 st.blocked;
+}
 
 abbrev pub next_stage : Stage → Order → Stage
 next_stage st o = stage_after o.0 o.1.0 st
@@ -29,15 +33,17 @@ behind_turns turns (Ok more) = Ok (turns ++ more)
 behind_turns turns (Err n) = Err n
 
 -- the turn of a line, and then others; or that it is outside
-abbrev pub turns_by : Stage → ℕ → Option Order → (Order → Result (List Coming) ℕ) → Result (List Coming) ℕ
+abbrev pub turns_by : Stage → ℕ → Option Order → (Order → Result (List Coming) ℕ)
+    → Result (List Coming) ℕ
 turns_by st n None more = Err n
 turns_by st n (Some o) more = behind_turns (coming_of st o ∷ []) (more o)
 
--- The turns of lines, the first of which has this number; or the number of the first that is outside the
--- grammar.
+-- The turns of lines, the first of which has this number; or the number of the first that is
+-- outside the grammar.
 abbrev pub turns_from : Stage → ℕ → List Bytes → Result (List Coming) ℕ
 turns_from st n [] = Ok []
-turns_from st n (l ∷ ls) = turns_by st n (in_grammar st l) (λ o. turns_from (next_stage st o) (n + 1) ls)
+turns_from st n (l ∷ ls) = turns_by st n (in_grammar st l)
+    (λ o. turns_from (next_stage st o) (n + 1) ls)
 
 abbrev pub first_stage : Stage
 first_stage = record { newest = None; opened = []; ended = []; blocked = [] }
@@ -63,5 +69,6 @@ Refuses bytes NoMem = Unit {0}
 
 -- A line was added, with its turn; or it is outside the grammar, and nothing changed.
 abbrev pub AddsLine : Bool → Stage → Recorded → Bytes → Stage → Recorded → Type 0
-AddsLine true st hub line st' hub' = IsSomeAnd (in_grammar st line) (λ o. (st' ≡ next_stage st o) × (hub' ≡ with_coming hub (coming_of st o)))
+AddsLine true st hub line st' hub' = IsSomeAnd (in_grammar st line)
+    (λ o. (st' ≡ next_stage st o) × (hub' ≡ with_coming hub (coming_of st o)))
 AddsLine false st hub line st' hub' = in_grammar st line ≡ None

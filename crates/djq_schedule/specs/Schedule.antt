@@ -63,7 +63,8 @@ Order = Keyword × (ℕ × Option Bytes)
 
 abbrev pub order_with : Keyword → Option ℕ → Option Bytes → Option Order
 order_with k None text = None
-order_with k (Some id) text = if not (is_none text) && not (takes_text k) then None else Some (k, (id, text))
+order_with k (Some id) text = if not (is_none text) && not (takes_text k) then None else Some
+    (k, (id, text))
 
 abbrev pub order_behind : Option Keyword → Option Bytes → Option Order
 order_behind (Some k) (Some rest) = order_with k (id_of (before 32 rest)) (behind 32 rest)
@@ -73,8 +74,8 @@ order_behind None _ = None
 abbrev pub order_of : Bytes → Option Order
 order_of line = order_behind (keyword_of (before 32 line)) (behind 32 line)
 
--- Where a schedule stands: the newest session, those that were opened, those whose input ended, and those that take
--- nothing now.
+-- Where a schedule stands: the newest session, those that were opened, those whose input ended, and
+-- those that take nothing now.
 pub record Stage : Type 0 where
   pub newest : Option ℕ
   pub opened : List ℕ
@@ -88,8 +89,8 @@ abbrev pub is_above : Option ℕ → ℕ → Bool
 is_above None id = true
 is_above (Some newest) id = nat_lt newest id
 
--- A session opens above those before; others are named where they were opened and, but to be freed, where
--- their input hasn't ended.
+-- A session opens above those before; others are named where they were opened and, but to be freed,
+-- where their input hasn't ended.
 abbrev pub may_stand : Stage → Keyword → ℕ → Bool
 may_stand st Open id = is_above st.newest id
 may_stand st Free id = is_among st.opened id
@@ -113,7 +114,14 @@ blocked_after Free id ids = filter (λ other. not (nat_eq other id)) ids
 blocked_after _ id ids = ids
 
 abbrev pub stage_after : Keyword → ℕ → Stage → Stage
-stage_after k id st = record { newest = newest_after k id st.newest; opened = opened_after k id st.opened; ended = ended_after k id st.ended; blocked = blocked_after k id st.blocked }
+stage_after k id st = record {
+  newest = newest_after k id st.newest;
+  opened =
+      opened_after k id st.opened;
+  ended = ended_after k id st.ended;
+  blocked =
+      blocked_after k id st.blocked;
+}
 
 abbrev pub text_or_none : Option Bytes → Bytes
 text_or_none None = []

@@ -9,8 +9,8 @@
 //! end 1               its input ends
 //! ```
 //!
-//! [`schedule_hub`] makes the hub of a schedule, or says which line is the first that is outside the
-//! grammar of `specs/Schedule.antt`. What this crate is not: it runs nothing.
+//! [`schedule_hub`] makes the hub of a schedule, or says which line is the first that is outside
+//! the grammar of `specs/Schedule.antt`. What this crate is not: it runs nothing.
 //!
 //! What surprises: whether a line is in the grammar depends on those before it, since it may name
 //! none but sessions that were opened and whose input hasn't ended.

@@ -75,7 +75,8 @@ fn read_id(digits: &[u8]) -> Option<u64>
 
 /// A line's keyword, session and text, or `None` where it is none.
 pub(crate) fn read_order(line: &[u8]) -> Option<(Keyword, u64, Option<&[u8]>)>
-    ensures { option_map (λ o. (o.0, (o.1, option_map (λ text. text.now) o.2))) result ≡ order_of line.now }
+    ensures { option_map (λ o. (o.0, (o.1, option_map (λ text. text.now) o.2))) result ≡ order_of
+        line.now }
 {
     let (word, rest) = split_at(line, b' ');
     let keyword = read_keyword(word)?;

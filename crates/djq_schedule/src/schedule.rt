@@ -77,7 +77,8 @@ fn add_line(
 
 /// What a line says, where it is in the grammar.
 fn read_standing<'a>(sofar: &Sofar, line: &'a [u8]) -> Option<(Keyword, u64, Option<&'a [u8]>)>
-    ensures { option_map (λ o. (o.0, (o.1, option_map (λ text. text.now) o.2))) result ≡ in_grammar sofar.now line.now }
+    ensures { option_map (λ o. (o.0, (o.1, option_map (λ text. text.now) o.2))) result ≡ in_grammar
+        sofar.now line.now }
 {
     if line.len() > LINE_BYTES {
         return None;

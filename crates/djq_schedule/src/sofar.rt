@@ -6,7 +6,8 @@ use djq_io::IdList;
 use std::alloc::{AllocError, Global};
 use std::marker::Model;
 
-/// What the lines so far say of sessions: the newest, which were opened, whose input ended, which are blocked.
+/// What the lines so far say of sessions: the newest, which were opened, whose input ended, which
+/// are blocked.
 #[derive(Debug, Drop)]
 pub(crate) struct Sofar {
     newest: Option<u64>,
@@ -20,7 +21,13 @@ impl Model for Sofar {
 
     ghost Value = { Stage };
 
-    ghost view = { λ s. record { newest = s.newest; opened = s.opened.items; ended = s.ended.items; blocked = s.blocked.items } };
+    ghost view = { λ s. record {
+      newest = s.newest;
+      opened = s.opened.items;
+      ended =
+          s.ended.items;
+      blocked = s.blocked.items;
+    } };
 }
 
 impl Sofar {
@@ -52,7 +59,15 @@ impl Sofar {
 
     /// Behind a line of this keyword.
     pub(crate) fn note(&mut self, keyword: Keyword, id: u64) -> Result<(), AllocError>
-        ensures { OnOk result (self.new ≡ record { newest = newest_after keyword id self.old.newest; opened = opened_after keyword id self.old.opened; ended = ended_after keyword id self.old.ended; blocked = blocked_after keyword id self.old.blocked }) }
+        ensures { OnOk result (self.new ≡ record {
+          newest = newest_after keyword id self.old.newest;
+          opened =
+              opened_after keyword id self.old.opened;
+          ended =
+              ended_after keyword id self.old.ended;
+          blocked =
+              blocked_after keyword id self.old.blocked;
+        }) }
     {
         match keyword {
             Keyword::Open => {

@@ -31,11 +31,13 @@ refuses s _ = false
 abbrev pub NeverRefused : ℕ → List Move → Type 0
 NeverRefused s moves = All (λ (m : Move). refuses s m.told ≡ false) moves
 
--- What the hub took for a session that was let in is what was taken of its pending bytes. That, what
--- was dropped as it was closed, and what is pending still, is all that was queued to it, in order.
+-- What the hub took for a session that was let in is what was taken of its pending bytes. That,
+-- what was dropped as it was closed, and what is pending still, is all that was queued to it, in
+-- order.
 pub record IsSent (old : State) (moves : List Move) (new : State) (s : ℕ) : Type 0 where
   pub sent : NeverRefused s moves → sent_to s (all_told moves) ≡ all_taken s (all_done moves)
-  pub gone : all_gone s (all_done moves) ++ pending_of new s ≡ pending_of old s ++ out s (all_done moves)
+  pub gone : all_gone s (all_done moves) ++ pending_of new s ≡ pending_of old s ++ out s
+      (all_done moves)
 
 abbrev pub says_stopped : Served → Bool
 says_stopped Stopped = true
@@ -63,22 +65,28 @@ FaultsCount _ before now = now ≡ before
 
 -- a state that a run passes through on its way
 abbrev pub RunsThrough : State → List Did → List Did → State → List Did → State → Type 0
-RunsThrough start done earlier mid later state = (done ≡ earlier ++ later) × Run start earlier mid × Run mid later state
+RunsThrough start done earlier mid later state = (done ≡ earlier ++ later) × Run start earlier mid
+    × Run mid later state
 
--- What holds at each moment of a run on the way: of a session that wasn't closed yet the lines taken
--- are those that its bytes are cut into, in order; and each open cursor gives what it should.
+-- What holds at each moment of a run on the way: of a session that wasn't closed yet the lines
+-- taken are those that its bytes are cut into, in order; and each open cursor gives what it should.
 pub record Moments (start : State) (done : List Did) (state : State) : Type 0 where
-  pub lines : (earlier : List Did) (mid : State) (later : List Did) → RunsThrough start done earlier mid later state
+  pub lines : (earlier : List Did) (mid : State) (later : List Did)
+      → RunsThrough start done earlier mid later state
       → (s : ℕ) → All (λ d. Spares d.event s) earlier → TakesInOrder s start earlier mid
-  pub cursors : (earlier : List Did) (mid : State) (later : List Did) → RunsThrough start done earlier mid later state
+  pub cursors : (earlier : List Did) (mid : State) (later : List Did)
+      → RunsThrough start done earlier mid later state
       → CursorsGive start → CursorsGive mid
 
--- **How serving ends.** The server went from its first turn to its answer, by moves of which the hub
+-- **How serving ends.** The server went from its first turn to its answer, by moves of which the
+-- hub
 -- tells. Its steps are a run of the machine. To each session was sent what is its. Each answer has
 -- its cause, and every session is closed.
-pub record ServeEnds (answer : Served) (turns : ℕ) (hub : Shown) (counted : Counts) (old : State) (hub' : Shown) (counted' : Counts) (new : State) : Type 0 where
+pub record ServeEnds (answer : Served) (turns : ℕ) (hub : Shown) (counted : Counts) (old : State)
+    (hub' : Shown) (counted' : Counts) (new : State) : Type 0 where
   pub taken : ℕ
-  pub goes : Goes (seen hub counted 0) (server old waiting) (seen hub' counted' taken) (server new (closing answer))
+  pub goes : Goes (seen hub counted 0) (server old waiting) (seen hub' counted' taken)
+      (server new (closing answer))
   pub run : Run old (all_done goes.moves) new
   pub moments : Moments old (all_done goes.moves) new
   pub sent : (s : ℕ) → IsSent old goes.moves new s

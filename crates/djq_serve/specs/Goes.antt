@@ -28,4 +28,5 @@ pub record Goes (o : Seen) (old : Server) (o' : Seen) (new : Server) : Type 0 wh
 
 -- so it goes, whatever was counted before, and nothing is counted
 abbrev pub GoesQuietly : Shown → Server → Shown → Server → Type 0
-GoesQuietly hub old hub' new = (counted : Counts) (turns : ℕ) → Goes (seen hub counted turns) old (seen hub' counted turns) new
+GoesQuietly hub old hub' new = (counted : Counts) (turns : ℕ)
+    → Goes (seen hub counted turns) old (seen hub' counted turns) new

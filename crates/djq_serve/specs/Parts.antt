@@ -55,7 +55,8 @@ abbrev pub MayAnswer : Option Served → Type 0
 MayAnswer None = Unit {0}
 MayAnswer (Some answer) = answer ≡ Stopped
 
--- What a turn answers, by the hub's faults over it. That all turns were taken is no answer of a turn.
+-- What a turn answers, by the hub's faults over it. That all turns were taken is no answer of a
+-- turn.
 abbrev pub TurnAnswers : Option Served → ℕ → ℕ → Type 0
 TurnAnswers None before now = now ≡ before
 TurnAnswers (Some Stopped) before now = now ≡ before
@@ -64,7 +65,9 @@ TurnAnswers (Some HubFault) before now = Counted before now
 TurnAnswers (Some TurnsUsed) before now = ⊥
 
 -- Turns were taken, until serving ended.
-pub record Took (answer : Served) (turns : ℕ) (hub : Shown) (counted : Counts) (old : State) (hub' : Shown) (counted' : Counts) (new : State) : Type 0 where
+pub record Took (answer : Served) (turns : ℕ) (hub : Shown) (counted : Counts) (old : State)
+    (hub' : Shown) (counted' : Counts) (new : State) : Type 0 where
   pub taken : ℕ
-  pub goes : Goes (seen hub counted 0) (server old waiting) (seen hub' counted' taken) (server new (closing answer))
+  pub goes : Goes (seen hub counted 0) (server old waiting) (seen hub' counted' taken)
+      (server new (closing answer))
   pub has_taken : HasTaken answer turns taken

@@ -1,4 +1,5 @@
--- What the server does: one thing after another, by the machine's state and where the server stands.
+-- What the server does: one thing after another, by the machine's state and where the server
+-- stands.
 use Rattle.std.specs.Prelude.{ℕ, List, [], ◌∷◌, ◌≡◌, ◌+◌, ◌<◌, ◌≤◌, ◌⊎◌, ◌&&◌, Bool, true, false, not, nat_le, nat_lt, Option, None, Some, is_none, IsSomeAnd, find, length, if◌then◌else◌}
 use Rattle.std.specs.List.{flat_map}
 use Rattle.djq_io.specs.Hub.{Takes, taken_by}
@@ -66,7 +67,8 @@ all_done moves = flat_map (λ (m : Move). m.done) moves
 
 -- one step of the machine, of this event
 abbrev pub Happens : Event → State → List Did → State → Type 0
-Happens event old done new = (e : Effect) × Step old event e new × (done ≡ record { event = event; effect = e } ∷ [])
+Happens event old done new = (e : Effect) × Step old event e new
+    × (done ≡ record { event = event; effect = e } ∷ [])
 
 -- no step
 abbrev pub Stays : State → List Did → State → Type 0
@@ -94,9 +96,12 @@ Brings (Brought s n) piece old more done new next = Happens (fed s piece) old do
     × (more ≡ []) × (next ≡ lines s) × IsPiece n piece
 Brings (Ended s) piece old more done new next = Happens (ended s) old done new
     × (more ≡ []) × (next ≡ flushing 0 next_turn)
-Brings Idle piece old more done new next = Stays old done new × (more ≡ []) × (next ≡ flushing 0 next_turn)
-Brings HubOver piece old more done new next = Stays old done new × (more ≡ []) × (next ≡ flushing 0 no_turn)
-Brings Failed piece old more done new next = Stays old done new × (more ≡ []) × (next ≡ closing HubFault)
+Brings Idle piece old more done new next = Stays old done new × (more ≡ [])
+    × (next ≡ flushing 0 next_turn)
+Brings HubOver piece old more done new next = Stays old done new × (more ≡ [])
+    × (next ≡ flushing 0 no_turn)
+Brings Failed piece old more done new next = Stays old done new × (more ≡ [])
+    × (next ≡ closing HubFault)
 
 -- A line of a session may be run: no session said `stop`, this one hasn't ended, and it holds a
 -- line, or a front that is too long for one.
@@ -114,7 +119,8 @@ behind_front s (run l) = flushing 0 (more_lines s)
 
 -- The front of a session's bytes comes to something.
 abbrev pub RunsOne : ℕ → State → List Did → State → Phase → Type 0
-RunsOne s old done new next = (outcome : LineOutcome) × Happens (stepped s outcome) old done new × (next ≡ behind_front s outcome)
+RunsOne s old done new next = (outcome : LineOutcome) × Happens (stepped s outcome) old done new
+    × (next ≡ behind_front s outcome)
 
 -- What is sent of the pending bytes of a session: some of the first; none now; or none ever, and it
 -- is closed.
@@ -139,7 +145,8 @@ place_after Gone from s = s + 1
 -- A flush at a session.
 abbrev pub Visits : ℕ → ℕ → State → List Told → List Did → State → ℕ → Type 0
 Visits s from old told done new to =
-    ((0 < length (pending_of old s)) × (sent : Sent) × SendsSome sent s old told done new × (to ≡ place_after sent from s))
+    ((0 < length (pending_of old s)) × (sent : Sent) × SendsSome sent s old told done new
+    × (to ≡ place_after sent from s))
     ⊎ ((pending_of old s ≡ []) × Leaves (cause_of old s) s old told done new × (to ≡ s + 1))
 
 -- where the server stands behind a flush
@@ -164,7 +171,8 @@ LinesAt s old m new false = Passes old (flushing 0 next_turn) m new
 -- A flush, by the session that it is at.
 abbrev pub FlushesAt : ℕ → Next → State → Move → Server → Option ℕ → Type 0
 FlushesAt from next old m new None = Passes old (after old next) m new
-FlushesAt from next old m new (Some s) = (to : ℕ) × Visits s from old m.told m.done new.state to × (new.phase ≡ flushing to next)
+FlushesAt from next old m new (Some s) = (to : ℕ) × Visits s from old m.told m.done new.state to
+    × (new.phase ≡ flushing to next)
 
 -- The next thing that the server does, by where it stands.
 abbrev pub ServesAt : Phase → State → Move → Server → Type 0
@@ -175,7 +183,8 @@ ServesAt waiting old m new =
 ServesAt (lines s) old m new = LinesAt s old m new (may_run old s)
 ServesAt (flushing from next) old m new = FlushesAt from next old m new (due old from)
 ServesAt (closing answer) old m new = IsSomeAnd (due old 0) (λ s.
-    (m.told ≡ Closing s ∷ []) × Happens (closed s (pending_of old s)) old m.done new.state × (new.phase ≡ closing answer))
+    (m.told ≡ Closing s ∷ []) × Happens (closed s (pending_of old s)) old m.done new.state
+    × (new.phase ≡ closing answer))
 
 abbrev pub Serves : Server → Move → Server → Type 0
 Serves old m new = ServesAt old.phase old.state m new

@@ -43,7 +43,8 @@ Answers old (Listening addr answer) new = ⊥
 -- they are what that gained; where it tells its script, each was answered as that says.
 pub record Tells (old new : Shown) (told : List Told) : Type 0 where
   pub past : Gains old.past new.past told
-  pub played : WhereTold old.script new.script (λ a b. Walk Answers (place a old.ids) told (place b new.ids))
+  pub played : WhereTold old.script new.script
+      (λ a b. Walk Answers (place a old.ids) told (place b new.ids))
 
 -- the bytes that a call sends to a session
 abbrev pub sent_by : ℕ → Told → Bytes

@@ -22,7 +22,8 @@ pub(crate) fn first_from(ids: &[u64], from: u128) -> Option<u64>
 pub(crate) fn close<M: Machine, H: Hub>(machine: &mut M, hub: &mut H, id: u64)
     requires open { IsOpen (M.state machine.old) id }
     requires agrees { Agrees (M.state machine.old) (H.ids hub.old) }
-    ensures makes { Makes (M.state machine.old) (closed id (pending_of (M.state machine.old) id)) (M.state machine.new) }
+    ensures makes { Makes (M.state machine.old) (closed id (pending_of (M.state machine.old) id))
+        (M.state machine.new) }
     ensures told { Tells (shown (H.past hub.old) (H.script hub.old) (H.ids hub.old))
         (shown (H.past hub.new) (H.script hub.new) (H.ids hub.new)) (Told.Closing id ∷ []) }
     ensures agrees { Agrees (M.state machine.new) (H.ids hub.new) }
@@ -32,8 +33,8 @@ pub(crate) fn close<M: Machine, H: Hub>(machine: &mut M, hub: &mut H, id: u64)
     machine.close_session(id);
 }
 
-/// Sends what is pending for an open session, until all is taken or the hub takes no more now. It is
-/// closed where it is gone, and where it has ended and nothing is pending.
+/// Sends what is pending for an open session, until all is taken or the hub takes no more now. It
+/// is closed where it is gone, and where it has ended and nothing is pending.
 fn visit<M: Machine, H: Hub>(machine: &mut M, hub: &mut H, id: u64)
     requires open { IsOpen (M.state machine.old) id }
     requires agrees { Agrees (M.state machine.old) (H.ids hub.old) }
@@ -64,7 +65,8 @@ fn visit<M: Machine, H: Hub>(machine: &mut M, hub: &mut H, id: u64)
 /// Goes through the open sessions by rising id.
 pub(crate) fn flush<M: Machine, H: Hub>(machine: &mut M, hub: &mut H)
     requires agrees { Agrees (M.state machine.old) (H.ids hub.old) }
-    ensures goes { (next : Next) → GoesQuietly (shown (H.past hub.old) (H.script hub.old) (H.ids hub.old))
+    ensures goes { (next : Next) → GoesQuietly
+        (shown (H.past hub.old) (H.script hub.old) (H.ids hub.old))
         (server (M.state machine.old) (flushing 0 next))
         (shown (H.past hub.new) (H.script hub.new) (H.ids hub.new))
         (server (M.state machine.new) (after (M.state machine.new) next)) }

@@ -21,7 +21,8 @@ pub(crate) fn run_lines<M: Machine, H: Hub, L: Ledgers>(
 )
     requires agrees { Agrees (M.state machine.old) (H.ids hub.old) }
     requires settled { OthersSettled id (M.state machine.old) }
-    ensures goes { (turns : ℕ) → Goes (seen (shown (H.past hub.old) (H.script hub.old) (H.ids hub.old))
+    ensures goes { (turns : ℕ) → Goes (seen (shown (H.past hub.old) (H.script hub.old)
+        (H.ids hub.old))
         (counts steps.old.listing steps.old.update steps.old.rows) turns)
         (server (M.state machine.old) (lines id))
         (seen (shown (H.past hub.new) (H.script hub.new) (H.ids hub.new))
@@ -42,7 +43,8 @@ pub(crate) fn run_lines<M: Machine, H: Hub, L: Ledgers>(
 
 /// Whether a session is open, and no session said `stop`.
 fn is_served<M: Machine>(machine: &M, id: u64) -> bool
-    ensures { MatchBool result (IsServed (M.state machine.now) id) (NotServed (M.state machine.now) id) }
+    ensures { MatchBool result (IsServed (M.state machine.now) id)
+        (NotServed (M.state machine.now) id) }
 {
     !machine.stopped() && machine.ids().contains(&id)
 }

@@ -75,7 +75,8 @@ fn take_turns<M: Machine, H: Hub, L: Ledgers>(
 /// Closes every open session.
 fn close_all<M: Machine, H: Hub>(machine: &mut M, hub: &mut H)
     requires agrees { Agrees (M.state machine.old) (H.ids hub.old) }
-    ensures goes { (answer : Served) → GoesQuietly (shown (H.past hub.old) (H.script hub.old) (H.ids hub.old))
+    ensures goes { (answer : Served) → GoesQuietly (shown (H.past hub.old) (H.script hub.old)
+        (H.ids hub.old))
         (server (M.state machine.old) (closing answer))
         (shown (H.past hub.new) (H.script hub.new) (H.ids hub.new))
         (server (M.state machine.new) (closing answer)) }

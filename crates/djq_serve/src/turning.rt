@@ -26,7 +26,8 @@ pub(crate) fn take_turn<M: Machine, H: Hub, L: Ledgers>(
     requires room { length buffer.old ≡ READ_BYTES }
     requires agrees { Agrees (M.state machine.old) (H.ids hub.old) }
     requires settled { AllSettled (M.state machine.old) }
-    ensures goes { (turns : ℕ) → Goes (seen (shown (H.past hub.old) (H.script hub.old) (H.ids hub.old))
+    ensures goes { (turns : ℕ) → Goes (seen (shown (H.past hub.old) (H.script hub.old)
+        (H.ids hub.old))
         (counts steps.old.listing steps.old.update steps.old.rows) turns)
         (server (M.state machine.old) waiting)
         (seen (shown (H.past hub.new) (H.script hub.new) (H.ids hub.new))
@@ -62,7 +63,8 @@ pub(crate) fn take_turn<M: Machine, H: Hub, L: Ledgers>(
 /// Lets a session in that opened at the hub, or refuses it.
 fn open<M: Machine, H: Hub>(machine: &mut M, hub: &mut H, id: u64)
     requires { IsNew (M.state machine.old) (H.ids hub.old) id }
-    ensures admits { Admits (M.state machine.old) (shown (H.past hub.old) (H.script hub.old) (H.ids hub.old)) id
+    ensures admits { Admits (M.state machine.old)
+        (shown (H.past hub.old) (H.script hub.old) (H.ids hub.old)) id
         (M.state machine.new) (shown (H.past hub.new) (H.script hub.new) (H.ids hub.new)) }
     ensures agrees { Agrees (M.state machine.new) (H.ids hub.new) }
     ensures faults { H.faults hub.new ≡ H.faults hub.old }
@@ -78,7 +80,8 @@ fn open<M: Machine, H: Hub>(machine: &mut M, hub: &mut H, id: u64)
 fn refuse<H: Hub>(hub: &mut H, id: u64, line: &[u8])
     requires open { Contains (H.ids hub.old).open_ids id }
     requires some { 0 < length line.now }
-    ensures refuses { Refuses (shown (H.past hub.old) (H.script hub.old) (H.ids hub.old)) id line.now
+    ensures refuses { Refuses (shown (H.past hub.old) (H.script hub.old) (H.ids hub.old)) id
+        line.now
         (shown (H.past hub.new) (H.script hub.new) (H.ids hub.new)) }
     ensures faults { H.faults hub.new ≡ H.faults hub.old }
 {

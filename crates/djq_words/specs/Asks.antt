@@ -31,7 +31,8 @@ ServeAsked rows asked = AskedBy (Some (codes "serve", rows)) asked
 
 -- `clap` takes the words for the command set, and the command that they name asks for this.
 abbrev pub Asks : List Text → Asked → Type 0
-Asks words a = (fault_of djq_app words ≡ []) × IsSomeAnd (subcommand_of djq_app words) (λ c. IsAsked c a)
+Asks words a = (fault_of djq_app words ≡ [])
+    × IsSomeAnd (subcommand_of djq_app words) (λ c. IsAsked c a)
 
 -- The words ask for this, or they are no command.
 abbrev pub Answers : List Text → Option Asked → Type 0

@@ -9,7 +9,8 @@ addr_rule = record (new_rule (codes "ADDR")) { required = true }
 
 -- its number of turns, from 1 to 9223372036854775807
 abbrev pub turns_rule : Rule
-turns_rule = record (new_rule (codes "turns")) { long = Some (codes "turns"); parser = Some (Unsigned 1 9223372036854775807) }
+turns_rule = record (new_rule (codes "turns"))
+    { long = Some (codes "turns"); parser = Some (Unsigned 1 9223372036854775807) }
 
 -- `serve ADDR [--turns N]`
 abbrev pub serve_app : App
@@ -18,7 +19,15 @@ serve_app = with_rule (with_rule (new_app (codes "serve")) addr_rule) turns_rule
 -- the program, which has no help or version words, and wants one of its commands
 abbrev pub bare_app : App
 bare_app = let a = new_app (codes "djq") in
-    record a { top = record a.top { disable_help_flag = true; disable_version_flag = true; disable_help_subcommand = true; subcommand_required = true } }
+    record a {
+      top = record a.top {
+        disable_help_flag = true;
+        disable_version_flag =
+            true;
+        disable_help_subcommand = true;
+        subcommand_required = true;
+      };
+    }
 
 -- the program with its commands
 abbrev pub djq_app : App
