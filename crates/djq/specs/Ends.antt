@@ -59,10 +59,12 @@ status_of Over = Done
 status_of AllTaken = TurnsUsed
 status_of HubFailed = HubFault
 
--- **The theorem of `serve`.** The hub listened at the address, and then the server served it from the
+-- **The theorem of `serve`.** The hub listened at the address, and then the server served it from
+-- the
 -- opening state on: by moves that are a run of the join machine, of which the hub tells, with each
 -- session sent what is its; and the status says exactly why it ended.
-pub record ServesHub (status : Status) (addr : Bytes) (turns : ℕ) (hub : HubSeen) (counted : Counts) (hub' : HubSeen) (counted' : Counts) : Type 0 where
+pub record ServesHub (status : Status) (addr : Bytes) (turns : ℕ) (hub : HubSeen) (counted : Counts)
+    (hub' : HubSeen) (counted' : Counts) : Type 0 where
   pub ready : Shown
   pub listens : Listens addr Ready hub.shown ready
   pub state : State
@@ -72,7 +74,8 @@ pub record ServesHub (status : Status) (addr : Bytes) (turns : ℕ) (hub : HubSe
   pub is : status ≡ status_of answer
 
 -- The hub failed to listen.
-pub record Unheard (status : Status) (addr : Bytes) (hub : HubSeen) (counted : Counts) (hub' : HubSeen) (counted' : Counts) : Type 0 where
+pub record Unheard (status : Status) (addr : Bytes) (hub : HubSeen) (counted : Counts)
+    (hub' : HubSeen) (counted' : Counts) : Type 0 where
   pub listens : Listens addr Failed hub.shown hub'.shown
   pub faults : Counted hub.faults hub'.faults
   pub none_counted : counted' ≡ counted
@@ -80,13 +83,15 @@ pub record Unheard (status : Status) (addr : Bytes) (hub : HubSeen) (counted : C
 
 -- Out of memory before anything was done.
 abbrev pub NothingServed : Status → HubSeen → Counts → HubSeen → Counts → Type 0
-NothingServed status hub counted hub' counted' = (status ≡ NoMemory) × (hub' ≡ hub) × (counted' ≡ counted)
+NothingServed status hub counted hub' counted' = (status ≡ NoMemory) × (hub' ≡ hub)
+    × (counted' ≡ counted)
 
 -- How `serve` ends.
 abbrev pub HubEnds : Status → Bytes → ℕ → HubSeen → Counts → HubSeen → Counts → Type 0
 HubEnds status addr turns hub counted hub' counted' =
     ServesHub status addr turns hub counted hub' counted'
-    ⊎ (Unheard status addr hub counted hub' counted' ⊎ NothingServed status hub counted hub' counted')
+    ⊎ (Unheard status addr hub counted hub' counted'
+    ⊎ NothingServed status hub counted hub' counted')
 
 -- What is done where the words are no command: nothing is read or counted, and this is written.
 pub record Writes (before now : Outside) (written : Bytes) : Type 0 where

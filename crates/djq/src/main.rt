@@ -6,6 +6,8 @@
 //! `main` makes the real ones, which tell no bytes, and calls it.
 #![tactic(auto)]
 
+#[cfg(test)]
+mod hub_tests;
 mod laws;
 mod program;
 #[cfg(test)]

@@ -20,8 +20,8 @@ const USAGE: &[u8] = b"usage: djq run | serve ADDR [--turns N] | replay | gen N 
 /// Runs the program by the words of its command line, of which the first is its name.
 ///
 /// `run` serves one session from the source to the sink. `serve` lets the hub listen at an address,
-/// and serves the sessions that come. Other words are answered by the usage line. The hub has opened
-/// no session before.
+/// and serves the sessions that come. Other words are answered by the usage line. The hub has
+/// opened no session before.
 pub fn run_program<S: Source, K: Sink, H: Hub, L: Ledgers>(
     alloc: Global,
     words: &[&str],
