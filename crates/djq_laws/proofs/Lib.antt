@@ -11,3 +11,4 @@ pub mod Answering
 pub mod Giving
 pub mod Courses
 pub mod Heading
+pub mod Stopping
