@@ -9,6 +9,8 @@ It needs Python's standard library alone. One line is printed for each test that
 
 import os
 import select
+import socket
+import struct
 import subprocess
 import sys
 import time
@@ -235,7 +237,9 @@ def limits_are_reached_without_running_out_of_memory():
 
 @test
 def other_words_get_the_usage_line():
-    for words in [(), ("fly",), ("run", "run"), ("--help",), ("--version",), ("help",), ("RUN",)]:
+    others = [(), ("fly",), ("run", "run"), ("--help",), ("--version",), ("help",), ("RUN",)]
+    serves = [(), ("a", "b"), ("a", "--turns", "0"), ("a", "--turns", "x"), ("--help",)]
+    for words in others + [("serve", *more) for more in serves]:
         expect(run(b"rel r int\n", words), (USAGE, 1), words)
 
 
@@ -276,6 +280,184 @@ def a_closed_output_is_a_failed_write():
 def a_closed_input_is_a_failed_read():
     done = subprocess.run(["sh", "-c", 'exec "$0" run <&-', PROGRAM], capture_output=True, timeout=PATIENCE)
     expect((done.stdout, done.returncode), (b"", 2))
+
+
+class Serving:
+    """A program that serves an address of loopback, and its clients."""
+
+    def __init__(self, *words):
+        self.words = words
+
+    def __enter__(self):
+        with socket.socket() as free:
+            free.bind(("127.0.0.1", 0))
+            self.port = free.getsockname()[1]
+        words = [PROGRAM, "serve", f"127.0.0.1:{self.port}", *self.words]
+        self.program = subprocess.Popen(words, stdin=subprocess.DEVNULL, stdout=subprocess.PIPE)
+        self.clients = []
+        return self
+
+    def __exit__(self, *_):
+        for client in self.clients:
+            client.close()
+        self.program.kill()
+        self.program.wait()
+        self.program.stdout.close()
+
+    def client(self):
+        until = time.monotonic() + PATIENCE
+        while True:
+            try:
+                client = Client(socket.create_connection(("127.0.0.1", self.port), PATIENCE))
+                self.clients.append(client)
+                return client
+            except ConnectionRefusedError:
+                if time.monotonic() > until:
+                    raise
+                time.sleep(0.02)
+
+    def end(self):
+        status = self.program.wait(PATIENCE)
+        return self.program.stdout.read(), status
+
+
+class Client:
+    """A session over TCP."""
+
+    def __init__(self, stream):
+        self.stream = stream
+        self.stream.settimeout(PATIENCE)
+
+    def say(self, text):
+        self.stream.sendall(text)
+
+    def hear(self, count):
+        heard = b""
+        while len(heard) < count:
+            piece = self.stream.recv(min(65536, count - len(heard)))
+            if piece == b"":
+                raise AssertionError(f"the session ended: heard {heard!r}")
+            heard += piece
+        return heard
+
+    def ask(self, line, *replies):
+        want = b"".join(reply + b"\n" for reply in replies)
+        self.say(line + b"\n")
+        expect(self.hear(len(want)), want, line)
+
+    def rest(self):
+        self.stream.shutdown(socket.SHUT_WR)
+        return self.to_the_end()
+
+    def to_the_end(self):
+        heard = b""
+        while True:
+            piece = self.stream.recv(65536)
+            if piece == b"":
+                return heard
+            heard += piece
+
+    def reset(self):
+        self.stream.setsockopt(socket.SOL_SOCKET, socket.SO_LINGER, struct.pack("ii", 1, 0))
+        self.stream.close()
+
+    def close(self):
+        self.stream.close()
+
+
+@test
+def a_client_is_served_and_stops_the_server():
+    with Serving() as serving:
+        client = serving.client()
+        for line, replies in SESSION:
+            client.ask(line, *replies)
+        client.ask(b"stop", b"bye")
+        expect(client.to_the_end(), b"")
+        expect(serving.end(), (b"", 0))
+
+
+@test
+def a_client_in_single_bytes_ends_with_its_input():
+    with Serving() as serving:
+        client = serving.client()
+        for byte in lines_of(SESSION):
+            client.say(bytes([byte]))
+        client.say(b"add r 9")
+        expect(client.rest(), replies_of(SESSION) + b"err 13 cut\n")
+        serving.client().ask(b"stop", b"bye")
+        expect(serving.end(), (b"", 0))
+
+
+@test
+def two_clients_share_the_rows():
+    with Serving() as serving:
+        one, two = serving.client(), serving.client()
+        one.ask(b"rel r int", b"ok")
+        two.ask(b"add r 1", b"ok added 1")
+        one.ask(b"query q(x) <- r(x)", b"ok query 3")
+        one.ask(b"open c q", b"ok open")
+        two.ask(b"open c q", b"ok open")
+        one.ask(b"next c 9", b"= 1", b"end")
+        two.ask(b"add r 2", b"ok added 2")
+        one.ask(b"next c 9", b"stale c r 2")
+        two.ask(b"next c 9", b"stale c r 2")
+        one.ask(b"quit", b"bye")
+        expect(one.to_the_end(), b"")
+        two.ask(b"stop", b"bye")
+        expect(serving.end(), (b"", 0))
+
+
+@test
+def a_client_that_never_reads_delays_no_other():
+    with Serving() as serving:
+        mute, other = serving.client(), serving.client()
+        other.ask(b"rel r int", b"ok")
+        for number in range(1, 301):
+            other.ask(b"add r %d" % number, b"ok added %d" % number)
+        other.ask(b"query q(x) <- r(x)", b"ok query 3")
+        mute.say(b"open c q\n" + b"next c 300\nclose c\nopen c q\n" * 20000)
+        for number in range(301, 501):
+            other.ask(b"add r %d" % number, b"ok added %d" % number)
+        other.ask(b"stop", b"bye")
+        expect(serving.end(), (b"", 0))
+
+
+@test
+def a_reset_in_the_middle_of_a_line_ends_one_session_alone():
+    with Serving() as serving:
+        one, two = serving.client(), serving.client()
+        one.ask(b"rel r int", b"ok")
+        one.say(b"add r ")
+        one.reset()
+        two.ask(b"add r 1", b"ok added 1")
+        two.ask(b"stop", b"bye")
+        expect(serving.end(), (b"", 0))
+
+
+@test
+def the_65th_client_is_told_that_it_is_full():
+    with Serving() as serving:
+        clients = [serving.client() for _ in range(64)]
+        for client in clients:
+            client.ask(b"rel r int", *[b"ok" if client is clients[0] else b"err 2 taken"])
+        expect(serving.client().to_the_end(), b"end full\n")
+        clients[5].ask(b"quit", b"bye")
+        expect(clients[5].to_the_end(), b"")
+        serving.client().ask(b"rel r int", b"err 2 taken")
+        clients[7].ask(b"stop", b"bye")
+        expect(serving.end(), (b"", 0))
+
+
+@test
+def turns_are_used():
+    with Serving("--turns", "1") as serving:
+        expect(serving.end(), (b"", 5))
+
+
+@test
+def an_address_that_is_none_is_a_fault_of_the_hub():
+    for address in ["nowhere", "127.0.0.1", "127.0.0.1:99999"]:
+        expect(run(b"", ("serve", address)), (b"", 4), address)
 
 
 def main():

@@ -1,14 +1,22 @@
 -- The headline of the program's run, which begins in the opening state.
-use Rattle.std.specs.Prelude.{◌≡◌}
-use Rattle.std.proofs.Common.{refl, subst}
+use Rattle.std.specs.Prelude.{ℕ, List, ◌≡◌, Option}
+use Rattle.std.proofs.Common.{refl, subst, inl}
+use Rattle.djq_io.specs.declared.hub.Listened.TheVariants.{Ready}
+use Rattle.djq_model.specs.Data.{Bytes}
 use Rattle.djq_machine.specs.State.{State, opening}
+use Rattle.djq_machine.specs.Call.{Counts}
 use Rattle.djq_laws.specs.Course.{Outside}
 use Rattle.djq_laws.proofs.Heading.{headline}
 use Rattle.djq_run.specs.declared.status.Status.{Status}
 use Rattle.djq_run.specs.declared.status.Status.TheVariants.{NoMemory}
 use Rattle.djq_run.specs.Ends.{RunEnds}
 use Rattle.djq_run.proofs.Ending.{not_begun}
-use Rattle.djq.specs.Ends.{Serves}
+use Rattle.djq_serve.specs.declared.served.Served.{Served}
+use Rattle.djq_serve.specs.Told.{Shown}
+use Rattle.djq_serve.specs.Ends.{ServeEnds, FaultsCount}
+use Rattle.djq_words.specs.declared.commands.Asked.{Asked}
+use Rattle.djq_words.specs.Asks.{Answers}
+use Rattle.djq.specs.Ends.{Serves, HubSeen, Listens, HubEnds, status_of}
 
 pub serves : (status : Status) (before now : Outside) (start state : State) → start ≡ opening → RunEnds status before now start state → Serves status before now
 serves status before now start state e run =
@@ -18,3 +26,25 @@ serves status before now start state e run =
 -- out of memory before anything was done
 pub serves_nothing : (o : Outside) → Serves NoMemory o o
 serves_nothing o = serves NoMemory o o opening opening refl (not_begun o opening opening refl)
+
+-- The hub listened, and the loop served it.
+pub served_hub : (answer : Served) (status : Status) (addr : Bytes) (turns : ℕ) (hub : HubSeen) (ready : Shown) (counted : Counts) (hub' : HubSeen) (counted' : Counts) (start state : State) → start ≡ opening
+    → Listens addr Ready hub.shown ready → ServeEnds answer turns ready counted start hub'.shown counted' state → FaultsCount answer hub.faults hub'.faults → status ≡ status_of answer
+    → HubEnds status addr turns hub counted hub' counted'
+served_hub answer status addr turns hub ready counted hub' counted' start state e listens ends faults is = inl (record {
+  ready = ready;
+  listens = listens;
+  state = state;
+  answer = answer;
+  ends = subst (λ (st : State). ServeEnds answer turns ready counted st hub'.shown counted' state) e ends;
+  faults = faults;
+  is = is;
+})
+
+-- a fault of the hub over both calls
+pub faults_from : (answer : Served) (a b c : ℕ) → b ≡ a → FaultsCount answer b c → FaultsCount answer a c
+faults_from answer a b c same h = subst (λ (n : ℕ). FaultsCount answer n c) same h
+
+-- what the words ask for, by what was read
+pub asks_for : (words : List Bytes) (o p : Option Asked) → o ≡ p → Answers words o → Answers words p
+asks_for words o p e h = subst (λ (k : Option Asked). Answers words k) e h

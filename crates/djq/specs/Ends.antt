@@ -1,20 +1,27 @@
 -- How the program ends: what its status says of the run of the join machine that it made.
-use Rattle.std.specs.Prelude.{ℕ, List, [], ◌∷◌, ◌≡◌, ◌<◌, Bool, true, false, MatchBool, length, take, codes}
+use Rattle.std.specs.Prelude.{ℕ, List, [], ◌∷◌, ◌≡◌, ◌<◌, ◌⊎◌, Option, None, Some, length, take, codes}
 use Rattle.djq_io.specs.Faults.{Counted}
 use Rattle.djq_io.specs.Sink.{Gains}
-use Rattle.djq_model.specs.Data.{Bytes, bytes_eq}
+use Rattle.djq_io.specs.Script.{WhereTold}
+use Rattle.djq_io.specs.declared.hub.Listened.{Listened}
+use Rattle.djq_io.specs.declared.hub.Listened.TheVariants.{Ready, Failed}
+use Rattle.djq_io.specs.declared.hub.Told.TheVariants.{Listening}
+use Rattle.djq_model.specs.Data.{Bytes}
 use Rattle.djq_lines.specs.Reply.{line}
 use Rattle.djq_machine.specs.State.{State, opening}
+use Rattle.djq_machine.specs.Call.{Counts}
 use Rattle.djq_laws.specs.Course.{Outside}
 use Rattle.djq_laws.specs.Given.{Headline}
 use Rattle.djq_run.specs.declared.status.Status.{Status}
-use Rattle.djq_run.specs.declared.status.Status.TheVariants.{Usage, WriteFault}
+use Rattle.djq_run.specs.declared.status.Status.TheVariants.{Done, Usage, WriteFault, HubFault, TurnsUsed, NoMemory}
 use Rattle.djq_run.specs.Ends.{RunEnds}
-
--- The words of a command line that are the command: the program's name, whatever it is, and `run`.
-abbrev pub is_run : List Bytes → Bool
-is_run (name ∷ word ∷ []) = bytes_eq word (codes "run")
-is_run _ = false
+use Rattle.djq_serve.specs.declared.served.Served.{Served}
+use Rattle.djq_serve.specs.declared.served.Served.TheVariants.{Stopped, Over, TurnsUsed as AllTaken, HubFault as HubFailed}
+use Rattle.djq_serve.specs.Told.{Shown}
+use Rattle.djq_serve.specs.Ends.{ServeEnds, FaultsCount}
+use Rattle.djq_words.specs.declared.commands.Asked.{Asked}
+use Rattle.djq_words.specs.declared.commands.Asked.TheVariants.{Run, Serve}
+use Rattle.djq_words.specs.Asks.{Answers}
 
 -- the line that tells the commands
 abbrev pub usage_line : Bytes
@@ -31,6 +38,61 @@ pub record Serves (status : Status) (before now : Outside) : Type 0 where
   pub run : RunEnds status before now opening state
   pub headline : Headline opening before now state run.course
 
+-- A hub, as the program shows it: what it tells, and its count of faults.
+pub record HubSeen : Type 0 where
+  pub shown : Shown
+  pub faults : ℕ
+
+abbrev pub hub_seen : Shown → ℕ → HubSeen
+hub_seen shown faults = record { shown = shown; faults = faults }
+
+-- The hub was asked to listen at an address, and answered so.
+pub record Listens (addr : Bytes) (answer : Listened) (old new : Shown) : Type 0 where
+  pub past : Gains old.past new.past (Listening addr answer ∷ [])
+  pub script : WhereTold old.script new.script (λ a b. b ≡ a)
+  pub ids : new.ids ≡ old.ids
+
+-- the status that the answer of the loop comes to
+abbrev pub status_of : Served → Status
+status_of Stopped = Done
+status_of Over = Done
+status_of AllTaken = TurnsUsed
+status_of HubFailed = HubFault
+
+-- **The theorem of `serve`.** The hub listened at the address, and then the server served it from
+-- the
+-- opening state on: by moves that are a run of the join machine, of which the hub tells, with each
+-- session sent what is its; and the status says exactly why it ended.
+pub record ServesHub (status : Status) (addr : Bytes) (turns : ℕ) (hub : HubSeen) (counted : Counts)
+    (hub' : HubSeen) (counted' : Counts) : Type 0 where
+  pub ready : Shown
+  pub listens : Listens addr Ready hub.shown ready
+  pub state : State
+  pub answer : Served
+  pub ends : ServeEnds answer turns ready counted opening hub'.shown counted' state
+  pub faults : FaultsCount answer hub.faults hub'.faults
+  pub is : status ≡ status_of answer
+
+-- The hub failed to listen.
+pub record Unheard (status : Status) (addr : Bytes) (hub : HubSeen) (counted : Counts)
+    (hub' : HubSeen) (counted' : Counts) : Type 0 where
+  pub listens : Listens addr Failed hub.shown hub'.shown
+  pub faults : Counted hub.faults hub'.faults
+  pub none_counted : counted' ≡ counted
+  pub is : status ≡ HubFault
+
+-- Out of memory before anything was done.
+abbrev pub NothingServed : Status → HubSeen → Counts → HubSeen → Counts → Type 0
+NothingServed status hub counted hub' counted' = (status ≡ NoMemory) × (hub' ≡ hub)
+    × (counted' ≡ counted)
+
+-- How `serve` ends.
+abbrev pub HubEnds : Status → Bytes → ℕ → HubSeen → Counts → HubSeen → Counts → Type 0
+HubEnds status addr turns hub counted hub' counted' =
+    ServesHub status addr turns hub counted hub' counted'
+    ⊎ (Unheard status addr hub counted hub' counted'
+    ⊎ NothingServed status hub counted hub' counted')
+
 -- What is done where the words are no command: nothing is read or counted, and this is written.
 pub record Writes (before now : Outside) (written : Bytes) : Type 0 where
   pub reading : now.reading ≡ before.reading
@@ -46,6 +108,23 @@ Explains WriteFault before now = (n : ℕ) × (n < length usage_line)
     × Writes before now (take n usage_line) × Counted before.write_faults now.write_faults
 Explains _ before now = ⊥
 
--- How the program ends, by the words of its command line.
-abbrev pub ProgramEnds : Status → List Bytes → Outside → Outside → Type 0
-ProgramEnds status words before now = MatchBool (is_run words) (Serves status before now) (Explains status before now)
+-- neither read nor written
+pub record NoTransfer (before now : Outside) : Type 0 where
+  pub reading : now.reading ≡ before.reading
+  pub read_faults : now.read_faults ≡ before.read_faults
+  pub taken : now.taken ≡ before.taken
+  pub write_faults : now.write_faults ≡ before.write_faults
+
+-- How the program ends, by what its words ask for.
+abbrev pub EndsAs : Option Asked → Status → Outside → HubSeen → Outside → HubSeen → Type 0
+EndsAs None status before hub now hub' = Explains status before now × (hub' ≡ hub)
+EndsAs (Some Run) status before hub now hub' = Serves status before now × (hub' ≡ hub)
+EndsAs (Some (Serve addr turns)) status before hub now hub' =
+    HubEnds status addr.now turns hub before.counted hub' now.counted × NoTransfer before now
+
+-- How the program ends, by the words of its command line: as what they ask for, and as no command
+-- where they ask for nothing; or out of memory before they were read.
+abbrev pub ProgramEnds : Status → List Bytes → Outside → HubSeen → Outside → HubSeen → Type 0
+ProgramEnds status words before hub now hub' =
+    ((asked : Option Asked) × Answers words asked × EndsAs asked status before hub now hub')
+    ⊎ ((status ≡ NoMemory) × (now ≡ before) × (hub' ≡ hub))

@@ -1,11 +1,13 @@
 //! A join query server, as a program: `djq run` serves one session from standard input to standard
-//! output.
+//! output, and `djq serve ADDR` the sessions that come over TCP.
 //!
 //! [`run_program`] is the program over any source, sink and hub. Its contract says what was
 //! written: the replies of a run of the join machine, so it is the theorem of the whole product.
 //! `main` makes the real ones, which tell no bytes, and calls it.
 #![tactic(auto)]
 
+#[cfg(test)]
+mod hub_tests;
 mod laws;
 mod program;
 #[cfg(test)]
@@ -13,7 +15,8 @@ mod tests;
 
 ghost use Rattle.std.specs.Prelude.{◌≡◌};
 
-use djq_io::{MemHub, StdSink, StdSource};
+use djq_io::{StdSink, StdSource};
+use djq_net::TcpHub;
 pub use djq_run::Status;
 use djq_steps::{Blanks, Ledgers, Steps};
 pub use laws::finished_cursors_have_listed;
@@ -42,7 +45,7 @@ fn start<L: Ledgers>(rt: &HostRuntime, blanks: Blanks) -> Result<Status, AllocEr
         &words,
         &mut StdSource::new(rt.reader()),
         &mut StdSink::new(io::writer(rt)),
-        &mut MemHub::new(alloc),
+        &mut TcpHub::new(*rt, alloc)?,
         &mut Steps::<L>::new(rt, blanks),
     ))
 }

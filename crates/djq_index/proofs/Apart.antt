@@ -1,11 +1,10 @@
 -- Lists in which no tuple stands twice.
-use Rattle.std.proofs.Common.{◌≡◌, ℕ, zero, suc, ◌+◌, ◌*◌, ◌≤◌, ◌<◌, Bool, true, false, cond, List, [], ◌∷◌, ◌++◌, length, refl, ap, subst, sym, ◌∙◌, arith, ◌⊎◌, inl, inr}
-use Rattle.std.proofs.lemmas.Bool.{cases_Bool}
-use Rattle.djq_index.specs.Tuple.{same, pick, one}
-use Rattle.djq_index.specs.Entries.{Entry, supp, cnt, many}
-use Rattle.djq_index.specs.Table.{AreApart, AreSupported, IsAt, IsLive}
-use Rattle.djq_index.proofs.Tuples.{same_is, is_same, same_refl, same_cases, same_sym, one_le, one_same, one_other, one_true, one_false}
-use Rattle.djq_index.proofs.Counts.{cnt-append, supp-append, many-append, cnt_cons, cnt_middle, supp_middle, many_middle, supp_cons, many_cons}
+use Rattle.std.proofs.Common.{◌≡◌, ℕ, zero, suc, ◌+◌, ◌≤◌, ◌<◌, true, false, cond, List, [], ◌∷◌, ◌++◌, refl, ap, subst, sym, ◌∙◌, arith, inl, inr}
+use Rattle.djq_index.specs.Tuple.{same, one}
+use Rattle.djq_index.specs.Entries.{Entry, supp, cnt}
+use Rattle.djq_index.specs.Table.{AreApart, AreSupported}
+use Rattle.djq_index.proofs.Tuples.{is_same, same_refl, same_cases, same_sym, one_le, one_same, one_other, one_true}
+use Rattle.djq_index.proofs.Counts.{cnt_cons, cnt_middle, supp_middle}
 
 -- where a tuple is among the entries, it stands somewhere
 pub record Stands (es : List Entry) (u : List ℕ) : Type 0 where

@@ -1,15 +1,14 @@
 -- What a change of a table does to its numbers.
-use Rattle.std.proofs.Common.{◌≡◌, ℕ, zero, suc, ◌+◌, ◌*◌, ◌≤◌, ◌<◌, Bool, true, false, cond, List, [], ◌∷◌, ◌++◌, length, map, refl, ap, subst, sym, ◌∙◌, arith, length-append}
+use Rattle.std.proofs.Common.{◌≡◌, ℕ, ◌+◌, Bool, true, false, cond, List, ◌∷◌, ◌++◌, length, refl, ap, subst, sym, ◌∙◌, arith, length-append}
 use Rattle.djq_index.specs.declared.place.Place.{Place}
 use Rattle.djq_index.specs.Tuple.{same, pick, one}
-use Rattle.djq_index.specs.Entries.{Entry, supp, cnt, many, grp, marks, plain, is_marked}
-use Rattle.djq_index.specs.Table.{AreApart, ArePlaced, AreLast, AreWide, AreSupported, IsElsewhere, IsAt, IsLive}
+use Rattle.djq_index.specs.Entries.{Entry, supp, cnt, many, marks, plain}
+use Rattle.djq_index.specs.Table.{AreApart, ArePlaced, AreSupported, IsAt}
 use Rattle.djq_index.specs.Changes.{Inserted, Removed, Touched, Supported}
-use Rattle.djq_index.proofs.Tuples.{same_is, same_refl, one_le, one_same, one_other, one_true, one_false}
-use Rattle.djq_index.proofs.Counts.{cnt_cons, many_cons, cnt-append, many-append, cnt_middle, many_middle, supp_middle, cnt_split, many_split}
-use Rattle.djq_index.proofs.Apart.{cnt_once, apart_in, apart_out, apart_here, apart_same, supp_at, supported_in, supported_out}
+use Rattle.djq_index.proofs.Counts.{cnt_middle, many_middle, supp_middle, cnt_split}
+use Rattle.djq_index.proofs.Apart.{apart_in, apart_out, apart_here, apart_same, supp_at, supported_in, supported_out}
 use Rattle.djq_index.proofs.Places.{at_in, at_out, at_same, at_here}
-use Rattle.djq_index.proofs.Marks.{marks_middle, plain_middle, marks_yes, plain_no, marks-append, plain-append, last_in, last_out, last_same}
+use Rattle.djq_index.proofs.Marks.{marks_middle, plain_middle}
 
 length_middle : (xs : List Entry) (e : Entry) (ys : List Entry) → length (xs ++ e ∷ ys) ≡ length (xs ++ ys) + 1
 length_middle xs e ys = omega (arith, length-append xs (e ∷ ys), length-append xs ys)

@@ -1,20 +1,17 @@
 -- Marks are taken away one after the other.
-use Rattle.std.proofs.Common.{◌≡◌, ◌≢◌, ℕ, zero, suc, ◌+◌, ◌-◌, ◌≤◌, ◌<◌, List, [], ◌∷◌, ◌++◌, length, map, take, drop, slice_set, Option, Some, None, refl, ap, ap₂, subst, sym, ◌∙◌, arith, append_assoc, Bool, true, false, ◌⊎◌, inl, inr, length-set, length-append, add-one, get_or-set_same, get_or-set_other}
-use Rattle.std.proofs.lemmas.List.{append-nil, map-append, take_all, drop_more, take-append-drop}
+use Rattle.std.proofs.Common.{◌≡◌, ℕ, zero, suc, ◌+◌, ◌≤◌, ◌<◌, List, [], ◌∷◌, ◌++◌, length, take, drop, slice_set, Option, Some, None, refl, ap, ap₂, subst, sym, ◌∙◌, arith, append_assoc, Bool, false, inl, inr, length-set, add-one, get_or-set_same, get_or-set_other}
+use Rattle.std.proofs.lemmas.List.{append-nil, map-append, take_all}
 use Rattle.std.proofs.lemmas.Bool.{cases_Bool, cases_eq, false≢true}
-use Rattle.djq_arena.specs.declared.chain.Pair.{Pair}
-use Rattle.djq_arena.specs.declared.chain.Ends.{Ends}
-use Rattle.djq_arena.specs.Rows.{Row, Rows, AreRows, IsHeld, IsRow, slots, AreWide as AreWideRows}
-use Rattle.djq_arena.specs.Chains.{first_of, AreDifferent, AreBelow, IsOut, pair_at}
+use Rattle.djq_arena.specs.Rows.{Row, Rows, AreRows, IsHeld, slots}
+use Rattle.djq_arena.specs.Chains.{first_of, AreDifferent}
 use Rattle.djq_index.specs.declared.place.Place.{Place}
 use Rattle.djq_index.specs.declared.raw.Note.{Note}
 use Rattle.djq_index.specs.declared.raw.Raw.{Raw}
 use Rattle.djq_index.specs.Entries.{Entry, marks, plain, bare, unmarked}
-use Rattle.djq_index.specs.Table.{AreApart, ArePlaced, IsElsewhere, AreWide, AreLast, AreColumns, IsTable, Table}
-use Rattle.djq_index.specs.Raw.{note_at, entry_of, entries_in, entries_of, slots_at, AreTrailing, AreAllMarked, AreGroups, IsRaw, without_mark, row_at, AreSeated, ends_at}
+use Rattle.djq_index.specs.Raw.{note_at, entry_of, entries_in, entries_of, slots_at, AreTrailing, IsRaw, IsBare, AreHeads, without_mark}
 use Rattle.djq_index.proofs.Marks.{marks_yes, marks_no, plain_yes, plain_no, unmarked_cons, unmarked_marks}
-use Rattle.djq_index.proofs.Parts.{slots_are, entries_in-append, entries_in_cons, entries_nil, cut_entries, slots_at_cons, slots_nil, trailing_split, entry_at, entry_tuple, entry_supports, entry_marked, row_below}
-use Rattle.djq_index.proofs.Keeping.{entries_set, groups_like, groups_alike, alike_notes, alike_apart, trailing_last, AreAlike}
+use Rattle.djq_index.proofs.Parts.{slots_are, cut_entries, slots_nil, trailing_split, entry_at, row_below}
+use Rattle.djq_index.proofs.Keeping.{entries_set, groups_like, groups_alike, alike_notes, alike_apart, AreAlike, kind_kept}
 
 -- in the middle of it: the first j marks are gone
 pub record Clearing (old now : List Note) (rows : List Row) (next : Option ℕ) (j : ℕ) : Type 0 where
@@ -194,22 +191,34 @@ unfolding unmarked AreTrailing bare
 trailing_unmarked [] = tt
 trailing_unmarked (e ∷ es) = ((λ h. absurd (false≢true h)), trailing_unmarked es)
 
-pub cleared_raw : (a b : Raw) → IsRaw a → b.key.items ≡ a.key.items → b.rows ≡ a.rows → ((k : ℕ) → (note_at b.notes.items k).head ≡ (note_at a.notes.items k).head) → length b.notes.items ≡ length a.notes.items
-    → b.links.items ≡ a.links.items → b.keys ≡ a.keys → b.ends.items ≡ a.ends.items → b.marked ≡ None → entries_of b ≡ unmarked (entries_of a) → IsRaw b
-cleared_raw a b raw key rows heads long links keys ends marked is = record {
+notes_alike : (a b : Raw) → b.rows ≡ a.rows → AreAlike (entries_of a) (entries_of b)
+notes_alike a b rows = subst (λ rs. AreAlike (entries_of a) (entries_in b.notes.items rs.rows)) (sym rows) (alike_notes a.notes.items b.notes.items a.rows.rows)
+
+pub cleared_bare : (a b : Raw) → IsBare a → b.kind ≡ a.kind → b.key.items ≡ a.key.items → b.rows ≡ a.rows → length b.notes.items ≡ length a.notes.items → b.marked ≡ None → entries_of b ≡ unmarked (entries_of a) → IsBare b
+cleared_bare a b raw kind key rows long marked is = record {
   rows = rw rows raw.rows;
-  keys = rw keys raw.keys;
   columns = rw (key, rows) raw.columns;
-  key_width = rw (key, keys) raw.key_width;
+  kind = kind_kept a.kind b.kind a.rows.width b.rows.width a.key.items b.key.items kind (ap (λ (rs : Rows). rs.width) rows) key raw.kind;
   notes = rw (rows, long) raw.notes;
-  links = rw (rows, links) raw.links;
-  ends = rw (keys, ends) raw.ends;
-  apart = alike_apart (entries_of a) (entries_of b) alike raw.apart;
-  groups = groups_alike b.key.items b.notes.items b.links.items b.keys.rows b.ends.items (entries_of a) (entries_of b) alike
-      (rw (key, links, keys, ends) (groups_like a.key.items a.notes.items b.notes.items a.links.items a.links.items a.keys.rows a.ends.items a.ends.items (entries_of a) raw.groups heads (λ k. refl) (λ k. refl)));
+  apart = alike_apart (entries_of a) (entries_of b) (notes_alike a b rows) raw.apart;
   trailing = subst AreTrailing (sym is) (trailing_unmarked (entries_of a));
   marked = marked ∙ sym (ap (λ (es : List Entry). first_of (slots_at (marks es))) is ∙ ap (λ (ms : List Entry). first_of (slots_at ms)) (unmarked_marks (entries_of a)) ∙ ap first_of slots_nil);
 }
-  where
-    alike : AreAlike (entries_of a) (entries_of b)
-    alike = subst (λ rs. AreAlike (entries_of a) (entries_in b.notes.items rs.rows)) (sym rows) (alike_notes a.notes.items b.notes.items a.rows.rows)
+
+pub cleared_heads : (a b : Raw) → AreHeads a → b.key.items ≡ a.key.items → b.rows ≡ a.rows → ((k : ℕ) → (note_at b.notes.items k).head ≡ (note_at a.notes.items k).head)
+    → b.links.items ≡ a.links.items → b.keys ≡ a.keys → b.ends.items ≡ a.ends.items → AreHeads b
+cleared_heads a b hs key rows heads links keys ends = record {
+  keys = rw keys hs.keys;
+  key_width = rw (key, keys) hs.key_width;
+  links = rw (rows, links) hs.links;
+  ends = rw (keys, ends) hs.ends;
+  groups = groups_alike b.key.items b.notes.items b.links.items b.keys.rows b.ends.items (entries_of a) (entries_of b) (notes_alike a b rows)
+      (rw (key, links, keys, ends) (groups_like a.key.items a.notes.items b.notes.items a.links.items a.links.items a.keys.rows a.ends.items a.ends.items (entries_of a) hs.groups heads (λ k. refl) (λ k. refl)));
+}
+
+pub cleared_raw : (a b : Raw) → IsRaw a → b.kind ≡ a.kind → b.key.items ≡ a.key.items → b.rows ≡ a.rows → ((k : ℕ) → (note_at b.notes.items k).head ≡ (note_at a.notes.items k).head) → length b.notes.items ≡ length a.notes.items
+    → b.links.items ≡ a.links.items → b.keys ≡ a.keys → b.ends.items ≡ a.ends.items → b.marked ≡ None → entries_of b ≡ unmarked (entries_of a) → IsRaw b
+cleared_raw a b raw kind key rows heads long links keys ends marked is = record {
+  bare = cleared_bare a b raw.bare kind key rows long marked is;
+  heads = λ k. cleared_heads a b (raw.heads (sym kind ∙ k)) key rows heads links keys ends;
+}

@@ -1,5 +1,5 @@
 -- The columns of a key.
-use Rattle.std.proofs.Common.{◌≡◌, ◌<◌, ◌≤◌, ◌+◌, ◌++◌, ◌∷◌, [], refl, sym, ◌∙◌, ap, ap₂, length, List, ℕ, zero, suc, slice_index_or, take, arith, map, add-one}
+use Rattle.std.proofs.Common.{◌≡◌, ◌<◌, ◌+◌, ◌++◌, ◌∷◌, [], refl, ◌∙◌, ap, length, List, ℕ, zero, suc, slice_index_or, take, arith, map, add-one}
 use Rattle.std.proofs.lemmas.List.{map-append}
 use Rattle.djq_index.specs.Tuple.{pick}
 use Rattle.djq_index.specs.Table.{AreColumns}

@@ -1,25 +1,24 @@
 -- How groups change.
-use Rattle.std.proofs.Common.{◌≡◌, ◌≢◌, ℕ, zero, suc, ◌+◌, ◌≤◌, ◌<◌, List, [], ◌∷◌, ◌++◌, length, slice_index_or, slice_set, Option, Some, None, refl, ap, ap₂, subst, sym, ◌∙◌, arith, append_assoc, Bool, true, false, cond, ◌⊎◌, inl, inr, get_or-set_same, get_or-set_other}
+use Rattle.std.proofs.Common.{◌≡◌, ◌≢◌, ℕ, zero, suc, ◌+◌, ◌<◌, List, [], ◌∷◌, ◌++◌, length, slice_set, Option, Some, None, refl, ap, ap₂, subst, sym, ◌∙◌, arith, false, inl, inr, get_or-set_same, get_or-set_other}
 use Rattle.std.proofs.lemmas.List.{append-nil}
 use Rattle.std.proofs.lemmas.Bool.{cases_Bool, false≢true, cases_eq}
 use Rattle.djq_arena.specs.declared.chain.Pair.{Pair}
 use Rattle.djq_arena.specs.declared.chain.Ends.{Ends}
-use Rattle.djq_arena.specs.Rows.{Row, IsAbsent, IsRow, slots}
-use Rattle.djq_arena.specs.Chains.{Linked, first_of, last_of, last_from, first_or, AreDifferent, AreBelow, IsOut, AreOut, Avoids, pair_at, entered, left}
+use Rattle.djq_arena.specs.Rows.{Row, IsAbsent, slots}
+use Rattle.djq_arena.specs.Chains.{Linked, first_of, last_of, AreDifferent, AreBelow, IsOut, AreOut, Avoids, pair_at, entered, left}
 use Rattle.djq_arena.specs.Store.{ends_of, extended, shrunk}
-use Rattle.djq_arena.proofs.Lists.{last_append, out_append, out_front, out_back, different_front, different_back, different_append, different_here, outs, outs_swap, last_avoids, first_avoids, avoids_none, below_front, starts_empty}
+use Rattle.djq_arena.proofs.Lists.{different_front, different_back, different_append, different_here, outs_swap, last_avoids, first_avoids, avoids_none}
 use Rattle.djq_arena.proofs.Chaining.{linked_same, entered_linked, entered_agree, left_linked, left_agree, prev_here, next_here}
 use Rattle.djq_arena.proofs.Storing.{extended_is, shrunk_is}
 use Rattle.djq_arena.proofs.RowLemmas.{slots-append}
-use Rattle.djq_index.specs.declared.place.Place.{Place}
 use Rattle.djq_index.specs.declared.raw.Note.{Note}
 use Rattle.djq_index.specs.Tuple.{same, pick, one}
-use Rattle.djq_index.specs.Entries.{Entry, cnt, many, grp}
+use Rattle.djq_index.specs.Entries.{Entry, many, grp}
 use Rattle.djq_index.specs.Raw.{note_at, slots_at, row_at, AreSeated, ends_at, AreGroups}
-use Rattle.djq_index.proofs.Tuples.{same_is, is_same, same_refl, same_cases, same_other, one_same, one_other, one_true, one_false}
-use Rattle.djq_index.proofs.Counts.{length_grp, many_middle, many-append, many_cons}
+use Rattle.djq_index.proofs.Tuples.{is_same, same_cases, same_other, one_true, one_false}
+use Rattle.djq_index.proofs.Counts.{length_grp, many_middle, many_cons}
 use Rattle.djq_index.proofs.Groups.{grp-append, grp_yes, grp_no}
-use Rattle.djq_index.proofs.Parts.{slots_at-append, slots_at_middle, slots_at_cons, no_group, no_ends, row_at_row, row_from_at, row_at_nil, row_at_other, row_at_first, row_at_middle, slots_nil}
+use Rattle.djq_index.proofs.Parts.{slots_at-append, slots_at_middle, slots_at_cons, no_group, no_ends, row_from_at, row_at_nil, row_at_other, row_at_first, row_at_middle, slots_nil}
 
 -- a group is among all
 out_first : (i x : ℕ) (xs : List ℕ) → IsOut i (x ∷ xs) → (x ≡ i → ⊥) × IsOut i xs

@@ -1,12 +1,12 @@
 -- Groups, and tables that hold the same tuples.
-use Rattle.std.proofs.Common.{◌≡◌, ℕ, zero, suc, ◌+◌, ◌*◌, ◌≤◌, ◌<◌, Bool, true, false, cond, List, [], ◌∷◌, ◌++◌, length, refl, ap, subst, sym, ◌∙◌, arith, ◌⊎◌, inl, inr}
+use Rattle.std.proofs.Common.{◌≡◌, ℕ, zero, suc, ◌+◌, ◌*◌, ◌≤◌, Bool, true, false, cond, List, [], ◌∷◌, ◌++◌, refl, ap, subst, sym, ◌∙◌, arith, inl, inr}
 use Rattle.std.proofs.lemmas.Bool.{cases_Bool}
 use Rattle.djq_index.specs.Tuple.{same, pick, one}
 use Rattle.djq_index.specs.Entries.{Entry, supp, cnt, many, grp}
 use Rattle.djq_index.specs.Table.{AreApart, AreSupported}
-use Rattle.djq_index.proofs.Tuples.{same_is, same_refl, same_cases, one_le, one_same, one_other, one_true, one_false}
-use Rattle.djq_index.proofs.Counts.{cnt_cons, many_cons, cnt_middle, many_middle, supp_middle}
-use Rattle.djq_index.proofs.Apart.{stands, Stands, cnt_once, apart_out, apart_here, supp_here, cnt_none, supp_none, cnt_supp, supported_out, there}
+use Rattle.djq_index.proofs.Tuples.{same_cases, one_same, one_other, one_true, one_false}
+use Rattle.djq_index.proofs.Counts.{cnt_cons, many_cons, cnt_middle, many_middle}
+use Rattle.djq_index.proofs.Apart.{stands, cnt_once, supp_none, cnt_supp}
 
 append_cond : (b : Bool) (e : Entry) (xs ys : List Entry) → cond b (e ∷ (xs ++ ys)) (xs ++ ys) ≡ cond b (e ∷ xs) xs ++ ys
 append_cond true e xs ys = refl

@@ -1,25 +1,23 @@
 -- What a change of a table's parts keeps.
-use Rattle.std.proofs.Common.{◌≡◌, ◌≢◌, ℕ, zero, suc, ◌+◌, ◌≤◌, ◌<◌, List, [], ◌∷◌, ◌++◌, length, map, slice_index_or, slice_set, Option, Some, None, refl, ap, ap₂, subst, sym, ◌∙◌, arith, append_assoc, Bool, true, false, cond, ◌⊎◌, inl, inr, get_or-set_same, get_or-set_other, eq-eqb, length-set, ◌==◌}
-use Rattle.std.proofs.lemmas.List.{append-nil}
+use Rattle.std.proofs.Common.{◌≡◌, ℕ, ◌+◌, ◌<◌, List, [], ◌∷◌, ◌++◌, length, slice_set, Option, Some, None, refl, ap, ap₂, subst, sym, ◌∙◌, Bool, true, false, cond, inl, inr, get_or-set_same, get_or-set_other, eq-eqb}
 use Rattle.std.proofs.lemmas.Bool.{cases_Bool, false≢true, cases_eq, ne_eqb}
 use Rattle.djq_arena.specs.declared.chain.Pair.{Pair}
 use Rattle.djq_arena.specs.declared.chain.Ends.{Ends}
-use Rattle.djq_arena.specs.Rows.{Row, Rows, AreRows, IsAbsent, IsRow, slots}
-use Rattle.djq_arena.specs.Chains.{Linked, first_of, last_of, first_or, AreDifferent, AreBelow, IsOut, Agree, Differs, pair_at}
+use Rattle.djq_arena.specs.Rows.{Row, slots}
+use Rattle.djq_arena.specs.Chains.{Linked, first_of, AreDifferent, IsOut, Agree, Differs, pair_at}
 use Rattle.djq_arena.specs.Store.{ends_of, beside}
-use Rattle.djq_arena.proofs.Lists.{different_here, out_front, out_back, below_here, first_append, first_differs}
+use Rattle.djq_arena.proofs.Lists.{different_here, out_front, out_back, first_differs}
 use Rattle.djq_arena.proofs.Chaining.{linked_same}
 use Rattle.djq_arena.proofs.RowLemmas.{slots-append}
 use Rattle.djq_index.specs.declared.place.Place.{Place}
+use Rattle.djq_index.specs.declared.kind.Kind.{Kind}
 use Rattle.djq_index.specs.declared.raw.Note.{Note}
 use Rattle.djq_index.specs.Tuple.{same, pick, one}
 use Rattle.djq_index.specs.Entries.{Entry, cnt, many, grp, marks, plain}
 use Rattle.djq_index.specs.Table.{AreApart, AreLast}
-use Rattle.djq_index.specs.Raw.{note_at, entry_of, entries_in, slots_at, row_at, AreSeated, ends_at, AreGroups, AreAllMarked, AreTrailing, passed}
-use Rattle.djq_index.proofs.Counts.{many_cons}
-use Rattle.djq_index.proofs.Marks.{marks_yes, marks_no, plain_yes, plain_no, marks-append, marks_middle}
-use Rattle.djq_index.proofs.Parts.{entries_in-append, entries_in_cons, entries_nil, slots_at-append, slots_at_middle, slots_at_cons, slots_nil, slots_are, all_marks, all_plain}
-use Rattle.djq_index.proofs.Grouping.{AreGroupsBut}
+use Rattle.djq_index.specs.Raw.{note_at, entry_of, entries_in, slots_at, row_at, AreSeated, ends_at, AreGroups, AreAllMarked, AreTrailing, passed, IsKind}
+use Rattle.djq_index.proofs.Marks.{marks_yes, marks_no, marks-append}
+use Rattle.djq_index.proofs.Parts.{entries_in-append, entries_in_cons, entries_nil, slots_at_middle, slots_at_cons, slots_nil, all_marks, all_plain}
 
 -- notes and links that read alike
 entry_like : (notes more : List Note) (r : Row) → note_at more r.slot ≡ note_at notes r.slot → entry_of more r ≡ entry_of notes r
@@ -311,3 +309,7 @@ mark_out (x ∷ xs) e ys i t d at =
           ∙ mark_out xs e ys i (trailing_first x (xs ++ e ∷ ys) t).1 k.1 at
           ∙ ap (λ (ms : List Entry). first_of (slots_at ms)) (sym (marks_no x (xs ++ ys) other))
     ]
+
+-- the kind of groups stays right
+pub kind_kept : (k l : Kind) (m n : ℕ) (xs ys : List ℕ) → l ≡ k → n ≡ m → ys ≡ xs → IsKind k m xs → IsKind l n ys
+kind_kept k l m n xs ys kl mn xy h = subst (λ c. IsKind c n ys) (sym kl) (subst (λ i. IsKind k i ys) (sym mn) (subst (λ zs. IsKind k m zs) (sym xy) h))

@@ -14,3 +14,5 @@ pub mod Leaving
 pub mod Clearing
 pub mod Tabling
 pub mod Walking
+pub mod Headless
+pub mod Bounding

@@ -1,14 +1,13 @@
 -- Marked entries, which are the last of their groups.
-use Rattle.std.proofs.Common.{◌≡◌, ℕ, zero, suc, ◌+◌, ◌*◌, ◌≤◌, ◌<◌, Bool, true, false, cond, List, [], ◌∷◌, ◌++◌, length, map, refl, ap, subst, sym, ◌∙◌, arith, ◌⊎◌, inl, inr}
+use Rattle.std.proofs.Common.{◌≡◌, ℕ, suc, ◌+◌, ◌≤◌, ◌<◌, Bool, true, false, cond, List, [], ◌∷◌, ◌++◌, length, refl, ap, subst, sym, ◌∙◌, arith, inl, inr}
 use Rattle.std.proofs.lemmas.Bool.{cases_Bool, false≢true}
 use Rattle.djq_index.specs.declared.place.Place.{Place}
 use Rattle.djq_index.specs.Tuple.{same, pick, one}
 use Rattle.djq_index.specs.Entries.{Entry, supp, cnt, many, grp, marks, plain, is_marked, bare, unmarked}
-use Rattle.djq_index.specs.Table.{AreApart, ArePlaced, AreLast, AreWide, IsElsewhere, IsAt, IsLive}
-use Rattle.djq_index.proofs.Tuples.{same_is, is_same, same_refl, same_cases, one_le, one_same, one_other, one_true, one_false}
-use Rattle.djq_index.proofs.Counts.{cnt_cons, many_cons, cnt-append, many-append, cnt_middle, many_middle, supp_middle, cnt_split, many_split}
-use Rattle.djq_index.proofs.Apart.{cnt_once, apart_out, apart_here}
-use Rattle.djq_index.proofs.Groups.{grp-append, grp_yes, grp_no}
+use Rattle.djq_index.specs.Table.{AreApart, ArePlaced, AreLast, AreWide, IsElsewhere}
+use Rattle.djq_index.proofs.Tuples.{same_is, is_same, same_cases, one_other, one_true, one_false}
+use Rattle.djq_index.proofs.Counts.{cnt_cons, many_cons, many-append, cnt_split, many_split}
+use Rattle.djq_index.proofs.Groups.{grp_yes, grp_no}
 
 pub marks_yes : (e : Entry) (es : List Entry) → e.marked ≡ true → marks (e ∷ es) ≡ e ∷ marks es
 unfolding marks

@@ -1,24 +1,23 @@
 -- Entries as the rows of an arena with their notes.
-use Rattle.std.proofs.Common.{◌≡◌, ◌≢◌, ℕ, zero, suc, ◌+◌, ◌≤◌, ◌<◌, List, [], ◌∷◌, ◌++◌, length, map, reverse, slice_index_or, Option, Some, None, refl, ap, ap₂, subst, sym, ◌∙◌, arith, append_assoc, Bool, true, false, cond, ◌⊎◌, inl, inr, eqb-true, eq-eqb, ◌==◌}
-use Rattle.std.proofs.lemmas.List.{append-nil, map-append, reverse-append, get_or_default}
-use Rattle.std.proofs.lemmas.Bool.{cases_Bool, false≢true, ne_eqb, cases_eq}
+use Rattle.std.proofs.Common.{◌≡◌, ℕ, ◌<◌, List, [], ◌∷◌, ◌++◌, length, Option, Some, None, refl, ap, ap₂, subst, sym, ◌∙◌, arith, append_assoc, inl, inr, eq-eqb}
+use Rattle.std.proofs.lemmas.List.{map-append, reverse-append}
+use Rattle.std.proofs.lemmas.Bool.{cases_Bool, ne_eqb, cases_eq}
 use Rattle.djq_arena.specs.declared.chain.Pair.{Pair}
-use Rattle.djq_arena.specs.declared.chain.Ends.{Ends}
-use Rattle.djq_arena.specs.Rows.{Row, Rows, AreRows, IsAbsent, IsRow, IsHeld, slots, AreWide as AreWideRows}
-use Rattle.djq_arena.specs.Chains.{Linked, first_of, last_of, last_from, first_or, AreDifferent, AreBelow, IsOut, pair_at}
+use Rattle.djq_arena.specs.Rows.{Row, IsAbsent, IsRow, IsHeld, slots}
+use Rattle.djq_arena.specs.Chains.{Linked, first_of, last_of, AreDifferent, AreBelow, IsOut, pair_at}
 use Rattle.djq_arena.specs.Store.{ends_of}
-use Rattle.djq_arena.proofs.Lists.{last_append, below_here, different_here}
+use Rattle.djq_arena.proofs.Lists.{last_append, below_here}
 use Rattle.djq_arena.proofs.Chaining.{prev_here, next_here}
 use Rattle.djq_arena.proofs.RowLemmas.{slots-append}
 use Rattle.djq_index.specs.declared.place.Place.{Place}
 use Rattle.djq_index.specs.declared.raw.Note.{Note}
 use Rattle.djq_index.specs.declared.raw.Raw.{Raw}
-use Rattle.djq_index.specs.Tuple.{same, pick, one}
+use Rattle.djq_index.specs.Tuple.{same}
 use Rattle.djq_index.specs.Entries.{Entry, supp, cnt, many, grp, marks, plain, is_marked, head_at, last_at}
-use Rattle.djq_index.specs.Table.{AreApart, ArePlaced, IsElsewhere, AreWide, AreLast, IsAt, IsLive}
-use Rattle.djq_index.specs.Raw.{note_at, entry_of, entries_in, entries_of, slots_at, row_at, AreSeated, ends_at, AreGroups, AreAllMarked, AreTrailing, IsRaw, place_of}
-use Rattle.djq_index.proofs.Tuples.{same_other, one_false, same_refl, is_same, same_cases, one_same}
-use Rattle.djq_index.proofs.Counts.{cnt_cons, length_grp, cnt_middle, many_cons}
+use Rattle.djq_index.specs.Table.{AreApart, IsAt, IsLive}
+use Rattle.djq_index.specs.Raw.{note_at, entry_of, entries_in, entries_of, slots_at, row_at, AreAllMarked, AreTrailing, IsBare, place_of}
+use Rattle.djq_index.proofs.Tuples.{same_other, one_false, is_same}
+use Rattle.djq_index.proofs.Counts.{length_grp}
 use Rattle.djq_index.proofs.Apart.{supp_at, there}
 use Rattle.djq_index.proofs.Marks.{marks_yes, marks_no, plain_yes, plain_no, is_marked_here, is_marked_else}
 
@@ -234,7 +233,7 @@ pub row_below : (n : ℕ) (rows : List Row) (i : ℕ) (u : List ℕ) → AreBelo
 row_below n rows i u b h =
     below_here n (slots h.front) i (slots h.back) (subst (AreBelow n) (ap slots h.is ∙ slots-append h.front (record { slot = i; cells = u } ∷ h.back) ∙ ap (λ (zs : List ℕ). slots h.front ++ zs) (slot_first (record { slot = i; cells = u }) h.back)) b)
 
-pub live_below : (r : Raw) (p : Place) → IsRaw r → IsLive (entries_of r) p → p.slot < r.rows.room
+pub live_below : (r : Raw) (p : Place) → IsBare r → IsLive (entries_of r) p → p.slot < r.rows.room
 live_below r p h l = row_below r.rows.room r.rows.rows p.slot l.tuple h.rows.below (at_row r.notes.items r.rows.rows p l.tuple l.is_at)
 
 -- a group without a head is empty
@@ -292,17 +291,17 @@ marked_middle (x ∷ xs) e ys u apart here =
 pub marked_at : (es xs : List Entry) (e : Entry) (ys : List Entry) (u : List ℕ) → AreApart es → es ≡ xs ++ e ∷ ys → e.tuple ≡ u → is_marked es u ≡ e.marked
 marked_at es xs e ys u apart is here = ap (λ (ds : List Entry). is_marked ds u) is ∙ marked_middle xs e ys u (subst AreApart is apart) here
 
-entry_of_row : (notes : List Note) (e : Entry) (r : Row) (p : Place) → e ≡ entry_of notes r → e.at ≡ p → r.slot ≡ p.slot
+pub entry_of_row : (notes : List Note) (e : Entry) (r : Row) (p : Place) → e ≡ entry_of notes r → e.at ≡ p → r.slot ≡ p.slot
 entry_of_row notes e r p h at = ap (λ (q : Place). q.slot) (sym (entry_at notes r) ∙ ap (λ (d : Entry). d.at) (sym h) ∙ at)
 
 -- what a note says of its tuple
-pub note_supports : (r : Raw) (p : Place) (u : List ℕ) → IsRaw r → IsAt (entries_of r) p u → (note_at r.notes.items p.slot).supports ≡ supp (entries_of r) u
+pub note_supports : (r : Raw) (p : Place) (u : List ℕ) → IsBare r → IsAt (entries_of r) p u → (note_at r.notes.items p.slot).supports ≡ supp (entries_of r) u
 note_supports r p u h a =
     let c = cut_entries r.notes.items r.rows.rows a.front a.entry a.back a.is in
     ap (λ (i : ℕ). (note_at r.notes.items i).supports) (sym (entry_of_row r.notes.items a.entry c.row p c.e_is a.at))
     ∙ sym (entry_supports r.notes.items c.row) ∙ ap (λ (d : Entry). d.supports) (sym c.e_is) ∙ sym (supp_at (entries_of r) a.front a.entry a.back u h.apart a.is a.tuple)
 
-pub note_marked : (r : Raw) (p : Place) (u : List ℕ) → IsRaw r → IsAt (entries_of r) p u → (note_at r.notes.items p.slot).marked ≡ is_marked (entries_of r) u
+pub note_marked : (r : Raw) (p : Place) (u : List ℕ) → IsBare r → IsAt (entries_of r) p u → (note_at r.notes.items p.slot).marked ≡ is_marked (entries_of r) u
 note_marked r p u h a =
     let c = cut_entries r.notes.items r.rows.rows a.front a.entry a.back a.is in
     ap (λ (i : ℕ). (note_at r.notes.items i).marked) (sym (entry_of_row r.notes.items a.entry c.row p c.e_is a.at))

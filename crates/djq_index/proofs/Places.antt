@@ -1,8 +1,7 @@
 -- Places: each names one entry.
-use Rattle.std.proofs.Common.{◌≡◌, ◌≢◌, ℕ, ◌+◌, ◌≤◌, ◌<◌, Bool, true, false, List, [], ◌∷◌, ◌++◌, length, map, refl, ap, subst, sym, ◌∙◌, arith}
+use Rattle.std.proofs.Common.{◌≡◌, ℕ, List, [], ◌∷◌, ◌++◌, refl, ap, subst, sym, ◌∙◌}
 use Rattle.djq_index.specs.declared.place.Place.{Place}
-use Rattle.djq_index.specs.Tuple.{same, pick, one}
-use Rattle.djq_index.specs.Entries.{Entry, supp, cnt, many, is_marked}
+use Rattle.djq_index.specs.Entries.{Entry}
 use Rattle.djq_index.specs.Table.{IsElsewhere, ArePlaced, IsAt, IsLive}
 
 pub elsewhere_middle : (p : Place) (xs : List Entry) (e : Entry) (ys : List Entry) → IsElsewhere p (xs ++ e ∷ ys) → e.at ≡ p → ⊥

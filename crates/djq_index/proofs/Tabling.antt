@@ -1,19 +1,17 @@
 -- A table's parts make a table.
-use Rattle.std.proofs.Common.{◌≡◌, ◌≢◌, ℕ, zero, suc, ◌+◌, ◌-◌, ◌≤◌, ◌<◌, List, [], ◌∷◌, ◌++◌, length, map, Option, Some, None, refl, ap, ap₂, subst, sym, ◌∙◌, arith}
+use Rattle.std.proofs.Common.{◌≡◌, ℕ, suc, List, [], ◌∷◌, length, Some, None, refl, ap, sym, ◌∙◌, arith}
 use Rattle.djq_arena.specs.declared.chain.Pair.{Pair}
 use Rattle.djq_arena.specs.declared.chain.Ends.{Ends}
-use Rattle.djq_arena.specs.Rows.{Row, Rows, AreRows, IsAbsent, slots, AreWide as AreWideRows}
-use Rattle.djq_arena.specs.Chains.{Linked, first_of, AreDifferent, AreBelow, IsOut, pair_at}
-use Rattle.djq_arena.specs.Store.{ends_of}
+use Rattle.djq_arena.specs.Rows.{Row, Rows, AreRows, slots, AreWide as AreWideRows}
+use Rattle.djq_arena.specs.Chains.{Linked, first_of, AreDifferent, IsOut}
 use Rattle.djq_index.specs.declared.place.Place.{Place}
 use Rattle.djq_index.specs.declared.raw.Note.{Note}
 use Rattle.djq_index.specs.declared.raw.Raw.{Raw}
-use Rattle.djq_index.specs.Tuple.{pick}
 use Rattle.djq_index.specs.Entries.{Entry, grp, many, marks}
-use Rattle.djq_index.specs.Table.{AreApart, ArePlaced, IsElsewhere, AreWide, AreLast, AreColumns, IsTable, Table}
-use Rattle.djq_index.specs.Raw.{note_at, entry_of, entries_in, entries_of, slots_at, row_at, AreSeated, ends_at, AreGroups, AreTrailing, IsRaw}
-use Rattle.djq_index.proofs.Parts.{slots_are, entries_in_cons, entries_nil, slots_nil}
-use Rattle.djq_index.proofs.Keeping.{trailing_last}
+use Rattle.djq_index.specs.Table.{AreApart, ArePlaced, IsElsewhere, AreWide, AreColumns, IsTable}
+use Rattle.djq_index.specs.Raw.{entry_of, entries_in, entries_of, slots_at, row_at, AreSeated, AreGroups, AreTrailing, IsRaw, IsBare, AreHeads, IsKind}
+use Rattle.djq_index.proofs.Parts.{entries_nil}
+use Rattle.djq_index.proofs.Keeping.{trailing_last, kind_kept}
 
 elsewhere_from : (i : ℕ) (notes : List Note) (rows : List Row) → IsOut i (slots rows) → IsElsewhere (record { slot = i }) (entries_in notes rows)
 unfolding IsOut slots IsElsewhere entries_in entry_of
@@ -25,18 +23,18 @@ unfolding AreDifferent slots ArePlaced entries_in entry_of
 placed_from notes [] h = tt
 placed_from notes (r ∷ rs) h = (elsewhere_from r.slot notes rs h.0, placed_from notes rs h.1)
 
-wide_from : (width : ℕ) (notes : List Note) (rows : List Row) → AreWideRows width rows → AreWide width (entries_in notes rows)
+pub wide_from : (width : ℕ) (notes : List Note) (rows : List Row) → AreWideRows width rows → AreWide width (entries_in notes rows)
 unfolding AreWideRows AreWide entries_in entry_of
 wide_from width notes [] h = tt
 wide_from width notes (r ∷ rs) h = (h.0, wide_from width notes rs h.1)
 
 pub raw_table : (r : Raw) → IsRaw r → IsTable (record { width = r.rows.width; key = r.key.items; entries = entries_of r })
 raw_table r h = record {
-  apart = h.apart;
-  placed = placed_from r.notes.items r.rows.rows h.rows.different;
-  last = trailing_last r.key.items (entries_of r) h.trailing;
-  wide = wide_from r.rows.width r.notes.items r.rows.rows h.rows.wide;
-  columns = h.columns;
+  apart = h.bare.apart;
+  placed = placed_from r.notes.items r.rows.rows h.bare.rows.different;
+  last = trailing_last r.key.items (entries_of r) h.bare.trailing;
+  wide = wide_from r.rows.width r.notes.items r.rows.rows h.bare.rows.wide;
+  columns = h.bare.columns;
 }
 
 pub length_entries : (notes : List Note) (rows : List Row) → length (entries_in notes rows) ≡ length rows
@@ -86,20 +84,31 @@ no_marks = refl
 pub empty_entries : (b : Raw) → b.rows.rows ≡ [] → entries_of b ≡ []
 empty_entries b h = ap (entries_in b.notes.items) h ∙ entries_nil b.notes.items
 
-pub empty_raw : (b : Raw) (width : ℕ) (key : List ℕ) → b.key.items ≡ key → b.rows ≡ record { width = width; room = 0; rows = [] } → b.keys ≡ record { width = length key; room = 0; rows = [] } → AreRows b.rows → AreRows b.keys → AreColumns width key → b.marked ≡ None → IsRaw b
-empty_raw b width key key_is rows keys law heads columns marked = record {
+pub empty_bare : (b : Raw) (width : ℕ) (key : List ℕ) → b.key.items ≡ key → b.rows ≡ record { width = width; room = 0; rows = [] } → AreRows b.rows → AreColumns width key → IsKind b.kind width key → b.marked ≡ None → IsBare b
+empty_bare b width key key_is rows law columns kind marked = record {
   rows = law;
-  keys = heads;
   columns = rw (key_is, rows) columns;
-  key_width = rw (keys, key_is) refl;
+  kind = kind_kept b.kind b.kind width b.rows.width key b.key.items refl (ap (λ (r : Rows). r.width) rows) key_is kind;
   notes = rw rows (omega arith);
-  links = rw rows (omega arith);
-  ends = rw keys (omega arith);
   apart = rw none no_apart;
-  groups = rw (none, keys) (no_groups b.key.items b.notes.items b.links.items b.ends.items);
   trailing = rw none no_trail;
   marked = marked ∙ sym (ap (λ (es : List Entry). first_of (slots_at (marks es))) none ∙ no_marks);
 }
   where
     none : entries_of b ≡ []
     none = empty_entries b (ap (λ (r : Rows). r.rows) rows)
+
+pub empty_heads : (b : Raw) (width : ℕ) (key : List ℕ) → b.key.items ≡ key → b.rows ≡ record { width = width; room = 0; rows = [] } → b.keys ≡ record { width = length key; room = 0; rows = [] } → AreRows b.keys → AreHeads b
+empty_heads b width key key_is rows keys law = record {
+  keys = law;
+  key_width = rw (keys, key_is) refl;
+  links = rw rows (omega arith);
+  ends = rw keys (omega arith);
+  groups = rw (empty_entries b (ap (λ (r : Rows). r.rows) rows), keys) (no_groups b.key.items b.notes.items b.links.items b.ends.items);
+}
+
+pub empty_raw : (b : Raw) (width : ℕ) (key : List ℕ) → b.key.items ≡ key → b.rows ≡ record { width = width; room = 0; rows = [] } → b.keys ≡ record { width = length key; room = 0; rows = [] } → AreRows b.rows → AreRows b.keys → AreColumns width key → IsKind b.kind width key → b.marked ≡ None → IsRaw b
+empty_raw b width key key_is rows keys law heads columns kind marked = record {
+  bare = empty_bare b width key key_is rows law columns kind marked;
+  heads = λ k. empty_heads b width key key_is rows keys heads;
+}

@@ -1,11 +1,11 @@
 -- Walks along groups and marks: each place that they come to is live.
-use Rattle.std.proofs.Common.{◌≡◌, ℕ, zero, suc, ◌+◌, ◌≤◌, ◌<◌, List, [], ◌∷◌, ◌++◌, length, take, drop, reverse, Option, Some, None, refl, ap, subst, sym, ◌∙◌, arith, append_assoc, add-one, ◌⊎◌, inl, inr}
+use Rattle.std.proofs.Common.{◌≡◌, ℕ, zero, suc, ◌+◌, List, [], ◌∷◌, ◌++◌, take, drop, Option, Some, None, refl, ap, sym, ◌∙◌, append_assoc, add-one, inl, inr}
 use Rattle.std.proofs.lemmas.List.{append-nil, reverse-append}
 use Rattle.std.proofs.lemmas.Bool.{cases_Bool}
 use Rattle.djq_index.specs.declared.place.Place.{Place}
 use Rattle.djq_index.specs.Tuple.{same, pick}
 use Rattle.djq_index.specs.Entries.{Entry, grp, marks, head_at, last_at}
-use Rattle.djq_index.specs.Table.{IsAt, IsLive}
+use Rattle.djq_index.specs.Table.{IsLive}
 use Rattle.djq_index.proofs.Groups.{grp_yes, grp_no}
 use Rattle.djq_index.proofs.Marks.{marks_yes, marks_no}
 

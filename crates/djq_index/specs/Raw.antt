@@ -1,15 +1,17 @@
 -- A table's parts: its tuples as the rows of an arena, a note for each slot, and for each group a head.
-use Rattle.std.specs.Prelude.{◌≡◌, ◌≢◌, ◌⊎◌, ⊤, ℕ, ◌+◌, ◌<◌, ◌≤◌, ◌==◌, Bool, true, false, cond, List, [], ◌∷◌, ◌++◌, map, length, slice_index_or, slice_set, Option, Some, None}
+use Rattle.std.specs.Prelude.{◌≡◌, ◌≢◌, ◌⊎◌, ⊤, ℕ, ◌<◌, ◌≤◌, ◌==◌, true, false, cond, List, [], ◌∷◌, ◌++◌, map, length, slice_index, slice_index_or, slice_set, Option, Some, None}
 use Rattle.djq_arena.specs.declared.chain.Pair.{Pair}
 use Rattle.djq_arena.specs.declared.chain.Ends.{Ends}
 use Rattle.djq_arena.specs.Rows.{Row, Rows, AreRows, IsAbsent, IsRow}
-use Rattle.djq_arena.specs.Chains.{Linked, first_of, last_of, pair_at, entered, left}
-use Rattle.djq_arena.specs.Store.{ends_of, extended, shrunk, beside}
+use Rattle.djq_arena.specs.Chains.{Linked, first_of, pair_at, entered}
+use Rattle.djq_arena.specs.Store.{ends_of, extended, beside}
 use Rattle.djq_index.specs.declared.place.Place.{Place}
+use Rattle.djq_index.specs.declared.kind.Kind.{Kind}
+use Rattle.djq_index.specs.declared.kind.Kind.TheVariants.{One, Keyed, Each}
 use Rattle.djq_index.specs.declared.raw.Note.{Note}
 use Rattle.djq_index.specs.declared.raw.Raw.{Raw}
-use Rattle.djq_index.specs.Tuple.{same, pick}
-use Rattle.djq_index.specs.Entries.{Entry, cnt, many, grp, marks}
+use Rattle.djq_index.specs.Tuple.{pick}
+use Rattle.djq_index.specs.Entries.{Entry, many, grp, marks}
 use Rattle.djq_index.specs.Table.{AreApart, AreColumns}
 
 -- the note of a slot
@@ -62,19 +64,39 @@ unfoldable pub AreTrailing : List Entry → Type 0
 AreTrailing [] = ⊤
 AreTrailing (e ∷ es) = (e.marked ≡ true → AreAllMarked es) × AreTrailing es
 
--- what holds of a table's parts
-pub record IsRaw (r : Raw) : Type 0 where
+-- the columns of a key are all columns, in their order
+pub record IsWhole (width : ℕ) (key : List ℕ) : Type 0 where
+  pub long : length key ≡ width
+  pub each : (i : ℕ) → i < width → slice_index key i ≡ i
+
+-- what a kind of groups says of the key
+abbrev pub IsKind : Kind → ℕ → List ℕ → Type 0
+IsKind One width key = key ≡ []
+IsKind Keyed width key = ⊤
+IsKind Each width key = IsWhole width key
+
+-- what holds of a table's tuples, whatever their groups
+pub record IsBare (r : Raw) : Type 0 where
   pub rows : AreRows r.rows
-  pub keys : AreRows r.keys
   pub columns : AreColumns r.rows.width r.key.items
-  pub key_width : r.keys.width ≡ length r.key.items
+  pub kind : IsKind r.kind r.rows.width r.key.items
   pub notes : r.rows.room ≤ length r.notes.items
-  pub links : r.rows.room ≤ length r.links.items
-  pub ends : r.keys.room ≤ length r.ends.items
   pub apart : AreApart (entries_of r)
-  pub groups : AreGroups r.key.items r.notes.items r.links.items r.keys.rows r.ends.items (entries_of r)
   pub trailing : AreTrailing (entries_of r)
   pub marked : r.marked ≡ first_of (slots_at (marks (entries_of r)))
+
+-- what holds of groups with heads
+pub record AreHeads (r : Raw) : Type 0 where
+  pub keys : AreRows r.keys
+  pub key_width : r.keys.width ≡ length r.key.items
+  pub links : r.rows.room ≤ length r.links.items
+  pub ends : r.keys.room ≤ length r.ends.items
+  pub groups : AreGroups r.key.items r.notes.items r.links.items r.keys.rows r.ends.items (entries_of r)
+
+-- what holds of a table's parts
+pub record IsRaw (r : Raw) : Type 0 where
+  pub bare : IsBare r
+  pub heads : r.kind ≡ Keyed → AreHeads r
 
 -- the place of a slot, if any
 abbrev pub place_of : Option ℕ → Option Place
@@ -92,14 +114,18 @@ abbrev pub passed : Option ℕ → ℕ → Option ℕ → Option ℕ
 passed None i next = None
 passed (Some m) i next = cond (m == i) next (Some m)
 
--- the tuple is laid, and has a head
-pub record IsReady (a : Raw) (rows : Rows) (notes : List Note) (links : List Pair) (keys : Rows) (ends : List Ends) (i h : ℕ) (u : List ℕ) : Type 0 where
+-- the tuple is laid
+pub record IsLaid (a : Raw) (rows : Rows) (notes : List Note) (i : ℕ) (u : List ℕ) : Type 0 where
   pub rows_law : AreRows rows
   pub width : rows.width ≡ a.rows.width
   pub laid : rows.rows ≡ a.rows.rows ++ record { slot = i; cells = u } ∷ []
   pub room_notes : rows.room ≤ length notes
-  pub room_links : rows.room ≤ length links
   pub same_notes : (k : ℕ) → note_at notes k ≡ note_at a.notes.items k
+
+-- and has a head
+pub record IsReady (a : Raw) (rows : Rows) (notes : List Note) (links : List Pair) (keys : Rows) (ends : List Ends) (i h : ℕ) (u : List ℕ) : Type 0 where
+  pub laid : IsLaid a rows notes i u
+  pub room_links : rows.room ≤ length links
   pub same_links : (k : ℕ) → pair_at links k ≡ pair_at a.links.items k
   pub longer : length a.links.items ≤ length links
   pub keys_law : AreRows keys
@@ -107,14 +133,30 @@ pub record IsReady (a : Raw) (rows : Rows) (notes : List Note) (links : List Pai
   pub room_ends : keys.room ≤ length ends
   pub seat : IsSeat a.keys.rows keys.rows a.ends.items ends h (pick a.key.items u)
 
--- the tuple in slot i joins the group of head h, marked and with one support
-pub record IsSettled (a b : Raw) (rows : Rows) (notes : List Note) (links : List Pair) (keys : Rows) (ends : List Ends) (i h : ℕ) : Type 0 where
+-- the tuple in slot i is there, marked and with one support; h stands for its group's head
+pub record IsNoted (a b : Raw) (rows : Rows) (notes : List Note) (i h : ℕ) : Type 0 where
+  pub kind : b.kind ≡ a.kind
   pub key : b.key.items ≡ a.key.items
   pub rows_are : b.rows ≡ rows
   pub notes_are : b.notes.items ≡ slice_set notes i (record { supports = 1; head = h; marked = true })
+  pub marked : b.marked ≡ beside a.marked (Some i) a.marked
+
+-- and joins the group of head h
+pub record IsSettled (a b : Raw) (rows : Rows) (notes : List Note) (links : List Pair) (keys : Rows) (ends : List Ends) (i h : ℕ) : Type 0 where
+  pub noted : IsNoted a b rows notes i h
   pub links_are : b.links.items ≡ entered (ends_at ends h).last i links
   pub keys_are : b.keys ≡ keys
   pub ends_are : b.ends.items ≡ slice_set ends h (extended i (ends_at ends h))
+
+-- the tuple in slot i is marked, as the last of all
+pub record IsMarked (a b : Raw) (i : ℕ) : Type 0 where
+  pub kind : b.kind ≡ a.kind
+  pub key : b.key.items ≡ a.key.items
+  pub rows : b.rows ≡ a.rows
+  pub notes : b.notes.items ≡ slice_set a.notes.items i (record { supports = (note_at a.notes.items i).supports; head = (note_at a.notes.items i).head; marked = true })
+  pub links : b.links.items ≡ a.links.items
+  pub keys : b.keys ≡ a.keys
+  pub ends : b.ends.items ≡ a.ends.items
   pub marked : b.marked ≡ beside a.marked (Some i) a.marked
 
 -- a note without its mark

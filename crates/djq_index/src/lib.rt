@@ -12,17 +12,25 @@
 //! again. A touched tuple keeps its place, though it moves to the end of its group. Counts are numbers of
 //! contracts alone, on the [`Tally`](djq_steps::Tally) that each call takes.
 //!
+//! A tuple that has to be held is copied into [`Cells`], which stand inline.
+//!
 //! Inside, the tuples are the rows of a `djq_arena`, in the order in which they came or were touched. A
 //! note beside each row has its supports, its mark and the head of its group. The rows of a group are
 //! chained, and a second arena holds the cells of each group's key, beside which the ends of the chain are
-//! kept. The marked tuples are the newest, so the first of them is all that marks need.
+//! kept. With an empty key the one group is the order of the rows itself, and with a key of all columns
+//! each tuple is its own group: then there are neither chains nor heads. The marked tuples are the newest,
+//! so the first of them is all that marks need.
 #![tactic(auto)]
 
+mod cells;
 mod heads;
+mod kind;
 mod place;
 mod raw;
 mod table;
+mod walk;
 
+pub use cells::{CELLS, Cells};
 pub use place::Place;
 pub use table::Table;
 

@@ -1,7 +1,9 @@
 ghost use Rattle.std.specs.Prelude.{◌≡◌};
 
 /// Where a tuple of a table lies. It stays valid until that tuple is removed.
-#[derive(Clone, Copy, PartialEq, Eq, Debug)]
+///
+/// The default one fills room for places, and no table is asked about it.
+#[derive(Clone, Copy, PartialEq, Eq, Debug, Default)]
 pub struct Place {
     slot: u32,
 }

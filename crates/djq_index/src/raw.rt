@@ -1,16 +1,17 @@
-ghost use Rattle.std.specs.Prelude.{◌≡◌, ℕ, ◌+◌, ◌-◌, ◌<◌, ◌≤◌, List, [], ◌∷◌, ◌++◌, length, slice_set, vec_len, vec_capacity, IfOk, OnErr, MatchOption, Some, None};
+ghost use Rattle.std.specs.Prelude.{◌≡◌, ℕ, ◌+◌, ◌-◌, ◌<◌, ◌≤◌, List, [], ◌∷◌, ◌++◌, length, max, slice_set, vec_len, vec_capacity, IfOk, OnErr, MatchOption, Some, None};
 ghost use Rattle.djq_arena.specs.Chains.{pair_at, IsWithin, first_of};
 ghost use Rattle.djq_arena.specs.Rows.{Row, AreRows, IsHeld};
 ghost use Rattle.djq_index.specs.Tuple.{pick};
 ghost use Rattle.djq_index.specs.Entries.{Entry, supp, cnt, grp, marks, is_marked, unmarked, head_at, last_at};
 ghost use Rattle.djq_index.specs.Table.{IsAt, IsLive, IsUnmarked, IsRaisable, IsLowerable, AreColumns};
 ghost use Rattle.djq_index.specs.Changes.{Inserted, Removed, Touched, Supported};
-ghost use Rattle.djq_index.specs.Raw.{IsRaw, entries_of, slots_at, place_of, note_at, ends_at, IsSeat, IsSettled, passed, entries_in, AreTrailing, without_mark};
+ghost use Rattle.djq_index.specs.Raw.{IsRaw, IsBare, AreHeads, IsNoted, IsMarked, entries_of, slots_at, place_of, note_at, ends_at, IsSeat, IsSettled, passed, entries_in, AreTrailing, without_mark};
 ghost use Rattle.djq_arena.specs.Store.{ends_of, beside};
 
-use crate::heads::{found, join, known_ends, none, part, project, prune};
+use crate::heads::{found, join, part, project, prune};
+use crate::kind::{Kind, kind_of};
 use crate::place::Place;
-use djq_arena::{Arena, Ends, Link, Pair, pair_of};
+use djq_arena::{Arena, Ends, Link, Pair};
 use djq_steps::Tally;
 use std::alloc::{AllocError, Global};
 use std::sync::ledger::Ledger;
@@ -23,9 +24,10 @@ pub struct Note {
     pub marked: bool,
 }
 
-/// The parts of a table.
+/// The parts of a table. Of a kind without heads, `links`, `keys` and `ends` stay empty.
 #[derive(Drop)]
 pub struct Raw {
+    pub kind: Kind,
     pub key: Vec<usize>,
     pub rows: Arena,
     pub notes: Vec<Note>,
@@ -45,7 +47,7 @@ fn note_of(notes: &Vec<Note>, slot: u32) -> Note
 }
 
 /// The place of a slot.
-fn placed(slot: Option<u32>) -> Option<Place>
+pub fn placed(slot: Option<u32>) -> Option<Place>
     ensures { result ≡ place_of slot }
 {
     match slot {
@@ -64,54 +66,9 @@ pub fn find_in(raw: &Raw, tuple: &[u64]) -> Option<Place>
     }
 }
 
-/// The ends of the group with these cells.
-fn ends_in(raw: &Raw, cells: &[u64]) -> Ends
-    requires { IsRaw raw.now }
-    ensures { result ≡ ends_of (slots_at (grp raw.now.key.items (entries_of raw.now) cells.now)) }
-{
-    match raw.keys.find(cells) {
-        None => none(),
-        Some(head) => known_ends(&raw.ends, head),
-    }
-}
-
-/// The first of the group with these cells.
-pub fn first_in(raw: &Raw, cells: &[u64]) -> Option<Place>
-    requires { IsRaw raw.now }
-    ensures { result ≡ head_at (grp raw.now.key.items (entries_of raw.now) cells.now) }
-{
-    placed(ends_in(raw, cells).first.get())
-}
-
-/// The last of the group with these cells.
-pub fn last_in(raw: &Raw, cells: &[u64]) -> Option<Place>
-    requires { IsRaw raw.now }
-    ensures { result ≡ last_at (grp raw.now.key.items (entries_of raw.now) cells.now) }
-{
-    placed(ends_in(raw, cells).last.get())
-}
-
-/// The next one of its group.
-pub fn next_in(raw: &Raw, place: Place) -> Option<Place>
-    requires raw { IsRaw raw.now }
-    requires live { IsLive (entries_of raw.now) place }
-    ensures { (w : List ℕ) (xs : List Entry) (e : Entry) (ys : List Entry) → grp raw.now.key.items (entries_of raw.now) w ≡ xs ++ e ∷ ys → e.at ≡ place → result ≡ head_at ys }
-{
-    placed(pair_of(&raw.links, place.slot()).next.get())
-}
-
-/// The one before it in its group.
-pub fn prev_in(raw: &Raw, place: Place) -> Option<Place>
-    requires raw { IsRaw raw.now }
-    requires live { IsLive (entries_of raw.now) place }
-    ensures { (w : List ℕ) (xs : List Entry) (e : Entry) (ys : List Entry) → grp raw.now.key.items (entries_of raw.now) w ≡ xs ++ e ∷ ys → e.at ≡ place → result ≡ last_at xs }
-{
-    placed(pair_of(&raw.links, place.slot()).prev.get())
-}
-
 /// The first marked one.
 pub fn first_marked_in(raw: &Raw) -> Option<Place>
-    requires { IsRaw raw.now }
+    requires { IsBare raw.now }
     ensures { result ≡ head_at (marks (entries_of raw.now)) }
 {
     placed(raw.marked)
@@ -119,7 +76,7 @@ pub fn first_marked_in(raw: &Raw) -> Option<Place>
 
 /// The next marked one after a marked one.
 pub fn next_marked_in(raw: &Raw, place: Place) -> Option<Place>
-    requires raw { IsRaw raw.now }
+    requires raw { IsBare raw.now }
     requires live { IsLive (entries_of raw.now) place }
     ensures { (xs : List Entry) (e : Entry) (ys : List Entry) → marks (entries_of raw.now) ≡ xs ++ e ∷ ys → e.at ≡ place → result ≡ head_at ys }
 {
@@ -136,7 +93,7 @@ pub fn tuple_in(raw: &Raw, place: Place) -> &[u64]
 
 /// The supports of the tuple at a place.
 pub fn supports_in(raw: &Raw, place: Place) -> u32
-    requires raw { IsRaw raw.now }
+    requires raw { IsBare raw.now }
     requires live { IsLive (entries_of raw.now) place }
     ensures { (u : List ℕ) → IsAt (entries_of raw.now) place u → result ≡ supp (entries_of raw.now) u }
 {
@@ -145,7 +102,7 @@ pub fn supports_in(raw: &Raw, place: Place) -> u32
 
 /// Whether the tuple at a place is marked.
 pub fn marked_in(raw: &Raw, place: Place) -> bool
-    requires raw { IsRaw raw.now }
+    requires raw { IsBare raw.now }
     requires live { IsLive (entries_of raw.now) place }
     ensures { (u : List ℕ) → IsAt (entries_of raw.now) place u → result ≡ is_marked (entries_of raw.now) u }
 {
@@ -193,8 +150,31 @@ fn cover_links(links: &mut Vec<Pair>, slot: u32)
     }
 }
 
-/// Lays a tuple into a slot, behind all others. Where there is no memory, the rows stay as they were.
-fn lay(
+/// Lays a tuple into a slot, behind all others. Where there is no memory, the rows stay as they
+/// were.
+fn lay(rows: &mut Arena, notes: &mut Vec<Note>, tuple: &[u64]) -> Result<u32, AllocError>
+    requires rows { AreRows rows.old }
+    requires wide { length tuple.now ≡ rows.old.width }
+    requires notes { rows.old.room ≤ length notes.old.items }
+    ensures rows { AreRows rows.new }
+    ensures width { rows.new.width ≡ rows.old.width }
+    ensures notes { rows.new.room ≤ length notes.new.items }
+    ensures room { IfOk result (λ slot. rows.new.room ≡ max rows.old.room (slot + 1)) }
+    ensures slot { IfOk result (λ slot. slot ≤ rows.old.room) }
+    ensures kept { OnErr result (rows.new.room ≡ rows.old.room) }
+    ensures refused { OnErr result (rows.new.rows ≡ rows.old.rows) }
+    ensures laid { IfOk result (λ slot. rows.new.rows ≡ rows.old.rows ++ record { slot = slot; cells = tuple.now } ∷ []) }
+    ensures same_notes { (k : ℕ) → note_at notes.new.items k ≡ note_at notes.old.items k }
+{
+    notes.reserve(1)?;
+    let slot = rows.push(tuple)?;
+    rows.laws();
+    cover_notes(notes, slot);
+    Ok(slot)
+}
+
+/// Lays a tuple into a slot that has neighbours.
+fn lay_linked(
     rows: &mut Arena,
     notes: &mut Vec<Note>,
     links: &mut Vec<Pair>,
@@ -214,11 +194,8 @@ fn lay(
     ensures same_links { (k : ℕ) → pair_at links.new.items k ≡ pair_at links.old.items k }
     ensures longer { length links.old.items ≤ length links.new.items }
 {
-    notes.reserve(1)?;
     links.reserve(1)?;
-    let slot = rows.push(tuple)?;
-    rows.laws();
-    cover_notes(notes, slot);
+    let slot = lay(rows, notes, tuple)?;
     cover_links(links, slot);
     Ok(slot)
 }
@@ -293,6 +270,38 @@ fn renew(rows: &mut Arena, slot: u32)
     rows.laws();
 }
 
+/// Marks a laid tuple, and gives it one support.
+fn sign(raw: &mut Raw, slot: u32, head: u32)
+    requires { slot < length raw.old.notes.items }
+    ensures noted { IsNoted raw.old raw.new raw.old.rows raw.old.notes.items slot head }
+    ensures links { raw.new.links.items ≡ raw.old.links.items }
+    ensures keys { raw.new.keys ≡ raw.old.keys }
+    ensures ends { raw.new.ends.items ≡ raw.old.ends.items }
+{
+    let note = Note {
+        supports: 1,
+        head,
+        marked: true,
+    };
+    set_note(&mut raw.notes, slot, note);
+    raw.marked = or_slot(raw.marked, slot);
+}
+
+/// Marks the tuple in a slot, which is the last of all.
+fn mark(raw: &mut Raw, slot: u32)
+    requires { slot < length raw.old.notes.items }
+    ensures { IsMarked raw.old raw.new slot }
+{
+    let note = note_of(&raw.notes, slot);
+    let marked = Note {
+        supports: note.supports,
+        head: note.head,
+        marked: true,
+    };
+    set_note(&mut raw.notes, slot, marked);
+    raw.marked = or_slot(raw.marked, slot);
+}
+
 /// Puts a laid tuple behind its group, marked and with one support.
 fn settle(raw: &mut Raw, slot: u32, head: u32)
     requires notes { slot < length raw.old.notes.items }
@@ -303,28 +312,25 @@ fn settle(raw: &mut Raw, slot: u32, head: u32)
     ensures settled { IsSettled raw.old raw.new raw.old.rows raw.old.notes.items raw.old.links.items raw.old.keys raw.old.ends.items slot head }
 {
     join(&mut raw.links, &mut raw.ends, slot, head);
-    let note = Note {
-        supports: 1,
-        head,
-        marked: true,
-    };
-    set_note(&mut raw.notes, slot, note);
-    raw.marked = or_slot(raw.marked, slot);
+    sign(raw, slot, head);
 }
 
-/// Puts in a tuple that isn't there. Where there is no memory, the entries stay as they were.
-pub fn insert_in(raw: &mut Raw, tuple: &[u64]) -> Result<Place, AllocError>
-    requires raw { IsRaw raw.old }
+/// Puts a tuple that isn't there behind the group of its head.
+fn insert_keyed(raw: &mut Raw, tuple: &[u64]) -> Result<Place, AllocError>
+    requires raw { IsBare raw.old }
+    requires heads { AreHeads raw.old }
     requires absent { cnt (entries_of raw.old) tuple.now ≡ 0 }
     requires wide { length tuple.now ≡ raw.old.rows.width }
-    ensures raw { IsRaw raw.new }
+    ensures raw { IsBare raw.new }
+    ensures heads { AreHeads raw.new }
     ensures inserted { IfOk result (λ p. Inserted raw.old.key.items (entries_of raw.old) (entries_of raw.new) tuple.now) }
     ensures at { IfOk result (λ p. IsAt (entries_of raw.new) p tuple.now) }
     ensures refused { OnErr result (entries_of raw.new ≡ entries_of raw.old) }
+    ensures kind { raw.new.kind ≡ raw.old.kind }
     ensures key { raw.new.key.items ≡ raw.old.key.items }
     ensures width { raw.new.rows.width ≡ raw.old.rows.width }
 {
-    let slot = lay(&mut raw.rows, &mut raw.notes, &mut raw.links, tuple)?;
+    let slot = lay_linked(&mut raw.rows, &mut raw.notes, &mut raw.links, tuple)?;
     match seat(
         &mut raw.keys,
         &mut raw.ends,
@@ -343,12 +349,51 @@ pub fn insert_in(raw: &mut Raw, tuple: &[u64]) -> Result<Place, AllocError>
     }
 }
 
-/// Takes the tuple at a place out, and its group's head with the last of the group.
-pub fn remove_in(raw: &mut Raw, place: Place)
+/// Puts a tuple that isn't there behind all others: its group needs nothing.
+fn insert_bare(raw: &mut Raw, tuple: &[u64]) -> Result<Place, AllocError>
+    requires raw { IsBare raw.old }
+    requires absent { cnt (entries_of raw.old) tuple.now ≡ 0 }
+    requires wide { length tuple.now ≡ raw.old.rows.width }
+    ensures raw { IsBare raw.new }
+    ensures inserted { IfOk result (λ p. Inserted raw.old.key.items (entries_of raw.old) (entries_of raw.new) tuple.now) }
+    ensures at { IfOk result (λ p. IsAt (entries_of raw.new) p tuple.now) }
+    ensures refused { OnErr result (entries_of raw.new ≡ entries_of raw.old) }
+    ensures kind { raw.new.kind ≡ raw.old.kind }
+    ensures key { raw.new.key.items ≡ raw.old.key.items }
+    ensures width { raw.new.rows.width ≡ raw.old.rows.width }
+{
+    let slot = lay(&mut raw.rows, &mut raw.notes, tuple)?;
+    sign(raw, slot, 0);
+    Ok(Place::new(slot))
+}
+
+/// Puts in a tuple that isn't there. Where there is no memory, the entries stay as they were.
+pub fn insert_in(raw: &mut Raw, tuple: &[u64]) -> Result<Place, AllocError>
     requires raw { IsRaw raw.old }
-    requires live { IsLive (entries_of raw.old) place }
+    requires absent { cnt (entries_of raw.old) tuple.now ≡ 0 }
+    requires wide { length tuple.now ≡ raw.old.rows.width }
     ensures raw { IsRaw raw.new }
+    ensures inserted { IfOk result (λ p. Inserted raw.old.key.items (entries_of raw.old) (entries_of raw.new) tuple.now) }
+    ensures at { IfOk result (λ p. IsAt (entries_of raw.new) p tuple.now) }
+    ensures refused { OnErr result (entries_of raw.new ≡ entries_of raw.old) }
+    ensures key { raw.new.key.items ≡ raw.old.key.items }
+    ensures width { raw.new.rows.width ≡ raw.old.rows.width }
+{
+    match raw.kind {
+        Kind::Keyed => insert_keyed(raw, tuple),
+        _ => insert_bare(raw, tuple),
+    }
+}
+
+/// Takes the tuple at a place out, and its group's head with the last of the group.
+fn remove_keyed(raw: &mut Raw, place: Place)
+    requires raw { IsBare raw.old }
+    requires heads { AreHeads raw.old }
+    requires live { IsLive (entries_of raw.old) place }
+    ensures raw { IsBare raw.new }
+    ensures heads { AreHeads raw.new }
     ensures removed { (u : List ℕ) → IsAt (entries_of raw.old) place u → Removed (entries_of raw.old) (entries_of raw.new) u }
+    ensures kind { raw.new.kind ≡ raw.old.kind }
     ensures key { raw.new.key.items ≡ raw.old.key.items }
     ensures width { raw.new.rows.width ≡ raw.old.rows.width }
 {
@@ -360,6 +405,71 @@ pub fn remove_in(raw: &mut Raw, place: Place)
     withdraw(&mut raw.rows, slot);
 }
 
+/// Takes the tuple at a place out, whose group needs nothing.
+fn remove_bare(raw: &mut Raw, place: Place)
+    requires raw { IsBare raw.old }
+    requires live { IsLive (entries_of raw.old) place }
+    ensures raw { IsBare raw.new }
+    ensures removed { (u : List ℕ) → IsAt (entries_of raw.old) place u → Removed (entries_of raw.old) (entries_of raw.new) u }
+    ensures kind { raw.new.kind ≡ raw.old.kind }
+    ensures key { raw.new.key.items ≡ raw.old.key.items }
+    ensures width { raw.new.rows.width ≡ raw.old.rows.width }
+{
+    let slot = place.slot();
+    raw.marked = pass(raw.marked, slot, raw.rows.next(slot));
+    withdraw(&mut raw.rows, slot);
+}
+
+/// Takes the tuple at a place out, and its group's head with the last of the group.
+pub fn remove_in(raw: &mut Raw, place: Place)
+    requires raw { IsRaw raw.old }
+    requires live { IsLive (entries_of raw.old) place }
+    ensures raw { IsRaw raw.new }
+    ensures removed { (u : List ℕ) → IsAt (entries_of raw.old) place u → Removed (entries_of raw.old) (entries_of raw.new) u }
+    ensures key { raw.new.key.items ≡ raw.old.key.items }
+    ensures width { raw.new.rows.width ≡ raw.old.rows.width }
+{
+    match raw.kind {
+        Kind::Keyed => remove_keyed(raw, place),
+        _ => remove_bare(raw, place),
+    }
+}
+
+/// Marks the tuple at a place, and puts it behind the group of its head.
+fn touch_keyed(raw: &mut Raw, place: Place)
+    requires raw { IsBare raw.old }
+    requires heads { AreHeads raw.old }
+    requires unmarked { IsUnmarked (entries_of raw.old) place }
+    ensures raw { IsBare raw.new }
+    ensures heads { AreHeads raw.new }
+    ensures touched { (u : List ℕ) → IsAt (entries_of raw.old) place u → Touched raw.old.key.items (entries_of raw.old) (entries_of raw.new) u }
+    ensures kind { raw.new.kind ≡ raw.old.kind }
+    ensures key { raw.new.key.items ≡ raw.old.key.items }
+    ensures width { raw.new.rows.width ≡ raw.old.rows.width }
+{
+    let slot = place.slot();
+    let note = note_of(&raw.notes, slot);
+    part(&mut raw.links, &mut raw.ends, slot, note.head);
+    join(&mut raw.links, &mut raw.ends, slot, note.head);
+    renew(&mut raw.rows, slot);
+    mark(raw, slot);
+}
+
+/// Marks the tuple at a place, and puts it behind all others.
+fn touch_bare(raw: &mut Raw, place: Place)
+    requires raw { IsBare raw.old }
+    requires unmarked { IsUnmarked (entries_of raw.old) place }
+    ensures raw { IsBare raw.new }
+    ensures touched { (u : List ℕ) → IsAt (entries_of raw.old) place u → Touched raw.old.key.items (entries_of raw.old) (entries_of raw.new) u }
+    ensures kind { raw.new.kind ≡ raw.old.kind }
+    ensures key { raw.new.key.items ≡ raw.old.key.items }
+    ensures width { raw.new.rows.width ≡ raw.old.rows.width }
+{
+    let slot = place.slot();
+    renew(&mut raw.rows, slot);
+    mark(raw, slot);
+}
+
 /// Marks the tuple at a place, and puts it behind its group.
 pub fn touch_in(raw: &mut Raw, place: Place)
     requires raw { IsRaw raw.old }
@@ -369,18 +479,10 @@ pub fn touch_in(raw: &mut Raw, place: Place)
     ensures key { raw.new.key.items ≡ raw.old.key.items }
     ensures width { raw.new.rows.width ≡ raw.old.rows.width }
 {
-    let slot = place.slot();
-    let note = note_of(&raw.notes, slot);
-    part(&mut raw.links, &mut raw.ends, slot, note.head);
-    join(&mut raw.links, &mut raw.ends, slot, note.head);
-    renew(&mut raw.rows, slot);
-    let marked = Note {
-        supports: note.supports,
-        head: note.head,
-        marked: true,
-    };
-    set_note(&mut raw.notes, slot, marked);
-    raw.marked = or_slot(raw.marked, slot);
+    match raw.kind {
+        Kind::Keyed => touch_keyed(raw, place),
+        _ => touch_bare(raw, place),
+    }
 }
 
 /// Gives the tuple at a place one support more.
@@ -491,6 +593,7 @@ pub fn empty_in(alloc: Global, width: usize, key: &[usize]) -> Result<Raw, Alloc
     let keys = Arena::new(alloc, key.len())?;
     keys.laws();
     Ok(Raw {
+        kind: kind_of(width, key),
         key: columns,
         rows,
         notes: Vec::new(alloc),

@@ -1,14 +1,14 @@
-ghost use Rattle.std.specs.Prelude.{◌≡◌, ℕ, ◌+◌, ◌-◌, ◌<◌, ◌==◌, List, [], ◌∷◌, ◌++◌, length, IfOk, OnErr, MatchOption};
+ghost use Rattle.std.specs.Prelude.{◌≡◌, ℕ, ◌+◌, ◌-◌, ◌<◌, ◌≤◌, ◌==◌, List, [], ◌∷◌, ◌++◌, length, IfOk, OnErr, MatchOption};
 ghost use Rattle.djq_index.specs.Entries.{Entry, supp, cnt, grp, marks, is_marked, unmarked, head_at, last_at};
 ghost use Rattle.djq_index.specs.Table.{IsTable, IsAt, IsLive, IsUnmarked, IsRaisable, IsLowerable, AreColumns};
 ghost use Rattle.djq_index.specs.Changes.{Inserted, Removed, Touched, Supported};
 
 use crate::place::Place;
 use crate::raw::{
-    Raw, clear_in, empty_in, find_in, first_in, first_marked_in, insert_in, last_in, lower_in,
-    marked_in, next_in, next_marked_in, prev_in, raise_in, remove_in, supports_in, touch_in,
-    tuple_in,
+    Raw, clear_in, empty_in, find_in, first_marked_in, insert_in, lower_in, marked_in,
+    next_marked_in, raise_in, remove_in, supports_in, touch_in, tuple_in,
 };
+use crate::walk::{first_in, last_in, next_in, prev_in};
 use djq_steps::Tally;
 use std::alloc::{AllocError, Global};
 use std::marker::Model;
@@ -17,7 +17,8 @@ use std::sync::ledger::Ledger;
 /// Different tuples of one width, in groups by the cells of their key.
 ///
 /// A group is a list: a new tuple comes last in it, and so does a touched one. Both are marked until
-/// the marks are cleared, so the marked ones of a group are its last.
+/// the marks are cleared, so the marked ones of a group are its last. With an empty key, and with one
+/// of all columns in their order, groups take no memory of their own.
 #[derive(Drop)]
 pub struct Table {
     raw: Raw,
@@ -50,6 +51,13 @@ impl Table {
     /// What holds of every table. It does nothing.
     pub fn laws(&self)
         ensures { IsTable self.now }
+    {
+        let _ = &self.raw;
+    }
+
+    /// The law that a table has at most 4,294,967,295 tuples. It does nothing.
+    pub fn is_small(&self)
+        ensures { length self.now.entries ≤ 4294967295 }
     {
         let _ = &self.raw;
     }

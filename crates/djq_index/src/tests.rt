@@ -7,21 +7,73 @@ use std::marker::Brand;
 use std::sync::ledger::Ledger;
 use std::test::Fail;
 
+/// A digest of cells, in their order, behind those of another.
+fn digest(of: u64, cells: &[u64]) -> u64 {
+    let mut sum = of;
+    for cell in cells {
+        sum = (sum ^ *cell)
+            .wrapping_mul(0x9E37_79B9_7F4A_7C15)
+            .rotate_left(29);
+    }
+    sum
+}
+
+/// A digest of the tuples of a group, from its first one on.
+fn group<L: Ledger>(table: &Table, cells: &[u64], tally: &mut Tally<L>) -> u64 {
+    let mut sum = 0;
+    let mut at = table.first(cells, tally);
+    for _step in 0..table.len() {
+        match at {
+            None => return sum,
+            Some(place) => {
+                sum = digest(sum, table.tuple(place));
+                at = table.next(place, tally);
+            }
+        }
+    }
+    sum
+}
+
+/// A digest of the tuples of a group, from its last one back.
+fn group_back<L: Ledger>(table: &Table, cells: &[u64], tally: &mut Tally<L>) -> u64 {
+    let mut sum = 0;
+    let mut at = table.last(cells, tally);
+    for _step in 0..table.len() {
+        match at {
+            None => return sum,
+            Some(place) => {
+                sum = digest(sum, table.tuple(place));
+                at = table.prev(place, tally);
+            }
+        }
+    }
+    sum
+}
+
+/// A digest of the marked tuples.
+fn marked<L: Ledger>(table: &Table, tally: &mut Tally<L>) -> u64 {
+    let mut sum = 0;
+    let mut at = table.first_marked(tally);
+    for _step in 0..table.len() {
+        match at {
+            None => return sum,
+            Some(place) => {
+                sum = digest(sum, table.tuple(place));
+                at = table.next_marked(place, tally);
+            }
+        }
+    }
+    sum
+}
+
 /// Puts in a tuple of the table's width that isn't there, and says whether it came.
-fn put<L: Ledger>(
-    table: &mut Table,
-    tuple: &[u64],
-    tally: &mut Tally<L>,
-) -> Result<bool, AllocError> {
+fn put<L: Ledger>(table: &mut Table, tuple: &[u64], tally: &mut Tally<L>) -> bool {
     if tuple.len() != table.width() {
-        return Ok(false);
+        return false;
     }
     match table.find(tuple, tally) {
-        Some(_place) => Ok(false),
-        None => {
-            table.insert(tuple, tally)?;
-            Ok(true)
-        }
+        Some(_place) => false,
+        None => table.insert(tuple, tally).is_ok(),
     }
 }
 
@@ -50,184 +102,179 @@ fn touch<L: Ledger>(table: &mut Table, tuple: &[u64], tally: &mut Tally<L>) -> b
     }
 }
 
-/// The supports of a tuple, raised and lowered again.
-fn supports<L: Ledger>(
-    table: &mut Table,
-    tuple: &[u64],
-    tally: &mut Tally<L>,
-) -> Option<(u32, u32)> {
+/// Gives a tuple one support more, and says how many it has then.
+fn raise<L: Ledger>(table: &mut Table, tuple: &[u64], tally: &mut Tally<L>) -> Option<u32> {
     let place = table.find(tuple, tally)?;
     if table.supports(place) == u32::MAX {
         return None;
     }
     table.raise(place, tally);
     let place = table.find(tuple, tally)?;
-    let raised = table.supports(place);
-    if raised == 0 {
+    Some(table.supports(place))
+}
+
+/// Takes one support of a tuple away, and says how many it has then.
+fn lower<L: Ledger>(table: &mut Table, tuple: &[u64], tally: &mut Tally<L>) -> Option<u32> {
+    let place = table.find(tuple, tally)?;
+    if table.supports(place) == 0 {
         return None;
     }
     table.lower(place, tally);
     let place = table.find(tuple, tally)?;
-    Some((raised, table.supports(place)))
+    Some(table.supports(place))
 }
 
-/// The tuples of a group, one after another, from its first one on.
-fn group<L: Ledger>(
-    alloc: Global,
-    table: &Table,
-    cells: &[u64],
-    tally: &mut Tally<L>,
-) -> Result<Vec<u64>, AllocError> {
-    let mut tuples = Vec::new(alloc);
-    let mut at = table.first(cells, tally);
-    for _step in 0..table.len() {
-        match at {
-            None => return Ok(tuples),
-            Some(place) => {
-                tuples.extend_from_slice(table.tuple(place))?;
-                at = table.next(place, tally);
-            }
-        }
-    }
-    Ok(tuples)
+/// A tuple of two cells, as a table should hold it.
+#[derive(Clone, Copy)]
+struct Kept {
+    tuple: [u64; 2],
+    marked: bool,
 }
 
-/// The tuples of a group, one after another, from its last one back.
-fn group_back<L: Ledger>(
-    alloc: Global,
-    table: &Table,
-    cells: &[u64],
-    tally: &mut Tally<L>,
-) -> Result<Vec<u64>, AllocError> {
-    let mut tuples = Vec::new(alloc);
-    let mut at = table.last(cells, tally);
-    for _step in 0..table.len() {
-        match at {
-            None => return Ok(tuples),
-            Some(place) => {
-                tuples.extend_from_slice(table.tuple(place))?;
-                at = table.prev(place, tally);
-            }
-        }
-    }
-    Ok(tuples)
-}
-
-/// The marked tuples, one after another.
-fn marked<L: Ledger>(
-    alloc: Global,
-    table: &Table,
-    tally: &mut Tally<L>,
-) -> Result<Vec<u64>, AllocError> {
-    let mut tuples = Vec::new(alloc);
-    let mut at = table.first_marked(tally);
-    for _step in 0..table.len() {
-        match at {
-            None => return Ok(tuples),
-            Some(place) => {
-                tuples.extend_from_slice(table.tuple(place))?;
-                at = table.next_marked(place, tally);
-            }
-        }
-    }
-    Ok(tuples)
-}
-
-/// What a table should hold: its tuples of two cells with their marks, in order.
+/// What a table should hold, in order.
 #[derive(Drop)]
 struct Plain {
-    tuples: Vec<(u64, u64, bool)>,
+    kept: Vec<Kept>,
+}
+
+/// Whether a tuple is of the group with these cells: of its first ones.
+fn is_of(tuple: &[u64; 2], cells: &[u64]) -> bool {
+    match cells {
+        [] => true,
+        [first] => tuple[0] == *first,
+        [first, second] => tuple[0] == *first && tuple[1] == *second,
+        _ => false,
+    }
 }
 
 impl Plain {
-    fn position(&self, a: u64, b: u64) -> Option<usize> {
+    fn position(&self, tuple: &[u64; 2]) -> usize {
         let mut at = 0usize;
-        for (x, y, _marked) in &self.tuples {
-            if *x == a && *y == b {
-                return Some(at);
+        for kept in &self.kept {
+            if is_of(&kept.tuple, tuple) {
+                return at;
             }
             at = at.saturating_add(1);
         }
-        None
+        at
     }
 
-    /// Takes a tuple out, and says whether it was there, and marked.
-    fn take(&mut self, a: u64, b: u64) -> Option<bool> {
-        let at = self.position(a, b)?;
-        if at >= self.tuples.len() {
-            return None;
+    /// Takes a tuple out, and says whether it was there.
+    fn take(&mut self, tuple: &[u64; 2]) -> bool {
+        let at = self.position(tuple);
+        if at >= self.kept.len() {
+            return false;
         }
-        let (_a, _b, marked) = self.tuples.remove(at);
-        Some(marked)
+        let _ = self.kept.remove(at);
+        true
     }
 
-    fn is_unmarked(&self, a: u64, b: u64) -> bool {
-        for (x, y, marked) in &self.tuples {
-            if *x == a && *y == b {
-                return !*marked;
+    /// Puts a tuple behind all others, marked; nothing where there is no memory.
+    fn put(&mut self, tuple: [u64; 2]) {
+        let _ = self.kept.push(Kept {
+            tuple,
+            marked: true,
+        });
+    }
+
+    /// Whether a tuple is there without a mark.
+    fn is_unmarked(&self, tuple: &[u64; 2]) -> bool {
+        let at = self.position(tuple);
+        at < self.kept.len() && !self.kept[at].marked
+    }
+
+    fn clear(&mut self) {
+        for kept in self.kept.iter_mut() {
+            kept.marked = false;
+        }
+    }
+
+    fn group(&self, cells: &[u64]) -> u64 {
+        let mut sum = 0;
+        for kept in &self.kept {
+            if is_of(&kept.tuple, cells) {
+                sum = digest(sum, &kept.tuple);
             }
         }
-        false
+        sum
     }
 
-    fn clear(&mut self, alloc: Global) -> Result<(), AllocError> {
-        let mut bare = Vec::new(alloc);
-        for (a, b, _marked) in &self.tuples {
-            bare.push((*a, *b, false))?;
-        }
-        self.tuples = bare;
-        Ok(())
-    }
-
-    fn group(&self, alloc: Global, key: u64) -> Result<Vec<u64>, AllocError> {
-        let mut cells = Vec::new(alloc);
-        for (a, b, _marked) in &self.tuples {
-            if *a == key {
-                cells.push(*a)?;
-                cells.push(*b)?;
+    fn group_back(&self, cells: &[u64]) -> u64 {
+        let mut sum = 0;
+        for kept in self.kept.iter().rev() {
+            if is_of(&kept.tuple, cells) {
+                sum = digest(sum, &kept.tuple);
             }
         }
-        Ok(cells)
+        sum
     }
 
-    fn group_back(&self, alloc: Global, key: u64) -> Result<Vec<u64>, AllocError> {
-        let mut cells = Vec::new(alloc);
-        for (a, b, _marked) in self.tuples.iter().rev() {
-            if *a == key {
-                cells.push(*a)?;
-                cells.push(*b)?;
+    fn marked(&self) -> u64 {
+        let mut sum = 0;
+        for kept in &self.kept {
+            if kept.marked {
+                sum = digest(sum, &kept.tuple);
             }
         }
-        Ok(cells)
-    }
-
-    fn marked(&self, alloc: Global) -> Result<Vec<u64>, AllocError> {
-        let mut cells = Vec::new(alloc);
-        for (a, b, marked) in &self.tuples {
-            if *marked {
-                cells.push(*a)?;
-                cells.push(*b)?;
-            }
-        }
-        Ok(cells)
+        sum
     }
 }
 
 /// Whether the table and the plain list agree: on one group from both ends, and on the marks.
-fn agree<L: Ledger>(
-    alloc: Global,
-    table: &Table,
-    plain: &Plain,
-    key: u64,
+fn agree<L: Ledger>(table: &Table, plain: &Plain, cells: &[u64], tally: &mut Tally<L>) -> bool {
+    let there = group(table, cells, tally) == plain.group(cells);
+    let back = group_back(table, cells, tally) == plain.group_back(cells);
+    let marks = marked(table, tally) == plain.marked();
+    there && back && marks && table.len() == plain.kept.len()
+}
+
+/// Puts a tuple into both, and says whether they answered alike.
+fn put_both<L: Ledger>(
+    table: &mut Table,
+    plain: &mut Plain,
+    tuple: [u64; 2],
     tally: &mut Tally<L>,
-) -> Result<bool, AllocError> {
-    let there = group(alloc, table, &[key], tally)?;
-    let back = group_back(alloc, table, &[key], tally)?;
-    let marks = marked(alloc, table, tally)?;
-    let all_there = there.as_slice() == plain.group(alloc, key)?.as_slice();
-    let all_back = back.as_slice() == plain.group_back(alloc, key)?.as_slice();
-    let all_marks = marks.as_slice() == plain.marked(alloc)?.as_slice();
-    Ok(all_there && all_back && all_marks && table.len() == plain.tuples.len())
+) -> bool {
+    let absent = plain.position(&tuple) == plain.kept.len();
+    if absent {
+        plain.put(tuple);
+    }
+    put(table, &tuple, tally) == absent
+}
+
+/// Touches a tuple of both, and says whether they answered alike.
+fn touch_both<L: Ledger>(
+    table: &mut Table,
+    plain: &mut Plain,
+    tuple: [u64; 2],
+    tally: &mut Tally<L>,
+) -> bool {
+    let unmarked = plain.is_unmarked(&tuple);
+    if unmarked {
+        let _ = plain.take(&tuple);
+        plain.put(tuple);
+    }
+    touch(table, &tuple, tally) == unmarked
+}
+
+/// One change of both, chosen by a number, and whether they answer alike.
+fn change<L: Ledger>(
+    table: &mut Table,
+    plain: &mut Plain,
+    tuple: [u64; 2],
+    seed: u64,
+    tally: &mut Tally<L>,
+) -> bool {
+    match seed % 16 {
+        0..=7 => put_both(table, plain, tuple, tally),
+        8..=11 => take(table, &tuple, tally) == plain.take(&tuple),
+        12..=14 => touch_both(table, plain, tuple, tally),
+        _ => {
+            table.clear_marks(tally);
+            plain.clear();
+            true
+        }
+    }
 }
 
 /// A number that looks random.
@@ -237,172 +284,115 @@ fn mixed(seed: u64) -> u64 {
     b ^ (b << 17)
 }
 
-/// Puts a tuple into both, and says whether they answered alike.
-fn put_both<L: Ledger>(
-    table: &mut Table,
-    plain: &mut Plain,
-    a: u64,
-    b: u64,
-    tally: &mut Tally<L>,
-) -> Result<bool, AllocError> {
-    let there = plain.position(a, b).is_some();
-    let came = put(table, &[a, b], tally)?;
-    if came {
-        plain.tuples.push((a, b, true))?;
-    }
-    Ok(came != there)
-}
-
-/// Takes a tuple out of both.
-fn take_both<L: Ledger>(
-    table: &mut Table,
-    plain: &mut Plain,
-    a: u64,
-    b: u64,
-    tally: &mut Tally<L>,
-) -> bool {
-    let there = plain.take(a, b).is_some();
-    take(table, &[a, b], tally) == there
-}
-
-/// Touches a tuple of both.
-fn touch_both<L: Ledger>(
-    table: &mut Table,
-    plain: &mut Plain,
-    a: u64,
-    b: u64,
-    tally: &mut Tally<L>,
-) -> Result<bool, AllocError> {
-    let unmarked = plain.is_unmarked(a, b);
-    let touched = touch(table, &[a, b], tally);
-    if touched {
-        let _ = plain.take(a, b);
-        plain.tuples.push((a, b, true))?;
-    }
-    Ok(touched == unmarked)
-}
-
-/// One change of both, chosen by a number, and whether they answer alike.
-fn change<L: Ledger>(
-    alloc: Global,
-    table: &mut Table,
-    plain: &mut Plain,
-    seed: u64,
-    tally: &mut Tally<L>,
-) -> Result<bool, AllocError> {
-    let a = seed % 7;
-    let b = seed / 7 % 11;
-    match seed / 77 % 16 {
-        0..=7 => put_both(table, plain, a, b, tally),
-        8..=11 => Ok(take_both(table, plain, a, b, tally)),
-        12..=14 => touch_both(table, plain, a, b, tally),
-        _ => {
-            table.clear_marks(tally);
-            plain.clear(alloc)?;
-            Ok(true)
-        }
-    }
-}
-
-/// An empty table of pairs, in groups by their first cells.
-#[tactic(auto, unfolding(crate::specs::Table::AreColumns))]
-fn pairs(alloc: Global) -> Result<Table, AllocError> {
-    Table::new(alloc, 2, &[0])
-}
-
-/// Whether the table and a plain list agree after each of many changes.
-fn agree_long<L: Ledger>(alloc: Global, tally: &mut Tally<L>) -> Result<bool, AllocError> {
-    let mut table = pairs(alloc)?;
-    let mut plain = Plain {
-        tuples: Vec::new(alloc),
-    };
+/// Whether an empty table of pairs and a plain list agree after each of many changes.
+fn agree_long<L: Ledger>(table: &mut Table, plain: &mut Plain, tally: &mut Tally<L>) -> bool {
     let mut seed = 88_172_645_463_325_252;
-    for _step in 0..3_000 {
+    for _step in 0..1_500 {
         seed = mixed(seed);
-        if !change(alloc, &mut table, &mut plain, seed, tally)? {
-            return Ok(false);
-        }
-        if !agree(alloc, &table, &plain, seed % 7, tally)? {
-            return Ok(false);
+        let tuple = [seed % 7, seed / 7 % 11];
+        let alike = change(table, plain, tuple, seed / 77, tally);
+        if !alike || !agree(table, plain, &tuple[..table.key().len().min(2)], tally) {
+            return false;
         }
     }
-    Ok(true)
+    true
 }
 
-/// Three tuples in two groups, the first of them touched: what there is to see, in order.
-fn tuples_seen<L: Ledger>(alloc: Global, tally: &mut Tally<L>) -> Result<Vec<u64>, AllocError> {
-    let mut table = pairs(alloc)?;
-    let _ = put(&mut table, &[1, 10], tally)?;
-    let _ = put(&mut table, &[2, 20], tally)?;
-    let _ = put(&mut table, &[1, 11], tally)?;
+/// An empty table of pairs, in groups by as many of their first cells.
+#[tactic(auto, unfolding(crate::specs::Table::AreColumns))]
+fn pairs(alloc: Global, cells: usize) -> Result<Table, AllocError> {
+    match cells {
+        0 => Table::new(alloc, 2, &[]),
+        1 => Table::new(alloc, 2, &[0]),
+        _ => Table::new(alloc, 2, &[0, 1]),
+    }
+}
+
+/// Whether a table with a key of so many cells agrees with a plain list.
+fn agrees<L: Ledger>(
+    alloc: Global,
+    cells: usize,
+    tally: &mut Tally<L>,
+) -> Result<bool, AllocError> {
+    let mut table = pairs(alloc, cells)?;
+    let mut plain = Plain {
+        kept: Vec::new(alloc),
+    };
+    Ok(agree_long(&mut table, &mut plain, tally))
+}
+
+/// Three tuples, in two groups by their first cells, the first of them touched.
+fn fill<L: Ledger>(table: &mut Table, tally: &mut Tally<L>) {
+    let _ = put(table, &[1, 10], tally);
+    let _ = put(table, &[2, 20], tally);
+    let _ = put(table, &[1, 11], tally);
     table.clear_marks(tally);
-    let _ = touch(&mut table, &[1, 10], tally);
-    let mut seen = group(alloc, &table, &[1], tally)?;
-    let back = group_back(alloc, &table, &[1], tally)?;
-    seen.extend_from_slice(back.as_slice())?;
-    let marks = marked(alloc, &table, tally)?;
-    seen.extend_from_slice(marks.as_slice())?;
-    Ok(seen)
+    let _ = touch(table, &[1, 10], tally);
 }
 
-/// The supports of a tuple with one, once more and once less.
-fn supports_seen<L: Ledger>(
-    alloc: Global,
-    tally: &mut Tally<L>,
-) -> Result<Option<(u32, u32)>, AllocError> {
-    let mut table = pairs(alloc)?;
-    let _ = put(&mut table, &[1, 10], tally)?;
-    Ok(supports(&mut table, &[1, 10], tally))
+/// What there is to see of these: a group from both ends, and the marks.
+fn is_in_order<L: Ledger>(table: &Table, tally: &mut Tally<L>) -> bool {
+    group(table, &[1], tally) == digest(0, &[1, 11, 1, 10])
+        && group_back(table, &[1], tally) == digest(0, &[1, 10, 1, 11])
+        && marked(table, tally) == digest(0, &[1, 10])
 }
 
-/// The width, the number of key columns and the number of tuples, while there is one and once it went.
-fn sizes_seen<L: Ledger>(
-    alloc: Global,
-    tally: &mut Tally<L>,
-) -> Result<(usize, usize, usize, bool), AllocError> {
-    let mut table = pairs(alloc)?;
-    let _ = put(&mut table, &[1, 10], tally)?;
-    let full = table.len();
-    let _ = take(&mut table, &[1, 10], tally);
+/// The width, the number of key columns and the number of tuples.
+fn sizes(table: &Table) -> (usize, usize, usize, bool) {
     table.laws();
-    Ok((table.width(), table.key().len(), full, table.is_empty()))
+    (
+        table.width(),
+        table.key().len(),
+        table.len(),
+        table.is_empty(),
+    )
 }
 
-#[derive(Drop)]
+#[derive(Clone, Copy)]
 struct Seen {
-    tuples: Vec<u64>,
-    supports: Option<(u32, u32)>,
+    in_order: bool,
+    raised: Option<u32>,
+    lowered: Option<u32>,
     sizes: (usize, usize, usize, bool),
-    agree: bool,
 }
 
-fn on_ledgers<L: Ledgers>(rt: &HostRuntime, blanks: Blanks) -> Result<Seen, AllocError>
+/// What is seen of three tuples.
+fn look_at<L: Ledger>(table: &mut Table, tally: &mut Tally<L>) -> Seen {
+    fill(table, tally);
+    let in_order = is_in_order(table, tally);
+    let raised = raise(table, &[2, 20], tally);
+    let lowered = lower(table, &[2, 20], tally);
+    let _ = take(table, &[1, 11], tally);
+    Seen {
+        in_order,
+        raised,
+        lowered,
+        sizes: sizes(table),
+    }
+}
+
+/// The worked example, and the random runs for keys of no cell, of one and of both.
+fn on_ledgers<L: Ledgers>(rt: &HostRuntime, blanks: Blanks) -> Result<(Seen, bool), AllocError>
     requires listing { blanks.listing.name ≡ L.listing }
     requires update { blanks.update.name ≡ L.update }
     requires rows { blanks.rows.name ≡ L.rows }
 {
     let mut steps = Steps::<L>::new(rt, blanks);
-    let tuples = tuples_seen(rt.alloc(), &mut steps.update)?;
-    let supports = supports_seen(rt.alloc(), &mut steps.update)?;
-    let sizes = sizes_seen(rt.alloc(), &mut steps.update)?;
-    let agree = agree_long(rt.alloc(), &mut steps.update)?;
-    Ok(Seen {
-        tuples,
-        supports,
-        sizes,
-        agree,
-    })
+    let mut table = pairs(rt.alloc(), 1)?;
+    let seen = look_at(&mut table, &mut steps.update);
+    let one = agrees(rt.alloc(), 0, &mut steps.update)?;
+    let keyed = agrees(rt.alloc(), 1, &mut steps.update)?;
+    let each = agrees(rt.alloc(), 2, &mut steps.update)?;
+    Ok((seen, one && keyed && each))
 }
 
 #[test]
 fn keeps_groups_in_order(rt: HostRuntime) -> Result<(), Fail> {
-    let seen = on_ledgers::<Brand>(&rt, Blanks::new(&rt))?;
-    assert_eq!(rt;
-        seen.tuples.as_slice(),
-        [1, 11, 1, 10, 1, 10, 1, 11, 1, 10].as_slice()
-    );
-    assert!(rt; seen.supports == Some((2, 1)));
-    assert!(rt; seen.sizes == (2, 1, 1, true));
-    assert!(rt; seen.agree);
+    let (seen, agree) = on_ledgers::<Brand>(&rt, Blanks::new(&rt))?;
+    assert!(rt; seen.in_order);
+    assert!(rt; seen.raised == Some(2));
+    assert!(rt; seen.lowered == Some(1));
+    assert!(rt; seen.sizes == (2, 1, 2, false));
+    assert!(rt; agree);
     Ok(())
 }

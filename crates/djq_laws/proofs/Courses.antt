@@ -38,7 +38,7 @@ course_one o o' old new d next gives gains listing update rows = record {
 }
 
 -- one walk, and then another
-walk_then : {D L : Type 0} (May : D → L → D → Type 0) (old : D) (done : List L) (mid : D) (more : List L) (new : D)
+pub walk_then : {D L : Type 0} (May : D → L → D → Type 0) (old : D) (done : List L) (mid : D) (more : List L) (new : D)
     → Walk May old done mid → Walk May mid more new → Walk May old (done ++ more) new
 walk_then {D = D} May old [] mid more new w v = let e : old ≡ mid = sym w in subst (λ (d : D). Walk May d more new) (sym e) v
 walk_then May old (d ∷ done) mid more new w v = (w.0, w.1, walk_then May w.0 done mid more new w.2 v)

@@ -12,3 +12,4 @@ pub mod Answering
 pub mod Giving
 pub mod Courses
 pub mod Heading
+pub mod Stopping

@@ -125,3 +125,37 @@ step_rises old event e new h r =
 
 pub ids_rise : IdsRise
 ids_rise old done new w r = walk_keeps (λ (o : State) (d : Did) (n : State). Step o d.event d.effect n) AreRising (λ o d n h. step_rises o d.event d.effect n h) old done new w r
+
+-- The ids of the open sessions behind an event: one that opens comes last, one that closes is gone, and else they stay.
+abbrev pub IdsBehind : Event → List ℕ → List ℕ → Type 0
+IdsBehind (opened s) old new = (new ≡ old ++ s ∷ []) ⊎ (new ≡ old)
+IdsBehind (fed s bytes) old new = new ≡ old
+IdsBehind (stepped s outcome) old new = new ≡ old
+IdsBehind (took s bytes) old new = new ≡ old
+IdsBehind (ended s) old new = new ≡ old
+IdsBehind (closed s bytes) old new = new ≡ filter (λ i. not (i == s)) old
+
+opened_ids : (old : State) (s : ℕ) (mid : State) → ((length old.sessions < SESSIONS) × (mid ≡ record old { sessions = old.sessions ++ fresh s ∷ [] })) ⊎ (mid ≡ old)
+    → (ids_of mid ≡ ids_of old ++ s ∷ []) ⊎ (ids_of mid ≡ ids_of old)
+opened_ids old s mid (inl h) = inl (ap ids_of h.1 ∙ pushed_ids old.sessions (fresh s))
+opened_ids old s mid (inr h) = inr (ap ids_of h)
+
+acts_ids : (old : State) (event : Event) (e : Effect) (mid : State) → Acts old event e mid → IdsBehind event (ids_of old) (ids_of mid)
+acts_ids old (opened s) e mid h = opened_ids old s mid h.2
+acts_ids old (fed s bytes) e mid h =
+    let f = some_and (session_of old s) (λ x. FedStep old s bytes x e mid) h in
+    fed_ids old s bytes e mid (f.0).cause f.2
+acts_ids old (stepped s outcome) e mid h =
+    let f = some_and (session_of old s) (λ x. (x.cause ≡ None) × FrontStep old s x outcome e mid) h in
+    front_ids old s f.0 outcome e mid f.2.1
+acts_ids old (took s bytes) e mid h =
+    let f = some_and (session_of old s) (λ x. TookStep old s bytes x e mid) h in
+    with_ids old mid s (λ y. record y { pending = f.2.1.0 }) (λ x. refl) f.2.1.2
+acts_ids old (ended s) e mid h =
+    let f = some_and (session_of old s) (λ x. EndedStep old s x e mid) h in
+    input_ids old mid s _ _ _ _ (f.0).cause f.2
+acts_ids old (closed s bytes) e mid h = ap ids_of h.2 ∙ kept_ids s old.sessions
+
+pub step_ids : (old : State) (event : Event) (e : Effect) (new : State) → Step old event e new → IdsBehind event (ids_of old) (ids_of new)
+step_ids old event e new h =
+    subst (λ (is : List ℕ). IdsBehind event (ids_of old) is) (sym (ap ids_of h.queued ∙ queued_ids (with_relations h.mid h.relations) e.queued)) (acts_ids old event e h.mid h.acts)

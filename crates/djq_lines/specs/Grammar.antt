@@ -13,7 +13,7 @@
 --
 -- A literal is an integer or a text; a count is an integer of digits alone, from 1 to 1000. Keywords and types may be names too:
 -- the place tells them apart. The bytes of a line are UTF-8.
-use Rattle.std.specs.Prelude.{ℕ, zero, suc, List, [], ◌∷◌, ◌==◌, ◌&&◌, Bool, true, false, nat_le, Option, None, Some, if◌then◌else◌, option_map, length, map, codes}
+use Rattle.std.specs.Prelude.{ℕ, zero, suc, List, [], ◌∷◌, ◌&&◌, Bool, true, false, nat_le, Option, None, Some, if◌then◌else◌, option_map, length, codes}
 use Rattle.std.specs.List.{list_all}
 use Rattle.std.specs.Str.{is_utf8}
 use Rattle.djq_model.specs.declared.value.Value.{Value}
@@ -24,9 +24,9 @@ use Rattle.djq_model.specs.declared.query.Term.{Term}
 use Rattle.djq_model.specs.declared.query.Term.TheVariants.{Variable, Hole, Constant}
 use Rattle.djq_model.specs.declared.query.Atom.{Atom}
 use Rattle.djq_model.specs.declared.query.Query.{Query}
-use Rattle.djq_model.specs.Data.{Bytes, Tuple, bytes_eq}
+use Rattle.djq_model.specs.Data.{Bytes, bytes_eq}
 use Rattle.djq_value.specs.Token.{Token, word, open_paren, close_paren, comma, arrow, tokens}
-use Rattle.djq_value.specs.Literal.{are_different, is_name, is_reordered, is_small_value, literal_of, natural_of}
+use Rattle.djq_value.specs.Literal.{is_name, is_reordered, is_small_value, literal_of, natural_of}
 use Rattle.djq_lines.specs.declared.limits.TheConstants.{NEXT_COUNT}
 use Rattle.djq_lines.specs.declared.answer.Refusal.{Refusal}
 use Rattle.djq_lines.specs.declared.answer.Refusal.TheVariants.{Syntax, WrongType, Later}

@@ -15,6 +15,15 @@ pub const RELATIONS: usize = 256;
 /// The most registered queries.
 pub const QUERIES: usize = 256;
 
+/// The most atoms of a query.
+pub const ATOMS: usize = 16;
+
+/// The most variables of a query, each hole one of its own.
+pub const VARIABLES: usize = 64;
+
+/// The most variables of a query's head.
+pub const HEAD_VARIABLES: usize = 16;
+
 /// The most rows of a relation.
 pub const ROWS: usize = 4_294_967_295;
 

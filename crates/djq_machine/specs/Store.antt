@@ -1,10 +1,8 @@
 -- What the commands do to the relations and queries, and what they answer.
 use Rattle.std.specs.Prelude.{ℕ, List, [], ◌∷◌, ◌==◌, ◌≡◌, ◌+◌, ◌*◌, ◌++◌, ◌≤◌, ◌&&◌, Bool, true, false, not, nat_le, nat_lt, Option, None, Some, is_some, is_none, IsSomeAnd, unwrap_or, if◌then◌else◌, Result, OnErr, length, map, All, Contains, ⊤}
 use Rattle.std.specs.List.{list_any}
-use Rattle.djq_model.specs.declared.value.Value.{Value}
-use Rattle.djq_model.specs.declared.value.Value.TheVariants.{Int, Text}
 use Rattle.djq_model.specs.declared.relation.ColumnType.{ColumnType}
-use Rattle.djq_model.specs.declared.relation.ColumnType.TheVariants.{Int as IntColumn, Text as TextColumn}
+use Rattle.djq_model.specs.declared.relation.ColumnType.TheVariants.{Int as IntColumn}
 use Rattle.djq_model.specs.declared.relation.Relation.{Relation}
 use Rattle.djq_model.specs.declared.query.Query.{Query}
 use Rattle.djq_model.specs.declared.query.Atom.{Atom}
@@ -12,6 +10,7 @@ use Rattle.djq_model.specs.declared.query.Term.{Term}
 use Rattle.djq_model.specs.declared.query.Term.TheVariants.{Variable, Hole, Constant}
 use Rattle.djq_model.specs.Data.{Bytes, Tuple, bytes_eq, change_first, drop_first, relation_of, rows_of, query_of, has_row, without_row}
 use Rattle.djq_model.specs.Answer.{IsAnswer, AreDifferent}
+pub use Rattle.djq_model.specs.Typed.{is_of, fits}
 use Rattle.djq_lines.specs.declared.limits.TheConstants.{COLUMNS, RELATIONS, QUERIES, ROWS, LAST_SEQ}
 use Rattle.djq_lines.specs.declared.answer.Refusal.{Refusal}
 use Rattle.djq_lines.specs.declared.answer.Refusal.TheVariants.{Taken, NoRelation, NoQuery, Arity, WrongType, Limit, InUse}
@@ -19,27 +18,9 @@ use Rattle.djq_lines.specs.declared.answer.AddOutcome.{AddOutcome}
 use Rattle.djq_lines.specs.declared.answer.AddOutcome.TheVariants.{Added, Same}
 use Rattle.djq_lines.specs.declared.answer.DeleteOutcome.{DeleteOutcome}
 use Rattle.djq_lines.specs.declared.answer.DeleteOutcome.TheVariants.{Removed, Absent}
+pub use Rattle.djq_lines.specs.Columns.{types_of}
 use Rattle.djq_machine.specs.State.{Store}
 use Rattle.djq_machine.specs.Conditions.{first_of, Answers, OutOfMemoryWhere}
-
--- the column types of a relation; none where there is no relation
-abbrev pub types_of : Option Relation → List ColumnType
-types_of None = []
-types_of (Some r) = r.types
-
--- whether a value is of a column's type
-abbrev pub is_of : ColumnType → Value → Bool
-is_of IntColumn (Int i) = true
-is_of TextColumn (Text t) = true
-is_of IntColumn (Text t) = false
-is_of TextColumn (Int i) = false
-
--- whether each value is of its column's type
-abbrev pub fits : List ColumnType → Tuple → Bool
-fits [] [] = true
-fits (c ∷ cs) (v ∷ vs) = is_of c v && fits cs vs
-fits [] (v ∷ vs) = false
-fits (c ∷ cs) [] = false
 
 -- the relations with other rows in one
 abbrev pub with_rows : List Relation → Bytes → List Tuple → List Relation

@@ -1,4 +1,7 @@
 pub mod Padded
 pub mod Data
+pub mod Typed
+pub mod Known
+pub mod Lent
 pub mod Answer
 pub mod Equality

@@ -10,6 +10,7 @@
 //! says that these decide equality.
 #![tactic(auto)]
 
+pub use lent::Lent;
 pub use memory::NoMem;
 pub use name::{NAME_BYTES, Name};
 pub use query::{Atom, Atoms, Names, Query, Term, Terms};
@@ -17,6 +18,7 @@ pub use relation::{ColumnType, Relation, Types};
 pub use sequence::Sequence;
 pub use value::{Row, Rows, TEXT_BYTES, Text, Value};
 
+mod lent;
 mod memory;
 mod name;
 mod query;

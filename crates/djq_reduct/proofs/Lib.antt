@@ -1,4 +1,3 @@
 pub mod Placing
 pub mod Family
 pub mod Making
-pub mod Picking

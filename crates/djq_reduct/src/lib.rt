@@ -14,12 +14,15 @@
 //! in rising order, and its key is the node's group key, by which its parent looks it up.
 #![tactic(auto)]
 
-mod cells;
 mod columns;
 mod reducts;
 
-pub use cells::{Answer, CELLS, Cells};
+pub use columns::column_of;
+pub use djq_index::{CELLS, Cells};
 pub use reducts::Reducts;
+
+/// An answer: a cell for each variable of the head, in rising order of the variables.
+pub type Answer = Cells;
 
 #[cfg(test)]
 mod tests {
@@ -46,19 +49,5 @@ mod tests {
         assert_eq!(rt; reducts.table(0).width(), 0);
         assert!(rt; reducts.table(0).key().is_empty());
         Ok(())
-    }
-
-    #[test]
-    fn writes_cells(rt: HostRuntime) {
-        let mut answer = Answer::new(3);
-        answer.set(1, 5);
-        answer.set(2, 7);
-        assert_eq!(rt; answer.len(), 3);
-        assert_eq!(rt; answer.as_slice(), [0, 5, 7].as_slice());
-        answer.push(9);
-        let copy = Cells::from_slice(answer.as_slice());
-        assert_eq!(rt; copy.as_slice(), [0, 5, 7, 9].as_slice());
-        let picked = Cells::pick(&[0, 5, 7], &[2, 0]);
-        assert_eq!(rt; picked.as_slice(), [7, 0].as_slice());
     }
 }

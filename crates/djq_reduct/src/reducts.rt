@@ -18,10 +18,13 @@ use std::alloc::{AllocError, Global};
 use std::marker::Model;
 
 /// A tree, and for each of its nodes the table that is the node's reduct.
+///
+/// The parts are public, so that an update changes the tables where they stand, with no copy: whoever
+/// takes them has shown that they are reducts again once the whole is let go.
 #[derive(Drop)]
 pub struct Reducts {
-    tree: Tree,
-    tables: Vec<Table>,
+    pub tree: Tree,
+    pub tables: Vec<Table>,
 }
 
 impl Model for Reducts {

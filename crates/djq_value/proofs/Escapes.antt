@@ -1,5 +1,5 @@
 -- How many bytes a text has with its escapes.
-use Rattle.std.proofs.Common.{◌≡◌, ◌+◌, ◌∷◌, ◌++◌, [], ℕ, List, length, cond, true, false, Bool, eqb, refl, ap, ◌∙◌, arith, length-append, count_by, ◌||◌, add-one, suc}
+use Rattle.std.proofs.Common.{◌≡◌, ◌+◌, ◌∷◌, [], ℕ, List, length, cond, true, false, Bool, eqb, refl, ◌∙◌, arith, length-append, count_by, ◌||◌, suc}
 use Rattle.std.specs.List.{flat_map}
 use Rattle.std.proofs.lemmas.List.Sums.{sum_by-cons}
 use Rattle.djq_value.specs.ValueText.{escaped, is_escaped}

@@ -1,5 +1,5 @@
 -- A literal is read back where it is printed, and spelled where it is read.
-use Rattle.std.proofs.Common.{◌≡◌, ◌≢◌, ℕ, ℤ, pos, negsuc, zero, suc, ◌+◌, ◌-◌, ◌*◌, ◌^◌, ◌/◌, ◌%◌, ◌<◌, ◌≤◌, Bool, true, false, cond, ◌&&◌, ◌||◌, List, [], ◌∷◌, ◌++◌, append_assoc, drop, length, length-append, get_or, Result, Ok, Err, Option, Some, None, option_map, refl, sym, ap, ap₂, subst, ◌∙◌, arith, eqb, leb, All, inl, inr}
+use Rattle.std.proofs.Common.{◌≡◌, ℕ, ℤ, pos, negsuc, zero, suc, ◌+◌, ◌-◌, ◌^◌, ◌/◌, ◌%◌, ◌<◌, ◌≤◌, true, false, [], ◌∷◌, ◌++◌, append_assoc, drop, length, length-append, Ok, Err, Option, Some, None, option_map, refl, sym, ap, subst, ◌∙◌, arith, leb, All}
 use Rattle.std.specs.List.{list_all}
 use Rattle.std.specs.Fmt.{decimal, signed_decimal}
 use Rattle.std.proofs.Math.Dec.{eqb-suc-zero}

@@ -1,11 +1,8 @@
 -- How a text is scanned, byte by byte.
-use Rattle.std.proofs.Common.{◌≡◌, ℕ, ◌+◌, Bool, true, false, List, [], ◌∷◌, ◌++◌, length, Option, Some, None, refl, sym, ap, ◌∙◌, arith, append_assoc, append-nil, length-append}
-use Rattle.std.specs.Prelude.{is_some}
+use Rattle.std.proofs.Common.{◌≡◌, ℕ, ◌+◌, Bool, true, false, [], ◌∷◌, ◌++◌, length, Option, Some, None, refl, sym, ap, ◌∙◌, arith, append_assoc, length-append}
 use Rattle.djq_model.specs.Data.{Bytes}
 use Rattle.djq_value.specs.Token.{in_text, text_in}
-use Rattle.djq_value.specs.Quoted.{put_front, stepped}
-use Rattle.djq_value.specs.TextAt.{text_at, text_or_none}
-use Rattle.djq_value.specs.declared.quoted.Step.TheVariants.{End, Backslash, Byte, Bad}
+use Rattle.djq_value.specs.Quoted.{put_front}
 
 -- So many bytes of a text were read, and some are left.
 pub record HasRead (bytes : Bytes) (count : ℕ) (escape : Bool) (rest : Bytes) : Type 0 where

@@ -1,6 +1,6 @@
 -- What the readers of numbers answer.
 use Rattle.std.specs.Prelude.{ℕ, ℤ, min, Option, None, Some, if◌then◌else◌}
-use Rattle.djq_value.specs.Literal.{integer_of, is_small}
+use Rattle.djq_value.specs.Literal.{is_small}
 use Rattle.djq_value.specs.declared.number.Number.{Number}
 use Rattle.djq_value.specs.declared.number.Number.TheVariants.{Other, Wide, Small}
 

@@ -1,7 +1,7 @@
 -- Texts between quotes, byte by byte.
-use Rattle.std.specs.Prelude.{◌≡◌, ℕ, ◌++◌, [], Bool, true, false, Option, None, Some, is_some, length}
+use Rattle.std.specs.Prelude.{◌++◌, [], true, false, Option, None, Some}
 use Rattle.djq_model.specs.Data.{Bytes}
-use Rattle.djq_value.specs.Token.{escape_of, in_text, text_in}
+use Rattle.djq_value.specs.Token.{in_text, text_in}
 use Rattle.djq_value.specs.declared.quoted.Step.{Step}
 use Rattle.djq_value.specs.declared.quoted.Step.TheVariants.{End, Backslash, Byte, Bad}
 

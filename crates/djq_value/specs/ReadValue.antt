@@ -1,5 +1,5 @@
 -- Reading one literal in front of bytes, and its laws.
-use Rattle.std.specs.Prelude.{◌≡◌, ℕ, ℤ, ◌+◌, ◌<◌, ◌≤◌, ◌++◌, true, false, Option, None, Some, option_map, Result, Ok, Err, length, drop}
+use Rattle.std.specs.Prelude.{◌≡◌, ℕ, ℤ, ◌<◌, ◌≤◌, ◌++◌, true, false, Option, None, Some, option_map, Result, Ok, Err, length, drop}
 use Rattle.djq_model.specs.Data.{Bytes}
 use Rattle.djq_model.specs.declared.value.TheConstants.{TEXT_BYTES}
 use Rattle.djq_model.specs.declared.value.Value.{Value}

@@ -1,5 +1,4 @@
-use Rattle.std.proofs.Common.{◌≡◌, ◌<◌, ◌+◌, ◌++◌, ◌∷◌, [], refl, sym, ◌∙◌, ap, ap₂, length, List, ℕ, slice_index_or, take}
-use Rattle.djq_index.specs.Tuple.{pick}
+use Rattle.std.proofs.Common.{◌++◌, ◌∷◌, [], sym, ◌∙◌, ap₂, length, List, ℕ}
 use Rattle.djq_index.proofs.Columns.{pick_nil, pick_more, column_below}
 use Rattle.djq_index.proofs.heads.project.Goals as goal
 

@@ -1,4 +1,4 @@
-use Rattle.std.proofs.Common.{◌≡◌, sym, ◌∙◌, ap, length, List, ℕ}
+use Rattle.std.proofs.Common.{sym, ◌∙◌, ap, length, List, ℕ}
 use Rattle.djq_index.proofs.Columns.{length_pick}
 use Rattle.djq_index.proofs.raw.seat.Goals as goal
 

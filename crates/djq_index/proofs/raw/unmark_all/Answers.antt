@@ -1,7 +1,4 @@
-use Rattle.std.proofs.Common.{◌≡◌, ◌<◌, ◌≤◌, ◌+◌, refl, sym, ◌∙◌, subst, ap, length, Option, Some, None, ℕ, List, arith}
-use Rattle.djq_index.specs.declared.raw.Note.{Note}
-use Rattle.djq_index.specs.Entries.{marks}
-use Rattle.djq_index.specs.Raw.{note_at, entries_in, without_mark}
+use Rattle.std.proofs.Common.{subst, Option, ℕ, arith}
 use Rattle.djq_index.proofs.Clearing.{Clearing, clearing, cleared, over_none, over_all, step_held, step_within, cleared_more}
 use Rattle.djq_index.proofs.raw.unmark_all.Goals as goal
 

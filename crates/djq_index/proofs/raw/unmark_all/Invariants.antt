@@ -1,6 +1,4 @@
-use Rattle.std.proofs.Common.{◌≡◌, ◌+◌, ◌≤◌, length}
-use Rattle.djq_index.specs.Entries.{marks}
-use Rattle.djq_index.specs.Raw.{entries_in}
+use Rattle.std.proofs.Common.{◌≡◌, ◌+◌}
 use Rattle.djq_index.proofs.Clearing.{Clearing}
 use Rattle.djq_index.proofs.raw.unmark_all.Given as goal
 

@@ -1,5 +1,5 @@
 use Rattle.std.proofs.Common.{◌≡◌, drop}
-use Rattle.djq_index.specs.Entries.{grp, marks, head_at}
+use Rattle.djq_index.specs.Entries.{grp, head_at}
 use Rattle.djq_index.proofs.tests.group.Given as goal
 
 abbrev pub invariant-loop-step : goal.invariant-loop-step

@@ -1,8 +1,7 @@
-use Rattle.std.proofs.Common.{◌≡◌, refl, sym, ◌∙◌, subst, ap, Option, Some, ℕ, drop, take, ◌+◌}
-use Rattle.djq_index.specs.declared.place.Place.{Place}
-use Rattle.djq_index.specs.Entries.{Entry, grp, marks, head_at}
+use Rattle.std.proofs.Common.{sym, ◌∙◌, subst, drop, take, ◌+◌}
+use Rattle.djq_index.specs.Entries.{marks}
 use Rattle.djq_index.specs.Table.{IsLive}
-use Rattle.djq_index.proofs.Walking.{walk_cut, group_live, marks_live, Backing, backing, backing_cut}
+use Rattle.djq_index.proofs.Walking.{walk_cut, marks_live}
 use Rattle.djq_index.proofs.tests.marked.Goals as goal
 
 pub tuple-requires : goal.tuple-requires

@@ -1,4 +1,4 @@
-use Rattle.std.proofs.Common.{◌≡◌, ◌+◌, ◌∙◌, sym, ap, length}
+use Rattle.std.proofs.Common.{◌+◌, ◌∙◌, sym, ap, length}
 use Rattle.djq_value.proofs.Escapes.{length-flat_map-escaped}
 use Rattle.djq_value.proofs.print.escaped_len.Goals as goal
 

@@ -1,7 +1,5 @@
-use Rattle.std.proofs.Common.{◌≡◌, ◌∷◌, ◌+◌, ◌∙◌, suc, sym, ap, true, false, subst, drop, get_or, add-one, arith}
+use Rattle.std.proofs.Common.{◌≡◌, ◌∷◌, ◌+◌, ◌∙◌, sym, ap, true, false, drop, get_or, add-one, arith}
 use Rattle.std.proofs.Common.{drop-cons}
-use Rattle.djq_value.specs.Token.{text_in}
-use Rattle.djq_value.specs.Quoted.{stepped}
 use Rattle.djq_value.proofs.Scanning.{has_read-backslash, has_read-byte, has_read_as}
 use Rattle.djq_value.proofs.quoted.text_end.Goals as goal
 use Rattle.djq_value.proofs.quoted.text_end.Goals.{in-Backslash, in-Byte}

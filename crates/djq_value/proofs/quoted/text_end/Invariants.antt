@@ -1,5 +1,4 @@
-use Rattle.std.proofs.Common.{◌≡◌, ◌≤◌, drop}
-use Rattle.djq_value.specs.Token.{text_in}
+use Rattle.std.proofs.Common.{◌≤◌, drop}
 use Rattle.djq_value.proofs.Scanning.{HasRead}
 use Rattle.djq_value.proofs.quoted.text_end.Given as goal
 

@@ -1,8 +1,8 @@
-use Rattle.std.proofs.Common.{◌≡◌, ◌∙◌, Err, Some, sym, ap, subst, arith, option_map, length, false}
+use Rattle.std.proofs.Common.{◌≡◌, ◌∙◌, Err, Some, sym, ap, subst, arith, option_map, false}
 use Rattle.std.proofs.lemmas.List.{take_rest}
 use Rattle.djq_model.specs.Data.{Bytes}
 use Rattle.djq_model.specs.declared.value.Value.{Value}
-use Rattle.djq_model.specs.declared.value.Value.TheVariants.{Int, Text}
+use Rattle.djq_model.specs.declared.value.Value.TheVariants.{Text}
 use Rattle.djq_value.specs.Token.{token_at, token_front}
 use Rattle.djq_value.specs.Literal.{is_small_value, literal_of}
 use Rattle.djq_value.specs.Lexing.{lexeme_of}

@@ -1,4 +1,4 @@
-use Rattle.std.proofs.Common.{◌≡◌, ◌∙◌, sym, ap, length}
+use Rattle.std.proofs.Common.{◌∙◌, sym, ap, length}
 use Rattle.djq_index.specs.Table.{Table}
 use Rattle.djq_index.proofs.Tabling.{length_entries}
 use Rattle.djq_index.proofs.table.Table.len.Goals as goal

@@ -1,4 +1,4 @@
-use Rattle.std.proofs.Common.{◌≡◌, sym, subst}
+use Rattle.std.proofs.Common.{sym, subst}
 use Rattle.djq_index.specs.Table.{Table, IsAt}
 use Rattle.djq_index.proofs.table.Table.tuple.Goals as goal
 

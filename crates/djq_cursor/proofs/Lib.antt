@@ -1,0 +1,15 @@
+pub mod Menus
+pub mod Walking
+pub mod Columns
+pub mod Outs
+pub mod Groups
+pub mod Good
+pub mod Stepping
+pub mod Leaves
+pub mod Listed
+pub mod Seeking
+pub mod Tuples
+pub mod Filling
+pub mod Going
+pub mod Placing
+pub mod Checking

@@ -1,0 +1,15 @@
+use Rattle.std.proofs.Common.{◌∙◌, ap, sym, subst, ℕ, ◌<◌, length}
+use Rattle.djq_cursor.specs.Levels.{child_of, source}
+use Rattle.djq_cursor.proofs.Outs.{source_within}
+use Rattle.djq_cursor.proofs.levels.source.Goals as goal
+
+pub returns-clause-source : goal.returns-clause-source
+unfolding source
+returns-clause-source c = c.child_of.ensures ∙ ap child_of c.node.ensures
+
+pub returns-clause-within : goal.returns-clause-within
+unfolding source
+returns-clause-within c =
+    subst (λ (n : ℕ). n < length c.args.tree.now.nodes)
+    (sym (c.child_of.ensures ∙ ap child_of c.node.ensures))
+    (source_within c.args.tree.now c.args.level c.len-nodes.ensures.tree c.requires)

@@ -1,0 +1,167 @@
+use Rattle.std.proofs.Common.{◌∙◌, List, ℕ, [], ◌∷◌, ◌++◌, length, refl, ap, arith}
+use Rattle.djq_cursor.specs.declared.places.Choice.{Choice}
+use Rattle.djq_cursor.specs.Walk.{before, here, blank}
+use Rattle.djq_cursor.proofs.Walking.{given_whole}
+use Rattle.djq_cursor.proofs.Leaves.{blank_wide}
+use Rattle.djq_cursor.proofs.Filling.{all_alive, here_wide, small_in}
+use Rattle.djq_cursor.proofs.Going.{
+  pop_is,
+  retreat,
+  given_without,
+  advances,
+  all_levels,
+  few_choices,
+}
+use Rattle.djq_cursor.proofs.walk.go_on.Goals as goal
+
+pub loop-choice-init : goal.loop-choice-init
+loop-choice-init g c =
+    let r = c.args.reducts.now in
+    let menu = g.C.Choices.menu c.args.choices.now r in
+    let many = all_levels r menu c.args.places.now c.requires.follows c.requires.whole in
+    record {
+      follows = c.requires.follows;
+      given = given_whole r menu (length r.tree.nodes)
+          (blank r.tree) c.args.places.now c.requires.whole;
+      counted = omega arith;
+    }
+
+pub next-requires : goal.next-requires
+next-requires g c =
+    let r = c.args.reducts.now in
+    let menu = g.C.Choices.menu c.args.choices.now r in
+    let e = pop_is c.loop-choice.places c.pop.new.self c.pop.result c.in-Some.choice
+    c.pop.ensures.taken c.in-Some.is in
+    (retreat r menu c.loop-choice.places c.pop.new.self c.in-Some.choice
+    c.loop-choice.invariant.follows e).alive
+
+pub rewrite-requires : goal.rewrite-requires
+rewrite-requires g c =
+    let r = c.args.reducts.now in
+    let menu = g.C.Choices.menu c.args.choices.now r in
+    let e = pop_is c.loop-choice.places c.pop.new.self c.pop.result c.in-Some.choice
+    c.pop.ensures.taken c.in-Some.is in
+    let t = retreat r menu c.loop-choice.places c.pop.new.self c.in-Some.choice
+    c.loop-choice.invariant.follows e in
+    all_alive r menu (length r.tree.nodes) (blank r.tree) c.pop.new.self (omega arith) t.follows
+
+pub write_choice-requires-clause-alive : goal.write_choice-requires-clause-alive
+write_choice-requires-clause-alive g c =
+    let r = c.args.reducts.now in
+    let menu = g.C.Choices.menu c.args.choices.now r in
+    let e = pop_is c.loop-choice.places c.pop.new.self c.pop.result c.in-Some.choice
+    c.pop.ensures.taken c.in-Some.is in
+    let t = retreat r menu c.loop-choice.places c.pop.new.self c.in-Some.choice
+    c.loop-choice.invariant.follows e in
+    record { level = t.alive.level; live = (c.in-Some-next.ensures.some _ t.joins.on).live }
+
+pub write_choice-requires-clause-wide : goal.write_choice-requires-clause-wide
+write_choice-requires-clause-wide g c =
+    let r = c.args.reducts.now in
+    ap (λ (s : List ℕ). length s) c.rewrite.ensures ∙ here_wide r (blank r.tree) c.pop.new.self
+    ∙ blank_wide r.tree
+
+pub push-requires : goal.push-requires
+push-requires g c =
+    let r = c.args.reducts.now in
+    let menu = g.C.Choices.menu c.args.choices.now r in
+    let e = pop_is c.loop-choice.places c.pop.new.self c.pop.result c.in-Some.choice
+    c.pop.ensures.taken c.in-Some.is in
+    let t = retreat r menu c.loop-choice.places c.pop.new.self c.in-Some.choice
+    c.loop-choice.invariant.follows e in
+    let few = few_choices r menu c.loop-choice.places c.laws.ensures.sound
+    (small_in r.tree c.tree.result.now c.tree.ensures c.is_small.ensures)
+    c.loop-choice.invariant.follows in
+    let shorter = t.shorter in
+    omega arith
+
+pub fill-requires-clause-from : goal.fill-requires-clause-from
+fill-requires-clause-from g c =
+    let r = c.args.reducts.now in
+    let menu = g.C.Choices.menu c.args.choices.now r in
+    let d : Choice = record { level = c.in-Some.choice.level; place = c.in-Some-next.place } in
+    let all = before r menu (blank r.tree) c.args.places.now ++ here r (blank r.tree)
+    c.args.places.now ∷ [] in
+    let e = pop_is c.loop-choice.places c.pop.new.self c.pop.result c.in-Some.choice
+    c.pop.ensures.taken c.in-Some.is in
+    let t = retreat r menu c.loop-choice.places c.pop.new.self c.in-Some.choice
+    c.loop-choice.invariant.follows e in
+    (advances r menu c.loop-choice.places c.pop.new.self c.push.new.self c.in-Some.choice d
+    c.rewrite.new.answer c.write_choice.new.answer all t e c.requires.once refl
+    c.in-Some-next.ensures.some c.rewrite.ensures c.write_choice.ensures c.push.ensures
+    c.loop-choice.invariant.given).reached
+
+pub fill-requires-clause-stands : goal.fill-requires-clause-stands
+fill-requires-clause-stands g c =
+    let r = c.args.reducts.now in
+    let menu = g.C.Choices.menu c.args.choices.now r in
+    let d : Choice = record { level = c.in-Some.choice.level; place = c.in-Some-next.place } in
+    let all = before r menu (blank r.tree) c.args.places.now ++ here r (blank r.tree)
+    c.args.places.now ∷ [] in
+    let e = pop_is c.loop-choice.places c.pop.new.self c.pop.result c.in-Some.choice
+    c.pop.ensures.taken c.in-Some.is in
+    let t = retreat r menu c.loop-choice.places c.pop.new.self c.in-Some.choice
+    c.loop-choice.invariant.follows e in
+    (advances r menu c.loop-choice.places c.pop.new.self c.push.new.self c.in-Some.choice d
+    c.rewrite.new.answer c.write_choice.new.answer all t e c.requires.once refl
+    c.in-Some-next.ensures.some c.rewrite.ensures c.write_choice.ensures c.push.ensures
+    c.loop-choice.invariant.given).stands
+
+pub returns-in-Some-next-clause-before : goal.returns-in-Some-next-clause-before
+returns-in-Some-next-clause-before g c =
+    let r = c.args.reducts.now in
+    let menu = g.C.Choices.menu c.args.choices.now r in
+    let d : Choice = record { level = c.in-Some.choice.level; place = c.in-Some-next.place } in
+    let all = before r menu (blank r.tree) c.args.places.now ++ here r (blank r.tree)
+    c.args.places.now ∷ [] in
+    let e = pop_is c.loop-choice.places c.pop.new.self c.pop.result c.in-Some.choice
+    c.pop.ensures.taken c.in-Some.is in
+    let t = retreat r menu c.loop-choice.places c.pop.new.self c.in-Some.choice
+    c.loop-choice.invariant.follows e in
+    let a = advances r menu c.loop-choice.places c.pop.new.self c.push.new.self c.in-Some.choice d
+    c.rewrite.new.answer c.write_choice.new.answer all t e c.requires.once refl
+    c.in-Some-next.ensures.some c.rewrite.ensures c.write_choice.ensures c.push.ensures
+    c.loop-choice.invariant.given in
+    c.fill.ensures.before ∙ a.before
+
+pub returns-in-Some-next-clause-counted : goal.returns-in-Some-next-clause-counted
+returns-in-Some-next-clause-counted g c =
+    let r = c.args.reducts.now in
+    let menu = g.C.Choices.menu c.args.choices.now r in
+    let d : Choice = record { level = c.in-Some.choice.level; place = c.in-Some-next.place } in
+    let all = before r menu (blank r.tree) c.args.places.now ++ here r (blank r.tree)
+    c.args.places.now ∷ [] in
+    let e = pop_is c.loop-choice.places c.pop.new.self c.pop.result c.in-Some.choice
+    c.pop.ensures.taken c.in-Some.is in
+    let t = retreat r menu c.loop-choice.places c.pop.new.self c.in-Some.choice
+    c.loop-choice.invariant.follows e in
+    let a = advances r menu c.loop-choice.places c.pop.new.self c.push.new.self c.in-Some.choice d
+    c.rewrite.new.answer c.write_choice.new.answer all t e c.requires.once refl
+    c.in-Some-next.ensures.some c.rewrite.ensures c.write_choice.ensures c.push.ensures
+    c.loop-choice.invariant.given in
+    let long = a.long in
+    let shorter = t.shorter in
+    let counted = c.loop-choice.invariant.counted in
+    let link = c.next.ensures.counted in
+    let filled = c.fill.ensures.counted in
+    omega arith
+
+pub loop-choice-preserved : goal.loop-choice-preserved
+loop-choice-preserved g c =
+    let r = c.args.reducts.now in
+    let menu = g.C.Choices.menu c.args.choices.now r in
+    let all = before r menu (blank r.tree) c.args.places.now ++ here r (blank r.tree)
+    c.args.places.now ∷ [] in
+    let e = pop_is c.loop-choice.places c.pop.new.self c.pop.result c.in-Some.choice
+    c.pop.ensures.taken c.in-Some.is in
+    let t = retreat r menu c.loop-choice.places c.pop.new.self c.in-Some.choice
+    c.loop-choice.invariant.follows e in
+    let shorter = t.shorter in
+    let counted = c.loop-choice.invariant.counted in
+    let link = c.next.ensures.counted in
+    record {
+      follows = t.follows;
+      given = given_without r menu c.loop-choice.places c.pop.new.self c.in-Some.choice all t e
+          c.in_default-next.ensures.none c.loop-choice.invariant.given;
+      counted = omega arith;
+    }

@@ -1,0 +1,17 @@
+-- Listings of tuples.
+use Rattle.std.specs.Prelude.{◌≡◌, ℕ, List, All, AllPairs, Contains}
+
+-- no two of a list are equal
+abbrev pub AreDifferent : List (List ℕ) → Type 0
+AreDifferent ts = AllPairs (λ s t. s ≡ t → ⊥) ts
+
+-- different tuples that have a property
+pub record AreSome (P : List ℕ → Type 0) (ts : List (List ℕ)) : Type 0 where
+  pub different : AreDifferent ts
+  pub all : All P ts
+
+-- a listing has each tuple with the property once, and nothing else
+pub record IsListing (P : List ℕ → Type 0) (ts : List (List ℕ)) : Type 0 where
+  pub different : AreDifferent ts
+  pub all : All P ts
+  pub complete : (t : List ℕ) → P t → Contains ts t

@@ -1,0 +1,138 @@
+-- A listing goes through the levels of a tree from the highest one down. At each level it chooses a
+-- tuple from a menu, which is known by the level and by the cells of its label, and these were
+-- chosen above.
+use Rattle.std.specs.Prelude.{
+  ◌≡◌,
+  ⊤,
+  ℕ,
+  Bool,
+  true,
+  cond,
+  List,
+  [],
+  ◌∷◌,
+  ◌++◌,
+  length,
+  replicate,
+  flat_map,
+}
+use Rattle.djq_index.specs.Table.{IsLive}
+use Rattle.djq_tree.specs.Tree.{Tree}
+use Rattle.djq_tree.specs.Levels.{levels, levels_below}
+use Rattle.djq_reduct.specs.Tables.{entries_at}
+use Rattle.djq_reduct.specs.Reducts.{Reducts}
+use Rattle.djq_cursor.specs.declared.places.Choice.{Choice}
+use Rattle.djq_cursor.specs.declared.cursor.State.{State}
+use Rattle.djq_cursor.specs.declared.cursor.State.TheVariants.{Start, At, End}
+use Rattle.djq_cursor.specs.Answers.{on_node}
+use Rattle.djq_cursor.specs.Menus.{has, ahead, AreOnce, IsFirst}
+use Rattle.djq_cursor.specs.Levels.{IsLevel, IsNextLevel, source, tuple_at, step}
+
+-- the tuples to choose from, by the level and the cells of its label
+abbrev pub Menu : Type 0
+Menu = ℕ → List ℕ → List (List ℕ)
+
+-- the menu of a level, where the answer is known so far
+abbrev pub menu_at : Tree → Menu → ℕ → List ℕ → List (List ℕ)
+menu_at t menu k s = menu k (on_node t k s)
+
+-- the tuple that a choice has
+unfoldable pub chosen : Reducts → Choice → List ℕ
+chosen r c = tuple_at (entries_at r.tables (source r.tree c.level)) c.place
+
+-- the answers that begin as s, through these levels
+abbrev pub leaves : Tree → Menu → List ℕ → List ℕ → List (List ℕ)
+leaves t menu [] s = s ∷ []
+leaves t menu (k ∷ ks) s = flat_map (λ u. leaves t menu ks (step t k s u)) (menu_at t menu k s)
+
+-- the answer once all of these choices are written
+abbrev pub here : Reducts → List ℕ → List Choice → List ℕ
+here r s [] = s
+here r s (c ∷ cs) = here r (step r.tree c.level s (chosen r c)) cs
+
+-- the answers ahead of these choices
+abbrev pub before : Reducts → Menu → List ℕ → List Choice → List (List ℕ)
+before r menu s [] = []
+before r menu s (c ∷ cs) =
+    flat_map (λ u. leaves r.tree menu (levels_below r.tree c.level) (step r.tree c.level s u))
+    (ahead (menu_at r.tree menu c.level s) (chosen r c))
+    ++ before r menu (step r.tree c.level s (chosen r c)) cs
+
+-- the number below which the levels have no choice yet
+abbrev pub reached : ℕ → List Choice → ℕ
+reached n [] = n
+reached n (c ∷ cs) = reached c.level cs
+
+-- these choices go through the levels below n: each is a live place, whose tuple is on the menu
+abbrev pub Follows : Reducts → Menu → ℕ → List ℕ → List Choice → Type 0
+Follows r menu n s [] = ⊤
+Follows r menu n s (c ∷ cs) =
+    IsNextLevel r.tree n c.level
+    × IsLive (entries_at r.tables (source r.tree c.level)) c.place
+    × (has (menu_at r.tree menu c.level s) (chosen r c) ≡ true)
+    × Follows r menu c.level (step r.tree c.level s (chosen r c)) cs
+
+-- no menu is empty, whatever is chosen above it
+abbrev pub IsOpen : Tree → Menu → List ℕ → List ℕ → Type 0
+IsOpen t menu [] s = ⊤
+IsOpen t menu (k ∷ ks) s = (menu_at t menu k s ≡ [] → ⊥)
+    × ((u : List ℕ) → has (menu_at t menu k s) u ≡ true → IsOpen t menu ks (step t k s u))
+
+-- an answer of which nothing is known
+abbrev pub blank : Tree → List ℕ
+blank t = replicate (length t.head) 0
+
+-- the answer that choices from the root down make, and the answers ahead of it
+abbrev pub made_by : Reducts → List Choice → List ℕ
+made_by r cs = here r (blank r.tree) cs
+
+abbrev pub ahead_of : Reducts → Menu → List Choice → List (List ℕ)
+ahead_of r menu cs = before r menu (blank r.tree) cs
+
+-- all answers of the menus
+abbrev pub all_of : Tree → Menu → List (List ℕ)
+all_of t menu = leaves t menu (levels t) (blank t)
+
+-- the choices go down from the root, as far as they come; and they come to the end
+abbrev pub Descends : Reducts → Menu → List Choice → Type 0
+Descends r menu cs = Follows r menu (length r.tree.nodes) (blank r.tree) cs
+
+abbrev pub IsComplete : Reducts → List Choice → Type 0
+IsComplete r cs = levels_below r.tree (reached (length r.tree.nodes) cs) ≡ []
+
+-- the choice has the first of these tuples, at a live place
+pub record IsFirstAt (r : Reducts) (us : List (List ℕ)) (c : Choice) : Type 0 where
+  pub live : IsLive (entries_at r.tables (source r.tree c.level)) c.place
+  pub first : IsFirst us (chosen r c)
+
+-- the choice is one of a level, at a live place
+pub record IsAlive (r : Reducts) (c : Choice) : Type 0 where
+  pub level : IsLevel r.tree c.level
+  pub live : IsLive (entries_at r.tables (source r.tree c.level)) c.place
+
+-- the choices go down from the root, and the answer is what they make
+pub record Stands (r : Reducts) (menu : Menu) (cs : List Choice) (a : List ℕ) : Type 0 where
+  pub follows : Descends r menu cs
+  pub answer : a ≡ made_by r cs
+
+-- what is known of menus: none has a tuple twice, and where the listing may be entered none is
+-- empty
+pub record IsClear (t : Tree) (menu : Menu) (entered : Bool) : Type 0 where
+  pub once : (k : ℕ) (w : List ℕ) → AreOnce (menu k w)
+  pub filled : entered ≡ true → IsOpen t menu (levels t) (blank t)
+
+-- all answers, in the order in which they are given
+abbrev pub all_given : Reducts → Menu → Bool → List (List ℕ)
+all_given r menu entered = cond entered (all_of r.tree menu) []
+
+-- what was given in this state, with these choices
+abbrev pub given_by : Reducts → Menu → Bool → State → List Choice → List (List ℕ)
+given_by r menu entered Start cs = []
+given_by r menu entered At cs = ahead_of r menu cs ++ made_by r cs ∷ []
+given_by r menu entered End cs = all_given r menu entered
+
+-- the state and the choices fit: there are none at the start, and later one at each level
+abbrev pub FitsBy : Reducts → Menu → Bool → State → List Choice → Type 0
+FitsBy r menu entered Start cs = cs ≡ []
+FitsBy r menu entered At cs = (entered ≡ true) × Descends r menu cs × IsComplete r cs
+FitsBy r menu entered End cs = ⊤

@@ -1,0 +1,107 @@
+ghost use Rattle.std.specs.Prelude.{◌≡◌, ◌<◌, ◌≤◌, true, [], length, IfSome, IfNone};
+ghost use Rattle.djq_hyper.specs.Hypergraph.{subset};
+ghost use Rattle.djq_tree.specs.Counts.{is_trim};
+ghost use Rattle.djq_tree.specs.Levels.{levels_below};
+ghost use Rattle.djq_tree.specs.Tree.{is_out};
+ghost use Rattle.djq_cursor.specs.Answers.{on_node};
+ghost use Rattle.djq_cursor.specs.Levels.{IsLevel, IsNextLevel, child_of, source, step, written};
+ghost use Rattle.djq_cursor.specs.Walk.{IsAlive, chosen};
+
+use crate::places::Choice;
+use djq_hyper::VarSet;
+use djq_reduct::{Answer, Cells, Reducts, column_of};
+use djq_tree::{Node, Tree};
+
+fn is_trim(node: Node) -> bool
+    ensures { result ≡ is_trim node }
+{
+    match node {
+        Node::Trim { .. } => true,
+        _ => false,
+    }
+}
+
+fn child_of(node: Node) -> usize
+    ensures { result ≡ child_of node }
+{
+    match node {
+        Node::Leaf { .. } => 0,
+        Node::Trim { child } => child,
+        Node::Meet { guard, .. } => guard,
+    }
+}
+
+/// The next level below a number; none exactly where there is none.
+pub(crate) fn level_below(tree: &Tree, number: usize) -> Option<usize>
+    requires { number ≤ length tree.now.nodes }
+    ensures lower { IfSome result (λ k. k < number) }
+    ensures next { IfSome result (λ k. IsNextLevel tree.now number k) }
+    ensures level { IfSome result (λ k. IsLevel tree.now k) }
+    ensures none { IfNone result (levels_below tree.now number ≡ []) }
+{
+    let second_stage = tree.second_stage();
+    let mut at = number;
+    while second_stage < at {
+        at -= 1;
+        if is_trim(tree.node(at)) {
+            return Some(at);
+        }
+    }
+    None
+}
+
+/// The node from whose table the tuple of a level is chosen.
+pub fn source(tree: &Tree, level: usize) -> usize
+    requires { IsLevel tree.now level }
+    ensures source { result ≡ source tree.now level }
+    ensures within { result < length tree.now.nodes }
+{
+    let _nodes = tree.len();
+    child_of(tree.node(level))
+}
+
+/// The projection of an answer on a node of `out`.
+pub(crate) fn project(reducts: &Reducts, node: usize, answer: &Answer) -> Cells
+    requires out { is_out reducts.now.tree.out node ≡ true }
+    requires wide { length answer.now ≡ length reducts.now.tree.head }
+    ensures { result ≡ on_node reducts.now.tree node answer.now }
+{
+    reducts.laws();
+    let tree = reducts.tree();
+    let head = tree.head();
+    let mut rest = tree.label(node);
+    let mut cells = Cells::new(0);
+    while let Some(variable) = rest.pop() {
+        cells.push(answer.as_slice()[column_of(head, variable)]);
+    }
+    cells
+}
+
+/// Writes the cells of a tuple over a label into an answer over the head.
+fn write_tuple(head: VarSet, label: VarSet, tuple: &[u64], answer: &mut Answer)
+    requires long { length tuple.now ≡ length label }
+    requires within { subset label head ≡ true }
+    requires wide { length answer.old ≡ length head }
+    ensures { answer.new ≡ written head label tuple.now answer.old }
+{
+    let mut rest = label;
+    let mut at = 0;
+    while let Some(variable) = rest.pop() {
+        answer.set(column_of(head, variable), tuple[at]);
+        at += 1;
+    }
+}
+
+/// Writes the tuple of a choice into an answer.
+pub(crate) fn write_choice(reducts: &Reducts, choice: Choice, answer: &mut Answer)
+    requires alive { IsAlive reducts.now choice }
+    requires wide { length answer.old ≡ length reducts.now.tree.head }
+    ensures { answer.new
+        ≡ step reducts.now.tree choice.level answer.old (chosen reducts.now choice) }
+{
+    reducts.laws();
+    let tree = reducts.tree();
+    let node = source(tree, choice.level);
+    let tuple = reducts.table(node).tuple(choice.place);
+    write_tuple(tree.head(), tree.label(node), tuple, answer);
+}

@@ -1,0 +1,51 @@
+//! Listing the answers that reducts have, each once, in a bounded number of steps a call (Idris,
+//! Ugarte and Vansummeren 2017).
+//!
+//! A [`Cursor`] gives one answer a call. Each call, the first and the last too, counts at most two
+//! look-ups and links for each variable of the head, and one, however many answers there are and
+//! however many tuples lead nowhere: in reducts none does. [`has`] tells whether a tuple is an
+//! answer, by one look-up an atom at most. Neither takes memory.
+//!
+//! It is no snapshot: a cursor fits reducts only until they change, and doesn't notice a change. It
+//! has no order of answers to offer, but the order in which tables keep their groups.
+//!
+//! What surprises: an answer's cells are in rising order of the head's variables, in whatever order
+//! the query's head has them. What a cursor has given is no memory of it, but a definition over its
+//! places (`specs/Given.antt`), so contracts speak of lists of answers, and nothing is kept.
+//!
+//! ```text
+//! q(x,y) <- r(x,y), s(y)      the levels, from the root down     r (1,5) (2,7) (3,5)    s (5) (9)
+//!
+//!       4: -   the root            4: choose y of node 3           y 5          all of node 3
+//!          |                          the group of ()              |
+//!       3: y   2 and s             2: choose (x,y) of r            x 1, x 3     r's group of y 5
+//!         / \                         the group of y               |
+//!     2: y   1: s y                                                (1,5) (3,5)  the answers
+//!        |
+//!     0: r x,y
+//! ```
+//!
+//! Inside, a listing is a walk down the second stage's trims. At each of them a tuple of the trim's
+//! child is chosen from a menu, the group that agrees with what was chosen above. To go on, the
+//! last choice that has a next tuple takes it, and every later one starts again. What a menu is, is
+//! left to [`Choices`], so that the change of an update is listed by the same walk, from menus of
+//! the tuples that changed.
+#![tactic(auto)]
+
+mod choices;
+mod cursor;
+mod levels;
+mod lookup;
+mod places;
+mod walk;
+mod whole;
+
+pub use choices::Choices;
+pub use cursor::{Cursor, State};
+pub use levels::source;
+pub use lookup::has;
+pub use places::{Choice, Places};
+pub use walk::advance_by;
+
+#[cfg(test)]
+mod tests;

@@ -1,0 +1,200 @@
+ghost use Rattle.std.specs.Prelude.{◌≡◌, ◌+◌, ◌*◌, ◌≤◌, [], ◌∷◌, ◌++◌, length, All, ℕ, List};
+ghost use Rattle.std.specs.Bool.{OnTrue, OnFalse};
+ghost use Rattle.djq_tree.specs.Levels.{levels, levels_below};
+ghost use Rattle.djq_cursor.specs.Menus.{AreOnce};
+ghost use Rattle.djq_cursor.specs.Walk.{
+  Descends,
+  FitsBy,
+  IsAlive,
+  IsClear,
+  IsComplete,
+  IsOpen,
+  Stands,
+  ahead_of,
+  all_given,
+  all_of,
+  blank,
+  given_by,
+  made_by,
+  reached,
+};
+
+use crate::choices::Choices;
+use crate::cursor::{Cursor, State};
+use crate::levels::{level_below, project, write_choice};
+use crate::places::{Choice, Places};
+use djq_reduct::{Answer, Reducts};
+use djq_steps::Tally;
+use std::sync::ledger::Ledger;
+
+/// Chooses the first tuple at each level below a number.
+fn fill<C: Choices, L: Ledger>(
+    choices: &C,
+    reducts: &Reducts,
+    from: usize,
+    places: &mut Places,
+    answer: &mut Answer,
+    listing: &mut Tally<L>,
+)
+    requires opened { IsOpen reducts.now.tree (C.menu choices.now reducts.now)
+        (levels reducts.now.tree) (blank reducts.now.tree) }
+    requires from { from ≡ reached (length reducts.now.tree.nodes) places.old }
+    requires stands { Stands reducts.now (C.menu choices.now reducts.now) places.old answer.old }
+    ensures stands { Stands reducts.now (C.menu choices.now reducts.now) places.new answer.new }
+    ensures whole { IsComplete reducts.now places.new }
+    ensures before { ahead_of reducts.now (C.menu choices.now reducts.now) places.new
+        ≡ ahead_of reducts.now (C.menu choices.now reducts.now) places.old }
+    ensures counted { listing.new ≡ listing.old + length (levels_below reducts.now.tree from) }
+{
+    reducts.laws();
+    reducts.tree().is_small();
+    let mut number = from;
+    while let Some(level) = level_below(reducts.tree(), number) {
+        let key = project(reducts, level, answer);
+        let Some(place) = choices.first(reducts, level, key.as_slice(), listing) else {
+            return;
+        };
+        let choice = Choice { level, place };
+        write_choice(reducts, choice, answer);
+        places.push(choice);
+        number = level;
+    }
+}
+
+/// Writes the tuples of choices into an answer of which nothing is known.
+fn rewrite(reducts: &Reducts, places: &Places, answer: &mut Answer)
+    requires { All (IsAlive reducts.now) places.now }
+    ensures { answer.new ≡ made_by reducts.now places.now }
+{
+    reducts.laws();
+    *answer = Answer::new(reducts.tree().head().len());
+    for choice in places.as_slice() {
+        write_choice(reducts, *choice, answer);
+    }
+}
+
+/// Goes on to the next answer: the last choice that has a next tuple takes it, and every later one
+/// starts again.
+fn go_on<C: Choices, L: Ledger>(
+    choices: &C,
+    reducts: &Reducts,
+    places: &mut Places,
+    answer: &mut Answer,
+    listing: &mut Tally<L>,
+) -> bool
+    requires once { (k : ℕ) (w : List ℕ) → AreOnce (C.menu choices.now reducts.now k w) }
+    requires opened { IsOpen reducts.now.tree (C.menu choices.now reducts.now)
+        (levels reducts.now.tree) (blank reducts.now.tree) }
+    requires follows { Descends reducts.now (C.menu choices.now reducts.now) places.old }
+    requires whole { IsComplete reducts.now places.old }
+    ensures stands { OnTrue result
+        (Stands reducts.now (C.menu choices.now reducts.now) places.new answer.new) }
+    ensures whole { OnTrue result (IsComplete reducts.now places.new) }
+    ensures before { OnTrue result
+        (ahead_of reducts.now (C.menu choices.now reducts.now) places.new ≡ ahead_of reducts.now
+        (C.menu choices.now reducts.now) places.old ++ made_by reducts.now places.old ∷ []) }
+    ensures all { OnFalse result
+        (all_of reducts.now.tree (C.menu choices.now reducts.now) ≡ ahead_of reducts.now
+        (C.menu choices.now reducts.now) places.old ++ made_by reducts.now places.old ∷ []) }
+    ensures counted { listing.new ≤ listing.old + 2 * length (levels reducts.now.tree) }
+{
+    reducts.laws();
+    reducts.tree().is_small();
+    while let Some(choice) = places.pop() {
+        if let Some(place) = choices.next(reducts, choice, listing) {
+            let next = Choice {
+                level: choice.level,
+                place,
+            };
+            rewrite(reducts, places, answer);
+            write_choice(reducts, next, answer);
+            places.push(next);
+            fill(choices, reducts, next.level, places, answer, listing);
+            return true;
+        }
+    }
+    false
+}
+
+/// Enters a listing, and gives its first answer if there is any.
+fn begin<C: Choices, L: Ledger>(
+    choices: &C,
+    reducts: &Reducts,
+    cursor: &mut Cursor,
+    answer: &mut Answer,
+    listing: &mut Tally<L>,
+) -> bool
+    requires clear { IsClear reducts.now.tree (C.menu choices.now reducts.now)
+        (C.entered choices.now reducts.now) }
+    requires none { cursor.old.places ≡ [] }
+    ensures fits { FitsBy reducts.now (C.menu choices.now reducts.now)
+        (C.entered choices.now reducts.now) cursor.new.state cursor.new.places }
+    ensures one { OnTrue result
+        (given_by reducts.now (C.menu choices.now reducts.now) (C.entered choices.now reducts.now)
+        cursor.new.state cursor.new.places ≡ answer.new ∷ []) }
+    ensures none { OnFalse result
+        (all_given reducts.now (C.menu choices.now reducts.now)
+        (C.entered choices.now reducts.now) ≡ []) }
+    ensures end { OnFalse result (cursor.new.state ≡ State.End) }
+    ensures counted { listing.new ≤ listing.old + length (levels reducts.now.tree) + 1 }
+{
+    reducts.laws();
+    if !choices.enter(reducts, listing) {
+        cursor.state = State::End;
+        return false;
+    }
+    *answer = Answer::new(reducts.tree().head().len());
+    fill(
+        choices,
+        reducts,
+        reducts.tree().len(),
+        &mut cursor.places,
+        answer,
+        listing,
+    );
+    cursor.state = State::At;
+    true
+}
+
+/// Gives one answer more of a listing: true with one that is left, false exactly where none is. It
+/// counts at most two look-ups and links for each variable of the head, and one.
+pub fn advance_by<C: Choices, L: Ledger>(
+    choices: &C,
+    reducts: &Reducts,
+    cursor: &mut Cursor,
+    answer: &mut Answer,
+    listing: &mut Tally<L>,
+) -> bool
+    requires clear { IsClear reducts.now.tree (C.menu choices.now reducts.now)
+        (C.entered choices.now reducts.now) }
+    requires fits { FitsBy reducts.now (C.menu choices.now reducts.now)
+        (C.entered choices.now reducts.now) cursor.old.state cursor.old.places }
+    ensures fits { FitsBy reducts.now (C.menu choices.now reducts.now)
+        (C.entered choices.now reducts.now) cursor.new.state cursor.new.places }
+    ensures one { OnTrue result
+        (given_by reducts.now (C.menu choices.now reducts.now) (C.entered choices.now reducts.now)
+        cursor.new.state cursor.new.places ≡ given_by reducts.now (C.menu choices.now reducts.now)
+        (C.entered choices.now reducts.now) cursor.old.state cursor.old.places ++ answer.new ∷ []) }
+    ensures all { OnFalse result
+        (given_by reducts.now (C.menu choices.now reducts.now) (C.entered choices.now reducts.now)
+        cursor.old.state cursor.old.places ≡ all_given reducts.now (C.menu choices.now reducts.now)
+        (C.entered choices.now reducts.now)) }
+    ensures same { OnFalse result
+        (given_by reducts.now (C.menu choices.now reducts.now) (C.entered choices.now reducts.now)
+        cursor.new.state cursor.new.places ≡ all_given reducts.now (C.menu choices.now reducts.now)
+        (C.entered choices.now reducts.now)) }
+    ensures counted { listing.new ≤ listing.old + (2 * length reducts.now.tree.head + 1) }
+{
+    reducts.tree().is_small();
+    match cursor.state {
+        State::Start => begin(choices, reducts, cursor, answer, listing),
+        State::At => {
+            if go_on(choices, reducts, &mut cursor.places, answer, listing) {
+                return true;
+            }
+            cursor.state = State::End;
+            false
+        }
+        State::End => false,
+    }
+}

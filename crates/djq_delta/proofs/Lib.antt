@@ -1,0 +1,6 @@
+pub mod Paths
+pub mod Parts
+pub mod Marking
+pub mod Telling
+pub mod Backward
+pub mod Told

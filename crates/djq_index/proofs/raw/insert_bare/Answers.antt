@@ -1,0 +1,146 @@
+use Rattle.std.proofs.Common.{refl, sym, subst}
+use Rattle.djq_index.specs.declared.place.Place.{Place}
+use Rattle.djq_index.specs.declared.raw.Raw.{Raw}
+use Rattle.djq_index.specs.Table.{IsAt}
+use Rattle.djq_index.specs.Raw.{entries_of, IsLaid, IsNoted}
+use Rattle.djq_index.proofs.Inserting.{
+  slot_notes,
+  came_bare,
+  came_inserted,
+  came_at,
+  Refuses,
+  refused_bare,
+  refused_entries,
+  on_err_of,
+}
+use Rattle.djq_index.proofs.raw.insert_bare.Goals as goal
+
+pub returns-in_err-slot-clause-raw : goal.returns-in_err-slot-clause-raw
+returns-in_err-slot-clause-raw c =
+    let b : Raw = record {
+      kind = c.args.raw.now.kind;
+      key = c.args.raw.now.key;
+      rows = c.lay.new.rows;
+      notes = c.lay.new.notes;
+      links = c.args.raw.now.links;
+      keys = c.args.raw.now.keys;
+      ends = c.args.raw.now.ends;
+      marked = c.args.raw.now.marked;
+      cells = c.args.raw.now.cells;
+    } in
+    let r : Refuses c.args.raw.now b = record {
+      kind = refl;
+      key = refl;
+      rows_law = c.in_err-slot.ensures.rows;
+      width = c.in_err-slot.ensures.width;
+      rows = c.in_err-slot.ensures.refused;
+      room_notes = c.in_err-slot.ensures.notes;
+      same_notes = c.in_err-slot.ensures.same_notes;
+      marked = refl;
+    } in
+    refused_bare c.args.raw.now b c.requires.raw r
+
+pub returns-in_err-slot-clause-refused : goal.returns-in_err-slot-clause-refused
+returns-in_err-slot-clause-refused c =
+    let b : Raw = record {
+      kind = c.args.raw.now.kind;
+      key = c.args.raw.now.key;
+      rows = c.lay.new.rows;
+      notes = c.lay.new.notes;
+      links = c.args.raw.now.links;
+      keys = c.args.raw.now.keys;
+      ends = c.args.raw.now.ends;
+      marked = c.args.raw.now.marked;
+      cells = c.args.raw.now.cells;
+    } in
+    let r : Refuses c.args.raw.now b = record {
+      kind = refl;
+      key = refl;
+      rows_law = c.in_err-slot.ensures.rows;
+      width = c.in_err-slot.ensures.width;
+      rows = c.in_err-slot.ensures.refused;
+      room_notes = c.in_err-slot.ensures.notes;
+      same_notes = c.in_err-slot.ensures.same_notes;
+      marked = refl;
+    } in
+    on_err_of c.from_residual.result _ (refused_entries c.args.raw.now b r)
+
+pub sign-requires : goal.sign-requires
+sign-requires c =
+    let l : IsLaid c.args.raw.now c.lay.new.rows c.lay.new.notes.items c.in_ok-slot.slot
+    c.args.tuple.now = record {
+      rows_law = c.in_ok-slot.ensures.rows;
+      width = c.in_ok-slot.ensures.width;
+      laid = c.in_ok-slot.ensures.laid;
+      room_notes = c.in_ok-slot.ensures.notes;
+      same_notes = c.in_ok-slot.ensures.same_notes;
+    } in
+    slot_notes c.args.raw.now c.lay.new.rows c.lay.new.notes.items c.in_ok-slot.slot
+    c.args.tuple.now l
+
+pub returns-clause-raw : goal.returns-clause-raw
+returns-clause-raw c =
+    let l : IsLaid c.args.raw.now c.lay.new.rows c.lay.new.notes.items c.in_ok-slot.slot
+    c.args.tuple.now = record {
+      rows_law = c.in_ok-slot.ensures.rows;
+      width = c.in_ok-slot.ensures.width;
+      laid = c.in_ok-slot.ensures.laid;
+      room_notes = c.in_ok-slot.ensures.notes;
+      same_notes = c.in_ok-slot.ensures.same_notes;
+    } in
+    let s = c.sign.ensures.noted in
+    let n : IsNoted c.args.raw.now c.sign.new.raw c.lay.new.rows c.lay.new.notes.items
+    c.in_ok-slot.slot 0 = record {
+      kind = s.kind;
+      key = s.key;
+      rows_are = s.rows_are;
+      notes_are = s.notes_are;
+      marked = s.marked;
+    } in
+    came_bare c.args.raw.now c.sign.new.raw c.lay.new.rows c.lay.new.notes.items
+    c.in_ok-slot.slot 0 c.args.tuple.now c.requires.raw c.requires.absent l n
+
+pub returns-clause-inserted : goal.returns-clause-inserted
+returns-clause-inserted c =
+    let l : IsLaid c.args.raw.now c.lay.new.rows c.lay.new.notes.items c.in_ok-slot.slot
+    c.args.tuple.now = record {
+      rows_law = c.in_ok-slot.ensures.rows;
+      width = c.in_ok-slot.ensures.width;
+      laid = c.in_ok-slot.ensures.laid;
+      room_notes = c.in_ok-slot.ensures.notes;
+      same_notes = c.in_ok-slot.ensures.same_notes;
+    } in
+    let s = c.sign.ensures.noted in
+    let n : IsNoted c.args.raw.now c.sign.new.raw c.lay.new.rows c.lay.new.notes.items
+    c.in_ok-slot.slot 0 = record {
+      kind = s.kind;
+      key = s.key;
+      rows_are = s.rows_are;
+      notes_are = s.notes_are;
+      marked = s.marked;
+    } in
+    came_inserted c.args.raw.now c.sign.new.raw c.lay.new.rows c.lay.new.notes.items
+    c.in_ok-slot.slot 0 c.args.tuple.now c.requires.raw c.requires.absent l n
+
+pub returns-clause-at : goal.returns-clause-at
+returns-clause-at c =
+    let l : IsLaid c.args.raw.now c.lay.new.rows c.lay.new.notes.items c.in_ok-slot.slot
+    c.args.tuple.now = record {
+      rows_law = c.in_ok-slot.ensures.rows;
+      width = c.in_ok-slot.ensures.width;
+      laid = c.in_ok-slot.ensures.laid;
+      room_notes = c.in_ok-slot.ensures.notes;
+      same_notes = c.in_ok-slot.ensures.same_notes;
+    } in
+    let s = c.sign.ensures.noted in
+    let n : IsNoted c.args.raw.now c.sign.new.raw c.lay.new.rows c.lay.new.notes.items
+    c.in_ok-slot.slot 0 = record {
+      kind = s.kind;
+      key = s.key;
+      rows_are = s.rows_are;
+      notes_are = s.notes_are;
+      marked = s.marked;
+    } in
+    subst (λ (p : Place). IsAt (entries_of c.sign.new.raw) p c.args.tuple.now) (sym c.new.ensures)
+    (came_at c.args.raw.now c.sign.new.raw c.lay.new.rows c.lay.new.notes.items
+    c.in_ok-slot.slot 0 c.args.tuple.now c.requires.raw c.requires.absent l n)

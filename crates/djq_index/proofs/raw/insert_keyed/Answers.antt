@@ -1,0 +1,440 @@
+use Rattle.std.proofs.Common.{[], refl, sym, ◌∙◌, subst, ℕ, List}
+use Rattle.std.proofs.lemmas.List.{append-nil}
+use Rattle.djq_index.specs.declared.place.Place.{Place}
+use Rattle.djq_index.specs.declared.raw.Raw.{Raw}
+use Rattle.djq_index.specs.Tuple.{pick}
+use Rattle.djq_index.specs.Table.{IsAt}
+use Rattle.djq_index.specs.Raw.{entries_of, IsLaid, IsReady, IsNoted, IsSeat}
+use Rattle.djq_index.proofs.Inserting.{
+  slot_notes,
+  slot_links,
+  slot_number,
+  head_ends,
+  last_links,
+  came_bare,
+  came_heads,
+  came_inserted,
+  came_at,
+  Refuses,
+  RefusesHead,
+  refused_bare,
+  refused_heads,
+  refused_entries,
+  on_err_of,
+}
+use Rattle.djq_index.proofs.raw.insert_keyed.Goals as goal
+
+pub returns-in_err-slot-clause-raw : goal.returns-in_err-slot-clause-raw
+returns-in_err-slot-clause-raw c =
+    let b : Raw = record {
+      kind = c.args.raw.now.kind;
+      key = c.args.raw.now.key;
+      rows = c.lay_linked.new.rows;
+      notes = c.lay_linked.new.notes;
+      links = c.lay_linked.new.links;
+      keys = c.args.raw.now.keys;
+      ends = c.args.raw.now.ends;
+      marked = c.args.raw.now.marked;
+      cells = c.args.raw.now.cells;
+    } in
+    let r : Refuses c.args.raw.now b = record {
+      kind = refl;
+      key = refl;
+      rows_law = c.in_err-slot.ensures.rows;
+      width = c.in_err-slot.ensures.width;
+      rows = c.in_err-slot.ensures.refused;
+      room_notes = c.in_err-slot.ensures.notes;
+      same_notes = c.in_err-slot.ensures.same_notes;
+      marked = refl;
+    } in
+    refused_bare c.args.raw.now b c.requires.raw r
+
+pub returns-in_err-slot-clause-heads : goal.returns-in_err-slot-clause-heads
+returns-in_err-slot-clause-heads c =
+    let b : Raw = record {
+      kind = c.args.raw.now.kind;
+      key = c.args.raw.now.key;
+      rows = c.lay_linked.new.rows;
+      notes = c.lay_linked.new.notes;
+      links = c.lay_linked.new.links;
+      keys = c.args.raw.now.keys;
+      ends = c.args.raw.now.ends;
+      marked = c.args.raw.now.marked;
+      cells = c.args.raw.now.cells;
+    } in
+    let r : Refuses c.args.raw.now b = record {
+      kind = refl;
+      key = refl;
+      rows_law = c.in_err-slot.ensures.rows;
+      width = c.in_err-slot.ensures.width;
+      rows = c.in_err-slot.ensures.refused;
+      room_notes = c.in_err-slot.ensures.notes;
+      same_notes = c.in_err-slot.ensures.same_notes;
+      marked = refl;
+    } in
+    let h : RefusesHead c.args.raw.now b = record {
+      room_links = c.in_err-slot.ensures.links;
+      same_links = c.in_err-slot.ensures.same_links;
+      keys_law = c.requires.heads.keys;
+      keys_width = refl;
+      keys = refl;
+      room_ends = c.requires.heads.ends;
+      same_ends =
+          (λ k. refl);
+    } in
+    refused_heads c.args.raw.now b c.requires.heads r h
+
+pub returns-in_err-slot-clause-refused : goal.returns-in_err-slot-clause-refused
+returns-in_err-slot-clause-refused c =
+    let b : Raw = record {
+      kind = c.args.raw.now.kind;
+      key = c.args.raw.now.key;
+      rows = c.lay_linked.new.rows;
+      notes = c.lay_linked.new.notes;
+      links = c.lay_linked.new.links;
+      keys = c.args.raw.now.keys;
+      ends = c.args.raw.now.ends;
+      marked = c.args.raw.now.marked;
+      cells = c.args.raw.now.cells;
+    } in
+    let r : Refuses c.args.raw.now b = record {
+      kind = refl;
+      key = refl;
+      rows_law = c.in_err-slot.ensures.rows;
+      width = c.in_err-slot.ensures.width;
+      rows = c.in_err-slot.ensures.refused;
+      room_notes = c.in_err-slot.ensures.notes;
+      same_notes = c.in_err-slot.ensures.same_notes;
+      marked = refl;
+    } in
+    on_err_of c.from_residual.result _ (refused_entries c.args.raw.now b r)
+
+pub returns-in-Err-clause-raw : goal.returns-in-Err-clause-raw
+returns-in-Err-clause-raw c =
+    let b : Raw = record {
+      kind = c.args.raw.now.kind;
+      key = c.args.raw.now.key;
+      rows = c.withdraw.new.rows;
+      notes = c.lay_linked.new.notes;
+      links = c.lay_linked.new.links;
+      keys = c.seat.new.keys;
+      ends = c.seat.new.ends;
+      marked = c.args.raw.now.marked;
+      cells = c.seat.new.cells;
+    } in
+    let r : Refuses c.args.raw.now b = record {
+      kind = refl;
+      key = refl;
+      rows_law = c.withdraw.ensures.rows;
+      width = c.withdraw.ensures.width
+          ∙ c.in_ok-slot.ensures.width;
+      rows = c.withdraw.ensures.removed c.args.raw.now.rows.rows
+          (record {
+            slot = c.in_ok-slot.slot;
+            cells = c.args.tuple.now;
+          }) [] c.in_ok-slot.ensures.laid refl
+          ∙ append-nil c.args.raw.now.rows.rows;
+      room_notes = rw c.withdraw.ensures.room c.in_ok-slot.ensures.notes;
+      same_notes = c.in_ok-slot.ensures.same_notes;
+      marked = refl;
+    } in
+    refused_bare c.args.raw.now b c.requires.raw r
+
+pub returns-in-Err-clause-heads : goal.returns-in-Err-clause-heads
+returns-in-Err-clause-heads c =
+    let b : Raw = record {
+      kind = c.args.raw.now.kind;
+      key = c.args.raw.now.key;
+      rows = c.withdraw.new.rows;
+      notes = c.lay_linked.new.notes;
+      links = c.lay_linked.new.links;
+      keys = c.seat.new.keys;
+      ends = c.seat.new.ends;
+      marked = c.args.raw.now.marked;
+      cells = c.seat.new.cells;
+    } in
+    let r : Refuses c.args.raw.now b = record {
+      kind = refl;
+      key = refl;
+      rows_law = c.withdraw.ensures.rows;
+      width = c.withdraw.ensures.width
+          ∙ c.in_ok-slot.ensures.width;
+      rows = c.withdraw.ensures.removed c.args.raw.now.rows.rows
+          (record {
+            slot = c.in_ok-slot.slot;
+            cells = c.args.tuple.now;
+          }) [] c.in_ok-slot.ensures.laid refl
+          ∙ append-nil c.args.raw.now.rows.rows;
+      room_notes = rw c.withdraw.ensures.room c.in_ok-slot.ensures.notes;
+      same_notes = c.in_ok-slot.ensures.same_notes;
+      marked = refl;
+    } in
+    let h : RefusesHead c.args.raw.now b = record {
+      room_links = rw c.withdraw.ensures.room
+          c.in_ok-slot.ensures.links;
+      same_links = c.in_ok-slot.ensures.same_links;
+      keys_law = c.in-Err.ensures.rows;
+      keys_width = c.in-Err.ensures.width;
+      keys = c.in-Err.ensures.refused;
+      room_ends = c.in-Err.ensures.ends;
+      same_ends = c.in-Err.ensures.refused_ends;
+    } in
+    refused_heads c.args.raw.now b c.requires.heads r h
+
+pub returns-in-Err-clause-refused : goal.returns-in-Err-clause-refused
+returns-in-Err-clause-refused c =
+    let b : Raw = record {
+      kind = c.args.raw.now.kind;
+      key = c.args.raw.now.key;
+      rows = c.withdraw.new.rows;
+      notes = c.lay_linked.new.notes;
+      links = c.lay_linked.new.links;
+      keys = c.seat.new.keys;
+      ends = c.seat.new.ends;
+      marked = c.args.raw.now.marked;
+      cells = c.seat.new.cells;
+    } in
+    let r : Refuses c.args.raw.now b = record {
+      kind = refl;
+      key = refl;
+      rows_law = c.withdraw.ensures.rows;
+      width = c.withdraw.ensures.width
+          ∙ c.in_ok-slot.ensures.width;
+      rows = c.withdraw.ensures.removed c.args.raw.now.rows.rows
+          (record {
+            slot = c.in_ok-slot.slot;
+            cells = c.args.tuple.now;
+          }) [] c.in_ok-slot.ensures.laid refl
+          ∙ append-nil c.args.raw.now.rows.rows;
+      room_notes = rw c.withdraw.ensures.room c.in_ok-slot.ensures.notes;
+      same_notes = c.in_ok-slot.ensures.same_notes;
+      marked = refl;
+    } in
+    refused_entries c.args.raw.now b r
+
+pub settle-requires-clause-notes : goal.settle-requires-clause-notes
+settle-requires-clause-notes c =
+    let l : IsLaid c.args.raw.now c.lay_linked.new.rows c.lay_linked.new.notes.items
+    c.in_ok-slot.slot c.args.tuple.now = record {
+      rows_law = c.in_ok-slot.ensures.rows;
+      width = c.in_ok-slot.ensures.width;
+      laid = c.in_ok-slot.ensures.laid;
+      room_notes = c.in_ok-slot.ensures.notes;
+      same_notes = c.in_ok-slot.ensures.same_notes;
+    } in
+    slot_notes c.args.raw.now c.lay_linked.new.rows c.lay_linked.new.notes.items c.in_ok-slot.slot
+    c.args.tuple.now l
+
+pub settle-requires-clause-links : goal.settle-requires-clause-links
+settle-requires-clause-links c =
+    let l : IsLaid c.args.raw.now c.lay_linked.new.rows c.lay_linked.new.notes.items
+    c.in_ok-slot.slot c.args.tuple.now = record {
+      rows_law = c.in_ok-slot.ensures.rows;
+      width = c.in_ok-slot.ensures.width;
+      laid = c.in_ok-slot.ensures.laid;
+      room_notes = c.in_ok-slot.ensures.notes;
+      same_notes = c.in_ok-slot.ensures.same_notes;
+    } in
+    let r : IsReady c.args.raw.now c.lay_linked.new.rows c.lay_linked.new.notes.items
+    c.lay_linked.new.links.items c.seat.new.keys c.seat.new.ends.items c.in_ok-slot.slot
+    c.in-Ok.head c.args.tuple.now = record {
+      laid = l;
+      room_links = c.in_ok-slot.ensures.links;
+      same_links = c.in_ok-slot.ensures.same_links;
+      longer = c.in_ok-slot.ensures.longer;
+      keys_law = c.in-Ok.ensures.rows;
+      keys_width = c.in-Ok.ensures.width;
+      room_ends = c.in-Ok.ensures.ends;
+      seat = subst (λ (key : List ℕ). IsSeat c.args.raw.now.keys.rows c.seat.new.keys.rows
+          c.args.raw.now.ends.items c.seat.new.ends.items c.in-Ok.head
+          (pick key c.args.tuple.now)) c.as_slice.ensures.value c.in-Ok.ensures.seated;
+    } in
+    slot_links c.args.raw.now c.lay_linked.new.rows c.lay_linked.new.notes.items
+    c.lay_linked.new.links.items c.seat.new.keys c.seat.new.ends.items c.in_ok-slot.slot
+    c.in-Ok.head c.args.tuple.now c.requires.heads r
+
+pub settle-requires-clause-number : goal.settle-requires-clause-number
+settle-requires-clause-number c =
+    let l : IsLaid c.args.raw.now c.lay_linked.new.rows c.lay_linked.new.notes.items
+    c.in_ok-slot.slot c.args.tuple.now = record {
+      rows_law = c.in_ok-slot.ensures.rows;
+      width = c.in_ok-slot.ensures.width;
+      laid = c.in_ok-slot.ensures.laid;
+      room_notes = c.in_ok-slot.ensures.notes;
+      same_notes = c.in_ok-slot.ensures.same_notes;
+    } in
+    slot_number c.args.raw.now c.lay_linked.new.rows c.lay_linked.new.notes.items
+    c.in_ok-slot.slot c.args.tuple.now l
+
+pub settle-requires-clause-head : goal.settle-requires-clause-head
+settle-requires-clause-head c =
+    let l : IsLaid c.args.raw.now c.lay_linked.new.rows c.lay_linked.new.notes.items
+    c.in_ok-slot.slot c.args.tuple.now = record {
+      rows_law = c.in_ok-slot.ensures.rows;
+      width = c.in_ok-slot.ensures.width;
+      laid = c.in_ok-slot.ensures.laid;
+      room_notes = c.in_ok-slot.ensures.notes;
+      same_notes = c.in_ok-slot.ensures.same_notes;
+    } in
+    let r : IsReady c.args.raw.now c.lay_linked.new.rows c.lay_linked.new.notes.items
+    c.lay_linked.new.links.items c.seat.new.keys c.seat.new.ends.items c.in_ok-slot.slot
+    c.in-Ok.head c.args.tuple.now = record {
+      laid = l;
+      room_links = c.in_ok-slot.ensures.links;
+      same_links = c.in_ok-slot.ensures.same_links;
+      longer = c.in_ok-slot.ensures.longer;
+      keys_law = c.in-Ok.ensures.rows;
+      keys_width = c.in-Ok.ensures.width;
+      room_ends = c.in-Ok.ensures.ends;
+      seat = subst (λ (key : List ℕ). IsSeat c.args.raw.now.keys.rows c.seat.new.keys.rows
+          c.args.raw.now.ends.items c.seat.new.ends.items c.in-Ok.head
+          (pick key c.args.tuple.now)) c.as_slice.ensures.value c.in-Ok.ensures.seated;
+    } in
+    head_ends c.args.raw.now c.lay_linked.new.rows c.lay_linked.new.notes.items
+    c.lay_linked.new.links.items c.seat.new.keys c.seat.new.ends.items c.in_ok-slot.slot
+    c.in-Ok.head c.args.tuple.now c.requires.heads r
+
+pub settle-requires-clause-last : goal.settle-requires-clause-last
+settle-requires-clause-last c =
+    let l : IsLaid c.args.raw.now c.lay_linked.new.rows c.lay_linked.new.notes.items
+    c.in_ok-slot.slot c.args.tuple.now = record {
+      rows_law = c.in_ok-slot.ensures.rows;
+      width = c.in_ok-slot.ensures.width;
+      laid = c.in_ok-slot.ensures.laid;
+      room_notes = c.in_ok-slot.ensures.notes;
+      same_notes = c.in_ok-slot.ensures.same_notes;
+    } in
+    let r : IsReady c.args.raw.now c.lay_linked.new.rows c.lay_linked.new.notes.items
+    c.lay_linked.new.links.items c.seat.new.keys c.seat.new.ends.items c.in_ok-slot.slot
+    c.in-Ok.head c.args.tuple.now = record {
+      laid = l;
+      room_links = c.in_ok-slot.ensures.links;
+      same_links = c.in_ok-slot.ensures.same_links;
+      longer = c.in_ok-slot.ensures.longer;
+      keys_law = c.in-Ok.ensures.rows;
+      keys_width = c.in-Ok.ensures.width;
+      room_ends = c.in-Ok.ensures.ends;
+      seat = subst (λ (key : List ℕ). IsSeat c.args.raw.now.keys.rows c.seat.new.keys.rows
+          c.args.raw.now.ends.items c.seat.new.ends.items c.in-Ok.head
+          (pick key c.args.tuple.now)) c.as_slice.ensures.value c.in-Ok.ensures.seated;
+    } in
+    last_links c.args.raw.now c.lay_linked.new.rows c.lay_linked.new.notes.items
+    c.lay_linked.new.links.items c.seat.new.keys c.seat.new.ends.items c.in_ok-slot.slot
+    c.in-Ok.head c.args.tuple.now c.requires.heads r
+
+pub returns-in-Ok-clause-raw : goal.returns-in-Ok-clause-raw
+returns-in-Ok-clause-raw c =
+    let l : IsLaid c.args.raw.now c.lay_linked.new.rows c.lay_linked.new.notes.items
+    c.in_ok-slot.slot c.args.tuple.now = record {
+      rows_law = c.in_ok-slot.ensures.rows;
+      width = c.in_ok-slot.ensures.width;
+      laid = c.in_ok-slot.ensures.laid;
+      room_notes = c.in_ok-slot.ensures.notes;
+      same_notes = c.in_ok-slot.ensures.same_notes;
+    } in
+    let s = c.settle.ensures.settled in
+    let n : IsNoted c.args.raw.now c.settle.new.raw c.lay_linked.new.rows
+    c.lay_linked.new.notes.items c.in_ok-slot.slot c.in-Ok.head =
+    record {
+      kind = s.noted.kind;
+      key = s.noted.key;
+      rows_are = s.noted.rows_are;
+      notes_are = s.noted.notes_are;
+      marked = s.noted.marked;
+    } in
+    came_bare c.args.raw.now c.settle.new.raw c.lay_linked.new.rows c.lay_linked.new.notes.items
+    c.in_ok-slot.slot c.in-Ok.head c.args.tuple.now c.requires.raw c.requires.absent l n
+
+pub returns-in-Ok-clause-heads : goal.returns-in-Ok-clause-heads
+returns-in-Ok-clause-heads c =
+    let l : IsLaid c.args.raw.now c.lay_linked.new.rows c.lay_linked.new.notes.items
+    c.in_ok-slot.slot c.args.tuple.now = record {
+      rows_law = c.in_ok-slot.ensures.rows;
+      width = c.in_ok-slot.ensures.width;
+      laid = c.in_ok-slot.ensures.laid;
+      room_notes = c.in_ok-slot.ensures.notes;
+      same_notes = c.in_ok-slot.ensures.same_notes;
+    } in
+    let r : IsReady c.args.raw.now c.lay_linked.new.rows c.lay_linked.new.notes.items
+    c.lay_linked.new.links.items c.seat.new.keys c.seat.new.ends.items c.in_ok-slot.slot
+    c.in-Ok.head c.args.tuple.now = record {
+      laid = l;
+      room_links = c.in_ok-slot.ensures.links;
+      same_links = c.in_ok-slot.ensures.same_links;
+      longer = c.in_ok-slot.ensures.longer;
+      keys_law = c.in-Ok.ensures.rows;
+      keys_width = c.in-Ok.ensures.width;
+      room_ends = c.in-Ok.ensures.ends;
+      seat = subst (λ (key : List ℕ). IsSeat c.args.raw.now.keys.rows c.seat.new.keys.rows
+          c.args.raw.now.ends.items c.seat.new.ends.items c.in-Ok.head
+          (pick key c.args.tuple.now)) c.as_slice.ensures.value c.in-Ok.ensures.seated;
+    } in
+    let s = c.settle.ensures.settled in
+    let n : IsNoted c.args.raw.now c.settle.new.raw c.lay_linked.new.rows
+    c.lay_linked.new.notes.items c.in_ok-slot.slot c.in-Ok.head =
+    record {
+      kind = s.noted.kind;
+      key = s.noted.key;
+      rows_are = s.noted.rows_are;
+      notes_are = s.noted.notes_are;
+      marked = s.noted.marked;
+    } in
+    came_heads c.args.raw.now c.settle.new.raw c.lay_linked.new.rows c.lay_linked.new.notes.items
+    c.lay_linked.new.links.items c.seat.new.keys c.seat.new.ends.items c.in_ok-slot.slot
+    c.in-Ok.head c.args.tuple.now c.requires.raw c.requires.heads c.requires.absent r
+    (record {
+      noted = n;
+      links_are = s.links_are;
+      keys_are = s.keys_are;
+      ends_are = s.ends_are;
+    })
+
+pub returns-in-Ok-clause-inserted : goal.returns-in-Ok-clause-inserted
+returns-in-Ok-clause-inserted c =
+    let l : IsLaid c.args.raw.now c.lay_linked.new.rows c.lay_linked.new.notes.items
+    c.in_ok-slot.slot c.args.tuple.now = record {
+      rows_law = c.in_ok-slot.ensures.rows;
+      width = c.in_ok-slot.ensures.width;
+      laid = c.in_ok-slot.ensures.laid;
+      room_notes = c.in_ok-slot.ensures.notes;
+      same_notes = c.in_ok-slot.ensures.same_notes;
+    } in
+    let s = c.settle.ensures.settled in
+    let n : IsNoted c.args.raw.now c.settle.new.raw c.lay_linked.new.rows
+    c.lay_linked.new.notes.items c.in_ok-slot.slot c.in-Ok.head =
+    record {
+      kind = s.noted.kind;
+      key = s.noted.key;
+      rows_are = s.noted.rows_are;
+      notes_are = s.noted.notes_are;
+      marked = s.noted.marked;
+    } in
+    came_inserted c.args.raw.now c.settle.new.raw c.lay_linked.new.rows
+    c.lay_linked.new.notes.items c.in_ok-slot.slot c.in-Ok.head c.args.tuple.now
+    c.requires.raw c.requires.absent l n
+
+pub returns-in-Ok-clause-at : goal.returns-in-Ok-clause-at
+returns-in-Ok-clause-at c =
+    let l : IsLaid c.args.raw.now c.lay_linked.new.rows c.lay_linked.new.notes.items
+    c.in_ok-slot.slot c.args.tuple.now = record {
+      rows_law = c.in_ok-slot.ensures.rows;
+      width = c.in_ok-slot.ensures.width;
+      laid = c.in_ok-slot.ensures.laid;
+      room_notes = c.in_ok-slot.ensures.notes;
+      same_notes = c.in_ok-slot.ensures.same_notes;
+    } in
+    let s = c.settle.ensures.settled in
+    let n : IsNoted c.args.raw.now c.settle.new.raw c.lay_linked.new.rows
+    c.lay_linked.new.notes.items c.in_ok-slot.slot c.in-Ok.head =
+    record {
+      kind = s.noted.kind;
+      key = s.noted.key;
+      rows_are = s.noted.rows_are;
+      notes_are = s.noted.notes_are;
+      marked = s.noted.marked;
+    } in
+    subst (λ (p : Place). IsAt (entries_of c.settle.new.raw) p c.args.tuple.now)
+    (sym c.new.ensures)
+    (came_at c.args.raw.now c.settle.new.raw c.lay_linked.new.rows
+    c.lay_linked.new.notes.items c.in_ok-slot.slot c.in-Ok.head c.args.tuple.now
+    c.requires.raw c.requires.absent l n)

@@ -1,0 +1,63 @@
+use Rattle.std.proofs.Common.{refl}
+use Rattle.djq_index.specs.declared.raw.Raw.{Raw}
+use Rattle.djq_index.proofs.Leaving.{
+  find_row,
+  its_held,
+  Leaves,
+  gone_bare,
+  gone_removed,
+  leaves_from,
+}
+use Rattle.djq_index.proofs.raw.remove_bare.Goals as goal
+
+pub next-requires : goal.next-requires
+next-requires c =
+    let f = find_row c.args.raw.now c.args.place c.requires.live.tuple c.requires.live.is_at in
+    rw c.slot-slot.ensures
+    (its_held c.args.raw.now c.args.place c.requires.live.tuple c.requires.raw f)
+
+pub withdraw-requires : goal.withdraw-requires
+withdraw-requires c =
+    let f = find_row c.args.raw.now c.args.place c.requires.live.tuple c.requires.live.is_at in
+    rw c.slot-slot.ensures
+    (its_held c.args.raw.now c.args.place c.requires.live.tuple c.requires.raw f)
+
+pub returns-clause-raw : goal.returns-clause-raw
+returns-clause-raw c =
+    let f = find_row c.args.raw.now c.args.place c.requires.live.tuple c.requires.live.is_at in
+    let b : Raw = record {
+      kind = c.args.raw.now.kind;
+      key = c.args.raw.now.key;
+      rows = c.withdraw.new.rows;
+      notes = c.args.raw.now.notes;
+      links = c.args.raw.now.links;
+      keys = c.args.raw.now.keys;
+      ends = c.args.raw.now.ends;
+      marked = c.pass-raw.result;
+      cells = c.args.raw.now.cells;
+    } in
+    let l : Leaves c.args.raw.now b c.args.place.slot c.next.result = leaves_from c.args.raw.now b
+    c.args.place.slot c.slot-slot.result c.next.result c.slot-slot.ensures refl refl
+    c.withdraw.ensures.rows c.withdraw.ensures.width c.withdraw.ensures.room
+    c.withdraw.ensures.removed refl c.pass-raw.ensures c.next.ensures in
+    gone_bare c.args.raw.now b c.args.place c.requires.live.tuple c.next.result c.requires.raw f l
+
+pub returns-clause-removed : goal.returns-clause-removed
+returns-clause-removed c = λ u at.
+    let f = find_row c.args.raw.now c.args.place u at in
+    let b : Raw = record {
+      kind = c.args.raw.now.kind;
+      key = c.args.raw.now.key;
+      rows = c.withdraw.new.rows;
+      notes = c.args.raw.now.notes;
+      links = c.args.raw.now.links;
+      keys = c.args.raw.now.keys;
+      ends = c.args.raw.now.ends;
+      marked = c.pass-raw.result;
+      cells = c.args.raw.now.cells;
+    } in
+    let l : Leaves c.args.raw.now b c.args.place.slot c.next.result = leaves_from c.args.raw.now b
+    c.args.place.slot c.slot-slot.result c.next.result c.slot-slot.ensures refl refl
+    c.withdraw.ensures.rows c.withdraw.ensures.width c.withdraw.ensures.room
+    c.withdraw.ensures.removed refl c.pass-raw.ensures c.next.ensures in
+    gone_removed c.args.raw.now b c.args.place u c.next.result c.requires.raw f l

@@ -1,0 +1,163 @@
+use Rattle.std.proofs.Common.{◌≡◌, refl, ◌∙◌, ap, arith, length-set}
+use Rattle.djq_index.specs.declared.raw.Note.{Note}
+use Rattle.djq_index.specs.declared.raw.Raw.{Raw}
+use Rattle.djq_index.specs.Raw.{note_at}
+use Rattle.djq_index.proofs.Leaving.{
+  find_row,
+  its_held,
+  its_room,
+  its_head_held,
+  its_head_room,
+  its_prev_within,
+  its_next_within,
+  Leaves,
+  gone_bare,
+  gone_heads,
+  gone_removed,
+  leaves_from,
+  goes_from,
+}
+use Rattle.djq_index.proofs.raw.remove_keyed.Goals as goal
+
+pub note_of-head-requires : goal.note_of-head-requires
+note_of-head-requires c =
+    let f = find_row c.args.raw.now c.args.place c.requires.live.tuple c.requires.live.is_at in
+    rw c.slot-slot.ensures (omega (
+      arith,
+      its_room c.args.raw.now c.args.place c.requires.live.tuple c.requires.raw f,
+      c.requires.raw.notes,
+    ))
+
+pub next-requires : goal.next-requires
+next-requires c =
+    let f = find_row c.args.raw.now c.args.place c.requires.live.tuple c.requires.live.is_at in
+    rw c.slot-slot.ensures
+    (its_held c.args.raw.now c.args.place c.requires.live.tuple c.requires.raw f)
+
+pub part-requires-clause-slot : goal.part-requires-clause-slot
+part-requires-clause-slot c =
+    let f = find_row c.args.raw.now c.args.place c.requires.live.tuple c.requires.live.is_at in
+    rw c.slot-slot.ensures (omega (
+      arith,
+      its_room c.args.raw.now c.args.place c.requires.live.tuple c.requires.raw f,
+      c.requires.heads.links,
+    ))
+
+pub part-requires-clause-head : goal.part-requires-clause-head
+part-requires-clause-head c =
+    let f = find_row c.args.raw.now c.args.place c.requires.live.tuple c.requires.live.is_at in
+    let h : c.note_of-head.result.head ≡
+    (note_at c.args.raw.now.notes.items c.args.place.slot).head = ap (λ (n : Note). n.head)
+    (c.note_of-head.ensures ∙ ap (note_at c.args.raw.now.notes.items) c.slot-slot.ensures) in
+    rw h (its_head_room c.args.raw.now c.args.place c.requires.live.tuple c.requires.raw
+    c.requires.heads f)
+
+pub part-requires-clause-prev : goal.part-requires-clause-prev
+part-requires-clause-prev c =
+    let f = find_row c.args.raw.now c.args.place c.requires.live.tuple c.requires.live.is_at in
+    rw c.slot-slot.ensures
+    (its_prev_within c.args.raw.now c.args.place c.requires.live.tuple c.requires.raw
+    c.requires.heads f)
+
+pub part-requires-clause-next : goal.part-requires-clause-next
+part-requires-clause-next c =
+    let f = find_row c.args.raw.now c.args.place c.requires.live.tuple c.requires.live.is_at in
+    rw c.slot-slot.ensures
+    (its_next_within c.args.raw.now c.args.place c.requires.live.tuple c.requires.raw
+    c.requires.heads f)
+
+pub prune-requires-clause-held : goal.prune-requires-clause-held
+prune-requires-clause-held c =
+    let f = find_row c.args.raw.now c.args.place c.requires.live.tuple c.requires.live.is_at in
+    let h : c.note_of-head.result.head ≡
+    (note_at c.args.raw.now.notes.items c.args.place.slot).head = ap (λ (n : Note). n.head)
+    (c.note_of-head.ensures ∙ ap (note_at c.args.raw.now.notes.items) c.slot-slot.ensures) in
+    rw h (its_head_held c.args.raw.now c.args.place c.requires.live.tuple c.requires.raw
+    c.requires.heads f)
+
+pub prune-requires-clause-head : goal.prune-requires-clause-head
+prune-requires-clause-head c =
+    let f = find_row c.args.raw.now c.args.place c.requires.live.tuple c.requires.live.is_at in
+    let h : c.note_of-head.result.head ≡
+    (note_at c.args.raw.now.notes.items c.args.place.slot).head = ap (λ (n : Note). n.head)
+    (c.note_of-head.ensures ∙ ap (note_at c.args.raw.now.notes.items) c.slot-slot.ensures) in
+    rw (c.part.ensures.ends, length-set, h)
+    (its_head_room c.args.raw.now c.args.place c.requires.live.tuple c.requires.raw
+    c.requires.heads f)
+
+pub withdraw-requires : goal.withdraw-requires
+withdraw-requires c =
+    let f = find_row c.args.raw.now c.args.place c.requires.live.tuple c.requires.live.is_at in
+    rw c.slot-slot.ensures
+    (its_held c.args.raw.now c.args.place c.requires.live.tuple c.requires.raw f)
+
+pub returns-clause-raw : goal.returns-clause-raw
+returns-clause-raw c =
+    let f = find_row c.args.raw.now c.args.place c.requires.live.tuple c.requires.live.is_at in
+    let h : c.note_of-head.result.head ≡
+    (note_at c.args.raw.now.notes.items c.args.place.slot).head = ap (λ (n : Note). n.head)
+    (c.note_of-head.ensures ∙ ap (note_at c.args.raw.now.notes.items) c.slot-slot.ensures) in
+    let b : Raw = record {
+      kind = c.args.raw.now.kind;
+      key = c.args.raw.now.key;
+      rows = c.withdraw.new.rows;
+      notes = c.args.raw.now.notes;
+      links = c.part.new.links;
+      keys = c.prune.new.keys;
+      ends = c.part.new.ends;
+      marked = c.pass-raw.result;
+      cells = c.args.raw.now.cells;
+    } in
+    let l : Leaves c.args.raw.now b c.args.place.slot c.next.result = leaves_from c.args.raw.now b
+    c.args.place.slot c.slot-slot.result c.next.result c.slot-slot.ensures refl refl
+    c.withdraw.ensures.rows c.withdraw.ensures.width c.withdraw.ensures.room
+    c.withdraw.ensures.removed refl c.pass-raw.ensures c.next.ensures in
+    gone_bare c.args.raw.now b c.args.place c.requires.live.tuple c.next.result c.requires.raw f l
+
+pub returns-clause-heads : goal.returns-clause-heads
+returns-clause-heads c =
+    let f = find_row c.args.raw.now c.args.place c.requires.live.tuple c.requires.live.is_at in
+    let h : c.note_of-head.result.head ≡
+    (note_at c.args.raw.now.notes.items c.args.place.slot).head = ap (λ (n : Note). n.head)
+    (c.note_of-head.ensures ∙ ap (note_at c.args.raw.now.notes.items) c.slot-slot.ensures) in
+    let b : Raw = record {
+      kind = c.args.raw.now.kind;
+      key = c.args.raw.now.key;
+      rows = c.withdraw.new.rows;
+      notes = c.args.raw.now.notes;
+      links = c.part.new.links;
+      keys = c.prune.new.keys;
+      ends = c.part.new.ends;
+      marked = c.pass-raw.result;
+      cells = c.args.raw.now.cells;
+    } in
+    let l : Leaves c.args.raw.now b c.args.place.slot c.next.result = leaves_from c.args.raw.now b
+    c.args.place.slot c.slot-slot.result c.next.result c.slot-slot.ensures refl refl
+    c.withdraw.ensures.rows c.withdraw.ensures.width c.withdraw.ensures.room
+    c.withdraw.ensures.removed refl c.pass-raw.ensures c.next.ensures in
+    gone_heads c.args.raw.now b c.args.place c.requires.live.tuple c.next.result c.requires.raw
+    c.requires.heads f
+    (goes_from c.args.raw.now b c.args.place.slot c.slot-slot.result
+    c.note_of-head.result.head c.next.result c.slot-slot.ensures h l c.part.ensures.links
+    c.part.ensures.ends c.prune.ensures.rows c.prune.ensures.width c.prune.ensures.room
+    c.prune.ensures.emptied c.prune.ensures.kept)
+
+pub returns-clause-removed : goal.returns-clause-removed
+returns-clause-removed c = λ u at.
+    let f = find_row c.args.raw.now c.args.place u at in
+    let b : Raw = record {
+      kind = c.args.raw.now.kind;
+      key = c.args.raw.now.key;
+      rows = c.withdraw.new.rows;
+      notes = c.args.raw.now.notes;
+      links = c.part.new.links;
+      keys = c.prune.new.keys;
+      ends = c.part.new.ends;
+      marked = c.pass-raw.result;
+      cells = c.args.raw.now.cells;
+    } in
+    let l : Leaves c.args.raw.now b c.args.place.slot c.next.result = leaves_from c.args.raw.now b
+    c.args.place.slot c.slot-slot.result c.next.result c.slot-slot.ensures refl refl
+    c.withdraw.ensures.rows c.withdraw.ensures.width c.withdraw.ensures.room
+    c.withdraw.ensures.removed refl c.pass-raw.ensures c.next.ensures in
+    gone_removed c.args.raw.now b c.args.place u c.next.result c.requires.raw f l

@@ -1,0 +1,128 @@
+ghost use Rattle.std.specs.Prelude.{◌≡◌, ◌≤◌, ◌<◌, [], ◌∷◌, ◌++◌, length, replicate, slice_set};
+ghost use Rattle.djq_index.specs.Tuple.{pick};
+ghost use Rattle.djq_index.specs.Table.{AreColumns};
+
+use std::marker::Model;
+
+/// How many cells there is room for.
+pub const CELLS: usize = 16;
+
+/// The cells of a tuple, which stand inline, so that they take no memory.
+#[derive(Debug, Drop)]
+pub struct Cells {
+    cells: [u64; CELLS],
+    len: usize,
+}
+
+impl Model for Cells {
+    ghost use Rattle.std.specs.Prelude.{List, ℕ};
+
+    ghost Value = { List ℕ };
+
+    ghost use Rattle.std.specs.Prelude.{◌≤◌, take};
+
+    ghost view = { λ a. take a.len a.cells };
+
+    ghost invariant = { λ a. a.len ≤ 16 };
+}
+
+impl Cells {
+    /// This many cells, all zero.
+    pub fn new(len: usize) -> Cells
+        requires { len ≤ 16 }
+        ensures { result ≡ replicate len 0 }
+    {
+        Cells {
+            cells: [0; CELLS],
+            len,
+        }
+    }
+
+    /// How many cells there are.
+    pub fn len(&self) -> usize
+        ensures { result ≡ length self.now }
+    {
+        self.len
+    }
+
+    /// The cells.
+    pub fn as_slice(&self) -> &[u64]
+        ensures { result.now ≡ self.now }
+    {
+        &self.cells[..self.len]
+    }
+
+    /// Writes one cell.
+    pub fn set(&mut self, at: usize, cell: u64)
+        requires { at < length self.old }
+        ensures { self.new ≡ slice_set self.old at cell }
+    {
+        let len = self.len;
+        self.cells[..len][at] = cell;
+    }
+
+    /// Puts a cell behind the others.
+    pub fn push(&mut self, cell: u64)
+        requires { length self.old < 16 }
+        ensures { self.new ≡ self.old ++ cell ∷ [] }
+    {
+        self.cells[self.len] = cell;
+        self.len += 1;
+    }
+
+    /// The cells of a tuple.
+    pub fn from_slice(tuple: &[u64]) -> Cells
+        requires { length tuple.now ≤ 16 }
+        ensures { result ≡ tuple.now }
+    {
+        let mut cells = [0; CELLS];
+        cells[..tuple.len()].copy_from_slice(tuple);
+        Cells {
+            cells,
+            len: tuple.len(),
+        }
+    }
+
+    /// The same cells once more.
+    pub fn copy(&self) -> Cells
+        ensures { result ≡ self.now }
+    {
+        Cells {
+            cells: self.cells,
+            len: self.len,
+        }
+    }
+
+    /// The cells of a tuple at these columns.
+    pub fn pick(tuple: &[u64], columns: &[usize]) -> Cells
+        requires few { length columns.now ≤ 16 }
+        requires small { length tuple.now ≤ 16 }
+        requires within { AreColumns (length tuple.now) columns.now }
+        ensures { result ≡ pick columns.now tuple.now }
+    {
+        let mut picked = Cells::new(0);
+        for column in columns {
+            picked.push(tuple[*column]);
+        }
+        picked
+    }
+}
+
+#[cfg(test)]
+mod tests {
+    use super::*;
+
+    #[test]
+    fn writes_cells(rt: HostRuntime) {
+        let mut cells = Cells::new(3);
+        cells.set(1, 5);
+        cells.set(2, 7);
+        assert_eq!(rt; cells.len(), 3);
+        assert_eq!(rt; cells.as_slice(), [0, 5, 7].as_slice());
+        cells.push(9);
+        let copy = Cells::from_slice(cells.as_slice());
+        assert_eq!(rt; copy.as_slice(), [0, 5, 7, 9].as_slice());
+        let picked = Cells::pick(&[0, 5, 7], &[2, 0]);
+        assert_eq!(rt; picked.as_slice(), [7, 0].as_slice());
+    }
+}

@@ -1,0 +1,94 @@
+-- Why a query can't be asked over relations, whatever their rows are.
+use Rattle.std.specs.Prelude.{List, [], ◌∷◌, ◌++◌, ◌==◌, ◌&&◌, ◌||◌, Bool, false, not, nat_lt, Option, is_none, is_some, nat_le, length}
+use Rattle.std.specs.List.{list_any}
+use Rattle.djq_model.specs.declared.relation.ColumnType.{ColumnType}
+use Rattle.djq_model.specs.declared.relation.Relation.{Relation}
+use Rattle.djq_model.specs.declared.query.Query.{Query}
+use Rattle.djq_model.specs.declared.query.Atom.{Atom}
+use Rattle.djq_model.specs.declared.query.Term.{Term}
+use Rattle.djq_model.specs.declared.query.Term.TheVariants.{Variable, Hole, Constant}
+use Rattle.djq_model.specs.Data.{bytes_eq, query_of, relation_of}
+use Rattle.djq_value.specs.Literal.{are_different}
+use Rattle.djq_lines.specs.declared.limits.TheConstants.{ATOMS, VARIABLES, HEAD_VARIABLES, QUERIES}
+use Rattle.djq_lines.specs.declared.answer.Refusal.{Refusal}
+use Rattle.djq_lines.specs.declared.answer.Refusal.TheVariants.{Taken, NoRelation, Arity, WrongType, VariableType, HeadRepeated, HeadUnbound, Limit}
+use Rattle.djq_lines.specs.Columns.{columns_of, is_of, same_type}
+use Rattle.djq_lines.specs.Conditions.{first_of}
+use Rattle.djq_lines.specs.Variables.{stands_in, variables_of}
+
+-- whether a term and the type of its column pass a test somewhere among terms and columns
+abbrev pub any_column : (Term → ColumnType → Bool) → List Term → List ColumnType → Bool
+any_column p [] cs = false
+any_column p (t ∷ ts) [] = false
+any_column p (t ∷ ts) (c ∷ cs) = p t c || any_column p ts cs
+
+-- the same somewhere in a body
+abbrev pub any_place : (Term → ColumnType → Bool) → List Relation → List Atom → Bool
+any_place p relations atoms =
+    list_any (λ a. any_column p a.terms (columns_of relations a.relation)) atoms
+
+-- An atom is over a relation that isn't there.
+abbrev pub reads_unknown : List Relation → Query → Bool
+reads_unknown relations q = list_any (λ a. is_none (relation_of relations a.relation)) q.atoms
+
+-- An atom has another number of terms than its relation has columns.
+abbrev pub has_wrong_arity : List Relation → Query → Bool
+has_wrong_arity relations q =
+    list_any (λ a. not (length a.terms == length (columns_of relations a.relation))) q.atoms
+
+-- a constant at a column of another type
+abbrev pub is_misfit : Term → ColumnType → Bool
+is_misfit (Constant v) c = not (is_of c v)
+is_misfit (Variable x) c = false
+is_misfit Hole c = false
+
+-- A constant is of another type than its column.
+abbrev pub has_misfit : List Relation → Query → Bool
+has_misfit relations q = any_place is_misfit relations q.atoms
+
+-- one variable at columns of two types
+abbrev pub is_clash : Term → ColumnType → Term → ColumnType → Bool
+is_clash (Variable x) c (Variable y) d = bytes_eq y x && not (same_type d c)
+is_clash _ c _ d = false
+
+-- A variable stands at columns of two types.
+abbrev pub has_clash : List Relation → Query → Bool
+has_clash relations q =
+    any_place (λ t c. any_place (is_clash t c) relations q.atoms) relations q.atoms
+
+-- A variable stands in the head twice.
+abbrev pub repeats_head : Query → Bool
+repeats_head q = not (are_different q.head)
+
+-- A variable of the head stands in no atom.
+abbrev pub has_unbound_head : Query → Bool
+has_unbound_head q = list_any (λ x. not (stands_in q.atoms x)) q.head
+
+-- It has too many atoms, variables or head variables.
+abbrev pub is_too_large : Query → Bool
+is_too_large q =
+    nat_lt ATOMS (length q.atoms) || (nat_lt VARIABLES (length (variables_of q.atoms)) || nat_lt HEAD_VARIABLES (length q.head))
+
+-- what is wrong with a query, in the order in which it is tried
+abbrev pub query_faults : List Relation → Query → List (Bool × Refusal)
+query_faults relations q =
+    (reads_unknown relations q, NoRelation)
+    ∷ (has_wrong_arity relations q, Arity)
+    ∷ (has_misfit relations q, WrongType)
+    ∷ (has_clash relations q, VariableType)
+    ∷ (repeats_head q, HeadRepeated)
+    ∷ (has_unbound_head q, HeadUnbound)
+    ∷ (is_too_large q, Limit)
+    ∷ []
+
+-- The first fault of a query; none where it can be asked over these relations.
+abbrev pub query_fault : List Relation → Query → Option Refusal
+query_fault relations q = first_of (query_faults relations q)
+
+-- Why a query isn't registered beside others: its name is taken, a fault, or the number of queries.
+abbrev pub whole_query_refusal : List Relation → List Query → Query → Option Refusal
+whole_query_refusal relations queries q = first_of (
+    (is_some (query_of queries q.name), Taken)
+    ∷ query_faults relations q
+    ++ (nat_le QUERIES (length queries), Limit)
+    ∷ [])

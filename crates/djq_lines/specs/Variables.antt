@@ -1,0 +1,47 @@
+-- The variables of a query's body.
+use Rattle.std.specs.Prelude.{List, [], ◌∷◌, ◌++◌, Bool, false, Option, None, Some, if◌then◌else◌}
+use Rattle.std.specs.List.{list_any, fold}
+use Rattle.djq_model.specs.declared.query.Atom.{Atom}
+use Rattle.djq_model.specs.declared.query.Term.{Term}
+use Rattle.djq_model.specs.declared.query.Term.TheVariants.{Variable, Hole, Constant}
+use Rattle.djq_model.specs.Data.{Bytes, bytes_eq}
+
+-- whether a term is the variable of this name
+abbrev pub is_variable : Bytes → Term → Bool
+is_variable x (Variable y) = bytes_eq y x
+is_variable x Hole = false
+is_variable x (Constant v) = false
+
+-- whether this variable stands in an atom
+abbrev pub stands_in : List Atom → Bytes → Bool
+stands_in atoms x = list_any (λ a. list_any (is_variable x) a.terms) atoms
+
+-- A variable by its name; a hole is a variable without one.
+abbrev pub Label : Type 0
+Label = Option Bytes
+
+-- whether a variable has this name
+abbrev pub is_named : Bytes → Label → Bool
+is_named x (Some y) = bytes_eq y x
+is_named x None = false
+
+-- whether the variable of a name is known
+abbrev pub is_known : List Label → Bytes → Bool
+is_known known x = list_any (is_named x) known
+
+-- the variables that are known behind a term: a name becomes so where it first stands, and each
+-- hole is one of its own
+abbrev pub with_term : List Label → Term → List Label
+with_term known (Variable x) = if is_known known x then known else known ++ Some x ∷ []
+with_term known Hole = known ++ None ∷ []
+with_term known (Constant v) = known
+
+abbrev pub with_terms : List Label → List Term → List Label
+with_terms known ts = fold with_term known ts
+
+abbrev pub with_atom : List Label → Atom → List Label
+with_atom known a = with_terms known a.terms
+
+-- The variables of a body, in the order in which they first stand.
+abbrev pub variables_of : List Atom → List Label
+variables_of atoms = fold with_atom [] atoms

@@ -1,0 +1,10 @@
+/// A value whose text stands elsewhere, so that reading it takes no memory.
+///
+/// Contracts see the value that it is by `value_lent` of `specs/Lent.antt`.
+#[derive(Clone, Copy, Debug)]
+pub enum Lent<'a> {
+    /// A signed integer of 64 bits.
+    Int(i64),
+    /// The bytes of a text.
+    Text(&'a [u8]),
+}

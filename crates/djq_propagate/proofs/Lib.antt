@@ -1,0 +1,12 @@
+pub mod Tabling
+pub mod Families
+pub mod Plains
+pub mod Sides
+pub mod Gains
+pub mod Losses
+pub mod Going
+pub mod Touching
+pub mod Paths
+pub mod Updating
+pub mod Measuring
+pub mod Marking

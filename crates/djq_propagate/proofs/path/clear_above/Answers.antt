@@ -1,0 +1,66 @@
+use Rattle.std.proofs.Common.{◌≡◌, ℕ, ◌+◌, ◌*◌, ◌<◌, ◌≤◌, Bool, true, false, cond, List, [], length, refl, ap, subst, sym, ◌∙◌, arith}
+use Rattle.std.proofs.lemmas.Bool.{false≢true}
+use Rattle.djq_index.specs.Tuple.{one}
+use Rattle.djq_index.specs.Entries.{Entry, cnt, marks}
+use Rattle.djq_index.proofs.Changing.{removed_length}
+use Rattle.djq_index.proofs.Tuples.{one_true, one_false}
+use Rattle.djq_tree.specs.Tree.{node_at, has_child}
+use Rattle.djq_reduct.specs.Tables.{entries_at}
+use Rattle.djq_propagate.specs.Sizes.{size}
+use Rattle.djq_propagate.specs.Touches.{IsTouched, IsTouchedUp, IsWalked, reach}
+use Rattle.djq_propagate.specs.Updates.{HasCleared, HasTaken, steps}
+use Rattle.djq_propagate.proofs.Sides.{head_none}
+use Rattle.djq_propagate.proofs.Going.{has_table, as_live}
+use Rattle.djq_propagate.proofs.Touching.{marks_length}
+use Rattle.djq_propagate.proofs.Paths.{path_zero, path_next, up_none, up_more, steps_none, steps_more, steps_count, cleared_leaf, cleared_more}
+use Rattle.djq_propagate.proofs.Marking.{walk_none, walk_more}
+use Rattle.djq_propagate.proofs.Updating.{both, leaf_within, ready_leaf, taking_none, taking_more, taking_done, no_mark, no_entry, first_mark}
+use Rattle.djq_propagate.proofs.path.clear_above.Goals as goal
+
+pub node-requires : goal.node-requires
+node-requires g c =
+    c.requires.within
+
+pub clear_at-requires : goal.clear_at-requires
+clear_at-requires g c =
+    record { within = has_table c.args.tree.now c.args.tables.now.items c.args.up c.requires.family c.requires.within }
+
+pub returns-then-has_child-clause-next : goal.returns-then-has_child-clause-next
+returns-then-has_child-clause-next g c =
+    sym (ap (λ (b : Bool). cond b c.args.up c.args.at) (ap (λ n. has_child n c.args.at) (sym c.node.ensures) ∙ sym c.has_child.ensures ∙ c.if-has_child.true))
+
+pub returns-then-has_child-clause-cleared : goal.returns-then-has_child-clause-cleared
+returns-then-has_child-clause-cleared g c =
+    λ child. c.clear_at.ensures.cleared
+
+pub returns-then-has_child-clause-changed : goal.returns-then-has_child-clause-changed
+returns-then-has_child-clause-changed g c =
+    λ child. c.clear_at.ensures.changed
+
+pub returns-then-has_child-clause-apart : goal.returns-then-has_child-clause-apart
+returns-then-has_child-clause-apart g c =
+    λ none. absurd (false≢true (sym none ∙ (ap (λ n. has_child n c.args.at) (sym c.node.ensures) ∙ sym c.has_child.ensures ∙ c.if-has_child.true)))
+
+pub returns-then-has_child-clause-counted : goal.returns-then-has_child-clause-counted
+returns-then-has_child-clause-counted g c =
+    λ n h. let b : one (has_child (node_at c.args.tree.now.nodes c.args.up) c.args.at) * (1 + n) ≡ 1 * (1 + n) = ap (λ (x : ℕ). x * (1 + n)) (one_true (has_child (node_at c.args.tree.now.nodes c.args.up) c.args.at) (ap (λ n. has_child n c.args.at) (sym c.node.ensures) ∙ sym c.has_child.ensures ∙ c.if-has_child.true)) in omega (arith, c.clear_at.ensures.counted, marks_length (entries_at c.args.tables.now.items c.args.up), h c.args.up)
+
+pub returns-clause-next : goal.returns-clause-next
+returns-clause-next g c =
+    sym (ap (λ (b : Bool). cond b c.args.up c.args.at) (ap (λ n. has_child n c.args.at) (sym c.node.ensures) ∙ sym c.has_child.ensures ∙ c.if-has_child.false))
+
+pub returns-clause-cleared : goal.returns-clause-cleared
+returns-clause-cleared g c =
+    λ child. absurd (false≢true (sym (ap (λ n. has_child n c.args.at) (sym c.node.ensures) ∙ sym c.has_child.ensures ∙ c.if-has_child.false) ∙ child))
+
+pub returns-clause-changed : goal.returns-clause-changed
+returns-clause-changed g c =
+    λ child. absurd (false≢true (sym (ap (λ n. has_child n c.args.at) (sym c.node.ensures) ∙ sym c.has_child.ensures ∙ c.if-has_child.false) ∙ child))
+
+pub returns-clause-apart : goal.returns-clause-apart
+returns-clause-apart g c =
+    λ none. refl
+
+pub returns-clause-counted : goal.returns-clause-counted
+returns-clause-counted g c =
+    λ n h. omega arith

@@ -1,0 +1,62 @@
+use Rattle.std.proofs.Common.{◌≡◌, ℕ, ◌+◌, ◌*◌, ◌<◌, ◌≤◌, Bool, true, false, cond, List, [], length, refl, ap, subst, sym, ◌∙◌, arith}
+use Rattle.std.proofs.lemmas.Bool.{false≢true}
+use Rattle.djq_index.specs.Tuple.{one}
+use Rattle.djq_index.specs.Entries.{Entry, cnt, marks}
+use Rattle.djq_index.proofs.Changing.{removed_length}
+use Rattle.djq_index.proofs.Tuples.{one_true, one_false}
+use Rattle.djq_tree.specs.Tree.{node_at, has_child}
+use Rattle.djq_reduct.specs.Tables.{entries_at}
+use Rattle.djq_propagate.specs.Sizes.{size}
+use Rattle.djq_propagate.specs.Touches.{IsTouched, IsTouchedUp, IsWalked, reach}
+use Rattle.djq_propagate.specs.Updates.{HasCleared, HasTaken, steps}
+use Rattle.djq_propagate.proofs.Sides.{head_none}
+use Rattle.djq_propagate.proofs.Going.{has_table, as_live}
+use Rattle.djq_propagate.proofs.Touching.{marks_length}
+use Rattle.djq_propagate.proofs.Paths.{path_zero, path_next, up_none, up_more, steps_none, steps_more, steps_count, cleared_leaf, cleared_more}
+use Rattle.djq_propagate.proofs.Marking.{walk_none, walk_more}
+use Rattle.djq_propagate.proofs.Updating.{both, leaf_within, ready_leaf, taking_none, taking_more, taking_done, no_mark, no_entry, first_mark}
+use Rattle.djq_propagate.proofs.path.clear_path.Goals as goal
+
+pub clear_at-requires : goal.clear_at-requires
+clear_at-requires g c =
+    let within = leaf_within c.args.tree.now c.args.leaf c.requires.family.is_tree c.requires.leaf in
+    record { within = has_table c.args.tree.now c.args.tables.now.items c.args.leaf c.requires.family within }
+
+pub loop-up-init : goal.loop-up-init
+loop-up-init g c =
+    record { at = sym (path_zero c.args.tree.now.nodes c.args.leaf); cleared = cleared_leaf c.args.tree.now c.args.tables.now.items c.clear_at.new.tables.items c.args.leaf c.requires.family c.clear_at.ensures.changed c.clear_at.ensures.cleared; counted = λ n h. let s : (1 + steps c.args.tree.now.nodes c.args.leaf 0) * (1 + n) ≡ 1 * (1 + n) = ap (λ (x : ℕ). (1 + x) * (1 + n)) (steps_none c.args.tree.now.nodes c.args.leaf) in omega (arith, c.clear_at.ensures.counted, marks_length (entries_at c.args.tables.now.items c.args.leaf), h c.args.leaf) }
+
+pub clear_above-at-requires-clause-family : goal.clear_above-at-requires-clause-family
+clear_above-at-requires-clause-family g c =
+    c.loop-up.invariant.cleared.family
+
+pub clear_above-at-requires-clause-within : goal.clear_above-at-requires-clause-within
+clear_above-at-requires-clause-within g c =
+    let len = c.len-up-end.ensures.count in
+    let h = c.loop-up-test.true in
+    omega arith
+
+pub loop-up-preserved : goal.loop-up-preserved
+loop-up-preserved g c =
+    record {
+      at = path_next c.args.tree.now.nodes c.args.leaf c.loop-up.up c.loop-up.at c.clear_above-at.result c.loop-up.invariant.at c.clear_above-at.ensures.next;
+      cleared = cleared_more c.args.tree.now c.args.tables.now.items c.loop-up.tables.items c.clear_above-at.new.tables.items c.args.leaf c.loop-up.up c.loop-up.at c.requires.leaf c.loop-up.invariant.cleared c.loop-up.invariant.at c.clear_above-at.ensures.cleared c.clear_above-at.ensures.changed c.clear_above-at.ensures.apart;
+      counted = λ n h. steps_count (1 + steps c.args.tree.now.nodes c.args.leaf (c.loop-up.up + 1)) (1 + steps c.args.tree.now.nodes c.args.leaf c.loop-up.up) (one (has_child (node_at c.args.tree.now.nodes c.loop-up.up) c.loop-up.at)) (1 + n) c.loop-up.tally c.args.tally.now c.clear_above-at.new.tally (let s = steps_more c.args.tree.now.nodes c.args.leaf c.loop-up.up c.loop-up.at c.loop-up.invariant.at in omega arith)
+          (c.loop-up.invariant.counted n h) (c.clear_above-at.ensures.counted n (λ i. let e = c.loop-up.invariant.cleared.long i in let b = h i in omega arith));
+    }
+
+pub returns-clause-cleared : goal.returns-clause-cleared
+returns-clause-cleared g c =
+    let len = c.len-up-end.ensures.count in
+    let h = c.loop-up-test.false in
+    let x = c.loop-up.auto.up-end in
+    let e : c.loop-up.up ≡ length c.args.tree.now.nodes = omega arith in
+    subst (λ (k : ℕ). HasCleared c.args.tree.now c.args.tables.now.items c.loop-up.tables.items c.args.leaf k) e c.loop-up.invariant.cleared
+
+pub returns-clause-counted : goal.returns-clause-counted
+returns-clause-counted g c =
+    let len = c.len-up-end.ensures.count in
+    let h = c.loop-up-test.false in
+    let x = c.loop-up.auto.up-end in
+    let e : c.loop-up.up ≡ length c.args.tree.now.nodes = omega arith in
+    λ n b. subst (λ (k : ℕ). c.loop-up.tally ≤ c.args.tally.now + (1 + steps c.args.tree.now.nodes c.args.leaf k) * (1 + n)) e (c.loop-up.invariant.counted n b)

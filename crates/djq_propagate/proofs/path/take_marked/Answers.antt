@@ -1,0 +1,71 @@
+use Rattle.std.proofs.Common.{◌≡◌, ℕ, ◌+◌, ◌*◌, ◌<◌, ◌≤◌, Bool, true, false, cond, List, [], length, refl, ap, subst, sym, ◌∙◌, arith}
+use Rattle.std.proofs.lemmas.Bool.{false≢true}
+use Rattle.djq_index.specs.Tuple.{one}
+use Rattle.djq_index.specs.Entries.{Entry, cnt, marks}
+use Rattle.djq_index.proofs.Changing.{removed_length}
+use Rattle.djq_index.proofs.Tuples.{one_true, one_false}
+use Rattle.djq_tree.specs.Tree.{node_at, has_child}
+use Rattle.djq_reduct.specs.Tables.{entries_at}
+use Rattle.djq_propagate.specs.Sizes.{size}
+use Rattle.djq_propagate.specs.Touches.{IsTouched, IsTouchedUp, IsWalked, reach}
+use Rattle.djq_propagate.specs.Updates.{HasCleared, HasTaken, steps}
+use Rattle.djq_propagate.proofs.Sides.{head_none}
+use Rattle.djq_propagate.proofs.Going.{has_table, as_live}
+use Rattle.djq_propagate.proofs.Touching.{marks_length}
+use Rattle.djq_propagate.proofs.Paths.{path_zero, path_next, up_none, up_more, steps_none, steps_more, steps_count, cleared_leaf, cleared_more}
+use Rattle.djq_propagate.proofs.Marking.{walk_none, walk_more}
+use Rattle.djq_propagate.proofs.Updating.{both, leaf_within, ready_leaf, taking_none, taking_more, taking_done, no_mark, no_entry, first_mark}
+use Rattle.djq_propagate.proofs.path.take_marked.Goals as goal
+
+pub len_at-count-requires : goal.len_at-count-requires
+len_at-count-requires g c =
+    has_table c.args.tree.now c.args.tables.now.items c.args.leaf c.requires.reducts.family (leaf_within c.args.tree.now c.args.leaf c.requires.reducts.family.is_tree c.requires.leaf)
+
+pub loop-done-init : goal.loop-done-init
+loop-done-init g c =
+    record { taking = taking_none c.args.tree.now c.args.tables.now.items c.args.leaf c.requires.reducts; few = omega arith; counted = omega arith }
+
+pub first_marked_at-requires : goal.first_marked_at-requires
+first_marked_at-requires g c =
+    has_table c.args.tree.now c.loop-done.tables.items c.args.leaf c.loop-done.invariant.taking.sound.family (leaf_within c.args.tree.now c.args.leaf c.requires.reducts.family.is_tree c.requires.leaf)
+
+pub kill-requires-clause-ready : goal.kill-requires-clause-ready
+kill-requires-clause-ready g c =
+    ready_leaf c.args.tree.now c.loop-done.tables.items c.args.leaf c.loop-done.invariant.taking.sound c.requires.leaf
+
+pub kill-requires-clause-live : goal.kill-requires-clause-live
+kill-requires-clause-live g c =
+    let m = first_mark (entries_at c.loop-done.tables.items c.args.leaf) c.in-Some.place (sym c.first_marked_at.ensures.found ∙ c.in-Some.is) in
+    as_live (entries_at c.loop-done.tables.items c.args.leaf) c.in-Some.place m.tuple m.is_at
+
+pub loop-done-smaller : goal.loop-done-smaller
+loop-done-smaller g c =
+    let h = c.loop-done-test.true in
+    omega arith
+
+pub loop-done-preserved : goal.loop-done-preserved
+loop-done-preserved g c =
+    let m = first_mark (entries_at c.loop-done.tables.items c.args.leaf) c.in-Some.place (sym c.first_marked_at.ensures.found ∙ c.in-Some.is) in
+    record {
+      taking = taking_more c.args.tree.now c.args.tables.now.items c.loop-done.tables.items c.kill.new.tables.items c.args.leaf m.tuple c.requires.leaf c.loop-done.invariant.taking (c.kill.ensures.died m.tuple m.is_at) c.kill.ensures.fewer m.some;
+      few = omega (arith, c.loop-done.invariant.few, removed_length (entries_at c.loop-done.tables.items c.args.leaf) (entries_at c.kill.new.tables.items c.args.leaf) m.tuple (c.kill.ensures.died m.tuple m.is_at).loses);
+      counted = omega (arith, c.loop-done.invariant.counted, c.kill.ensures.counted, c.first_marked_at.ensures.counted);
+    }
+
+pub returns-in-None-clause-taken : goal.returns-in-None-clause-taken
+returns-in-None-clause-taken g c =
+    taking_done c.args.tree.now c.args.tables.now.items c.loop-done.tables.items c.args.leaf c.loop-done.invariant.taking (λ v. no_mark (entries_at c.loop-done.tables.items c.args.leaf) v (head_none (marks (entries_at c.loop-done.tables.items c.args.leaf)) (sym c.first_marked_at.ensures.found ∙ c.in-None.is)))
+
+pub returns-in-None-clause-counted : goal.returns-in-None-clause-counted
+returns-in-None-clause-counted g c =
+    omega (arith, c.loop-done.invariant.counted, c.first_marked_at.ensures.counted)
+
+pub returns-clause-taken : goal.returns-clause-taken
+returns-clause-taken g c =
+    let h = c.loop-done-test.false in
+    let x = c.loop-done.auto._done-end in
+    taking_done c.args.tree.now c.args.tables.now.items c.loop-done.tables.items c.args.leaf c.loop-done.invariant.taking (λ v. no_entry (entries_at c.loop-done.tables.items c.args.leaf) v (omega (arith, c.loop-done.invariant.few, c.len_at-count.ensures)))
+
+pub returns-clause-counted : goal.returns-clause-counted
+returns-clause-counted g c =
+    omega (arith, c.loop-done.invariant.counted)

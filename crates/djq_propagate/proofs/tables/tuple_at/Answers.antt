@@ -1,0 +1,28 @@
+use Rattle.std.proofs.Common.{◌≡◌, ℕ, ◌<◌, ◌≤◌, ◌-◌, ◌+◌, List, ◌++◌, ◌∷◌, length, IfOk, OnErr, MatchOption, subst, sym, ap, ◌∙◌, arith}
+use Rattle.std.specs.Prelude.{slice_set, nat_lt}
+use Rattle.djq_index.specs.Tuple.{pick}
+use Rattle.djq_index.specs.Entries.{Entry, supp, cnt, many, grp, marks, is_marked, unmarked, head_at}
+use Rattle.djq_index.specs.Table.{Table, IsTable, IsAt, IsLive, IsUnmarked, IsRaisable, IsLowerable, AreSupported, AreColumns, AreWide}
+use Rattle.djq_index.specs.Changes.{Inserted, Removed, Touched, Supported}
+use Rattle.djq_index.proofs.Changing.{removed_supported}
+use Rattle.djq_reduct.specs.Tables.{table_at, entries_at, key_at, width_at}
+use Rattle.djq_propagate.specs.Walks.{Changed, IsShared}
+use Rattle.djq_propagate.proofs.Tabling.{read_table, entries_of, key_of, width_of, back, onto, onto_key, changed_into, insert_supported, supports_supported, touched_supported, unmarked_supported, wide_at}
+use Rattle.djq_propagate.proofs.tables.tuple_at.Goals as goal
+
+pub tuple-requires : goal.tuple-requires
+tuple-requires c = subst (λ (es : List Entry). IsLive es c.args.place) (sym (entries_of c.args.tables.now.items c.args.at c.table_of-table.result.now c.table_of-table.ensures)) c.requires.live
+
+pub from_slice-requires : goal.from_slice-requires
+from_slice-requires c =
+    let l : IsLive c.table_of-table.result.now.entries c.args.place = subst (λ (es : List Entry). IsLive es c.args.place) (sym (entries_of c.args.tables.now.items c.args.at c.table_of-table.result.now c.table_of-table.ensures)) c.requires.live in
+    let n = c.requires.narrow in
+    omega (arith, ap (λ (u : List ℕ). length u) (c.tuple.ensures l.tuple l.is_at), wide_at c.table_of-table.result.now.width c.table_of-table.result.now.entries c.args.place l.tuple c.laws.ensures.wide l.is_at, (width_of c.args.tables.now.items c.args.at c.table_of-table.result.now c.table_of-table.ensures))
+
+pub returns-clause-tuple : goal.returns-clause-tuple
+returns-clause-tuple c u a = c.from_slice.ensures ∙ c.tuple.ensures u (subst (λ (es : List Entry). IsAt es c.args.place u) (sym (entries_of c.args.tables.now.items c.args.at c.table_of-table.result.now c.table_of-table.ensures)) a)
+
+pub returns-clause-wide : goal.returns-clause-wide
+returns-clause-wide c =
+    let l : IsLive c.table_of-table.result.now.entries c.args.place = subst (λ (es : List Entry). IsLive es c.args.place) (sym (entries_of c.args.tables.now.items c.args.at c.table_of-table.result.now c.table_of-table.ensures)) c.requires.live in
+    ap (λ (u : List ℕ). length u) (c.from_slice.ensures ∙ c.tuple.ensures l.tuple l.is_at) ∙ wide_at c.table_of-table.result.now.width c.table_of-table.result.now.entries c.args.place l.tuple c.laws.ensures.wide l.is_at ∙ (width_of c.args.tables.now.items c.args.at c.table_of-table.result.now c.table_of-table.ensures)

@@ -1,0 +1,108 @@
+use Rattle.std.proofs.Common.{◌≡◌, ℕ, ◌+◌, ◌-◌, ◌*◌, ◌<◌, ◌≤◌, Bool, true, false, List, [], ◌∷◌, ◌++◌, length, take, drop, Some, None, refl, ap, subst, sym, ◌∙◌, arith}
+use Rattle.djq_index.specs.Tuple.{same, one, pick}
+use Rattle.djq_index.specs.Entries.{Entry, supp, cnt, many, grp, marks, plain, is_marked, head_at}
+use Rattle.djq_index.specs.Table.{IsAt, IsLive}
+use Rattle.djq_index.proofs.Counts.{length_grp}
+use Rattle.djq_tree.specs.declared.node.Node.TheVariants.{Leaf, Trim, Meet}
+use Rattle.djq_tree.specs.Tree.{node_at}
+use Rattle.djq_reduct.specs.Tables.{entries_at, key_at, width_at}
+use Rattle.djq_propagate.specs.Touches.{IsTouched, IsStep, gate, reach_one, reach, cost_one, cost}
+use Rattle.djq_propagate.proofs.Families.{apart_of, same_keys}
+use Rattle.djq_propagate.proofs.Sides.{head_none, drop_group, take_all, cut_cnt}
+use Rattle.djq_propagate.proofs.Gains.{width_narrow, trim_few}
+use Rattle.djq_propagate.proofs.Going.{has_table, cut_of, cut_at, as_live, moved_at, group_still}
+use Rattle.djq_propagate.proofs.Touching.{touched_none, touched_one, one_absent, one_marked, touched_as, touched_more, gate_open, gate_none, first_is, gate_first, reach_yes, reach_no, reach_leaf, reach_trim, reach_guard, reach_side, cost_trim, cost_guard, cost_side, reach_still, cost_still, reach_more, reach_nothing, cost_none, cost_more, cost_le, cost_bound, take_zero, take_whole, cut_length, cut_mark, drop_marks, step_trim, step_lower, guard_lower, kids_still}
+use Rattle.djq_propagate.proofs.touch.touch_group.Goals as goal
+
+pub len_at-count-requires : goal.len_at-count-requires
+len_at-count-requires g c =
+    let glow = c.requires.lower in
+    let within = c.requires.within in
+    has_table c.args.tree.now c.args.tables.now.items c.args.guard c.requires.family (omega arith)
+
+pub first_at-next-requires : goal.first_at-next-requires
+first_at-next-requires g c =
+    let glow = c.requires.lower in
+    let within = c.requires.within in
+    has_table c.args.tree.now c.args.tables.now.items c.args.guard c.requires.family (omega arith)
+
+pub loop-done-init : goal.loop-done-init
+loop-done-init g c =
+    record { next = c.first_at-next.ensures.found; touched = touched_none c.args.tree.now c.args.tables.now.items c.args.up (λ v. cnt (take 0 (grp (key_at c.args.tables.now.items c.args.guard) (entries_at c.args.tables.now.items c.args.guard) c.args.cells.now)) v) c.requires.family (λ v there some. absurd (omega (arith, take_zero (grp (key_at c.args.tables.now.items c.args.guard) (entries_at c.args.tables.now.items c.args.guard) c.args.cells.now) v))); bound = omega arith; counted = omega (arith, c.first_at-next.ensures.counted) }
+
+pub tuple_at-part-requires-clause-within : goal.tuple_at-part-requires-clause-within
+tuple_at-part-requires-clause-within g c =
+    let glow = c.requires.lower in
+    let within = c.requires.within in
+    has_table c.args.tree.now c.loop-done.tables.items c.args.guard c.loop-done.invariant.touched.family (omega arith)
+
+pub tuple_at-part-requires-clause-narrow : goal.tuple_at-part-requires-clause-narrow
+tuple_at-part-requires-clause-narrow g c =
+    let glow = c.requires.lower in
+    let within = c.requires.within in
+    width_narrow c.args.tree.now c.loop-done.tables.items c.args.guard c.loop-done.invariant.touched.family (omega arith)
+
+pub tuple_at-part-requires-clause-live : goal.tuple_at-part-requires-clause-live
+tuple_at-part-requires-clause-live g c =
+    let k = cut_of (grp (key_at c.args.tables.now.items c.args.guard) (entries_at c.args.tables.now.items c.args.guard) c.args.cells.now) c.loop-done.done c.loop-done.next c.in-Some.place c.loop-done.invariant.next c.in-Some.is in
+    let glow = c.requires.lower in
+    let within = c.requires.within in
+    as_live (entries_at c.loop-done.tables.items c.args.guard) c.in-Some.place k.entry.tuple (moved_at (entries_at c.args.tables.now.items c.args.guard) (entries_at c.loop-done.tables.items c.args.guard) c.in-Some.place k.entry.tuple (c.loop-done.invariant.touched.others c.args.guard (omega arith)) (cut_at (key_at c.args.tables.now.items c.args.guard) (entries_at c.args.tables.now.items c.args.guard) c.args.cells.now c.loop-done.done c.in-Some.place k))
+
+pub touch_tuple-requires-clause-family : goal.touch_tuple-requires-clause-family
+touch_tuple-requires-clause-family g c =
+    c.loop-done.invariant.touched.family
+
+pub touch_tuple-requires-clause-within : goal.touch_tuple-requires-clause-within
+touch_tuple-requires-clause-within g c =
+    c.requires.within
+
+pub next_at-next-requires-clause-within : goal.next_at-next-requires-clause-within
+next_at-next-requires-clause-within g c =
+    let glow = c.requires.lower in
+    let within = c.requires.within in
+    has_table c.args.tree.now c.touch_tuple.new.tables.items c.args.guard c.touch_tuple.ensures.touched.family (omega arith)
+
+pub next_at-next-requires-clause-live : goal.next_at-next-requires-clause-live
+next_at-next-requires-clause-live g c =
+    let k = cut_of (grp (key_at c.args.tables.now.items c.args.guard) (entries_at c.args.tables.now.items c.args.guard) c.args.cells.now) c.loop-done.done c.loop-done.next c.in-Some.place c.loop-done.invariant.next c.in-Some.is in
+    let glow = c.requires.lower in
+    let within = c.requires.within in
+    let n = touched_more c.args.tree.now c.args.tables.now.items c.loop-done.tables.items c.touch_tuple.new.tables.items c.args.up (λ v. cnt (take c.loop-done.done (grp (key_at c.args.tables.now.items c.args.guard) (entries_at c.args.tables.now.items c.args.guard) c.args.cells.now)) v) (λ v. one (same c.as_slice.result.now v)) (λ v. cnt (take (c.loop-done.done + 1) (grp (key_at c.args.tables.now.items c.args.guard) (entries_at c.args.tables.now.items c.args.guard) c.args.cells.now)) v) c.requires.family c.loop-done.invariant.touched c.touch_tuple.ensures.touched (λ v. (cut_cnt (grp (key_at c.args.tables.now.items c.args.guard) (entries_at c.args.tables.now.items c.args.guard) c.args.cells.now) c.loop-done.done k.entry v k.is).1 ∙ ap (λ (w : List ℕ). cnt (take c.loop-done.done (grp (key_at c.args.tables.now.items c.args.guard) (entries_at c.args.tables.now.items c.args.guard) c.args.cells.now)) v + one (same w v)) (sym (c.as_slice.ensures ∙ c.tuple_at-part.ensures.tuple k.entry.tuple (moved_at (entries_at c.args.tables.now.items c.args.guard) (entries_at c.loop-done.tables.items c.args.guard) c.in-Some.place k.entry.tuple (c.loop-done.invariant.touched.others c.args.guard (omega arith)) (cut_at (key_at c.args.tables.now.items c.args.guard) (entries_at c.args.tables.now.items c.args.guard) c.args.cells.now c.loop-done.done c.in-Some.place k))))) in
+    as_live (entries_at c.touch_tuple.new.tables.items c.args.guard) c.in-Some.place k.entry.tuple (moved_at (entries_at c.args.tables.now.items c.args.guard) (entries_at c.touch_tuple.new.tables.items c.args.guard) c.in-Some.place k.entry.tuple (n.others c.args.guard (omega arith)) (cut_at (key_at c.args.tables.now.items c.args.guard) (entries_at c.args.tables.now.items c.args.guard) c.args.cells.now c.loop-done.done c.in-Some.place k))
+
+pub loop-done-smaller : goal.loop-done-smaller
+loop-done-smaller g c =
+    let h = c.loop-done-test.true in
+    omega arith
+
+pub loop-done-preserved : goal.loop-done-preserved
+loop-done-preserved g c =
+    let k = cut_of (grp (key_at c.args.tables.now.items c.args.guard) (entries_at c.args.tables.now.items c.args.guard) c.args.cells.now) c.loop-done.done c.loop-done.next c.in-Some.place c.loop-done.invariant.next c.in-Some.is in
+    let glow = c.requires.lower in
+    let within = c.requires.within in
+    let n = touched_more c.args.tree.now c.args.tables.now.items c.loop-done.tables.items c.touch_tuple.new.tables.items c.args.up (λ v. cnt (take c.loop-done.done (grp (key_at c.args.tables.now.items c.args.guard) (entries_at c.args.tables.now.items c.args.guard) c.args.cells.now)) v) (λ v. one (same c.as_slice.result.now v)) (λ v. cnt (take (c.loop-done.done + 1) (grp (key_at c.args.tables.now.items c.args.guard) (entries_at c.args.tables.now.items c.args.guard) c.args.cells.now)) v) c.requires.family c.loop-done.invariant.touched c.touch_tuple.ensures.touched (λ v. (cut_cnt (grp (key_at c.args.tables.now.items c.args.guard) (entries_at c.args.tables.now.items c.args.guard) c.args.cells.now) c.loop-done.done k.entry v k.is).1 ∙ ap (λ (w : List ℕ). cnt (take c.loop-done.done (grp (key_at c.args.tables.now.items c.args.guard) (entries_at c.args.tables.now.items c.args.guard) c.args.cells.now)) v + one (same w v)) (sym (c.as_slice.ensures ∙ c.tuple_at-part.ensures.tuple k.entry.tuple (moved_at (entries_at c.args.tables.now.items c.args.guard) (entries_at c.loop-done.tables.items c.args.guard) c.in-Some.place k.entry.tuple (c.loop-done.invariant.touched.others c.args.guard (omega arith)) (cut_at (key_at c.args.tables.now.items c.args.guard) (entries_at c.args.tables.now.items c.args.guard) c.args.cells.now c.loop-done.done c.in-Some.place k))))) in
+    record {
+      next = c.next_at-next.ensures.found c.args.cells.now (take c.loop-done.done (grp (key_at c.args.tables.now.items c.args.guard) (entries_at c.args.tables.now.items c.args.guard) c.args.cells.now)) k.entry (drop (c.loop-done.done + 1) (grp (key_at c.args.tables.now.items c.args.guard) (entries_at c.args.tables.now.items c.args.guard) c.args.cells.now)) (group_still c.args.tree.now c.args.tables.now.items c.touch_tuple.new.tables.items c.args.guard c.args.cells.now c.requires.family n.family (n.others c.args.guard (omega arith)) ∙ k.is) k.at;
+      touched = n;
+      bound = cut_length (grp (key_at c.args.tables.now.items c.args.guard) (entries_at c.args.tables.now.items c.args.guard) c.args.cells.now) c.loop-done.done k.entry k.is;
+      counted = omega (arith, c.loop-done.invariant.counted, c.touch_tuple.ensures.counted, c.next_at-next.ensures.counted);
+    }
+
+pub returns-in-None-clause-touched : goal.returns-in-None-clause-touched
+returns-in-None-clause-touched g c =
+    touched_as c.args.tree.now c.args.tables.now.items c.loop-done.tables.items c.args.up (λ v. cnt (take c.loop-done.done (grp (key_at c.args.tables.now.items c.args.guard) (entries_at c.args.tables.now.items c.args.guard) c.args.cells.now)) v) (λ v. cnt (grp (key_at c.args.tables.now.items c.args.guard) (entries_at c.args.tables.now.items c.args.guard) c.args.cells.now) v) c.loop-done.invariant.touched (λ v. sym (take_all (grp (key_at c.args.tables.now.items c.args.guard) (entries_at c.args.tables.now.items c.args.guard) c.args.cells.now) c.loop-done.done v (head_none (drop c.loop-done.done (grp (key_at c.args.tables.now.items c.args.guard) (entries_at c.args.tables.now.items c.args.guard) c.args.cells.now)) (sym c.loop-done.invariant.next ∙ c.in-None.is))))
+
+pub returns-in-None-clause-counted : goal.returns-in-None-clause-counted
+returns-in-None-clause-counted g c =
+    omega (arith, c.loop-done.invariant.counted, c.loop-done.invariant.bound, length_grp (key_at c.args.tables.now.items c.args.guard) (entries_at c.args.tables.now.items c.args.guard) c.args.cells.now)
+
+pub returns-clause-touched : goal.returns-clause-touched
+returns-clause-touched g c =
+    let h = c.loop-done-test.false in
+    let x = c.loop-done.auto.done-end in
+    touched_as c.args.tree.now c.args.tables.now.items c.loop-done.tables.items c.args.up (λ v. cnt (take c.loop-done.done (grp (key_at c.args.tables.now.items c.args.guard) (entries_at c.args.tables.now.items c.args.guard) c.args.cells.now)) v) (λ v. cnt (grp (key_at c.args.tables.now.items c.args.guard) (entries_at c.args.tables.now.items c.args.guard) c.args.cells.now) v) c.loop-done.invariant.touched (λ v. sym (take_all (grp (key_at c.args.tables.now.items c.args.guard) (entries_at c.args.tables.now.items c.args.guard) c.args.cells.now) c.loop-done.done v (drop_group (key_at c.args.tables.now.items c.args.guard) (entries_at c.args.tables.now.items c.args.guard) c.args.cells.now c.loop-done.done (omega (arith, c.len_at-count.ensures)))))
+
+pub returns-clause-counted : goal.returns-clause-counted
+returns-clause-counted g c =
+    omega (arith, c.loop-done.invariant.counted, c.loop-done.invariant.bound, length_grp (key_at c.args.tables.now.items c.args.guard) (entries_at c.args.tables.now.items c.args.guard) c.args.cells.now)

@@ -1,0 +1,63 @@
+use Rattle.std.proofs.Common.{◌≡◌, ℕ, ◌+◌, ◌-◌, ◌*◌, ◌<◌, ◌≤◌, Bool, true, false, List, [], ◌∷◌, ◌++◌, length, take, drop, Some, None, refl, ap, subst, sym, ◌∙◌, arith}
+use Rattle.djq_index.specs.Tuple.{same, one, pick}
+use Rattle.djq_index.specs.Entries.{Entry, supp, cnt, many, grp, marks, plain, is_marked, head_at}
+use Rattle.djq_index.specs.Table.{IsAt, IsLive}
+use Rattle.djq_index.proofs.Counts.{length_grp}
+use Rattle.djq_tree.specs.declared.node.Node.TheVariants.{Leaf, Trim, Meet}
+use Rattle.djq_tree.specs.Tree.{node_at}
+use Rattle.djq_reduct.specs.Tables.{entries_at, key_at, width_at}
+use Rattle.djq_propagate.specs.Touches.{IsTouched, IsStep, gate, reach_one, reach, cost_one, cost}
+use Rattle.djq_propagate.proofs.Families.{apart_of, same_keys}
+use Rattle.djq_propagate.proofs.Sides.{head_none, drop_group, take_all, cut_cnt}
+use Rattle.djq_propagate.proofs.Gains.{width_narrow, trim_few}
+use Rattle.djq_propagate.proofs.Going.{has_table, cut_of, cut_at, as_live, moved_at, group_still}
+use Rattle.djq_propagate.proofs.Touching.{touched_none, touched_one, one_absent, one_marked, touched_as, touched_more, gate_open, gate_none, first_is, gate_first, reach_yes, reach_no, reach_leaf, reach_trim, reach_guard, reach_side, cost_trim, cost_guard, cost_side, reach_still, cost_still, reach_more, reach_nothing, cost_none, cost_more, cost_le, cost_bound, take_zero, take_whole, cut_length, cut_mark, drop_marks, step_trim, step_lower, guard_lower, kids_still}
+use Rattle.djq_propagate.proofs.touch.touch_part.Goals as goal
+
+pub part_of-part-requires-clause-within : goal.part_of-part-requires-clause-within
+part_of-part-requires-clause-within g c =
+    has_table c.args.tree.now c.args.tables.now.items c.args.at c.requires.family c.requires.within
+
+pub part_of-part-requires-clause-narrow : goal.part_of-part-requires-clause-narrow
+part_of-part-requires-clause-narrow g c =
+    width_narrow c.args.tree.now c.args.tables.now.items c.args.at c.requires.family c.requires.within
+
+pub part_of-part-requires-clause-few : goal.part_of-part-requires-clause-few
+part_of-part-requires-clause-few g c =
+    trim_few c.args.tree.now c.args.tables.now.items c.args.at c.args.up c.requires.family c.requires.within c.requires.under
+
+pub part_of-part-requires-clause-wide : goal.part_of-part-requires-clause-wide
+part_of-part-requires-clause-wide g c =
+    c.requires.wide
+
+pub is_going-requires-clause-family : goal.is_going-requires-clause-family
+is_going-requires-clause-family g c =
+    c.requires.family
+
+pub is_going-requires-clause-within : goal.is_going-requires-clause-within
+is_going-requires-clause-within g c =
+    c.requires.within
+
+pub touch_tuple-requires-clause-family : goal.touch_tuple-requires-clause-family
+touch_tuple-requires-clause-family g c =
+    c.requires.family
+
+pub touch_tuple-requires-clause-within : goal.touch_tuple-requires-clause-within
+touch_tuple-requires-clause-within g c =
+    c.requires.under.within
+
+pub returns-then-is_going-clause-touched : goal.returns-then-is_going-clause-touched
+returns-then-is_going-clause-touched g c =
+    touched_as c.args.tree.now c.args.tables.now.items c.touch_tuple.new.tables.items c.args.up (λ v. one (same c.as_slice-cells.result.now v)) (λ v. reach_one (Trim c.args.at) c.args.going c.args.at c.args.tables.now.items c.args.tuple.now v) c.touch_tuple.ensures.touched (λ v. reach_yes c.args.at c.args.tables.now.items c.args.tuple.now v c.as_slice-cells.result.now c.args.going c.is_going.result (c.as_slice-cells.ensures ∙ c.part_of-part.ensures) c.is_going.ensures.going c.if-is_going.true)
+
+pub returns-then-is_going-clause-counted : goal.returns-then-is_going-clause-counted
+returns-then-is_going-clause-counted g c =
+    omega (arith, c.is_going.ensures.counted, c.touch_tuple.ensures.counted)
+
+pub returns-else-is_going-clause-touched : goal.returns-else-is_going-clause-touched
+returns-else-is_going-clause-touched g c =
+    touched_none c.args.tree.now c.args.tables.now.items c.args.up (λ v. reach_one (Trim c.args.at) c.args.going c.args.at c.args.tables.now.items c.args.tuple.now v) c.requires.family (λ v there some. absurd (omega (arith, reach_no c.args.at c.args.tables.now.items c.args.tuple.now v c.as_slice-cells.result.now c.args.going c.is_going.result (c.as_slice-cells.ensures ∙ c.part_of-part.ensures) c.is_going.ensures.going c.if-is_going.false)))
+
+pub returns-else-is_going-clause-counted : goal.returns-else-is_going-clause-counted
+returns-else-is_going-clause-counted g c =
+    omega (arith, c.is_going.ensures.counted)

@@ -1,0 +1,109 @@
+use Rattle.std.proofs.Common.{◌≡◌, ℕ, ◌+◌, ◌-◌, ◌*◌, ◌<◌, ◌≤◌, Bool, true, false, List, [], ◌∷◌, ◌++◌, length, take, drop, Some, None, refl, ap, subst, sym, ◌∙◌, arith}
+use Rattle.djq_index.specs.Tuple.{same, one, pick}
+use Rattle.djq_index.specs.Entries.{Entry, supp, cnt, many, grp, marks, plain, is_marked, head_at}
+use Rattle.djq_index.specs.Table.{IsAt, IsLive}
+use Rattle.djq_index.proofs.Counts.{length_grp}
+use Rattle.djq_tree.specs.declared.node.Node.TheVariants.{Leaf, Trim, Meet}
+use Rattle.djq_tree.specs.Tree.{node_at}
+use Rattle.djq_reduct.specs.Tables.{entries_at, key_at, width_at}
+use Rattle.djq_propagate.specs.Touches.{IsTouched, IsStep, gate, reach_one, reach, cost_one, cost}
+use Rattle.djq_propagate.proofs.Families.{apart_of, same_keys}
+use Rattle.djq_propagate.proofs.Sides.{head_none, drop_group, take_all, cut_cnt}
+use Rattle.djq_propagate.proofs.Gains.{width_narrow, trim_few}
+use Rattle.djq_propagate.proofs.Going.{has_table, cut_of, cut_at, as_live, moved_at, group_still}
+use Rattle.djq_propagate.proofs.Touching.{touched_none, touched_one, one_absent, one_marked, touched_as, touched_more, gate_open, gate_none, first_is, gate_first, reach_yes, reach_no, reach_leaf, reach_trim, reach_guard, reach_side, cost_trim, cost_guard, cost_side, reach_still, cost_still, reach_more, reach_nothing, cost_none, cost_more, cost_le, cost_bound, take_zero, take_whole, cut_length, cut_mark, drop_marks, step_trim, step_lower, guard_lower, kids_still}
+use Rattle.djq_propagate.proofs.touch.touch_step.Goals as goal
+
+pub len_at-count-requires : goal.len_at-count-requires
+len_at-count-requires g c =
+    let low = step_lower c.args.tree.now c.args.tables.now.items c.args.at c.args.up c.requires.step in
+    let within = c.requires.step.within in
+    has_table c.args.tree.now c.args.tables.now.items c.args.at c.requires.step.family (omega arith)
+
+pub first_marked_at-next-requires : goal.first_marked_at-next-requires
+first_marked_at-next-requires g c =
+    let low = step_lower c.args.tree.now c.args.tables.now.items c.args.at c.args.up c.requires.step in
+    let within = c.requires.step.within in
+    has_table c.args.tree.now c.args.tables.now.items c.args.at c.requires.step.family (omega arith)
+
+pub loop-done-init : goal.loop-done-init
+loop-done-init g c =
+    record { next = c.first_marked_at-next.ensures.found; touched = touched_none c.args.tree.now c.args.tables.now.items c.args.up (λ v. reach (node_at c.args.tree.now.nodes c.args.up) c.args.going c.args.at c.args.tables.now.items [] v) c.requires.step.family (λ v there some. absurd (omega (arith, reach_nothing (node_at c.args.tree.now.nodes c.args.up) c.args.going c.args.at c.args.tables.now.items v))); counted = omega (arith, c.first_marked_at-next.ensures.counted, cost_none (node_at c.args.tree.now.nodes c.args.up) c.args.at c.args.tables.now.items) }
+
+pub tuple_at-tuple-requires-clause-within : goal.tuple_at-tuple-requires-clause-within
+tuple_at-tuple-requires-clause-within g c =
+    let low = step_lower c.args.tree.now c.args.tables.now.items c.args.at c.args.up c.requires.step in
+    let within = c.requires.step.within in
+    has_table c.args.tree.now c.loop-done.tables.items c.args.at c.loop-done.invariant.touched.family (omega arith)
+
+pub tuple_at-tuple-requires-clause-narrow : goal.tuple_at-tuple-requires-clause-narrow
+tuple_at-tuple-requires-clause-narrow g c =
+    let low = step_lower c.args.tree.now c.args.tables.now.items c.args.at c.args.up c.requires.step in
+    let within = c.requires.step.within in
+    width_narrow c.args.tree.now c.loop-done.tables.items c.args.at c.loop-done.invariant.touched.family (omega arith)
+
+pub tuple_at-tuple-requires-clause-live : goal.tuple_at-tuple-requires-clause-live
+tuple_at-tuple-requires-clause-live g c =
+    let k = cut_of (marks (entries_at c.args.tables.now.items c.args.at)) c.loop-done.done c.loop-done.next c.in-Some.place c.loop-done.invariant.next c.in-Some.is in
+    let low = step_lower c.args.tree.now c.args.tables.now.items c.args.at c.args.up c.requires.step in
+    let within = c.requires.step.within in
+    as_live (entries_at c.loop-done.tables.items c.args.at) c.in-Some.place k.entry.tuple (moved_at (entries_at c.args.tables.now.items c.args.at) (entries_at c.loop-done.tables.items c.args.at) c.in-Some.place k.entry.tuple (c.loop-done.invariant.touched.others c.args.at (omega arith)) (cut_mark (entries_at c.args.tables.now.items c.args.at) c.loop-done.done c.in-Some.place k))
+
+pub touch_from-requires-clause-step : goal.touch_from-requires-clause-step
+touch_from-requires-clause-step g c =
+    record { family = c.loop-done.invariant.touched.family; within = c.requires.step.within; child = c.requires.step.child }
+
+pub touch_from-requires-clause-wide : goal.touch_from-requires-clause-wide
+touch_from-requires-clause-wide g c =
+    ap (λ (w : List ℕ). length w) c.as_slice.ensures ∙ c.tuple_at-tuple.ensures.wide
+
+pub next_marked_at-next-requires-clause-within : goal.next_marked_at-next-requires-clause-within
+next_marked_at-next-requires-clause-within g c =
+    let low = step_lower c.args.tree.now c.args.tables.now.items c.args.at c.args.up c.requires.step in
+    let within = c.requires.step.within in
+    has_table c.args.tree.now c.touch_from.new.tables.items c.args.at c.touch_from.ensures.touched.family (omega arith)
+
+pub next_marked_at-next-requires-clause-live : goal.next_marked_at-next-requires-clause-live
+next_marked_at-next-requires-clause-live g c =
+    let k = cut_of (marks (entries_at c.args.tables.now.items c.args.at)) c.loop-done.done c.loop-done.next c.in-Some.place c.loop-done.invariant.next c.in-Some.is in
+    let low = step_lower c.args.tree.now c.args.tables.now.items c.args.at c.args.up c.requires.step in
+    let within = c.requires.step.within in
+    let n = touched_more c.args.tree.now c.args.tables.now.items c.loop-done.tables.items c.touch_from.new.tables.items c.args.up (λ v. reach (node_at c.args.tree.now.nodes c.args.up) c.args.going c.args.at c.args.tables.now.items (take c.loop-done.done (marks (entries_at c.args.tables.now.items c.args.at))) v) (λ v. reach_one (node_at c.args.tree.now.nodes c.args.up) c.args.going c.args.at c.loop-done.tables.items c.as_slice.result.now v) (λ v. reach (node_at c.args.tree.now.nodes c.args.up) c.args.going c.args.at c.args.tables.now.items (take (c.loop-done.done + 1) (marks (entries_at c.args.tables.now.items c.args.at))) v) c.requires.step.family c.loop-done.invariant.touched c.touch_from.ensures.touched
+    (λ v. reach_more (node_at c.args.tree.now.nodes c.args.up) c.args.going c.args.at c.args.tables.now.items (marks (entries_at c.args.tables.now.items c.args.at)) c.loop-done.done k.entry v k.is ∙ ap (λ (x : ℕ). reach (node_at c.args.tree.now.nodes c.args.up) c.args.going c.args.at c.args.tables.now.items (take c.loop-done.done (marks (entries_at c.args.tables.now.items c.args.at))) v + x) (sym (ap (λ (w : List ℕ). reach_one (node_at c.args.tree.now.nodes c.args.up) c.args.going c.args.at c.loop-done.tables.items w v) (c.as_slice.ensures ∙ c.tuple_at-tuple.ensures.tuple k.entry.tuple (moved_at (entries_at c.args.tables.now.items c.args.at) (entries_at c.loop-done.tables.items c.args.at) c.in-Some.place k.entry.tuple (c.loop-done.invariant.touched.others c.args.at (omega arith)) (cut_mark (entries_at c.args.tables.now.items c.args.at) c.loop-done.done c.in-Some.place k))) ∙ reach_still (node_at c.args.tree.now.nodes c.args.up) c.args.going c.args.at c.args.tables.now.items c.loop-done.tables.items k.entry.tuple v (same_keys c.args.tree.now c.args.tables.now.items c.loop-done.tables.items c.requires.step.family c.loop-done.invariant.touched.family) (kids_still c.args.tree.now c.args.tables.now.items c.loop-done.tables.items c.args.up (λ v. reach (node_at c.args.tree.now.nodes c.args.up) c.args.going c.args.at c.args.tables.now.items (take c.loop-done.done (marks (entries_at c.args.tables.now.items c.args.at))) v) c.requires.step.family.is_tree c.loop-done.invariant.touched)))) in
+    as_live (entries_at c.touch_from.new.tables.items c.args.at) c.in-Some.place k.entry.tuple (moved_at (entries_at c.args.tables.now.items c.args.at) (entries_at c.touch_from.new.tables.items c.args.at) c.in-Some.place k.entry.tuple (n.others c.args.at (omega arith)) (cut_mark (entries_at c.args.tables.now.items c.args.at) c.loop-done.done c.in-Some.place k))
+
+pub loop-done-smaller : goal.loop-done-smaller
+loop-done-smaller g c =
+    let h = c.loop-done-test.true in
+    omega arith
+
+pub loop-done-preserved : goal.loop-done-preserved
+loop-done-preserved g c =
+    let k = cut_of (marks (entries_at c.args.tables.now.items c.args.at)) c.loop-done.done c.loop-done.next c.in-Some.place c.loop-done.invariant.next c.in-Some.is in
+    let low = step_lower c.args.tree.now c.args.tables.now.items c.args.at c.args.up c.requires.step in
+    let within = c.requires.step.within in
+    let n = touched_more c.args.tree.now c.args.tables.now.items c.loop-done.tables.items c.touch_from.new.tables.items c.args.up (λ v. reach (node_at c.args.tree.now.nodes c.args.up) c.args.going c.args.at c.args.tables.now.items (take c.loop-done.done (marks (entries_at c.args.tables.now.items c.args.at))) v) (λ v. reach_one (node_at c.args.tree.now.nodes c.args.up) c.args.going c.args.at c.loop-done.tables.items c.as_slice.result.now v) (λ v. reach (node_at c.args.tree.now.nodes c.args.up) c.args.going c.args.at c.args.tables.now.items (take (c.loop-done.done + 1) (marks (entries_at c.args.tables.now.items c.args.at))) v) c.requires.step.family c.loop-done.invariant.touched c.touch_from.ensures.touched
+    (λ v. reach_more (node_at c.args.tree.now.nodes c.args.up) c.args.going c.args.at c.args.tables.now.items (marks (entries_at c.args.tables.now.items c.args.at)) c.loop-done.done k.entry v k.is ∙ ap (λ (x : ℕ). reach (node_at c.args.tree.now.nodes c.args.up) c.args.going c.args.at c.args.tables.now.items (take c.loop-done.done (marks (entries_at c.args.tables.now.items c.args.at))) v + x) (sym (ap (λ (w : List ℕ). reach_one (node_at c.args.tree.now.nodes c.args.up) c.args.going c.args.at c.loop-done.tables.items w v) (c.as_slice.ensures ∙ c.tuple_at-tuple.ensures.tuple k.entry.tuple (moved_at (entries_at c.args.tables.now.items c.args.at) (entries_at c.loop-done.tables.items c.args.at) c.in-Some.place k.entry.tuple (c.loop-done.invariant.touched.others c.args.at (omega arith)) (cut_mark (entries_at c.args.tables.now.items c.args.at) c.loop-done.done c.in-Some.place k))) ∙ reach_still (node_at c.args.tree.now.nodes c.args.up) c.args.going c.args.at c.args.tables.now.items c.loop-done.tables.items k.entry.tuple v (same_keys c.args.tree.now c.args.tables.now.items c.loop-done.tables.items c.requires.step.family c.loop-done.invariant.touched.family) (kids_still c.args.tree.now c.args.tables.now.items c.loop-done.tables.items c.args.up (λ v. reach (node_at c.args.tree.now.nodes c.args.up) c.args.going c.args.at c.args.tables.now.items (take c.loop-done.done (marks (entries_at c.args.tables.now.items c.args.at))) v) c.requires.step.family.is_tree c.loop-done.invariant.touched)))) in
+    record {
+      next = c.next_marked_at-next.ensures.found (take c.loop-done.done (marks (entries_at c.args.tables.now.items c.args.at))) k.entry (drop (c.loop-done.done + 1) (marks (entries_at c.args.tables.now.items c.args.at))) (ap (λ (es : List Entry). marks es) (n.others c.args.at (omega arith)) ∙ k.is) k.at;
+      touched = n;
+      counted = omega (arith, c.loop-done.invariant.counted, c.touch_from.ensures.counted, c.next_marked_at-next.ensures.counted, cost_more (node_at c.args.tree.now.nodes c.args.up) c.args.at c.args.tables.now.items (marks (entries_at c.args.tables.now.items c.args.at)) c.loop-done.done k.entry k.is, ap (λ (w : List ℕ). cost_one (node_at c.args.tree.now.nodes c.args.up) c.args.at c.loop-done.tables.items w) (c.as_slice.ensures ∙ c.tuple_at-tuple.ensures.tuple k.entry.tuple (moved_at (entries_at c.args.tables.now.items c.args.at) (entries_at c.loop-done.tables.items c.args.at) c.in-Some.place k.entry.tuple (c.loop-done.invariant.touched.others c.args.at (omega arith)) (cut_mark (entries_at c.args.tables.now.items c.args.at) c.loop-done.done c.in-Some.place k))), cost_still (node_at c.args.tree.now.nodes c.args.up) c.args.at c.args.tables.now.items c.loop-done.tables.items k.entry.tuple (same_keys c.args.tree.now c.args.tables.now.items c.loop-done.tables.items c.requires.step.family c.loop-done.invariant.touched.family) (kids_still c.args.tree.now c.args.tables.now.items c.loop-done.tables.items c.args.up (λ v. reach (node_at c.args.tree.now.nodes c.args.up) c.args.going c.args.at c.args.tables.now.items (take c.loop-done.done (marks (entries_at c.args.tables.now.items c.args.at))) v) c.requires.step.family.is_tree c.loop-done.invariant.touched));
+    }
+
+pub returns-in-None-clause-touched : goal.returns-in-None-clause-touched
+returns-in-None-clause-touched g c =
+    touched_as c.args.tree.now c.args.tables.now.items c.loop-done.tables.items c.args.up (λ v. reach (node_at c.args.tree.now.nodes c.args.up) c.args.going c.args.at c.args.tables.now.items (take c.loop-done.done (marks (entries_at c.args.tables.now.items c.args.at))) v) (λ v. reach (node_at c.args.tree.now.nodes c.args.up) c.args.going c.args.at c.args.tables.now.items (marks (entries_at c.args.tables.now.items c.args.at)) v) c.loop-done.invariant.touched (λ v. ap (λ (es : List Entry). reach (node_at c.args.tree.now.nodes c.args.up) c.args.going c.args.at c.args.tables.now.items es v) (sym (take_whole (marks (entries_at c.args.tables.now.items c.args.at)) c.loop-done.done (head_none (drop c.loop-done.done (marks (entries_at c.args.tables.now.items c.args.at))) (sym c.loop-done.invariant.next ∙ c.in-None.is)))))
+
+pub returns-in-None-clause-counted : goal.returns-in-None-clause-counted
+returns-in-None-clause-counted g c =
+    λ n h. omega (arith, c.loop-done.invariant.counted, cost_le (node_at c.args.tree.now.nodes c.args.up) c.args.at c.args.tables.now.items (marks (entries_at c.args.tables.now.items c.args.at)) c.loop-done.done, cost_bound c.args.tree.now c.args.tables.now.items (node_at c.args.tree.now.nodes c.args.up) c.args.at n c.requires.step.family h)
+
+pub returns-clause-touched : goal.returns-clause-touched
+returns-clause-touched g c =
+    let h = c.loop-done-test.false in
+    let x = c.loop-done.auto.done-end in
+    touched_as c.args.tree.now c.args.tables.now.items c.loop-done.tables.items c.args.up (λ v. reach (node_at c.args.tree.now.nodes c.args.up) c.args.going c.args.at c.args.tables.now.items (take c.loop-done.done (marks (entries_at c.args.tables.now.items c.args.at))) v) (λ v. reach (node_at c.args.tree.now.nodes c.args.up) c.args.going c.args.at c.args.tables.now.items (marks (entries_at c.args.tables.now.items c.args.at)) v) c.loop-done.invariant.touched (λ v. ap (λ (es : List Entry). reach (node_at c.args.tree.now.nodes c.args.up) c.args.going c.args.at c.args.tables.now.items es v) (sym (take_whole (marks (entries_at c.args.tables.now.items c.args.at)) c.loop-done.done (drop_marks (entries_at c.args.tables.now.items c.args.at) c.loop-done.done (omega (arith, c.len_at-count.ensures))))))
+
+pub returns-clause-counted : goal.returns-clause-counted
+returns-clause-counted g c =
+    λ n h. omega (arith, c.loop-done.invariant.counted, cost_le (node_at c.args.tree.now.nodes c.args.up) c.args.at c.args.tables.now.items (marks (entries_at c.args.tables.now.items c.args.at)) c.loop-done.done, cost_bound c.args.tree.now c.args.tables.now.items (node_at c.args.tree.now.nodes c.args.up) c.args.at n c.requires.step.family h)

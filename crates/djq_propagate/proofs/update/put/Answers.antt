@@ -1,0 +1,57 @@
+use Rattle.std.proofs.Common.{◌≡◌, ℕ, ◌+◌, ◌*◌, ◌<◌, ◌≤◌, List, length, refl, ap, subst, sym, ◌∙◌, arith, rules}
+use Rattle.djq_index.specs.Table.{Table}
+use Rattle.djq_tree.specs.Labels.{label_at}
+use Rattle.djq_reduct.specs.Tables.{entries_at}
+use Rattle.djq_reduct.specs.Reducts as spec
+use Rattle.djq_reduct.specs.Reducts.{IsReducts}
+use Rattle.djq_reduct.specs.Marks.{IsBare, AreOnPath, IsWithout}
+use Rattle.djq_propagate.specs.Updates.{HasInserted, HasMarked, HasKept, HasDropped}
+use Rattle.djq_index.specs.Tuple.{one, same}
+use Rattle.djq_propagate.proofs.Going.{on_err}
+use Rattle.djq_propagate.proofs.Measuring.{put_counted, mark_counted, keep_counted, take_counted}
+use Rattle.djq_propagate.proofs.Updating.{both, leaf_within, ready_leaf, reducts_lived, refused_kept, inserted_all, can_insert, can_remove, marked_all, kept_all, dropped_all, undone}
+use Rattle.djq_propagate.proofs.update.put.Goals as goal
+
+pub live-requires-clause-ready : goal.live-requires-clause-ready
+live-requires-clause-ready g c =
+    ready_leaf c.args.tree.now c.args.tables.now.items c.args.leaf c.requires.reducts c.requires.leaf
+
+pub live-requires-clause-absent : goal.live-requires-clause-absent
+live-requires-clause-absent g c =
+    c.requires.absent
+
+pub live-requires-clause-wide : goal.live-requires-clause-wide
+live-requires-clause-wide g c =
+    c.requires.wide ∙ sym (c.requires.reducts.family.keyed c.args.leaf (leaf_within c.args.tree.now c.args.leaf c.requires.reducts.family.is_tree c.requires.leaf)).width
+
+pub returns-in_err-live-clause-inserted : goal.returns-in_err-live-clause-inserted
+returns-in_err-live-clause-inserted g c =
+    search rules
+
+pub returns-in_err-live-clause-refused : goal.returns-in_err-live-clause-refused
+returns-in_err-live-clause-refused g c =
+    on_err c.from_residual.result (HasKept (both c.args.tree.now c.args.tables.now.items) (both c.args.tree.now c.live.new.tables.items)) (refused_kept c.args.tree.now c.args.tables.now.items c.live.new.tables.items c.args.leaf c.requires.reducts c.in_err-live.ensures.refused c.live.ensures.plain c.requires.bare)
+
+pub touch_path-requires-clause-family : goal.touch_path-requires-clause-family
+touch_path-requires-clause-family g c =
+    c.in_ok-live.ensures.ok.family
+
+pub touch_path-requires-clause-can : goal.touch_path-requires-clause-can
+touch_path-requires-clause-can g c =
+    can_insert c.args.tree.now c.args.tables.now.items c.live.new.tables.items c.args.leaf c.args.tuple.now c.requires.reducts c.requires.leaf c.requires.bare c.in_ok-live.ensures.ok c.live.ensures.plain
+
+pub touch_path-requires-clause-leaf : goal.touch_path-requires-clause-leaf
+touch_path-requires-clause-leaf g c =
+    c.requires.leaf
+
+pub returns-clause-inserted : goal.returns-clause-inserted
+returns-clause-inserted g c =
+    inserted_all c.args.tree.now c.args.tables.now.items c.live.new.tables.items c.touch_path.new.tables.items c.args.leaf c.args.tuple.now c.requires.reducts c.requires.leaf c.requires.bare c.in_ok-live.ensures.ok c.live.ensures.plain c.touch_path.ensures.touched c.touch_path.ensures.walked
+
+pub returns-clause-counted : goal.returns-clause-counted
+returns-clause-counted g c =
+    λ n few. put_counted c.args.tree.now c.args.tables.now.items c.live.new.tables.items c.touch_path.new.tables.items c.args.leaf c.args.tuple.now n c.args.tally.now c.live.new.tally c.touch_path.new.tally c.requires.reducts c.requires.leaf c.in_ok-live.ensures.ok c.touch_path.ensures.touched (inserted_all c.args.tree.now c.args.tables.now.items c.live.new.tables.items c.touch_path.new.tables.items c.args.leaf c.args.tuple.now c.requires.reducts c.requires.leaf c.requires.bare c.in_ok-live.ensures.ok c.live.ensures.plain c.touch_path.ensures.touched c.touch_path.ensures.walked).sound few c.in_ok-live.ensures.counted c.touch_path.ensures.counted
+
+pub returns-in_err-live-clause-counted : goal.returns-in_err-live-clause-counted
+returns-in_err-live-clause-counted g c =
+    search rules

@@ -1,0 +1,41 @@
+use Rattle.std.proofs.Common.{◌≡◌, ℕ, ◌+◌, ◌*◌, ◌<◌, ◌≤◌, List, length, refl, ap, subst, sym, ◌∙◌, arith, rules}
+use Rattle.djq_index.specs.Table.{Table}
+use Rattle.djq_tree.specs.Labels.{label_at}
+use Rattle.djq_reduct.specs.Tables.{entries_at}
+use Rattle.djq_reduct.specs.Reducts as spec
+use Rattle.djq_reduct.specs.Reducts.{IsReducts}
+use Rattle.djq_reduct.specs.Marks.{IsBare, AreOnPath, IsWithout}
+use Rattle.djq_propagate.specs.Updates.{HasInserted, HasMarked, HasKept, HasDropped}
+use Rattle.djq_index.specs.Tuple.{one, same}
+use Rattle.djq_propagate.proofs.Going.{on_err}
+use Rattle.djq_propagate.proofs.Measuring.{put_counted, mark_counted, keep_counted, take_counted}
+use Rattle.djq_propagate.proofs.Updating.{both, leaf_within, ready_leaf, reducts_lived, refused_kept, inserted_all, can_insert, can_remove, marked_all, kept_all, dropped_all, undone}
+use Rattle.djq_propagate.proofs.update.take_out.Goals as goal
+
+pub take_marked-requires-clause-reducts : goal.take_marked-requires-clause-reducts
+take_marked-requires-clause-reducts g c =
+    c.requires.reducts
+
+pub take_marked-requires-clause-leaf : goal.take_marked-requires-clause-leaf
+take_marked-requires-clause-leaf g c =
+    c.requires.leaf
+
+pub clear_path-requires-clause-family : goal.clear_path-requires-clause-family
+clear_path-requires-clause-family g c =
+    c.take_marked.ensures.taken.sound.family
+
+pub clear_path-requires-clause-leaf : goal.clear_path-requires-clause-leaf
+clear_path-requires-clause-leaf g c =
+    c.requires.leaf
+
+pub returns-clause-dropped : goal.returns-clause-dropped
+returns-clause-dropped g c =
+    dropped_all c.args.tree.now c.args.tables.now.items c.take_marked.new.tables.items c.clear_path.new.tables.items c.args.leaf c.requires.leaf c.requires.path c.take_marked.ensures.taken c.clear_path.ensures.cleared
+
+pub returns-clause-back : goal.returns-clause-back
+returns-clause-back g c =
+    λ before r w. let d = dropped_all c.args.tree.now c.args.tables.now.items c.take_marked.new.tables.items c.clear_path.new.tables.items c.args.leaf c.requires.leaf c.requires.path c.take_marked.ensures.taken c.clear_path.ensures.cleared in undone before (both c.args.tree.now c.args.tables.now.items) (both c.args.tree.now c.clear_path.new.tables.items) c.args.leaf r d.sound w d.without
+
+pub returns-clause-counted : goal.returns-clause-counted
+returns-clause-counted g c =
+    λ n few. take_counted c.args.tree.now c.args.tables.now.items c.take_marked.new.tables.items c.args.leaf n c.args.tally.now c.take_marked.new.tally c.clear_path.new.tally c.requires.reducts c.take_marked.ensures.taken few c.take_marked.ensures.counted c.clear_path.ensures.counted

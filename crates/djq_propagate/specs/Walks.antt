@@ -1,0 +1,115 @@
+-- What a walk up a path of the tree does to the tables of its nodes.
+use Rattle.std.specs.Prelude.{◌≡◌, ◌≢◌, ℕ, ◌+◌, ◌<◌, ◌≤◌, true, List, length}
+use Rattle.djq_index.specs.Entries.{Entry, supp, cnt, marks, plain}
+use Rattle.djq_index.specs.Changes.{Inserted, Removed}
+use Rattle.djq_index.specs.declared.place.Place.{Place}
+use Rattle.djq_index.specs.Table.{Table, IsAt}
+use Rattle.djq_tree.specs.declared.node.Node.{Node}
+use Rattle.djq_tree.specs.Tree.{Tree, node_at, has_child}
+use Rattle.djq_reduct.specs.Tables.{entries_at, key_at}
+use Rattle.djq_reduct.specs.Reducts.{IsFamily, AreReduced}
+use Rattle.djq_propagate.specs.Sizes.{size}
+
+-- the table k changed, and no other
+pub record Changed (old new : List Table) (k : ℕ) : Type 0 where
+  pub others : (i : ℕ) → i ≢ k → entries_at new i ≡ entries_at old i
+  pub family : (t : Tree) → IsFamily t old → IsFamily t new
+  pub size : size new + length (entries_at old k) ≡ size old + length (entries_at new k)
+
+-- a tuple with more than one support lies at p
+pub record IsShared (es : List Entry) (p : Place) : Type 0 where
+  pub tuple : List ℕ
+  pub is_at : IsAt es p tuple
+  pub more : 1 < supp es tuple
+
+-- above the node j each table is its node's reduct
+pub record Ready (t : Tree) (ts : List Table) (j : ℕ) : Type 0 where
+  pub family : IsFamily t ts
+  pub within : j < length t.nodes
+  pub reduced : AreReduced t ts (j + 1)
+
+-- i isn't j, and has a lower number than j's parent, if any
+abbrev pub IsBelow : Tree → ℕ → ℕ → Type 0
+IsBelow t j i = (i ≢ j) × ((k : ℕ) → has_child (node_at t.nodes k) j ≡ true → i < k)
+
+-- the node j has gained the tuple u, and those above it what it brings
+pub record Lived (t : Tree) (old new : List Table) (j : ℕ) (u : List ℕ) : Type 0 where
+  pub family : IsFamily t new
+  pub gains : Inserted (key_at old j) (entries_at old j) (entries_at new j) u
+  pub below : (i : ℕ) → IsBelow t j i → entries_at new i ≡ entries_at old i
+  pub reduced : AreReduced t new (j + 1)
+
+-- the node j has lost the tuple u, and those above it what it took away
+pub record Died (t : Tree) (old new : List Table) (j : ℕ) (u : List ℕ) : Type 0 where
+  pub family : IsFamily t new
+  pub loses : Removed (entries_at old j) (entries_at new j) u
+  pub below : (i : ℕ) → IsBelow t j i → entries_at new i ≡ entries_at old i
+  pub reduced : AreReduced t new (j + 1)
+
+-- all tables hold the same tuples with the same supports, and those below are the same
+pub record Refused (t : Tree) (old new : List Table) (j : ℕ) : Type 0 where
+  pub family : IsFamily t new
+  pub supports : (i : ℕ) (v : List ℕ) → supp (entries_at new i) v ≡ supp (entries_at old i) v
+  pub below : (i : ℕ) → IsBelow t j i → entries_at new i ≡ entries_at old i
+
+-- the table of the node j has changed, and those above it were right before
+pub record Began (t : Tree) (was now : List Table) (j : ℕ) : Type 0 where
+  pub ready : Ready t was j
+  pub changed : Changed was now j
+
+pub record Gaining (t : Tree) (now : List Table) (j : ℕ) (u : List ℕ) : Type 0 where
+  pub was : List Table
+  pub began : Began t was now j
+  pub gains : Inserted (key_at was j) (entries_at was j) (entries_at now j) u
+
+pub record Losing (t : Tree) (now : List Table) (j : ℕ) (u : List ℕ) : Type 0 where
+  pub was : List Table
+  pub began : Began t was now j
+  pub loses : Removed (entries_at was j) (entries_at now j) u
+
+-- the tables above the node j are right again
+pub record Righted (t : Tree) (old new : List Table) (j : ℕ) : Type 0 where
+  pub family : IsFamily t new
+  pub at : entries_at new j ≡ entries_at old j
+  pub below : (i : ℕ) → IsBelow t j i → entries_at new i ≡ entries_at old i
+  pub reduced : AreReduced t new (j + 1)
+
+-- or all is as it was, but for the order in groups above the node j
+pub record Stayed (t : Tree) (old new : List Table) (j : ℕ) : Type 0 where
+  pub family : IsFamily t new
+  pub at : entries_at new j ≡ entries_at old j
+  pub supports : (i : ℕ) (v : List ℕ) → supp (entries_at new i) v ≡ supp (entries_at old i) v
+  pub below : (i : ℕ) → IsBelow t j i → entries_at new i ≡ entries_at old i
+
+-- the node k, which is n, is the parent of the node j
+pub record IsUnder (t : Tree) (k : ℕ) (n : Node) (j : ℕ) : Type 0 where
+  pub within : k < length t.nodes
+  pub node : node_at t.nodes k ≡ n
+  pub child : has_child n j ≡ true
+
+-- each of the tuples of es is among the entries ds, with one support
+pub record IsFull (ds es : List Entry) : Type 0 where
+  pub each : (v : List ℕ) → 0 < cnt es v → supp ds v ≡ 1
+
+-- the node k has gained the tuples of es, with one support each, and those above it what they bring
+pub record IsGrown (t : Tree) (old new : List Table) (k : ℕ) (es : List Entry) : Type 0 where
+  pub family : IsFamily t new
+  pub low : (i : ℕ) → i < k → entries_at new i ≡ entries_at old i
+  pub came : (v : List ℕ) → supp (entries_at new k) v ≡ supp (entries_at old k) v + cnt es v
+  pub reduced : AreReduced t new (k + 1)
+
+-- the node k has lost the tuples of es, which had one support each, and those above it what they took away
+pub record IsEmptied (t : Tree) (old new : List Table) (k : ℕ) (es : List Entry) : Type 0 where
+  pub family : IsFamily t new
+  pub low : (i : ℕ) → i < k → entries_at new i ≡ entries_at old i
+  pub lost : (v : List ℕ) → supp (entries_at old k) v ≡ supp (entries_at new k) v + cnt es v
+  pub reduced : AreReduced t new (k + 1)
+
+-- what came is marked, and no mark changed
+pub record SamePlain (old new : List Table) : Type 0 where
+  pub same : (i : ℕ) (v : List ℕ) → cnt (plain (entries_at new i)) v ≡ cnt (plain (entries_at old i)) v
+
+-- tuples went, none came, and no mark changed
+pub record Fewer (old new : List Table) : Type 0 where
+  pub unmarked : (i : ℕ) (v : List ℕ) → cnt (plain (entries_at new i)) v ≤ cnt (plain (entries_at old i)) v
+  pub marked : (i : ℕ) (v : List ℕ) → cnt (marks (entries_at new i)) v ≤ cnt (marks (entries_at old i)) v

@@ -1,0 +1,197 @@
+//! A tuple goes from a node, and what it took along goes from the nodes above it. This takes no memory.
+
+ghost use Rattle.std.specs.Prelude.{◌≡◌, ℕ, ◌+◌, ◌*◌, ◌<◌, ◌≤◌, List, length, take};
+ghost use Rattle.djq_index.specs.Entries.{cnt, grp};
+ghost use Rattle.djq_index.specs.Table.{IsAt, IsLive};
+ghost use Rattle.djq_tree.specs.declared.node.Node.TheVariants.{Trim, Meet};
+ghost use Rattle.djq_reduct.specs.Tables.{entries_at, key_at, width_at};
+ghost use Rattle.djq_propagate.specs.Sizes.{size};
+ghost use Rattle.djq_propagate.specs.Walks.{Ready, Died, Losing, Righted, Fewer, IsUnder, IsEmptied, IsFull};
+
+use crate::tables::{
+    find_at, first_at, is_shared_at, len_at, lower_at, next_at, part_of, remove_at, tuple_at,
+};
+use djq_index::{Place, Table};
+use djq_steps::Tally;
+use djq_tree::{Node, Tree};
+use std::sync::ledger::Ledger;
+
+/// Takes the tuple at a place out of the table of a node, and out of the tables above what stands by it
+/// alone.
+#[cycle(kill)]
+pub(crate) fn kill<L: Ledger>(
+    tree: &Tree,
+    tables: &mut Vec<Table>,
+    at: usize,
+    place: Place,
+    tally: &mut Tally<L>,
+)
+    requires ready { Ready tree.now tables.old.items at }
+    requires live { IsLive (entries_at tables.old.items at) place }
+    ensures died { (u : List ℕ) → IsAt (entries_at tables.old.items at) place u → Died tree.now tables.old.items tables.new.items at u }
+    ensures fewer { Fewer tables.old.items tables.new.items }
+    ensures counted { tally.new + 2 + 5 * size tables.new.items ≤ tally.old + 5 * size tables.old.items }
+{
+    let tuple = tuple_at(tables, at, place);
+    remove_at(tables, at, place, tally);
+    fall(tree, tables, at, tuple.as_slice(), tally);
+}
+
+/// The same for a tuple that its node's table has lost already.
+#[cycle(kill)]
+fn fall<L: Ledger>(
+    tree: &Tree,
+    tables: &mut Vec<Table>,
+    at: usize,
+    tuple: &[u64],
+    tally: &mut Tally<L>,
+)
+    requires losing { Losing tree.now tables.old.items at tuple.now }
+    requires wide { length tuple.now ≡ width_at tables.old.items at }
+    ensures righted { Righted tree.now tables.old.items tables.new.items at }
+    ensures fewer { Fewer tables.old.items tables.new.items }
+    ensures counted { tally.new + 5 * size tables.new.items ≤ tally.old + 2 + 5 * size tables.old.items }
+{
+    match tree.parent(at) {
+        None => {}
+        Some(up) => match tree.node(up) {
+            Node::Leaf { .. } => {}
+            Node::Trim { .. } => fall_trim(tree, tables, at, up, tuple, tally),
+            Node::Meet { guard, side } => {
+                if guard == at {
+                    fall_guard(tree, tables, at, side, up, tuple, tally);
+                } else {
+                    fall_side(tree, tables, at, guard, up, tuple, tally);
+                }
+            }
+        },
+    }
+}
+
+/// From a trim a tuple takes a support of its projection, and the last one with it.
+#[cycle(kill)]
+fn fall_trim<L: Ledger>(
+    tree: &Tree,
+    tables: &mut Vec<Table>,
+    at: usize,
+    up: usize,
+    tuple: &[u64],
+    tally: &mut Tally<L>,
+)
+    requires losing { Losing tree.now tables.old.items at tuple.now }
+    requires wide { length tuple.now ≡ width_at tables.old.items at }
+    requires under { IsUnder tree.now up (Trim at) at }
+    ensures righted { Righted tree.now tables.old.items tables.new.items at }
+    ensures fewer { Fewer tables.old.items tables.new.items }
+    ensures counted { tally.new + 5 * size tables.new.items ≤ tally.old + 2 + 5 * size tables.old.items }
+{
+    let part = part_of(tables, at, tuple);
+    match find_at(tables, up, part.as_slice(), tally) {
+        Some(place) => {
+            if is_shared_at(tables, up, place) {
+                lower_at(tables, up, place, tally);
+            } else {
+                kill(tree, tables, up, place, tally);
+            }
+        }
+        None => {}
+    }
+}
+
+/// From a meet a tuple of its guard takes itself.
+#[cycle(kill)]
+fn fall_guard<L: Ledger>(
+    tree: &Tree,
+    tables: &mut Vec<Table>,
+    at: usize,
+    side: usize,
+    up: usize,
+    tuple: &[u64],
+    tally: &mut Tally<L>,
+)
+    requires losing { Losing tree.now tables.old.items at tuple.now }
+    requires under { IsUnder tree.now up (Meet at side) at }
+    ensures righted { Righted tree.now tables.old.items tables.new.items at }
+    ensures fewer { Fewer tables.old.items tables.new.items }
+    ensures counted { tally.new + 5 * size tables.new.items ≤ tally.old + 2 + 5 * size tables.old.items }
+{
+    match find_at(tables, up, tuple, tally) {
+        Some(place) => kill(tree, tables, up, place, tally),
+        None => {}
+    }
+}
+
+/// From a meet a tuple of its side takes the guard's tuples that project to it.
+#[cycle(kill)]
+fn fall_side<L: Ledger>(
+    tree: &Tree,
+    tables: &mut Vec<Table>,
+    at: usize,
+    guard: usize,
+    up: usize,
+    tuple: &[u64],
+    tally: &mut Tally<L>,
+)
+    requires losing { Losing tree.now tables.old.items at tuple.now }
+    requires under { IsUnder tree.now up (Meet guard at) at }
+    ensures righted { Righted tree.now tables.old.items tables.new.items at }
+    ensures fewer { Fewer tables.old.items tables.new.items }
+    ensures counted { tally.new + 5 * size tables.new.items ≤ tally.old + 2 + 5 * size tables.old.items }
+{
+    let count = len_at(tables, guard);
+    empty_group(tree, tables, guard, up, tuple, count, tally);
+}
+
+/// Takes the first `count` tuples of a group of a meet's guard out of the meet.
+#[cycle(kill)]
+pub(crate) fn empty_group<L: Ledger>(
+    tree: &Tree,
+    tables: &mut Vec<Table>,
+    guard: usize,
+    up: usize,
+    cells: &[u64],
+    count: usize,
+    tally: &mut Tally<L>,
+)
+    requires ready { Ready tree.now tables.old.items up }
+    requires lower { guard < up }
+    requires full { IsFull (entries_at tables.old.items up) (take count (grp (key_at tables.old.items guard) (entries_at tables.old.items guard) cells.now)) }
+    ensures emptied { IsEmptied tree.now tables.old.items tables.new.items up (take count (grp (key_at tables.old.items guard) (entries_at tables.old.items guard) cells.now)) }
+    ensures fewer { Fewer tables.old.items tables.new.items }
+    ensures counted { tally.new + 5 * size tables.new.items ≤ tally.old + 1 + 5 * size tables.old.items }
+{
+    let mut next = first_at(tables, guard, cells, tally);
+    for _done in 0..count {
+        match next {
+            Some(place) => {
+                let part = tuple_at(tables, guard, place);
+                kill_tuple(tree, tables, up, part.as_slice(), tally);
+                next = next_at(tables, guard, place, tally);
+            }
+            None => {
+                return;
+            }
+        }
+    }
+}
+
+/// Takes a tuple out of the table of a node, as `kill` does.
+#[cycle(kill)]
+fn kill_tuple<L: Ledger>(
+    tree: &Tree,
+    tables: &mut Vec<Table>,
+    at: usize,
+    tuple: &[u64],
+    tally: &mut Tally<L>,
+)
+    requires ready { Ready tree.now tables.old.items at }
+    requires there { 0 < cnt (entries_at tables.old.items at) tuple.now }
+    ensures died { Died tree.now tables.old.items tables.new.items at tuple.now }
+    ensures fewer { Fewer tables.old.items tables.new.items }
+    ensures counted { tally.new + 1 + 5 * size tables.new.items ≤ tally.old + 5 * size tables.old.items }
+{
+    match find_at(tables, at, tuple, tally) {
+        Some(place) => kill(tree, tables, at, place, tally),
+        None => {}
+    }
+}

@@ -1,0 +1,176 @@
+//! A tuple comes to a node, and what it brings comes to the nodes above it.
+
+ghost use Rattle.std.specs.Prelude.{◌≡◌, ◌+◌, ◌*◌, ◌<◌, ◌≤◌, length, IfOk, OnErr};
+ghost use Rattle.djq_index.specs.Entries.{cnt};
+ghost use Rattle.djq_tree.specs.declared.node.Node.TheVariants.{Trim, Meet};
+ghost use Rattle.djq_reduct.specs.Tables.{entries_at, key_at, width_at};
+ghost use Rattle.djq_propagate.specs.Sizes.{size};
+ghost use Rattle.djq_propagate.specs.Walks.{Ready, Lived, Refused, Gaining, Righted, Stayed, SamePlain, IsUnder};
+
+use crate::kill::empty_group;
+use crate::tables::{
+    find_at, first_at, insert_at, is_small_at, len_at, next_at, part_of, raise_at, remove_at,
+    tuple_at,
+};
+use djq_index::Table;
+use djq_steps::Tally;
+use djq_tree::{Node, Tree};
+use std::alloc::AllocError;
+use std::sync::ledger::Ledger;
+
+/// Puts a tuple into the table of a node, and what it brings into the tables above. Where there is no
+/// memory, all tables hold the same tuples as before.
+#[cycle(live)]
+pub(crate) fn live<L: Ledger>(
+    tree: &Tree,
+    tables: &mut Vec<Table>,
+    at: usize,
+    tuple: &[u64],
+    tally: &mut Tally<L>,
+) -> Result<(), AllocError>
+    requires ready { Ready tree.now tables.old.items at }
+    requires absent { cnt (entries_at tables.old.items at) tuple.now ≡ 0 }
+    requires wide { length tuple.now ≡ width_at tables.old.items at }
+    ensures ok { IfOk result (λ _. Lived tree.now tables.old.items tables.new.items at tuple.now) }
+    ensures refused { OnErr result (Refused tree.now tables.old.items tables.new.items at) }
+    ensures plain { SamePlain tables.old.items tables.new.items }
+    ensures counted { IfOk result (λ _. tally.new + 1 + 4 * size tables.old.items ≤ tally.old + 4 * size tables.new.items) }
+{
+    let place = insert_at(tables, at, tuple, tally)?;
+    match rise(tree, tables, at, tuple, tally) {
+        Ok(()) => Ok(()),
+        Err(error) => {
+            remove_at(tables, at, place, tally);
+            Err(error)
+        }
+    }
+}
+
+/// The same for a tuple that is already in its node's table.
+#[cycle(live)]
+fn rise<L: Ledger>(
+    tree: &Tree,
+    tables: &mut Vec<Table>,
+    at: usize,
+    tuple: &[u64],
+    tally: &mut Tally<L>,
+) -> Result<(), AllocError>
+    requires gaining { Gaining tree.now tables.old.items at tuple.now }
+    requires wide { length tuple.now ≡ width_at tables.old.items at }
+    ensures ok { IfOk result (λ _. Righted tree.now tables.old.items tables.new.items at) }
+    ensures refused { OnErr result (Stayed tree.now tables.old.items tables.new.items at) }
+    ensures plain { SamePlain tables.old.items tables.new.items }
+    ensures counted { IfOk result (λ _. tally.new + 4 * size tables.old.items ≤ tally.old + 2 + 4 * size tables.new.items) }
+{
+    match tree.parent(at) {
+        None => Ok(()),
+        Some(up) => match tree.node(up) {
+            Node::Leaf { .. } => Ok(()),
+            Node::Trim { .. } => rise_trim(tree, tables, at, up, tuple, tally),
+            Node::Meet { guard, side } => {
+                if guard == at {
+                    rise_guard(tree, tables, at, side, up, tuple, tally)
+                } else {
+                    rise_side(tree, tables, at, guard, up, tuple, tally)
+                }
+            }
+        },
+    }
+}
+
+/// To a trim a tuple brings its projection, or one support more of it.
+#[cycle(live)]
+fn rise_trim<L: Ledger>(
+    tree: &Tree,
+    tables: &mut Vec<Table>,
+    at: usize,
+    up: usize,
+    tuple: &[u64],
+    tally: &mut Tally<L>,
+) -> Result<(), AllocError>
+    requires gaining { Gaining tree.now tables.old.items at tuple.now }
+    requires wide { length tuple.now ≡ width_at tables.old.items at }
+    requires under { IsUnder tree.now up (Trim at) at }
+    ensures ok { IfOk result (λ _. Righted tree.now tables.old.items tables.new.items at) }
+    ensures refused { OnErr result (Stayed tree.now tables.old.items tables.new.items at) }
+    ensures plain { SamePlain tables.old.items tables.new.items }
+    ensures counted { IfOk result (λ _. tally.new + 4 * size tables.old.items ≤ tally.old + 2 + 4 * size tables.new.items) }
+{
+    let part = part_of(tables, at, tuple);
+    let cells = part.as_slice();
+    match find_at(tables, up, cells, tally) {
+        Some(place) => {
+            is_small_at(tables, at);
+            raise_at(tables, up, place, tally);
+            Ok(())
+        }
+        None => live(tree, tables, up, cells, tally),
+    }
+}
+
+/// To a meet a tuple of its guard brings itself, where the side has its projection.
+#[cycle(live)]
+fn rise_guard<L: Ledger>(
+    tree: &Tree,
+    tables: &mut Vec<Table>,
+    at: usize,
+    side: usize,
+    up: usize,
+    tuple: &[u64],
+    tally: &mut Tally<L>,
+) -> Result<(), AllocError>
+    requires gaining { Gaining tree.now tables.old.items at tuple.now }
+    requires wide { length tuple.now ≡ width_at tables.old.items at }
+    requires under { IsUnder tree.now up (Meet at side) at }
+    ensures ok { IfOk result (λ _. Righted tree.now tables.old.items tables.new.items at) }
+    ensures refused { OnErr result (Stayed tree.now tables.old.items tables.new.items at) }
+    ensures plain { SamePlain tables.old.items tables.new.items }
+    ensures counted { IfOk result (λ _. tally.new + 4 * size tables.old.items ≤ tally.old + 2 + 4 * size tables.new.items) }
+{
+    let part = part_of(tables, at, tuple);
+    match find_at(tables, side, part.as_slice(), tally) {
+        Some(_place) => live(tree, tables, up, tuple, tally),
+        None => Ok(()),
+    }
+}
+
+/// To a meet a tuple of its side brings the guard's tuples that project to it.
+#[cycle(live)]
+fn rise_side<L: Ledger>(
+    tree: &Tree,
+    tables: &mut Vec<Table>,
+    at: usize,
+    guard: usize,
+    up: usize,
+    tuple: &[u64],
+    tally: &mut Tally<L>,
+) -> Result<(), AllocError>
+    requires gaining { Gaining tree.now tables.old.items at tuple.now }
+    requires under { IsUnder tree.now up (Meet guard at) at }
+    ensures ok { IfOk result (λ _. Righted tree.now tables.old.items tables.new.items at) }
+    ensures refused { OnErr result (Stayed tree.now tables.old.items tables.new.items at) }
+    ensures plain { SamePlain tables.old.items tables.new.items }
+    ensures counted { IfOk result (λ _. tally.new + 4 * size tables.old.items ≤ tally.old + 2 + 4 * size tables.new.items) }
+{
+    let count = len_at(tables, guard);
+    let mut next = first_at(tables, guard, tuple, tally);
+    for done in 0..count {
+        match next {
+            Some(place) => {
+                let part = tuple_at(tables, guard, place);
+                match live(tree, tables, up, part.as_slice(), tally) {
+                    Ok(()) => {}
+                    Err(error) => {
+                        empty_group(tree, tables, guard, up, tuple, done, tally);
+                        return Err(error);
+                    }
+                }
+                next = next_at(tables, guard, place, tally);
+            }
+            None => {
+                return Ok(());
+            }
+        }
+    }
+    Ok(())
+}

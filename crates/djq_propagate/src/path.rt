@@ -1,0 +1,139 @@
+//! The path from a leaf to the root: marks are made and cleared along it.
+
+ghost use Rattle.std.specs.Prelude.{◌≡◌, ℕ, ◌+◌, ◌*◌, ◌<◌, ◌≤◌, false, true, cond, length};
+ghost use Rattle.djq_index.specs.Entries.{marks, unmarked};
+ghost use Rattle.djq_index.specs.Tuple.{one};
+ghost use Rattle.djq_tree.specs.Tree.{node_at, has_child};
+ghost use Rattle.djq_reduct.specs.Tables.{entries_at};
+ghost use Rattle.djq_reduct.specs.Reducts.{IsFamily, IsReducts};
+ghost use Rattle.djq_propagate.specs.Sizes.{size};
+ghost use Rattle.djq_propagate.specs.Touches.{CanWalk, IsTouched, IsTouchedUp, IsWalked, reach};
+ghost use Rattle.djq_propagate.specs.Walks.{Changed};
+ghost use Rattle.djq_propagate.specs.Updates.{HasCleared, HasTaken, steps};
+
+use crate::kill::kill;
+use crate::tables::{clear_at, first_marked_at, len_at};
+use crate::touch::touch_step;
+use djq_index::Table;
+use djq_steps::Tally;
+use djq_tree::Tree;
+use std::sync::ledger::Ledger;
+
+/// Where a node is above the one that a path has come to: marks what follows there from the marks below,
+/// and goes on. Before the second stage that is for a removal alone, and then what goes with them.
+fn touch_above<L: Ledger>(
+    tree: &Tree,
+    tables: &mut Vec<Table>,
+    at: usize,
+    up: usize,
+    removal: bool,
+    tally: &mut Tally<L>,
+) -> usize
+    requires family { IsFamily tree.now tables.old.items }
+    requires within { up < length tree.now.nodes }
+    ensures next { result ≡ cond (has_child (node_at tree.now.nodes up) at) up at }
+    ensures above { has_child (node_at tree.now.nodes up) at ≡ true → tree.now.second_stage ≤ up → IsTouched tree.now tables.old.items tables.new.items up (λ v. reach (node_at tree.now.nodes up) false at tables.old.items (marks (entries_at tables.old.items at)) v) }
+    ensures below { has_child (node_at tree.now.nodes up) at ≡ true → up < tree.now.second_stage → removal ≡ true → IsTouched tree.now tables.old.items tables.new.items up (λ v. reach (node_at tree.now.nodes up) true at tables.old.items (marks (entries_at tables.old.items at)) v) }
+    ensures idle { up < tree.now.second_stage → removal ≡ false → tables.new.items ≡ tables.old.items }
+    ensures apart { has_child (node_at tree.now.nodes up) at ≡ false → tables.new.items ≡ tables.old.items }
+    ensures counted { (n : ℕ) → ((i : ℕ) → length (entries_at tables.old.items i) ≤ n) → tally.new ≤ tally.old + one (has_child (node_at tree.now.nodes up) at) * (1 + 5 * n) }
+{
+    if tree.node(up).has_child(at) {
+        if up >= tree.second_stage() {
+            touch_step(tree, tables, at, up, false, tally);
+            return up;
+        }
+        if removal {
+            touch_step(tree, tables, at, up, true, tally);
+            return up;
+        }
+        return up;
+    }
+    at
+}
+
+/// Marks what follows at the nodes above a leaf from its marked tuples.
+pub(crate) fn touch_path<L: Ledger>(
+    tree: &Tree,
+    tables: &mut Vec<Table>,
+    leaf: usize,
+    removal: bool,
+    tally: &mut Tally<L>,
+)
+    requires family { IsFamily tree.now tables.old.items }
+    requires leaf { leaf < tree.now.leaves }
+    requires can { CanWalk tree.now tables.old.items leaf removal }
+    ensures touched { IsTouchedUp tree.now tables.old.items tables.new.items leaf }
+    ensures walked { IsWalked tree.now tables.old.items tables.new.items leaf removal (length tree.now.nodes) }
+    ensures counted { (n : ℕ) → ((i : ℕ) → length (entries_at tables.old.items i) ≤ n) → tally.new ≤ tally.old + steps tree.now.nodes leaf (length tree.now.nodes) * (1 + 5 * n) }
+{
+    let mut at = leaf;
+    for up in 0..tree.len() {
+        at = touch_above(tree, tables, at, up, removal, tally);
+    }
+}
+
+/// Where a node is above the one that a path has come to: clears its marks, and goes on.
+fn clear_above<L: Ledger>(
+    tree: &Tree,
+    tables: &mut Vec<Table>,
+    at: usize,
+    up: usize,
+    tally: &mut Tally<L>,
+) -> usize
+    requires family { IsFamily tree.now tables.old.items }
+    requires within { up < length tree.now.nodes }
+    ensures next { result ≡ cond (has_child (node_at tree.now.nodes up) at) up at }
+    ensures cleared { has_child (node_at tree.now.nodes up) at ≡ true → entries_at tables.new.items up ≡ unmarked (entries_at tables.old.items up) }
+    ensures changed { has_child (node_at tree.now.nodes up) at ≡ true → Changed tables.old.items tables.new.items up }
+    ensures apart { has_child (node_at tree.now.nodes up) at ≡ false → tables.new.items ≡ tables.old.items }
+    ensures counted { (n : ℕ) → ((i : ℕ) → length (entries_at tables.old.items i) ≤ n) → tally.new ≤ tally.old + one (has_child (node_at tree.now.nodes up) at) * (1 + n) }
+{
+    if tree.node(up).has_child(at) {
+        clear_at(tables, up, tally);
+        return up;
+    }
+    at
+}
+
+/// Clears the marks of a leaf and of the nodes above it.
+pub(crate) fn clear_path<L: Ledger>(
+    tree: &Tree,
+    tables: &mut Vec<Table>,
+    leaf: usize,
+    tally: &mut Tally<L>,
+)
+    requires family { IsFamily tree.now tables.old.items }
+    requires leaf { leaf < tree.now.leaves }
+    ensures cleared { HasCleared tree.now tables.old.items tables.new.items leaf (length tree.now.nodes) }
+    ensures counted { (n : ℕ) → ((i : ℕ) → length (entries_at tables.old.items i) ≤ n) → tally.new ≤ tally.old + (1 + steps tree.now.nodes leaf (length tree.now.nodes)) * (1 + n) }
+{
+    clear_at(tables, leaf, tally);
+    let mut at = leaf;
+    for up in 0..tree.len() {
+        at = clear_above(tree, tables, at, up, tally);
+    }
+}
+
+/// Takes the marked tuples of a leaf out, and what stands by them out of the tables above.
+pub(crate) fn take_marked<L: Ledger>(
+    tree: &Tree,
+    tables: &mut Vec<Table>,
+    leaf: usize,
+    tally: &mut Tally<L>,
+)
+    requires reducts { IsReducts (record { tree = tree.now; tables = tables.old.items }) }
+    requires leaf { leaf < tree.now.leaves }
+    ensures taken { HasTaken (record { tree = tree.now; tables = tables.old.items }) (record { tree = tree.now; tables = tables.new.items }) leaf }
+    ensures counted { tally.new + 5 * size tables.new.items ≤ tally.old + 1 + 5 * size tables.old.items }
+{
+    let count = len_at(tables, leaf);
+    for _done in 0..count {
+        match first_marked_at(tables, leaf, tally) {
+            Some(place) => kill(tree, tables, leaf, place, tally),
+            None => {
+                return;
+            }
+        }
+    }
+}

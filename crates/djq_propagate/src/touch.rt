@@ -1,0 +1,181 @@
+//! Tuples are marked: those of a node that follow from the marked ones of its child.
+
+ghost use Rattle.std.specs.Prelude.{◌≡◌, ℕ, ◌+◌, ◌*◌, ◌<◌, ◌≤◌, length};
+ghost use Rattle.djq_index.specs.Tuple.{same, one};
+ghost use Rattle.djq_index.specs.Entries.{cnt, many, marks, plain, grp};
+ghost use Rattle.djq_tree.specs.Tree.{node_at};
+ghost use Rattle.djq_tree.specs.declared.node.Node.TheVariants.{Trim};
+ghost use Rattle.djq_reduct.specs.Tables.{entries_at, key_at, width_at};
+ghost use Rattle.djq_reduct.specs.Reducts.{IsFamily};
+ghost use Rattle.djq_propagate.specs.Touches.{IsTouched, IsStep, gate, reach_one, reach, cost_one};
+ghost use Rattle.djq_propagate.specs.Walks.{IsUnder};
+
+use crate::tables::{
+    find_at, first_at, first_marked_at, len_at, marked_at, next_at, next_marked_at, part_of,
+    touch_at, tuple_at,
+};
+use djq_index::Table;
+use djq_steps::Tally;
+use djq_tree::{Node, Tree};
+use std::sync::ledger::Ledger;
+
+/// Marks a tuple of the table of a node, where it is there.
+pub(crate) fn touch_tuple<L: Ledger>(
+    tree: &Tree,
+    tables: &mut Vec<Table>,
+    at: usize,
+    tuple: &[u64],
+    tally: &mut Tally<L>,
+)
+    requires family { IsFamily tree.now tables.old.items }
+    requires within { at < length tree.now.nodes }
+    ensures touched { IsTouched tree.now tables.old.items tables.new.items at (λ v. one (same tuple.now v)) }
+    ensures counted { tally.new ≤ tally.old + 2 }
+{
+    match find_at(tables, at, tuple, tally) {
+        Some(place) => {
+            if marked_at(tables, at, place) {
+                return;
+            }
+            touch_at(tables, at, place, tally);
+        }
+        None => {}
+    }
+}
+
+/// Whether a trim's tuple is to be marked; where its child's tuples are to go, only if all are marked.
+fn is_going<L: Ledger>(
+    tree: &Tree,
+    tables: &Vec<Table>,
+    at: usize,
+    cells: &[u64],
+    going: bool,
+    tally: &mut Tally<L>,
+) -> bool
+    requires family { IsFamily tree.now tables.now.items }
+    requires within { at < length tree.now.nodes }
+    ensures going { result ≡ gate going (many (key_at tables.now.items at) (plain (entries_at tables.now.items at)) cells.now) }
+    ensures counted { tally.new ≤ tally.old + 1 }
+{
+    if going {
+        match first_at(tables, at, cells, tally) {
+            Some(place) => marked_at(tables, at, place),
+            None => true,
+        }
+    } else {
+        true
+    }
+}
+
+/// Marks a tuple's projection at a trim.
+fn touch_part<L: Ledger>(
+    tree: &Tree,
+    tables: &mut Vec<Table>,
+    at: usize,
+    up: usize,
+    tuple: &[u64],
+    going: bool,
+    tally: &mut Tally<L>,
+)
+    requires family { IsFamily tree.now tables.old.items }
+    requires within { at < length tree.now.nodes }
+    requires wide { length tuple.now ≡ width_at tables.old.items at }
+    requires under { IsUnder tree.now up (Trim at) at }
+    ensures touched { IsTouched tree.now tables.old.items tables.new.items up (λ v. reach_one (Trim at) going at tables.old.items tuple.now v) }
+    ensures counted { tally.new ≤ tally.old + 3 }
+{
+    let part = part_of(tables, at, tuple);
+    let cells = part.as_slice();
+    if is_going(tree, tables, at, cells, going, tally) {
+        touch_tuple(tree, tables, up, cells, tally);
+    }
+}
+
+/// Marks those of the tuples of a meet that project to a tuple of its side.
+fn touch_group<L: Ledger>(
+    tree: &Tree,
+    tables: &mut Vec<Table>,
+    guard: usize,
+    up: usize,
+    cells: &[u64],
+    tally: &mut Tally<L>,
+)
+    requires family { IsFamily tree.now tables.old.items }
+    requires lower { guard < up }
+    requires within { up < length tree.now.nodes }
+    ensures touched { IsTouched tree.now tables.old.items tables.new.items up (λ v. cnt (grp (key_at tables.old.items guard) (entries_at tables.old.items guard) cells.now) v) }
+    ensures counted { tally.new ≤ tally.old + 1 + 3 * many (key_at tables.old.items guard) (entries_at tables.old.items guard) cells.now }
+{
+    let count = len_at(tables, guard);
+    let mut next = first_at(tables, guard, cells, tally);
+    for done in 0..count {
+        match next {
+            Some(place) => {
+                let part = tuple_at(tables, guard, place);
+                touch_tuple(tree, tables, up, part.as_slice(), tally);
+                next = next_at(tables, guard, place, tally);
+            }
+            None => {
+                return;
+            }
+        }
+    }
+}
+
+/// Marks what a marked tuple of a node reaches at the node above it.
+fn touch_from<L: Ledger>(
+    tree: &Tree,
+    tables: &mut Vec<Table>,
+    at: usize,
+    up: usize,
+    tuple: &[u64],
+    going: bool,
+    tally: &mut Tally<L>,
+)
+    requires step { IsStep tree.now tables.old.items at up }
+    requires wide { length tuple.now ≡ width_at tables.old.items at }
+    ensures touched { IsTouched tree.now tables.old.items tables.new.items up (λ v. reach_one (node_at tree.now.nodes up) going at tables.old.items tuple.now v) }
+    ensures counted { tally.new ≤ tally.old + cost_one (node_at tree.now.nodes up) at tables.old.items tuple.now }
+{
+    match tree.node(up) {
+        Node::Leaf { .. } => {}
+        Node::Trim { .. } => touch_part(tree, tables, at, up, tuple, going, tally),
+        Node::Meet { guard, side } => {
+            let _side = side;
+            if guard == at {
+                touch_tuple(tree, tables, up, tuple, tally);
+            } else {
+                touch_group(tree, tables, guard, up, tuple, tally);
+            }
+        }
+    }
+}
+
+/// Marks what the marked tuples of a node reach at the node above it.
+pub(crate) fn touch_step<L: Ledger>(
+    tree: &Tree,
+    tables: &mut Vec<Table>,
+    at: usize,
+    up: usize,
+    going: bool,
+    tally: &mut Tally<L>,
+)
+    requires step { IsStep tree.now tables.old.items at up }
+    ensures touched { IsTouched tree.now tables.old.items tables.new.items up (λ v. reach (node_at tree.now.nodes up) going at tables.old.items (marks (entries_at tables.old.items at)) v) }
+    ensures counted { (n : ℕ) → ((i : ℕ) → length (entries_at tables.old.items i) ≤ n) → tally.new ≤ tally.old + 1 + 5 * n }
+{
+    let count = len_at(tables, at);
+    let mut next = first_marked_at(tables, at, tally);
+    for done in 0..count {
+        match next {
+            Some(place) => {
+                let tuple = tuple_at(tables, at, place);
+                touch_from(tree, tables, at, up, tuple.as_slice(), going, tally);
+                next = next_marked_at(tables, at, place, tally);
+            }
+            None => {
+                return;
+            }
+        }
+    }
+}

@@ -1,0 +1,155 @@
+//! The calls of an update.
+
+ghost use Rattle.std.specs.Prelude.{◌≡◌, ℕ, ◌+◌, ◌*◌, ◌<◌, ◌≤◌, length, IfOk, OnErr};
+ghost use Rattle.djq_index.specs.Entries.{cnt};
+ghost use Rattle.djq_tree.specs.Labels.{label_at};
+ghost use Rattle.djq_reduct.specs.Tables.{entries_at};
+ghost use Rattle.djq_reduct.specs.Reducts.{IsReducts, SameTables};
+ghost use Rattle.djq_reduct.specs.Reducts as spec;
+ghost use Rattle.djq_reduct.specs.Marks.{IsBare, AreOnPath, IsWithout};
+ghost use Rattle.djq_propagate.specs.Updates.{HasInserted, HasMarked, HasKept, HasDropped, HasAtMost, paths};
+
+use crate::live::live;
+use crate::path::{clear_path, take_marked, touch_path};
+use crate::touch::touch_tuple;
+use djq_index::Table;
+use djq_reduct::Reducts;
+use djq_steps::Tally;
+use djq_tree::Tree;
+use std::alloc::AllocError;
+use std::sync::ledger::Ledger;
+
+/// Puts a tuple into a leaf's table, and what it brings into the tables above. It and what it brings are
+/// marked until the update is ended by [`finish_insertion`] or taken back by [`undo_insertion`]. It fails
+/// only for want of memory, and then all tables hold what they held, without marks.
+pub fn insert_leaf<L: Ledger>(
+    reducts: &mut Reducts,
+    leaf: usize,
+    tuple: &[u64],
+    tally: &mut Tally<L>,
+) -> Result<(), AllocError>
+    requires leaf { leaf < reducts.old.tree.leaves }
+    requires wide { length tuple.now ≡ length (label_at reducts.old.tree.labels leaf) }
+    requires absent { cnt (entries_at reducts.old.tables leaf) tuple.now ≡ 0 }
+    requires bare { IsBare reducts.old.tables }
+    ensures inserted { IfOk result (λ _. HasInserted reducts.old reducts.new leaf tuple.now) }
+    ensures refused { OnErr result (HasKept reducts.old reducts.new) }
+    ensures counted { IfOk result (λ _. (n : ℕ) → HasAtMost reducts.new n → tally.new ≤ tally.old + 10 * (paths reducts.old.tree * n)) }
+{
+    let _tables = &reducts.tables;
+    put(&reducts.tree, &mut reducts.tables, leaf, tuple, tally)
+}
+
+fn put<L: Ledger>(
+    tree: &Tree,
+    tables: &mut Vec<Table>,
+    leaf: usize,
+    tuple: &[u64],
+    tally: &mut Tally<L>,
+) -> Result<(), AllocError>
+    requires reducts { IsReducts (record { tree = tree.now; tables = tables.old.items }) }
+    requires leaf { leaf < tree.now.leaves }
+    requires wide { length tuple.now ≡ length (label_at tree.now.labels leaf) }
+    requires absent { cnt (entries_at tables.old.items leaf) tuple.now ≡ 0 }
+    requires bare { IsBare tables.old.items }
+    ensures inserted { IfOk result (λ _. HasInserted (record { tree = tree.now; tables = tables.old.items }) (record { tree = tree.now; tables = tables.new.items }) leaf tuple.now) }
+    ensures refused { OnErr result (HasKept (record { tree = tree.now; tables = tables.old.items }) (record { tree = tree.now; tables = tables.new.items })) }
+    ensures counted { IfOk result (λ _. (n : ℕ) → HasAtMost (record { tree = tree.now; tables = tables.new.items }) n → tally.new ≤ tally.old + 10 * (paths tree.now * n)) }
+{
+    live(tree, tables, leaf, tuple, tally)?;
+    touch_path(tree, tables, leaf, false, tally);
+    Ok(())
+}
+
+/// Marks a tuple of a leaf, and what goes with it, for a removal that [`finish_removal`] ends. It takes no
+/// memory.
+pub fn mark_removal<L: Ledger>(
+    reducts: &mut Reducts,
+    leaf: usize,
+    tuple: &[u64],
+    tally: &mut Tally<L>,
+)
+    requires leaf { leaf < reducts.old.tree.leaves }
+    requires there { 0 < cnt (entries_at reducts.old.tables leaf) tuple.now }
+    requires bare { IsBare reducts.old.tables }
+    ensures marked { HasMarked reducts.old reducts.new leaf tuple.now }
+    ensures counted { (n : ℕ) → HasAtMost reducts.old n → tally.new ≤ tally.old + 6 * (paths reducts.old.tree * n) }
+{
+    let _tables = &reducts.tables;
+    mark(&reducts.tree, &mut reducts.tables, leaf, tuple, tally);
+}
+
+fn mark<L: Ledger>(
+    tree: &Tree,
+    tables: &mut Vec<Table>,
+    leaf: usize,
+    tuple: &[u64],
+    tally: &mut Tally<L>,
+)
+    requires reducts { IsReducts (record { tree = tree.now; tables = tables.old.items }) }
+    requires leaf { leaf < tree.now.leaves }
+    requires there { 0 < cnt (entries_at tables.old.items leaf) tuple.now }
+    requires bare { IsBare tables.old.items }
+    ensures marked { HasMarked (record { tree = tree.now; tables = tables.old.items }) (record { tree = tree.now; tables = tables.new.items }) leaf tuple.now }
+    ensures counted { (n : ℕ) → HasAtMost (record { tree = tree.now; tables = tables.old.items }) n → tally.new ≤ tally.old + 6 * (paths tree.now * n) }
+{
+    touch_tuple(tree, tables, leaf, tuple, tally);
+    touch_path(tree, tables, leaf, true, tally);
+}
+
+/// Ends an insertion into a leaf: the marks are cleared. It takes no memory.
+pub fn finish_insertion<L: Ledger>(reducts: &mut Reducts, leaf: usize, tally: &mut Tally<L>)
+    requires leaf { leaf < reducts.old.tree.leaves }
+    requires path { AreOnPath reducts.old.tree reducts.old.tables leaf }
+    ensures kept { HasKept reducts.old reducts.new }
+    ensures counted { (n : ℕ) → HasAtMost reducts.old n → tally.new ≤ tally.old + paths reducts.old.tree * (1 + n) }
+{
+    let _tables = &reducts.tables;
+    keep(&reducts.tree, &mut reducts.tables, leaf, tally);
+}
+
+fn keep<L: Ledger>(tree: &Tree, tables: &mut Vec<Table>, leaf: usize, tally: &mut Tally<L>)
+    requires reducts { IsReducts (record { tree = tree.now; tables = tables.old.items }) }
+    requires leaf { leaf < tree.now.leaves }
+    requires path { AreOnPath tree.now tables.old.items leaf }
+    ensures kept { HasKept (record { tree = tree.now; tables = tables.old.items }) (record { tree = tree.now; tables = tables.new.items }) }
+    ensures counted { (n : ℕ) → HasAtMost (record { tree = tree.now; tables = tables.old.items }) n → tally.new ≤ tally.old + paths tree.now * (1 + n) }
+{
+    clear_path(tree, tables, leaf, tally);
+}
+
+/// Ends a removal from a leaf: its marked tuples go, and what stood by them. It takes no memory.
+pub fn finish_removal<L: Ledger>(reducts: &mut Reducts, leaf: usize, tally: &mut Tally<L>)
+    requires leaf { leaf < reducts.old.tree.leaves }
+    requires path { AreOnPath reducts.old.tree reducts.old.tables leaf }
+    ensures dropped { HasDropped reducts.old reducts.new leaf }
+    ensures counted { (n : ℕ) → HasAtMost reducts.old n → tally.new ≤ tally.old + 1 + 5 * (paths reducts.old.tree * n) + paths reducts.old.tree * (1 + n) }
+{
+    let _tables = &reducts.tables;
+    take_out(&reducts.tree, &mut reducts.tables, leaf, tally);
+}
+
+/// Takes an insertion into a leaf back, and ends the update: all tables hold what they held before it. It
+/// takes no memory.
+pub fn undo_insertion<L: Ledger>(reducts: &mut Reducts, leaf: usize, tally: &mut Tally<L>)
+    requires leaf { leaf < reducts.old.tree.leaves }
+    requires path { AreOnPath reducts.old.tree reducts.old.tables leaf }
+    ensures dropped { HasDropped reducts.old reducts.new leaf }
+    ensures back { (before : spec.Reducts) → IsReducts before → IsWithout reducts.old before leaf → SameTables before reducts.new }
+    ensures counted { (n : ℕ) → HasAtMost reducts.old n → tally.new ≤ tally.old + 1 + 5 * (paths reducts.old.tree * n) + paths reducts.old.tree * (1 + n) }
+{
+    let _tables = &reducts.tables;
+    take_out(&reducts.tree, &mut reducts.tables, leaf, tally);
+}
+
+fn take_out<L: Ledger>(tree: &Tree, tables: &mut Vec<Table>, leaf: usize, tally: &mut Tally<L>)
+    requires reducts { IsReducts (record { tree = tree.now; tables = tables.old.items }) }
+    requires leaf { leaf < tree.now.leaves }
+    requires path { AreOnPath tree.now tables.old.items leaf }
+    ensures dropped { HasDropped (record { tree = tree.now; tables = tables.old.items }) (record { tree = tree.now; tables = tables.new.items }) leaf }
+    ensures back { (before : spec.Reducts) → IsReducts before → IsWithout (record { tree = tree.now; tables = tables.old.items }) before leaf → SameTables before (record { tree = tree.now; tables = tables.new.items }) }
+    ensures counted { (n : ℕ) → HasAtMost (record { tree = tree.now; tables = tables.old.items }) n → tally.new ≤ tally.old + 1 + 5 * (paths tree.now * n) + paths tree.now * (1 + n) }
+{
+    take_marked(tree, tables, leaf, tally);
+    clear_path(tree, tables, leaf, tally);
+}

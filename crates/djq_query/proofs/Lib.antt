@@ -1,0 +1,12 @@
+pub mod Columns
+pub mod Relating
+pub mod Differing
+pub mod Counting
+pub mod Faults
+pub mod Numbers
+pub mod Within
+pub mod Edging
+pub mod Matching
+pub mod Binding
+pub mod Found
+pub mod Showing

@@ -1,0 +1,11 @@
+use Rattle.std.proofs.Common.{◌≡◌, ◌∙◌, ap₂, List, ℕ}
+use Rattle.djq_query.specs.declared.numbered.NumberedTerm.{NumberedTerm}
+use Rattle.djq_query.specs.Pattern.{bound}
+use Rattle.djq_query.proofs.Binding.{pattern_of}
+use Rattle.djq_query.proofs.numbered.NumberedAtom.bind.Goals as goal
+
+pub new-requires : goal.new-requires
+new-requires c =
+    let told : c.in_ok-slots.slots ≡ bound c.args.label c.args.self.now.terms c.args.cells.now =
+    c.in_ok-slots.ensures ∙ ap₂ (λ (l : List ℕ) (ts : List NumberedTerm). bound l ts c.args.cells.now) (c.as_slice.ensures ∙ c.members-members.ensures) c.as_slice-2.ensures in
+    pattern_of c.args.label c.args.self.now.terms c.args.cells.now c.len.result c.in_ok-slots.slots c.rises.ensures.rising c.requires.narrow c.requires.cells c.requires.label c.len.ensures told

@@ -1,0 +1,69 @@
+-- What the numbers of a query mean, said without the way in which they are given out.
+use Rattle.std.specs.Prelude.{ℕ, ◌+◌, ◌≤◌, List, [], ◌∷◌, ◌++◌, ◌≡◌, None, Some, map, slice_get}
+use Rattle.djq_model.specs.declared.relation.Relation.{Relation}
+use Rattle.djq_model.specs.declared.query.Query.{Query}
+use Rattle.djq_model.specs.declared.query.Atom.{Atom}
+use Rattle.djq_model.specs.declared.query.Term.{Term}
+use Rattle.djq_model.specs.declared.query.Term.TheVariants.{Variable as Named, Hole, Constant}
+use Rattle.djq_model.specs.Data.{Bytes, relation_of}
+use Rattle.djq_lines.specs.QueryFault.{query_fault}
+use Rattle.djq_lines.specs.Variables.{Label}
+use Rattle.djq_query.specs.declared.numbered.NumberedTerm.{NumberedTerm}
+use Rattle.djq_query.specs.declared.numbered.NumberedTerm.TheVariants.{Variable as Number, Constant as Fixed}
+use Rattle.djq_query.specs.declared.numbered.NumberedAtom.{NumberedAtom}
+use Rattle.djq_query.specs.Numbered.{Numbered, IsNumbered, labels, number_of}
+
+-- A term and the term that stands for it: a name's number has that name, a hole's has none, and a
+-- constant is itself.
+abbrev pub IsShown : List Label → Term → NumberedTerm → Type 0
+IsShown ls (Named x) (Number k) = slice_get ls k ≡ Some (Some x)
+IsShown ls Hole (Number k) = slice_get ls k ≡ Some None
+IsShown ls (Constant v) (Fixed w) = w ≡ v
+IsShown ls (Named x) (Fixed w) = ⊥
+IsShown ls Hole (Fixed w) = ⊥
+IsShown ls (Constant v) (Number k) = ⊥
+
+abbrev pub AreShown : List Label → List Term → List NumberedTerm → Type 0
+AreShown ls [] [] = Unit {0}
+AreShown ls (t ∷ ts) (n ∷ ns) = IsShown ls t n × AreShown ls ts ns
+AreShown ls [] (n ∷ ns) = ⊥
+AreShown ls (t ∷ ts) [] = ⊥
+
+-- the same of atoms, over the same relations
+abbrev pub AreAtomsShown : List Relation → List Label → List Atom → List NumberedAtom → Type 0
+AreAtomsShown rs ls [] [] = Unit {0}
+AreAtomsShown rs ls (a ∷ atoms) (n ∷ ns) =
+    (slice_get rs n.relation ≡ relation_of rs a.relation) × AreShown ls a.terms n.terms × AreAtomsShown rs ls atoms ns
+AreAtomsShown rs ls [] (n ∷ ns) = ⊥
+AreAtomsShown rs ls (a ∷ atoms) [] = ⊥
+
+-- the numbers of the holes among terms, and in a body
+abbrev pub hole_of : Term → NumberedTerm → List ℕ
+hole_of Hole (Number k) = k ∷ []
+hole_of _ _ = []
+
+unfoldable pub holes_among : List Term → List NumberedTerm → List ℕ
+holes_among [] ns = []
+holes_among (t ∷ ts) [] = []
+holes_among (t ∷ ts) (n ∷ ns) = hole_of t n ++ holes_among ts ns
+
+unfoldable pub holes_in : List Atom → List NumberedAtom → List ℕ
+holes_in [] ns = []
+holes_in (a ∷ atoms) [] = []
+holes_in (a ∷ atoms) (n ∷ ns) = holes_among a.terms n.terms ++ holes_in atoms ns
+
+-- numbers from this one on, each above the one before, so that no two are the same
+unfoldable pub Rise : ℕ → List ℕ → Type 0
+Rise from [] = Unit {0}
+Rise from (k ∷ ks) = (from ≤ k) × Rise (k + 1) ks
+
+-- The numbers stand for the query: term by term, each name has one number, each hole has one of its
+-- own, and the head's numbers have the head's names.
+pub record IsShownBy (rs : List Relation) (q : Query) (n : Numbered) : Type 0 where
+  pub body : AreAtomsShown rs (labels n.variables) q.atoms n.atoms
+  pub one : (k : ℕ) (x : Bytes) → slice_get (labels n.variables) k ≡ Some (Some x) → number_of (labels n.variables) x ≡ k
+  pub fresh : Rise 0 (holes_in q.atoms n.atoms)
+  pub head : map (slice_get (labels n.variables)) n.head ≡ map (λ x. Some (Some x)) q.head
+
+abbrev pub NumbersAreShown : Type 0
+NumbersAreShown = (rs : List Relation) (q : Query) (n : Numbered) → query_fault rs q ≡ None → IsNumbered rs q n → IsShownBy rs q n

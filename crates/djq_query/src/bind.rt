@@ -1,0 +1,78 @@
+ghost use Rattle.std.specs.Prelude.{◌≡◌, ℕ, ◌≤◌, ◌==◌, position, length, IfOk};
+ghost use Rattle.std.specs.List.{list_any};
+ghost use Rattle.djq_hyper.specs.Hypergraph.{member};
+ghost use Rattle.djq_query.specs.Numbered.{is_number};
+ghost use Rattle.djq_query.specs.Pattern.{bound, slot_of};
+
+use crate::numbered::{NumberedAtom, NumberedTerm};
+use crate::pattern::{Pattern, Slot};
+use djq_hyper::VarSet;
+use djq_index::Cells;
+use djq_model::{NoMem, Sequence};
+use std::alloc::Global;
+
+// The variables of a set, in rising order.
+fn members(label: VarSet) -> Cells
+    requires { length label ≤ 16 }
+    ensures { result ≡ label }
+{
+    let mut members = Cells::new(0);
+    let mut rest = label;
+    'rest: while let Some(variable) = rest.pop() {
+        members.push(variable as u64);
+    }
+    members
+}
+
+// The place of a variable among these, where it is one of them.
+fn find(members: &[u64], variable: u64) -> Option<usize>
+    ensures { result ≡ position (λ y. y == variable) members.now }
+{
+    members.iter().position(|member| *member == variable)
+}
+
+// What stands at a column: the place of a variable, or the cell of a constant.
+fn slot_of(members: &[u64], term: &NumberedTerm, cell: u64) -> Slot
+    ensures { result ≡ slot_of members.now term.now cell }
+{
+    match term {
+        NumberedTerm::Variable(number) => {
+            Slot::Place(find(members, *number as u64).unwrap_or(members.len()))
+        }
+        NumberedTerm::Constant(_) => Slot::Cell(cell),
+    }
+}
+
+// What stands at each column.
+fn slots_of(
+    alloc: Global,
+    members: &[u64],
+    terms: &[NumberedTerm],
+    cells: &[u64],
+) -> Result<Sequence<Slot>, NoMem>
+    requires { length cells.now ≡ length terms.now }
+    ensures { IfOk result (λ slots. slots ≡ bound members.now terms.now cells.now) }
+{
+    let mut slots = Sequence::new(alloc);
+    'terms: for i in 0..terms.len() {
+        slots.push(slot_of(members, &terms[i], cells[i]))?;
+    }
+    Ok(slots)
+}
+
+impl NumberedAtom {
+    /// The atom with its constants bound to cells. The label is the set of its variables, and there
+    /// is a cell for each term, which is read where the term is a constant.
+    pub fn bind(&self, alloc: Global, label: VarSet, cells: &[u64]) -> Result<Pattern, NoMem>
+        requires label { (x : ℕ) → member x label ≡ list_any (is_number x) self.now.terms }
+        requires narrow { length label ≤ 16 }
+        requires cells { length cells.now ≡ length self.now.terms }
+        ensures width { IfOk result (λ p. p.width ≡ length label) }
+        ensures slots { IfOk result (λ p. p.slots ≡ bound label self.now.terms cells.now) }
+    {
+        label.rises();
+        let members = members(label);
+        let slots = slots_of(alloc, members.as_slice(), self.terms.as_slice(), cells)?;
+        Ok(Pattern::new(label.len(), slots))
+    }
+}

@@ -1,0 +1,304 @@
+ghost use Rattle.std.specs.Prelude.{◌≡◌, position};
+ghost use Rattle.djq_model.specs.Data.{bytes_eq};
+
+use super::*;
+use crate::edges::variables_of;
+use djq_lines::Refusal;
+use djq_model::{Atom, ColumnType, Name, NoMem, Query, Relation, Sequence, Term, Text, Value};
+use std::alloc::Global;
+use std::test::Fail;
+
+/// Relations that are looked up one after another.
+#[derive(Drop)]
+struct Listed {
+    relations: Sequence<Relation>,
+}
+
+impl Relations for Listed {
+    ghost relations = { λ s. s.relations };
+
+    fn id(&self, name: &Name) -> Option<usize> {
+        find(self.relations.as_slice(), name)
+    }
+
+    fn columns(&self, id: usize) -> &[ColumnType] {
+        self.relations.as_slice()[id].types.as_slice()
+    }
+}
+
+/// The place of the relation of a name.
+fn find(relations: &[Relation], name: &Name) -> Option<usize>
+    ensures { result ≡ position (λ r. bytes_eq r.name name.now) relations.now }
+{
+    relations.iter().position(|relation| relation.name == *name)
+}
+
+/// A relation of one letter; `i` is an integer's column, any other letter a text's.
+fn lettered(alloc: Global, name: u8, columns: &[u8]) -> Result<Relation, NoMem> {
+    let mut types = Sequence::new(alloc);
+    for column in columns {
+        if *column == b'i' {
+            types.push(ColumnType::Int)?;
+        } else {
+            types.push(ColumnType::Text)?;
+        }
+    }
+    Ok(Relation {
+        name: Name::new(&[name]),
+        types,
+        rows: Sequence::new(alloc),
+    })
+}
+
+/// `r int text`, `s int`, `t text` and `u int int int`.
+fn four_relations(alloc: Global) -> Result<Listed, NoMem> {
+    let mut relations = Sequence::new(alloc);
+    relations.push(lettered(alloc, b'r', b"it")?)?;
+    relations.push(lettered(alloc, b's', b"i")?)?;
+    relations.push(lettered(alloc, b't', b"t")?)?;
+    relations.push(lettered(alloc, b'u', b"iii")?)?;
+    Ok(Listed { relations })
+}
+
+/// A term of one letter: a hole, a digit, a text of a capital letter, or a variable.
+fn read_term(alloc: Global, letter: u8) -> Result<Term, NoMem> {
+    if letter == b'_' {
+        return Ok(Term::Hole);
+    }
+    if letter >= b'0' && letter <= b'9' {
+        return Ok(Term::Constant(Value::Int((letter - b'0') as i64)));
+    }
+    if letter >= b'A' && letter <= b'Z' {
+        let text = Text::new(Vec::from_slice(alloc, &[letter])?);
+        return Ok(Term::Constant(Value::Text(text)));
+    }
+    Ok(Term::Variable(Name::new(&[letter])))
+}
+
+/// An atom, whose first letter is its relation.
+fn read_atom(alloc: Global, letters: &[u8]) -> Result<Atom, NoMem> {
+    let mut relation = Name::new(b"");
+    let mut terms = Sequence::new(alloc);
+    for i in 0..letters.len() {
+        if i == 0 {
+            relation = Name::new(&letters[..1]);
+        } else {
+            terms.push(read_term(alloc, letters[i])?)?;
+        }
+    }
+    Ok(Atom { relation, terms })
+}
+
+/// A query whose head is letters, over atoms with a space between.
+fn read(alloc: Global, letters: &[u8], body: &[u8]) -> Result<Query, NoMem> {
+    let mut head = Sequence::new(alloc);
+    for letter in letters {
+        head.push(Name::new(&[*letter]))?;
+    }
+    let mut atoms = Sequence::new(alloc);
+    let mut from = 0;
+    for i in 0..body.len() {
+        if body[i] == b' ' && from <= i {
+            atoms.push(read_atom(alloc, &body[from..i])?)?;
+            from = i + 1;
+        }
+    }
+    if from <= body.len() {
+        atoms.push(read_atom(alloc, &body[from..])?)?;
+    }
+    Ok(Query {
+        name: Name::new(b"q"),
+        head,
+        atoms,
+    })
+}
+
+/// What is wrong with a query over the listed relations.
+fn fault_of(alloc: Global, head: &[u8], body: &[u8]) -> Result<Option<Refusal>, NoMem> {
+    let relations = four_relations(alloc)?;
+    let query = read(alloc, head, body)?;
+    Ok(query_fault(&relations, &query))
+}
+
+/// Whether this is what is wrong with a query over the listed relations.
+fn is_refused(alloc: Global, head: &[u8], body: &[u8], refusal: Refusal) -> Result<bool, NoMem> {
+    Ok(fault_of(alloc, head, body)? == Some(refusal))
+}
+
+#[test]
+fn finds_no_fault(rt: HostRuntime) -> Result<(), Fail> {
+    assert_eq!(rt; fault_of(rt.alloc(), b"xy", b"rxy sx ty")?, None);
+    Ok(())
+}
+
+// In each test one query with the fault alone, and one with the next fault in the order beside it.
+
+#[test]
+fn refuses_unknown_relations(rt: HostRuntime) -> Result<(), Fail> {
+    assert!(rt; is_refused(rt.alloc(), b"x", b"zx", Refusal::NoRelation)?);
+    assert!(rt; is_refused(rt.alloc(), b"x", b"rx zx", Refusal::NoRelation)?);
+    Ok(())
+}
+
+#[test]
+fn refuses_wrong_arities(rt: HostRuntime) -> Result<(), Fail> {
+    assert!(rt; is_refused(rt.alloc(), b"x", b"rx", Refusal::Arity)?);
+    assert!(rt; is_refused(rt.alloc(), b"x", b"rAx sxy", Refusal::Arity)?);
+    Ok(())
+}
+
+#[test]
+fn refuses_constants_of_other_types(rt: HostRuntime) -> Result<(), Fail> {
+    assert!(rt; is_refused(rt.alloc(), b"x", b"rAx", Refusal::WrongType)?);
+    assert!(rt; is_refused(rt.alloc(), b"x", b"rxx sA", Refusal::WrongType)?);
+    Ok(())
+}
+
+#[test]
+fn refuses_variables_of_two_types(rt: HostRuntime) -> Result<(), Fail> {
+    assert!(rt; is_refused(rt.alloc(), b"x", b"sx ry_ tx", Refusal::VariableType)?);
+    assert!(rt; is_refused(rt.alloc(), b"yy", b"rxx sy", Refusal::VariableType)?);
+    Ok(())
+}
+
+#[test]
+fn refuses_repeated_heads(rt: HostRuntime) -> Result<(), Fail> {
+    assert!(rt; is_refused(rt.alloc(), b"xx", b"rx_", Refusal::HeadRepeated)?);
+    assert!(rt; is_refused(rt.alloc(), b"xzz", b"rx_", Refusal::HeadRepeated)?);
+    Ok(())
+}
+
+#[test]
+fn refuses_unbound_heads(rt: HostRuntime) -> Result<(), Fail> {
+    assert!(rt; is_refused(rt.alloc(), b"z", b"rx_", Refusal::HeadUnbound)?);
+    Ok(())
+}
+
+#[test]
+fn refuses_too_many_atoms(rt: HostRuntime) -> Result<(), Fail> {
+    let body: &[u8] = b"s_ s_ s_ s_ s_ s_ s_ s_ s_ s_ s_ s_ s_ s_ s_ s_ s_";
+    assert!(rt; is_refused(rt.alloc(), b"", body, Refusal::Limit)?);
+    assert!(rt; is_refused(rt.alloc(), b"x", body, Refusal::HeadUnbound)?);
+    Ok(())
+}
+
+/// The number of the variable at a term of an atom; none for a constant and where there is no such
+/// term.
+fn number_at(query: &NumberedQuery, atom: usize, term: usize) -> Option<usize> {
+    match query.atoms().get(atom)?.terms.get(term)? {
+        NumberedTerm::Variable(number) => Some(*number),
+        NumberedTerm::Constant(_) => None,
+    }
+}
+
+/// Whether the first two terms of an atom have these numbers.
+fn are_numbers(
+    query: &NumberedQuery,
+    atom: usize,
+    first: Option<usize>,
+    second: Option<usize>,
+) -> bool {
+    number_at(query, atom, 0) == first && number_at(query, atom, 1) == second
+}
+
+#[test]
+fn numbers_by_first_occurrence(rt: HostRuntime) -> Result<(), Fail> {
+    let alloc = rt.alloc();
+    let relations = four_relations(alloc)?;
+    let query = read(alloc, b"yx", b"rx_ s2 r_y rxy")?;
+    let Ok(numbered) = number(alloc, &relations, &query) else {
+        assert!(rt; false);
+        return Ok(());
+    };
+    assert_eq!(rt; numbered.head(), [3, 0].as_slice());
+    assert!(rt; are_numbers(&numbered, 0, Some(0), Some(1)));
+    assert!(rt; are_numbers(&numbered, 1, None, None));
+    assert!(rt; are_numbers(&numbered, 2, Some(2), Some(3)));
+    assert!(rt; are_numbers(&numbered, 3, Some(0), Some(3)));
+    Ok(())
+}
+
+#[test]
+fn gives_the_hypergraph(rt: HostRuntime) -> Result<(), Fail> {
+    let alloc = rt.alloc();
+    let relations = four_relations(alloc)?;
+    let query = read(alloc, b"yx", b"rx_ s2 rxy")?;
+    let Ok(numbered) = number(alloc, &relations, &query) else {
+        assert!(rt; false);
+        return Ok(());
+    };
+    let edges = numbered.edges(alloc)?;
+    assert_eq!(rt; edges.len(), 3);
+    assert_eq!(rt; numbered.head_variables().len(), 2);
+    Ok(())
+}
+
+#[test]
+fn gives_each_variable_its_name_and_type(rt: HostRuntime) -> Result<(), Fail> {
+    let alloc = rt.alloc();
+    let relations = four_relations(alloc)?;
+    let query = read(alloc, b"y", b"r_y")?;
+    let Ok(numbered) = number(alloc, &relations, &query) else {
+        assert!(rt; false);
+        return Ok(());
+    };
+    let variables = numbered.variables();
+    assert_eq!(rt; variables.len(), 2);
+    assert!(rt; variables[0].name.is_none() && variables[0].column == ColumnType::Int);
+    assert!(rt; variables[1].name == Some(Name::new(b"y")));
+    assert!(rt; variables[1].column == ColumnType::Text);
+    Ok(())
+}
+
+/// The pattern of a query's first atom, given a cell for each of its terms.
+fn first_pattern(
+    alloc: Global,
+    query: &NumberedQuery,
+    cells: &[u64],
+) -> Result<Option<Pattern>, NoMem> {
+    query.within();
+    let atoms = query.atoms();
+    if atoms.is_empty() {
+        return Ok(None);
+    }
+    let atom = &atoms[0];
+    if cells.len() != atom.terms.len() {
+        return Ok(None);
+    }
+    let label = variables_of(atom.terms.as_slice());
+    if label.len() > 16 {
+        return Ok(None);
+    }
+    let pattern = atom.bind(alloc, label, cells)?;
+    Ok(Some(pattern))
+}
+
+/// The first cell of the tuple of a row; none where the row doesn't match.
+fn first_cell(pattern: &Pattern, row: &[u64]) -> Option<u64> {
+    if row.len() != pattern.columns() {
+        return None;
+    }
+    let tuple = pattern.matches(row)?;
+    tuple.as_slice().first().copied()
+}
+
+#[test]
+fn matches_rows(rt: HostRuntime) -> Result<(), Fail> {
+    let alloc = rt.alloc();
+    let relations = four_relations(alloc)?;
+    let query = read(alloc, b"x", b"uxx3")?;
+    let Ok(numbered) = number(alloc, &relations, &query) else {
+        assert!(rt; false);
+        return Ok(());
+    };
+    let Some(pattern) = first_pattern(alloc, &numbered, &[0, 0, 3])? else {
+        assert!(rt; false);
+        return Ok(());
+    };
+    assert_eq!(rt; pattern.width(), 1);
+    assert_eq!(rt; first_cell(&pattern, &[1, 1, 3]), Some(1));
+    assert_eq!(rt; first_cell(&pattern, &[1, 2, 3]), None);
+    assert_eq!(rt; first_cell(&pattern, &[2, 2, 4]), None);
+    assert_eq!(rt; first_cell(&pattern, &[5, 5, 3]), Some(5));
+    Ok(())
+}

@@ -1,6 +1,0 @@
-use Rattle.std.proofs.Common.{◌≡◌, take}
-use Rattle.djq_index.specs.Tuple.{pick}
-use Rattle.djq_reduct.proofs.cells.Cells.pick.Given as goal
-
-abbrev pub invariant-loop-column : goal.invariant-loop-column
-invariant-loop-column l = l.picked ≡ pick (take l.column-index l.columns) l.tuple

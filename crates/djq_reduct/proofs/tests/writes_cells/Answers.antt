@@ -1,7 +1,0 @@
-use Rattle.std.proofs.Common.{arith}
-use Rattle.djq_index.specs.Table.{AreColumns}
-use Rattle.djq_reduct.proofs.tests.writes_cells.Goals as goal
-
-pub pick-picked-requires-clause-within : goal.pick-picked-requires-clause-within
-unfolding AreColumns
-pick-picked-requires-clause-within g c = (omega arith, (omega arith, tt))

@@ -1,0 +1,300 @@
+-- A table of one group, and the rows that its tuples are.
+use Rattle.std.proofs.Common.{
+  ◌≡◌,
+  ℕ,
+  ◌<◌,
+  Bool,
+  true,
+  false,
+  cond,
+  List,
+  [],
+  ◌∷◌,
+  ◌++◌,
+  length,
+  refl,
+  sym,
+  ap,
+  ap₂,
+  ◌∙◌,
+  subst,
+  inl,
+  inr,
+  arith,
+}
+use Rattle.std.specs.Prelude.{map, Option, Some, None, is_some, MatchOption}
+use Rattle.std.specs.List.{AllByRecursion}
+use Rattle.std.proofs.lemmas.Bool.{cases_Bool}
+use Rattle.std.proofs.lemmas.List.{append-nil, length-map, map-append}
+use Rattle.std.proofs.lemmas.List.Elements.{All-from_recursion}
+use Rattle.std.proofs.lemmas.List.Kept.{AllPairs-cons}
+use Rattle.djq_model.specs.declared.relation.ColumnType.{ColumnType}
+use Rattle.djq_model.specs.Data.{Bytes, Tuple, tuple_eq, has_row, without_row}
+use Rattle.djq_model.specs.Answer.{AreDifferent}
+use Rattle.djq_model.specs.Equality.{tuple_eq-decides}
+use Rattle.djq_dict.specs.Known.{AllDifferent}
+use Rattle.djq_index.specs.declared.place.Place.{Place}
+use Rattle.djq_index.specs.Tuple.{same, pick}
+use Rattle.djq_index.specs.Entries.{Entry, cnt, many, grp}
+use Rattle.djq_index.specs.Table.{Table, IsAt, AreApart}
+use Rattle.djq_index.specs.Changes.{Inserted, Removed}
+use Rattle.djq_index.proofs.Tuples.{same_is, is_same, one_true, one_false}
+use Rattle.djq_index.proofs.Counts.{cnt_cons, many_cons, cnt_middle}
+use Rattle.djq_index.proofs.Apart.{there}
+use Rattle.djq_rows.specs.Parts.{row_of, tuples_of, AreWithin}
+use Rattle.djq_rows.specs.Tuples.{HasTuple, Appended, Dropped}
+use Rattle.djq_rows.proofs.Encoding.{same_cells}
+
+-- all entries are the group with no cells
+
+nothing : (u : List ℕ) → pick [] u ≡ []
+unfolding pick
+nothing u = refl
+
+in_group : (u : List ℕ) → same (pick [] u) [] ≡ true
+in_group u = is_same (pick [] u) [] (nothing u)
+
+many_nil : many [] [] [] ≡ 0
+unfolding many
+many_nil = refl
+
+many_all : (es : List Entry) → many [] es [] ≡ length es
+many_all [] = many_nil
+many_all (e ∷ es) = omega (
+  arith,
+  many_cons [] e es [],
+  one_true (same (pick [] e.tuple) [])
+      (in_group e.tuple),
+  many_all es,
+)
+
+pub grp_all : (es : List Entry) → grp [] es [] ≡ es
+unfolding grp
+grp_all [] = refl
+grp_all (e ∷ es) = rw (in_group e.tuple) (ap (λ (l : List Entry). e ∷ l) (grp_all es))
+
+no_length : {A : Type 0} (xs : List A) → length xs ≡ 0 → xs ≡ []
+no_length [] h = refl
+no_length (x ∷ xs) h = absurd (omega (arith, h))
+
+-- what is inserted comes last
+pub appended : (old new : Table) (u : List ℕ) → old.key ≡ [] → Inserted old.key old.entries
+    new.entries u → Appended old new u
+appended old new u key i =
+    let last : many [] i.back [] ≡ 0 = subst (λ (w : List ℕ). many [] i.back w ≡ 0) (nothing u)
+    (subst (λ (k : List ℕ). many k i.back (pick k u) ≡ 0) key i.last) in
+    let none : i.back ≡ [] = no_length i.back (omega (arith, many_all i.back, last)) in
+    let front : old.entries ≡ i.front = i.was ∙ ap (λ (l : List Entry). i.front ++ l) none ∙
+    append-nil i.front in
+    record {
+      entry = i.entry;
+      tuple = i.tuple;
+      is = i.is ∙ ap₂ (λ (xs ys : List Entry). xs ++
+          i.entry ∷ ys) (sym front) none;
+    }
+
+pub dropped : (old new : Table) (u : List ℕ) → Removed old.entries new.entries u → Dropped old new u
+dropped old new u r = record {
+  front = r.front;
+  back = r.back;
+  entry = r.entry;
+  tuple = r.tuple;
+  was
+      = r.was;
+  is = r.is;
+}
+
+pub found : (es : List Entry) (p : Place) (u : List ℕ) → IsAt es p u → 0 < cnt es u
+found es p u a = there es a.front a.entry a.back u a.is a.tuple
+
+pub found_some : (es : List Entry) (u : List ℕ) (r : Option Place) → MatchOption r (cnt es u ≡ 0) (λ
+    p. IsAt es p u) → is_some r ≡ true → 0 < cnt es u
+found_some es u None h e = absurd cc
+found_some es u (Some p) h e = found es p u h
+
+pub found_none : (es : List Entry) (u : List ℕ) (r : Option Place) → MatchOption r (cnt es u ≡ 0) (λ
+    p. IsAt es p u) → is_some r ≡ false → cnt es u ≡ 0
+found_none es u None h e = h
+found_none es u (Some p) h e = absurd cc
+
+pub found_has : (t : Table) (u : List ℕ) (r : Option Place) (b : Bool) → MatchOption r (cnt
+    t.entries u ≡ 0) (λ p. IsAt t.entries p u) → b ≡ is_some r → HasTuple t u b
+found_has t u None true h e = absurd cc
+found_has t u None false h e = h
+found_has t u (Some p) true h e = found t.entries p u h
+found_has t u (Some p) false h e = absurd cc
+
+-- the rows of entries
+
+abbrev pub rows_in : List Bytes → List ColumnType → List Entry → List Tuple
+rows_in texts ts es = map (row_of texts ts) (tuples_of es)
+
+abbrev pub Within : List Bytes → List ColumnType → List Entry → Type 0
+Within texts ts es = AllByRecursion (AreWithin texts ts) (tuples_of es)
+
+pub rows_cons : (texts : List Bytes) (ts : List ColumnType) (e : Entry) (es : List Entry) → rows_in
+    texts ts (e ∷ es) ≡ row_of texts ts e.tuple ∷ rows_in texts ts es
+unfolding tuples_of
+rows_cons texts ts e es = refl
+
+pub within_first : (texts : List Bytes) (ts : List ColumnType) (e : Entry) (es : List Entry) →
+    Within texts ts (e ∷ es) → AreWithin texts ts e.tuple
+unfolding tuples_of
+within_first texts ts e es h = h.0
+
+pub within_rest : (texts : List Bytes) (ts : List ColumnType) (e : Entry) (es : List Entry) → Within
+    texts ts (e ∷ es) → Within texts ts es
+unfolding tuples_of
+within_rest texts ts e es h = h.1
+
+pub within_cons : (texts : List Bytes) (ts : List ColumnType) (e : Entry) (es : List Entry) →
+    AreWithin texts ts e.tuple → Within texts ts es → Within texts ts (e ∷ es)
+unfolding tuples_of
+within_cons texts ts e es h k = (h, k)
+
+rows_nil : (texts : List Bytes) (ts : List ColumnType) → rows_in texts ts [] ≡ []
+unfolding tuples_of
+rows_nil texts ts = refl
+
+pub tuples-append : (xs ys : List Entry) → tuples_of (xs ++ ys) ≡ tuples_of xs ++ tuples_of ys
+unfolding tuples_of
+tuples-append xs ys = map-append (λ (e : Entry). e.tuple) xs ys
+
+pub rows-append : (texts : List Bytes) (ts : List ColumnType) (xs ys : List Entry) → rows_in texts
+    ts (xs ++ ys) ≡ rows_in texts ts xs ++ rows_in texts ts ys
+rows-append texts ts xs ys = ap (map (row_of texts ts)) (tuples-append xs ys) ∙ map-append (row_of
+    texts ts) (tuples_of xs) (tuples_of ys)
+
+pub rows_long : (texts : List Bytes) (ts : List ColumnType) (es : List Entry) → length (rows_in
+    texts ts es) ≡ length es
+unfolding tuples_of
+rows_long texts ts es = length-map (map (λ (e : Entry). e.tuple) es) (row_of texts ts) ∙ length-map
+    es (λ (e : Entry). e.tuple)
+
+pub within_push : (texts : List Bytes) (ts : List ColumnType) (xs : List Entry) (e : Entry) → Within
+    texts ts xs → AreWithin texts ts e.tuple → Within texts ts (xs ++ e ∷ [])
+unfolding tuples_of
+within_push texts ts [] e h k = (k, tt)
+within_push texts ts (x ∷ xs) e h k = (h.0, within_push texts ts xs e h.1 k)
+
+pub within_out : (texts : List Bytes) (ts : List ColumnType) (xs : List Entry) (e : Entry) (ys :
+    List Entry) → Within texts ts (xs ++ e ∷ ys) → Within texts ts (xs ++ ys)
+unfolding tuples_of
+within_out texts ts [] e ys h = h.1
+within_out texts ts (x ∷ xs) e ys h = (h.0, within_out texts ts xs e ys h.1)
+
+-- a tuple and its row
+
+row_yes : (texts : List Bytes) (ts : List ColumnType) (u v : List ℕ) → u ≡ v → tuple_eq (row_of
+    texts ts u) (row_of texts ts v) ≡ true
+row_yes texts ts u v e = (tuple_eq-decides (row_of texts ts u) (row_of texts ts v)).1 (ap (row_of
+    texts ts) e)
+
+row_no : (texts : List Bytes) (ts : List ColumnType) (u v : List ℕ) → AllDifferent texts → AreWithin
+    texts ts u → AreWithin texts ts v → (u ≡ v → ⊥) → tuple_eq (row_of texts ts u) (row_of texts ts
+    v) ≡ false
+row_no texts ts u v d h k other = elim (cases_Bool (tuple_eq (row_of texts ts u) (row_of texts ts
+    v))) [
+      | inl e ↦ absurd (other (same_cells texts ts u v d h k ((tuple_eq-decides (row_of texts ts u)
+          (row_of texts ts v)).0 e)))
+      | inr e ↦ e
+    ]
+
+none_first : (e : Entry) (es : List Entry) (u : List ℕ) → cnt (e ∷ es) u ≡ 0 → (e.tuple ≡ u) → ⊥
+none_first e es u h k = omega (
+  arith,
+  h,
+  cnt_cons e es u,
+  one_true (same e.tuple u) (is_same e.tuple
+      u k),
+)
+
+none_rest : (e : Entry) (es : List Entry) (u : List ℕ) → cnt (e ∷ es) u ≡ 0 → cnt es u ≡ 0
+none_rest e es u h = omega (arith, h, cnt_cons e es u)
+
+pub absent_row : (texts : List Bytes) (ts : List ColumnType) (es : List Entry) (u : List ℕ) →
+    AllDifferent texts → Within texts ts es → AreWithin texts ts u → cnt es u ≡ 0 → has_row (rows_in
+    texts ts es) (row_of texts ts u) ≡ false
+unfolding tuples_of
+absent_row texts ts [] u d h k n = refl
+absent_row texts ts (e ∷ es) u d h k n =
+    rw (row_no texts ts e.tuple u d h.0 k (none_first e es u n)) (absent_row texts ts es u d h.1 k
+    (none_rest e es u n))
+
+none_there : (u : List ℕ) → 0 < cnt [] u → ⊥
+unfolding cnt
+none_there u n = omega (arith, n)
+
+pub present_row : (texts : List Bytes) (ts : List ColumnType) (es : List Entry) (u : List ℕ) → 0 <
+    cnt es u → has_row (rows_in texts ts es) (row_of texts ts u) ≡ true
+unfolding tuples_of
+present_row texts ts [] u n = absurd (none_there u n)
+present_row texts ts (e ∷ es) u n = elim (cases_Bool (same e.tuple u)) [
+  | inl s ↦ rw (row_yes texts ts e.tuple u (same_is e.tuple u s)) refl
+  | inr s ↦ by_test (tuple_eq (row_of texts ts e.tuple) (row_of texts ts u)) (present_row texts ts
+      es u (omega (arith, n, cnt_cons e es u, one_false (same e.tuple u) s)))
+]
+  where
+    by_test : (b : Bool) → has_row (rows_in texts ts es) (row_of texts ts u) ≡ true → cond b true
+        (has_row (rows_in texts ts es) (row_of texts ts u)) ≡ true
+    by_test true k = refl
+    by_test false k = k
+
+-- the row of the entry that goes is the first like it
+
+apart_first : (x : Entry) (es : List Entry) → AreApart (x ∷ es) → cnt es x.tuple ≡ 0
+unfolding AreApart
+apart_first x es h = h.0
+
+apart_rest : (x : Entry) (es : List Entry) → AreApart (x ∷ es) → AreApart es
+unfolding AreApart
+apart_rest x es h = h.1
+
+pub dropped_row : (texts : List Bytes) (ts : List ColumnType) (xs : List Entry) (e : Entry) (ys :
+    List Entry) → AllDifferent texts → Within texts ts (xs ++ e ∷ ys) → AreApart (xs ++ e ∷ ys)
+    → without_row (rows_in texts ts (xs ++ e ∷ ys)) (row_of texts ts e.tuple) ≡ rows_in texts ts (xs
+    ++ ys)
+unfolding tuples_of
+dropped_row texts ts [] e ys d h a = rw (row_yes texts ts e.tuple e.tuple refl) refl
+dropped_row texts ts (x ∷ xs) e ys d h a =
+    let other : (x.tuple ≡ e.tuple) → ⊥ = (λ k. omega (
+      arith,
+      apart_first x (xs ++ e ∷ ys) a,
+      cnt_middle xs e ys x.tuple,
+      one_true (same e.tuple x.tuple) (is_same e.tuple x.tuple (sym
+          k)),
+    )) in
+    rw (row_no texts ts x.tuple e.tuple d h.0 (entry_within texts ts xs e ys h.1) other) (ap (λ (l :
+    List Tuple). row_of texts ts x.tuple ∷ l) (dropped_row texts ts xs e ys d h.1 (apart_rest x
+    (xs ++ e ∷ ys) a)))
+  where
+    entry_within : (texts : List Bytes) (ts : List ColumnType) (xs : List Entry) (e : Entry) (ys :
+        List Entry) → AllByRecursion (AreWithin texts ts) (map (λ (f : Entry). f.tuple) (xs ++ e ∷
+        ys)) → AreWithin texts ts e.tuple
+    entry_within texts ts [] e ys k = k.0
+    entry_within texts ts (x ∷ xs) e ys k = entry_within texts ts xs e ys k.1
+
+-- different tuples are different rows
+
+others_differ : (texts : List Bytes) (ts : List ColumnType) (es : List Entry) (u : List ℕ) →
+    AllDifferent texts → Within texts ts es → AreWithin texts ts u → cnt es u ≡ 0
+    → AllByRecursion (λ (r : Tuple). row_of texts ts u ≡ r → ⊥) (rows_in texts ts es)
+unfolding tuples_of
+others_differ texts ts [] u d h k n = tt
+others_differ texts ts (e ∷ es) u d h k n = (
+  (λ same. none_first e es u n (same_cells texts ts e.tuple u d h.0 k (sym same))),
+  others_differ
+      texts ts es u d h.1 k (none_rest e es u n),
+)
+
+pub rows_differ : (texts : List Bytes) (ts : List ColumnType) (es : List Entry) → AllDifferent texts
+    → Within texts ts es → AreApart es → AreDifferent (rows_in texts ts es)
+rows_differ texts ts [] d h a = subst AreDifferent (sym (rows_nil texts ts)) (λ i j k low high.
+    absurd (omega arith))
+rows_differ texts ts (e ∷ es) d h a =
+    subst AreDifferent (sym (rows_cons texts ts e es))
+    (AllPairs-cons (λ (s t : Tuple). s ≡ t → ⊥) (row_of texts ts e.tuple) (rows_in texts ts es)
+    (All-from_recursion (λ (r : Tuple). row_of texts ts e.tuple ≡ r → ⊥) (rows_in texts ts es)
+    (others_differ texts ts es e.tuple d (within_rest texts ts e es h) (within_first texts ts e
+    es h) (apart_first e es a)))
+    (rows_differ texts ts es d (within_rest texts ts e es h) (apart_rest e es a)))

@@ -1,0 +1,235 @@
+-- The texts of a row become known, value by value.
+use Rattle.std.proofs.Common.{
+  ◌≡◌,
+  ℕ,
+  ◌+◌,
+  ◌<◌,
+  Bool,
+  true,
+  false,
+  List,
+  [],
+  ◌∷◌,
+  ◌++◌,
+  length,
+  take,
+  drop,
+  refl,
+  sym,
+  ap,
+  ◌∙◌,
+  subst,
+  arith,
+  append_assoc,
+}
+use Rattle.std.specs.Prelude.{slice_index_or, slice_get, Some, Err, ◌&&◌, Contains}
+use Rattle.std.proofs.lemmas.List.{take_more, take-append-drop, get_or_default}
+use Rattle.std.proofs.lemmas.Option.{get_or_from_slice_get}
+use Rattle.djq_model.specs.declared.value.Value.{Value}
+use Rattle.djq_model.specs.declared.value.Value.TheVariants.{Int, Text}
+use Rattle.djq_model.specs.Data.{Bytes, Tuple}
+use Rattle.djq_model.specs.Known.{knows, knows_all, texts_of, texts_in, learned, all_learned}
+use Rattle.djq_model.specs.declared.relation.ColumnType.{ColumnType}
+use Rattle.djq_model.specs.declared.relation.ColumnType.TheVariants.{Text as TextColumn}
+use Rattle.djq_dict.specs.declared.dict.TheConstants.{MOST_TEXTS}
+use Rattle.djq_dict.specs.declared.refusal.InternRefusal.{InternRefusal}
+use Rattle.djq_dict.specs.declared.refusal.InternRefusal.TheVariants.{Full, NoMem}
+use Rattle.djq_dict.specs.Known.{AllDifferent, IsUnknown, Learns}
+use Rattle.djq_rows.specs.Cells.{cell_of, cells_of, HasCell, HaveCells}
+use Rattle.djq_rows.specs.Changes.{LearnsSome, InternsValue, InternsRow}
+use Rattle.djq_rows.specs.Parts.{IsWithin, value_of}
+use Rattle.djq_rows.proofs.Learning.{
+  Grown,
+  knows_at,
+  place_at,
+  unknown,
+  learns_is,
+  all_grown,
+  grown_is,
+  grown_longer,
+  learned_longer,
+  all_learned-append,
+  texts_in-append,
+  knows_all-append,
+  knows_all-front,
+}
+use Rattle.djq_rows.proofs.Encoding.{have_push, cells_push, cells_grown}
+
+-- the values before one, and those behind it
+pub record Cut (row : Tuple) (at : ℕ) (v : Value) : Type 0 where
+  pub rest : Tuple
+  pub upto : take (at + 1) row ≡ take at row ++ v ∷ []
+  pub is : row ≡ (take at row ++ v ∷ []) ++ rest
+
+pub cut : (row : Tuple) (at : ℕ) (v : Value) → at < length row → v ≡ slice_index_or row at v → Cut
+    row at v
+cut row at v low is =
+    let upto : take (at + 1) row ≡ take at row ++ v ∷ [] = take_more row at v low ∙ ap (λ w. take at
+    row ++ w ∷ []) (sym is) in
+    record {
+      rest = drop (at + 1) row;
+      upto = upto;
+      is = sym (take-append-drop (at + 1) row) ∙ ap (λ
+          (l : Tuple). l ++ drop (at + 1) row) upto;
+    }
+
+texts_cut : (row : Tuple) (at : ℕ) (v : Value) (c : Cut row at v) → texts_in row ≡ texts_in (take at
+    row) ++ (texts_of v ++ texts_in c.rest)
+texts_cut row at v c =
+    ap texts_in c.is ∙ texts_in-append (take at row ++ v ∷ []) c.rest ∙ ap (λ (l : List Bytes). l ++
+    texts_in c.rest) (texts_in-append (take at row) (v ∷ []) ∙ ap (λ (l : List Bytes). texts_in
+    (take at row) ++ l) (append_nil_of v))
+    ∙ append_assoc (texts_in (take at row)) (texts_of v) (texts_in c.rest)
+  where
+    append_nil_of : (v : Value) → texts_in (v ∷ []) ≡ texts_of v
+    append_nil_of (Int i) = refl
+    append_nil_of (Text t) = refl
+
+-- telling cells
+
+pub told_more : (texts : List Bytes) (row : Tuple) (at : ℕ) (v : Value) (cells : List ℕ) → Cut row
+    at v → cells ≡ cells_of texts (take at row)
+    → cells ++ cell_of texts v ∷ [] ≡ cells_of texts (take (at + 1) row)
+told_more texts row at v cells c e = ap (λ (l : List ℕ). l ++ cell_of texts v ∷ []) e ∙ sym (ap
+    (cells_of texts) c.upto ∙ cells_push texts (take at row) v)
+
+pub have_upto : (texts : List Bytes) (row : Tuple) (at : ℕ) (v : Value) → Cut row at v → HaveCells
+    texts (take at row) → HasCell texts v → HaveCells texts (take (at + 1) row)
+have_upto texts row at v c h k = subst (HaveCells texts) (sym c.upto) (have_push texts (take at row)
+    v h k)
+
+pub unknown_in : (texts : List Bytes) (row : Tuple) (at : ℕ) (v : Value) → Cut row at v → knows_all
+    texts (texts_of v) ≡ false → knows_all texts (texts_in row) ≡ false
+unknown_in texts row at v c h =
+    ap (knows_all texts) (texts_cut row at v c) ∙ knows_all-append texts (texts_in (take at row))
+    (texts_of v ++ texts_in c.rest) (knows_all-front texts (texts_of v) (texts_in c.rest) h)
+
+-- learning
+
+one_more : (old : List Bytes) (ts : List Bytes) (v : Value) → all_learned (all_learned old ts)
+    (texts_of v) ≡ all_learned old (ts ++ texts_of v)
+one_more old ts v = sym (all_learned-append old ts (texts_of v))
+
+pub learned_upto : (old now new : List Bytes) (row : Tuple) (at : ℕ) (v : Value) → Cut row at v →
+    now ≡ all_learned old (texts_in (take at row)) → new ≡ all_learned now (texts_of v)
+    → new ≡ all_learned old (texts_in (take (at + 1) row))
+learned_upto old now new row at v c was is =
+    is ∙ ap (λ (l : List Bytes). all_learned l (texts_of v)) was ∙ one_more old (texts_in (take at
+    row)) v
+    ∙ ap (all_learned old) (ap (λ (l : List Bytes). texts_in (take at row) ++ l) (sym (last_of v)) ∙
+    sym (texts_in-append (take at row) (v ∷ [])) ∙ sym (ap texts_in c.upto))
+  where
+    last_of : (v : Value) → texts_in (v ∷ []) ≡ texts_of v
+    last_of (Int i) = refl
+    last_of (Text t) = refl
+
+pub now_grown : (old now new : List Bytes) (v : Value) → new ≡ all_learned now (texts_of v) → Grown
+    now new
+now_grown old now new v is = grown_is now new (all_learned now (texts_of v)) is (all_grown now
+    (texts_of v))
+
+pub cells_upto : (now new : List Bytes) (row : Tuple) (at : ℕ) (v : Value) (cells : List ℕ) (cell :
+    ℕ) → Cut row at v → Grown now new → HaveCells now (take at row) → cells ≡ cells_of now (take at
+    row) → cell ≡ cell_of new v
+    → cells ++ cell ∷ [] ≡ cells_of new (take (at + 1) row)
+cells_upto now new row at v cells cell c g h e k =
+    ap (λ n. cells ++ n ∷ []) k ∙ told_more new row at v cells c (e ∙ sym (cells_grown now new (take
+    at row) g h))
+
+some_text : (known : List Bytes) (v : Value) (more : List Bytes) → knows_all known (texts_of v) ≡
+    false → 0 < length (texts_of v ++ more)
+some_text known (Int i) more h = absurd cc
+some_text known (Text t) more h = omega arith
+
+pub learns_some : (old now new : List Bytes) (row : Tuple) (at : ℕ) (v : Value) → Cut row at v → now
+    ≡ all_learned old (texts_in (take at row)) → knows_all now (texts_of v) ≡ false → new ≡ now →
+    LearnsSome old (texts_in row) new
+learns_some old now new row at v c was unknown is = record {
+  first = texts_in (take at row);
+  rest = texts_of v ++ texts_in c.rest;
+  parts = texts_cut row at v c;
+  some = some_text now v (texts_in c.rest) unknown;
+  learned = is ∙ was;
+}
+
+-- one more than there may be
+beyond : (now : List Bytes) (v : Value) (more : List Bytes) → knows_all now (texts_of v) ≡ false →
+    length now < length (all_learned now (texts_of v ++ more))
+beyond now (Int i) more h = absurd cc
+beyond now (Text t) more h =
+    omega (
+      arith,
+      grown_longer (learned now t) (all_learned (learned now t) more) (all_grown
+          (learned now t) more),
+      learned_longer now t (alone (knows now t) h),
+    )
+  where
+    alone : (b : Bool) → (b && true) ≡ false → b ≡ false
+    alone true k = absurd cc
+    alone false k = refl
+
+pub too_many : (old now : List Bytes) (row : Tuple) (at : ℕ) (v : Value) → Cut row at v → now ≡
+    all_learned old (texts_in (take at row)) → knows_all now (texts_of v) ≡ false → length now ≡
+    MOST_TEXTS
+    → MOST_TEXTS < length (all_learned old (texts_in row))
+too_many old now row at v c was unknown many =
+    let whole : all_learned old (texts_in row) ≡ all_learned now (texts_of v ++ texts_in c.rest) =
+    ap (all_learned old) (texts_cut row at v c) ∙ all_learned-append old (texts_in (take at row))
+    (texts_of v ++ texts_in c.rest) ∙ ap (λ (l : List Bytes). all_learned l (texts_of v ++
+    texts_in c.rest)) (sym was) in
+    let more = beyond now v (texts_in c.rest) unknown in
+    subst (λ (l : List Bytes). MOST_TEXTS < length l) (sym whole) (subst (λ (n : ℕ). n < length
+    (all_learned now (texts_of v ++ texts_in c.rest))) many more)
+
+-- one value
+
+pub told_text : (texts : List Bytes) (v : Value) (t : Bytes) (n : ℕ) → v ≡ Text t → AllDifferent
+    texts → slice_get texts n ≡ Some t → HasCell texts v × (n ≡ cell_of texts v)
+told_text texts v t n is d h = subst (λ (w : Value). HasCell texts w × (n ≡ cell_of texts w)) (sym
+    is) (knows_at texts t n h, place_at texts t n d h)
+
+pub untold_text : (texts : List Bytes) (v : Value) (t : Bytes) → v ≡ Text t → IsUnknown texts t →
+    knows_all texts (texts_of v) ≡ false
+untold_text texts v t is h = subst (λ (w : Value). knows_all texts (texts_of w) ≡ false) (sym is)
+    (rw (unknown texts t h) refl)
+
+pub learned_text : (old new : List Bytes) (v : Value) (t : Bytes) → v ≡ Text t → Learns old t new →
+    new ≡ all_learned old (texts_of v)
+learned_text old new v t is h = subst (λ (w : Value). new ≡ all_learned old (texts_of w)) (sym is)
+    (learns_is old new t h)
+
+not_among : (texts : List Bytes) (t : Bytes) → (Contains texts t → ⊥) → IsUnknown texts t
+not_among texts t h = λ k d low e. h (k, low, get_or_default texts k t d low ∙ e)
+
+pub refused_text : (old new : List Bytes) (v : Value) (t : Bytes) (r : InternRefusal) → v ≡ Text t →
+    (Contains old t → ⊥) → (r ≡ Full → length old ≡ MOST_TEXTS) → new ≡ old → InternsValue old v
+    (Err r) new
+refused_text old new v t Full is none full same = (
+  untold_text old v t is (not_among old t none),
+  full refl,
+  same,
+)
+refused_text old new v t NoMem is none full same = (
+  untold_text old v t is (not_among old t none),
+  same,
+)
+
+pub refused_row : (old now new : List Bytes) (row : Tuple) (at : ℕ) (v : Value) (r : InternRefusal)
+    → Cut row at v → now ≡ all_learned old (texts_in (take at row)) → InternsValue now v (Err r) new
+    → InternsRow old row (Err r) new
+refused_row old now new row at v Full c was h = (
+  too_many old now row at v c was h.0 h.1,
+  learns_some old now new row at v c was h.0 h.2,
+)
+refused_row old now new row at v NoMem c was h = learns_some old now new row at v c was h.0 h.1
+
+-- a text that is lent
+
+pub text_below : (texts : List Bytes) (column : ColumnType) (cell : ℕ) → column ≡ TextColumn →
+    IsWithin texts column cell → cell < length texts
+text_below texts column cell is h = subst (λ t. IsWithin texts t cell) is h
+
+pub text_lent : (texts : List Bytes) (column : ColumnType) (cell : ℕ) (t : Bytes) → column ≡
+    TextColumn → slice_get texts cell ≡ Some t → Text t ≡ value_of texts column cell
+text_lent texts column cell t is h = subst (λ k. Text t ≡ value_of texts k cell) (sym is) (ap (λ (u
+    : Bytes). Text u) (sym (get_or_from_slice_get texts cell t [] h)))

@@ -1,0 +1,474 @@
+-- The relations of a catalog, as they are kept.
+use Rattle.std.proofs.Common.{
+  ◌≡◌,
+  ℕ,
+  zero,
+  suc,
+  ◌<◌,
+  ◌≤◌,
+  Bool,
+  true,
+  false,
+  List,
+  [],
+  ◌∷◌,
+  ◌++◌,
+  length,
+  set,
+  refl,
+  sym,
+  ap,
+  ◌∙◌,
+  subst,
+  arith,
+}
+use Rattle.std.specs.Prelude.{map, slice_get, Some, None, Result, Ok, Err}
+use Rattle.std.specs.List.{AllByRecursion}
+use Rattle.std.proofs.lemmas.List.{get_or-map, length-map, map-set}
+use Rattle.std.proofs.lemmas.List.Elements.{
+  All-from_recursion,
+  recursion_from_All,
+  All-get_or,
+  All-set,
+  All-push,
+}
+use Rattle.std.proofs.Math.Seq.{map-set_same}
+use Rattle.std.proofs.lemmas.Option.{slice_get_within, get_or_from_slice_get}
+use Rattle.djq_model.specs.declared.relation.ColumnType.{ColumnType}
+use Rattle.djq_model.specs.declared.relation.Relation.{Relation}
+use Rattle.djq_model.specs.Data.{Bytes, Tuple, bytes_eq, relation_of, has_row, without_row}
+use Rattle.djq_model.specs.Typed.{fits}
+use Rattle.djq_lines.specs.declared.limits.TheConstants.{COLUMNS}
+use Rattle.djq_lines.specs.declared.answer.AddOutcome.{AddOutcome}
+use Rattle.djq_lines.specs.declared.answer.AddOutcome.TheVariants.{Added, Same}
+use Rattle.djq_lines.specs.declared.answer.DeleteOutcome.{DeleteOutcome}
+use Rattle.djq_lines.specs.declared.answer.DeleteOutcome.TheVariants.{Removed, Absent}
+use Rattle.djq_dict.specs.Known.{AllDifferent, IsUnknown}
+use Rattle.djq_index.specs.Entries.{Entry, cnt}
+use Rattle.djq_index.specs.Table.{AreApart}
+use Rattle.djq_index.proofs.Apart.{there}
+use Rattle.djq_rows.specs.declared.refusal.RowsRefusal.{RowsRefusal}
+use Rattle.djq_rows.specs.declared.refusal.RowsRefusal.TheVariants.{NameTaken, Full, NoMem}
+use Rattle.djq_rows.specs.declared.kept.Kept.{Kept}
+use Rattle.djq_rows.specs.Cells.{cells_of, HaveCells, StandFor}
+use Rattle.djq_rows.specs.Catalog.{no_relation, relation_at, rows_at, with_rows_at, IsKept}
+use Rattle.djq_rows.specs.Changes.{AddsRow, DeletesRow}
+use Rattle.djq_rows.specs.Parts.{
+  row_of,
+  tuples_of,
+  relation_in,
+  relations_of,
+  kept_at,
+  no_kept,
+  AreWithin,
+  IsSound,
+}
+use Rattle.djq_rows.specs.Tuples.{HasTuple, Appended, Dropped, StaysTable, AddsTuple, DeletesTuple}
+use Rattle.djq_rows.proofs.Learning.{Grown, eq_refl, eq_other}
+use Rattle.djq_rows.proofs.Encoding.{
+  stand_row,
+  stand_within,
+  row_stands,
+  within_grown,
+  row_grown,
+  cells_back,
+}
+use Rattle.djq_rows.proofs.Grouped.{
+  rows_in,
+  Within,
+  rows-append,
+  rows_long,
+  within_push,
+  within_out,
+  absent_row,
+  present_row,
+  dropped_row,
+  rows_differ,
+}
+
+-- one relation
+
+pub in_name : (texts : List Bytes) (k : Kept) → (relation_in texts k).name ≡ k.name
+unfolding relation_in
+in_name texts k = refl
+
+pub in_types : (texts : List Bytes) (k : Kept) → (relation_in texts k).types ≡ k.types
+unfolding relation_in
+in_types texts k = refl
+
+pub in_rows : (texts : List Bytes) (k : Kept) → (relation_in texts k).rows ≡ rows_in texts k.types
+    k.table.entries
+unfolding relation_in
+in_rows texts k = refl
+
+-- a relation with other rows
+with_rows : (texts : List Bytes) (j k : Kept) (rows : List Tuple) → k.name ≡ j.name → k.types ≡
+    j.types → rows_in texts k.types k.table.entries ≡ rows → relation_in texts k ≡ (let r =
+    relation_in texts j in record r { rows = rows })
+unfolding relation_in
+with_rows texts j k rows n t e =
+    ap (λ (m : Bytes). record {
+      name = m;
+      types = k.types;
+      rows = rows_in texts k.types
+          k.table.entries;
+    }) n
+    ∙ ap (λ (l : List ColumnType). record {
+      name = j.name;
+      types = l;
+      rows = rows_in texts k.types
+          k.table.entries;
+    }) t
+    ∙ ap (λ (l : List Tuple). record { name = j.name; types = j.types; rows = l }) e
+
+same_rows : (texts : List Bytes) (j k : Kept) → k.name ≡ j.name → k.types ≡ j.types →
+    k.table.entries ≡ j.table.entries → relation_in texts k ≡ relation_in texts j
+unfolding relation_in
+same_rows texts j k n t e =
+    ap (λ (m : Bytes). record {
+      name = m;
+      types = k.types;
+      rows = rows_in texts k.types
+          k.table.entries;
+    }) n
+    ∙ ap (λ (l : List ColumnType). record {
+      name = j.name;
+      types = l;
+      rows = rows_in texts l
+          k.table.entries;
+    }) t
+    ∙ ap (λ (l : List Entry). record {
+      name = j.name;
+      types = j.types;
+      rows = rows_in texts j.types
+          l;
+    }) e
+
+-- at a place
+
+pub relation_is : (texts : List Bytes) (ks : List Kept) (at : ℕ) → at < length ks → relation_at
+    (relations_of texts ks) at ≡ relation_in texts (kept_at ks at)
+relation_is texts ks at low = get_or-map (relation_in texts) ks at no_kept no_relation low
+
+pub rows_is : (texts : List Bytes) (ks : List Kept) (at : ℕ) → at < length ks → rows_at
+    (relations_of texts ks) at ≡ rows_in texts (kept_at ks at).types (kept_at ks at).table.entries
+rows_is texts ks at low = ap (λ (r : Relation). r.rows) (relation_is texts ks at low) ∙ in_rows
+    texts (kept_at ks at)
+
+pub types_is : (texts : List Bytes) (ks : List Kept) (at : ℕ) → at < length ks → (relation_at
+    (relations_of texts ks) at).types ≡ (kept_at ks at).types
+types_is texts ks at low = ap (λ (r : Relation). r.types) (relation_is texts ks at low) ∙ in_types
+    texts (kept_at ks at)
+
+pub name_is : (texts : List Bytes) (ks : List Kept) (at : ℕ) → at < length ks → (relation_at
+    (relations_of texts ks) at).name ≡ (kept_at ks at).name
+name_is texts ks at low = ap (λ (r : Relation). r.name) (relation_is texts ks at low) ∙ in_name
+    texts (kept_at ks at)
+
+pub relations_long : (texts : List Bytes) (ks : List Kept) → length (relations_of texts ks) ≡ length
+    ks
+relations_long texts ks = length-map ks (relation_in texts)
+
+pub sound_at : (texts : List Bytes) (ks : List Kept) (at : ℕ) → AllByRecursion (IsSound texts) ks →
+    at < length ks → IsSound texts (kept_at ks at)
+sound_at texts ks at h low = All-get_or (IsSound texts) ks at no_kept low (All-from_recursion
+    (IsSound texts) ks h)
+
+pub sound_set : (texts : List Bytes) (ks : List Kept) (at : ℕ) (k : Kept) → AllByRecursion (IsSound
+    texts) ks → IsSound texts k → AllByRecursion (IsSound texts) (set ks at k)
+sound_set texts ks at k h s = recursion_from_All (IsSound texts) (set ks at k) (All-set (IsSound
+    texts) ks at k s (All-from_recursion (IsSound texts) ks h))
+
+pub sound_push : (texts : List Bytes) (ks : List Kept) (k : Kept) → AllByRecursion (IsSound texts)
+    ks → IsSound texts k → AllByRecursion (IsSound texts) (ks ++ k ∷ [])
+sound_push texts ks k h s = recursion_from_All (IsSound texts) (ks ++ k ∷ []) (All-push (IsSound
+    texts) ks k (All-from_recursion (IsSound texts) ks h) s)
+
+-- one relation changes
+
+pub names_set : (ks : List Kept) (at : ℕ) (k : Kept) → k.name ≡ (kept_at ks at).name → map (λ (j :
+    Kept). j.name) (set ks at k) ≡ map (λ (j : Kept). j.name) ks
+names_set ks at k n = map-set_same (λ (j : Kept). j.name) ks at k no_kept n
+
+stays : (texts : List Bytes) (ks : List Kept) (at : ℕ) (k : Kept) → k.name ≡ (kept_at ks at).name →
+    k.types ≡ (kept_at ks at).types → k.table.entries ≡ (kept_at ks at).table.entries
+    → relations_of texts (set ks at k) ≡ relations_of texts ks
+stays texts ks at k n t e = map-set_same (relation_in texts) ks at k no_kept (same_rows texts
+    (kept_at ks at) k n t e)
+
+changes : (texts : List Bytes) (ks : List Kept) (at : ℕ) (k : Kept) (rows : List Tuple) → at <
+    length ks → k.name ≡ (kept_at ks at).name → k.types ≡ (kept_at ks at).types
+    → rows_in texts k.types k.table.entries ≡ rows → relations_of texts (set ks at k) ≡ with_rows_at
+    (relations_of texts ks) at rows
+changes texts ks at k rows low n t e =
+    map-set (relation_in texts) ks at k
+    ∙ ap (λ (r : Relation). set (relations_of texts ks) at r)
+    (with_rows texts (kept_at ks at) k rows n t e ∙ ap (λ (r : Relation). record {
+      name = r.name;
+      types = r.types;
+      rows = rows;
+    }) (sym (relation_is texts ks at low)))
+
+-- adding
+
+one_row : (texts : List Bytes) (ts : List ColumnType) (e : Entry) → rows_in texts ts (e ∷ []) ≡
+    row_of texts ts e.tuple ∷ []
+unfolding tuples_of
+one_row texts ts e = refl
+
+module _ (texts : List Bytes) (ks : List Kept) (at : ℕ) (k : Kept) (u : List ℕ) (row : Tuple) (d :
+    AllDifferent texts) (low : at < length ks) (s : IsSound texts (kept_at ks at))
+    (n : k.name ≡ (kept_at ks at).name) (t : k.types ≡ (kept_at ks at).types) (stand : StandFor
+    texts (kept_at ks at).types u row) where
+  abbrev was : List Entry
+  was = (kept_at ks at).table.entries
+
+  abbrev types : List ColumnType
+  types = (kept_at ks at).types
+
+  row_is : row_of texts types u ≡ row
+  row_is = stand_row texts types u row stand
+
+  absent : cnt was u ≡ 0 → has_row (rows_at (relations_of texts ks) at) row ≡ false
+  absent none =
+      ap (λ (rows : List Tuple). has_row rows row) (rows_is texts ks at low) ∙ ap (has_row (rows_in
+      texts types was)) (sym row_is)
+      ∙ absent_row texts types was u d s.within (stand_within texts types u row stand) none
+
+  present : 0 < cnt was u → has_row (rows_at (relations_of texts ks) at) row ≡ true
+  present some =
+      ap (λ (rows : List Tuple). has_row rows row) (rows_is texts ks at low) ∙ ap (has_row (rows_in
+      texts types was)) (sym row_is) ∙ present_row texts types was u some
+
+  long : length (rows_at (relations_of texts ks) at) ≡ length was
+  long = ap (λ (rows : List Tuple). length rows) (rows_is texts ks at low) ∙ rows_long texts types
+      was
+
+  pub has : (b : Bool) → HasTuple (kept_at ks at).table u b → b ≡ has_row (rows_at (relations_of
+      texts ks) at) row
+  has true h = sym (present h)
+  has false h = sym (absent h)
+
+  appended_rows : Appended (kept_at ks at).table k.table u → rows_in texts k.types k.table.entries ≡
+      rows_at (relations_of texts ks) at ++ row ∷ []
+  appended_rows a =
+      ap (λ (l : List ColumnType). rows_in texts l k.table.entries) t ∙ ap (rows_in texts types)
+      a.is ∙ rows-append texts types was (a.entry ∷ [])
+      ∙ ap (λ (l : List Tuple). rows_in texts types was ++ l) (one_row texts types a.entry ∙ ap (λ
+      (r : Tuple). r ∷ []) (ap (row_of texts types) a.tuple ∙ row_is))
+      ∙ ap (λ (l : List Tuple). l ++ row ∷ []) (sym (rows_is texts ks at low))
+
+  pub added : (r : Result AddOutcome RowsRefusal) → AddsTuple (kept_at ks at).table u r k.table →
+      AddsRow (relations_of texts ks) at row r (relations_of texts (set ks at k))
+  added (Ok Added) a = (
+    absent a.adds.0,
+    omega (arith, a.adds.1, long),
+    changes texts ks at k (rows_at (relations_of
+        texts ks) at ++ row ∷ []) low n t (appended_rows a.adds.2),
+  )
+  added (Ok Same) a = (present a.adds.0, stays texts ks at k n t a.adds.1)
+  added (Err NameTaken) a = a.adds
+  added (Err Full) a = (
+    absent a.adds.0,
+    omega (arith, a.adds.1, long),
+    stays texts ks at k n t
+        a.adds.2,
+  )
+  added (Err NoMem) a = (
+    absent a.adds.0,
+    omega (arith, a.adds.1, long),
+    stays texts ks at k n t
+        a.adds.2,
+  )
+
+  dropped_rows : Dropped (kept_at ks at).table k.table u → rows_in texts k.types k.table.entries ≡
+      without_row (rows_at (relations_of texts ks) at) row
+  dropped_rows e =
+      ap (λ (l : List ColumnType). rows_in texts l k.table.entries) t ∙ ap (rows_in texts types)
+      e.is
+      ∙ sym (dropped_row texts types e.front e.entry e.back d (subst (Within texts types) e.was
+      s.within) (subst AreApart e.was s.table.apart))
+      ∙ ap (λ (l : List Entry). without_row (rows_in texts types l) (row_of texts types
+      e.entry.tuple)) (sym e.was)
+      ∙ ap (without_row (rows_in texts types was)) (ap (row_of texts types) e.tuple ∙ row_is)
+      ∙ ap (λ (l : List Tuple). without_row l row) (sym (rows_is texts ks at low))
+
+  pub deleted : (r : DeleteOutcome) → DeletesTuple (kept_at ks at).table u r k.table → DeletesRow
+      (relations_of texts ks) at row r (relations_of texts (set ks at k))
+  deleted Removed e = (
+    present (there was e.deletes.front e.deletes.entry e.deletes.back u e.deletes.was
+        e.deletes.tuple),
+    changes texts ks at k (without_row (rows_at (relations_of texts ks) at) row) low n t
+        (dropped_rows e.deletes),
+  )
+  deleted Absent e = (absent e.deletes.0, stays texts ks at k n t e.deletes.1)
+
+-- and it stays sound
+
+sound_as : (texts : List Bytes) (j k : Kept) → k.types ≡ j.types → StaysTable j.table k.table →
+    IsSound texts j → Within texts j.types k.table.entries → IsSound texts k
+sound_as texts j k t st s w = record {
+  narrow = subst (λ (l : List ColumnType). length l ≤ COLUMNS) (sym t) s.narrow;
+  key = st.key ∙ s.key;
+  width = st.width ∙ s.width ∙ ap (λ (l : List ColumnType). length l) (sym t);
+  table = st.is;
+  within = subst (λ (l : List ColumnType). Within texts l k.table.entries) (sym t) w;
+}
+
+same_within : (texts : List Bytes) (j k : Kept) → k.table.entries ≡ j.table.entries → IsSound texts
+    j → Within texts j.types k.table.entries
+same_within texts j k e s = subst (Within texts j.types) (sym e) s.within
+
+pub added_sound : (texts : List Bytes) (j k : Kept) (u : List ℕ) (r : Result AddOutcome RowsRefusal)
+    → k.types ≡ j.types → AreWithin texts j.types u → IsSound texts j → AddsTuple j.table u r
+    k.table → IsSound texts k
+added_sound texts j k u (Ok Added) t h s a =
+    let p = a.adds.2 in
+    sound_as texts j k t a.stays s (subst (Within texts j.types) (sym p.is) (within_push texts
+    j.types j.table.entries p.entry s.within (subst (AreWithin texts j.types) (sym p.tuple) h)))
+added_sound texts j k u (Ok Same) t h s a = sound_as texts j k t a.stays s (same_within texts j k
+    a.adds.1 s)
+added_sound texts j k u (Err NameTaken) t h s a = absurd a.adds
+added_sound texts j k u (Err Full) t h s a = sound_as texts j k t a.stays s (same_within texts j k
+    a.adds.2 s)
+added_sound texts j k u (Err NoMem) t h s a = sound_as texts j k t a.stays s (same_within texts j k
+    a.adds.2 s)
+
+pub deleted_sound : (texts : List Bytes) (j k : Kept) (u : List ℕ) (r : DeleteOutcome) → k.types ≡
+    j.types → IsSound texts j → DeletesTuple j.table u r k.table → IsSound texts k
+deleted_sound texts j k u Removed t s e =
+    let p = e.deletes in
+    sound_as texts j k t e.stays s (subst (Within texts j.types) (sym p.is) (within_out texts
+    j.types p.front p.entry p.back (subst (Within texts j.types) p.was s.within)))
+deleted_sound texts j k u Absent t s e = sound_as texts j k t e.stays s (same_within texts j k
+    e.deletes.1 s)
+
+-- more texts change nothing
+
+tuples_grown : (old new : List Bytes) (ts : List ColumnType) (us : List (List ℕ)) → Grown old new →
+    AllByRecursion (AreWithin old ts) us → AllByRecursion (AreWithin new ts) us
+tuples_grown old new ts [] g h = tt
+tuples_grown old new ts (u ∷ us) g h = (
+  within_grown old new ts u g h.0,
+  tuples_grown old new ts us
+      g h.1,
+)
+
+rows_grown : (old new : List Bytes) (ts : List ColumnType) (us : List (List ℕ)) → Grown old new →
+    AllByRecursion (AreWithin old ts) us → map (row_of new ts) us ≡ map (row_of old ts) us
+rows_grown old new ts [] g h = refl
+rows_grown old new ts (u ∷ us) g h = ap (λ (r : Tuple). r ∷ map (row_of new ts) us) (row_grown old
+    new ts u g h.0) ∙ ap (λ (l : List Tuple). row_of old ts u ∷ l) (rows_grown old new ts us g h.1)
+
+relation_grown : (old new : List Bytes) (k : Kept) → Grown old new → IsSound old k → relation_in new
+    k ≡ relation_in old k
+unfolding relation_in
+relation_grown old new k g s = ap (λ (l : List Tuple). record {
+  name = k.name;
+  types = k.types;
+  rows
+      = l;
+}) (rows_grown old new k.types (tuples_of k.table.entries) g s.within)
+
+pub relations_grown : (old new : List Bytes) (ks : List Kept) → Grown old new → AllByRecursion
+    (IsSound old) ks → relations_of new ks ≡ relations_of old ks
+relations_grown old new [] g h = refl
+relations_grown old new (k ∷ ks) g h = ap (λ (r : Relation). r ∷ relations_of new ks)
+    (relation_grown old new k g h.0) ∙ ap (λ (l : List Relation). relation_in old k ∷ l)
+    (relations_grown old new ks g h.1)
+
+sound_grown : (old new : List Bytes) (k : Kept) → Grown old new → IsSound old k → IsSound new k
+sound_grown old new k g s = record {
+  narrow = s.narrow;
+  key = s.key;
+  width = s.width;
+  table =
+      s.table;
+  within = tuples_grown old new k.types (tuples_of k.table.entries) g s.within;
+}
+
+pub sounds_grown : (old new : List Bytes) (ks : List Kept) → Grown old new → AllByRecursion (IsSound
+    old) ks → AllByRecursion (IsSound new) ks
+sounds_grown old new [] g h = tt
+sounds_grown old new (k ∷ ks) g h = (sound_grown old new k g h.0, sounds_grown old new ks g h.1)
+
+-- what contracts see of a sound relation
+
+within_typed : (texts : List Bytes) (ts : List ColumnType) (us : List (List ℕ)) → AllDifferent texts
+    → AllByRecursion (AreWithin texts ts) us → AllByRecursion (λ (row : Tuple). fits ts row ≡ true)
+    (map (row_of texts ts) us)
+within_typed texts ts [] d h = tt
+within_typed texts ts (u ∷ us) d h = (
+  (row_stands texts ts u d h.0).of,
+  within_typed texts ts us d
+      h.1,
+)
+
+within_have : (texts : List Bytes) (ts : List ColumnType) (us : List (List ℕ)) → AllDifferent texts
+    → AllByRecursion (AreWithin texts ts) us → AllByRecursion (HaveCells texts) (map (row_of texts
+    ts) us)
+within_have texts ts [] d h = tt
+within_have texts ts (u ∷ us) d h = (
+  (row_stands texts ts u d h.0).have,
+  within_have texts ts us d
+      h.1,
+)
+
+pub sound_kept : (texts : List Bytes) (k : Kept) → AllDifferent texts → IsSound texts k → IsKept
+    texts (relation_in texts k)
+unfolding relation_in
+sound_kept texts k d s = record {
+  narrow = s.narrow;
+  typed = All-from_recursion (λ (row : Tuple). fits k.types row ≡ true) (map (row_of texts k.types)
+      (tuples_of k.table.entries)) (within_typed texts k.types (tuples_of k.table.entries) d
+      s.within);
+  differ = rows_differ texts k.types k.table.entries d s.within s.table.apart;
+  cells = All-from_recursion (HaveCells texts) (map (row_of texts k.types) (tuples_of
+      k.table.entries)) (within_have texts k.types (tuples_of k.table.entries) d s.within);
+}
+
+-- the cells of the rows are the tuples
+cells_back_all : (texts : List Bytes) (ts : List ColumnType) (us : List (List ℕ)) → AllDifferent
+    texts → AllByRecursion (AreWithin texts ts) us → map (cells_of texts) (map (row_of texts ts) us)
+    ≡ us
+cells_back_all texts ts [] d h = refl
+cells_back_all texts ts (u ∷ us) d h =
+    ap (λ (v : List ℕ). v ∷ map (cells_of texts) (map (row_of texts ts) us)) (cells_back texts ts u
+    d h.0) ∙ ap (λ (l : List (List ℕ)). u ∷ l) (cells_back_all texts ts us d h.1)
+
+pub tuples_are : (texts : List Bytes) (ks : List Kept) (at : ℕ) → AllDifferent texts →
+    AllByRecursion (IsSound texts) ks → at < length ks
+    → tuples_of (kept_at ks at).table.entries ≡ map (cells_of texts) (rows_at (relations_of texts
+    ks) at)
+tuples_are texts ks at d h low =
+    sym (ap (map (cells_of texts)) (rows_is texts ks at low) ∙ cells_back_all texts (kept_at ks
+    at).types (tuples_of (kept_at ks at).table.entries) d (sound_at texts ks at h low).within)
+
+-- names
+
+pub names_are : (texts : List Bytes) (ks : List Kept) → map (λ (r : Relation). r.name) (relations_of
+    texts ks) ≡ map (λ (k : Kept). k.name) ks
+unfolding relation_in
+names_are texts [] = refl
+names_are texts (k ∷ ks) = ap (λ (l : List Bytes). k.name ∷ l) (names_are texts ks)
+
+pub found_named : (rs : List Relation) (name : Bytes) (at : ℕ) → AllDifferent (map (λ (r :
+    Relation). r.name) rs) → slice_get (map (λ (r : Relation). r.name) rs) at ≡ Some name
+    → relation_of rs name ≡ Some (relation_at rs at)
+found_named [] name at d h = absurd cc
+found_named (r ∷ rs) name zero d h = let same : r.name ≡ name = cc in rw (ap (λ (n : Bytes).
+    bytes_eq n name) same ∙ eq_refl name) refl
+found_named (r ∷ rs) name (suc at) d h =
+    let low = slice_get_within (map (λ (s : Relation). s.name) rs) at name h in
+    let other : bytes_eq r.name name ≡ false = eq_other r.name name (λ e. d zero (suc at) name
+    (omega arith) (omega arith) (e ∙ sym (get_or_from_slice_get (map (λ (s : Relation). s.name)
+    rs) at name name h))) in
+    rw other (found_named rs name at (λ i j x a b. d (suc i) (suc j) x (omega arith) (omega arith))
+    h)
+
+pub none_named : (rs : List Relation) (name : Bytes) → IsUnknown (map (λ (r : Relation). r.name) rs)
+    name → relation_of rs name ≡ None
+none_named [] name h = refl
+none_named (r ∷ rs) name h =
+    rw (eq_other r.name name (λ e. h zero name (omega arith) e)) (none_named rs name (λ k d low e. h
+    (suc k) d (omega arith) e))

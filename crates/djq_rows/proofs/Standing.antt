@@ -1,0 +1,532 @@
+-- A catalog's parts, before a call and after it.
+use Rattle.std.proofs.Common.{
+  ◌≡◌,
+  ◌≢◌,
+  ℕ,
+  suc,
+  ◌+◌,
+  ◌<◌,
+  ◌≤◌,
+  Bool,
+  true,
+  false,
+  cond,
+  List,
+  [],
+  ◌∷◌,
+  ◌++◌,
+  length,
+  set,
+  refl,
+  sym,
+  ap,
+  ◌∙◌,
+  subst,
+  arith,
+  length-append,
+}
+use Rattle.std.specs.Prelude.{
+  map,
+  slice_index_or,
+  slice_get,
+  Option,
+  Some,
+  None,
+  is_some,
+  IfNone,
+  ◌&&◌,
+  Result,
+  Ok,
+  Err,
+  AllPairs,
+}
+use Rattle.std.specs.List.{AllByRecursion, list_all, zip}
+use Rattle.std.proofs.lemmas.Bool.{false≢true}
+use Rattle.std.proofs.lemmas.List.{get_or-map, length-map, length-set, map-append, get_or_default}
+use Rattle.std.proofs.lemmas.List.Elements.{
+  All-from_recursion,
+  recursion_from_All,
+  All-cons,
+  All-get_or,
+}
+use Rattle.std.proofs.lemmas.Option.{slice_get_within, get_or_from_slice_get}
+use Rattle.djq_model.specs.declared.value.Value.{Value}
+use Rattle.djq_model.specs.declared.relation.ColumnType.{ColumnType}
+use Rattle.djq_model.specs.declared.relation.Relation.{Relation}
+use Rattle.djq_model.specs.Data.{Bytes, Tuple, bytes_eq, relation_of, has_row}
+use Rattle.djq_model.specs.Typed.{is_of, fits}
+use Rattle.djq_model.specs.Known.{texts_of, texts_in, all_learned}
+use Rattle.djq_lines.specs.declared.limits.TheConstants.{COLUMNS, RELATIONS}
+use Rattle.djq_lines.specs.declared.answer.AddOutcome.{AddOutcome}
+use Rattle.djq_lines.specs.declared.answer.DeleteOutcome.{DeleteOutcome}
+use Rattle.djq_dict.specs.declared.dict.TheConstants.{MOST_TEXTS}
+use Rattle.djq_dict.specs.declared.refusal.InternRefusal.{InternRefusal}
+use Rattle.djq_dict.specs.declared.refusal.InternRefusal.TheVariants.{
+  Full as TextsFull,
+  NoMem as
+      NoMemForTexts,
+}
+use Rattle.djq_dict.specs.Known.{AllDifferent, IsUnknown}
+use Rattle.djq_index.specs.Entries.{Entry}
+use Rattle.djq_index.specs.Table.{Table}
+use Rattle.djq_rows.specs.declared.refusal.RowsRefusal.{RowsRefusal}
+use Rattle.djq_rows.specs.declared.relation_id.RelationId.{RelationId}
+use Rattle.djq_rows.specs.declared.kept.Kept.{Kept}
+use Rattle.djq_rows.specs.declared.parts.Parts.{Parts}
+use Rattle.djq_rows.specs.Cells.{HaveCells, StandFor, AreCells}
+use Rattle.djq_rows.specs.Catalog.{Catalog, no_relation, relation_at, rows_at, IsKept, IsCatalog}
+use Rattle.djq_rows.specs.Changes.{
+  FindsRelation,
+  AddsRow,
+  DeletesRow,
+  InternsValue,
+  InternsRow,
+  TellsCells,
+}
+use Rattle.djq_rows.specs.Parts.{
+  row_of,
+  tuples_of,
+  relation_in,
+  relations_of,
+  kept_at,
+  no_kept,
+  catalog_of,
+  AreWithin,
+  IsSound,
+  IsParts,
+  Pushes,
+}
+use Rattle.djq_rows.specs.Tuples.{HasTuple, AddsTuple, DeletesTuple}
+use Rattle.djq_rows.proofs.Learning.{Grown, grown_is, all_grown, all_different, eq_refl}
+use Rattle.djq_rows.proofs.Encoding.{are_within, within_long, unknown_row, lacking}
+use Rattle.djq_rows.proofs.Grouped.{rows_long}
+use Rattle.djq_rows.proofs.Relations.{
+  rows_is,
+  types_is,
+  name_is,
+  relations_long,
+  sound_at,
+  sound_set,
+  sound_push,
+  sounds_grown,
+  relations_grown,
+  names_set,
+  names_are,
+  found_named,
+  none_named,
+  has,
+  added,
+  deleted,
+  added_sound,
+  deleted_sound,
+  sound_kept,
+}
+
+-- a place
+
+pub below : (texts : List Bytes) (ks : List Kept) (at : ℕ) → at < length (relations_of texts ks) →
+    at < length ks
+below texts ks at low = subst (λ n. at < n) (relations_long texts ks) low
+
+pub read_kept : (ks : List Kept) (at : ℕ) (j : Kept) → at < length ks → j ≡ slice_index_or ks at j →
+    j ≡ kept_at ks at
+read_kept ks at j low e = e ∙ get_or_default ks at j no_kept low
+
+pub cells_within : (texts : List Bytes) (ks : List Kept) (at : ℕ) (cells : List ℕ) → at < length ks
+    → AreCells texts (relation_at (relations_of texts ks) at).types cells → AreWithin texts (kept_at
+    ks at).types cells
+cells_within texts ks at cells low a = subst (λ ts. AreWithin texts ts cells) (types_is texts ks at
+    low) (are_within texts (relation_at (relations_of texts ks) at).types cells a)
+
+pub cells_wide : (texts : List Bytes) (ks : List Kept) (at : ℕ) (cells : List ℕ) → AllByRecursion
+    (IsSound texts) ks → at < length ks → AreCells texts (relation_at (relations_of texts ks)
+    at).types cells
+    → length cells ≡ (kept_at ks at).table.width
+cells_wide texts ks at cells s low a = within_long texts (kept_at ks at).types cells (cells_within
+    texts ks at cells low a) ∙ sym (sound_at texts ks at s low).width
+
+-- one relation changes
+
+pub changed_parts : (p q : Parts) (at : ℕ) (j k : Kept) → IsParts p → at < length p.kept.items → j ≡
+    kept_at p.kept.items at → q.texts ≡ p.texts → q.names ≡ p.names → q.kept.items ≡ set
+    p.kept.items at k
+    → k.name ≡ j.name → (IsSound p.texts j → IsSound p.texts k) → IsParts q
+changed_parts p q at j k h low e texts names kept n sound =
+    let here : k.name ≡ (kept_at p.kept.items at).name = n ∙ ap (λ (x : Kept). x.name) e in
+    let k_sound = sound (subst (IsSound p.texts) (sym e) (sound_at p.texts p.kept.items at h.sound
+    low)) in
+    record {
+      few = rw kept (omega (arith, h.few, length-set p.kept.items at k));
+      names = names ∙ h.names ∙ sym (names_set p.kept.items at k here) ∙ ap (map (λ (x : Kept).
+          x.name)) (sym kept);
+      named = subst AllDifferent (sym names) h.named;
+      different = subst AllDifferent (sym texts) h.different;
+      sound = subst (λ l. AllByRecursion (IsSound l) q.kept.items) (sym texts) (subst
+          (AllByRecursion (IsSound p.texts)) (sym kept) (sound_set p.texts p.kept.items at k h.sound
+          k_sound));
+    }
+
+pub has_done : (texts : List Bytes) (ks : List Kept) (at : ℕ) (j : Kept) (u : List ℕ) (b : Bool) →
+    AllDifferent texts → AllByRecursion (IsSound texts) ks → at < length ks → j ≡ kept_at ks at →
+    HasTuple j.table u b
+    → (row : Tuple) → StandFor texts (relation_at (relations_of texts ks) at).types u row → b ≡
+    has_row (rows_at (relations_of texts ks) at) row
+has_done texts ks at j u b d s low e h row stand =
+    has texts ks at (kept_at ks at) u row d low (sound_at texts ks at s low) refl refl (subst (λ ts.
+    StandFor texts ts u row) (types_is texts ks at low) stand) b (subst (λ (x : Kept). HasTuple
+    x.table u b) e h)
+
+pub add_done : (texts : List Bytes) (ks : List Kept) (at : ℕ) (j k : Kept) (u : List ℕ) (r : Result
+    AddOutcome RowsRefusal) → AllDifferent texts → AllByRecursion (IsSound texts) ks → at < length
+    ks → j ≡ kept_at ks at
+    → k.name ≡ j.name → k.types ≡ j.types → AddsTuple j.table u r k.table → (row : Tuple) → StandFor
+    texts (relation_at (relations_of texts ks) at).types u row
+    → AddsRow (relations_of texts ks) at row r (relations_of texts (set ks at k))
+add_done texts ks at j k u r d s low e n t a row stand =
+    added texts ks at k u row d low (sound_at texts ks at s low) (n ∙ ap (λ (x : Kept). x.name) e)
+    (t ∙ ap (λ (x : Kept). x.types) e)
+    (subst (λ ts. StandFor texts ts u row) (types_is texts ks at low) stand) r (subst (λ (x : Kept).
+    AddsTuple x.table u r k.table) e a)
+
+pub delete_done : (texts : List Bytes) (ks : List Kept) (at : ℕ) (j k : Kept) (u : List ℕ) (r :
+    DeleteOutcome) → AllDifferent texts → AllByRecursion (IsSound texts) ks → at < length ks → j ≡
+    kept_at ks at
+    → k.name ≡ j.name → k.types ≡ j.types → DeletesTuple j.table u r k.table → (row : Tuple) →
+    StandFor texts (relation_at (relations_of texts ks) at).types u row
+    → DeletesRow (relations_of texts ks) at row r (relations_of texts (set ks at k))
+delete_done texts ks at j k u r d s low e n t a row stand =
+    deleted texts ks at k u row d low (sound_at texts ks at s low) (n ∙ ap (λ (x : Kept). x.name) e)
+    (t ∙ ap (λ (x : Kept). x.types) e)
+    (subst (λ ts. StandFor texts ts u row) (types_is texts ks at low) stand) r (subst (λ (x : Kept).
+    DeletesTuple x.table u r k.table) e a)
+
+pub add_parts : (p q : Parts) (at : ℕ) (j k : Kept) (u : List ℕ) (r : Result AddOutcome RowsRefusal)
+    → IsParts p → at < length p.kept.items → j ≡ kept_at p.kept.items at → q.texts ≡ p.texts →
+    q.names ≡ p.names → q.kept.items ≡ set p.kept.items at k
+    → k.name ≡ j.name → k.types ≡ j.types → AreWithin p.texts (kept_at p.kept.items at).types u →
+    AddsTuple j.table u r k.table → IsParts q
+add_parts p q at j k u r h low e texts names kept n t w a =
+    changed_parts p q at j k h low e texts names kept n (λ s. added_sound p.texts j k u r t (subst
+    (λ (x : Kept). AreWithin p.texts x.types u) (sym e) w) s a)
+
+pub delete_parts : (p q : Parts) (at : ℕ) (j k : Kept) (u : List ℕ) (r : DeleteOutcome) → IsParts p
+    → at < length p.kept.items → j ≡ kept_at p.kept.items at → q.texts ≡ p.texts → q.names ≡ p.names
+    → q.kept.items ≡ set p.kept.items at k
+    → k.name ≡ j.name → k.types ≡ j.types → DeletesTuple j.table u r k.table → IsParts q
+delete_parts p q at j k u r h low e texts names kept n t a = changed_parts p q at j k h low e texts
+    names kept n (λ s. deleted_sound p.texts j k u r t s a)
+
+-- texts become known
+
+pub record Learned (old new : List Bytes) : Type 0 where
+  pub texts : List Bytes
+  pub is : new ≡ all_learned old texts
+
+pub value_learned : (old new : List Bytes) (v : Value) (r : Result ℕ InternRefusal) → InternsValue
+    old v r new → Learned old new
+value_learned old new v (Ok cell) h = record { texts = texts_of v; is = h.0 }
+value_learned old new v (Err TextsFull) h = record { texts = []; is = h.2 }
+value_learned old new v (Err NoMemForTexts) h = record { texts = []; is = h.1 }
+
+pub row_learned : (old new : List Bytes) (row : Tuple) (r : Result (List ℕ) InternRefusal) →
+    InternsRow old row r new → Learned old new
+row_learned old new row (Ok cells) h = record { texts = texts_in row; is = h.0 }
+row_learned old new row (Err TextsFull) h = record { texts = h.1.first; is = h.1.learned }
+row_learned old new row (Err NoMemForTexts) h = record { texts = h.first; is = h.learned }
+
+learned_grown : (old new : List Bytes) → Learned old new → Grown old new
+learned_grown old new l = grown_is old new (all_learned old l.texts) l.is (all_grown old l.texts)
+
+pub learned_parts : (p q : Parts) → IsParts p → Learned p.texts q.texts → q.names ≡ p.names →
+    q.kept.items ≡ p.kept.items → IsParts q
+learned_parts p q h l names kept = record {
+  few = rw kept h.few;
+  names = names ∙ h.names ∙ ap (map (λ (x : Kept). x.name)) (sym kept);
+  named = subst AllDifferent (sym names) h.named;
+  different = subst AllDifferent (sym l.is) (all_different p.texts l.texts h.different);
+  sound = subst (AllByRecursion (IsSound q.texts)) (sym kept) (sounds_grown p.texts q.texts
+      p.kept.items (learned_grown p.texts q.texts l) h.sound);
+}
+
+pub learned_relations : (old new : List Bytes) (ks : List Kept) → AllByRecursion (IsSound old) ks →
+    Learned old new → relations_of new ks ≡ relations_of old ks
+learned_relations old new ks s l = relations_grown old new ks (learned_grown old new l) s
+
+-- finding
+
+names_in : (p : Parts) → IsParts p → p.names ≡ map (λ (r : Relation). r.name) (relations_of p.texts
+    p.kept.items)
+names_in p h = h.names ∙ sym (names_are p.texts p.kept.items)
+
+pub found_in : (p : Parts) (name : Bytes) (n : ℕ) (id : RelationId) → IsParts p → slice_get p.names
+    n ≡ Some name → id.at ≡ n → FindsRelation (relations_of p.texts p.kept.items) name (Some id)
+found_in p name n id h g e =
+    let rs = relations_of p.texts p.kept.items in
+    let f = λ (r : Relation). r.name in
+    let is : slice_get (map f rs) n ≡ Some name = ap (λ (l : List Bytes). slice_get l n) (sym
+    (names_in p h)) ∙ g in
+    let low : n < length rs = omega (arith, slice_get_within (map f rs) n name is, length-map rs f)
+    in
+    let named : (relation_at rs n).name ≡ name = sym (get_or-map f rs n no_relation name low) ∙
+    get_or_from_slice_get (map f rs) n name name is in
+    let found = found_named rs name n (subst AllDifferent (names_in p h) h.named) is in (
+      omega arith,
+      ap (λ k. (relation_at rs k).name) e ∙ named,
+      found ∙ ap (λ k. Some (relation_at rs
+          k)) (sym e),
+    )
+
+pub none_in : (p : Parts) (name : Bytes) → IsParts p → IsUnknown p.names name → relation_of
+    (relations_of p.texts p.kept.items) name ≡ None
+none_in p name h u = none_named (relations_of p.texts p.kept.items) name (subst (λ (l : List Bytes).
+    IsUnknown l name) (names_in p h) u)
+
+pub not_found : (rs : List Relation) (name : Bytes) (r : Option RelationId) → FindsRelation rs name
+    r → is_some r ≡ false → relation_of rs name ≡ None
+not_found rs name None h e = h
+not_found rs name (Some id) h e = absurd cc
+
+pub is_found : (rs : List Relation) (name : Bytes) (r : Option RelationId) → FindsRelation rs name r
+    → is_some r ≡ true → is_some (relation_of rs name) ≡ true
+is_found rs name None h e = absurd cc
+is_found rs name (Some id) h e = ap is_some h.2
+
+other_name : (r : Relation) (rs : List Relation) (name : Bytes) → relation_of (r ∷ rs) name ≡ None →
+    ((r.name ≡ name) → ⊥) × (relation_of rs name ≡ None)
+other_name r rs name h = by_test (bytes_eq r.name name) refl h
+  where
+    by_test : (b : Bool) → bytes_eq r.name name ≡ b → (cond b (Some r) (relation_of rs name)) ≡ None
+        → ((r.name ≡ name) → ⊥) × (relation_of rs name ≡ None)
+    by_test true e k = absurd cc
+    by_test false e k = (
+      (λ same. false≢true (sym e ∙ ap (λ n. bytes_eq n name) same ∙ eq_refl
+          name)),
+      k,
+    )
+
+unknown_named : (rs : List Relation) (name : Bytes) → relation_of rs name ≡ None → IsUnknown (map (λ
+    (r : Relation). r.name) rs) name
+unknown_named [] name h = λ k d low. absurd (omega arith)
+unknown_named (r ∷ rs) name h =
+    let o = other_name r rs name h in All-cons (λ (n : Bytes). n ≢ name) r.name (map (λ (s :
+    Relation). s.name) rs) o.0 (unknown_named rs name o.1)
+
+pub unknown_in : (p : Parts) (name : Bytes) → IsParts p → relation_of (relations_of p.texts
+    p.kept.items) name ≡ None → IsUnknown p.names name
+unknown_in p name h none = subst (λ (l : List Bytes). IsUnknown l name) (sym (names_in p h))
+    (unknown_named (relations_of p.texts p.kept.items) name none)
+
+-- making
+
+no_within : (texts : List Bytes) (ts : List ColumnType) → AllByRecursion (AreWithin texts ts)
+    (tuples_of [])
+unfolding tuples_of
+no_within texts ts = tt
+
+empty_relation : (texts : List Bytes) (name : Bytes) (types : List ColumnType) (t : Table) →
+    t.entries ≡ [] → relation_in texts (record { name = name; types = types; table = t }) ≡ record {
+      name = name;
+      types = types;
+      rows = [];
+    }
+unfolding relation_in tuples_of
+empty_relation texts name types t e = ap (λ (es : List Entry). record {
+  name = name;
+  types = types;
+  rows = map (row_of texts types) (tuples_of es);
+}) e
+
+pub pushed_parts : (p q : Parts) (name : Bytes) (types : List ColumnType) → IsParts p → Pushes p
+    name types q → q.texts ≡ p.texts → length p.kept.items < RELATIONS → length types ≤ COLUMNS →
+    IsParts q
+pushed_parts p q name types h u texts few narrow =
+    let new : IsSound p.texts (record { name = name; types = types; table = u.table }) = record {
+      narrow = narrow;
+      key = ap (λ (t : Table). t.key) u.empty;
+      width = ap (λ (t : Table). t.width) u.empty;
+      table = u.is_table;
+      within = subst (λ (es : List Entry). AllByRecursion (AreWithin p.texts types) (tuples_of es))
+          (sym (ap (λ (t : Table). t.entries) u.empty)) (no_within p.texts types);
+    } in
+    record {
+      few = rw u.kept (omega (
+        arith,
+        few,
+        length-append p.kept.items (record {
+          name = name;
+          types =
+              types;
+          table = u.table;
+        } ∷ []),
+      ));
+      names = u.names ∙ ap (λ (l : List Bytes). l ++ name ∷ []) h.names ∙ sym (ap (map (λ (x :
+          Kept). x.name)) u.kept ∙ map-append (λ (x : Kept). x.name) p.kept.items (record {
+            name =
+                name;
+            types = types;
+            table = u.table;
+          } ∷ []));
+      named = u.named;
+      different = subst AllDifferent (sym texts) h.different;
+      sound = subst (λ l. AllByRecursion (IsSound l) q.kept.items) (sym texts)
+          (subst (AllByRecursion (IsSound p.texts)) (sym u.kept) (sound_push p.texts p.kept.items
+          (record { name = name; types = types; table = u.table }) h.sound new));
+    }
+
+pub pushed_relations : (p q : Parts) (name : Bytes) (types : List ColumnType) → Pushes p name types
+    q → q.texts ≡ p.texts
+    → relations_of q.texts q.kept.items ≡ relations_of p.texts p.kept.items ++ record {
+      name = name;
+      types = types;
+      rows = [];
+    } ∷ []
+pushed_relations p q name types u texts =
+    ap (λ (l : List Bytes). relations_of l q.kept.items) texts ∙ ap (relations_of p.texts) u.kept
+    ∙ map-append (relation_in p.texts) p.kept.items (record {
+      name = name;
+      types = types;
+      table =
+          u.table;
+    } ∷ [])
+    ∙ ap (λ (r : Relation). relations_of p.texts p.kept.items ++ r ∷ []) (empty_relation p.texts
+    name types u.table (ap (λ (t : Table). t.entries) u.empty))
+
+pub pushed_long : (p q : Parts) (name : Bytes) (types : List ColumnType) → Pushes p name types q →
+    length q.kept.items ≡ length p.kept.items + 1
+pushed_long p q name types u = ap (λ (l : List Kept). length l) u.kept ∙ length-append p.kept.items
+    (record { name = name; types = types; table = u.table } ∷ [])
+
+-- what holds of the catalog
+
+names_differ : (p : Parts) → IsParts p → AllPairs (λ (r s : Relation). r.name ≢ s.name)
+    (relations_of p.texts p.kept.items)
+names_differ p h = λ i j d low high same.
+    let rs = relations_of p.texts p.kept.items in
+    let f = λ (r : Relation). r.name in
+    let n = length-map rs f in
+    subst AllDifferent (names_in p h) h.named i j d.name low (omega arith)
+    (get_or-map f rs i d d.name (omega arith) ∙ same ∙ sym (get_or-map f rs j d d.name high))
+
+all_kept : (texts : List Bytes) (ks : List Kept) → AllDifferent texts → AllByRecursion (IsSound
+    texts) ks → AllByRecursion (IsKept texts) (relations_of texts ks)
+all_kept texts [] d h = tt
+all_kept texts (k ∷ ks) d h = (sound_kept texts k d h.0, all_kept texts ks d h.1)
+
+pub catalog_sound : (p : Parts) → IsParts p → length p.texts ≤ MOST_TEXTS → IsCatalog (catalog_of p)
+catalog_sound p h many = record {
+  few = omega (arith, h.few, relations_long p.texts p.kept.items);
+  names = names_differ p h;
+  kept = All-from_recursion (IsKept p.texts) (relations_of p.texts p.kept.items) (all_kept p.texts
+      p.kept.items h.different h.sound);
+  many = many;
+  texts = h.different;
+}
+
+-- a row with an unknown text
+
+have_at : (texts : List Bytes) (ks : List Kept) (at : ℕ) → AllDifferent texts → AllByRecursion
+    (IsSound texts) ks → at < length (relations_of texts ks) → AllByRecursion (HaveCells texts)
+    (rows_at (relations_of texts ks) at)
+have_at texts ks at d s low =
+    recursion_from_All (HaveCells texts) (rows_at (relations_of texts ks) at)
+    (All-get_or (IsKept texts) (relations_of texts ks) at no_relation low (All-from_recursion
+    (IsKept texts) (relations_of texts ks) (all_kept texts ks d s))).cells
+
+pub nowhere : (p : Parts) (c : Catalog) (row : Tuple) (r : Option (List ℕ)) → IsParts p → catalog_of
+    p ≡ c → TellsCells p.texts row r → IfNone r ((at : ℕ) → at < length c.relations → has_row
+    (rows_at c.relations at) row ≡ false)
+nowhere p c row (Some cells) h e t = tt
+nowhere p c row None h e t = subst (λ (k : Catalog). (at : ℕ) → at < length k.relations → has_row
+    (rows_at k.relations at) row ≡ false) e
+    (λ at low. lacking p.texts (rows_at (relations_of p.texts p.kept.items) at) row (have_at p.texts
+    p.kept.items at h.different h.sound low) (unknown_row p.texts row t))
+
+-- what a method reads
+
+pub seen_at : (p : Parts) (c : Catalog) (at : ℕ) → catalog_of p ≡ c → at < length c.relations → at <
+    length p.kept.items
+seen_at p c at e low = below p.texts p.kept.items at (subst (λ (k : Catalog). at < length
+    k.relations) (sym e) low)
+
+pub name_seen : (p : Parts) (c : Catalog) (at : ℕ) (j : Kept) → catalog_of p ≡ c → at < length
+    c.relations → j ≡ slice_index_or p.kept.items at j → j.name ≡ (relation_at c.relations at).name
+name_seen p c at j e low r =
+    let here = seen_at p c at e low in
+    ap (λ (x : Kept). x.name) (read_kept p.kept.items at j here r) ∙ sym (name_is p.texts
+    p.kept.items at here) ∙ ap (λ (k : Catalog). (relation_at k.relations at).name) e
+
+pub types_seen : (p : Parts) (c : Catalog) (at : ℕ) (j : Kept) → catalog_of p ≡ c → at < length
+    c.relations → j ≡ slice_index_or p.kept.items at j → j.types ≡ (relation_at c.relations
+    at).types
+types_seen p c at j e low r =
+    let here = seen_at p c at e low in
+    ap (λ (x : Kept). x.types) (read_kept p.kept.items at j here r) ∙ sym (types_is p.texts
+    p.kept.items at here) ∙ ap (λ (k : Catalog). (relation_at k.relations at).types) e
+
+pub count_seen : (p : Parts) (c : Catalog) (at : ℕ) (j : Kept) → catalog_of p ≡ c → at < length
+    c.relations → j ≡ slice_index_or p.kept.items at j → length j.table.entries ≡ length (rows_at
+    c.relations at)
+count_seen p c at j e low r =
+    let here = seen_at p c at e low in
+    ap (λ (x : Kept). length x.table.entries) (read_kept p.kept.items at j here r)
+    ∙ sym (rows_long p.texts (kept_at p.kept.items at).types (kept_at p.kept.items
+    at).table.entries)
+    ∙ ap (λ (l : List Tuple). length l) (sym (rows_is p.texts p.kept.items at here)) ∙ ap (λ (k :
+    Catalog). length (rows_at k.relations at)) e
+
+pub add_seen : (c d : Catalog) (at : ℕ) (cells : List ℕ) (r : Result AddOutcome RowsRefusal) (new :
+    List Relation) → d ≡ c
+    → ((row : Tuple) → StandFor d.texts (relation_at d.relations at).types cells row → AddsRow
+    d.relations at row r new)
+    → (row : Tuple) → StandFor c.texts (relation_at c.relations at).types cells row → AddsRow
+    c.relations at row r new
+add_seen c d at cells r new e h = subst (λ (k : Catalog). (row : Tuple) → StandFor k.texts
+    (relation_at k.relations at).types cells row → AddsRow k.relations at row r new) e h
+
+pub delete_seen : (c d : Catalog) (at : ℕ) (cells : List ℕ) (r : DeleteOutcome) (new : List
+    Relation) → d ≡ c
+    → ((row : Tuple) → StandFor d.texts (relation_at d.relations at).types cells row → DeletesRow
+    d.relations at row r new)
+    → (row : Tuple) → StandFor c.texts (relation_at c.relations at).types cells row → DeletesRow
+    c.relations at row r new
+delete_seen c d at cells r new e h = subst (λ (k : Catalog). (row : Tuple) → StandFor k.texts
+    (relation_at k.relations at).types cells row → DeletesRow k.relations at row r new) e h
+
+pub has_seen : (c d : Catalog) (at : ℕ) (cells : List ℕ) (b : Bool) → d ≡ c
+    → ((row : Tuple) → StandFor d.texts (relation_at d.relations at).types cells row → b ≡ has_row
+    (rows_at d.relations at) row)
+    → (row : Tuple) → StandFor c.texts (relation_at c.relations at).types cells row → b ≡ has_row
+    (rows_at c.relations at) row
+has_seen c d at cells b e h = subst (λ (k : Catalog). (row : Tuple) → StandFor k.texts (relation_at
+    k.relations at).types cells row → b ≡ has_row (rows_at k.relations at) row) e h
+
+-- values of their columns' types
+
+pub types_fit : (ts : List ColumnType) (row : Tuple) → length row ≡ length ts → list_all (λ p. is_of
+    p.0 p.1) (zip ts row) ≡ fits ts row
+types_fit [] [] h = refl
+types_fit (t ∷ ts) (v ∷ vs) h = by_test (is_of t v) (types_fit ts vs (omega (arith, h)))
+  where
+    by_test : (b : Bool) → list_all (λ p. is_of p.0 p.1) (zip ts vs) ≡ fits ts vs → (b && list_all
+        (λ p. is_of p.0 p.1) (zip ts vs)) ≡ (b && fits ts vs)
+    by_test true e = e
+    by_test false e = refl
+types_fit [] (v ∷ vs) h = absurd (omega (arith, h))
+types_fit (t ∷ ts) [] h = absurd (omega (arith, h))
+
+pub no_fit : (ts : List ColumnType) (row : Tuple) → (length row ≡ length ts → ⊥) → fits ts row ≡
+    false
+no_fit [] [] h = absurd (h refl)
+no_fit (t ∷ ts) (v ∷ vs) h = by_test (is_of t v) (no_fit ts vs (λ e. h (ap suc e)))
+  where
+    by_test : (b : Bool) → fits ts vs ≡ false → (b && fits ts vs) ≡ false
+    by_test true e = e
+    by_test false e = refl
+no_fit [] (v ∷ vs) h = refl
+no_fit (t ∷ ts) [] h = refl
+
+pub suits_seen : (p : Parts) (c : Catalog) (at : ℕ) (j : Kept) (row : Tuple) (b : Bool) → catalog_of
+    p ≡ c → at < length c.relations → j ≡ slice_index_or p.kept.items at j → b ≡ fits j.types row →
+    b ≡ fits (relation_at c.relations at).types row
+suits_seen p c at j row b e low r h = h ∙ ap (λ (ts : List ColumnType). fits ts row) (types_seen p c
+    at j e low r)

@@ -1,0 +1,148 @@
+-- A walk over the tuples of a table of one group, step by step.
+use Rattle.std.proofs.Common.{
+  ◌≡◌,
+  ℕ,
+  zero,
+  suc,
+  ◌+◌,
+  ◌-◌,
+  ◌<◌,
+  ◌≤◌,
+  List,
+  [],
+  ◌∷◌,
+  ◌++◌,
+  length,
+  take,
+  drop,
+  refl,
+  sym,
+  ap,
+  ◌∙◌,
+  arith,
+  length-drop,
+  add-one,
+}
+use Rattle.std.specs.Prelude.{Option, Some, None, map}
+use Rattle.std.proofs.lemmas.List.{length-map}
+use Rattle.djq_index.specs.declared.place.Place.{Place}
+use Rattle.djq_index.specs.Entries.{Entry, grp, head_at}
+use Rattle.djq_index.specs.Table.{Table, IsAt, IsLive}
+use Rattle.djq_rows.specs.Parts.{tuples_of}
+use Rattle.djq_rows.specs.Walking.{entries_left, tuples_left, IsWalk}
+use Rattle.djq_rows.proofs.Grouped.{grp_all}
+
+-- the entry at which a walk stands
+pub record Ahead (g : List Entry) (j : ℕ) (p : Place) : Type 0 where
+  pub entry : Entry
+  pub at : entry.at ≡ p
+  pub low : j < length g
+  pub is : g ≡ take j g ++ entry ∷ drop (j + 1) g
+  pub left : drop j g ≡ entry ∷ drop (j + 1) g
+
+ahead_suc : (g : List Entry) (j : ℕ) (p : Place) → head_at (drop j g) ≡ Some p → (e : Entry) × (e.at
+    ≡ p) × (j < length g) × (g ≡ take j g ++ e ∷ drop (suc j) g) × (drop j g ≡ e ∷ drop (suc j) g)
+unfolding head_at
+ahead_suc [] zero p h = absurd cc
+ahead_suc [] (suc j) p h = absurd cc
+ahead_suc (e ∷ g) zero p h = let s : e.at ≡ p = cc in (e, s, omega arith, refl, refl)
+ahead_suc (x ∷ g) (suc j) p h = let c = ahead_suc g j p h in (
+  c.0,
+  c.1,
+  omega (arith, c.2),
+  ap (λ
+      (es : List Entry). x ∷ es) c.3,
+  c.4,
+)
+
+pub ahead : (g : List Entry) (j : ℕ) (p : Place) → head_at (drop j g) ≡ Some p → Ahead g j p
+ahead g j p h = let c = ahead_suc g j p h in record {
+  entry = c.0;
+  at = c.1;
+  low = c.2;
+  is = rw
+      add-one c.3;
+  left = rw add-one c.4;
+}
+
+pub all_left : (t : Table) (n : ℕ) → n ≡ length t.entries → entries_left t n ≡ t.entries
+all_left t n e = let none : length t.entries - n ≡ 0 = omega arith in ap (λ k. drop k t.entries)
+    none
+
+pub starts : (t : Table) (next : Option Place) (n : ℕ) → t.key ≡ [] → n ≡ length t.entries → next ≡
+    head_at (grp t.key t.entries []) → IsWalk t next n
+starts t next n key long at = record {
+  key = key;
+  within = omega arith;
+  at = at ∙ ap head_at (ap (λ (k : List ℕ). grp k t.entries []) key ∙ grp_all t.entries ∙ sym
+      (all_left t n long));
+}
+
+pub left_long : (t : Table) (n : ℕ) → n ≤ length t.entries → length (tuples_left t n) ≡ n
+unfolding tuples_of
+left_long t n low = let l = length-map (entries_left t n) (λ (e : Entry). e.tuple) in let d =
+    length-drop (length t.entries - n) t.entries in omega arith
+
+no_entry : (es : List Entry) → None ≡ head_at es → es ≡ []
+unfolding head_at
+no_entry [] h = refl
+no_entry (e ∷ es) h = absurd cc
+
+pub none_left : (t : Table) (n : ℕ) → None ≡ head_at (entries_left t n) → tuples_left t n ≡ []
+unfolding tuples_of
+none_left t n h = ap (map (λ (e : Entry). e.tuple)) (no_entry (entries_left t n) h)
+
+-- where the walk stands, there is an entry
+pub stands : (t : Table) (n : ℕ) (p : Place) → Some p ≡ head_at (entries_left t n) → Ahead t.entries
+    (length t.entries - n) p
+stands t n p h = ahead t.entries (length t.entries - n) p (sym h)
+
+pub stands_at : (t : Table) (n : ℕ) (p : Place) (a : Ahead t.entries (length t.entries - n) p) →
+    IsAt t.entries p a.entry.tuple
+stands_at t n p a = record {
+  front = take (length t.entries - n) t.entries;
+  back = drop (length
+      t.entries - n + 1) t.entries;
+  entry = a.entry;
+  is = a.is;
+  tuple = refl;
+  at = a.at;
+}
+
+pub stands_live : (t : Table) (n : ℕ) (p : Place) (a : Ahead t.entries (length t.entries - n) p) →
+    IsLive t.entries p
+stands_live t n p a = record { tuple = a.entry.tuple; is_at = stands_at t n p a }
+
+rest_of : (t : Table) (n : ℕ) → n ≤ length t.entries → 0 < n → drop (length t.entries - n + 1)
+    t.entries ≡ entries_left t (n - 1)
+rest_of t n high some = let e : length t.entries - n + 1 ≡ length t.entries - (n - 1) = omega arith
+    in ap (λ k. drop k t.entries) e
+
+cons_tuples : (e : Entry) (es : List Entry) → tuples_of (e ∷ es) ≡ e.tuple ∷ tuples_of es
+unfolding tuples_of
+cons_tuples e es = refl
+
+pub some_left : (t : Table) (n : ℕ) (p : Place) → Ahead t.entries (length t.entries - n) p → 0 < n
+some_left t n p a = omega (arith, a.low)
+
+pub step_left : (t : Table) (n : ℕ) (p : Place) (a : Ahead t.entries (length t.entries - n) p) → n ≤
+    length t.entries → tuples_left t n ≡ a.entry.tuple ∷ tuples_left t (n - 1)
+step_left t n p a high =
+    ap tuples_of (a.left ∙ ap (λ (es : List Entry). a.entry ∷ es) (rest_of t n high (some_left t n p
+    a))) ∙ cons_tuples a.entry (entries_left t (n - 1))
+
+-- the group of all, cut where the walk stands
+pub group_cut : (t : Table) (n : ℕ) (p : Place) (a : Ahead t.entries (length t.entries - n) p) →
+    t.key ≡ []
+    → grp t.key t.entries [] ≡ take (length t.entries - n) t.entries ++ a.entry ∷ drop (length
+    t.entries - n + 1) t.entries
+group_cut t n p a key = ap (λ (k : List ℕ). grp k t.entries []) key ∙ grp_all t.entries ∙ a.is
+
+pub steps : (t : Table) (n : ℕ) (p : Place) (next : Option Place) (a : Ahead t.entries (length
+    t.entries - n) p) → IsWalk t (Some p) n → next ≡ head_at (drop (length t.entries - n + 1)
+    t.entries) → IsWalk t next (n - 1)
+steps t n p next a w at = let some = some_left t n p a in record {
+  key = w.key;
+  within = omega (arith, w.within);
+  at = at ∙ ap head_at (rest_of t n w.within some);
+}

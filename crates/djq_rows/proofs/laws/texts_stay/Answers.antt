@@ -1,0 +1,5 @@
+use Rattle.djq_rows.proofs.Lawful.{texts}
+use Rattle.djq_rows.proofs.laws.texts_stay.Goals as goal
+
+pub returns : goal.returns
+returns c = texts

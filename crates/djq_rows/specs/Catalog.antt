@@ -1,0 +1,68 @@
+-- What contracts see of a catalog: its relations with their rows, and the known texts.
+use Rattle.std.specs.Prelude.{
+  ◌≡◌,
+  ◌≢◌,
+  ℕ,
+  ◌≤◌,
+  true,
+  List,
+  [],
+  length,
+  slice_index_or,
+  slice_set,
+  All,
+  AllPairs,
+}
+use Rattle.djq_model.specs.declared.relation.Relation.{Relation}
+use Rattle.djq_model.specs.Data.{Bytes, Tuple}
+use Rattle.djq_model.specs.Answer.{AreDifferent}
+use Rattle.djq_model.specs.Typed.{fits}
+use Rattle.djq_lines.specs.declared.limits.TheConstants.{COLUMNS, RELATIONS}
+use Rattle.djq_dict.specs.declared.dict.TheConstants.{MOST_TEXTS}
+use Rattle.djq_rows.specs.Cells.{HaveCells, StandFor, AreCells}
+
+pub record Catalog : Type 0 where
+  -- in the order in which they were made
+  pub relations : List Relation
+  -- a text's number is its place
+  pub texts : List Bytes
+
+-- what stands for a relation past the last one
+abbrev pub no_relation : Relation
+no_relation = record { name = []; types = []; rows = [] }
+
+-- the relation at a place
+abbrev pub relation_at : List Relation → ℕ → Relation
+relation_at relations at = slice_index_or relations at no_relation
+
+-- its rows
+abbrev pub rows_at : List Relation → ℕ → List Tuple
+rows_at relations at = (relation_at relations at).rows
+
+-- the cells stand for the row, in the columns of the relation at a place
+abbrev pub StandForRow : Catalog → ℕ → List ℕ → Tuple → Type 0
+StandForRow c at cells row = StandFor c.texts (relation_at c.relations at).types cells row
+
+-- they stand for some row
+abbrev pub AreCellsOf : Catalog → ℕ → List ℕ → Type 0
+AreCellsOf c at cells = AreCells c.texts (relation_at c.relations at).types cells
+
+-- the relations with other rows in the one at a place
+abbrev pub with_rows_at : List Relation → ℕ → List Tuple → List Relation
+with_rows_at relations at rows =
+    slice_set relations at (let r = relation_at relations at in record r { rows = rows })
+
+-- the rows of a relation suit its columns, differ, and have cells
+pub record IsKept (texts : List Bytes) (r : Relation) : Type 0 where
+  pub narrow : length r.types ≤ COLUMNS
+  pub typed : All (λ row. fits r.types row ≡ true) r.rows
+  pub differ : AreDifferent r.rows
+  pub cells : All (HaveCells texts) r.rows
+
+-- what holds of every catalog
+pub record IsCatalog (c : Catalog) : Type 0 where
+  pub few : length c.relations ≤ RELATIONS
+  pub names : AllPairs (λ r s. r.name ≢ s.name) c.relations
+  pub kept : All (IsKept c.texts) c.relations
+  pub many : length c.texts ≤ MOST_TEXTS
+  pub texts : AllPairs (λ s t. s ≢ t) c.texts

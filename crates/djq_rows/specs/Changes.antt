@@ -1,0 +1,125 @@
+-- What each call does to a catalog, by what it answers.
+use Rattle.std.specs.Prelude.{
+  ◌≡◌,
+  ℕ,
+  ◌≤◌,
+  ◌<◌,
+  true,
+  false,
+  List,
+  [],
+  ◌∷◌,
+  ◌++◌,
+  length,
+  Option,
+  Some,
+  None,
+  is_some,
+  Result,
+  Ok,
+  Err,
+}
+use Rattle.djq_model.specs.declared.value.Value.{Value}
+use Rattle.djq_model.specs.declared.relation.ColumnType.{ColumnType}
+use Rattle.djq_model.specs.declared.relation.Relation.{Relation}
+use Rattle.djq_model.specs.Data.{Bytes, Tuple, relation_of, has_row, without_row}
+use Rattle.djq_model.specs.Known.{texts_of, texts_in, knows_all, all_learned}
+use Rattle.djq_lines.specs.declared.limits.TheConstants.{RELATIONS, ROWS}
+use Rattle.djq_lines.specs.declared.answer.AddOutcome.{AddOutcome}
+use Rattle.djq_lines.specs.declared.answer.AddOutcome.TheVariants.{Added, Same}
+use Rattle.djq_lines.specs.declared.answer.DeleteOutcome.{DeleteOutcome}
+use Rattle.djq_lines.specs.declared.answer.DeleteOutcome.TheVariants.{Removed, Absent}
+use Rattle.djq_dict.specs.declared.dict.TheConstants.{MOST_TEXTS}
+use Rattle.djq_dict.specs.declared.refusal.InternRefusal.{InternRefusal}
+use Rattle.djq_dict.specs.declared.refusal.InternRefusal.TheVariants.{
+  Full as TextsFull,
+  NoMem as
+      NoMemForTexts,
+}
+use Rattle.djq_rows.specs.declared.refusal.RowsRefusal.{RowsRefusal}
+use Rattle.djq_rows.specs.declared.refusal.RowsRefusal.TheVariants.{NameTaken, Full, NoMem}
+use Rattle.djq_rows.specs.declared.relation_id.RelationId.{RelationId}
+use Rattle.djq_rows.specs.Cells.{HasCell, HaveCells, cell_of, cells_of}
+use Rattle.djq_rows.specs.Catalog.{relation_at, rows_at, with_rows_at}
+
+-- A relation without rows comes behind the others; or its name is taken, or, where it isn't, there
+-- are
+-- as many as there may be, or no memory, and nothing changes.
+abbrev pub MakesRelation : List Relation → Bytes → List ColumnType → Result RelationId RowsRefusal →
+    List Relation → Type 0
+MakesRelation old name types (Ok id) new =
+    (relation_of old name ≡ None) × (length old < RELATIONS) × (id.at ≡ length old)
+    × (new ≡ old ++ record { name = name; types = types; rows = [] } ∷ [])
+MakesRelation old name types (Err NameTaken) new = (is_some (relation_of old name) ≡ true) × (new ≡
+    old)
+MakesRelation old name types (Err Full) new =
+    (relation_of old name ≡ None) × (RELATIONS ≤ length old) × (new ≡ old)
+MakesRelation old name types (Err NoMem) new =
+    (relation_of old name ≡ None) × (length old < RELATIONS) × (new ≡ old)
+
+-- A row that isn't there comes behind the others of its relation, and one that is changes nothing.
+-- A new
+-- one is refused where there are as many as there may be; else only for want of memory.
+abbrev pub AddsRow : List Relation → ℕ → Tuple → Result AddOutcome RowsRefusal → List Relation →
+    Type 0
+AddsRow old at row (Ok Added) new = let rows = rows_at old at in
+    (has_row rows row ≡ false) × (length rows < ROWS) × (new ≡ with_rows_at old at (rows ++ row ∷
+    []))
+AddsRow old at row (Ok Same) new = (has_row (rows_at old at) row ≡ true) × (new ≡ old)
+AddsRow old at row (Err NameTaken) new = ⊥
+AddsRow old at row (Err Full) new = let rows = rows_at old at in
+    (has_row rows row ≡ false) × (ROWS ≤ length rows) × (new ≡ old)
+AddsRow old at row (Err NoMem) new = let rows = rows_at old at in
+    (has_row rows row ≡ false) × (length rows < ROWS) × (new ≡ old)
+
+-- A row that is there goes, and one that isn't changes nothing.
+abbrev pub DeletesRow : List Relation → ℕ → Tuple → DeleteOutcome → List Relation → Type 0
+DeletesRow old at row Removed new = let rows = rows_at old at in
+    (has_row rows row ≡ true) × (new ≡ with_rows_at old at (without_row rows row))
+DeletesRow old at row Absent new = (has_row (rows_at old at) row ≡ false) × (new ≡ old)
+
+-- The first of these texts have become known, but not all.
+pub record LearnsSome (old : List Bytes) (texts : List Bytes) (new : List Bytes) : Type 0 where
+  pub first : List Bytes
+  pub rest : List Bytes
+  pub parts : texts ≡ first ++ rest
+  pub some : 0 < length rest
+  pub learned : new ≡ all_learned old first
+
+-- A value's text becomes known, and its cell is told; or there are as many texts as there may be,
+-- or no
+-- memory, and nothing changes.
+abbrev pub InternsValue : List Bytes → Value → Result ℕ InternRefusal → List Bytes → Type 0
+InternsValue old value (Ok cell) new = (new ≡ all_learned old (texts_of value))
+    × HasCell new value × (cell ≡ cell_of new value)
+InternsValue old value (Err TextsFull) new =
+    (knows_all old (texts_of value) ≡ false) × (length old ≡ MOST_TEXTS) × (new ≡ old)
+InternsValue old value (Err NoMemForTexts) new = (knows_all old (texts_of value) ≡ false) × (new ≡
+    old)
+
+-- The texts of a row become known, in order, and its cells are told. Where they would be more than
+-- there
+-- may be, or for want of memory, only the first of them do.
+abbrev pub InternsRow : List Bytes → Tuple → Result (List ℕ) InternRefusal → List Bytes → Type 0
+InternsRow old row (Ok cells) new = (new ≡ all_learned old (texts_in row))
+    × HaveCells new row × (cells ≡ cells_of new row)
+InternsRow old row (Err TextsFull) new =
+    (MOST_TEXTS < length (all_learned old (texts_in row))) × LearnsSome old (texts_in row) new
+InternsRow old row (Err NoMemForTexts) new = LearnsSome old (texts_in row) new
+
+-- The cell of a value that isn't an unknown text is told, and none of one that is.
+abbrev pub TellsCell : List Bytes → Value → Option ℕ → Type 0
+TellsCell texts value None = knows_all texts (texts_of value) ≡ false
+TellsCell texts value (Some cell) = HasCell texts value × (cell ≡ cell_of texts value)
+
+-- The cells of a row whose texts are all known are told, and none where they aren't.
+abbrev pub TellsCells : List Bytes → Tuple → Option (List ℕ) → Type 0
+TellsCells texts row None = knows_all texts (texts_in row) ≡ false
+TellsCells texts row (Some cells) = HaveCells texts row × (cells ≡ cells_of texts row)
+
+-- The relation of a name is told, and none where no relation has it.
+abbrev pub FindsRelation : List Relation → Bytes → Option RelationId → Type 0
+FindsRelation relations name None = relation_of relations name ≡ None
+FindsRelation relations name (Some id) = (id.at < length relations)
+    × ((relation_at relations id.at).name ≡ name)
+    × (relation_of relations name ≡ Some (relation_at relations id.at))

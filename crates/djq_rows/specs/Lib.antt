@@ -1,0 +1,7 @@
+pub mod Cells
+pub mod Catalog
+pub mod Changes
+pub mod Parts
+pub mod Tuples
+pub mod Walking
+pub mod Laws

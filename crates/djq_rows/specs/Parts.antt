@@ -1,0 +1,113 @@
+-- A catalog's parts, and the catalog that they are.
+use Rattle.std.specs.Prelude.{
+  ◌≡◌,
+  ℕ,
+  ◌≤◌,
+  ◌<◌,
+  ◌^◌,
+  ⊤,
+  List,
+  [],
+  ◌∷◌,
+  ◌++◌,
+  map,
+  length,
+  slice_index_or,
+}
+use Rattle.std.specs.List.{AllByRecursion}
+use Rattle.std.specs.Int.{w64, cast_signed}
+use Rattle.djq_model.specs.declared.value.Value.{Value}
+use Rattle.djq_model.specs.declared.value.Value.TheVariants.{Int, Text}
+use Rattle.djq_model.specs.declared.relation.ColumnType.{ColumnType}
+use Rattle.djq_model.specs.declared.relation.ColumnType.TheVariants.{
+  Int as IntColumn,
+  Text as
+      TextColumn,
+}
+use Rattle.djq_model.specs.declared.relation.Relation.{Relation}
+use Rattle.djq_model.specs.Data.{Bytes, Tuple}
+use Rattle.djq_lines.specs.declared.limits.TheConstants.{COLUMNS, RELATIONS}
+use Rattle.djq_dict.specs.Known.{AllDifferent}
+use Rattle.djq_index.specs.Entries.{Entry}
+use Rattle.djq_index.specs.Table.{Table, IsTable}
+use Rattle.djq_rows.specs.declared.kept.Kept.{Kept}
+use Rattle.djq_rows.specs.declared.parts.Parts.{Parts}
+use Rattle.djq_rows.specs.Catalog.{Catalog}
+
+-- the value that a cell of a column stands for
+abbrev pub value_of : List Bytes → ColumnType → ℕ → Value
+value_of texts IntColumn cell = Int (cast_signed w64 cell)
+value_of texts TextColumn cell = Text (slice_index_or texts cell [])
+
+-- the row that cells stand for
+unfoldable pub row_of : List Bytes → List ColumnType → List ℕ → Tuple
+row_of texts [] cells = []
+row_of texts (t ∷ ts) [] = []
+row_of texts (t ∷ ts) (c ∷ cs) = value_of texts t c ∷ row_of texts ts cs
+
+-- the tuples of entries
+unfoldable pub tuples_of : List Entry → List (List ℕ)
+tuples_of es = map (λ e. e.tuple) es
+
+-- the relation that is kept so
+unfoldable pub relation_in : List Bytes → Kept → Relation
+relation_in texts k = record {
+  name = k.name;
+  types = k.types;
+  rows = map (row_of texts k.types)
+      (tuples_of k.table.entries);
+}
+
+-- the relations that are kept so
+abbrev pub relations_of : List Bytes → List Kept → List Relation
+relations_of texts ks = map (relation_in texts) ks
+
+-- what stands for a relation past the last one, and the one at a place
+abbrev pub no_kept : Kept
+no_kept = record { name = []; types = []; table = record { width = 0; key = []; entries = [] } }
+
+abbrev pub kept_at : List Kept → ℕ → Kept
+kept_at ks at = slice_index_or ks at no_kept
+
+-- the catalog that has these parts
+abbrev pub catalog_of : Parts → Catalog
+catalog_of p = record { relations = relations_of p.texts p.kept.items; texts = p.texts }
+
+-- a cell that can stand in a column
+abbrev pub IsWithin : List Bytes → ColumnType → ℕ → Type 0
+IsWithin texts IntColumn cell = cell < 2 ^ 64
+IsWithin texts TextColumn cell = cell < length texts
+
+-- cells that can stand in columns of these types
+unfoldable pub AreWithin : List Bytes → List ColumnType → List ℕ → Type 0
+AreWithin texts [] [] = ⊤
+AreWithin texts (t ∷ ts) (c ∷ cs) = IsWithin texts t c × AreWithin texts ts cs
+AreWithin texts [] (c ∷ cs) = ⊥
+AreWithin texts (t ∷ ts) [] = ⊥
+
+-- what holds of each relation that is kept: its rows are one group of its table
+pub record IsSound (texts : List Bytes) (k : Kept) : Type 0 where
+  pub narrow : length k.types ≤ COLUMNS
+  pub key : k.table.key ≡ []
+  pub width : k.table.width ≡ length k.types
+  pub table : IsTable k.table
+  pub within : AllByRecursion (AreWithin texts k.types) (tuples_of k.table.entries)
+
+-- what holds of a catalog's parts
+pub record IsParts (p : Parts) : Type 0 where
+  pub few : length p.kept.items ≤ RELATIONS
+  pub names : p.names ≡ map (λ (k : Kept). k.name) p.kept.items
+  pub named : AllDifferent p.names
+  pub different : AllDifferent p.texts
+  pub sound : AllByRecursion (IsSound p.texts) p.kept.items
+
+-- a relation without rows came behind the others
+pub record Pushes (old : Parts) (name : Bytes) (types : List ColumnType) (new : Parts) : Type 0
+  where
+    pub table : Table
+    pub is_table : IsTable table
+    pub empty : table ≡ record { width = length types; key = []; entries = [] }
+    pub names : new.names ≡ old.names ++ name ∷ []
+    pub named : AllDifferent new.names
+    pub kept : new.kept.items
+        ≡ old.kept.items ++ record { name = name; types = types; table = table } ∷ []

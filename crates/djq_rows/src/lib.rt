@@ -1,0 +1,44 @@
+//! The catalog: relations with their rows, and the texts that are known.
+//!
+//! A [`Catalog`] keeps each relation's rows in a table of `djq_index`, as cells: of an integer its
+//! 64 bits, of a text its number in the dictionary. Contracts see neither tables nor numbers, but
+//! the relations with lists of values as their rows, and the list of known texts: what the
+//! definitions of a query's answers speak of.
+//!
+//! It evaluates no query, and it checks no more of a row than [`Catalog::suits`] tells. It has no
+//! order of rows but the one in which they came, and no relation is ever dropped.
+//!
+//! What surprises: a row is added and deleted by its cells, which [`Catalog::intern_row`] gives and
+//! [`Catalog::cells`] finds. So a row's texts become known before it is added, and stay known where
+//! it isn't. The cells of a row stay the same however many texts become known later
+//! ([`cells_stay`]), and different rows have different cells ([`cells_differ`]): who holds cells
+//! holds the row.
+//!
+//! ```text
+//! r int text               texts       0 "a"   1 "b"
+//!   1 "a"   cells 1 0      names       0 "r"
+//!   2 "b"   cells 2 1      relations   0 r, its table with (1, 0) and (2, 1)
+//! ```
+//!
+//! Inside, the relations stand in a list in the order in which they were made. A second dictionary
+//! has their names, so that a name's number is the relation's place, and no name is looked for one
+//! by one. The rows of a relation are one group of its table.
+#![tactic(auto)]
+
+mod catalog;
+mod coding;
+mod kept;
+mod laws;
+mod parts;
+mod refusal;
+mod relation_id;
+mod walk;
+
+pub use catalog::Catalog;
+pub use laws::{cells_differ, cells_stay, names_tell, texts_stay};
+pub use refusal::RowsRefusal;
+pub use relation_id::RelationId;
+pub use walk::Walk;
+
+#[cfg(test)]
+mod tests;

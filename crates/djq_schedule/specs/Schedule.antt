@@ -1,0 +1,137 @@
+-- Schedules: which lines are in their grammar, and which turns of a hub they are.
+use Rattle.std.specs.Prelude.{ℕ, List, [], ◌∷◌, ◌++◌, ◌==◌, ◌+◌, ◌*◌, ◌-◌, ◌&&◌, Bool, true, false, not, nat_le, nat_lt, nat_eq, Option, None, Some, is_none, if◌then◌else◌, filter, codes}
+use Rattle.std.specs.List.{list_any}
+use Rattle.djq_io.specs.declared.hub.Incoming.{Incoming}
+use Rattle.djq_io.specs.declared.hub.Incoming.TheVariants.{Opens, Brings, Ends, Nothing}
+use Rattle.djq_model.specs.Data.{Bytes, bytes_eq}
+use Rattle.djq_schedule.specs.declared.line.Keyword.{Keyword}
+use Rattle.djq_schedule.specs.declared.line.Keyword.TheVariants.{Open, Say, Part, Again, Free, End}
+
+-- the bytes before the first of these, or all
+abbrev pub before : ℕ → Bytes → Bytes
+before sign [] = []
+before sign (b ∷ bytes) = if b == sign then [] else b ∷ before sign bytes
+
+-- the bytes behind it, where there is one
+abbrev pub behind : ℕ → Bytes → Option Bytes
+behind sign [] = None
+behind sign (b ∷ bytes) = if b == sign then Some bytes else behind sign bytes
+
+-- the rest; none where there is none
+abbrev pub rest_of : Option Bytes → Bytes
+rest_of None = []
+rest_of (Some rest) = rest
+
+-- lines, each ended by LF; the last may lack it
+abbrev pub with_first : ℕ → List Bytes → List Bytes
+with_first b [] = (b ∷ []) ∷ []
+with_first b (l ∷ ls) = (b ∷ l) ∷ ls
+
+abbrev pub lines_of : Bytes → List Bytes
+lines_of [] = []
+lines_of (b ∷ bytes) = if b == 10 then [] ∷ lines_of bytes else with_first b (lines_of bytes)
+
+abbrev pub keyword_of : Bytes → Option Keyword
+keyword_of word =
+    if bytes_eq word (codes "open") then Some Open
+    else (if bytes_eq word (codes "say") then Some Say
+    else (if bytes_eq word (codes "part") then Some Part
+    else (if bytes_eq word (codes "again") then Some Again
+    else (if bytes_eq word (codes "free") then Some Free
+    else (if bytes_eq word (codes "end") then Some End else None)))))
+
+-- the number that these digits lead to from this one, where it is at most 1000000
+abbrev pub id_from : ℕ → Bytes → Option ℕ
+id_from id [] = Some id
+id_from id (b ∷ bytes) = let next = id * 10 + (b - 48) in
+    if nat_le 48 b && (nat_le b 57 && nat_le next 1000000) then id_from next bytes else None
+
+-- a number from 1 to 1000000 without leading zeros
+abbrev pub id_of : Bytes → Option ℕ
+id_of [] = None
+id_of (b ∷ bytes) = if b == 48 then None else id_from 0 (b ∷ bytes)
+
+-- whether text may stand behind the number
+abbrev pub takes_text : Keyword → Bool
+takes_text Say = true
+takes_text Part = true
+takes_text _ = false
+
+-- What a line says: its keyword, the session, and the text behind that, where there is some.
+abbrev pub Order : Type 0
+Order = Keyword × (ℕ × Option Bytes)
+
+abbrev pub order_with : Keyword → Option ℕ → Option Bytes → Option Order
+order_with k None text = None
+order_with k (Some id) text = if not (is_none text) && not (takes_text k) then None else Some
+    (k, (id, text))
+
+abbrev pub order_behind : Option Keyword → Option Bytes → Option Order
+order_behind (Some k) (Some rest) = order_with k (id_of (before 32 rest)) (behind 32 rest)
+order_behind (Some k) None = None
+order_behind None _ = None
+
+abbrev pub order_of : Bytes → Option Order
+order_of line = order_behind (keyword_of (before 32 line)) (behind 32 line)
+
+-- Where a schedule stands: the newest session, those that were opened, those whose input ended, and
+-- those that take nothing now.
+pub record Stage : Type 0 where
+  pub newest : Option ℕ
+  pub opened : List ℕ
+  pub ended : List ℕ
+  pub blocked : List ℕ
+
+abbrev pub is_among : List ℕ → ℕ → Bool
+is_among ids id = list_any (λ other. nat_eq other id) ids
+
+abbrev pub is_above : Option ℕ → ℕ → Bool
+is_above None id = true
+is_above (Some newest) id = nat_lt newest id
+
+-- A session opens above those before; others are named where they were opened and, but to be freed,
+-- where their input hasn't ended.
+abbrev pub may_stand : Stage → Keyword → ℕ → Bool
+may_stand st Open id = is_above st.newest id
+may_stand st Free id = is_among st.opened id
+may_stand st _ id = is_among st.opened id && not (is_among st.ended id)
+
+abbrev pub newest_after : Keyword → ℕ → Option ℕ → Option ℕ
+newest_after Open id newest = Some id
+newest_after _ id newest = newest
+
+abbrev pub opened_after : Keyword → ℕ → List ℕ → List ℕ
+opened_after Open id ids = ids ++ id ∷ []
+opened_after _ id ids = ids
+
+abbrev pub ended_after : Keyword → ℕ → List ℕ → List ℕ
+ended_after End id ids = ids ++ id ∷ []
+ended_after _ id ids = ids
+
+abbrev pub blocked_after : Keyword → ℕ → List ℕ → List ℕ
+blocked_after Again id ids = ids ++ id ∷ []
+blocked_after Free id ids = filter (λ other. not (nat_eq other id)) ids
+blocked_after _ id ids = ids
+
+abbrev pub stage_after : Keyword → ℕ → Stage → Stage
+stage_after k id st = record {
+  newest = newest_after k id st.newest;
+  opened =
+      opened_after k id st.opened;
+  ended = ended_after k id st.ended;
+  blocked =
+      blocked_after k id st.blocked;
+}
+
+abbrev pub text_or_none : Option Bytes → Bytes
+text_or_none None = []
+text_or_none (Some text) = text
+
+-- the turn of a line; a text that is said ends with LF
+abbrev pub turn_of : Keyword → ℕ → Option Bytes → Incoming
+turn_of Open id text = Opens id
+turn_of Say id text = Brings id (text_or_none text ++ 10 ∷ [])
+turn_of Part id text = Brings id (text_or_none text)
+turn_of Again id text = Nothing
+turn_of Free id text = Nothing
+turn_of End id text = Ends id

@@ -1,0 +1,24 @@
+//! Schedules of `djq replay`: lines that say, turn by turn, what a hub in memory brings.
+//!
+//! ```text
+//! open 1              session 1 opens
+//! say 1 rel r int     a line of it comes
+//! part 1 add r        a part of a line
+//! again 1             from here on it takes nothing
+//! free 1              it takes all again
+//! end 1               its input ends
+//! ```
+//!
+//! [`schedule_hub`] makes the hub of a schedule, or says which line is the first that is outside
+//! the grammar of `specs/Schedule.antt`. What this crate is not: it runs nothing.
+//!
+//! What surprises: whether a line is in the grammar depends on those before it, since it may name
+//! none but sessions that were opened and whose input hasn't ended.
+#![tactic(auto)]
+
+mod line;
+mod schedule;
+mod sofar;
+
+pub use line::Keyword;
+pub use schedule::{ScheduleRefusal, schedule_hub};

@@ -1,0 +1,199 @@
+-- That the machine and the hub have the same sessions, and which of them a flush is at.
+use Rattle.std.specs.Prelude.{ℕ, List, [], ◌∷◌, ◌++◌, ◌==◌, ◌≡◌, ◌<◌, ◌≤◌, ◌⊎◌, ◌||◌, Bool, true, false, not, cond, nat_eq, nat_le, MatchBool, Option, None, Some, is_some, IsSomeAnd, IfSome, find, filter, length, map, All, Contains}
+use Rattle.std.specs.List.{list_any}
+use Rattle.std.proofs.Common.{refl, sym, ap, ◌∙◌, subst, inl, inr, arith}
+use Rattle.std.proofs.lemmas.Bool.{eqb-true, eq-eqb, leb-true}
+use Rattle.std.proofs.lemmas.List.Elements.{All-nil, All-cons, All-head, All-tail, All-filter, All-contains, All-contains_itself, Contains-push}
+use Rattle.djq_io.specs.Hub.{Ids, IsNew as IsNewId, IsRunning, with_opened, EndsInput, without}
+use Rattle.djq_io.proofs.Membership.{is_member}
+use Rattle.djq_machine.specs.State.{State, Session}
+use Rattle.djq_machine.specs.Step.{opened}
+use Rattle.djq_machine.specs.Call.{IsOpen, Makes, ids_of}
+use Rattle.djq_laws.proofs.Changing.{all_found}
+use Rattle.djq_laws.proofs.Rising.{step_ids}
+use Rattle.djq_serve.specs.Server.{due}
+use Rattle.djq_serve.specs.Kept.{Agrees, IsNew}
+use Rattle.djq_serve.specs.Parts.{IsServed, NotServed}
+
+-- an id is that of an open session exactly where it is among the ids
+open_any : (xs : List Session) (s : ℕ) → is_some (find (λ (x : Session). x.id == s) xs) ≡ list_any (λ i. nat_eq i s) (map (λ (x : Session). x.id) xs)
+open_any [] s = refl
+open_any (x ∷ xs) s = at_first (x.id == s) (open_any xs s)
+  where
+    at_first : (b : Bool) → is_some (find (λ (y : Session). y.id == s) xs) ≡ list_any (λ i. nat_eq i s) (map (λ (y : Session). y.id) xs)
+        → is_some (cond b (Some x) (find (λ (y : Session). y.id == s) xs)) ≡ (b || list_any (λ i. nat_eq i s) (map (λ (y : Session). y.id) xs))
+    at_first true h = refl
+    at_first false h = h
+
+pub open_contains : (st : State) (s : ℕ) → IsOpen st s → Contains (ids_of st) s
+open_contains st s h = (is_member (ids_of st) s).0 (sym (open_any st.sessions s) ∙ h)
+
+pub contains_open : (st : State) (s : ℕ) → Contains (ids_of st) s → IsOpen st s
+contains_open st s h = open_any st.sessions s ∙ (is_member (ids_of st) s).1 h
+
+inside : {A : Type 0} (x y : A) → Some x ≡ Some y → x ≡ y
+inside x y e = cc
+
+-- what is found passes the test
+pub found_passes : {A : Type 0} (p : A → Bool) (xs : List A) (x : A) → find p xs ≡ Some x → p x ≡ true
+found_passes p [] x e = absurd cc
+found_passes p (y ∷ xs) x e = at_first (p y) refl e (λ k. found_passes p xs x k)
+  where
+    at_first : (b : Bool) → p y ≡ b → cond b (Some y) (find p xs) ≡ Some x → (find p xs ≡ Some x → p x ≡ true) → p x ≡ true
+    at_first true passes k rest = subst (λ (z : _). p z ≡ true) (inside y x k) passes
+    at_first false passes k rest = rest k
+
+pub due_contains : (st : State) (from s : ℕ) → due st from ≡ Some s → Contains (ids_of st) s
+due_contains st from s h = all_found (Contains (ids_of st)) (λ i. nat_le from i) (ids_of st) s (All-contains_itself (ids_of st)) h
+
+pub due_open : (st : State) (from s : ℕ) → due st from ≡ Some s → IsOpen st s
+due_open st from s h = contains_open st s (due_contains st from s h)
+
+-- The hub has the machine's sessions, after a change that opens and closes none.
+pub agrees_same : (old new : State) (ids ids' : Ids) → ids_of new ≡ ids_of old → ids' ≡ ids → Agrees old ids → Agrees new ids'
+agrees_same old new ids ids' same hub a = record {
+  same = ap (λ (i : Ids). i.open_ids) hub ∙ a.same ∙ sym same;
+  newest = subst (λ (i : Ids). All (λ s. IsSomeAnd i.newest (λ n. s ≤ n)) (ids_of new)) (sym hub)
+      (subst (λ (is : List ℕ). All (λ s. IsSomeAnd ids.newest (λ n. s ≤ n)) is) (sym same) a.newest);
+}
+
+-- a session was closed at both
+pub agrees_closed : (old new : State) (ids ids' : Ids) (s : ℕ) → ids_of new ≡ filter (λ i. not (i == s)) (ids_of old) → ids' ≡ without ids s → Agrees old ids → Agrees new ids'
+agrees_closed old new ids ids' s gone hub a = record {
+  same = ap (λ (i : Ids). i.open_ids) hub ∙ ap (λ (is : List ℕ). filter (λ i. not (i == s)) is) a.same ∙ sym gone;
+  newest = subst (λ (i : Ids). All (λ t. IsSomeAnd i.newest (λ n. t ≤ n)) (ids_of new)) (sym hub)
+      (subst (λ (is : List ℕ). All (λ t. IsSomeAnd ids.newest (λ n. t ≤ n)) is) (sym gone)
+      (All-filter (λ i. not (i == s)) (λ t. IsSomeAnd ids.newest (λ n. t ≤ n)) (ids_of old) a.newest));
+}
+
+-- the input of a session ended at the hub
+pub agrees_ended : (st : State) (ids ids' : Ids) (s : ℕ) → EndsInput s ids ids' → Agrees st ids → Agrees st ids'
+agrees_ended st ids ids' s ends a = record {
+  same = ends.1 ∙ a.same;
+  newest = subst (λ (o : Option ℕ). All (λ t. IsSomeAnd o (λ n. t ≤ n)) (ids_of st)) (sym ends.0) a.newest;
+}
+
+-- a session opened at the hub
+above_newest : (o : Option ℕ) (s t : ℕ) → IfSome o (λ n. n < s) → IsSomeAnd o (λ n. t ≤ n) → t < s
+above_newest None s t new known = absurd known
+above_newest (Some n) s t new known = omega (arith, new, known)
+
+all_as : (P Q : ℕ → Type 0) → ((x : ℕ) → P x → Q x) → (xs : List ℕ) → All P xs → All Q xs
+all_as P Q f [] h = All-nil Q
+all_as P Q f (x ∷ xs) h = All-cons Q x xs (f x (All-head P x xs h)) (all_as P Q f xs (All-tail P x xs h))
+
+pub is_new : (st : State) (ids ids' : Ids) (s : ℕ) → IsNewId ids s → ids' ≡ with_opened ids s → Agrees st ids → IsNew st ids' s
+is_new st ids ids' s new hub a = record {
+  same = ap (λ (i : Ids). i.open_ids) hub ∙ ap (λ (is : List ℕ). is ++ s ∷ []) a.same;
+  newest = ap (λ (i : Ids). i.newest) hub;
+  above = all_as (λ t. IsSomeAnd ids.newest (λ n. t ≤ n)) (λ t. t < s) (λ t known. above_newest ids.newest s t new known) (ids_of st) a.newest;
+}
+
+-- that an id is above the open ones, as the machine asks for it
+above_in : (xs : List Session) (s : ℕ) → All (λ t. t < s) (map (λ (x : Session). x.id) xs) → All (λ (x : Session). x.id < s) xs
+above_in [] s h = All-nil (λ (x : Session). x.id < s)
+above_in (x ∷ xs) s h =
+    All-cons (λ (y : Session). y.id < s) x xs (All-head (λ t. t < s) x.id (map (λ (y : Session). y.id) xs) h)
+    (above_in xs s (All-tail (λ t. t < s) x.id (map (λ (y : Session). y.id) xs) h))
+
+pub is_above : (st : State) (ids : Ids) (s : ℕ) → IsNew st ids s → All (λ (x : Session). x.id < s) st.sessions
+is_above st ids s n = above_in st.sessions s n.above
+
+pub not_open : (st : State) (s : ℕ) → All (λ t. t < s) (ids_of st) → IsOpen st s → ⊥
+not_open st s above there =
+    let less : s < s = All-contains (λ t. t < s) (ids_of st) s above (open_contains st s there) in
+    absurd (omega (arith, less))
+
+-- it was let in
+opened_ids : (old new : State) (s : ℕ) (above : All (λ t. t < s) (ids_of old)) → IsOpen new s → (ids_of new ≡ ids_of old ++ s ∷ []) ⊎ (ids_of new ≡ ids_of old) → ids_of new ≡ ids_of old ++ s ∷ []
+opened_ids old new s above there (inl h) = h
+opened_ids old new s above there (inr h) =
+    absurd (not_open new s (subst (λ (is : List ℕ). All (λ t. t < s) is) (sym h) above) there)
+
+all_push : (P : ℕ → Type 0) (xs : List ℕ) (s : ℕ) → All P xs → P s → All P (xs ++ s ∷ [])
+all_push P [] s h p = All-cons P s [] p (All-nil P)
+all_push P (x ∷ xs) s h p = All-cons P x (xs ++ s ∷ []) (All-head P x xs h) (all_push P xs s (All-tail P x xs h) p)
+
+pub opens_in : (old new : State) (ids ids' : Ids) (s : ℕ) → IsNew old ids s → Makes old (opened s) new → IsOpen new s → ids' ≡ ids → Agrees new ids'
+opens_in old new ids ids' s n m there hub =
+    let both = opened_ids old new s n.above there (step_ids old (opened s) m.effect new m.step) in
+    let all : All (λ t. t ≤ s) (ids_of old ++ s ∷ []) =
+    all_push (λ t. t ≤ s) (ids_of old) s (all_as (λ t. t < s) (λ t. t ≤ s) (λ t less. omega (arith, less)) (ids_of old) n.above) (omega arith) in
+    record {
+      same = ap (λ (i : Ids). i.open_ids) hub ∙ n.same ∙ sym both;
+      newest = subst (λ (o : Option ℕ). All (λ t. IsSomeAnd o (λ k. t ≤ k)) (ids_of new)) (sym (ap (λ (i : Ids). i.newest) hub ∙ n.newest))
+          (subst (λ (is : List ℕ). All (λ t. t ≤ s) is) (sym both) all);
+    }
+
+-- it was not, and is closed at the hub
+dropped_last : (xs : List ℕ) (s : ℕ) → All (λ t. t < s) xs → filter (λ i. not (i == s)) (xs ++ s ∷ []) ≡ xs
+dropped_last [] s h = at_last (s == s) (eq-eqb s s refl)
+  where
+    at_last : (b : Bool) → b ≡ true → cond (not b) (s ∷ []) [] ≡ []
+    at_last true e = refl
+    at_last false e = absurd cc
+dropped_last (x ∷ xs) s h = at_first (x == s) refl (dropped_last xs s (All-tail (λ t. t < s) x xs h))
+  where
+    at_first : (b : Bool) → (x == s) ≡ b → filter (λ i. not (i == s)) (xs ++ s ∷ []) ≡ xs
+        → cond (not b) (x ∷ filter (λ i. not (i == s)) (xs ++ s ∷ [])) (filter (λ i. not (i == s)) (xs ++ s ∷ [])) ≡ x ∷ xs
+    at_first true e rest = let less = All-head (λ t. t < s) x xs h in absurd (omega (arith, less, eqb-true x s e))
+    at_first false e rest = ap (λ (is : List ℕ). x ∷ is) rest
+
+pub refused_in : (st : State) (ids ids' : Ids) (s : ℕ) → IsNew st ids s → ids' ≡ without ids s → Agrees st ids'
+refused_in st ids ids' s n hub = record {
+  same = ap (λ (i : Ids). i.open_ids) hub ∙ ap (λ (is : List ℕ). filter (λ i. not (i == s)) is) n.same ∙ dropped_last (ids_of st) s n.above;
+  newest = subst (λ (o : Option ℕ). All (λ t. IsSomeAnd o (λ k. t ≤ k)) (ids_of st)) (sym (ap (λ (i : Ids). i.newest) hub ∙ n.newest))
+      (all_as (λ t. t < s) (λ t. t ≤ s) (λ t less. omega (arith, less)) (ids_of st) n.above);
+}
+
+-- a session that runs at the hub is open in the machine
+pub running_open : (st : State) (ids : Ids) (s : ℕ) → Agrees st ids → IsRunning ids s → IsOpen st s
+running_open st ids s a running = contains_open st s (subst (λ (is : List ℕ). Contains is s) a.same running.0)
+
+pub open_at_hub : (st : State) (ids : Ids) (s : ℕ) → Agrees st ids → IsOpen st s → Contains ids.open_ids s
+open_at_hub st ids s a there = subst (λ (is : List ℕ). Contains is s) (sym a.same) (open_contains st s there)
+
+-- no session is open at either
+pub agrees_none : (st : State) (ids : Ids) → st.sessions ≡ [] → ids.open_ids ≡ [] → Agrees st ids
+agrees_none st ids none hub =
+    let no_ids : ids_of st ≡ [] = ap (λ (xs : List Session). map (λ (x : Session). x.id) xs) none in
+    record {
+      same = hub ∙ sym no_ids;
+      newest = subst (λ (is : List ℕ). All (λ s. IsSomeAnd ids.newest (λ n. s ≤ n)) is) (sym no_ids) (All-nil (λ s. IsSomeAnd ids.newest (λ n. s ≤ n)));
+    }
+
+-- a session that closes is one fewer
+filter_fewer : (s : ℕ) (xs : List ℕ) → length (filter (λ i. not (i == s)) xs) ≤ length xs
+filter_fewer s [] = omega arith
+filter_fewer s (x ∷ xs) = at_first (x == s) (filter_fewer s xs)
+  where
+    at_first : (b : Bool) → length (filter (λ i. not (i == s)) xs) ≤ length xs
+        → length (cond (not b) (x ∷ filter (λ i. not (i == s)) xs) (filter (λ i. not (i == s)) xs)) ≤ length (x ∷ xs)
+    at_first true h = omega (arith, h)
+    at_first false h = omega (arith, h)
+
+pub fewer : (s : ℕ) (p : ℕ → Bool) (xs : List ℕ) → find p xs ≡ Some s → length (filter (λ i. not (i == s)) xs) < length xs
+fewer s p [] h = absurd cc
+fewer s p (x ∷ xs) h = at_first (p x) h (x == s) refl (λ k. fewer s p xs k)
+  where
+    at_first : (b : Bool) → cond b (Some x) (find p xs) ≡ Some s → (same : Bool) → (x == s) ≡ same
+        → (find p xs ≡ Some s → length (filter (λ i. not (i == s)) xs) < length xs)
+        → length (cond (not same) (x ∷ filter (λ i. not (i == s)) xs) (filter (λ i. not (i == s)) xs)) < length (x ∷ xs)
+    at_first true k true e rest = omega (arith, filter_fewer s xs)
+    at_first true k false e rest = let is : (x == s) ≡ true = eq-eqb x s (inside x s k) in absurd cc
+    at_first false k true e rest = omega (arith, filter_fewer s xs)
+    at_first false k false e rest = omega (arith, rest k)
+
+pub due_above : (st : State) (from s : ℕ) → due st from ≡ Some s → from ≤ s
+due_above st from s h = let passes : nat_le from s ≡ true = found_passes (λ i. nat_le from i) (ids_of st) s h in leb-true from s passes
+
+-- whether an id is among the ids, as the code asks
+pub served_by : (st : State) (s : ℕ) (b : Bool) → b ≡ list_any (λ i. nat_eq i s) (ids_of st) → st.stopped ≡ false → MatchBool b (IsServed st s) (NotServed st s)
+served_by st s true e going = record { is_open = open_any st.sessions s ∙ sym e; going = going }
+served_by st s false e going = inr (λ there. absurd (no_one (sym e ∙ refl) (sym (open_any st.sessions s) ∙ there)))
+  where
+    no_one : list_any (λ i. nat_eq i s) (ids_of st) ≡ false → list_any (λ i. nat_eq i s) (ids_of st) ≡ true → ⊥
+    no_one f t = cc
+
+pub new_at_hub : (st : State) (ids : Ids) (s : ℕ) → IsNew st ids s → Contains ids.open_ids s
+new_at_hub st ids s n = subst (λ (is : List ℕ). Contains is s) (sym n.same) (Contains-push (ids_of st) s)

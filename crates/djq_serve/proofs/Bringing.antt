@@ -1,0 +1,128 @@
+-- What a turn brings, up to the flush or the lines behind it.
+use Rattle.std.specs.Prelude.{ℕ, List, [], ◌∷◌, ◌≡◌, ◌+◌, ◌<◌, ◌≤◌, cond, Option, None, Some, Err, length, take, All}
+use Rattle.std.proofs.Common.{refl, sym, ap, ◌∙◌, subst, inl, inr, length-take, arith}
+use Rattle.std.proofs.lemmas.Bool.{lt-ltb, le-ltb}
+use Rattle.std.proofs.lemmas.List.Sorted.{IsPermutation-refl}
+use Rattle.djq_io.specs.Hub.{Ids, Takes, taken_by}
+use Rattle.djq_io.specs.declared.hub.Turn.TheVariants.{Opened, Bytes as Brought, Ended, Idle, Over as HubOver, Failed}
+use Rattle.djq_io.specs.declared.hub.Told.{Told}
+use Rattle.djq_io.specs.declared.hub.Told.TheVariants.{Turning, Sending, Closing}
+use Rattle.djq_model.specs.declared.relation.Relation.{Relation}
+use Rattle.djq_model.specs.Data.{Bytes}
+use Rattle.djq_lines.specs.declared.limits.TheConstants.{SESSIONS}
+use Rattle.djq_lines.specs.Reply.{end_full, end_memory}
+use Rattle.djq_machine.specs.declared.machine.OpenRefusal.{OpenRefusal}
+use Rattle.djq_machine.specs.declared.machine.OpenRefusal.TheVariants.{Full, NoMem}
+use Rattle.djq_machine.specs.State.{State, Session}
+use Rattle.djq_machine.specs.Effect.{nothing}
+use Rattle.djq_machine.specs.Step.{opened, fed, ended, SameRelations, Step}
+use Rattle.djq_machine.specs.Call.{IsOpen, Makes, OpenGives, Counts}
+use Rattle.djq_laws.specs.declared.limits.TheConstants.{READ_BYTES}
+use Rattle.djq_serve.specs.declared.served.Served.{Served}
+use Rattle.djq_serve.specs.declared.served.Served.TheVariants.{HubFault}
+use Rattle.djq_serve.specs.Told.{Shown, Tells, turns_in}
+use Rattle.djq_serve.specs.Server.{next_turn, no_turn, waiting, lines, flushing, closing, server, LetsIn, refusal_for}
+use Rattle.djq_serve.specs.Goes.{seen, Goes}
+use Rattle.djq_serve.specs.Kept.{Agrees, IsNew}
+use Rattle.djq_serve.specs.Parts.{Admits, Refuses, MayAnswer, TurnAnswers}
+use Rattle.djq_serve.proofs.Telling.{tells_none, tells_more}
+use Rattle.djq_serve.proofs.Agreeing.{is_above, not_open, refused_in}
+use Rattle.djq_serve.proofs.Moving.{happens, turn_goes}
+
+-- A session that isn't let in: that is a step too, which changes nothing.
+same_relations : (rs : List Relation) → SameRelations rs rs
+same_relations [] = tt
+same_relations (r ∷ rs) = (refl, refl, IsPermutation-refl r.rows, same_relations rs)
+
+stays_out : (st : State) (s : ℕ) → All (λ (x : Session). x.id < s) st.sessions → Step st (opened s) nothing st
+stays_out st s above = record {
+  mid = st;
+  acts = (refl, above, inr refl);
+  relations = st.store.relations;
+  reordered = same_relations st.store.relations;
+  queued = refl;
+}
+
+pub not_let_in : (st new : State) (ids : Ids) (s : ℕ) → IsNew st ids s → new ≡ st → Makes st (opened s) new
+not_let_in st new ids s n same = subst (λ (k : State). Makes st (opened s) k) (sym same) (record { effect = nothing; step = stays_out st s (is_above st ids s n) })
+
+pub is_let_in : (st new : State) (hub : Shown) (s : ℕ) → Makes st (opened s) new → IsOpen new s → Admits st hub s new hub
+is_let_in st new hub s makes there = record { makes = makes; more = []; lets_in = inl (there, refl); told = tells_none hub }
+
+full_text : (st : State) → SESSIONS ≤ length st.sessions → refusal_for st ≡ end_full
+full_text st many = ap (λ b. cond b end_memory end_full) (le-ltb (length st.sessions) SESSIONS many)
+
+memory_text : (st : State) → length st.sessions < SESSIONS → refusal_for st ≡ end_memory
+memory_text st few = ap (λ b. cond b end_memory end_full) (lt-ltb (length st.sessions) SESSIONS few)
+
+refused : (st new : State) (hub hub' : Shown) (s : ℕ) (text : Bytes) → IsNew st hub.ids s → new ≡ st → refusal_for st ≡ text → Refuses hub s text hub' → Admits st hub s new hub'
+refused st new hub hub' s text n same is_text r = record {
+  makes = not_let_in st new hub.ids s n same;
+  more = Sending s r.sent (taken_by r.sent text) ∷ Closing s ∷ [];
+  lets_in = subst (λ (t : Bytes). LetsIn s st (Sending s r.sent (taken_by r.sent t) ∷ Closing s ∷ []) new) is_text
+      (inr (λ there. not_open st s n.above (subst (λ (k : State). IsOpen k s) same there), r.sent, subst (λ (t : Bytes). Takes r.sent t) (sym is_text) r.takes, refl));
+  told = r.told;
+}
+
+pub is_full : (st new : State) (hub hub' : Shown) (s : ℕ) → IsNew st hub.ids s → new ≡ st → SESSIONS ≤ length st.sessions → Refuses hub s end_full hub' → Admits st hub s new hub'
+is_full st new hub hub' s n same many r = refused st new hub hub' s end_full n same (full_text st many) r
+
+pub is_unmade : (st new : State) (hub hub' : Shown) (s : ℕ) → IsNew st hub.ids s → new ≡ st → length st.sessions < SESSIONS → Refuses hub s end_memory hub' → Admits st hub s new hub'
+is_unmade st new hub hub' s n same few r = refused st new hub hub' s end_memory n same (memory_text st few) r
+
+pub out_agrees : (st new : State) (hub hub' : Shown) (s : ℕ) (text : Bytes) → IsNew st hub.ids s → new ≡ st → Refuses hub s text hub' → Agrees new hub'.ids
+out_agrees st new hub hub' s text n same r = subst (λ (k : State). Agrees k hub'.ids) (sym same) (refused_in st hub.ids hub'.ids s n r.ids)
+
+-- what the machine answers
+pub full_gives : (st new : State) (s : ℕ) (r : OpenRefusal) → r ≡ Full → OpenGives st s (Err r) new → (SESSIONS ≤ length st.sessions) × (new ≡ st)
+full_gives st new s r e h = subst (λ (q : OpenRefusal). OpenGives st s (Err q) new) e h
+
+pub unmade_gives : (st new : State) (s : ℕ) (r : OpenRefusal) → r ≡ NoMem → OpenGives st s (Err r) new → (length st.sessions < SESSIONS) × (new ≡ st)
+unmade_gives st new s r e h = subst (λ (q : OpenRefusal). OpenGives st s (Err q) new) e h
+
+-- A session opened.
+none_more : (s : ℕ) (st new : State) (more : List Told) → LetsIn s st more new → turns_in more ≡ 0
+none_more s st new more (inl h) = ap turns_in h.1
+none_more s st new more (inr h) = ap turns_in h.3
+
+pub turn_opens : (hub mid hub' : Shown) (counted : Counts) (turns : ℕ) (st new : State) (s : ℕ) → Tells hub mid (Turning (Opened s) [] ∷ []) → Admits st mid s new hub'
+    → Goes (seen hub counted turns) (server st waiting) (seen hub' counted (turns + 1)) (server new (flushing 0 next_turn))
+turn_opens hub mid hub' counted turns st new s told a =
+    turn_goes hub hub' counted turns st new (Opened s) [] a.more _ (flushing 0 next_turn)
+    (happens (opened s) st new a.makes, a.lets_in, refl) (none_more s st new a.more a.lets_in) (tells_more hub mid hub' (Turning (Opened s) [] ∷ []) a.more told a.told)
+
+-- bytes came
+pub turn_feeds : (hub hub' : Shown) (counted : Counts) (turns : ℕ) (st new : State) (s n : ℕ) (buf : Bytes) → 1 ≤ n → n ≤ length buf → length buf ≡ READ_BYTES → Makes st (fed s (take n buf)) new
+    → Tells hub hub' (Turning (Brought s n) (take n buf) ∷ [])
+    → Goes (seen hub counted turns) (server st waiting) (seen hub' counted (turns + 1)) (server new (lines s))
+turn_feeds hub hub' counted turns st new s n buf some within room makes told =
+    turn_goes hub hub' counted turns st new (Brought s n) (take n buf) [] _ (lines s)
+    (happens (fed s (take n buf)) st new makes, refl, refl, (omega (arith, length-take n buf, within), omega (arith, some), omega (arith, within, room))) refl told
+
+-- the input of a session ended
+pub turn_ends : (hub hub' : Shown) (counted : Counts) (turns : ℕ) (st new : State) (s : ℕ) → Makes st (ended s) new → Tells hub hub' (Turning (Ended s) [] ∷ [])
+    → Goes (seen hub counted turns) (server st waiting) (seen hub' counted (turns + 1)) (server new (flushing 0 next_turn))
+turn_ends hub hub' counted turns st new s makes told =
+    turn_goes hub hub' counted turns st new (Ended s) [] [] _ (flushing 0 next_turn) (happens (ended s) st new makes, refl, refl) refl told
+
+-- nothing came, nothing will come, or the hub failed
+pub turn_idles : (hub hub' : Shown) (counted : Counts) (turns : ℕ) (st : State) → Tells hub hub' (Turning Idle [] ∷ [])
+    → Goes (seen hub counted turns) (server st waiting) (seen hub' counted (turns + 1)) (server st (flushing 0 next_turn))
+turn_idles hub hub' counted turns st told = turn_goes hub hub' counted turns st st Idle [] [] [] (flushing 0 next_turn) ((refl, refl), refl, refl) refl told
+
+pub turn_over : (hub hub' : Shown) (counted : Counts) (turns : ℕ) (st : State) → Tells hub hub' (Turning HubOver [] ∷ [])
+    → Goes (seen hub counted turns) (server st waiting) (seen hub' counted (turns + 1)) (server st (flushing 0 no_turn))
+turn_over hub hub' counted turns st told = turn_goes hub hub' counted turns st st HubOver [] [] [] (flushing 0 no_turn) ((refl, refl), refl, refl) refl told
+
+pub turn_fails : (hub hub' : Shown) (counted : Counts) (turns : ℕ) (st : State) → Tells hub hub' (Turning Failed [] ∷ [])
+    → Goes (seen hub counted turns) (server st waiting) (seen hub' counted (turns + 1)) (server st (closing HubFault))
+turn_fails hub hub' counted turns st told = turn_goes hub hub' counted turns st st Failed [] [] [] (closing HubFault) ((refl, refl), refl, refl) refl told
+
+-- what the end of a turn answers, where the hub met no fault in it
+pub quiet_answers : (r : Option Served) (before now : ℕ) → MayAnswer r → now ≡ before → TurnAnswers r before now
+quiet_answers None before now may same = same
+quiet_answers (Some answer) before now may same = subst (λ (a : Served). TurnAnswers (Some a) before now) (sym may) same
+
+-- the buffer keeps its length
+pub at_room : (old new : Bytes) → length new ≡ length old → length old ≡ READ_BYTES → length new ≡ READ_BYTES
+at_room old new same room = same ∙ room

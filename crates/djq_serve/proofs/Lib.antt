@@ -1,0 +1,13 @@
+pub mod Telling
+pub mod Going
+pub mod Agreeing
+pub mod Settling
+pub mod Moving
+pub mod Fronting
+pub mod Visiting
+pub mod Lining
+pub mod Bringing
+pub mod Ending
+pub mod Lawful
+pub mod Causing
+pub mod Completing

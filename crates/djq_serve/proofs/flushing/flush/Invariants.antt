@@ -1,0 +1,18 @@
+use Rattle.std.proofs.Common.{◌≡◌, ◌-◌}
+use Rattle.djq_serve.specs.Told.{shown}
+use Rattle.djq_serve.proofs.Visiting.{Flushing}
+use Rattle.djq_serve.proofs.flushing.flush.Given as goal
+
+abbrev pub invariant-visits : goal.invariant-visits
+invariant-visits g l =
+    let state = g.M.Machine.state in
+    let past = g.H.Hub.past in
+    let script = g.H.Hub.script in
+    let ids = g.H.Hub.ids in
+    record {
+      flushing : Flushing (shown (past l.fn.hub) (script l.fn.hub) (ids l.fn.hub)) (shown (past l.hub) (script l.hub) (ids l.hub)) (state l.fn.machine) (state l.machine) l.from;
+      faults : g.H.Hub.faults l.hub ≡ g.H.Hub.faults l.fn.hub;
+    }
+
+abbrev pub decreases-visits : goal.decreases-visits
+decreases-visits g l = 18446744073709551616 - l.from

@@ -1,0 +1,95 @@
+-- How serving ends.
+use Rattle.std.specs.Prelude.{ℕ, List, [], ◌∷◌, ◌++◌, ◌==◌, ◌≡◌, ◌≤◌, Bool, true, false, All}
+use Rattle.djq_io.specs.Faults.{Counted}
+use Rattle.djq_io.specs.declared.hub.Turn.TheVariants.{Opened}
+use Rattle.djq_io.specs.declared.hub.Told.{Told}
+use Rattle.djq_io.specs.declared.hub.Told.TheVariants.{Turning, Sending}
+use Rattle.djq_machine.specs.State.{State}
+use Rattle.djq_machine.specs.Run.{Did, Run, out, all_taken, pending_of}
+use Rattle.djq_machine.specs.Call.{Counts, ids_of}
+use Rattle.djq_machine.specs.Gives.{CursorsGive}
+use Rattle.djq_laws.specs.Moved.{Spares}
+use Rattle.djq_laws.specs.Lines.{TakesInOrder}
+use Rattle.djq_laws.specs.Sent.{all_gone}
+use Rattle.djq_serve.specs.declared.served.Served.{Served}
+use Rattle.djq_serve.specs.declared.served.Served.TheVariants.{Stopped, Over, TurnsUsed, HubFault}
+use Rattle.djq_serve.specs.Told.{Shown, sent_to, has_over, has_failed}
+use Rattle.djq_serve.specs.Server.{Move, waiting, closing, server, all_told, all_done}
+use Rattle.djq_serve.specs.Goes.{seen, Goes}
+
+-- All turns were taken, or fewer, as the answer says.
+abbrev pub HasTaken : Served → ℕ → ℕ → Type 0
+HasTaken TurnsUsed turns taken = taken ≡ turns
+HasTaken _ turns taken = taken ≤ turns
+
+-- a session opens at the hub, and isn't let in: a line is sent to it behind its turn
+abbrev pub refuses : ℕ → List Told → Bool
+refuses s (Turning (Opened t) piece ∷ Sending u sent taken ∷ more) = t == s
+refuses s _ = false
+
+-- no move refuses this session
+abbrev pub NeverRefused : ℕ → List Move → Type 0
+NeverRefused s moves = All (λ (m : Move). refuses s m.told ≡ false) moves
+
+-- What the hub took for a session that was let in is what was taken of its pending bytes. That,
+-- what was dropped as it was closed, and what is pending still, is all that was queued to it, in
+-- order.
+pub record IsSent (old : State) (moves : List Move) (new : State) (s : ℕ) : Type 0 where
+  pub sent : NeverRefused s moves → sent_to s (all_told moves) ≡ all_taken s (all_done moves)
+  pub gone : all_gone s (all_done moves) ++ pending_of new s ≡ pending_of old s ++ out s
+      (all_done moves)
+
+abbrev pub says_stopped : Served → Bool
+says_stopped Stopped = true
+says_stopped _ = false
+
+abbrev pub says_over : Served → Bool
+says_over Over = true
+says_over _ = false
+
+abbrev pub says_fault : Served → Bool
+says_fault HubFault = true
+says_fault _ = false
+
+-- `Stopped` comes exactly where a session said `stop`, `Over` exactly where a turn said so, and
+-- `HubFault` exactly where a turn failed.
+pub record IsCaused (answer : Served) (told : List Told) (st : State) : Type 0 where
+  pub stopped : st.stopped ≡ says_stopped answer
+  pub over : has_over told ≡ says_over answer
+  pub failed : has_failed told ≡ says_fault answer
+
+-- The first fault of the hub ends the serving; under every other answer there was none.
+abbrev pub FaultsCount : Served → ℕ → ℕ → Type 0
+FaultsCount HubFault before now = Counted before now
+FaultsCount _ before now = now ≡ before
+
+-- a state that a run passes through on its way
+abbrev pub RunsThrough : State → List Did → List Did → State → List Did → State → Type 0
+RunsThrough start done earlier mid later state = (done ≡ earlier ++ later) × Run start earlier mid
+    × Run mid later state
+
+-- What holds at each moment of a run on the way: of a session that wasn't closed yet the lines
+-- taken are those that its bytes are cut into, in order; and each open cursor gives what it should.
+pub record Moments (start : State) (done : List Did) (state : State) : Type 0 where
+  pub lines : (earlier : List Did) (mid : State) (later : List Did)
+      → RunsThrough start done earlier mid later state
+      → (s : ℕ) → All (λ d. Spares d.event s) earlier → TakesInOrder s start earlier mid
+  pub cursors : (earlier : List Did) (mid : State) (later : List Did)
+      → RunsThrough start done earlier mid later state
+      → CursorsGive start → CursorsGive mid
+
+-- **How serving ends.** The server went from its first turn to its answer, by moves of which the
+-- hub
+-- tells. Its steps are a run of the machine. To each session was sent what is its. Each answer has
+-- its cause, and every session is closed.
+pub record ServeEnds (answer : Served) (turns : ℕ) (hub : Shown) (counted : Counts) (old : State)
+    (hub' : Shown) (counted' : Counts) (new : State) : Type 0 where
+  pub taken : ℕ
+  pub goes : Goes (seen hub counted 0) (server old waiting) (seen hub' counted' taken)
+      (server new (closing answer))
+  pub run : Run old (all_done goes.moves) new
+  pub moments : Moments old (all_done goes.moves) new
+  pub sent : (s : ℕ) → IsSent old goes.moves new s
+  pub caused : IsCaused answer (all_told goes.moves) new
+  pub none_open : ids_of new ≡ []
+  pub has_taken : HasTaken answer turns taken

@@ -1,0 +1,34 @@
+-- What the loops of the server keep.
+use Rattle.std.specs.Prelude.{ℕ, [], ◌∷◌, ◌++◌, ◌==◌, ◌≡◌, ◌<◌, ◌≤◌, ◌⊎◌, true, false, Some, IsSome, IsSomeAnd, length, All}
+use Rattle.djq_io.specs.Hub.{Ids}
+use Rattle.djq_machine.specs.State.{State}
+use Rattle.djq_machine.specs.Step.{is_dry}
+use Rattle.djq_machine.specs.Call.{cause_of, held_of, ids_of}
+
+-- The machine has the sessions that are open at the hub, and none has an id above the newest.
+pub record Agrees (st : State) (ids : Ids) : Type 0 where
+  pub same : ids.open_ids ≡ ids_of st
+  pub newest : All (λ s. IsSomeAnd ids.newest (λ n. s ≤ n)) (ids_of st)
+
+-- The hub has opened one session more than the machine, with an id above all before.
+pub record IsNew (st : State) (ids : Ids) (s : ℕ) : Type 0 where
+  pub same : ids.open_ids ≡ ids_of st ++ s ∷ []
+  pub newest : ids.newest ≡ Some s
+  pub above : All (λ t. t < s) (ids_of st)
+
+-- A session holds no line that could be run, or it has ended.
+abbrev pub IsSettled : State → ℕ → Type 0
+IsSettled st s = IsSome (cause_of st s) ⊎ (is_dry (held_of st s) ≡ true)
+
+abbrev pub AllSettled : State → Type 0
+AllSettled st = (s : ℕ) → IsSettled st s
+
+abbrev pub OthersSettled : ℕ → State → Type 0
+OthersSettled s st = (t : ℕ) → (s == t) ≡ false → IsSettled st t
+
+-- What a flush leaves: a settled session stays so, no session holds more, and `stop` was said where
+-- it had been.
+pub record Spares (old new : State) : Type 0 where
+  pub settled : (s : ℕ) → IsSettled old s → IsSettled new s
+  pub held : (s : ℕ) → length (held_of new s) ≤ length (held_of old s)
+  pub stopped : new.stopped ≡ old.stopped

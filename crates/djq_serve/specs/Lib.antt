@@ -1,0 +1,6 @@
+pub mod Told
+pub mod Server
+pub mod Goes
+pub mod Kept
+pub mod Ends
+pub mod Parts

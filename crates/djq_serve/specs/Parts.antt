@@ -1,0 +1,73 @@
+-- What the parts of the server promise.
+use Rattle.std.specs.Prelude.{ℕ, List, [], ◌∷◌, ◌≡◌, ◌⊎◌, true, false, Option, None, Some}
+use Rattle.djq_io.specs.Faults.{Counted}
+use Rattle.djq_io.specs.Hub.{Takes, taken_by, without}
+use Rattle.djq_io.specs.declared.hub.Sent.{Sent}
+use Rattle.djq_io.specs.declared.hub.Told.{Told}
+use Rattle.djq_io.specs.declared.hub.Told.TheVariants.{Sending, Closing}
+use Rattle.djq_model.specs.Data.{Bytes}
+use Rattle.djq_machine.specs.State.{State}
+use Rattle.djq_machine.specs.Step.{opened}
+use Rattle.djq_machine.specs.Call.{IsOpen, Makes, Counts}
+use Rattle.djq_serve.specs.declared.served.Served.{Served}
+use Rattle.djq_serve.specs.declared.served.Served.TheVariants.{Stopped, Over, TurnsUsed, HubFault}
+use Rattle.djq_serve.specs.Told.{Shown, Tells}
+use Rattle.djq_serve.specs.Server.{Phase, waiting, closing, server, LetsIn}
+use Rattle.djq_serve.specs.Goes.{seen, Goes}
+use Rattle.djq_serve.specs.Kept.{AllSettled}
+use Rattle.djq_serve.specs.Ends.{HasTaken}
+
+-- where the server stands behind a turn
+abbrev pub phase_of : Option Served → Phase
+phase_of None = waiting
+phase_of (Some answer) = closing answer
+
+-- A session that opened at the hub is let in, or refused.
+pub record Admits (old : State) (hub : Shown) (s : ℕ) (new : State) (hub' : Shown) : Type 0 where
+  pub makes : Makes old (opened s) new
+  pub more : List Told
+  pub lets_in : LetsIn s old more new
+  pub told : Tells hub hub' more
+
+-- One line was sent to a session, once, and it was closed.
+pub record Refuses (hub : Shown) (s : ℕ) (text : Bytes) (hub' : Shown) : Type 0 where
+  pub sent : Sent
+  pub takes : Takes sent text
+  pub told : Tells hub hub' (Sending s sent (taken_by sent text) ∷ Closing s ∷ [])
+  pub ids : hub'.ids ≡ without hub.ids s
+
+-- A session is open, and no session said `stop`.
+pub record IsServed (st : State) (s : ℕ) : Type 0 where
+  pub is_open : IsOpen st s
+  pub going : st.stopped ≡ false
+
+-- A session said `stop`, or this one isn't open.
+abbrev pub NotServed : State → ℕ → Type 0
+NotServed st s = (st.stopped ≡ true) ⊎ (IsOpen st s → ⊥)
+
+-- all sessions are settled, unless serving ends
+abbrev pub SettledUnless : Option Served → State → Type 0
+SettledUnless None st = AllSettled st
+SettledUnless (Some answer) st = Unit {0}
+
+-- the answers of a turn that neither failed nor was the last
+abbrev pub MayAnswer : Option Served → Type 0
+MayAnswer None = Unit {0}
+MayAnswer (Some answer) = answer ≡ Stopped
+
+-- What a turn answers, by the hub's faults over it. That all turns were taken is no answer of a
+-- turn.
+abbrev pub TurnAnswers : Option Served → ℕ → ℕ → Type 0
+TurnAnswers None before now = now ≡ before
+TurnAnswers (Some Stopped) before now = now ≡ before
+TurnAnswers (Some Over) before now = now ≡ before
+TurnAnswers (Some HubFault) before now = Counted before now
+TurnAnswers (Some TurnsUsed) before now = ⊥
+
+-- Turns were taken, until serving ended.
+pub record Took (answer : Served) (turns : ℕ) (hub : Shown) (counted : Counts) (old : State)
+    (hub' : Shown) (counted' : Counts) (new : State) : Type 0 where
+  pub taken : ℕ
+  pub goes : Goes (seen hub counted 0) (server old waiting) (seen hub' counted' taken)
+      (server new (closing answer))
+  pub has_taken : HasTaken answer turns taken

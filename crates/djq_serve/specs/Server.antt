@@ -1,0 +1,190 @@
+-- What the server does: one thing after another, by the machine's state and where the server
+-- stands.
+use Rattle.std.specs.Prelude.{ℕ, List, [], ◌∷◌, ◌≡◌, ◌+◌, ◌<◌, ◌≤◌, ◌⊎◌, ◌&&◌, Bool, true, false, not, nat_le, nat_lt, Option, None, Some, is_none, IsSomeAnd, find, length, if◌then◌else◌}
+use Rattle.std.specs.List.{flat_map}
+use Rattle.djq_io.specs.Hub.{Takes, taken_by}
+use Rattle.djq_io.specs.declared.hub.Turn.{Turn}
+use Rattle.djq_io.specs.declared.hub.Turn.TheVariants.{Opened, Bytes as Brought, Ended, Idle, Over as HubOver, Failed}
+use Rattle.djq_io.specs.declared.hub.Sent.{Sent}
+use Rattle.djq_io.specs.declared.hub.Sent.TheVariants.{Took, Again, Gone}
+use Rattle.djq_io.specs.declared.hub.Told.{Told}
+use Rattle.djq_io.specs.declared.hub.Told.TheVariants.{Turning, Sending, Closing}
+use Rattle.djq_model.specs.Data.{Bytes}
+use Rattle.djq_lines.specs.declared.limits.TheConstants.{SESSIONS}
+use Rattle.djq_lines.specs.declared.answer.EndCause.{EndCause}
+use Rattle.djq_lines.specs.Reply.{end_full, end_memory}
+use Rattle.djq_machine.specs.State.{State}
+use Rattle.djq_machine.specs.Effect.{Effect}
+use Rattle.djq_machine.specs.LineStep.{LineOutcome, long, blank, slow, no_room, run}
+use Rattle.djq_machine.specs.Step.{Event, opened, fed, stepped, took, ended, closed, Step, is_dry}
+use Rattle.djq_machine.specs.Run.{Did, pending_of}
+use Rattle.djq_machine.specs.Call.{IsOpen, cause_of, held_of, ids_of}
+use Rattle.djq_laws.specs.declared.limits.TheConstants.{READ_BYTES}
+use Rattle.djq_serve.specs.declared.served.Served.{Served}
+use Rattle.djq_serve.specs.declared.served.Served.TheVariants.{Stopped, Over, TurnsUsed, HubFault}
+
+-- What follows a flush.
+pub data Next : Type 0 where
+  -- the next line of the session that brought bytes in this turn
+  more_lines : ℕ → Next
+  -- the next turn
+  next_turn : Next
+  -- no turn: the hub is over
+  no_turn : Next
+
+-- Where the server stands.
+pub data Phase : Type 0 where
+  -- it takes a turn
+  waiting : Phase
+  -- it runs a line of this session, if it may
+  lines : ℕ → Phase
+  -- it flushes, from the first open session of at least this id on
+  flushing : ℕ → Next → Phase
+  -- it closes the sessions that are open, and then answers
+  closing : Served → Phase
+
+pub record Server : Type 0 where
+  pub state : State
+  pub phase : Phase
+
+abbrev pub server : State → Phase → Server
+server state phase = record { state = state; phase = phase }
+
+-- One thing that the server does: the calls of the hub for it, and the steps of the machine.
+pub record Move : Type 0 where
+  pub told : List Told
+  pub done : List Did
+
+abbrev pub move : List Told → List Did → Move
+move told done = record { told = told; done = done }
+
+-- all calls of the hub, and all steps of the machine
+abbrev pub all_told : List Move → List Told
+all_told moves = flat_map (λ (m : Move). m.told) moves
+
+abbrev pub all_done : List Move → List Did
+all_done moves = flat_map (λ (m : Move). m.done) moves
+
+-- one step of the machine, of this event
+abbrev pub Happens : Event → State → List Did → State → Type 0
+Happens event old done new = (e : Effect) × Step old event e new
+    × (done ≡ record { event = event; effect = e } ∷ [])
+
+-- no step
+abbrev pub Stays : State → List Did → State → Type 0
+Stays old done new = (done ≡ []) × (new ≡ old)
+
+-- the line for a session that isn't let in: as many are open as may be, or memory was wanted
+abbrev pub refusal_for : State → Bytes
+refusal_for st = if nat_lt (length st.sessions) SESSIONS then end_memory else end_full
+
+-- A session is let in. Or it isn't: one line is sent to it, once, and it is closed at the hub.
+abbrev pub LetsIn : ℕ → State → List Told → State → Type 0
+LetsIn s old more new = (IsOpen new s × (more ≡ []))
+    ⊎ ((IsOpen new s → ⊥) × (sent : Sent) × Takes sent (refusal_for old)
+    × (more ≡ Sending s sent (taken_by sent (refusal_for old)) ∷ Closing s ∷ []))
+
+-- bytes that a turn brought: some, as many as were said, and no more than are read at a time
+abbrev pub IsPiece : ℕ → Bytes → Type 0
+IsPiece n piece = (n ≡ length piece) × (0 < n) × (n ≤ READ_BYTES)
+
+-- What a turn brings: the calls of the hub behind it, the steps, and where the server stands then.
+abbrev pub Brings : Turn → Bytes → State → List Told → List Did → State → Phase → Type 0
+Brings (Opened s) piece old more done new next = Happens (opened s) old done new
+    × LetsIn s old more new × (next ≡ flushing 0 next_turn)
+Brings (Brought s n) piece old more done new next = Happens (fed s piece) old done new
+    × (more ≡ []) × (next ≡ lines s) × IsPiece n piece
+Brings (Ended s) piece old more done new next = Happens (ended s) old done new
+    × (more ≡ []) × (next ≡ flushing 0 next_turn)
+Brings Idle piece old more done new next = Stays old done new × (more ≡ [])
+    × (next ≡ flushing 0 next_turn)
+Brings HubOver piece old more done new next = Stays old done new × (more ≡ [])
+    × (next ≡ flushing 0 no_turn)
+Brings Failed piece old more done new next = Stays old done new × (more ≡ [])
+    × (next ≡ closing HubFault)
+
+-- A line of a session may be run: no session said `stop`, this one hasn't ended, and it holds a
+-- line, or a front that is too long for one.
+abbrev pub may_run : State → ℕ → Bool
+may_run st s = not st.stopped && (is_none (cause_of st s) && not (is_dry (held_of st s)))
+
+-- What follows a line: a flush and the next line, where it was blank or run; the turn's flush,
+-- where the session ended in its place.
+abbrev pub behind_front : ℕ → LineOutcome → Phase
+behind_front s long = flushing 0 next_turn
+behind_front s (blank l) = flushing 0 (more_lines s)
+behind_front s (slow l) = flushing 0 next_turn
+behind_front s (no_room l) = flushing 0 next_turn
+behind_front s (run l) = flushing 0 (more_lines s)
+
+-- The front of a session's bytes comes to something.
+abbrev pub RunsOne : ℕ → State → List Did → State → Phase → Type 0
+RunsOne s old done new next = (outcome : LineOutcome) × Happens (stepped s outcome) old done new
+    × (next ≡ behind_front s outcome)
+
+-- What is sent of the pending bytes of a session: some of the first; none now; or none ever, and it
+-- is closed.
+abbrev pub SendsSome : Sent → ℕ → State → List Told → List Did → State → Type 0
+SendsSome (Took n) s old told done new = (piece : Bytes) × (0 < length piece) × (n ≡ length piece)
+    × (told ≡ Sending s (Took n) piece ∷ []) × Happens (took s piece) old done new
+SendsSome Again s old told done new = (told ≡ Sending s Again [] ∷ []) × Stays old done new
+SendsSome Gone s old told done new = (told ≡ Sending s Gone [] ∷ Closing s ∷ [])
+    × Happens (closed s (pending_of old s)) old done new
+
+-- A session with nothing pending is closed, where it has ended.
+abbrev pub Leaves : Option EndCause → ℕ → State → List Told → List Did → State → Type 0
+Leaves None s old told done new = (told ≡ []) × Stays old done new
+Leaves (Some c) s old told done new = (told ≡ Closing s ∷ []) × Happens (closed s []) old done new
+
+-- a flush stays at a session of which bytes were taken, and else goes on behind it
+abbrev pub place_after : Sent → ℕ → ℕ → ℕ
+place_after (Took n) from s = from
+place_after Again from s = s + 1
+place_after Gone from s = s + 1
+
+-- A flush at a session.
+abbrev pub Visits : ℕ → ℕ → State → List Told → List Did → State → ℕ → Type 0
+Visits s from old told done new to =
+    ((0 < length (pending_of old s)) × (sent : Sent) × SendsSome sent s old told done new
+    × (to ≡ place_after sent from s))
+    ⊎ ((pending_of old s ≡ []) × Leaves (cause_of old s) s old told done new × (to ≡ s + 1))
+
+-- where the server stands behind a flush
+abbrev pub after : State → Next → Phase
+after st (more_lines s) = lines s
+after st next_turn = if st.stopped then closing Stopped else waiting
+after st no_turn = closing Over
+
+-- the first open session of at least this id
+abbrev pub due : State → ℕ → Option ℕ
+due st from = find (λ s. nat_le from s) (ids_of st)
+
+-- no call of the hub and no step: the server stands elsewhere
+abbrev pub Passes : State → Phase → Move → Server → Type 0
+Passes old phase m new = (m ≡ move [] []) × (new ≡ server old phase)
+
+-- The lines of a session, by whether one may be run.
+abbrev pub LinesAt : ℕ → State → Move → Server → Bool → Type 0
+LinesAt s old m new true = (m.told ≡ []) × RunsOne s old m.done new.state new.phase
+LinesAt s old m new false = Passes old (flushing 0 next_turn) m new
+
+-- A flush, by the session that it is at.
+abbrev pub FlushesAt : ℕ → Next → State → Move → Server → Option ℕ → Type 0
+FlushesAt from next old m new None = Passes old (after old next) m new
+FlushesAt from next old m new (Some s) = (to : ℕ) × Visits s from old m.told m.done new.state to
+    × (new.phase ≡ flushing to next)
+
+-- The next thing that the server does, by where it stands.
+abbrev pub ServesAt : Phase → State → Move → Server → Type 0
+ServesAt waiting old m new =
+    Passes old (closing TurnsUsed) m new
+    ⊎ ((turn : Turn) × (piece : Bytes) × (more : List Told) × (m.told ≡ Turning turn piece ∷ more)
+    × Brings turn piece old more m.done new.state new.phase)
+ServesAt (lines s) old m new = LinesAt s old m new (may_run old s)
+ServesAt (flushing from next) old m new = FlushesAt from next old m new (due old from)
+ServesAt (closing answer) old m new = IsSomeAnd (due old 0) (λ s.
+    (m.told ≡ Closing s ∷ []) × Happens (closed s (pending_of old s)) old m.done new.state
+    × (new.phase ≡ closing answer))
+
+abbrev pub Serves : Server → Move → Server → Type 0
+Serves old m new = ServesAt old.phase old.state m new

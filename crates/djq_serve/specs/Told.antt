@@ -1,0 +1,85 @@
+-- What a hub tells of its calls, and what is sent, turned and failed among them.
+use Rattle.std.specs.Prelude.{ℕ, List, [], ◌==◌, ◌≡◌, Bool, true, false, Option, sum_by, length, if◌then◌else◌}
+use Rattle.std.specs.List.{flat_map, list_any}
+use Rattle.djq_io.specs.Sink.{Gains}
+use Rattle.djq_io.specs.Hub.{Ids, Turns, brought, without}
+use Rattle.djq_io.specs.Script.{Script, WhereTold, Follows, Sends}
+use Rattle.djq_io.specs.declared.hub.Turn.{Turn}
+use Rattle.djq_io.specs.declared.hub.Turn.TheVariants.{Over as HubOver, Failed}
+use Rattle.djq_io.specs.declared.hub.Told.{Told}
+use Rattle.djq_io.specs.declared.hub.Told.TheVariants.{Listening, Turning, Sending, Closing}
+use Rattle.djq_model.specs.Data.{Bytes}
+use Rattle.djq_machine.specs.Run.{Walk}
+use Rattle.djq_laws.specs.declared.limits.TheConstants.{READ_BYTES}
+
+-- What a hub shows: its past and its script, where it tells them, and its ids.
+pub record Shown : Type 0 where
+  pub past : Option (List Told)
+  pub script : Option Script
+  pub ids : Ids
+
+abbrev pub shown : Option (List Told) → Option Script → Ids → Shown
+shown past script ids = record { past = past; script = script; ids = ids }
+
+-- Where a hub that goes by a script stands: what is to come, and its sessions.
+pub record Place : Type 0 where
+  pub script : Script
+  pub ids : Ids
+
+abbrev pub place : Script → Ids → Place
+place script ids = record { script = script; ids = ids }
+
+-- One call is answered as the script says, with a buffer of as many bytes as are read at a time.
+-- Nobody asks the hub to listen.
+abbrev pub Answers : Place → Told → Place → Type 0
+Answers old (Turning turn piece) new = (buf : Bytes) × (length buf ≡ READ_BYTES)
+    × (piece ≡ brought turn buf) × Follows old.ids turn buf old.script new.script
+    × Turns turn READ_BYTES old.ids new.ids
+Answers old (Sending s sent piece) new = Sends s sent old.script new.script × (new.ids ≡ old.ids)
+Answers old (Closing s) new = (new.script ≡ old.script) × (new.ids ≡ without old.ids s)
+Answers old (Listening addr answer) new = ⊥
+
+-- From one moment to a later one a hub was asked these calls, in order. Where it tells its past,
+-- they are what that gained; where it tells its script, each was answered as that says.
+pub record Tells (old new : Shown) (told : List Told) : Type 0 where
+  pub past : Gains old.past new.past told
+  pub played : WhereTold old.script new.script
+      (λ a b. Walk Answers (place a old.ids) told (place b new.ids))
+
+-- the bytes that a call sends to a session
+abbrev pub sent_by : ℕ → Told → Bytes
+sent_by s (Sending t sent piece) = if t == s then piece else []
+sent_by s _ = []
+
+-- all bytes that are sent to a session
+abbrev pub sent_to : ℕ → List Told → Bytes
+sent_to s told = flat_map (λ t. sent_by s t) told
+
+-- a test of the turns among calls
+abbrev pub by_turn : (Turn → Bool) → Told → Bool
+by_turn p (Turning turn piece) = p turn
+by_turn p _ = false
+
+abbrev pub turn_is_over : Turn → Bool
+turn_is_over HubOver = true
+turn_is_over _ = false
+
+abbrev pub turn_is_failed : Turn → Bool
+turn_is_failed Failed = true
+turn_is_failed _ = false
+
+-- whether a turn answered that nothing will come any more
+abbrev pub has_over : List Told → Bool
+has_over told = list_any (by_turn turn_is_over) told
+
+-- whether a turn failed
+abbrev pub has_failed : List Told → Bool
+has_failed told = list_any (by_turn turn_is_failed) told
+
+abbrev pub turn_in : Told → ℕ
+turn_in (Turning turn piece) = 1
+turn_in _ = 0
+
+-- how many turns were taken
+abbrev pub turns_in : List Told → ℕ
+turns_in told = sum_by turn_in told

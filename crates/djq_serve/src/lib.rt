@@ -1,0 +1,30 @@
+//! The loop of `djq serve` and `djq replay`: many sessions of a join machine, over a hub.
+//!
+//! [`serve`] takes the hub's turns one after another. A session that opens is let in, bytes of a
+//! session are fed to the machine and each whole line that they complete is run, and behind each
+//! line and each turn what is pending for the open sessions is sent. It is generic in the machine
+//! and the hub, so it is proved from their contracts alone. What it promises is one sentence: the
+//! server went, move after move, from its first turn to its answer, and [`Served`] says exactly why
+//! it ended.
+//!
+//! What this crate is not: it buffers nothing, allocates nothing, knows no command and no socket.
+//!
+//! What surprises: a line is run in the turn that brings its end, so no turn leaves a line behind;
+//! and a session that takes nothing now is passed over, so that it delays no other.
+//!
+//! To read first: `specs/Server.antt`, from `Serves` at its end backwards. It is a relation of one
+//! move: where the server stands, what it asks the hub, which step the machine makes, and where the
+//! server stands then. All that holds of whole runs are laws over these moves (`specs/Ends.antt`).
+//!
+//! How it works inside: `flushing` sends to sessions and closes them, `running` runs the lines of
+//! one, `turning` takes a turn, `serving` takes them all and closes what is left.
+#![tactic(auto)]
+
+mod flushing;
+mod running;
+mod served;
+mod serving;
+mod turning;
+
+pub use served::Served;
+pub use serving::serve;

@@ -1,0 +1,12 @@
+/// How serving a hub ended.
+#[derive(Clone, Copy, Debug, PartialEq, Eq)]
+pub enum Served {
+    /// A session said `stop`.
+    Stopped,
+    /// Nothing will come any more.
+    Over,
+    /// All turns were taken.
+    TurnsUsed,
+    /// The hub failed.
+    HubFault,
+}

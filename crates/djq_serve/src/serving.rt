@@ -1,0 +1,89 @@
+ghost use Rattle.std.specs.Prelude.{◌≡◌, ℕ, [], false, length};
+ghost use Rattle.djq_io.specs.Faults.{Counted};
+ghost use Rattle.djq_machine.specs.Call.{counts, ids_of};
+ghost use Rattle.djq_laws.specs.declared.limits.TheConstants.{READ_BYTES};
+ghost use Rattle.djq_serve.specs.Told.{shown};
+ghost use Rattle.djq_serve.specs.Server.{waiting, closing, server};
+ghost use Rattle.djq_serve.specs.Goes.{seen, GoesQuietly};
+ghost use Rattle.djq_serve.specs.Kept.{Agrees, AllSettled};
+ghost use Rattle.djq_serve.specs.Ends.{ServeEnds, FaultsCount};
+ghost use Rattle.djq_serve.specs.Parts.{Took};
+
+use crate::flushing::{close, first_from};
+use crate::served::Served;
+use crate::turning::take_turn;
+use djq_io::Hub;
+use djq_machine::Machine;
+use djq_steps::{Ledgers, Steps};
+
+/// Serves the sessions of a hub, until a session says `stop`, nothing will come any more, this many
+/// turns were taken, or the hub fails. Then each session that is open is closed.
+///
+/// The hub has the sessions of the machine and no others, as where neither has opened one. The
+/// buffer has as many bytes as are read at a time. No memory is taken but by the machine and the
+/// hub.
+pub fn serve<M: Machine, H: Hub, L: Ledgers>(
+    machine: &mut M,
+    hub: &mut H,
+    buffer: &mut [u8],
+    turns: u64,
+    steps: &mut Steps<L>,
+) -> Served
+    requires room { length buffer.old ≡ READ_BYTES }
+    requires none { (M.state machine.old).sessions ≡ [] }
+    requires alone { (H.ids hub.old).open_ids ≡ [] }
+    requires going { (M.state machine.old).stopped ≡ false }
+    ensures ends { ServeEnds result turns
+        (shown (H.past hub.old) (H.script hub.old) (H.ids hub.old))
+        (counts steps.old.listing steps.old.update steps.old.rows) (M.state machine.old)
+        (shown (H.past hub.new) (H.script hub.new) (H.ids hub.new))
+        (counts steps.new.listing steps.new.update steps.new.rows) (M.state machine.new) }
+    ensures faults { FaultsCount result (H.faults hub.old) (H.faults hub.new) }
+{
+    let served = take_turns(machine, hub, buffer, turns, steps);
+    close_all(machine, hub);
+    served
+}
+
+/// Takes turns, until serving ends.
+fn take_turns<M: Machine, H: Hub, L: Ledgers>(
+    machine: &mut M,
+    hub: &mut H,
+    buffer: &mut [u8],
+    turns: u64,
+    steps: &mut Steps<L>,
+) -> Served
+    requires room { length buffer.old ≡ READ_BYTES }
+    requires agrees { Agrees (M.state machine.old) (H.ids hub.old) }
+    requires settled { AllSettled (M.state machine.old) }
+    ensures took { Took result turns
+        (shown (H.past hub.old) (H.script hub.old) (H.ids hub.old))
+        (counts steps.old.listing steps.old.update steps.old.rows) (M.state machine.old)
+        (shown (H.past hub.new) (H.script hub.new) (H.ids hub.new))
+        (counts steps.new.listing steps.new.update steps.new.rows) (M.state machine.new) }
+    ensures agrees { Agrees (M.state machine.new) (H.ids hub.new) }
+    ensures faults { FaultsCount result (H.faults hub.old) (H.faults hub.new) }
+{
+    for _ in 0..turns {
+        if let Some(served) = take_turn(machine, hub, buffer, steps) {
+            return served;
+        }
+    }
+    Served::TurnsUsed
+}
+
+/// Closes every open session.
+fn close_all<M: Machine, H: Hub>(machine: &mut M, hub: &mut H)
+    requires agrees { Agrees (M.state machine.old) (H.ids hub.old) }
+    ensures goes { (answer : Served) → GoesQuietly (shown (H.past hub.old) (H.script hub.old)
+        (H.ids hub.old))
+        (server (M.state machine.old) (closing answer))
+        (shown (H.past hub.new) (H.script hub.new) (H.ids hub.new))
+        (server (M.state machine.new) (closing answer)) }
+    ensures none { ids_of (M.state machine.new) ≡ [] }
+    ensures faults { H.faults hub.new ≡ H.faults hub.old }
+{
+    'closes: while let Some(id) = first_from(machine.ids(), 0) {
+        close(machine, hub, id);
+    }
+}

@@ -1,0 +1,111 @@
+ghost use Rattle.std.specs.Prelude.{◌≡◌, ℕ, ◌+◌, ◌<◌, false, length, Contains};
+ghost use Rattle.djq_io.specs.Faults.{Counted};
+ghost use Rattle.djq_machine.specs.Step.{opened};
+ghost use Rattle.djq_machine.specs.Call.{IsOpen, Makes, counts};
+ghost use Rattle.djq_laws.specs.declared.limits.TheConstants.{READ_BYTES};
+ghost use Rattle.djq_serve.specs.Told.{shown, Tells};
+ghost use Rattle.djq_serve.specs.Server.{waiting, flushing, next_turn, server, refusal_for};
+ghost use Rattle.djq_serve.specs.Goes.{seen, Goes, GoesQuietly};
+ghost use Rattle.djq_serve.specs.Kept.{Agrees, IsNew, AllSettled};
+ghost use Rattle.djq_serve.specs.Parts.{phase_of, Admits, Refuses, TurnAnswers, SettledUnless, MayAnswer};
+
+use crate::flushing::flush;
+use crate::running::run_lines;
+use crate::served::Served;
+use djq_io::{Hub, Turn};
+use djq_machine::{Machine, OpenRefusal};
+use djq_steps::{Ledgers, Steps};
+
+/// Takes a turn of the hub, and does what it brings. It answers how serving ends, if it does.
+pub(crate) fn take_turn<M: Machine, H: Hub, L: Ledgers>(
+    machine: &mut M,
+    hub: &mut H,
+    buffer: &mut [u8],
+    steps: &mut Steps<L>,
+) -> Option<Served>
+    requires room { length buffer.old ≡ READ_BYTES }
+    requires agrees { Agrees (M.state machine.old) (H.ids hub.old) }
+    requires settled { AllSettled (M.state machine.old) }
+    ensures goes { (turns : ℕ) → Goes (seen (shown (H.past hub.old) (H.script hub.old)
+        (H.ids hub.old))
+        (counts steps.old.listing steps.old.update steps.old.rows) turns)
+        (server (M.state machine.old) waiting)
+        (seen (shown (H.past hub.new) (H.script hub.new) (H.ids hub.new))
+        (counts steps.new.listing steps.new.update steps.new.rows) (turns + 1))
+        (server (M.state machine.new) (phase_of result)) }
+    ensures agrees { Agrees (M.state machine.new) (H.ids hub.new) }
+    ensures settled { SettledUnless result (M.state machine.new) }
+    ensures faults { TurnAnswers result (H.faults hub.old) (H.faults hub.new) }
+{
+    match hub.turn(buffer) {
+        Turn::Opened(id) => {
+            open(machine, hub, id);
+            end_turn(machine, hub)
+        }
+        Turn::Bytes(id, count) => {
+            machine.feed(id, &buffer[..count]);
+            run_lines(machine, hub, id, steps);
+            end_turn(machine, hub)
+        }
+        Turn::Ended(id) => {
+            machine.end_session(id);
+            end_turn(machine, hub)
+        }
+        Turn::Idle => end_turn(machine, hub),
+        Turn::Over => {
+            flush(machine, hub);
+            Some(Served::Over)
+        }
+        Turn::Failed => Some(Served::HubFault),
+    }
+}
+
+/// Lets a session in that opened at the hub, or refuses it.
+fn open<M: Machine, H: Hub>(machine: &mut M, hub: &mut H, id: u64)
+    requires { IsNew (M.state machine.old) (H.ids hub.old) id }
+    ensures admits { Admits (M.state machine.old)
+        (shown (H.past hub.old) (H.script hub.old) (H.ids hub.old)) id
+        (M.state machine.new) (shown (H.past hub.new) (H.script hub.new) (H.ids hub.new)) }
+    ensures agrees { Agrees (M.state machine.new) (H.ids hub.new) }
+    ensures faults { H.faults hub.new ≡ H.faults hub.old }
+{
+    match machine.open_session(id) {
+        Ok(()) => {}
+        Err(OpenRefusal::Full) => refuse(hub, id, b"end full\n"),
+        Err(OpenRefusal::NoMem) => refuse(hub, id, b"end memory\n"),
+    }
+}
+
+/// Sends one line to a session that isn't let in, once, and closes it.
+fn refuse<H: Hub>(hub: &mut H, id: u64, line: &[u8])
+    requires open { Contains (H.ids hub.old).open_ids id }
+    requires some { 0 < length line.now }
+    ensures refuses { Refuses (shown (H.past hub.old) (H.script hub.old) (H.ids hub.old)) id
+        line.now
+        (shown (H.past hub.new) (H.script hub.new) (H.ids hub.new)) }
+    ensures faults { H.faults hub.new ≡ H.faults hub.old }
+{
+    hub.send(id, line);
+    hub.close(id);
+}
+
+/// Flushes at the end of a turn. Serving ends where a session said `stop`.
+fn end_turn<M: Machine, H: Hub>(machine: &mut M, hub: &mut H) -> Option<Served>
+    requires agrees { Agrees (M.state machine.old) (H.ids hub.old) }
+    requires settled { (M.state machine.old).stopped ≡ false → AllSettled (M.state machine.old) }
+    ensures goes { GoesQuietly (shown (H.past hub.old) (H.script hub.old) (H.ids hub.old))
+        (server (M.state machine.old) (flushing 0 next_turn))
+        (shown (H.past hub.new) (H.script hub.new) (H.ids hub.new))
+        (server (M.state machine.new) (phase_of result)) }
+    ensures agrees { Agrees (M.state machine.new) (H.ids hub.new) }
+    ensures settled { SettledUnless result (M.state machine.new) }
+    ensures faults { H.faults hub.new ≡ H.faults hub.old }
+    ensures answer { MayAnswer result }
+{
+    flush(machine, hub);
+    if machine.stopped() {
+        Some(Served::Stopped)
+    } else {
+        None
+    }
+}

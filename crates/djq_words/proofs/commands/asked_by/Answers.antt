@@ -1,0 +1,14 @@
+use Rattle.clap.specs.Words.{found_of, rows_of}
+use Rattle.djq_words.proofs.Asking.{found_is, named, asked_as, other_asked}
+use Rattle.djq_words.proofs.commands.asked_by.Goals as goal
+
+pub returns-in-serve : goal.returns-in-serve
+returns-in-serve c =
+    let rows = rows_of (found_of c.in_ok-name.inner.now) in
+    asked_as _ _ c.serve_asked.result (named rows (found_is _ _ _ c.in_ok-name.name.now rows c.in_ok-name.ensures.name c.in_ok-name.ensures.rows) c.in-serve.is) c.serve_asked.ensures
+
+pub returns-in_default : goal.returns-in_default
+returns-in_default c =
+    let rows = rows_of (found_of c.in_ok-name.inner.now) in
+    asked_as _ _ _ (found_is _ _ _ c.in_ok-name.name.now rows c.in_ok-name.ensures.name c.in_ok-name.ensures.rows)
+    (other_asked c.in_ok-name.name.now rows c.in_default.not-run c.in_default.not-serve)

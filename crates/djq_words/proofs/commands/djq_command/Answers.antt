@@ -1,0 +1,18 @@
+use Rattle.std.proofs.Common.{rules, ◌≡◌, ◌∙◌, ◌||◌, false, ap, ap₂}
+use Rattle.std.proofs.lemmas.Result.{IfOk-weaker}
+use Rattle.clap.specs.Words.{App, app_of, with_subcommand}
+use Rattle.clap.specs.declared.builder.command.Command.TheViews.{out-Command as fields_of}
+use Rattle.djq_words.specs.Commands.{bare_app}
+use Rattle.djq_words.proofs.commands.djq_command.Goals as goal
+
+pub returns-clause-app : goal.returns-clause-app
+returns-clause-app c =
+    let bare : app_of c.subcommand_required-bare.result ≡ bare_app = search rules in
+    let run = c.in_ok-subcommand.ensures.shape c.new-2.ensures.local ∙ ap₂ with_subcommand bare (ap (λ (a : App). a.top) c.new-2.ensures.app) in
+    IfOk-weaker c.subcommand-2.result _ _ (λ r h. h.shape c.in_ok-serve.ensures.local ∙ ap₂ with_subcommand run (ap (λ (a : App). a.top) c.in_ok-serve.ensures.app)) c.subcommand-2.ensures
+
+pub returns-clause-local : goal.returns-clause-local
+returns-clause-local c =
+    let bare : (fields_of c.subcommand_required-bare.result).has_globals ≡ false = search rules in
+    let run = c.in_ok-subcommand.ensures.globals ∙ ap₂ (λ a b. a || b) bare c.new-2.ensures.local in
+    IfOk-weaker c.subcommand-2.result _ _ (λ r h. h.globals ∙ ap₂ (λ a b. a || b) run c.in_ok-serve.ensures.local) c.subcommand-2.ensures

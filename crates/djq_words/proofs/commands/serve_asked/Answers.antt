@@ -1,0 +1,33 @@
+use Rattle.std.proofs.Common.{ℕ, List, Bor, Option, ◌≡◌, ◌∙◌, None, sym, ap, subst, option_map, codes, refl}
+use Rattle.clap.specs.Words.{Text, first_of, found_of, rows_of}
+use Rattle.clap.proofs.WalkLemmas.{first_value-rows}
+use Rattle.djq_words.specs.declared.commands.Asked.{Asked}
+use Rattle.djq_words.specs.Asks.{ServeAsked, TurnsAre}
+use Rattle.djq_words.proofs.Asking.{no_addr, turns_spelled, turns_unspelled}
+use Rattle.djq_words.proofs.commands.serve_asked.Goals as goal
+
+pub returns-in_err-addr : goal.returns-in_err-addr
+returns-in_err-addr c =
+    let f = found_of c.args.given.now in
+    subst (λ (o : Option Asked). ServeAsked (rows_of f) o) (sym c.from_residual.ensures)
+    (no_addr (rows_of f) (sym (first_value-rows f (codes "ADDR")) ∙ sym c.get_str.ensures ∙ ap (λ (o : Option (Bor (List ℕ))). option_map (λ s. s.now) o) c.in_err-addr.was))
+
+pub returns-in_default : goal.returns-in_default
+returns-in_default c =
+    let f = found_of c.args.given.now in
+    let given = sym (first_value-rows f (codes "ADDR")) ∙ sym c.get_str.ensures ∙ ap (λ (o : Option (Bor (List ℕ))). option_map (λ s. s.now) o) c.in_ok-addr.was in
+    let none : first_of (codes "turns") (rows_of f) ≡ None = sym (first_value-rows f (codes "turns")) ∙ sym c.get_str-2.ensures ∙ ap (λ (o : Option (Bor (List ℕ))). option_map (λ s. s.now) o) c.in_default.is in
+    (refl, given, subst (λ (o : Option Text). TurnsAre o 9223372036854775807) (sym none) refl)
+
+pub returns-in-Ok : goal.returns-in-Ok
+returns-in-Ok c =
+    let f = found_of c.args.given.now in
+    let given = sym (first_value-rows f (codes "ADDR")) ∙ sym c.get_str.ensures ∙ ap (λ (o : Option (Bor (List ℕ))). option_map (λ s. s.now) o) c.in_ok-addr.was in
+    let spelled = sym (first_value-rows f (codes "turns")) ∙ sym c.get_str-2.ensures ∙ ap (λ (o : Option (Bor (List ℕ))). option_map (λ s. s.now) o) c.in-Some.is in
+    (refl, given, turns_spelled c.in-Some.text.now c.in-Ok.turns (first_of (codes "turns") (rows_of f)) spelled c.in-Ok.ensures.value.0)
+
+pub returns-in-Err : goal.returns-in-Err
+returns-in-Err c =
+    let f = found_of c.args.given.now in
+    let spelled = sym (first_value-rows f (codes "turns")) ∙ sym c.get_str-2.ensures ∙ ap (λ (o : Option (Bor (List ℕ))). option_map (λ s. s.now) o) c.in-Some.is in
+    turns_unspelled (rows_of f) c.in-Some.text.now c.in-Err.field-0 spelled c.in-Err.ensures.value.0

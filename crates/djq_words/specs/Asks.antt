@@ -1,0 +1,40 @@
+-- What the words of a command line ask for.
+use Rattle.std.specs.Prelude.{ℕ, List, [], ◌≡◌, ◌<◌, ◌^◌, Option, None, Some, IsSomeAnd, codes}
+use Rattle.std.specs.Str.Parse.{IsNumeral, digits_value, without_leading_plus}
+use Rattle.clap.specs.Words.{Text, Row, fault_of, first_of, subcommand_of}
+use Rattle.djq_words.specs.declared.commands.Asked.{Asked}
+use Rattle.djq_words.specs.declared.commands.Asked.TheVariants.{Run, Serve}
+use Rattle.djq_words.specs.declared.commands.TheConstants.{MOST_TURNS}
+use Rattle.djq_words.specs.Commands.{djq_app}
+
+-- The number of turns: what the text spells, or the most where there is none.
+abbrev pub TurnsAre : Option Text → ℕ → Type 0
+TurnsAre None n = n ≡ MOST_TURNS
+TurnsAre (Some text) n = let digits = without_leading_plus text in
+    IsNumeral 10 digits × (digits_value 10 digits < 2 ^ 64) × (n ≡ digits_value 10 digits)
+
+-- A subcommand, by its name and what it was given, asks for this.
+abbrev pub IsAsked : Text × List Row → Asked → Type 0
+IsAsked c Run = c.0 ≡ codes "run"
+IsAsked c (Serve addr turns) = (c.0 ≡ codes "serve") × (first_of (codes "ADDR") c.1 ≡ Some addr.now)
+    × TurnsAre (first_of (codes "turns") c.1) turns
+
+-- What is asked for, where something is.
+abbrev pub AskedBy : Option (Text × List Row) → Option Asked → Type 0
+AskedBy None asked = asked ≡ None
+AskedBy (Some c) (Some a) = IsAsked c a
+AskedBy (Some c) None = (a : Asked) → IsAsked c a → ⊥
+
+-- What `serve` asks for, by what it was given.
+abbrev pub ServeAsked : List Row → Option Asked → Type 0
+ServeAsked rows asked = AskedBy (Some (codes "serve", rows)) asked
+
+-- `clap` takes the words for the command set, and the command that they name asks for this.
+abbrev pub Asks : List Text → Asked → Type 0
+Asks words a = (fault_of djq_app words ≡ [])
+    × IsSomeAnd (subcommand_of djq_app words) (λ c. IsAsked c a)
+
+-- The words ask for this, or they are no command.
+abbrev pub Answers : List Text → Option Asked → Type 0
+Answers words (Some a) = Asks words a
+Answers words None = (a : Asked) → Asks words a → ⊥

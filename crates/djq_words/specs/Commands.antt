@@ -1,0 +1,34 @@
+-- The command set, as `clap` sees commands.
+use Rattle.std.specs.Prelude.{true, Some, codes}
+use Rattle.clap.specs.Words.{App, Rule, new_app, new_rule, with_rule, with_subcommand}
+use Rattle.clap.specs.declared.builder.value_parser.ValueParser.TheVariants.{Unsigned}
+
+-- the address of `serve`, which must be there
+abbrev pub addr_rule : Rule
+addr_rule = record (new_rule (codes "ADDR")) { required = true }
+
+-- its number of turns, from 1 to 9223372036854775807
+abbrev pub turns_rule : Rule
+turns_rule = record (new_rule (codes "turns"))
+    { long = Some (codes "turns"); parser = Some (Unsigned 1 9223372036854775807) }
+
+-- `serve ADDR [--turns N]`
+abbrev pub serve_app : App
+serve_app = with_rule (with_rule (new_app (codes "serve")) addr_rule) turns_rule
+
+-- the program, which has no help or version words, and wants one of its commands
+abbrev pub bare_app : App
+bare_app = let a = new_app (codes "djq") in
+    record a {
+      top = record a.top {
+        disable_help_flag = true;
+        disable_version_flag =
+            true;
+        disable_help_subcommand = true;
+        subcommand_required = true;
+      };
+    }
+
+-- the program with its commands
+abbrev pub djq_app : App
+djq_app = with_subcommand (with_subcommand bare_app (new_app (codes "run")).top) serve_app.top

@@ -1,0 +1,94 @@
+ghost use Rattle.std.specs.Prelude.{◌≡◌, false, IfOk, map};
+ghost use Rattle.clap.specs.declared.builder.command.Command.TheViews.{out-Command as fields_of};
+ghost use Rattle.clap.specs.Words.{app_of, found_of, rows_of, subcommand_rows_of};
+ghost use Rattle.djq_words.specs.Commands.{serve_app, djq_app};
+ghost use Rattle.djq_words.specs.Asks.{AskedBy, ServeAsked, Answers};
+
+use clap::builder::ValueParser;
+use clap::error::ErrorKind;
+use clap::{Arg, ArgMatches, Command};
+use std::alloc::{AllocError, Global};
+
+/// The most turns that `serve` may be asked for, and as many as it takes where it isn't.
+pub const MOST_TURNS: u64 = 9_223_372_036_854_775_807;
+
+/// What the words of the command line ask for.
+#[derive(Clone, Copy, Debug)]
+pub enum Asked<'a> {
+    /// `run`: one session, from the source to the sink.
+    Run,
+    /// `serve ADDR [--turns N]`: the sessions that come to this address, for so many turns.
+    Serve(&'a str, u64),
+}
+
+/// The command `serve`.
+fn serve_command<'a>(alloc: Global) -> Result<Command<'a>, AllocError>
+    ensures app { IfOk result (λ c. app_of c ≡ serve_app) }
+    ensures local { IfOk result (λ c. (fields_of c).has_globals ≡ false) }
+{
+    let addr = Arg::new(alloc, "ADDR").required(true);
+    let turns = Arg::new(alloc, "turns")
+        .long("turns")
+        .value_parser(ValueParser::unsigned(1, MOST_TURNS));
+    Command::new(alloc, "serve").arg(addr)?.arg(turns)
+}
+
+/// The command set.
+fn djq_command<'a>(alloc: Global) -> Result<Command<'a>, AllocError>
+    ensures app { IfOk result (λ c. app_of c ≡ djq_app) }
+    ensures local { IfOk result (λ c. (fields_of c).has_globals ≡ false) }
+{
+    let serve = serve_command(alloc)?;
+    let bare = Command::new(alloc, "djq")
+        .disable_help_flag(true)
+        .disable_version_flag(true)
+        .disable_help_subcommand(true)
+        .subcommand_required(true);
+    bare.subcommand(Command::new(alloc, "run"))?
+        .subcommand(serve)
+}
+
+/// What these words ask for, of which the first is the program's name, or `None` where they are no
+/// command.
+///
+/// # Errors
+///
+/// `AllocError` out of memory.
+pub fn read_words<'a>(alloc: Global, words: &'a [&'a str]) -> Result<Option<Asked<'a>>, AllocError>
+    ensures { IfOk result (Answers (map (λ word. word.now) words.entry.now)) }
+{
+    let command = djq_command(alloc)?;
+    match command.try_get_matches_from(words) {
+        Ok(matches) => Ok(asked_by(&matches)),
+        Err(error) => match error.kind() {
+            ErrorKind::OutOfMemory => Err(AllocError),
+            _ => Ok(None),
+        },
+    }
+}
+
+/// What the subcommand that a parse found asks for.
+fn asked_by<'a>(matches: &ArgMatches<'a>) -> Option<Asked<'a>>
+    ensures { AskedBy (subcommand_rows_of matches.now) result }
+{
+    let (name, inner) = matches.subcommand()?;
+    match name {
+        "run" => Some(Asked::Run),
+        "serve" => serve_asked(inner),
+        _ => None,
+    }
+}
+
+/// What `serve` asks for, by what it was given.
+fn serve_asked<'a>(given: &ArgMatches<'a>) -> Option<Asked<'a>>
+    ensures { ServeAsked (rows_of (found_of given.now)) result }
+{
+    let addr = given.get_str("ADDR")?;
+    let Some(text) = given.get_str("turns") else {
+        return Some(Asked::Serve(addr, MOST_TURNS));
+    };
+    match text.parse::<u64>() {
+        Ok(turns) => Some(Asked::Serve(addr, turns)),
+        Err(_) => None,
+    }
+}
