@@ -1,3 +1,4 @@
 pub mod Columns
 pub mod Tables
 pub mod Reducts
+pub mod Answers

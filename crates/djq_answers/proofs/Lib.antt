@@ -1,0 +1,4 @@
+pub mod Columns
+pub mod Above
+pub mod Tabling
+pub mod Filling

@@ -1,0 +1,4 @@
+pub mod Cells
+pub mod Asked
+pub mod Leaves
+pub mod Shown
