@@ -5,7 +5,7 @@ use Rattle.std.proofs.lemmas.Bool.{cases_Bool, cases_eq, cases_lt, eqb-true, fal
 use Rattle.std.proofs.lemmas.List.{get_or_past}
 use Rattle.djq_hyper.specs.Hypergraph.{member}
 use Rattle.djq_tree.specs.declared.node.Node.{Node}
-use Rattle.djq_tree.specs.declared.node.Node.TheVariants.{Leaf, Trim, Meet}
+use Rattle.djq_tree.specs.declared.node.Node.TheVariants.{Trim, Meet}
 use Rattle.djq_tree.specs.Labels.{label_at}
 use Rattle.djq_tree.specs.Tree.{Tree, IsTree, IsTop, node_at, has_child, parent, is_out}
 use Rattle.djq_tree.proofs.Climbing.{parent_above, rising_of}

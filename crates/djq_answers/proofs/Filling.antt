@@ -1,5 +1,5 @@
 -- The answers of reducts are what the assignments that are in the leaves give on the head.
-use Rattle.std.proofs.Common.{◌≡◌, ℕ, zero, suc, ◌+◌, ◌-◌, ◌<◌, ◌≤◌, Bool, true, false, List, [], length, map, cond, refl, ap, sym, subst, ◌∙◌, inl, inr, arith}
+use Rattle.std.proofs.Common.{◌≡◌, ℕ, zero, suc, ◌+◌, ◌-◌, ◌<◌, ◌≤◌, Bool, true, false, List, length, map, cond, refl, ap, sym, subst, ◌∙◌, inl, inr, arith}
 use Rattle.std.specs.Prelude.{slice_index}
 use Rattle.std.proofs.lemmas.Bool.{cases_Bool, cases_eq, cases_lt, false≢true}
 use Rattle.std.proofs.lemmas.List.{length-map}
@@ -10,14 +10,14 @@ use Rattle.djq_tree.specs.declared.node.Node.{Node}
 use Rattle.djq_tree.specs.declared.node.Node.TheVariants.{Leaf, Trim, Meet}
 use Rattle.djq_tree.specs.Labels.{label_at}
 use Rattle.djq_tree.specs.Tree.{Tree, IsTree, node_at, has_child, is_out}
-use Rattle.djq_tree.proofs.Keying.{trim_child, guard_child, side_child}
+use Rattle.djq_tree.proofs.Keying.{trim_child}
 use Rattle.djq_reduct.specs.Columns.{column, columns}
-use Rattle.djq_reduct.specs.Tables.{entries_at, key_at}
+use Rattle.djq_reduct.specs.Tables.{entries_at}
 use Rattle.djq_reduct.specs.Reducts.{Reducts, IsReducts}
 use Rattle.djq_reduct.specs.Answers.{on_node, IsAnswerOf}
 use Rattle.djq_answers.proofs.Columns.{IsSimple, cell_there, simple_of, within_of, reading, reading_row, pick_reading, pick_row, row_same}
 use Rattle.djq_answers.proofs.Above.{root_or_parent, root_bare, kept, no_child, out_within, meet_child, trim_only, leaf_childless, out_late, late_out}
-use Rattle.djq_answers.proofs.Tabling.{IsIn, HasPart, tuple_wide, trim_key, trim_down, trim_up, meet_down, meet_up}
+use Rattle.djq_answers.proofs.Tabling.{IsIn, tuple_wide, trim_key, trim_down, trim_up, meet_down, meet_up}
 
 -- ---- up: what is in the leaves is in every table
 

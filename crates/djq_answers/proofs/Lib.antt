@@ -2,3 +2,10 @@ pub mod Columns
 pub mod Above
 pub mod Tabling
 pub mod Filling
+pub mod Binding
+pub mod Rows
+pub mod Terms
+pub mod Holes
+pub mod Atoms
+pub mod Heads
+pub mod Showing

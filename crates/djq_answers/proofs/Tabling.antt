@@ -1,11 +1,11 @@
 -- What the tables of a trim and of a meet have to do with their children's.
-use Rattle.std.proofs.Common.{◌≡◌, ℕ, zero, suc, ◌+◌, ◌*◌, ◌<◌, List, [], ◌∷◌, length, map, refl, ap, ap₂, sym, subst, ◌∙◌, inl, inr, arith}
+use Rattle.std.proofs.Common.{◌≡◌, ℕ, zero, suc, ◌*◌, ◌<◌, List, [], ◌∷◌, length, map, refl, ap, ap₂, sym, ◌∙◌, inl, inr, arith}
 use Rattle.std.proofs.Math.Nat.{suc-mul, mul-zero, zero-mul}
 use Rattle.std.proofs.lemmas.Bool.{cases_lt}
-use Rattle.djq_index.specs.Tuple.{pick, same, one}
+use Rattle.djq_index.specs.Tuple.{pick, same}
 use Rattle.djq_index.specs.Entries.{Entry, cnt, supp, many}
-use Rattle.djq_index.specs.Table.{Table, AreWide, AreSupported}
-use Rattle.djq_index.proofs.Tuples.{same_cases, same_is, one_same, one_other, is_same, one_true}
+use Rattle.djq_index.specs.Table.{AreWide}
+use Rattle.djq_index.proofs.Tuples.{same_cases, one_same, one_other, is_same, one_true}
 use Rattle.djq_index.proofs.Counts.{cnt_cons, many_cons}
 use Rattle.djq_index.proofs.Apart.{cnt_supp, supp_none}
 use Rattle.djq_tree.specs.declared.node.Node.TheVariants.{Trim, Meet}
@@ -14,7 +14,7 @@ use Rattle.djq_tree.specs.Keys.{key_of}
 use Rattle.djq_tree.specs.Tree.{Tree, IsTree, node_at}
 use Rattle.djq_tree.proofs.Keying.{key_of_trim, key_of_guard}
 use Rattle.djq_reduct.specs.Columns.{columns}
-use Rattle.djq_reduct.specs.Tables.{entries_at, key_at, table_at, width_at}
+use Rattle.djq_reduct.specs.Tables.{entries_at, key_at, width_at}
 use Rattle.djq_reduct.specs.Reducts.{Reducts, IsReducts}
 use Rattle.djq_reduct.proofs.Family.{trim_law, meet_law}
 use Rattle.djq_answers.proofs.Columns.{Within, within_of, pick_row}

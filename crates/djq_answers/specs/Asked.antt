@@ -1,7 +1,7 @@
 -- A query that is asked of a catalog, and the query over numbers that stands for it.
 use Rattle.std.specs.Prelude.{◌≡◌, ⊤, ℕ, ◌<◌, true, List, [], ◌∷◌, length, map, Option, None, Some, slice_get}
 use Rattle.djq_model.specs.declared.relation.ColumnType.{ColumnType}
-use Rattle.djq_model.specs.declared.relation.ColumnType.TheVariants.{Int as IntColumn, Text as TextColumn}
+use Rattle.djq_model.specs.declared.relation.ColumnType.TheVariants.{Int as IntColumn}
 use Rattle.djq_model.specs.declared.query.Query.{Query}
 use Rattle.djq_model.specs.declared.query.Atom.{Atom}
 use Rattle.djq_model.specs.Data.{Bytes}
