@@ -9,3 +9,7 @@ pub mod Holes
 pub mod Atoms
 pub mod Heads
 pub mod Showing
+pub mod Members
+pub mod Later
+pub mod Changing
+pub mod Placing

@@ -2,3 +2,4 @@ pub mod Cells
 pub mod Asked
 pub mod Leaves
 pub mod Shown
+pub mod Changes

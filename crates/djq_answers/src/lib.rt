@@ -25,6 +25,8 @@
 //! the cell of the row where it stands.
 #![tactic(auto)]
 
+pub use changes::{added_came, deleted_went, over_gains, over_loses, over_stays};
 pub use laws::{answers_are_listed, answers_are_shown, answers_differ, answers_stand};
 
+mod changes;
 mod laws;
