@@ -13,3 +13,4 @@ pub mod Members
 pub mod Later
 pub mod Changing
 pub mod Placing
+pub mod Typing

@@ -6,11 +6,12 @@ use Rattle.djq_model.specs.declared.query.Query.{Query}
 use Rattle.djq_model.specs.declared.query.Atom.{Atom}
 use Rattle.djq_model.specs.Data.{Bytes}
 use Rattle.djq_model.specs.Typed.{is_of}
+use Rattle.djq_lines.specs.QueryFault.{query_fault}
 use Rattle.djq_query.specs.declared.numbered.Variable.{Variable}
 use Rattle.djq_query.specs.declared.numbered.NumberedTerm.{NumberedTerm}
 use Rattle.djq_query.specs.declared.numbered.NumberedTerm.TheVariants.{Variable as Number, Constant as Fixed}
 use Rattle.djq_query.specs.declared.numbered.NumberedAtom.{NumberedAtom}
-use Rattle.djq_query.specs.Numbered.{Numbered, labels, number_of}
+use Rattle.djq_query.specs.Numbered.{Numbered, IsNumbered, labels, number_of}
 use Rattle.djq_query.specs.Meaning.{AreShown, Rise, holes_in}
 use Rattle.djq_rows.specs.Cells.{HasCell}
 use Rattle.djq_rows.specs.Catalog.{Catalog, IsCatalog, relation_at}
@@ -61,3 +62,19 @@ pub record IsAsked (c : Catalog) (q : Query) (n : Numbered) : Type 0 where
       → number_of (labels n.variables) name ≡ x
   pub fresh : Rise 0 (holes_in q.atoms n.atoms)
   pub head : map (slice_get (labels n.variables)) n.head ≡ map (λ x. Some (Some x)) q.head
+
+-- constants have cells
+abbrev pub HasConstant : List Bytes → NumberedTerm → Type 0
+HasConstant texts (Number x) = ⊤
+HasConstant texts (Fixed v) = HasCell texts v
+
+abbrev pub HaveConstants : List Bytes → List NumberedTerm → Type 0
+HaveConstants texts [] = ⊤
+HaveConstants texts (t ∷ ts) = HasConstant texts t × HaveConstants texts ts
+
+-- A query without a fault is asked by its numbers once its constants have cells.
+abbrev pub NumberedIsAsked : Type 0
+NumberedIsAsked = (c : Catalog) (q : Query) (n : Numbered) → IsCatalog c
+    → query_fault c.relations q ≡ None → IsNumbered c.relations q n
+    → ((j : ℕ) (m : NumberedAtom) → slice_get n.atoms j ≡ Some m → HaveConstants c.texts m.terms)
+    → IsAsked c q n

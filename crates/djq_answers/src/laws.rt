@@ -1,3 +1,4 @@
+ghost use Rattle.djq_answers.specs.Asked.{NumberedIsAsked};
 ghost use Rattle.djq_answers.specs.Shown.{AnswersAreShown, AnswersAreListed, AnswersDiffer, AnswersStand};
 
 /// A tuple of values is an answer of the query exactly where an answer of the tree shows it: a
@@ -20,4 +21,10 @@ pub fn answers_differ()
 /// A listing of the tree's answers shows a listing of the query's.
 pub fn answers_are_listed()
     ensures { AnswersAreListed }
+{}
+
+/// A query without a fault is asked by its numbers, once its constants have cells: terms suit their
+/// columns, and each variable has one type.
+pub fn numbered_is_asked()
+    ensures { NumberedIsAsked }
 {}

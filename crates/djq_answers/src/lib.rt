@@ -26,7 +26,9 @@
 #![tactic(auto)]
 
 pub use changes::{added_came, deleted_went, over_gains, over_loses, over_stays};
-pub use laws::{answers_are_listed, answers_are_shown, answers_differ, answers_stand};
+pub use laws::{
+    answers_are_listed, answers_are_shown, answers_differ, answers_stand, numbered_is_asked,
+};
 
 mod changes;
 mod laws;
