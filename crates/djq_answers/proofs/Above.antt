@@ -1,7 +1,41 @@
 -- Variables on the way from a node to the root.
-use Rattle.std.proofs.Common.{◌≡◌, ℕ, zero, suc, ◌+◌, ◌-◌, ◌<◌, ◌≤◌, true, false, List, length, Option, Some, None, is_some, refl, ap, sym, ◌∙◌, ◌⊎◌, inl, inr, arith}
+use Rattle.std.proofs.Common.{
+  ◌≡◌,
+  ℕ,
+  zero,
+  suc,
+  ◌+◌,
+  ◌-◌,
+  ◌<◌,
+  ◌≤◌,
+  true,
+  false,
+  List,
+  length,
+  Option,
+  Some,
+  None,
+  is_some,
+  refl,
+  ap,
+  sym,
+  ◌∙◌,
+  ◌⊎◌,
+  inl,
+  inr,
+  arith,
+}
 use Rattle.std.specs.Prelude.{◌==◌, ◌||◌}
-use Rattle.std.proofs.lemmas.Bool.{cases_Bool, cases_eq, cases_lt, eqb-true, false≢true, le-leb, leb-true, or_cases}
+use Rattle.std.proofs.lemmas.Bool.{
+  cases_Bool,
+  cases_eq,
+  cases_lt,
+  eqb-true,
+  false≢true,
+  le-leb,
+  leb-true,
+  or_cases,
+}
 use Rattle.std.proofs.lemmas.List.{get_or_past}
 use Rattle.djq_hyper.specs.Hypergraph.{member}
 use Rattle.djq_tree.specs.declared.node.Node.{Node}

@@ -1,5 +1,24 @@
 -- Assignments of values that satisfy all atoms of a query, and assignments of cells that do.
-use Rattle.std.proofs.Common.{◌≡◌, ℕ, zero, suc, Bool, true, List, [], ◌∷◌, cond, refl, ap, sym, subst, ◌∙◌, inl, inr, arith}
+use Rattle.std.proofs.Common.{
+  ◌≡◌,
+  ℕ,
+  zero,
+  suc,
+  Bool,
+  true,
+  List,
+  [],
+  ◌∷◌,
+  cond,
+  refl,
+  ap,
+  sym,
+  subst,
+  ◌∙◌,
+  inl,
+  inr,
+  arith,
+}
 use Rattle.std.specs.Prelude.{⊤, None, Some, Contains, All, slice_get}
 use Rattle.std.specs.List.{list_any}
 use Rattle.std.proofs.lemmas.Bool.{cases_Bool, eqb-true, false≢true, or_cases}
@@ -15,7 +34,10 @@ use Rattle.djq_model.specs.Answer.{StandsFor as StandsForValue, StandForAll, Sat
 use Rattle.djq_model.specs.Typed.{is_of, fits}
 use Rattle.djq_query.specs.declared.numbered.Variable.{Variable}
 use Rattle.djq_query.specs.declared.numbered.NumberedTerm.{NumberedTerm}
-use Rattle.djq_query.specs.declared.numbered.NumberedTerm.TheVariants.{Variable as Number, Constant as Fixed}
+use Rattle.djq_query.specs.declared.numbered.NumberedTerm.TheVariants.{
+  Variable as Number,
+  Constant as Fixed,
+}
 use Rattle.djq_query.specs.declared.numbered.NumberedAtom.{NumberedAtom}
 use Rattle.djq_query.specs.Numbered.{labels, is_number}
 use Rattle.djq_query.specs.Meaning.{IsShown, AreShown, Rise, holes_among, holes_in}
@@ -25,7 +47,18 @@ use Rattle.djq_answers.specs.Cells.{IsSatisfied}
 use Rattle.djq_answers.specs.Asked.{column_of, Suits, AreSuited, AreAtomsOf}
 use Rattle.djq_answers.proofs.Rows.{rows_are, row_fits, row_cells}
 use Rattle.djq_answers.proofs.Terms.{both, HasOne, value_by, stand_terms, cell_among}
-use Rattle.djq_answers.proofs.Holes.{hole_cell, HasNames, cells_terms, among_unnamed, member_left, member_right, rise_left, rise_right, rise_apart, in_right}
+use Rattle.djq_answers.proofs.Holes.{
+  hole_cell,
+  HasNames,
+  cells_terms,
+  among_unnamed,
+  member_left,
+  member_right,
+  rise_left,
+  rise_right,
+  rise_apart,
+  in_right,
+}
 
 -- an assignment of cells satisfies each of these atoms
 abbrev pub AreSatisfied : Catalog → (ℕ → ℕ) → List NumberedAtom → Type 0
@@ -43,7 +76,8 @@ satisfies_all c vs a (x ∷ atoms) (m ∷ ms) h one are sat zero d low =
     let s = sat 0 m refl in
     record {
       row = s.row;
-      is_there = subst (λ (rows : List Tuple). Contains rows s.row) (sym (rows_are c vs x m h are.0))
+      is_there = subst (λ (rows : List Tuple). Contains rows s.row) (sym
+          (rows_are c vs x m h are.0))
           s.there;
       stands = stand_terms c.texts vs a x.terms m.terms (relation_at c.relations m.relation).types
           s.row one are.0.shown are.0.suited (row_fits c vs x m s.row h are.0 s.there)
@@ -125,19 +159,22 @@ satisfied_all c vs values b from [] [] rows names are for rise holes j n e = abs
 satisfied_all c vs values b from [] (m ∷ ms) rows names are for rise holes j n e = absurd are
 satisfied_all c vs values b from (a ∷ atoms) [] rows names are for rise holes j n e = absurd are
 satisfied_all c vs values b from (a ∷ atoms) (m ∷ ms) [] names are for rise holes j n e = absurd for
-satisfied_all c vs values b from (a ∷ atoms) (m ∷ ms) (row ∷ rows) names are for rise holes zero n e =
+satisfied_all c vs values b from (a ∷ atoms) (m ∷ ms)
+    (row ∷ rows) names are for rise holes zero n e =
     subst (λ (k : NumberedAtom). IsSatisfied c b k) (same_Some m n e)
     (record {
       row = row;
       there = for.0;
-      are = cells_terms c.texts (labels vs) values b from a.terms m.terms row names are.0.shown for.1
+      are = cells_terms c.texts (labels vs) values b from a.terms m.terms row names are.0.shown
+          for.1
           (rise_left from (holes_among a.terms m.terms) (holes_in atoms ms) rise)
           (λ y is. holes y
           (member_left y (holes_among a.terms m.terms) (holes_in atoms ms) is)
           ∙ ap (λ (t : Bool). cond t (hole_cell c.texts a.terms m.terms row y)
           (cell_in c.texts atoms ms rows y)) is);
     })
-satisfied_all c vs values b from (a ∷ atoms) (m ∷ ms) (row ∷ rows) names are for rise holes (suc j) n
+satisfied_all c vs values b from (a ∷ atoms) (m ∷ ms) (row ∷ rows) names are for rise holes
+    (suc j) n
     e =
     satisfied_all c vs values b from atoms ms rows names are.1 for.2
     (rise_right from (holes_among a.terms m.terms) (holes_in atoms ms) rise)

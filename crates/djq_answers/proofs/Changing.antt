@@ -1,5 +1,22 @@
 -- Leaves once rows have changed.
-use Rattle.std.proofs.Common.{◌≡◌, ℕ, ◌<◌, true, List, [], ◌∷◌, length, refl, ap, sym, subst, ◌∙◌, inl, inr, arith}
+use Rattle.std.proofs.Common.{
+  ◌≡◌,
+  ℕ,
+  ◌<◌,
+  true,
+  List,
+  [],
+  ◌∷◌,
+  length,
+  refl,
+  ap,
+  sym,
+  subst,
+  ◌∙◌,
+  inl,
+  inr,
+  arith,
+}
 use Rattle.std.specs.Prelude.{Some, Contains, slice_get}
 use Rattle.std.proofs.lemmas.Bool.{cases_eq}
 use Rattle.djq_hyper.specs.Hypergraph.{member}
@@ -19,7 +36,17 @@ use Rattle.djq_rows.specs.Catalog.{Catalog, IsCatalog, no_relation, relation_at,
 use Rattle.djq_rows.proofs.Lawful.{differ as cells_differ}
 use Rattle.djq_answers.specs.Cells.{AreRowOf}
 use Rattle.djq_answers.specs.Leaves.{Holds, IsLeafOf, IsOver}
-use Rattle.djq_answers.specs.Changes.{IsLater, Came, Went, Gains, Loses, Keeps, OverStays, OverGains, OverLoses}
+use Rattle.djq_answers.specs.Changes.{
+  IsLater,
+  Came,
+  Went,
+  Gains,
+  Loses,
+  Keeps,
+  OverStays,
+  OverGains,
+  OverLoses,
+}
 use Rattle.djq_answers.proofs.Rows.{all_in}
 use Rattle.djq_answers.proofs.Members.{in_left, in_last, in_pushed, in_without, still_in}
 use Rattle.djq_answers.proofs.Later.{asked_later, atom_at, pattern_later, cells_later}
@@ -37,7 +64,8 @@ row_fits c at row h low there =
 
 -- a row of the earlier catalog, against one of the later
 row_on : (c d : Catalog) (at : ℕ) (cells : List ℕ) → IsCatalog c → IsLater c d
-    → at < length c.relations → (is : AreRowOf c at cells) → Contains (rows_at d.relations at) is.row
+    → at < length c.relations → (is : AreRowOf c at cells)
+    → Contains (rows_at d.relations at) is.row
     → AreRowOf d at cells
 row_on c d at cells h l low is there = record {
   row = is.row;
@@ -46,7 +74,8 @@ row_on c d at cells h l low is there = record {
 }
 
 row_back : (c d : Catalog) (at : ℕ) (cells : List ℕ) → IsCatalog c → IsLater c d
-    → at < length c.relations → (is : AreRowOf d at cells) → Contains (rows_at c.relations at) is.row
+    → at < length c.relations → (is : AreRowOf d at cells)
+    → Contains (rows_at c.relations at) is.row
     → AreRowOf c at cells
 row_back c d at cells h l low is there = record {
   row = is.row;
@@ -97,7 +126,8 @@ came_rows c d at cells row p es fs h low came gains holds = record {
         (elim (in_pushed row is.row (rows_at c.relations at)
         (subst (λ (rows : List Tuple). Contains rows is.row) came.rows is.there)) [
           | inl before ↦ inl
-              ((holds.exact u wide).1 (row_back c d at (filled u p.slots) h came.later low is before))
+              ((holds.exact u wide).1 (row_back c d at
+              (filled u p.slots) h came.later low is before))
           | inr new ↦ inr
               (is.are ∙ ap (λ (r : Tuple). cells_of d.texts r) (sym new) ∙ sym came.stand.are)
         ]),
@@ -137,7 +167,8 @@ went_rows c d at cells row p es fs h low went loses holds =
             (h.kept at no_relation low).differ
             (subst (λ (rows : List Tuple). Contains rows is.row) went.rows is.there) in
             (loses u wide).1 (
-              (holds.exact u wide).1 (row_back c d at (filled u p.slots) h went.later low is left.0),
+              (holds.exact u wide).1 (row_back c d at
+                  (filled u p.slots) h went.later low is left.0),
               λ same. left.1
                   (other_cells c d at cells row is.row went later is.there (sym is.are ∙ same)),
             ),
@@ -163,7 +194,8 @@ leaf_later c d q n ps r s j m p h l tree e f turns =
     subst (λ (label : List ℕ). IsLeafOf d label m p (entries_at s.tables j))
     (label_same r s j tree)
     (record {
-      pattern = pattern_later c d n.variables (label_at r.tree.labels j) a.atom m p l a.is leaf.pattern;
+      pattern = pattern_later c d n.variables
+          (label_at r.tree.labels j) a.atom m p l a.is leaf.pattern;
       holds = turns a.is.below leaf.holds;
     })
 

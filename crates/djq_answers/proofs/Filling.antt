@@ -1,5 +1,29 @@
 -- The answers of reducts are what the assignments that are in the leaves give on the head.
-use Rattle.std.proofs.Common.{◌≡◌, ℕ, zero, suc, ◌+◌, ◌-◌, ◌<◌, ◌≤◌, Bool, true, false, List, length, map, cond, refl, ap, sym, subst, ◌∙◌, inl, inr, arith}
+use Rattle.std.proofs.Common.{
+  ◌≡◌,
+  ℕ,
+  zero,
+  suc,
+  ◌+◌,
+  ◌-◌,
+  ◌<◌,
+  ◌≤◌,
+  Bool,
+  true,
+  false,
+  List,
+  length,
+  map,
+  cond,
+  refl,
+  ap,
+  sym,
+  subst,
+  ◌∙◌,
+  inl,
+  inr,
+  arith,
+}
 use Rattle.std.specs.Prelude.{slice_index}
 use Rattle.std.proofs.lemmas.Bool.{cases_Bool, cases_eq, cases_lt, false≢true}
 use Rattle.std.proofs.lemmas.List.{length-map}
@@ -15,9 +39,38 @@ use Rattle.djq_reduct.specs.Columns.{column, columns}
 use Rattle.djq_reduct.specs.Tables.{entries_at}
 use Rattle.djq_reduct.specs.Reducts.{Reducts, IsReducts}
 use Rattle.djq_reduct.specs.Answers.{on_node, IsAnswerOf}
-use Rattle.djq_answers.proofs.Columns.{IsSimple, cell_there, simple_of, within_of, reading, reading_row, pick_reading, pick_row, row_same}
-use Rattle.djq_answers.proofs.Above.{root_or_parent, root_bare, kept, no_child, out_within, meet_child, trim_only, leaf_childless, out_late, late_out}
-use Rattle.djq_answers.proofs.Tabling.{IsIn, tuple_wide, trim_key, trim_down, trim_up, meet_down, meet_up}
+use Rattle.djq_answers.proofs.Columns.{
+  IsSimple,
+  cell_there,
+  simple_of,
+  within_of,
+  reading,
+  reading_row,
+  pick_reading,
+  pick_row,
+  row_same,
+}
+use Rattle.djq_answers.proofs.Above.{
+  root_or_parent,
+  root_bare,
+  kept,
+  no_child,
+  out_within,
+  meet_child,
+  trim_only,
+  leaf_childless,
+  out_late,
+  late_out,
+}
+use Rattle.djq_answers.proofs.Tabling.{
+  IsIn,
+  tuple_wide,
+  trim_key,
+  trim_down,
+  trim_up,
+  meet_down,
+  meet_up,
+}
 
 -- ---- up: what is in the leaves is in every table
 
@@ -153,7 +206,8 @@ row_stays : (r : Reducts) (k c j : ℕ) (a : ℕ → ℕ) (u : List ℕ) → IsT
     → IsIn r j a → IsIn r j (λ x. over (label_at r.tree.labels c) u a x)
 row_stays r k c j a u s e within other free key there =
     let l = label_at r.tree.labels c in
-    let same : map (λ x. over l u a x) (label_at r.tree.labels j) ≡ map a (label_at r.tree.labels j) =
+    let same : map (λ x. over l u a x) (label_at r.tree.labels j)
+    ≡ map a (label_at r.tree.labels j) =
     row_same (λ x. over l u a x) a (label_at r.tree.labels j)
     (λ x m. over_same l (label_at r.tree.labels k) u a x key
     (λ has. elim (root_or_parent r.tree j s within) [
@@ -184,7 +238,8 @@ down_trim r k c a h within early e sat =
               | inl same ↦ subst (λ (n : ℕ). IsIn r n (λ x. over l u a x)) (sym same) here
               | inr other ↦ row_stays r k c j a u s e (omega arith) other free key
                   (sat.current j (omega arith)
-                  (λ i child. still_free r.tree k i j (no_child r.tree k c j e other) (free i child) child))
+                  (λ i child. still_free r.tree k i j (no_child r.tree k c j e other)
+                  (free i child) child))
             ];
       };
       same = λ x m. over_same l (label_at r.tree.labels k) u a x key

@@ -1,5 +1,24 @@
 -- The head's variables stand in atoms.
-use Rattle.std.proofs.Common.{◌≡◌, ℕ, zero, suc, ◌<◌, true, List, [], ◌∷◌, length, take, refl, ap, sym, ◌∙◌, inl, inr, arith}
+use Rattle.std.proofs.Common.{
+  ◌≡◌,
+  ℕ,
+  zero,
+  suc,
+  ◌<◌,
+  true,
+  List,
+  [],
+  ◌∷◌,
+  length,
+  take,
+  refl,
+  ap,
+  sym,
+  ◌∙◌,
+  inl,
+  inr,
+  arith,
+}
 use Rattle.std.specs.Prelude.{Some, slice_get}
 use Rattle.std.specs.List.{list_any}
 use Rattle.std.proofs.lemmas.Bool.{cases_lt, false≢true}
@@ -44,7 +63,8 @@ in_leaf t x s m =
       | inl low ↦ record {
         leaf = e.0;
         low = low;
-        has = ap (λ (l : List ℕ). member x l) (sym (get_or-take t.leaves t.labels e.0 [] low)) ∙ e.1;
+        has = ap (λ (l : List ℕ). member x l) (sym (get_or-take t.leaves t.labels e.0 [] low))
+            ∙ e.1;
       }
       | inr past ↦ absurd
           (false≢true

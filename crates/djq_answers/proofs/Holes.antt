@@ -1,7 +1,38 @@
 -- Cells for the holes of a query whose atoms stand for rows.
-use Rattle.std.proofs.Common.{◌≡◌, ℕ, ◌+◌, ◌≤◌, Bool, true, false, List, [], ◌∷◌, ◌++◌, map, cond, refl, ap, ap₂, sym, ◌∙◌, inl, inr, arith}
+use Rattle.std.proofs.Common.{
+  ◌≡◌,
+  ℕ,
+  ◌+◌,
+  ◌≤◌,
+  Bool,
+  true,
+  false,
+  List,
+  [],
+  ◌∷◌,
+  ◌++◌,
+  map,
+  cond,
+  refl,
+  ap,
+  ap₂,
+  sym,
+  ◌∙◌,
+  inl,
+  inr,
+  arith,
+}
 use Rattle.std.specs.Prelude.{◌==◌, None, Some, slice_get}
-use Rattle.std.proofs.lemmas.Bool.{eq-eqb, ne_eqb, eqb-true, false≢true, or_cases, or_left, or_right, or_parts}
+use Rattle.std.proofs.lemmas.Bool.{
+  eq-eqb,
+  ne_eqb,
+  eqb-true,
+  false≢true,
+  or_cases,
+  or_left,
+  or_right,
+  or_parts,
+}
 use Rattle.djq_hyper.specs.Hypergraph.{member}
 use Rattle.djq_model.specs.declared.value.Value.{Value}
 use Rattle.djq_model.specs.declared.query.Term.{Term}
@@ -10,7 +41,10 @@ use Rattle.djq_model.specs.Data.{Bytes, Tuple}
 use Rattle.djq_model.specs.Answer.{StandForAll}
 use Rattle.djq_lines.specs.Variables.{Label}
 use Rattle.djq_query.specs.declared.numbered.NumberedTerm.{NumberedTerm}
-use Rattle.djq_query.specs.declared.numbered.NumberedTerm.TheVariants.{Variable as Number, Constant as Fixed}
+use Rattle.djq_query.specs.declared.numbered.NumberedTerm.TheVariants.{
+  Variable as Number,
+  Constant as Fixed,
+}
 use Rattle.djq_query.specs.Meaning.{AreShown, Rise, hole_of, holes_among}
 use Rattle.djq_rows.specs.Cells.{cell_of, cells_of}
 use Rattle.djq_answers.specs.Cells.{cell_under}
@@ -119,7 +153,8 @@ cells_terms texts ls values a from (Constant w ∷ ts) (Fixed u ∷ ns) (v ∷ r
     (cells_terms texts ls values a from ts ns row names shown.1 stand.1 rise holes)
 cells_terms texts ls values a from (Named name ∷ ts) (Fixed u ∷ ns) (v ∷ row) names shown stand rise
     holes = absurd shown.0
-cells_terms texts ls values a from (Hole ∷ ts) (Fixed u ∷ ns) (v ∷ row) names shown stand rise holes =
+cells_terms texts ls values a from (Hole ∷ ts) (Fixed u ∷ ns)
+    (v ∷ row) names shown stand rise holes =
     absurd shown.0
 cells_terms texts ls values a from (Constant w ∷ ts) (Number x ∷ ns) (v ∷ row) names shown stand
     rise holes = absurd shown.0

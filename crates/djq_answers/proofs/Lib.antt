@@ -14,3 +14,4 @@ pub mod Later
 pub mod Changing
 pub mod Placing
 pub mod Typing
+pub mod Filled

@@ -1,5 +1,21 @@
 -- Other rows at a relation's place.
-use Rattle.std.proofs.Common.{◌≡◌, ℕ, ◌<◌, List, [], ◌∷◌, ◌++◌, length, ap, sym, subst, ◌∙◌, inl, inr, arith}
+use Rattle.std.proofs.Common.{
+  ◌≡◌,
+  ℕ,
+  ◌<◌,
+  List,
+  [],
+  ◌∷◌,
+  ◌++◌,
+  length,
+  ap,
+  sym,
+  subst,
+  ◌∙◌,
+  inl,
+  inr,
+  arith,
+}
 use Rattle.std.specs.Prelude.{◌≢◌}
 use Rattle.std.proofs.lemmas.Bool.{cases_eq}
 use Rattle.std.proofs.lemmas.List.{append-nil, length-set, get_or-set_same, get_or-set_other}
@@ -7,7 +23,15 @@ use Rattle.djq_model.specs.declared.relation.ColumnType.{ColumnType}
 use Rattle.djq_model.specs.declared.relation.Relation.{Relation}
 use Rattle.djq_model.specs.Data.{Bytes, Tuple, without_row}
 use Rattle.djq_rows.specs.Cells.{StandFor}
-use Rattle.djq_rows.specs.Catalog.{Catalog, IsCatalog, StandForRow, no_relation, relation_at, rows_at, with_rows_at}
+use Rattle.djq_rows.specs.Catalog.{
+  Catalog,
+  IsCatalog,
+  StandForRow,
+  no_relation,
+  relation_at,
+  rows_at,
+  with_rows_at,
+}
 use Rattle.djq_answers.specs.Changes.{IsLater, AddedCame, DeletedWent}
 
 -- the relation with other rows

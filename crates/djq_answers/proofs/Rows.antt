@@ -1,5 +1,23 @@
 -- Rows of an atom's relation.
-use Rattle.std.proofs.Common.{◌≡◌, ℕ, zero, suc, ◌<◌, true, false, List, [], ◌∷◌, length, refl, ap, sym, subst, ◌∙◌, arith}
+use Rattle.std.proofs.Common.{
+  ◌≡◌,
+  ℕ,
+  zero,
+  suc,
+  ◌<◌,
+  true,
+  false,
+  List,
+  [],
+  ◌∷◌,
+  length,
+  refl,
+  ap,
+  sym,
+  subst,
+  ◌∙◌,
+  arith,
+}
 use Rattle.std.specs.Prelude.{Some, All, AllPairs, Contains, ◌≢◌}
 use Rattle.djq_model.specs.declared.relation.Relation.{Relation}
 use Rattle.djq_model.specs.declared.query.Atom.{Atom}
@@ -23,7 +41,8 @@ found_at (r ∷ rs) name (suc at) d low e =
     let other : bytes_eq r.name name ≡ false = eq_other r.name name
     (λ same. d zero (suc at) no_relation (omega arith) (omega arith) (same ∙ sym e)) in
     rw other
-    (found_at rs name at (λ i j x a b. d (suc i) (suc j) x (omega arith) (omega arith)) (omega arith)
+    (found_at rs name at (λ i j x a b. d (suc i) (suc j) x (omega arith) (omega arith))
+    (omega arith)
     e)
 
 pub rows_are : (c : Catalog) (vs : List Variable) (a : Atom) (m : NumberedAtom) → IsCatalog c

@@ -1,5 +1,24 @@
 -- Answers of the tree show the answers of the query.
-use Rattle.std.proofs.Common.{◌≡◌, ℕ, ◌<◌, true, List, [], ◌∷◌, length, map, refl, ap, ap₂, sym, subst, ◌∙◌, inl, inr, arith}
+use Rattle.std.proofs.Common.{
+  ◌≡◌,
+  ℕ,
+  ◌<◌,
+  true,
+  List,
+  [],
+  ◌∷◌,
+  length,
+  map,
+  refl,
+  ap,
+  ap₂,
+  sym,
+  subst,
+  ◌∙◌,
+  inl,
+  inr,
+  arith,
+}
 use Rattle.std.specs.Prelude.{◌==◌, Option, None, Some, slice_get, slice_index, drop}
 use Rattle.std.proofs.lemmas.Bool.{false≢true, eqb-true, or_cases}
 use Rattle.std.proofs.lemmas.List.{get_or-map, length-map}
@@ -24,14 +43,32 @@ use Rattle.djq_rows.specs.Catalog.{Catalog}
 use Rattle.djq_rows.proofs.Encoding.{value_back}
 use Rattle.djq_answers.specs.Asked.{column_of}
 use Rattle.djq_answers.specs.Leaves.{IsOver}
-use Rattle.djq_answers.specs.Shown.{value_at, shown, AreShownAs, IsShownIn, AnswersAreShown, AnswersStand, AnswersDiffer, AnswersAreListed}
+use Rattle.djq_answers.specs.Shown.{
+  value_at,
+  shown,
+  AreShownAs,
+  IsShownIn,
+  AnswersAreShown,
+  AnswersStand,
+  AnswersDiffer,
+  AnswersAreListed,
+}
 use Rattle.djq_answers.proofs.Columns.{cell_there, row_same, member_here, member_on}
 use Rattle.djq_answers.proofs.Filling.{assigned_of, answer_of}
 use Rattle.djq_answers.proofs.Tabling.{IsIn}
 use Rattle.djq_answers.proofs.Binding.{leaf_says}
 use Rattle.djq_answers.proofs.Terms.{value_by, value_by_is}
 use Rattle.djq_answers.proofs.Holes.{HasNames}
-use Rattle.djq_answers.proofs.Atoms.{AreSatisfied, satisfies_all, cell_at, rows_for, cell_in, satisfied_all, in_unnamed, value_in}
+use Rattle.djq_answers.proofs.Atoms.{
+  AreSatisfied,
+  satisfies_all,
+  cell_at,
+  rows_for,
+  cell_in,
+  satisfied_all,
+  in_unnamed,
+  value_in,
+}
 use Rattle.djq_answers.proofs.Heads.{has_at, in_atom}
 
 -- ---- leaves and atoms
@@ -249,7 +286,8 @@ listed c q n ps r h us different all complete =
           ∙ get_or-map show us j [] d (omega arith)));
       answers = λ i d low.
           let long : length (map show us) ≡ length us = length-map us show in
-          subst (λ (t : Tuple). IsAnswer c.relations q t) (sym (get_or-map show us i [] d (omega arith)))
+          subst (λ (t : Tuple). IsAnswer c.relations q t) (sym (get_or-map show us i [] d
+          (omega arith)))
           (query_answer c q n ps r _ h (all i [] (omega arith)));
       complete = λ t is.
           let s = tree_answer c q n ps r t h is in

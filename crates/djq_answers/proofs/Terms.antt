@@ -1,5 +1,22 @@
 -- Terms that stand for a row, against the row's cells.
-use Rattle.std.proofs.Common.{◌≡◌, ℕ, Bool, true, false, List, [], ◌∷◌, map, refl, ap, ap₂, sym, ◌∙◌, inl, inr}
+use Rattle.std.proofs.Common.{
+  ◌≡◌,
+  ℕ,
+  Bool,
+  true,
+  false,
+  List,
+  [],
+  ◌∷◌,
+  map,
+  refl,
+  ap,
+  ap₂,
+  sym,
+  ◌∙◌,
+  inl,
+  inr,
+}
 use Rattle.std.specs.Prelude.{◌&&◌, Some, slice_get, slice_index, drop}
 use Rattle.std.specs.List.{list_any}
 use Rattle.std.proofs.lemmas.Bool.{eqb-true, false≢true, or_cases}
@@ -12,7 +29,10 @@ use Rattle.djq_model.specs.Answer.{StandsFor as StandsForValue, StandForAll}
 use Rattle.djq_model.specs.Typed.{is_of, fits}
 use Rattle.djq_query.specs.declared.numbered.Variable.{Variable}
 use Rattle.djq_query.specs.declared.numbered.NumberedTerm.{NumberedTerm}
-use Rattle.djq_query.specs.declared.numbered.NumberedTerm.TheVariants.{Variable as Number, Constant as Fixed}
+use Rattle.djq_query.specs.declared.numbered.NumberedTerm.TheVariants.{
+  Variable as Number,
+  Constant as Fixed,
+}
 use Rattle.djq_query.specs.Numbered.{labels, number_of, is_number}
 use Rattle.djq_query.specs.Meaning.{IsShown, AreShown}
 use Rattle.djq_rows.specs.Cells.{cell_of, cells_of, HasCell, HaveCells, IsCell}
@@ -57,7 +77,8 @@ stand_term : (texts : List Bytes) (vs : List Variable) (a : ℕ → ℕ) (t : Te
     → is_of c v ≡ true → HasCell texts v → cell_under texts a n ≡ cell_of texts v
     → StandsForValue (value_by texts vs a) t v
 stand_term texts vs a (Named name) (Number x) c v one shown suits of has e =
-    value_by_is texts vs a x name one shown ∙ value_known texts c (column_of vs x) (a x) v suits e of has
+    value_by_is texts vs a x name one shown
+    ∙ value_known texts c (column_of vs x) (a x) v suits e of has
 stand_term texts vs a Hole (Number x) c v one shown suits of has e = tt
 stand_term texts vs a (Constant w) (Fixed u) c v one shown suits of has e =
     sym shown ∙ sym (value_back texts c u suits.0 suits.1)

@@ -1,11 +1,37 @@
 -- The types of a query's variables are those of all columns where they stand.
-use Rattle.std.proofs.Common.{◌≡◌, ℕ, zero, suc, ◌<◌, Bool, true, false, List, [], ◌∷◌, ◌++◌, length, map, cond, refl, ap, sym, subst, ◌∙◌, ◌⊎◌, inl, inr, arith}
-use Rattle.std.specs.Prelude.{⊤, ◌&&◌, ◌||◌, ◌==◌, not, Option, None, Some, is_none, slice_get}
+use Rattle.std.proofs.Common.{
+  ◌≡◌,
+  ℕ,
+  zero,
+  suc,
+  Bool,
+  true,
+  false,
+  List,
+  [],
+  ◌∷◌,
+  ◌++◌,
+  length,
+  cond,
+  refl,
+  ap,
+  sym,
+  subst,
+  ◌∙◌,
+  ◌⊎◌,
+  inl,
+  inr,
+  arith,
+}
+use Rattle.std.specs.Prelude.{◌&&◌, ◌==◌, not, Option, None, Some, is_none, slice_get}
 use Rattle.std.specs.List.{fold, list_any}
 use Rattle.std.proofs.lemmas.Bool.{cases_Bool, eqb-true, false≢true}
 use Rattle.std.proofs.lemmas.Option.{same_Some, slice_get_within, get_or_from_slice_get}
 use Rattle.djq_model.specs.declared.relation.ColumnType.{ColumnType}
-use Rattle.djq_model.specs.declared.relation.ColumnType.TheVariants.{Int as IntColumn, Text as TextColumn}
+use Rattle.djq_model.specs.declared.relation.ColumnType.TheVariants.{
+  Int as IntColumn,
+  Text as TextColumn,
+}
 use Rattle.djq_model.specs.declared.relation.Relation.{Relation}
 use Rattle.djq_model.specs.declared.query.Query.{Query}
 use Rattle.djq_model.specs.declared.query.Atom.{Atom}
@@ -15,22 +41,55 @@ use Rattle.djq_model.specs.Data.{Bytes, bytes_eq, relation_of}
 use Rattle.djq_model.specs.Equality.{bytes_eq-decides}
 use Rattle.djq_model.specs.Typed.{is_of}
 use Rattle.djq_lines.specs.Columns.{columns_of, types_of, same_type}
-use Rattle.djq_lines.specs.QueryFault.{any_column, any_place, is_misfit, is_clash, reads_unknown, has_wrong_arity, has_misfit, query_fault}
+use Rattle.djq_lines.specs.QueryFault.{
+  any_column,
+  any_place,
+  is_misfit,
+  is_clash,
+  reads_unknown,
+  has_wrong_arity,
+  has_misfit,
+  query_fault,
+}
 use Rattle.djq_lines.specs.declared.answer.Refusal.{Refusal}
 use Rattle.djq_lines.specs.declared.answer.Refusal.TheVariants.{NoRelation, Arity, WrongType}
 use Rattle.djq_lines.specs.Variables.{Label, is_known, with_term, with_atom}
 use Rattle.djq_query.specs.declared.numbered.Variable.{Variable}
 use Rattle.djq_query.specs.declared.numbered.NumberedTerm.{NumberedTerm}
 use Rattle.djq_query.specs.declared.numbered.NumberedAtom.{NumberedAtom}
-use Rattle.djq_query.specs.Numbered.{Numbered, IsNumbered, AreNumbered, labels, number_of, numbered, numbered_terms, with_place, with_places, with_columns}
+use Rattle.djq_query.specs.Numbered.{
+  AreNumbered,
+  labels,
+  number_of,
+  numbered,
+  numbered_terms,
+  with_place,
+  with_places,
+  with_columns,
+}
 use Rattle.djq_query.specs.Meaning.{AreShown, AreAtomsShown}
 use Rattle.djq_query.proofs.Counting.{or_false}
 use Rattle.djq_query.proofs.Faults.{sound_of}
-use Rattle.djq_query.proofs.Numbers.{both_false, not_false, length_labels, labels_with, labels_columns}
+use Rattle.djq_query.proofs.Numbers.{
+  both_false,
+  not_false,
+  length_labels,
+  labels_with,
+  labels_columns,
+}
 use Rattle.djq_query.proofs.Showing.{shown_by}
 use Rattle.djq_rows.specs.Catalog.{Catalog, no_relation, relation_at}
 use Rattle.djq_rows.proofs.Learning.{eq_refl}
-use Rattle.djq_answers.specs.Asked.{column_in, column_of, Suits, AreSuited, IsAtomOf, AreAtomsOf, HaveConstants, NumberedIsAsked}
+use Rattle.djq_answers.specs.Asked.{
+  column_in,
+  column_of,
+  Suits,
+  AreSuited,
+  IsAtomOf,
+  AreAtomsOf,
+  HaveConstants,
+  NumberedIsAsked,
+}
 
 -- ---- variables that become known
 
@@ -221,7 +280,8 @@ suited_terms rs all final texts ks (t ∷ ts) (c ∷ cs) grows agree shown place
           (suited_terms rs all final texts next ts cs grows agree
           (subst (λ (ls : List Label). AreShown (labels final) ts (numbered_terms ls ts)) (sym same)
           shown.1)
-          (λ p none. (both_false (p t c) (any_column p ts cs) (places p none)).1) fits.1 (omega arith)
+          (λ p none. (both_false (p t c) (any_column p ts cs) (places p none)).1) fits.1
+          (omega arith)
           (subst (λ (ls : List Label). HaveConstants texts (numbered_terms ls ts)) (sym same)
           have.1)),
     )
@@ -244,7 +304,8 @@ found_name (s ∷ rs) name r e =
     elim (cases_Bool (bytes_eq s.name name)) [
       | inl same ↦
           let k : Some s ≡ Some r = rw same at e in
-          ap (λ (u : Relation). u.name) (sym (same_Some s r k)) ∙ (bytes_eq-decides s.name name).0 same
+          ap (λ (u : Relation). u.name) (sym (same_Some s r k))
+          ∙ (bytes_eq-decides s.name name).0 same
       | inr other ↦
           let k : relation_of rs name ≡ Some r = rw other at e in
           found_name rs name r k
@@ -270,7 +331,8 @@ atom_of c all final ks a m grows agree at shown is known long fit places have =
     let same : relation_at rs m.relation ≡ r.relation =
     get_or_from_slice_get rs m.relation r.relation no_relation here in
     let suited = suited_terms rs all final c.texts ks a.terms (columns_of rs a.relation) grows agree
-    (subst (λ (ns : List NumberedTerm). AreShown (labels final) a.terms ns) is shown) places fit long
+    (subst (λ (ns : List NumberedTerm). AreShown
+    (labels final) a.terms ns) is shown) places fit long
     (subst (λ (ns : List NumberedTerm). HaveConstants c.texts ns) is have) in
     record {
       below = slice_get_within rs m.relation r.relation here;
@@ -289,7 +351,8 @@ atoms_of : (c : Catalog) (all : List Atom) (final ks : List Variable) (atoms : L
     → Agree c.relations all final → AreAtomsShown c.relations (labels final) atoms ms
     → AreNumbered c.relations (labels ks) atoms ms
     → list_any (λ (a : Atom). is_none (relation_of c.relations a.relation)) atoms ≡ false
-    → list_any (λ (a : Atom). not (length a.terms == length (columns_of c.relations a.relation))) atoms
+    → list_any (λ (a : Atom). not (length a.terms == length
+    (columns_of c.relations a.relation))) atoms
     ≡ false
     → any_place is_misfit c.relations atoms ≡ false
     → ((p : Term → ColumnType → Bool) → any_place p c.relations all ≡ false
@@ -306,7 +369,8 @@ atoms_of c all final ks (a ∷ atoms) (m ∷ ms) grows agree shown h known arity
     let k = both_false (is_none (relation_of rs a.relation))
     (list_any (λ (b : Atom). is_none (relation_of rs b.relation)) atoms) known in
     let l = both_false (not (length a.terms == length (columns_of rs a.relation)))
-    (list_any (λ (b : Atom). not (length b.terms == length (columns_of rs b.relation))) atoms) arity in
+    (list_any (λ (b : Atom). not (length b.terms == length
+    (columns_of rs b.relation))) atoms) arity in
     let f = both_false (any_column is_misfit a.terms (columns_of rs a.relation))
     (any_place is_misfit rs atoms) fit in
     let same : labels next ≡ with_atom (labels ks) a = labels_columns rs ks (a ∷ [])
@@ -347,7 +411,8 @@ numbered_asked c q n catalog fault h have =
     (λ k v e. e) in
     record {
       catalog = catalog;
-      atoms = atoms_of c q.atoms n.variables [] q.atoms n.atoms grows agree s.body h.atoms sound.known
+      atoms = atoms_of c q.atoms n.variables [] q.atoms n.atoms grows agree s.body h.atoms
+          sound.known
           sound.arity (no_misfit rs q fault) (λ p none. none) have;
       one = s.one;
       fresh = s.fresh;

@@ -1,5 +1,20 @@
 -- A query that is asked of a catalog, and the query over numbers that stands for it.
-use Rattle.std.specs.Prelude.{◌≡◌, ⊤, ℕ, ◌<◌, true, List, [], ◌∷◌, length, map, Option, None, Some, slice_get}
+use Rattle.std.specs.Prelude.{
+  ◌≡◌,
+  ⊤,
+  ℕ,
+  ◌<◌,
+  true,
+  List,
+  [],
+  ◌∷◌,
+  length,
+  map,
+  Option,
+  None,
+  Some,
+  slice_get,
+}
 use Rattle.djq_model.specs.declared.relation.ColumnType.{ColumnType}
 use Rattle.djq_model.specs.declared.relation.ColumnType.TheVariants.{Int as IntColumn}
 use Rattle.djq_model.specs.declared.query.Query.{Query}
@@ -9,7 +24,10 @@ use Rattle.djq_model.specs.Typed.{is_of}
 use Rattle.djq_lines.specs.QueryFault.{query_fault}
 use Rattle.djq_query.specs.declared.numbered.Variable.{Variable}
 use Rattle.djq_query.specs.declared.numbered.NumberedTerm.{NumberedTerm}
-use Rattle.djq_query.specs.declared.numbered.NumberedTerm.TheVariants.{Variable as Number, Constant as Fixed}
+use Rattle.djq_query.specs.declared.numbered.NumberedTerm.TheVariants.{
+  Variable as Number,
+  Constant as Fixed,
+}
 use Rattle.djq_query.specs.declared.numbered.NumberedAtom.{NumberedAtom}
 use Rattle.djq_query.specs.Numbered.{Numbered, IsNumbered, labels, number_of}
 use Rattle.djq_query.specs.Meaning.{AreShown, Rise, holes_in}

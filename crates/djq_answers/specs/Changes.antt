@@ -1,5 +1,22 @@
 -- What becomes of a registered query where a row comes or goes.
-use Rattle.std.specs.Prelude.{◌≡◌, ◌≢◌, ◌↔◌, ◌⊎◌, ℕ, ◌<◌, ◌≤◌, List, [], ◌∷◌, ◌++◌, length, Some, slice_get}
+use Rattle.std.specs.Prelude.{
+  ◌≡◌,
+  ◌≢◌,
+  ◌↔◌,
+  ◌⊎◌,
+  ℕ,
+  ◌<◌,
+  ◌≤◌,
+  List,
+  [],
+  ◌∷◌,
+  ◌++◌,
+  length,
+  Some,
+  Contains,
+  map,
+  slice_get,
+}
 use Rattle.djq_model.specs.declared.query.Query.{Query}
 use Rattle.djq_model.specs.Data.{Bytes, Tuple, without_row}
 use Rattle.djq_index.specs.Entries.{Entry, cnt}
@@ -8,8 +25,16 @@ use Rattle.djq_reduct.specs.Reducts.{Reducts, IsReducts}
 use Rattle.djq_query.specs.declared.numbered.NumberedAtom.{NumberedAtom}
 use Rattle.djq_query.specs.Numbered.{Numbered}
 use Rattle.djq_query.specs.Pattern.{Shape, filled}
-use Rattle.djq_rows.specs.Catalog.{Catalog, IsCatalog, StandForRow, relation_at, rows_at, with_rows_at}
-use Rattle.djq_answers.specs.Leaves.{IsOver}
+use Rattle.djq_rows.specs.Cells.{cells_of}
+use Rattle.djq_rows.specs.Catalog.{
+  Catalog,
+  IsCatalog,
+  StandForRow,
+  relation_at,
+  rows_at,
+  with_rows_at,
+}
+use Rattle.djq_answers.specs.Leaves.{Holds, IsOver}
 
 -- A later catalog: the relations are there with their names and types, and further relations and
 -- texts may be.
@@ -98,3 +123,21 @@ DeletedWent = (c d : Catalog) (at : ℕ) (cells : List ℕ) (row : Tuple) → Is
     → at < length c.relations → StandForRow c at cells row → d.texts ≡ c.texts
     → d.relations ≡ with_rows_at c.relations at (without_row (rows_at c.relations at) row)
     → Went c d at cells row
+
+-- a leaf's entries hold exactly the tuples that put into the atom give one of these rows of cells
+abbrev pub HoldsThese : List (List ℕ) → Shape → List Entry → Type 0
+HoldsThese rows p es = (u : List ℕ) → length u ≡ p.width
+    → (0 < cnt es u) ↔ Contains rows (filled u p.slots)
+
+-- A leaf is filled row by row: without tuples it holds those of no rows, a row more makes it gain
+-- the row's tuples, and with all rows of a relation it holds what it should.
+abbrev pub LeafIsEmpty : Type 0
+LeafIsEmpty = (p : Shape) (es : List Entry) → ((u : List ℕ) → cnt es u ≡ 0) → HoldsThese [] p es
+
+abbrev pub LeafGains : Type 0
+LeafGains = (rows : List (List ℕ)) (cells : List ℕ) (p : Shape) (old new : List Entry)
+    → HoldsThese rows p old → Gains p cells old new → HoldsThese (rows ++ cells ∷ []) p new
+
+abbrev pub LeafIsFilled : Type 0
+LeafIsFilled = (c : Catalog) (at : ℕ) (p : Shape) (es : List Entry)
+    → HoldsThese (map (cells_of c.texts) (rows_at c.relations at)) p es → Holds c at p es

@@ -9,7 +9,10 @@ use Rattle.djq_tree.specs.Labels.{label_at}
 use Rattle.djq_reduct.specs.Tables.{entries_at}
 use Rattle.djq_reduct.specs.Reducts.{Reducts, IsReducts}
 use Rattle.djq_query.specs.declared.numbered.NumberedTerm.{NumberedTerm}
-use Rattle.djq_query.specs.declared.numbered.NumberedTerm.TheVariants.{Variable as Number, Constant as Fixed}
+use Rattle.djq_query.specs.declared.numbered.NumberedTerm.TheVariants.{
+  Variable as Number,
+  Constant as Fixed,
+}
 use Rattle.djq_query.specs.declared.numbered.NumberedAtom.{NumberedAtom}
 use Rattle.djq_query.specs.Numbered.{Numbered, is_number}
 use Rattle.djq_query.specs.Pattern.{Shape, bound, filled}

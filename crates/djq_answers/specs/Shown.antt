@@ -1,5 +1,18 @@
 -- The answers of a query, as the answers of its tree show them.
-use Rattle.std.specs.Prelude.{◌≡◌, ◌↔◌, ⊤, ℕ, List, [], ◌∷◌, map, slice_index, All, AllPairs, Contains}
+use Rattle.std.specs.Prelude.{
+  ◌≡◌,
+  ◌↔◌,
+  ⊤,
+  ℕ,
+  List,
+  [],
+  ◌∷◌,
+  map,
+  slice_index,
+  All,
+  AllPairs,
+  Contains,
+}
 use Rattle.djq_model.specs.declared.value.Value.{Value}
 use Rattle.djq_model.specs.declared.query.Query.{Query}
 use Rattle.djq_model.specs.Data.{Bytes, Tuple}

@@ -1,4 +1,6 @@
-ghost use Rattle.djq_answers.specs.Changes.{OverStays, OverGains, OverLoses, AddedCame, DeletedWent};
+ghost use Rattle.djq_answers.specs.Changes.{OverStays, OverGains, OverLoses};
+ghost use Rattle.djq_answers.specs.Changes.{AddedCame, DeletedWent};
+ghost use Rattle.djq_answers.specs.Changes.{LeafIsEmpty, LeafGains, LeafIsFilled};
 
 /// Where no rows change, the reducts stay those of the query, however many texts and relations more
 /// there are.
@@ -25,4 +27,19 @@ pub fn added_came()
 /// A row that a catalog deleted went.
 pub fn deleted_went()
     ensures { DeletedWent }
+{}
+
+/// A leaf without tuples holds those of no rows.
+pub fn leaf_is_empty()
+    ensures { LeafIsEmpty }
+{}
+
+/// A leaf that gains a row's tuples holds those of the rows before and of that row.
+pub fn leaf_gains()
+    ensures { LeafGains }
+{}
+
+/// A leaf that holds the tuples of all rows of a relation holds what it should.
+pub fn leaf_is_filled()
+    ensures { LeafIsFilled }
 {}

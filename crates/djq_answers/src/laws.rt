@@ -1,5 +1,6 @@
 ghost use Rattle.djq_answers.specs.Asked.{NumberedIsAsked};
-ghost use Rattle.djq_answers.specs.Shown.{AnswersAreShown, AnswersAreListed, AnswersDiffer, AnswersStand};
+ghost use Rattle.djq_answers.specs.Shown.{AnswersAreShown, AnswersAreListed};
+ghost use Rattle.djq_answers.specs.Shown.{AnswersDiffer, AnswersStand};
 
 /// A tuple of values is an answer of the query exactly where an answer of the tree shows it: a
 /// tuple of cells whose projection on every node of `out` is in the node's table (Idris, Ugarte and

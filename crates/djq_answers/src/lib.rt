@@ -3,7 +3,8 @@
 //! Each function here is empty: its contract is a law, which the crates above cite. They speak of a
 //! catalog, a query, the query over numbers, its atoms' patterns, and the reducts of a tree whose
 //! leaves hold what the patterns match: `specs/Leaves.antt` says so in `IsOver`, which is meant to
-//! be the invariant of one registered query.
+//! be the invariant of one registered query. [`numbered_is_asked`] and the laws of a leaf's filling
+//! establish it, [`over_gains`] and [`over_loses`] keep it where a row comes or goes.
 //!
 //! ```text
 //! q(z,x) <- r(x,_), s(x,z,3)     x is 0, _ is 1, z is 2; the head is 2, 0
@@ -25,7 +26,10 @@
 //! the cell of the row where it stands.
 #![tactic(auto)]
 
-pub use changes::{added_came, deleted_went, over_gains, over_loses, over_stays};
+pub use changes::{
+    added_came, deleted_went, leaf_gains, leaf_is_empty, leaf_is_filled, over_gains, over_loses,
+    over_stays,
+};
 pub use laws::{
     answers_are_listed, answers_are_shown, answers_differ, answers_stand, numbered_is_asked,
 };
