@@ -1,0 +1,17 @@
+pub mod Columns
+pub mod Above
+pub mod Tabling
+pub mod Filling
+pub mod Binding
+pub mod Rows
+pub mod Terms
+pub mod Holes
+pub mod Atoms
+pub mod Heads
+pub mod Showing
+pub mod Members
+pub mod Later
+pub mod Changing
+pub mod Placing
+pub mod Typing
+pub mod Filled

@@ -1,0 +1,98 @@
+-- A query that is asked of a catalog, and the query over numbers that stands for it.
+use Rattle.std.specs.Prelude.{
+  ◌≡◌,
+  ⊤,
+  ℕ,
+  ◌<◌,
+  true,
+  List,
+  [],
+  ◌∷◌,
+  length,
+  map,
+  Option,
+  None,
+  Some,
+  slice_get,
+}
+use Rattle.djq_model.specs.declared.relation.ColumnType.{ColumnType}
+use Rattle.djq_model.specs.declared.relation.ColumnType.TheVariants.{Int as IntColumn}
+use Rattle.djq_model.specs.declared.query.Query.{Query}
+use Rattle.djq_model.specs.declared.query.Atom.{Atom}
+use Rattle.djq_model.specs.Data.{Bytes}
+use Rattle.djq_model.specs.Typed.{is_of}
+use Rattle.djq_lines.specs.QueryFault.{query_fault}
+use Rattle.djq_query.specs.declared.numbered.Variable.{Variable}
+use Rattle.djq_query.specs.declared.numbered.NumberedTerm.{NumberedTerm}
+use Rattle.djq_query.specs.declared.numbered.NumberedTerm.TheVariants.{
+  Variable as Number,
+  Constant as Fixed,
+}
+use Rattle.djq_query.specs.declared.numbered.NumberedAtom.{NumberedAtom}
+use Rattle.djq_query.specs.Numbered.{Numbered, IsNumbered, labels, number_of}
+use Rattle.djq_query.specs.Meaning.{AreShown, Rise, holes_in}
+use Rattle.djq_rows.specs.Cells.{HasCell}
+use Rattle.djq_rows.specs.Catalog.{Catalog, IsCatalog, relation_at}
+
+-- the type of the columns where a variable stands
+abbrev pub column_in : Option Variable → ColumnType
+column_in None = IntColumn
+column_in (Some v) = v.column
+
+abbrev pub column_of : List Variable → ℕ → ColumnType
+column_of variables x = column_in (slice_get variables x)
+
+-- A term suits a column of this type where it is of this type; and a constant has a cell.
+abbrev pub Suits : List Bytes → List Variable → NumberedTerm → ColumnType → Type 0
+Suits texts variables (Number x) c = column_of variables x ≡ c
+Suits texts variables (Fixed v) c = (is_of c v ≡ true) × HasCell texts v
+
+-- terms suit columns, one by one
+abbrev pub AreSuited : List Bytes → List Variable → List NumberedTerm → List ColumnType → Type 0
+AreSuited texts variables [] [] = ⊤
+AreSuited texts variables (t ∷ ts) (c ∷ cs) =
+    Suits texts variables t c × AreSuited texts variables ts cs
+AreSuited texts variables [] (c ∷ cs) = ⊥
+AreSuited texts variables (t ∷ ts) [] = ⊥
+
+-- an atom by number stands for an atom: it is over the same relation, with the same terms, which
+-- suit the relation's columns
+pub record IsAtomOf (c : Catalog) (variables : List Variable) (a : Atom) (m : NumberedAtom) :
+    Type 0 where
+  pub below : m.relation < length c.relations
+  pub named : (relation_at c.relations m.relation).name ≡ a.relation
+  pub shown : AreShown (labels variables) a.terms m.terms
+  pub suited : AreSuited c.texts variables m.terms (relation_at c.relations m.relation).types
+
+abbrev pub AreAtomsOf : Catalog → List Variable → List Atom → List NumberedAtom → Type 0
+AreAtomsOf c variables [] [] = ⊤
+AreAtomsOf c variables (a ∷ atoms) (m ∷ ms) =
+    IsAtomOf c variables a m × AreAtomsOf c variables atoms ms
+AreAtomsOf c variables [] (m ∷ ms) = ⊥
+AreAtomsOf c variables (a ∷ atoms) [] = ⊥
+
+-- A query over numbers stands for a query over a catalog: atom by atom, each name has one number,
+-- each hole has one of its own, and the head's numbers have the head's names.
+pub record IsAsked (c : Catalog) (q : Query) (n : Numbered) : Type 0 where
+  pub catalog : IsCatalog c
+  pub atoms : AreAtomsOf c n.variables q.atoms n.atoms
+  pub one : (x : ℕ) (name : Bytes) → slice_get (labels n.variables) x ≡ Some (Some name)
+      → number_of (labels n.variables) name ≡ x
+  pub fresh : Rise 0 (holes_in q.atoms n.atoms)
+  pub head : map (slice_get (labels n.variables)) n.head ≡ map (λ x. Some (Some x)) q.head
+
+-- constants have cells
+abbrev pub HasConstant : List Bytes → NumberedTerm → Type 0
+HasConstant texts (Number x) = ⊤
+HasConstant texts (Fixed v) = HasCell texts v
+
+abbrev pub HaveConstants : List Bytes → List NumberedTerm → Type 0
+HaveConstants texts [] = ⊤
+HaveConstants texts (t ∷ ts) = HasConstant texts t × HaveConstants texts ts
+
+-- A query without a fault is asked by its numbers once its constants have cells.
+abbrev pub NumberedIsAsked : Type 0
+NumberedIsAsked = (c : Catalog) (q : Query) (n : Numbered) → IsCatalog c
+    → query_fault c.relations q ≡ None → IsNumbered c.relations q n
+    → ((j : ℕ) (m : NumberedAtom) → slice_get n.atoms j ≡ Some m → HaveConstants c.texts m.terms)
+    → IsAsked c q n

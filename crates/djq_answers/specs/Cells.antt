@@ -1,0 +1,30 @@
+-- What it means that cells satisfy an atom.
+use Rattle.std.specs.Prelude.{◌≡◌, ℕ, List, Contains, map}
+use Rattle.djq_model.specs.Data.{Bytes, Tuple}
+use Rattle.djq_query.specs.declared.numbered.NumberedTerm.{NumberedTerm}
+use Rattle.djq_query.specs.declared.numbered.NumberedTerm.TheVariants.{
+  Variable as Number,
+  Constant as Fixed,
+}
+use Rattle.djq_query.specs.declared.numbered.NumberedAtom.{NumberedAtom}
+use Rattle.djq_rows.specs.Cells.{cell_of, cells_of}
+use Rattle.djq_rows.specs.Catalog.{Catalog, rows_at}
+
+-- An assignment of cells gives a cell to each variable, by its number.
+abbrev pub Assignment : Type 0
+Assignment = ℕ → ℕ
+
+-- the cells are those of a row of the relation at a place
+pub record AreRowOf (c : Catalog) (at : ℕ) (cells : List ℕ) : Type 0 where
+  pub row : Tuple
+  pub there : Contains (rows_at c.relations at) row
+  pub are : cells ≡ cells_of c.texts row
+
+-- the cell that a term stands for
+abbrev pub cell_under : List Bytes → Assignment → NumberedTerm → ℕ
+cell_under texts a (Number x) = a x
+cell_under texts a (Fixed v) = cell_of texts v
+
+-- An assignment satisfies an atom where the cells of its terms are those of a row of its relation.
+abbrev pub IsSatisfied : Catalog → Assignment → NumberedAtom → Type 0
+IsSatisfied c a m = AreRowOf c m.relation (map (cell_under c.texts a) m.terms)
