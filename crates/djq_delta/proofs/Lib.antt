@@ -1,4 +1,5 @@
 pub mod Paths
+pub mod Updates
 pub mod Parts
 pub mod Marking
 pub mod Telling

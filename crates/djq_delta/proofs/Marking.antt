@@ -50,55 +50,55 @@ use Rattle.djq_cursor.proofs.Good.{
   good_meet,
 }
 use Rattle.djq_cursor.proofs.Stepping.{Joins, source_child, step_child, step_else, good_step}
-use Rattle.djq_delta.specs.Path.{path_node}
-use Rattle.djq_delta.specs.Marks.{IsMarkedAt, agreeing, AreMarks}
-use Rattle.djq_delta.specs.Changed.{IsChanged}
+use Rattle.djq_reduct.specs.Marks.{path_at, agreeing}
+use Rattle.djq_delta.specs.Changed.{IsMarkedAt, IsChanged}
+use Rattle.djq_delta.proofs.Updates.{agreed, IsUpdated}
 use Rattle.djq_delta.proofs.Paths.{path_on, path_off, path_up}
 
 -- ---- which marked tuples agree, by the kind of node
 
 pub agree_trim : (ts : List Table) (j c : ℕ) (w : List ℕ)
-    → agreeing (Trim c) j ts w ≡ many (key_at ts c) (marks (entries_at ts c)) w
+    → agreed (Trim c) j ts w ≡ many (key_at ts c) (marks (entries_at ts j)) w
 unfolding agreeing
 agree_trim ts j c w = refl
 
 agree_guard : (ts : List Table) (g s : ℕ) (w : List ℕ)
-    → agreeing (Meet g s) g ts w ≡ cnt (marks (entries_at ts g)) w
+    → agreed (Meet g s) g ts w ≡ cnt (marks (entries_at ts g)) w
 unfolding agreeing
 agree_guard ts g s w = ap
     (λ (b : Bool). cond b (cnt (marks (entries_at ts g)) w)
-    (cnt (marks (entries_at ts s)) (pick (key_at ts g) w))) (eq-eqb g g refl)
+    (cnt (marks (entries_at ts g)) (pick (key_at ts g) w))) (eq-eqb g g refl)
 
 agree_side : (ts : List Table) (g s : ℕ) (w : List ℕ) → g ≢ s
-    → agreeing (Meet g s) s ts w ≡ cnt (marks (entries_at ts s)) (pick (key_at ts g) w)
+    → agreed (Meet g s) s ts w ≡ cnt (marks (entries_at ts s)) (pick (key_at ts g) w)
 unfolding agreeing
 agree_side ts g s w apart = ap
-    (λ (b : Bool). cond b (cnt (marks (entries_at ts g)) w)
+    (λ (b : Bool). cond b (cnt (marks (entries_at ts s)) w)
     (cnt (marks (entries_at ts s)) (pick (key_at ts g) w))) (ne_eqb g s apart)
 
 -- the projection of an answer, or of a state, on the path's node below k is marked
 abbrev pub OnPath : Reducts → ℕ → ℕ → List ℕ → Type 0
-OnPath r a k s = IsMarkedAt r.tables (path_node r.tree.nodes a k)
-    (on_node r.tree (path_node r.tree.nodes a k) s)
+OnPath r a k s = IsMarkedAt r.tables (path_at r.tree.nodes a k)
+    (on_node r.tree (path_at r.tree.nodes a k) s)
 
 -- at a meet the two are one
 meet_agrees : (r : Reducts) (k g d j : ℕ) (s : List ℕ) → IsReducts r → k < length r.tree.nodes
     → node_at r.tree.nodes k ≡ Meet g d → has_child (node_at r.tree.nodes k) j ≡ true
-    → agreeing (node_at r.tree.nodes k) j r.tables (on_node r.tree k s) ≡ cnt
+    → agreed (node_at r.tree.nodes k) j r.tables (on_node r.tree k s) ≡ cnt
     (marks (entries_at r.tables j)) (on_node r.tree j s)
 meet_agrees r k g d j s h within e child =
     let t = r.tree in
     let m = h.family.is_tree.meet k g d e in
-    ap (λ (n : Node). agreeing n j r.tables (on_node t k s)) e
+    ap (λ (n : Node). agreed n j r.tables (on_node t k s)) e
     ∙ elim (meet_child t k g d j e child) [
       | inl guard ↦
-          subst (λ (i : ℕ). agreeing (Meet g d) i r.tables (on_node t k s) ≡ cnt
+          subst (λ (i : ℕ). agreed (Meet g d) i r.tables (on_node t k s) ≡ cnt
           (marks (entries_at r.tables i)) (on_node t i s)) guard
           (agree_guard r.tables g d (on_node t k s)
           ∙ ap (λ (u : List ℕ). cnt (marks (entries_at r.tables g)) u)
           (node_label t k g s m.guard))
       | inr side ↦
-          subst (λ (i : ℕ). agreeing (Meet g d) i r.tables (on_node t k s) ≡ cnt
+          subst (λ (i : ℕ). agreed (Meet g d) i r.tables (on_node t k s) ≡ cnt
           (marks (entries_at r.tables i)) (on_node t i s)) side
           (agree_side r.tables g d (on_node t k s) m.apart
           ∙ ap (λ (u : List ℕ). cnt (marks (entries_at r.tables d)) u)
@@ -109,7 +109,7 @@ meet_agrees r k g d j s h within e child =
 trim_agrees : (r : Reducts) (k c j : ℕ) (s : List ℕ) → IsReducts r → k < length r.tree.nodes
     → node_at r.tree.nodes k ≡ Trim c → has_child (node_at r.tree.nodes k) j ≡ true
     → IsMarkedAt r.tables j (on_node r.tree j s)
-    → 0 < agreeing (node_at r.tree.nodes k) j r.tables (on_node r.tree k s)
+    → 0 < agreed (node_at r.tree.nodes k) j r.tables (on_node r.tree k s)
 trim_agrees r k c j s h within e child marked =
     let t = r.tree in
     let same = trim_only t k c j e child in
@@ -121,17 +121,19 @@ trim_agrees r k c j s h within e child marked =
     (h.family.is_tree.trim k c e).within) in
     let m = many_of (key_at r.tables c) (marks (entries_at r.tables c)) (on_node t k s)
     (on_node t c s) there key in
-    let a : agreeing (node_at t.nodes k) j r.tables (on_node t k s) ≡ many (key_at r.tables c)
+    let a : agreed (node_at t.nodes k) j r.tables (on_node t k s) ≡ many (key_at r.tables c)
     (marks (entries_at r.tables c)) (on_node t k s) =
-    ap (λ (n : Node). agreeing n j r.tables (on_node t k s)) e
-    ∙ agree_trim r.tables j c (on_node t k s) in
+    ap (λ (n : Node). agreed n j r.tables (on_node t k s)) e
+    ∙ agree_trim r.tables j c (on_node t k s)
+    ∙ ap (λ (i : ℕ). many (key_at r.tables c) (marks (entries_at r.tables i)) (on_node t k s))
+    (sym same) in
     omega arith
 
 agrees_kind : (r : Reducts) (k j : ℕ) (n : Node) (s : List ℕ) → IsReducts r
     → r.tree.second_stage ≤ k → k < length r.tree.nodes → node_at r.tree.nodes k ≡ n
     → has_child (node_at r.tree.nodes k) j ≡ true
     → IsMarkedAt r.tables j (on_node r.tree j s)
-    → 0 < agreeing (node_at r.tree.nodes k) j r.tables (on_node r.tree k s)
+    → 0 < agreed (node_at r.tree.nodes k) j r.tables (on_node r.tree k s)
 agrees_kind r k j (Leaf b) s h late within e child marked = absurd
     (let low = h.family.is_tree.inner k b within e in let st = h.family.is_tree.stages.0 in omega
     arith)
@@ -142,11 +144,11 @@ agrees_kind r k j (Meet g d) s h late within e child marked =
 
 -- ---- up
 
-up_step : (r : Reducts) (a k : ℕ) (b : List ℕ) → IsReducts r → AreMarks r a → IsAnswerOf r b
+up_step : (r : Reducts) (a k : ℕ) (b : List ℕ) → IsReducts r → IsUpdated r a → IsAnswerOf r b
     → r.tree.second_stage ≤ k → k < length r.tree.nodes → OnPath r a k b → OnPath r a (suc k) b
 up_step r a k b h m answer late within marked =
     let t = r.tree in
-    let p = path_node t.nodes a k in
+    let p = path_at t.nodes a k in
     elim (cases_Bool (has_child (node_at t.nodes k) p)) [
       | inl on ↦
           let live = answer.there k (late_out t k h.family.is_tree late within) in
@@ -157,7 +159,7 @@ up_step r a k b h m answer late within marked =
           (sym (path_off t.nodes a k off)) marked
     ]
 
-up_at : (r : Reducts) (a n k : ℕ) (b : List ℕ) → IsReducts r → AreMarks r a → IsChanged r a b
+up_at : (r : Reducts) (a n k : ℕ) (b : List ℕ) → IsReducts r → IsUpdated r a → IsChanged r a b
     → k ≡ r.tree.second_stage + n → k ≤ length r.tree.nodes → OnPath r a k b
 up_at r a zero k b h m changed at high = subst (λ (i : ℕ). OnPath r a i b) (omega arith)
     changed.marked
@@ -166,7 +168,7 @@ up_at r a (suc n) (suc k) b h m changed at high = up_step r a k b h m changed.an
     (omega arith) (up_at r a n k b h m changed (omega arith) (omega arith))
 
 -- an answer that is changed is marked on all of the path
-pub marked_up : (r : Reducts) (a k : ℕ) (b : List ℕ) → IsReducts r → AreMarks r a → IsChanged r a b
+pub marked_up : (r : Reducts) (a k : ℕ) (b : List ℕ) → IsReducts r → IsUpdated r a → IsChanged r a b
     → r.tree.second_stage ≤ k → k ≤ length r.tree.nodes → OnPath r a k b
 marked_up r a k b h m changed late high = up_at r a (k - r.tree.second_stage) k b h m changed
     (omega arith) high
@@ -178,25 +180,25 @@ pub record IsMarkedGood (r : Reducts) (a k : ℕ) (s : List ℕ) : Type 0 where
   pub good : IsGood r k s
   pub marked : OnPath r a k s
 
-down_on : (r : Reducts) (a k : ℕ) (s : List ℕ) → IsReducts r → AreMarks r a
+down_on : (r : Reducts) (a k : ℕ) (s : List ℕ) → IsReducts r → IsUpdated r a
     → r.tree.second_stage ≤ k → k < length r.tree.nodes
-    → has_child (node_at r.tree.nodes k) (path_node r.tree.nodes a k) ≡ true
+    → has_child (node_at r.tree.nodes k) (path_at r.tree.nodes a k) ≡ true
     → IsMarkedGood r a (suc k) s
-    → 0 < agreeing (node_at r.tree.nodes k) (path_node r.tree.nodes a k) r.tables
+    → 0 < agreed (node_at r.tree.nodes k) (path_at r.tree.nodes a k) r.tables
     (on_node r.tree k s)
 down_on r a k s h m late within on g =
     let marked = subst (λ (i : ℕ). IsMarkedAt r.tables i (on_node r.tree i s))
     (path_on r.tree.nodes a k on) g.marked in
     (m.above k (on_node r.tree k s) late on (node_in r k s h within g.good)).0 marked
 
-pub marked_meet : (r : Reducts) (a k g d : ℕ) (s : List ℕ) → IsReducts r → AreMarks r a
+pub marked_meet : (r : Reducts) (a k g d : ℕ) (s : List ℕ) → IsReducts r → IsUpdated r a
     → r.tree.second_stage ≤ k → k < length r.tree.nodes → node_at r.tree.nodes k ≡ Meet g d
     → IsMarkedGood r a (suc k) s → IsMarkedGood r a k s
 marked_meet r a k g d s h m late within e good = record {
   good = good_meet r k g d s h late within e good.good;
   marked =
       (let t = r.tree in
-      let p = path_node t.nodes a k in
+      let p = path_at t.nodes a k in
       elim (cases_Bool (has_child (node_at t.nodes k) p)) [
         | inl on ↦ (let q = down_on r a k s h m late within on good in let same = meet_agrees r k g
             d p s h within e on in omega arith)
@@ -206,30 +208,33 @@ marked_meet r a k g d s h m late within e good = record {
 }
 
 -- on the path a level's group has marked tuples, and a marked one is chosen
-pub group_has_marks : (r : Reducts) (a k : ℕ) (s : List ℕ) → IsReducts r → AreMarks r a
-    → IsLevel r.tree k → has_child (node_at r.tree.nodes k) (path_node r.tree.nodes a k) ≡ true
+pub group_has_marks : (r : Reducts) (a k : ℕ) (s : List ℕ) → IsReducts r → IsUpdated r a
+    → IsLevel r.tree k → has_child (node_at r.tree.nodes k) (path_at r.tree.nodes a k) ≡ true
     → IsMarkedGood r a (suc k) s
     → 0 < many (key_at r.tables (source r.tree k)) (marks (entries_at r.tables (source r.tree k)))
     (on_node r.tree k s)
 group_has_marks r a k s h m l on good =
     let t = r.tree in
     let q = down_on r a k s h m l.late l.within on good in
-    let e : agreeing (node_at t.nodes k) (path_node t.nodes a k) r.tables (on_node t k s) ≡ many
+    let e : agreed (node_at t.nodes k) (path_at t.nodes a k) r.tables (on_node t k s) ≡ many
     (key_at r.tables (source t k)) (marks (entries_at r.tables (source t k))) (on_node t k s) =
-    ap (λ (n : Node). agreeing n (path_node t.nodes a k) r.tables (on_node t k s))
+    ap (λ (n : Node). agreed n (path_at t.nodes a k) r.tables (on_node t k s))
     (level_trim t k l)
-    ∙ agree_trim r.tables (path_node t.nodes a k) (source t k) (on_node t k s) in
+    ∙ agree_trim r.tables (path_at t.nodes a k) (source t k) (on_node t k s)
+    ∙ ap (λ (i : ℕ). many (key_at r.tables (source t k)) (marks (entries_at r.tables i))
+    (on_node t k s)) (sym (trim_only t k (source t k) (path_at t.nodes a k) (level_trim t k l) on))
+    in
     omega arith
 
-pub marked_step : (r : Reducts) (a k : ℕ) (s u : List ℕ) → IsReducts r → AreMarks r a
+pub marked_step : (r : Reducts) (a k : ℕ) (s u : List ℕ) → IsReducts r → IsUpdated r a
     → IsMarkedGood r a (suc k) s → (j : Joins r k s u)
-    → (has_child (node_at r.tree.nodes k) (path_node r.tree.nodes a k) ≡ true
+    → (has_child (node_at r.tree.nodes k) (path_at r.tree.nodes a k) ≡ true
     → IsMarkedAt r.tables (source r.tree k) u) → IsMarkedGood r a k (step r.tree k s u)
 marked_step r a k s u h m good j chosen = record {
   good = good_step r k s u h j good.good;
   marked =
       (let t = r.tree in
-      let p = path_node t.nodes a k in
+      let p = path_at t.nodes a k in
       let n = step t k s u in
       elim (cases_Bool (has_child (node_at t.nodes k) p)) [
         | inl on ↦

@@ -43,9 +43,9 @@ use Rattle.djq_cursor.proofs.Stepping.{source_child, joins, group_in, answer_in,
 use Rattle.djq_cursor.proofs.Leaves.{IsGuide, blank_wide, good_top}
 use Rattle.djq_cursor.proofs.Listed.{IsEntered, Whole, clear_of, whole_of}
 use Rattle.djq_cursor.proofs.Checking.{answer_of}
-use Rattle.djq_delta.specs.Path.{path_node}
-use Rattle.djq_delta.specs.Marks.{IsMarkedAt, AreMarks}
-use Rattle.djq_delta.specs.Changed.{entry_node, IsChanged, IsGained, IsWithout}
+use Rattle.djq_reduct.specs.Marks.{path_at}
+use Rattle.djq_delta.specs.Changed.{IsMarkedAt, entry_node, IsChanged, IsGained}
+use Rattle.djq_delta.proofs.Updates.{IsUpdated, IsLess}
 use Rattle.djq_delta.specs.Given.{changed_at, root_marked}
 use Rattle.djq_delta.proofs.Paths.{path_up, path_top}
 use Rattle.djq_delta.proofs.Parts.{
@@ -131,7 +131,7 @@ none_many key es w h =
 
 -- ---- they lead to the answers that are changed
 
-changed_picked : (r : Reducts) (a k : ℕ) (s b : List ℕ) → IsReducts r → AreMarks r a
+changed_picked : (r : Reducts) (a k : ℕ) (s b : List ℕ) → IsReducts r → IsUpdated r a
     → IsLevel r.tree k → IsChanged r a b → AreAlike r.tree (suc k) s b
     → has (changed_at r k (on_node r.tree k s)) (on_node r.tree (source r.tree k) b) ≡ true
 changed_picked r a k s b h m l changed alike =
@@ -141,7 +141,7 @@ changed_picked r a k s b h m l changed alike =
     let within = l.within in
     in_changed r k (on_node t k s) (on_node t c b) (answer_in r k s b h l changed.answer alike)
     (λ some.
-    elim (cases_eq c (path_node t.nodes a k)) [
+    elim (cases_eq c (path_at t.nodes a k)) [
       | inl on ↦ subst (λ (i : ℕ). IsMarkedAt r.tables i (on_node t i b)) (sym on)
           (marked_up r a k b h m changed late (omega arith))
       | inr off ↦ absurd
@@ -149,7 +149,7 @@ changed_picked r a k s b h m l changed alike =
           (λ u. m.off k c u late (source_child t k l) off) in omega arith)
     ])
 
-pub changed_guide : (r : Reducts) (a : ℕ) → IsReducts r → AreMarks r a
+pub changed_guide : (r : Reducts) (a : ℕ) → IsReducts r → IsUpdated r a
     → IsGuide r (changed_at r) (IsMarkedGood r a) (IsChanged r a)
 changed_guide r a h m = record {
   group = λ k w u on. changed_in r k w u on;
@@ -181,20 +181,20 @@ unfolding root_marked
 marked_false r e there = false≢true
     (sym e ∙ lt-ltb 0 (cnt (marks (entries_at r.tables (length r.tree.nodes - 1))) []) there)
 
-leaf_below : (r : Reducts) (a : ℕ) → IsReducts r → AreMarks r a → a < length r.tree.nodes
+leaf_below : (r : Reducts) (a : ℕ) → IsReducts r → IsUpdated r a → a < length r.tree.nodes
 leaf_below r a h m = (let l = m.leaf in let f = h.family.is_tree.fits in omega arith)
 
-top_is : (r : Reducts) (a : ℕ) (s : List ℕ) → IsReducts r → AreMarks r a → (P : List ℕ → ℕ → Type 0)
+top_is : (r : Reducts) (a : ℕ) (s : List ℕ) → IsReducts r → IsUpdated r a → (P : List ℕ → ℕ → Type 0)
     → P [] (length r.tree.nodes - 1)
-    → P (on_node r.tree (path_node r.tree.nodes a (length r.tree.nodes)) s)
-    (path_node r.tree.nodes a (length r.tree.nodes))
+    → P (on_node r.tree (path_at r.tree.nodes a (length r.tree.nodes)) s)
+    (path_at r.tree.nodes a (length r.tree.nodes))
 top_is r a s h m P p =
     let top = path_top r.tree a h.family.is_tree (leaf_below r a h m) in
     subst (λ (i : ℕ). P (on_node r.tree i s) i) (sym top)
     (subst (λ (u : List ℕ). P u (length r.tree.nodes - 1))
     (sym (root_node r.tree s h.family.is_tree)) p)
 
-pub changed_entered : (r : Reducts) (a : ℕ) → IsReducts r → AreMarks r a
+pub changed_entered : (r : Reducts) (a : ℕ) → IsReducts r → IsUpdated r a
     → IsEntered r (IsMarkedGood r a) (IsChanged r a) (root_marked r)
 changed_entered r a h m = record {
   good = λ is.
@@ -214,12 +214,12 @@ changed_entered r a h m = record {
       (root_node r.tree b h.family.is_tree) root);
 }
 
-pub changed_clear : (r : Reducts) (a : ℕ) → IsReducts r → AreMarks r a
+pub changed_clear : (r : Reducts) (a : ℕ) → IsReducts r → IsUpdated r a
     → IsClear r.tree (changed_at r) (root_marked r)
 changed_clear r a h m = clear_of r (changed_at r) (IsMarkedGood r a) (IsChanged r a) (root_marked r)
     h (changed_guide r a h m) (changed_entered r a h m)
 
-pub changed_answers : (r : Reducts) (a : ℕ) → IsReducts r → AreMarks r a
+pub changed_answers : (r : Reducts) (a : ℕ) → IsReducts r → IsUpdated r a
     → Whole (IsChanged r a) (all_given r (changed_at r) (root_marked r))
 changed_answers r a h m = whole_of r (changed_at r) (IsMarkedGood r a) (IsChanged r a)
     (root_marked r) h (changed_guide r a h m) (changed_entered r a h m)
@@ -240,18 +240,18 @@ entry_out r a h leaf =
           (entry_node r a) tree p.from p.child)
       | inr all ↦
           let last : t.second_stage ≡ length t.nodes = omega arith in
-          let top : entry_node r a ≡ length t.nodes - 1 = ap (λ (n : ℕ). path_node t.nodes a n) last
+          let top : entry_node r a ≡ length t.nodes - 1 = ap (λ (n : ℕ). path_at t.nodes a n) last
           ∙ path_top t a tree (omega arith) in
           ap (λ (i : ℕ). is_out t.out i) top ∙ tree.root_out
     ]
 
-projected : (big small : Reducts) (a j : ℕ) (b : List ℕ) → IsWithout big small a
+projected : (big small : Reducts) (a j : ℕ) (b : List ℕ) → IsLess big small a
     → on_node small.tree j b ≡ on_node big.tree j b
 projected big small a j b w = ap (λ (t : Tree). on_node t j b) w.same_tree
 
 -- what is marked there isn't in the others
 not_small : (big small : Reducts) (a : ℕ) (b : List ℕ) → IsReducts big → a < big.tree.leaves
-    → IsWithout big small a → IsChanged big a b → IsAnswerOf small b → ⊥
+    → IsLess big small a → IsChanged big a b → IsAnswerOf small b → ⊥
 not_small big small a b h leaf w changed answer =
     let f = entry_node big a in
     let out : is_out small.tree.out f ≡ true = ap (λ (t : Tree). is_out t.out f) w.same_tree
@@ -270,7 +270,7 @@ start_of t j low out = and_from (is_out t.out j) (nat_lt j t.second_stage) out
     (lt-ltb j t.second_stage low)
 
 -- and where it isn't marked there, it was an answer of the others
-still_answer : (big small : Reducts) (a : ℕ) (b : List ℕ) → IsWithout big small a → IsAnswerOf big b
+still_answer : (big small : Reducts) (a : ℕ) (b : List ℕ) → IsLess big small a → IsAnswerOf big b
     → cnt (marks (entries_at big.tables (entry_node big a)))
     (on_node big.tree (entry_node big a) b) ≡ 0 → IsAnswerOf small b
 still_answer big small a b w answer none =
@@ -297,8 +297,8 @@ still_answer big small a b w answer none =
           other in omega arith)
     ]))
 
-pub gained_is : (big small : Reducts) (a : ℕ) → IsReducts big → AreMarks big a
-    → IsWithout big small a → (b : List ℕ) → IsChanged big a b ↔ IsGained big small b
+pub gained_is : (big small : Reducts) (a : ℕ) → IsReducts big → IsUpdated big a
+    → IsLess big small a → (b : List ℕ) → IsChanged big a b ↔ IsGained big small b
 gained_is big small a h m w b = (
   λ changed. record { is = changed.answer; was_none = not_small big small a b h m.leaf w changed },
   λ gained. record {

@@ -11,7 +11,7 @@ use Rattle.djq_cursor.specs.Listing.{AreSome, IsListing}
 use Rattle.djq_cursor.specs.Walk.{all_given, given_by, FitsBy}
 use Rattle.djq_cursor.proofs.Listed.{given_some, given_listing, one_left, on_false_both}
 use Rattle.djq_delta.specs.declared.delta.DeltaCursor.{DeltaCursor}
-use Rattle.djq_delta.specs.Marks.{AreMarks}
+use Rattle.djq_delta.proofs.Updates.{IsUpdated}
 use Rattle.djq_delta.specs.Changed.{IsChanged}
 use Rattle.djq_delta.specs.Given.{changed_at, root_marked, told, DeltaFits}
 use Rattle.djq_delta.proofs.Telling.{changed_answers}
@@ -37,7 +37,7 @@ pub by_fits : (r : Reducts) (a : ℕ) (c : Cursor)
 unfolding DeltaFits
 by_fits r a c f = f
 
-pub told_some : (r : Reducts) (a b : ℕ) (c : Cursor) → IsReducts r → AreMarks r a
+pub told_some : (r : Reducts) (a b : ℕ) (c : Cursor) → IsReducts r → IsUpdated r a
     → FitsBy r (changed_at r) (root_marked r) c.state c.places
     → AreSome (IsChanged r a) (told r (record { leaf = b; cursor = c }))
 unfolding told
@@ -66,7 +66,7 @@ told_same r old a new b p q =
     (all_given r (changed_at r) (root_marked r)) p q
 
 pub told_end : (r : Reducts) (old : DeltaCursor) (a : ℕ) (new : Cursor) (x : List ℕ) (b : Bool)
-    → IsReducts r → AreMarks r a → FitsBy r (changed_at r) (root_marked r) new.state new.places
+    → IsReducts r → IsUpdated r a → FitsBy r (changed_at r) (root_marked r) new.state new.places
     → OnTrue b (given_by r (changed_at r) (root_marked r) new.state new.places ≡ given_by r
     (changed_at r) (root_marked r) (old.cursor).state (old.cursor).places ++ x ∷ [])
     → OnFalse b (given_by r (changed_at r) (root_marked r) (old.cursor).state

@@ -1,9 +1,10 @@
-ghost use Rattle.std.specs.Prelude.{◌≡◌, ◌↔◌, ◌+◌, ◌*◌, ◌≤◌, ℕ, List, false, [], ◌∷◌, ◌++◌, length};
+ghost use Rattle.std.specs.Prelude.{◌≡◌, ◌↔◌, ◌+◌, ◌*◌, ◌<◌, ◌≤◌, ℕ, List, false, [], ◌∷◌, ◌++◌, length};
 ghost use Rattle.std.specs.Bool.{OnTrue, OnFalse};
 ghost use Rattle.djq_reduct.specs.Reducts as spec;
+ghost use Rattle.djq_reduct.specs.Reducts.{IsReducts};
+ghost use Rattle.djq_reduct.specs.Marks.{AreMarks, IsWithout};
 ghost use Rattle.djq_cursor.specs.Listing.{AreSome, IsListing};
-ghost use Rattle.djq_delta.specs.Marks.{AreMarks};
-ghost use Rattle.djq_delta.specs.Changed.{IsChanged, IsGained, IsWithout};
+ghost use Rattle.djq_delta.specs.Changed.{IsChanged, IsGained};
 ghost use Rattle.djq_delta.specs.Given.{DeltaFits, told};
 
 use crate::marked::Marked;
@@ -47,7 +48,8 @@ impl DeltaCursor {
         answer: &mut Answer,
         listing: &mut Tally<L>,
     ) -> bool
-        requires marks { AreMarks reducts.now self.old.leaf }
+        requires leaf { self.old.leaf < reducts.now.tree.leaves }
+        requires marks { AreMarks reducts.now.tree reducts.now.tables self.old.leaf }
         requires fits { DeltaFits reducts.now self.old }
         ensures leaf { self.new.leaf ≡ self.old.leaf }
         ensures fits { DeltaFits reducts.now self.new }
@@ -65,12 +67,14 @@ impl DeltaCursor {
     }
 }
 
-/// What the changed answers are: those that the reducts have with what is marked, and don't have
-/// without it. So they are what an insertion brought, or what a removal will take. It does nothing.
+/// What the changed answers are: those that the reducts have with the marked tuples of the leaf, and
+/// don't have without them. So they are what an insertion brought, or what a removal will take. It
+/// does nothing.
 pub fn changes_are(reducts: &Reducts, leaf: usize)
-    requires { AreMarks reducts.now leaf }
-    ensures { (small : spec.Reducts) → IsWithout reducts.now small leaf → (b : List ℕ)
-        → IsChanged reducts.now leaf b ↔ IsGained reducts.now small b }
+    requires leaf { leaf < reducts.now.tree.leaves }
+    requires marks { AreMarks reducts.now.tree reducts.now.tables leaf }
+    ensures { (small : spec.Reducts) → IsReducts small → IsWithout reducts.now small leaf
+        → (b : List ℕ) → IsChanged reducts.now leaf b ↔ IsGained reducts.now small b }
 {
     reducts.laws();
 }

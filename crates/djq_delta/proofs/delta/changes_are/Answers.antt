@@ -1,6 +1,11 @@
+use Rattle.djq_delta.proofs.Updates.{updated, less_of}
 use Rattle.djq_delta.proofs.Telling.{gained_is}
 use Rattle.djq_delta.proofs.delta.changes_are.Goals as goal
 
 pub returns : goal.returns
-returns c = λ small without b. gained_is c.args.reducts.now small c.args.leaf c.laws.ensures.sound
-    c.requires without b
+returns c = λ small sound without b.
+    let big = c.args.reducts.now in
+    let a = c.args.leaf in
+    let reducts = c.laws.ensures.sound in
+    gained_is big small a reducts (updated big a reducts c.requires.leaf c.requires.marks)
+    (less_of big small a reducts sound c.requires.leaf c.requires.marks without) b
