@@ -12,7 +12,7 @@ use Rattle.djq_lines.specs.declared.answer.Refusal.TheVariants.{NoCursor, NoMemo
 use Rattle.djq_lines.specs.declared.command.Command.{Command}
 use Rattle.djq_lines.specs.declared.command.Command.TheVariants.{Rel, Add, Del, Query as Register, Drop, Open, Next, Close, Has, Watch, Unwatch, Explain, Quit, Stop}
 use Rattle.djq_lines.specs.Grammar.{Reading, refused, says as says_command}
-use Rattle.djq_lines.specs.Reply.{line, answer_line, refusal_line, ok_reply, add_reply, delete_reply, query_reply, has_reply, watch_reply, stale_line, text_of, listing_lines, bye, end_memory}
+use Rattle.djq_lines.specs.Reply.{line, answer_line, refusal_line, ok_reply, query_reply, has_reply, watch_reply, stale_line, text_of, listing_lines, bye, end_memory}
 use Rattle.djq_machine.specs.State.{Store, State, Session, Cursor, Position, open_at, stale, session_of, with_session, cursor_of, with_position, ended_by}
 use Rattle.djq_machine.specs.Stale.{by_relation, outdated_sessions, outdated_cursor}
 use Rattle.djq_machine.specs.Watch.{Telling, ChangeStep}

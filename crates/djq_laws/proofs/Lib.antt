@@ -13,3 +13,4 @@ pub mod Giving
 pub mod Courses
 pub mod Heading
 pub mod Stopping
+pub mod Adding

@@ -1,7 +1,7 @@
 -- What each part of a change keeps, the whole change keeps.
 use Rattle.std.specs.List.{list_any}
-use Rattle.std.specs.Prelude.{ℕ, List, [], ◌∷◌, ◌==◌, ◌≡◌, ◌++◌, ◌⊎◌, Bool, true, false, cond, Option, None, Some, IsSome, MatchOption, option_map}
-use Rattle.std.proofs.Common.{refl, sym, ap, ◌∙◌, subst, inl, inr}
+use Rattle.std.specs.Prelude.{ℕ, List, [], ◌==◌, ◌≡◌, ◌⊎◌, Bool, true, cond, Option, None, Some, IsSome, MatchOption, option_map}
+use Rattle.std.proofs.Common.{refl, sym, subst, inl, inr}
 use Rattle.djq_model.specs.Data.{Bytes, Tuple}
 use Rattle.djq_lines.specs.declared.answer.EndCause.{EndCause}
 use Rattle.djq_lines.specs.declared.answer.EndCause.TheVariants.{Slow, Memory}
@@ -11,7 +11,7 @@ use Rattle.djq_machine.specs.Effect.{Effect, queue_all}
 use Rattle.djq_machine.specs.Stale.{changed}
 use Rattle.djq_machine.specs.Run.{to_session}
 use Rattle.djq_machine.specs.Call.{IsOpen}
-use Rattle.djq_machine.specs.Watch.{is_watching, Delta, Telling, says_more, ends_more, watching, watcher_of, TellsWatcher, TellsSession, TellsDelta, RepliesLast, ChangeStep}
+use Rattle.djq_machine.specs.Watch.{Delta, Telling, says_more, ends_more, watching, watcher_of, TellsWatcher, TellsSession, TellsDelta, ChangeStep}
 use Rattle.djq_machine.proofs.Walks.{walk_keeps}
 use Rattle.djq_laws.specs.Moved.{EndsByRun}
 use Rattle.djq_laws.proofs.Finding.{some_and}

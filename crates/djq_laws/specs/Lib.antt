@@ -4,3 +4,4 @@ pub mod Sent
 pub mod Lines
 pub mod Course
 pub mod Given
+pub mod Added

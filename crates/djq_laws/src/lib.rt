@@ -16,6 +16,7 @@ ghost use Rattle.djq_laws.specs.Rising.{IdsRise};
 ghost use Rattle.djq_laws.specs.Sent.{SentBytes};
 ghost use Rattle.djq_laws.specs.Lines.{LinesInOrder};
 ghost use Rattle.djq_laws.specs.Given.{RunsGive, CoursesGive};
+ghost use Rattle.djq_laws.specs.Added.{DeltasAddUp};
 
 /// A session that is open stays so in every step that doesn't close it.
 pub fn stays_open()
@@ -73,4 +74,10 @@ pub fn runs_give()
 /// cursors gave.
 pub fn courses_give()
     ensures { CoursesGive }
+{}
+
+/// A listing and the delta of a change come to a listing of the answers behind it: a session that
+/// takes out the answers that went, and puts in those that came, has what it would list anew.
+pub fn deltas_add_up()
+    ensures { DeltasAddUp }
 {}

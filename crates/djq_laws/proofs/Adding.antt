@@ -1,0 +1,195 @@
+-- A listing and a delta come to a listing.
+use Rattle.std.specs.Prelude.{zero, suc, List, [], ◌∷◌, ◌≡◌, ◌++◌, ◌⊎◌, Bool, true, false, not, cond, filter, map, All, AllPairs, Contains}
+use Rattle.std.proofs.Common.{refl, ap, ◌∙◌, subst, inl, inr, arith}
+use Rattle.std.proofs.lemmas.List.Elements.{All-nil, All-cons, All-head, All-tail, All-append, All-contains, Contains-append_left, Contains-append_right, Contains-append_cases}
+use Rattle.std.proofs.lemmas.List.Kept.{AllPairs-filter, AllPairs-cons}
+use Rattle.djq_model.specs.Data.{Tuple, tuple_eq, has_row}
+use Rattle.djq_model.specs.Answer.{IsAnswer, IsListing}
+use Rattle.djq_model.specs.Equality.{tuple_eq-decides}
+use Rattle.djq_lines.specs.declared.answer.Sign.{Sign}
+use Rattle.djq_lines.specs.declared.answer.Sign.TheVariants.{Came, Went}
+use Rattle.djq_machine.specs.Delta.{Change, HasChanged, IsDelta}
+use Rattle.djq_laws.specs.Added.{same_sign, of_sign, added_up, DeltasAddUp}
+
+-- what a list contains
+nothing_there : {A : Type 0} (x : A) → Contains [] x → ⊥
+nothing_there x h = absurd (omega (arith, h.1))
+
+only_one : {A : Type 0} (y x : A) → Contains (y ∷ []) x → y ≡ x
+only_one y x (zero, l, e) = e
+only_one y x (suc k, l, e) = absurd (omega (arith, l))
+
+first_or_later : {A : Type 0} (y : A) (ys : List A) (x : A) → Contains (y ∷ ys) x → (y ≡ x) ⊎ Contains ys x
+first_or_later y ys x h = step (Contains-append_cases (y ∷ []) ys x h)
+  where
+    step : Contains (y ∷ []) x ⊎ Contains ys x → (y ≡ x) ⊎ Contains ys x
+    step (inl k) = inl (only_one y x k)
+    step (inr k) = inr k
+
+first_there : {A : Type 0} (y : A) (ys : List A) (x : A) → y ≡ x → Contains (y ∷ ys) x
+first_there y ys x e = (0, omega arith, e)
+
+later_there : {A : Type 0} (y : A) (ys : List A) (x : A) → Contains ys x → Contains (y ∷ ys) x
+later_there y ys x h = Contains-append_right (y ∷ []) ys x h
+
+-- whether a row is among rows
+pub row_found : (ts : List Tuple) (t : Tuple) → Contains ts t → has_row ts t ≡ true
+row_found [] t h = absurd (nothing_there t h)
+row_found (r ∷ rs) t h = step (first_or_later r rs t h) (tuple_eq r t) refl (λ k. row_found rs t k)
+  where
+    step : (r ≡ t) ⊎ Contains rs t → (b : Bool) → tuple_eq r t ≡ b → (Contains rs t → has_row rs t ≡ true) → cond b true (has_row rs t) ≡ true
+    step o true e more = refl
+    step (inl same) false e more = let yes : tuple_eq r t ≡ true = (tuple_eq-decides r t).1 same in absurd (cc (yes, e))
+    step (inr k) false e more = more k
+
+pub row_there : (ts : List Tuple) (t : Tuple) → has_row ts t ≡ true → Contains ts t
+row_there [] t h = absurd (cc)
+row_there (r ∷ rs) t h = step (tuple_eq r t) refl h (λ k. row_there rs t k)
+  where
+    step : (b : Bool) → tuple_eq r t ≡ b → cond b true (has_row rs t) ≡ true → (has_row rs t ≡ true → Contains rs t) → Contains (r ∷ rs) t
+    step true e k more = first_there r rs t ((tuple_eq-decides r t).0 e)
+    step false e k more = later_there r rs t (more k)
+
+-- what a filter keeps
+kept_hold : {A : Type 0} (P Q : A → Type 0) (p : A → Bool) (xs : List A) → ((x : A) → p x ≡ true → P x → Q x) → All P xs → All Q (filter p xs)
+kept_hold P Q p [] f h = All-nil Q
+kept_hold P Q p (x ∷ xs) f h = step (p x) refl (kept_hold P Q p xs f (All-tail P x xs h))
+  where
+    step : (b : Bool) → p x ≡ b → All Q (filter p xs) → All Q (cond b (x ∷ filter p xs) (filter p xs))
+    step true e rest = All-cons Q x (filter p xs) (f x e (All-head P x xs h)) rest
+    step false e rest = rest
+
+kept_there : {A : Type 0} (p : A → Bool) (xs : List A) (x : A) → p x ≡ true → Contains xs x → Contains (filter p xs) x
+kept_there p [] x e h = absurd (nothing_there x h)
+kept_there p (y ∷ ys) x e h = step (p y) refl (first_or_later y ys x h) (λ k. kept_there p ys x e k)
+  where
+    step : (b : Bool) → p y ≡ b → (y ≡ x) ⊎ Contains ys x → (Contains ys x → Contains (filter p ys) x) → Contains (cond b (y ∷ filter p ys) (filter p ys)) x
+    step true k (inl same) more = first_there y (filter p ys) x same
+    step true k (inr c) more = later_there y (filter p ys) x (more c)
+    step false k (inl same) more = let yes : p y ≡ true = ap p same ∙ e in absurd (cc (yes, k))
+    step false k (inr c) more = more c
+
+-- pairs of a list
+pairs_head : {A : Type 0} (R : A → A → Type 0) (x : A) (xs : List A) → AllPairs R (x ∷ xs) → All (R x) xs
+pairs_head R x xs h = λ k d lt. h 0 (suc k) d (omega arith) (omega (arith, lt))
+
+pairs_tail : {A : Type 0} (R : A → A → Type 0) (x : A) (xs : List A) → AllPairs R (x ∷ xs) → AllPairs R xs
+pairs_tail R x xs h = λ i j d lt within. h (suc i) (suc j) d (omega (arith, lt)) (omega (arith, within))
+
+pairs_join : {A : Type 0} (R : A → A → Type 0) (xs ys : List A) → AllPairs R xs → AllPairs R ys → All (λ x. All (R x) ys) xs → AllPairs R (xs ++ ys)
+pairs_join R [] ys h k apart = k
+pairs_join R (x ∷ xs) ys h k apart =
+    AllPairs-cons R x (xs ++ ys) (All-append (R x) xs ys (pairs_head R x xs h) (All-head (λ z. All (R z) ys) x xs apart))
+    (pairs_join R xs ys (pairs_tail R x xs h) k (All-tail (λ z. All (R z) ys) x xs apart))
+
+-- the answers of a sign
+sign_is : (s r : Sign) → same_sign s r ≡ true → r ≡ s
+sign_is Came Came h = refl
+sign_is Went Went h = refl
+sign_is Came Went h = absurd (cc)
+sign_is Went Came h = absurd (cc)
+
+sign_same : (s : Sign) → same_sign s s ≡ true
+sign_same Came = refl
+sign_same Went = refl
+
+sign_within : (P : Tuple → Type 0) (s : Sign) (cs : List Change) → All P (map (λ (c : Change). c.answer) cs) → All P (of_sign s cs)
+sign_within P s [] h = All-nil P
+sign_within P s (c ∷ cs) h =
+    step (same_sign s c.sign) (sign_within P s cs (All-tail P c.answer (map (λ (c : Change). c.answer) cs) h))
+  where
+    step : (b : Bool) → All P (of_sign s cs) → All P (cond b (c.answer ∷ of_sign s cs) (of_sign s cs))
+    step true rest = All-cons P c.answer (of_sign s cs) (All-head P c.answer (map (λ (c : Change). c.answer) cs) h) rest
+    step false rest = rest
+
+sign_different : (R : Tuple → Tuple → Type 0) (s : Sign) (cs : List Change) → AllPairs R (map (λ (c : Change). c.answer) cs) → AllPairs R (of_sign s cs)
+sign_different R s [] h = h
+sign_different R s (c ∷ cs) h =
+    let answers = map (λ (c : Change). c.answer) cs in
+    step (same_sign s c.sign) (sign_within (R c.answer) s cs (pairs_head R c.answer answers h)) (sign_different R s cs (pairs_tail R c.answer answers h))
+  where
+    step : (b : Bool) → All (R c.answer) (of_sign s cs) → AllPairs R (of_sign s cs) → AllPairs R (cond b (c.answer ∷ of_sign s cs) (of_sign s cs))
+    step true first rest = AllPairs-cons R c.answer (of_sign s cs) first rest
+    step false first rest = rest
+
+sign_changed : (Before After : Tuple → Type 0) (s : Sign) (cs : List Change) → All (λ (c : Change). HasChanged Before After c.sign c.answer) cs → All (HasChanged Before After s) (of_sign s cs)
+sign_changed Before After s [] h = All-nil (HasChanged Before After s)
+sign_changed Before After s (c ∷ cs) h =
+    step (same_sign s c.sign) refl (All-head (λ (c : Change). HasChanged Before After c.sign c.answer) c cs h)
+    (sign_changed Before After s cs (All-tail (λ (c : Change). HasChanged Before After c.sign c.answer) c cs h))
+  where
+    step : (b : Bool) → same_sign s c.sign ≡ b → HasChanged Before After c.sign c.answer → All (HasChanged Before After s) (of_sign s cs)
+        → All (HasChanged Before After s) (cond b (c.answer ∷ of_sign s cs) (of_sign s cs))
+    step true e first rest = All-cons (HasChanged Before After s) c.answer (of_sign s cs) (subst (λ (r : Sign). HasChanged Before After r c.answer) (sign_is s c.sign e) first) rest
+    step false e first rest = rest
+
+sign_there : (s : Sign) (t : Tuple) (cs : List Change) → Contains cs (record { sign = s; answer = t }) → Contains (of_sign s cs) t
+sign_there s t [] h = absurd (nothing_there (record { sign = s; answer = t }) h)
+sign_there s t (c ∷ cs) h = by (first_or_later c cs (record { sign = s; answer = t }) h) (λ k. sign_there s t cs k)
+  where
+    later : (b : Bool) → Contains (of_sign s cs) t → Contains (cond b (c.answer ∷ of_sign s cs) (of_sign s cs)) t
+    later true k = later_there c.answer (of_sign s cs) t k
+    later false k = k
+
+    here : (b : Bool) → b ≡ true → c.answer ≡ t → Contains (cond b (c.answer ∷ of_sign s cs) (of_sign s cs)) t
+    here true e same = first_there c.answer (of_sign s cs) t same
+    here false e same = absurd (cc)
+
+    by : (c ≡ record { sign = s; answer = t }) ⊎ Contains cs (record { sign = s; answer = t }) → (Contains cs (record { sign = s; answer = t }) → Contains (of_sign s cs) t)
+        → Contains (of_sign s (c ∷ cs)) t
+    by (inl e) more = here (same_sign s c.sign) (ap (λ (d : Change). same_sign s d.sign) e ∙ sign_same s) (ap (λ (d : Change). d.answer) e)
+    by (inr k) more = later (same_sign s c.sign) (more k)
+
+-- of a listing, a delta and what is listed behind it
+module _ (Before After : Tuple → Type 0) (ts us : List Tuple) (changes : List Change) (listing : IsListing Before ts) (delta : IsDelta Before After changes) (behind : IsListing After us) where
+  came_changed : All (HasChanged Before After Came) (of_sign Came changes)
+  came_changed = sign_changed Before After Came changes delta.changed
+
+  went_changed : All (HasChanged Before After Went) (of_sign Went changes)
+  went_changed = sign_changed Before After Went changes delta.changed
+
+  -- an answer before that didn't go is one afterwards
+  stays : (t : Tuple) → not (has_row (of_sign Went changes) t) ≡ true → Before t → After t
+  stays t e before = by (has_row us t) refl
+    where
+      by : (b : Bool) → has_row us t ≡ b → After t
+      by true k = All-contains After us t behind.answers (row_there us t k)
+      by false k =
+          let went : has_row (of_sign Went changes) t ≡ true = row_found (of_sign Went changes) t
+          (sign_there Went t changes (delta.complete Went t (before, λ a. let yes : has_row us t ≡ true = row_found us t (behind.complete t a) in absurd (cc (yes, k))))) in
+          let no : not (has_row (of_sign Went changes) t) ≡ false = ap not went in
+          absurd (cc (no, e))
+
+  -- an answer afterwards is one that was listed and is left, or came
+  is_listed : (t : Tuple) → After t → Contains (added_up ts changes) t
+  is_listed t after = by (has_row ts t) refl
+    where
+      not_gone : (b : Bool) → has_row (of_sign Went changes) t ≡ b → not b ≡ true
+      not_gone true k = absurd ((All-contains (HasChanged Before After Went) (of_sign Went changes) t went_changed (row_there (of_sign Went changes) t k)).1 after)
+      not_gone false k = refl
+
+      by : (b : Bool) → has_row ts t ≡ b → Contains (added_up ts changes) t
+      by true k =
+          Contains-append_left (filter (λ t. not (has_row (of_sign Went changes) t)) ts) (of_sign Came changes) t
+          (kept_there (λ t. not (has_row (of_sign Went changes) t)) ts t (not_gone (has_row (of_sign Went changes) t) refl) (row_there ts t k))
+      by false k =
+          Contains-append_right (filter (λ t. not (has_row (of_sign Went changes) t)) ts) (of_sign Came changes) t
+          (sign_there Came t changes (delta.complete Came t (after, λ b. let yes : has_row ts t ≡ true = row_found ts t (listing.complete t b) in absurd (cc (yes, k)))))
+
+  apart : All (λ x. All (λ y. x ≡ y → ⊥) (of_sign Came changes)) (filter (λ t. not (has_row (of_sign Went changes) t)) ts)
+  apart = kept_hold Before (λ x. All (λ y. x ≡ y → ⊥) (of_sign Came changes)) (λ t. not (has_row (of_sign Went changes) t)) ts
+      (λ x e before. λ k d lt same. (came_changed k d lt).1 (subst Before same before)) listing.answers
+
+  pub adds_up : IsListing After (added_up ts changes)
+  adds_up = record {
+    different = pairs_join (λ (s t : Tuple). s ≡ t → ⊥) (filter (λ t. not (has_row (of_sign Went changes) t)) ts) (of_sign Came changes)
+        (AllPairs-filter (λ (s t : Tuple). s ≡ t → ⊥) (λ t. not (has_row (of_sign Went changes) t)) ts listing.different)
+        (sign_different (λ (s t : Tuple). s ≡ t → ⊥) Came changes delta.different) apart;
+    answers = All-append After (filter (λ t. not (has_row (of_sign Went changes) t)) ts) (of_sign Came changes)
+        (kept_hold Before After (λ t. not (has_row (of_sign Went changes) t)) ts stays listing.answers)
+        (λ k d lt. (came_changed k d lt).0);
+    complete = is_listed;
+  }
+
+pub deltas_add_up : DeltasAddUp
+deltas_add_up before after q ts us changes listing delta behind = adds_up (IsAnswer before q) (IsAnswer after q) ts us changes listing delta behind

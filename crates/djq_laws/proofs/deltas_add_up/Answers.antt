@@ -1,0 +1,5 @@
+use Rattle.djq_laws.proofs.Adding.{deltas_add_up}
+use Rattle.djq_laws.proofs.deltas_add_up.Goals as goal
+
+pub returns : goal.returns
+returns c = deltas_add_up
