@@ -9,4 +9,5 @@ pub mod Touching
 pub mod Paths
 pub mod Updating
 pub mod Measuring
+pub mod Rooms
 pub mod Marking

@@ -44,7 +44,7 @@ length_many (e ∷ es) = omega (arith, length_many es, one_true (same [] []) sam
 pub length_even : (es fs : List Entry) → ((v : List ℕ) → cnt es v ≡ cnt fs v) → length es ≡ length fs
 length_even es fs h = length_many es ∙ many_even [] es fs h [] ∙ sym (length_many fs)
 
-length_less : (es fs : List Entry) → ((v : List ℕ) → cnt es v ≤ cnt fs v) → length es ≤ length fs
+pub length_less : (es fs : List Entry) → ((v : List ℕ) → cnt es v ≤ cnt fs v) → length es ≤ length fs
 length_less es fs h = omega (arith, length_many es, length_many fs, many_sub [] es fs h [])
 
 -- a projection has no more tuples
@@ -85,28 +85,31 @@ keys_length ks (e ∷ es) fs h all =
     omega (arith, keys_length ks es (s.front ++ s.back) a.1 rest, ap (λ (xs : List Entry). length xs) s.is, length_middle s.front s.entry s.back)
 
 -- so no table is longer than the longest leaf
-product_some : (a b : ℕ) → 0 < a * b → 0 < a
+pub product_some : (a b : ℕ) → 0 < a * b → 0 < a
 product_some zero b h = absurd (omega arith)
 product_some (suc a) b h = omega arith
 
-node_sized : (t : Tree) (ts : List Table) (n k : ℕ) (m : Node) → IsFamily t ts → node_at t.nodes k ≡ m → IsReductOf m ts k → ((j : ℕ) → j < t.leaves → length (entries_at ts j) ≤ n) → k < length t.nodes
+pub trim_less : (t : Tree) (ts : List Table) (c k : ℕ) → IsFamily t ts → IsReductOf (Trim c) ts k → length (entries_at ts k) ≤ length (entries_at ts c)
+trim_less t ts c k f h = keys_length (key_at ts c) (entries_at ts k) (entries_at ts c) (apart_of t ts f k) (λ v some. let s = cnt_supp (entries_at ts k) v (f.supported k) some in omega (arith, trim_law (Trim c) c ts k refl h v))
+
+pub meet_less : (t : Tree) (ts : List Table) (g d k : ℕ) → IsFamily t ts → IsReductOf (Meet g d) ts k → length (entries_at ts k) ≤ length (entries_at ts g)
+meet_less t ts g d k f h =
+    length_less (entries_at ts k) (entries_at ts g) (λ v. elim (cases_lt 0 (cnt (entries_at ts k) v)) [
+      | inl some ↦ (let s = cnt_supp (entries_at ts k) v (f.supported k) some in
+          let p = product_some (cnt (entries_at ts g) v) (cnt (entries_at ts d) (pick (key_at ts g) v)) (let l = meet_law (Meet g d) g d ts k refl h v in omega arith) in
+          omega (arith, once t ts f k v))
+      | inr none ↦ omega arith
+    ])
+
+pub node_sized : (t : Tree) (ts : List Table) (n k : ℕ) (m : Node) → IsFamily t ts → node_at t.nodes k ≡ m → IsReductOf m ts k → ((j : ℕ) → j < t.leaves → length (entries_at ts j) ≤ n) → k < length t.nodes
     → ((i : ℕ) → i < k → length (entries_at ts i) ≤ n) → length (entries_at ts k) ≤ n
 node_sized t ts n k (Leaf a) f e h leaves within below = leaves k (f.is_tree.inner k a within e)
 node_sized t ts n k (Trim c) f e h leaves within below =
     let low = (f.is_tree.trim k c e).lower in
-    omega (arith, below c low, keys_length (key_at ts c) (entries_at ts k) (entries_at ts c) (apart_of t ts f k) (λ v some. let s = cnt_supp (entries_at ts k) v (f.supported k) some in omega (arith, trim_law (Trim c) c ts k refl h v)))
+    omega (arith, below c low, trim_less t ts c k f h)
 node_sized t ts n k (Meet g d) f e h leaves within below =
     let low = (f.is_tree.meet k g d e).guard_lower in
-    omega (
-      arith,
-      below g low,
-      length_less (entries_at ts k) (entries_at ts g) (λ v. elim (cases_lt 0 (cnt (entries_at ts k) v)) [
-        | inl some ↦ (let s = cnt_supp (entries_at ts k) v (f.supported k) some in
-            let p = product_some (cnt (entries_at ts g) v) (cnt (entries_at ts d) (pick (key_at ts g) v)) (let l = meet_law (Meet g d) g d ts k refl h v in omega arith) in
-            omega (arith, once t ts f k v))
-        | inr none ↦ omega arith
-      ]),
-    )
+    omega (arith, below g low, meet_less t ts g d k f h)
 
 sized_below : (t : Tree) (ts : List Table) (n : ℕ) → IsReducts (both t ts) → ((j : ℕ) → j < t.leaves → length (entries_at ts j) ≤ n) → (m k : ℕ) → k < m → length (entries_at ts k) ≤ n
 sized_below t ts n r leaves zero k less = absurd (omega arith)
@@ -120,7 +123,7 @@ pub sized : (t : Tree) (ts : List Table) (n : ℕ) → IsReducts (both t ts) →
 sized t ts n r h k = sized_below t ts n r h.each (suc k) k (omega arith)
 
 -- the size of the first k tables
-part : List Table → ℕ → ℕ
+unfoldable pub part : List Table → ℕ → ℕ
 part ts zero = 0
 part ts (suc k) = part ts k + length (entries_at ts k)
 
@@ -134,7 +137,7 @@ part_size ts (suc k) h =
     let last : sum_by (λ (u : Table). length u.entries) (slice_index_or ts k no_table ∷ []) ≡ length (slice_index_or ts k no_table).entries + 0 = sum_by-cons (λ (u : Table). length u.entries) (slice_index_or ts k no_table) [] in
     omega (arith, part_size ts k (omega arith), ap (λ (xs : List Table). sum_by (λ (u : Table). length u.entries) xs) (next ∙ more))
 
-whole_size : (ts : List Table) → size ts ≡ part ts (length ts)
+pub whole_size : (ts : List Table) → size ts ≡ part ts (length ts)
 whole_size ts = sym (part_size ts (length ts) (omega arith) ∙ ap size (take-length ts))
 
 seen_here : (a k : ℕ) → k ≡ a → (one (nat_lt a (suc k)) ≡ 1) × (one (nat_lt a k) ≡ 0)

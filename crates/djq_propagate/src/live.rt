@@ -1,10 +1,10 @@
 //! A tuple comes to a node, and what it brings comes to the nodes above it.
 
-ghost use Rattle.std.specs.Prelude.{◌≡◌, ◌+◌, ◌*◌, ◌<◌, ◌≤◌, length, IfOk, OnErr};
+ghost use Rattle.std.specs.Prelude.{◌≡◌, ℕ, ◌+◌, ◌*◌, ◌<◌, ◌≤◌, length, IfOk, OnErr};
 ghost use Rattle.djq_index.specs.Entries.{cnt};
 ghost use Rattle.djq_tree.specs.declared.node.Node.TheVariants.{Trim, Meet};
 ghost use Rattle.djq_reduct.specs.Tables.{entries_at, key_at, width_at};
-ghost use Rattle.djq_propagate.specs.Sizes.{size};
+ghost use Rattle.djq_propagate.specs.Sizes.{size, AreAtMost};
 ghost use Rattle.djq_propagate.specs.Walks.{Ready, Lived, Refused, Gaining, Righted, Stayed, SamePlain, IsUnder};
 
 use crate::kill::empty_group;
@@ -35,6 +35,7 @@ pub(crate) fn live<L: Ledger>(
     ensures refused { OnErr result (Refused tree.now tables.old.items tables.new.items at) }
     ensures plain { SamePlain tables.old.items tables.new.items }
     ensures counted { IfOk result (λ _. tally.new + 1 + 4 * size tables.old.items ≤ tally.old + 4 * size tables.new.items) }
+    ensures bounded { OnErr result ((n : ℕ) → AreAtMost tables.old.items n → length (entries_at tables.old.items at) < n → tally.new + 9 * size tables.old.items ≤ tally.old + 9 * (n * length tree.now.nodes)) }
 {
     let place = insert_at(tables, at, tuple, tally)?;
     match rise(tree, tables, at, tuple, tally) {
@@ -61,6 +62,7 @@ fn rise<L: Ledger>(
     ensures refused { OnErr result (Stayed tree.now tables.old.items tables.new.items at) }
     ensures plain { SamePlain tables.old.items tables.new.items }
     ensures counted { IfOk result (λ _. tally.new + 4 * size tables.old.items ≤ tally.old + 2 + 4 * size tables.new.items) }
+    ensures bounded { OnErr result ((n : ℕ) → AreAtMost tables.old.items n → tally.new + 9 * size tables.old.items ≤ tally.old + 7 + 9 * (n * length tree.now.nodes)) }
 {
     match tree.parent(at) {
         None => Ok(()),
@@ -95,6 +97,7 @@ fn rise_trim<L: Ledger>(
     ensures refused { OnErr result (Stayed tree.now tables.old.items tables.new.items at) }
     ensures plain { SamePlain tables.old.items tables.new.items }
     ensures counted { IfOk result (λ _. tally.new + 4 * size tables.old.items ≤ tally.old + 2 + 4 * size tables.new.items) }
+    ensures bounded { OnErr result ((n : ℕ) → AreAtMost tables.old.items n → tally.new + 9 * size tables.old.items ≤ tally.old + 7 + 9 * (n * length tree.now.nodes)) }
 {
     let part = part_of(tables, at, tuple);
     let cells = part.as_slice();
@@ -126,6 +129,7 @@ fn rise_guard<L: Ledger>(
     ensures refused { OnErr result (Stayed tree.now tables.old.items tables.new.items at) }
     ensures plain { SamePlain tables.old.items tables.new.items }
     ensures counted { IfOk result (λ _. tally.new + 4 * size tables.old.items ≤ tally.old + 2 + 4 * size tables.new.items) }
+    ensures bounded { OnErr result ((n : ℕ) → AreAtMost tables.old.items n → tally.new + 9 * size tables.old.items ≤ tally.old + 7 + 9 * (n * length tree.now.nodes)) }
 {
     let part = part_of(tables, at, tuple);
     match find_at(tables, side, part.as_slice(), tally) {
@@ -151,6 +155,7 @@ fn rise_side<L: Ledger>(
     ensures refused { OnErr result (Stayed tree.now tables.old.items tables.new.items at) }
     ensures plain { SamePlain tables.old.items tables.new.items }
     ensures counted { IfOk result (λ _. tally.new + 4 * size tables.old.items ≤ tally.old + 2 + 4 * size tables.new.items) }
+    ensures bounded { OnErr result ((n : ℕ) → AreAtMost tables.old.items n → tally.new + 9 * size tables.old.items ≤ tally.old + 7 + 9 * (n * length tree.now.nodes)) }
 {
     let count = len_at(tables, guard);
     let mut next = first_at(tables, guard, tuple, tally);

@@ -7,7 +7,7 @@ use Rattle.djq_index.proofs.Changing.{inserted_length, removed_length, supported
 use Rattle.djq_tree.specs.declared.node.Node.TheVariants.{Leaf, Trim, Meet}
 use Rattle.djq_tree.specs.Tree.{parent}
 use Rattle.djq_reduct.specs.Tables.{entries_at, key_at, width_at}
-use Rattle.djq_propagate.specs.Sizes.{size}
+use Rattle.djq_propagate.specs.Sizes.{size, AreAtMost}
 use Rattle.std.proofs.Common.{rules}
 use Rattle.djq_propagate.specs.Walks.{Ready, Lived, Refused, Righted, Stayed, IsGrown, IsFull}
 use Rattle.djq_propagate.proofs.Families.{apart_of, lower_of, now_family, ready_up, topmost, stayed}
@@ -15,6 +15,7 @@ use Rattle.djq_propagate.proofs.Plains.{plain_refl, plain_trans, inserted_same, 
 use Rattle.djq_propagate.proofs.Sides.{group_once, head_none, drop_group, grown_none, grown_ready, grown_more}
 use Rattle.djq_propagate.proofs.Gains.{width_narrow, trim_few, trim_wide, trim_raised, trim_lived, trim_room, guard_few, guard_wide, guard_absent, guard_lived, guard_idle, side_absent, side_righted, side_full, refused_ready, same_group, side_stayed, refused_here, lived_here}
 use Rattle.djq_propagate.proofs.Going.{has_table, wide_now, under_leaf, under_trim, under_guard, under_side, guard_under, cut_of, cut_at, as_live, moved_at, group_still, on_err, ok_map, err_map, refused_none, plain_none}
+use Rattle.djq_propagate.proofs.Rooms.{room_size, most_more, trim_fits, guard_fits, side_fits, side_bounded}
 use Rattle.djq_propagate.proofs.live.+live.Goals as goal
 
 pub live-insert_at-requires-clause-within : goal.live-insert_at-requires-clause-within
@@ -44,6 +45,11 @@ live-returns-in_err-place-clause-plain g t c =
 pub live-returns-in_err-place-clause-counted : goal.live-returns-in_err-place-clause-counted
 live-returns-in_err-place-clause-counted g t c =
     search rules
+
+pub live-returns-in_err-place-clause-bounded : goal.live-returns-in_err-place-clause-bounded
+live-returns-in_err-place-clause-bounded g t c =
+    on_err c.from_residual.result ((n : ℕ) → AreAtMost c.args.tables.now.items n → length (entries_at c.args.tables.now.items c.args.at) < n → c.insert_at.new.tally + 9 * size c.args.tables.now.items ≤ c.args.tally.now + 9 * (n * length c.args.tree.now.nodes))
+    (λ n few room. omega (arith, c.insert_at.ensures.counted, room_size c.args.tree.now c.args.tables.now.items n c.args.at c.requires.ready.family c.requires.ready.within few room))
 
 pub live-rise-requires : goal.live-rise-requires
 live-rise-requires g t c κs hκ =
@@ -86,6 +92,17 @@ pub live-returns-in-Err-clause-plain : goal.live-returns-in-Err-clause-plain
 live-returns-in-Err-clause-plain g t c =
     back_same c.args.tree.now c.args.tables.now.items c.rise.new.tables.items c.remove_at.new.tables.items c.requires.ready.family c.in-Err.ensures.refused.family (c.remove_at.ensures.changed.family c.args.tree.now c.in-Err.ensures.refused.family) (plain_trans c.args.tables.now.items c.insert_at.new.tables.items c.rise.new.tables.items (inserted_same c.args.tables.now.items c.insert_at.new.tables.items c.args.at c.args.tuple.now c.insert_at.ensures.changed c.in_ok-place.ensures.inserted) c.rise.ensures.plain)
     (removed_fewer c.rise.new.tables.items c.remove_at.new.tables.items c.args.at c.args.tuple.now c.remove_at.ensures.changed (c.remove_at.ensures.removed c.args.tuple.now (moved_at (entries_at c.insert_at.new.tables.items c.args.at) (entries_at c.rise.new.tables.items c.args.at) c.in_ok-place.place c.args.tuple.now c.in-Err.ensures.refused.at c.in_ok-place.ensures.lies))) (refused_here c.args.tree.now c.args.tables.now.items c.insert_at.new.tables.items c.rise.new.tables.items c.remove_at.new.tables.items c.args.at c.args.tuple.now c.requires.ready c.requires.absent c.insert_at.ensures.changed c.in_ok-place.ensures.inserted c.in-Err.ensures.refused c.remove_at.ensures.changed (c.remove_at.ensures.removed c.args.tuple.now (moved_at (entries_at c.insert_at.new.tables.items c.args.at) (entries_at c.rise.new.tables.items c.args.at) c.in_ok-place.place c.args.tuple.now c.in-Err.ensures.refused.at c.in_ok-place.ensures.lies))).supports
+
+pub live-returns-in-Err-clause-bounded : goal.live-returns-in-Err-clause-bounded
+live-returns-in-Err-clause-bounded g t c =
+    λ n few room. omega (
+      arith,
+      c.insert_at.ensures.counted,
+      c.insert_at.ensures.changed.size,
+      inserted_length (key_at c.args.tables.now.items c.args.at) (entries_at c.args.tables.now.items c.args.at) (entries_at c.insert_at.new.tables.items c.args.at) c.args.tuple.now c.in_ok-place.ensures.inserted,
+      c.in-Err.ensures.bounded n (most_more c.args.tables.now.items c.insert_at.new.tables.items n c.args.at c.args.tuple.now c.insert_at.ensures.changed c.in_ok-place.ensures.inserted few room),
+      c.remove_at.ensures.counted,
+    )
 
 pub rise-parent-requires : goal.rise-parent-requires
 rise-parent-requires g t c =
@@ -150,6 +167,10 @@ pub rise-returns-in-Trim-clause-counted : goal.rise-returns-in-Trim-clause-count
 rise-returns-in-Trim-clause-counted g t c =
     c.rise_trim.ensures.counted
 
+pub rise-returns-in-Trim-clause-bounded : goal.rise-returns-in-Trim-clause-bounded
+rise-returns-in-Trim-clause-bounded g t c =
+    c.rise_trim.ensures.bounded
+
 pub rise-returns-then-guard-at-clause-ok : goal.rise-returns-then-guard-at-clause-ok
 rise-returns-then-guard-at-clause-ok g t c =
     c.rise_guard.ensures.ok
@@ -166,6 +187,10 @@ pub rise-returns-then-guard-at-clause-counted : goal.rise-returns-then-guard-at-
 rise-returns-then-guard-at-clause-counted g t c =
     c.rise_guard.ensures.counted
 
+pub rise-returns-then-guard-at-clause-bounded : goal.rise-returns-then-guard-at-clause-bounded
+rise-returns-then-guard-at-clause-bounded g t c =
+    c.rise_guard.ensures.bounded
+
 pub rise-returns-else-guard-at-clause-ok : goal.rise-returns-else-guard-at-clause-ok
 rise-returns-else-guard-at-clause-ok g t c =
     c.rise_side.ensures.ok
@@ -181,6 +206,10 @@ rise-returns-else-guard-at-clause-plain g t c =
 pub rise-returns-else-guard-at-clause-counted : goal.rise-returns-else-guard-at-clause-counted
 rise-returns-else-guard-at-clause-counted g t c =
     c.rise_side.ensures.counted
+
+pub rise-returns-else-guard-at-clause-bounded : goal.rise-returns-else-guard-at-clause-bounded
+rise-returns-else-guard-at-clause-bounded g t c =
+    c.rise_side.ensures.bounded
 
 pub rise_guard-part_of-part-requires-clause-within : goal.rise_guard-part_of-part-requires-clause-within
 rise_guard-part_of-part-requires-clause-within g t c =
@@ -227,6 +256,12 @@ rise_guard-returns-in-Some-clause-plain g t c =
 pub rise_guard-returns-in-Some-clause-counted : goal.rise_guard-returns-in-Some-clause-counted
 rise_guard-returns-in-Some-clause-counted g t c =
     ok_map c.live.result (c.live.new.tally + 1 + 4 * size c.args.tables.now.items ≤ c.find_at.new.tally + 4 * size c.live.new.tables.items) (c.live.new.tally + 4 * size c.args.tables.now.items ≤ c.args.tally.now + 2 + 4 * size c.live.new.tables.items) (λ h. omega (arith, h, c.find_at.ensures.counted)) c.live.ensures.counted
+
+pub rise_guard-returns-in-Some-clause-bounded : goal.rise_guard-returns-in-Some-clause-bounded
+rise_guard-returns-in-Some-clause-bounded g t c =
+    err_map c.live.result ((n : ℕ) → AreAtMost c.args.tables.now.items n → length (entries_at c.args.tables.now.items c.args.up) < n → c.live.new.tally + 9 * size c.args.tables.now.items ≤ c.find_at.new.tally + 9 * (n * length c.args.tree.now.nodes))
+    ((n : ℕ) → AreAtMost c.args.tables.now.items n → c.live.new.tally + 9 * size c.args.tables.now.items ≤ c.args.tally.now + 7 + 9 * (n * length c.args.tree.now.nodes))
+    (λ h n few. omega (arith, c.find_at.ensures.counted, h n few (guard_fits c.args.tree.now c.requires.gaining.was c.args.tables.now.items c.args.at c.args.side c.args.up n c.args.tuple.now c.requires.gaining.began c.requires.gaining.gains c.requires.under few))) c.live.ensures.bounded
 
 pub rise_guard-returns-in-None-clause-ok : goal.rise_guard-returns-in-None-clause-ok
 rise_guard-returns-in-None-clause-ok g t c =
@@ -307,6 +342,12 @@ pub rise_trim-returns-in-None-clause-counted : goal.rise_trim-returns-in-None-cl
 rise_trim-returns-in-None-clause-counted g t c =
     ok_map c.live.result (c.live.new.tally + 1 + 4 * size c.args.tables.now.items ≤ c.find_at.new.tally + 4 * size c.live.new.tables.items) (c.live.new.tally + 4 * size c.args.tables.now.items ≤ c.args.tally.now + 2 + 4 * size c.live.new.tables.items) (λ h. omega (arith, h, c.find_at.ensures.counted)) c.live.ensures.counted
 
+pub rise_trim-returns-in-None-clause-bounded : goal.rise_trim-returns-in-None-clause-bounded
+rise_trim-returns-in-None-clause-bounded g t c =
+    err_map c.live.result ((n : ℕ) → AreAtMost c.args.tables.now.items n → length (entries_at c.args.tables.now.items c.args.up) < n → c.live.new.tally + 9 * size c.args.tables.now.items ≤ c.find_at.new.tally + 9 * (n * length c.args.tree.now.nodes))
+    ((n : ℕ) → AreAtMost c.args.tables.now.items n → c.live.new.tally + 9 * size c.args.tables.now.items ≤ c.args.tally.now + 7 + 9 * (n * length c.args.tree.now.nodes))
+    (λ h n few. omega (arith, c.find_at.ensures.counted, h n few (trim_fits c.args.tree.now c.requires.gaining.was c.args.tables.now.items c.args.at c.args.up n c.args.tuple.now c.requires.gaining.began c.requires.gaining.gains c.requires.under few))) c.live.ensures.bounded
+
 pub rise_side-len_at-count-requires : goal.rise_side-len_at-count-requires
 rise_side-len_at-count-requires g t c =
     let m = c.requires.gaining.began.ready.family.is_tree.meet c.args.up c.args.guard c.args.at c.requires.under.node in
@@ -386,6 +427,16 @@ rise_side-returns-in-Err-clause-refused g t c =
 pub rise_side-returns-in-Err-clause-plain : goal.rise_side-returns-in-Err-clause-plain
 rise_side-returns-in-Err-clause-plain g t c =
     back_same c.args.tree.now c.args.tables.now.items c.live.new.tables.items c.empty_group.new.tables.items (now_family c.args.tree.now c.requires.gaining.was c.args.tables.now.items c.args.at c.requires.gaining.began) c.in-Err.ensures.refused.family c.empty_group.ensures.emptied.family (plain_trans c.args.tables.now.items c.loop-done.tables.items c.live.new.tables.items c.loop-done.invariant.unchanged c.live.ensures.plain) c.empty_group.ensures.fewer (side_stayed c.args.tree.now c.requires.gaining.was c.args.tables.now.items c.loop-done.tables.items c.live.new.tables.items c.empty_group.new.tables.items c.args.guard c.args.at c.args.up c.loop-done.done c.args.tuple.now c.requires.gaining.began c.requires.under c.loop-done.invariant.grown c.in-Err.ensures.refused c.empty_group.ensures.emptied).supports
+
+pub rise_side-returns-in-Err-clause-bounded : goal.rise_side-returns-in-Err-clause-bounded
+rise_side-returns-in-Err-clause-bounded g t c =
+    λ n few.
+    let k = cut_of (grp (key_at c.args.tables.now.items c.args.guard) (entries_at c.args.tables.now.items c.args.guard) c.args.tuple.now) c.loop-done.done c.loop-done.next c.in-Some.place c.loop-done.invariant.next c.in-Some.is in
+    let fits = side_fits c.args.tree.now c.requires.gaining.was c.args.tables.now.items c.loop-done.tables.items c.args.guard c.args.at c.args.up c.loop-done.done n c.args.tuple.now k.entry c.requires.gaining.began c.requires.gaining.gains c.requires.under c.loop-done.invariant.grown k.is few in
+    let back = side_stayed c.args.tree.now c.requires.gaining.was c.args.tables.now.items c.loop-done.tables.items c.live.new.tables.items c.empty_group.new.tables.items c.args.guard c.args.at c.args.up c.loop-done.done c.args.tuple.now c.requires.gaining.began c.requires.under c.loop-done.invariant.grown c.in-Err.ensures.refused c.empty_group.ensures.emptied in
+    side_bounded c.args.tree.now c.args.tables.now.items c.loop-done.tables.items c.live.new.tables.items c.empty_group.new.tables.items (n * length c.args.tree.now.nodes) c.args.tally.now c.loop-done.tally c.live.new.tally c.empty_group.new.tally
+    (now_family c.args.tree.now c.requires.gaining.was c.args.tables.now.items c.args.at c.requires.gaining.began) c.loop-done.invariant.grown.family c.in-Err.ensures.refused.family c.empty_group.ensures.emptied.family c.in-Err.ensures.refused.supports back.supports c.loop-done.invariant.counted
+    (c.in-Err.ensures.bounded n fits.1 fits.0) c.empty_group.ensures.counted
 
 pub rise_side-next_at-next-requires-clause-within : goal.rise_side-next_at-next-requires-clause-within
 rise_side-next_at-next-requires-clause-within g t c =

@@ -10,6 +10,8 @@ use Rattle.djq_index.specs.Tuple.{one, same}
 use Rattle.djq_propagate.proofs.Going.{on_err}
 use Rattle.djq_propagate.proofs.Measuring.{put_counted, mark_counted, keep_counted, take_counted}
 use Rattle.djq_propagate.proofs.Updating.{both, leaf_within, ready_leaf, reducts_lived, refused_kept, inserted_all, can_insert, can_remove, marked_all, kept_all, dropped_all, undone}
+use Rattle.djq_propagate.proofs.Rooms.{put_bounded}
+use Rattle.djq_propagate.specs.Updates.{HasAtMost, paths}
 use Rattle.djq_propagate.proofs.update.put.Goals as goal
 
 pub live-requires-clause-ready : goal.live-requires-clause-ready
@@ -31,6 +33,11 @@ returns-in_err-live-clause-inserted g c =
 pub returns-in_err-live-clause-refused : goal.returns-in_err-live-clause-refused
 returns-in_err-live-clause-refused g c =
     on_err c.from_residual.result (HasKept (both c.args.tree.now c.args.tables.now.items) (both c.args.tree.now c.live.new.tables.items)) (refused_kept c.args.tree.now c.args.tables.now.items c.live.new.tables.items c.args.leaf c.requires.reducts c.in_err-live.ensures.refused c.live.ensures.plain c.requires.bare)
+
+pub returns-in_err-live-clause-bounded : goal.returns-in_err-live-clause-bounded
+returns-in_err-live-clause-bounded g c =
+    on_err c.from_residual.result ((n : ℕ) → HasAtMost (both c.args.tree.now c.args.tables.now.items) n → c.live.new.tally ≤ c.args.tally.now + 18 * (paths c.args.tree.now * (1 + n)))
+    (λ n few. put_bounded c.args.tree.now c.args.tables.now.items c.args.leaf n c.args.tally.now c.live.new.tally c.requires.reducts few c.in_err-live.ensures.bounded)
 
 pub touch_path-requires-clause-family : goal.touch_path-requires-clause-family
 touch_path-requires-clause-family g c =
