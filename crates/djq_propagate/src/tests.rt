@@ -193,7 +193,28 @@ fn change<L: Ledger>(
     Ok(())
 }
 
-/// Whether the reducts after many changes are those made anew, and hold a tuple.
+/// Puts each tuple of small cells that a leaf lacks into it, and takes it back.
+fn undo_each<L: Ledger>(
+    alloc: Global,
+    reducts: &mut Reducts,
+    tally: &mut Tally<L>,
+) -> Result<(), AllocError>
+    requires { IsBare reducts.old.tables }
+    ensures { IsBare reducts.new.tables }
+{
+    for leaf in 0..reducts.tree().leaves() {
+        for number in 0..27u64 {
+            if leaf < reducts.tree().len() {
+                let tuple = numbered(alloc, reducts.tree().label(leaf).len(), number)?;
+                let _came = put(reducts, leaf, &tuple, false, tally)?;
+            }
+        }
+    }
+    Ok(())
+}
+
+/// Whether the reducts after many changes are those made anew, also after an undone insertion of each
+/// tuple, and hold a tuple.
 fn agree<L: Ledger>(
     alloc: Global,
     edges: &Edges,
@@ -208,6 +229,7 @@ fn agree<L: Ledger>(
     };
     change(alloc, &mut reducts, tally)?;
     fill(alloc, &reducts, &mut anew, tally)?;
+    undo_each(alloc, &mut reducts, tally)?;
     let some = supports(&reducts, reducts.tree().len() - 1, &[], tally) > 0;
     Ok(some && are_same(alloc, &reducts, &anew, tally)?)
 }
@@ -249,13 +271,30 @@ fn all_agree<L: Ledger>(alloc: Global, tally: &mut Tally<L>) -> Result<bool, All
     )
 }
 
+/// Atoms with constants, whose leaves have fewer columns than the atom: one whose tuples share a variable
+/// with another atom's, and one of constants alone.
+fn constants_agree<L: Ledger>(alloc: Global, tally: &mut Tally<L>) -> Result<bool, AllocError> {
+    let mut some = Edges::new(alloc);
+    some.push(set(&[0, 1]))?;
+    some.push(set(&[0]))?;
+    some.push(set(&[1, 2]))?;
+    let mut all = Edges::new(alloc);
+    all.push(set(&[0, 1]))?;
+    all.push(set(&[]))?;
+    Ok(
+        agree(alloc, &some, set(&[0, 1, 2]), tally)?
+            && agree(alloc, &some, set(&[2]), tally)?
+            && agree(alloc, &all, set(&[1]), tally)?,
+    )
+}
+
 fn on_ledgers<L: Ledgers>(rt: &HostRuntime, blanks: Blanks) -> Result<bool, AllocError>
     requires listing { blanks.listing.name ≡ L.listing }
     requires update { blanks.update.name ≡ L.update }
     requires rows { blanks.rows.name ≡ L.rows }
 {
     let mut steps = Steps::<L>::new(rt, blanks);
-    all_agree(rt.alloc(), &mut steps.update)
+    Ok(all_agree(rt.alloc(), &mut steps.update)? && constants_agree(rt.alloc(), &mut steps.update)?)
 }
 
 #[test]
