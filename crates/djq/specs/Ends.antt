@@ -60,8 +60,7 @@ status_of AllTaken = TurnsUsed
 status_of HubFailed = HubFault
 
 -- **The theorem of `serve`.** The hub listened at the address, and then the server served it from
--- the
--- opening state on: by moves that are a run of the join machine, of which the hub tells, with each
+-- the opening state on: by moves that are a run of the join machine, of which the hub tells, with each
 -- session sent what is its; and the status says exactly why it ended.
 pub record ServesHub (status : Status) (addr : Bytes) (turns : ℕ) (hub : HubSeen) (counted : Counts)
     (hub' : HubSeen) (counted' : Counts) : Type 0 where
