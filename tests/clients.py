@@ -158,9 +158,24 @@ def test_refusals(server):
         raises(djq.LimitReached, lambda: client.cursor("qb"))
         for cursor in cursors:
             cursor.close()
-        for command in (lambda: client.watch("qb"), lambda: client.explain("qb")):
-            raises(djq.Later, command)
-        raises(djq.Later, lambda: client.relation("words", str))
+        raises(djq.Later, lambda: client.watch("qb"))
+
+
+def test_texts_and_joins(server):
+    with server.connect() as client:
+        client.relation("people", int, str)
+        client.relation("calls", int, int)
+        texts = ["", "a b", 'say "hi"\\', "line\nfeed", "äöü 😀"]
+        for at, text in enumerate(texts):
+            client.add("people", at, text)
+            client.add("calls", at, at + 1)
+        assert client.query("jq(x,n,m) <- people(x,n), calls(x,m)") == 7
+        listed = set(client.answers("jq", page=2))
+        assert listed == {(at, text, at + 1) for at, text in enumerate(texts)}
+        assert client.has("jq", 1, "a b", 2) and not client.has("jq", 1, "unknown", 2)
+        assert client.explain("jq")[0].startswith("n 0 leaf people ")
+        refused = raises(djq.NotFreeConnex, lambda: client.query("jn(x,z) <- calls(x,y), calls(y,z)"))
+        assert refused.edges == [("x", "y"), ("x", "z"), ("y", "z")]
 
 
 def test_pipelines(server):
@@ -220,7 +235,7 @@ def main():
     program = os.path.abspath(sys.argv[1])
     alone = [test_values_there_and_back, test_deltas_between_replies, test_refusals_by_their_lines]
     alone += [test_an_end_fails_what_is_due]
-    served = [test_commands, test_refusals, test_pipelines, test_random_rows_by_two_clients, test_ends]
+    served = [test_commands, test_refusals, test_texts_and_joins, test_pipelines, test_random_rows_by_two_clients, test_ends]
     passed = failed = 0
     with Server(program) as server:
         runs = [(test, ()) for test in alone] + [(test, (server,)) for test in served]

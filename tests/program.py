@@ -8,6 +8,7 @@ It needs Python's standard library alone. One line is printed for each test that
 """
 
 import os
+import random
 import select
 import socket
 import struct
@@ -107,6 +108,18 @@ class Talk:
         heard, self.heard = self.heard[:count], self.heard[count:]
         return heard
 
+    def line(self):
+        """The next line, which has to come without a further word."""
+        until = time.monotonic() + PATIENCE
+        while b"\n" not in self.heard:
+            ready, _, _ = select.select([self.program.stdout], [], [], max(0, until - time.monotonic()))
+            piece = os.read(self.program.stdout.fileno(), 65536) if ready else b""
+            if piece == b"":
+                raise AssertionError(f"no line: heard {self.heard!r}")
+            self.heard += piece
+        line, self.heard = self.heard.split(b"\n", 1)
+        return line
+
     def hears_nothing(self, seconds=0.2):
         ready, _, _ = select.select([self.program.stdout], [], [], seconds)
         if ready or self.heard:
@@ -177,6 +190,168 @@ def nothing_is_answered_to_nothing():
 def a_line_that_the_input_cuts_is_not_run():
     expect_run(b"rel r int\nadd r 1", b"ok\nerr 13 cut\n")
     expect_run(b"rel r int\n ", b"ok\nerr 13 cut\n")
+
+
+def texts_of_lines(lines):
+    return b"".join(line + b"\n" for line in lines)
+
+
+@test
+def texts_come_back_as_they_were_said():
+    texts = [b'""', b'"a"', b'"b\\"\\\\\\n"', '"äöü ∷ 😀"'.encode(), b'"' + b"a" * 255 + b'"']
+    lines = [b"rel t int text", b"query q(x) <- t(_,x)", b"query p(n) <- t(n,\"a\")"]
+    lines += [b"add t %d %s" % (at, text) for at, text in enumerate(texts)]
+    lines += [b"has q " + text for text in texts]
+    lines += [b'has q "z"', b"open c p", b"next c 9", b'add t 9 "%s"' % (b"a" * 256), b"add t 9 \"\xff\""]
+    replies = [b"ok", b"ok query 3", b"ok query 3"]
+    replies += [b"ok added %d" % (at + 1) for at in range(len(texts))]
+    replies += [b"yes"] * len(texts)
+    replies += [b"no", b"ok open", b"= 1", b"end", b"err 7 type", b"err 1 syntax"]
+    expect_run(texts_of_lines(lines), texts_of_lines(replies))
+    for text in texts:
+        lines = [b"rel t text", b"query q(x) <- t(x)", b"add t " + text, b"open c q", b"next c 1"]
+        replies = [b"ok", b"ok query 3", b"ok added 1", b"ok open", b"= " + text, b"end"]
+        expect_run(texts_of_lines(lines), texts_of_lines(replies))
+
+
+@test
+def queries_are_judged_and_explained():
+    lines = [
+        b"rel r int int", b"rel s int int", b"rel t int int", b"rel u int int int",
+        b"query q(x,y,z) <- r(x,y), s(y,z), t(z,x)",
+        b"query q(x,z) <- r(x,y), s(y,z)",
+        b"query q(x,y,z) <- r(x,y), s(y,z), t(z,x), u(x,y,z)",
+        b"explain q",
+        b"explain p",
+    ]
+    replies = [
+        b"ok", b"ok", b"ok", b"ok", b"no cyclic x,y x,z y,z", b"no connex x,y x,z y,z", b"ok query 7",
+        b"n 0 leaf r x,y out", b"n 1 leaf s y,z out", b"n 2 leaf t x,z out", b"n 3 leaf u x,y,z out",
+        b"n 4 meet 3 0 x,y,z out", b"n 5 meet 4 1 x,y,z out", b"n 6 trim 5 x,z out",
+        b"n 7 meet 2 6 x,z out", b"n 8 trim 7 - out", b"end", b"err 4 no query",
+    ]
+    expect_run(texts_of_lines(lines), texts_of_lines(replies))
+
+
+@test
+def each_refusal_of_a_query_comes_in_its_order():
+    lines = [b"rel r int text", b"rel s int", b"query w(x) <- s(x)"]
+    asked = [
+        (b"query w(x) <- z(x)", b"err 2 taken"),
+        (b"query q(x,x) <- z(x), s(x,x)", b"err 3 no relation"),
+        (b"query q(x,x) <- s(x,3), r(3,x)", b"err 6 arity"),
+        (b"query q(x,x) <- r(\"a\",x), s(x)", b"err 7 type"),
+        (b"query q(y,y) <- r(x,x)", b"err 10 variable type"),
+        (b"query q(z,z) <- r(x,_)", b"err 9 head repeated"),
+        (b"query q(z) <- " + b", ".join([b"s(x)"] * 17), b"err 8 head unbound"),
+        (b"query q(x) <- " + b", ".join([b"s(x)"] * 17), b"err 11 limit"),
+        (b"query q(x) <- " + b", ".join([b"s(x)"] * 16), b"ok query 3"),
+    ]
+    lines += [line for line, _ in asked]
+    replies = [b"ok", b"ok", b"ok query 3"] + [reply for _, reply in asked]
+    expect_run(texts_of_lines(lines), texts_of_lines(replies))
+
+
+@test
+def the_first_of_400000000_answers_come_at_once():
+    lines = [b"rel r int int", b"rel s int int", b"query q(x,y,z) <- r(x,y), s(y,z)"]
+    lines += [b"add r %d 0" % at for at in range(1, 20001)]
+    lines += [b"add s 0 %d" % at for at in range(1, 20001)]
+    begin = time.monotonic()
+    output, status = run(texts_of_lines(lines + [b"open c q", b"next c 3"]))
+    told = output.splitlines()
+    expect(status, 0)
+    expect(told[-5:-4] + told[-1:], [b"ok open", b"more"])
+    expect(len(set(told[-4:-1])), 3)
+    if time.monotonic() - begin > PATIENCE:
+        raise AssertionError("too slow")
+
+
+# Queries, and how a set of assignments is made of their atoms: a relation, and what stands in it.
+JOINS = [
+    (b"a(x,y,z) <- r(x,y), s(y,z)", "xyz", [("r", "xy"), ("s", "yz")]),
+    (b"b(z,y,x) <- r(x,y), r(y,z)", "zyx", [("r", "xy"), ("r", "yz")]),
+    (b"c(x) <- r(x,x), s(x,_)", "x", [("r", "xx"), ("s", "x_")]),
+    (b"d() <- r(1,y), s(y,2)", "", [("r", "1y"), ("s", "y2")]),
+    (b"e(x,u) <- r(x,_), s(u,3)", "xu", [("r", "x_"), ("s", "u3")]),
+    (b"f(y,x) <- r(x,y), s(y,_), t(y)", "yx", [("r", "xy"), ("s", "y_"), ("t", "y")]),
+    (b"g(x,y,z,w) <- r(x,y), s(y,z), r(z,w)", "xyzw", [("r", "xy"), ("s", "yz"), ("r", "zw")]),
+]
+
+
+def brute(head, atoms, rows):
+    """The answers of a query by trying every row for every atom."""
+    found = [{}]
+    for relation, terms in atoms:
+        further = []
+        for bound in found:
+            for row in rows[relation]:
+                new = dict(bound)
+                for term, cell in zip(terms, row):
+                    if term == "_":
+                        continue
+                    if term.isdigit():
+                        fits = int(term) == cell
+                    else:
+                        fits = new.setdefault(term, cell) == cell
+                    if not fits:
+                        break
+                else:
+                    further.append(new)
+        found = further
+    return {tuple(bound[name] for name in head) for bound in found}
+
+
+def listed(talk, cursor, query):
+    """The answers that a fresh cursor over a query lists, which are all different."""
+    told = []
+    talk.say(b"open " + cursor + b" " + query + b"\n")
+    expect(talk.line(), b"ok open")
+    while True:
+        talk.say(b"next " + cursor + b" 7\n")
+        while (line := talk.line()).startswith(b"="):
+            told.append(tuple(int(cell) for cell in line[1:].split()))
+        if line == b"end":
+            break
+        expect(line, b"more")
+    talk.say(b"close " + cursor + b"\n")
+    expect(talk.line(), b"ok")
+    expect(len(told), len(set(told)), "different answers")
+    return set(told)
+
+
+@test
+def joins_are_listed_as_by_brute_force():
+    chance = random.Random(5)
+    rows = {"r": set(), "s": set(), "t": set()}
+    with Talk() as talk:
+        talk.say(b"rel r int int\nrel s int int\nrel t int\n")
+        for _ in range(3):
+            expect(talk.line(), b"ok")
+        late = JOINS[3:]
+        for text, head, _ in JOINS[:3]:
+            talk.say(b"query " + text + b"\n")
+            expect(talk.line(), b"ok query %d" % (2 * len(head) + 1))
+        for turn in range(300):
+            relation = chance.choice("rrssst")
+            row = tuple(chance.randrange(5) for _ in range(1 if relation == "t" else 2))
+            cells = b" ".join(b"%d" % cell for cell in row)
+            if row in rows[relation] and chance.random() < 0.7:
+                talk.say(b"del %s %s\n" % (relation.encode(), cells))
+                expect(talk.line().split()[:2], [b"ok", b"removed"])
+                rows[relation].discard(row)
+            else:
+                talk.say(b"add %s %s\n" % (relation.encode(), cells))
+                word = b"same" if row in rows[relation] else b"added"
+                expect(talk.line().split()[:2], [b"ok", word])
+                rows[relation].add(row)
+            if turn % 60 == 59 and late:
+                text, head, _ = late.pop(0)
+                talk.say(b"query " + text + b"\n")
+                expect(talk.line(), b"ok query %d" % (2 * len(head) + 1))
+            if turn % 20 == 19:
+                for text, head, atoms in JOINS[:len(JOINS) - len(late)]:
+                    expect(listed(talk, b"k", text[:1]), brute(head, atoms, rows), text)
 
 
 @test
@@ -458,6 +633,23 @@ def turns_are_used():
 def an_address_that_is_none_is_a_fault_of_the_hub():
     for address in ["nowhere", "127.0.0.1", "127.0.0.1:99999"]:
         expect(run(b"", ("serve", address)), (b"", 4), address)
+
+
+@test
+def a_schedule_is_replayed():
+    schedule = (b"open 1\nopen 2\nsay 1 rel r int\nsay 1 query q(x) <- r(x)\nsay 2 open c q\npart 2 ne\n"
+                b"say 1 add r 1\nsay 2 xt c 1\nagain 1\nsay 1 has q 1\nsay 2 has q 2\nfree 1\nend 1\nend 2")
+    told = (b"1< ok\n1< ok query 3\n2< ok open\n1< ok added 1\n2< stale c r 1\n2< no\n1< yes\n")
+    expect(run(schedule, ("replay",)), (told, 0))
+    expect(run(b"open 1\nopen 2\nsay 1 stop\nsay 2 quit\n", ("replay",)), (b"1< bye\n", 0))
+    expect(run(b"".join(b"open %d\n" % i for i in range(1, 66)), ("replay",)), (b"65< end full\n", 0))
+    expect(run(b"", ("replay",)), (b"", 0))
+
+
+@test
+def a_schedule_with_a_line_outside_its_grammar_is_not_run():
+    for line in [b"say 2 x", b"", b"open 1", b"open 01", b"end 1 now", b"fly 1", b"say 1 " + b"x" * 8187]:
+        expect(run(b"open 1\nsay 1 rel r int\n" + line + b"\nsay 3\n", ("replay",)), (b"schedule 3\n", 7), line[:9])
 
 
 def main():

@@ -1,2 +1,4 @@
 pub mod Running
 pub mod Finishing
+pub mod Gathering
+pub mod Replaying

@@ -1,5 +1,5 @@
 -- How the program ends: what its status says of the run of the join machine that it made.
-use Rattle.std.specs.Prelude.{ℕ, List, [], ◌∷◌, ◌≡◌, ◌<◌, ◌⊎◌, Option, None, Some, length, take, codes}
+use Rattle.std.specs.Prelude.{ℕ, List, [], ◌∷◌, ◌≡◌, ◌<◌, ◌⊎◌, Bool, true, false, Option, None, Some, length, take, codes}
 use Rattle.djq_io.specs.Faults.{Counted}
 use Rattle.djq_io.specs.Sink.{Gains}
 use Rattle.djq_io.specs.Script.{WhereTold}
@@ -20,8 +20,9 @@ use Rattle.djq_serve.specs.declared.served.Served.TheVariants.{Stopped, Over, Tu
 use Rattle.djq_serve.specs.Told.{Shown}
 use Rattle.djq_serve.specs.Ends.{ServeEnds, FaultsCount}
 use Rattle.djq_words.specs.declared.commands.Asked.{Asked}
-use Rattle.djq_words.specs.declared.commands.Asked.TheVariants.{Run, Serve}
-use Rattle.djq_words.specs.Asks.{Answers}
+use Rattle.djq_words.specs.declared.commands.Asked.TheVariants.{Run, Serve, Replay}
+use Rattle.djq_words.specs.Asks.{Asks, Answers}
+use Rattle.djq.specs.Replay.{ReplayEnds}
 
 -- the line that tells the commands
 abbrev pub usage_line : Bytes
@@ -114,12 +115,21 @@ pub record NoTransfer (before now : Outside) : Type 0 where
   pub taken : now.taken ≡ before.taken
   pub write_faults : now.write_faults ≡ before.write_faults
 
+-- The words ask for the sessions of the hub.
+abbrev pub is_serve : Asked → Bool
+is_serve (Serve addr turns) = true
+is_serve _ = false
+
+abbrev pub AsksToServe : List Bytes → Type 0
+AsksToServe words = (asked : Asked) × (is_serve asked ≡ true) × Asks words asked
+
 -- How the program ends, by what its words ask for.
 abbrev pub EndsAs : Option Asked → Status → Outside → HubSeen → Outside → HubSeen → Type 0
 EndsAs None status before hub now hub' = Explains status before now × (hub' ≡ hub)
 EndsAs (Some Run) status before hub now hub' = Serves status before now × (hub' ≡ hub)
 EndsAs (Some (Serve addr turns)) status before hub now hub' =
     HubEnds status addr.now turns hub before.counted hub' now.counted × NoTransfer before now
+EndsAs (Some Replay) status before hub now hub' = ReplayEnds status before now × (hub' ≡ hub)
 
 -- How the program ends, by the words of its command line: as what they ask for, and as no command
 -- where they ask for nothing; or out of memory before they were read.

@@ -1,9 +1,9 @@
 ghost use Rattle.std.specs.Prelude.{◌≡◌, []};
 
 use crate::program::run_program;
-use djq_io::{MemHub, MemSink, MemSource, Told};
+use djq_io::{MemHub, MemSink, MemSource};
 use djq_run::Status;
-use djq_schedule::{ScheduleRefusal, schedule_hub};
+use djq_schedule::{ScheduleRefusal, schedule_hub, sent_text};
 use djq_steps::{Blanks, Ledgers, Steps};
 use std::marker::Brand;
 use std::test::Fail;
@@ -25,24 +25,6 @@ fn serve_schedule(rt: &HostRuntime, words: &[&str], hub: &mut MemHub) -> Status
     requires { hub.old.ids.open_ids ≡ [] }
 {
     counted::<Brand>(rt, Blanks::new(rt), words, hub)
-}
-
-/// The lines that were sent, each behind its session's number, in the order of the sends.
-fn sent_lines(rt: &HostRuntime, hub: &MemHub) -> Result<Vec<u8>, Fail> {
-    let mut lines = Vec::new(rt.alloc());
-    for told in hub.past().ok_or("the past is lost")?.iter() {
-        if let Told::Sending(id, _, piece) = told {
-            for line in piece.as_slice().split(|byte| *byte == b'\n') {
-                if !line.is_empty() {
-                    let head = format!(in rt.alloc(); "{id}< ")?;
-                    lines.extend_from_slice(head.as_bytes())?;
-                    lines.extend_from_slice(line)?;
-                    lines.push(b'\n')?;
-                }
-            }
-        }
-    }
-    Ok(lines)
 }
 
 #[test]
@@ -73,7 +55,8 @@ fn sessions_are_served_turn_by_turn(rt: HostRuntime) -> Result<(), Fail> {
             serve_schedule(&rt, &["djq", "serve", "a"], &mut hub),
             Status::Done
         );
-        assert_eq!(rt; sent_lines(&rt, &hub)?.as_slice(), lines);
+        let past = hub.past().ok_or("the past is lost")?;
+        assert_eq!(rt; sent_text(rt.alloc(), past)?.as_slice(), lines);
     }
     Ok(())
 }

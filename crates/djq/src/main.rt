@@ -1,5 +1,5 @@
 //! A join query server, as a program: `djq run` serves one session from standard input to standard
-//! output, and `djq serve ADDR` the sessions that come over TCP.
+//! output, `djq serve ADDR` the sessions that come over TCP, and `djq replay` those of a schedule.
 //!
 //! [`run_program`] is the program over any source, sink and hub. Its contract says what was
 //! written: the replies of a run of the join machine, so it is the theorem of the whole product.
@@ -10,6 +10,7 @@
 mod hub_tests;
 mod laws;
 mod program;
+mod replay;
 #[cfg(test)]
 mod tests;
 

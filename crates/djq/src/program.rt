@@ -3,8 +3,9 @@ ghost use Rattle.djq_io.specs.Source.{Reading};
 ghost use Rattle.djq_machine.specs.Call.{Counts, counts};
 ghost use Rattle.djq_laws.specs.Course.{outside};
 ghost use Rattle.djq_serve.specs.Told.{shown};
-ghost use Rattle.djq.specs.Ends.{ProgramEnds, Serves, HubEnds, Explains, hub_seen, status_of};
+ghost use Rattle.djq.specs.Ends.{ProgramEnds, AsksToServe, Serves, HubEnds, Explains, hub_seen, status_of};
 
+use crate::replay::replay;
 use djq_core::Core;
 use djq_io::{Hub, Listened, Sink, Source, Written, write_all};
 use djq_laws::limits::READ_BYTES;
@@ -20,8 +21,9 @@ const USAGE: &[u8] = b"usage: djq run | serve ADDR [--turns N] | replay | gen N 
 /// Runs the program by the words of its command line, of which the first is its name.
 ///
 /// `run` serves one session from the source to the sink. `serve` lets the hub listen at an address,
-/// and serves the sessions that come. Other words are answered by the usage line. The hub has
-/// opened no session before.
+/// and serves the sessions that come. `replay` serves a hub of its own, which goes by the schedule
+/// in the source. Other words are answered by the usage line. The hub has opened no session before,
+/// and words other than those of `serve` leave it as it is.
 pub fn run_program<S: Source, K: Sink, H: Hub, L: Ledgers>(
     alloc: Global,
     words: &[&str],
@@ -31,17 +33,20 @@ pub fn run_program<S: Source, K: Sink, H: Hub, L: Ledgers>(
     steps: &mut Steps<L>,
 ) -> Status
     requires alone { (H.ids hub.old).open_ids ≡ [] }
-    ensures { ProgramEnds result (map (λ word. word.now) words.entry.now)
+    ensures ends { ProgramEnds result (map (λ word. word.now) words.entry.now)
         (outside (S.told source.old) (S.faults source.old) (K.taken sink.old) (K.faults sink.old)
         (counts steps.old.listing steps.old.update steps.old.rows))
         (hub_seen (shown (H.past hub.old) (H.script hub.old) (H.ids hub.old)) (H.faults hub.old))
         (outside (S.told source.new) (S.faults source.new) (K.taken sink.new) (K.faults sink.new)
         (counts steps.new.listing steps.new.update steps.new.rows))
         (hub_seen (shown (H.past hub.new) (H.script hub.new) (H.ids hub.new)) (H.faults hub.new)) }
+    ensures spared { (AsksToServe (map (λ word. word.now) words.entry.now) → ⊥)
+        → hub.new ≡ hub.old }
 {
     match read_words(alloc, words) {
         Ok(Some(Asked::Run)) => serve_source(alloc, source, sink, steps),
         Ok(Some(Asked::Serve(addr, turns))) => serve_hub(alloc, addr, turns, hub, steps),
+        Ok(Some(Asked::Replay)) => replay(alloc, source, sink, steps),
         Ok(None) => explain_usage(sink),
         Err(_) => Status::NoMemory,
     }

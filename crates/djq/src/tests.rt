@@ -8,8 +8,10 @@ use djq_steps::{Blanks, Ledgers, Steps};
 use std::marker::Brand;
 use std::test::Fail;
 
-/// The words of the command.
+/// The words of the commands.
 const RUN: [&str; 2] = ["djq", "run"];
+
+const REPLAY: [&str; 2] = ["djq", "replay"];
 
 /// A session with every command.
 const SESSION: &[u8] =
@@ -220,5 +222,35 @@ fn limits_are_answered_last(rt: HostRuntime) -> Result<(), Fail> {
     let mut sink = MemSink::new(alloc);
     assert_eq!(rt; run_words(&rt, &RUN, &mut source, &mut sink), Status::Done);
     assert_eq!(rt; sink.taken(), Some(replies.as_slice()));
+    Ok(())
+}
+
+/// Two sessions of a schedule share the rows, and each is told its own.
+#[test]
+fn a_schedule_is_replayed(rt: HostRuntime) -> Result<(), Fail> {
+    let schedule =
+        b"open 1\nopen 2\nsay 1 rel r int\nsay 1 query q(x) <- r(x)\nsay 2 open c q\npart 2 ne\nsay 1 add r 1\nsay 2 xt c 1\nend 1\nend 2";
+    let lines = b"1< ok\n1< ok query 3\n2< ok open\n1< ok added 1\n2< stale c r 1\n";
+    let mut source = MemSource::new(schedule.to_vec(rt.alloc())?, 7);
+    let mut sink = MemSink::new(rt.alloc());
+    assert_eq!(rt;
+        run_words(&rt, &REPLAY, &mut source, &mut sink),
+        Status::Done
+    );
+    assert_eq!(rt; sink.taken(), Some(lines.as_slice()));
+    Ok(())
+}
+
+/// The schedule is checked to its end before the first line is run.
+#[test]
+fn a_schedule_outside_the_grammar_is_not_run(rt: HostRuntime) -> Result<(), Fail> {
+    let schedule = b"open 1\nsay 1 rel r int\nsay 2 x\nsay 3 x\n";
+    let mut source = MemSource::new(schedule.to_vec(rt.alloc())?, 8192);
+    let mut sink = MemSink::new(rt.alloc());
+    assert_eq!(rt;
+        run_words(&rt, &REPLAY, &mut source, &mut sink),
+        Status::Schedule(3)
+    );
+    assert_eq!(rt; sink.taken(), Some(b"schedule 3\n".as_slice()));
     Ok(())
 }

@@ -1,5 +1,5 @@
 -- A change that nobody watches.
-use Rattle.std.proofs.Common.{ℕ, ◌≡◌, ◌++◌, Bool, true, false, List, [], ◌∷◌, map, cond, Option, None, Some, refl, sym, ap, ◌∙◌, subst, inl}
+use Rattle.std.proofs.Common.{ℕ, ◌≡◌, Bool, true, false, List, [], ◌∷◌, map, cond, Option, None, Some, refl, sym, ap, ◌∙◌, subst, inl}
 use Rattle.std.specs.Prelude.{◌==◌, ◌&&◌, ◌⊎◌, filter, IsSomeAnd, MatchOption}
 use Rattle.std.specs.List.{list_any}
 use Rattle.std.proofs.lemmas.List.Elements.{All-nil}
@@ -13,7 +13,7 @@ use Rattle.djq_machine.specs.State.{Store, Session, State, session_of}
 use Rattle.djq_machine.specs.Store.{with_rows}
 use Rattle.djq_machine.specs.Stale.{reads, changed}
 use Rattle.djq_machine.specs.Delta.{IsDelta}
-use Rattle.djq_machine.specs.Watch.{is_watching, affected, Delta, AreDeltas, Telling, says_more, ends_more, TellsDelta, RepliesLast, ChangeStep}
+use Rattle.djq_machine.specs.Watch.{is_watching, affected, Delta, Telling, says_more, ends_more, TellsDelta, ChangeStep}
 use Rattle.djq_machine.specs.Walk.{Walk}
 use Rattle.djq_engine.specs.Kept.{Kept, Held}
 use Rattle.djq_core.specs.declared.open.OpenSession.{OpenSession}

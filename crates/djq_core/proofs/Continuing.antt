@@ -1,6 +1,6 @@
 -- What `next` does to the state.
-use Rattle.std.proofs.Common.{ℕ, suc, ◌+◌, ◌*◌, ◌<◌, ◌≤◌, ◌≡◌, ◌++◌, ◌||◌, Bool, true, false, List, [], ◌∷◌, length, map, find, cond, option_map, Option, None, Some, Result, Ok, Err, refl, sym, ap, ap₂, ◌∙◌, subst, arith, append_assoc, is_some, inl, inr}
-use Rattle.std.specs.Prelude.{⊤, MatchOption, IsSomeAnd, All, IsSome}
+use Rattle.std.proofs.Common.{ℕ, ◌+◌, ◌*◌, ◌≤◌, ◌≡◌, ◌++◌, Bool, true, false, List, [], ◌∷◌, length, map, cond, Option, None, Some, refl, sym, ap, ap₂, ◌∙◌, subst, arith, append_assoc, inl, inr}
+use Rattle.std.specs.Prelude.{IsSomeAnd, All, IsSome}
 use Rattle.djq_model.specs.declared.query.Query.{Query}
 use Rattle.djq_model.specs.Data.{Bytes, Tuple, bytes_eq, query_of, change_first}
 use Rattle.djq_model.specs.Answer.{IsAnswer}
@@ -8,25 +8,24 @@ use Rattle.djq_lines.specs.declared.answer.Refusal.TheVariants.{NoCursor}
 use Rattle.djq_lines.specs.declared.answer.EndCause.TheVariants.{Memory}
 use Rattle.djq_lines.specs.declared.command.Command.TheVariants.{Next}
 use Rattle.djq_lines.specs.Reply.{refusal_line, stale_line, answer_line, listing_lines, text_of, end_memory}
-use Rattle.djq_machine.specs.State.{Session, State, Cursor, Position, open_at, stale, cursor_of, with_session, with_position, ended_by}
+use Rattle.djq_machine.specs.State.{Session, State, Cursor, Position, open_at, stale, with_session, with_position, ended_by}
 use Rattle.djq_machine.specs.Store.{most_steps}
 use Rattle.djq_machine.specs.Effect.{Effect, RefusedStep}
-use Rattle.djq_machine.specs.Command.{CommandStep, NextStep, NextCutStep, NextStepAt, IsNextLine}
+use Rattle.djq_machine.specs.Command.{CommandStep, NextStepAt, IsNextLine}
 use Rattle.djq_session.specs.declared.named.NamedCursor.{NamedCursor}
-use Rattle.djq_session.specs.Dialog.{Replies, named, is_named, EndsWith}
+use Rattle.djq_session.specs.Dialog.{Replies, named, EndsWith}
 use Rattle.djq_engine.specs.declared.cursor.CursorId.{CursorId}
 use Rattle.djq_engine.specs.Kept.{Kept, Held, held_at, same_id}
 use Rattle.djq_core.specs.declared.open.OpenSession.{OpenSession}
-use Rattle.djq_core.specs.declared.listing.Listed.{Listed}
 use Rattle.djq_core.specs.declared.listing.Listed.TheVariants.{Whole, Cut as WasCut, Stale as WasStale}
-use Rattle.djq_core.specs.Views.{Talk, query_in, position_in, cursor_in, session_in, open_in, state_in}
-use Rattle.djq_core.specs.Sound.{ids_of, all_ids, AreHeld, GivesApart, IsApart, AreApart, NoneOnceEnded, IsSound, IsOwn, IsReady, is_among}
+use Rattle.djq_core.specs.Views.{Talk, query_in, position_in, cursor_in, session_in, state_in}
+use Rattle.djq_core.specs.Sound.{ids_of, all_ids, AreHeld, IsApart, AreApart, IsSound, IsOwn, IsReady, is_among}
 use Rattle.djq_core.specs.Listing.{StandsAt, WholeListing, CutListing, ListsAt, Lists}
-use Rattle.djq_core.specs.Ends.{GivesUp}
+use Rattle.djq_core.specs.Ends.{GivesUp, CutsOff}
 use Rattle.djq_core.specs.Performs.{among, to_one, behind, unqueued, Performs, Executes}
-use Rattle.djq_core.proofs.Ids.{Agree, agree_others, agree_held, agree_names, apart_split, apart_join, taken_out, held_split, held_join, same_id_flip, same_id_same, owned_still}
+use Rattle.djq_core.proofs.Ids.{agree_others, agree_held, agree_names, apart_split, taken_out, held_split, held_join, same_id_flip, same_id_same, owned_still}
 use Rattle.djq_core.proofs.Around.{Around, parts, whole, map_append}
-use Rattle.djq_core.proofs.Cursors.{cursor_seen, ids_append, regroup, moved}
+use Rattle.djq_core.proofs.Cursors.{ids_append, regroup, moved}
 use Rattle.djq_core.proofs.Naming.{at_found, at_none}
 use Rattle.djq_core.proofs.Replying.{refused, around_bytes}
 use Rattle.djq_core.proofs.GivingUp.{ends_costing}
@@ -243,11 +242,11 @@ cut_at : (old mid new : Kept) (before between last after : Talk) (c : Bytes) (n 
 cut_at old mid new before between last after c n h q (open_at given ended) count was now ready f held known at l g r = does_cut old mid new before between last after c n h q given ended count was now ready f held known at l g r
 cut_at old mid new before between last after c n h q (stale a b) count was now ready f held known at l g r = absurd l
 
-pub does_next_cut : (old mid new : Kept) (before between last after : Talk) (c : Bytes) (n : NamedCursor CursorId) (count was now : ℕ)
-    → IsReady old before → named before.cursors c ≡ Some n → Lists old n.cursor before count WasCut mid between was now → GivesUp mid between new last → EndsWith last after end_memory Memory
+pub does_next_cut : (old mid new : Kept) (before between after : Talk) (c : Bytes) (n : NamedCursor CursorId) (count was now : ℕ)
+    → IsReady old before → named before.cursors c ≡ Some n → Lists old n.cursor before count WasCut mid between was now → CutsOff mid between new after
     → Executes (Next c count) false old before new after was now
-does_next_cut old mid new before between last after c n count was now ready f l g r =
-    cut_at old mid new before between last after c n l.cursor l.query (l.cursor).position count was now ready f l.held l.registered refl l.lists g r
+does_next_cut old mid new before between after c n count was now ready f l cut =
+    cut_at old mid new before between (record between { cursors = [] }) after c n l.cursor l.query (l.cursor).position count was now ready f l.held l.registered refl l.lists cut.gives_up cut.ends
 
 cut_owns : (old mid : Kept) (before between : Talk) (c : Bytes) (n : NamedCursor CursorId) (h : Held) (q : Query) (p : Position) (count was now : ℕ)
     → IsOwn old before → named before.cursors c ≡ Some n → ListsAt old n.cursor before count h q p WasCut mid between was now → IsOwn mid between

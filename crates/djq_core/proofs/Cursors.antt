@@ -1,21 +1,19 @@
 -- A session's cursors by name, and those of the engine behind them.
-use Rattle.std.proofs.Common.{ℕ, suc, ◌+◌, ◌≤◌, ◌≡◌, ◌++◌, Bool, true, false, List, [], ◌∷◌, length, map, find, cond, option_map, Option, None, Some, refl, sym, ap, ap₂, ◌∙◌, subst, arith, append_assoc, is_some, is_none, nat_le}
-use Rattle.std.specs.Prelude.{⊤}
+use Rattle.std.proofs.Common.{ℕ, ◌≡◌, ◌++◌, Bool, true, false, List, [], ◌∷◌, map, find, cond, option_map, Option, None, Some, refl, sym, ap, ap₂, ◌∙◌, append_assoc, is_some, is_none, nat_le}
 use Rattle.std.proofs.lemmas.List.{length-map}
 use Rattle.djq_model.specs.Data.{Bytes, bytes_eq, query_of, drop_first, change_first}
 use Rattle.djq_lines.specs.declared.limits.TheConstants.{CURSORS}
-use Rattle.djq_lines.specs.declared.answer.Refusal.{Refusal}
 use Rattle.djq_lines.specs.declared.answer.Refusal.TheVariants.{Taken, NoQuery, Limit}
-use Rattle.djq_machine.specs.State.{Store, Session, State, Cursor, cursor_of, with_session}
+use Rattle.djq_machine.specs.State.{Store, Session, Cursor, cursor_of, with_session}
 use Rattle.djq_machine.specs.Conditions.{first_of}
 use Rattle.djq_machine.specs.Command.{open_refusal}
 use Rattle.djq_session.specs.declared.named.NamedCursor.{NamedCursor}
-use Rattle.djq_session.specs.Dialog.{named, is_named}
+use Rattle.djq_session.specs.Dialog.{named}
 use Rattle.djq_engine.specs.declared.cursor.CursorId.{CursorId}
-use Rattle.djq_engine.specs.Kept.{Kept, Held, held_at, IsHeld}
+use Rattle.djq_engine.specs.Kept.{Kept, Held}
 use Rattle.djq_core.specs.declared.open.OpenSession.{OpenSession}
 use Rattle.djq_core.specs.Views.{Talk, cursor_in, session_in, open_in, state_in}
-use Rattle.djq_core.specs.Sound.{ids_of, all_ids, AreHeld, GivesApart}
+use Rattle.djq_core.specs.Sound.{ids_of, all_ids}
 use Rattle.djq_core.specs.Opens.{refusal_of}
 use Rattle.djq_core.specs.Performs.{among}
 use Rattle.djq_core.proofs.Ids.{Agree, agree_open}

@@ -1,5 +1,5 @@
 -- What becomes of the front of a session's bytes.
-use Rattle.std.proofs.Common.{ℕ, ◌+◌, ◌<◌, ◌≤◌, ◌≡◌, ◌++◌, ◌⊎◌, Bool, true, false, length, Option, None, Some, refl, sym, ap, ◌∙◌, subst, arith, inl, inr}
+use Rattle.std.proofs.Common.{ℕ, ◌<◌, ◌≤◌, ◌≡◌, Bool, true, false, length, Option, None, Some, refl, sym, ap, ◌∙◌, subst, arith, inl, inr}
 use Rattle.std.specs.Prelude.{MatchOption}
 use Rattle.djq_model.specs.Data.{Bytes}
 use Rattle.djq_lines.specs.declared.limits.TheConstants.{PENDING_BYTES}
@@ -11,12 +11,12 @@ use Rattle.djq_machine.specs.declared.machine.Stepped.TheVariants.{Ran, Dry, End
 use Rattle.djq_machine.specs.State.{Session, State}
 use Rattle.djq_machine.specs.Effect.{Effect, EndsWith}
 use Rattle.djq_machine.specs.LineStep.{long, blank, slow, no_room, run, FrontStep, behind_line}
+use Rattle.djq_machine.specs.Call.{Counts}
 use Rattle.djq_machine.specs.Step.{is_dry}
 use Rattle.djq_engine.specs.Kept.{Kept}
-use Rattle.djq_core.specs.declared.open.OpenSession.{OpenSession}
-use Rattle.djq_core.specs.Views.{Talk, session_in, state_in}
+use Rattle.djq_core.specs.Views.{Talk, state_in}
 use Rattle.djq_core.specs.Sound.{IsSound}
-use Rattle.djq_core.specs.Performs.{among, to_one, unqueued, Performs}
+use Rattle.djq_core.specs.Performs.{among, unqueued, Performs}
 use Rattle.djq_core.specs.Stepping.{Fronts, EndsBefore, Unchanged, StepsTo}
 use Rattle.djq_core.proofs.Around.{parts, becomes}
 use Rattle.djq_core.proofs.Taking.{taking, with_room, sound_bytes}
@@ -72,11 +72,25 @@ is_dropped k before after l rest was f e said = record {
 
 -- What a step answers.
 
-pub ran_blank : (k : Kept) (before after : Talk) (l : Bytes) (was : ℕ) → before.cause ≡ None → Fronts (blank l) false k before k after was was → StepsTo Ran false k before k after was was
+pub ran_blank : (k : Kept) (before after : Talk) (l : Bytes) (was : Counts) → before.cause ≡ None → Fronts (blank l) false k before k after was.listing was.listing → StepsTo Ran false k before k after was was
 ran_blank k before after l was c f = (c, (l, inl f))
 
-pub ran_line : (stops : Bool) (old : Kept) (before : Talk) (new : Kept) (after : Talk) (l : Bytes) (was now : ℕ) → before.cause ≡ None → Fronts (run l) stops old before new after was now → StepsTo Ran stops old before new after was now
+pub ran_line : (stops : Bool) (old : Kept) (before : Talk) (new : Kept) (after : Talk) (l : Bytes) (was now : Counts) → before.cause ≡ None → Fronts (run l) stops old before new after was.listing now.listing → StepsTo Ran stops old before new after was now
 ran_line stops old before new after l was now c f = (c, (l, inr f))
 
-pub ended_before : (cause : EndCause) (old : Kept) (before : Talk) (new : Kept) (after : Talk) (was : ℕ) → before.cause ≡ None → EndsBefore cause false old before new after was was → StepsTo (Ended cause) false old before new after was was
+pub ended_before : (cause : EndCause) (old : Kept) (before : Talk) (new : Kept) (after : Talk) (was : Counts) → before.cause ≡ None → EndsBefore cause false old before new after was was → StepsTo (Ended cause) false old before new after was was
 ended_before cause old before new after was c f = subst (λ (o : Option EndCause). MatchOption o (EndsBefore cause false old before new after was was) (λ d. (d ≡ cause) × Unchanged false old before new after was was)) (sym c) f
+
+-- a step that does nothing
+
+nothing_changed : (k : Kept) (d : Talk) (was : Counts) → Unchanged false k d k d was was
+nothing_changed k d was = record { goes_on = refl; engine = refl; session = refl; counted = refl }
+
+pub had_ended : (cause : EndCause) (k : Kept) (d : Talk) (was : Counts) → d.cause ≡ Some cause → StepsTo (Ended cause) false k d k d was was
+had_ended cause k d was e = subst (λ (o : Option EndCause). MatchOption o (EndsBefore cause false k d k d was was) (λ c. (c ≡ cause) × Unchanged false k d k d was was)) (sym e) (refl, nothing_changed k d was)
+
+pub is_dry_front : (held : Bytes) → front_of held ≡ dry → is_dry held ≡ true
+is_dry_front held e = cc
+
+pub was_dry : (k : Kept) (d : Talk) (was : Counts) → d.cause ≡ None → is_dry d.held ≡ true → StepsTo Dry false k d k d was was
+was_dry k d was c e = (c, e, nothing_changed k d was)

@@ -1,23 +1,23 @@
 -- A session that gives up its cursors, and ends.
-use Rattle.std.proofs.Common.{ℕ, ◌+◌, ◌≤◌, ◌≡◌, ◌++◌, ◌||◌, Bool, true, false, List, [], ◌∷◌, map, Option, None, Some, refl, sym, ap, ap₂, ◌∙◌, subst, arith, append_assoc, append-nil, is_some, eqb, length}
+use Rattle.std.proofs.Common.{ℕ, ◌+◌, ◌≤◌, ◌≡◌, ◌++◌, ◌||◌, Bool, true, false, List, [], ◌∷◌, Option, None, Some, refl, sym, ap, ◌∙◌, subst, arith, append_assoc, append-nil, is_some, eqb, length}
 use Rattle.std.specs.Prelude.{⊤}
 use Rattle.std.proofs.lemmas.Bool.{eqb-true}
 use Rattle.djq_model.specs.Data.{Bytes}
 use Rattle.djq_lines.specs.declared.answer.EndCause.{EndCause}
 use Rattle.djq_lines.specs.Reply.{input_cut}
-use Rattle.djq_machine.specs.State.{Session, State, Cursor, with_session, ended_by}
+use Rattle.djq_machine.specs.State.{Session, State, with_session, ended_by}
 use Rattle.djq_machine.specs.Effect.{Effect}
 use Rattle.djq_session.specs.declared.named.NamedCursor.{NamedCursor}
 use Rattle.djq_session.specs.Dialog.{PopsCursor}
 use Rattle.djq_engine.specs.declared.cursor.CursorId.{CursorId}
 use Rattle.djq_engine.specs.Kept.{Kept, Held, held_at, same_id, IsHeld, ClosesCursor}
 use Rattle.djq_core.specs.declared.open.OpenSession.{OpenSession}
-use Rattle.djq_core.specs.Views.{Talk, session_in, open_in, state_in}
+use Rattle.djq_core.specs.Views.{Talk, session_in, state_in}
 use Rattle.djq_core.specs.Sound.{ids_of, all_ids, AreHeld, IsApart, AreApart, IsOwn, IsSound, is_among}
 use Rattle.djq_core.specs.Ends.{GivesUp, cut_text}
 use Rattle.djq_core.specs.Performs.{among, to_one, behind, unqueued, Performs}
 use Rattle.djq_core.proofs.Ids.{Agree, agree_others, agree_held, apart_split, apart_join, taken_out, held_split, same_id_flip, owned_without, same_id_same}
-use Rattle.djq_core.proofs.Around.{Around, parts, whole, state_is, changed_here, around}
+use Rattle.djq_core.proofs.Around.{Around, parts, whole}
 use Rattle.djq_core.proofs.Cursors.{ids_append, moved}
 
 -- One cursor after another is given up.
@@ -112,7 +112,7 @@ agree_apart old new bs [] h a = tt
 agree_apart old new bs (c ∷ cs) h a = (h c a.0, agree_apart old new bs cs h a.1)
 
 -- A session that has given up its cursors and ends, among others.
-ends_among : (old new : Kept) (before : Talk) (cause : EndCause) (stopped : Bool) (room : ℕ) (pending : Bytes) → GivesUp old before new (record before { cursors = [] })
+pub ends_among : (old new : Kept) (before : Talk) (cause : EndCause) (stopped : Bool) (room : ℕ) (pending : Bytes) → GivesUp old before new (record before { cursors = [] })
     → (front back : List OpenSession) (s : ℕ) → Around old.cursors front s before back
     → (state_in new stopped (among front s (record before { cursors = []; room = room; cause = Some cause }) back) ≡ with_session (state_in old stopped (among front s before back)) s (ended_by cause))
     × Around new.cursors front s (record before { cursors = []; room = room; cause = Some cause; pending = pending }) back

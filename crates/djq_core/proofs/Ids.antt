@@ -1,5 +1,5 @@
 -- Cursors of the engine: told apart, held, and as they were.
-use Rattle.std.proofs.Common.{ℕ, ◌≡◌, ◌≢◌, ◌++◌, ◌&&◌, Bool, true, false, List, [], ◌∷◌, map, find, option_map, cond, Option, None, Some, eqb, refl, sym, ap, ◌∙◌, subst, ap₂, ◌||◌, ◌⊎◌, inl, inr}
+use Rattle.std.proofs.Common.{ℕ, ◌≡◌, ◌++◌, ◌&&◌, Bool, true, false, List, [], ◌∷◌, map, option_map, cond, Option, None, Some, eqb, refl, sym, ap, ◌∙◌, subst, ap₂, ◌||◌, ◌⊎◌, inl, inr}
 use Rattle.std.specs.Prelude.{⊤, IsSome}
 use Rattle.std.proofs.lemmas.Bool.{eqb-true, eq-eqb}
 use Rattle.djq_model.specs.Data.{Bytes}
@@ -7,7 +7,7 @@ use Rattle.djq_model.specs.declared.query.Query.{Query}
 use Rattle.djq_session.specs.declared.named.NamedCursor.{NamedCursor}
 use Rattle.djq_engine.specs.declared.cursor.CursorId.{CursorId}
 use Rattle.djq_engine.specs.Kept.{Held, held_at, same_id, SameCursors, OthersStay, outdated_held}
-use Rattle.djq_machine.specs.State.{Cursor, Session, Position, open_at, stale}
+use Rattle.djq_machine.specs.State.{Cursor, Position, open_at, stale}
 use Rattle.djq_machine.specs.Stale.{outdated, outdater_of, by_relation, outdated_cursor, outdated_sessions}
 use Rattle.djq_core.specs.declared.open.OpenSession.{OpenSession}
 use Rattle.djq_core.specs.Views.{query_in, position_in, cursor_in, open_in}

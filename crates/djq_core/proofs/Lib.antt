@@ -5,6 +5,7 @@ pub mod Replying
 pub mod Cursors
 pub mod Naming
 pub mod GivingUp
+pub mod Cutting
 pub mod Telling
 pub mod Continuing
 pub mod Taking

@@ -1,6 +1,6 @@
 -- From one session to the state of all.
-use Rattle.std.proofs.Common.{ℕ, zero, suc, ◌+◌, ◌<◌, ◌≤◌, ◌≡◌, ◌++◌, ◌⊎◌, ◌||◌, Bool, true, false, not, List, [], ◌∷◌, length, map, take, drop, set, get_or, find, filter, cond, option_map, Option, None, Some, Result, Ok, Err, eqb, refl, sym, ap, ap₂, ◌∙◌, subst, arith, is_some, inl, inr}
-use Rattle.std.specs.Prelude.{⊤, IsSomeAnd, MatchOption, IsPermutation}
+use Rattle.std.proofs.Common.{ℕ, ◌+◌, ◌≤◌, ◌≡◌, ◌++◌, ◌⊎◌, ◌||◌, Bool, List, [], ◌∷◌, Option, None, Some, refl, sym, ap, ap₂, ◌∙◌, subst, inl, inr}
+use Rattle.std.specs.Prelude.{IsSomeAnd, MatchOption}
 use Rattle.std.proofs.lemmas.List.Sorted.{IsPermutation-refl}
 use Rattle.djq_model.specs.declared.relation.Relation.{Relation}
 use Rattle.djq_model.specs.Data.{Bytes}
@@ -8,18 +8,18 @@ use Rattle.djq_lines.specs.declared.answer.EndCause.{EndCause}
 use Rattle.djq_lines.specs.declared.answer.EndCause.TheVariants.{Input, Quit, Stop, Long, Slow, Memory}
 use Rattle.djq_machine.specs.declared.machine.Stepped.{Stepped}
 use Rattle.djq_machine.specs.declared.machine.Stepped.TheVariants.{Ran, Dry, Ended}
-use Rattle.djq_machine.specs.State.{Session, State, session_of, with_session}
+use Rattle.djq_machine.specs.State.{Session, State, session_of}
 use Rattle.djq_machine.specs.Effect.{Effect, queue_all}
 use Rattle.djq_machine.specs.LineStep.{LineOutcome, long, blank, slow, no_room, run}
 use Rattle.djq_machine.specs.Step.{Event, stepped, Acts, Step, SameRelations, is_dry}
-use Rattle.djq_machine.specs.Call.{Counts, counts, MakesCounted, RanStep, EndedStepAs, StepGives, cause_of, cause_in, held_of, held_in}
+use Rattle.djq_machine.specs.Call.{Counts, MakesCounted, EndedStepAs, StepGives, cause_of, cause_in, held_of, held_in}
 use Rattle.djq_engine.specs.Kept.{Kept}
 use Rattle.djq_core.specs.declared.open.OpenSession.{OpenSession}
-use Rattle.djq_core.specs.Views.{Talk, session_in, open_in, state_in}
+use Rattle.djq_core.specs.Views.{Talk, session_in, state_in}
 use Rattle.djq_core.specs.Sound.{IsSound}
 use Rattle.djq_core.specs.Performs.{among, to_one, behind, unqueued, Performs}
 use Rattle.djq_core.specs.Stepping.{Fronts, EndsBefore, Unchanged, StepsTo}
-use Rattle.djq_core.proofs.Around.{Around, parts, found, becomes}
+use Rattle.djq_core.proofs.Around.{parts, found, becomes}
 use Rattle.djq_core.proofs.Replying.{around_bytes}
 
 -- the same relations, in the same order
@@ -61,79 +61,74 @@ pub held_is : (k : Kept) (stopped : Bool) (front : List OpenSession) (s : ℕ) (
 held_is k stopped front s d back sound = ap held_in (found k stopped front s d back (parts k front s d back sound))
 
 -- The front of a session's bytes comes to something.
-fronts : (o : LineOutcome) (stops : Bool) (old : Kept) (before : Talk) (new : Kept) (after : Talk) (was now update rows : ℕ) (front back : List OpenSession) (s : ℕ) (stopped : Bool) → before.cause ≡ None
-    → Fronts o stops old before new after was now → IsSound old (among front s before back)
-    → MakesCounted (state_in old stopped (among front s before back)) (stepped s o) (state_in new (stops || stopped) (among front s after back)) (counts was update rows) (counts now update rows)
-fronts o stops old before new after was now update rows front back s stopped c p sound = record {
+fronts : (o : LineOutcome) (stops : Bool) (old : Kept) (before : Talk) (new : Kept) (after : Talk) (was now : Counts) (front back : List OpenSession) (s : ℕ) (stopped : Bool) → before.cause ≡ None
+    → Fronts o stops old before new after was.listing now.listing → IsSound old (among front s before back)
+    → MakesCounted (state_in old stopped (among front s before back)) (stepped s o) (state_in new (stops || stopped) (among front s after back)) was now
+fronts o stops old before new after was now front back s stopped c p sound = record {
   effect = to_one s p.text p.cost;
-  step = makes_step _ (stepped s o) stops old before new after was now front back s stopped p sound (λ e st' m. at_session old stopped front s before back _ sound (c, m));
-  listing = subst (λ (e : ℕ). now ≤ was + e) (sym (cost_is p.text)) p.counted;
-  update = refl;
-  rows = refl;
+  step = makes_step _ (stepped s o) stops old before new after was.listing now.listing front back s stopped p sound (λ e st' m. at_session old stopped front s before back _ sound (c, m));
+  listing = subst (λ (e : ℕ). now.listing ≤ was.listing + e) (sym (cost_is p.text)) p.counted;
 }
   where
     cost_is : (t : Option Bytes) → (to_one s t p.cost).cost ≡ p.cost
     cost_is None = refl
     cost_is (Some t) = refl
 
-ends_as : (c : EndCause) (stops : Bool) (old : Kept) (before : Talk) (new : Kept) (after : Talk) (was now update rows : ℕ) (front back : List OpenSession) (s : ℕ) (stopped : Bool) → before.cause ≡ None
+ends_as : (c : EndCause) (stops : Bool) (old : Kept) (before : Talk) (new : Kept) (after : Talk) (was now : Counts) (front back : List OpenSession) (s : ℕ) (stopped : Bool) → before.cause ≡ None
     → EndsBefore c stops old before new after was now → IsSound old (among front s before back)
-    → EndedStepAs c (state_in old stopped (among front s before back)) s (state_in new (stops || stopped) (among front s after back)) (counts was update rows) (counts now update rows)
-ends_as Long stops old before new after was now update rows front back s stopped c e sound = fronts long stops old before new after was now update rows front back s stopped c e sound
-ends_as Slow stops old before new after was now update rows front back s stopped c e sound = (e.0, fronts (slow e.0) stops old before new after was now update rows front back s stopped c e.1 sound)
-ends_as Memory stops old before new after was now update rows front back s stopped c e sound = (e.0, fronts (no_room e.0) stops old before new after was now update rows front back s stopped c e.1 sound)
-ends_as Input stops old before new after was now update rows front back s stopped c e sound = absurd e
-ends_as Quit stops old before new after was now update rows front back s stopped c e sound = absurd e
-ends_as Stop stops old before new after was now update rows front back s stopped c e sound = absurd e
+    → EndedStepAs c (state_in old stopped (among front s before back)) s (state_in new (stops || stopped) (among front s after back)) was now
+ends_as Long stops old before new after was now front back s stopped c e sound = fronts long stops old before new after was now front back s stopped c e sound
+ends_as Slow stops old before new after was now front back s stopped c e sound = (e.0, fronts (slow e.0) stops old before new after was now front back s stopped c e.1 sound)
+ends_as Memory stops old before new after was now front back s stopped c e sound = (e.0, fronts (no_room e.0) stops old before new after was now front back s stopped c e.1 sound)
+ends_as Input stops old before new after was now front back s stopped c e sound = absurd e
+ends_as Quit stops old before new after was now front back s stopped c e sound = absurd e
+ends_as Stop stops old before new after was now front back s stopped c e sound = absurd e
 
 -- nothing has changed
-unchanged : (stops : Bool) (old : Kept) (before : Talk) (new : Kept) (after : Talk) (was now : ℕ) (front back : List OpenSession) (s : ℕ) (stopped : Bool) → Unchanged stops old before new after was now
+unchanged : (stops : Bool) (old : Kept) (before : Talk) (new : Kept) (after : Talk) (was now : Counts) (front back : List OpenSession) (s : ℕ) (stopped : Bool) → Unchanged stops old before new after was now
     → state_in new (stops || stopped) (among front s after back) ≡ state_in old stopped (among front s before back)
 unchanged stops old before new after was now front back s stopped u =
     ap (λ (b : Bool). state_in new (b || stopped) (among front s after back)) u.goes_on ∙ ap₂ (λ (k : Kept) (d : Talk). state_in k stopped (among front s d back)) u.engine u.session
 
-same_counts : (was now update rows : ℕ) → now ≡ was → counts now update rows ≡ counts was update rows
-same_counts was now update rows e = ap (λ (n : ℕ). counts n update rows) e
-
 -- A step of a session is what a step of the machine answers.
-pub step_gives : (result : Stepped) (stops : Bool) (old : Kept) (before : Talk) (new : Kept) (after : Talk) (was now update rows : ℕ) (front back : List OpenSession) (s : ℕ) (stopped : Bool)
+pub step_gives : (result : Stepped) (stops : Bool) (old : Kept) (before : Talk) (new : Kept) (after : Talk) (was now : Counts) (front back : List OpenSession) (s : ℕ) (stopped : Bool)
     → StepsTo result stops old before new after was now → IsSound old (among front s before back)
-    → StepGives (state_in old stopped (among front s before back)) s result (state_in new (stops || stopped) (among front s after back)) (counts was update rows) (counts now update rows)
-step_gives Ran stops old before new after was now update rows front back s stopped t sound = (t.1.0, by t.1.1)
+    → StepGives (state_in old stopped (among front s before back)) s result (state_in new (stops || stopped) (among front s after back)) was now
+step_gives Ran stops old before new after was now front back s stopped t sound = (t.1.0, by t.1.1)
   where
-    by : (Fronts (blank t.1.0) stops old before new after was now ⊎ Fronts (run t.1.0) stops old before new after was now)
-        → (MakesCounted (state_in old stopped (among front s before back)) (stepped s (blank t.1.0)) (state_in new (stops || stopped) (among front s after back)) (counts was update rows) (counts now update rows)
-        ⊎ MakesCounted (state_in old stopped (among front s before back)) (stepped s (run t.1.0)) (state_in new (stops || stopped) (among front s after back)) (counts was update rows) (counts now update rows))
-    by (inl f) = inl (fronts (blank t.1.0) stops old before new after was now update rows front back s stopped t.0 f sound)
-    by (inr f) = inr (fronts (run t.1.0) stops old before new after was now update rows front back s stopped t.0 f sound)
-step_gives Dry stops old before new after was now update rows front back s stopped t sound = (
+    by : (Fronts (blank t.1.0) stops old before new after was.listing now.listing ⊎ Fronts (run t.1.0) stops old before new after was.listing now.listing)
+        → (MakesCounted (state_in old stopped (among front s before back)) (stepped s (blank t.1.0)) (state_in new (stops || stopped) (among front s after back)) was now
+        ⊎ MakesCounted (state_in old stopped (among front s before back)) (stepped s (run t.1.0)) (state_in new (stops || stopped) (among front s after back)) was now)
+    by (inl f) = inl (fronts (blank t.1.0) stops old before new after was now front back s stopped t.0 f sound)
+    by (inr f) = inr (fronts (run t.1.0) stops old before new after was now front back s stopped t.0 f sound)
+step_gives Dry stops old before new after was now front back s stopped t sound = (
   unchanged stops old before new after was now front back s stopped t.2,
-  same_counts was now update rows t.2.counted,
+  t.2.counted,
   cause_is old stopped front s before back sound ∙ t.0,
   ap is_dry (held_is old stopped front s before back sound) ∙ t.1,
 )
-step_gives (Ended c) stops old before new after was now update rows front back s stopped t sound =
-    subst (λ (o : Option EndCause). MatchOption o (EndedStepAs c (state_in old stopped (among front s before back)) s (state_in new (stops || stopped) (among front s after back)) (counts was update rows) (counts now update rows))
-    (λ d. (d ≡ c) × (state_in new (stops || stopped) (among front s after back) ≡ state_in old stopped (among front s before back)) × (counts now update rows ≡ counts was update rows)))
+step_gives (Ended c) stops old before new after was now front back s stopped t sound =
+    subst (λ (o : Option EndCause). MatchOption o (EndedStepAs c (state_in old stopped (among front s before back)) s (state_in new (stops || stopped) (among front s after back)) was now)
+    (λ d. (d ≡ c) × (state_in new (stops || stopped) (among front s after back) ≡ state_in old stopped (among front s before back)) × (now ≡ was)))
     (sym (cause_is old stopped front s before back sound)) (by before.cause refl t)
   where
     by : (o : Option EndCause) → before.cause ≡ o → MatchOption o (EndsBefore c stops old before new after was now) (λ d. (d ≡ c) × Unchanged stops old before new after was now)
-        → MatchOption o (EndedStepAs c (state_in old stopped (among front s before back)) s (state_in new (stops || stopped) (among front s after back)) (counts was update rows) (counts now update rows))
-        (λ d. (d ≡ c) × (state_in new (stops || stopped) (among front s after back) ≡ state_in old stopped (among front s before back)) × (counts now update rows ≡ counts was update rows))
-    by None e h = ends_as c stops old before new after was now update rows front back s stopped e h sound
-    by (Some d) e h = (h.0, unchanged stops old before new after was now front back s stopped h.1, same_counts was now update rows h.1.counted)
+        → MatchOption o (EndedStepAs c (state_in old stopped (among front s before back)) s (state_in new (stops || stopped) (among front s after back)) was now)
+        (λ d. (d ≡ c) × (state_in new (stops || stopped) (among front s after back) ≡ state_in old stopped (among front s before back)) × (now ≡ was))
+    by None e h = ends_as c stops old before new after was now front back s stopped e h sound
+    by (Some d) e h = (h.0, unchanged stops old before new after was now front back s stopped h.1, h.1.counted)
 
 -- what holds afterwards
-pub step_sound : (result : Stepped) (stops : Bool) (old : Kept) (before : Talk) (new : Kept) (after : Talk) (was now : ℕ) (front back : List OpenSession) (s : ℕ)
+pub step_sound : (result : Stepped) (stops : Bool) (old : Kept) (before : Talk) (new : Kept) (after : Talk) (was now : Counts) (front back : List OpenSession) (s : ℕ)
     → StepsTo result stops old before new after was now → IsSound old (among front s before back) → IsSound new (among front s after back)
 step_sound Ran stops old before new after was now front back s t sound = by t.1.1
   where
-    by : (Fronts (blank t.1.0) stops old before new after was now ⊎ Fronts (run t.1.0) stops old before new after was now) → IsSound new (among front s after back)
+    by : (Fronts (blank t.1.0) stops old before new after was.listing now.listing ⊎ Fronts (run t.1.0) stops old before new after was.listing now.listing) → IsSound new (among front s after back)
     by (inl f) = f.sound front back s sound
     by (inr f) = f.sound front back s sound
 step_sound Dry stops old before new after was now front back s t sound = still stops old before new after was now front back s t.2 sound
   where
-    still : (stops : Bool) (old : Kept) (before : Talk) (new : Kept) (after : Talk) (was now : ℕ) (front back : List OpenSession) (s : ℕ) → Unchanged stops old before new after was now → IsSound old (among front s before back) → IsSound new (among front s after back)
+    still : (stops : Bool) (old : Kept) (before : Talk) (new : Kept) (after : Talk) (was now : Counts) (front back : List OpenSession) (s : ℕ) → Unchanged stops old before new after was now → IsSound old (among front s before back) → IsSound new (among front s after back)
     still stops old before new after was now front back s u sound = subst (λ (k : Kept). IsSound k (among front s after back)) (sym u.engine) (subst (λ (d : Talk). IsSound old (among front s d back)) (sym u.session) sound)
 step_sound (Ended c) stops old before new after was now front back s t sound = by c before.cause t
   where

@@ -1,29 +1,28 @@
 -- Opening and closing a cursor.
-use Rattle.std.proofs.Common.{ℕ, suc, ◌+◌, ◌<◌, ◌≤◌, ◌≡◌, ◌++◌, Bool, true, false, List, [], ◌∷◌, length, map, find, option_map, Option, None, Some, Result, Ok, Err, codes, refl, sym, ap, ap₂, ◌∙◌, subst, arith, append_assoc, is_some}
+use Rattle.std.proofs.Common.{ℕ, ◌≡◌, ◌++◌, Bool, false, List, [], ◌∷◌, map, option_map, Option, None, Some, Result, Ok, Err, codes, refl, sym, ap, ap₂, ◌∙◌, subst, arith, append_assoc, is_some}
 use Rattle.std.specs.Prelude.{⊤, MatchOption}
-use Rattle.djq_model.specs.Data.{Bytes, Tuple, bytes_eq, drop_first}
-use Rattle.djq_model.specs.Answer.{AreDifferent}
+use Rattle.djq_model.specs.Data.{Bytes, bytes_eq, drop_first}
 use Rattle.djq_lines.specs.declared.answer.Refusal.{Refusal}
 use Rattle.djq_lines.specs.declared.answer.Refusal.TheVariants.{NoCursor}
 use Rattle.djq_lines.specs.declared.command.Command.TheVariants.{Open, Close}
 use Rattle.djq_lines.specs.Reply.{line, ok_reply, refusal_line}
 use Rattle.djq_machine.specs.State.{Store, Session, State, Cursor, open_at, cursor_of, with_session}
 use Rattle.djq_machine.specs.Conditions.{Answers, OutOfMemoryWhere}
-use Rattle.djq_machine.specs.Effect.{Effect, says, RefusedStep}
-use Rattle.djq_machine.specs.Command.{open_refusal, OpenStep, OpensTo as MachineOpens, with_cursor, CloseStep, CommandStep}
+use Rattle.djq_machine.specs.Effect.{Effect}
+use Rattle.djq_machine.specs.Command.{open_refusal, with_cursor, CommandStep}
 use Rattle.djq_session.specs.declared.named.NamedCursor.{NamedCursor}
 use Rattle.djq_session.specs.Dialog.{Replies, named, is_named}
 use Rattle.djq_engine.specs.declared.cursor.CursorId.{CursorId}
-use Rattle.djq_engine.specs.Kept.{Kept, Held, held_at, IsHeld, SameCursors, OpensCursor, ClosesCursor}
+use Rattle.djq_engine.specs.Kept.{Kept, Held, held_at, IsHeld, OpensCursor, ClosesCursor}
 use Rattle.djq_core.specs.declared.open.OpenSession.{OpenSession}
-use Rattle.djq_core.specs.Views.{Talk, query_in, position_in, cursor_in, session_in, open_in, state_in}
-use Rattle.djq_core.specs.Sound.{ids_of, all_ids, AreHeld, IsApart, AreApart, NoneOnceEnded, IsSound, IsReady, AreOwned}
-use Rattle.djq_core.specs.Opens.{Opens, OpensTo, refusal_of}
+use Rattle.djq_core.specs.Views.{Talk, query_in, position_in, cursor_in, session_in, state_in}
+use Rattle.djq_core.specs.Sound.{ids_of, all_ids, AreHeld, IsApart, AreApart, NoneOnceEnded, IsReady, AreOwned}
+use Rattle.djq_core.specs.Opens.{Opens}
 use Rattle.djq_core.specs.Performs.{among, to_one, unqueued, Performs, Executes}
-use Rattle.djq_core.proofs.Ids.{Agree, agree_same, agree_others, agree_held, agree_names, fresh_apart, apart_split, apart_join, taken_out, put_in, held_split, held_join, owned_more, owned_less}
-use Rattle.djq_core.proofs.Around.{Around, parts, whole, map_append, around}
+use Rattle.djq_core.proofs.Ids.{Agree, agree_others, agree_held, agree_names, fresh_apart, apart_split, apart_join, taken_out, put_in, held_split, held_join, owned_more, owned_less}
+use Rattle.djq_core.proofs.Around.{Around, parts, map_append}
 use Rattle.djq_core.proofs.Cursors.{Cut, cut_found, cursor_seen, drop-map, refusal_same, ids_append, regroup, ungroup, moved}
-use Rattle.djq_core.proofs.Replying.{replied, refused, sound_replied, around_held}
+use Rattle.djq_core.proofs.Replying.{replied, refused, sound_replied}
 
 -- The session's command is answered after its cursors have changed.
 pub answered : (M : State → ℕ → Session → Effect → State → Type 0) (old new : Kept) (before mid after : Talk) (text : Bytes)

@@ -1,6 +1,6 @@
 -- The session of an id among those that the core keeps.
-use Rattle.std.proofs.Common.{ℕ, zero, suc, ◌+◌, ◌<◌, ◌≤◌, ◌≡◌, ◌++◌, ◌⊎◌, ◌||◌, Bool, true, false, not, List, [], ◌∷◌, length, map, take, drop, set, get_or, find, filter, cond, Option, None, Some, Result, Ok, Err, eqb, refl, sym, ap, ap₂, ◌∙◌, subst, arith, is_some, inl, inr, take-append-drop, nat_cmp, append_assoc, length-append, length-take, append-nil}
-use Rattle.std.specs.Prelude.{⊤, Contains, MatchOption, IsSomeAnd, All}
+use Rattle.std.proofs.Common.{ℕ, zero, suc, ◌<◌, ◌≤◌, ◌≡◌, ◌++◌, ◌⊎◌, ◌||◌, Bool, true, false, not, List, [], ◌∷◌, length, map, take, drop, set, get_or, find, filter, cond, Option, None, Some, Err, eqb, refl, sym, ap, ap₂, ◌∙◌, subst, arith, is_some, inl, inr, take-append-drop, nat_cmp, append_assoc, length-append, length-take, append-nil}
+use Rattle.std.specs.Prelude.{Contains, MatchOption, IsSomeAnd, All}
 use Rattle.std.specs.List.{remove}
 use Rattle.std.specs.List.Sorted.{IsBinarySearchResult}
 use Rattle.std.proofs.lemmas.List.Sorted.{searched}
@@ -9,25 +9,25 @@ use Rattle.std.proofs.lemmas.List.{length-map, get_or_default}
 use Rattle.djq_model.specs.Data.{Bytes}
 use Rattle.djq_lines.specs.declared.limits.TheConstants.{SESSIONS}
 use Rattle.djq_lines.specs.declared.answer.EndCause.{EndCause}
-use Rattle.djq_lines.specs.declared.answer.EndCause.TheVariants.{Input, Memory}
+use Rattle.djq_lines.specs.declared.answer.EndCause.TheVariants.{Memory}
 use Rattle.djq_lines.specs.Reply.{end_memory}
 use Rattle.djq_machine.specs.declared.machine.Stepped.{Stepped}
 use Rattle.djq_machine.specs.declared.machine.Fed.TheVariants.{Held, Ended}
-use Rattle.djq_machine.specs.State.{Session, State, session_of, with_session, fresh}
+use Rattle.djq_machine.specs.State.{Session, State, session_of, fresh}
 use Rattle.djq_machine.specs.Effect.{Effect, EndsWith, nothing}
-use Rattle.djq_machine.specs.Step.{EndedStep, Event, opened, fed, took, ended, closed, Acts, Step, is_dry}
+use Rattle.djq_machine.specs.Step.{EndedStep, Event, opened, fed, took, ended, closed, Acts, is_dry}
 use Rattle.djq_machine.specs.Run.{pending_of, pending_in}
-use Rattle.djq_machine.specs.Call.{counts, Makes, IsOpen, OpenGives, FedGives, StepGives, cause_of, held_of, ids_of as state_ids}
+use Rattle.djq_machine.specs.Call.{Counts, Makes, IsOpen, FedGives, StepGives, cause_of, held_of, ids_of as state_ids}
 use Rattle.djq_engine.specs.Kept.{Kept, Held as HeldCursor}
 use Rattle.djq_core.specs.declared.open.OpenSession.{OpenSession}
 use Rattle.djq_session.specs.Dialog.{IsFresh}
 use Rattle.djq_core.specs.Views.{Talk, cursor_in, session_in, open_in, state_in}
-use Rattle.djq_core.specs.Sound.{IsBelow, Rises, IsSound, IsOwn, IsCore, ids_of, all_ids, AreHeld, AreApart, IsApart, AreEndedWithout, NoneOnceEnded, AreOwned}
-use Rattle.djq_core.specs.Ends.{GivesUp, EndsQuietly, cut_text}
-use Rattle.djq_core.specs.Performs.{among, to_one, behind, unqueued, Performs}
+use Rattle.djq_core.specs.Sound.{IsBelow, Rises, IsSound, IsOwn, IsCore, ids_of, all_ids, AreHeld, AreApart, NoneOnceEnded, AreOwned}
+use Rattle.djq_core.specs.Ends.{GivesUp, EndsQuietly}
+use Rattle.djq_core.specs.Performs.{among, to_one, Performs}
 use Rattle.djq_core.specs.Stepping.{StepsTo}
-use Rattle.djq_core.proofs.Ids.{Agree, held_split, held_join, apart_split, agree_open, agree_held, apart_join, owned_without}
-use Rattle.djq_core.proofs.Around.{ended_join, Around, parts, whole, ids_are, cursors_are, open_are, found, becomes, rises_push, rises_without, IsAbove, above_front, map_append, around}
+use Rattle.djq_core.proofs.Ids.{Agree, held_join, apart_split, agree_open, agree_held, owned_without}
+use Rattle.djq_core.proofs.Around.{ended_join, parts, ids_are, cursors_are, open_are, found, becomes, rises_push, rises_without, IsAbove, above_front, map_append}
 use Rattle.djq_core.proofs.Taking.{sound_bytes}
 use Rattle.djq_core.proofs.GivingUp.{agree_apart, apart_fronts, apart_backs, apart_rest, without}
 use Rattle.djq_core.proofs.Lifting.{same_relations, makes_step, at_session, cause_is, held_is, step_gives, step_sound}
@@ -115,15 +115,15 @@ still_core k new is xs id_room room at s e d core h sound = record {
 }
 
 -- `step`
-pub steps : (k new : Kept) (xs : List OpenSession) (at s : ℕ) (e : OpenSession) (d : Talk) (result : Stepped) (stops stopped : Bool) (was now update rows : ℕ) → Here k xs at s e
+pub steps : (k new : Kept) (xs : List OpenSession) (at s : ℕ) (e : OpenSession) (d : Talk) (result : Stepped) (stops stopped : Bool) (was now : Counts) → Here k xs at s e
     → StepsTo result stops k e.session new d was now
-    → StepGives (state_in k stopped xs) s result (state_in new (stops || stopped) (set xs at (record e { session = d }))) (counts was update rows) (counts now update rows)
-steps k new xs at s e d result stops stopped was now update rows h t =
-    subst (λ (ys : List OpenSession). StepGives (state_in k stopped ys) s result (state_in new (stops || stopped) (set xs at (record e { session = d }))) (counts was update rows) (counts now update rows)) (sym h.is)
-    (subst (λ (ys : List OpenSession). StepGives (state_in k stopped (among (take at xs) s e.session (drop (suc at) xs))) s result (state_in new (stops || stopped) ys) (counts was update rows) (counts now update rows)) (sym (h.put d))
-    (step_gives result stops k e.session new d was now update rows (take at xs) (drop (suc at) xs) s stopped t h.sound))
+    → StepGives (state_in k stopped xs) s result (state_in new (stops || stopped) (set xs at (record e { session = d }))) was now
+steps k new xs at s e d result stops stopped was now h t =
+    subst (λ (ys : List OpenSession). StepGives (state_in k stopped ys) s result (state_in new (stops || stopped) (set xs at (record e { session = d }))) was now) (sym h.is)
+    (subst (λ (ys : List OpenSession). StepGives (state_in k stopped (among (take at xs) s e.session (drop (suc at) xs))) s result (state_in new (stops || stopped) ys) was now) (sym (h.put d))
+    (step_gives result stops k e.session new d was now (take at xs) (drop (suc at) xs) s stopped t h.sound))
 
-pub steps_sound : (k new : Kept) (is : List ℕ) (xs : List OpenSession) (id_room room at s : ℕ) (e : OpenSession) (d : Talk) (result : Stepped) (stops : Bool) (was now : ℕ) → IsCore k is xs id_room room → Here k xs at s e
+pub steps_sound : (k new : Kept) (is : List ℕ) (xs : List OpenSession) (id_room room at s : ℕ) (e : OpenSession) (d : Talk) (result : Stepped) (stops : Bool) (was now : Counts) → IsCore k is xs id_room room → Here k xs at s e
     → StepsTo result stops k e.session new d was now → IsCore new is (set xs at (record e { session = d })) id_room room
 steps_sound k new is xs id_room room at s e d result stops was now core h t =
     still_core k new is xs id_room room at s e d core h (step_sound result stops k e.session new d was now (take at xs) (drop (suc at) xs) s t h.sound)

@@ -1,5 +1,5 @@
 -- Commands that leave the session's cursors as they are.
-use Rattle.std.proofs.Common.{ℕ, ◌+◌, ◌≤◌, ◌≡◌, ◌++◌, Bool, true, false, List, [], ◌∷◌, map, cond, Option, None, Some, Result, Ok, Err, codes, refl, sym, ap, ◌∙◌, subst, arith, ◌||◌, ◌⊎◌, inl, inr, ap₂, option_map}
+use Rattle.std.proofs.Common.{ℕ, ◌+◌, ◌≤◌, ◌≡◌, ◌++◌, Bool, true, false, List, [], ◌∷◌, map, Option, None, Some, Result, codes, refl, sym, ap, ◌∙◌, subst, arith, ◌||◌, ◌⊎◌, inl, inr, ap₂, option_map}
 use Rattle.std.specs.Prelude.{⊤, ◌==◌, if◌then◌else◌, find, IsSome, IsSomeAnd}
 use Rattle.djq_model.specs.Data.{Bytes, Tuple, query_of, bytes_eq}
 use Rattle.std.specs.List.{list_any}
@@ -12,21 +12,22 @@ use Rattle.djq_model.specs.declared.relation.ColumnType.{ColumnType}
 use Rattle.djq_lines.specs.declared.answer.Refusal.{Refusal}
 use Rattle.djq_lines.specs.declared.answer.AddOutcome.{AddOutcome}
 use Rattle.djq_lines.specs.declared.answer.DeleteOutcome.{DeleteOutcome}
+use Rattle.djq_lines.specs.declared.rest.QueryOutcome.{QueryOutcome}
 use Rattle.djq_lines.specs.declared.command.Command.TheVariants.{Rel, Add, Del, Query as Register, Has, Drop}
-use Rattle.djq_lines.specs.Reply.{refusal_line, ok_reply, add_reply, delete_reply, query_reply, has_reply}
+use Rattle.djq_lines.specs.Reply.{ok_reply, add_reply, delete_reply, query_reply, has_reply}
 use Rattle.djq_machine.specs.State.{Session, State, Cursor, session_of}
 use Rattle.djq_machine.specs.Store.{MakesRelation, AddsRow, DeletesRow, RegistersQuery, TellsWhether, has_steps, DropsQuery}
 use Rattle.djq_machine.specs.Stale.{by_relation, outdated_sessions, add_outdates, add_accepted, delete_outdates, changed}
 use Rattle.djq_machine.specs.Watch.{affected}
-use Rattle.djq_machine.specs.Effect.{Effect, RefusedStep}
+use Rattle.djq_machine.specs.Effect.{Effect}
 use Rattle.djq_session.specs.Dialog.{Replies}
 use Rattle.djq_engine.specs.Kept.{Kept, Held, held_at, SameCursors, Outdates, outdated_held, same_id, Uses, DropGives}
 use Rattle.djq_core.specs.declared.open.OpenSession.{OpenSession}
 use Rattle.djq_core.specs.Views.{Talk, session_in, open_in, state_in, query_in, cursor_in}
 use Rattle.djq_core.specs.Sound.{ids_of, all_ids, AreHeld, IsSound, is_among}
 use Rattle.djq_core.specs.Performs.{among, to_one, unqueued, Performs, Executes}
-use Rattle.djq_core.proofs.Ids.{Agree, agree_same, agree_held, agree_open, Outdated, outdated_find, outdated_all_held, outdated_open, owned_still, among_either, held_split, same_id_same, or_true}
-use Rattle.djq_core.proofs.Around.{Around, parts, whole, open_are, looks, found}
+use Rattle.djq_core.proofs.Ids.{agree_same, agree_held, agree_open, outdated_find, outdated_all_held, outdated_open, owned_still, among_either, held_split, same_id_same, or_true}
+use Rattle.djq_core.proofs.Around.{Around, parts, whole, open_are, found}
 use Rattle.djq_core.proofs.Changing.{none_affected, change_replies}
 
 -- a reply changes nothing of a session that the machine sees but its bytes
@@ -77,6 +78,12 @@ sound_replied k front s before after text back r p =
     subst (λ (d : Talk). IsSound k (among front s d back)) (sym r)
     (whole k front s (record before { pending = before.pending ++ text; room = after.room }) back (around_bytes k.cursors front s before before.held (before.pending ++ text) after.room back p))
 
+-- what is known around a session holds where all cursors are as before
+pub around_same : (old new : List Held) (front : List OpenSession) (s : ℕ) (d : Talk) (back : List OpenSession) → SameCursors old new → Around old front s d back → Around new front s d back
+around_same old new front s d back same p =
+    let move = λ (cs : List CursorId) (h : AreHeld old cs). agree_held old new cs (agree_same old new cs same) h in
+    around_held old new front s d back (move (all_ids front)) (move (ids_of d.cursors)) (move (all_ids back)) (λ c i. subst (λ (o : Option Held). IsSome o) (same c) i) p
+
 -- Something is done and answered, and the cursors stay as they are.
 pub replied_among : (M : State → ℕ → Session → Effect → State → Type 0) (old new : Kept) (before after : Talk) (text : Bytes) (cost was now : ℕ)
     → Replies before after text → SameCursors old.cursors new.cursors → now ≤ was + cost
@@ -95,10 +102,7 @@ replied_among M old new before after text cost was now r same counted does = rec
       subst (λ (ys : List Session). M (state_in old stopped xs) s (session_in old.cursors s before) (to_one s (Some text) cost) (record { store = new.store; stopped = stopped; sessions = ys }))
       (sym eq) (does front back s stopped sound);
   sound = λ front back s sound.
-      let p = parts old front s before back sound in
-      let move = λ (cs : _) (h : AreHeld old.cursors cs). agree_held old.cursors new.cursors cs (agree_same old.cursors new.cursors cs same) h in
-      sound_replied new front s before after text back r
-      (around_held old.cursors new.cursors front s before back (move (all_ids front)) (move (ids_of before.cursors)) (move (all_ids back)) (λ c i. subst (λ (o : Option Held). IsSome o) (same c) i) p);
+      sound_replied new front s before after text back r (around_same old.cursors new.cursors front s before back same (parts old front s before back sound));
   counted = counted;
 }
 
@@ -132,17 +136,17 @@ does_rel old new before after name types result makes same r =
       state = refl;
     })
 
-pub does_query : (old new : Kept) (before after : Talk) (q : Query) (result : Result ℕ Refusal)
-    → RegistersQuery old.store q result new.store → SameCursors old.cursors new.cursors → Replies before after (query_reply result)
-    → Executes (Register q) false old before new after 0 0
-does_query old new before after q result registers same r =
-    replied _ old new before after (query_reply result) r same (λ st s x e f. record {
+pub does_query : (old new : Kept) (before after : Talk) (q : Query) (result : Result QueryOutcome Refusal) (was now : ℕ)
+    → now ≡ was → RegistersQuery old.store q result new.store → SameCursors old.cursors new.cursors → Replies before after (query_reply result)
+    → Executes (Register q) false old before new after was now
+does_query old new before after q result was now counted registers same r =
+    replied_costing _ old new before after (query_reply result) 0 was now r same (omega (arith, counted)) (λ st s x e f. inl (record {
       result = result;
       store = new.store;
       done = subst (λ store. RegistersQuery store q result new.store) (sym e) registers;
       effect = refl;
       state = refl;
-    })
+    }))
 
 -- the cursors after a change are held as they were, and look as the machine says
 moves_held : (old new : Kept) (name : Bytes) (b : Bool) (cs : _) → Outdates old name b new → AreHeld old.cursors cs → AreHeld new.cursors cs
@@ -166,12 +170,12 @@ moves_open old new name true xs out =
 moves_open old new name false xs out = agree_open old.cursors new.cursors xs (agree_same old.cursors new.cursors (all_ids xs) out)
 
 -- A change of a relation, or none, is done and answered.
-pub changes : (M : State → ℕ → Session → Effect → State → Type 0) (old new : Kept) (before after : Talk) (text name : Bytes) (b : Bool)
-    → before.cause ≡ None → Replies before after text → Outdates old name b new
+pub changes : (M : State → ℕ → Session → Effect → State → Type 0) (old new : Kept) (before after : Talk) (text name : Bytes) (b : Bool) (was now : ℕ)
+    → now ≡ was → before.cause ≡ None → Replies before after text → Outdates old name b new
     → ((st : State) (s : ℕ) (x : Session) → st.store ≡ old.store → affected st name ≡ [] → IsSomeAnd (session_of (changed st name b new.store) s) (λ y. y.cause ≡ None)
     → M st s x (to_one s (Some text) 0) (changed st name b new.store))
-    → Performs M false old before new after 0 0
-changes M old new before after text name b running r out does = record {
+    → Performs M false old before new after was now
+changes M old new before after text name b was now counted running r out does = record {
   text = Some text;
   cost = 0;
   pending = ap (λ (d : Talk). d.pending) r;
@@ -186,29 +190,29 @@ changes M old new before after text name b running r out does = record {
       (subst (λ (o : Option Session). IsSomeAnd o (λ y. y.cause ≡ None)) (sym (found new stopped front s before back (moved front back s (parts old front s before back sound)))) running)));
   sound = λ front back s sound.
       sound_replied new front s before after text back r (moved front back s (parts old front s before back sound));
-  counted = omega arith;
+  counted = omega (arith, counted);
 }
   where
     moved : (front back : List OpenSession) (s : ℕ) → Around old.cursors front s before back → Around new.cursors front s before back
     moved front back s p =
         around_held old.cursors new.cursors front s before back (λ h. moves_held old new name b (all_ids front) out h) (λ h. moves_held old new name b (ids_of before.cursors) out h) (λ h. moves_held old new name b (all_ids back) out h) (λ c i. moves_still old new name b c out i) p
 
-pub does_add : (old new : Kept) (before after : Talk) (name : Bytes) (row : Tuple) (result : Result AddOutcome Refusal)
-    → AddsRow old.store name row result new.store → Outdates old name (add_outdates result) new → Replies before after (add_reply result (new.store).seq)
-    → before.cause ≡ None → Executes (Add name row) false old before new after 0 0
-does_add old new before after name row result adds out r running =
-    changes _ old new before after (add_reply result (new.store).seq) name (add_outdates result) running r out (λ st s x e none on. record {
+pub does_add : (old new : Kept) (before after : Talk) (name : Bytes) (row : Tuple) (result : Result AddOutcome Refusal) (was now : ℕ)
+    → now ≡ was → AddsRow old.store name row result new.store → Outdates old name (add_outdates result) new → Replies before after (add_reply result (new.store).seq)
+    → before.cause ≡ None → Executes (Add name row) false old before new after was now
+does_add old new before after name row result was now counted adds out r running =
+    changes _ old new before after (add_reply result (new.store).seq) name (add_outdates result) was now counted running r out (λ st s x e none on. record {
       result = result;
       store = new.store;
       done = subst (λ store. AddsRow store name row result new.store) (sym e) adds;
       change = change_replies st s name _ (add_outdates result) (add_accepted result) new.store (add_reply result (new.store).seq) none on;
     })
 
-pub does_delete : (old new : Kept) (before after : Talk) (name : Bytes) (row : Tuple) (result : Result DeleteOutcome Refusal)
-    → DeletesRow old.store name row result new.store → Outdates old name (delete_outdates result) new → Replies before after (delete_reply result (new.store).seq)
-    → before.cause ≡ None → Executes (Del name row) false old before new after 0 0
-does_delete old new before after name row result deletes out r running =
-    changes _ old new before after (delete_reply result (new.store).seq) name (delete_outdates result) running r out (λ st s x e none on. record {
+pub does_delete : (old new : Kept) (before after : Talk) (name : Bytes) (row : Tuple) (result : Result DeleteOutcome Refusal) (was now : ℕ)
+    → now ≡ was → DeletesRow old.store name row result new.store → Outdates old name (delete_outdates result) new → Replies before after (delete_reply result (new.store).seq)
+    → before.cause ≡ None → Executes (Del name row) false old before new after was now
+does_delete old new before after name row result was now counted deletes out r running =
+    changes _ old new before after (delete_reply result (new.store).seq) name (delete_outdates result) was now counted running r out (λ st s x e none on. record {
       result = result;
       store = new.store;
       done = subst (λ store. DeletesRow store name row result new.store) (sym e) deletes;

@@ -1,8 +1,10 @@
 -- What reading a line gives, as the machine says it; and that what is read is served.
-use Rattle.std.proofs.Common.{ℕ, ◌≡◌, ◌<◌, ◌≤◌, ◌&&◌, true, false, Bool, List, [], ◌∷◌, Option, None, Some, Result, Ok, Err, cond, option_map, refl, sym, ap, ap₂, ◌∙◌, subst, arith, nat_le}
+use Rattle.std.proofs.Common.{ℕ, zero, suc, length, ◌≡◌, ◌<◌, ◌≤◌, true, false, Bool, List, [], ◌∷◌, Option, None, Some, Ok, Err, cond, option_map, refl, sym, ap, ap₂, ◌∙◌, subst, arith, nat_le}
+use Rattle.std.specs.Prelude.{⊤}
 use Rattle.std.specs.Str.{is_utf8}
 use Rattle.std.proofs.lemmas.Bool.{and_parts, leb-true}
 use Rattle.djq_model.specs.declared.query.Query.{Query}
+use Rattle.djq_model.specs.declared.query.Atom.{Atom}
 use Rattle.djq_model.specs.Data.{Bytes}
 use Rattle.djq_value.specs.Token.{Token, word, text, open_paren, close_paren, comma, arrow, stray, tokens}
 use Rattle.djq_value.specs.Literal.{is_name, natural_of, literal_of}
@@ -12,7 +14,7 @@ use Rattle.djq_lines.specs.declared.command.Command.TheVariants.{Rel, Add, Del, 
 use Rattle.djq_lines.specs.declared.keyword.Keyword.{Keyword}
 use Rattle.djq_lines.specs.declared.keyword.Keyword.TheVariants.{Rel as RelWord, Add as AddWord, Del as DelWord, Query as QueryWord, Drop as DropWord, Open as OpenWord, Next as NextWord, Close as CloseWord, Has as HasWord, Watch as WatchWord, Unwatch as UnwatchWord, Explain as ExplainWord, Quit as QuitWord, Stop as StopWord}
 use Rattle.djq_lines.specs.Reply.{refusal_line}
-use Rattle.djq_lines.specs.Grammar.{Reading, refused, says, reading_in, reading_of, command_of, command_in, command_with, command_behind, is_served, is_in_range, takes_memory_to_read, is_count, count_of, keyword_of, nothing, type_of, named_some, named_any, query_in, one_name, two_names, name_and_count}
+use Rattle.djq_lines.specs.Grammar.{Reading, refused, says, reading_in, reading_of, command_of, command_in, command_with, command_behind, is_served, is_in_range, takes_memory_to_read, is_count, count_of, keyword_of, nothing, type_of, named_some, named_any, query_in, query_of, body_in, atoms_in, atoms_within, atom_in, behind_atom, in_front, list_in, name_of, one_name, two_names, name_and_count}
 use Rattle.djq_proto.specs.declared.refusal.LineRefusal.{LineRefusal}
 use Rattle.djq_proto.specs.declared.refusal.LineRefusal.TheVariants.{Syntax as Outside, Later as Unserved, Range, NoMem}
 use Rattle.djq_proto.specs.Reading.{Gives, Reads}
@@ -148,11 +150,113 @@ counted_of line c n e = step (is_utf8 line) e
     step true e = counted_in (tokens line) c n e
     step false e = absurd (cc)
 
+-- A query that a line says has an atom at least.
+
+behind_some : (more : List Token → Option (List Atom)) (o : Option (Atom × List Token)) (atoms : List Atom) → behind_atom more o ≡ Some atoms → 0 < length atoms
+behind_some more None atoms e = absurd (cc)
+behind_some more (Some (a, [])) atoms e = let same : a ∷ [] ≡ atoms = cc in omega (arith, ap length same)
+behind_some more (Some (a, comma ∷ ts)) atoms e = by (more ts) e
+  where
+    by : (o : Option (List Atom)) → in_front (Some a) o ≡ Some atoms → 0 < length atoms
+    by None f = absurd (cc)
+    by (Some rest) f = let same : a ∷ rest ≡ atoms = cc in omega (arith, ap length same)
+behind_some more (Some (a, word w ∷ ts)) atoms e = absurd (cc)
+behind_some more (Some (a, text w ∷ ts)) atoms e = absurd (cc)
+behind_some more (Some (a, open_paren ∷ ts)) atoms e = absurd (cc)
+behind_some more (Some (a, close_paren ∷ ts)) atoms e = absurd (cc)
+behind_some more (Some (a, arrow ∷ ts)) atoms e = absurd (cc)
+behind_some more (Some (a, stray ∷ ts)) atoms e = absurd (cc)
+
+within_some : (n : ℕ) (ts : List Token) (atoms : List Atom) → atoms_within n ts ≡ Some atoms → 0 < length atoms
+within_some zero ts atoms e = absurd (cc)
+within_some (suc n) ts atoms e = behind_some (atoms_within n) (atom_in ts) atoms e
+
+atoms_some : (ts : List Token) (atoms : List Atom) → atoms_in ts ≡ Some atoms → 0 < length atoms
+unfolding atoms_in
+atoms_some ts atoms e = within_some (length ts) ts atoms e
+
+body_some : (ts : List Token) (atoms : List Atom) → body_in ts ≡ Some atoms → 0 < length atoms
+body_some [] atoms e = absurd (cc)
+body_some (arrow ∷ ts) atoms e = atoms_some ts atoms e
+body_some (word w ∷ ts) atoms e = absurd (cc)
+body_some (text w ∷ ts) atoms e = absurd (cc)
+body_some (open_paren ∷ ts) atoms e = absurd (cc)
+body_some (close_paren ∷ ts) atoms e = absurd (cc)
+body_some (comma ∷ ts) atoms e = absurd (cc)
+body_some (stray ∷ ts) atoms e = absurd (cc)
+
+query_some : (name : Bytes) (head : Option (List Bytes × List Token)) (q : Query) → query_of name head ≡ Some q → 0 < length q.atoms
+query_some name None q e = absurd (cc)
+query_some name (Some head) q e = by (body_in head.1) refl e
+  where
+    by : (o : Option (List Atom)) → body_in head.1 ≡ o → option_map (λ atoms. record { name = name; head = head.0; atoms = atoms }) o ≡ Some q → 0 < length q.atoms
+    by None f g = absurd (cc)
+    by (Some atoms) f g =
+        let same : record { name = name; head = head.0; atoms = atoms } ≡ q = cc in
+        subst (λ (p : Query). 0 < length p.atoms) same (body_some head.1 atoms f)
+
+query_said : (ts : List Token) (q : Query) → query_in ts ≡ Some q → 0 < length q.atoms
+query_said [] q e = absurd (cc)
+query_said (word n ∷ ts) q e = by (is_name n) e
+  where
+    by : (b : Bool) → cond b (query_of n (list_in name_of ts)) None ≡ Some q → 0 < length q.atoms
+    by true f = query_some n (list_in name_of ts) q f
+    by false f = absurd (cc)
+query_said (text n ∷ ts) q e = absurd (cc)
+query_said (open_paren ∷ ts) q e = absurd (cc)
+query_said (close_paren ∷ ts) q e = absurd (cc)
+query_said (comma ∷ ts) q e = absurd (cc)
+query_said (arrow ∷ ts) q e = absurd (cc)
+query_said (stray ∷ ts) q e = absurd (cc)
+
+-- what holds of a command of a query, and of any other
+abbrev pub HasAtom : Command → Type 0
+HasAtom (Register q) = 0 < length q.atoms
+HasAtom _ = ⊤
+
+atoms_behind : (k : Keyword) (ts : List Token) (command : Command) → command_behind k ts ≡ Some command → HasAtom command
+atoms_behind RelWord ts command e = made_of (λ p. Rel p.0 p.1) (named_some type_of ts) command (HasAtom command) (λ a f g. subst HasAtom g tt) e
+atoms_behind AddWord ts command e = made_of (λ p. Add p.0 p.1) (named_some literal_of ts) command (HasAtom command) (λ a f g. subst HasAtom g tt) e
+atoms_behind DelWord ts command e = made_of (λ p. Del p.0 p.1) (named_some literal_of ts) command (HasAtom command) (λ a f g. subst HasAtom g tt) e
+atoms_behind QueryWord ts command e = made_of (λ q. Register q) (query_in ts) command (HasAtom command) (λ q f g. subst HasAtom g (query_said ts q f)) e
+atoms_behind DropWord ts command e = made_of (λ q. Drop q) (one_name ts) command (HasAtom command) (λ a f g. subst HasAtom g tt) e
+atoms_behind OpenWord ts command e = made_of (λ p. Open p.0 p.1) (two_names ts) command (HasAtom command) (λ a f g. subst HasAtom g tt) e
+atoms_behind NextWord ts command e = made_of (λ p. Next p.0 p.1) (name_and_count ts) command (HasAtom command) (λ a f g. subst HasAtom g tt) e
+atoms_behind CloseWord ts command e = made_of (λ q. Close q) (one_name ts) command (HasAtom command) (λ a f g. subst HasAtom g tt) e
+atoms_behind HasWord ts command e = made_of (λ p. Has p.0 p.1) (named_any literal_of ts) command (HasAtom command) (λ a f g. subst HasAtom g tt) e
+atoms_behind WatchWord ts command e = made_of (λ q. Watch q) (one_name ts) command (HasAtom command) (λ a f g. subst HasAtom g tt) e
+atoms_behind UnwatchWord ts command e = made_of (λ q. Unwatch q) (one_name ts) command (HasAtom command) (λ a f g. subst HasAtom g tt) e
+atoms_behind ExplainWord ts command e = made_of (λ q. Explain q) (one_name ts) command (HasAtom command) (λ a f g. subst HasAtom g tt) e
+atoms_behind QuitWord ts command e = no_count Quit ts command (HasAtom command) (λ g. subst HasAtom g tt) e
+atoms_behind StopWord ts command e = no_count Stop ts command (HasAtom command) (λ g. subst HasAtom g tt) e
+
+registered_of : (line : Bytes) (q : Query) → command_of line ≡ Some (Register q) → 0 < length q.atoms
+unfolding command_of
+registered_of line q e = step (is_utf8 line) e
+  where
+    with_keyword : (o : Option Keyword) (ts : List Token) → command_with o ts ≡ Some (Register q) → 0 < length q.atoms
+    with_keyword None ts f = absurd (cc)
+    with_keyword (Some k) ts f = atoms_behind k ts (Register q) f
+
+    in_tokens : (ts : List Token) → command_in ts ≡ Some (Register q) → 0 < length q.atoms
+    in_tokens [] f = absurd (cc)
+    in_tokens (word w ∷ ts) f = with_keyword (keyword_of w) ts f
+    in_tokens (text w ∷ ts) f = absurd (cc)
+    in_tokens (open_paren ∷ ts) f = absurd (cc)
+    in_tokens (close_paren ∷ ts) f = absurd (cc)
+    in_tokens (comma ∷ ts) f = absurd (cc)
+    in_tokens (arrow ∷ ts) f = absurd (cc)
+    in_tokens (stray ∷ ts) f = absurd (cc)
+
+    step : (b : Bool) → cond b (command_in (tokens line)) None ≡ Some (Register q) → 0 < length q.atoms
+    step true f = in_tokens (tokens line) f
+    step false f = absurd (cc)
+
 run_as : (line : Bytes) (c : Command) → command_of line ≡ Some c → is_served c ≡ true → IsRunnable c
 run_as line (Rel n cs) e s = tt
 run_as line (Add n row) e s = tt
 run_as line (Del n row) e s = tt
-run_as line (Register q) e s = s
+run_as line (Register q) e s = registered_of line q e
 run_as line (Drop q) e s = tt
 run_as line (Open c q) e s = tt
 run_as line (Next c n) e s = counted_of line c n e
@@ -160,7 +264,7 @@ run_as line (Close c) e s = tt
 run_as line (Has q row) e s = tt
 run_as line (Watch q) e s = absurd (cc)
 run_as line (Unwatch q) e s = absurd (cc)
-run_as line (Explain q) e s = absurd (cc)
+run_as line (Explain q) e s = tt
 run_as line Quit e s = tt
 run_as line Stop e s = tt
 

@@ -1,7 +1,7 @@
 -- What the list of ids tells of the open sessions.
-use Rattle.std.proofs.Common.{ℕ, zero, suc, ◌<◌, ◌≡◌, Bool, true, false, List, [], ◌∷◌, length, map, find, get_or, cond, Some, eqb, refl, subst, arith, is_some, ◌∙◌}
+use Rattle.std.proofs.Common.{ℕ, zero, suc, ◌<◌, ◌≡◌, Bool, true, false, List, [], ◌∷◌, length, map, find, get_or, cond, Some, eqb, refl, arith, is_some, ◌∙◌}
 use Rattle.std.specs.Prelude.{All, Contains}
-use Rattle.std.proofs.lemmas.Bool.{eq-eqb, cond-true, cond-false}
+use Rattle.std.proofs.lemmas.Bool.{eq-eqb}
 use Rattle.std.proofs.lemmas.Grind.{get_or_default_zero}
 use Rattle.djq_machine.specs.State.{Session, State}
 use Rattle.djq_machine.specs.Call.{IsOpen, ids_of}

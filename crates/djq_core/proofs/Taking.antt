@@ -1,6 +1,5 @@
 -- A line is taken of a session's bytes, and what is done behind it.
-use Rattle.std.proofs.Common.{ℕ, ◌+◌, ◌<◌, ◌≤◌, ◌≡◌, ◌++◌, ◌||◌, Bool, true, false, List, [], ◌∷◌, length, take, drop, Option, None, Some, Result, Ok, Err, refl, sym, ap, ap₂, ◌∙◌, subst, arith}
-use Rattle.std.specs.Prelude.{⊤}
+use Rattle.std.proofs.Common.{ℕ, ◌≤◌, ◌≡◌, ◌||◌, Bool, true, false, List, length, Some, refl, sym, subst, arith}
 use Rattle.djq_model.specs.Data.{Bytes}
 use Rattle.djq_lines.specs.declared.limits.TheConstants.{PENDING_BYTES}
 use Rattle.djq_lines.specs.declared.answer.Refusal.{Refusal}
@@ -9,17 +8,17 @@ use Rattle.djq_lines.specs.declared.command.Command.{Command}
 use Rattle.djq_lines.specs.Line.{a_line, front_of, is_blank}
 use Rattle.djq_lines.specs.Grammar.{Reading, refused as is_refused, says, reading_of, takes_memory_to_read}
 use Rattle.djq_lines.specs.Reply.{refusal_line}
-use Rattle.djq_machine.specs.State.{Session, State, with_session}
-use Rattle.djq_machine.specs.Effect.{Effect, RefusedStep}
-use Rattle.djq_machine.specs.LineStep.{LineOutcome, long, blank, slow, no_room, run, FrontStep, TakenLine, behind_line, ReadStep}
+use Rattle.djq_machine.specs.State.{Session, State}
+use Rattle.djq_machine.specs.Effect.{Effect}
+use Rattle.djq_machine.specs.LineStep.{run, TakenLine, behind_line, ReadStep}
 use Rattle.djq_session.specs.Dialog.{Replies}
 use Rattle.djq_engine.specs.Kept.{Kept}
 use Rattle.djq_core.specs.declared.open.OpenSession.{OpenSession}
-use Rattle.djq_core.specs.Views.{Talk, session_in, open_in, state_in}
-use Rattle.djq_core.specs.Sound.{IsSound, IsReady, IsOwn}
+use Rattle.djq_core.specs.Views.{Talk, session_in, state_in}
+use Rattle.djq_core.specs.Sound.{IsSound}
 use Rattle.djq_core.specs.Performs.{among, to_one, unqueued, Performs, Executes}
 use Rattle.djq_core.specs.Stepping.{Fronts}
-use Rattle.djq_core.proofs.Around.{Around, parts, whole, becomes, looks}
+use Rattle.djq_core.proofs.Around.{parts, whole, becomes, looks}
 use Rattle.djq_core.proofs.Replying.{refused, around_bytes}
 use Rattle.djq_core.proofs.Continuing.{counting}
 

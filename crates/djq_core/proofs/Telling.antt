@@ -1,33 +1,30 @@
 -- Reading a cursor answer by answer.
-use Rattle.std.proofs.Common.{ℕ, suc, ◌+◌, ◌*◌, ◌<◌, ◌≤◌, ◌≡◌, ◌++◌, ◌⊎◌, Bool, true, false, not, List, [], ◌∷◌, length, map, find, get_or, cond, Option, None, Some, Result, Ok, Err, refl, sym, ap, ap₂, ◌∙◌, subst, arith, append_assoc, append-nil, length-append, is_some, inl, inr}
+use Rattle.std.proofs.Common.{ℕ, ◌+◌, ◌*◌, ◌<◌, ◌≤◌, ◌≡◌, ◌++◌, Bool, true, false, not, List, [], ◌∷◌, length, map, find, get_or, cond, Option, None, Some, Result, Ok, Err, refl, sym, ap, ◌∙◌, subst, arith, append_assoc, append-nil, length-append, is_some, inl, inr}
 use Rattle.std.specs.Prelude.{⊤, All, Contains, IsSomeAnd}
-use Rattle.std.specs.List.{flat_map}
 use Rattle.std.specs.Result.{is_err}
 use Rattle.std.proofs.lemmas.List.Concat.{flat_map-append}
 use Rattle.std.proofs.lemmas.List.Elements.{All-push, Contains-get_or}
 use Rattle.std.proofs.lemmas.List.Quantifiers.{all_pairs_push}
-use Rattle.std.proofs.lemmas.List.{length-map}
 use Rattle.djq_model.specs.declared.memory.NoMem.{NoMem}
 use Rattle.djq_model.specs.declared.query.Query.{Query}
-use Rattle.djq_model.specs.Data.{Bytes, Tuple, cells_at, query_of}
+use Rattle.djq_model.specs.Data.{Bytes, Tuple, query_of}
 use Rattle.djq_model.specs.Answer.{IsAnswer, AreDifferent}
 use Rattle.djq_lines.specs.declared.limits.TheConstants.{REPLY_BYTES, LAST_LINE_BYTES}
-use Rattle.djq_lines.specs.Reply.{answer_line, last_line, listing_lines, text_of}
+use Rattle.djq_lines.specs.Reply.{answer_line, last_line, text_of}
 use Rattle.djq_machine.specs.State.{Position, open_at, stale}
 use Rattle.djq_machine.specs.Store.{IsLeft, AreAll, TellsAnswers, most_steps}
 use Rattle.djq_session.specs.Dialog.{Queues, Lacks, MayQueue}
 use Rattle.djq_engine.specs.declared.cursor.CursorId.{CursorId}
-use Rattle.djq_engine.specs.declared.cursor.Answer.{Answer}
-use Rattle.djq_engine.specs.declared.cursor.Next.{Next}
-use Rattle.djq_engine.specs.declared.cursor.Next.TheVariants.{Given, End, Stale}
-use Rattle.djq_engine.specs.Kept.{Kept, Held, held_at, same_id, IsHeld, IsFresh, IsOpenAt, OthersStay, MovesCursor, NextGives, NextGivesAt, read_steps, MoreGives, MoreGivesAt, AnswerIs, LendsAnswer, OfQuery, IsThere}
-use Rattle.djq_engine.specs.Answers.{answers_of}
+use Rattle.djq_live.specs.declared.listing.Next.{Next}
+use Rattle.djq_live.specs.declared.listing.Next.TheVariants.{Given, End, Stale}
+use Rattle.djq_live.specs.Live.{Live, values_of}
+use Rattle.djq_engine.specs.Kept.{Kept, Held, held_at, same_id, IsHeld, IsFresh, IsOpenAt, MovesCursor, NextGives, NextGivesAt, read_steps, MoreGives, MoreGivesAt, AnswerIs, IsThere}
 use Rattle.djq_core.specs.declared.listing.Listed.{Listed}
-use Rattle.djq_core.specs.declared.listing.Listed.TheVariants.{Whole, Cut, Stale as WasStale}
+use Rattle.djq_core.specs.declared.listing.Listed.TheVariants.{Cut, Stale as WasStale}
 use Rattle.djq_core.specs.Views.{Talk}
 use Rattle.djq_core.specs.Sound.{AreHeld, GivesApart}
-use Rattle.djq_core.specs.Listing.{StandsAt, WholeListing, CutListing, ListsAt, Lists, Lasts}
-use Rattle.djq_core.proofs.Ids.{same_id_same, same_id_refl}
+use Rattle.djq_core.specs.Listing.{StandsAt, ListsAt, Lists, Lasts}
+use Rattle.djq_core.proofs.Ids.{same_id_same}
 
 -- what is found passes
 found_passes : {A : Type 0} (p : A → Bool) (xs : List A) (x : A) → find p xs ≡ Some x → p x ≡ true
@@ -125,15 +122,15 @@ text_last ls l = flat_map-append (λ (x : Bytes). x) ls (l ∷ []) ∙ ap (λ (b
 
 -- A read, where the cursor is open.
 
-pub record ReadOpen (old : Kept) (id : CursorId) (h : Held) (at : List Tuple) (ended : Bool) (k : Kept) (result : Next) (k' : Kept) (now now' : ℕ) : Type 0 where
+pub record ReadOpen (old : Kept) (id : CursorId) (h : Held) (at : List Tuple) (ended : Bool) (k : Kept) (result : Next) (answer : List ℕ) (k' : Kept) (now now' : ℕ) : Type 0 where
   pub query : Query
   pub registered : query_of (old.store).queries h.query ≡ Some query
-  pub gives : NextGivesAt k (record h { position = open_at at ended }) query (open_at at ended) result k'
+  pub gives : NextGivesAt k (record h { position = open_at at ended }) query (open_at at ended) result answer k'
   pub counted : now' ≤ now + read_steps result (length query.head)
 
-read_open : (old : Kept) (id : CursorId) (h : Held) (at : List Tuple) (ended : Bool) (k : Kept) (result : Next) (k' : Kept) (now now' : ℕ)
-    → StandsAt old id h (open_at at ended) k → NextGives k id result k' now now' → ReadOpen old id h at ended k result k' now now'
-read_open old id h at ended k result k' now now' s g =
+read_open : (old : Kept) (id : CursorId) (h : Held) (at : List Tuple) (ended : Bool) (k : Kept) (result : Next) (answer : List ℕ) (k' : Kept) (now now' : ℕ)
+    → StandsAt old id h (open_at at ended) k → NextGives k id result answer k' now now' → ReadOpen old id h at ended k result answer k' now now'
+read_open old id h at ended k result answer k' now now' s g =
     let q = of_query _ (query_of (k.store).queries h.query) (of_held _ k.cursors id (record h { position = open_at at ended }) s.there g.gives) in
     record {
       query = q.0;
@@ -164,81 +161,80 @@ all_as old k q given e a = λ t b. a t (subst (λ st. IsAnswer st.relations q t)
 one_query : (o : Option Query) (q r : Query) → o ≡ Some q → o ≡ Some r → q ≡ r
 one_query o q r e f = let s : Some q ≡ Some r = sym e ∙ f in cc
 
--- What a further answer is: one that is left, of which the engine lends the cells.
-pub record Further (old : Kept) (id : CursorId) (h : Held) (given told : List Tuple) (k' : Kept) (answer : Answer) (q : Query) : Type 0 where
+-- What a further answer is: one that is left, and that the engine lends.
+pub record Further (old : Kept) (id : CursorId) (h : Held) (given told : List Tuple) (k' : Kept) (answer : List ℕ) (q : Query) : Type 0 where
   pub tuple : Tuple
   pub left : IsLeft (IsAnswer (old.store).relations q) (given ++ told) tuple
-  pub is : AnswerIs k'.store q answer tuple
+  pub there : IsThere k' id answer
+  pub is : AnswerIs k' id answer tuple
   pub stands : StandsAt old id h (open_at (given ++ (told ++ tuple ∷ [])) false) k'
 
-further : (old : Kept) (id : CursorId) (h : Held) (given told : List Tuple) (ended : Bool) (k : Kept) (answer : Answer) (k' : Kept) (now now' : ℕ)
-    → held_at old.cursors id ≡ Some h → StandsAt old id h (open_at (given ++ told) ended) k → (r : ReadOpen old id h (given ++ told) ended k (Given answer) k' now now')
+further : (old : Kept) (id : CursorId) (h : Held) (given told : List Tuple) (ended : Bool) (k : Kept) (answer : List ℕ) (k' : Kept) (now now' : ℕ)
+    → held_at old.cursors id ≡ Some h → StandsAt old id h (open_at (given ++ told) ended) k → (r : ReadOpen old id h (given ++ told) ended k Given answer k' now now')
     → Further old id h given told k' answer r.query
 further old id h given told ended k answer k' now now' e s r =
     let t = r.gives.0 in
     let left = left_as old k r.query (given ++ told) t s.store r.gives.1 in
-    let moved = moves_on old id h (open_at (given ++ told) ended) (open_at ((given ++ told) ++ t ∷ []) false) k k' e s r.gives.3 (pushed_apart (given ++ told) t s.apart left.1) in
+    let same : h.id ≡ id = held_id old.cursors id h e in
+    let moved = moves_on old id h (open_at (given ++ told) ended) (open_at ((given ++ told) ++ t ∷ []) false) k k' e s r.gives.4 (pushed_apart (given ++ told) t s.apart left.1) in
     record {
       tuple = t;
       left = left;
-      is = r.gives.2;
+      there = subst (λ (x : CursorId). IsThere k' x answer) same r.gives.2;
+      is = subst (λ (x : CursorId). AnswerIs k' x answer t) same r.gives.3;
       stands = subst (λ (ts : List Tuple). StandsAt old id h (open_at ts false) k') (append_assoc given told (t ∷ [])) moved;
     }
 
--- the cells that are lent are the answer
-lent_is : (old : Kept) (id : CursorId) (h : Held) (p : Position) (k' : Kept) (answer : Answer) (q : Query) (t : Tuple) (row : Tuple) (columns : List ℕ)
-    → StandsAt old id h p k' → query_of (old.store).queries h.query ≡ Some q → AnswerIs k'.store q answer t → LendsAnswer k' id answer row columns → cells_at columns row ≡ t
-lent_is old id h p k' answer q t row columns s f is lent =
-    let r = of_query _ (query_of (k'.store).queries h.query) (of_held _ k'.cursors id (record h { position = p }) s.there lent.cells) in
-    let same : r.0 ≡ q = one_query (query_of (k'.store).queries h.query) r.0 q r.1 (ap (λ st. query_of st.queries h.query) s.store ∙ f) in
-    (subst (λ (x : Query). AnswerIs k'.store x answer (cells_at columns row)) same r.2).1 ∙ sym is.1
+-- the tuple that is lent is the answer
+lent_is : (k : Kept) (id : CursorId) (answer : List ℕ) (t u : Tuple) → AnswerIs k id answer t → AnswerIs k id answer u → u ≡ t
+lent_is k id answer t u = step (get_or k.places id.query.at None)
+  where
+    step : (o : Option Live) → IsSomeAnd o (λ l. t ≡ values_of (k.store).texts l answer) → IsSomeAnd o (λ l. u ≡ values_of (k.store).texts l answer) → u ≡ t
+    step None a b = absurd a
+    step (Some l) a b = b ∙ sym a
 
 -- A read of a stale cursor gives what made it so.
-pub record ReadStale (old : Kept) (h : Held) (r : Bytes) (m : ℕ) (result : Next) (k' : Kept) (was now' : ℕ) : Type 0 where
+pub record ReadStale (old : Kept) (h : Held) (r : Bytes) (m : ℕ) (result : Next) (answer : List ℕ) (k' : Kept) (was now' : ℕ) : Type 0 where
   pub query : Query
   pub registered : query_of (old.store).queries h.query ≡ Some query
-  pub gives : NextGivesAt old h query (stale r m) result k'
+  pub gives : NextGivesAt old h query (stale r m) result answer k'
   pub counted : now' ≤ was + read_steps result (length query.head)
 
-read_stale : (old : Kept) (id : CursorId) (before : Talk) (h : Held) (r : Bytes) (m n : ℕ) (k : Kept) (d : Talk) (was now : ℕ) (result : Next) (k' : Kept) (now' : ℕ)
-    → held_at old.cursors id ≡ Some h → h.position ≡ stale r m → Untold old before n k d was now → NextGives k id result k' now now' → ReadStale old h r m result k' was now'
-read_stale old id before h r m n k d was now result k' now' e f t g =
-    let g' : NextGives old id result k' was now' = subst (λ (x : Kept). NextGives x id result k' was now') t.engine (subst (λ (x : ℕ). NextGives k id result k' x now') t.counted g) in
+read_stale : (old : Kept) (id : CursorId) (before : Talk) (h : Held) (r : Bytes) (m n : ℕ) (k : Kept) (d : Talk) (was now : ℕ) (result : Next) (answer : List ℕ) (k' : Kept) (now' : ℕ)
+    → held_at old.cursors id ≡ Some h → h.position ≡ stale r m → Untold old before n k d was now → NextGives k id result answer k' now now' → ReadStale old h r m result answer k' was now'
+read_stale old id before h r m n k d was now result answer k' now' e f t g =
+    let g' : NextGives old id result answer k' was now' = subst (λ (x : Kept). NextGives x id result answer k' was now') t.engine (subst (λ (x : ℕ). NextGives k id result answer k' x now') t.counted g) in
     let q = of_query _ (query_of (old.store).queries h.query) (of_held _ old.cursors id h e g'.gives) in
     record {
       query = q.0;
       registered = q.1;
-      gives = subst (λ (p : Position). NextGivesAt old h q.0 p result k') f q.2.0;
+      gives = subst (λ (p : Position). NextGivesAt old h q.0 p result answer k') f q.2.0;
       counted = q.2.1;
     }
 
 -- A further answer is there to be lent.
-there_at : (old : Kept) (id : CursorId) (before : Talk) (h : Held) (p : Position) (n : ℕ) (k : Kept) (d : Talk) (was now : ℕ) (answer : Answer) (k' : Kept) (now' : ℕ)
-    → held_at old.cursors id ≡ Some h → h.position ≡ p → SoFarAt old id before h p n k d was now → NextGives k id (Given answer) k' now now' → IsThere k' id answer × IsHeld k' id
+there_at : (old : Kept) (id : CursorId) (before : Talk) (h : Held) (p : Position) (n : ℕ) (k : Kept) (d : Talk) (was now : ℕ) (answer : List ℕ) (k' : Kept) (now' : ℕ)
+    → held_at old.cursors id ≡ Some h → h.position ≡ p → SoFarAt old id before h p n k d was now → NextGives k id Given answer k' now now' → IsThere k' id answer × IsHeld k' id
 there_at old id before h (open_at given ended) n k d was now answer k' now' e f t g =
-    let r = read_open old id h (given ++ t.told) t.ended k (Given answer) k' now now' t.stands g in
+    let r = read_open old id h (given ++ t.told) t.ended k Given answer k' now now' t.stands g in
     let x = further old id h given t.told t.ended k answer k' now now' e t.stands r in
-    let s = x.stands in (
-      subst (λ (o : Option Held). IsSomeAnd o (λ y. IsSomeAnd (query_of (k'.store).queries y.query) (λ q. answer.at < length (answers_of k'.store q)))) (sym s.there)
-          (subst (λ (o : Option Query). IsSomeAnd o (λ q. answer.at < length (answers_of k'.store q))) (sym (ap (λ st. query_of st.queries h.query) s.store ∙ r.registered)) x.is.0),
-      ap (λ (o : Option Held). is_some o) s.there,
-    )
+    (x.there, ap (λ (o : Option Held). is_some o) (x.stands).there)
 there_at old id before h (stale a b) n k d was now answer k' now' e f t g =
-    let r = read_stale old id before h a b n k d was now (Given answer) k' now' e f t g in absurd r.gives
+    let r = read_stale old id before h a b n k d was now Given answer k' now' e f t g in absurd r.gives
 
-pub is_there : (old : Kept) (id : CursorId) (before : Talk) (n : ℕ) (k : Kept) (d : Talk) (was now : ℕ) (answer : Answer) (k' : Kept) (now' : ℕ)
-    → SoFar old id before n k d was now → NextGives k id (Given answer) k' now now' → IsThere k' id answer × IsHeld k' id
+pub is_there : (old : Kept) (id : CursorId) (before : Talk) (n : ℕ) (k : Kept) (d : Talk) (was now : ℕ) (answer : List ℕ) (k' : Kept) (now' : ℕ)
+    → SoFar old id before n k d was now → NextGives k id Given answer k' now now' → IsThere k' id answer × IsHeld k' id
 is_there old id before n k d was now answer k' now' s g = there_at old id before s.cursor (s.cursor).position n k d was now answer k' now' s.held refl s.so_far g
 
 -- An answer more is told.
-more_at : (old : Kept) (id : CursorId) (before : Talk) (h : Held) (p : Position) (n : ℕ) (k : Kept) (d : Talk) (was now : ℕ) (answer : Answer) (k' : Kept) (d' : Talk) (now' : ℕ) (row : Tuple) (columns : List ℕ)
-    → held_at old.cursors id ≡ Some h → h.position ≡ p → SoFarAt old id before h p n k d was now → NextGives k id (Given answer) k' now now'
-    → LendsAnswer k' id answer row columns → Queues d d' (answer_line (cells_at columns row)) → SoFarAt old id before h p (n + 1) k' d' was now'
-more_at old id before h (open_at given ended) n k d was now answer k' d' now' row columns e f t g lent queued =
-    let r = read_open old id h (given ++ t.told) t.ended k (Given answer) k' now now' t.stands g in
+more_at : (old : Kept) (id : CursorId) (before : Talk) (h : Held) (p : Position) (n : ℕ) (k : Kept) (d : Talk) (was now : ℕ) (answer : List ℕ) (k' : Kept) (d' : Talk) (now' : ℕ) (tuple : Tuple)
+    → held_at old.cursors id ≡ Some h → h.position ≡ p → SoFarAt old id before h p n k d was now → NextGives k id Given answer k' now now'
+    → AnswerIs k' id answer tuple → Queues d d' (answer_line tuple) → SoFarAt old id before h p (n + 1) k' d' was now'
+more_at old id before h (open_at given ended) n k d was now answer k' d' now' tuple e f t g lent queued =
+    let r = read_open old id h (given ++ t.told) t.ended k Given answer k' now now' t.stands g in
     let x = further old id h given t.told t.ended k answer k' now now' e t.stands r in
-    let cells = lent_is old id h (open_at (given ++ (t.told ++ x.tuple ∷ [])) false) k' answer r.query x.tuple row columns x.stands r.registered x.is lent in
-    let line : answer_line (cells_at columns row) ≡ answer_line x.tuple = ap answer_line cells in
+    let cells = lent_is k' id answer x.tuple tuple x.is lent in
+    let line : answer_line tuple ≡ answer_line x.tuple = ap answer_line cells in
     let text = text_more t.told x.tuple in
     let q' : Queues d d' (answer_line x.tuple) = subst (λ (l : Bytes). Queues d d' l) line queued in
     record {
@@ -255,16 +251,16 @@ more_at old id before h (open_at given ended) n k d was now answer k' d' now' ro
       counted = λ q fq. let same = one_query (query_of (old.store).queries h.query) r.query q r.registered fq in
           subst (λ (y : Query). now' ≤ was + (n + 1) * most_steps (length y.head)) same (omega (arith, t.counted r.query r.registered, r.counted));
     }
-more_at old id before h (stale a b) n k d was now answer k' d' now' row columns e f t g lent queued =
-    let r = read_stale old id before h a b n k d was now (Given answer) k' now' e f t g in absurd r.gives
+more_at old id before h (stale a b) n k d was now answer k' d' now' tuple e f t g lent queued =
+    let r = read_stale old id before h a b n k d was now Given answer k' now' e f t g in absurd r.gives
 
-pub goes_on : (old : Kept) (id : CursorId) (before : Talk) (n : ℕ) (k : Kept) (d : Talk) (was now : ℕ) (answer : Answer) (k' : Kept) (d' : Talk) (now' : ℕ) (row : Tuple) (columns : List ℕ)
-    → SoFar old id before n k d was now → NextGives k id (Given answer) k' now now' → LendsAnswer k' id answer row columns → Queues d d' (answer_line (cells_at columns row))
+pub goes_on : (old : Kept) (id : CursorId) (before : Talk) (n : ℕ) (k : Kept) (d : Talk) (was now : ℕ) (answer : List ℕ) (k' : Kept) (d' : Talk) (now' : ℕ) (tuple : Tuple)
+    → SoFar old id before n k d was now → NextGives k id Given answer k' now now' → AnswerIs k' id answer tuple → Queues d d' (answer_line tuple)
     → SoFar old id before (n + 1) k' d' was now'
-goes_on old id before n k d was now answer k' d' now' row columns s g lent queued = record {
+goes_on old id before n k d was now answer k' d' now' tuple s g lent queued = record {
   cursor = s.cursor;
   held = s.held;
-  so_far = more_at old id before s.cursor (s.cursor).position n k d was now answer k' d' now' row columns s.held refl s.so_far g lent queued;
+  so_far = more_at old id before s.cursor (s.cursor).position n k d was now answer k' d' now' tuple s.held refl s.so_far g lent queued;
 }
 
 -- A reply is cut.
@@ -278,14 +274,14 @@ lacked : (before d d' : Talk) (text line : Bytes) → d ≡ record before { pend
 lacked before d d' text line e l = l.same ∙ ap (λ (y : Talk). record y { room = d'.room }) e
 
 -- a further answer finds no room
-cut_at_answer : (old : Kept) (id : CursorId) (before : Talk) (h : Held) (p : Position) (n count : ℕ) (k : Kept) (d : Talk) (was now : ℕ) (answer : Answer) (k' : Kept) (d' : Talk) (now' : ℕ) (row : Tuple) (columns : List ℕ)
-    → held_at old.cursors id ≡ Some h → h.position ≡ p → REPLY_BYTES + LAST_LINE_BYTES ≤ before.room → n < count → SoFarAt old id before h p n k d was now → NextGives k id (Given answer) k' now now'
-    → LendsAnswer k' id answer row columns → Lacks d d' (answer_line (cells_at columns row))
+cut_at_answer : (old : Kept) (id : CursorId) (before : Talk) (h : Held) (p : Position) (n count : ℕ) (k : Kept) (d : Talk) (was now : ℕ) (answer : List ℕ) (k' : Kept) (d' : Talk) (now' : ℕ) (tuple : Tuple)
+    → held_at old.cursors id ≡ Some h → h.position ≡ p → REPLY_BYTES + LAST_LINE_BYTES ≤ before.room → n < count → SoFarAt old id before h p n k d was now → NextGives k id Given answer k' now now'
+    → AnswerIs k' id answer tuple → Lacks d d' (answer_line tuple)
     → (q : Query) × (query_of (old.store).queries h.query ≡ Some q) × ListsAt old id before count h q p Cut k' d' was now'
-cut_at_answer old id before h (open_at given ended) n count k d was now answer k' d' now' row columns e f room below t g lent lacks =
-    let r = read_open old id h (given ++ t.told) t.ended k (Given answer) k' now now' t.stands g in
+cut_at_answer old id before h (open_at given ended) n count k d was now answer k' d' now' tuple e f room below t g lent lacks =
+    let r = read_open old id h (given ++ t.told) t.ended k Given answer k' now now' t.stands g in
     let x = further old id h given t.told t.ended k answer k' now now' e t.stands r in
-    let cells = lent_is old id h (open_at (given ++ (t.told ++ x.tuple ∷ [])) false) k' answer r.query x.tuple row columns x.stands r.registered x.is lent in
+    let cells = lent_is k' id answer x.tuple tuple x.is lent in
     let lacks' : Lacks d d' (answer_line x.tuple) = subst (λ (l : Bytes). Lacks d d' l) (ap answer_line cells) lacks in (
       r.query,
       r.registered,
@@ -303,14 +299,14 @@ cut_at_answer old id before h (open_at given ended) n count k d was now answer k
         counted = subst (λ (i : ℕ). now' ≤ was + (i + 1) * most_steps (length (r.query).head)) (sym t.count) (omega (arith, t.counted r.query r.registered, r.counted));
       },
     )
-cut_at_answer old id before h (stale a b) n count k d was now answer k' d' now' row columns e f room below t g lent lacks =
-    let r = read_stale old id before h a b n k d was now (Given answer) k' now' e f t g in absurd r.gives
+cut_at_answer old id before h (stale a b) n count k d was now answer k' d' now' tuple e f room below t g lent lacks =
+    let r = read_stale old id before h a b n k d was now Given answer k' now' e f t g in absurd r.gives
 
-pub is_cut : (old : Kept) (id : CursorId) (before : Talk) (n count : ℕ) (k : Kept) (d : Talk) (was now : ℕ) (answer : Answer) (k' : Kept) (d' : Talk) (now' : ℕ) (row : Tuple) (columns : List ℕ)
-    → REPLY_BYTES + LAST_LINE_BYTES ≤ before.room → n < count → SoFar old id before n k d was now → NextGives k id (Given answer) k' now now'
-    → LendsAnswer k' id answer row columns → Lacks d d' (answer_line (cells_at columns row)) → Lists old id before count Cut k' d' was now'
-is_cut old id before n count k d was now answer k' d' now' row columns room below s g lent lacks =
-    let r = cut_at_answer old id before s.cursor (s.cursor).position n count k d was now answer k' d' now' row columns s.held refl room below s.so_far g lent lacks in
+pub is_cut : (old : Kept) (id : CursorId) (before : Talk) (n count : ℕ) (k : Kept) (d : Talk) (was now : ℕ) (answer : List ℕ) (k' : Kept) (d' : Talk) (now' : ℕ) (tuple : Tuple)
+    → REPLY_BYTES + LAST_LINE_BYTES ≤ before.room → n < count → SoFar old id before n k d was now → NextGives k id Given answer k' now now'
+    → AnswerIs k' id answer tuple → Lacks d d' (answer_line tuple) → Lists old id before count Cut k' d' was now'
+is_cut old id before n count k d was now answer k' d' now' tuple room below s g lent lacks =
+    let r = cut_at_answer old id before s.cursor (s.cursor).position n count k d was now answer k' d' now' tuple s.held refl room below s.so_far g lent lacks in
     record { cursor = s.cursor; held = s.held; query = r.0; registered = r.1; lists = r.2 }
 
 -- the last line is queued, or finds no room
@@ -366,40 +362,40 @@ last_put old id before h given e0 n count k d was now q end k' d' now' (Err r) l
     )
 
 -- The end is read.
-end_at : (old : Kept) (id : CursorId) (before : Talk) (h : Held) (p : Position) (n count : ℕ) (k : Kept) (d : Talk) (was now : ℕ) (k' : Kept) (d' : Talk) (now' : ℕ) (outcome : Result ⊤ NoMem) (listed : Listed)
-    → held_at old.cursors id ≡ Some h → h.position ≡ p → REPLY_BYTES + LAST_LINE_BYTES ≤ before.room → n ≤ count → SoFarAt old id before h p n k d was now → NextGives k id End k' now now'
+end_at : (old : Kept) (id : CursorId) (before : Talk) (h : Held) (p : Position) (n count : ℕ) (k : Kept) (d : Talk) (was now : ℕ) (answer : List ℕ) (k' : Kept) (d' : Talk) (now' : ℕ) (outcome : Result ⊤ NoMem) (listed : Listed)
+    → held_at old.cursors id ≡ Some h → h.position ≡ p → REPLY_BYTES + LAST_LINE_BYTES ≤ before.room → n ≤ count → SoFarAt old id before h p n k d was now → NextGives k id End answer k' now now'
     → MayQueue d d' (last_line true) outcome → Lasts outcome listed
     → (q : Query) × (query_of (old.store).queries h.query ≡ Some q) × ListsAt old id before count h q p listed k' d' was now'
-end_at old id before h (open_at given ended) n count k d was now k' d' now' outcome listed e f room le t g queued is =
-    let r = read_open old id h (given ++ t.told) t.ended k End k' now now' t.stands g in
+end_at old id before h (open_at given ended) n count k d was now answer k' d' now' outcome listed e f room le t g queued is =
+    let r = read_open old id h (given ++ t.told) t.ended k End answer k' now now' t.stands g in
     let all = all_as old k r.query (given ++ t.told) t.stands.store r.gives.0 in
     let stands = moves_on old id h (open_at (given ++ t.told) t.ended) (open_at (given ++ t.told) true) k k' e t.stands r.gives.1 t.stands.apart in
     let u = last_put old id before h given ended n count k d was now r.query true k' d' now' outcome listed room t r.registered le (λ _. all) (λ no. absurd (cc)) stands queued is r.counted in
     (r.query, u.0, u.1)
-end_at old id before h (stale a b) n count k d was now k' d' now' outcome listed e f room le t g queued is =
-    let r = read_stale old id before h a b n k d was now End k' now' e f t g in absurd r.gives
+end_at old id before h (stale a b) n count k d was now answer k' d' now' outcome listed e f room le t g queued is =
+    let r = read_stale old id before h a b n k d was now End answer k' now' e f t g in absurd r.gives
 
-pub is_ended : (old : Kept) (id : CursorId) (before : Talk) (n count : ℕ) (k : Kept) (d : Talk) (was now : ℕ) (k' : Kept) (d' : Talk) (now' : ℕ) (outcome : Result ⊤ NoMem) (listed : Listed)
-    → REPLY_BYTES + LAST_LINE_BYTES ≤ before.room → n ≤ count → SoFar old id before n k d was now → NextGives k id End k' now now'
+pub is_ended : (old : Kept) (id : CursorId) (before : Talk) (n count : ℕ) (k : Kept) (d : Talk) (was now : ℕ) (answer : List ℕ) (k' : Kept) (d' : Talk) (now' : ℕ) (outcome : Result ⊤ NoMem) (listed : Listed)
+    → REPLY_BYTES + LAST_LINE_BYTES ≤ before.room → n ≤ count → SoFar old id before n k d was now → NextGives k id End answer k' now now'
     → MayQueue d d' (last_line true) outcome → Lasts outcome listed → Lists old id before count listed k' d' was now'
-is_ended old id before n count k d was now k' d' now' outcome listed room le s g queued is =
-    let r = end_at old id before s.cursor (s.cursor).position n count k d was now k' d' now' outcome listed s.held refl room le s.so_far g queued is in
+is_ended old id before n count k d was now answer k' d' now' outcome listed room le s g queued is =
+    let r = end_at old id before s.cursor (s.cursor).position n count k d was now answer k' d' now' outcome listed s.held refl room le s.so_far g queued is in
     record { cursor = s.cursor; held = s.held; query = r.0; registered = r.1; lists = r.2 }
 
 -- The cursor is stale.
-stale_at : (old : Kept) (id : CursorId) (before : Talk) (h : Held) (p : Position) (n count : ℕ) (k : Kept) (d : Talk) (was now : ℕ) (relation : Bytes) (seq : ℕ) (k' : Kept) (now' : ℕ)
-    → held_at old.cursors id ≡ Some h → h.position ≡ p → SoFarAt old id before h p n k d was now → NextGives k id (Stale relation seq) k' now now'
+stale_at : (old : Kept) (id : CursorId) (before : Talk) (h : Held) (p : Position) (n count : ℕ) (k : Kept) (d : Talk) (was now : ℕ) (relation : Bytes) (seq : ℕ) (answer : List ℕ) (k' : Kept) (now' : ℕ)
+    → held_at old.cursors id ≡ Some h → h.position ≡ p → SoFarAt old id before h p n k d was now → NextGives k id (Stale relation seq) answer k' now now'
     → (q : Query) × (query_of (old.store).queries h.query ≡ Some q) × ListsAt old id before count h q p (WasStale relation seq) k' d was now'
-stale_at old id before h (open_at given ended) n count k d was now relation seq k' now' e f t g =
-    let r = read_open old id h (given ++ t.told) t.ended k (Stale relation seq) k' now now' t.stands g in absurd r.gives
-stale_at old id before h (stale a b) n count k d was now relation seq k' now' e f t g =
-    let r = read_stale old id before h a b n k d was now (Stale relation seq) k' now' e f t g in
+stale_at old id before h (open_at given ended) n count k d was now relation seq answer k' now' e f t g =
+    let r = read_open old id h (given ++ t.told) t.ended k (Stale relation seq) answer k' now now' t.stands g in absurd r.gives
+stale_at old id before h (stale a b) n count k d was now relation seq answer k' now' e f t g =
+    let r = read_stale old id before h a b n k d was now (Stale relation seq) answer k' now' e f t g in
     (r.query, r.registered, (r.gives.0, r.gives.1, r.gives.2, t.session, omega (arith, r.counted)))
 
-pub is_stale : (old : Kept) (id : CursorId) (before : Talk) (n count : ℕ) (k : Kept) (d : Talk) (was now : ℕ) (relation : Bytes) (seq : ℕ) (k' : Kept) (now' : ℕ)
-    → SoFar old id before n k d was now → NextGives k id (Stale relation seq) k' now now' → Lists old id before count (WasStale relation seq) k' d was now'
-is_stale old id before n count k d was now relation seq k' now' s g =
-    let r = stale_at old id before s.cursor (s.cursor).position n count k d was now relation seq k' now' s.held refl s.so_far g in
+pub is_stale : (old : Kept) (id : CursorId) (before : Talk) (n count : ℕ) (k : Kept) (d : Talk) (was now : ℕ) (relation : Bytes) (seq : ℕ) (answer : List ℕ) (k' : Kept) (now' : ℕ)
+    → SoFar old id before n k d was now → NextGives k id (Stale relation seq) answer k' now now' → Lists old id before count (WasStale relation seq) k' d was now'
+is_stale old id before n count k d was now relation seq answer k' now' s g =
+    let r = stale_at old id before s.cursor (s.cursor).position n count k d was now relation seq answer k' now' s.held refl s.so_far g in
     record { cursor = s.cursor; held = s.held; query = r.0; registered = r.1; lists = r.2 }
 
 -- As many were read as asked for.

@@ -1,10 +1,12 @@
 -- What a session's end does to the engine and to the session.
-use Rattle.std.specs.Prelude.{ℕ, List, [], ◌∷◌, ◌≡◌, true, Option, None, Some}
+use Rattle.std.specs.Prelude.{ℕ, [], ◌∷◌, ◌≡◌, true, Option, None, Some}
 use Rattle.djq_model.specs.Data.{Bytes}
 use Rattle.djq_lines.specs.declared.answer.EndCause.TheVariants.{Input}
-use Rattle.djq_lines.specs.Reply.{input_cut}
+use Rattle.djq_lines.specs.declared.answer.EndCause.TheVariants.{Memory}
+use Rattle.djq_lines.specs.Reply.{input_cut, end_memory}
 use Rattle.djq_machine.specs.State.{State, with_session, ended_by}
 use Rattle.djq_machine.specs.Effect.{Effect}
+use Rattle.djq_session.specs.Dialog.{EndsWith}
 use Rattle.djq_engine.specs.declared.cursor.CursorId.{CursorId}
 use Rattle.djq_engine.specs.Kept.{Kept, held_at}
 use Rattle.djq_core.specs.Views.{Talk}
@@ -17,6 +19,11 @@ pub record GivesUp (old : Kept) (before : Talk) (new : Kept) (after : Talk) : Ty
   pub gone : (c : CursorId) → is_among c (ids_of before.cursors) ≡ true → held_at new.cursors c ≡ None
   pub others : (c : CursorId) → IsApart c (ids_of before.cursors) → held_at new.cursors c ≡ held_at old.cursors c
   pub session : after ≡ record before { cursors = [] }
+
+-- Out of memory in the midst of a reply: the cursors of a session are gone, and it is told so and ends.
+pub record CutsOff (old : Kept) (before : Talk) (new : Kept) (after : Talk) : Type 0 where
+  pub gives_up : GivesUp old before new (record before { cursors = [] })
+  pub ends : EndsWith (record before { cursors = [] }) after end_memory Memory
 
 -- that bytes are held which no line end follows
 abbrev pub cut_text : Bytes → Option Bytes

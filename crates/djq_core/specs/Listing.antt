@@ -1,9 +1,9 @@
 -- What a listing does to the engine and to a session.
-use Rattle.std.specs.Prelude.{ℕ, List, [], ◌∷◌, ◌≡◌, ◌+◌, ◌*◌, ◌++◌, ◌<◌, ◌≤◌, Bool, Option, Some, Result, Ok, Err, length, map, All}
+use Rattle.std.specs.Prelude.{ℕ, List, [], ◌∷◌, ◌≡◌, ◌+◌, ◌*◌, ◌++◌, ◌<◌, ◌≤◌, Bool, Some, Result, Ok, Err, length, map, All}
 use Rattle.djq_model.specs.declared.query.Query.{Query}
 use Rattle.djq_model.specs.Data.{Bytes, Tuple, query_of}
 use Rattle.djq_model.specs.Answer.{IsAnswer, AreDifferent}
-use Rattle.djq_lines.specs.declared.limits.TheConstants.{REPLY_BYTES, LAST_LINE_BYTES}
+use Rattle.djq_lines.specs.declared.limits.TheConstants.{REPLY_BYTES}
 use Rattle.djq_lines.specs.Reply.{answer_line, listing_lines, text_of}
 use Rattle.djq_machine.specs.State.{Position, open_at, stale}
 use Rattle.djq_machine.specs.Store.{TellsAnswers, most_steps}

@@ -1,5 +1,5 @@
 -- What opening a cursor does to the engine and to a session.
-use Rattle.std.specs.Prelude.{ℕ, List, [], ◌∷◌, ◌≡◌, ◌++◌, Bool, nat_le, Option, None, is_some, is_none, Result, Ok, Err, length, ⊤}
+use Rattle.std.specs.Prelude.{[], ◌∷◌, ◌≡◌, ◌++◌, nat_le, Option, is_some, is_none, Result, Ok, Err, length, ⊤}
 use Rattle.djq_model.specs.Data.{Bytes, query_of}
 use Rattle.djq_lines.specs.declared.limits.TheConstants.{CURSORS}
 use Rattle.djq_lines.specs.declared.answer.Refusal.{Refusal}
@@ -7,7 +7,7 @@ use Rattle.djq_lines.specs.declared.answer.Refusal.TheVariants.{Taken, NoQuery, 
 use Rattle.djq_machine.specs.Conditions.{first_of, Answers, OutOfMemoryWhere}
 use Rattle.djq_session.specs.Dialog.{named}
 use Rattle.djq_engine.specs.declared.cursor.CursorId.{CursorId}
-use Rattle.djq_engine.specs.Kept.{Kept, held_at, OpensCursor, SameCursors}
+use Rattle.djq_engine.specs.Kept.{Kept, OpensCursor, SameCursors}
 use Rattle.djq_core.specs.Views.{Talk}
 
 -- why a cursor isn't opened

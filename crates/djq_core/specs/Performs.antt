@@ -1,5 +1,5 @@
 -- What the functions of the core do to one session and the engine, as the machine says it of all sessions.
-use Rattle.std.specs.Prelude.{ℕ, List, [], ◌∷◌, ◌≡◌, ◌+◌, ◌++◌, ◌≤◌, ◌||◌, Bool, false, Option, None, Some}
+use Rattle.std.specs.Prelude.{ℕ, List, [], ◌∷◌, ◌≡◌, ◌+◌, ◌++◌, ◌≤◌, ◌||◌, Bool, Option, None, Some}
 use Rattle.djq_model.specs.Data.{Bytes}
 use Rattle.djq_lines.specs.declared.command.Command.{Command}
 use Rattle.djq_machine.specs.State.{Session, State}

@@ -6,10 +6,10 @@ use Rattle.djq_lines.specs.declared.answer.EndCause.{EndCause}
 use Rattle.djq_lines.specs.declared.limits.TheConstants.{SESSIONS, REPLY_BYTES, LAST_LINE_BYTES}
 use Rattle.djq_session.specs.declared.named.NamedCursor.{NamedCursor}
 use Rattle.djq_engine.specs.declared.cursor.CursorId.{CursorId}
-use Rattle.djq_engine.specs.Kept.{Kept, Held, held_at, same_id, IsHeld}
+use Rattle.djq_engine.specs.Kept.{Kept, Held, held_at, same_id}
 use Rattle.djq_machine.specs.State.{Position, open_at, stale}
 use Rattle.djq_core.specs.declared.open.OpenSession.{OpenSession}
-use Rattle.djq_core.specs.Views.{Talk, position_in}
+use Rattle.djq_core.specs.Views.{Talk}
 
 -- each number of a list is below the later ones
 abbrev pub IsBelow : ℕ → List ℕ → Type 0

@@ -1,31 +1,29 @@
 -- What a step of a session does, as the machine says it.
-use Rattle.std.specs.Prelude.{ℕ, ◌≡◌, ◌≤◌, ◌⊎◌, Bool, true, false, Option, None, Some, MatchOption, ⊤}
-use Rattle.djq_model.specs.declared.query.Query.{Query}
+use Rattle.std.specs.Prelude.{ℕ, ◌≡◌, ◌<◌, ◌≤◌, ◌⊎◌, Bool, true, false, None, MatchOption, length, ⊤}
 use Rattle.djq_model.specs.Data.{Bytes}
 use Rattle.djq_lines.specs.declared.answer.EndCause.{EndCause}
 use Rattle.djq_lines.specs.declared.answer.EndCause.TheVariants.{Long, Slow, Memory}
 use Rattle.djq_lines.specs.declared.command.Command.{Command}
-use Rattle.djq_lines.specs.declared.command.Command.TheVariants.{Rel, Add, Del, Query as Register, Drop, Open, Next, Close, Has, Watch, Unwatch, Explain, Quit, Stop}
+use Rattle.djq_lines.specs.declared.command.Command.TheVariants.{Query as Register, Next, Watch, Unwatch}
 use Rattle.djq_lines.specs.declared.answer.Refusal.{Refusal}
 use Rattle.djq_lines.specs.declared.answer.Refusal.TheVariants.{Syntax, WrongType, NoMemory, Later}
 use Rattle.djq_proto.specs.declared.refusal.LineRefusal.{LineRefusal}
 use Rattle.djq_proto.specs.declared.refusal.LineRefusal.TheVariants.{Syntax as Outside, Later as Unserved, Range, NoMem}
-use Rattle.djq_lines.specs.Grammar.{is_simple}
 use Rattle.djq_machine.specs.declared.machine.Stepped.{Stepped}
 use Rattle.djq_machine.specs.declared.machine.Stepped.TheVariants.{Ran, Dry, Ended}
 use Rattle.djq_machine.specs.LineStep.{LineOutcome, long, blank, slow, no_room, run, FrontStep}
 use Rattle.djq_machine.specs.Step.{is_dry}
+use Rattle.djq_machine.specs.Call.{Counts}
 use Rattle.djq_engine.specs.Kept.{Kept}
 use Rattle.djq_core.specs.Views.{Talk}
 use Rattle.djq_core.specs.Performs.{Performs}
 
--- The command is served: its query is one that the engine serves, and it asks for an answer at least.
+-- The command is served, as a line says one: its query has an atom at least, and it asks for an answer at least.
 abbrev pub IsRunnable : Command → Type 0
-IsRunnable (Register q) = is_simple q.head q.atoms ≡ true
+IsRunnable (Register q) = 0 < length q.atoms
 IsRunnable (Next c count) = 1 ≤ count
 IsRunnable (Watch q) = ⊥
 IsRunnable (Unwatch q) = ⊥
-IsRunnable (Explain q) = ⊥
 IsRunnable _ = ⊤
 
 -- what a line that gives no command is answered
@@ -40,22 +38,22 @@ abbrev pub Fronts : LineOutcome → Bool → Kept → Talk → Kept → Talk →
 Fronts outcome stops old before new after was now = Performs (λ st s x e st'. FrontStep st s x outcome e st') stops old before new after was now
 
 -- A session ends before its line is run.
-abbrev pub EndsBefore : EndCause → Bool → Kept → Talk → Kept → Talk → ℕ → ℕ → Type 0
-EndsBefore Long stops old before new after was now = Fronts long stops old before new after was now
-EndsBefore Slow stops old before new after was now = (l : Bytes) × Fronts (slow l) stops old before new after was now
-EndsBefore Memory stops old before new after was now = (l : Bytes) × Fronts (no_room l) stops old before new after was now
+abbrev pub EndsBefore : EndCause → Bool → Kept → Talk → Kept → Talk → Counts → Counts → Type 0
+EndsBefore Long stops old before new after was now = Fronts long stops old before new after was.listing now.listing
+EndsBefore Slow stops old before new after was now = (l : Bytes) × Fronts (slow l) stops old before new after was.listing now.listing
+EndsBefore Memory stops old before new after was now = (l : Bytes) × Fronts (no_room l) stops old before new after was.listing now.listing
 EndsBefore _ stops old before new after was now = ⊥
 
 -- Nothing has changed.
-pub record Unchanged (stops : Bool) (old : Kept) (before : Talk) (new : Kept) (after : Talk) (was now : ℕ) : Type 0 where
+pub record Unchanged (stops : Bool) (old : Kept) (before : Talk) (new : Kept) (after : Talk) (was now : Counts) : Type 0 where
   pub goes_on : stops ≡ false
   pub engine : new ≡ old
   pub session : after ≡ before
   pub counted : now ≡ was
 
 -- What a step of a session answers, and does.
-abbrev pub StepsTo : Stepped → Bool → Kept → Talk → Kept → Talk → ℕ → ℕ → Type 0
-StepsTo Ran stops old before new after was now = (before.cause ≡ None) × ((l : Bytes) × (Fronts (blank l) stops old before new after was now ⊎ Fronts (run l) stops old before new after was now))
+abbrev pub StepsTo : Stepped → Bool → Kept → Talk → Kept → Talk → Counts → Counts → Type 0
+StepsTo Ran stops old before new after was now = (before.cause ≡ None) × ((l : Bytes) × (Fronts (blank l) stops old before new after was.listing now.listing ⊎ Fronts (run l) stops old before new after was.listing now.listing))
 StepsTo Dry stops old before new after was now = (before.cause ≡ None) × (is_dry before.held ≡ true) × Unchanged stops old before new after was now
 StepsTo (Ended c) stops old before new after was now = MatchOption before.cause
     (EndsBefore c stops old before new after was now)

@@ -1,20 +1,20 @@
 //! Commands on the relations, the queries and a session's cursors.
-ghost use Rattle.std.specs.Prelude.{◌≡◌, false, true};
+ghost use Rattle.std.specs.Prelude.{◌≡◌, ◌<◌, false, true, length};
 ghost use Rattle.djq_lines.specs.declared.command.Command.TheVariants.{Rel, Add, Del};
 ghost use Rattle.djq_lines.specs.declared.command.Command.TheVariants.{Query as Register, Drop, Open};
 ghost use Rattle.djq_lines.specs.declared.command.Command.TheVariants.{Close, Has, Quit, Stop};
-ghost use Rattle.djq_lines.specs.Grammar.{is_simple};
+ghost use Rattle.djq_lines.specs.declared.command.Command.TheVariants.{Explain};
 ghost use Rattle.djq_core.specs.Opens.{Opens};
 ghost use Rattle.djq_core.specs.Performs.{Executes};
 ghost use Rattle.djq_core.specs.Sound.{IsReady};
 
-use crate::ending::give_up;
+use crate::ending::{cut_off, give_up};
 use djq_engine::{CursorId, Engine, QueryId};
 use djq_lines::limits::CURSORS;
 use djq_lines::{EndCause, Refusal};
-use djq_model::{Name, Query, Row, Types, Value};
+use djq_model::{Name, Query, Types, Value};
 use djq_session::Session;
-use djq_steps::{Ledgers, Listing, Tally};
+use djq_steps::{Ledgers, Listing, Steps, Tally};
 
 /// `rel`: a new relation.
 pub(crate) fn run_rel(
@@ -31,42 +31,54 @@ pub(crate) fn run_rel(
 }
 
 /// `add`: a row goes into a relation.
-pub(crate) fn run_add(
+pub(crate) fn run_add<L: Ledgers>(
     engine: &mut Engine,
     session: &mut Session<CursorId, QueryId>,
     name: &Name,
-    row: Row,
+    row: &[Value],
+    steps: &mut Steps<L>,
 )
     requires { IsReady engine.old session.old }
-    ensures { Executes (Add name.now row) false engine.old session.old engine.new session.new 0 0 }
+    ensures { Executes (Add name.now row.now) false engine.old session.old engine.new session.new
+        steps.old.listing steps.new.listing }
 {
-    let outcome = engine.add(name, row);
+    let outcome = engine.add(name, row, steps);
     session.answer_added(outcome, engine.seq());
 }
 
 /// `del`: a row goes out of a relation.
-pub(crate) fn run_del(
+pub(crate) fn run_del<L: Ledgers>(
     engine: &mut Engine,
     session: &mut Session<CursorId, QueryId>,
     name: &Name,
-    row: &Row,
+    row: &[Value],
+    steps: &mut Steps<L>,
 )
     requires { IsReady engine.old session.old }
-    ensures { Executes (Del name.now row.now) false
-        engine.old session.old engine.new session.new 0 0 }
+    ensures { Executes (Del name.now row.now) false engine.old session.old engine.new session.new
+        steps.old.listing steps.new.listing }
 {
-    let outcome = engine.del(name, row);
+    let outcome = engine.del(name, row, steps);
     session.answer_deleted(outcome, engine.seq());
 }
 
-/// `query`: a query is registered.
-pub(crate) fn run_query(engine: &mut Engine, session: &mut Session<CursorId, QueryId>, query: Query)
+/// `query`: a query is registered, or a rest shows why it isn't. Out of memory in a long rest, the
+/// session ends.
+pub(crate) fn run_query<L: Ledgers>(
+    engine: &mut Engine,
+    session: &mut Session<CursorId, QueryId>,
+    query: Query,
+    steps: &mut Steps<L>,
+)
     requires ready { IsReady engine.old session.old }
-    requires served { is_simple query.head query.atoms ≡ true }
-    ensures { Executes (Register query) false engine.old session.old engine.new session.new 0 0 }
+    requires some { 0 < length query.atoms }
+    ensures { Executes (Register query) false engine.old session.old engine.new session.new
+        steps.old.listing steps.new.listing }
 {
-    let outcome = engine.query(query);
-    session.answer_registered(outcome);
+    let outcome = engine.query(query, steps);
+    if session.answer_registered(&outcome).is_err() {
+        cut_off(engine, session);
+    }
 }
 
 /// `open`: a cursor in front of a query's answers.
@@ -151,6 +163,29 @@ pub(crate) fn run_has<L: Ledgers>(
 {
     let outcome = engine.has(query, tuple, listing);
     session.answer_has(outcome);
+}
+
+/// `explain`: the lines that explain the tree of a query. Out of memory, the session ends.
+pub(crate) fn run_explain(
+    engine: &mut Engine,
+    session: &mut Session<CursorId, QueryId>,
+    query: &Name,
+)
+    requires { IsReady engine.old session.old }
+    ensures { Executes (Explain query.now) false
+        engine.old session.old engine.new session.new 0 0 }
+{
+    match engine.explain(query) {
+        Ok(lines) => {
+            if session.queue_explained(lines.as_bytes()).is_err() {
+                cut_off(engine, session);
+            }
+        }
+        Err(refusal) => match refusal {
+            Refusal::NoMemory => cut_off(engine, session),
+            _ => session.refuse(refusal),
+        },
+    }
 }
 
 /// `quit`: the session ends.

@@ -3,7 +3,7 @@ ghost use Rattle.std.specs.Prelude.{◌≡◌, false, None, Some};
 ghost use Rattle.djq_lines.specs.Reply.{end_line, input_cut};
 ghost use Rattle.djq_lines.specs.declared.answer.EndCause.TheVariants.{Input};
 ghost use Rattle.djq_machine.specs.Effect.{EndsWith};
-ghost use Rattle.djq_core.specs.Ends.{GivesUp, EndsQuietly};
+ghost use Rattle.djq_core.specs.Ends.{CutsOff, GivesUp, EndsQuietly};
 ghost use Rattle.djq_core.specs.Performs.{Performs};
 ghost use Rattle.djq_core.specs.Sound.{IsOwn};
 
@@ -19,6 +19,16 @@ pub(crate) fn give_up(engine: &mut Engine, session: &mut Session<CursorId, Query
     while let Some(id) = session.pop_cursor() {
         engine.close(id);
     }
+}
+
+/// Out of memory in the midst of a reply, a session ends, and is told so.
+pub(crate) fn cut_off(engine: &mut Engine, session: &mut Session<CursorId, QueryId>)
+    requires own { IsOwn engine.old session.old }
+    requires running { session.old.cause ≡ None }
+    ensures { CutsOff engine.old session.old engine.new session.new }
+{
+    give_up(engine, session);
+    session.end_by(EndLine::Memory, EndCause::Memory);
 }
 
 /// A session ends with a line that tells why.

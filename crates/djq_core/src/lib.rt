@@ -15,7 +15,7 @@
 //!
 //! Inside: `serving` has the sessions by id and the calls; `line` the order of checks before a line
 //! is run; `commands`, `listing` and `ending` what commands do, `next` line by line, and a
-//! session's end.
+//! session's end. `told` lends an answer of the engine to the session that prints it.
 #![tactic(auto)]
 
 pub use serving::Core;
@@ -26,3 +26,4 @@ mod line;
 mod listing;
 mod open;
 mod serving;
+mod told;

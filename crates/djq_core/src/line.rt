@@ -2,14 +2,15 @@
 ghost use Rattle.std.specs.Prelude.{◌≡◌, ◌≤◌, ◌||◌, None, Bool, false, length, take, drop};
 ghost use Rattle.djq_lines.specs.Line.{a_line, front_of, is_blank as is_blank_line};
 ghost use Rattle.djq_lines.specs.declared.limits.TheConstants.{PENDING_BYTES};
+ghost use Rattle.djq_machine.specs.Call.{counts};
 ghost use Rattle.djq_machine.specs.LineStep.{run};
 ghost use Rattle.djq_core.specs.Performs.{Executes};
 ghost use Rattle.djq_core.specs.Sound.{IsOwn, IsReady};
 ghost use Rattle.djq_core.specs.Stepping.{Fronts, IsRunnable, StepsTo, refused_as};
 
 use crate::commands::{
-    run_add, run_close, run_del, run_drop, run_has, run_open, run_query, run_quit, run_rel,
-    run_stop,
+    run_add, run_close, run_del, run_drop, run_explain, run_has, run_open, run_query, run_quit,
+    run_rel, run_stop,
 };
 use crate::ending::end_by;
 use crate::listing::run_next;
@@ -19,7 +20,7 @@ use djq_lines::{Command, EndCause, EndLine, Refusal};
 use djq_machine::Stepped;
 use djq_proto::{Front, LineRefusal, is_blank, read_command};
 use djq_session::Session;
-use djq_steps::{Ledgers, Listing, Tally};
+use djq_steps::{Ledgers, Steps};
 use std::alloc::Global;
 
 // Runs a command, and tells whether it stops the server.
@@ -27,12 +28,12 @@ fn obey<L: Ledgers>(
     engine: &mut Engine,
     session: &mut Session<CursorId, QueryId>,
     command: Command,
-    listing: &mut Tally<Listing<L>>,
+    steps: &mut Steps<L>,
 ) -> bool
     requires ready { IsReady engine.old session.old }
     requires served { IsRunnable command }
-    ensures { Executes command result
-        engine.old session.old engine.new session.new listing.old listing.new }
+    ensures { Executes command result engine.old session.old engine.new session.new
+        steps.old.listing steps.new.listing }
 {
     match command {
         Command::Rel { name, types } => {
@@ -40,15 +41,15 @@ fn obey<L: Ledgers>(
             false
         }
         Command::Add { name, row } => {
-            run_add(engine, session, &name, row);
+            run_add(engine, session, &name, row.as_slice(), steps);
             false
         }
         Command::Del { name, row } => {
-            run_del(engine, session, &name, &row);
+            run_del(engine, session, &name, row.as_slice(), steps);
             false
         }
         Command::Query { query } => {
-            run_query(engine, session, query);
+            run_query(engine, session, query, steps);
             false
         }
         Command::Open { cursor, query } => {
@@ -56,7 +57,7 @@ fn obey<L: Ledgers>(
             false
         }
         Command::Next { cursor, count } => {
-            run_next(engine, session, &cursor, count, listing);
+            run_next(engine, session, &cursor, count, &mut steps.listing);
             false
         }
         Command::Close { cursor } => {
@@ -68,7 +69,11 @@ fn obey<L: Ledgers>(
             false
         }
         Command::Has { query, row } => {
-            run_has(engine, session, &query, row.as_slice(), listing);
+            run_has(engine, session, &query, row.as_slice(), &mut steps.listing);
+            false
+        }
+        Command::Explain { query } => {
+            run_explain(engine, session, &query);
             false
         }
         Command::Quit => {
@@ -79,7 +84,7 @@ fn obey<L: Ledgers>(
             run_stop(engine, session);
             true
         }
-        Command::Watch { .. } | Command::Unwatch { .. } | Command::Explain { .. } => unreachable!(),
+        Command::Watch { .. } | Command::Unwatch { .. } => unreachable!(),
     }
 }
 
@@ -91,7 +96,7 @@ fn run_line<L: Ledgers>(
     session: &mut Session<CursorId, QueryId>,
     end: usize,
     rest: usize,
-    listing: &mut Tally<Listing<L>>,
+    steps: &mut Steps<L>,
 ) -> bool
     requires ready { IsReady engine.old session.old }
     requires front { front_of session.old.held ≡ a_line (take end session.old.held)
@@ -100,12 +105,12 @@ fn run_line<L: Ledgers>(
     requires said { is_blank_line (take end session.old.held) ≡ false }
     requires few { length session.old.pending ≤ PENDING_BYTES }
     ensures { Fronts (run (take end session.old.held)) result
-        engine.old session.old engine.new session.new listing.old listing.new }
+        engine.old session.old engine.new session.new steps.old.listing steps.new.listing }
 {
     let command = read_command(alloc, &session.held()[..end]);
     session.take_line(rest);
     match command {
-        Ok(command) => obey(engine, session, command, listing),
+        Ok(command) => obey(engine, session, command, steps),
         Err(refusal) => {
             session.refuse(refusal_of(refusal));
             false
@@ -133,15 +138,16 @@ fn step_line<L: Ledgers>(
     session: &mut Session<CursorId, QueryId>,
     end: usize,
     rest: usize,
-    listing: &mut Tally<Listing<L>>,
+    steps: &mut Steps<L>,
 ) -> (Stepped, bool)
     requires own { IsOwn engine.old session.old }
     requires running { session.old.cause ≡ None }
     requires front { front_of session.old.held ≡ a_line (take end session.old.held)
         (drop rest session.old.held) }
     requires within { (end ≤ length session.old.held) × (rest ≤ length session.old.held) }
-    ensures { StepsTo result.0 result.1
-        engine.old session.old engine.new session.new listing.old listing.new }
+    ensures { StepsTo result.0 result.1 engine.old session.old engine.new session.new
+        (counts steps.old.listing steps.old.update steps.old.rows)
+        (counts steps.new.listing steps.new.update steps.new.rows) }
 {
     if is_blank(&session.held()[..end]) {
         session.take_line(rest);
@@ -154,7 +160,7 @@ fn step_line<L: Ledgers>(
     }
     match session.keep(REPLY_BYTES) {
         Ok(()) => {
-            let stops = run_line(alloc, engine, session, end, rest, listing);
+            let stops = run_line(alloc, engine, session, end, rest, steps);
             (Stepped::Ran, stops)
         }
         Err(_) => {
@@ -171,11 +177,12 @@ pub(crate) fn step_session<L: Ledgers>(
     alloc: Global,
     engine: &mut Engine,
     session: &mut Session<CursorId, QueryId>,
-    listing: &mut Tally<Listing<L>>,
+    steps: &mut Steps<L>,
 ) -> (Stepped, bool)
     requires { IsOwn engine.old session.old }
-    ensures { StepsTo result.0 result.1
-        engine.old session.old engine.new session.new listing.old listing.new }
+    ensures { StepsTo result.0 result.1 engine.old session.old engine.new session.new
+        (counts steps.old.listing steps.old.update steps.old.rows)
+        (counts steps.new.listing steps.new.update steps.new.rows) }
 {
     if let Some(cause) = session.cause() {
         return (Stepped::Ended(cause), false);
@@ -186,6 +193,6 @@ pub(crate) fn step_session<L: Ledgers>(
             end_by(engine, session, EndLine::Long, EndCause::Long);
             (Stepped::Ended(EndCause::Long), false)
         }
-        Front::Line { end, rest } => step_line(alloc, engine, session, end, rest, listing),
+        Front::Line { end, rest } => step_line(alloc, engine, session, end, rest, steps),
     }
 }

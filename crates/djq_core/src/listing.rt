@@ -6,9 +6,10 @@ ghost use Rattle.djq_core.specs.Listing.{Lists, Lasts};
 ghost use Rattle.djq_core.specs.Performs.{Executes};
 ghost use Rattle.djq_core.specs.Sound.{AreHeld, IsReady};
 
-use crate::ending::give_up;
-use djq_engine::{CursorId, Engine, Next, QueryId};
-use djq_lines::{EndCause, EndLine, Refusal};
+use crate::ending::cut_off;
+use crate::told::ToldAnswer;
+use djq_engine::{Answer, CursorId, Engine, Next, QueryId};
+use djq_lines::Refusal;
 use djq_model::{Name, NoMem};
 use djq_session::Session;
 use djq_steps::{Ledgers, Listing, Tally};
@@ -42,10 +43,7 @@ pub(crate) fn run_next<L: Ledgers>(
         None => session.refuse(Refusal::NoCursor),
         Some(id) => match list_answers(engine, session, id, count, listing) {
             Listed::Whole => {}
-            Listed::Cut => {
-                give_up(engine, session);
-                session.end_by(EndLine::Memory, EndCause::Memory);
-            }
+            Listed::Cut => cut_off(engine, session),
             Listed::Stale(relation, seq) => session.answer_stale(name, &relation, seq),
         },
     }
@@ -65,11 +63,14 @@ fn list_answers<L: Ledgers>(
     ensures { Lists engine.old id session.old count result engine.new session.new listing.old
         listing.new }
 {
+    let mut answer = Answer::new(0);
     for read in 0..count {
-        match engine.next(id, listing) {
-            Next::Given(answer) => {
-                let (row, columns) = engine.answer(id, answer);
-                if session.queue_answer(row, columns).is_err() {
+        match engine.next(id, &mut answer, listing) {
+            Next::Given => {
+                let told = ToldAnswer {
+                    lent: engine.answer(id, &answer),
+                };
+                if session.queue_answer(&told).is_err() {
                     return Listed::Cut;
                 }
             }

@@ -60,7 +60,7 @@ impl Core {
         ensures { IfOk result (λ core. core ≡ opening) }
     {
         Ok(Core {
-            engine: Engine::new(alloc),
+            engine: Engine::new(alloc)?,
             ids: Vec::with_capacity(alloc, SESSIONS)?,
             sessions: Vec::with_capacity(alloc, SESSIONS)?,
             stopped: false,
@@ -127,7 +127,7 @@ impl Machine for Core {
             self.alloc,
             &mut self.engine,
             &mut found.session,
-            &mut steps.listing,
+            steps,
         );
         self.stopped |= stops;
         stepped

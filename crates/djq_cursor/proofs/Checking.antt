@@ -40,7 +40,7 @@ use Rattle.djq_tree.specs.Counts.{how_many, IsSmall}
 use Rattle.djq_tree.proofs.Keying.{trim_child, guard_child, side_child}
 use Rattle.djq_reduct.specs.Tables.{entries_at}
 use Rattle.djq_reduct.specs.Reducts.{Reducts, IsReducts}
-use Rattle.djq_cursor.specs.Answers.{on_node, IsAnswerOf}
+use Rattle.djq_reduct.specs.Answers.{on_node, IsAnswerOf}
 use Rattle.djq_cursor.proofs.Outs.{child_out, out_within}
 use Rattle.djq_cursor.proofs.Good.{IsIn, trim_up, meet_up}
 

@@ -24,7 +24,7 @@ use Rattle.djq_tree.specs.Levels.{levels, levels_below}
 use Rattle.djq_tree.specs.Counts.{IsSmall}
 use Rattle.djq_reduct.specs.Reducts.{Reducts, IsReducts}
 use Rattle.djq_cursor.specs.declared.places.Choice.{Choice}
-use Rattle.djq_cursor.specs.Answers.{on_node}
+use Rattle.djq_reduct.specs.Answers.{on_node}
 use Rattle.djq_cursor.specs.Menus.{has, AreOnce, behind}
 use Rattle.djq_cursor.specs.Levels.{step}
 use Rattle.djq_cursor.specs.Walk.{

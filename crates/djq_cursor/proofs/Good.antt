@@ -39,7 +39,7 @@ use Rattle.djq_reduct.specs.Tables.{entries_at, key_at}
 use Rattle.djq_reduct.specs.Reducts.{Reducts, IsReducts}
 use Rattle.djq_reduct.proofs.Family.{trim_law, meet_law}
 use Rattle.djq_reduct.proofs.Placing.{columns_none}
-use Rattle.djq_cursor.specs.Answers.{on_node}
+use Rattle.djq_reduct.specs.Answers.{on_node}
 use Rattle.djq_cursor.proofs.Columns.{Within, within_of, cell, cells_same, pick_same, pick_pick}
 use Rattle.djq_cursor.proofs.Outs.{root_or_parent}
 use Rattle.djq_cursor.proofs.Groups.{many_of, both_positive, product_positive}

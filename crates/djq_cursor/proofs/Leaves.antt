@@ -36,7 +36,7 @@ use Rattle.djq_tree.specs.Levels.{levels_below, level_on}
 use Rattle.djq_tree.proofs.Keying.{child_within}
 use Rattle.djq_reduct.specs.Tables.{entries_at}
 use Rattle.djq_reduct.specs.Reducts.{Reducts, IsReducts}
-use Rattle.djq_cursor.specs.Answers.{on_node, IsAnswerOf}
+use Rattle.djq_reduct.specs.Answers.{on_node, IsAnswerOf}
 use Rattle.djq_cursor.specs.Menus.{has, AreOnce}
 use Rattle.djq_cursor.specs.Levels.{IsLevel, source, group_at, step}
 use Rattle.djq_cursor.specs.Walk.{Menu, menu_at, leaves, IsOpen, blank}

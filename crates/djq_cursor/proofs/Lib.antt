@@ -13,3 +13,10 @@ pub mod Filling
 pub mod Going
 pub mod Placing
 pub mod Checking
+pub mod Paths
+pub mod Updates
+pub mod Parts
+pub mod Marking
+pub mod Telling
+pub mod Backward
+pub mod Told

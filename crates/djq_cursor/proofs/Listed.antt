@@ -34,7 +34,7 @@ use Rattle.djq_cursor.specs.declared.cursor.State.TheVariants.{Start, At, End}
 use Rattle.djq_cursor.specs.declared.cursor.Cursor.{Cursor}
 use Rattle.djq_cursor.specs.declared.places.Choice.{Choice}
 use Rattle.djq_cursor.specs.Listing.{AreSome, IsListing}
-use Rattle.djq_cursor.specs.Answers.{on_node, IsAnswerOf}
+use Rattle.djq_reduct.specs.Answers.{on_node, IsAnswerOf}
 use Rattle.djq_cursor.specs.Menus.{has, AreOnce}
 use Rattle.djq_cursor.specs.Levels.{group_at}
 use Rattle.djq_cursor.specs.Walk.{Menu, leaves, IsClear, blank, all_given, given_by, FitsBy}

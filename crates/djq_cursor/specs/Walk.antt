@@ -24,7 +24,7 @@ use Rattle.djq_reduct.specs.Reducts.{Reducts}
 use Rattle.djq_cursor.specs.declared.places.Choice.{Choice}
 use Rattle.djq_cursor.specs.declared.cursor.State.{State}
 use Rattle.djq_cursor.specs.declared.cursor.State.TheVariants.{Start, At, End}
-use Rattle.djq_cursor.specs.Answers.{on_node}
+use Rattle.djq_reduct.specs.Answers.{on_node}
 use Rattle.djq_cursor.specs.Menus.{has, ahead, AreOnce, IsFirst}
 use Rattle.djq_cursor.specs.Levels.{IsLevel, IsNextLevel, source, tuple_at, step}
 

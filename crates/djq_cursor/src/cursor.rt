@@ -2,7 +2,7 @@ ghost use Rattle.std.specs.Prelude.{◌≡◌, ◌↔◌, ◌+◌, ◌*◌, ◌�
 ghost use Rattle.std.specs.Bool.{OnTrue, OnFalse};
 ghost use Rattle.djq_reduct.specs.Reducts as spec;
 ghost use Rattle.djq_cursor.specs.Listing.{AreSome, IsListing};
-ghost use Rattle.djq_cursor.specs.Answers.{IsAnswerOf};
+ghost use Rattle.djq_reduct.specs.Answers.{IsAnswerOf};
 ghost use Rattle.djq_cursor.specs.Given.{Fits, given};
 
 use crate::places::Places;
@@ -42,6 +42,16 @@ impl Cursor {
         Cursor {
             places: Places::new(),
             state: State::Start,
+        }
+    }
+
+    /// The same cursor once more. Each goes on by itself.
+    pub fn copy(&self) -> Cursor
+        ensures { result ≡ self.now }
+    {
+        Cursor {
+            places: self.places.copy(),
+            state: self.state,
         }
     }
 

@@ -3,7 +3,7 @@ ghost use Rattle.djq_hyper.specs.Hypergraph.{subset};
 ghost use Rattle.djq_tree.specs.Counts.{is_trim};
 ghost use Rattle.djq_tree.specs.Levels.{levels_below};
 ghost use Rattle.djq_tree.specs.Tree.{is_out};
-ghost use Rattle.djq_cursor.specs.Answers.{on_node};
+ghost use Rattle.djq_reduct.specs.Answers.{on_node};
 ghost use Rattle.djq_cursor.specs.Levels.{IsLevel, IsNextLevel, child_of, source, step, written};
 ghost use Rattle.djq_cursor.specs.Walk.{IsAlive, chosen};
 

@@ -25,6 +25,14 @@
 //!     0: r x,y
 //! ```
 //!
+//! A [`DeltaCursor`] lists the answers that an update of one leaf changes, read off the marks that it
+//! leaves: those that an insertion brought, or that a removal will take once it is finished. In both
+//! cases the marks and the tables are those of the moment at which the tuple at work is there. It
+//! marks nothing, tells no insertion from a removal, and never looks at the path from the leaf: off
+//! the path there are no marks, and on it each group that the walk meets has some, which are its
+//! last tuples. So it goes through a group from its end, and leaves it before the first unmarked
+//! tuple if it began at a marked one.
+//!
 //! Inside, a listing is a walk down the second stage's trims. At each of them a tuple of the trim's
 //! child is chosen from a menu, the group that agrees with what was chosen above. To go on, the
 //! last choice that has a next tuple takes it, and every later one starts again. What a menu is, is
@@ -34,15 +42,20 @@
 
 mod choices;
 mod cursor;
+mod delta;
 mod levels;
+mod log;
 mod lookup;
+mod marked;
 mod places;
 mod walk;
 mod whole;
 
 pub use choices::Choices;
 pub use cursor::{Cursor, State};
+pub use delta::{DeltaCursor, changes_are};
 pub use levels::source;
+pub use log::{DeltaLog, Line};
 pub use lookup::has;
 pub use places::{Choice, Places};
 pub use walk::advance_by;

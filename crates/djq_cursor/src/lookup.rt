@@ -3,7 +3,7 @@ ghost use Rattle.djq_hyper.specs.Hypergraph.{one};
 ghost use Rattle.djq_index.specs.Entries.{cnt};
 ghost use Rattle.djq_tree.specs.Tree.{is_out};
 ghost use Rattle.djq_reduct.specs.Tables.{entries_at};
-ghost use Rattle.djq_cursor.specs.Answers.{IsAnswerOf, on_node};
+ghost use Rattle.djq_reduct.specs.Answers.{IsAnswerOf, on_node};
 
 use crate::levels::project;
 use djq_reduct::{Answer, Reducts};

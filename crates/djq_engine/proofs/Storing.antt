@@ -1,197 +1,236 @@
--- What adding and deleting do to the store, in the machine's words.
-use Rattle.std.proofs.Common.{ℕ, List, [], ◌∷◌, ◌++◌, ◌+◌, ◌≡◌, ◌<◌, false, refl, sym, ap, ap₂, ◌∙◌, subst, length, set, take, drop, arith, append-nil}
-use Rattle.std.specs.Prelude.{None, Some, Ok, Err, position, option_map}
-use Rattle.std.proofs.lemmas.List.{take_all, drop_all}
+-- A row goes into the catalog and the queries, or out of them.
+use Rattle.std.proofs.Common.{ℕ, List, [], ◌∷◌, ◌++◌, ◌≡◌, ◌≢◌, ◌<◌, ◌≤◌, Bool, true, false, refl, sym, ap, ap₂, ◌∙◌, subst, length, get_or, arith}
+use Rattle.std.specs.Prelude.{Option, Some, Result, Ok, Err, Contains}
+use Rattle.std.proofs.lemmas.Bool.{false≢true}
+use Rattle.std.proofs.lemmas.List.{get_or_default, append-nil}
 use Rattle.djq_model.specs.declared.relation.Relation.{Relation}
-use Rattle.djq_model.specs.declared.query.Query.{Query}
-use Rattle.djq_model.specs.Data.{Bytes, Tuple, bytes_eq, has_row, without_row, relation_of, rows_of}
-use Rattle.djq_lines.specs.declared.answer.Refusal.{Refusal}
-use Rattle.djq_lines.specs.declared.answer.Refusal.TheVariants.{NoRelation, NoMemory}
+use Rattle.djq_model.specs.declared.relation.ColumnType.{ColumnType}
+use Rattle.djq_model.specs.Data.{Bytes, Tuple, has_row, without_row}
+use Rattle.djq_model.specs.Known.{texts_in, all_learned}
+use Rattle.djq_lines.specs.declared.answer.AddOutcome.{AddOutcome}
 use Rattle.djq_lines.specs.declared.answer.AddOutcome.TheVariants.{Added, Same}
+use Rattle.djq_lines.specs.declared.answer.DeleteOutcome.{DeleteOutcome}
 use Rattle.djq_lines.specs.declared.answer.DeleteOutcome.TheVariants.{Removed, Absent}
-use Rattle.djq_machine.specs.State.{Store}
-use Rattle.djq_machine.specs.Stale.{add_outdates}
-use Rattle.djq_machine.specs.Store.{AddsRow, AddsAs, add_refusal, DeletesRow, DeletesAs, delete_refusal, with_rows}
-use Rattle.djq_engine.specs.declared.table.Table.{Table}
-use Rattle.djq_engine.specs.declared.registered.Registered.{Registered}
-use Rattle.djq_engine.specs.Finding.{IsFirst}
-use Rattle.djq_engine.specs.Rows.{AddsTo, AddsToAs, add_refused, DeletesFrom, DeletesFromAs, delete_refused}
-use Rattle.djq_engine.specs.Tables.{table_at, relations_in, queries_in, store_of, OutdatesReaders}
-use Rattle.djq_engine.specs.Sound.{RowsSound, IsSound}
-use Rattle.djq_engine.proofs.Firsts.{first_of_position, none_of_position, find_mapped}
-use Rattle.djq_engine.proofs.Conditions.{answers_refused, answers_done, refused_as, done_of}
-use Rattle.djq_engine.proofs.Rows.{sound_of_add, sound_of_delete}
-use Rattle.djq_engine.proofs.Changing.{with_relation, relation_named, rows_named, relations_changed, relations_same, Changes}
+use Rattle.djq_machine.specs.Store.{LearnsFirst}
+use Rattle.djq_dict.specs.declared.refusal.InternRefusal.{InternRefusal}
+use Rattle.djq_dict.specs.declared.refusal.InternRefusal.TheVariants.{Full as TextsFull, NoMem as NoMemForTexts}
+use Rattle.djq_rows.specs.declared.refusal.RowsRefusal.{RowsRefusal}
+use Rattle.djq_rows.specs.declared.refusal.RowsRefusal.TheVariants.{NameTaken, Full, NoMem}
+use Rattle.djq_rows.specs.Cells.{StandFor, HaveCells, cells_of}
+use Rattle.djq_model.specs.Typed.{fits}
+use Rattle.djq_rows.specs.Catalog.{Catalog, IsCatalog, StandForRow, relation_at, rows_at, with_rows_at}
+use Rattle.djq_rows.specs.Changes.{AddsRow, DeletesRow, InternsRow}
+use Rattle.djq_rows.specs.Laws.{TextsStay}
+use Rattle.djq_live.specs.Changes.{IsLater, HasSameRows, Came, Went, AddedCame, DeletedWent}
+use Rattle.djq_live.specs.Live.{Live, IsKept, IsLive}
+use Rattle.djq_live.specs.Staying.{StaysOver, LiveStays, CamePasses, WentPasses}
+use Rattle.djq_live.proofs.Members.{in_last}
+use Rattle.djq_engine.specs.declared.parts.Parts.{Parts}
+use Rattle.djq_engine.specs.Places.{place_at, readers_at}
+use Rattle.djq_engine.specs.Sound.{IsSound, AreOnce}
+use Rattle.djq_engine.specs.Reaching.{Reach, AllAt, CanCome, CanGo, TakesIn, LetsOut, GivesBack, Carries}
+use Rattle.djq_engine.specs.Changing.{IsNew, IsOld, RestsOver, Lacks, LacksMemory, Puts, Waits, PutsRow}
+use Rattle.djq_lines.specs.declared.limits.TheConstants.{TEXTS, ROWS}
+use Rattle.djq_engine.proofs.Carrying.{has_contains, without_last, last_there, rows_with, field_with, long_with, back_with, readers_once, readers_kept, came_carries, went_carries, back_carries, idle_carries, stays_itself, texts_then}
 
-store_as : (relations relations' : List Relation) (queries queries' : List Query) (seq : ℕ) → relations ≡ relations' → queries ≡ queries'
-    → (let s : Store = record { relations = relations; texts = []; queries = queries; seq = seq } in s) ≡ record { relations = relations'; texts = []; queries = queries'; seq = seq }
-store_as relations relations' queries queries' seq e f = ap₂ (λ (rs : List Relation) (qs : List Query). (let s : Store = record { relations = rs; texts = []; queries = qs; seq = seq } in s)) e f
+-- the readers of a relation, as the code reads them
+pub places_read : (readers : List (List ℕ)) (at : ℕ) (x places : List ℕ) → at < length readers → x ≡ get_or readers at x → places ≡ x → places ≡ readers_at readers at
+places_read readers at x places low is same = same ∙ is ∙ get_or_default readers at x [] low
 
-pub no_relation_of : (tables : List Table) (name : Bytes) → None ≡ position (λ t. bytes_eq t.relation.name name) tables → relation_of (relations_in tables) name ≡ None
-no_relation_of tables name e =
-    find_mapped (λ r. bytes_eq r.name name) (λ (t : Table). t.relation) tables
-    ∙ ap (λ o. option_map (λ (t : Table). t.relation) o) (none_of_position (λ t. bytes_eq t.relation.name name) tables (sym e))
+pub catalog_same : (c d : Catalog) → d.relations ≡ c.relations → d.texts ≡ c.texts → d ≡ c
+catalog_same c d e f = ap₂ (λ (rs : List Relation) (ts : List Bytes). (let x : Catalog = record { relations = rs; texts = ts } in x)) e f
 
--- the relation of a table that is written back
+-- ---- more texts
 
-pub table_written : (tables : List Table) (at : ℕ) (t new : Table) → t ≡ table_at tables at → new.readers ≡ t.readers → set tables at new ≡ with_relation tables at new.relation
-table_written tables at t new e f = ap (λ (rs : List ℕ). set tables at (record new { readers = rs })) (f ∙ ap (λ (x : Table). x.readers) e)
-
-pub table_unchanged : (tables : List Table) (at : ℕ) (t new : Table) → at < length tables → t ≡ table_at tables at → new.readers ≡ t.readers → new.relation ≡ t.relation → set tables at new ≡ tables
-table_unchanged tables at t new l e f g =
-    table_written tables at t new e f ∙ ap (with_relation tables at) (g ∙ ap (λ (x : Table). x.relation) e) ∙ relations_same tables at l
-
--- a vector whose items were written through a slice
-pub written_back : {A : Type 0} (n : ℕ) (new old : List A) → n ≡ length old → length new ≡ length old → take n (new ++ drop (length new) old) ≡ new
-written_back n new old e f =
-    ap (λ (xs : List _). take n (new ++ xs)) (drop_all (length new) old (omega arith)) ∙ ap (take n) (append-nil new) ∙ take_all n new (omega arith)
-
--- `add`
-
-add_conditions : (tables : List Table) (gs : List Registered) (order : List ℕ) (seq : ℕ) (name : Bytes) (at : ℕ) (row : Tuple) → IsFirst (λ t. bytes_eq t.relation.name name) tables at
-    → add_refusal (store_of tables gs order seq) name row ≡ add_refused (table_at tables at).relation row seq
-add_conditions tables gs order seq name at row f = let e = relation_named tables name at f in rw e refl
-
-pub unknown_add : (tables : List Table) (gs : List Registered) (order : List ℕ) (seq : ℕ) (name : Bytes) (row : Tuple) → None ≡ position (λ t. bytes_eq t.relation.name name) tables
-    → AddsRow (store_of tables gs order seq) name row (Err NoRelation) (store_of tables gs order seq)
-unknown_add tables gs order seq name row p = let e = no_relation_of tables name p in record {
-  answer = answers_refused (add_refusal (store_of tables gs order seq) name row) NoRelation (AddsAs (store_of tables gs order seq) name row (store_of tables gs order seq)) _ (rw e refl);
-  stays = refl;
+pub same_rows : (c d : Catalog) → IsCatalog d → d.relations ≡ c.relations → (more : List Bytes) → d.texts ≡ c.texts ++ more → HasSameRows c d
+same_rows c d h e more f = record {
+  later = record {
+    catalog = h;
+    more = more;
+    texts = f;
+    long = subst (λ (rs : List Relation). length c.relations ≤ length rs) (sym e) (omega arith);
+    named = λ at low. ap (λ (rs : List Relation). (relation_at rs at).name) e;
+    typed = λ at low. ap (λ (rs : List Relation). (relation_at rs at).types) e;
+  };
+  same = λ at low. ap (λ (rs : List Relation). rows_at rs at) e;
 }
 
-pub stored_added : (tables : List Table) (gs gs' : List Registered) (order : List ℕ) (seq : ℕ) (name : Bytes) (at : ℕ) (row : Tuple) (r : Relation) → IsFirst (λ t. bytes_eq t.relation.name name) tables at
-    → queries_in gs' order ≡ queries_in gs order → AddsTo (table_at tables at).relation row seq (Ok Added) r
-    → AddsRow (store_of tables gs order seq) name row (Ok Added) (store_of (with_relation tables at r) gs' order (seq + 1))
-stored_added tables gs gs' order seq name at row r f q a =
-    let old = (table_at tables at).relation in
-    let d = done_of (add_refused old row seq) Added (AddsToAs old row r) _ a.answer in
-    let rows = rows_named tables name at f in record {
-      answer = answers_done (add_refusal (store_of tables gs order seq) name row) Added (AddsAs (store_of tables gs order seq) name row (store_of (with_relation tables at r) gs' order (seq + 1))) _
-          (add_conditions tables gs order seq name at row f ∙ d.0) (
-            ap (λ x. has_row x row) rows ∙ d.1.0,
-            store_as (relations_in (with_relation tables at r)) (with_rows (relations_in tables) name (rows_of (relations_in tables) name ++ row ∷ [])) (queries_in gs' order) (queries_in gs order) (seq + 1)
-                (ap (λ (x : Relation). relations_in (with_relation tables at x)) d.1.1 ∙ relations_changed tables name at (old.rows ++ row ∷ []) f
-                ∙ ap (λ x. with_rows (relations_in tables) name (x ++ row ∷ [])) (sym rows)) q,
-          );
-      stays = tt;
-    }
+pub learned_rows : TextsStay → (c d : Catalog) (ts : List Bytes) → IsCatalog d → d.relations ≡ c.relations → d.texts ≡ all_learned c.texts ts → HasSameRows c d
+learned_rows law c d ts h e f = let k = law c.texts ts in same_rows c d h e k.0 (f ∙ k.1)
 
-pub stored_same : (tables : List Table) (gs : List Registered) (order : List ℕ) (seq : ℕ) (name : Bytes) (at : ℕ) (row : Tuple) (r : Relation) → IsFirst (λ t. bytes_eq t.relation.name name) tables at
-    → AddsTo (table_at tables at).relation row seq (Ok Same) r → AddsRow (store_of tables gs order seq) name row (Ok Same) (store_of tables gs order seq)
-stored_same tables gs order seq name at row r f a =
-    let old = (table_at tables at).relation in
-    let d = done_of (add_refused old row seq) Same (AddsToAs old row r) _ a.answer in record {
-      answer = answers_done (add_refusal (store_of tables gs order seq) name row) Same (AddsAs (store_of tables gs order seq) name row (store_of tables gs order seq)) _
-          (add_conditions tables gs order seq name at row f ∙ d.0) (ap (λ x. has_row x row) (rows_named tables name at f) ∙ d.1.0, refl);
-      stays = tt;
-    }
+-- what an interned row learned
+pub interned : (old : List Bytes) (row : Tuple) (result : Result (List ℕ) InternRefusal) (new : List Bytes) → InternsRow old row result new → (ts : List Bytes) × (new ≡ all_learned old ts)
+interned old row (Ok cells) new h = (texts_in row, h.0)
+interned old row (Err TextsFull) new h = (h.1.first, h.1.learned)
+interned old row (Err NoMemForTexts) new h = (h.first, h.learned)
 
-pub stored_add_refused : (tables : List Table) (gs gs' : List Registered) (order : List ℕ) (seq : ℕ) (name : Bytes) (at : ℕ) (row : Tuple) (x : Refusal) (r : Relation) → IsFirst (λ t. bytes_eq t.relation.name name) tables at
-    → queries_in gs' order ≡ queries_in gs order → AddsTo (table_at tables at).relation row seq (Err x) r → AddsRow (store_of tables gs order seq) name row (Err x) (store_of tables gs' order seq)
-stored_add_refused tables gs gs' order seq name at row x r f q a =
-    let old = (table_at tables at).relation in record {
-      answer = refused_as (add_refused old row seq) (add_refusal (store_of tables gs order seq) name row) x (AddsToAs old row r) (AddsAs (store_of tables gs order seq) name row (store_of tables gs' order seq))
-          (has_row old.rows row ≡ false) (has_row (rows_of (relations_in tables) name) row ≡ false) (add_conditions tables gs order seq name at row f)
-          (λ h. ap (λ rows. has_row rows row) (rows_named tables name at f) ∙ h) a.answer;
-      stays = store_as (relations_in tables) (relations_in tables) (queries_in gs' order) (queries_in gs order) seq refl q;
-    }
+pub all_stay : LiveStays → (c d : Catalog) (gs : List (Option Live)) (order : List ℕ) (readers : List (List ℕ)) → IsSound c gs order readers → HasSameRows c d
+    → (i : ℕ) (l : Live) → place_at gs i ≡ Some l → StaysOver c d l
+all_stay law c d gs order readers s h i l e = law c d l h (s.live i l e)
 
--- other refusals than out of memory make no cursor stale
-pub outdates_none : (x : Refusal) → (x ≡ NoMemory → ⊥) → add_outdates (Err x) ≡ false
-outdates_none NoMemory h = absurd (h refl)
-outdates_none _ h = refl
-
--- `del`
-
-delete_conditions : (tables : List Table) (gs : List Registered) (order : List ℕ) (seq : ℕ) (name : Bytes) (at : ℕ) (row : Tuple) → IsFirst (λ t. bytes_eq t.relation.name name) tables at
-    → delete_refusal (store_of tables gs order seq) name row ≡ delete_refused (table_at tables at).relation row seq
-delete_conditions tables gs order seq name at row f = let e = relation_named tables name at f in rw e refl
-
-pub unknown_delete : (tables : List Table) (gs : List Registered) (order : List ℕ) (seq : ℕ) (name : Bytes) (row : Tuple) → None ≡ position (λ t. bytes_eq t.relation.name name) tables
-    → DeletesRow (store_of tables gs order seq) name row (Err NoRelation) (store_of tables gs order seq)
-unknown_delete tables gs order seq name row p = let e = no_relation_of tables name p in record {
-  answer = answers_refused (delete_refusal (store_of tables gs order seq) name row) NoRelation (DeletesAs (store_of tables gs order seq) name row (store_of tables gs order seq)) _ (rw e refl);
-  stays = refl;
+pub lacks_of : (at : ℕ) (row : Tuple) (old new : Parts) (r : InternRefusal) → InternsRow (old.catalog).texts row (Err r) (new.catalog).texts → (new.catalog).relations ≡ (old.catalog).relations → new.queries.items ≡ old.queries.items
+    → ((i : ℕ) (l : Live) → place_at old.queries.items i ≡ Some l → StaysOver old.catalog new.catalog l) → Lacks at row old new r
+lacks_of at row old new TextsFull h e q stay = record {
+  finds = record {
+    first = h.1.first;
+    next = h.1.next;
+    rest = h.1.rest;
+    parts = h.1.parts;
+    learned = h.1.learned;
+    unknown = h.1.unknown;
+    full = h.1.full;
+  };
+  rests = record { queries = q; relations = e; stay = stay };
+}
+lacks_of at row old new NoMemForTexts h e q stay = record {
+  learns = record { first = h.first; rest = h.rest; parts = h.parts; learned = h.learned };
+  relations = e;
+  carries = subst (λ (hs : List (Option Live)). Carries (readers_at old.readers.items at) old.catalog old.queries.items new.catalog hs) (sym q)
+      (idle_carries old.catalog new.catalog old.queries.items (readers_at old.readers.items at) stay);
 }
 
-pub stored_removed : (tables : List Table) (gs gs' : List Registered) (order : List ℕ) (seq : ℕ) (name : Bytes) (at : ℕ) (row : Tuple) (r : Relation) → IsFirst (λ t. bytes_eq t.relation.name name) tables at
-    → queries_in gs' order ≡ queries_in gs order → DeletesFrom (table_at tables at).relation row seq (Ok Removed) r
-    → DeletesRow (store_of tables gs order seq) name row (Ok Removed) (store_of (with_relation tables at r) gs' order (seq + 1))
-stored_removed tables gs gs' order seq name at row r f q a =
-    let old = (table_at tables at).relation in
-    let d = done_of (delete_refused old row seq) Removed (DeletesFromAs old row r) _ a.answer in
-    let rows = rows_named tables name at f in record {
-      answer = answers_done (delete_refusal (store_of tables gs order seq) name row) Removed (DeletesAs (store_of tables gs order seq) name row (store_of (with_relation tables at r) gs' order (seq + 1))) _
-          (delete_conditions tables gs order seq name at row f ∙ d.0) (
-            ap (λ x. has_row x row) rows ∙ d.1.0,
-            store_as (relations_in (with_relation tables at r)) (with_rows (relations_in tables) name (without_row (rows_of (relations_in tables) name) row)) (queries_in gs' order) (queries_in gs order) (seq + 1)
-                (ap (λ (x : Relation). relations_in (with_relation tables at x)) d.1.1 ∙ relations_changed tables name at (without_row old.rows row) f
-                ∙ ap (λ x. with_rows (relations_in tables) name (without_row x row)) (sym rows)) q,
-          );
-      stays = tt;
+-- ---- a row more
+
+pub added_is : (rs new : List Relation) (at : ℕ) (row : Tuple) (o : AddOutcome) → AddsRow rs at row (Ok o) new → has_row (rows_at rs at) row ≡ false → new ≡ with_rows_at rs at (rows_at rs at ++ row ∷ [])
+added_is rs new at row Added h e = h.2
+added_is rs new at row Same h e = absurd (false≢true (sym e ∙ h.0))
+
+pub refused_is : (rs new : List Relation) (at : ℕ) (row : Tuple) (r : RowsRefusal) → AddsRow rs at row (Err r) new → new ≡ rs
+refused_is rs new at row NameTaken h = absurd h
+refused_is rs new at row Full h = h.2
+refused_is rs new at row NoMem h = h.2
+
+pub deleted_is : (rs new : List Relation) (at : ℕ) (row : Tuple) (o : DeleteOutcome) → DeletesRow rs at row o new → has_row (rows_at rs at) row ≡ true → new ≡ with_rows_at rs at (without_row (rows_at rs at) row)
+deleted_is rs new at row Removed h e = h.1
+deleted_is rs new at row Absent h e = absurd (false≢true (sym h.0 ∙ e))
+
+module _ (c d : Catalog) (at : ℕ) (low : at < length c.relations) (cells : List ℕ) (row : Tuple) (new : IsNew c at cells row) (ic : IsCatalog c) (id : IsCatalog d) (texts : d.texts ≡ c.texts)
+    (is : d.relations ≡ with_rows_at c.relations at (rows_at c.relations at ++ row ∷ [])) where
+  pub came : AddedCame → Came c d at cells row
+  came law = law c d at cells row id low new.stand texts is
+
+  pub rows_now : rows_at d.relations at ≡ rows_at c.relations at ++ row ∷ []
+  rows_now = ap (λ (rs : List Relation). rows_at rs at) is ∙ rows_with c.relations at (rows_at c.relations at ++ row ∷ []) low
+
+  pub there_now : Contains (rows_at d.relations at) row
+  there_now = subst (λ (rows : List Tuple). Contains rows row) (sym rows_now) (in_last row (rows_at c.relations at))
+
+  pub has_now : has_row (rows_at d.relations at) row ≡ true
+  has_now = ap (λ (rows : List Tuple). has_row rows row) rows_now ∙ last_there (rows_at c.relations at) row
+
+  pub low_now : at < length d.relations
+  low_now = subst (λ (rs : List Relation). at < length rs) (sym is) (omega (arith, low, long_with c.relations at (rows_at c.relations at ++ row ∷ [])))
+
+  types_now : (relation_at d.relations at).types ≡ (relation_at c.relations at).types
+  types_now = ap (λ (rs : List Relation). (relation_at rs at).types) is ∙ field_with (λ r. r.types) c.relations at (rows_at c.relations at ++ row ∷ []) low refl at
+
+  pub stand_now : StandForRow d at cells row
+  stand_now = subst (λ (ts : List Bytes). StandFor ts (relation_at d.relations at).types cells row) (sym texts)
+      (subst (λ (cs : List ColumnType). StandFor c.texts cs cells row) (sym types_now) new.stand)
+
+  back_is : with_rows_at d.relations at (without_row (rows_at d.relations at) row) ≡ c.relations
+  back_is =
+      ap (λ (rows : List Tuple). with_rows_at d.relations at (without_row rows row)) rows_now
+      ∙ ap (with_rows_at d.relations at) (without_last (rows_at c.relations at) row new.absent)
+      ∙ ap (λ (rs : List Relation). with_rows_at rs at (rows_at c.relations at)) is
+      ∙ back_with c.relations at (rows_at c.relations at ++ row ∷ []) low
+
+  pub went_back : DeletedWent → Went d c at cells row
+  went_back law = law d c at cells row ic low_now stand_now (sym texts) (sym back_is)
+
+  -- the catalog once the row has gone again
+  pub catalog_back : (e : Catalog) (o : DeleteOutcome) → DeletesRow d.relations at row o e.relations → e.texts ≡ d.texts → e ≡ c
+  catalog_back e o h f = catalog_same c e (deleted_is d.relations e.relations at row o h has_now ∙ back_is) (f ∙ texts)
+
+  module _ (gs : List (Option Live)) (order : List ℕ) (readers : List (List ℕ)) (s : IsSound c gs order readers) (places : List ℕ) (read : places ≡ readers_at readers at) where
+    pub places_once : AreOnce places
+    places_once = subst AreOnce (sym read) (readers_once c gs order readers s at low)
+
+    pub can_come : AddedCame → DeletedWent → CanCome places at cells gs
+    can_come law law' = record {
+      before = c;
+      after = d;
+      row = row;
+      came = came law;
+      there = there_now;
+      went = went_back law';
+      kept = subst (λ (ps : List ℕ). AllAt ps gs (λ l. IsKept c l)) (sym read) (readers_kept c gs order readers s at low);
     }
 
-pub stored_absent : (tables : List Table) (gs : List Registered) (order : List ℕ) (seq : ℕ) (name : Bytes) (at : ℕ) (row : Tuple) (r : Relation) → IsFirst (λ t. bytes_eq t.relation.name name) tables at
-    → DeletesFrom (table_at tables at).relation row seq (Ok Absent) r → DeletesRow (store_of tables gs order seq) name row (Ok Absent) (store_of tables gs order seq)
-stored_absent tables gs order seq name at row r f a =
-    let old = (table_at tables at).relation in
-    let d = done_of (delete_refused old row seq) Absent (DeletesFromAs old row r) _ a.answer in record {
-      answer = answers_done (delete_refusal (store_of tables gs order seq) name row) Absent (DeletesAs (store_of tables gs order seq) name row (store_of tables gs order seq)) _
-          (delete_conditions tables gs order seq name at row f ∙ d.0) (ap (λ x. has_row x row) (rows_named tables name at f) ∙ d.1.0, refl);
-      stays = tt;
-    }
+    pub put_carries : AddedCame → CamePasses → (hs : List (Option Live)) → Reach places (TakesIn at cells) gs hs → Carries (readers_at readers at) c gs d hs
+    put_carries law passes hs r =
+        came_carries c d gs hs order readers s at low cells row passes (came law) (subst (λ (ps : List ℕ). Reach ps (TakesIn at cells) gs hs) read r)
 
-pub stored_delete_refused : (tables : List Table) (gs : List Registered) (order : List ℕ) (seq : ℕ) (name : Bytes) (at : ℕ) (row : Tuple) (x : Refusal) (r : Relation) → IsFirst (λ t. bytes_eq t.relation.name name) tables at
-    → DeletesFrom (table_at tables at).relation row seq (Err x) r → DeletesRow (store_of tables gs order seq) name row (Err x) (store_of tables gs order seq)
-stored_delete_refused tables gs order seq name at row x r f a =
-    let old = (table_at tables at).relation in record {
-      answer = refused_as (delete_refused old row seq) (delete_refusal (store_of tables gs order seq) name row) x (DeletesFromAs old row r) (DeletesAs (store_of tables gs order seq) name row (store_of tables gs order seq))
-          ⊥ ⊥ (delete_conditions tables gs order seq name at row f) (λ h. h) a.answer;
-      stays = refl;
-    }
+    pub wait_carries : AddedCame → DeletedWent → (hs : List (Option Live)) → Reach places (GivesBack at cells) gs hs → (e : Catalog) → e ≡ c → Carries (readers_at readers at) c gs e hs
+    wait_carries law law' hs r e same =
+        subst (λ (x : Catalog). Carries (readers_at readers at) c gs x hs) (sym same)
+        (back_carries c d gs hs order readers s at low cells row (came law) (went_back law') (subst (λ (ps : List ℕ). Reach ps (GivesBack at cells) gs hs) read r))
 
--- what a change is made of
+-- nothing was added
+pub unput_carries : (c e : Catalog) (gs : List (Option Live)) (order : List ℕ) (readers : List (List ℕ)) (at : ℕ) → IsSound c gs order readers → e ≡ c → Carries (readers_at readers at) c gs e gs
+unput_carries c e gs order readers at s same =
+    subst (λ (x : Catalog). Carries (readers_at readers at) c gs x gs) (sym same)
+    (idle_carries c c gs (readers_at readers at) (λ i l f. stays_itself c l (s.live i l f)))
 
-pub added_changes : (tables : List Table) (gs : List Registered) (order : List ℕ) (at : ℕ) (row : Tuple) (seq : ℕ) (r : Relation) (name : Bytes) (n : ℕ) (gs' : List Registered) → IsFirst (λ t. bytes_eq t.relation.name name) tables at
-    → AddsTo (table_at tables at).relation row seq (Ok Added) r → OutdatesReaders (table_at tables at).readers name n gs gs' → IsSound tables gs order → Changes tables gs order at r name n gs'
-added_changes tables gs order at row seq r name n gs' f a o s =
-    let old = (table_at tables at).relation in
-    let d = done_of (add_refused old row seq) Added (AddsToAs old row r) _ a.answer in record {
-      below = f.below;
-      first = f;
-      named = ap (λ (x : Relation). x.name) d.1.1;
-      typed = ap (λ (x : Relation). x.types) d.1.1;
-      rows = sound_of_add old row seq r a (s.rows at f.below);
-      outdates = o;
-      sound = s;
-    }
+-- ---- a row less
 
-pub removed_changes : (tables : List Table) (gs : List Registered) (order : List ℕ) (at : ℕ) (row : Tuple) (seq : ℕ) (r : Relation) (name : Bytes) (n : ℕ) (gs' : List Registered) → IsFirst (λ t. bytes_eq t.relation.name name) tables at
-    → DeletesFrom (table_at tables at).relation row seq (Ok Removed) r → OutdatesReaders (table_at tables at).readers name n gs gs' → IsSound tables gs order → Changes tables gs order at r name n gs'
-removed_changes tables gs order at row seq r name n gs' f a o s =
-    let old = (table_at tables at).relation in
-    let d = done_of (delete_refused old row seq) Removed (DeletesFromAs old row r) _ a.answer in record {
-      below = f.below;
-      first = f;
-      named = ap (λ (x : Relation). x.name) d.1.1;
-      typed = ap (λ (x : Relation). x.types) d.1.1;
-      rows = sound_of_delete old row seq r a (s.rows at f.below);
-      outdates = o;
-      sound = s;
-    }
+module _ (c d : Catalog) (at : ℕ) (low : at < length c.relations) (cells : List ℕ) (row : Tuple) (old : IsOld c at cells row) (id : IsCatalog d) (texts : d.texts ≡ c.texts)
+    (is : d.relations ≡ with_rows_at c.relations at (without_row (rows_at c.relations at) row)) (law : DeletedWent)
+    (gs : List (Option Live)) (order : List ℕ) (readers : List (List ℕ)) (s : IsSound c gs order readers) (places : List ℕ) (read : places ≡ readers_at readers at) where
+  pub went : Went c d at cells row
+  went = law c d at cells row id low old.stand texts is
 
-pub same_changes : (tables : List Table) (gs : List Registered) (order : List ℕ) (at : ℕ) (r : Relation) (name : Bytes) (n : ℕ) (gs' : List Registered) → IsFirst (λ t. bytes_eq t.relation.name name) tables at
-    → r ≡ (table_at tables at).relation → OutdatesReaders (table_at tables at).readers name n gs gs' → IsSound tables gs order → Changes tables gs order at r name n gs'
-same_changes tables gs order at r name n gs' f e o s = record {
-  below = f.below;
-  first = f;
-  named = ap (λ (x : Relation). x.name) e;
-  typed = ap (λ (x : Relation). x.types) e;
-  rows = subst (λ (x : Relation). RowsSound x) (sym e) (s.rows at f.below);
-  outdates = o;
-  sound = s;
+  pub gone_once : AreOnce places
+  gone_once = subst AreOnce (sym read) (readers_once c gs order readers s at low)
+
+  pub can_go : CanGo places at cells gs
+  can_go = record {
+    before = c;
+    after = d;
+    row = row;
+    there = has_contains (rows_at c.relations at) row old.there;
+    went = went;
+    kept = subst (λ (ps : List ℕ). AllAt ps gs (λ l. IsKept c l)) (sym read) (readers_kept c gs order readers s at low);
+  }
+
+  pub drop_carries : WentPasses → (hs : List (Option Live)) → Reach places (LetsOut at cells) gs hs → Carries (readers_at readers at) c gs d hs
+  drop_carries passes hs r =
+      went_carries c d gs hs order readers s at low cells row passes went (subst (λ (ps : List ℕ). Reach ps (LetsOut at cells) gs hs) read r)
+
+-- ---- a row whose texts became known before
+
+pub puts_row : (at : ℕ) (row : Tuple) (old new : Parts) (c1 : Catalog) → c1.relations ≡ (old.catalog).relations → c1.texts ≡ all_learned (old.catalog).texts (texts_in row) → length c1.texts ≤ TEXTS
+    → ((i : ℕ) (l : Live) → place_at old.queries.items i ≡ Some l → StaysOver old.catalog c1 l) → Puts at row (record old { catalog = c1 }) new → PutsRow at row old new
+puts_row at row old new c1 rel learn many stay p = record {
+  learns = (p.texts ∙ learn, subst (λ (ts : List Bytes). length ts ≤ TEXTS) (sym p.texts) many);
+  has = record {
+    relations = p.has.relations ∙ ap (λ (rs : List Relation). with_rows_at rs at (rows_at rs at ++ row ∷ [])) rel;
+    carries = texts_then old.catalog c1 new.catalog old.queries.items new.queries.items (readers_at old.readers.items at) stay p.has.carries;
+  };
 }
 
--- the place of a relation that a search gives
-pub first_table : (tables : List Table) (name : Bytes) (at : ℕ) → Some at ≡ position (λ t. bytes_eq t.relation.name name) tables → IsFirst (λ t. bytes_eq t.relation.name name) tables at
-first_table tables name at e = first_of_position (λ t. bytes_eq t.relation.name name) tables at (sym e)
+pub waits_row : (at : ℕ) (row : Tuple) (old new : Parts) (c1 : Catalog) → c1.relations ≡ (old.catalog).relations → c1.texts ≡ all_learned (old.catalog).texts (texts_in row)
+    → ((i : ℕ) (l : Live) → place_at old.queries.items i ≡ Some l → StaysOver old.catalog c1 l) → Waits at (record old { catalog = c1 }) new → LacksMemory at row old new
+waits_row at row old new c1 rel learn stay w = record {
+  learns = record {
+    first = texts_in row;
+    rest = [];
+    parts = sym (append-nil (texts_in row));
+    learned = ap (λ (x : Catalog). x.texts) w.catalog ∙ learn;
+  };
+  relations = ap (λ (x : Catalog). x.relations) w.catalog ∙ rel;
+  carries = texts_then old.catalog c1 new.catalog old.queries.items new.queries.items (readers_at old.readers.items at) stay w.carries;
+}
+
+-- a row that isn't there, by its cells, once its texts are known
+pub same_new : (c d : Catalog) (at : ℕ) (cells : List ℕ) (row : Tuple) → d.relations ≡ c.relations → fits (relation_at c.relations at).types row ≡ true → HaveCells d.texts row → cells ≡ cells_of d.texts row
+    → has_row (rows_at c.relations at) row ≡ false → length (rows_at c.relations at) < ROWS → IsNew d at cells row
+same_new c d at cells row e of have are absent room = record {
+  stand = record {
+    of = ap (λ (rs : List Relation). fits (relation_at rs at).types row) e ∙ of;
+    have = have;
+    are = are;
+  };
+  absent = ap (λ (rs : List Relation). has_row (rows_at rs at) row) e ∙ absent;
+  room = subst (λ (rs : List Relation). length (rows_at rs at) < ROWS) (sym e) room;
+}

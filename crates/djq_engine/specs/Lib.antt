@@ -1,9 +1,11 @@
 pub mod Finding
-pub mod Served
-pub mod Answers
-pub mod Lookup
 pub mod Kept
-pub mod Rows
-pub mod Cursors
-pub mod Tables
+pub mod Places
 pub mod Sound
+pub mod Placing
+pub mod Reaching
+pub mod Moving
+pub mod Whole
+pub mod Judging
+pub mod Changing
+pub mod Registering

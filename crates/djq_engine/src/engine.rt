@@ -1,28 +1,29 @@
-ghost use Rattle.std.specs.Prelude.{◌≡◌, ◌≤◌, ◌+◌, is_some, [], ◌<◌, true, length, None, Some};
-ghost use Rattle.std.specs.Prelude.{IfOk, IfErr, OnOk, OnErr};
-ghost use Rattle.djq_model.specs.Data.{bytes_eq, query_of, rows_of};
-ghost use Rattle.djq_lines.specs.Grammar.{is_simple};
+ghost use Rattle.std.specs.Prelude.{◌≡◌, ◌≤◌, ◌+◌, ◌<◌, is_some, [], length, IfOk};
+ghost use Rattle.djq_model.specs.Data.{query_of, rows_of};
 ghost use Rattle.djq_machine.specs.State.{opening};
 ghost use Rattle.djq_machine.specs.Store.{MakesRelation, AddsRow, DeletesRow, RegistersQuery};
-ghost use Rattle.djq_machine.specs.Store.{TellsWhether, has_steps, query_refusal};
+ghost use Rattle.djq_machine.specs.Store.{TellsWhether, has_steps};
 ghost use Rattle.djq_machine.specs.Stale.{add_outdates, delete_outdates};
-ghost use Rattle.djq_engine.specs.Finding.{IsFirst};
-ghost use Rattle.djq_engine.specs.Served.{relation_in};
-ghost use Rattle.djq_engine.specs.Tables.{store_of, Registers, SamePlaces};
-ghost use Rattle.djq_engine.specs.Sound.{IsSound};
 ghost use Rattle.djq_engine.specs.Kept.{SameCursors, Outdates, DropGives, OpenGives, NextGives};
 ghost use Rattle.djq_engine.specs.Kept.{MoreGives, ClosesCursor, IsHeld, IsFresh, IsThere};
-ghost use Rattle.djq_engine.specs.Kept.{LendsAnswer};
+ghost use Rattle.djq_engine.specs.Kept.{AnswerIs, ExplainGives};
 
-use crate::cursor::{Answer, CursorId, Next, QueryId};
-use crate::cursors::Progress;
-use crate::lookup::{fits_at, has_at};
-use crate::registered::{Registered, find_query, leave_out, outdate, vacant_place};
-use crate::table::{Table, find_table};
-use djq_lines::limits::{COLUMNS, QUERIES, RELATIONS};
-use djq_lines::{AddOutcome, DeleteOutcome, Refusal};
-use djq_model::{Name, NoMem, Query, Row, Sequence, Types, Value};
-use djq_steps::{Ledgers, Listing, Tally};
+use crate::asking::{answer_in, explain_in, has_in};
+use crate::cursor::{CursorId, QueryId};
+use crate::lent::LentAnswer;
+use crate::parts::Parts;
+use crate::places::find_query;
+use crate::reading::{close_in, more_in, next_in, open_in};
+use crate::registering::{drop_in, query_in};
+use crate::rows::{add_in, del_in, rel_in};
+use djq_cursor::DeltaLog;
+use djq_lines::{AddOutcome, DeleteOutcome, QueryOutcome, Refusal};
+use djq_live::Next;
+use djq_model::{Name, NoMem, Query, Sequence, Types, Value};
+use djq_reduct::Answer;
+use djq_rows::Catalog;
+use djq_steps::{Ledgers, Listing, Steps, Tally};
+use djq_tree::Lines;
 use std::alloc::Global;
 use std::marker::Model;
 
@@ -30,13 +31,7 @@ use std::marker::Model;
 /// changes.
 #[derive(Drop)]
 pub struct Engine {
-    alloc: Global,
-    tables: Vec<Table>,
-    // a place keeps its query until that is dropped, and is vacant then
-    queries: Vec<Registered>,
-    // the places of the registered queries, in order of registration
-    order: Sequence<usize>,
-    seq: u64,
+    parts: Parts,
 }
 
 impl Model for Engine {
@@ -44,26 +39,36 @@ impl Model for Engine {
 
     ghost Value = { Kept };
 
-    ghost use Rattle.djq_engine.specs.Tables.{kept_of};
-    ghost use Rattle.djq_engine.specs.Sound.{IsSound};
+    ghost use Rattle.djq_engine.specs.Whole.{kept_in, IsWhole};
 
-    ghost view = { λ e. kept_of e.tables.items e.queries.items e.order e.seq };
+    ghost view = { λ e. kept_in e.parts };
 
-    ghost invariant = { λ e. IsSound e.tables.items e.queries.items e.order };
+    ghost invariant = { λ e. IsWhole e.parts };
 }
 
 impl Engine {
-    /// An engine without relations, queries and cursors. It takes no memory.
-    pub fn new(alloc: Global) -> Self
-        ensures store { result.store ≡ opening.store }
-        ensures cursors { result.cursors ≡ [] }
+    /// An engine without relations, queries and cursors.
+    ///
+    /// # Errors
+    ///
+    /// `NoMem` out of memory.
+    pub fn new(alloc: Global) -> Result<Engine, NoMem>
+        ensures store { IfOk result (λ e. e.store ≡ opening.store) }
+        ensures cursors { IfOk result (λ e. e.cursors ≡ []) }
     {
-        Engine {
-            alloc,
-            tables: Vec::new(alloc),
-            queries: Vec::new(alloc),
-            order: Sequence::new(alloc),
-            seq: 0,
+        match Catalog::new(alloc) {
+            Ok(catalog) => Ok(Engine {
+                parts: Parts {
+                    alloc,
+                    catalog,
+                    readers: Vec::new(alloc),
+                    queries: Vec::new(alloc),
+                    order: Sequence::new(alloc),
+                    seq: 0,
+                    log: DeltaLog::new(alloc),
+                },
+            }),
+            Err(error) => Err(error),
         }
     }
 
@@ -71,15 +76,15 @@ impl Engine {
     pub fn seq(&self) -> u64
         ensures { result ≡ self.now.store.seq }
     {
-        self.seq
+        self.parts.seq
     }
 
     /// The number of rows of a relation, 0 where there is none of the name.
     pub fn rows(&self, name: &Name) -> u64
         ensures { result ≡ length (rows_of self.now.store.relations name.now) }
     {
-        match find_table(self.tables.as_slice(), name) {
-            Some(at) => self.tables[at].relation.rows.len() as u64,
+        match self.parts.catalog.id(name) {
+            Some(id) => self.parts.catalog.row_count(id) as u64,
             None => 0,
         }
     }
@@ -88,7 +93,7 @@ impl Engine {
     pub fn query_id(&self, name: &Name) -> Option<QueryId>
         ensures { is_some result ≡ is_some (query_of self.now.store.queries name.now) }
     {
-        match find_query(self.queries.as_slice(), name) {
+        match find_query(self.parts.queries.as_slice(), name) {
             Some(at) => Some(QueryId { at }),
             None => None,
         }
@@ -98,53 +103,36 @@ impl Engine {
     ///
     /// # Errors
     ///
-    /// `Taken` where a relation has the name; `Limit` past [`COLUMNS`] columns and at [`RELATIONS`]
-    /// relations; `NoMemory` out of memory. Nothing has changed.
+    /// `Taken` where a relation has the name; `Limit` past [`COLUMNS`](djq_lines::limits::COLUMNS)
+    /// columns and at [`RELATIONS`](djq_lines::limits::RELATIONS) relations; `NoMemory` out of
+    /// memory. Nothing has changed.
     pub fn rel(&mut self, name: Name, types: Types) -> Result<(), Refusal>
         ensures makes { MakesRelation self.old.store name types result self.new.store }
         ensures cursors { SameCursors self.old.cursors self.new.cursors }
     {
-        if find_table(self.tables.as_slice(), &name).is_some() {
-            return Err(Refusal::Taken);
-        }
-        if types.len() > COLUMNS || self.tables.len() >= RELATIONS {
-            return Err(Refusal::Limit);
-        }
-        let table = Table::new(self.alloc, name, types);
-        let Ok(()) = self.tables.push(table) else {
-            return Err(Refusal::NoMemory);
-        };
-        Ok(())
+        rel_in(&mut self.parts, name, types)
     }
 
-    /// Adds a row to a relation. Where it is there already, nothing changes; where it wasn't,
-    /// cursors over the relation become stale.
+    /// Adds a row to a relation, whose texts become known. Where the row is there already, nothing
+    /// changes; where it wasn't, cursors over the relation become stale.
     ///
     /// # Errors
     ///
     /// `NoRelation` where none has the name; `Arity` and `WrongType` where the row doesn't suit its
-    /// columns; `Limit` where the relation or the number of changes is at its limit; `NoMemory` out
-    /// of memory, and cursors over the relation are stale.
-    pub fn add(&mut self, name: &Name, row: Row) -> Result<AddOutcome, Refusal>
-        ensures adds { AddsRow self.old.store name.now row result self.new.store }
+    /// columns; `Limit` where the relation, the number of changes or that of known texts is at its
+    /// limit; `NoMemory` out of memory, and cursors over the relation are stale. Texts that became
+    /// known stay so, and no row has changed.
+    pub fn add<L: Ledgers>(
+        &mut self,
+        name: &Name,
+        row: &[Value],
+        steps: &mut Steps<L>,
+    ) -> Result<AddOutcome, Refusal>
+        ensures adds { AddsRow self.old.store name.now row.now result self.new.store }
         ensures outdates { Outdates self.old name.now (add_outdates result) self.new }
+        ensures counted { steps.new.listing ≡ steps.old.listing }
     {
-        let Some(at) = find_table(self.tables.as_slice(), name) else {
-            return Err(Refusal::NoRelation);
-        };
-        match self.tables[at].add(row, self.seq) {
-            Ok(AddOutcome::Added) => self.seq += 1,
-            Ok(AddOutcome::Same) => return Ok(AddOutcome::Same),
-            Err(Refusal::NoMemory) => {
-                let readers = self.tables[at].readers.as_slice();
-                outdate(self.queries.as_mut_slice(), readers, *name, self.seq);
-                return Err(Refusal::NoMemory);
-            }
-            Err(refusal) => return Err(refusal),
-        }
-        let readers = self.tables[at].readers.as_slice();
-        outdate(self.queries.as_mut_slice(), readers, *name, self.seq);
-        Ok(AddOutcome::Added)
+        add_in(&mut self.parts, name, row, steps)
     }
 
     /// Deletes a row from a relation. Where it isn't there, nothing changes; where it was, cursors
@@ -154,51 +142,39 @@ impl Engine {
     ///
     /// `NoRelation` where none has the name; `Arity` and `WrongType` where the row doesn't suit its
     /// columns; `Limit` where the number of changes is at its limit.
-    pub fn del(&mut self, name: &Name, row: &Row) -> Result<DeleteOutcome, Refusal>
+    pub fn del<L: Ledgers>(
+        &mut self,
+        name: &Name,
+        row: &[Value],
+        steps: &mut Steps<L>,
+    ) -> Result<DeleteOutcome, Refusal>
         ensures deletes { DeletesRow self.old.store name.now row.now result self.new.store }
         ensures outdates { Outdates self.old name.now (delete_outdates result) self.new }
+        ensures counted { steps.new.listing ≡ steps.old.listing }
     {
-        let Some(at) = find_table(self.tables.as_slice(), name) else {
-            return Err(Refusal::NoRelation);
-        };
-        match self.tables[at].delete(row, self.seq) {
-            Ok(DeleteOutcome::Removed) => self.seq += 1,
-            Ok(DeleteOutcome::Absent) => return Ok(DeleteOutcome::Absent),
-            Err(refusal) => return Err(refusal),
-        }
-        let readers = self.tables[at].readers.as_slice();
-        outdate(self.queries.as_mut_slice(), readers, *name, self.seq);
-        Ok(DeleteOutcome::Removed)
+        del_in(&mut self.parts, name, row, steps)
     }
 
-    /// Registers a query of one atom over different variables, with a head that names each of them
-    /// once. Tells how many lookups and links one of its answers takes at most.
+    /// Registers a free-connex query, and tells how many lookups and links one of its answers takes
+    /// at most; or tells a rest that shows why the query isn't free-connex.
     ///
     /// # Errors
     ///
-    /// `Taken` where a query has the name; `NoRelation` where the atom's relation isn't there;
-    /// `Arity` where it has another number of columns; `Limit` at [`QUERIES`] queries; `NoMemory`
-    /// out of memory. Nothing has changed.
-    pub fn query(&mut self, query: Query) -> Result<u64, Refusal>
-        requires { is_simple query.head query.atoms ≡ true }
+    /// `Taken` where a query has the name; the first fault that the query has; `Limit` at
+    /// [`QUERIES`](djq_lines::limits::QUERIES) queries, or where a text of a free-connex query is
+    /// unknown and as many are known as may be; `NoMemory` out of memory. Texts that became known
+    /// stay so, and nothing else has changed.
+    pub fn query<L: Ledgers>(
+        &mut self,
+        query: Query,
+        steps: &mut Steps<L>,
+    ) -> Result<QueryOutcome, Refusal>
+        requires { 0 < length query.atoms }
         ensures registers { RegistersQuery self.old.store query result self.new.store }
         ensures cursors { SameCursors self.old.cursors self.new.cursors }
+        ensures counted { steps.new.listing ≡ steps.old.listing }
     {
-        let (tables, queries) = (self.tables.as_slice(), self.queries.as_slice());
-        let relation = suits(tables, queries, &self.order, &query)?;
-        let most = 2 * query.head.as_slice().len() as u64 + 1;
-        let registered = register(
-            self.alloc,
-            &mut self.tables,
-            &mut self.queries,
-            &mut self.order,
-            query,
-            relation,
-        );
-        let Ok(()) = registered else {
-            return Err(Refusal::NoMemory);
-        };
-        Ok(most)
+        query_in(&mut self.parts, query, steps)
     }
 
     /// Drops a query: it is registered no more. The ids of other queries and of their cursors stay.
@@ -211,17 +187,7 @@ impl Engine {
     pub fn drop_query(&mut self, query: &Name) -> Result<(), Refusal>
         ensures { DropGives self.old query.now result self.new }
     {
-        let Some(at) = find_query(self.queries.as_slice(), query) else {
-            return Err(Refusal::NoQuery);
-        };
-        if !self.queries[at].cursors.is_empty() {
-            return Err(Refusal::InUse);
-        }
-        let relation = self.queries[at].relation;
-        leave_out(&mut self.tables[relation].readers, at);
-        leave_out(&mut self.order, at);
-        self.queries[at] = Registered::vacant(self.alloc);
-        Ok(())
+        drop_in(&mut self.parts, query)
     }
 
     /// Opens a cursor in front of the answers of a query.
@@ -232,67 +198,34 @@ impl Engine {
     pub fn open(&mut self, query: &Name) -> Result<CursorId, Refusal>
         ensures { OpenGives self.old query.now result self.new }
     {
-        let Some(at) = find_query(self.queries.as_slice(), query) else {
-            return Err(Refusal::NoQuery);
-        };
-        let Ok(cursor) = self.queries[at].cursors.open() else {
-            return Err(Refusal::NoMemory);
-        };
-        Ok(CursorId {
-            query: QueryId { at },
-            cursor,
-        })
+        open_in(&mut self.parts, query)
     }
 
     /// Reads an open cursor: gives a further answer, or says that none is left, or what made it
-    /// stale. It takes no memory. One link is followed, whichever answer it is.
-    pub fn next<L: Ledgers>(&mut self, id: CursorId, listing: &mut Tally<Listing<L>>) -> Next
+    /// stale. It takes no memory.
+    pub fn next<L: Ledgers>(
+        &mut self,
+        id: CursorId,
+        answer: &mut Answer,
+        listing: &mut Tally<Listing<L>>,
+    ) -> Next
         requires { IsHeld self.old id }
-        ensures { NextGives self.old id result self.new listing.old listing.new }
+        ensures { NextGives self.old id result answer.new self.new listing.old listing.new }
     {
-        let registered = &mut self.queries[id.query.at];
-        let given = match registered.cursors.get(id.cursor) {
-            Progress::Open { given, ended: _ } => given,
-            Progress::Stale { relation, seq } => return Next::Stale { relation, seq },
-        };
-        listing.link();
-        if given >= self.tables[registered.relation].relation.rows.len() {
-            registered
-                .cursors
-                .set(id.cursor, Progress::Open { given, ended: true });
-            return Next::End;
-        }
-        let progress = Progress::Open {
-            given: given + 1,
-            ended: false,
-        };
-        registered.cursors.set(id.cursor, progress);
-        Next::Given(Answer { at: given })
+        next_in(&mut self.parts, id, answer, listing)
     }
 
     /// Whether a further answer is left for a cursor that isn't stale; where none is, it stands at
-    /// its end. It takes no memory, and follows one link.
+    /// its end. It takes no memory.
     pub fn more<L: Ledgers>(&mut self, id: CursorId, listing: &mut Tally<Listing<L>>) -> bool
-        requires held { IsHeld self.old id }
-        requires fresh { IsFresh self.old id }
+        requires { IsFresh self.old id }
         ensures { MoreGives self.old id result self.new listing.old listing.new }
     {
-        let registered = &mut self.queries[id.query.at];
-        let given = match registered.cursors.get(id.cursor) {
-            Progress::Open { given, ended: _ } => given,
-            Progress::Stale { .. } => unreachable!(),
-        };
-        listing.link();
-        let left = given < self.tables[registered.relation].relation.rows.len();
-        let progress = Progress::Open {
-            given,
-            ended: !left,
-        };
-        registered.cursors.set(id.cursor, progress);
-        left
+        more_in(&mut self.parts, id, listing)
     }
 
-    /// Whether a tuple is an answer of a query. It takes no memory, and counts one lookup.
+    /// Whether a tuple is an answer of a query. It takes no memory, and counts at most one lookup
+    /// for each atom.
     ///
     /// # Errors
     ///
@@ -305,22 +238,10 @@ impl Engine {
         listing: &mut Tally<Listing<L>>,
     ) -> Result<bool, Refusal>
         ensures tells { TellsWhether self.now.store query.now tuple.now result }
-        ensures counted { listing.new ≤ listing.old + has_steps (query_of self.now.store.queries query.now) }
+        ensures counted { listing.new ≤ listing.old
+            + has_steps (query_of self.now.store.queries query.now) }
     {
-        let Some(at) = find_query(self.queries.as_slice(), query) else {
-            return Err(Refusal::NoQuery);
-        };
-        let registered = &self.queries[at];
-        let relation = &self.tables[registered.relation].relation;
-        let columns = registered.columns.as_slice();
-        if tuple.len() != columns.len() {
-            return Err(Refusal::Arity);
-        }
-        if !fits_at(relation.types.as_slice(), columns, tuple) {
-            return Err(Refusal::WrongType);
-        }
-        listing.lookup();
-        Ok(has_at(relation.rows.as_slice(), columns, tuple))
+        has_in(&self.parts, query, tuple, listing)
     }
 
     /// Gives up an open cursor. Its id may come again from [`open`](Engine::open).
@@ -328,80 +249,25 @@ impl Engine {
         requires { IsHeld self.old id }
         ensures { ClosesCursor self.old id self.new }
     {
-        self.queries[id.query.at].cursors.close(id.cursor);
+        close_in(&mut self.parts, id);
     }
 
-    /// Lends an answer that an open cursor gave: a row, and the columns of the answer's cells.
-    pub fn answer(&self, id: CursorId, answer: Answer) -> (&[Value], &[usize])
-        requires { IsThere self.now id answer }
-        ensures { LendsAnswer self.now id answer result.0.now result.1.now }
+    /// Lends an answer that an open cursor gave, as long as no row changes.
+    pub fn answer<'a>(&'a self, id: CursorId, answer: &'a Answer) -> LentAnswer<'a>
+        requires { IsThere self.now id answer.now }
+        ensures { AnswerIs self.now id answer.now result }
     {
-        let registered = &self.queries[id.query.at];
-        let row = &self.tables[registered.relation].relation.rows.as_slice()[answer.at];
-        (row.as_slice(), registered.columns.as_slice())
+        answer_in(&self.parts, id, answer)
     }
-}
 
-// The place of the relation of a query that may be registered.
-fn suits(
-    tables: &[Table],
-    queries: &[Registered],
-    order: &Sequence<usize>,
-    query: &Query,
-) -> Result<usize, Refusal>
-    requires served { is_simple query.now.head query.now.atoms ≡ true }
-    requires sound { IsSound tables.now queries.now order.now }
-    ensures ok { IfOk result (λ at.
-        (query_refusal (store_of tables.now queries.now order.now 0) query.now ≡ None)
-        × IsFirst (λ t. bytes_eq t.relation.name (relation_in query.now.atoms)) tables.now at) }
-    ensures err { IfErr result (λ r.
-        query_refusal (store_of tables.now queries.now order.now 0) query.now ≡ Some r) }
-{
-    if find_query(queries, &query.name).is_some() {
-        return Err(Refusal::Taken);
-    }
-    let atom = &query.atoms.as_slice()[0];
-    let Some(at) = find_table(tables, &atom.relation) else {
-        return Err(Refusal::NoRelation);
-    };
-    if tables[at].relation.types.len() != atom.terms.len() {
-        return Err(Refusal::Arity);
-    }
-    if order.len() >= QUERIES {
-        return Err(Refusal::Limit);
-    }
-    Ok(at)
-}
-
-// Puts a query in a vacant place, behind the others in order and behind the readers of its
-// relation; or changes nothing that is seen, out of memory.
-fn register(
-    alloc: Global,
-    tables: &mut Vec<Table>,
-    queries: &mut Vec<Registered>,
-    order: &mut Sequence<usize>,
-    query: Query,
-    relation: usize,
-) -> Result<(), NoMem>
-    requires served { is_simple query.head query.atoms ≡ true }
-    requires there { relation < length tables.old.items }
-    ensures ok { OnOk result (Registers tables.old.items queries.old.items order.old query relation
-        tables.new.items queries.new.items order.new) }
-    ensures tables { OnErr result (tables.new.items ≡ tables.old.items) }
-    ensures queries { OnErr result (SamePlaces queries.old.items queries.new.items) }
-    ensures order { OnErr result (order.new ≡ order.old) }
-{
-    let registered = Registered::new(alloc, query, relation)?;
-    let at = vacant_place(alloc, queries)?;
-    order.push(at)?;
-    match tables[relation].readers.push(at) {
-        Ok(()) => {
-            queries[at] = registered;
-            Ok(())
-        }
-        Err(error) => {
-            let _ = order.remove(order.len() - 1);
-            Err(error)
-        }
+    /// The lines that explain a query's tree, each with its line end.
+    ///
+    /// # Errors
+    ///
+    /// `NoQuery` where none has the name; `NoMemory` out of memory.
+    pub fn explain(&self, query: &Name) -> Result<Lines, Refusal>
+        ensures { ExplainGives self.now.store query.now result }
+    {
+        explain_in(&self.parts, query)
     }
 }

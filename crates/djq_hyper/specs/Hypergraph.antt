@@ -1,5 +1,5 @@
 -- A hypergraph is a list of edges, and an edge is a list of variables. The order of neither matters.
-use Rattle.std.specs.Prelude.{ℕ, ◌+◌, Bool, true, false, cond, not, ◌==◌, ◌&&◌, ◌||◌, List, [], ◌∷◌, filter, slice_index_or}
+use Rattle.std.specs.Prelude.{ℕ, zero, suc, ◌+◌, Bool, true, false, cond, not, ◌==◌, ◌&&◌, ◌||◌, List, [], ◌∷◌, ◌++◌, filter, slice_index_or}
 
 -- whether the variable lies in the edge
 abbrev pub member : ℕ → List ℕ → Bool
@@ -31,3 +31,12 @@ degree x (e ∷ E) = one (member x e) + degree x E
 -- the edge at a position, and the empty edge past the end
 abbrev pub edge_at : List (List ℕ) → ℕ → List ℕ
 edge_at E p = slice_index_or E p []
+
+-- the numbers from 0 to n-1
+abbrev pub numbers_below : ℕ → List ℕ
+numbers_below zero = []
+numbers_below (suc n) = numbers_below n ++ n ∷ []
+
+-- the set of those numbers below n that are among these, in rising order
+abbrev pub set_below : ℕ → List ℕ → List ℕ
+set_below n xs = filter (λ x. member x xs) (numbers_below n)

@@ -6,3 +6,4 @@ pub mod Gyo
 pub mod Refusing
 pub mod Masks
 pub mod Insides
+pub mod Naming

@@ -13,5 +13,6 @@ pub mod HubFaults
 pub mod MemSource
 pub mod MemSink
 pub mod MemHub
+pub mod SteadyHub
 pub mod StdSource
 pub mod StdSink

@@ -15,7 +15,7 @@
 //! goes on, and claims nothing from then on. A turn of a script that can't come reads as nothing.
 //!
 //! [`MemSource`], [`MemSink`] and [`MemHub`] stand in memory, tell everything, and fail only at the
-//! calls that they were told to. [`StdSource`] and [`StdSink`] are a few lines over `std::io`, tell
+//! calls that they were told to; a [`SteadyHub`] never fails. [`StdSource`] and [`StdSink`] are a few lines over `std::io`, tell
 //! nothing, and are the trusted edge. [`Sessions`] keeps the ids and counts that every hub shows.
 //!
 //! How it works inside: a record is a list or lost; the calls that
@@ -37,6 +37,7 @@ mod sink;
 mod source;
 mod std_sink;
 mod std_source;
+mod steady_hub;
 
 pub use failing::{Failing, FailingSend};
 pub use hub::{Coming, Hub, Incoming, Listened, Sent, Told, Turn};
@@ -50,6 +51,7 @@ pub use sink::{Sink, Written, Wrote, write_all};
 pub use source::{Read, Source};
 pub use std_sink::StdSink;
 pub use std_source::StdSource;
+pub use steady_hub::SteadyHub;
 
 #[cfg(test)]
 mod tests;

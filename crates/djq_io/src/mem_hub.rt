@@ -180,6 +180,8 @@ impl Hub for MemHub {
         requires { 0 < length buf.old }
         ensures fails { (result ≡ Turn.Failed) ↔ IsTrue (is_due self.old.failing_turns) }
         ensures turns { self.new.failing_turns ≡ after_call self.old.failing_turns }
+        ensures listens { self.new.failing_listens ≡ self.old.failing_listens }
+        ensures sends { self.new.failing_sends ≡ self.old.failing_sends }
         ensures past { Gains self.old.past self.new.past (Told.Turning result (brought result buf.new) ∷ []) }
         ensures follows { Follows self.old.ids result buf.new self.old.script self.new.script }
         ensures script { WhereTold (script_of self.old) (script_of self.new) (Follows self.old.ids result buf.new) }

@@ -8,7 +8,7 @@ use Rattle.djq_model.specs.Data.{Bytes, Tuple, change_first, drop_first, bytes_e
 use Rattle.djq_lines.specs.declared.answer.EndCause.{EndCause}
 use Rattle.djq_lines.specs.declared.answer.EndCause.TheVariants.{Quit as SaidQuit, Stop as SaidStop, Memory}
 use Rattle.djq_lines.specs.declared.answer.Refusal.{Refusal}
-use Rattle.djq_lines.specs.declared.answer.Refusal.TheVariants.{NoCursor, NoMemory}
+use Rattle.djq_lines.specs.declared.answer.Refusal.TheVariants.{NoCursor, NoMemory, NoQuery}
 use Rattle.djq_lines.specs.declared.command.Command.{Command}
 use Rattle.djq_lines.specs.declared.command.Command.TheVariants.{Rel, Add, Del, Query as Register, Drop, Open, Next, Close, Has, Watch, Unwatch, Explain, Quit, Stop}
 use Rattle.djq_lines.specs.Grammar.{Reading, refused, says as says_command}
@@ -18,7 +18,7 @@ use Rattle.djq_machine.specs.Stale.{by_relation, outdated_sessions, outdated_cur
 use Rattle.djq_machine.specs.Watch.{Telling, ChangeStep}
 use Rattle.djq_machine.specs.Store.{has_steps}
 use Rattle.djq_machine.specs.Effect.{Effect, nothing, says, EndsWith, RefusedStep}
-use Rattle.djq_machine.specs.Command.{OpensTo, BecomesWhere, with_watch, without_watch, with_cursor, NextStepAt, CloseStep, CommandStep}
+use Rattle.djq_machine.specs.Command.{OpensTo, BecomesWhere, with_watch, without_watch, with_cursor, NextStepAt, CloseStep, CommandStep, QueryStep, QueryCutStep, ExplainStep, TellsLines, explain_lines}
 use Rattle.djq_machine.specs.LineStep.{ReadStep}
 use Rattle.djq_machine.specs.Run.{to_session, pending_in}
 use Rattle.djq_machine.specs.Call.{IsOpen, cause_in, held_in}
@@ -250,11 +250,30 @@ becomes_keeps : (old : State) (s : ℕ) (text : Bytes) (f : Session → Session)
 becomes_keeps old s text f e new (Ok u) k said h = says_keeps EndsByRun old s text f e new k said h
 becomes_keeps old s text f e new (Err r) k said h = stays_keeps EndsByRun old s text e new said h
 
+query_keeps : (old : State) (s : ℕ) (q : Query) (e : Effect) (new : State)
+    → QueryStep old s q e new ⊎ QueryCutStep old s q e new → Runs old s e new
+query_keeps old s q e new (inl h) =
+    store_keeps old s (query_reply h.result) h.store e new h.effect h.state
+query_keeps old s q e new (inr h) =
+    ends_keeps EndsByRun (record old { store = h.store }) s end_memory Memory e new tt h.ends
+
+lines_keep : (old : State) (s : ℕ) (lines : List Bytes) (e : Effect) (new : State)
+    → TellsLines old s lines e new → Runs old s e new
+lines_keep old s lines e new (inl h) = stays_keeps EndsByRun old s (text_of lines) e new h.0 h.1
+lines_keep old s lines e new (inr (told, lacking, rest, parts, ends)) =
+    ends_keeps EndsByRun old s (text_of told ++ end_memory) Memory e new tt ends
+
+explain_found : (old : State) (s : ℕ) (o : Option Query) (e : Effect) (new : State)
+    → MatchOption o (RefusedStep old s NoQuery e new) (λ q. ExplainStep old s q e new)
+    → Runs old s e new
+explain_found old s None e new h = stays_keeps EndsByRun old s (refusal_line NoQuery) e new h.0 h.1
+explain_found old s (Some q) e new h = lines_keep old s (explain_lines q h.tree) e new h.tells
+
 command_keeps : (old : State) (s : ℕ) (x : Session) (c : Command) (e : Effect) (new : State) → CommandStep old s x c e new → Runs old s e new
 command_keeps old s x (Rel name types) e new h = store_keeps old s (ok_reply (codes "ok") h.result) h.store e new h.effect h.state
 command_keeps old s x (Add name row) e new h = change_alike old s name _ _ _ h.store _ e new h.change
 command_keeps old s x (Del name row) e new h = change_alike old s name _ _ _ h.store _ e new h.change
-command_keeps old s x (Register q) e new h = store_keeps old s (query_reply h.result) h.store e new h.effect h.state
+command_keeps old s x (Register q) e new h = query_keeps old s q e new h
 command_keeps old s x (Open c q) e new h = open_keeps old s c q (ok_reply (codes "ok open") h.result) e new h.result h.effect h.state
 command_keeps old s x (Next c count) e new h = next_found old s c count (cursor_of x.cursors c) e new h
 command_keeps old s x (Close c) e new h = close_found old s c (cursor_of x.cursors c) e new h
@@ -264,7 +283,7 @@ command_keeps old s x (Drop q) e new h = store_keeps old s (ok_reply (codes "ok"
 command_keeps old s x (Has q row) e new h = (alike_state EndsByRun old new h.state, alone_text s (has_reply h.result) (has_steps (query_of old.store.queries q)) e h.effect)
 command_keeps old s x (Watch q) e new h = becomes_keeps old s (watch_reply h.result old.store.seq) (with_watch q) e new h.result (keeps_cause EndsByRun (with_watch q) (λ x. refl) (λ x. refl) (λ x. refl) (λ x. refl)) h.effect h.state
 command_keeps old s x (Unwatch q) e new h = becomes_keeps old s (ok_reply (codes "ok") h.result) (without_watch q) e new h.result (keeps_cause EndsByRun (without_watch q) (λ x. refl) (λ x. refl) (λ x. refl) (λ x. refl)) h.effect h.state
-command_keeps old s x (Explain q) e new h = absurd h
+command_keeps old s x (Explain q) e new h = explain_found old s (query_of old.store.queries q) e new h
 
 pub read_keeps : (old : State) (s : ℕ) (x : Session) (r : Reading) (e : Effect) (new : State) → ReadStep old s x r e new → Runs old s e new
 read_keeps old s x (refused r) e new h = stays_keeps EndsByRun old s (refusal_line r) e new h.0 h.1

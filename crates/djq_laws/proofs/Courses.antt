@@ -18,23 +18,19 @@ course_begun o st = record {
   read = gives_none o.reading;
   written = gains_none o.taken;
   listing = omega arith;
-  update = refl;
-  rows = refl;
 }
 
 -- one thing that may be done, with what it reads, writes and counts
 pub course_one : (o o' : Outside) (old new : State) (d : Did) → RunNext old d new
     → Gives o.reading o'.reading (piece_of d.event) → Gains o.taken o'.taken (taken_by 1 d.event)
-    → o'.counted.listing ≤ o.counted.listing + d.effect.cost → o'.counted.update ≡ o.counted.update → o'.counted.rows ≡ o.counted.rows
+    → o'.counted.listing ≤ o.counted.listing + d.effect.cost
     → Course old o o' new
-course_one o o' old new d next gives gains listing update rows = record {
+course_one o o' old new d next gives gains listing = record {
   done = d ∷ [];
   walk = (new, next, refl);
   read = subst (λ pieces. Gives o.reading o'.reading pieces) (sym (append-nil (piece_of d.event))) gives;
   written = subst (λ bytes. Gains o.taken o'.taken bytes) (sym (append-nil (taken_by 1 d.event))) gains;
   listing = omega (arith, listing);
-  update = update;
-  rows = rows;
 }
 
 -- one walk, and then another
@@ -51,17 +47,15 @@ course_then o o' o'' old mid new c d = record {
   read = subst (λ pieces. Gives o.reading o''.reading pieces) (sym (flat_map-append (λ (x : Did). piece_of x.event) c.done d.done)) (gives_more o.reading o'.reading o''.reading (pieces_of c.done) (pieces_of d.done) c.read d.read);
   written = subst (λ bytes. Gains o.taken o''.taken bytes) (sym (flat_map-append (λ (x : Did). taken_by 1 x.event) c.done d.done)) (gains_more o.taken o'.taken o''.taken (all_taken 1 c.done) (all_taken 1 d.done) c.written d.written);
   listing = omega (arith, c.listing, d.listing, sum_by-append (λ (x : Did). x.effect.cost) c.done d.done);
-  update = d.update ∙ c.update;
-  rows = d.rows ∙ c.rows;
 }
 
 -- what was done along them
 pub course_one_done : (o o' : Outside) (old new : State) (d : Did) (next : RunNext old d new)
     (gives : Gives o.reading o'.reading (piece_of d.event)) (gains : Gains o.taken o'.taken (taken_by 1 d.event))
-    (listing : o'.counted.listing ≤ o.counted.listing + d.effect.cost) (update : o'.counted.update ≡ o.counted.update) (rows : o'.counted.rows ≡ o.counted.rows)
-    → (course_one o o' old new d next gives gains listing update rows).done ≡ d ∷ []
+    (listing : o'.counted.listing ≤ o.counted.listing + d.effect.cost)
+    → (course_one o o' old new d next gives gains listing).done ≡ d ∷ []
 unfolding course_one
-course_one_done o o' old new d next gives gains listing update rows = refl
+course_one_done o o' old new d next gives gains listing = refl
 
 pub course_then_done : (o o' o'' : Outside) (old mid new : State) (c : Course old o o' mid) (d : Course mid o' o'' new)
     → (course_then o o' o'' old mid new c d).done ≡ c.done ++ d.done

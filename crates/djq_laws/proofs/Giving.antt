@@ -8,6 +8,10 @@ use Rattle.djq_model.specs.declared.relation.ColumnType.{ColumnType}
 use Rattle.djq_model.specs.declared.query.Query.{Query}
 use Rattle.djq_model.specs.Data.{Bytes, Tuple, bytes_eq, drop_first, rows_of, has_row, without_row, query_of}
 use Rattle.djq_model.specs.Answer.{IsAnswer}
+use Rattle.djq_model.specs.Known.{texts_in, all_learned}
+use Rattle.djq_lines.specs.Variables.{constants_of}
+use Rattle.djq_lines.specs.declared.rest.QueryOutcome.{QueryOutcome}
+use Rattle.djq_lines.specs.declared.rest.QueryOutcome.TheVariants.{Registered, Cyclic, NotConnex}
 use Rattle.djq_lines.specs.declared.answer.EndCause.{EndCause}
 use Rattle.djq_lines.specs.declared.answer.EndCause.TheVariants.{Input, Memory}
 use Rattle.djq_lines.specs.declared.answer.Refusal.{Refusal}
@@ -23,11 +27,11 @@ use Rattle.djq_lines.specs.Grammar.{Reading, refused, says as says_command, read
 use Rattle.djq_lines.specs.Reply.{end_memory}
 use Rattle.djq_machine.specs.State.{Store, State, Session, Cursor, Position, open_at, stale, fresh, session_of, with_session, cursor_of, with_position, ended_by}
 use Rattle.djq_machine.specs.Conditions.{first_of, Answers, OutOfMemoryWhere}
-use Rattle.djq_machine.specs.Store.{MakesRelation, AddsRow, AddsAs, DeletesRow, DeletesAs, RegistersQuery, DropsQuery, TellsAnswers, with_rows, rel_refusal, add_refusal, delete_refusal, query_refusal, drop_refusal, most_steps}
+use Rattle.djq_machine.specs.Store.{RefusedByTexts, RefusedLate, RegistersAs, MakesRelation, AddsRow, AddsAs, DeletesRow, DeletesAs, RegistersQuery, DropsQuery, TellsAnswers, with_rows, rel_refusal, add_refusal, delete_refusal, query_refusal, drop_refusal}
 use Rattle.djq_machine.specs.Stale.{reads, outdated, outdater_of, outdated_cursor, outdated_sessions, by_relation, add_outdates, delete_outdates, changed}
 use Rattle.djq_machine.specs.Watch.{Telling, ChangeStep}
 use Rattle.djq_machine.specs.Effect.{Effect, nothing, EndsWith, RefusedStep, queue_all, queue}
-use Rattle.djq_machine.specs.Command.{uses, open_refusal, with_cursor, OpensTo, BecomesWhere, with_watch, without_watch, NextStepAt, CloseStep, CommandStep}
+use Rattle.djq_machine.specs.Command.{uses, open_refusal, with_cursor, OpensTo, BecomesWhere, with_watch, without_watch, NextStepAt, CloseStep, CommandStep, QueryStep, QueryCutStep, ExplainStep, TellsLines, explain_lines}
 use Rattle.djq_machine.specs.LineStep.{LineOutcome, long, blank, slow, no_room, run, ReadStep, FrontStep, behind_line}
 use Rattle.djq_machine.specs.Step.{Event, opened, fed, stepped, took, ended, closed, FedStep, TookStep, EndedStep, Acts, with_relations, Step}
 use Rattle.djq_machine.specs.Run.{Did}
@@ -138,9 +142,10 @@ relation_gives old name types (Ok u) store new h after g =
 relation_gives old name types (Err r) store new h after g = same_gives old new (after ∙ ap (λ (st : Store). record old { store = st }) h.stays) g
 
 -- a change that outdates, or none
-changed_gives : (old : State) (name : Bytes) (rows : List Tuple) (store : Store) (new : State) → store ≡ record old.store { relations = with_rows old.store.relations name rows; seq = old.store.seq + 1 }
+changed_gives : (old : State) (name : Bytes) (rows : List Tuple) (texts : List Bytes) (store : Store) (new : State)
+    → store ≡ record old.store { relations = with_rows old.store.relations name rows; texts = texts; seq = old.store.seq + 1 }
     → new ≡ changed old name true store → CursorsGive old → CursorsGive new
-changed_gives old name rows store new e after g =
+changed_gives old name rows texts store new e after g =
     subst CursorsGive (sym (after ∙ ap (λ (st : Store). changed old name true st) e))
     (outdated_give old.store.relations (with_rows old.store.relations name rows) old.store.queries (by_relation name) (old.store.seq + 1) old.sessions
     (λ q apart. unread_same old.store.relations name rows q (unread name q apart)) g)
@@ -148,35 +153,74 @@ changed_gives old name rows store new e after g =
 unchanged_gives : (old : State) (name : Bytes) (store : Store) (new : State) → store ≡ old.store → new ≡ changed old name false store → CursorsGive old → CursorsGive new
 unchanged_gives old name store new e after g = same_gives old new (after ∙ ap (λ (st : Store). record old { store = st }) e) g
 
-out_of_memory_gives : (old : State) (name : Bytes) (store : Store) (new : State) → store ≡ old.store → new ≡ changed old name true store → CursorsGive old → CursorsGive new
+-- A late refusal changes no more than which texts are known.
+refused_texts : (old : Store) (texts : List Bytes) (new : Store) (r : Refusal) → RefusedByTexts old texts new r → new ≡ record old { texts = new.texts }
+refused_texts old texts new Limit h = h.1
+refused_texts old texts new NoMemory h = h.1
+refused_texts old texts new _ h = absurd h
+
+same_texts : (old new : Store) → new ≡ old → new ≡ record old { texts = new.texts }
+same_texts old new e = subst (λ (st : Store). st ≡ record old { texts = st.texts }) (sym e) refl
+
+-- what a refusal changes: nothing by a condition, and what a late one does
+refused_store : {A : Type 0} (o : Option Refusal) (r : Refusal) (D : A → Type 0) (L : Refusal → Type 0) (old new : Store)
+    → Answers o (Err r) D L → (is_some o ≡ true → new ≡ old) → (L r → new ≡ record old { texts = new.texts })
+    → new ≡ record old { texts = new.texts }
+refused_store None r D L old new h stays late = late h
+refused_store (Some t) r D L old new h stays late = same_texts old new (stays refl)
+
+-- texts that become known are nothing to cursors
+texts_give : (old : State) (store : Store) (new : State) → store ≡ record old.store { texts = store.texts } → new ≡ record old { store = store } → CursorsGive old → CursorsGive new
+texts_give old store new e after g = subst CursorsGive (sym (after ∙ ap (λ (st : Store). record old { store = st }) e)) g
+
+out_of_memory_gives : (old : State) (name : Bytes) (store : Store) (new : State) → store ≡ record old.store { texts = store.texts } → new ≡ changed old name true store → CursorsGive old → CursorsGive new
 out_of_memory_gives old name store new e after g =
     subst CursorsGive (sym (after ∙ ap (λ (st : Store). changed old name true st) e))
     (outdated_give old.store.relations old.store.relations old.store.queries (by_relation name) old.store.seq old.sessions (λ q apart. same_itself old.store.relations q) g)
 
+-- a row that isn't added
+add_refused : (old : Store) (name : Bytes) (row : Tuple) (r : Refusal) (new : Store) → AddsRow old name row (Err r) new → new ≡ record old { texts = new.texts }
+add_refused old name row r new h =
+    refused_store (add_refusal old name row) r (AddsAs old name row new)
+    (λ t. (has_row (rows_of old.relations name) row ≡ false) × RefusedByTexts old (texts_in row) new t) old new h.answer h.stays
+    (λ late. refused_texts old (texts_in row) new r late.1)
+
 add_gives : (old : State) (name : Bytes) (row : Tuple) (r : Result AddOutcome Refusal) (store : Store) (new : State) → AddsRow old.store name row r store → new ≡ changed old name (add_outdates r) store → CursorsGive old → CursorsGive new
 add_gives old name row (Ok Added) store new h after g =
-    let d = done_of (add_refusal old.store name row) Added (AddsAs old.store name row store) (OutOfMemoryWhere (has_row (rows_of old.store.relations name) row ≡ false)) h.answer in
-    changed_gives old name (rows_of old.store.relations name ++ row ∷ []) store new d.1 after g
+    let d = done_of (add_refusal old.store name row) Added (AddsAs old.store name row store) _ h.answer in
+    changed_gives old name (rows_of old.store.relations name ++ row ∷ []) (all_learned old.store.texts (texts_in row)) store new d.2 after g
 add_gives old name row (Ok Same) store new h after g =
-    let d = done_of (add_refusal old.store name row) Same (AddsAs old.store name row store) (OutOfMemoryWhere (has_row (rows_of old.store.relations name) row ≡ false)) h.answer in
+    let d = done_of (add_refusal old.store name row) Same (AddsAs old.store name row store) _ h.answer in
     unchanged_gives old name store new d.1 after g
-add_gives old name row (Err NoMemory) store new h after g = out_of_memory_gives old name store new h.stays after g
-add_gives old name row (Err _) store new h after g = unchanged_gives old name store new h.stays after g
+add_gives old name row (Err NoMemory) store new h after g = out_of_memory_gives old name store new (add_refused old.store name row NoMemory store h) after g
+add_gives old name row (Err r) store new h after g = texts_give old store new (add_refused old.store name row r store h) after g
 
 delete_gives : (old : State) (name : Bytes) (row : Tuple) (r : Result DeleteOutcome Refusal) (store : Store) (new : State) → DeletesRow old.store name row r store → new ≡ changed old name (delete_outdates r) store → CursorsGive old → CursorsGive new
 delete_gives old name row (Ok Removed) store new h after g =
     let d = done_of (delete_refusal old.store name row) Removed (DeletesAs old.store name row store) (OutOfMemoryWhere ⊥) h.answer in
-    changed_gives old name (without_row (rows_of old.store.relations name) row) store new d.1 after g
+    changed_gives old name (without_row (rows_of old.store.relations name) row) old.store.texts store new d.1 after g
 delete_gives old name row (Ok Absent) store new h after g =
     let d = done_of (delete_refusal old.store name row) Absent (DeletesAs old.store name row store) (OutOfMemoryWhere ⊥) h.answer in
     unchanged_gives old name store new d.1 after g
 delete_gives old name row (Err r) store new h after g = unchanged_gives old name store new h.stays after g
 
-query_gives : (old : State) (q : Query) (r : Result ℕ Refusal) (store : Store) (new : State) → RegistersQuery old.store q r store → new ≡ record old { store = store } → CursorsGive old → CursorsGive new
-query_gives old q (Ok most) store new h after g =
-    let d = done_of (query_refusal old.store q) most (λ m. (m ≡ most_steps (length q.head)) × (store ≡ record old.store { queries = old.store.queries ++ q ∷ [] })) (OutOfMemoryWhere ⊤) h.answer in
-    subst CursorsGive (sym (after ∙ ap (λ (st : Store). record old { store = st }) d.1)) (registered_give old.store.relations old.store.queries q old.sessions g)
-query_gives old q (Err r) store new h after g = same_gives old new (after ∙ ap (λ (st : Store). record old { store = st }) h.stays) g
+query_late : (old : Store) (q : Query) (r : Refusal) (new : Store) → RefusedLate old q new r → new ≡ record old { texts = new.texts }
+query_late old q r new (inl h) = refused_texts old (texts_in (constants_of q.atoms)) new r h.1
+query_late old q r new (inr h) = same_texts old new h.1
+
+query_gives : (old : State) (q : Query) (r : Result QueryOutcome Refusal) (store : Store) (new : State) → RegistersQuery old.store q r store → new ≡ record old { store = store } → CursorsGive old → CursorsGive new
+query_gives old q (Ok (Registered most)) store new h after g =
+    let d = done_of (query_refusal old.store q) (Registered most) (RegistersAs old.store q store) (RefusedLate old.store q store) h.answer in
+    subst CursorsGive (sym (after ∙ ap (λ (st : Store). record old { store = st }) d.3)) (registered_give old.store.relations old.store.queries q old.sessions g)
+query_gives old q (Ok (Cyclic rest)) store new h after g =
+    let d = done_of (query_refusal old.store q) (Cyclic rest) (RegistersAs old.store q store) (RefusedLate old.store q store) h.answer in
+    same_gives old new (after ∙ ap (λ (st : Store). record old { store = st }) d.1) g
+query_gives old q (Ok (NotConnex rest)) store new h after g =
+    let d = done_of (query_refusal old.store q) (NotConnex rest) (RegistersAs old.store q store) (RefusedLate old.store q store) h.answer in
+    same_gives old new (after ∙ ap (λ (st : Store). record old { store = st }) d.1) g
+query_gives old q (Err r) store new h after g =
+    texts_give old store new
+    (refused_store (query_refusal old.store q) r (RegistersAs old.store q store) (RefusedLate old.store q store) old.store store h.answer h.stays (query_late old.store q r store)) after g
 
 -- A query that no session uses is no cursor's.
 dropped_query : (qs : List Query) (name other : Bytes) → bytes_eq other name ≡ false → query_of (drop_first (λ p. bytes_eq p.name name) qs) other ≡ query_of qs other
@@ -315,13 +359,27 @@ becomes_gives : (old : State) (s : ℕ) (f : Session → Session) (new : State) 
 becomes_gives old s f new (Ok u) same after g = cursors_stay old new s f same after g
 becomes_gives old s f new (Err r) same after g = same_gives old new after g
 
+register_gives : (old : State) (s : ℕ) (q : Query) (e : Effect) (new : State) → QueryStep old s q e new ⊎ QueryCutStep old s q e new → CursorsGive old → CursorsGive new
+register_gives old s q e new (inl h) g = query_gives old q h.result h.store new h.done h.state g
+register_gives old s q e new (inr h) g =
+    let mid : State = record old { store = h.store } in
+    ends_gives mid s Memory new h.ends.1 (query_gives old q h.result h.store mid h.done refl g)
+
+lines_give : (old : State) (s : ℕ) (lines : List Bytes) (e : Effect) (new : State) → TellsLines old s lines e new → CursorsGive old → CursorsGive new
+lines_give old s lines e new (inl h) g = same_gives old new h.1 g
+lines_give old s lines e new (inr (told, lacking, rest, parts, ends)) g = ends_gives old s Memory new ends.1 g
+
+explain_gives : (old : State) (s : ℕ) (o : Option Query) (e : Effect) (new : State) → MatchOption o (RefusedStep old s NoQuery e new) (λ q. ExplainStep old s q e new) → CursorsGive old → CursorsGive new
+explain_gives old s None e new h g = same_gives old new h.1 g
+explain_gives old s (Some q) e new h g = lines_give old s (explain_lines q h.tree) e new h.tells g
+
 command_gives : (old : State) (s : ℕ) (x : Session) (c : Command) (e : Effect) (new : State) → session_of old s ≡ Some x → CommandStep old s x c e new → CursorsGive old → CursorsGive new
 command_gives old s x (Rel name types) e new found h g = relation_gives old name types h.result h.store new h.done h.state g
 command_gives old s x (Add name row) e new found h g =
     change_gives old s name _ _ _ h.store _ e new h.change (add_gives old name row h.result h.store (changed old name (add_outdates h.result) h.store) h.done refl g)
 command_gives old s x (Del name row) e new found h g =
     change_gives old s name _ _ _ h.store _ e new h.change (delete_gives old name row h.result h.store (changed old name (delete_outdates h.result) h.store) h.done refl g)
-command_gives old s x (Register q) e new found h g = query_gives old q h.result h.store new h.done h.state g
+command_gives old s x (Register q) e new found h g = register_gives old s q e new h g
 command_gives old s x (Open c q) e new found h g = open_gives old s x c q h.result new h.answer h.state g
 command_gives old s x (Next c count) e new found h g = next_gives old s x c count (cursor_of x.cursors c) e new found refl h g
 command_gives old s x (Close c) e new found h g = close_gives old s c (cursor_of x.cursors c) e new h g
@@ -331,7 +389,7 @@ command_gives old s x (Drop q) e new found h g = drop_gives old q h.result h.sto
 command_gives old s x (Has q row) e new found h g = same_gives old new h.state g
 command_gives old s x (Watch q) e new found h g = becomes_gives old s (with_watch q) new h.result (λ y. refl) h.state g
 command_gives old s x (Unwatch q) e new found h g = becomes_gives old s (without_watch q) new h.result (λ y. refl) h.state g
-command_gives old s x (Explain q) e new found h g = absurd h
+command_gives old s x (Explain q) e new found h g = explain_gives old s (query_of old.store.queries q) e new h g
 
 -- The front of a session's bytes.
 read_gives : (old : State) (s : ℕ) (x : Session) (r : Reading) (e : Effect) (new : State) → session_of old s ≡ Some x → ReadStep old s x r e new → CursorsGive old → CursorsGive new

@@ -48,12 +48,10 @@ outside reading read_faults taken write_faults counted =
 -- A run of the machine, as `run` may make it. The pieces that the session was fed are the pieces
 -- that the source gave, in order: what was read is fed, and what it brings about is done before the
 -- next read. The sink gained what was taken of the session's pending bytes. And no more lookups and
--- links of listings were counted than the run may cost, and no others.
+-- links of listings were counted than the run may cost.
 pub record Course (start : State) (before now : Outside) (state : State) : Type 0 where
   pub done : List Did
   pub walk : Walk RunNext start done state
   pub read : Gives before.reading now.reading (pieces_of done)
   pub written : Gains before.taken now.taken (all_taken 1 done)
   pub listing : now.counted.listing ≤ before.counted.listing + cost_of done
-  pub update : now.counted.update ≡ before.counted.update
-  pub rows : now.counted.rows ≡ before.counted.rows

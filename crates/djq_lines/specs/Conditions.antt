@@ -1,5 +1,18 @@
 -- How a command's conditions decide what it answers.
-use Rattle.std.specs.Prelude.{List, [], ◌∷◌, ◌≡◌, Bool, Option, None, Some, Result, Ok, Err, if◌then◌else◌}
+use Rattle.std.specs.Prelude.{
+  List,
+  [],
+  ◌∷◌,
+  ◌≡◌,
+  Bool,
+  Option,
+  None,
+  Some,
+  Result,
+  Ok,
+  Err,
+  if◌then◌else◌,
+}
 use Rattle.djq_lines.specs.declared.answer.Refusal.{Refusal}
 use Rattle.djq_lines.specs.declared.answer.Refusal.TheVariants.{NoMemory}
 
@@ -10,7 +23,8 @@ first_of (c ∷ cs) = if c.0 then Some c.1 else first_of cs
 
 -- A command answers the refusal of a condition that holds. Where none does, it is done,
 -- or refused late: for what shows only while it is done.
-abbrev pub Answers : {A : Type 0} → Option Refusal → Result A Refusal → (A → Type 0) → (Refusal → Type 0) → Type 0
+abbrev pub Answers : {A : Type 0} → Option Refusal → Result A Refusal → (A → Type 0)
+    → (Refusal → Type 0) → Type 0
 Answers None (Ok a) Done Late = Done a
 Answers None (Err r) Done Late = Late r
 Answers (Some r) (Ok a) Done Late = ⊥

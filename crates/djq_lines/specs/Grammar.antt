@@ -11,29 +11,79 @@
 --     atom  = name "(" [term *("," term)] ")"
 --     term  = name | "_" | literal
 --
--- A literal is an integer or a text; a count is an integer of digits alone, from 1 to 1000. Keywords and types may be names too:
--- the place tells them apart. The bytes of a line are UTF-8.
-use Rattle.std.specs.Prelude.{ℕ, zero, suc, List, [], ◌∷◌, ◌&&◌, Bool, true, false, nat_le, Option, None, Some, if◌then◌else◌, option_map, length, codes}
+-- A literal is an integer or a text; a count is an integer of digits alone, from 1 to 1000. Keywords
+-- and types may be names too: the place tells them apart. The bytes of a line are UTF-8.
+use Rattle.std.specs.Prelude.{
+  ℕ,
+  zero,
+  suc,
+  List,
+  [],
+  ◌∷◌,
+  ◌&&◌,
+  Bool,
+  true,
+  false,
+  nat_le,
+  Option,
+  None,
+  Some,
+  if◌then◌else◌,
+  option_map,
+  length,
+  codes,
+}
 use Rattle.std.specs.List.{list_all}
 use Rattle.std.specs.Str.{is_utf8}
-use Rattle.djq_model.specs.declared.value.Value.{Value}
-use Rattle.djq_model.specs.declared.value.Value.TheVariants.{Int, Text}
 use Rattle.djq_model.specs.declared.relation.ColumnType.{ColumnType}
-use Rattle.djq_model.specs.declared.relation.ColumnType.TheVariants.{Int as IntColumn, Text as TextColumn}
+use Rattle.djq_model.specs.declared.relation.ColumnType.TheVariants.{
+  Int as IntColumn,
+  Text as TextColumn,
+}
 use Rattle.djq_model.specs.declared.query.Term.{Term}
 use Rattle.djq_model.specs.declared.query.Term.TheVariants.{Variable, Hole, Constant}
 use Rattle.djq_model.specs.declared.query.Atom.{Atom}
 use Rattle.djq_model.specs.declared.query.Query.{Query}
 use Rattle.djq_model.specs.Data.{Bytes, bytes_eq}
 use Rattle.djq_value.specs.Token.{Token, word, open_paren, close_paren, comma, arrow, tokens}
-use Rattle.djq_value.specs.Literal.{is_name, is_reordered, is_small_value, literal_of, natural_of}
+use Rattle.djq_value.specs.Literal.{is_name, is_small_value, literal_of, natural_of}
 use Rattle.djq_lines.specs.declared.limits.TheConstants.{NEXT_COUNT}
 use Rattle.djq_lines.specs.declared.answer.Refusal.{Refusal}
 use Rattle.djq_lines.specs.declared.answer.Refusal.TheVariants.{Syntax, WrongType, Later}
 use Rattle.djq_lines.specs.declared.keyword.Keyword.{Keyword}
-use Rattle.djq_lines.specs.declared.keyword.Keyword.TheVariants.{Rel as RelWord, Add as AddWord, Del as DelWord, Query as QueryWord, Drop as DropWord, Open as OpenWord, Next as NextWord, Close as CloseWord, Has as HasWord, Watch as WatchWord, Unwatch as UnwatchWord, Explain as ExplainWord, Quit as QuitWord, Stop as StopWord}
+use Rattle.djq_lines.specs.declared.keyword.Keyword.TheVariants.{
+  Rel as RelWord,
+  Add as AddWord,
+  Del as DelWord,
+  Query as QueryWord,
+  Drop as DropWord,
+  Open as OpenWord,
+  Next as NextWord,
+  Close as CloseWord,
+  Has as HasWord,
+  Watch as WatchWord,
+  Unwatch as UnwatchWord,
+  Explain as ExplainWord,
+  Quit as QuitWord,
+  Stop as StopWord,
+}
 use Rattle.djq_lines.specs.declared.command.Command.{Command}
-use Rattle.djq_lines.specs.declared.command.Command.TheVariants.{Rel, Add, Del, Query as Register, Drop, Open, Next, Close, Has, Watch, Unwatch, Explain, Quit, Stop}
+use Rattle.djq_lines.specs.declared.command.Command.TheVariants.{
+  Rel,
+  Add,
+  Del,
+  Query as Register,
+  Drop,
+  Open,
+  Next,
+  Close,
+  Has,
+  Watch,
+  Unwatch,
+  Explain,
+  Quit,
+  Stop,
+}
 
 -- Items: what one token says.
 
@@ -44,7 +94,9 @@ name_of _ = None
 
 -- the type of a column
 abbrev pub type_of : Token → Option ColumnType
-type_of (word w) = if bytes_eq w (codes "int") then Some IntColumn else (if bytes_eq w (codes "text") then Some TextColumn else None)
+type_of (word w) =
+    if bytes_eq w (codes "int") then Some IntColumn
+    else (if bytes_eq w (codes "text") then Some TextColumn else None)
 type_of _ = None
 
 -- a term of an atom: a variable, a hole or a constant
@@ -69,7 +121,8 @@ all_of item [] = Some []
 all_of item (t ∷ ts) = in_front (item t) (all_of item ts)
 
 -- one item in front of others, and what is behind them
-abbrev pub put_first : {A : Type 0} → Option A → Option (List A × List Token) → Option (List A × List Token)
+abbrev pub put_first : {A : Type 0} → Option A → Option (List A × List Token)
+    → Option (List A × List Token)
 put_first (Some a) (Some r) = Some (a ∷ r.0, r.1)
 put_first (Some a) None = None
 put_first None _ = None
@@ -97,7 +150,8 @@ atom_in (word r ∷ ts) = if is_name r then option_map (atom_over r) (list_in te
 atom_in _ = None
 
 -- an atom, and the atoms that stand behind a comma
-abbrev pub behind_atom : (List Token → Option (List Atom)) → Option (Atom × List Token) → Option (List Atom)
+abbrev pub behind_atom : (List Token → Option (List Atom)) → Option (Atom × List Token)
+    → Option (List Atom)
 behind_atom more None = None
 behind_atom more (Some (a, [])) = Some (a ∷ [])
 behind_atom more (Some (a, comma ∷ ts)) = in_front (Some a) (more ts)
@@ -120,7 +174,8 @@ body_in _ = None
 -- behind the name of a query
 abbrev pub query_of : Bytes → Option (List Bytes × List Token) → Option Query
 query_of name None = None
-query_of name (Some head) = option_map (λ atoms. record { name = name; head = head.0; atoms = atoms }) (body_in head.1)
+query_of name (Some head) =
+    option_map (λ atoms. record { name = name; head = head.0; atoms = atoms }) (body_in head.1)
 
 abbrev pub query_in : List Token → Option Query
 query_in (word n ∷ ts) = if is_name n then query_of n (list_in name_of ts) else None
@@ -130,7 +185,8 @@ query_in _ = None
 
 -- a name and items, if any, to the line's end
 abbrev pub named_any : {A : Type 0} → (Token → Option A) → List Token → Option (Bytes × List A)
-named_any item (word n ∷ ts) = if is_name n then option_map (λ xs. (n, xs)) (all_of item ts) else None
+named_any item (word n ∷ ts) =
+    if is_name n then option_map (λ xs. (n, xs)) (all_of item ts) else None
 named_any item _ = None
 
 -- a name and items, one at least, to the line's end
@@ -158,7 +214,8 @@ count_of None = None
 
 -- a name and a count
 abbrev pub name_and_count : List Token → Option (Bytes × ℕ)
-name_and_count (word c ∷ word k ∷ []) = if is_name c then option_map (λ n. (c, n)) (count_of (natural_of k)) else None
+name_and_count (word c ∷ word k ∷ []) =
+    if is_name c then option_map (λ n. (c, n)) (count_of (natural_of k)) else None
 name_and_count _ = None
 
 -- nothing
@@ -246,55 +303,22 @@ takes_memory_to_read _ = false
 
 -- What is served.
 
-abbrev pub is_int_column : ColumnType → Bool
-is_int_column IntColumn = true
-is_int_column TextColumn = false
-
-abbrev pub is_integer : Value → Bool
-is_integer (Int i) = true
-is_integer (Text t) = false
-
--- the variables that terms are, where each is one
-abbrev pub variable_of : Term → Option Bytes
-variable_of (Variable x) = Some x
-variable_of _ = None
-
-abbrev pub variables_of : List Term → Option (List Bytes)
-variables_of [] = Some []
-variables_of (t ∷ ts) = in_front (variable_of t) (variables_of ts)
-
-abbrev pub heads_all : List Bytes → Option (List Bytes) → Bool
-heads_all head None = false
-heads_all head (Some body) = is_reordered head body
-
--- a query of one atom of different variables, each of which its head names once
-abbrev pub is_simple : List Bytes → List Atom → Bool
-is_simple head (a ∷ []) = heads_all head (variables_of a.terms)
-is_simple head _ = false
-
 -- whether a command is served yet
 abbrev pub is_served : Command → Bool
-is_served (Rel n cs) = list_all is_int_column cs
-is_served (Add n row) = list_all is_integer row
-is_served (Del n row) = list_all is_integer row
-is_served (Register q) = is_simple q.head q.atoms
-is_served (Open c q) = true
-is_served (Next c k) = true
-is_served (Close c) = true
-is_served (Drop q) = true
-is_served (Has q row) = list_all is_integer row
-is_served Quit = true
-is_served Stop = true
-is_served _ = false
+is_served (Watch q) = false
+is_served (Unwatch q) = false
+is_served _ = true
 
--- What a line says: why it isn't run, whatever the state is; or a command that is served, whose literals are within their limits.
+-- What a line says: why it isn't run, whatever the state is; or a command that is served, whose
+-- literals are within their limits.
 pub data Reading : Type 0 where
   refused : Refusal → Reading
   says : Command → Reading
 
 abbrev pub reading_in : Option Command → Reading
 reading_in None = refused Syntax
-reading_in (Some c) = if is_served c then (if is_in_range c then says c else refused WrongType) else refused Later
+reading_in (Some c) =
+    if is_served c then (if is_in_range c then says c else refused WrongType) else refused Later
 
 abbrev pub reading_of : Bytes → Reading
 reading_of line = reading_in (command_of line)

@@ -5,3 +5,5 @@ pub mod Conditions
 pub mod Columns
 pub mod Variables
 pub mod QueryFault
+pub mod Hypergraph
+pub mod Rest

@@ -1,5 +1,22 @@
 -- Why a query can't be asked over relations, whatever their rows are.
-use Rattle.std.specs.Prelude.{List, [], ◌∷◌, ◌++◌, ◌==◌, ◌&&◌, ◌||◌, Bool, false, not, nat_lt, Option, is_none, is_some, nat_le, length}
+use Rattle.std.specs.Prelude.{
+  List,
+  [],
+  ◌∷◌,
+  ◌++◌,
+  ◌==◌,
+  ◌&&◌,
+  ◌||◌,
+  Bool,
+  false,
+  not,
+  nat_lt,
+  Option,
+  is_none,
+  is_some,
+  nat_le,
+  length,
+}
 use Rattle.std.specs.List.{list_any}
 use Rattle.djq_model.specs.declared.relation.ColumnType.{ColumnType}
 use Rattle.djq_model.specs.declared.relation.Relation.{Relation}
@@ -11,7 +28,16 @@ use Rattle.djq_model.specs.Data.{bytes_eq, query_of, relation_of}
 use Rattle.djq_value.specs.Literal.{are_different}
 use Rattle.djq_lines.specs.declared.limits.TheConstants.{ATOMS, VARIABLES, HEAD_VARIABLES, QUERIES}
 use Rattle.djq_lines.specs.declared.answer.Refusal.{Refusal}
-use Rattle.djq_lines.specs.declared.answer.Refusal.TheVariants.{Taken, NoRelation, Arity, WrongType, VariableType, HeadRepeated, HeadUnbound, Limit}
+use Rattle.djq_lines.specs.declared.answer.Refusal.TheVariants.{
+  Taken,
+  NoRelation,
+  Arity,
+  WrongType,
+  VariableType,
+  HeadRepeated,
+  HeadUnbound,
+  Limit,
+}
 use Rattle.djq_lines.specs.Columns.{columns_of, is_of, same_type}
 use Rattle.djq_lines.specs.Conditions.{first_of}
 use Rattle.djq_lines.specs.Variables.{stands_in, variables_of}
@@ -67,7 +93,8 @@ has_unbound_head q = list_any (λ x. not (stands_in q.atoms x)) q.head
 -- It has too many atoms, variables or head variables.
 abbrev pub is_too_large : Query → Bool
 is_too_large q =
-    nat_lt ATOMS (length q.atoms) || (nat_lt VARIABLES (length (variables_of q.atoms)) || nat_lt HEAD_VARIABLES (length q.head))
+    nat_lt ATOMS (length q.atoms)
+    || (nat_lt VARIABLES (length (variables_of q.atoms)) || nat_lt HEAD_VARIABLES (length q.head))
 
 -- what is wrong with a query, in the order in which it is tried
 abbrev pub query_faults : List Relation → Query → List (Bool × Refusal)

@@ -1,15 +1,49 @@
 -- The bytes of replies.
-use Rattle.std.specs.Prelude.{ℕ, List, [], ◌∷◌, ◌++◌, Bool, true, false, Result, Ok, Err, if◌then◌else◌, map, codes}
+use Rattle.std.specs.Prelude.{
+  ℕ,
+  List,
+  [],
+  ◌∷◌,
+  ◌++◌,
+  Bool,
+  true,
+  false,
+  Result,
+  Ok,
+  Err,
+  if◌then◌else◌,
+  map,
+  codes,
+}
 use Rattle.std.specs.List.{flat_map}
 use Rattle.std.specs.Fmt.{decimal}
+use Rattle.djq_hyper.specs.Naming.{edge_text}
 use Rattle.djq_model.specs.Data.{Bytes, Tuple}
 use Rattle.djq_value.specs.ValueText.{value_text}
 use Rattle.djq_lines.specs.declared.answer.Refusal.{Refusal}
-use Rattle.djq_lines.specs.declared.answer.Refusal.TheVariants.{Syntax, Taken, NoRelation, NoQuery, NoCursor, Arity, WrongType, HeadUnbound, HeadRepeated, VariableType, Limit, NoMemory, InUse, Later}
+use Rattle.djq_lines.specs.declared.answer.Refusal.TheVariants.{
+  Syntax,
+  Taken,
+  NoRelation,
+  NoQuery,
+  NoCursor,
+  Arity,
+  WrongType,
+  HeadUnbound,
+  HeadRepeated,
+  VariableType,
+  Limit,
+  NoMemory,
+  InUse,
+  Later,
+}
 use Rattle.djq_lines.specs.declared.answer.EndLine.{EndLine}
 use Rattle.djq_lines.specs.declared.answer.EndLine.TheVariants.{Long, Slow, Memory, Full}
 use Rattle.djq_lines.specs.declared.answer.Sign.{Sign}
 use Rattle.djq_lines.specs.declared.answer.Sign.TheVariants.{Came, Went}
+use Rattle.djq_lines.specs.declared.rest.NamedRest.{NamedRest}
+use Rattle.djq_lines.specs.declared.rest.QueryOutcome.{QueryOutcome}
+use Rattle.djq_lines.specs.declared.rest.QueryOutcome.TheVariants.{Registered, Cyclic, NotConnex}
 use Rattle.djq_lines.specs.declared.answer.AddOutcome.{AddOutcome}
 use Rattle.djq_lines.specs.declared.answer.AddOutcome.TheVariants.{Added, Same}
 use Rattle.djq_lines.specs.declared.answer.DeleteOutcome.{DeleteOutcome}
@@ -86,9 +120,11 @@ listing_lines told end = map answer_line told ++ last_line end ∷ []
 abbrev pub text_of : List Bytes → Bytes
 text_of lines = flat_map (λ l. l) lines
 
--- what `next` answers on a stale cursor: its name, the relation that changed, and the number of the change
+-- what `next` answers on a stale cursor: its name, the relation that changed, and the number of the
+-- change
 abbrev pub stale_line : Bytes → Bytes → ℕ → Bytes
-stale_line cursor relation n = numbered (codes "stale " ++ cursor ++ codes " " ++ relation ++ codes " ") n
+stale_line cursor relation n =
+    numbered (codes "stale " ++ cursor ++ codes " " ++ relation ++ codes " ") n
 
 abbrev pub ok_reply : {A : Type 0} → Bytes → Result A Refusal → Bytes
 ok_reply words (Ok a) = line words
@@ -105,9 +141,20 @@ delete_reply (Ok Removed) n = numbered (codes "ok removed ") n
 delete_reply (Ok Absent) n = numbered (codes "ok absent ") n
 delete_reply (Err r) n = refusal_line r
 
--- what `query` answers where it registers: the most lookups and links for one of its answers
-abbrev pub query_reply : Result ℕ Refusal → Bytes
-query_reply (Ok most) = numbered (codes "ok query ") most
+-- edges, each behind a space
+abbrev pub edges_text : List Bytes → List (List ℕ) → Bytes
+edges_text names edges = flat_map (λ e. 32 ∷ edge_text names e) edges
+
+-- words, then the edges of a rest
+abbrev pub rest_line : Bytes → NamedRest → Bytes
+rest_line words rest = line (words ++ edges_text rest.names rest.edges)
+
+-- what `query` answers: where it registers, the most lookups and links for one of its answers; and
+-- where the query isn't free-connex, a rest that shows it
+abbrev pub query_reply : Result QueryOutcome Refusal → Bytes
+query_reply (Ok (Registered most)) = numbered (codes "ok query ") most
+query_reply (Ok (Cyclic rest)) = rest_line (codes "no cyclic") rest
+query_reply (Ok (NotConnex rest)) = rest_line (codes "no connex") rest
 query_reply (Err r) = refusal_line r
 
 -- what `has` answers
@@ -126,7 +173,8 @@ abbrev pub sign_text : Sign → Bytes
 sign_text Came = codes "+ "
 sign_text Went = codes "- "
 
--- what a watch reports of an answer that came or went: the sign, the query, then the answer's values
+-- what a watch reports of an answer that came or went: the sign, the query, then the answer's
+-- values
 abbrev pub change_line : Sign → Bytes → Tuple → Bytes
 change_line s query t = line (sign_text s ++ query ++ cells_text t)
 

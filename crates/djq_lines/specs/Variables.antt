@@ -1,10 +1,10 @@
 -- The variables of a query's body.
 use Rattle.std.specs.Prelude.{List, [], ◌∷◌, ◌++◌, Bool, false, Option, None, Some, if◌then◌else◌}
-use Rattle.std.specs.List.{list_any, fold}
+use Rattle.std.specs.List.{list_any, fold, flat_map}
 use Rattle.djq_model.specs.declared.query.Atom.{Atom}
 use Rattle.djq_model.specs.declared.query.Term.{Term}
 use Rattle.djq_model.specs.declared.query.Term.TheVariants.{Variable, Hole, Constant}
-use Rattle.djq_model.specs.Data.{Bytes, bytes_eq}
+use Rattle.djq_model.specs.Data.{Bytes, Tuple, bytes_eq}
 
 -- whether a term is the variable of this name
 abbrev pub is_variable : Bytes → Term → Bool
@@ -45,3 +45,13 @@ with_atom known a = with_terms known a.terms
 -- The variables of a body, in the order in which they first stand.
 abbrev pub variables_of : List Atom → List Label
 variables_of atoms = fold with_atom [] atoms
+
+-- the constant that a term is, where it is one
+abbrev pub constant_of : Term → Tuple
+constant_of (Variable x) = []
+constant_of Hole = []
+constant_of (Constant v) = v ∷ []
+
+-- The constants of a body, in the order in which they stand.
+abbrev pub constants_of : List Atom → Tuple
+constants_of atoms = flat_map (λ a. flat_map constant_of a.terms) atoms

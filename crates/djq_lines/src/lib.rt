@@ -9,8 +9,10 @@
 pub use answer::{AddOutcome, DeleteOutcome, EndCause, EndLine, Refusal, Sign};
 pub use command::Command;
 pub use keyword::Keyword;
+pub use rest::{NamedRest, QueryOutcome};
 
 mod answer;
 mod command;
 mod keyword;
 pub mod limits;
+mod rest;

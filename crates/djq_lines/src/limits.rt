@@ -27,6 +27,9 @@ pub const HEAD_VARIABLES: usize = 16;
 /// The most rows of a relation.
 pub const ROWS: usize = 4_294_967_295;
 
+/// The most texts that are known.
+pub const TEXTS: usize = 4_294_967_295;
+
 /// The greatest number of accepted changes of rows.
 pub const LAST_SEQ: u64 = 18_446_744_073_709_551_615;
 

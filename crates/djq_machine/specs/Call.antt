@@ -1,5 +1,5 @@
 -- What the calls of a machine promise.
-use Rattle.std.specs.Prelude.{ℕ, List, [], ◌≡◌, ◌+◌, ◌<◌, ◌≤◌, ◌⊎◌, true, Option, None, Some, IsSome, MatchOption, Result, Ok, Err, length, map, ⊤}
+use Rattle.std.specs.Prelude.{ℕ, [], ◌≡◌, ◌+◌, ◌<◌, ◌≤◌, ◌⊎◌, true, Option, None, Some, IsSome, MatchOption, Result, Ok, Err, length, ⊤}
 use Rattle.djq_model.specs.Data.{Bytes}
 use Rattle.djq_lines.specs.declared.limits.TheConstants.{SESSIONS}
 use Rattle.djq_lines.specs.declared.answer.EndCause.{EndCause}
@@ -10,7 +10,7 @@ use Rattle.djq_machine.specs.declared.machine.Fed.{Fed}
 use Rattle.djq_machine.specs.declared.machine.Fed.TheVariants.{Held, Ended as HadEnded}
 use Rattle.djq_machine.specs.declared.machine.OpenRefusal.{OpenRefusal}
 use Rattle.djq_machine.specs.declared.machine.OpenRefusal.TheVariants.{Full, NoMem}
-use Rattle.djq_machine.specs.State.{State, Session, session_of, fresh}
+use Rattle.djq_machine.specs.State.{State, Session, session_of}
 pub use Rattle.djq_machine.specs.State.{ids_of}
 use Rattle.djq_machine.specs.Effect.{Effect}
 use Rattle.djq_machine.specs.LineStep.{long, blank, slow, no_room, run}
@@ -50,13 +50,11 @@ pub record Makes (old : State) (event : Event) (new : State) : Type 0 where
   pub effect : Effect
   pub step : Step old event effect new
 
--- One step of this event, which counted no more of listings than its effect may cost, and nothing else.
+-- One step of this event, which counted no more of listings than its effect may cost.
 pub record MakesCounted (old : State) (event : Event) (new : State) (before now : Counts) : Type 0 where
   pub effect : Effect
   pub step : Step old event effect new
   pub listing : now.listing ≤ before.listing + effect.cost
-  pub update : now.update ≡ before.update
-  pub rows : now.rows ≡ before.rows
 
 -- What opening a session answers: it is open; or the limit is reached; or, below it, out of memory.
 abbrev pub OpenGives : State → ℕ → Result ⊤ OpenRefusal → State → Type 0

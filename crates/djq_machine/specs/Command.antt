@@ -1,5 +1,36 @@
 -- What each command does to the state, and what it is answered.
-use Rattle.std.specs.Prelude.{ℕ, List, [], ◌∷◌, ◌==◌, ◌≡◌, ◌+◌, ◌*◌, ◌++◌, ◌<◌, ◌≤◌, ◌⊎◌, ◌||◌, Bool, true, false, nat_le, Option, None, Some, is_some, is_none, IsSomeAnd, MatchOption, if◌then◌else◌, Result, Ok, Err, length, map, codes, All, ⊤}
+use Rattle.std.specs.Prelude.{
+  ℕ,
+  List,
+  [],
+  ◌∷◌,
+  ◌≡◌,
+  ◌+◌,
+  ◌*◌,
+  ◌++◌,
+  ◌<◌,
+  ◌≤◌,
+  ◌⊎◌,
+  ◌||◌,
+  Bool,
+  true,
+  false,
+  nat_le,
+  Option,
+  is_some,
+  is_none,
+  IsSomeAnd,
+  MatchOption,
+  if◌then◌else◌,
+  Result,
+  Ok,
+  Err,
+  length,
+  map,
+  codes,
+  All,
+  ⊤,
+}
 use Rattle.std.specs.List.{list_any}
 use Rattle.djq_model.specs.declared.query.Query.{Query}
 use Rattle.djq_model.specs.Data.{Bytes, Tuple, bytes_eq, drop_first, rows_of, without_row, query_of}
@@ -7,21 +38,85 @@ use Rattle.djq_model.specs.Answer.{IsAnswer, AreDifferent}
 use Rattle.djq_lines.specs.declared.limits.TheConstants.{CURSORS, REPLY_BYTES}
 use Rattle.djq_lines.specs.declared.answer.Refusal.{Refusal}
 use Rattle.djq_lines.specs.declared.answer.Refusal.TheVariants.{Taken, NoQuery, NoCursor, Limit}
+use Rattle.djq_lines.specs.declared.rest.QueryOutcome.{QueryOutcome}
 use Rattle.djq_lines.specs.declared.answer.AddOutcome.{AddOutcome}
 use Rattle.djq_lines.specs.declared.answer.DeleteOutcome.{DeleteOutcome}
-use Rattle.djq_lines.specs.declared.answer.EndCause.TheVariants.{Quit as SaidQuit, Stop as SaidStop, Memory}
+use Rattle.djq_lines.specs.declared.answer.EndCause.TheVariants.{
+  Quit as SaidQuit,
+  Stop as SaidStop,
+  Memory,
+}
 use Rattle.djq_lines.specs.declared.command.Command.{Command}
-use Rattle.djq_lines.specs.declared.command.Command.TheVariants.{Rel, Add, Del, Query as Register, Drop, Open, Next, Close, Has, Watch, Unwatch, Explain, Quit, Stop}
-use Rattle.djq_lines.specs.Reply.{line, answer_line, last_line, listing_lines, text_of, stale_line, ok_reply, add_reply, delete_reply, query_reply, has_reply, watch_reply, bye, end_memory}
-use Rattle.djq_machine.specs.State.{Store, Position, open_at, stale, Cursor, Session, State, with_session, cursor_of, with_position, ended_by}
+use Rattle.djq_lines.specs.declared.command.Command.TheVariants.{
+  Rel,
+  Add,
+  Del,
+  Query as Register,
+  Drop,
+  Open,
+  Next,
+  Close,
+  Has,
+  Watch,
+  Unwatch,
+  Explain,
+  Quit,
+  Stop,
+}
+use Rattle.djq_lines.specs.Reply.{
+  line,
+  answer_line,
+  last_line,
+  listing_lines,
+  text_of,
+  stale_line,
+  ok_reply,
+  add_reply,
+  delete_reply,
+  query_reply,
+  has_reply,
+  watch_reply,
+  bye,
+  end_memory,
+}
+use Rattle.djq_hyper.specs.Hypergraph.{numbers_below}
+use Rattle.djq_tree.specs.Tree.{Tree}
+use Rattle.djq_tree.specs.Growing.{IsTreeOf}
+use Rattle.djq_tree.specs.Explaining.{line_text}
+use Rattle.djq_lines.specs.Hypergraph.{edges_of, head_of, variable_names}
+use Rattle.djq_machine.specs.State.{
+  Store,
+  Position,
+  open_at,
+  stale,
+  Cursor,
+  Session,
+  State,
+  with_session,
+  cursor_of,
+  with_position,
+  ended_by,
+}
 use Rattle.djq_machine.specs.Conditions.{first_of, Answers, OutOfMemoryWhere}
-use Rattle.djq_machine.specs.Store.{MakesRelation, AddsRow, DeletesRow, RegistersQuery, DropsQuery, TellsWhether, has_steps, TellsAnswers, IsLeft, AreAll, most_steps}
+use Rattle.djq_machine.specs.Store.{
+  MakesRelation,
+  AddsRow,
+  DeletesRow,
+  RegistersQuery,
+  DropsQuery,
+  TellsWhether,
+  has_steps,
+  TellsAnswers,
+  IsLeft,
+  most_steps,
+}
 use Rattle.djq_machine.specs.Stale.{add_outdates, add_accepted, delete_outdates}
 use Rattle.djq_machine.specs.Watch.{is_watching, ChangeStep}
 use Rattle.djq_machine.specs.Effect.{Effect, says, EndsWith, RefusedStep}
 
 -- `rel`: a relation is made.
-pub record RelStep (old : State) (s : ℕ) (makes : Store → Result ⊤ Refusal → Store → Type 0) (e : Effect) (new : State) : Type 0 where
+pub record RelStep (old : State) (s : ℕ) (makes : Store → Result ⊤ Refusal → Store → Type 0)
+    (e : Effect) (new : State) : Type 0 where
   pub result : Result ⊤ Refusal
   pub store : Store
   pub done : makes old.store result store
@@ -29,7 +124,8 @@ pub record RelStep (old : State) (s : ℕ) (makes : Store → Result ⊤ Refusal
   pub state : new ≡ record old { store = store }
 
 -- `add`: a row goes in, and that is told those who watch.
-pub record AddStep (old : State) (s : ℕ) (name : Bytes) (row : Tuple) (e : Effect) (new : State) : Type 0 where
+pub record AddStep (old : State) (s : ℕ) (name : Bytes) (row : Tuple) (e : Effect)
+    (new : State) : Type 0 where
   pub result : Result AddOutcome Refusal
   pub store : Store
   pub done : AddsRow old.store name row result store
@@ -37,22 +133,33 @@ pub record AddStep (old : State) (s : ℕ) (name : Bytes) (row : Tuple) (e : Eff
       (add_outdates result) (add_accepted result) store (add_reply result store.seq) e new
 
 -- `del`: a row goes out, likewise.
-pub record DeleteStep (old : State) (s : ℕ) (name : Bytes) (row : Tuple) (e : Effect) (new : State) : Type 0 where
+pub record DeleteStep (old : State) (s : ℕ) (name : Bytes) (row : Tuple) (e : Effect)
+    (new : State) : Type 0 where
   pub result : Result DeleteOutcome Refusal
   pub store : Store
   pub done : DeletesRow old.store name row result store
   pub change : ChangeStep old s name (without_row (rows_of old.store.relations name) row)
       (delete_outdates result) (delete_outdates result) store (delete_reply result store.seq) e new
 
--- `query`: a query is registered.
+-- `query`: a query is registered, or a rest shows why it isn't.
 pub record QueryStep (old : State) (s : ℕ) (q : Query) (e : Effect) (new : State) : Type 0 where
-  pub result : Result ℕ Refusal
+  pub result : Result QueryOutcome Refusal
   pub store : Store
   pub done : RegistersQuery old.store q result store
   pub effect : e ≡ says s (query_reply result)
   pub state : new ≡ record old { store = store }
 
--- whether a session uses a query: a cursor of it, stale or not, is over the query, or it watches the query
+-- Out of memory in a reply to `query` above the bytes that were kept for it, which tells a rest:
+-- none of its one line is told, and the session ends.
+pub record QueryCutStep (old : State) (s : ℕ) (q : Query) (e : Effect) (new : State) : Type 0 where
+  pub result : Result QueryOutcome Refusal
+  pub store : Store
+  pub done : RegistersQuery old.store q result store
+  pub above : REPLY_BYTES < length (query_reply result)
+  pub ends : EndsWith end_memory Memory (record old { store = store }) s e new
+
+-- whether a session uses a query: a cursor of it, stale or not, is over the query, or it watches
+-- the query
 abbrev pub uses : Bytes → Session → Bool
 uses q x = list_any (λ c. bytes_eq c.query q) x.cursors || is_watching q x
 
@@ -65,10 +172,14 @@ pub record DropStep (old : State) (s : ℕ) (q : Bytes) (e : Effect) (new : Stat
   pub state : new ≡ record old { store = store }
 
 -- `has`: whether a tuple is an answer of a query.
-pub record HasStep (old : State) (s : ℕ) (q : Bytes) (t : Tuple) (e : Effect) (new : State) : Type 0 where
+pub record HasStep (old : State) (s : ℕ) (q : Bytes) (t : Tuple) (e : Effect)
+    (new : State) : Type 0 where
   pub result : Result Bool Refusal
   pub tells : TellsWhether old.store q t result
-  pub effect : e ≡ record { queued = (s, has_reply result) ∷ []; cost = has_steps (query_of old.store.queries q) }
+  pub effect : e ≡ record {
+    queued = (s, has_reply result) ∷ [];
+    cost = has_steps (query_of old.store.queries q);
+  }
   pub state : new ≡ old
 
 abbrev pub open_refusal : Store → List Cursor → Bytes → Bytes → Option Refusal
@@ -80,7 +191,9 @@ open_refusal st cursors c q = first_of (
 
 -- a session with a cursor more, which has given nothing
 abbrev pub with_cursor : Bytes → Bytes → Session → Session
-with_cursor c q x = record x { cursors = x.cursors ++ record { name = c; query = q; position = open_at [] false } ∷ [] }
+with_cursor c q x = record x {
+  cursors = x.cursors ++ record { name = c; query = q; position = open_at [] false } ∷ [];
+}
 
 -- A cursor is there, or nothing changes.
 abbrev pub OpensTo : State → ℕ → Bytes → Bytes → State → Result ⊤ Refusal → Type 0
@@ -88,29 +201,38 @@ OpensTo old s c q new (Ok _) = new ≡ with_session old s (with_cursor c q)
 OpensTo old s c q new (Err _) = new ≡ old
 
 -- `open`: a cursor stands in front of a query's answers.
-pub record OpenStep (old : State) (s : ℕ) (x : Session) (c q : Bytes) (e : Effect) (new : State) : Type 0 where
+pub record OpenStep (old : State) (s : ℕ) (x : Session) (c q : Bytes) (e : Effect)
+    (new : State) : Type 0 where
   pub result : Result ⊤ Refusal
   pub answer : Answers (open_refusal old.store x.cursors c q) result (λ _. ⊤) (OutOfMemoryWhere ⊤)
   pub effect : e ≡ says s (ok_reply (codes "ok open") result)
   pub state : OpensTo old s c q new result
 
 -- `next` is told whole: a line an answer, and the last line.
-pub record NextStep (old : State) (s : ℕ) (c : Bytes) (q : Query) (given : List Tuple) (count : ℕ) (e : Effect) (new : State) : Type 0 where
+pub record NextStep (old : State) (s : ℕ) (c : Bytes) (q : Query) (given : List Tuple) (count : ℕ)
+    (e : Effect) (new : State) : Type 0 where
   pub told : List Tuple
   pub end : Bool
   pub tells : TellsAnswers (IsAnswer old.store.relations q) given count told end
-  pub effect : e ≡ record { queued = (s, text_of (listing_lines told end)) ∷ []; cost = (length told + 1) * most_steps (length q.head) }
-  pub state : new ≡ with_session old s (λ x. record x { cursors = with_position x.cursors c (open_at (given ++ told) end) })
+  pub effect : e ≡ record {
+    queued = (s, text_of (listing_lines told end)) ∷ [];
+    cost = (length told + 1) * most_steps (length q.head);
+  }
+  pub state : new ≡ with_session old s
+      (λ x. record x { cursors = with_position x.cursors c (open_at (given ++ told) end) })
 
--- The line that comes behind these answers: of a further one, where more are asked for; or the last one, as it is due.
+-- The line that comes behind these answers: of a further one, where more are asked for; or the last
+-- one, as it is due.
 abbrev pub IsNextLine : (Tuple → Type 0) → List Tuple → ℕ → List Tuple → Bytes → Type 0
 IsNextLine Answer given count told l =
     ((t : Tuple) × IsLeft Answer (given ++ told) t × (length told < count) × (l ≡ answer_line t))
     ⊎ ((end : Bool) × TellsAnswers Answer given count told end × (l ≡ last_line end))
 
--- Out of memory in a reply to `next` above the bytes that were kept for it: its first lines are told, each whole, and the
--- session ends. It costs no more than the lines told and the one that found no memory.
-pub record NextCutStep (old : State) (s : ℕ) (q : Query) (given : List Tuple) (count : ℕ) (e : Effect) (new : State) : Type 0 where
+-- Out of memory in a reply to `next` above the bytes that were kept for it: its first lines are
+-- told, each whole, and the session ends. It costs no more than the lines told and the one that
+-- found no memory.
+pub record NextCutStep (old : State) (s : ℕ) (q : Query) (given : List Tuple) (count : ℕ)
+    (e : Effect) (new : State) : Type 0 where
   pub told : List Tuple
   pub answers : All (IsAnswer old.store.relations q) told
   pub different : AreDifferent (given ++ told)
@@ -118,17 +240,24 @@ pub record NextCutStep (old : State) (s : ℕ) (q : Query) (given : List Tuple) 
   pub lacking : Bytes
   pub lacks : IsNextLine (IsAnswer old.store.relations q) given count told lacking
   pub above : REPLY_BYTES < length (text_of (map answer_line told ++ lacking ∷ []))
-  pub effect : e ≡ record { queued = (s, text_of (map answer_line told) ++ end_memory) ∷ []; cost = (length told + 1) * most_steps (length q.head) }
+  pub effect : e ≡ record {
+    queued = (s, text_of (map answer_line told) ++ end_memory) ∷ [];
+    cost = (length told + 1) * most_steps (length q.head);
+  }
   pub state : new ≡ with_session old s (ended_by Memory)
 
 -- `next`, by where its cursor stands
 abbrev pub NextStepAt : State → ℕ → Bytes → Query → ℕ → Position → Effect → State → Type 0
-NextStepAt old s c q count (open_at given ended) e new = NextStep old s c q given count e new ⊎ NextCutStep old s q given count e new
-NextStepAt old s c q count (stale relation n) e new = (e ≡ says s (stale_line c relation n)) × (new ≡ old)
+NextStepAt old s c q count (open_at given ended) e new =
+    NextStep old s c q given count e new ⊎ NextCutStep old s q given count e new
+NextStepAt old s c q count (stale relation n) e new =
+    (e ≡ says s (stale_line c relation n)) × (new ≡ old)
 
 -- `close`: the cursor is gone.
 abbrev pub CloseStep : State → ℕ → Bytes → Effect → State → Type 0
-CloseStep old s c e new = (e ≡ says s (line (codes "ok"))) × (new ≡ with_session old s (λ x. record x { cursors = drop_first (λ k. bytes_eq k.name c) x.cursors }))
+CloseStep old s c e new = (e ≡ says s (line (codes "ok")))
+    × (new ≡ with_session old s
+    (λ x. record x { cursors = drop_first (λ k. bytes_eq k.name c) x.cursors }))
 
 abbrev pub watch_refusal : Store → Bytes → Option Refusal
 watch_refusal st q = first_of ((is_none (query_of st.queries q), NoQuery) ∷ [])
@@ -138,14 +267,17 @@ abbrev pub with_watch : Bytes → Session → Session
 with_watch q x = record x { watches = if is_watching q x then x.watches else x.watches ++ q ∷ [] }
 
 -- A session is another, or nothing changes.
-abbrev pub BecomesWhere : {A : Type 0} → State → ℕ → (Session → Session) → State → Result A Refusal → Type 0
+abbrev pub BecomesWhere : {A : Type 0} → State → ℕ → (Session → Session) → State
+    → Result A Refusal → Type 0
 BecomesWhere old s f new (Ok _) = new ≡ with_session old s f
 BecomesWhere old s f new (Err _) = new ≡ old
 
 -- `watch`: the session is told from now on how the answers of a query change.
-pub record WatchStep (old : State) (s : ℕ) (x : Session) (q : Bytes) (e : Effect) (new : State) : Type 0 where
+pub record WatchStep (old : State) (s : ℕ) (x : Session) (q : Bytes) (e : Effect)
+    (new : State) : Type 0 where
   pub result : Result ⊤ Refusal
-  pub answer : Answers (watch_refusal old.store q) result (λ _. ⊤) (OutOfMemoryWhere (is_watching q x ≡ false))
+  pub answer : Answers (watch_refusal old.store q) result (λ _. ⊤)
+      (OutOfMemoryWhere (is_watching q x ≡ false))
   pub effect : e ≡ says s (watch_reply result old.store.seq)
   pub state : BecomesWhere old s (with_watch q) new result
 
@@ -160,16 +292,38 @@ pub record UnwatchStep (old : State) (s : ℕ) (q : Bytes) (e : Effect) (new : S
   pub effect : e ≡ says s (ok_reply (codes "ok") result)
   pub state : BecomesWhere old s (without_watch q) new result
 
--- A command of a session is done, or refused by the first condition that holds. `explain` is never run yet.
+-- The lines that explain the tree of a query: one for each node, and the end.
+abbrev pub explain_lines : Query → Tree → List Bytes
+explain_lines q t =
+    map (line_text (map (λ a. a.relation) q.atoms) (variable_names q) t)
+    (numbers_below (length t.nodes))
+    ++ line (codes "end") ∷ []
+
+-- The lines are told; or, out of memory, those in front of one of them, and the session ends.
+abbrev pub TellsLines : State → ℕ → List Bytes → Effect → State → Type 0
+TellsLines old s lines e new =
+    ((e ≡ says s (text_of lines)) × (new ≡ old))
+    ⊎ ((told : List Bytes) × (lacking : Bytes) × (rest : List Bytes)
+    × (lines ≡ told ++ lacking ∷ rest)
+    × EndsWith (text_of told ++ end_memory) Memory old s e new)
+
+-- `explain`: the tree that the choice rule names is told.
+pub record ExplainStep (old : State) (s : ℕ) (q : Query) (e : Effect) (new : State) : Type 0 where
+  pub tree : Tree
+  pub named : IsTreeOf (edges_of q) (head_of q) tree
+  pub tells : TellsLines old s (explain_lines q tree) e new
+
+-- A command of a session is done, or refused by the first condition that holds.
 abbrev pub CommandStep : State → ℕ → Session → Command → Effect → State → Type 0
 CommandStep old s x (Rel name types) e new = RelStep old s (λ st. MakesRelation st name types) e new
 CommandStep old s x (Add name row) e new = AddStep old s name row e new
 CommandStep old s x (Del name row) e new = DeleteStep old s name row e new
-CommandStep old s x (Register q) e new = QueryStep old s q e new
+CommandStep old s x (Register q) e new = QueryStep old s q e new ⊎ QueryCutStep old s q e new
 CommandStep old s x (Open c q) e new = OpenStep old s x c q e new
 CommandStep old s x (Next c count) e new = MatchOption (cursor_of x.cursors c)
     (RefusedStep old s NoCursor e new)
-    (λ k. IsSomeAnd (query_of old.store.queries k.query) (λ q. NextStepAt old s c q count k.position e new))
+    (λ k. IsSomeAnd (query_of old.store.queries k.query)
+    (λ q. NextStepAt old s c q count k.position e new))
 CommandStep old s x (Close c) e new = MatchOption (cursor_of x.cursors c)
     (RefusedStep old s NoCursor e new)
     (λ k. CloseStep old s c e new)
@@ -179,4 +333,6 @@ CommandStep old s x (Drop q) e new = DropStep old s q e new
 CommandStep old s x (Has q row) e new = HasStep old s q row e new
 CommandStep old s x (Watch q) e new = WatchStep old s x q e new
 CommandStep old s x (Unwatch q) e new = UnwatchStep old s q e new
-CommandStep old s x (Explain q) e new = ⊥
+CommandStep old s x (Explain q) e new = MatchOption (query_of old.store.queries q)
+    (RefusedStep old s NoQuery e new)
+    (λ k. ExplainStep old s k e new)

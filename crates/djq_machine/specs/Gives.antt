@@ -1,8 +1,8 @@
 -- What open cursors have given, at each moment of a run.
-use Rattle.std.specs.Prelude.{ℕ, List, ◌≡◌, Bool, true, Option, None, Some, IsSomeAnd, All}
+use Rattle.std.specs.Prelude.{List, ◌≡◌, Bool, true, Option, IsSomeAnd, All}
 use Rattle.djq_model.specs.declared.relation.Relation.{Relation}
 use Rattle.djq_model.specs.declared.query.Query.{Query}
-use Rattle.djq_model.specs.Data.{Bytes, Tuple, query_of}
+use Rattle.djq_model.specs.Data.{Tuple, query_of}
 use Rattle.djq_model.specs.Answer.{IsAnswer, IsListing, AreDifferent}
 use Rattle.djq_machine.specs.State.{State, Position, open_at, stale}
 

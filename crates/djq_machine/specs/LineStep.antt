@@ -4,8 +4,7 @@ use Rattle.djq_model.specs.Data.{Bytes}
 use Rattle.djq_lines.specs.declared.limits.TheConstants.{PENDING_BYTES}
 use Rattle.djq_lines.specs.declared.answer.EndCause.TheVariants.{Long, Slow, Memory}
 use Rattle.djq_lines.specs.declared.answer.Refusal.TheVariants.{NoMemory}
-use Rattle.djq_lines.specs.declared.command.Command.{Command}
-use Rattle.djq_lines.specs.Line.{Front, too_long, a_line, front_of, is_blank}
+use Rattle.djq_lines.specs.Line.{too_long, a_line, front_of, is_blank}
 use Rattle.djq_lines.specs.Grammar.{Reading, refused, says as says_command, reading_of, takes_memory_to_read}
 use Rattle.djq_lines.specs.Reply.{end_long, end_slow, end_memory}
 use Rattle.djq_machine.specs.State.{Session, State, with_session}

@@ -1,5 +1,5 @@
 -- One step of the machine: what an event may do to the state, and what it queues.
-use Rattle.std.specs.Prelude.{ℕ, List, [], ◌∷◌, ◌==◌, ◌≡◌, ◌++◌, ◌<◌, ◌⊎◌, Bool, true, false, not, None, Some, IsSomeAnd, MatchOption, length, filter, All, IsPermutation}
+use Rattle.std.specs.Prelude.{ℕ, List, [], ◌∷◌, ◌==◌, ◌≡◌, ◌++◌, ◌<◌, ◌⊎◌, Bool, true, false, not, None, IsSomeAnd, MatchOption, length, filter, All, IsPermutation}
 use Rattle.djq_model.specs.declared.relation.Relation.{Relation}
 use Rattle.djq_model.specs.Data.{Bytes}
 use Rattle.djq_lines.specs.declared.limits.TheConstants.{SESSIONS}

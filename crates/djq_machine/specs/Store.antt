@@ -1,6 +1,39 @@
 -- What the commands do to the relations and queries, and what they answer.
-use Rattle.std.specs.Prelude.{ℕ, List, [], ◌∷◌, ◌==◌, ◌≡◌, ◌+◌, ◌*◌, ◌++◌, ◌≤◌, ◌&&◌, Bool, true, false, not, nat_le, nat_lt, Option, None, Some, is_some, is_none, IsSomeAnd, unwrap_or, if◌then◌else◌, Result, OnErr, length, map, All, Contains, ⊤}
-use Rattle.std.specs.List.{list_any}
+use Rattle.std.specs.Prelude.{
+  ℕ,
+  List,
+  [],
+  ◌∷◌,
+  ◌==◌,
+  ◌≡◌,
+  ◌+◌,
+  ◌*◌,
+  ◌++◌,
+  ◌≤◌,
+  ◌⊎◌,
+  ◌&&◌,
+  Bool,
+  true,
+  false,
+  not,
+  nat_le,
+  nat_lt,
+  Option,
+  None,
+  Some,
+  is_some,
+  is_none,
+  IsSomeAnd,
+  unwrap_or,
+  if◌then◌else◌,
+  Result,
+  OnErr,
+  length,
+  map,
+  All,
+  Contains,
+  ⊤,
+}
 use Rattle.djq_model.specs.declared.relation.ColumnType.{ColumnType}
 use Rattle.djq_model.specs.declared.relation.ColumnType.TheVariants.{Int as IntColumn}
 use Rattle.djq_model.specs.declared.relation.Relation.{Relation}
@@ -8,23 +41,85 @@ use Rattle.djq_model.specs.declared.query.Query.{Query}
 use Rattle.djq_model.specs.declared.query.Atom.{Atom}
 use Rattle.djq_model.specs.declared.query.Term.{Term}
 use Rattle.djq_model.specs.declared.query.Term.TheVariants.{Variable, Hole, Constant}
-use Rattle.djq_model.specs.Data.{Bytes, Tuple, bytes_eq, change_first, drop_first, relation_of, rows_of, query_of, has_row, without_row}
+use Rattle.djq_model.specs.Data.{
+  Bytes,
+  Tuple,
+  bytes_eq,
+  change_first,
+  drop_first,
+  relation_of,
+  rows_of,
+  query_of,
+  has_row,
+  without_row,
+}
 use Rattle.djq_model.specs.Answer.{IsAnswer, AreDifferent}
 pub use Rattle.djq_model.specs.Typed.{is_of, fits}
-use Rattle.djq_lines.specs.declared.limits.TheConstants.{COLUMNS, RELATIONS, QUERIES, ROWS, LAST_SEQ}
+use Rattle.djq_model.specs.Known.{knows, texts_in, all_learned}
+use Rattle.djq_lines.specs.declared.limits.TheConstants.{COLUMNS, RELATIONS, ROWS, LAST_SEQ, TEXTS}
 use Rattle.djq_lines.specs.declared.answer.Refusal.{Refusal}
-use Rattle.djq_lines.specs.declared.answer.Refusal.TheVariants.{Taken, NoRelation, NoQuery, Arity, WrongType, Limit, InUse}
+use Rattle.djq_lines.specs.declared.answer.Refusal.TheVariants.{
+  Taken,
+  NoRelation,
+  NoQuery,
+  Arity,
+  WrongType,
+  Limit,
+  InUse,
+  NoMemory,
+}
 use Rattle.djq_lines.specs.declared.answer.AddOutcome.{AddOutcome}
 use Rattle.djq_lines.specs.declared.answer.AddOutcome.TheVariants.{Added, Same}
 use Rattle.djq_lines.specs.declared.answer.DeleteOutcome.{DeleteOutcome}
 use Rattle.djq_lines.specs.declared.answer.DeleteOutcome.TheVariants.{Removed, Absent}
+use Rattle.djq_lines.specs.declared.rest.QueryOutcome.{QueryOutcome}
+use Rattle.djq_lines.specs.declared.rest.QueryOutcome.TheVariants.{Registered, Cyclic, NotConnex}
 pub use Rattle.djq_lines.specs.Columns.{types_of}
+use Rattle.djq_lines.specs.Variables.{constants_of}
+use Rattle.djq_lines.specs.Hypergraph.{edges_of, head_of}
+use Rattle.djq_lines.specs.Rest.{IsNamedRest}
+use Rattle.djq_lines.specs.QueryFault.{whole_query_refusal}
+use Rattle.djq_hyper.specs.JoinTree.{IsFreeConnex}
+use Rattle.djq_hyper.specs.Refusing.{IsCyclic, IsNotConnex}
 use Rattle.djq_machine.specs.State.{Store}
 use Rattle.djq_machine.specs.Conditions.{first_of, Answers, OutOfMemoryWhere}
 
 -- the relations with other rows in one
 abbrev pub with_rows : List Relation → Bytes → List Tuple → List Relation
-with_rows relations name rows = change_first (λ r. bytes_eq r.name name) (λ r. record r { rows = rows }) relations
+with_rows relations name rows =
+    change_first (λ r. bytes_eq r.name name) (λ r. record r { rows = rows }) relations
+
+-- How texts become known: one after another, as a command needs them.
+
+-- The first of these texts have become known.
+pub record LearnsFirst (old texts known : List Bytes) : Type 0 where
+  pub first : List Bytes
+  pub rest : List Bytes
+  pub parts : texts ≡ first ++ rest
+  pub learned : known ≡ all_learned old first
+
+-- All of them have.
+abbrev pub LearnsAll : List Bytes → List Bytes → List Bytes → Type 0
+LearnsAll old texts known = (known ≡ all_learned old texts) × (length known ≤ TEXTS)
+
+-- The next of them isn't known, and as many are as may be.
+pub record FindsNoPlace (old texts known : List Bytes) : Type 0 where
+  pub first : List Bytes
+  pub next : Bytes
+  pub rest : List Bytes
+  pub parts : texts ≡ first ++ next ∷ rest
+  pub learned : known ≡ all_learned old first
+  pub unknown : knows known next ≡ false
+  pub full : length known ≡ TEXTS
+
+-- A command that needs texts is refused late, at the limit of texts or out of memory: the first of
+-- them have become known, and nothing else has changed.
+abbrev pub RefusedByTexts : Store → List Bytes → Store → Refusal → Type 0
+RefusedByTexts old texts new Limit =
+    FindsNoPlace old.texts texts new.texts × (new ≡ record old { texts = new.texts })
+RefusedByTexts old texts new NoMemory =
+    LearnsFirst old.texts texts new.texts × (new ≡ record old { texts = new.texts })
+RefusedByTexts old texts new _ = ⊥
 
 -- `rel`
 
@@ -36,9 +131,12 @@ rel_refusal st name types = first_of (
     ∷ [])
 
 -- A relation without rows is made, or nothing changes.
-pub record MakesRelation (old : Store) (name : Bytes) (types : List ColumnType) (result : Result ⊤ Refusal) (new : Store) : Type 0 where
+pub record MakesRelation (old : Store) (name : Bytes) (types : List ColumnType)
+    (result : Result ⊤ Refusal) (new : Store) : Type 0 where
   pub answer : Answers (rel_refusal old name types) result
-      (λ _. new ≡ record old { relations = old.relations ++ record { name = name; types = types; rows = [] } ∷ [] }) (OutOfMemoryWhere ⊤)
+      (λ _. new ≡ record old {
+        relations = old.relations ++ record { name = name; types = types; rows = [] } ∷ [];
+      }) (OutOfMemoryWhere ⊤)
   pub stays : OnErr result (new ≡ old)
 
 -- `add` and `del`
@@ -57,15 +155,26 @@ add_refusal st name row = let rows = rows_of st.relations name in first_of (row_
     ∷ (not (has_row rows row) && nat_le LAST_SEQ st.seq, Limit)
     ∷ [])
 
--- A row that isn't there goes in, as a further change; one that is there changes nothing.
+-- A row that isn't there goes in, as a further change, and its texts are known; one that is there
+-- changes nothing.
 abbrev pub AddsAs : Store → Bytes → Tuple → Store → AddOutcome → Type 0
 AddsAs old name row new Added = let rows = rows_of old.relations name in
-    (has_row rows row ≡ false) × (new ≡ record old { relations = with_rows old.relations name (rows ++ row ∷ []); seq = old.seq + 1 })
+    (has_row rows row ≡ false)
+    × (length new.texts ≤ TEXTS)
+    × (new ≡ record old {
+      relations = with_rows old.relations name (rows ++ row ∷ []);
+      texts = all_learned old.texts (texts_in row);
+      seq = old.seq + 1;
+    })
 AddsAs old name row new Same = (has_row (rows_of old.relations name) row ≡ true) × (new ≡ old)
 
-pub record AddsRow (old : Store) (name : Bytes) (row : Tuple) (result : Result AddOutcome Refusal) (new : Store) : Type 0 where
-  pub answer : Answers (add_refusal old name row) result (AddsAs old name row new) (OutOfMemoryWhere (has_row (rows_of old.relations name) row ≡ false))
-  pub stays : OnErr result (new ≡ old)
+-- Only a row that isn't there is refused late.
+pub record AddsRow (old : Store) (name : Bytes) (row : Tuple) (result : Result AddOutcome Refusal)
+    (new : Store) : Type 0 where
+  pub answer : Answers (add_refusal old name row) result (AddsAs old name row new)
+      (λ r. (has_row (rows_of old.relations name) row ≡ false)
+      × RefusedByTexts old (texts_in row) new r)
+  pub stays : is_some (add_refusal old name row) ≡ true → new ≡ old
 
 abbrev pub delete_refusal : Store → Bytes → Tuple → Option Refusal
 delete_refusal st name row = first_of (row_refusals st name row
@@ -75,33 +184,57 @@ delete_refusal st name row = first_of (row_refusals st name row
 -- A row that is there goes out, as a further change; one that isn't changes nothing.
 abbrev pub DeletesAs : Store → Bytes → Tuple → Store → DeleteOutcome → Type 0
 DeletesAs old name row new Removed = let rows = rows_of old.relations name in
-    (has_row rows row ≡ true) × (new ≡ record old { relations = with_rows old.relations name (without_row rows row); seq = old.seq + 1 })
+    (has_row rows row ≡ true) × (new ≡ record old {
+      relations = with_rows old.relations name (without_row rows row);
+      seq = old.seq + 1;
+    })
 DeletesAs old name row new Absent = (has_row (rows_of old.relations name) row ≡ false) × (new ≡ old)
 
 -- Deleting takes no memory.
-pub record DeletesRow (old : Store) (name : Bytes) (row : Tuple) (result : Result DeleteOutcome Refusal) (new : Store) : Type 0 where
-  pub answer : Answers (delete_refusal old name row) result (DeletesAs old name row new) (OutOfMemoryWhere ⊥)
+pub record DeletesRow (old : Store) (name : Bytes) (row : Tuple)
+    (result : Result DeleteOutcome Refusal) (new : Store) : Type 0 where
+  pub answer : Answers (delete_refusal old name row) result (DeletesAs old name row new)
+      (OutOfMemoryWhere ⊥)
   pub stays : OnErr result (new ≡ old)
 
 -- `query`
 
 abbrev pub query_refusal : Store → Query → Option Refusal
-query_refusal st q = first_of (
-    (is_some (query_of st.queries q.name), Taken)
-    ∷ (list_any (λ a. is_none (relation_of st.relations a.relation)) q.atoms, NoRelation)
-    ∷ (list_any (λ a. not (length a.terms == length (types_of (relation_of st.relations a.relation)))) q.atoms, Arity)
-    ∷ (nat_le QUERIES (length st.queries), Limit)
-    ∷ [])
+query_refusal st q = whole_query_refusal st.relations st.queries q
 
 -- the most lookups and links that one answer takes, and the end too, for as many head variables
 abbrev pub most_steps : ℕ → ℕ
 most_steps h = 2 * h + 1
 
--- A query is registered behind the others, and what an answer costs at most is answered.
-pub record RegistersQuery (old : Store) (q : Query) (result : Result ℕ Refusal) (new : Store) : Type 0 where
-  pub answer : Answers (query_refusal old q) result
-      (λ most. (most ≡ most_steps (length q.head)) × (new ≡ record old { queries = old.queries ++ q ∷ [] })) (OutOfMemoryWhere ⊤)
-  pub stays : OnErr result (new ≡ old)
+-- A free-connex query is registered behind the others, and its texts are known. Of another one a
+-- rest is told that shows what it lacks, and nothing changes.
+abbrev pub RegistersAs : Store → Query → Store → QueryOutcome → Type 0
+RegistersAs old q new (Registered most) =
+    IsFreeConnex (edges_of q) (head_of q)
+    × (most ≡ most_steps (length q.head))
+    × (length new.texts ≤ TEXTS)
+    × (new ≡ record old {
+      texts = all_learned old.texts (texts_in (constants_of q.atoms));
+      queries = old.queries ++ q ∷ [];
+    })
+RegistersAs old q new (Cyclic rest) =
+    ((R : List (List ℕ)) × IsCyclic (edges_of q) R × IsNamedRest q R rest) × (new ≡ old)
+RegistersAs old q new (NotConnex rest) =
+    ((R : List (List ℕ)) × IsNotConnex (edges_of q) (head_of q) R × IsNamedRest q R rest)
+    × (new ≡ old)
+
+-- A query is refused late by its texts, which are asked for only where it is free-connex; or before
+-- that is known, out of memory.
+abbrev pub RefusedLate : Store → Query → Store → Refusal → Type 0
+RefusedLate old q new r =
+    (IsFreeConnex (edges_of q) (head_of q)
+    × RefusedByTexts old (texts_in (constants_of q.atoms)) new r)
+    ⊎ ((r ≡ NoMemory) × (new ≡ old))
+
+pub record RegistersQuery (old : Store) (q : Query) (result : Result QueryOutcome Refusal)
+    (new : Store) : Type 0 where
+  pub answer : Answers (query_refusal old q) result (RegistersAs old q new) (RefusedLate old q new)
+  pub stays : is_some (query_refusal old q) ≡ true → new ≡ old
 
 -- `drop`
 
@@ -111,10 +244,13 @@ drop_refusal st used name = first_of (
     ∷ (used, InUse)
     ∷ [])
 
--- A query that isn't used is registered no more, and the others stay in their order. It takes no memory.
-pub record DropsQuery (old : Store) (used : Bool) (name : Bytes) (result : Result ⊤ Refusal) (new : Store) : Type 0 where
+-- A query that isn't used is registered no more, and the others stay in their order. It takes no
+-- memory.
+pub record DropsQuery (old : Store) (used : Bool) (name : Bytes) (result : Result ⊤ Refusal)
+    (new : Store) : Type 0 where
   pub answer : Answers (drop_refusal old used name) result
-      (λ _. new ≡ record old { queries = drop_first (λ q. bytes_eq q.name name) old.queries }) (OutOfMemoryWhere ⊥)
+      (λ _. new ≡ record old { queries = drop_first (λ q. bytes_eq q.name name) old.queries })
+      (OutOfMemoryWhere ⊥)
   pub stays : OnErr result (new ≡ old)
 
 -- `has`
@@ -127,19 +263,29 @@ type_among (c ∷ cs) (Constant v ∷ ts) x = type_among cs ts x
 type_among (c ∷ cs) [] x = None
 type_among [] ts x = None
 
--- the type of a variable: that of the first column of a body where it stands; each variable of a head stands in one
+-- the type of a variable: that of the first column of a body where it stands; each variable of a
+-- head stands in one
 abbrev pub variable_type : List Relation → List Atom → Bytes → ColumnType
 variable_type relations [] x = IntColumn
 variable_type relations (a ∷ more) x =
-    unwrap_or (type_among (types_of (relation_of relations a.relation)) a.terms x) (variable_type relations more x)
+    unwrap_or (type_among (types_of (relation_of relations a.relation)) a.terms x)
+    (variable_type relations more x)
 
 -- the types of the cells of a query's answers
 abbrev pub answer_types : List Relation → Option Query → List ColumnType
 answer_types relations None = []
 answer_types relations (Some q) = map (variable_type relations q.atoms) q.head
 
+-- why a tuple doesn't suit columns of these types
+abbrev pub misfit : List ColumnType → Tuple → Option Refusal
+misfit types t = first_of (
+    (not (length t == length types), Arity)
+    ∷ (not (fits types t), WrongType)
+    ∷ [])
+
 abbrev pub has_refusal : Store → Bytes → Tuple → Option Refusal
-has_refusal st name t = let types = answer_types st.relations (query_of st.queries name) in first_of (
+has_refusal st name t =
+    let types = answer_types st.relations (query_of st.queries name) in first_of (
     (is_none (query_of st.queries name), NoQuery)
     ∷ (not (length t == length types), Arity)
     ∷ (not (fits types t), WrongType)
@@ -151,9 +297,11 @@ Tells P true = P
 Tells P false = P → ⊥
 
 -- Whether a tuple is an answer of a query is told. It takes no memory.
-pub record TellsWhether (st : Store) (name : Bytes) (t : Tuple) (result : Result Bool Refusal) : Type 0 where
+pub record TellsWhether (st : Store) (name : Bytes) (t : Tuple)
+    (result : Result Bool Refusal) : Type 0 where
   pub answer : Answers (has_refusal st name t) result
-      (λ yes. IsSomeAnd (query_of st.queries name) (λ q. Tells (IsAnswer st.relations q t) yes)) (OutOfMemoryWhere ⊥)
+      (λ yes. IsSomeAnd (query_of st.queries name) (λ q. Tells (IsAnswer st.relations q t) yes))
+      (OutOfMemoryWhere ⊥)
 
 -- the most lookups that it takes: one for each atom
 abbrev pub has_steps : Option Query → ℕ
@@ -170,9 +318,10 @@ IsLeft Answer given t = Answer t × (Contains given t → ⊥)
 abbrev pub AreAll : (Tuple → Type 0) → List Tuple → Type 0
 AreAll Answer ts = (t : Tuple) → Answer t → Contains ts t
 
--- These are told behind the answers that were given, at most as many as asked for; with the end exactly where none is left,
--- and else all that was asked for.
-pub record TellsAnswers (Answer : Tuple → Type 0) (given : List Tuple) (count : ℕ) (told : List Tuple) (end : Bool) : Type 0 where
+-- These are told behind the answers that were given, at most as many as asked for; with the end
+-- exactly where none is left, and else all that was asked for.
+pub record TellsAnswers (Answer : Tuple → Type 0) (given : List Tuple) (count : ℕ)
+    (told : List Tuple) (end : Bool) : Type 0 where
   pub answers : All Answer told
   pub different : AreDifferent (given ++ told)
   pub none_left : end ≡ true → AreAll Answer (given ++ told)

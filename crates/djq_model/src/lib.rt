@@ -10,6 +10,7 @@
 //! says that these decide equality.
 #![tactic(auto)]
 
+pub use answered::Answered;
 pub use lent::Lent;
 pub use memory::NoMem;
 pub use name::{NAME_BYTES, Name};
@@ -18,6 +19,7 @@ pub use relation::{ColumnType, Relation, Types};
 pub use sequence::Sequence;
 pub use value::{Row, Rows, TEXT_BYTES, Text, Value};
 
+mod answered;
 mod lent;
 mod memory;
 mod name;

@@ -1,5 +1,7 @@
 ghost use Rattle.std.specs.Prelude.{◌≡◌, ◌≤◌, length};
+ghost use Rattle.djq_model.specs.Lent.{value_lent};
 
+use crate::lent::Lent;
 use crate::sequence::Sequence;
 use std::marker::Model;
 
@@ -65,6 +67,18 @@ pub enum Value {
     Int(i64),
     /// A text.
     Text(Text),
+}
+
+impl Value {
+    /// The value, lent.
+    pub fn lend(&self) -> Lent<'_>
+        ensures { value_lent result ≡ self.now }
+    {
+        match self {
+            Value::Int(number) => Lent::Int(*number),
+            Value::Text(text) => Lent::Text(text.as_bytes()),
+        }
+    }
 }
 
 impl PartialEq for Value {

@@ -19,24 +19,13 @@ use Rattle.djq_reduct.specs.Tables.{entries_at, key_at}
 use Rattle.djq_reduct.specs.Reducts.{Reducts, IsReducts, IsReductOf, IsFamily, AreReduced, SameTables, SameLeaves}
 use Rattle.djq_reduct.proofs.Family.{entries_past, leaf_law, one_family}
 use Rattle.djq_reduct.specs.Marks.{path_at, on_path, IsOff, IsBare, AreOnPath, IsWithout}
+use Rattle.djq_reduct.proofs.Paths.{reaches, free_below, off_below}
 use Rattle.djq_propagate.specs.Walks.{Changed, Ready, Lived, Died, Refused, Fewer, SamePlain}
 use Rattle.djq_propagate.specs.Touches.{IsTouched, IsTouchedUp}
 use Rattle.djq_propagate.specs.Updates.{HasInserted, HasMarked, HasKept, HasDropped, HasTaken, HasCleared, steps}
 use Rattle.djq_propagate.proofs.Families.{once, apart_of, same_keys, tuples_same, reduced_same}
 use Rattle.djq_propagate.proofs.Sides.{cond_one}
 use Rattle.djq_propagate.proofs.Plains.{fewer_refl, fewer_trans, plain_trans}
-
-pub path_zero : (nodes : List Node) (a : ℕ) → path_at nodes a 0 ≡ a
-unfolding path_at
-path_zero nodes a = refl
-
-pub path_on : (nodes : List Node) (a k : ℕ) → on_path nodes a k ≡ true → path_at nodes a (suc k) ≡ k
-unfolding path_at on_path
-path_on nodes a k h = rw h refl
-
-pub path_stays : (nodes : List Node) (a k : ℕ) → on_path nodes a k ≡ false → path_at nodes a (suc k) ≡ path_at nodes a k
-unfolding path_at on_path
-path_stays nodes a k h = rw h refl
 
 pub on_at : (nodes : List Node) (a k j : ℕ) → j ≡ path_at nodes a k → on_path nodes a k ≡ has_child (node_at nodes k) j
 unfolding on_path
@@ -62,35 +51,8 @@ pub on_within : (t : Tree) (a k : ℕ) → on_path t.nodes a k ≡ true → k < 
 unfolding on_path
 on_within t a k h = child_within t.nodes k (path_at t.nodes a k) h
 
--- a node stays the path's highest one up to its parent
-stays_on : (t : Tree) (a i k d m : ℕ) → IsTree t → has_child (node_at t.nodes k) i ≡ true → path_at t.nodes a m ≡ i → m + d ≤ k → path_at t.nodes a (m + d) ≡ i
-stays_on t a i k zero m s child at below = ap (λ (x : ℕ). path_at t.nodes a x) (omega arith) ∙ at
-stays_on t a i k (suc d) m s child at below =
-    let before : path_at t.nodes a (m + d) ≡ i = stays_on t a i k d m s child at (omega arith) in
-    let other : on_path t.nodes a (m + d) ≡ false = on_at t.nodes a (m + d) i (sym before) ∙ not_child in
-    let next : m + suc d ≡ suc (m + d) = omega arith in
-    ap (λ (x : ℕ). path_at t.nodes a x) next ∙ path_stays t.nodes a (m + d) other ∙ before
-  where
-    not_child : has_child (node_at t.nodes (m + d)) i ≡ false
-    not_child = elim (cases_Bool (has_child (node_at t.nodes (m + d)) i)) [ inl yes_child ↦ absurd (let e = s.one_parent i (m + d) k yes_child child in omega arith) | inr none ↦ none ]
-
 pub child_on : (t : Tree) (a k i : ℕ) → IsTree t → has_child (node_at t.nodes k) i ≡ true → (i ≡ a) ⊎ (on_path t.nodes a i ≡ true) → path_at t.nodes a k ≡ i
-child_on t a k i s child (inl e) =
-    let all : 0 + k ≡ k = omega arith in
-    subst (λ (x : ℕ). path_at t.nodes a x ≡ i) all (stays_on t a i k k 0 s child (path_zero t.nodes a ∙ sym e) (omega arith))
-child_on t a k i s child (inr on) =
-    let low = rising_of t s k i child in
-    let apart : suc i + (k - suc i) ≡ k = omega arith in
-    subst (λ (x : ℕ). path_at t.nodes a x ≡ i) apart (stays_on t a i k (k - suc i) (suc i) s child (path_on t.nodes a i on) (omega arith))
-
-pub off_child : (t : Tree) (a k i : ℕ) → IsTree t → has_child (node_at t.nodes k) i ≡ true → on_path t.nodes a k ≡ false → IsOff t.nodes a i
-off_child t a k i s child off = ((λ e. false≢true (sym off ∙ on_k (inl e))), off_i)
-  where
-    on_k : (i ≡ a) ⊎ (on_path t.nodes a i ≡ true) → on_path t.nodes a k ≡ true
-    on_k h = on_at t.nodes a k i (sym (child_on t a k i s child h)) ∙ child
-
-    off_i : on_path t.nodes a i ≡ false
-    off_i = elim (cases_Bool (on_path t.nodes a i)) [ inl on ↦ absurd (false≢true (sym off ∙ on_k (inr on))) | inr none ↦ none ]
+child_on t a k i s child on = reaches t.nodes a i k (rising_of t s k i child) on (free_below t i k k s child (omega arith))
 
 -- off the path nothing follows from a leaf's tuples
 off_node : (t : Tree) (ts us : List Table) (a k : ℕ) (n : Node) → IsFamily t ts → IsFamily t us → node_at t.nodes k ≡ n → k < length t.nodes → IsOff t.nodes a k
@@ -101,13 +63,13 @@ off_node t ts us a k (Leaf b) f g e within off leaves hs hu below v = hu v ∙ l
 off_node t ts us a k (Trim c) f g e within off leaves hs hu below v =
     let child = trim_child t.nodes k c e in
     hu v ∙ ap (λ (ks : List ℕ). many ks (entries_at us c) v) (same_keys t ts us f g c)
-    ∙ many_even (key_at ts c) (entries_at us c) (entries_at ts c) (below c (rising_of t f.is_tree k c child) (off_child t a k c f.is_tree child off.1)) v ∙ sym (hs v)
+    ∙ many_even (key_at ts c) (entries_at us c) (entries_at ts c) (below c (rising_of t f.is_tree k c child) (off_below t a k c f.is_tree child off.1)) v ∙ sym (hs v)
 off_node t ts us a k (Meet x y) f g e within off leaves hs hu below v =
     let first = guard_child t.nodes k x y e in
     let second = side_child t.nodes k x y e in
     hu v
-    ∙ ap₂ (λ (m n : ℕ). m * n) (below x (rising_of t f.is_tree k x first) (off_child t a k x f.is_tree first off.1) v)
-    (ap (λ (ks : List ℕ). cnt (entries_at us y) (pick ks v)) (same_keys t ts us f g x) ∙ below y (rising_of t f.is_tree k y second) (off_child t a k y f.is_tree second off.1) (pick (key_at ts x) v))
+    ∙ ap₂ (λ (m n : ℕ). m * n) (below x (rising_of t f.is_tree k x first) (off_below t a k x f.is_tree first off.1) v)
+    (ap (λ (ks : List ℕ). cnt (entries_at us y) (pick ks v)) (same_keys t ts us f g x) ∙ below y (rising_of t f.is_tree k y second) (off_below t a k y f.is_tree second off.1) (pick (key_at ts x) v))
     ∙ sym (hs v)
 
 pub off_same : (t : Tree) (ts us : List Table) (a : ℕ) → IsFamily t ts → IsFamily t us → AreReduced t ts 0 → AreReduced t us 0 → ((j : ℕ) (v : List ℕ) → j < t.leaves → j ≢ a → cnt (entries_at us j) v ≡ cnt (entries_at ts j) v)

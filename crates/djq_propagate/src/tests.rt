@@ -1,29 +1,15 @@
-ghost use Rattle.std.specs.Prelude.{◌≡◌, true, IfOk, IfSome};
-ghost use Rattle.djq_reduct.specs.Reducts.{IsNarrow};
+ghost use Rattle.std.specs.Prelude.{◌≡◌, IfOk, IfSome};
 ghost use Rattle.djq_reduct.specs.Marks.{IsBare};
 
 use super::*;
 use djq_hyper::{Edges, VarSet};
 use djq_plan::plan;
-use djq_reduct::Reducts;
+use djq_reduct::{Reducts, is_narrow};
 use djq_steps::{Blanks, Ledgers, Steps, Tally};
-use djq_tree::Tree;
 use std::alloc::{AllocError, Global};
 use std::marker::Brand;
 use std::sync::ledger::Ledger;
 use std::test::Fail;
-
-/// Whether no label and no head has more than 16 variables.
-fn is_narrow(tree: &Tree) -> bool
-    ensures { result ≡ true → IsNarrow tree.now }
-{
-    for node in 0..tree.len() {
-        if tree.label(node).len() > 16 {
-            return false;
-        }
-    }
-    tree.head().len() <= 16
-}
 
 /// The reducts of the query with these atoms and head, without a tuple; none where it has no tree.
 fn planned(alloc: Global, edges: &Edges, head: VarSet) -> Result<Option<Reducts>, AllocError>

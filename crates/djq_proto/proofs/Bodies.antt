@@ -1,5 +1,5 @@
 -- The atoms of a query, one after the other.
-use Rattle.std.proofs.Common.{◌≡◌, ℕ, zero, suc, ◌<◌, ◌≤◌, List, [], ◌∷◌, ◌++◌, Bool, true, false, cond, length, Option, Some, None, option_map, Result, Ok, Err, refl, sym, ap, ap₂, subst, ◌∙◌, arith}
+use Rattle.std.proofs.Common.{◌≡◌, ℕ, zero, suc, ◌<◌, ◌≤◌, List, [], ◌∷◌, ◌++◌, Bool, true, false, cond, length, Option, Some, None, option_map, Result, Ok, Err, refl, sym, ap, subst, ◌∙◌, arith}
 use Rattle.std.specs.List.{list_all}
 use Rattle.djq_model.specs.Data.{Bytes}
 use Rattle.djq_model.specs.declared.query.Atom.{Atom}
@@ -8,7 +8,6 @@ use Rattle.djq_value.specs.Literal.{is_name}
 use Rattle.djq_lines.specs.Grammar.{atom_in, atom_over, atoms_in, atoms_within, behind_atom, body_in, name_of, query_in, query_of, in_front, is_small_atom, is_small_term, list_in, more_in, put_first, term_of}
 use Rattle.std.proofs.lemmas.Bool.{cond-true, true≢false}
 use Rattle.djq_model.specs.declared.query.Term.{Term}
-use Rattle.djq_model.specs.declared.query.Query.{Query}
 use Rattle.djq_proto.specs.Reading.{ReadsAs, ReadsPart, is_comma, is_outside, is_small_query}
 use Rattle.djq_proto.specs.declared.refusal.LineRefusal.{LineRefusal}
 use Rattle.djq_proto.specs.declared.refusal.LineRefusal.TheVariants.{Syntax, Later, Range, NoMem}
@@ -108,31 +107,31 @@ atoms_in-step (t ∷ ts) = step_same (atom_in (t ∷ ts)) (length ts) (atoms_wit
 pub record AtomsSoFar (start rest : List Token) (atoms : Result (List Atom) LineRefusal) : Type 0 where
   pub read : List Atom
   pub split : atoms_in start ≡ onto read (atoms_in rest)
-  pub kept : ReadsAs (list_all (λ _. true)) (list_all is_small_atom) (Some read) atoms
+  pub kept : ReadsAs (list_all is_small_atom) (Some read) atoms
 
 -- an atom whose terms are refused
 pub atom_refused : (old mid new : List Token) (r : Bytes) (e : LineRefusal) → old ≡ word r ∷ mid → is_name r ≡ true
-    → ReadsPart (list_all (λ _. true)) (list_all is_small_term) (list_in term_of mid) (Err e) new → ReadsPart (λ _. true) is_small_atom (atom_in old) (Err e) new
+    → ReadsPart (list_all is_small_term) (list_in term_of mid) (Err e) new → ReadsPart is_small_atom (atom_in old) (Err e) new
 atom_refused old mid new r e front named h =
-    subst (λ o. ReadsPart (λ _. true) is_small_atom o (Err e) new) (sym (ap atom_in front ∙ cond-true _ _ _ named)) (over (list_in term_of mid) h)
+    subst (λ o. ReadsPart is_small_atom o (Err e) new) (sym (ap atom_in front ∙ cond-true _ _ _ named)) (over (list_in term_of mid) h)
   where
-    over : (o : Option (List Term × List Token)) → ReadsPart (list_all (λ _. true)) (list_all is_small_term) o (Err e) new → ReadsPart (λ _. true) is_small_atom (option_map (atom_over r) o) (Err e) new
+    over : (o : Option (List Term × List Token)) → ReadsPart (list_all is_small_term) o (Err e) new → ReadsPart is_small_atom (option_map (atom_over r) o) (Err e) new
     over None k = cc
     over (Some p) k = (held_err is_small_term is_small_atom p.0 (record { relation = r; terms = p.0 }) e refl k.0, k.1)
 
 -- an atom whose terms are kept
 pub atom_kept : (old mid new : List Token) (r : Bytes) (terms : List Term) → old ≡ word r ∷ mid → is_name r ≡ true
-    → ReadsPart (list_all (λ _. true)) (list_all is_small_term) (list_in term_of mid) (Ok terms) new → ReadsPart (λ _. true) is_small_atom (atom_in old) (Ok (record { relation = r; terms = terms })) new
+    → ReadsPart (list_all is_small_term) (list_in term_of mid) (Ok terms) new → ReadsPart is_small_atom (atom_in old) (Ok (record { relation = r; terms = terms })) new
 atom_kept old mid new r terms front named h =
-    subst (λ o. ReadsPart (λ _. true) is_small_atom o (Ok (record { relation = r; terms = terms })) new) (sym (ap atom_in front ∙ cond-true _ _ _ named)) (over (list_in term_of mid) h)
+    subst (λ o. ReadsPart is_small_atom o (Ok (record { relation = r; terms = terms })) new) (sym (ap atom_in front ∙ cond-true _ _ _ named)) (over (list_in term_of mid) h)
   where
-    over : (o : Option (List Term × List Token)) → ReadsPart (list_all (λ _. true)) (list_all is_small_term) o (Ok terms) new → ReadsPart (λ _. true) is_small_atom (option_map (atom_over r) o) (Ok (record { relation = r; terms = terms })) new
+    over : (o : Option (List Term × List Token)) → ReadsPart (list_all is_small_term) o (Ok terms) new → ReadsPart is_small_atom (option_map (atom_over r) o) (Ok (record { relation = r; terms = terms })) new
     over None k = absurd (cc)
-    over (Some p) k = ((ap (λ (ts : List Term). record { relation = r; terms = ts }) k.0.0, refl, k.0.2), k.1)
+    over (Some p) k = ((ap (λ (ts : List Term). record { relation = r; terms = ts }) k.0.0, k.0.1), k.1)
 
 -- one more atom, and a comma
 pub atoms_more : (start rest mid new : List Token) (x : Atom) (atoms more : Result (List Atom) LineRefusal) → (h : AtomsSoFar start rest atoms) → atom_in rest ≡ Some (x, mid) → mid ≡ comma ∷ new
-    → ((xs : List Atom) → ReadsAs (list_all (λ _. true)) (list_all is_small_atom) (Some xs) atoms → ReadsAs (list_all (λ _. true)) (list_all is_small_atom) (Some (xs ++ x ∷ [])) more)
+    → ((xs : List Atom) → ReadsAs (list_all is_small_atom) (Some xs) atoms → ReadsAs (list_all is_small_atom) (Some (xs ++ x ∷ [])) more)
     → AtomsSoFar start new more
 atoms_more start rest mid new x atoms more h is e add = record {
   read = h.read ++ x ∷ [];
@@ -142,10 +141,10 @@ atoms_more start rest mid new x atoms more h is e add = record {
 
 -- the last atom
 pub atoms_done : (start rest mid : List Token) (x : Atom) (atoms more : Result (List Atom) LineRefusal) → (h : AtomsSoFar start rest atoms) → atom_in rest ≡ Some (x, mid) → mid ≡ []
-    → ((xs : List Atom) → ReadsAs (list_all (λ _. true)) (list_all is_small_atom) (Some xs) atoms → ReadsAs (list_all (λ _. true)) (list_all is_small_atom) (Some (xs ++ x ∷ [])) more)
-    → ReadsAs (list_all (λ _. true)) (list_all is_small_atom) (atoms_in start) more
+    → ((xs : List Atom) → ReadsAs (list_all is_small_atom) (Some xs) atoms → ReadsAs (list_all is_small_atom) (Some (xs ++ x ∷ [])) more)
+    → ReadsAs (list_all is_small_atom) (atoms_in start) more
 atoms_done start rest mid x atoms more h is e add =
-    subst (λ o. ReadsAs (list_all (λ _. true)) (list_all is_small_atom) o more)
+    subst (λ o. ReadsAs (list_all is_small_atom) o more)
     (sym (h.split ∙ ap (onto h.read) (atoms_in-step rest ∙ ap (behind_atom atoms_in) (is ∙ ap (λ us. Some (x, us)) e))))
     (add h.read h.kept)
 
@@ -154,23 +153,23 @@ pub atoms_none : (start rest : List Token) (atoms : Result (List Atom) LineRefus
 atoms_none start rest atoms h e = h.split ∙ ap (onto h.read) (atoms_in-step rest ∙ e)
 
 -- an atom that was read, and what is behind it
-pub part_some : {A : Type 0} (served in_range : A → Bool) (o : Option (A × List Token)) (r : Result A LineRefusal) (new : List Token) → ReadsPart served in_range o r new → is_outside r ≡ false
-    → (x : A) × (o ≡ Some (x, new)) × ReadsAs served in_range (Some x) r
-part_some served in_range (Some p) r new h inside = (p.0, ap (λ us. Some (p.0, us)) (sym h.1), h.0)
-part_some served in_range None (Ok a) new h inside = absurd (cc)
-part_some served in_range None (Err Syntax) new h inside = absurd (cc)
-part_some served in_range None (Err Later) new h inside = absurd (cc)
-part_some served in_range None (Err Range) new h inside = absurd (cc)
-part_some served in_range None (Err NoMem) new h inside = absurd (cc)
+pub part_some : {A : Type 0} (in_range : A → Bool) (o : Option (A × List Token)) (r : Result A LineRefusal) (new : List Token) → ReadsPart in_range o r new → is_outside r ≡ false
+    → (x : A) × (o ≡ Some (x, new)) × ReadsAs in_range (Some x) r
+part_some in_range (Some p) r new h inside = (p.0, ap (λ us. Some (p.0, us)) (sym h.1), h.0)
+part_some in_range None (Ok a) new h inside = absurd (cc)
+part_some in_range None (Err Syntax) new h inside = absurd (cc)
+part_some in_range None (Err Later) new h inside = absurd (cc)
+part_some in_range None (Err Range) new h inside = absurd (cc)
+part_some in_range None (Err NoMem) new h inside = absurd (cc)
 
 -- and where it is outside the grammar, nothing is there
-pub part_none : {A : Type 0} (served in_range : A → Bool) (o : Option (A × List Token)) (r : Result A LineRefusal) (new : List Token) → ReadsPart served in_range o r new → is_outside r ≡ true → o ≡ None
-part_none served in_range None r new h outside = refl
-part_none served in_range (Some p) (Ok a) new h outside = absurd (cc)
-part_none served in_range (Some p) (Err Syntax) new h outside = absurd (h.0)
-part_none served in_range (Some p) (Err Later) new h outside = absurd (cc)
-part_none served in_range (Some p) (Err Range) new h outside = absurd (cc)
-part_none served in_range (Some p) (Err NoMem) new h outside = absurd (cc)
+pub part_none : {A : Type 0} (in_range : A → Bool) (o : Option (A × List Token)) (r : Result A LineRefusal) (new : List Token) → ReadsPart in_range o r new → is_outside r ≡ true → o ≡ None
+part_none in_range None r new h outside = refl
+part_none in_range (Some p) (Ok a) new h outside = absurd (cc)
+part_none in_range (Some p) (Err Syntax) new h outside = absurd (h.0)
+part_none in_range (Some p) (Err Later) new h outside = absurd (cc)
+part_none in_range (Some p) (Err Range) new h outside = absurd (cc)
+part_none in_range (Some p) (Err NoMem) new h outside = absurd (cc)
 
 -- a token that is no comma behind an atom
 pub behind_other : (a : Atom) (t : Token) (ts : List Token) (more : List Token → Option (List Atom)) → is_comma t ≡ false → behind_atom more (Some (a, t ∷ ts)) ≡ None
@@ -195,19 +194,19 @@ comma_is arrow e = absurd (cc)
 comma_is stray e = absurd (cc)
 
 -- a query whose body is refused
-pub body_refused : (n : Bytes) (head : List Bytes) (o : Option (List Atom)) (e : LineRefusal) → ReadsAs (list_all (λ _. true)) (list_all is_small_atom) o (Err e)
-    → ReadsAs (λ _. true) is_small_query (option_map (λ atoms. record { name = n; head = head; atoms = atoms }) o) (Err e)
+pub body_refused : (n : Bytes) (head : List Bytes) (o : Option (List Atom)) (e : LineRefusal) → ReadsAs (list_all is_small_atom) o (Err e)
+    → ReadsAs is_small_query (option_map (λ atoms. record { name = n; head = head; atoms = atoms }) o) (Err e)
 body_refused n head None e h = cc
 body_refused n head (Some atoms) e h = held_err is_small_atom is_small_query atoms (record { name = n; head = head; atoms = atoms }) e refl h
 
 -- a query whose head is refused
-pub head_refused : (n : Bytes) (head : List Bytes) (o : Option (List Atom)) (atoms : List Atom) (e : LineRefusal) → ReadsAs (list_all (λ _. true)) (list_all (λ _. true)) (Some head) (Err e) → ReadsAs (list_all (λ _. true)) (list_all is_small_atom) o (Ok atoms)
-    → ReadsAs (λ _. true) is_small_query (option_map (λ bs. record { name = n; head = head; atoms = bs }) o) (Err e)
+pub head_refused : (n : Bytes) (head : List Bytes) (o : Option (List Atom)) (atoms : List Atom) (e : LineRefusal) → ReadsAs (list_all (λ _. true)) (Some head) (Err e) → ReadsAs (list_all is_small_atom) o (Ok atoms)
+    → ReadsAs is_small_query (option_map (λ bs. record { name = n; head = head; atoms = bs }) o) (Err e)
 head_refused n head None atoms e h k = absurd (cc)
 head_refused n head (Some bs) atoms Syntax h k = absurd h
-head_refused n head (Some bs) atoms Later h k = absurd (true≢false (sym (all_true head) ∙ h))
-head_refused n head (Some bs) atoms Range h k = absurd (true≢false (sym (all_true head) ∙ h.1))
-head_refused n head (Some bs) atoms NoMem h k = (refl, k.2)
+head_refused n head (Some bs) atoms Later h k = absurd h
+head_refused n head (Some bs) atoms Range h k = absurd (true≢false (sym (all_true head) ∙ h))
+head_refused n head (Some bs) atoms NoMem h k = k.1
 
 -- what stands behind the name of a query and its head
 pub query_split : (old mid rest : List Token) (n : Bytes) (head : List Bytes) → old ≡ word n ∷ mid → is_name n ≡ true → list_in name_of mid ≡ Some (head, rest)

@@ -2,9 +2,7 @@ pub mod Numerals
 pub mod Lists
 pub mod Cutting
 pub mod Listing
-pub mod NameReading
 pub mod Bodies
-pub mod Served
 pub mod Sayings
 pub mod Utf8
 pub mod Spelled

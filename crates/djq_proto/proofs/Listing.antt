@@ -1,13 +1,10 @@
 -- Lists of items, token by token.
-use Rattle.std.proofs.Common.{◌≡◌, List, [], ◌∷◌, ◌++◌, Bool, true, false, ◌&&◌, Option, Some, None, Result, Ok, Err, refl, sym, ap, ap₂, subst, ◌∙◌, append_assoc}
+use Rattle.std.proofs.Common.{◌≡◌, List, [], ◌∷◌, ◌++◌, Bool, true, false, Option, Some, None, Result, Ok, Err, refl, sym, ap, ap₂, subst, ◌∙◌, append_assoc}
 use Rattle.std.specs.List.{list_all}
 use Rattle.std.specs.Prelude.{IsErrAnd}
-use Rattle.std.proofs.lemmas.Bool.{true≢false, cond-true}
-use Rattle.std.proofs.lemmas.List.Folds.{list_all-append}
 use Rattle.djq_value.specs.Token.{Token, comma, close_paren}
 use Rattle.djq_lines.specs.Grammar.{all_of, in_front, more_in, put_first}
 use Rattle.djq_proto.specs.Reading.{ReadsAs, ReadsPart, is_outside}
-use Rattle.djq_proto.specs.Refusing.{first_of}
 use Rattle.djq_proto.specs.declared.refusal.LineRefusal.{LineRefusal}
 use Rattle.djq_proto.specs.declared.refusal.LineRefusal.TheVariants.{Syntax, Later, Range, NoMem}
 
@@ -38,59 +35,59 @@ prepend-more read x None = refl
 prepend-more read x (Some r) = ap (λ ys. Some (ys, r.1)) (sym (append_assoc read (x ∷ []) r.0))
 
 -- What was read of items to the line's end.
-pub record ReadSoFar {A : Type 0} (of : Token → Option A) (served in_range : A → Bool) (start rest : List Token) (items : Result (List A) LineRefusal) : Type 0 where
+pub record ReadSoFar {A : Type 0} (of : Token → Option A) (in_range : A → Bool) (start rest : List Token) (items : Result (List A) LineRefusal) : Type 0 where
   pub read : List A
   pub split : all_of of start ≡ onto read (all_of of rest)
-  pub kept : ReadsAs (list_all served) (list_all in_range) (Some read) items
+  pub kept : ReadsAs (list_all in_range) (Some read) items
 
 -- What was read of items in parentheses, where another one is in front.
-pub record ListSoFar {A : Type 0} (of : Token → Option A) (served in_range : A → Bool) (whole : Option (List A × List Token)) (t : Token) (rest : List Token) (items : Result (List A) LineRefusal) : Type 0 where
+pub record ListSoFar {A : Type 0} (of : Token → Option A) (in_range : A → Bool) (whole : Option (List A × List Token)) (t : Token) (rest : List Token) (items : Result (List A) LineRefusal) : Type 0 where
   pub read : List A
   pub split : whole ≡ prepend read (put_first (of t) (more_in of rest))
-  pub kept : ReadsAs (list_all served) (list_all in_range) (Some read) items
+  pub kept : ReadsAs (list_all in_range) (Some read) items
 
 -- What was read is something where it isn't outside the grammar.
-pub reads_some : {A : Type 0} (served in_range : A → Bool) (o : Option A) (r : Result A LineRefusal) → ReadsAs served in_range o r → is_outside r ≡ false
-    → (x : A) × (o ≡ Some x) × ReadsAs served in_range (Some x) r
-reads_some served in_range (Some x) r h inside = (x, refl, h)
-reads_some served in_range None (Ok a) h inside = absurd (cc)
-reads_some served in_range None (Err Syntax) h inside = absurd (cc)
-reads_some served in_range None (Err Later) h inside = absurd (cc)
-reads_some served in_range None (Err Range) h inside = absurd (cc)
-reads_some served in_range None (Err NoMem) h inside = absurd (cc)
+pub reads_some : {A : Type 0} (in_range : A → Bool) (o : Option A) (r : Result A LineRefusal) → ReadsAs in_range o r → is_outside r ≡ false
+    → (x : A) × (o ≡ Some x) × ReadsAs in_range (Some x) r
+reads_some in_range (Some x) r h inside = (x, refl, h)
+reads_some in_range None (Ok a) h inside = absurd (cc)
+reads_some in_range None (Err Syntax) h inside = absurd (cc)
+reads_some in_range None (Err Later) h inside = absurd (cc)
+reads_some in_range None (Err Range) h inside = absurd (cc)
+reads_some in_range None (Err NoMem) h inside = absurd (cc)
 
 -- one more item to the line's end
-pub read_more : {A : Type 0} (of : Token → Option A) (served in_range : A → Bool) (start rest new : List Token) (t : Token) (x : A) (items more : Result (List A) LineRefusal) (item : Result A LineRefusal)
-    → (h : ReadSoFar of served in_range start rest items) → rest ≡ t ∷ new → of t ≡ Some x
-    → ((xs : List A) → ReadsAs (list_all served) (list_all in_range) (Some xs) items → ReadsAs (list_all served) (list_all in_range) (Some (xs ++ x ∷ [])) more)
-    → ReadSoFar of served in_range start new more
-read_more of served in_range start rest new t x items more item h e is add = record {
+pub read_more : {A : Type 0} (of : Token → Option A) (in_range : A → Bool) (start rest new : List Token) (t : Token) (x : A) (items more : Result (List A) LineRefusal) (item : Result A LineRefusal)
+    → (h : ReadSoFar of in_range start rest items) → rest ≡ t ∷ new → of t ≡ Some x
+    → ((xs : List A) → ReadsAs (list_all in_range) (Some xs) items → ReadsAs (list_all in_range) (Some (xs ++ x ∷ [])) more)
+    → ReadSoFar of in_range start new more
+read_more of in_range start rest new t x items more item h e is add = record {
   read = h.read ++ x ∷ [];
   split = h.split ∙ ap (λ us. onto h.read (all_of of us)) e ∙ ap (λ o. onto h.read (in_front o (all_of of new))) is ∙ onto-more h.read x (all_of of new);
   kept = add h.read h.kept;
 }
 
 -- one more item of a list, and a comma and another one in front
-pub list_more : {A : Type 0} (of : Token → Option A) (served in_range : A → Bool) (whole : Option (List A × List Token)) (t u : Token) (rest new : List Token) (x : A) (items more : Result (List A) LineRefusal)
-    → (h : ListSoFar of served in_range whole t rest items) → of t ≡ Some x → rest ≡ comma ∷ u ∷ new
-    → ((xs : List A) → ReadsAs (list_all served) (list_all in_range) (Some xs) items → ReadsAs (list_all served) (list_all in_range) (Some (xs ++ x ∷ [])) more)
-    → ListSoFar of served in_range whole u new more
-list_more of served in_range whole t u rest new x items more h is e add = record {
+pub list_more : {A : Type 0} (of : Token → Option A) (in_range : A → Bool) (whole : Option (List A × List Token)) (t u : Token) (rest new : List Token) (x : A) (items more : Result (List A) LineRefusal)
+    → (h : ListSoFar of in_range whole t rest items) → of t ≡ Some x → rest ≡ comma ∷ u ∷ new
+    → ((xs : List A) → ReadsAs (list_all in_range) (Some xs) items → ReadsAs (list_all in_range) (Some (xs ++ x ∷ [])) more)
+    → ListSoFar of in_range whole u new more
+list_more of in_range whole t u rest new x items more h is e add = record {
   read = h.read ++ x ∷ [];
   split = h.split ∙ ap₂ (λ o us. prepend h.read (put_first o (more_in of us))) is e ∙ prepend-more h.read x (put_first (of u) (more_in of new));
   kept = add h.read h.kept;
 }
 
 -- the last item of a list, and its `)`
-pub list_done : {A : Type 0} (of : Token → Option A) (served in_range : A → Bool) (whole : Option (List A × List Token)) (t : Token) (rest new : List Token) (x : A) (items more : Result (List A) LineRefusal)
-    → (h : ListSoFar of served in_range whole t rest items) → of t ≡ Some x → rest ≡ close_paren ∷ new
-    → ((xs : List A) → ReadsAs (list_all served) (list_all in_range) (Some xs) items → ReadsAs (list_all served) (list_all in_range) (Some (xs ++ x ∷ [])) more)
-    → ReadsPart (list_all served) (list_all in_range) whole more new
-list_done of served in_range whole t rest new x items more h is e add =
+pub list_done : {A : Type 0} (of : Token → Option A) (in_range : A → Bool) (whole : Option (List A × List Token)) (t : Token) (rest new : List Token) (x : A) (items more : Result (List A) LineRefusal)
+    → (h : ListSoFar of in_range whole t rest items) → of t ≡ Some x → rest ≡ close_paren ∷ new
+    → ((xs : List A) → ReadsAs (list_all in_range) (Some xs) items → ReadsAs (list_all in_range) (Some (xs ++ x ∷ [])) more)
+    → ReadsPart (list_all in_range) whole more new
+list_done of in_range whole t rest new x items more h is e add =
     let all : whole ≡ Some (h.read ++ x ∷ [], new) = h.split ∙ ap₂ (λ o us. prepend h.read (put_first o (more_in of us))) is e in
-    subst (λ o. ReadsPart (list_all served) (list_all in_range) o more new) (sym all) (add h.read h.kept, refl)
+    subst (λ o. ReadsPart (list_all in_range) o more new) (sym all) (add h.read h.kept, refl)
 
--- every item of a list is served where each is
+-- a test that each item passes
 pub all_true : {A : Type 0} (xs : List A) → list_all (λ _. true) xs ≡ true
 all_true [] = refl
 all_true (x ∷ xs) = all_true xs
@@ -100,10 +97,10 @@ pub err_is : {A E : Type 0} (r : Result A E) (e : E) → IsErrAnd r (λ x. x ≡
 err_is (Ok a) e h = absurd h
 err_is (Err x) e h = ap (λ y. Err y) h
 
--- Where nothing of a list is unserved, its refusal is that of what holds it.
+-- The refusal of a list is that of what holds it.
 pub held_err : {A B : Type 0} (fits : A → Bool) (holds : B → Bool) (xs : List A) (b : B) (e : LineRefusal) → holds b ≡ list_all fits xs
-    → ReadsAs (list_all (λ _. true)) (list_all fits) (Some xs) (Err e) → ReadsAs (λ _. true) holds (Some b) (Err e)
+    → ReadsAs (list_all fits) (Some xs) (Err e) → ReadsAs holds (Some b) (Err e)
 held_err fits holds xs b Syntax same h = absurd h
-held_err fits holds xs b Later same h = absurd (true≢false (sym (all_true xs) ∙ h))
-held_err fits holds xs b Range same h = (refl, same ∙ h.1)
-held_err fits holds xs b NoMem same h = (refl, same ∙ h.1)
+held_err fits holds xs b Later same h = absurd h
+held_err fits holds xs b Range same h = same ∙ h
+held_err fits holds xs b NoMem same h = same ∙ h

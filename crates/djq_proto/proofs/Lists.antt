@@ -1,5 +1,5 @@
 -- Lists are read exactly where tokens say their items.
-use Rattle.std.proofs.Common.{◌≡◌, ℕ, ℤ, Bool, true, false, cond, List, [], ◌∷◌, ◌++◌, length, Option, Some, None, option_map, refl, sym, ap, ap₂, subst, ◌∙◌, codes}
+use Rattle.std.proofs.Common.{◌≡◌, Bool, true, false, cond, List, [], ◌∷◌, ◌++◌, Option, Some, None, option_map, refl, ap, ap₂, subst, ◌∙◌, codes}
 use Rattle.std.specs.List.{AllZip}
 use Rattle.std.proofs.lemmas.Bool.{cond-true, cond-false}
 use Rattle.djq_model.specs.Data.{Bytes, bytes_eq}
@@ -13,7 +13,7 @@ use Rattle.djq_model.specs.declared.query.Term.TheVariants.{Variable, Hole, Cons
 use Rattle.djq_value.specs.Token.{Token, word, text, open_paren, close_paren, comma, arrow, stray}
 use Rattle.djq_value.specs.Literal.{integer_of, is_name, literal_of}
 use Rattle.djq_lines.specs.Grammar.{all_of, in_front, list_in, more_in, name_of, put_first, term_of, type_of}
-use Rattle.djq_proto.specs.Saying.{IsInteger, IsName, SaysName, SaysTerm, SaysType, SaysValue, list_tokens, more_tokens}
+use Rattle.djq_proto.specs.Saying.{IsName, SaysName, SaysTerm, SaysType, SaysValue, list_tokens, more_tokens}
 use Rattle.djq_proto.proofs.Numerals.{integer_from, integer_no_name, integer_said, map_some}
 
 -- Items.

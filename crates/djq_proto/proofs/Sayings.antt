@@ -1,14 +1,12 @@
 -- Tokens are read as a command exactly where they say it.
-use Rattle.std.proofs.Common.{◌≡◌, ℕ, zero, suc, ◌<◌, ◌≤◌, Bool, true, false, cond, ◌&&◌, List, [], ◌∷◌, ◌++◌, length, Option, Some, None, option_map, refl, sym, ap, ap₂, subst, ◌∙◌, arith, eqb, leb, ◌↔◌, codes, append-nil}
+use Rattle.std.proofs.Common.{◌≡◌, ℕ, zero, suc, ◌<◌, true, ◌&&◌, List, [], ◌∷◌, ◌++◌, length, Option, Some, None, option_map, refl, sym, ap, ap₂, subst, ◌∙◌, arith, leb, ◌↔◌, codes, append-nil}
 use Rattle.std.specs.List.{AllZip}
-use Rattle.std.proofs.lemmas.Bool.{cond-true, cond-false, and_parts, and_from, leb-true, le-leb}
+use Rattle.std.proofs.lemmas.Bool.{cond-true, and_parts, and_from, leb-true, le-leb}
 use Rattle.djq_model.specs.Data.{Bytes, Tuple, bytes_eq}
 use Rattle.djq_model.specs.Equality.{bytes_eq-decides}
-use Rattle.djq_model.specs.declared.value.Value.{Value}
 use Rattle.djq_model.specs.declared.relation.ColumnType.{ColumnType}
 use Rattle.djq_model.specs.declared.query.Atom.{Atom}
 use Rattle.djq_model.specs.declared.query.Query.{Query}
-use Rattle.djq_model.specs.declared.query.Term.{Term}
 use Rattle.djq_lines.specs.declared.command.Command.{Command}
 use Rattle.djq_lines.specs.declared.command.Command.TheVariants.{Rel, Add, Del, Query as Register, Drop, Open, Next, Close, Has, Watch, Unwatch, Explain, Quit, Stop}
 use Rattle.djq_lines.specs.declared.keyword.Keyword.{Keyword}
@@ -16,10 +14,10 @@ use Rattle.djq_lines.specs.declared.keyword.Keyword.TheVariants.{Rel as RelWord,
 use Rattle.djq_value.specs.Token.{Token, word, text, open_paren, close_paren, comma, arrow, stray}
 use Rattle.djq_value.specs.Literal.{is_name, literal_of, natural_of}
 use Rattle.djq_lines.specs.Grammar.{all_of, atom_in, atom_over, atoms_in, atoms_within, behind_atom, body_in, command_behind, command_in, command_with, count_of, in_front, is_count, keyword_of, list_in, name_and_count, name_of, named_any, named_some, nothing, one_name, query_in, query_of, term_of, two_names, type_of}
-use Rattle.djq_proto.specs.Saying.{IsName, IsNumeral, Says, SaysAtom, SaysAtoms, SaysName, SaysOne, SaysQuery, SaysRow, SaysTerm, SaysType, SaysValue, list_tokens}
+use Rattle.djq_proto.specs.Saying.{IsName, Says, SaysAtom, SaysAtoms, SaysName, SaysOne, SaysQuery, SaysRow, SaysTerm, SaysType, SaysValue, list_tokens}
 use Rattle.djq_proto.proofs.Bodies.{atoms_in-step}
 use Rattle.djq_proto.proofs.Numerals.{guard_some, map_some, numeral_from, numeral_said}
-use Rattle.djq_proto.proofs.Lists.{IsList, all_from, all_said, list_from, list_said, name_from, name_said, pick, term_from, term_said, type_from, type_said, value_from, value_said}
+use Rattle.djq_proto.proofs.Lists.{all_from, all_said, list_from, list_said, name_from, name_said, pick, term_from, term_said, type_from, type_said, value_from, value_said}
 
 pair_same : {A B : Type 0} (x y : A × B) → Some x ≡ Some y → (x.0 ≡ y.0) × (x.1 ≡ y.1)
 pair_same {A} {B} x y e =

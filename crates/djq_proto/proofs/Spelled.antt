@@ -1,10 +1,10 @@
 -- A line says a command exactly where it spells it.
-use Rattle.std.proofs.Common.{◌≡◌, ◌↔◌, List, [], ◌∷◌, ◌++◌, Bool, true, Option, Some, None, sym, ap, subst, ◌∙◌, refl}
+use Rattle.std.proofs.Common.{◌≡◌, ◌↔◌, List, [], ◌∷◌, ◌++◌, Some, sym, ap, subst, ◌∙◌, refl}
 use Rattle.std.specs.List.{AllZip}
 use Rattle.std.specs.Str.{is_utf8}
 use Rattle.std.proofs.lemmas.Bool.{cond-true}
 use Rattle.std.proofs.lemmas.Str.{IsUtf8-from_is_utf8}
-use Rattle.djq_model.specs.Data.{Bytes, Tuple}
+use Rattle.djq_model.specs.Data.{Bytes}
 use Rattle.djq_model.specs.declared.value.Value.{Value}
 use Rattle.djq_model.specs.declared.value.Value.TheVariants.{Int, Text}
 use Rattle.djq_model.specs.declared.relation.ColumnType.{ColumnType}
@@ -19,7 +19,7 @@ use Rattle.djq_value.specs.Spelling.{HasNoStray}
 use Rattle.djq_value.proofs.Spellings.{tokens_are_spelled}
 use Rattle.djq_lines.specs.Grammar.{command_in, command_of}
 use Rattle.djq_proto.specs.Laws.{Spells}
-use Rattle.djq_proto.specs.Saying.{Says, SaysAtom, SaysAtoms, SaysName, SaysQuery, SaysTerm, SaysType, SaysValue, list_tokens, more_tokens}
+use Rattle.djq_proto.specs.Saying.{Says, SaysAtom, SaysAtoms, SaysName, SaysTerm, SaysType, SaysValue, list_tokens, more_tokens}
 use Rattle.djq_proto.proofs.Numerals.{guard_some}
 use Rattle.djq_proto.proofs.Sayings.{commands_are_said}
 use Rattle.djq_proto.proofs.Utf8.{utf8_yes}

@@ -2,46 +2,31 @@
 use Rattle.std.specs.Prelude.{◌≡◌, List, Bool, true, false, Option, None, Some, Result, Ok, Err}
 use Rattle.std.specs.List.{list_all}
 use Rattle.djq_model.specs.Data.{Bytes}
-use Rattle.djq_model.specs.declared.query.Atom.{Atom}
 use Rattle.djq_model.specs.declared.query.Query.{Query}
 use Rattle.djq_lines.specs.declared.command.Command.{Command}
 use Rattle.djq_value.specs.Token.{Token, comma}
-use Rattle.djq_lines.specs.Grammar.{command_of, is_in_range, is_served, is_simple, is_small_atom, takes_memory_to_read}
+use Rattle.djq_lines.specs.Grammar.{command_of, is_in_range, is_served, is_small_atom, takes_memory_to_read}
 use Rattle.djq_proto.specs.declared.refusal.LineRefusal.{LineRefusal}
 use Rattle.djq_proto.specs.declared.refusal.LineRefusal.TheVariants.{Syntax, Later, Range, NoMem}
 
--- Nothing is there to be read, and `Syntax` is answered; or something is. Then the answer is `Later` where it isn't served, else
--- `Range` where it isn't in range, else it or out of memory.
-abbrev pub ReadsAs : {A : Type 0} → (A → Bool) → (A → Bool) → Option A → Result A LineRefusal → Type 0
-ReadsAs served in_range None r = r ≡ Err Syntax
-ReadsAs served in_range (Some a) (Ok b) = (b ≡ a) × (served a ≡ true) × (in_range a ≡ true)
-ReadsAs served in_range (Some a) (Err Later) = served a ≡ false
-ReadsAs served in_range (Some a) (Err Range) = (served a ≡ true) × (in_range a ≡ false)
-ReadsAs served in_range (Some a) (Err NoMem) = (served a ≡ true) × (in_range a ≡ true)
-ReadsAs served in_range (Some a) (Err Syntax) = ⊥
+-- Nothing is there to be read, and `Syntax` is answered; or something is. Then the answer is `Range`
+-- where it isn't in range, else it or out of memory.
+abbrev pub ReadsAs : {A : Type 0} → (A → Bool) → Option A → Result A LineRefusal → Type 0
+ReadsAs in_range None r = r ≡ Err Syntax
+ReadsAs in_range (Some a) (Ok b) = (b ≡ a) × (in_range a ≡ true)
+ReadsAs in_range (Some a) (Err Range) = in_range a ≡ false
+ReadsAs in_range (Some a) (Err NoMem) = in_range a ≡ true
+ReadsAs in_range (Some a) (Err _) = ⊥
 
 -- The same of what stands in front of other tokens: these are left.
-abbrev pub ReadsPart : {A : Type 0} → (A → Bool) → (A → Bool) → Option (A × List Token) → Result A LineRefusal → List Token → Type 0
-ReadsPart served in_range None r left = r ≡ Err Syntax
-ReadsPart served in_range (Some p) r left = ReadsAs served in_range (Some p.0) r × (left ≡ p.1)
+abbrev pub ReadsPart : {A : Type 0} → (A → Bool) → Option (A × List Token) → Result A LineRefusal
+    → List Token → Type 0
+ReadsPart in_range None r left = r ≡ Err Syntax
+ReadsPart in_range (Some p) r left = ReadsAs in_range (Some p.0) r × (left ≡ p.1)
 
 -- whether each literal of a query is within its limit
 abbrev pub is_small_query : Query → Bool
 is_small_query q = list_all is_small_atom q.atoms
-
--- whether a query is served
-abbrev pub is_simple_query : Query → Bool
-is_simple_query q = is_simple q.head q.atoms
-
--- a body, where there is one, makes with this head a query that is served or not
-abbrev pub IfSimpleBody : List Bytes → Option (List Atom) → Bool → Type 0
-IfSimpleBody head None b = Unit {0}
-IfSimpleBody head (Some atoms) b = b ≡ is_simple head atoms
-
--- a query, where there is one, is served or not
-abbrev pub IfSimple : Option Query → Bool → Type 0
-IfSimple None b = Unit {0}
-IfSimple (Some q) b = b ≡ is_simple_query q
 
 -- whether a token is a comma
 abbrev pub is_comma : Token → Bool
@@ -59,9 +44,18 @@ abbrev pub TakesMemory : Option Command → Result Command LineRefusal → Type 
 TakesMemory (Some c) (Err NoMem) = takes_memory_to_read c ≡ true
 TakesMemory o r = Unit {0}
 
+-- The same of a command, which may not be served: then `Later` is answered.
+abbrev pub ReadsCommand : Option Command → Result Command LineRefusal → Type 0
+ReadsCommand None r = r ≡ Err Syntax
+ReadsCommand (Some c) (Ok d) = (d ≡ c) × (is_served c ≡ true) × (is_in_range c ≡ true)
+ReadsCommand (Some c) (Err Later) = is_served c ≡ false
+ReadsCommand (Some c) (Err Range) = (is_served c ≡ true) × (is_in_range c ≡ false)
+ReadsCommand (Some c) (Err NoMem) = (is_served c ≡ true) × (is_in_range c ≡ true)
+ReadsCommand (Some c) (Err Syntax) = ⊥
+
 -- what reading a command answers
 abbrev pub Gives : Option Command → Result Command LineRefusal → Type 0
-Gives o r = ReadsAs is_served is_in_range o r × TakesMemory o r
+Gives o r = ReadsCommand o r × TakesMemory o r
 
 -- what reading a line answers
 abbrev pub Reads : Bytes → Result Command LineRefusal → Type 0

@@ -99,7 +99,11 @@ fn read_behind(
         }
         Keyword::Quit => read_nothing(lexer, Command::Quit),
         Keyword::Stop => read_nothing(lexer, Command::Stop),
-        Keyword::Watch | Keyword::Unwatch | Keyword::Explain => {
+        Keyword::Explain => {
+            let query = read_one_name(lexer)?;
+            Ok(Command::Explain { query })
+        }
+        Keyword::Watch | Keyword::Unwatch => {
             read_one_name(lexer)?;
             Err(LineRefusal::Later)
         }

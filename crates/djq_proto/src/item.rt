@@ -8,19 +8,17 @@ use djq_model::{ColumnType, Name, Term, Value};
 use djq_value::{Token, is_text, read_literal, read_name};
 use std::alloc::Global;
 
-// An item of a list: what it is of a token, and which items are served and in range.
+// An item of a list: what it is of a token, and which items are in range.
 pub(crate) trait Item: Drop {
     ghost use Rattle.std.specs.Prelude.{Bool, Option};
     ghost use Rattle.djq_value.specs.Token.{Token as Lexeme};
 
     ghost of: { Lexeme → Option Self };
 
-    ghost served: { Self → Bool };
-
     ghost in_range: { Self → Bool };
 
     fn read(alloc: Global, token: &Token<'_>) -> Result<Self, LineRefusal>
-        ensures { ReadsAs served in_range (of (lexeme_of token.now)) result };
+        ensures { ReadsAs in_range (of (lexeme_of token.now)) result };
 }
 
 impl Item for Name {
@@ -28,8 +26,6 @@ impl Item for Name {
     ghost use Rattle.djq_lines.specs.Grammar.{name_of};
 
     ghost of = { name_of };
-
-    ghost served = { λ _. true };
 
     ghost in_range = { λ _. true };
 
@@ -43,18 +39,16 @@ impl Item for Name {
 
 impl Item for ColumnType {
     ghost use Rattle.std.specs.Prelude.{true};
-    ghost use Rattle.djq_lines.specs.Grammar.{is_int_column, type_of};
+    ghost use Rattle.djq_lines.specs.Grammar.{type_of};
 
     ghost of = { type_of };
-
-    ghost served = { is_int_column };
 
     ghost in_range = { λ _. true };
 
     fn read(_alloc: Global, token: &Token<'_>) -> Result<Self, LineRefusal> {
         match token {
             Token::Word(word) if is_text(word, b"int") => Ok(ColumnType::Int),
-            Token::Word(word) if is_text(word, b"text") => Err(LineRefusal::Later),
+            Token::Word(word) if is_text(word, b"text") => Ok(ColumnType::Text),
             _ => Err(LineRefusal::Syntax),
         }
     }
@@ -62,18 +56,12 @@ impl Item for ColumnType {
 
 impl Item for Value {
     ghost use Rattle.djq_value.specs.Literal.{is_small_value, literal_of};
-    ghost use Rattle.djq_lines.specs.Grammar.{is_integer};
 
     ghost of = { literal_of };
-
-    ghost served = { is_integer };
 
     ghost in_range = { is_small_value };
 
     fn read(alloc: Global, token: &Token<'_>) -> Result<Self, LineRefusal> {
-        if let Token::Text(_) = token {
-            return Err(LineRefusal::Later);
-        }
         Ok(read_literal(alloc, token)?)
     }
 }
@@ -83,8 +71,6 @@ impl Item for Term {
     ghost use Rattle.djq_lines.specs.Grammar.{is_small_term, term_of};
 
     ghost of = { term_of };
-
-    ghost served = { λ _. true };
 
     ghost in_range = { is_small_term };
 

@@ -1,7 +1,7 @@
 // Lists of items: to the line's end, or in parentheses.
 //
-// Out of memory, or behind an item that isn't served or isn't in range, the line is read on, since
-// an item that is outside the grammar comes first in the order of refusals.
+// Out of memory, or behind an item that isn't in range, the line is read on, since an item that is
+// outside the grammar comes first in the order of refusals.
 ghost use Rattle.std.specs.Prelude.{◌≡◌, ◌∷◌, ◌++◌, [], Bool, List, Some};
 ghost use Rattle.std.specs.List.{list_all};
 ghost use Rattle.djq_lines.specs.Grammar.{all_of, list_in, more_in, put_first};
@@ -19,9 +19,9 @@ pub(crate) fn added<T: Drop>(
     items: Result<Sequence<T>, LineRefusal>,
     item: Result<T, LineRefusal>,
 ) -> Result<Sequence<T>, LineRefusal>
-    ensures { (served in_range : T → Bool) (xs : List T) (x : T)
-        → ReadsAs (list_all served) (list_all in_range) (Some xs) items → ReadsAs served in_range (Some x) item
-        → ReadsAs (list_all served) (list_all in_range) (Some (xs ++ x ∷ [])) result }
+    ensures { (in_range : T → Bool) (xs : List T) (x : T)
+        → ReadsAs (list_all in_range) (Some xs) items → ReadsAs in_range (Some x) item
+        → ReadsAs (list_all in_range) (Some (xs ++ x ∷ [])) result }
 {
     match (items, item) {
         (Ok(mut items), Ok(item)) => {
@@ -46,7 +46,7 @@ pub(crate) fn read_all<T: Item>(
     alloc: Global,
     lexer: &mut Lexer<'_>,
 ) -> Result<Sequence<T>, LineRefusal>
-    ensures { ReadsAs (list_all T.served) (list_all T.in_range) (all_of T.of lexer.old) result }
+    ensures { ReadsAs (list_all T.in_range) (all_of T.of lexer.old) result }
 {
     let mut items = Ok(Sequence::new(alloc));
     'items: while let Some(token) = lexer.next() {
@@ -64,7 +64,7 @@ pub(crate) fn read_list<T: Item>(
     alloc: Global,
     lexer: &mut Lexer<'_>,
 ) -> Result<Sequence<T>, LineRefusal>
-    ensures { ReadsPart (list_all T.served) (list_all T.in_range)
+    ensures { ReadsPart (list_all T.in_range)
         (list_in T.of lexer.old) result lexer.new }
 {
     let Some(Token::Open) = lexer.next() else {
@@ -83,7 +83,7 @@ fn read_from<'a, T: Item>(
     lexer: &mut Lexer<'a>,
     first: Token<'a>,
 ) -> Result<Sequence<T>, LineRefusal>
-    ensures { ReadsPart (list_all T.served) (list_all T.in_range)
+    ensures { ReadsPart (list_all T.in_range)
         (put_first (T.of (lexeme_of first.entry)) (more_in T.of lexer.old)) result lexer.new }
 {
     let mut items = Ok(Sequence::new(alloc));

@@ -22,7 +22,6 @@ mod laws;
 mod parts;
 mod query;
 mod refusal;
-mod simple;
 mod splitter;
 #[cfg(test)]
 mod tests;

@@ -22,7 +22,7 @@ pub(crate) fn read_named_some<T: Item>(
     alloc: Global,
     lexer: &mut Lexer<'_>,
 ) -> Result<(Name, Sequence<T>), LineRefusal>
-    ensures { ReadsAs (λ p. list_all T.served p.1) (λ p. list_all T.in_range p.1)
+    ensures { ReadsAs (λ p. list_all T.in_range p.1)
         (named_some T.of lexer.old) result }
 {
     let Some(name) = next_name(lexer) else {
@@ -40,7 +40,7 @@ pub(crate) fn read_named_any<T: Item>(
     alloc: Global,
     lexer: &mut Lexer<'_>,
 ) -> Result<(Name, Sequence<T>), LineRefusal>
-    ensures { ReadsAs (λ p. list_all T.served p.1) (λ p. list_all T.in_range p.1)
+    ensures { ReadsAs (λ p. list_all T.in_range p.1)
         (named_any T.of lexer.old) result }
 {
     let Some(name) = next_name(lexer) else {

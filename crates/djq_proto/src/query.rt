@@ -4,33 +4,17 @@ ghost use Rattle.std.specs.List.{list_all};
 ghost use Rattle.djq_lines.specs.Grammar.{atom_in, atoms_in, body_in, is_small_atom, query_in};
 ghost use Rattle.djq_value.specs.Lexing.{lexeme_of};
 ghost use Rattle.djq_proto.specs.Reading.{ReadsAs, ReadsPart, is_comma as is_comma_of};
-ghost use Rattle.djq_proto.specs.Reading.{is_simple_query, is_small_query};
+ghost use Rattle.djq_proto.specs.Reading.{is_small_query};
 
 use crate::items::{added, is_outside, read_list};
 use crate::refusal::LineRefusal;
-use crate::simple::is_simple;
 use djq_model::{Atom, Atoms, Name, Query, Sequence, Term};
 use djq_value::{Lexer, Token, next_name};
 use std::alloc::Global;
 
 // A query, to the line's end.
 pub(crate) fn read_query(alloc: Global, lexer: &mut Lexer<'_>) -> Result<Query, LineRefusal>
-    ensures { ReadsAs is_simple_query is_small_query (query_in lexer.old) result }
-{
-    let text = lexer.fork();
-    let query = read_any_query(alloc, lexer);
-    if is_outside(&query) {
-        return Err(LineRefusal::Syntax);
-    }
-    if !is_simple(&text) {
-        return Err(LineRefusal::Later);
-    }
-    query
-}
-
-// A query, served or not.
-fn read_any_query(alloc: Global, lexer: &mut Lexer<'_>) -> Result<Query, LineRefusal>
-    ensures { ReadsAs (λ _. true) is_small_query (query_in lexer.old) result }
+    ensures { ReadsAs is_small_query (query_in lexer.old) result }
 {
     let Some(name) = next_name(lexer) else {
         return Err(LineRefusal::Syntax);
@@ -47,7 +31,7 @@ fn read_any_query(alloc: Global, lexer: &mut Lexer<'_>) -> Result<Query, LineRef
 
 // What stands behind the head.
 fn read_body(alloc: Global, lexer: &mut Lexer<'_>) -> Result<Atoms, LineRefusal>
-    ensures { ReadsAs (list_all (λ _. true)) (list_all is_small_atom) (body_in lexer.old) result }
+    ensures { ReadsAs (list_all is_small_atom) (body_in lexer.old) result }
 {
     let Some(Token::Arrow) = lexer.next() else {
         return Err(LineRefusal::Syntax);
@@ -57,7 +41,7 @@ fn read_body(alloc: Global, lexer: &mut Lexer<'_>) -> Result<Atoms, LineRefusal>
 
 // Atoms with commas between, to the line's end.
 fn read_atoms(alloc: Global, lexer: &mut Lexer<'_>) -> Result<Atoms, LineRefusal>
-    ensures { ReadsAs (list_all (λ _. true)) (list_all is_small_atom) (atoms_in lexer.old) result }
+    ensures { ReadsAs (list_all is_small_atom) (atoms_in lexer.old) result }
 {
     let mut atoms = Ok(Sequence::new(alloc));
     'atoms: loop {
@@ -85,7 +69,7 @@ fn is_comma(token: &Token<'_>) -> bool
 
 // An atom: a relation and its terms.
 fn read_atom(alloc: Global, lexer: &mut Lexer<'_>) -> Result<Atom, LineRefusal>
-    ensures { ReadsPart (λ _. true) is_small_atom (atom_in lexer.old) result lexer.new }
+    ensures { ReadsPart is_small_atom (atom_in lexer.old) result lexer.new }
 {
     let Some(relation) = next_name(lexer) else {
         return Err(LineRefusal::Syntax);

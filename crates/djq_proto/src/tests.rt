@@ -16,6 +16,7 @@ fn letter(alloc: Global, line: &[u8]) -> char {
         Ok(Command::Close { .. }) => 'c',
         Ok(Command::Drop { .. }) => 'p',
         Ok(Command::Has { .. }) => 'h',
+        Ok(Command::Explain { .. }) => 'e',
         Ok(Command::Quit) => 'x',
         Ok(Command::Stop) => 'y',
         Ok(_) => '?',
@@ -35,8 +36,8 @@ const LINES: [(&[u8], char); 105] = [
     (b"rel int int int int int int int int int int", 'r'),
     (b"rel abcdefghijklmnopqrstuvwxyz012345 int", 'r'),
     (b"rel abcdefghijklmnopqrstuvwxyz0123456 int", 'S'),
-    (b"rel r text", 'L'),
-    (b"rel r int text", 'L'),
+    (b"rel r text", 'r'),
+    (b"rel r int text", 'r'),
     (b"rel r text real", 'S'),
     (b"rel r", 'S'),
     (b"rel", 'S'),
@@ -51,10 +52,10 @@ const LINES: [(&[u8], char); 105] = [
     (b"", 'S'),
     (b"add r 1 -2", 'a'),
     (b"add r -0", 'a'),
-    (b"add r \"a\"", 'L'),
-    (b"add r 1 \"\"", 'L'),
-    (b"add r \"b\\\"\\\\\\n\"", 'L'),
-    (b"add r \"\xc3\xa9\xe2\x82\xac\xf0\x9f\x98\x80\"", 'L'),
+    (b"add r \"a\"", 'a'),
+    (b"add r 1 \"\"", 'a'),
+    (b"add r \"b\\\"\\\\\\n\"", 'a'),
+    (b"add r \"\xc3\xa9\xe2\x82\xac\xf0\x9f\x98\x80\"", 'a'),
     (b"add r \"\xc3\"", 'S'),
     (b"add r \"\xe2\x82\"", 'S'),
     (b"add r \"\xf0\x9f\x98\"", 'S'),
@@ -77,7 +78,7 @@ const LINES: [(&[u8], char); 105] = [
     (b"add r 9223372036854775808", 'R'),
     (b"add r 99999999999999999999", 'R'),
     (b"add r 9223372036854775808 x", 'S'),
-    (b"add r 9223372036854775808 \"a\"", 'L'),
+    (b"add r 9223372036854775808 \"a\"", 'R'),
     (b"del r -9223372036854775809 1", 'R'),
     (b"del r 1", 'd'),
     (b"del r", 'S'),
@@ -100,13 +101,12 @@ const LINES: [(&[u8], char); 105] = [
     (b"query q(x) <- r(x) s(x)", 'S'),
     (b"query q(x) <- r(x) x", 'S'),
     (b"query q(x) <- r((x))", 'S'),
-    (b"query q(x) <- r(x, y)", 'L'),
-    (b"query q(x, x) <- r(x, x)", 'L'),
-    (b"query q(x, y) <- r(x, x)", 'L'),
-    (b"query q(x, x) <- r(x, y)", 'L'),
-    (b"query q(x) <- r(x), s(x)", 'L'),
-    (b"query q(x) <- r(x, _, -3, \"a\")", 'L'),
-    (b"query q(x) <- r(99999999999999999999,x)", 'L'),
+    (b"query q(x) <- r(x, y)", 'q'),
+    (b"query q(x, x) <- r(x, x)", 'q'),
+    (b"query q(z) <- r(x, x)", 'q'),
+    (b"query q(x) <- r(x), s(x)", 'q'),
+    (b"query q(x) <- r(x, _, -3, \"a\")", 'q'),
+    (b"query q(x) <- r(99999999999999999999,x)", 'R'),
     (b"query q(x) <- r(99999999999999999999,x", 'S'),
     (b"drop q", 'p'),
     (b"drop", 'S'),
@@ -125,12 +125,13 @@ const LINES: [(&[u8], char); 105] = [
     (b"close c", 'c'),
     (b"has q", 'h'),
     (b"has q 1 -2", 'h'),
-    (b"has q 1 \"a\"", 'L'),
+    (b"has q 1 \"a\"", 'h'),
     (b"has q 99999999999999999999", 'R'),
     (b"has q x", 'S'),
     (b"watch q", 'L'),
     (b"unwatch q", 'L'),
-    (b"explain q", 'L'),
+    (b"explain q", 'e'),
+    (b"explain q q", 'S'),
     (b"quit", 'x'),
     (b"quit q", 'S'),
     (b"stop", 'y'),
@@ -218,7 +219,18 @@ fn reads_lists_past_each_growth(rt: HostRuntime) -> Result<(), Fail> {
         b", r(x, \"text\", y)",
         100,
     )?;
-    assert_eq!(rt; letter(rt.alloc(), &atoms), 'L');
+    assert_eq!(rt; letter(rt.alloc(), &atoms), 'q');
+    Ok(())
+}
+
+#[test]
+fn takes_texts_of_255_bytes(rt: HostRuntime) -> Result<(), Fail> {
+    let mut line = long_line(rt.alloc(), b"add r \"", b"a", 255)?;
+    line.push(b'"')?;
+    assert_eq!(rt; letter(rt.alloc(), &line), 'a');
+    let mut line = long_line(rt.alloc(), b"add r \"", b"a", 256)?;
+    line.push(b'"')?;
+    assert_eq!(rt; letter(rt.alloc(), &line), 'R');
     Ok(())
 }
 

@@ -1,16 +1,17 @@
 -- Queries over numbers, and the numbering of a query.
 use Rattle.std.specs.Prelude.{ℕ, ◌==◌, List, [], ◌∷◌, ◌++◌, ◌≡◌, ◌≤◌, Bool, true, false, nat_lt, Option, None, Some, if◌then◌else◌, length, map, slice_get}
-use Rattle.std.specs.List.{list_all, fold, position_or_len}
+use Rattle.std.specs.List.{list_all, fold}
 use Rattle.djq_model.specs.declared.relation.ColumnType.{ColumnType}
 use Rattle.djq_model.specs.declared.relation.Relation.{Relation}
 use Rattle.djq_model.specs.declared.query.Query.{Query}
 use Rattle.djq_model.specs.declared.query.Atom.{Atom}
 use Rattle.djq_model.specs.declared.query.Term.{Term}
 use Rattle.djq_model.specs.declared.query.Term.TheVariants.{Variable as Named, Hole, Constant}
-use Rattle.djq_model.specs.Data.{Bytes, relation_of}
+use Rattle.djq_model.specs.Data.{relation_of}
 use Rattle.djq_lines.specs.declared.limits.TheConstants.{VARIABLES, HEAD_VARIABLES}
 use Rattle.djq_lines.specs.Columns.{columns_of}
-use Rattle.djq_lines.specs.Variables.{Label, is_known, is_named, with_atom, with_term}
+pub use Rattle.djq_lines.specs.Hypergraph.{number_of}
+use Rattle.djq_lines.specs.Variables.{Label, is_known, with_atom, with_term}
 use Rattle.djq_query.specs.declared.numbered.Variable.{Variable}
 use Rattle.djq_query.specs.declared.numbered.NumberedTerm.{NumberedTerm}
 use Rattle.djq_query.specs.declared.numbered.NumberedTerm.TheVariants.{Variable as Number, Constant as Fixed}
@@ -27,10 +28,6 @@ pub record Numbered : Type 0 where
 -- the names of variables
 abbrev pub labels : List Variable → List Label
 labels known = map (λ v. v.name) known
-
--- the number of a name where these are known: its place among them, or else the next number
-abbrev pub number_of : List Label → Bytes → ℕ
-number_of known x = position_or_len (is_named x) known
 
 abbrev pub numbered : List Label → Term → NumberedTerm
 numbered known (Named x) = Number (number_of known x)

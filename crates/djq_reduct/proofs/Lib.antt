@@ -1,3 +1,4 @@
 pub mod Placing
 pub mod Family
 pub mod Making
+pub mod Paths

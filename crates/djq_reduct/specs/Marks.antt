@@ -1,5 +1,5 @@
 -- The marks of an unfinished update of a leaf, which stand on the leaf's path to the root.
-use Rattle.std.specs.Prelude.{◌≡◌, ◌≢◌, ℕ, zero, suc, ◌+◌, ◌*◌, ◌<◌, ◌≤◌, Bool, true, false, cond, ◌==◌, List}
+use Rattle.std.specs.Prelude.{◌≡◌, ◌≢◌, ℕ, zero, suc, ◌*◌, ◌<◌, ◌≤◌, Bool, true, false, cond, ◌==◌, List}
 use Rattle.djq_index.specs.Tuple.{pick}
 use Rattle.djq_index.specs.Entries.{Entry, cnt, many, marks, plain}
 use Rattle.djq_index.specs.Table.{Table}

@@ -15,10 +15,12 @@
 #![tactic(auto)]
 
 mod columns;
+mod narrow;
 mod reducts;
 
 pub use columns::column_of;
 pub use djq_index::{CELLS, Cells};
+pub use narrow::is_narrow;
 pub use reducts::Reducts;
 
 /// An answer: a cell for each variable of the head, in rising order of the variables.

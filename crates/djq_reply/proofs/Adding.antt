@@ -1,5 +1,5 @@
 -- How a line is printed piece by piece.
-use Rattle.std.proofs.Common.{◌≡◌, ◌+◌, ◌<◌, ◌∷◌, ◌++◌, ℕ, suc, List, length, take, drop, get_or, refl, sym, ap, subst, ◌∙◌, arith, length-append}
+use Rattle.std.proofs.Common.{◌≡◌, ◌+◌, ◌<◌, ◌∷◌, ◌++◌, ℕ, suc, List, length, take, drop, get_or, refl, sym, ap, subst, ◌∙◌, arith, append_assoc, length-append}
 use Rattle.std.proofs.lemmas.List.{take_at, take-take}
 use Rattle.std.specs.List.{flat_map}
 use Rattle.std.specs.Prelude.{Result, Ok, Err, IsErr}
@@ -10,8 +10,17 @@ use Rattle.djq_model.specs.declared.value.Value.{Value}
 use Rattle.djq_lines.specs.Reply.{cells_text}
 use Rattle.djq_value.specs.Output.{Put}
 use Rattle.djq_value.specs.ValueText.{value_text}
-use Rattle.djq_value.proofs.Putting.{texts_at}
+use Rattle.djq_value.proofs.Putting.{texts_at, texts_more}
 use Rattle.djq_reply.specs.Adding.{Cut, Adds}
+
+-- a piece that was put behind another one
+pub put_behind : (old mid new : Filled) (text more : Bytes) → Put old mid text → Put mid new more
+    → Put old new (text ++ more)
+put_behind old mid new text more p h = record {
+  items = h.items ∙ ap (λ xs. xs ++ more) p.items ∙ append_assoc old.items text more;
+  kept = h.kept;
+  room = omega (arith, p.room, h.room, length-append text more);
+}
 
 -- a piece that was cut, behind one that was put, and in front of others
 pub cut_behind : (old mid new : Filled) (text more rest : Bytes) → Put old mid text → Cut mid new more → Cut old new ((text ++ more) ++ rest)
@@ -26,25 +35,24 @@ cut_behind old mid new text more rest p h =
       lacks = omega (arith, p.room, h.lacks, length-append text more, length-append (text ++ more) rest);
     }
 
--- the cell at which a list of cells was cut
-pub cut_at_cell : (old mid new : Filled) (cells : Tuple) (k : ℕ) (cell : Value) → k < length cells → cell ≡ get_or cells k cell
-    → Put old mid (cells_text (take k cells)) → Cut mid new (32 ∷ value_text cell) → Cut old new (cells_text cells)
-cut_at_cell old mid new cells k cell h e p c =
-    subst (λ t. Cut old new t) (sym (texts_at (λ v. 32 ∷ value_text v) cells k cell h))
-    (cut_behind old mid new (cells_text (take k cells)) (32 ∷ value_text (get_or cells k cell)) (cells_text (drop (suc k) cells)) p
-    (subst (λ v. Cut mid new (32 ∷ value_text v)) e c))
+-- the item at which a list of texts was cut
+pub cut_at_item : {A : Type 0} (text : A → Bytes) (old mid new : Filled) (xs : List A) (k : ℕ) (x : A)
+    → k < length xs → get_or xs k x ≡ x → Put old mid (flat_map text (take k xs))
+    → Cut mid new (text x) → Cut old new (flat_map text xs)
+cut_at_item {A} text old mid new xs k x h e p c =
+    subst (λ t. Cut old new t) (sym (texts_at text xs k x h))
+    (cut_behind old mid new (flat_map text (take k xs)) (text (get_or xs k x))
+    (flat_map text (drop (suc k) xs)) p (subst (λ (y : A). Cut mid new (text y)) (sym e) c))
+
+-- one more item of a list of texts
+pub put_item : {A : Type 0} (text : A → Bytes) (old mid new : Filled) (xs : List A) (k : ℕ) (x : A)
+    → k < length xs → get_or xs k x ≡ x → Put old mid (flat_map text (take k xs))
+    → Put mid new (text x) → Put old new (flat_map text (take (k + 1) xs))
+put_item text old mid new xs k x h e p c =
+    subst (λ t. Put old new t) (sym (texts_more text xs k x h ∙ ap (λ y. flat_map text (take k xs) ++ text y) e))
+    (put_behind old mid new (flat_map text (take k xs)) (text x) p c)
 
 -- what an error says of the output
 pub adds_err : {A E : Type 0} (old new : Filled) (text : Bytes) (r : Result A E) → IsErr r → Cut old new text → Adds old new text r
 adds_err old new text (Ok a) e h = absurd (cc)
 adds_err old new text (Err e) i h = h
-
--- the cells at columns, as those in front of a place, the one there, and those behind it
-pub cut_at_column : (old mid new : Filled) (row : Tuple) (columns : List ℕ) (k : ℕ) (cell : Value) → k < length columns → cell ≡ cell_at row (get_or columns k 0)
-    → Put old mid (cells_text (cells_at (take k columns) row)) → Cut mid new (32 ∷ value_text cell) → Cut old new (cells_text (cells_at columns row))
-cut_at_column old mid new row columns k cell h e p c =
-    let text : ℕ → Bytes = λ i. 32 ∷ value_text (cell_at row i) in
-    subst (λ t. Cut old new t) (sym (flat_map-map (λ v. 32 ∷ value_text v) (cell_at row) columns ∙ texts_at text columns k 0 h))
-    (cut_behind old mid new (flat_map text (take k columns)) (text (get_or columns k 0)) (flat_map text (drop (suc k) columns))
-    (subst (λ t. Put old mid t) (flat_map-map (λ v. 32 ∷ value_text v) (cell_at row) (take k columns)) p)
-    (subst (λ v. Cut mid new (32 ∷ value_text v)) e c))

@@ -2,8 +2,8 @@
 //
 // A line is printed piece by piece. Out of memory its pieces are taken back, once for the whole
 // line.
-ghost use Rattle.std.specs.Prelude.{◌≡◌, ◌<◌, ◌≤◌, ◌∷◌, All, length};
-ghost use Rattle.djq_model.specs.Data.{cells_at};
+ghost use Rattle.std.specs.Prelude.{◌≡◌, ◌≤◌, ◌∷◌, ◌++◌, codes};
+ghost use Rattle.djq_model.specs.Lent.{value_lent};
 ghost use Rattle.djq_lines.specs.Reply.{answer_line, at_line, cells_text, change_line, last_line};
 ghost use Rattle.djq_lines.specs.Reply.{sign_text as sign_text_of};
 ghost use Rattle.djq_reply.specs.Adding.{Adds};
@@ -12,8 +12,8 @@ ghost use Rattle.djq_value.specs.ValueText.{value_text};
 
 use bytes::BytesMut;
 use djq_lines::Sign;
-use djq_model::{Name, NoMem, Value};
-use djq_value::{print_value, put};
+use djq_model::{Answered, Lent, Name, NoMem};
+use djq_value::{KEPT, print_lent, put};
 use itoa::Buffer;
 
 /// Appends an answer that `next` lists.
@@ -21,8 +21,8 @@ use itoa::Buffer;
 /// # Errors
 ///
 /// `NoMem` comes only where the room is too small and can't grow; the output is then as before.
-pub fn put_answer(answer: &[Value], out: &mut BytesMut) -> Result<(), NoMem>
-    ensures { Puts out.old out.new (answer_line answer.now) result }
+pub fn put_answer<A: Answered>(answer: &A, out: &mut BytesMut) -> Result<(), NoMem>
+    ensures { Puts out.old out.new (answer_line (A.values answer.now)) result }
 {
     let start = out.len();
     let outcome = add_answer(answer, out);
@@ -32,37 +32,11 @@ pub fn put_answer(answer: &[Value], out: &mut BytesMut) -> Result<(), NoMem>
     outcome
 }
 
-fn add_answer(answer: &[Value], out: &mut BytesMut) -> Result<(), NoMem>
-    ensures { Adds out.old out.new (answer_line answer.now) result }
+fn add_answer<A: Answered>(answer: &A, out: &mut BytesMut) -> Result<(), NoMem>
+    ensures { Adds out.old out.new (answer_line (A.values answer.now)) result }
 {
     put(out, b"=")?;
     add_cells(answer, out)?;
-    put(out, b"\n")
-}
-
-/// Appends the answer that a row gives at these columns, as `next` lists it.
-///
-/// # Errors
-///
-/// `NoMem` comes only where the room is too small and can't grow; the output is then as before.
-pub fn put_answer_at(row: &[Value], columns: &[usize], out: &mut BytesMut) -> Result<(), NoMem>
-    requires { All (λ i. i < length row.now) columns.now }
-    ensures { Puts out.old out.new (answer_line (cells_at columns.now row.now)) result }
-{
-    let start = out.len();
-    let outcome = add_answer_at(row, columns, out);
-    if outcome.is_err() {
-        out.truncate(start);
-    }
-    outcome
-}
-
-fn add_answer_at(row: &[Value], columns: &[usize], out: &mut BytesMut) -> Result<(), NoMem>
-    requires { All (λ i. i < length row.now) columns.now }
-    ensures { Adds out.old out.new (answer_line (cells_at columns.now row.now)) result }
-{
-    put(out, b"=")?;
-    add_cells_at(row, columns, out)?;
     put(out, b"\n")
 }
 
@@ -71,13 +45,13 @@ fn add_answer_at(row: &[Value], columns: &[usize], out: &mut BytesMut) -> Result
 /// # Errors
 ///
 /// `NoMem` comes only where the room is too small and can't grow; the output is then as before.
-pub fn put_change(
+pub fn put_change<A: Answered>(
     sign: Sign,
     query: &Name,
-    answer: &[Value],
+    answer: &A,
     out: &mut BytesMut,
 ) -> Result<(), NoMem>
-    ensures { Puts out.old out.new (change_line sign query.now answer.now) result }
+    ensures { Puts out.old out.new (change_line sign query.now (A.values answer.now)) result }
 {
     let start = out.len();
     let outcome = add_change(sign, query, answer, out);
@@ -87,8 +61,13 @@ pub fn put_change(
     outcome
 }
 
-fn add_change(sign: Sign, query: &Name, answer: &[Value], out: &mut BytesMut) -> Result<(), NoMem>
-    ensures { Adds out.old out.new (change_line sign query.now answer.now) result }
+fn add_change<A: Answered>(
+    sign: Sign,
+    query: &Name,
+    answer: &A,
+    out: &mut BytesMut,
+) -> Result<(), NoMem>
+    ensures { Adds out.old out.new (change_line sign query.now (A.values answer.now)) result }
 {
     put(out, sign_text(sign))?;
     put(out, query.as_bytes())?;
@@ -134,6 +113,21 @@ fn add_at(query: &Name, seq: u64, out: &mut BytesMut) -> Result<(), NoMem>
     put(out, b"\n")
 }
 
+/// Appends the lines that explain the tree of a query, each with its line end, and `end` behind
+/// them.
+///
+/// # Errors
+///
+/// `NoMem` comes only where the room is too small and can't grow; the output is then as before.
+pub fn put_explained(lines: &[u8], out: &mut BytesMut) -> Result<(), NoMem>
+    ensures { Puts out.old out.new (lines.now ++ codes "end\n") result }
+{
+    out.reserve(lines.len() + 4 + KEPT)?;
+    out.extend_reserved(lines);
+    out.extend_reserved(b"end\n");
+    Ok(())
+}
+
 /// Appends the last line of a listing.
 ///
 /// # Errors
@@ -150,32 +144,20 @@ pub fn put_last(is_end: bool, out: &mut BytesMut) -> Result<(), NoMem>
 }
 
 // Values, each behind a space.
-fn add_cells(cells: &[Value], out: &mut BytesMut) -> Result<(), NoMem>
+fn add_cells<A: Answered>(answer: &A, out: &mut BytesMut) -> Result<(), NoMem>
     requires { 32 ≤ out.old.spare }
-    ensures { Adds out.old out.new (cells_text cells.now) result }
+    ensures { Adds out.old out.new (cells_text (A.values answer.now)) result }
 {
-    for cell in cells {
-        add_cell(cell, out)?;
-    }
-    Ok(())
-}
-
-// The cells of a row at these columns, each behind a space.
-fn add_cells_at(row: &[Value], columns: &[usize], out: &mut BytesMut) -> Result<(), NoMem>
-    requires inside { All (λ i. i < length row.now) columns.now }
-    requires kept { 32 ≤ out.old.spare }
-    ensures { Adds out.old out.new (cells_text (cells_at columns.now row.now)) result }
-{
-    for column in columns {
-        add_cell(&row[*column], out)?;
+    for at in 0..answer.len() {
+        add_cell(answer.value(at), out)?;
     }
     Ok(())
 }
 
 // A value behind a space.
-fn add_cell(cell: &Value, out: &mut BytesMut) -> Result<(), NoMem>
-    ensures { Adds out.old out.new (32 ∷ value_text cell.now) result }
+fn add_cell(cell: Lent<'_>, out: &mut BytesMut) -> Result<(), NoMem>
+    ensures { Adds out.old out.new (32 ∷ value_text (value_lent cell.entry)) result }
 {
     put(out, b" ")?;
-    print_value(cell, out)
+    print_lent(cell, out)
 }

@@ -1,7 +1,7 @@
 // Replies of at most 256 bytes, in room that was kept.
 ghost use Rattle.std.specs.Prelude.{◌≡◌, ◌+◌, ◌≤◌, codes, length};
 ghost use Rattle.djq_lines.specs.Reply.{add_reply, bye, delete_reply, has_reply, line, numbered};
-ghost use Rattle.djq_lines.specs.Reply.{ok_reply, query_reply, refusal_line, stale_line};
+ghost use Rattle.djq_lines.specs.Reply.{ok_reply, refusal_line, stale_line};
 ghost use Rattle.djq_lines.specs.Reply.{watch_reply};
 ghost use Rattle.djq_lines.specs.declared.limits.TheConstants.{LAST_LINE_BYTES, REPLY_BYTES};
 ghost use Rattle.djq_value.specs.Output.{Says};
@@ -22,7 +22,7 @@ pub(crate) fn say(out: &mut BytesMut, words: &[u8])
 }
 
 // A line of words and a number, which has 20 digits at most.
-fn say_number(out: &mut BytesMut, words: &[u8], number: u64)
+pub(crate) fn say_number(out: &mut BytesMut, words: &[u8], number: u64)
     requires { length words.now + 21 + LAST_LINE_BYTES ≤ out.old.spare }
     ensures kept { LAST_LINE_BYTES ≤ out.new.spare }
     ensures says { Says out.old out.new (numbered words.now number) }
@@ -89,18 +89,6 @@ pub fn say_deleted(out: &mut BytesMut, outcome: Result<DeleteOutcome, Refusal>, 
     match outcome {
         Ok(DeleteOutcome::Removed) => say_number(out, b"ok removed ", seq),
         Ok(DeleteOutcome::Absent) => say_number(out, b"ok absent ", seq),
-        Err(refusal) => say_refused(out, refusal),
-    }
-}
-
-/// Answers `query`, by the most lookups and links for one of its answers.
-pub fn say_registered(out: &mut BytesMut, outcome: Result<u64, Refusal>)
-    requires room { REPLY_BYTES + LAST_LINE_BYTES ≤ out.old.spare }
-    ensures kept { LAST_LINE_BYTES ≤ out.new.spare }
-    ensures says { Says out.old out.new (query_reply outcome) }
-{
-    match outcome {
-        Ok(most) => say_number(out, b"ok query ", most),
         Err(refusal) => say_refused(out, refusal),
     }
 }

@@ -1,8 +1,10 @@
 use super::*;
 use bytes::BytesMut;
+use djq_hyper::{Edges, Names, VarSet};
 use djq_lines::limits::{LAST_LINE_BYTES, REPLY_BYTES};
-use djq_lines::{AddOutcome, DeleteOutcome, EndLine, Refusal, Sign};
-use djq_model::{Name, Text, Value};
+use djq_lines::{AddOutcome, DeleteOutcome, EndLine, NamedRest, QueryOutcome, Refusal, Sign};
+use djq_model::{Name, NoMem, Row, Text, Value};
+use std::alloc::{AllocError, Global};
 use std::test::Fail;
 
 #[test]
@@ -48,7 +50,7 @@ fn answers_commands(rt: HostRuntime) -> Result<(), Fail> {
     out.reserve(REPLY_BYTES + LAST_LINE_BYTES)?;
     say_deleted(&mut out, Ok(DeleteOutcome::Absent), 3);
     out.reserve(REPLY_BYTES + LAST_LINE_BYTES)?;
-    say_registered(&mut out, Ok(5));
+    put_registered(&Ok(QueryOutcome::Registered(5)), &mut out)?;
     out.reserve(REPLY_BYTES + LAST_LINE_BYTES)?;
     say_has(&mut out, Ok(true));
     out.reserve(REPLY_BYTES + LAST_LINE_BYTES)?;
@@ -85,26 +87,41 @@ fn ends_sessions(rt: HostRuntime) -> Result<(), Fail> {
     Ok(())
 }
 
+// The row 1, -2, "a\"".
+fn a_row(alloc: Global) -> Result<Row, NoMem> {
+    let mut row = Row::new(alloc);
+    row.push(Value::Int(1))?;
+    row.push(Value::Int(-2))?;
+    row.push(Value::Text(Text::new(b"a\"".to_vec(alloc)?)))?;
+    Ok(row)
+}
+
 #[test]
-fn prints_listings_and_changes(rt: HostRuntime) -> Result<(), Fail> {
-    let bytes = b"a\"".to_vec(rt.alloc())?;
-    assert!(rt; bytes.len() <= 255);
-    let row = [Value::Int(1), Value::Int(-2), Value::Text(Text::new(bytes))];
-    let query = Name::new(b"q");
-    let columns: [usize; 2] = [2, 0];
-    assert!(rt; columns.iter().all(|c| *c < 3));
+fn prints_listings(rt: HostRuntime) -> Result<(), Fail> {
+    let row = a_row(rt.alloc())?;
     let mut out = BytesMut::new(rt.alloc());
     put_answer(&row, &mut out)?;
-    put_answer(&row[..0], &mut out)?;
-    put_answer_at(&row, &columns, &mut out)?;
+    put_answer(&Row::new(rt.alloc()), &mut out)?;
     put_last(false, &mut out)?;
     put_last(true, &mut out)?;
+    assert_eq!(rt;
+        out.as_slice(),
+        b"= 1 -2 \"a\\\"\"\n=\nmore\nend\n".as_slice()
+    );
+    Ok(())
+}
+
+#[test]
+fn prints_changes(rt: HostRuntime) -> Result<(), Fail> {
+    let row = a_row(rt.alloc())?;
+    let query = Name::new(b"q");
+    let mut out = BytesMut::new(rt.alloc());
     put_change(Sign::Came, &query, &row, &mut out)?;
-    put_change(Sign::Went, &query, &row[..1], &mut out)?;
+    put_change(Sign::Went, &query, &Row::new(rt.alloc()), &mut out)?;
     put_at(&query, 7, &mut out)?;
     assert_eq!(rt;
         out.as_slice(),
-        b"= 1 -2 \"a\\\"\"\n=\n= \"a\\\"\" 1\nmore\nend\n+ q 1 -2 \"a\\\"\"\n- q 1\nat q 7\n".as_slice()
+        b"+ q 1 -2 \"a\\\"\"\n- q\nat q 7\n".as_slice()
     );
     Ok(())
 }
@@ -113,8 +130,75 @@ fn prints_listings_and_changes(rt: HostRuntime) -> Result<(), Fail> {
 fn prints_lines_past_each_growth(rt: HostRuntime) -> Result<(), Fail> {
     let mut out = BytesMut::new(rt.alloc());
     for number in 0..2000 {
-        put_answer(&[Value::Int(number)], &mut out)?;
+        let mut row = Row::new(rt.alloc());
+        row.push(Value::Int(number))?;
+        put_answer(&row, &mut out)?;
     }
     assert_eq!(rt; out.len(), 10 * 4 + 90 * 5 + 900 * 6 + 1000 * 7);
+    Ok(())
+}
+
+// The edges x,y and x,z and y,z, and one without a variable.
+fn a_rest(alloc: Global) -> Result<NamedRest, AllocError> {
+    let mut names = Names::new(alloc);
+    names.push(alloc, b"x")?;
+    names.push(alloc, b"item")?;
+    names.push(alloc, b"z")?;
+    let mut edges = Edges::new(alloc);
+    edges.push(VarSet::new().insert(0).insert(1))?;
+    edges.push(VarSet::new().insert(2).insert(0))?;
+    edges.push(VarSet::new().insert(1))?;
+    edges.push(VarSet::new())?;
+    Ok(NamedRest { edges, names })
+}
+
+// What a query is answered behind room for a short reply.
+fn registered(alloc: Global, outcome: &Result<QueryOutcome, Refusal>) -> Result<BytesMut, NoMem> {
+    let mut out = BytesMut::with_capacity(alloc, REPLY_BYTES + LAST_LINE_BYTES)?;
+    put_registered(outcome, &mut out)?;
+    Ok(out)
+}
+
+#[test]
+fn prints_rests(rt: HostRuntime) -> Result<(), Fail> {
+    let cyclic = Ok(QueryOutcome::Cyclic(a_rest(rt.alloc())?));
+    let out = registered(rt.alloc(), &cyclic)?;
+    assert_eq!(rt; out.as_slice(), b"no cyclic x,item x,z item \n".as_slice());
+    let bent = Ok(QueryOutcome::NotConnex(a_rest(rt.alloc())?));
+    let out = registered(rt.alloc(), &bent)?;
+    assert_eq!(rt; out.as_slice(), b"no connex x,item x,z item \n".as_slice());
+    let out = registered(rt.alloc(), &Err(Refusal::HeadUnbound))?;
+    assert_eq!(rt; out.as_slice(), b"err 8 head unbound\n".as_slice());
+    Ok(())
+}
+
+// So many edges of one variable, whose name has 10 bytes.
+fn a_long_rest(alloc: Global, count: usize) -> Result<NamedRest, AllocError> {
+    let mut names = Names::new(alloc);
+    names.push(alloc, b"abcdefghij")?;
+    let mut edges = Edges::new(alloc);
+    for _ in 0..count {
+        edges.push(VarSet::new().insert(0))?;
+    }
+    Ok(NamedRest { edges, names })
+}
+
+#[test]
+fn a_rest_grows_past_a_short_reply(rt: HostRuntime) -> Result<(), Fail> {
+    let outcome = Ok(QueryOutcome::Cyclic(a_long_rest(rt.alloc(), 1000)?));
+    let out = registered(rt.alloc(), &outcome)?;
+    assert_eq!(rt; out.len(), 9 + 1000 * 11 + 1);
+    assert!(rt; out.as_slice().ends_with(b" abcdefghij abcdefghij\n"));
+    Ok(())
+}
+
+#[test]
+fn prints_what_explains_a_tree(rt: HostRuntime) -> Result<(), Fail> {
+    let mut out = BytesMut::new(rt.alloc());
+    put_explained(b"n 0 leaf r x out\nn 1 trim 0 - out\n", &mut out)?;
+    assert_eq!(rt;
+        out.as_slice(),
+        b"n 0 leaf r x out\nn 1 trim 0 - out\nend\n".as_slice()
+    );
     Ok(())
 }

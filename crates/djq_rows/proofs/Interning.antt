@@ -36,7 +36,7 @@ use Rattle.djq_dict.specs.declared.refusal.InternRefusal.{InternRefusal}
 use Rattle.djq_dict.specs.declared.refusal.InternRefusal.TheVariants.{Full, NoMem}
 use Rattle.djq_dict.specs.Known.{AllDifferent, IsUnknown, Learns}
 use Rattle.djq_rows.specs.Cells.{cell_of, cells_of, HasCell, HaveCells}
-use Rattle.djq_rows.specs.Changes.{LearnsSome, InternsValue, InternsRow}
+use Rattle.djq_rows.specs.Changes.{LearnsSome, FindsNoPlace, InternsValue, InternsRow}
 use Rattle.djq_rows.specs.Parts.{IsWithin, value_of}
 use Rattle.djq_rows.proofs.Learning.{
   Grown,
@@ -152,6 +152,24 @@ learns_some old now new row at v c was unknown is = record {
   learned = is ∙ was;
 }
 
+pub finds_no_place : (old now new : List Bytes) (row : Tuple) (at : ℕ) (v : Value) → Cut row at v
+    → now ≡ all_learned old (texts_in (take at row)) → knows_all now (texts_of v) ≡ false
+    → length now ≡ MOST_TEXTS → new ≡ now → FindsNoPlace old (texts_in row) new
+finds_no_place old now new row at (Int i) c was unknown many is = absurd cc
+finds_no_place old now new row at (Text t) c was unknown many is = record {
+  first = texts_in (take at row);
+  next = t;
+  rest = texts_in c.rest;
+  parts = texts_cut row at (Text t) c;
+  learned = is ∙ was;
+  unknown = ap (λ (l : List Bytes). knows l t) is ∙ alone (knows now t) unknown;
+  full = ap length is ∙ many;
+}
+  where
+    alone : (b : Bool) → (b && true) ≡ false → b ≡ false
+    alone true k = absurd cc
+    alone false k = refl
+
 -- one more than there may be
 beyond : (now : List Bytes) (v : Value) (more : List Bytes) → knows_all now (texts_of v) ≡ false →
     length now < length (all_learned now (texts_of v ++ more))
@@ -219,7 +237,7 @@ pub refused_row : (old now new : List Bytes) (row : Tuple) (at : ℕ) (v : Value
     → InternsRow old row (Err r) new
 refused_row old now new row at v Full c was h = (
   too_many old now row at v c was h.0 h.1,
-  learns_some old now new row at v c was h.0 h.2,
+  finds_no_place old now new row at v c was h.0 h.1 h.2,
 )
 refused_row old now new row at v NoMem c was h = learns_some old now new row at v c was h.0 h.1
 

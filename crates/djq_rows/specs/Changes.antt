@@ -23,7 +23,7 @@ use Rattle.djq_model.specs.declared.value.Value.{Value}
 use Rattle.djq_model.specs.declared.relation.ColumnType.{ColumnType}
 use Rattle.djq_model.specs.declared.relation.Relation.{Relation}
 use Rattle.djq_model.specs.Data.{Bytes, Tuple, relation_of, has_row, without_row}
-use Rattle.djq_model.specs.Known.{texts_of, texts_in, knows_all, all_learned}
+use Rattle.djq_model.specs.Known.{texts_of, texts_in, knows, knows_all, all_learned}
 use Rattle.djq_lines.specs.declared.limits.TheConstants.{RELATIONS, ROWS}
 use Rattle.djq_lines.specs.declared.answer.AddOutcome.{AddOutcome}
 use Rattle.djq_lines.specs.declared.answer.AddOutcome.TheVariants.{Added, Same}
@@ -86,6 +86,16 @@ pub record LearnsSome (old : List Bytes) (texts : List Bytes) (new : List Bytes)
   pub some : 0 < length rest
   pub learned : new ≡ all_learned old first
 
+-- The next of these texts isn't known, and as many are as may be.
+pub record FindsNoPlace (old : List Bytes) (texts : List Bytes) (new : List Bytes) : Type 0 where
+  pub first : List Bytes
+  pub next : Bytes
+  pub rest : List Bytes
+  pub parts : texts ≡ first ++ next ∷ rest
+  pub learned : new ≡ all_learned old first
+  pub unknown : knows new next ≡ false
+  pub full : length new ≡ MOST_TEXTS
+
 -- A value's text becomes known, and its cell is told; or there are as many texts as there may be,
 -- or no
 -- memory, and nothing changes.
@@ -104,7 +114,7 @@ abbrev pub InternsRow : List Bytes → Tuple → Result (List ℕ) InternRefusal
 InternsRow old row (Ok cells) new = (new ≡ all_learned old (texts_in row))
     × HaveCells new row × (cells ≡ cells_of new row)
 InternsRow old row (Err TextsFull) new =
-    (MOST_TEXTS < length (all_learned old (texts_in row))) × LearnsSome old (texts_in row) new
+    (MOST_TEXTS < length (all_learned old (texts_in row))) × FindsNoPlace old (texts_in row) new
 InternsRow old row (Err NoMemForTexts) new = LearnsSome old (texts_in row) new
 
 -- The cell of a value that isn't an unknown text is told, and none of one that is.

@@ -23,7 +23,7 @@ by_event : (o o' : Outside) (old new : State) (event : Event) → Makes old even
     → Gives o.reading o'.reading (piece_of event) → Gains o.taken o'.taken (taken_by 1 event) → o'.counted ≡ o.counted → Course old o o' new
 by_event o o' old new event m may gives gains same =
     course_one o o' old new (record { event = event; effect = m.effect }) (may, m.step) gives gains
-    (let e : o'.counted.listing ≡ o.counted.listing = ap (λ (c : Counts). c.listing) same in omega (arith, e)) (ap (λ (c : Counts). c.update) same) (ap (λ (c : Counts). c.rows) same)
+    (let e : o'.counted.listing ≡ o.counted.listing = ap (λ (c : Counts). c.listing) same in omega (arith, e))
 
 -- what is known of an open session's parts holds of the session
 of_session : (st : State) (o : Option Session) → IsSome o → (P : Session → Type 0) → ((x : Session) → o ≡ Some x → P x) → IsSomeAnd o P
@@ -47,7 +47,7 @@ pub by_line : (o : Outside) (taken : Option Bytes) (faults : ℕ) (old new : Sta
     → MakesCounted old (stepped 1 outcome) new before now → Course old (with_sink o taken faults before) (with_sink o taken faults now) new
 by_line o taken faults old new outcome before now there pending m =
     course_one (with_sink o taken faults before) (with_sink o taken faults now) old new (record { event = stepped 1 outcome; effect = m.effect })
-    ((refl, flushed_session old there pending), m.step) (gives_none o.reading) (gains_none taken) m.listing m.update m.rows
+    ((refl, flushed_session old there pending), m.step) (gives_none o.reading) (gains_none taken) m.listing
 
 -- a piece that the source gave, and that is fed
 pub record PieceFed (o o' : Outside) (old new : State) (bytes : Bytes) : Type 0 where
@@ -63,8 +63,8 @@ by_piece reading reading' rf rf' taken wf counted old new bytes waits some few g
     let d : Did = record { event = fed 1 bytes; effect = m.effect } in
     let none : counted.listing ≤ counted.listing + m.effect.cost = omega arith in
     record {
-      course = course_one o o' old new d ((refl, some, few, waits), m.step) (gives_piece reading reading' bytes gives) (gains_none taken) none refl refl;
-      fed = ap (λ (done : List Did). all_fed 1 done) (course_one_done o o' old new d ((refl, some, few, waits), m.step) (gives_piece reading reading' bytes gives) (gains_none taken) none refl refl) ∙ append-nil bytes;
+      course = course_one o o' old new d ((refl, some, few, waits), m.step) (gives_piece reading reading' bytes gives) (gains_none taken) none;
+      fed = ap (λ (done : List Did). all_fed 1 done) (course_one_done o o' old new d ((refl, some, few, waits), m.step) (gives_piece reading reading' bytes gives) (gains_none taken) none) ∙ append-nil bytes;
     }
 
 -- the end of the input
@@ -83,8 +83,6 @@ by_failure reading reading' rf rf' taken wf counted old same = record {
   read = subst (λ (r : Option Reading). Gives reading r []) (sym same) (gives_none reading);
   written = gains_none taken;
   listing = omega arith;
-  update = refl;
-  rows = refl;
 }
 
 -- A flush: the first of the pending bytes are taken, or nothing is. A sink may lose its record meanwhile.
@@ -99,8 +97,6 @@ by_taking o taken taken' wf wf' n old new (inl (none, same)) gains within =
       read = gives_none o.reading;
       written = subst (λ bytes. Gains taken taken' bytes) nothing gains;
       listing = omega arith;
-      update = refl;
-      rows = refl;
     }
 by_taking o taken taken' wf wf' n old new (inr (some, m)) gains within =
     let bytes = take n (pending_of old 1) in

@@ -1,2 +1,4 @@
 mod Splitting
 mod Making
+pub mod Counting
+pub mod Sending

@@ -10,7 +10,8 @@
 //! ```
 //!
 //! [`schedule_hub`] makes the hub of a schedule, or says which line is the first that is outside
-//! the grammar of `specs/Schedule.antt`. What this crate is not: it runs nothing.
+//! the grammar of `specs/Schedule.antt`. [`sent_text`] tells what a hub was sent, line by line.
+//! What this crate is not: it runs nothing.
 //!
 //! What surprises: whether a line is in the grammar depends on those before it, since it may name
 //! none but sessions that were opened and whose input hasn't ended.
@@ -18,7 +19,11 @@
 
 mod line;
 mod schedule;
+mod sent;
 mod sofar;
+#[cfg(test)]
+mod tests;
 
 pub use line::Keyword;
-pub use schedule::{ScheduleRefusal, schedule_hub};
+pub use schedule::{ScheduleRefusal, count_lines, schedule_hub};
+pub use sent::{outside_line, sent_text};

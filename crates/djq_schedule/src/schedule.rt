@@ -1,5 +1,5 @@
-ghost use Rattle.std.specs.Prelude.{◌≡◌, IfOk, MatchBool, MatchOption, MatchResult, option_map};
-ghost use Rattle.djq_schedule.specs.Schedule.{before, behind, rest_of, turn_of};
+ghost use Rattle.std.specs.Prelude.{◌≡◌, ◌≤◌, length, IfOk, MatchBool, MatchOption, MatchResult, option_map};
+ghost use Rattle.djq_schedule.specs.Schedule.{before, behind, rest_of, lines_of, turn_of};
 ghost use Rattle.djq_schedule.specs.Made.{in_grammar, AddsLine, IsMade, Refuses};
 
 use crate::line::{Keyword, read_order, split_at};
@@ -43,6 +43,20 @@ pub fn schedule_hub(alloc: Global, bytes: &[u8]) -> Result<MemHub, ScheduleRefus
         rest = behind;
     }
     Ok(hub)
+}
+
+/// How many lines a schedule has.
+pub fn count_lines(bytes: &[u8]) -> u64
+    ensures counted { result ≡ length (lines_of bytes.now) }
+    ensures few { result ≤ length bytes.now }
+{
+    let mut count: u64 = 0;
+    let mut rest = bytes;
+    'lines: while !rest.is_empty() {
+        count += 1;
+        rest = next_line(rest).1;
+    }
+    count
 }
 
 /// The first line, without its LF, and what is behind it.

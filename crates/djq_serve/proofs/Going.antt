@@ -18,29 +18,25 @@ goes_none o a = record {
   walk = refl;
   told = tells_none o.hub;
   listing = omega arith;
-  update = refl;
-  rows = refl;
   turned = omega arith;
 }
 
 -- one move
 pub goes_by : (o : Seen) (a : Server) (o' : Seen) (b : Server) (m : Move) → Serves a m b → Tells o.hub o'.hub m.told
-    → o'.counted.listing ≤ o.counted.listing + cost_of m.done → o'.counted.update ≡ o.counted.update → o'.counted.rows ≡ o.counted.rows
+    → o'.counted.listing ≤ o.counted.listing + cost_of m.done
     → o'.turns ≡ o.turns + turns_in m.told → Goes o a o' b
-goes_by o a o' b m serves told listing update rows turned = record {
+goes_by o a o' b m serves told listing turned = record {
   moves = m ∷ [];
   walk = (b, serves, refl);
   told = subst (λ (ts : List Told). Tells o.hub o'.hub ts) (sym (append-nil m.told)) told;
   listing = omega (arith, listing, ap cost_of (append-nil m.done));
-  update = update;
-  rows = rows;
   turned = turned ∙ ap (λ (ts : List Told). o.turns + turns_in ts) (sym (append-nil m.told));
 }
 
 -- one move that counts nothing and takes no turn
 pub goes_quietly : (hub hub' : Shown) (a b : Server) (m : Move) → Serves a m b → Tells hub hub' m.told → turns_in m.told ≡ 0 → GoesQuietly hub a hub' b
 goes_quietly hub hub' a b m serves told none counted turns =
-    goes_by (seen hub counted turns) a (seen hub' counted turns) b m serves told (omega arith) refl refl (omega (arith, none))
+    goes_by (seen hub counted turns) a (seen hub' counted turns) b m serves told (omega arith) (omega (arith, none))
 
 -- some moves, and then others
 pub goes_then : (o : Seen) (a : Server) (o' : Seen) (b : Server) (o'' : Seen) (c : Server) → Goes o a o' b → Goes o' b o'' c → Goes o a o'' c
@@ -56,8 +52,6 @@ goes_then o a o' b o'' c g h = record {
     ap cost_of (flat_map-append (λ (m : Move). m.done) g.moves h.moves),
     sum_by-append (λ (d : Did). d.effect.cost) (all_done g.moves) (all_done h.moves),
   );
-  update = h.update ∙ g.update;
-  rows = h.rows ∙ g.rows;
   turned = omega (
     arith,
     g.turned,

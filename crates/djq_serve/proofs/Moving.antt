@@ -93,7 +93,7 @@ line_runs hub before now turns st new s outcome may makes =
     let b = server new (behind_front s outcome) in
     goes_by (seen hub before turns) (server st (lines s)) (seen hub now turns) b m
     (subst (λ (t : Bool). LinesAt s st m b t) (sym may) (refl, (outcome, (makes.effect, makes.step, refl), refl))) (tells_none hub)
-    (omega (arith, makes.listing, sum_by-cons (λ (x : Did). x.effect.cost) d [])) makes.update makes.rows (omega arith)
+    (omega (arith, makes.listing, sum_by-cons (λ (x : Did). x.effect.cost) d [])) (omega arith)
 
 pub lines_over : (hub : Shown) (st : State) (s : ℕ) → may_run st s ≡ false → GoesQuietly hub (server st (lines s)) hub (server st (flushing 0 next_turn))
 lines_over hub st s may =
@@ -116,7 +116,7 @@ pub turn_goes : (hub hub' : Shown) (counted : Counts) (turns : ℕ) (st new : St
 turn_goes hub hub' counted turns st new turn piece more done next brings none told =
     let m = move (Turning turn piece ∷ more) done in
     goes_by (seen hub counted turns) (server st waiting) (seen hub' counted (turns + 1)) (server new next) m
-    (inr (turn, piece, more, refl, brings)) told (omega arith) refl refl (omega (arith, none_in_more more none turn piece))
+    (inr (turn, piece, more, refl, brings)) told (omega arith) (omega (arith, none_in_more more none turn piece))
 
 -- A session is closed at the end.
 

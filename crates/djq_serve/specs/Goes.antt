@@ -16,14 +16,12 @@ abbrev pub seen : Shown → Counts → ℕ → Seen
 seen hub counted turns = record { hub = hub; counted = counted; turns = turns }
 
 -- What the server did from one place to another, what the hub tells of it, and what was counted: no
--- more lookups and links of listings than its steps may cost, and no others.
+-- more lookups and links of listings than its steps may cost.
 pub record Goes (o : Seen) (old : Server) (o' : Seen) (new : Server) : Type 0 where
   pub moves : List Move
   pub walk : Walk Serves old moves new
   pub told : Tells o.hub o'.hub (all_told moves)
   pub listing : o'.counted.listing ≤ o.counted.listing + cost_of (all_done moves)
-  pub update : o'.counted.update ≡ o.counted.update
-  pub rows : o'.counted.rows ≡ o.counted.rows
   pub turned : o'.turns ≡ o.turns + turns_in (all_told moves)
 
 -- so it goes, whatever was counted before, and nothing is counted

@@ -2,9 +2,10 @@ ghost use Rattle.std.specs.Prelude.{◌≡◌, ◌≤◌, None};
 
 use super::*;
 use djq_lines::limits::{CURSORS, REPLY_BYTES};
-use djq_lines::{AddOutcome, DeleteOutcome, EndCause, EndLine, Refusal};
-use djq_model::{Name, NoMem, Value};
+use djq_lines::{AddOutcome, DeleteOutcome, EndCause, EndLine, QueryOutcome, Refusal, Sign};
+use djq_model::{Name, NoMem, Row, Value};
 use djq_proto::Front;
+use std::alloc::Global;
 use std::process::Abort;
 use std::test::Fail;
 
@@ -181,7 +182,7 @@ fn answers_changes(session: &mut Numbered) -> Result<(), NoMem> {
 
 fn answers_queries(session: &mut Numbered) -> Result<(), NoMem> {
     session.keep(REPLY_BYTES)?;
-    session.answer_registered(Ok(5));
+    session.answer_registered(&Ok(QueryOutcome::Registered(5)))?;
     session.keep(REPLY_BYTES)?;
     session.answer_opened(Ok(()));
     session.keep(REPLY_BYTES)?;
@@ -208,19 +209,42 @@ fn commands_are_answered(rt: HostRuntime) -> Result<(), Fail> {
     Ok(())
 }
 
+// The row -2, 1.
+fn a_row(alloc: Global) -> Result<Row, NoMem> {
+    let mut row = Row::new(alloc);
+    row.push(Value::Int(-2))?;
+    row.push(Value::Int(1))?;
+    Ok(row)
+}
+
 #[test]
 fn listings_are_queued(rt: HostRuntime) -> Result<(), Fail> {
-    let row = [Value::Int(1), Value::Int(-2)];
-    let columns: [usize; 3] = [1, 0, 1];
-    assert!(rt; columns.iter().all(|c| *c < 2));
+    let row = a_row(rt.alloc())?;
     let mut session = Numbered::new(rt.alloc())?;
     for _ in 0..2500 {
-        session.queue_answer(&row, &columns)?;
+        session.queue_answer(&row)?;
     }
     session.queue_last(true)?;
-    assert_eq!(rt; session.pending().len(), 2500 * 10 + 4);
-    assert!(rt; session.pending().starts_with(b"= -2 1 -2\n= -2 1 -2\n"));
-    assert!(rt; session.pending().ends_with(b"= -2 1 -2\nend\n"));
+    assert_eq!(rt; session.pending().len(), 2500 * 7 + 4);
+    assert!(rt; session.pending().ends_with(b"\n= -2 1\nend\n"));
+    Ok(())
+}
+
+#[test]
+fn changes_are_queued(rt: HostRuntime) -> Result<(), Fail> {
+    let row = a_row(rt.alloc())?;
+    let mut session = Numbered::new(rt.alloc())?;
+    session.queue_change(Sign::Went, &Name::new(b"q"), &row)?;
+    session.queue_at(&Name::new(b"q"), 7)?;
+    assert_eq!(rt; session.pending(), b"- q -2 1\nat q 7\n".as_slice());
+    Ok(())
+}
+
+#[test]
+fn trees_are_explained(rt: HostRuntime) -> Result<(), Fail> {
+    let mut session = Numbered::new(rt.alloc())?;
+    session.queue_explained(b"n 0 leaf r - out\n")?;
+    assert_eq!(rt; session.pending(), b"n 0 leaf r - out\nend\n".as_slice());
     Ok(())
 }
 

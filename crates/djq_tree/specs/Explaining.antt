@@ -1,18 +1,10 @@
 -- The text that explains a tree: a line for each node.
-use Rattle.std.specs.Prelude.{ℕ, zero, suc, ◌<◌, Bool, true, false, List, [], ◌∷◌, ◌++◌, length, codes, decimal, slice_index_or}
+use Rattle.std.specs.Prelude.{ℕ, zero, suc, ◌<◌, Bool, true, false, List, [], ◌∷◌, ◌++◌, length, codes, decimal}
+pub use Rattle.djq_hyper.specs.Naming.{name_at, listed}
 use Rattle.djq_tree.specs.Labels.{label_at}
 use Rattle.djq_tree.specs.declared.node.Node.{Node}
 use Rattle.djq_tree.specs.declared.node.Node.TheVariants.{Leaf, Trim, Meet}
 use Rattle.djq_tree.specs.Tree.{Tree, node_at, is_out}
-
--- the name with a number
-abbrev pub name_at : List (List ℕ) → ℕ → List ℕ
-name_at names i = slice_index_or names i []
-
--- variables, with a comma before each
-abbrev pub listed : List (List ℕ) → List ℕ → List ℕ
-listed variables [] = []
-listed variables (x ∷ xs) = codes "," ++ name_at variables x ++ listed variables xs
 
 -- a label: its variables in order of number with commas between them, or a dash where it has none
 abbrev pub label_text : List (List ℕ) → List ℕ → List ℕ

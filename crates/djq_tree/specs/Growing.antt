@@ -2,6 +2,7 @@
 -- the step that the choice rule names for the nodes that are current before it.
 use Rattle.std.specs.Prelude.{◌≡◌, ℕ, zero, suc, ◌<◌, Bool, true, false, min, max, ◌==◌, ◌&&◌, ◌||◌, nat_le, List, [], ◌∷◌, ◌++◌, length, remove, slice_index}
 use Rattle.std.specs.List.{list_all}
+pub use Rattle.djq_hyper.specs.Hypergraph.{numbers_below}
 use Rattle.djq_hyper.specs.Hypergraph.{member, subset, difference}
 use Rattle.djq_tree.specs.Labels.{label_at}
 use Rattle.djq_tree.specs.declared.node.Node.{Node}
@@ -18,14 +19,10 @@ pub record Growth : Type 0 where
   pub numbers : List ℕ
   pub current : List (List ℕ)
 
--- the leaves 0 to m-1, and the numbers 0 to m-1
+-- the leaves 0 to m-1
 abbrev pub leaf_nodes : ℕ → List Node
 leaf_nodes zero = []
 leaf_nodes (suc m) = leaf_nodes m ++ node.Leaf m ∷ []
-
-abbrev pub numbers_below : ℕ → List ℕ
-numbers_below zero = []
-numbers_below (suc m) = numbers_below m ++ m ∷ []
 
 -- at first there are the atoms, all of them current
 abbrev pub start : List (List ℕ) → Growth

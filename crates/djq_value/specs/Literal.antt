@@ -53,10 +53,6 @@ abbrev pub are_different : List Bytes → Bool
 are_different [] = true
 are_different (n ∷ ns) = not (has_name ns n) && are_different ns
 
--- the same names, in any order, each once
-abbrev pub is_reordered : List Bytes → List Bytes → Bool
-is_reordered head body = are_different head && (are_different body && ((length head == length body) && list_all (has_name body) head))
-
 -- the value that a token is
 abbrev pub literal_of : Token → Option Value
 literal_of (word w) = option_map (λ i. Int i) (integer_of w)

@@ -14,7 +14,7 @@ pub use lexer::{Lexer, Token};
 pub use literal::{LiteralRefusal, read_literal};
 pub use number::read_natural;
 pub use output::{KEPT, put};
-pub use print::print_value;
+pub use print::{print_lent, print_value};
 pub use quoted::Quoted;
 pub use reading::{ValueRefusal, read_value};
 pub use word::{is_name, is_text, next_name, next_word, read_name};

@@ -1,13 +1,13 @@
 ghost use Rattle.std.specs.Prelude.{◌≡◌, ◌*◌, ◌≤◌, count_by, length};
 ghost use Rattle.std.specs.List.{flat_map};
-ghost use Rattle.djq_model.specs.declared.value.TheConstants.{TEXT_BYTES};
+ghost use Rattle.djq_model.specs.Lent.{value_lent};
 ghost use Rattle.djq_value.specs.Output.{Puts, Says};
 ghost use Rattle.djq_value.specs.ValueText.{escaped, is_escaped as is_escaped_of, quoted};
 ghost use Rattle.djq_value.specs.ValueText.{value_text};
 
 use crate::output::{KEPT, put};
 use bytes::BytesMut;
-use djq_model::{NoMem, Value};
+use djq_model::{Lent, NoMem, Value};
 use itoa::Buffer;
 
 /// Appends a value as it is printed: an integer in decimal, a text in quotes with its escapes.
@@ -18,21 +18,36 @@ use itoa::Buffer;
 pub fn print_value(value: &Value, out: &mut BytesMut) -> Result<(), NoMem>
     ensures { Puts out.old out.new (value_text value.now) result }
 {
+    print_lent(value.lend(), out)
+}
+
+/// Appends a value that is lent, as it is printed.
+///
+/// # Errors
+///
+/// `NoMem` comes only where the room is too small and can't grow; the output is then as before.
+pub fn print_lent(value: Lent<'_>, out: &mut BytesMut) -> Result<(), NoMem>
+    ensures { Puts out.old out.new (value_text (value_lent value.entry)) result }
+{
     match value {
-        Value::Int(number) => {
+        Lent::Int(number) => {
             let mut buffer = Buffer::new();
-            put(out, buffer.format(*number).as_bytes())
+            put(out, buffer.format(number).as_bytes())
         }
-        Value::Text(text) => print_text(text.as_bytes(), out),
+        Lent::Text(text) => print_text(text, out),
     }
 }
 
 // A text in quotes. Room for the whole of it is taken at once.
 fn print_text(text: &[u8], out: &mut BytesMut) -> Result<(), NoMem>
-    requires { length text.now ≤ TEXT_BYTES }
     ensures { Puts out.old out.new (quoted text.now) result }
 {
-    out.reserve(escaped_len(text) + 2 + KEPT)?;
+    // no output has room for more bytes than can be counted
+    let _most = out.capacity();
+    let Some(room) = escaped_len(text).checked_add(2 + KEPT) else {
+        return Err(NoMem);
+    };
+    out.reserve(room)?;
     out.extend_reserved(b"\"");
     extend_escaped(text, out);
     out.extend_reserved(b"\"");
@@ -41,9 +56,7 @@ fn print_text(text: &[u8], out: &mut BytesMut) -> Result<(), NoMem>
 
 // The number of bytes of a text with its escapes.
 fn escaped_len(text: &[u8]) -> usize
-    requires { length text.now ≤ TEXT_BYTES }
-    ensures value { result ≡ length (flat_map escaped text.now) }
-    ensures short { result ≤ 2 * TEXT_BYTES }
+    ensures { result ≡ length (flat_map escaped text.now) }
 {
     text.len() + escape_count(text)
 }

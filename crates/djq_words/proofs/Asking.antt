@@ -8,7 +8,7 @@ use Rattle.clap.specs.declared.error.Error.{Error}
 use Rattle.clap.specs.declared.error.ErrorKind.TheVariants.{OutOfMemory}
 use Rattle.clap.proofs.OnLiterals.{clap_on_literals}
 use Rattle.djq_words.specs.declared.commands.Asked.{Asked}
-use Rattle.djq_words.specs.declared.commands.Asked.TheVariants.{Run, Serve}
+use Rattle.djq_words.specs.declared.commands.Asked.TheVariants.{Run, Serve, Replay}
 use Rattle.djq_words.specs.Commands.{djq_app}
 use Rattle.djq_words.specs.Asks.{TurnsAre, IsAsked, AskedBy, ServeAsked, Answers}
 
@@ -41,10 +41,14 @@ refused words e (inr among) other = λ a asks. absurd (subst (λ (ks : Kinds). I
 serve_not_run : codes "serve" ≡ codes "run" → ⊥
 serve_not_run e = let n = ap length e in absurd (omega (arith, n))
 
+serve_not_replay : codes "serve" ≡ codes "replay" → ⊥
+serve_not_replay e = let n = ap length e in absurd (omega (arith, n))
+
 -- what `serve` was given asks for nothing
 pub none_asked : (rows : List Row) → ((addr : Text) (n : ℕ) → first_of (codes "ADDR") rows ≡ Some addr → TurnsAre (first_of (codes "turns") rows) n → ⊥) → ServeAsked rows None
 none_asked rows h Run asks = serve_not_run asks
 none_asked rows h (Serve addr n) asks = h addr.now n asks.1 asks.2
+none_asked rows h Replay asks = serve_not_replay asks
 
 pub no_addr : (rows : List Row) → first_of (codes "ADDR") rows ≡ None → ServeAsked rows None
 no_addr rows none = none_asked rows (λ addr n given turns. absurd (none_some (sym none ∙ given)))
@@ -60,9 +64,10 @@ turns_unspelled rows text error given h =
     none_asked rows (λ addr n is turns. let t = subst (λ (k : Option Text). TurnsAre k n) given turns in h (t.0, t.1))
 
 -- another name asks for nothing
-pub other_asked : (name : Text) (rows : List Row) → name ≢ codes "run" → name ≢ codes "serve" → AskedBy (Some (name, rows)) None
-other_asked name rows run serve Run asks = absurd (run asks)
-other_asked name rows run serve (Serve addr n) asks = absurd (serve asks.0)
+pub other_asked : (name : Text) (rows : List Row) → name ≢ codes "run" → name ≢ codes "serve" → name ≢ codes "replay" → AskedBy (Some (name, rows)) None
+other_asked name rows run serve replay Run asks = absurd (run asks)
+other_asked name rows run serve replay (Serve addr n) asks = absurd (serve asks.0)
+other_asked name rows run serve replay Replay asks = absurd (replay asks)
 
 -- what a parse found, by its name and its rows
 pub found_is : {A : Type 0} (f : A → Text) (g : A → List Row) (x : Option A) (name : Text) (rows : List Row)

@@ -3,7 +3,7 @@ use Rattle.std.specs.Prelude.{ℕ, List, [], ◌≡◌, ◌<◌, ◌^◌, Option
 use Rattle.std.specs.Str.Parse.{IsNumeral, digits_value, without_leading_plus}
 use Rattle.clap.specs.Words.{Text, Row, fault_of, first_of, subcommand_of}
 use Rattle.djq_words.specs.declared.commands.Asked.{Asked}
-use Rattle.djq_words.specs.declared.commands.Asked.TheVariants.{Run, Serve}
+use Rattle.djq_words.specs.declared.commands.Asked.TheVariants.{Run, Serve, Replay}
 use Rattle.djq_words.specs.declared.commands.TheConstants.{MOST_TURNS}
 use Rattle.djq_words.specs.Commands.{djq_app}
 
@@ -18,6 +18,7 @@ abbrev pub IsAsked : Text × List Row → Asked → Type 0
 IsAsked c Run = c.0 ≡ codes "run"
 IsAsked c (Serve addr turns) = (c.0 ≡ codes "serve") × (first_of (codes "ADDR") c.1 ≡ Some addr.now)
     × TurnsAre (first_of (codes "turns") c.1) turns
+IsAsked c Replay = c.0 ≡ codes "replay"
 
 -- What is asked for, where something is.
 abbrev pub AskedBy : Option (Text × List Row) → Option Asked → Type 0

@@ -31,4 +31,5 @@ bare_app = let a = new_app (codes "djq") in
 
 -- the program with its commands
 abbrev pub djq_app : App
-djq_app = with_subcommand (with_subcommand bare_app (new_app (codes "run")).top) serve_app.top
+djq_app = with_subcommand (with_subcommand (with_subcommand bare_app (new_app (codes "run")).top)
+    serve_app.top) (new_app (codes "replay")).top

@@ -19,6 +19,8 @@ pub enum Asked<'a> {
     Run,
     /// `serve ADDR [--turns N]`: the sessions that come to this address, for so many turns.
     Serve(&'a str, u64),
+    /// `replay`: the sessions of a schedule, which is read from the source.
+    Replay,
 }
 
 /// The command `serve`.
@@ -45,7 +47,8 @@ fn djq_command<'a>(alloc: Global) -> Result<Command<'a>, AllocError>
         .disable_help_subcommand(true)
         .subcommand_required(true);
     bare.subcommand(Command::new(alloc, "run"))?
-        .subcommand(serve)
+        .subcommand(serve)?
+        .subcommand(Command::new(alloc, "replay"))
 }
 
 /// What these words ask for, of which the first is the program's name, or `None` where they are no
@@ -75,6 +78,7 @@ fn asked_by<'a>(matches: &ArgMatches<'a>) -> Option<Asked<'a>>
     match name {
         "run" => Some(Asked::Run),
         "serve" => serve_asked(inner),
+        "replay" => Some(Asked::Replay),
         _ => None,
     }
 }

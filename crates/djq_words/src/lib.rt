@@ -9,5 +9,7 @@
 #![tactic(auto)]
 
 mod commands;
+#[cfg(test)]
+mod tests;
 
 pub use commands::{Asked, MOST_TURNS, read_words};

@@ -68,6 +68,89 @@ fn close(core: &mut Core, id: u64) {
     }
 }
 
+// A session says what makes two relations with texts, and a join of them.
+fn say_join<L: Ledgers>(core: &mut Core, steps: &mut Steps<L>, id: u64) -> bool {
+    say(core, steps, id, b"rel r int text\nrel s text int\n");
+    say(core, steps, id, b"add r 1 \"a\"\nadd s \"a\" 2\n");
+    say(core, steps, id, b"query q(x,t,y) <- r(x,t), s(t,y)\n");
+    is_told(core, id, b"ok\nok\nok added 1\nok added 2\nok query 7\n")
+}
+
+// A cursor lists the answers of a join with its texts, and becomes stale by a row of either
+// relation.
+fn lists_a_join<L: Ledgers>(rt: &HostRuntime, blanks: Blanks) -> Result<bool, NoMem>
+    requires listing { blanks.listing.name ≡ L.listing }
+    requires update { blanks.update.name ≡ L.update }
+    requires rows { blanks.rows.name ≡ L.rows }
+{
+    let mut steps = Steps::<L>::new(rt, blanks);
+    let mut core = Core::new(rt.alloc())?;
+    let opened = open(&mut core, 1) && say_join(&mut core, &mut steps, 1);
+    say(&mut core, &mut steps, 1, b"open c q\nnext c 2\n");
+    let listed = is_told(&mut core, 1, b"ok open\n= 1 \"a\" 2\nend\n");
+    say(&mut core, &mut steps, 1, b"add s \"b\" 3\nnext c 1\n");
+    let stale = is_told(&mut core, 1, b"ok added 3\nstale c s 3\n");
+    say(
+        &mut core,
+        &mut steps,
+        1,
+        b"has q 1 \"a\" 2\nhas q 1 \"b\" 3\n",
+    );
+    let has = is_told(&mut core, 1, b"yes\nno\n");
+    Ok(opened && listed && stale && has)
+}
+
+#[test]
+fn a_join_is_listed(rt: HostRuntime) -> Result<(), NoMem> {
+    assert!(rt; lists_a_join::<Brand>(&rt, Blanks::new(&rt))?);
+    Ok(())
+}
+
+// The tree of a query beside a join is explained; of queries that aren't free-connex a rest is
+// told, and they aren't registered.
+fn judges_queries<L: Ledgers>(rt: &HostRuntime, blanks: Blanks) -> Result<bool, NoMem>
+    requires listing { blanks.listing.name ≡ L.listing }
+    requires update { blanks.update.name ≡ L.update }
+    requires rows { blanks.rows.name ≡ L.rows }
+{
+    let mut steps = Steps::<L>::new(rt, blanks);
+    let mut core = Core::new(rt.alloc())?;
+    let opened = open(&mut core, 1) && say_join(&mut core, &mut steps, 1);
+    say(
+        &mut core,
+        &mut steps,
+        1,
+        b"query w(x) <- r(x,t)\nexplain w\n",
+    );
+    let explained = is_told(
+        &mut core,
+        1,
+        b"ok query 3\nn 0 leaf r x,t\nn 1 trim 0 x out\nn 2 trim 1 - out\nend\n",
+    );
+    say(
+        &mut core,
+        &mut steps,
+        1,
+        b"query p(x,y) <- r(x,t), s(t,y)\n",
+    );
+    let connex = is_told(&mut core, 1, b"no connex x,t x,y t,y\n");
+    say(&mut core, &mut steps, 1, b"rel e int int\n");
+    say(
+        &mut core,
+        &mut steps,
+        1,
+        b"query p(x) <- e(x,y), e(y,z), e(z,x)\nexplain p\n",
+    );
+    let cyclic = is_told(&mut core, 1, b"ok\nno cyclic x,y x,z y,z\nerr 4 no query\n");
+    Ok(opened && explained && connex && cyclic)
+}
+
+#[test]
+fn queries_are_judged(rt: HostRuntime) -> Result<(), NoMem> {
+    assert!(rt; judges_queries::<Brand>(&rt, Blanks::new(&rt))?);
+    Ok(())
+}
+
 // Two sessions have cursors of the same name; a change outdates both, and the end of one leaves the
 // other's alone.
 fn shares_an_engine<L: Ledgers>(rt: &HostRuntime, blanks: Blanks) -> Result<bool, NoMem>

@@ -1,17 +1,17 @@
 // What a session is answered. Short replies stand in the room that `keep` made before the command.
-ghost use Rattle.std.specs.Prelude.{◌+◌, ◌≤◌, ◌<◌, All, codes, length};
-ghost use Rattle.djq_model.specs.Data.{cells_at};
-ghost use Rattle.djq_lines.specs.Reply.{add_reply, answer_line, delete_reply, has_reply, last_line};
+ghost use Rattle.std.specs.Prelude.{◌+◌, ◌≤◌, ◌++◌, codes};
+ghost use Rattle.djq_lines.specs.Reply.{add_reply, answer_line, at_line, change_line};
+ghost use Rattle.djq_lines.specs.Reply.{delete_reply, has_reply, last_line};
 ghost use Rattle.djq_lines.specs.Reply.{ok_reply, query_reply, refusal_line, stale_line};
 ghost use Rattle.djq_lines.specs.declared.limits.TheConstants.{LAST_LINE_BYTES, REPLY_BYTES};
 ghost use Rattle.djq_session.specs.Dialog.{MayQueue, Replies};
 
 use super::Session;
-use djq_lines::{AddOutcome, DeleteOutcome, Refusal};
-use djq_model::{Name, NoMem, Value};
+use djq_lines::{AddOutcome, DeleteOutcome, QueryOutcome, Refusal, Sign};
+use djq_model::{Answered, Name, NoMem};
 use djq_reply::{
-    put_answer_at, put_last, say_added, say_deleted, say_done, say_has, say_opened, say_refused,
-    say_registered, say_stale,
+    put_answer, put_at, put_change, put_explained, put_last, put_registered, say_added,
+    say_deleted, say_done, say_has, say_opened, say_refused, say_stale,
 };
 
 impl<C: Copy, Q: Copy + Eq> Session<C, Q> {
@@ -55,12 +55,20 @@ impl<C: Copy, Q: Copy + Eq> Session<C, Q> {
         say_deleted(&mut self.output, outcome, seq);
     }
 
-    /// `query` is answered, by the most lookups and links for one of its answers.
-    pub fn answer_registered(&mut self, outcome: Result<u64, Refusal>)
+    /// `query` is answered, by the most lookups and links for one of its answers, or by a rest.
+    ///
+    /// # Errors
+    ///
+    /// `NoMem` only where the room was too small, so for a rest alone, and can't grow; all is as
+    /// before.
+    pub fn answer_registered(
+        &mut self,
+        outcome: &Result<QueryOutcome, Refusal>,
+    ) -> Result<(), NoMem>
         requires { REPLY_BYTES + LAST_LINE_BYTES ≤ self.old.room }
-        ensures { Replies self.old self.new (query_reply outcome) }
+        ensures { MayQueue self.old self.new (query_reply outcome.now) result }
     {
-        say_registered(&mut self.output, outcome);
+        put_registered(outcome, &mut self.output)
     }
 
     /// `has` is answered.
@@ -80,16 +88,55 @@ impl<C: Copy, Q: Copy + Eq> Session<C, Q> {
         say_stale(&mut self.output, cursor, relation, seq);
     }
 
-    /// An answer that `next` lists is queued: that of a row at these columns.
+    /// An answer that `next` lists is queued.
     ///
     /// # Errors
     ///
     /// `NoMem` only where the room was too small and can't grow; all is as before.
-    pub fn queue_answer(&mut self, row: &[Value], columns: &[usize]) -> Result<(), NoMem>
-        requires { All (λ i. i < length row.now) columns.now }
-        ensures { MayQueue self.old self.new (answer_line (cells_at columns.now row.now)) result }
+    pub fn queue_answer<A: Answered>(&mut self, answer: &A) -> Result<(), NoMem>
+        ensures { MayQueue self.old self.new (answer_line (A.values answer.now)) result }
     {
-        put_answer_at(row, columns, &mut self.output)
+        put_answer(answer, &mut self.output)
+    }
+
+    /// An answer of a query that came or went is queued.
+    ///
+    /// # Errors
+    ///
+    /// `NoMem` only where the room was too small and can't grow; all is as before.
+    pub fn queue_change<A: Answered>(
+        &mut self,
+        sign: Sign,
+        query: &Name,
+        answer: &A,
+    ) -> Result<(), NoMem>
+        ensures { MayQueue self.old self.new (change_line sign query.now (A.values answer.now))
+            result }
+    {
+        put_change(sign, query, answer, &mut self.output)
+    }
+
+    /// The line behind the answers of a query that came or went is queued: the number of the
+    /// change.
+    ///
+    /// # Errors
+    ///
+    /// `NoMem` only where the room was too small and can't grow; all is as before.
+    pub fn queue_at(&mut self, query: &Name, seq: u64) -> Result<(), NoMem>
+        ensures { MayQueue self.old self.new (at_line query.now seq) result }
+    {
+        put_at(query, seq, &mut self.output)
+    }
+
+    /// The lines that explain the tree of a query are queued, and `end` behind them.
+    ///
+    /// # Errors
+    ///
+    /// `NoMem` only where the room was too small and can't grow; all is as before.
+    pub fn queue_explained(&mut self, lines: &[u8]) -> Result<(), NoMem>
+        ensures { MayQueue self.old self.new (lines.now ++ codes "end\n") result }
+    {
+        put_explained(lines, &mut self.output)
     }
 
     /// The last line of a listing is queued.

@@ -1,11 +1,16 @@
 use Rattle.std.proofs.Common.{ℕ, List, Bor, ◌∙◌, map, ap, inl, refl, Some}
 use Rattle.djq_words.specs.declared.commands.Asked.{Asked}
-use Rattle.djq_words.specs.declared.commands.Asked.TheVariants.{Run}
+use Rattle.djq_words.specs.declared.commands.Asked.TheVariants.{Run, Replay}
 use Rattle.djq.proofs.Running.{asks_for}
 use Rattle.djq.proofs.program.run_program.Goals as goal
 
-pub returns-in-Ok-Some-Run : goal.returns-in-Ok-Some-Run
-returns-in-Ok-Some-Run g c =
+pub returns-in-Ok-Some-Run-clause-ends : goal.returns-in-Ok-Some-Run-clause-ends
+returns-in-Ok-Some-Run-clause-ends g c =
     let read = c.in-Ok-Some-Run in
     let words : List (List ℕ) = map (λ (word : Bor (List ℕ)). word.now) c.args.words.now in
     inl (Some Run, asks_for words read.field-0 (Some Run) (read.field-0-is ∙ ap (λ (a : Asked). Some a) read.field-0-0-is) read.ensures, (c.serve_source.ensures, refl))
+
+pub returns-in-Ok-Some-Replay-clause-ends : goal.returns-in-Ok-Some-Replay-clause-ends
+returns-in-Ok-Some-Replay-clause-ends g c =
+    let read = c.in-Ok-Some-Replay in
+    inl (Some Replay, asks_for (map (λ (word : Bor (List ℕ)). word.now) c.args.words.now) read.field-0 (Some Replay) (read.field-0-is ∙ ap (λ (a : Asked). Some a) read.field-0-0-is) read.ensures, (c.replay.ensures, refl))

@@ -1,5 +1,5 @@
 -- The session's run begins in the opening state; before that nothing is done.
-use Rattle.std.proofs.Common.{sym, ap, refl, arith}
+use Rattle.std.proofs.Common.{ap, arith}
 use Rattle.djq_machine.specs.State.{State}
 use Rattle.djq.proofs.Running.{serves, serves_nothing}
 use Rattle.djq.proofs.program.serve_source.Goals as goal

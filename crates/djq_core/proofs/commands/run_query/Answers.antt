@@ -1,6 +1,24 @@
+use Rattle.std.proofs.Common.{sym}
+use Rattle.djq_lines.specs.Reply.{query_reply}
 use Rattle.djq_core.proofs.Replying.{does_query}
+use Rattle.djq_core.proofs.Cutting.{does_query_cut, own_still}
+use Rattle.djq_core.proofs.Telling.{was_lacking, was_queued}
 use Rattle.djq_core.proofs.commands.run_query.Goals as goal
 
+pub cut_off-requires-clause-own : goal.cut_off-requires-clause-own
+cut_off-requires-clause-own g c =
+    let lacks = was_lacking c.args.session.now c.answer_registered.new.self (query_reply c.query-outcome.result) c.answer_registered.result (sym c.if-is_err.ensures.value) c.answer_registered.ensures in
+    own_still c.args.engine.now c.query-outcome.new.self c.args.session.now c.answer_registered.new.self c.query-outcome.ensures.cursors lacks.same c.requires.ready.own
+
+pub returns-then-is_err : goal.returns-then-is_err
+returns-then-is_err g c =
+    does_query_cut c.args.engine.now c.query-outcome.new.self c.cut_off.new.engine c.args.session.now c.answer_registered.new.self c.cut_off.new.session c.args.query c.query-outcome.result
+    c.args.steps.now.listing c.query-outcome.new.steps.listing c.query-outcome.ensures.counted c.requires.ready c.query-outcome.ensures.registers c.query-outcome.ensures.cursors
+    (was_lacking c.args.session.now c.answer_registered.new.self (query_reply c.query-outcome.result) c.answer_registered.result (sym c.if-is_err.ensures.value) c.answer_registered.ensures)
+    c.cut_off.ensures
+
 pub returns : goal.returns
-returns c = does_query c.args.engine.now c.query-outcome.new.self c.args.session.now c.answer_registered.new.self c.args.query c.query-outcome.result
-    c.query-outcome.ensures.registers c.query-outcome.ensures.cursors c.answer_registered.ensures
+returns g c =
+    does_query c.args.engine.now c.query-outcome.new.self c.args.session.now c.answer_registered.new.self c.args.query c.query-outcome.result
+    c.args.steps.now.listing c.query-outcome.new.steps.listing c.query-outcome.ensures.counted c.query-outcome.ensures.registers c.query-outcome.ensures.cursors
+    (was_queued c.args.session.now c.answer_registered.new.self (query_reply c.query-outcome.result) c.answer_registered.result (sym c.if-is_err.ensures.value) c.answer_registered.ensures).queued

@@ -1,4 +1,4 @@
-use Rattle.djq_core.proofs.GivingUp.{giving_starts, popped_held, giving_goes_on, given_up}
+use Rattle.djq_core.proofs.GivingUp.{giving_starts, popped_held, giving_goes_on}
 use Rattle.djq_core.proofs.ending.give_up.Goals as goal
 
 pub loop-id-init : goal.loop-id-init

@@ -1,4 +1,4 @@
-use Rattle.std.proofs.Common.{ℕ, List, length}
+use Rattle.std.proofs.Common.{length}
 use Rattle.djq_core.proofs.GivingUp.{Giving}
 use Rattle.djq_core.proofs.ending.give_up.Given as goal
 

@@ -1,11 +1,9 @@
-use Rattle.std.proofs.Common.{ℕ, sym, subst, take, drop, false, Ok, Err}
+use Rattle.std.proofs.Common.{subst, take, drop, false, Ok, Err}
 use Rattle.djq_model.specs.Data.{Bytes}
 use Rattle.djq_lines.specs.Reply.{refusal_line}
 use Rattle.djq_lines.specs.declared.answer.Refusal.{Refusal}
 use Rattle.djq_proto.specs.Reading.{Reads}
 use Rattle.djq_session.specs.Dialog.{Replies}
-use Rattle.djq_core.specs.Views.{Talk}
-use Rattle.djq_core.specs.Sound.{IsReady}
 use Rattle.djq_core.proofs.Taking.{runs, reads_command}
 use Rattle.djq_core.proofs.Saying.{reads_as, reads_err, runnable}
 use Rattle.djq_core.proofs.line.run_line.Goals as goal
@@ -18,9 +16,9 @@ returns-in-Ok g c =
     let old = c.args.session.now in
     let line = take c.args.end old.held in
     let said = subst (λ (bs : Bytes). Reads (take c.args.end bs) (Ok c.in-Ok.command)) c.held.ensures c.in-Ok.ensures in
-    runs c.obey.result c.args.engine.now old c.take_line.new.self line (drop c.args.rest old.held) c.obey.new.engine c.obey.new.session c.args.listing.now c.obey.new.listing
+    runs c.obey.result c.args.engine.now old c.take_line.new.self line (drop c.args.rest old.held) c.obey.new.engine c.obey.new.session c.args.steps.now.listing c.obey.new.steps.listing
     c.requires.front c.take_line.ensures c.requires.said c.requires.few
-    (reads_command c.obey.result c.args.engine.now c.take_line.new.self line c.in-Ok.command c.obey.new.engine c.obey.new.session c.args.listing.now c.obey.new.listing
+    (reads_command c.obey.result c.args.engine.now c.take_line.new.self line c.in-Ok.command c.obey.new.engine c.obey.new.session c.args.steps.now.listing c.obey.new.steps.listing
     (reads_as line c.in-Ok.command said) c.obey.ensures)
 
 pub returns-in-Err : goal.returns-in-Err
@@ -29,6 +27,6 @@ returns-in-Err g c =
     let line = take c.args.end old.held in
     let said = subst (λ (bs : Bytes). Reads (take c.args.end bs) (Err c.in-Err.refusal)) c.held.ensures c.in-Err.ensures in
     let reply = subst (λ (r : Refusal). Replies c.take_line.new.self c.refuse.new.self (refusal_line r)) c.refusal_of.ensures c.refuse.ensures in
-    runs false c.args.engine.now old c.take_line.new.self line (drop c.args.rest old.held) c.args.engine.now c.refuse.new.self c.args.listing.now c.args.listing.now
+    runs false c.args.engine.now old c.take_line.new.self line (drop c.args.rest old.held) c.args.engine.now c.refuse.new.self c.args.steps.now.listing c.args.steps.now.listing
     c.requires.front c.take_line.ensures c.requires.said c.requires.few
-    (reads_err c.args.engine.now c.take_line.new.self c.refuse.new.self line c.in-Err.refusal c.args.listing.now said reply)
+    (reads_err c.args.engine.now c.take_line.new.self c.refuse.new.self line c.in-Err.refusal c.args.steps.now.listing said reply)

@@ -1,9 +1,10 @@
-use Rattle.std.proofs.Common.{ℕ, ◌≡◌, ◌<◌, ◌≤◌, ◌∙◌, sym, ap, subst, take, drop, length, arith, true, false}
+use Rattle.std.proofs.Common.{◌≡◌, ◌<◌, ◌≤◌, sym, ap, subst, take, drop, length, true, false}
 use Rattle.djq_model.specs.Data.{Bytes}
 use Rattle.djq_lines.specs.declared.limits.TheConstants.{PENDING_BYTES}
 use Rattle.djq_lines.specs.declared.answer.EndCause.TheVariants.{Slow, Memory}
-use Rattle.djq_lines.specs.Line.{is_blank, front_of, a_line}
+use Rattle.djq_lines.specs.Line.{is_blank}
 use Rattle.djq_machine.specs.LineStep.{run}
+use Rattle.djq_machine.specs.Call.{counts}
 use Rattle.djq_core.specs.Stepping.{Fronts}
 use Rattle.djq_core.specs.Views.{Talk}
 use Rattle.djq_core.proofs.Fronting.{is_slow, is_unheard, is_dropped, ran_blank, ran_line, ended_before}
@@ -15,8 +16,8 @@ returns-then-is_blank g c =
     let old = c.args.session.now in
     let line = take c.args.end old.held in
     let said : is_blank line ≡ true = subst (λ (bs : Bytes). is_blank (take c.args.end bs) ≡ true) c.held.ensures (sym c.if-is_blank.ensures) in
-    ran_blank c.args.engine.now old c.take_line.new.self line c.args.listing.now c.requires.running
-    (is_dropped c.args.engine.now old c.take_line.new.self line (drop c.args.rest old.held) c.args.listing.now c.requires.front c.take_line.ensures said)
+    ran_blank c.args.engine.now old c.take_line.new.self line (counts c.args.steps.now.listing c.args.steps.now.update c.args.steps.now.rows) c.requires.running
+    (is_dropped c.args.engine.now old c.take_line.new.self line (drop c.args.rest old.held) c.args.steps.now.listing c.requires.front c.take_line.ensures said)
 
 pub returns-then-pending-gt-PENDING_BYTES : goal.returns-then-pending-gt-PENDING_BYTES
 returns-then-pending-gt-PENDING_BYTES g c =
@@ -24,9 +25,9 @@ returns-then-pending-gt-PENDING_BYTES g c =
     let line = take c.args.end old.held in
     let said : is_blank line ≡ false = subst (λ (bs : Bytes). is_blank (take c.args.end bs) ≡ false) c.held.ensures (sym c.if-is_blank.ensures) in
     let many : PENDING_BYTES < length old.pending = subst (λ (bs : Bytes). PENDING_BYTES < length bs) c.pending.ensures c.if-pending-gt-PENDING_BYTES.true in
-    ended_before Slow c.args.engine.now old c.end_by.new.engine c.end_by.new.session c.args.listing.now c.requires.running (
+    ended_before Slow c.args.engine.now old c.end_by.new.engine c.end_by.new.session (counts c.args.steps.now.listing c.args.steps.now.update c.args.steps.now.rows) c.requires.running (
       line,
-      is_slow c.args.engine.now c.end_by.new.engine old c.take_line-then-pending-gt-PENDING_BYTES.new.self c.end_by.new.session line (drop c.args.rest old.held) c.args.listing.now
+      is_slow c.args.engine.now c.end_by.new.engine old c.take_line-then-pending-gt-PENDING_BYTES.new.self c.end_by.new.session line (drop c.args.rest old.held) c.args.steps.now.listing
           c.requires.front c.take_line-then-pending-gt-PENDING_BYTES.ensures said many c.end_by.ensures.performs,
     )
 
@@ -36,9 +37,9 @@ returns-in-Err g c =
     let line = take c.args.end old.held in
     let said : is_blank line ≡ false = subst (λ (bs : Bytes). is_blank (take c.args.end bs) ≡ false) c.held.ensures (sym c.if-is_blank.ensures) in
     let few : length old.pending ≤ PENDING_BYTES = subst (λ (bs : Bytes). length bs ≤ PENDING_BYTES) c.pending.ensures c.if-pending-gt-PENDING_BYTES.false in
-    ended_before Memory c.args.engine.now old c.end_by-in-Err.new.engine c.end_by-in-Err.new.session c.args.listing.now c.requires.running (
+    ended_before Memory c.args.engine.now old c.end_by-in-Err.new.engine c.end_by-in-Err.new.session (counts c.args.steps.now.listing c.args.steps.now.update c.args.steps.now.rows) c.requires.running (
       line,
-      is_unheard c.args.engine.now c.end_by-in-Err.new.engine old c.keep.new.self c.take_line-in-Err.new.self c.end_by-in-Err.new.session line (drop c.args.rest old.held) c.args.listing.now
+      is_unheard c.args.engine.now c.end_by-in-Err.new.engine old c.keep.new.self c.take_line-in-Err.new.self c.end_by-in-Err.new.session line (drop c.args.rest old.held) c.args.steps.now.listing
           c.requires.front c.in-Err.ensures.others
           (subst (λ (bs : Bytes). c.take_line-in-Err.new.self ≡ record c.keep.new.self { held = drop c.args.rest bs }) (ap (λ (d : Talk). d.held) c.in-Err.ensures.others) c.take_line-in-Err.ensures) said few c.end_by-in-Err.ensures.performs,
     )
@@ -48,7 +49,8 @@ returns-in-Ok g c =
     let old = c.args.session.now in
     let line = take c.args.end old.held in
     let same : c.keep.new.self.held ≡ old.held = ap (λ (d : Talk). d.held) c.in-Ok.ensures.others in
-    let ran : Fronts (run line) c.run_line-stops.result c.args.engine.now c.keep.new.self c.run_line-stops.new.engine c.run_line-stops.new.session c.args.listing.now c.run_line-stops.new.listing
-    = subst (λ (bs : Bytes). Fronts (run (take c.args.end bs)) c.run_line-stops.result c.args.engine.now c.keep.new.self c.run_line-stops.new.engine c.run_line-stops.new.session c.args.listing.now c.run_line-stops.new.listing) same c.run_line-stops.ensures in
-    ran_line c.run_line-stops.result c.args.engine.now old c.run_line-stops.new.engine c.run_line-stops.new.session line c.args.listing.now c.run_line-stops.new.listing c.requires.running
-    (with_room _ c.run_line-stops.result c.args.engine.now old c.keep.new.self c.run_line-stops.new.engine c.run_line-stops.new.session c.args.listing.now c.run_line-stops.new.listing c.in-Ok.ensures.others ran)
+    let ran : Fronts (run line) c.run_line-stops.result c.args.engine.now c.keep.new.self c.run_line-stops.new.engine c.run_line-stops.new.session c.args.steps.now.listing c.run_line-stops.new.steps.listing
+    = subst (λ (bs : Bytes). Fronts (run (take c.args.end bs)) c.run_line-stops.result c.args.engine.now c.keep.new.self c.run_line-stops.new.engine c.run_line-stops.new.session c.args.steps.now.listing c.run_line-stops.new.steps.listing) same c.run_line-stops.ensures in
+    ran_line c.run_line-stops.result c.args.engine.now old c.run_line-stops.new.engine c.run_line-stops.new.session line (counts c.args.steps.now.listing c.args.steps.now.update c.args.steps.now.rows)
+    (counts c.run_line-stops.new.steps.listing c.run_line-stops.new.steps.update c.run_line-stops.new.steps.rows) c.requires.running
+    (with_room _ c.run_line-stops.result c.args.engine.now old c.keep.new.self c.run_line-stops.new.engine c.run_line-stops.new.session c.args.steps.now.listing c.run_line-stops.new.steps.listing c.in-Ok.ensures.others ran)

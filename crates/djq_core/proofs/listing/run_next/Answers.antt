@@ -1,5 +1,4 @@
-use Rattle.std.proofs.Common.{ℕ, List, [], ◌∷◌, sym, subst}
-use Rattle.djq_lines.specs.Reply.{stale_line}
+use Rattle.std.proofs.Common.{[], ◌∷◌, sym, subst}
 use Rattle.djq_engine.specs.declared.cursor.CursorId.{CursorId}
 use Rattle.djq_session.specs.Dialog.{named}
 use Rattle.djq_core.specs.declared.listing.Listed.TheVariants.{Whole, Cut, Stale}
@@ -25,8 +24,8 @@ returns-in-Whole g c =
     does_next_whole c.args.engine.now c.list_answers.new.engine c.args.session.now c.list_answers.new.session c.args.name.now f.0 c.args.count c.args.listing.now c.list_answers.new.listing f.1
     (subst (λ (id : CursorId). Lists c.args.engine.now id c.args.session.now c.args.count Whole c.list_answers.new.engine c.list_answers.new.session c.args.listing.now c.list_answers.new.listing) (sym f.2) c.in-Whole.ensures)
 
-pub give_up-requires : goal.give_up-requires
-give_up-requires g c =
+pub cut_off-requires-clause-own : goal.cut_off-requires-clause-own
+cut_off-requires-clause-own g c =
     let f = named_some (named c.args.session.now.cursors c.args.name.now) c.in-Some.id (sym c.in-Some.ensures) in
     owns_still c.args.engine.now c.list_answers.new.engine c.args.session.now c.list_answers.new.session c.args.name.now f.0 c.args.count c.args.listing.now c.list_answers.new.listing c.requires.ready.own f.1
     (subst (λ (id : CursorId). Lists c.args.engine.now id c.args.session.now c.args.count Cut c.list_answers.new.engine c.list_answers.new.session c.args.listing.now c.list_answers.new.listing) (sym f.2) c.in-Cut.ensures)
@@ -34,10 +33,10 @@ give_up-requires g c =
 pub returns-in-Cut : goal.returns-in-Cut
 returns-in-Cut g c =
     let f = named_some (named c.args.session.now.cursors c.args.name.now) c.in-Some.id (sym c.in-Some.ensures) in
-    does_next_cut c.args.engine.now c.list_answers.new.engine c.give_up.new.engine c.args.session.now c.list_answers.new.session c.give_up.new.session c.end_by.new.self c.args.name.now f.0 c.args.count c.args.listing.now c.list_answers.new.listing
+    does_next_cut c.args.engine.now c.list_answers.new.engine c.cut_off.new.engine c.args.session.now c.list_answers.new.session c.cut_off.new.session c.args.name.now f.0 c.args.count c.args.listing.now c.list_answers.new.listing
     c.requires.ready f.1
     (subst (λ (id : CursorId). Lists c.args.engine.now id c.args.session.now c.args.count Cut c.list_answers.new.engine c.list_answers.new.session c.args.listing.now c.list_answers.new.listing) (sym f.2) c.in-Cut.ensures)
-    c.give_up.ensures c.end_by.ensures
+    c.cut_off.ensures
 
 pub returns-in-Stale : goal.returns-in-Stale
 returns-in-Stale g c =

@@ -18,7 +18,7 @@ use Rattle.djq_index.specs.Tuple.{pick}
 use Rattle.djq_tree.specs.Labels.{label_at}
 use Rattle.djq_reduct.specs.Columns.{column, columns}
 use Rattle.djq_reduct.proofs.Placing.{column_within}
-use Rattle.djq_cursor.specs.Answers.{on_node}
+use Rattle.djq_reduct.specs.Answers.{on_node}
 use Rattle.djq_cursor.proofs.Seeking.{popped, pop_within, picked_next, picked_all}
 use Rattle.djq_cursor.proofs.Tuples.{head_is}
 use Rattle.djq_cursor.proofs.levels.project.Goals as goal

@@ -12,7 +12,7 @@ use Rattle.djq_propagate.specs.Updates.{HasCleared, HasTaken, steps}
 use Rattle.djq_propagate.proofs.Sides.{head_none}
 use Rattle.djq_propagate.proofs.Going.{has_table, as_live}
 use Rattle.djq_propagate.proofs.Touching.{marks_length}
-use Rattle.djq_propagate.proofs.Paths.{path_zero, path_next, up_none, up_more, steps_none, steps_more, steps_count, cleared_leaf, cleared_more}
+use Rattle.djq_propagate.proofs.Paths.{path_next, up_none, up_more, steps_none, steps_more, steps_count, cleared_leaf, cleared_more}
 use Rattle.djq_propagate.proofs.Marking.{walk_none, walk_more}
 use Rattle.djq_propagate.proofs.Updating.{both, leaf_within, ready_leaf, taking_none, taking_more, taking_done, no_mark, no_entry, first_mark}
 use Rattle.djq_propagate.proofs.path.clear_above.Goals as goal

@@ -1,5 +1,4 @@
-use Rattle.std.proofs.Common.{length, true}
-use Rattle.djq_lines.specs.Grammar.{is_small_atom}
+use Rattle.std.proofs.Common.{length}
 use Rattle.djq_proto.proofs.Bodies.{AtomsSoFar}
 use Rattle.djq_proto.proofs.query.read_atoms.Given as goal
 

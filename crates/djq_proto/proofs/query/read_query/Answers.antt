@@ -1,15 +1,35 @@
-use Rattle.std.proofs.Common.{sym, subst, ◌∙◌}
-use Rattle.djq_lines.specs.Grammar.{query_in}
-use Rattle.djq_proto.specs.Reading.{IfSimple}
-use Rattle.djq_proto.proofs.Making.{query_later, query_served}
+use Rattle.std.proofs.Common.{sym, subst, ◌∙◌, List, true, Some, Result, Err}
+use Rattle.std.specs.List.{list_all}
+use Rattle.djq_model.specs.Data.{Bytes}
+use Rattle.djq_model.specs.declared.query.Query.{Query}
+use Rattle.djq_lines.specs.Grammar.{body_in, list_in, name_of, query_in}
+use Rattle.djq_proto.specs.Reading.{ReadsAs, is_small_query}
+use Rattle.djq_proto.specs.declared.refusal.LineRefusal.{LineRefusal}
+use Rattle.djq_proto.proofs.Listing.{err_is}
+use Rattle.djq_proto.proofs.Bodies.{body_refused, head_refused, part_some, query_split}
 use Rattle.djq_proto.proofs.query.read_query.Goals as goal
 
-pub returns-then-not-is_simple : goal.returns-then-not-is_simple
-returns-then-not-is_simple c =
-    query_later (query_in c.args.lexer.now) c.read_any_query-query.result c.is_simple.result c.read_any_query-query.ensures (sym c.is_outside.ensures ∙ c.if-is_outside.false)
-    (subst (λ ts. IfSimple (query_in ts) c.is_simple.result) c.fork-text.ensures c.is_simple.ensures) c.if-not-is_simple.true
+pub returns-in_err-atoms : goal.returns-in_err-atoms
+returns-in_err-atoms c =
+    let old = c.args.lexer.now in
+    let mid = c.next_name.new.lexer in
+    let rest = c.read_list-head.new.lexer in
+    let e = c.in_err-atoms.field-0.0 in
+    let refused : Result Query LineRefusal = Err e in
+    let found = part_some (list_all (λ _. true)) (list_in name_of mid) c.read_list-head.result rest c.read_list-head.ensures (sym c.is_outside.ensures ∙ c.if-is_outside.false) in
+    subst (λ r. ReadsAs is_small_query (query_in old) r) (sym (err_is c.from_residual.result e c.from_residual.ensures.1))
+    (subst (λ o. ReadsAs is_small_query o refused) (sym (query_split old mid rest c.in-Some.name found.0 c.in-Some.ensures.0 c.in-Some.ensures.1 found.1))
+    (body_refused c.in-Some.name found.0 (body_in rest) e c.in_err-atoms.ensures))
 
-pub returns : goal.returns
-returns c =
-    query_served (query_in c.args.lexer.now) c.read_any_query-query.result c.is_simple.result c.read_any_query-query.ensures
-    (subst (λ ts. IfSimple (query_in ts) c.is_simple.result) c.fork-text.ensures c.is_simple.ensures) c.if-not-is_simple.false
+pub returns-in_err-head : goal.returns-in_err-head
+returns-in_err-head c =
+    let old = c.args.lexer.now in
+    let mid = c.next_name.new.lexer in
+    let rest = c.read_list-head.new.lexer in
+    let e = c.in_err-head.field-0.0 in
+    let refused : Result Query LineRefusal = Err e in
+    let found = part_some (list_all (λ _. true)) (list_in name_of mid) c.read_list-head.result rest c.read_list-head.ensures (sym c.is_outside.ensures ∙ c.if-is_outside.false) in
+    subst (λ r. ReadsAs is_small_query (query_in old) r) (sym (err_is c.from_residual-in_err-head.result e c.from_residual-in_err-head.ensures.1))
+    (subst (λ o. ReadsAs is_small_query o refused) (sym (query_split old mid rest c.in-Some.name found.0 c.in-Some.ensures.0 c.in-Some.ensures.1 found.1))
+    (head_refused c.in-Some.name found.0 (body_in rest) c.in_ok-atoms.atoms e
+    (subst (λ (r : Result (List Bytes) LineRefusal). ReadsAs (list_all (λ _. true)) (Some found.0) r) c.in_err-head.was found.2) c.in_ok-atoms.ensures))

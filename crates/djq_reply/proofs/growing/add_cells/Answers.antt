@@ -1,8 +1,26 @@
+use Rattle.std.proofs.Common.{◌∷◌, ◌≡◌, get_or}
+use Rattle.std.proofs.lemmas.Option.{get_or_from_slice_get, slice_get_within}
+use Rattle.djq_model.specs.Lent.{value_lent}
 use Rattle.djq_lines.specs.Reply.{cells_text}
-use Rattle.djq_reply.proofs.Adding.{adds_err, cut_at_cell}
+use Rattle.djq_value.specs.ValueText.{value_text}
+use Rattle.djq_reply.proofs.Adding.{adds_err, cut_at_item, put_item}
 use Rattle.djq_reply.proofs.growing.add_cells.Goals as goal
 
 pub returns-in_err-add_cell : goal.returns-in_err-add_cell
-returns-in_err-add_cell c =
-    adds_err c.args.out.now c.add_cell.new.out (cells_text c.args.cells.now) c.from_residual.result c.from_residual.ensures.0
-    (cut_at_cell c.args.out.now c.loop-cell.out c.add_cell.new.out c.args.cells.now c.loop-cell.cell-index c.cell-item.result c.loop-cell-test.true c.cell-item.is c.loop-cell.invariant c.in_err-add_cell.ensures)
+returns-in_err-add_cell g c =
+    let values = g.A.Answered.values c.args.answer.now in
+    let here = c.value.ensures in
+    let cell = value_lent c.value.result in
+    adds_err c.args.out.now c.add_cell.new.out (cells_text values) c.from_residual.result c.from_residual.ensures.0
+    (cut_at_item (λ v. 32 ∷ value_text v) c.args.out.now c.loop-at.out c.add_cell.new.out values c.loop-at.at cell
+    (slice_get_within values c.loop-at.at cell here) (get_or_from_slice_get values c.loop-at.at cell cell here)
+    c.loop-at.invariant c.in_err-add_cell.ensures)
+
+pub loop-at-preserved : goal.loop-at-preserved
+loop-at-preserved g c =
+    let values = g.A.Answered.values c.args.answer.now in
+    let here = c.value.ensures in
+    let cell = value_lent c.value.result in
+    put_item (λ v. 32 ∷ value_text v) c.args.out.now c.loop-at.out c.add_cell.new.out values c.loop-at.at cell
+    (slice_get_within values c.loop-at.at cell here) (get_or_from_slice_get values c.loop-at.at cell cell here)
+    c.loop-at.invariant c.in_ok-add_cell.ensures

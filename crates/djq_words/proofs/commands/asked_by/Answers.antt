@@ -11,4 +11,4 @@ pub returns-in_default : goal.returns-in_default
 returns-in_default c =
     let rows = rows_of (found_of c.in_ok-name.inner.now) in
     asked_as _ _ _ (found_is _ _ _ c.in_ok-name.name.now rows c.in_ok-name.ensures.name c.in_ok-name.ensures.rows)
-    (other_asked c.in_ok-name.name.now rows c.in_default.not-run c.in_default.not-serve)
+    (other_asked c.in_ok-name.name.now rows c.in_default.not-run c.in_default.not-serve c.in_default.not-replay)

@@ -1,7 +1,5 @@
-use Rattle.std.proofs.Common.{ℕ, List, ◌≡◌, ◌<◌, ◌≤◌, ◌∙◌, ◌||◌, Bool, true, false, sym, ap, subst, length, get_or, set, take, drop, arith, Option, None, Some}
-use Rattle.djq_model.specs.Data.{Bytes}
+use Rattle.std.proofs.Common.{◌∙◌, sym, ap}
 use Rattle.djq_machine.specs.State.{State}
-use Rattle.djq_core.specs.declared.open.OpenSession.{OpenSession}
 use Rattle.djq_machine.specs.Call.{cause_of}
 use Rattle.djq_core.proofs.Places.{here_by, is_there_in, ids_rise_in, cause_at}
 use Rattle.djq_core.proofs.serving.CoreMachine.cause.Goals as goal

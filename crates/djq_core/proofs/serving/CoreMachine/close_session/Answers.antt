@@ -1,6 +1,5 @@
-use Rattle.std.proofs.Common.{ℕ, List, map, ◌≡◌, ◌<◌, ◌≤◌, ◌∙◌, ◌||◌, Bool, true, false, sym, ap, subst, length, get_or, set, take, drop, arith, Option, None, Some}
+use Rattle.std.proofs.Common.{List, map, ◌∙◌, sym, ap, subst, set, arith}
 use Rattle.std.specs.List.{remove}
-use Rattle.djq_model.specs.Data.{Bytes}
 use Rattle.djq_machine.specs.State.{State}
 use Rattle.djq_core.specs.declared.open.OpenSession.{OpenSession}
 use Rattle.djq_machine.specs.Step.{closed}

@@ -1,5 +1,4 @@
-use Rattle.std.proofs.Common.{ℕ, List, ◌≡◌, ◌<◌, ◌≤◌, ◌∙◌, ◌||◌, Bool, true, false, sym, ap, subst, length, get_or, set, take, drop, arith, Option, None, Some}
-use Rattle.djq_model.specs.Data.{Bytes}
+use Rattle.std.proofs.Common.{List, sym, subst, set}
 use Rattle.djq_machine.specs.State.{State}
 use Rattle.djq_core.specs.declared.open.OpenSession.{OpenSession}
 use Rattle.djq_machine.specs.Step.{ended}

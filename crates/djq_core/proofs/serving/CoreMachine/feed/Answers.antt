@@ -1,11 +1,10 @@
-use Rattle.std.proofs.Common.{ℕ, List, ◌≡◌, ◌<◌, ◌≤◌, ◌∙◌, ◌||◌, Bool, true, false, sym, ap, subst, length, get_or, set, take, drop, arith, Option, None, Some}
-use Rattle.djq_model.specs.Data.{Bytes}
+use Rattle.std.proofs.Common.{List, ◌∙◌, false, sym, subst, set}
 use Rattle.djq_machine.specs.State.{State}
 use Rattle.djq_core.specs.declared.open.OpenSession.{OpenSession}
 use Rattle.djq_lines.specs.declared.answer.EndCause.TheVariants.{Memory}
 use Rattle.djq_lines.specs.Reply.{end_memory}
 use Rattle.djq_machine.specs.Effect.{EndsWith}
-use Rattle.djq_machine.specs.declared.machine.Fed.TheVariants.{Held, Ended}
+use Rattle.djq_machine.specs.declared.machine.Fed.TheVariants.{Ended}
 use Rattle.djq_machine.specs.Step.{fed}
 use Rattle.djq_machine.specs.Call.{Makes, FedGives}
 use Rattle.djq_core.specs.Views.{Talk, state_in}

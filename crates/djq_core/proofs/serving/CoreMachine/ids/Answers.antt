@@ -1,7 +1,4 @@
-use Rattle.std.proofs.Common.{ℕ, List, ◌≡◌, ◌<◌, ◌≤◌, ◌∙◌, ◌||◌, Bool, true, false, sym, ap, subst, length, get_or, set, take, drop, arith, Option, None, Some}
-use Rattle.djq_model.specs.Data.{Bytes}
-use Rattle.djq_machine.specs.State.{State}
-use Rattle.djq_core.specs.declared.open.OpenSession.{OpenSession}
+use Rattle.std.proofs.Common.{◌∙◌, sym, ap}
 use Rattle.djq_machine.specs.Call.{ids_of}
 use Rattle.djq_core.proofs.Places.{ids_seen}
 use Rattle.djq_core.proofs.serving.CoreMachine.ids.Goals as goal

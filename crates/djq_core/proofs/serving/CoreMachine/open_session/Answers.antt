@@ -1,6 +1,4 @@
-use Rattle.std.proofs.Common.{ℕ, List, map, ◌≡◌, ◌<◌, ◌≤◌, ◌∙◌, ◌||◌, Bool, true, false, sym, ap, subst, length, get_or, set, take, drop, arith, Option, None, Some}
-use Rattle.djq_model.specs.Data.{Bytes}
-use Rattle.djq_machine.specs.State.{State}
+use Rattle.std.proofs.Common.{List, map, ◌<◌, ◌∙◌, sym, ap, subst, length, arith}
 use Rattle.djq_core.specs.declared.open.OpenSession.{OpenSession}
 use Rattle.djq_lines.specs.declared.limits.TheConstants.{SESSIONS}
 use Rattle.djq_machine.specs.Step.{opened}

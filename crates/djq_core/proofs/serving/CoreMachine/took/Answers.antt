@@ -1,7 +1,6 @@
-use Rattle.std.proofs.Common.{ℕ, List, ◌≡◌, ◌<◌, ◌≤◌, ◌∙◌, ◌||◌, Bool, true, false, sym, ap, subst, length, get_or, set, take, drop, arith, Option, None, Some}
+use Rattle.std.proofs.Common.{◌≤◌, ◌∙◌, sym, ap, subst, length, set, take}
 use Rattle.djq_model.specs.Data.{Bytes}
 use Rattle.djq_machine.specs.State.{State}
-use Rattle.djq_core.specs.declared.open.OpenSession.{OpenSession}
 use Rattle.djq_machine.specs.Step.{took}
 use Rattle.djq_machine.specs.Run.{pending_of}
 use Rattle.djq_machine.specs.Call.{Makes}

@@ -1,5 +1,4 @@
-use Rattle.std.proofs.Common.{ℕ, ◌<◌, ◌≡◌, get_or}
-use Rattle.djq_machine.specs.Call.{ids_of}
+use Rattle.std.proofs.Common.{ℕ, ◌<◌, get_or}
 use Rattle.djq_core.proofs.serving.tests.is_above.Given as goal
 
 abbrev pub invariant-loop-at : goal.invariant-loop-at

@@ -1,4 +1,3 @@
-use Rattle.std.proofs.Common.{ℕ}
 use Rattle.djq_core.proofs.serving.tests.is_open.Given as goal
 
 abbrev pub invariant-loop-at : goal.invariant-loop-at

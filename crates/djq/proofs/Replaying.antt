@@ -1,0 +1,159 @@
+-- A schedule's hub has no more turns than its lines, so that one turn more finds it over; and it never fails.
+use Rattle.std.specs.Prelude.{ℕ, List, [], ◌∷◌, ◌++◌, ◌≡◌, ◌+◌, ◌<◌, ◌≤◌, ◌⊎◌, ◌||◌, Bool, true, false, Option, Some, IfSome, length, take}
+use Rattle.std.specs.Option.{option_map}
+use Rattle.std.proofs.Common.{refl, sym, ap, ◌∙◌, subst, inl, inr, arith, length-append, length-take}
+use Rattle.std.proofs.lemmas.List.Sums.{sum_by-cons}
+use Rattle.djq_io.specs.Hub.{Ids, no_ids}
+use Rattle.djq_io.specs.MemHub.{Recorded, script_of}
+use Rattle.djq_io.specs.Script.{Script, Passes, Cuts, Sends}
+use Rattle.djq_io.specs.SteadyHub.{NeverFails}
+use Rattle.djq_io.specs.declared.hub.Coming.{Coming}
+use Rattle.djq_io.specs.declared.hub.Incoming.{Incoming}
+use Rattle.djq_io.specs.declared.hub.Incoming.TheVariants.{Brings}
+use Rattle.djq_io.specs.declared.hub.Turn.{Turn}
+use Rattle.djq_io.specs.declared.hub.Turn.TheVariants.{Opened, Bytes as Brought, Ended, Idle, Over as HubOver, Failed}
+use Rattle.djq_io.specs.declared.hub.Sent.{Sent}
+use Rattle.djq_io.specs.declared.hub.Sent.TheVariants.{Took, Again, Gone}
+use Rattle.djq_io.specs.declared.hub.Told.{Told}
+use Rattle.djq_io.specs.declared.hub.Told.TheVariants.{Listening, Turning, Sending, Closing}
+use Rattle.djq_model.specs.Data.{Bytes}
+use Rattle.djq_machine.specs.State.{State, opening}
+use Rattle.djq_machine.specs.Run.{Walk}
+use Rattle.djq_machine.specs.Call.{Counts}
+use Rattle.djq_laws.specs.declared.limits.TheConstants.{READ_BYTES}
+use Rattle.djq_schedule.specs.Schedule.{lines_of}
+use Rattle.djq_schedule.specs.Made.{IsMade}
+use Rattle.djq_schedule.specs.Sent.{sent_text}
+use Rattle.djq_schedule.proofs.Counting.{AllShort, turn_for_each_line, turns_are_short}
+use Rattle.djq_serve.specs.declared.served.Served.{Served}
+use Rattle.djq_serve.specs.declared.served.Served.TheVariants.{Stopped, Over, TurnsUsed as AllTaken, HubFault as HubFailed}
+use Rattle.djq_serve.specs.Told.{Shown, shown, Place, place, Answers as IsAnswered, turn_is_over, turn_is_failed, by_turn, has_over, has_failed, turn_in, turns_in}
+use Rattle.djq_serve.specs.Server.{all_told}
+use Rattle.djq_serve.specs.Ends.{FaultsCount, ServeEnds}
+use Rattle.djq.specs.Replay.{hub_of, IsWhole, Replays}
+
+-- the next turn of a script is gone, and those that are left are short too
+record OneLess (old new : List Coming) : Type 0 where
+  pub less : length old ≡ length new + 1
+  pub short : AllShort new
+
+passed : (old : Script) (next : Incoming) (new : Script) → Passes old next new → AllShort old.turns → OneLess old.turns new.turns
+passed old next new h all = record {
+  less = omega (arith, ap (λ (turns : List Coming). length turns) h);
+  short = (subst AllShort h all).1;
+}
+
+-- a short piece isn't cut
+uncut : (old : Script) (id n : ℕ) (buf : Bytes) (new : Script) → length buf ≡ READ_BYTES → n ≡ length buf → Cuts old id (take n buf) new → AllShort old.turns → ⊥
+uncut old id n buf new room all_of (rest, after, some, before, behind) all =
+    let short : length (take n buf ++ rest) ≤ 8192 = (subst AllShort before all).0 in
+    some (no_bytes rest (omega (arith, short, length-append (take n buf) rest, length-take n buf, room, all_of)))
+  where
+    no_bytes : (xs : Bytes) → length xs ≤ 0 → xs ≡ []
+    no_bytes [] h = refl
+    no_bytes (x ∷ xs) h = absurd (omega (arith, h))
+
+turned : (turn : Turn) (piece : Bytes) (old new : Place) → IsAnswered old (Turning turn piece) new → AllShort old.script.turns → turn_is_over turn ≡ false → turn_is_failed turn ≡ false → OneLess old.script.turns new.script.turns
+turned (Opened id) piece old new (buf, room, is, follows, ids) all over failed = passed old.script _ new.script follows.1 all
+turned (Brought id n) piece old new (buf, room, is, follows, ids) all over failed = by_piece follows.1
+  where
+    by_piece : Passes old.script (Brings id (take n buf)) new.script ⊎ ((n ≡ length buf) × Cuts old.script id (take n buf) new.script) → OneLess old.script.turns new.script.turns
+    by_piece (inl p) = passed old.script _ new.script p all
+    by_piece (inr (all_of, cuts)) = absurd (uncut old.script id n buf new.script room all_of cuts all)
+turned (Ended id) piece old new (buf, room, is, follows, ids) all over failed = passed old.script _ new.script follows.1 all
+turned Idle piece old new (buf, room, is, follows, ids) all over failed = passed old.script follows.0 new.script follows.2 all
+turned HubOver piece old new h all over failed = absurd cc
+turned Failed piece old new h all over failed = absurd cc
+
+-- Of what is left to come, no more turns were taken.
+record TookAtMost (old : List Coming) (told : List Told) (new : List Coming) : Type 0 where
+  pub taken : turns_in told + length new ≤ length old
+  pub short : AllShort new
+
+both_false : (a b : Bool) → (a || b) ≡ false → (a ≡ false) × (b ≡ false)
+both_false true b h = absurd cc
+both_false false b h = (refl, h)
+
+-- a send leaves the script as it was
+script_stays : (s : ℕ) (sent : Sent) (old new : Script) → Sends s sent old new → new ≡ old
+script_stays s (Took n) old new h = h.1
+script_stays s Again old new h = h.1
+script_stays s Gone old new h = h
+
+one_call : (t : Told) (old new : Place) → IsAnswered old t new → AllShort old.script.turns → by_turn turn_is_over t ≡ false → by_turn turn_is_failed t ≡ false → TookAtMost old.script.turns (t ∷ []) new.script.turns
+one_call (Turning turn piece) old new h all over failed =
+    let less = turned turn piece old new h all over failed in
+    record { taken = omega (arith, less.less); short = less.short }
+one_call (Sending s sent piece) old new h all over failed = record {
+  taken = omega (arith, ap (λ (script : Script). length script.turns) (script_stays s sent old.script new.script h.0));
+  short = subst (λ (script : Script). AllShort script.turns) (sym (script_stays s sent old.script new.script h.0)) all;
+}
+one_call (Closing s) old new h all over failed = record {
+  taken = omega (arith, ap (λ (script : Script). length script.turns) h.0);
+  short = subst (λ (script : Script). AllShort script.turns) (sym h.0) all;
+}
+one_call (Listening addr answer) old new h all over failed = absurd h
+
+calls : (told : List Told) (old new : Place) → Walk IsAnswered old told new → AllShort old.script.turns → has_over told ≡ false → has_failed told ≡ false → TookAtMost old.script.turns told new.script.turns
+calls [] old new h all over failed = record {
+  taken = omega (arith, ap (λ (p : Place). length p.script.turns) h);
+  short = subst (λ (p : Place). AllShort p.script.turns) (sym h) all;
+}
+calls (t ∷ told) old new (mid, first, more) all over failed =
+    let o = both_false (by_turn turn_is_over t) (has_over told) over in
+    let f = both_false (by_turn turn_is_failed t) (has_failed told) failed in
+    let one = one_call t old mid first all o.0 f.0 in
+    let rest = calls told mid new more one.short o.1 f.1 in
+    record { taken = omega (arith, one.taken, rest.taken, sum_by-cons turn_in t told); short = rest.short }
+
+no_fault : FaultsCount HubFailed 0 0 → ⊥
+no_fault (least, inl rose) = absurd (omega (arith, rose))
+no_fault (least, inr top) = absurd (omega (arith, top))
+
+-- Serving such a hub ends as it is over, or a session says `stop`.
+is_whole : (answer : Served) (turns : List Coming) (most : ℕ) (counted counted' : Counts) (state : State) (hub : Shown) (script : Script) → ServeEnds answer most (hub_of turns) counted opening hub counted' state
+    → FaultsCount answer 0 0 → hub.script ≡ Some script → AllShort turns → length turns < most → IsWhole answer
+is_whole Stopped turns most counted counted' state hub script ends faults told all fewer = tt
+is_whole Over turns most counted counted' state hub script ends faults told all fewer = tt
+is_whole HubFailed turns most counted counted' state hub script ends faults told all fewer = no_fault faults
+is_whole AllTaken turns most counted counted' state hub script ends faults told all fewer =
+    let start = place (record { blocked = []; turns = turns }) no_ids in
+    let moves = all_told ends.goes.moves in
+    let walk : Walk IsAnswered start moves (place script hub.ids) =
+    subst (λ (o : Option Script). IfSome o (λ b. Walk IsAnswered start moves (place b hub.ids))) told ends.goes.told.played in
+    let took = calls moves start (place script hub.ids) walk all ends.caused.over ends.caused.failed in
+    absurd (omega (arith, took.taken, ends.goes.turned, ends.has_taken, fewer))
+
+-- the hub that a schedule is made
+made_hub : (bytes : Bytes) (hub : Recorded) → IsMade bytes hub → shown hub.past (script_of hub) hub.ids ≡ hub_of hub.script.turns
+made_hub bytes hub made =
+    ap (λ (past : Option (List Told)). shown past (option_map (λ _. hub.script) past) hub.ids) made.past
+    ∙ ap (λ (blocked : List ℕ). shown (Some []) (Some (record { blocked = blocked; turns = hub.script.turns })) hub.ids) made.blocked
+    ∙ ap (λ (ids : Ids). shown (Some []) (Some (record { blocked = []; turns = hub.script.turns })) ids) made.ids
+
+pub made_steady : (bytes : Bytes) (hub : Recorded) → IsMade bytes hub → NeverFails hub
+made_steady bytes hub made = record { listens = made.listens; turns = made.fails; sends = made.sends }
+
+-- The hub of a schedule was served, and its past is told.
+pub replays : (bytes : Bytes) (made hub hub' : Recorded) (answer : Served) (most : ℕ) (counted counted' : Counts) (start state : State) (told : List Told) (text : Bytes) → IsMade bytes made → hub ≡ made
+    → most ≡ length (lines_of bytes) + 1 → start ≡ opening → Some told ≡ hub'.past → ServeEnds answer most (shown hub.past (script_of hub) hub.ids) counted start (shown hub'.past (script_of hub') hub'.ids) counted' state
+    → FaultsCount answer 0 0 → text ≡ sent_text told → Replays made.script.turns (length (lines_of bytes) + 1) counted counted' text
+replays bytes made hub hub' answer most counted counted' start state told text is_made same is_most is_start past ends faults is_text =
+    let turns = made.script.turns in
+    let seen = shown hub'.past (script_of hub') hub'.ids in
+    let of_made = ap (λ (h : Recorded). shown h.past (script_of h) h.ids) same ∙ made_hub bytes made is_made in
+    let from_opening : ServeEnds answer most (hub_of turns) counted opening seen counted' state =
+    subst (λ (st : State). ServeEnds answer most (hub_of turns) counted st seen counted' state) is_start
+    (subst (λ (h : Shown). ServeEnds answer most h counted start seen counted' state) of_made ends) in
+    let more = turn_for_each_line bytes turns is_made.turns in
+    record {
+      hub = seen;
+      told = told;
+      past = sym past;
+      state = state;
+      answer = answer;
+      ends = subst (λ (n : ℕ). ServeEnds answer n (hub_of turns) counted opening seen counted' state) is_most from_opening;
+      whole = is_whole answer turns most counted counted' state seen hub'.script from_opening faults
+          (ap (λ (p : Option (List Told)). option_map (λ _. hub'.script) p) (sym past)) (turns_are_short bytes turns is_made.turns) (omega (arith, more, is_most));
+      sent = is_text;
+    }

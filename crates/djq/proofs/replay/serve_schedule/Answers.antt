@@ -1,0 +1,19 @@
+use Rattle.std.proofs.Common.{ℕ, ◌+◌, ap}
+use Rattle.std.proofs.lemmas.Result.{IfOk-weaker}
+use Rattle.djq_machine.specs.State.{State}
+use Rattle.djq.proofs.Replaying.{made_steady, replays}
+use Rattle.djq.proofs.replay.serve_schedule.Goals as goal
+
+pub of-hub-requires : goal.of-hub-requires
+of-hub-requires g c = made_steady c.args.bytes.now c.args.hub c.requires
+
+pub serve-requires-clause-none : goal.serve-requires-clause-none
+serve-requires-clause-none g c = ap (λ (st : State). st.sessions) c.in-Ok.ensures
+
+pub serve-requires-clause-going : goal.serve-requires-clause-going
+serve-requires-clause-going g c = ap (λ (st : State). st.stopped) c.in-Ok.ensures
+
+pub returns-in-Some : goal.returns-in-Some
+returns-in-Some g c =
+    IfOk-weaker c.sent_text.result _ _ (λ text sent. replays c.args.bytes.now c.args.hub c.of-hub.result c.serve.new.hub c.serve.result _ _ _ _ _ c.in-Some.past.now text.items
+    c.requires c.of-hub.ensures (ap (λ (n : ℕ). n + 1) c.count_lines.ensures.counted) c.in-Ok.ensures c.in-Some.ensures c.serve.ensures.ends c.serve.ensures.faults sent) c.sent_text.ensures

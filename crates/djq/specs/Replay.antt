@@ -1,0 +1,124 @@
+-- How `replay` ends: a schedule is read whole, its hub is served, and what was sent is written.
+use Rattle.std.specs.Prelude.{ℕ, List, [], ◌≡◌, ◌+◌, ◌<◌, ◌≤◌, ◌⊎◌, Option, Some, length, take, Result, Ok, Err}
+use Rattle.std.specs.List.{concat}
+use Rattle.djq_io.specs.Faults.{Counted}
+use Rattle.djq_io.specs.Hub.{no_ids}
+use Rattle.djq_io.specs.Sink.{Gains}
+use Rattle.djq_io.specs.Source.{Reading, Gives}
+use Rattle.djq_io.specs.declared.hub.Coming.{Coming}
+use Rattle.djq_io.specs.declared.hub.Told.{Told}
+use Rattle.djq_model.specs.Data.{Bytes}
+use Rattle.djq_machine.specs.State.{State, opening}
+use Rattle.djq_machine.specs.Call.{Counts}
+use Rattle.djq_laws.specs.declared.limits.TheConstants.{MOST_READS}
+use Rattle.djq_laws.specs.Course.{Outside}
+use Rattle.djq_run.specs.declared.status.Status.{Status}
+use Rattle.djq_run.specs.declared.status.Status.TheVariants.{Done, ReadFault, WriteFault, TurnsUsed, NoMemory, Schedule}
+use Rattle.djq_run.specs.Ends.{IsAtEnd}
+use Rattle.djq_schedule.specs.Schedule.{lines_of}
+use Rattle.djq_schedule.specs.Made.{turns_of}
+use Rattle.djq_schedule.specs.Sent.{sent_text, outside_line}
+use Rattle.djq_serve.specs.declared.served.Served.{Served}
+use Rattle.djq_serve.specs.declared.served.Served.TheVariants.{Stopped, Over, TurnsUsed as AllTaken, HubFault as HubFailed}
+use Rattle.djq_serve.specs.Told.{Shown, shown}
+use Rattle.djq_serve.specs.Ends.{ServeEnds}
+
+-- The source gave these bytes, in pieces.
+pub record Gave (before now : Option Reading) (bytes : Bytes) : Type 0 where
+  pub pieces : List Bytes
+  pub told : Gives before now pieces
+  pub all : bytes ≡ concat pieces
+
+-- It gave these bytes, has nothing left, and no read failed.
+pub record ReadsWhole (before now : Option Reading) (faults faults' : ℕ) (bytes : Bytes)
+    : Type 0 where
+  pub gave : Gave before now bytes
+  pub at_end : IsAtEnd now
+  pub no_fault : faults' ≡ faults
+
+-- Why reading stopped before the source's end: a read failed, as many were made as may be, or
+-- memory was wanted.
+abbrev pub StopsFor : Status → Bytes → ℕ → ℕ → Type 0
+StopsFor ReadFault bytes faults faults' = Counted faults faults'
+StopsFor TurnsUsed bytes faults faults' = (MOST_READS ≤ length bytes) × (faults' ≡ faults)
+StopsFor NoMemory bytes faults faults' = faults' ≡ faults
+StopsFor _ bytes faults faults' = ⊥
+
+-- Reading stopped so.
+pub record StopsReading (status : Status) (before now : Option Reading) (faults faults' : ℕ)
+    : Type 0 where
+  pub bytes : Bytes
+  pub gave : Gave before now bytes
+  pub stops : StopsFor status bytes faults faults'
+
+-- a hub that was asked nothing yet, with these turns to come
+abbrev pub hub_of : List Coming → Shown
+hub_of turns = shown (Some []) (Some (record { blocked = []; turns = turns })) no_ids
+
+-- whether serving ended as the hub was over, or a session said `stop`
+abbrev pub IsWhole : Served → Type 0
+IsWhole Stopped = Unit {0}
+IsWhole Over = Unit {0}
+IsWhole AllTaken = ⊥
+IsWhole HubFailed = ⊥
+
+-- **The theorem of `replay`.** The hub of these turns was served from the opening state on, until
+-- it was over or a session said `stop`: by moves that are a run of the join machine, of which the
+-- hub tells, with each session sent what is its. And this text is the lines that were sent.
+pub record Replays (turns : List Coming) (most : ℕ) (counted counted' : Counts) (text : Bytes)
+    : Type 0 where
+  pub hub : Shown
+  pub told : List Told
+  pub past : hub.past ≡ Some told
+  pub state : State
+  pub answer : Served
+  pub ends : ServeEnds answer most (hub_of turns) counted opening hub counted' state
+  pub whole : IsWhole answer
+  pub sent : text ≡ sent_text told
+
+-- What is to be written for a schedule: the line that says which of its lines is the first outside
+-- the grammar, and nothing is run; or what was sent, where none is. It is served for one turn more
+-- than it has lines.
+abbrev pub ComesTo : Result (List Coming) ℕ → Bytes → Counts → Counts → Bytes → Type 0
+ComesTo (Err n) bytes counted counted' text = (text ≡ outside_line n) × (counted' ≡ counted)
+ComesTo (Ok turns) bytes counted counted' text =
+    Replays turns (length (lines_of bytes) + 1) counted counted' text
+
+-- the status of a schedule whose text was written
+abbrev pub status_for : Result (List Coming) ℕ → Status
+status_for (Err n) = Schedule n
+status_for (Ok turns) = Done
+
+-- The sink took all of the text, and the status is this; or it took a first part that isn't the
+-- whole, and a write failed.
+abbrev pub Written : Status → Status → Bytes → Option Bytes → ℕ → Option Bytes → ℕ → Type 0
+Written status whole text taken faults taken' faults' =
+    ((status ≡ whole) × Gains taken taken' text × (faults' ≡ faults))
+    ⊎ ((status ≡ WriteFault) × (n : ℕ) × (n < length text) × Gains taken taken' (take n text)
+    × Counted faults faults')
+
+-- What a schedule comes to was written; or memory was wanted, and nothing was.
+abbrev pub WritesFor : Status → Bytes → Option Bytes → ℕ → Counts → Option Bytes → ℕ → Counts
+    → Type 0
+WritesFor status bytes taken faults counted taken' faults' counted' =
+    ((text : Bytes) × ComesTo (turns_of bytes) bytes counted counted' text
+    × Written status (status_for (turns_of bytes)) text taken faults taken' faults')
+    ⊎ ((status ≡ NoMemory) × (taken' ≡ taken) × (faults' ≡ faults))
+
+-- The whole schedule was read, and then written of.
+pub record WritesWhole (status : Status) (before now : Outside) : Type 0 where
+  pub bytes : Bytes
+  pub reads : ReadsWhole before.reading now.reading before.read_faults now.read_faults bytes
+  pub writes : WritesFor status bytes before.taken before.write_faults before.counted now.taken
+      now.write_faults now.counted
+
+-- Reading stopped before the end: nothing is run or written.
+pub record Stops (status : Status) (before now : Outside) : Type 0 where
+  pub reading : StopsReading status before.reading now.reading before.read_faults now.read_faults
+  pub taken : now.taken ≡ before.taken
+  pub no_fault : now.write_faults ≡ before.write_faults
+  pub none_counted : now.counted ≡ before.counted
+
+-- How `replay` ends.
+abbrev pub ReplayEnds : Status → Outside → Outside → Type 0
+ReplayEnds status before now = WritesWhole status before now ⊎ Stops status before now

@@ -1,5 +1,0 @@
-pub mod Cells
-pub mod Asked
-pub mod Leaves
-pub mod Shown
-pub mod Changes

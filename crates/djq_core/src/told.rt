@@ -1,0 +1,20 @@
+use djq_engine::LentAnswer;
+use djq_model::{Answered, Lent};
+
+/// An answer that the engine lends, to be told value by value.
+#[derive(Drop)]
+pub(crate) struct ToldAnswer<'a> {
+    pub(crate) lent: LentAnswer<'a>,
+}
+
+impl<'a> Answered for ToldAnswer<'a> {
+    ghost values = { λ told. told.lent };
+
+    fn len(&self) -> usize {
+        self.lent.len()
+    }
+
+    fn value(&self, at: usize) -> Lent<'_> {
+        self.lent.value(at)
+    }
+}

@@ -1,0 +1,88 @@
+-- A cursor over the menus of marked tuples.
+use Rattle.std.proofs.Common.{◌≡◌, ℕ, Bool, true, false, List, [], ◌∷◌, ◌++◌, refl, sym}
+use Rattle.std.specs.Prelude.{◌↔◌}
+use Rattle.std.specs.Bool.{OnTrue, OnFalse}
+use Rattle.std.proofs.lemmas.Bool.{false≢true}
+use Rattle.djq_reduct.specs.Reducts.{Reducts, IsReducts}
+use Rattle.djq_cursor.specs.declared.cursor.Cursor.{Cursor}
+use Rattle.djq_cursor.specs.declared.cursor.State.TheVariants.{Start}
+use Rattle.djq_cursor.specs.declared.places.Choice.{Choice}
+use Rattle.djq_cursor.specs.Listing.{AreSome, IsListing}
+use Rattle.djq_cursor.specs.Walk.{all_given, given_by, FitsBy}
+use Rattle.djq_cursor.proofs.Listed.{given_some, given_listing, one_left, on_false_both}
+use Rattle.djq_cursor.specs.declared.delta.DeltaCursor.{DeltaCursor}
+use Rattle.djq_cursor.proofs.Updates.{IsUpdated}
+use Rattle.djq_cursor.specs.Changed.{IsChanged}
+use Rattle.djq_cursor.specs.Told.{changed_at, root_marked, told, DeltaFits}
+use Rattle.djq_cursor.proofs.Telling.{changed_answers}
+
+pub start_fits : (r : Reducts) (a : ℕ) (cs : List Choice) → cs ≡ []
+    → DeltaFits r (record { leaf = a; cursor = record { places = cs; state = Start } })
+unfolding DeltaFits
+start_fits r a cs e = e
+
+pub start_told : (r : Reducts) (a : ℕ) (cs : List Choice)
+    → told r (record { leaf = a; cursor = record { places = cs; state = Start } }) ≡ []
+unfolding told
+start_told r a cs = refl
+
+pub fits_by : (r : Reducts) (d : DeltaCursor) → DeltaFits r d
+    → FitsBy r (changed_at r) (root_marked r) (d.cursor).state (d.cursor).places
+unfolding DeltaFits
+fits_by r d f = f
+
+pub by_fits : (r : Reducts) (a : ℕ) (c : Cursor)
+    → FitsBy r (changed_at r) (root_marked r) c.state c.places
+    → DeltaFits r (record { leaf = a; cursor = c })
+unfolding DeltaFits
+by_fits r a c f = f
+
+pub told_some : (r : Reducts) (a b : ℕ) (c : Cursor) → IsReducts r → IsUpdated r a
+    → FitsBy r (changed_at r) (root_marked r) c.state c.places
+    → AreSome (IsChanged r a) (told r (record { leaf = b; cursor = c }))
+unfolding told
+told_some r a b c h m f = given_some r (changed_at r) (IsChanged r a) (root_marked r) c.state
+    c.places (changed_answers r a h m) f
+
+pub told_one : (r : Reducts) (old : DeltaCursor) (a : ℕ) (new : Cursor) (x : List ℕ) (b : Bool)
+    → OnTrue b (given_by r (changed_at r) (root_marked r) new.state new.places ≡ given_by r
+    (changed_at r) (root_marked r) (old.cursor).state (old.cursor).places ++ x ∷ [])
+    → OnTrue b (told r (record { leaf = a; cursor = new }) ≡ told r old ++ x ∷ [])
+unfolding told
+told_one r old a new x b h = h
+
+pub told_same : (r : Reducts) (old : DeltaCursor) (a : ℕ) (new : Cursor) (b : Bool)
+    → OnFalse b
+    (given_by r (changed_at r) (root_marked r) (old.cursor).state (old.cursor).places ≡ all_given r
+    (changed_at r) (root_marked r))
+    → OnFalse b (given_by r (changed_at r) (root_marked r) new.state new.places ≡ all_given r
+    (changed_at r) (root_marked r))
+    → OnFalse b (told r (record { leaf = a; cursor = new }) ≡ told r old)
+unfolding told
+told_same r old a new b p q =
+    on_false_both b
+    (given_by r (changed_at r) (root_marked r) (old.cursor).state (old.cursor).places)
+    (given_by r (changed_at r) (root_marked r) new.state new.places)
+    (all_given r (changed_at r) (root_marked r)) p q
+
+pub told_end : (r : Reducts) (old : DeltaCursor) (a : ℕ) (new : Cursor) (x : List ℕ) (b : Bool)
+    → IsReducts r → IsUpdated r a → FitsBy r (changed_at r) (root_marked r) new.state new.places
+    → OnTrue b (given_by r (changed_at r) (root_marked r) new.state new.places ≡ given_by r
+    (changed_at r) (root_marked r) (old.cursor).state (old.cursor).places ++ x ∷ [])
+    → OnFalse b (given_by r (changed_at r) (root_marked r) (old.cursor).state
+    (old.cursor).places ≡ all_given r (changed_at r) (root_marked r)) → (b ≡ false)
+    ↔ IsListing (IsChanged r a) (told r old)
+unfolding told
+told_end r old a new x true h m f one all = (
+  λ e. absurd (false≢true (sym e)),
+  λ listing. absurd
+      (one_left (IsChanged r a) (told r old)
+      (given_by r (changed_at r) (root_marked r) new.state new.places) x one
+      (given_some r (changed_at r) (IsChanged r a) (root_marked r) new.state new.places
+      (changed_answers r a h m) f) listing),
+)
+told_end r old a new x false h m f one all = (
+  λ e. given_listing (IsChanged r a) (all_given r (changed_at r) (root_marked r)) (told r old)
+      (changed_answers r a h m) all,
+  λ listing. refl,
+)

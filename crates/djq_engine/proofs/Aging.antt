@@ -1,0 +1,197 @@
+-- The queries that read a relation are carried over and their cursors become stale: what is kept,
+-- and where all cursors stand.
+use Rattle.std.proofs.Common.{ℕ, zero, suc, List, [], ◌∷◌, ◌≡◌, ◌<◌, Bool, true, false, refl, sym, ap, ap₂, ◌∙◌, subst, length}
+use Rattle.std.specs.Prelude.{Option, None, Some, IsSomeAnd, is_some, option_map, find, map, filter, cond, ⊤}
+use Rattle.djq_model.specs.declared.query.Query.{Query}
+use Rattle.djq_model.specs.declared.relation.Relation.{Relation}
+use Rattle.djq_model.specs.Data.{Bytes, query_of}
+use Rattle.djq_machine.specs.State.{Position, open_at, stale}
+use Rattle.djq_machine.specs.Stale.{reads, outdated, outdater_of, by_relation}
+use Rattle.djq_rows.specs.Catalog.{Catalog, relation_at}
+use Rattle.djq_live.specs.declared.cursors.Progress.{Progress}
+use Rattle.djq_live.specs.declared.cursors.Progress.TheVariants.{Open, Stale}
+use Rattle.djq_live.specs.Cursors.{slot_at, outdated_progress, outdated_slots}
+use Rattle.djq_live.specs.Live.{Live, IsKept, IsLive, SameQuery, position_of}
+use Rattle.djq_live.specs.Staying.{StaysOver}
+use Rattle.djq_engine.specs.declared.cursor.CursorId.{CursorId}
+use Rattle.djq_engine.specs.Kept.{Held, held_at, same_id, outdated_held}
+use Rattle.djq_engine.specs.Places.{place_at, is_live, is_reader, readers_at, query_in, queries_in, reads_place, held_as, held_of, held_from}
+use Rattle.djq_engine.specs.Sound.{IsSound}
+use Rattle.djq_engine.specs.Reaching.{DoneAt, Reach, AllAt, Ages, Renews, Carries}
+use Rattle.djq_engine.proofs.Firsts.{find_mapped}
+use Rattle.djq_engine.proofs.Holding.{held_is}
+use Rattle.djq_engine.proofs.Listing.{filter_members, map_members}
+use Rattle.djq_engine.proofs.Naming.{query_kept}
+use Rattle.djq_engine.proofs.Carrying.{reader_reads}
+
+-- A query is kept over the new catalog, and its cursors are stale.
+pub record Turns (d : Catalog) (name : Bytes) (n : ℕ) (l m : Live) : Type 0 where
+  pub query : m.query ≡ l.query
+  pub cursors : m.cursors ≡ outdated_slots name n l.cursors
+  pub live : IsLive d m
+
+pub turned : (d : Catalog) (name : Bytes) (n : ℕ) (ps : List ℕ) (gs hs ks : List (Option Live)) → Reach ps (Renews d) gs hs → Reach ps (Ages name n) hs ks → Reach ps (Turns d name n) gs ks
+turned d name n ps gs hs ks a b = record {
+  length = b.length ∙ a.length;
+  each = λ i. both (is_reader ps i) (place_at gs i) (place_at hs i) (place_at ks i) (a.each i) (b.each i);
+}
+  where
+    both : (e : Bool) (o p q : Option Live) → DoneAt (Renews d) e o p → DoneAt (Ages name n) e p q → DoneAt (Turns d name n) e o q
+    both false o p q t u = u ∙ t
+    both true None None None t u = tt
+    both true None None (Some k) t u = absurd u
+    both true None (Some m) q t u = absurd t
+    both true (Some l) None q t u = absurd t
+    both true (Some l) (Some m) None t u = absurd u
+    both true (Some l) (Some m) (Some k) t u = record {
+      query = ap (λ (x : Live). x.query) u.outdated ∙ t.same.query;
+      cursors = ap (λ (x : Live). x.cursors) u.outdated ∙ ap (outdated_slots name n) t.same.cursors;
+      live = u.live d t.kept;
+    }
+
+-- the readers are there once they are carried over
+pub carried_there : (d : Catalog) (ps : List ℕ) (gs hs : List (Option Live)) → AllAt ps gs (λ l. ⊤) → Reach ps (Renews d) gs hs → AllAt ps hs (λ l. ⊤)
+carried_there d ps gs hs all r i e =
+    by_place (place_at gs i) (place_at hs i) (subst (λ (b : Bool). DoneAt (Renews d) b (place_at gs i) (place_at hs i)) e (r.each i)) (all i e)
+  where
+    by_place : (o p : Option Live) → DoneAt (Renews d) true o p → IsSomeAnd o (λ l. ⊤) → IsSomeAnd p (λ l. ⊤)
+    by_place None None t h = h
+    by_place None (Some m) t h = absurd t
+    by_place (Some l) None t h = absurd t
+    by_place (Some l) (Some m) t h = tt
+
+-- one slot after a change
+outdated_at : (name : Bytes) (n : ℕ) (slots : List (Option Progress)) (k : ℕ) → slot_at (outdated_slots name n slots) k ≡ option_map (outdated_progress name n) (slot_at slots k)
+outdated_at name n [] zero = refl
+outdated_at name n [] (suc k) = refl
+outdated_at name n (s ∷ slots) zero = refl
+outdated_at name n (s ∷ slots) (suc k) = outdated_at name n slots k
+
+abbrev held_with : CursorId → Bytes → Position → Held
+held_with id q p = record { id = id; query = q; position = p }
+
+-- Relations that have other rows, and the same names.
+pub record SameNames (c d : Catalog) : Type 0 where
+  pub long : length d.relations ≡ length c.relations
+  pub names : (r : ℕ) → (relation_at d.relations r).name ≡ (relation_at c.relations r).name
+
+module _ (c d : Catalog) (gs ks : List (Option Live)) (order : List ℕ) (readers : List (List ℕ)) (s : IsSound c gs order readers) (at : ℕ) (low : at < length c.relations)
+    (n : ℕ) (turns : Reach (readers_at readers at) (Turns d (relation_at c.relations at).name n) gs ks)
+    (stay : (i : ℕ) (l : Live) → place_at gs i ≡ Some l → is_reader (readers_at readers at) i ≡ false → StaysOver c d l) (names : SameNames c d) where
+  -- what doesn't see the tables of a query is as before
+  same_field : {A : Type 0} (f : Option Live → A) → ((l m : Live) → m.query ≡ l.query → f (Some m) ≡ f (Some l)) → (i : ℕ) → f (place_at ks i) ≡ f (place_at gs i)
+  same_field f h i = by_place (is_reader (readers_at readers at) i) (place_at gs i) (place_at ks i) (turns.each i)
+    where
+      by_place : (b : Bool) (o p : Option Live) → DoneAt (Turns d (relation_at c.relations at).name n) b o p → f p ≡ f o
+      by_place false o p t = ap f t
+      by_place true None None t = refl
+      by_place true None (Some m) t = absurd t
+      by_place true (Some l) None t = absurd t
+      by_place true (Some l) (Some m) t = h l m t.query
+
+  same_query : (i : ℕ) → query_in (place_at ks i) ≡ query_in (place_at gs i)
+  same_query = same_field query_in (λ l m e. e)
+
+  same_live : (i : ℕ) → is_live ks i ≡ is_live gs i
+  same_live = same_field is_some (λ l m e. refl)
+
+  same_reads : (r : Bytes) (i : ℕ) → reads_place r (place_at ks i) ≡ reads_place r (place_at gs i)
+  same_reads r = same_field (reads_place r) (λ l m e. ap (λ (q : Query). reads q r) e)
+
+  live_now : (i : ℕ) (m : Live) → place_at ks i ≡ Some m → IsLive d m
+  live_now i m e = by_place (is_reader (readers_at readers at) i) refl (place_at gs i) refl (turns.each i)
+    where
+      by_place : (b : Bool) → is_reader (readers_at readers at) i ≡ b → (o : Option Live) → place_at gs i ≡ o → DoneAt (Turns d (relation_at c.relations at).name n) b o (place_at ks i) → IsLive d m
+      by_place false f o g t = (stay i m (g ∙ sym t ∙ e) f).live
+      by_place true f None g t = absurd (subst (λ (p : Option Live). DoneAt (Turns d (relation_at c.relations at).name n) true None p) e t)
+      by_place true f (Some l) g t = (let u : Turns d (relation_at c.relations at).name n l m = subst (λ (p : Option Live). DoneAt (Turns d (relation_at c.relations at).name n) true (Some l) p) e t in u).live
+
+  was : (i : ℕ) (m : Live) → place_at ks i ≡ Some m → (l : Live) × (place_at gs i ≡ Some l) × (m.query ≡ l.query)
+  was i m e = by_place (place_at gs i) refl (sym (same_live i) ∙ ap is_some e) (sym (same_query i) ∙ ap query_in e)
+    where
+      by_place : (o : Option Live) → place_at gs i ≡ o → is_some (place_at gs i) ≡ true → query_in (place_at gs i) ≡ m.query → (l : Live) × (place_at gs i ≡ Some l) × (m.query ≡ l.query)
+      by_place None g h q = let none : is_some (place_at gs i) ≡ false = ap is_some g in absurd cc
+      by_place (Some l) g h q = (l, g, sym q ∙ ap query_in g)
+
+  pub turned_sound : IsSound d ks order readers
+  turned_sound = record {
+    live = live_now;
+    named = λ i j x y e f q.
+        let a = was i x e in
+        let b = was j y f in
+        s.named i j a.0 b.0 a.1 b.1 (ap (λ (z : Query). z.name) (sym a.2) ∙ q ∙ ap (λ (z : Query). z.name) b.2);
+    listed = λ i. s.listed i ∙ sym (same_live i);
+    once = s.once;
+    few = s.few;
+    long = s.long ∙ sym names.long;
+    reading = λ r l. s.reading r (subst (λ (k : ℕ). r < k) names.long l)
+        ∙ filter_members (λ i. reads_place (relation_at c.relations r).name (place_at gs i)) (λ i. reads_place (relation_at d.relations r).name (place_at ks i)) order
+        (λ i h. ap (λ (b : Bytes). reads_place b (place_at gs i)) (sym (names.names r)) ∙ sym (same_reads (relation_at d.relations r).name i));
+  }
+
+  pub turned_queries : queries_in ks order ≡ queries_in gs order
+  turned_queries = map_members (λ i. query_in (place_at ks i)) (λ i. query_in (place_at gs i)) order (λ i h. same_query i)
+
+  -- cursors
+
+  outdater_is : (i : ℕ) (l : Live) → place_at gs i ≡ Some l → (b : Bool) → is_reader (readers_at readers at) i ≡ b
+      → outdater_of (queries_in gs order) (by_relation (relation_at c.relations at).name) l.query.name ≡ cond b (Some (relation_at c.relations at).name) None
+  outdater_is i l e b f =
+      ap (λ o. outdater_by o) (query_kept c gs order readers s i l e)
+      ∙ ap (λ x. cond x (Some (relation_at c.relations at).name) None) (sym (reader_reads c gs order readers s at low i l e) ∙ f)
+    where
+      outdater_by : Option Query → Option Bytes
+      outdater_by None = None
+      outdater_by (Some q) = by_relation (relation_at c.relations at).name q
+
+  step_reader : (id : CursorId) (l m : Live) → m.query ≡ l.query → outdater_of (queries_in gs order) (by_relation (relation_at c.relations at).name) l.query.name ≡ Some (relation_at c.relations at).name → (o : Option Progress)
+      → option_map (held_as d.texts m id) (option_map (outdated_progress (relation_at c.relations at).name n) o) ≡ option_map (outdated_held (queries_in gs order) (relation_at c.relations at).name n) (option_map (held_as c.texts l id) o)
+  step_reader id l m q e None = refl
+  step_reader id l m q e (Some (Open cursor ended)) =
+      ap (λ (x : Query). Some (held_with id x.name (stale (relation_at c.relations at).name n))) q
+      ∙ ap (λ (o : Option Bytes). Some (held_with id l.query.name (outdated o n (position_of c.texts l (Open cursor ended))))) (sym e)
+  step_reader id l m q e (Some (Stale r k)) =
+      ap (λ (x : Query). Some (held_with id x.name (stale r k))) q
+      ∙ ap (λ (o : Option Bytes). Some (held_with id l.query.name (outdated o n (stale r k)))) (sym e)
+
+  step_other : (id : CursorId) (l : Live) → outdater_of (queries_in gs order) (by_relation (relation_at c.relations at).name) l.query.name ≡ None → (o : Option Progress) → ((p : Progress) → o ≡ Some p → position_of d.texts l p ≡ position_of c.texts l p)
+      → option_map (held_as d.texts l id) o ≡ option_map (outdated_held (queries_in gs order) (relation_at c.relations at).name n) (option_map (held_as c.texts l id) o)
+  step_other id l e None h = refl
+  step_other id l e (Some p) h =
+      ap (λ (x : Position). Some (held_with id l.query.name x)) (h p refl)
+      ∙ ap (λ (o : Option Bytes). Some (held_with id l.query.name (outdated o n (position_of c.texts l p)))) (sym e)
+
+  held_now : (id : CursorId) → held_of d.texts id (place_at ks id.query.at) ≡ option_map (outdated_held (queries_in gs order) (relation_at c.relations at).name n) (held_of c.texts id (place_at gs id.query.at))
+  held_now id = by_place (is_reader (readers_at readers at) id.query.at) refl (place_at gs id.query.at) refl (place_at ks id.query.at) (turns.each id.query.at)
+    where
+      by_place : (b : Bool) → is_reader (readers_at readers at) id.query.at ≡ b → (o : Option Live) → place_at gs id.query.at ≡ o → (p : Option Live) → DoneAt (Turns d (relation_at c.relations at).name n) b o p
+          → held_of d.texts id p ≡ option_map (outdated_held (queries_in gs order) (relation_at c.relations at).name n) (held_of c.texts id o)
+      by_place false f None g p t = ap (held_of d.texts id) t
+      by_place false f (Some l) g p t =
+          ap (held_of d.texts id) t
+          ∙ step_other id l (outdater_is id.query.at l g false f) (slot_at l.cursors id.cursor) (λ q h. (stay id.query.at l g f).stands id.cursor q h)
+      by_place true f None g None t = refl
+      by_place true f None g (Some m) t = absurd t
+      by_place true f (Some l) g None t = absurd t
+      by_place true f (Some l) g (Some m) t =
+          ap (λ (slots : List (Option Progress)). option_map (held_as d.texts m id) (slot_at slots id.cursor)) t.cursors
+          ∙ ap (option_map (held_as d.texts m id)) (outdated_at (relation_at c.relations at).name n l.cursors id.cursor)
+          ∙ step_reader id l m t.query (outdater_is id.query.at l g true f) (slot_at l.cursors id.cursor)
+
+  pub turned_held : (id : CursorId) → held_at (held_from d.texts zero ks) id ≡ held_at (map (outdated_held (queries_in gs order) (relation_at c.relations at).name n) (held_from c.texts zero gs)) id
+  turned_held id =
+      held_is d.texts ks id ∙ held_now id
+      ∙ sym (find_mapped (λ h. same_id h.id id) (outdated_held (queries_in gs order) (relation_at c.relations at).name n) (held_from c.texts zero gs) ∙ ap (option_map (outdated_held (queries_in gs order) (relation_at c.relations at).name n)) (held_is c.texts gs id))
+
+-- where no query is reached, all cursors stand where they stood
+pub rested_held : (c d : Catalog) (gs : List (Option Live)) → ((i : ℕ) (l : Live) → place_at gs i ≡ Some l → StaysOver c d l)
+    → (id : CursorId) → held_at (held_from d.texts zero gs) id ≡ held_at (held_from c.texts zero gs) id
+rested_held c d gs stay id = held_is d.texts gs id ∙ by_place (place_at gs id.query.at) refl ∙ sym (held_is c.texts gs id)
+  where
+    by_slot : (l : Live) → place_at gs id.query.at ≡ Some l → (o : Option Progress) → slot_at l.cursors id.cursor ≡ o → option_map (held_as d.texts l id) o ≡ option_map (held_as c.texts l id) o
+    by_slot l e None f = refl
+    by_slot l e (Some p) f = ap (λ (x : Position). Some (held_with id l.query.name x)) ((stay id.query.at l e).stands id.cursor p f)
+
+    by_place : (o : Option Live) → place_at gs id.query.at ≡ o → held_of d.texts id o ≡ held_of c.texts id o
+    by_place None e = refl
+    by_place (Some l) e = by_slot l e (slot_at l.cursors id.cursor) refl

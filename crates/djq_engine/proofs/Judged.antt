@@ -1,0 +1,106 @@
+-- The conditions on a row, one after another.
+use Rattle.std.proofs.Common.{ℕ, zero, suc, List, [], ◌∷◌, ◌++◌, ◌≡◌, ◌<◌, ◌≤◌, ◌⊎◌, inl, inr, Bool, true, false, refl, sym, ap, ap₂, ◌∙◌, subst, length, arith}
+use Rattle.std.specs.Prelude.{◌==◌, ◌&&◌, not, nat_le, Option, None, Some, is_none, cond}
+use Rattle.std.proofs.lemmas.Bool.{eq-eqb, eqb-true, le-leb, lt-leb, false≢true}
+use Rattle.djq_model.specs.declared.relation.Relation.{Relation}
+use Rattle.djq_model.specs.declared.relation.ColumnType.{ColumnType}
+use Rattle.djq_model.specs.Data.{Bytes, Tuple, relation_of, rows_of, rows_in, has_row}
+use Rattle.djq_model.specs.Typed.{is_of, fits}
+use Rattle.djq_lines.specs.declared.limits.TheConstants.{ROWS, LAST_SEQ}
+use Rattle.djq_lines.specs.declared.answer.Refusal.{Refusal}
+use Rattle.djq_lines.specs.declared.answer.Refusal.TheVariants.{NoRelation, Arity, WrongType, Limit}
+use Rattle.djq_lines.specs.Columns.{types_of}
+use Rattle.djq_machine.specs.Conditions.{first_of}
+use Rattle.djq_machine.specs.Store.{row_refusals, add_refusal, delete_refusal}
+use Rattle.djq_rows.specs.Catalog.{relation_at, rows_at}
+use Rattle.djq_engine.specs.Judging.{bare, Suits}
+use Rattle.djq_engine.proofs.Conditions.{front_refuses, front_passes}
+use Rattle.djq_engine.proofs.Listing.{apart}
+
+pub fits_length : (types : List ColumnType) (row : Tuple) → fits types row ≡ true → length row ≡ length types
+fits_length [] [] e = refl
+fits_length [] (v ∷ vs) e = absurd cc
+fits_length (t ∷ ts) [] e = absurd cc
+fits_length (t ∷ ts) (v ∷ vs) e = ap suc (fits_length ts vs (both (is_of t v) e))
+  where
+    both : (b : Bool) → (b && fits ts vs) ≡ true → fits ts vs ≡ true
+    both true h = h
+    both false h = absurd cc
+
+module _ (rs : List Relation) (name : Bytes) (row : Tuple) where
+  pub suited_none : relation_of rs name ≡ None → first_of (row_refusals (bare rs 0) name row) ≡ Some NoRelation
+  suited_none e = ap (λ (o : Option Relation). first_of ((is_none o, NoRelation) ∷ (not (length row == length (types_of o)), Arity) ∷ (not (fits (types_of o) row), WrongType) ∷ [])) e
+
+  by_parts : (r : Relation) (a b : Bool) → relation_of rs name ≡ Some r → (length row == length r.types) ≡ a → fits r.types row ≡ b
+      → first_of (row_refusals (bare rs 0) name row) ≡ cond (not a) (Some Arity) (cond (not b) (Some WrongType) None)
+  by_parts r a b e f h =
+      ap (λ (o : Option Relation). first_of ((is_none o, NoRelation) ∷ (not (length row == length (types_of o)), Arity) ∷ (not (fits (types_of o) row), WrongType) ∷ [])) e
+      ∙ ap₂ (λ x y. cond (not x) (Some Arity) (cond (not y) (Some WrongType) None)) f h
+
+  pub suited_arity : (r : Relation) → relation_of rs name ≡ Some r → (length row ≡ length r.types → ⊥) → first_of (row_refusals (bare rs 0) name row) ≡ Some Arity
+  suited_arity r e d = by_parts r false (fits r.types row) e (apart (length row) (length r.types) d) refl
+
+  pub suited_type : (r : Relation) → relation_of rs name ≡ Some r → length row ≡ length r.types → fits r.types row ≡ false → first_of (row_refusals (bare rs 0) name row) ≡ Some WrongType
+  suited_type r e l f = by_parts r true false e (eq-eqb (length row) (length r.types) l) f
+
+  module _ (seq : ℕ) where
+    pub add_unsuited : (x : Refusal) → first_of (row_refusals (bare rs 0) name row) ≡ Some x → add_refusal (bare rs seq) name row ≡ Some x
+    add_unsuited x e = front_refuses (row_refusals (bare rs 0) name row) ((not (has_row (rows_of rs name) row) && nat_le ROWS (length (rows_of rs name)), Limit) ∷ (not (has_row (rows_of rs name) row) && nat_le LAST_SEQ seq, Limit) ∷ []) x e
+
+    pub delete_unsuited : (x : Refusal) → first_of (row_refusals (bare rs 0) name row) ≡ Some x → delete_refusal (bare rs seq) name row ≡ Some x
+    delete_unsuited x e = front_refuses (row_refusals (bare rs 0) name row) ((has_row (rows_of rs name) row && nat_le LAST_SEQ seq, Limit) ∷ []) x e
+
+    module _ (at : ℕ) (s : Suits rs name row at) where
+      pub rows_found : rows_of rs name ≡ rows_at rs at
+      rows_found = ap rows_in s.found
+
+      passes : first_of (row_refusals (bare rs 0) name row) ≡ None
+      passes = by_parts (relation_at rs at) true true s.found
+          (eq-eqb (length row) (length (relation_at rs at).types) (fits_length (relation_at rs at).types row s.suits)) s.suits
+
+      add_by : (there full last : Bool) → has_row (rows_at rs at) row ≡ there → nat_le ROWS (length (rows_at rs at)) ≡ full → nat_le LAST_SEQ seq ≡ last
+          → add_refusal (bare rs seq) name row ≡ cond (not there && full) (Some Limit) (cond (not there && last) (Some Limit) None)
+      add_by there full last e f h =
+          front_passes (row_refusals (bare rs 0) name row) ((not (has_row (rows_of rs name) row) && nat_le ROWS (length (rows_of rs name)), Limit) ∷ (not (has_row (rows_of rs name) row) && nat_le LAST_SEQ seq, Limit) ∷ []) passes
+          ∙ ap (λ (rows : List Tuple). cond (not (has_row rows row) && nat_le ROWS (length rows)) (Some Limit) (cond (not (has_row rows row) && nat_le LAST_SEQ seq) (Some Limit) None)) rows_found
+          ∙ ap (λ (b : Bool). cond (not b && nat_le ROWS (length (rows_at rs at))) (Some Limit) (cond (not b && nat_le LAST_SEQ seq) (Some Limit) None)) e
+          ∙ ap₂ (λ x y. cond (not there && x) (Some Limit) (cond (not there && y) (Some Limit) None)) f h
+
+      pub add_there : has_row (rows_at rs at) row ≡ true → (add_refusal (bare rs seq) name row ≡ None) × (has_row (rows_of rs name) row ≡ true)
+      add_there e = (
+        add_by true (nat_le ROWS (length (rows_at rs at))) (nat_le LAST_SEQ seq) e refl refl,
+        ap (λ (rows : List Tuple). has_row rows row) rows_found ∙ e,
+      )
+
+      limits : (full last : Bool) → (full ≡ true) ⊎ (last ≡ true) → cond full (Some Limit) (cond last (Some Limit) None) ≡ Some Limit
+      limits true last h = refl
+      limits false true h = refl
+      limits false false (inl e) = absurd cc
+      limits false false (inr e) = absurd cc
+
+      pub add_limited : has_row (rows_at rs at) row ≡ false → (ROWS ≤ length (rows_at rs at)) ⊎ (seq ≡ LAST_SEQ) → add_refusal (bare rs seq) name row ≡ Some Limit
+      add_limited e h =
+          add_by false (nat_le ROWS (length (rows_at rs at))) (nat_le LAST_SEQ seq) e refl refl
+          ∙ limits (nat_le ROWS (length (rows_at rs at))) (nat_le LAST_SEQ seq) (by_limit h)
+        where
+          by_limit : (ROWS ≤ length (rows_at rs at)) ⊎ (seq ≡ LAST_SEQ) → (nat_le ROWS (length (rows_at rs at)) ≡ true) ⊎ (nat_le LAST_SEQ seq ≡ true)
+          by_limit (inl l) = inl (le-leb ROWS (length (rows_at rs at)) l)
+          by_limit (inr l) = inr (le-leb LAST_SEQ seq (omega (arith, l)))
+
+      pub add_passes : has_row (rows_at rs at) row ≡ false → length (rows_at rs at) < ROWS → seq < LAST_SEQ → add_refusal (bare rs seq) name row ≡ None
+      add_passes e l m = add_by false false false e (lt-leb ROWS (length (rows_at rs at)) l) (lt-leb LAST_SEQ seq m)
+
+      delete_by : (there last : Bool) → has_row (rows_at rs at) row ≡ there → nat_le LAST_SEQ seq ≡ last → delete_refusal (bare rs seq) name row ≡ cond (there && last) (Some Limit) None
+      delete_by there last e h =
+          front_passes (row_refusals (bare rs 0) name row) ((has_row (rows_of rs name) row && nat_le LAST_SEQ seq, Limit) ∷ []) passes
+          ∙ ap (λ (rows : List Tuple). cond (has_row rows row && nat_le LAST_SEQ seq) (Some Limit) None) rows_found
+          ∙ ap₂ (λ x y. cond (x && y) (Some Limit) None) e h
+
+      pub delete_absent : has_row (rows_at rs at) row ≡ false → (delete_refusal (bare rs seq) name row ≡ None) × (has_row (rows_of rs name) row ≡ false)
+      delete_absent e = (delete_by false (nat_le LAST_SEQ seq) e refl, ap (λ (rows : List Tuple). has_row rows row) rows_found ∙ e)
+
+      pub delete_limited : has_row (rows_at rs at) row ≡ true → seq ≡ LAST_SEQ → delete_refusal (bare rs seq) name row ≡ Some Limit
+      delete_limited e l = delete_by true true e (le-leb LAST_SEQ seq (omega (arith, l)))
+
+      pub delete_passes : has_row (rows_at rs at) row ≡ true → seq < LAST_SEQ → delete_refusal (bare rs seq) name row ≡ None
+      delete_passes e m = delete_by true false e (lt-leb LAST_SEQ seq m)

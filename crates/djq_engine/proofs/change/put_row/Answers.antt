@@ -1,0 +1,69 @@
+use Rattle.std.proofs.Common.{◌∙◌, refl, arith}
+use Rattle.djq_rows.specs.Catalog.{no_relation, relation_at}
+use Rattle.djq_engine.proofs.Carrying.{sound_texts}
+use Rattle.djq_engine.proofs.Judged.{fits_length}
+use Rattle.djq_engine.proofs.Storing.{
+  all_stay,
+  interned,
+  lacks_of,
+  learned_rows,
+  puts_row,
+  same_new,
+  waits_row,
+}
+use Rattle.djq_engine.proofs.change.put_row.Goals as goal
+
+pub intern_row-requires : goal.intern_row-requires
+intern_row-requires g c = omega (
+  arith,
+  fits_length (relation_at c.args.parts.now.catalog.relations c.args.id.at).types c.args.row.now c.requires.suits,
+  (c.laws.ensures.kept c.args.id.at no_relation c.requires.there).narrow,
+)
+
+pub returns-in-Err-clause-err : goal.returns-in-Err-clause-err
+returns-in-Err-clause-err g c =
+    lacks_of c.args.id.at c.args.row.now c.args.parts.now _ c.in-Err.refusal
+    c.in-Err.ensures.interns c.intern_row.ensures.relations refl
+    (all_stay c.live_stays.ensures c.args.parts.now.catalog c.intern_row.new.self c.args.parts.now.queries.items c.args.parts.now.order c.args.parts.now.readers.items
+    c.requires.whole
+    (learned_rows c.texts_stay.ensures c.args.parts.now.catalog c.intern_row.new.self
+    (interned c.args.parts.now.catalog.texts c.args.row.now c.intern_row.result c.intern_row.new.self.texts c.intern_row.ensures.interns).0
+    c.laws-in-Err.ensures c.intern_row.ensures.relations
+    (interned c.args.parts.now.catalog.texts c.args.row.now c.intern_row.result c.intern_row.new.self.texts c.intern_row.ensures.interns).1))
+
+pub put_cells-requires-clause-whole : goal.put_cells-requires-clause-whole
+put_cells-requires-clause-whole g c =
+    sound_texts c.args.parts.now.catalog c.intern_row.new.self c.args.parts.now.queries.items c.args.parts.now.order c.args.parts.now.readers.items c.intern_row.ensures.relations
+    (all_stay c.live_stays.ensures c.args.parts.now.catalog c.intern_row.new.self c.args.parts.now.queries.items c.args.parts.now.order c.args.parts.now.readers.items
+    c.requires.whole
+    (learned_rows c.texts_stay.ensures c.args.parts.now.catalog c.intern_row.new.self
+    (interned c.args.parts.now.catalog.texts c.args.row.now c.intern_row.result c.intern_row.new.self.texts c.intern_row.ensures.interns).0
+    c.laws-2.ensures c.intern_row.ensures.relations
+    (interned c.args.parts.now.catalog.texts c.args.row.now c.intern_row.result c.intern_row.new.self.texts c.intern_row.ensures.interns).1)) c.requires.whole
+
+pub returns-in-Ok-put_cells-clause-ok : goal.returns-in-Ok-put_cells-clause-ok
+returns-in-Ok-put_cells-clause-ok g c =
+    puts_row c.args.id.at c.args.row.now c.args.parts.now c.put_cells.new.parts
+    c.intern_row.new.self c.intern_row.ensures.relations c.in-Ok.ensures.interns.0
+    c.laws-2.ensures.many (all_stay c.live_stays.ensures c.args.parts.now.catalog c.intern_row.new.self c.args.parts.now.queries.items c.args.parts.now.order c.args.parts.now.readers.items
+    c.requires.whole
+    (learned_rows c.texts_stay.ensures c.args.parts.now.catalog c.intern_row.new.self
+    (interned c.args.parts.now.catalog.texts c.args.row.now c.intern_row.result c.intern_row.new.self.texts c.intern_row.ensures.interns).0
+    c.laws-2.ensures c.intern_row.ensures.relations
+    (interned c.args.parts.now.catalog.texts c.args.row.now c.intern_row.result c.intern_row.new.self.texts c.intern_row.ensures.interns).1))
+    (c.in-Ok-put_cells.ensures.ok c.args.row.now
+    (same_new c.args.parts.now.catalog c.intern_row.new.self c.args.id.at c.as_slice.result.now c.args.row.now
+    c.intern_row.ensures.relations c.requires.suits c.in-Ok.ensures.interns.1
+    (c.as_slice.ensures ∙ c.in-Ok.ensures.interns.2) c.requires.absent c.requires.room))
+
+pub returns-in-Err-put_cells-clause-err : goal.returns-in-Err-put_cells-clause-err
+returns-in-Err-put_cells-clause-err g c =
+    waits_row c.args.id.at c.args.row.now c.args.parts.now c.put_cells.new.parts
+    c.intern_row.new.self c.intern_row.ensures.relations c.in-Ok.ensures.interns.0
+    (all_stay c.live_stays.ensures c.args.parts.now.catalog c.intern_row.new.self c.args.parts.now.queries.items c.args.parts.now.order c.args.parts.now.readers.items
+    c.requires.whole
+    (learned_rows c.texts_stay.ensures c.args.parts.now.catalog c.intern_row.new.self
+    (interned c.args.parts.now.catalog.texts c.args.row.now c.intern_row.result c.intern_row.new.self.texts c.intern_row.ensures.interns).0
+    c.laws-2.ensures c.intern_row.ensures.relations
+    (interned c.args.parts.now.catalog.texts c.args.row.now c.intern_row.result c.intern_row.new.self.texts c.intern_row.ensures.interns).1))
+    c.in-Err-put_cells.ensures.err

@@ -1,0 +1,9 @@
+use Rattle.std.proofs.Common.{◌≡◌, take}
+use Rattle.djq_engine.specs.Reaching.{Reach, LetsOut}
+use Rattle.djq_engine.proofs.reach.give_back.Given as goal
+
+abbrev pub invariant-loop-at : goal.invariant-loop-at
+invariant-loop-at g l = record {
+  reach : Reach (take l.at l.places) (LetsOut l.relation.at l.cells) l.fn.queries.items l.queries.items;
+  counted : l.steps.listing ≡ l.fn.steps.listing;
+}

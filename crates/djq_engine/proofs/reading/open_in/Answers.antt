@@ -1,0 +1,31 @@
+use Rattle.std.proofs.Common.{◌∙◌, ap, sym, subst}
+use Rattle.std.specs.Prelude.{position, IsSomeAnd, Option, ⊤}
+use Rattle.djq_live.specs.Live.{Live}
+use Rattle.djq_engine.specs.Places.{is_query}
+use Rattle.djq_engine.proofs.Naming.{first_query}
+use Rattle.djq_engine.proofs.Cursors.{open_refused, open_lacks, open_gives}
+use Rattle.djq_engine.proofs.reading.open_in.Goals as goal
+
+pub returns-in_default-clause-gives : goal.returns-in_default-clause-gives
+returns-in_default-clause-gives c =
+    open_refused c.args.parts.now.catalog c.args.parts.now.queries.items c.args.parts.now.order c.args.parts.now.readers.items c.args.parts.now.seq c.requires c.args.query.now
+    (c.in_default.ensures ∙ ap (position (is_query c.args.query.now)) c.as_slice.ensures.value)
+
+pub open_at-requires : goal.open_at-requires
+open_at-requires c =
+    subst (λ (o : Option Live). IsSomeAnd o (λ l. ⊤)) (sym (first_query c.args.parts.now.queries.items c.args.query.now c.in-Some.at (c.in-Some.ensures ∙ ap (position (is_query c.args.query.now)) c.as_slice.ensures.value)).there) tt
+
+pub returns-in-Ok-clause-whole : goal.returns-in-Ok-clause-whole
+returns-in-Ok-clause-whole c =
+    (open_gives c.args.parts.now.catalog c.args.parts.now.queries.items c.args.parts.now.order c.args.parts.now.readers.items c.args.parts.now.seq c.requires c.args.query.now (record { query = record { at = c.in-Some.at }; cursor = c.in-Ok.cursor }) c.open_at.new.queries.items
+    (first_query c.args.parts.now.queries.items c.args.query.now c.in-Some.at (c.in-Some.ensures ∙ ap (position (is_query c.args.query.now)) c.as_slice.ensures.value)) c.in-Ok.ensures.ok).0
+
+pub returns-in-Ok-clause-gives : goal.returns-in-Ok-clause-gives
+returns-in-Ok-clause-gives c =
+    (open_gives c.args.parts.now.catalog c.args.parts.now.queries.items c.args.parts.now.order c.args.parts.now.readers.items c.args.parts.now.seq c.requires c.args.query.now (record { query = record { at = c.in-Some.at }; cursor = c.in-Ok.cursor }) c.open_at.new.queries.items
+    (first_query c.args.parts.now.queries.items c.args.query.now c.in-Some.at (c.in-Some.ensures ∙ ap (position (is_query c.args.query.now)) c.as_slice.ensures.value)) c.in-Ok.ensures.ok).1
+
+pub returns-in-Err-clause-gives : goal.returns-in-Err-clause-gives
+returns-in-Err-clause-gives c =
+    (open_lacks c.args.parts.now.catalog c.args.parts.now.queries.items c.args.parts.now.order c.args.parts.now.readers.items c.args.parts.now.seq c.requires c.args.query.now c.in-Some.at c.open_at.new.queries.items
+    (first_query c.args.parts.now.queries.items c.args.query.now c.in-Some.at (c.in-Some.ensures ∙ ap (position (is_query c.args.query.now)) c.as_slice.ensures.value)) c.in-Err.ensures.err).1

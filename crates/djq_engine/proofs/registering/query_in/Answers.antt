@@ -1,0 +1,143 @@
+use Rattle.std.proofs.Common.{◌∙◌, ap, refl, sym, subst, ℕ, ◌+◌, ◌*◌, ◌∷◌, ◌++◌, [], List}
+use Rattle.djq_model.specs.declared.relation.Relation.{Relation}
+use Rattle.djq_model.specs.Known.{texts_in}
+use Rattle.djq_lines.specs.QueryFault.{query_fault}
+use Rattle.djq_lines.specs.Variables.{constants_of}
+use Rattle.djq_engine.proofs.Aging.{rested_held}
+use Rattle.djq_engine.proofs.Carrying.{sound_texts}
+use Rattle.djq_model.specs.declared.query.Query.{Query}
+use Rattle.djq_model.specs.Data.{query_of}
+use Rattle.djq_machine.specs.Store.{LearnsAll, LearnsFirst}
+use Rattle.djq_rows.specs.Catalog.{Catalog}
+use Rattle.djq_engine.specs.declared.parts.Parts.{Parts}
+use Rattle.djq_engine.specs.Places.{queries_in}
+use Rattle.djq_engine.specs.Whole.{IsWhole}
+use Rattle.djq_engine.proofs.Refusing.{all_first, constants_stay, enrolled_cursors, enrolled_queries, enrolled_whole, passes_of, query_done, query_lacks, same_cursors, same_queries, same_whole}
+use Rattle.djq_engine.proofs.registering.query_in.Goals as goal
+
+pub returns-in-Err-Full-clause-whole : goal.returns-in-Err-Full-clause-whole
+returns-in-Err-Full-clause-whole g c =
+    sound_texts c.args.parts.now.catalog c.intern_constants-known.new.catalog c.args.parts.now.queries.items c.args.parts.now.order c.args.parts.now.readers.items c.intern_constants-known.ensures.relations (constants_stay c.live_stays.ensures c.texts_stay.ensures c.args.parts.now.catalog c.intern_constants-known.new.catalog c.args.parts.now.queries.items c.args.parts.now.order c.args.parts.now.readers.items c.requires.whole c.laws.ensures
+    c.intern_constants-known.ensures.relations (constants_of c.args.query.atoms) c.intern_constants-known.result c.intern_constants-known.ensures.interns) c.requires.whole
+
+pub returns-in-Err-Full-clause-cursors : goal.returns-in-Err-Full-clause-cursors
+returns-in-Err-Full-clause-cursors g c =
+    rested_held c.args.parts.now.catalog c.intern_constants-known.new.catalog c.args.parts.now.queries.items (constants_stay c.live_stays.ensures c.texts_stay.ensures c.args.parts.now.catalog c.intern_constants-known.new.catalog c.args.parts.now.queries.items c.args.parts.now.order c.args.parts.now.readers.items c.requires.whole c.laws.ensures
+    c.intern_constants-known.ensures.relations (constants_of c.args.query.atoms) c.intern_constants-known.result c.intern_constants-known.ensures.interns)
+
+pub returns-in-Err-NoMem-known-clause-whole : goal.returns-in-Err-NoMem-known-clause-whole
+returns-in-Err-NoMem-known-clause-whole g c =
+    sound_texts c.args.parts.now.catalog c.intern_constants-known.new.catalog c.args.parts.now.queries.items c.args.parts.now.order c.args.parts.now.readers.items c.intern_constants-known.ensures.relations (constants_stay c.live_stays.ensures c.texts_stay.ensures c.args.parts.now.catalog c.intern_constants-known.new.catalog c.args.parts.now.queries.items c.args.parts.now.order c.args.parts.now.readers.items c.requires.whole c.laws.ensures
+    c.intern_constants-known.ensures.relations (constants_of c.args.query.atoms) c.intern_constants-known.result c.intern_constants-known.ensures.interns) c.requires.whole
+
+pub returns-in-Err-NoMem-known-clause-cursors : goal.returns-in-Err-NoMem-known-clause-cursors
+returns-in-Err-NoMem-known-clause-cursors g c =
+    rested_held c.args.parts.now.catalog c.intern_constants-known.new.catalog c.args.parts.now.queries.items (constants_stay c.live_stays.ensures c.texts_stay.ensures c.args.parts.now.catalog c.intern_constants-known.new.catalog c.args.parts.now.queries.items c.args.parts.now.order c.args.parts.now.readers.items c.requires.whole c.laws.ensures
+    c.intern_constants-known.ensures.relations (constants_of c.args.query.atoms) c.intern_constants-known.result c.intern_constants-known.ensures.interns)
+
+pub returns-in-Err-clause-whole : goal.returns-in-Err-clause-whole
+returns-in-Err-clause-whole g c =
+    sound_texts c.args.parts.now.catalog c.intern_constants-known.new.catalog c.args.parts.now.queries.items c.args.parts.now.order c.args.parts.now.readers.items c.intern_constants-known.ensures.relations (constants_stay c.live_stays.ensures c.texts_stay.ensures c.args.parts.now.catalog c.intern_constants-known.new.catalog c.args.parts.now.queries.items c.args.parts.now.order c.args.parts.now.readers.items c.requires.whole c.laws.ensures
+    c.intern_constants-known.ensures.relations (constants_of c.args.query.atoms) c.intern_constants-known.result c.intern_constants-known.ensures.interns) c.requires.whole
+
+pub returns-in-Err-clause-cursors : goal.returns-in-Err-clause-cursors
+returns-in-Err-clause-cursors g c =
+    rested_held c.args.parts.now.catalog c.intern_constants-known.new.catalog c.args.parts.now.queries.items (constants_stay c.live_stays.ensures c.texts_stay.ensures c.args.parts.now.catalog c.intern_constants-known.new.catalog c.args.parts.now.queries.items c.args.parts.now.order c.args.parts.now.readers.items c.requires.whole c.laws.ensures
+    c.intern_constants-known.ensures.relations (constants_of c.args.query.atoms) c.intern_constants-known.result c.intern_constants-known.ensures.interns)
+
+pub build-requires-clause-sound : goal.build-requires-clause-sound
+build-requires-clause-sound g c =
+    ap (λ (rs : List Relation). query_fault rs c.args.query) c.intern_constants-known.ensures.relations
+    ∙ (passes_of c.args.parts.now.catalog c.args.parts.now.queries.items c.args.parts.now.order c.args.parts.now.readers.items c.args.parts.now.seq c.requires.whole c.args.query (sym c.in_default.ensures)).fault
+
+pub returns-in-Err-clause-registers : goal.returns-in-Err-clause-registers
+returns-in-Err-clause-registers g c =
+    query_lacks c.args.parts.now.catalog c.intern_constants-known.new.catalog c.args.parts.now.queries.items c.args.parts.now.queries.items c.args.parts.now.order c.args.parts.now.order c.args.parts.now.seq c.args.parts.now.seq c.args.query (sym c.in_default.ensures)
+    c.intern_constants-known.ensures.relations refl c.in-Ok.ensures.planned.connex
+    (all_first c.args.parts.now.catalog.texts (texts_in (constants_of c.args.query.atoms)) c.intern_constants-known.new.catalog.texts c.in-Ok-known.ensures.interns.0) refl
+
+pub register-requires : goal.register-requires
+register-requires g c =
+    let old = c.args.parts.now in
+    sound_texts old.catalog c.intern_constants-known.new.catalog old.queries.items old.order old.readers.items c.intern_constants-known.ensures.relations (constants_stay c.live_stays.ensures c.texts_stay.ensures old.catalog c.intern_constants-known.new.catalog old.queries.items old.order old.readers.items c.requires.whole c.laws.ensures
+    c.intern_constants-known.ensures.relations (constants_of c.args.query.atoms) c.intern_constants-known.result c.intern_constants-known.ensures.interns) c.requires.whole
+
+pub returns-in-Ok-register-clause-whole : goal.returns-in-Ok-register-clause-whole
+returns-in-Ok-register-clause-whole g c =
+    let old = c.args.parts.now in
+    let mid : Parts = record old { catalog = c.intern_constants-known.new.catalog } in
+    let whole : IsWhole mid = sound_texts old.catalog c.intern_constants-known.new.catalog old.queries.items old.order old.readers.items c.intern_constants-known.ensures.relations (constants_stay c.live_stays.ensures c.texts_stay.ensures old.catalog c.intern_constants-known.new.catalog old.queries.items old.order old.readers.items c.requires.whole c.laws.ensures
+    c.intern_constants-known.ensures.relations (constants_of c.args.query.atoms) c.intern_constants-known.result c.intern_constants-known.ensures.interns) c.requires.whole in
+    let passes = passes_of old.catalog old.queries.items old.order old.readers.items old.seq c.requires.whole c.args.query (sym c.in_default.ensures) in
+    let l = c.in-Ok-build.live in
+    let fresh = ap (λ (q : Query). query_of (queries_in old.queries.items old.order) q.name) c.in-Ok-build.ensures.query ∙ passes.fresh in
+    let new = c.register.new.parts in
+    let r = c.in-Ok-register.ensures.ok in
+    enrolled_whole mid new whole l c.in-Ok-build.ensures.live c.in-Ok-build.ensures.cursors r fresh passes.few
+
+pub returns-in-Ok-register-clause-registers : goal.returns-in-Ok-register-clause-registers
+returns-in-Ok-register-clause-registers g c =
+    let old = c.args.parts.now in
+    let mid : Parts = record old { catalog = c.intern_constants-known.new.catalog } in
+    let whole : IsWhole mid = sound_texts old.catalog c.intern_constants-known.new.catalog old.queries.items old.order old.readers.items c.intern_constants-known.ensures.relations (constants_stay c.live_stays.ensures c.texts_stay.ensures old.catalog c.intern_constants-known.new.catalog old.queries.items old.order old.readers.items c.requires.whole c.laws.ensures
+    c.intern_constants-known.ensures.relations (constants_of c.args.query.atoms) c.intern_constants-known.result c.intern_constants-known.ensures.interns) c.requires.whole in
+    let passes = passes_of old.catalog old.queries.items old.order old.readers.items old.seq c.requires.whole c.args.query (sym c.in_default.ensures) in
+    let l = c.in-Ok-build.live in
+    let fresh = ap (λ (q : Query). query_of (queries_in old.queries.items old.order) q.name) c.in-Ok-build.ensures.query ∙ passes.fresh in
+    let new = c.register.new.parts in
+    let r = c.in-Ok-register.ensures.ok in
+    query_done old.catalog new.catalog old.queries.items new.queries.items old.order new.order old.seq new.seq c.args.query (sym c.in_default.ensures)
+    (ap (λ (x : Catalog). x.relations) r.catalog ∙ c.intern_constants-known.ensures.relations) r.seq
+    (2 * c.len.result + 1) c.in-Ok.ensures.planned.connex (ap (λ (n : ℕ). 2 * n + 1) c.len.ensures)
+    (subst (λ (x : Catalog). LearnsAll old.catalog.texts (texts_in (constants_of c.args.query.atoms)) x.texts) (sym r.catalog) c.in-Ok-known.ensures.interns.0)
+    (enrolled_queries mid new whole l c.in-Ok-build.ensures.live c.in-Ok-build.ensures.cursors r fresh passes.few ∙ ap (λ (q : Query). queries_in old.queries.items old.order ++ q ∷ []) c.in-Ok-build.ensures.query)
+
+pub returns-in-Ok-register-clause-cursors : goal.returns-in-Ok-register-clause-cursors
+returns-in-Ok-register-clause-cursors g c id =
+    let old = c.args.parts.now in
+    let mid : Parts = record old { catalog = c.intern_constants-known.new.catalog } in
+    let whole : IsWhole mid = sound_texts old.catalog c.intern_constants-known.new.catalog old.queries.items old.order old.readers.items c.intern_constants-known.ensures.relations (constants_stay c.live_stays.ensures c.texts_stay.ensures old.catalog c.intern_constants-known.new.catalog old.queries.items old.order old.readers.items c.requires.whole c.laws.ensures
+    c.intern_constants-known.ensures.relations (constants_of c.args.query.atoms) c.intern_constants-known.result c.intern_constants-known.ensures.interns) c.requires.whole in
+    let passes = passes_of old.catalog old.queries.items old.order old.readers.items old.seq c.requires.whole c.args.query (sym c.in_default.ensures) in
+    let l = c.in-Ok-build.live in
+    let fresh = ap (λ (q : Query). query_of (queries_in old.queries.items old.order) q.name) c.in-Ok-build.ensures.query ∙ passes.fresh in
+    let new = c.register.new.parts in
+    let r = c.in-Ok-register.ensures.ok in
+    enrolled_cursors mid new whole l c.in-Ok-build.ensures.live c.in-Ok-build.ensures.cursors r fresh passes.few id ∙ rested_held old.catalog c.intern_constants-known.new.catalog old.queries.items (constants_stay c.live_stays.ensures c.texts_stay.ensures old.catalog c.intern_constants-known.new.catalog old.queries.items old.order old.readers.items c.requires.whole c.laws.ensures
+    c.intern_constants-known.ensures.relations (constants_of c.args.query.atoms) c.intern_constants-known.result c.intern_constants-known.ensures.interns) id
+
+pub returns-in-Err-register-clause-whole : goal.returns-in-Err-register-clause-whole
+returns-in-Err-register-clause-whole g c =
+    let old = c.args.parts.now in
+    let mid : Parts = record old { catalog = c.intern_constants-known.new.catalog } in
+    let whole : IsWhole mid = sound_texts old.catalog c.intern_constants-known.new.catalog old.queries.items old.order old.readers.items c.intern_constants-known.ensures.relations (constants_stay c.live_stays.ensures c.texts_stay.ensures old.catalog c.intern_constants-known.new.catalog old.queries.items old.order old.readers.items c.requires.whole c.laws.ensures
+    c.intern_constants-known.ensures.relations (constants_of c.args.query.atoms) c.intern_constants-known.result c.intern_constants-known.ensures.interns) c.requires.whole in
+    let new = c.register.new.parts in
+    let r = c.in-Err-register.ensures.err in
+    same_whole mid new whole r
+
+pub returns-in-Err-register-clause-registers : goal.returns-in-Err-register-clause-registers
+returns-in-Err-register-clause-registers g c =
+    let old = c.args.parts.now in
+    let mid : Parts = record old { catalog = c.intern_constants-known.new.catalog } in
+    let whole : IsWhole mid = sound_texts old.catalog c.intern_constants-known.new.catalog old.queries.items old.order old.readers.items c.intern_constants-known.ensures.relations (constants_stay c.live_stays.ensures c.texts_stay.ensures old.catalog c.intern_constants-known.new.catalog old.queries.items old.order old.readers.items c.requires.whole c.laws.ensures
+    c.intern_constants-known.ensures.relations (constants_of c.args.query.atoms) c.intern_constants-known.result c.intern_constants-known.ensures.interns) c.requires.whole in
+    let new = c.register.new.parts in
+    let r = c.in-Err-register.ensures.err in
+    query_lacks old.catalog new.catalog old.queries.items new.queries.items old.order new.order old.seq new.seq c.args.query (sym c.in_default.ensures)
+    (ap (λ (x : Catalog). x.relations) r.catalog ∙ c.intern_constants-known.ensures.relations) r.seq
+    c.in-Ok.ensures.planned.connex
+    (subst (λ (x : Catalog). LearnsFirst old.catalog.texts (texts_in (constants_of c.args.query.atoms)) x.texts) (sym r.catalog)
+    (all_first old.catalog.texts (texts_in (constants_of c.args.query.atoms)) c.intern_constants-known.new.catalog.texts c.in-Ok-known.ensures.interns.0))
+    (same_queries mid new whole r)
+
+pub returns-in-Err-register-clause-cursors : goal.returns-in-Err-register-clause-cursors
+returns-in-Err-register-clause-cursors g c id =
+    let old = c.args.parts.now in
+    let mid : Parts = record old { catalog = c.intern_constants-known.new.catalog } in
+    let whole : IsWhole mid = sound_texts old.catalog c.intern_constants-known.new.catalog old.queries.items old.order old.readers.items c.intern_constants-known.ensures.relations (constants_stay c.live_stays.ensures c.texts_stay.ensures old.catalog c.intern_constants-known.new.catalog old.queries.items old.order old.readers.items c.requires.whole c.laws.ensures
+    c.intern_constants-known.ensures.relations (constants_of c.args.query.atoms) c.intern_constants-known.result c.intern_constants-known.ensures.interns) c.requires.whole in
+    let new = c.register.new.parts in
+    let r = c.in-Err-register.ensures.err in
+    same_cursors mid new whole r id ∙ rested_held old.catalog c.intern_constants-known.new.catalog old.queries.items (constants_stay c.live_stays.ensures c.texts_stay.ensures old.catalog c.intern_constants-known.new.catalog old.queries.items old.order old.readers.items c.requires.whole c.laws.ensures
+    c.intern_constants-known.ensures.relations (constants_of c.args.query.atoms) c.intern_constants-known.result c.intern_constants-known.ensures.interns) id

@@ -1,0 +1,95 @@
+use Rattle.std.proofs.Common.{◌+◌, ◌++◌, ◌∷◌, [], ◌∙◌, ap, subst}
+use Rattle.std.specs.Prelude.{Option}
+use Rattle.djq_dict.specs.declared.refusal.InternRefusal.{InternRefusal}
+use Rattle.djq_rows.specs.declared.relation_id.RelationId.{RelationId}
+use Rattle.djq_rows.specs.Catalog.{rows_at}
+use Rattle.djq_engine.specs.Judging.{JudgesAdd}
+use Rattle.djq_engine.specs.Changing.{Lacks}
+use Rattle.djq_engine.proofs.Adding.{
+  add_done,
+  add_lacking,
+  add_limited,
+  aged,
+  mid_once,
+  mid_there,
+  names_kept,
+  rested_cursors,
+  rested_whole,
+  same_names,
+}
+use Rattle.djq_engine.proofs.rows.add_in.Goals as goal
+
+pub returns-in-Err-Full-clause-whole : goal.returns-in-Err-Full-clause-whole
+returns-in-Err-Full-clause-whole g c =
+    rested_whole c.args.parts.now c.put_row.new.parts c.requires (subst (λ (r : InternRefusal). Lacks c.in-Some.id.at c.args.row.now c.args.parts.now c.put_row.new.parts r) c.in-Err-Full.field-0-is c.in-Err-Full.ensures.err).rests c.put_row.ensures.rest
+
+pub returns-in-Err-Full-clause-outdates : goal.returns-in-Err-Full-clause-outdates
+returns-in-Err-Full-clause-outdates g c = rested_cursors c.args.parts.now c.put_row.new.parts (subst (λ (r : InternRefusal). Lacks c.in-Some.id.at c.args.row.now c.args.parts.now c.put_row.new.parts r) c.in-Err-Full.field-0-is c.in-Err-Full.ensures.err).rests
+
+pub returns-in-Err-Full-clause-adds : goal.returns-in-Err-Full-clause-adds
+returns-in-Err-Full-clause-adds g c =
+    add_limited c.args.parts.now c.args.name.now c.args.row.now c.in-Some.id.at (subst (λ (j : Option RelationId). JudgesAdd c.args.parts.now.catalog.relations c.args.name.now c.args.row.now c.args.parts.now.seq j) c.in-Some.is c.in_ok-judged.ensures.ok) c.put_row.new.parts (subst (λ (r : InternRefusal). Lacks c.in-Some.id.at c.args.row.now c.args.parts.now c.put_row.new.parts r) c.in-Err-Full.field-0-is c.in-Err-Full.ensures.err) c.put_row.ensures.rest.order c.put_row.ensures.rest.seq
+
+pub age_readers-requires-clause-once : goal.age_readers-requires-clause-once
+age_readers-requires-clause-once g c =
+    mid_once c.args.parts.now c.put_row.new.parts c.requires c.in-Some.id.at (subst (λ (j : Option RelationId). JudgesAdd c.args.parts.now.catalog.relations c.args.name.now c.args.row.now c.args.parts.now.seq j) c.in-Some.is c.in_ok-judged.ensures.ok).relation.below
+    (subst (λ (r : InternRefusal). Lacks c.in-Some.id.at c.args.row.now c.args.parts.now c.put_row.new.parts r) c.in-Err-NoMem.field-0-is c.in-Err-NoMem.ensures.err).carries c.put_row.ensures.rest.readers c.put_row.ensures.rest.order
+    (names_kept c.args.parts.now.catalog c.put_row.new.parts.catalog (subst (λ (r : InternRefusal). Lacks c.in-Some.id.at c.args.row.now c.args.parts.now c.put_row.new.parts r) c.in-Err-NoMem.field-0-is c.in-Err-NoMem.ensures.err).relations)
+
+pub age_readers-requires-clause-there : goal.age_readers-requires-clause-there
+age_readers-requires-clause-there g c =
+    mid_there c.args.parts.now c.put_row.new.parts c.requires c.in-Some.id.at (subst (λ (j : Option RelationId). JudgesAdd c.args.parts.now.catalog.relations c.args.name.now c.args.row.now c.args.parts.now.seq j) c.in-Some.is c.in_ok-judged.ensures.ok).relation.below
+    (subst (λ (r : InternRefusal). Lacks c.in-Some.id.at c.args.row.now c.args.parts.now c.put_row.new.parts r) c.in-Err-NoMem.field-0-is c.in-Err-NoMem.ensures.err).carries c.put_row.ensures.rest.readers c.put_row.ensures.rest.order
+    (names_kept c.args.parts.now.catalog c.put_row.new.parts.catalog (subst (λ (r : InternRefusal). Lacks c.in-Some.id.at c.args.row.now c.args.parts.now c.put_row.new.parts r) c.in-Err-NoMem.field-0-is c.in-Err-NoMem.ensures.err).relations)
+
+pub returns-in-Err-NoMem-clause-whole : goal.returns-in-Err-NoMem-clause-whole
+returns-in-Err-NoMem-clause-whole g c =
+    (aged c.args.parts.now c.put_row.new.parts c.requires c.in-Some.id.at (subst (λ (j : Option RelationId). JudgesAdd c.args.parts.now.catalog.relations c.args.name.now c.args.row.now c.args.parts.now.seq j) c.in-Some.is c.in_ok-judged.ensures.ok).relation.below
+    (subst (λ (r : InternRefusal). Lacks c.in-Some.id.at c.args.row.now c.args.parts.now c.put_row.new.parts r) c.in-Err-NoMem.field-0-is c.in-Err-NoMem.ensures.err).carries c.put_row.ensures.rest.readers c.put_row.ensures.rest.order
+    (names_kept c.args.parts.now.catalog c.put_row.new.parts.catalog (subst (λ (r : InternRefusal). Lacks c.in-Some.id.at c.args.row.now c.args.parts.now c.put_row.new.parts r) c.in-Err-NoMem.field-0-is c.in-Err-NoMem.ensures.err).relations) c.age_readers.new.parts c.args.name.now (subst (λ (j : Option RelationId). JudgesAdd c.args.parts.now.catalog.relations c.args.name.now c.args.row.now c.args.parts.now.seq j) c.in-Some.is c.in_ok-judged.ensures.ok).relation.named c.age_readers.ensures).whole
+
+pub returns-in-Err-NoMem-clause-outdates : goal.returns-in-Err-NoMem-clause-outdates
+returns-in-Err-NoMem-clause-outdates g c =
+    (aged c.args.parts.now c.put_row.new.parts c.requires c.in-Some.id.at (subst (λ (j : Option RelationId). JudgesAdd c.args.parts.now.catalog.relations c.args.name.now c.args.row.now c.args.parts.now.seq j) c.in-Some.is c.in_ok-judged.ensures.ok).relation.below
+    (subst (λ (r : InternRefusal). Lacks c.in-Some.id.at c.args.row.now c.args.parts.now c.put_row.new.parts r) c.in-Err-NoMem.field-0-is c.in-Err-NoMem.ensures.err).carries c.put_row.ensures.rest.readers c.put_row.ensures.rest.order
+    (names_kept c.args.parts.now.catalog c.put_row.new.parts.catalog (subst (λ (r : InternRefusal). Lacks c.in-Some.id.at c.args.row.now c.args.parts.now c.put_row.new.parts r) c.in-Err-NoMem.field-0-is c.in-Err-NoMem.ensures.err).relations) c.age_readers.new.parts c.args.name.now (subst (λ (j : Option RelationId). JudgesAdd c.args.parts.now.catalog.relations c.args.name.now c.args.row.now c.args.parts.now.seq j) c.in-Some.is c.in_ok-judged.ensures.ok).relation.named c.age_readers.ensures).cursors
+
+pub age_readers-requires-2-clause-once : goal.age_readers-requires-2-clause-once
+age_readers-requires-2-clause-once g c =
+    mid_once c.args.parts.now (record c.put_row.new.parts { seq = c.put_row.new.parts.seq + 1 }) c.requires c.in-Some.id.at (subst (λ (j : Option RelationId). JudgesAdd c.args.parts.now.catalog.relations c.args.name.now c.args.row.now c.args.parts.now.seq j) c.in-Some.is c.in_ok-judged.ensures.ok).relation.below
+    c.in-Ok.ensures.ok.has.carries c.put_row.ensures.rest.readers c.put_row.ensures.rest.order
+    (same_names c.args.parts.now.catalog c.put_row.new.parts.catalog c.in-Some.id.at (rows_at c.args.parts.now.catalog.relations c.in-Some.id.at ++ c.args.row.now ∷ []) (subst (λ (j : Option RelationId). JudgesAdd c.args.parts.now.catalog.relations c.args.name.now c.args.row.now c.args.parts.now.seq j) c.in-Some.is c.in_ok-judged.ensures.ok).relation.below c.in-Ok.ensures.ok.has.relations)
+
+pub age_readers-requires-2-clause-there : goal.age_readers-requires-2-clause-there
+age_readers-requires-2-clause-there g c =
+    mid_there c.args.parts.now (record c.put_row.new.parts { seq = c.put_row.new.parts.seq + 1 }) c.requires c.in-Some.id.at (subst (λ (j : Option RelationId). JudgesAdd c.args.parts.now.catalog.relations c.args.name.now c.args.row.now c.args.parts.now.seq j) c.in-Some.is c.in_ok-judged.ensures.ok).relation.below
+    c.in-Ok.ensures.ok.has.carries c.put_row.ensures.rest.readers c.put_row.ensures.rest.order
+    (same_names c.args.parts.now.catalog c.put_row.new.parts.catalog c.in-Some.id.at (rows_at c.args.parts.now.catalog.relations c.in-Some.id.at ++ c.args.row.now ∷ []) (subst (λ (j : Option RelationId). JudgesAdd c.args.parts.now.catalog.relations c.args.name.now c.args.row.now c.args.parts.now.seq j) c.in-Some.is c.in_ok-judged.ensures.ok).relation.below c.in-Ok.ensures.ok.has.relations)
+
+pub returns-clause-whole : goal.returns-clause-whole
+returns-clause-whole g c =
+    (aged c.args.parts.now (record c.put_row.new.parts { seq = c.put_row.new.parts.seq + 1 }) c.requires c.in-Some.id.at (subst (λ (j : Option RelationId). JudgesAdd c.args.parts.now.catalog.relations c.args.name.now c.args.row.now c.args.parts.now.seq j) c.in-Some.is c.in_ok-judged.ensures.ok).relation.below
+    c.in-Ok.ensures.ok.has.carries c.put_row.ensures.rest.readers c.put_row.ensures.rest.order
+    (same_names c.args.parts.now.catalog c.put_row.new.parts.catalog c.in-Some.id.at (rows_at c.args.parts.now.catalog.relations c.in-Some.id.at ++ c.args.row.now ∷ []) (subst (λ (j : Option RelationId). JudgesAdd c.args.parts.now.catalog.relations c.args.name.now c.args.row.now c.args.parts.now.seq j) c.in-Some.is c.in_ok-judged.ensures.ok).relation.below c.in-Ok.ensures.ok.has.relations) c.age_readers-2.new.parts c.args.name.now (subst (λ (j : Option RelationId). JudgesAdd c.args.parts.now.catalog.relations c.args.name.now c.args.row.now c.args.parts.now.seq j) c.in-Some.is c.in_ok-judged.ensures.ok).relation.named c.age_readers-2.ensures).whole
+
+pub returns-clause-outdates : goal.returns-clause-outdates
+returns-clause-outdates g c =
+    (aged c.args.parts.now (record c.put_row.new.parts { seq = c.put_row.new.parts.seq + 1 }) c.requires c.in-Some.id.at (subst (λ (j : Option RelationId). JudgesAdd c.args.parts.now.catalog.relations c.args.name.now c.args.row.now c.args.parts.now.seq j) c.in-Some.is c.in_ok-judged.ensures.ok).relation.below
+    c.in-Ok.ensures.ok.has.carries c.put_row.ensures.rest.readers c.put_row.ensures.rest.order
+    (same_names c.args.parts.now.catalog c.put_row.new.parts.catalog c.in-Some.id.at (rows_at c.args.parts.now.catalog.relations c.in-Some.id.at ++ c.args.row.now ∷ []) (subst (λ (j : Option RelationId). JudgesAdd c.args.parts.now.catalog.relations c.args.name.now c.args.row.now c.args.parts.now.seq j) c.in-Some.is c.in_ok-judged.ensures.ok).relation.below c.in-Ok.ensures.ok.has.relations) c.age_readers-2.new.parts c.args.name.now (subst (λ (j : Option RelationId). JudgesAdd c.args.parts.now.catalog.relations c.args.name.now c.args.row.now c.args.parts.now.seq j) c.in-Some.is c.in_ok-judged.ensures.ok).relation.named c.age_readers-2.ensures).cursors
+
+pub returns-clause-adds : goal.returns-clause-adds
+returns-clause-adds g c =
+    add_done c.args.parts.now c.args.name.now c.args.row.now c.in-Some.id.at (subst (λ (j : Option RelationId). JudgesAdd c.args.parts.now.catalog.relations c.args.name.now c.args.row.now c.args.parts.now.seq j) c.in-Some.is c.in_ok-judged.ensures.ok) c.names_tell.ensures c.laws.ensures.names c.put_row.new.parts c.age_readers-2.new.parts
+    c.in-Ok.ensures.ok c.age_readers-2.ensures.catalog (c.age_readers-2.ensures.rest.seq ∙ ap (λ n. n + 1) c.put_row.ensures.rest.seq)
+    (aged c.args.parts.now (record c.put_row.new.parts { seq = c.put_row.new.parts.seq + 1 }) c.requires c.in-Some.id.at (subst (λ (j : Option RelationId). JudgesAdd c.args.parts.now.catalog.relations c.args.name.now c.args.row.now c.args.parts.now.seq j) c.in-Some.is c.in_ok-judged.ensures.ok).relation.below
+    c.in-Ok.ensures.ok.has.carries c.put_row.ensures.rest.readers c.put_row.ensures.rest.order
+    (same_names c.args.parts.now.catalog c.put_row.new.parts.catalog c.in-Some.id.at (rows_at c.args.parts.now.catalog.relations c.in-Some.id.at ++ c.args.row.now ∷ []) (subst (λ (j : Option RelationId). JudgesAdd c.args.parts.now.catalog.relations c.args.name.now c.args.row.now c.args.parts.now.seq j) c.in-Some.is c.in_ok-judged.ensures.ok).relation.below c.in-Ok.ensures.ok.has.relations) c.age_readers-2.new.parts c.args.name.now (subst (λ (j : Option RelationId). JudgesAdd c.args.parts.now.catalog.relations c.args.name.now c.args.row.now c.args.parts.now.seq j) c.in-Some.is c.in_ok-judged.ensures.ok).relation.named c.age_readers-2.ensures).queries
+
+pub returns-in-Err-NoMem-clause-adds : goal.returns-in-Err-NoMem-clause-adds
+returns-in-Err-NoMem-clause-adds g c =
+    add_lacking c.args.parts.now c.args.name.now c.args.row.now c.in-Some.id.at (subst (λ (j : Option RelationId). JudgesAdd c.args.parts.now.catalog.relations c.args.name.now c.args.row.now c.args.parts.now.seq j) c.in-Some.is c.in_ok-judged.ensures.ok) c.put_row.new.parts c.age_readers.new.parts
+    (subst (λ (r : InternRefusal). Lacks c.in-Some.id.at c.args.row.now c.args.parts.now c.put_row.new.parts r) c.in-Err-NoMem.field-0-is c.in-Err-NoMem.ensures.err) c.age_readers.ensures.catalog (c.age_readers.ensures.rest.seq ∙ c.put_row.ensures.rest.seq)
+    (aged c.args.parts.now c.put_row.new.parts c.requires c.in-Some.id.at (subst (λ (j : Option RelationId). JudgesAdd c.args.parts.now.catalog.relations c.args.name.now c.args.row.now c.args.parts.now.seq j) c.in-Some.is c.in_ok-judged.ensures.ok).relation.below
+    (subst (λ (r : InternRefusal). Lacks c.in-Some.id.at c.args.row.now c.args.parts.now c.put_row.new.parts r) c.in-Err-NoMem.field-0-is c.in-Err-NoMem.ensures.err).carries c.put_row.ensures.rest.readers c.put_row.ensures.rest.order
+    (names_kept c.args.parts.now.catalog c.put_row.new.parts.catalog (subst (λ (r : InternRefusal). Lacks c.in-Some.id.at c.args.row.now c.args.parts.now c.put_row.new.parts r) c.in-Err-NoMem.field-0-is c.in-Err-NoMem.ensures.err).relations) c.age_readers.new.parts c.args.name.now (subst (λ (j : Option RelationId). JudgesAdd c.args.parts.now.catalog.relations c.args.name.now c.args.row.now c.args.parts.now.seq j) c.in-Some.is c.in_ok-judged.ensures.ok).relation.named c.age_readers.ensures).queries

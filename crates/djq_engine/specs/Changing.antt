@@ -1,0 +1,97 @@
+-- What the parts of a change of rows do.
+use Rattle.std.specs.Prelude.{ℕ, List, [], ◌∷◌, ◌++◌, ◌≡◌, ◌<◌, ◌≤◌, true, false, Option, Some, length}
+use Rattle.djq_model.specs.Data.{Bytes, Tuple, has_row, without_row}
+use Rattle.djq_model.specs.Known.{texts_in}
+use Rattle.djq_lines.specs.declared.limits.TheConstants.{ROWS}
+use Rattle.djq_machine.specs.Store.{LearnsAll, LearnsFirst, FindsNoPlace}
+use Rattle.djq_dict.specs.declared.refusal.InternRefusal.{InternRefusal}
+use Rattle.djq_dict.specs.declared.refusal.InternRefusal.TheVariants.{Full, NoMem}
+use Rattle.djq_rows.specs.Catalog.{Catalog, StandForRow, rows_at, with_rows_at}
+use Rattle.djq_live.specs.Live.{Live}
+use Rattle.djq_live.specs.Staying.{StaysOver}
+use Rattle.djq_engine.specs.declared.parts.Parts.{Parts}
+use Rattle.djq_engine.specs.Places.{place_at, readers_at}
+use Rattle.djq_engine.specs.Reaching.{Reach, Ages, Carries}
+
+-- The cells stand for a row that isn't there, and there is room for it.
+pub record IsNew (c : Catalog) (at : ℕ) (cells : List ℕ) (row : Tuple) : Type 0 where
+  pub stand : StandForRow c at cells row
+  pub absent : has_row (rows_at c.relations at) row ≡ false
+  pub room : length (rows_at c.relations at) < ROWS
+
+abbrev pub HasNew : Catalog → ℕ → List ℕ → Type 0
+HasNew c at cells = (row : Tuple) × IsNew c at cells row
+
+-- The cells stand for a row that is there.
+pub record IsOld (c : Catalog) (at : ℕ) (cells : List ℕ) (row : Tuple) : Type 0 where
+  pub stand : StandForRow c at cells row
+  pub there : has_row (rows_at c.relations at) row ≡ true
+
+abbrev pub HasOld : Catalog → ℕ → List ℕ → Type 0
+HasOld c at cells = (row : Tuple) × IsOld c at cells row
+
+-- Nothing but the catalog and the queries changes.
+pub record KeepsRest (old new : Parts) : Type 0 where
+  pub readers : new.readers.items ≡ old.readers.items
+  pub order : new.order ≡ old.order
+  pub seq : new.seq ≡ old.seq
+
+-- The readers of a relation are carried over to the new catalog.
+abbrev pub CarriesReaders : ℕ → Parts → Parts → Type 0
+CarriesReaders at old new =
+    Carries (readers_at old.readers.items at) old.catalog old.queries.items
+    new.catalog new.queries.items
+
+-- No row changes, and no query does.
+pub record RestsOver (old new : Parts) : Type 0 where
+  pub queries : new.queries.items ≡ old.queries.items
+  pub relations : (new.catalog).relations ≡ (old.catalog).relations
+  pub stay : (i : ℕ) (l : Live) → place_at old.queries.items i ≡ Some l
+      → StaysOver old.catalog new.catalog l
+
+-- A relation has other rows, and its readers know.
+pub record HasRows (at : ℕ) (rows : List Tuple) (old new : Parts) : Type 0 where
+  pub relations : (new.catalog).relations ≡ with_rows_at (old.catalog).relations at rows
+  pub carries : CarriesReaders at old new
+
+-- A row came, whose texts were known.
+pub record Puts (at : ℕ) (row : Tuple) (old new : Parts) : Type 0 where
+  pub texts : (new.catalog).texts ≡ (old.catalog).texts
+  pub has : HasRows at (rows_at (old.catalog).relations at ++ row ∷ []) old new
+
+-- Out of memory: the catalog is as before, and readers were reached.
+pub record Waits (at : ℕ) (old new : Parts) : Type 0 where
+  pub catalog : new.catalog ≡ old.catalog
+  pub carries : CarriesReaders at old new
+
+-- A row went.
+pub record Drops (at : ℕ) (row : Tuple) (old new : Parts) : Type 0 where
+  pub texts : (new.catalog).texts ≡ (old.catalog).texts
+  pub has : HasRows at (without_row (rows_at (old.catalog).relations at) row) old new
+
+-- A row came, whose texts are known now.
+pub record PutsRow (at : ℕ) (row : Tuple) (old new : Parts) : Type 0 where
+  pub learns : LearnsAll (old.catalog).texts (texts_in row) (new.catalog).texts
+  pub has : HasRows at (rows_at (old.catalog).relations at ++ row ∷ []) old new
+
+-- The relations are as before, and readers were reached.
+pub record LacksMemory (at : ℕ) (row : Tuple) (old new : Parts) : Type 0 where
+  pub learns : LearnsFirst (old.catalog).texts (texts_in row) (new.catalog).texts
+  pub relations : (new.catalog).relations ≡ (old.catalog).relations
+  pub carries : CarriesReaders at old new
+
+-- The relations and the queries are as before.
+pub record LacksPlace (row : Tuple) (old new : Parts) : Type 0 where
+  pub finds : FindsNoPlace (old.catalog).texts (texts_in row) (new.catalog).texts
+  pub rests : RestsOver old new
+
+abbrev pub Lacks : ℕ → Tuple → Parts → Parts → InternRefusal → Type 0
+Lacks at row old new Full = LacksPlace row old new
+Lacks at row old new NoMem = LacksMemory at row old new
+
+-- The open cursors over a relation became stale, by a change of the present number.
+pub record AgesReaders (at : ℕ) (name : Bytes) (old new : Parts) : Type 0 where
+  pub reach : Reach (readers_at old.readers.items at) (Ages name old.seq) old.queries.items
+      new.queries.items
+  pub catalog : new.catalog ≡ old.catalog
+  pub rest : KeepsRest old new

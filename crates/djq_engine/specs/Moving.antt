@@ -1,0 +1,49 @@
+-- What is done to one query.
+use Rattle.std.specs.Prelude.{ℕ, List, ◌≡◌, ◌+◌, ◌≤◌, Bool, Option, Some, None, IsSome, length, slice_set}
+use Rattle.djq_machine.specs.Store.{most_steps}
+use Rattle.djq_rows.specs.Catalog.{Catalog}
+use Rattle.djq_live.specs.declared.listing.Next.{Next}
+use Rattle.djq_live.specs.Cursors.{slot_at}
+use Rattle.djq_live.specs.Live.{Live, IsLive, FitsIn}
+use Rattle.djq_live.specs.Reading.{NextGives, MoreGives, OpensIn, next_steps, IsFreshIn}
+use Rattle.djq_engine.specs.Places.{place_at}
+
+-- The query in a place becomes another, and nothing else changes.
+pub record Moves (Does : Live → Live → Type 0) (at : ℕ) (gs hs : List (Option Live)) : Type 0
+  where
+    pub old : Live
+    pub new : Live
+    pub there : place_at gs at ≡ Some old
+    pub done : Does old new
+    pub is : hs ≡ slice_set gs at (Some new)
+
+-- It can be read through the cursor in a slot.
+pub record IsReadable (slot : ℕ) (l : Live) : Type 0 where
+  pub there : IsSome (slot_at l.cursors slot)
+  pub fits : FitsIn l slot
+
+-- The same, and the cursor isn't stale.
+pub record IsFreshly (slot : ℕ) (l : Live) : Type 0 where
+  pub fresh : IsFreshIn l slot
+  pub fits : FitsIn l slot
+
+-- A cursor is opened in a slot.
+pub record OpensAt (slot : ℕ) (l m : Live) : Type 0 where
+  pub opens : OpensIn l slot m
+  pub live : (c : Catalog) → IsLive c l → IsLive c m
+
+-- A cursor goes out of a slot.
+pub record ClosesAt (slot : ℕ) (l m : Live) : Type 0 where
+  pub closes : m ≡ record l { cursors = slice_set l.cursors slot None }
+  pub live : (c : Catalog) → IsLive c l → IsLive c m
+
+-- A cursor is read.
+pub record ReadsAt (slot : ℕ) (result : Next) (answer : List ℕ) (before now : ℕ) (l m : Live) :
+    Type 0 where
+  pub gives : (c : Catalog) → IsLive c l → NextGives c l slot result answer m
+  pub counted : (c : Catalog) → IsLive c l → now ≤ before + next_steps result (length l.query.head)
+
+-- Whether an answer is left is told.
+pub record TellsAt (slot : ℕ) (result : Bool) (before now : ℕ) (l m : Live) : Type 0 where
+  pub gives : (c : Catalog) → IsLive c l → MoreGives c l slot result m
+  pub counted : (c : Catalog) → IsLive c l → now ≤ before + most_steps (length l.query.head)

@@ -1,0 +1,41 @@
+-- Lists of places.
+use Rattle.std.specs.Prelude.{ℕ, List, [], ◌∷◌, ◌++◌, ◌≡◌, ◌<◌, ◌⊎◌, Option, if◌then◌else◌, length}
+use Rattle.djq_model.specs.declared.query.Query.{Query}
+use Rattle.djq_model.specs.declared.relation.Relation.{Relation}
+use Rattle.djq_machine.specs.Stale.{reads}
+use Rattle.djq_rows.specs.Catalog.{relation_at}
+use Rattle.djq_live.specs.Live.{Live}
+use Rattle.djq_engine.specs.Places.{place_at, readers_at, left}
+use Rattle.djq_engine.specs.Sound.{AreOnce}
+
+-- What stands in each place is as before.
+abbrev pub SamePlaces : List (Option Live) → List (Option Live) → Type 0
+SamePlaces old new = (i : ℕ) → place_at new i ≡ place_at old i
+
+-- in none of these lists is a place twice
+abbrev pub AllOnce : List (List ℕ) → Type 0
+AllOnce lists = (r : ℕ) → AreOnce (readers_at lists r)
+
+-- All lists are as before.
+pub record SameLists (old new : List (List ℕ)) : Type 0 where
+  pub long : length new ≡ length old
+  pub each : (r : ℕ) → readers_at new r ≡ readers_at old r
+
+-- A place goes out of all lists.
+pub record LeavesAll (at : ℕ) (old new : List (List ℕ)) : Type 0 where
+  pub long : length new ≡ length old
+  pub each : (r : ℕ) → readers_at new r ≡ left at (readers_at old r)
+
+-- A place comes last among the readers of each relation that the query reads.
+pub record JoinsReaders (relations : List Relation) (q : Query) (at : ℕ)
+    (old new : List (List ℕ)) : Type 0 where
+  pub long : length new ≡ length old
+  pub each : (r : ℕ) → r < length old → readers_at new r
+      ≡ (if reads q (relation_at relations r).name then readers_at old r ++ at ∷ []
+      else readers_at old r)
+
+-- It comes last in some of the lists.
+pub record JoinsSome (at : ℕ) (old new : List (List ℕ)) : Type 0 where
+  pub long : length new ≡ length old
+  pub each : (r : ℕ) → (readers_at new r ≡ readers_at old r)
+      ⊎ (readers_at new r ≡ readers_at old r ++ at ∷ [])

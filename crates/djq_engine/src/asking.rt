@@ -1,0 +1,69 @@
+//! What is asked of registered queries without changing them.
+ghost use Rattle.std.specs.Prelude.{◌≡◌, ◌+◌, ◌≤◌};
+ghost use Rattle.djq_model.specs.Data.{query_of};
+ghost use Rattle.djq_machine.specs.Store.{TellsWhether, has_steps};
+ghost use Rattle.djq_engine.specs.Kept.{ExplainGives, IsThere, AnswerIs};
+ghost use Rattle.djq_engine.specs.Whole.{kept_in, IsWhole};
+
+use crate::cursor::CursorId;
+use crate::lent::LentAnswer;
+use crate::parts::Parts;
+use crate::places::find_query;
+use djq_lines::Refusal;
+use djq_model::{Name, Value};
+use djq_reduct::Answer;
+use djq_steps::{Ledgers, Listing, Tally};
+use djq_tree::Lines;
+
+/// Whether a tuple is an answer of a query.
+pub fn has_in<L: Ledgers>(
+    parts: &Parts,
+    query: &Name,
+    tuple: &[Value],
+    listing: &mut Tally<Listing<L>>,
+) -> Result<bool, Refusal>
+    requires { IsWhole parts.now }
+    ensures tells { TellsWhether (kept_in parts.now).store query.now tuple.now result }
+    ensures counted { listing.new ≤ listing.old
+        + has_steps (query_of (kept_in parts.now).store.queries query.now) }
+{
+    let Some(at) = find_query(parts.queries.as_slice(), query) else {
+        return Err(Refusal::NoQuery);
+    };
+    match &parts.queries[at] {
+        Some(live) => match live.suits(tuple) {
+            Ok(()) => Ok(live.has(&parts.catalog, tuple, listing)),
+            Err(refusal) => Err(refusal),
+        },
+        None => unreachable!(),
+    }
+}
+
+/// The lines that explain a query's tree.
+pub fn explain_in(parts: &Parts, query: &Name) -> Result<Lines, Refusal>
+    requires { IsWhole parts.now }
+    ensures { ExplainGives (kept_in parts.now).store query.now result }
+{
+    let Some(at) = find_query(parts.queries.as_slice(), query) else {
+        return Err(Refusal::NoQuery);
+    };
+    match &parts.queries[at] {
+        Some(live) => match live.explain(parts.alloc) {
+            Ok(lines) => Ok(lines),
+            Err(_error) => Err(Refusal::NoMemory),
+        },
+        None => unreachable!(),
+    }
+}
+
+/// Lends an answer of the query that a cursor is over.
+pub fn answer_in<'a>(parts: &'a Parts, id: CursorId, answer: &'a Answer) -> LentAnswer<'a>
+    requires whole { IsWhole parts.now }
+    requires there { IsThere (kept_in parts.now) id answer.now }
+    ensures { AnswerIs (kept_in parts.now) id answer.now result }
+{
+    match &parts.queries[id.query.at] {
+        Some(live) => LentAnswer::new(&parts.catalog, live, answer),
+        None => unreachable!(),
+    }
+}

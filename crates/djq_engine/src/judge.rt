@@ -1,0 +1,115 @@
+//! Whether a row may be added to a relation, or deleted from it.
+ghost use Rattle.std.specs.Prelude.{◌≡◌, ◌<◌, ◌≤◌, ◌+◌, true, Some, IfOk, IfErr, length};
+ghost use Rattle.djq_model.specs.Data.{has_row};
+ghost use Rattle.djq_model.specs.Typed.{fits};
+ghost use Rattle.djq_machine.specs.Conditions.{first_of};
+ghost use Rattle.djq_machine.specs.Store.{row_refusals, add_refusal, delete_refusal};
+ghost use Rattle.djq_rows.specs.Catalog.{relation_at, rows_at};
+ghost use Rattle.djq_engine.specs.Judging.{bare, Suits, JudgesAdd, JudgesDelete};
+
+use djq_index::Cells;
+use djq_lines::Refusal;
+use djq_lines::limits::{LAST_SEQ, ROWS};
+use djq_model::{Name, Value};
+use djq_rows::{Catalog, RelationId};
+use djq_steps::Tally;
+use std::sync::ledger::Ledger;
+
+/// A row that may be deleted, by its cells.
+#[derive(Debug, Drop)]
+pub struct Deletion {
+    pub relation: RelationId,
+    pub cells: Cells,
+}
+
+// The relation of a name, where a row suits its columns.
+fn suited(catalog: &Catalog, name: &Name, row: &[Value]) -> Result<RelationId, Refusal>
+    ensures ok { IfOk result (λ id. Suits catalog.now.relations name.now row.now id.at) }
+    ensures err { IfErr result (λ r.
+        first_of (row_refusals (bare catalog.now.relations 0) name.now row.now) ≡ Some r) }
+{
+    let Some(id) = catalog.id(name) else {
+        return Err(Refusal::NoRelation);
+    };
+    if row.len() != catalog.columns(id).len() {
+        return Err(Refusal::Arity);
+    }
+    if !catalog.suits(id, row) {
+        return Err(Refusal::WrongType);
+    }
+    Ok(id)
+}
+
+// Whether a row that suits a relation is there. An unknown text is in none.
+fn is_there<L: Ledger>(
+    catalog: &Catalog,
+    id: RelationId,
+    row: &[Value],
+    tally: &mut Tally<L>,
+) -> bool
+    requires there { id.at < length catalog.now.relations }
+    requires suits { fits (relation_at catalog.now.relations id.at).types row.now ≡ true }
+    ensures { result ≡ has_row (rows_at catalog.now.relations id.at) row.now }
+{
+    catalog.laws();
+    match catalog.cells(row) {
+        Some(cells) => catalog.has_row(id, cells.as_slice(), tally),
+        None => false,
+    }
+}
+
+/// The relation to which a row may be added, and none where the row is there.
+///
+/// # Errors
+///
+/// `NoRelation`, `Arity`, `WrongType`, `Limit`: the first condition that holds.
+pub fn judge_add<L: Ledger>(
+    catalog: &Catalog,
+    name: &Name,
+    row: &[Value],
+    seq: u64,
+    tally: &mut Tally<L>,
+) -> Result<Option<RelationId>, Refusal>
+    ensures ok { IfOk result (JudgesAdd catalog.now.relations name.now row.now seq) }
+    ensures err { IfErr result (λ r.
+        add_refusal (bare catalog.now.relations seq) name.now row.now ≡ Some r) }
+{
+    let id = suited(catalog, name, row)?;
+    if is_there(catalog, id, row, tally) {
+        return Ok(None);
+    }
+    if catalog.row_count(id) >= ROWS || seq == LAST_SEQ {
+        return Err(Refusal::Limit);
+    }
+    Ok(Some(id))
+}
+
+/// The cells of a row that may be deleted, and none where the row isn't there.
+///
+/// # Errors
+///
+/// `NoRelation`, `Arity`, `WrongType`, `Limit`: the first condition that holds.
+pub fn judge_delete<L: Ledger>(
+    catalog: &Catalog,
+    name: &Name,
+    row: &[Value],
+    seq: u64,
+    tally: &mut Tally<L>,
+) -> Result<Option<Deletion>, Refusal>
+    ensures ok { IfOk result (JudgesDelete catalog.now name.now row.now seq) }
+    ensures err { IfErr result (λ r.
+        delete_refusal (bare catalog.now.relations seq) name.now row.now ≡ Some r) }
+{
+    let relation = suited(catalog, name, row)?;
+    catalog.laws();
+    let Some(cells) = catalog.cells(row) else {
+        return Ok(None);
+    };
+    if !catalog.has_row(relation, cells.as_slice(), tally) {
+        return Ok(None);
+    }
+    if seq == LAST_SEQ {
+        return Err(Refusal::Limit);
+    }
+    Ok(Some(Deletion { relation, cells }))
+}

@@ -1,0 +1,66 @@
+ghost use Rattle.std.specs.Prelude.{◌≡◌, ◌<◌, Some, length, slice_get};
+ghost use Rattle.djq_model.specs.Lent.{value_lent};
+ghost use Rattle.djq_reduct.specs.Answers.{IsAnswerOf};
+ghost use Rattle.djq_live.specs.Live.{IsLive, values_of};
+
+use djq_live::LiveQuery;
+use djq_model::Lent;
+use djq_reduct::Answer;
+use djq_rows::Catalog;
+use std::marker::Model;
+
+/// An answer that is lent as its values, in the head's order. Contracts see the tuple of them.
+#[derive(Drop)]
+pub struct LentAnswer<'a> {
+    catalog: &'a Catalog,
+    query: &'a LiveQuery,
+    answer: &'a Answer,
+}
+
+impl<'a> Model for LentAnswer<'a> {
+    ghost use Rattle.djq_model.specs.Data.{Tuple};
+
+    ghost Value = { Tuple };
+
+    ghost use Rattle.djq_reduct.specs.Answers.{IsAnswerOf};
+    ghost use Rattle.djq_live.specs.Live.{IsLive, values_of};
+
+    ghost view = { λ a. values_of a.catalog.now.texts a.query.now a.answer.now };
+
+    ghost invariant = { λ a. IsLive a.catalog.now a.query.now
+        × IsAnswerOf a.query.now.reducts a.answer.now };
+}
+
+impl<'a> LentAnswer<'a> {
+    /// An answer of a query that is kept over a catalog.
+    pub(crate) fn new(
+        catalog: &'a Catalog,
+        query: &'a LiveQuery,
+        answer: &'a Answer,
+    ) -> LentAnswer<'a>
+        requires live { IsLive catalog.now query.now }
+        requires answer { IsAnswerOf query.now.reducts answer.now }
+        ensures { result ≡ values_of catalog.now.texts query.now answer.now }
+    {
+        LentAnswer {
+            catalog,
+            query,
+            answer,
+        }
+    }
+
+    /// How many values it has.
+    pub fn len(&self) -> usize
+        ensures { result ≡ length self.now }
+    {
+        self.query.width()
+    }
+
+    /// A value. A text is lent, so it takes no memory.
+    pub fn value(&self, at: usize) -> Lent<'a>
+        requires { at < length self.now }
+        ensures { slice_get self.now at ≡ Some (value_lent result) }
+    {
+        self.query.value(self.catalog, self.answer, at)
+    }
+}

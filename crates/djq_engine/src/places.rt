@@ -1,0 +1,70 @@
+//! The places of the registered queries.
+ghost use Rattle.std.specs.Prelude.{◌≡◌, ◌==◌, ◌<◌, None, not, filter, position, length, IfOk};
+ghost use Rattle.djq_engine.specs.Places.{place_at, is_query, left};
+ghost use Rattle.djq_engine.specs.Sound.{AreOnce};
+ghost use Rattle.djq_engine.specs.Placing.{SamePlaces, AllOnce, LeavesAll};
+
+use djq_live::LiveQuery;
+use djq_model::{Name, NoMem, Sequence};
+
+// Whether a place has the query of a name.
+fn is_named(place: &Option<LiveQuery>, name: &Name) -> bool
+    ensures { result ≡ is_query name.now place.now }
+{
+    match place {
+        Some(query) => query.query().name == *name,
+        None => false,
+    }
+}
+
+/// The place of the query of a name.
+pub fn find_query(queries: &[Option<LiveQuery>], name: &Name) -> Option<usize>
+    ensures { result ≡ position (is_query name.now) queries.now }
+{
+    queries.iter().position(|place| is_named(place, name))
+}
+
+/// A place where no query is registered, which is made where there is none.
+///
+/// # Errors
+///
+/// `NoMem` out of memory.
+pub fn vacant_place(queries: &mut Vec<Option<LiveQuery>>) -> Result<usize, NoMem>
+    ensures place { IfOk result (λ at. at < length queries.new.items) }
+    ensures vacant { IfOk result (λ at. place_at queries.new.items at ≡ None) }
+    ensures same { SamePlaces queries.old.items queries.new.items }
+{
+    if let Some(at) = queries.iter().position(|place| place.is_none()) {
+        return Ok(at);
+    }
+    let at = queries.len();
+    queries.push(None)?;
+    Ok(at)
+}
+
+// Where a place stands in a list of places.
+fn find_place(places: &[usize], at: usize) -> Option<usize>
+    ensures { result ≡ position (λ i. i == at) places.now }
+{
+    places.iter().position(|place| *place == at)
+}
+
+/// Takes a place out of a list of different places.
+pub fn leave_out(places: &mut Sequence<usize>, at: usize)
+    requires { AreOnce places.old }
+    ensures { places.new ≡ left at places.old }
+{
+    if let Some(place) = find_place(places.as_slice(), at) {
+        let _ = places.remove(place);
+    }
+}
+
+/// Takes a place out of all of these lists of different places.
+pub fn leave_all(lists: &mut Vec<Sequence<usize>>, at: usize)
+    requires { AllOnce lists.old.items }
+    ensures { LeavesAll at lists.old.items lists.new.items }
+{
+    for list in 0..lists.len() {
+        leave_out(&mut lists[list], at);
+    }
+}

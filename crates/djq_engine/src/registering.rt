@@ -1,0 +1,180 @@
+//! Queries that are registered and dropped.
+ghost use Rattle.std.specs.Prelude.{◌≡◌, [], ◌∷◌, ◌++◌, ◌<◌, ⊤, Some, None, OnOk, OnErr, IsSomeAnd, IfNone, IfSome, if◌then◌else◌, length};
+ghost use Rattle.djq_machine.specs.Stale.{reads};
+ghost use Rattle.djq_machine.specs.Store.{RegistersQuery, query_refusal};
+ghost use Rattle.djq_live.specs.Cursors.{are_vacant};
+ghost use Rattle.djq_engine.specs.Kept.{SameCursors, DropGives};
+ghost use Rattle.djq_engine.specs.Places.{place_at};
+ghost use Rattle.djq_engine.specs.Placing.{JoinsReaders, JoinsSome};
+ghost use Rattle.djq_engine.specs.Registering.{Registers, SameParts};
+ghost use Rattle.djq_engine.specs.Whole.{kept_in, IsWhole};
+
+use crate::parts::Parts;
+use crate::places::{find_query, leave_all, leave_out, vacant_place};
+use djq_dict::InternRefusal;
+use djq_lines::limits::QUERIES;
+use djq_lines::{QueryOutcome, Refusal};
+use djq_live::{LiveQuery, Unplanned, intern_constants, live_stays, plan_query, query_fault_of};
+use djq_model::{Name, NoMem, Query, Sequence};
+use djq_rows::{Catalog, RelationId, texts_stay};
+use djq_steps::{Ledgers, Steps};
+
+// Whether a query reads a relation.
+fn reads(query: &Query, relation: &Name) -> bool
+    ensures { result ≡ reads query.now relation.now }
+{
+    query
+        .atoms
+        .as_slice()
+        .iter()
+        .any(|atom| atom.relation == *relation)
+}
+
+// A place comes last in a list, or it doesn't.
+fn join(list: &mut Sequence<usize>, joins: bool, at: usize) -> Result<(), NoMem>
+    ensures ok { OnOk result (list.new ≡ (if joins then list.old ++ at ∷ [] else list.old)) }
+    ensures err { OnErr result (list.new ≡ list.old) }
+{
+    if joins {
+        return list.push(at);
+    }
+    Ok(())
+}
+
+// A place comes last among the readers of each relation that a query reads.
+fn join_readers(
+    lists: &mut Vec<Sequence<usize>>,
+    catalog: &Catalog,
+    query: &Query,
+    at: usize,
+) -> Result<(), NoMem>
+    requires { length lists.old.items ≡ length catalog.now.relations }
+    ensures ok { OnOk result (JoinsReaders catalog.now.relations query.now at
+        lists.old.items lists.new.items) }
+    ensures err { OnErr result (JoinsSome at lists.old.items lists.new.items) }
+{
+    for list in 0..lists.len() {
+        let name = catalog.name(RelationId { at: list });
+        match join(&mut lists[list], reads(query, &name), at) {
+            Ok(()) => {}
+            Err(error) => return Err(error),
+        }
+    }
+    Ok(())
+}
+
+// Puts a query in a vacant place, behind the others in order and behind the readers of its
+// relations; or changes nothing that is seen, out of memory.
+fn register(parts: &mut Parts, query: LiveQuery) -> Result<(), NoMem>
+    requires { IsWhole parts.old }
+    ensures ok { OnOk result (Registers query parts.old parts.new) }
+    ensures err { OnErr result (SameParts parts.old parts.new) }
+{
+    let at = match vacant_place(&mut parts.queries) {
+        Ok(at) => at,
+        Err(error) => return Err(error),
+    };
+    match parts.order.push(at) {
+        Ok(()) => {}
+        Err(error) => return Err(error),
+    }
+    match join_readers(&mut parts.readers, &parts.catalog, query.query(), at) {
+        Ok(()) => {
+            parts.queries[at] = Some(query);
+            Ok(())
+        }
+        Err(error) => {
+            leave_all(&mut parts.readers, at);
+            let _ = parts.order.remove(parts.order.len() - 1);
+            Err(error)
+        }
+    }
+}
+
+// Why a query isn't registered, whatever its hypergraph is.
+fn judge_query(parts: &Parts, query: &Query) -> Option<Refusal>
+    requires { IsWhole parts.now }
+    ensures { result ≡ query_refusal (kept_in parts.now).store query.now }
+{
+    if find_query(parts.queries.as_slice(), &query.name).is_some() {
+        return Some(Refusal::Taken);
+    }
+    if let Some(fault) = query_fault_of(&parts.catalog, query) {
+        return Some(fault);
+    }
+    if parts.order.len() >= QUERIES {
+        return Some(Refusal::Limit);
+    }
+    None
+}
+
+/// Registers a free-connex query, or tells what shows that it isn't one.
+pub fn query_in<L: Ledgers>(
+    parts: &mut Parts,
+    query: Query,
+    steps: &mut Steps<L>,
+) -> Result<QueryOutcome, Refusal>
+    requires whole { IsWhole parts.old }
+    requires some { 0 < length query.atoms }
+    ensures whole { IsWhole parts.new }
+    ensures registers { RegistersQuery (kept_in parts.old).store query result
+        (kept_in parts.new).store }
+    ensures cursors { SameCursors (kept_in parts.old).cursors (kept_in parts.new).cursors }
+    ensures counted { steps.new.listing ≡ steps.old.listing }
+{
+    live_stays();
+    texts_stay();
+    if let Some(refusal) = judge_query(parts, &query) {
+        return Err(refusal);
+    }
+    let planned = match plan_query(parts.alloc, &parts.catalog, &query) {
+        Ok(planned) => planned,
+        Err(Unplanned::Cyclic(rest)) => return Ok(QueryOutcome::Cyclic(rest)),
+        Err(Unplanned::NotConnex(rest)) => return Ok(QueryOutcome::NotConnex(rest)),
+        Err(Unplanned::NoMem) => return Err(Refusal::NoMemory),
+    };
+    let most = 2 * query.head.len() as u64 + 1;
+    let known = intern_constants(&mut parts.catalog, &query);
+    parts.catalog.laws();
+    match known {
+        Ok(()) => {}
+        Err(InternRefusal::Full) => return Err(Refusal::Limit),
+        Err(InternRefusal::NoMem) => return Err(Refusal::NoMemory),
+    }
+    match LiveQuery::build(parts.alloc, query, planned, &parts.catalog, steps) {
+        Ok(live) => match register(parts, live) {
+            Ok(()) => Ok(QueryOutcome::Registered(most)),
+            Err(_error) => Err(Refusal::NoMemory),
+        },
+        Err(_error) => Err(Refusal::NoMemory),
+    }
+}
+
+// Whether no cursor is over the query in a place.
+fn is_idle(queries: &[Option<LiveQuery>], at: usize) -> bool
+    requires { IsSomeAnd (place_at queries.now at) (λ l. ⊤) }
+    ensures { IsSomeAnd (place_at queries.now at) (λ l. result ≡ are_vacant l.cursors) }
+{
+    match &queries[at] {
+        Some(query) => query.is_idle(),
+        None => unreachable!(),
+    }
+}
+
+/// Drops a query that no cursor is over.
+pub fn drop_in(parts: &mut Parts, query: &Name) -> Result<(), Refusal>
+    requires { IsWhole parts.old }
+    ensures whole { IsWhole parts.new }
+    ensures gives { DropGives (kept_in parts.old) query.now result (kept_in parts.new) }
+{
+    let Some(at) = find_query(parts.queries.as_slice(), query) else {
+        return Err(Refusal::NoQuery);
+    };
+    if !is_idle(parts.queries.as_slice(), at) {
+        return Err(Refusal::InUse);
+    }
+    leave_all(&mut parts.readers, at);
+    leave_out(&mut parts.order, at);
+    parts.queries[at] = None;
+    Ok(())
+}

@@ -1,0 +1,123 @@
+//! Rows that are added and deleted, and relations that are made.
+ghost use Rattle.std.specs.Prelude.{◌≡◌, ◌<◌, ⊤, length};
+ghost use Rattle.djq_machine.specs.Store.{MakesRelation, AddsRow, DeletesRow};
+ghost use Rattle.djq_machine.specs.Stale.{add_outdates, delete_outdates};
+ghost use Rattle.djq_engine.specs.Kept.{Outdates, SameCursors};
+ghost use Rattle.djq_engine.specs.Places.{readers_at};
+ghost use Rattle.djq_engine.specs.Sound.{AreOnce};
+ghost use Rattle.djq_engine.specs.Reaching.{AllAt};
+ghost use Rattle.djq_engine.specs.Changing.{AgesReaders};
+ghost use Rattle.djq_engine.specs.Whole.{kept_in, IsWhole};
+
+use crate::change::{drop_cells, put_row};
+use crate::judge::{judge_add, judge_delete};
+use crate::parts::Parts;
+use crate::reach::age;
+use djq_dict::InternRefusal;
+use djq_lines::limits::{COLUMNS, RELATIONS};
+use djq_lines::{AddOutcome, DeleteOutcome, Refusal};
+use djq_live::live_stays;
+use djq_model::{Name, Sequence, Types, Value};
+use djq_rows::{RelationId, names_tell};
+use djq_steps::{Ledgers, Steps};
+
+// The open cursors over a relation become stale, by a change of the present number.
+fn age_readers(parts: &mut Parts, id: RelationId, name: &Name)
+    requires within { id.at < length parts.old.readers.items }
+    requires once { AreOnce (readers_at parts.old.readers.items id.at) }
+    requires there { AllAt (readers_at parts.old.readers.items id.at) parts.old.queries.items
+        (λ l. ⊤) }
+    ensures { AgesReaders id.at name.now parts.old parts.new }
+{
+    let places = parts.readers[id.at].as_slice();
+    age(&mut parts.queries, places, *name, parts.seq);
+}
+
+/// Adds a row to a relation. Where it is there already, nothing changes.
+pub fn add_in<L: Ledgers>(
+    parts: &mut Parts,
+    name: &Name,
+    row: &[Value],
+    steps: &mut Steps<L>,
+) -> Result<AddOutcome, Refusal>
+    requires { IsWhole parts.old }
+    ensures whole { IsWhole parts.new }
+    ensures adds { AddsRow (kept_in parts.old).store name.now row.now result
+        (kept_in parts.new).store }
+    ensures outdates { Outdates (kept_in parts.old) name.now (add_outdates result)
+        (kept_in parts.new) }
+    ensures counted { steps.new.listing ≡ steps.old.listing }
+{
+    names_tell();
+    parts.catalog.laws();
+    let judged = judge_add(&parts.catalog, name, row, parts.seq, &mut steps.rows)?;
+    let Some(id) = judged else {
+        return Ok(AddOutcome::Same);
+    };
+    match put_row(parts, id, row, steps) {
+        Ok(()) => {}
+        Err(InternRefusal::Full) => return Err(Refusal::Limit),
+        Err(InternRefusal::NoMem) => {
+            age_readers(parts, id, name);
+            return Err(Refusal::NoMemory);
+        }
+    }
+    parts.seq += 1;
+    age_readers(parts, id, name);
+    Ok(AddOutcome::Added)
+}
+
+/// Deletes a row from a relation. Where it isn't there, nothing changes. It takes no memory.
+pub fn del_in<L: Ledgers>(
+    parts: &mut Parts,
+    name: &Name,
+    row: &[Value],
+    steps: &mut Steps<L>,
+) -> Result<DeleteOutcome, Refusal>
+    requires { IsWhole parts.old }
+    ensures whole { IsWhole parts.new }
+    ensures deletes { DeletesRow (kept_in parts.old).store name.now row.now result
+        (kept_in parts.new).store }
+    ensures outdates { Outdates (kept_in parts.old) name.now (delete_outdates result)
+        (kept_in parts.new) }
+    ensures counted { steps.new.listing ≡ steps.old.listing }
+{
+    names_tell();
+    parts.catalog.laws();
+    let judged = judge_delete(&parts.catalog, name, row, parts.seq, &mut steps.rows)?;
+    let Some(found) = judged else {
+        return Ok(DeleteOutcome::Absent);
+    };
+    drop_cells(parts, found.relation, found.cells.as_slice(), steps);
+    parts.seq += 1;
+    age_readers(parts, found.relation, name);
+    Ok(DeleteOutcome::Removed)
+}
+
+/// Makes a relation without rows.
+pub fn rel_in(parts: &mut Parts, name: Name, types: Types) -> Result<(), Refusal>
+    requires { IsWhole parts.old }
+    ensures whole { IsWhole parts.new }
+    ensures makes { MakesRelation (kept_in parts.old).store name types result
+        (kept_in parts.new).store }
+    ensures cursors { SameCursors (kept_in parts.old).cursors (kept_in parts.new).cursors }
+{
+    live_stays();
+    if parts.catalog.id(&name).is_some() {
+        return Err(Refusal::Taken);
+    }
+    if types.len() > COLUMNS || parts.catalog.len() >= RELATIONS {
+        return Err(Refusal::Limit);
+    }
+    let Ok(()) = parts.readers.reserve(1) else {
+        return Err(Refusal::NoMemory);
+    };
+    match parts.catalog.relation(name, types) {
+        Ok(_id) => {
+            parts.catalog.laws();
+            parts.readers.push_reserved(Sequence::new(parts.alloc));
+            Ok(())
+        }
+        Err(_refusal) => Err(Refusal::NoMemory),
+    }
+}

@@ -1,0 +1,74 @@
+ghost use Rattle.std.specs.Prelude.{◌≡◌};
+ghost use Rattle.std.specs.Option.{option_copied};
+ghost use Rattle.djq_io.specs.SteadyHub.{NeverFails};
+
+use crate::hub::{Hub, Listened, Sent, Told, Turn};
+use crate::mem_hub::MemHub;
+use std::marker::Model;
+
+/// A hub in memory of which no call is to fail.
+///
+/// Its counts of faults are 0 and stay so, so that what serves it meets no fault: a hub answers
+/// that it failed, or that a session is gone, only where a count rises.
+#[derive(Debug, Drop)]
+pub struct SteadyHub {
+    hub: MemHub,
+}
+
+impl Model for SteadyHub {
+    ghost use Rattle.djq_io.specs.MemHub.{Recorded};
+    ghost use Rattle.djq_io.specs.SteadyHub.{NeverFails};
+
+    ghost Value = { Recorded };
+
+    ghost view = { λ h. h.hub };
+
+    ghost invariant = { λ h. NeverFails h.hub };
+}
+
+impl SteadyHub {
+    /// This hub.
+    pub fn of(hub: MemHub) -> Self
+        requires { NeverFails hub }
+        ensures { result ≡ hub }
+    {
+        SteadyHub { hub }
+    }
+
+    /// All calls so far with their answers, or `None` once they are lost.
+    pub fn past(&self) -> Option<&[Told]>
+        ensures { option_copied result ≡ self.now.past }
+    {
+        self.hub.past()
+    }
+}
+
+impl Hub for SteadyHub {
+    ghost use Rattle.djq_io.specs.MemHub.{script_of};
+
+    ghost script = { λ h. script_of h };
+
+    ghost past = { λ h. h.past };
+
+    ghost ids = { λ h. h.ids };
+
+    ghost faults = { λ _. 0 };
+
+    ghost session_faults = { λ _ _. 0 };
+
+    fn listen(&mut self, addr: &str) -> Listened {
+        self.hub.listen(addr)
+    }
+
+    fn turn(&mut self, buf: &mut [u8]) -> Turn {
+        self.hub.turn(buf)
+    }
+
+    fn send(&mut self, id: u64, piece: &[u8]) -> Sent {
+        self.hub.send(id, piece)
+    }
+
+    fn close(&mut self, id: u64) {
+        self.hub.close(id);
+    }
+}

@@ -1,0 +1,308 @@
+-- Reads of a cursor, from tuples of the tree to values.
+use Rattle.std.proofs.Common.{
+  ◌≡◌,
+  ℕ,
+  ◌+◌,
+  ◌≤◌,
+  Bool,
+  true,
+  false,
+  List,
+  [],
+  ◌∷◌,
+  ◌++◌,
+  length,
+  map,
+  refl,
+  ap,
+  ap₂,
+  sym,
+  subst,
+  ◌∙◌,
+  inl,
+  inr,
+  arith,
+  length-append,
+}
+use Rattle.std.specs.Prelude.{
+  Option,
+  None,
+  Some,
+  IsSomeAnd,
+  Result,
+  Ok,
+  Err,
+  IfOk,
+  OnErr,
+  slice_set,
+  slice_index_or,
+}
+use Rattle.std.proofs.lemmas.Bool.{cases_eq, cases_lt}
+use Rattle.std.proofs.lemmas.List.{
+  get_or-map,
+  length-map,
+  map-append,
+  get_or_append_left,
+  get_or_past,
+  get_or-set_same,
+  get_or-set_other,
+  set-get_or,
+  length-set,
+}
+use Rattle.std.proofs.lemmas.Option.{same_Some}
+use Rattle.djq_model.specs.Data.{Bytes, Tuple}
+use Rattle.djq_model.specs.Answer.{IsAnswer}
+use Rattle.djq_model.specs.declared.memory.NoMem.{NoMem}
+use Rattle.djq_machine.specs.State.{Position, open_at}
+use Rattle.djq_machine.specs.Store.{IsLeft, AreAll}
+use Rattle.djq_reduct.specs.Answers.{IsAnswerOf}
+use Rattle.djq_cursor.specs.declared.cursor.Cursor.{Cursor}
+use Rattle.djq_cursor.specs.Listing.{AreSome, IsListing}
+use Rattle.djq_cursor.specs.Given.{given}
+use Rattle.djq_rows.specs.Catalog.{Catalog}
+use Rattle.djq_live.specs.declared.cursors.Progress.{Progress}
+use Rattle.djq_live.specs.declared.cursors.Progress.TheVariants.{Open, Stale}
+use Rattle.djq_live.specs.declared.listing.Next.{Next}
+use Rattle.djq_live.specs.declared.listing.Next.TheVariants.{Given, End, Stale as IsStale}
+use Rattle.djq_live.specs.Cursors.{slot_at, OpensSlot}
+use Rattle.djq_live.specs.Live.{Live, IsKept, IsLive, FitsIn, values_of, given_by, position_of}
+use Rattle.djq_live.specs.Advancing.{FitsOver, Reads, Looks, InSlot}
+use Rattle.djq_live.specs.Reading.{
+  MovesTo,
+  NextGives,
+  NextGivesAt,
+  MoreGives,
+  MoreGivesAt,
+  next_steps,
+}
+use Rattle.djq_live.proofs.Members.{in_last}
+use Rattle.djq_live.proofs.Rows.{all_in}
+use Rattle.djq_live.proofs.Showing.{query_answer, tree_answer, differ}
+
+last_at : {A : Type 0} (us : List A) (u d : A)
+    → slice_index_or (us ++ u ∷ []) (length us) d ≡ u
+last_at [] u d = refl
+last_at (v ∷ us) u d = last_at us u d
+
+-- ---- in values
+
+-- an answer that comes behind different ones shows a tuple that none of them shows
+left_of : (c : Catalog) (l : Live) (us : List (List ℕ)) (u : List ℕ) → IsLive c l
+    → AreSome (IsAnswerOf l.reducts) (us ++ u ∷ [])
+    → IsLeft (IsAnswer c.relations l.query) (map (values_of c.texts l) us) (values_of c.texts l u)
+left_of c l us u live some =
+    let over = live.kept.over in
+    let r = l.reducts in
+    let show : List ℕ → Tuple = values_of c.texts l in
+    let is = (all_in (IsAnswerOf r) (us ++ u ∷ []) u some.all (in_last u us)) in (
+      query_answer c l.query l.numbered l.patterns r u over is,
+      λ there.
+          let long : length (map show us) ≡ length us = length-map us show in
+          let whole : length (us ++ u ∷ []) ≡ length us + 1 = length-append us (u ∷ []) in
+          let low = there.1 in
+          let i = there.0 in
+          let v = slice_index_or us i u in
+          let before : slice_index_or (us ++ u ∷ []) i u ≡ v =
+          get_or_append_left us (u ∷ []) u i (omega arith) in
+          let other = subst (IsAnswerOf r) before (some.all i u (omega arith)) in
+          let same = differ c l.query l.numbered l.patterns r over v u other is
+          (sym (get_or-map show us i u (show u) (omega arith)) ∙ there.2) in
+          some.different i (length us) u (omega arith) (omega arith)
+          (before ∙ same ∙ sym (last_at us u u)),
+    )
+
+-- where each answer is listed, each tuple is
+all_given : (c : Catalog) (l : Live) (us : List (List ℕ)) → IsLive c l
+    → IsListing (IsAnswerOf l.reducts) us
+    → AreAll (IsAnswer c.relations l.query) (map (values_of c.texts l) us)
+all_given c l us live h t is =
+    let show : List ℕ → Tuple = values_of c.texts l in
+    let s = tree_answer c l.query l.numbered l.patterns l.reducts t live.kept.over is in
+    let k = h.complete s.tuple s.is_answer in
+    let low = k.1 in
+    let long : length (map show us) ≡ length us = length-map us show in
+    (k.0, omega arith, get_or-map show us k.0 s.tuple t low ∙ ap show k.2 ∙ sym s.is)
+
+-- ---- slots
+
+kept_with : (c : Catalog) (l : Live) (cs : List (Option Progress)) → IsKept c l
+    → IsKept c (record l { cursors = cs })
+kept_with c l cs h = record { over = h.over; named = h.named; bare = h.bare }
+
+-- a cursor that fits is put into a slot
+put_live : (c : Catalog) (l : Live) (k : ℕ) (p : Progress) → IsLive c l → FitsOver l.reducts p
+    → IsLive c (record l { cursors = slice_set l.cursors k (Some p) })
+put_live c l k p live fit = record {
+  kept = kept_with c l (slice_set l.cursors k (Some p)) live.kept;
+  fits = λ j cursor ended e.
+      elim (cases_eq j k) [
+        | inl same ↦ elim (cases_lt k (length l.cursors)) [
+          | inl low ↦ subst (FitsOver l.reducts)
+              (same_Some p (Open cursor ended)
+              (sym (get_or-set_same l.cursors k (Some p) None low)
+              ∙ ap (λ (i : ℕ). slot_at (slice_set l.cursors k (Some p)) i) (sym same) ∙ e))
+              fit
+          | inr past ↦
+              let none : slot_at (slice_set l.cursors k (Some p)) j ≡ None =
+              get_or_past (slice_set l.cursors k (Some p)) j None
+              (let s = length-set l.cursors k (Some p) in omega arith) in
+              absurd cc
+        ]
+        | inr other ↦ live.fits j cursor ended
+            (sym (get_or-set_other l.cursors k j (Some p) None other) ∙ e)
+      ];
+}
+
+moves : (c : Catalog) (l : Live) (k : ℕ) (p : Progress) (position : Position) → IsLive c l
+    → FitsOver l.reducts p → position_of c.texts l p ≡ position
+    → MovesTo c l k position (record l { cursors = slice_set l.cursors k (Some p) })
+moves c l k p position live fit stands =
+    record { progress = p; moved = refl; stands = stands; live = put_live c l k p live fit }
+
+-- what a slot has is put into it again
+put_same : (l : Live) (k : ℕ) (p q : Progress) → slot_at l.cursors k ≡ Some p → q ≡ p
+    → record l { cursors = slice_set l.cursors k (Some q) } ≡ l
+put_same l k p q there e =
+    ap (λ (cs : List (Option Progress)). record l { cursors = cs })
+    (ap (λ (o : Option Progress). slice_set l.cursors k o) (ap (λ (x : Progress). Some x) e
+    ∙ sym there)
+    ∙ set-get_or l.cursors k None)
+
+-- ---- a read
+
+given_more : (texts : List Bytes) (l : Live) (old new : Cursor) (u : List ℕ)
+    → given l.reducts new ≡ given l.reducts old ++ u ∷ []
+    → given_by texts l new ≡ given_by texts l old ++ values_of texts l u ∷ []
+given_more texts l old new u e =
+    ap (map (values_of texts l)) e ∙ map-append (values_of texts l) (given l.reducts old) (u ∷ [])
+
+gives_at : (c : Catalog) (l : Live) (k : ℕ) (p q : Progress) (result : Next) (u : List ℕ)
+    → IsLive c l → slot_at l.cursors k ≡ Some p → Reads l.reducts p result u q
+    → NextGivesAt c l k (position_of c.texts l p) result u
+    (record l { cursors = slice_set l.cursors k (Some q) })
+gives_at c l k (Open old ended) (Open new e) Given u live there h =
+    let some = subst (AreSome (IsAnswerOf l.reducts)) h.0.gives h.0.some in (
+      all_in (IsAnswerOf l.reducts) (given l.reducts old ++ u ∷ []) u some.all
+          (in_last u (given l.reducts old)),
+      left_of c l (given l.reducts old) u live some,
+      moves c l k (Open new e) _ live h.0.fits
+          (ap₂ open_at (given_more c.texts l old new u h.0.gives) h.1),
+    )
+gives_at c l k (Open old ended) (Open new e) End u live there h = (
+  all_given c l (given l.reducts old) live h.0.all,
+  moves c l k (Open new e) _ live h.0.fits
+      (ap₂ open_at (ap (map (values_of c.texts l)) h.0.gives) h.1),
+)
+gives_at c l k (Open old ended) (Open new e) (IsStale relation n) u live there h = absurd h
+gives_at c l k (Open old ended) (Stale q m) Given u live there h = absurd h
+gives_at c l k (Open old ended) (Stale q m) End u live there h = absurd h
+gives_at c l k (Open old ended) (Stale q m) (IsStale relation n) u live there h = absurd h
+gives_at c l k (Stale q m) new Given u live there h = absurd h
+gives_at c l k (Stale q m) new End u live there h = absurd h
+gives_at c l k (Stale q m) new (IsStale relation n) u live there h =
+    (h.0, h.1, put_same l k (Stale q m) new there h.2)
+
+next_here : (c : Catalog) (l : Live) (k : ℕ) (result : Next) (u : List ℕ)
+    (cs : List (Option Progress)) → IsLive c l
+    → InSlot (λ old new. Reads l.reducts old result u new) l.cursors k cs
+    → NextGives c l k result u (record l { cursors = cs })
+next_here c l k result u cs live s =
+    subst (λ (new : List (Option Progress)). NextGives c l k result u (record l { cursors = new }))
+    (sym s.is)
+    (subst (λ (o : Option Progress). IsSomeAnd o (λ p. NextGivesAt c l k
+    (position_of c.texts l p) result u
+    (record l { cursors = slice_set l.cursors k (Some s.after) }))) (sym s.there)
+    (gives_at c l k s.before s.after result u live s.there s.read))
+
+-- the same where the query is seen from outside
+pub next_gives : (c : Catalog) (l m : Live) (k : ℕ) (result : Next) (u : List ℕ)
+    (cs : List (Option Progress)) → l ≡ m → IsLive c m
+    → InSlot (λ old new. Reads l.reducts old result u new) l.cursors k cs
+    → NextGives c m k result u (record l { cursors = cs })
+next_gives c l m k result u cs e live s =
+    subst (λ (o : Live). NextGives c o k result u (record l { cursors = cs })) e
+    (next_here c l k result u cs (subst (IsLive c) (sym e) live) s)
+
+-- ---- a look
+
+looks_at : (c : Catalog) (l : Live) (k : ℕ) (p q : Progress) (left : Bool) → IsLive c l
+    → slot_at l.cursors k ≡ Some p → Looks l.reducts p left q
+    → MoreGivesAt c l k (position_of c.texts l p) left
+    (record l { cursors = slice_set l.cursors k (Some q) })
+looks_at c l k (Open old ended) q true live there h =
+    let a = h.1.2 in
+    let some = subst (AreSome (IsAnswerOf l.reducts)) a.gives a.some in (
+      (values_of c.texts l h.1.0, left_of c l (given l.reducts old) h.1.0 live some),
+      moves c l k q _ live
+          (subst (FitsOver l.reducts) (sym h.0) (live.fits k old ended there))
+          (ap (position_of c.texts l) h.0),
+    )
+looks_at c l k (Open old ended) q false live there h = (
+  all_given c l (given l.reducts old) live h.1,
+  moves c l k q _ live (subst (FitsOver l.reducts) (sym h.0) (live.fits k old ended there))
+      (ap (position_of c.texts l) h.0),
+)
+looks_at c l k (Stale r m) q true live there h = absurd h
+looks_at c l k (Stale r m) q false live there h = absurd h
+
+more_here : (c : Catalog) (l : Live) (k : ℕ) (left : Bool) (cs : List (Option Progress))
+    → IsLive c l → InSlot (λ old new. Looks l.reducts old left new) l.cursors k cs
+    → MoreGives c l k left (record l { cursors = cs })
+more_here c l k left cs live s =
+    subst (λ (new : List (Option Progress)). MoreGives c l k left (record l { cursors = new }))
+    (sym s.is)
+    (subst (λ (o : Option Progress). IsSomeAnd o (λ p. MoreGivesAt c l k
+    (position_of c.texts l p) left
+    (record l { cursors = slice_set l.cursors k (Some s.after) }))) (sym s.there)
+    (looks_at c l k s.before s.after left live s.there s.read))
+
+pub more_gives : (c : Catalog) (l m : Live) (k : ℕ) (left : Bool) (cs : List (Option Progress))
+    → l ≡ m → IsLive c m → InSlot (λ old new. Looks l.reducts old left new) l.cursors k cs
+    → MoreGives c m k left (record l { cursors = cs })
+more_gives c l m k left cs e live s =
+    subst (λ (o : Live). MoreGives c o k left (record l { cursors = cs })) e
+    (more_here c l k left cs (subst (IsLive c) (sym e) live) s)
+
+-- ---- a cursor is opened
+
+open_here : (c : Catalog) (l : Live) (cs : List (Option Progress)) (result : Result ℕ NoMem)
+    → IsLive c l → IfOk result (λ k. OpensSlot l.cursors k cs)
+    → OnErr result (cs ≡ l.cursors) → IsLive c (record l { cursors = cs })
+open_here c l cs (Ok k) live opens same = record {
+  kept = kept_with c l cs live.kept;
+  fits = λ j cursor ended e.
+      elim (cases_eq j k) [
+        | inl here ↦
+            subst (FitsOver l.reducts)
+            (same_Some (Open opens.cursor false) (Open cursor ended)
+            (sym opens.sets.there ∙ ap (slot_at cs) (sym here) ∙ e))
+            (opens.fits l.reducts)
+        | inr other ↦ live.fits j cursor ended (sym (opens.sets.others j other) ∙ e)
+      ];
+}
+open_here c l cs (Err e) live opens same =
+    subst (λ (new : List (Option Progress)). IsLive c (record l { cursors = new })) (sym same) live
+
+pub open_live : (c : Catalog) (l m : Live) (cs : List (Option Progress)) (result : Result ℕ NoMem)
+    → l ≡ m → IsLive c m → IfOk result (λ k. OpensSlot l.cursors k cs)
+    → OnErr result (cs ≡ l.cursors) → IsLive c (record l { cursors = cs })
+open_live c l m cs result e live opens same =
+    open_here c l cs result (subst (IsLive c) (sym e) live) opens same
+
+-- the open cursor in a slot fits
+fits_here : (l : Live) (k : ℕ) (p : Progress) → FitsIn l k → slot_at l.cursors k ≡ Some p
+    → FitsOver l.reducts p
+fits_here l k (Open cursor ended) h e = h cursor ended e
+fits_here l k (Stale q m) h e = tt
+
+pub slot_fits : (l m : Live) (k : ℕ) (p : Progress) → l ≡ m → FitsIn m k
+    → slot_at l.cursors k ≡ Some p → FitsOver l.reducts p
+slot_fits l m k p e h there =
+    fits_here l k p (subst (λ (o : Live). FitsIn o k) (sym e) h) there
+
+-- ---- counts
+
+pub steps_more : (result : Next) (a b : ℕ) → a ≤ b → next_steps result a ≤ next_steps result b
+steps_more Given a b h = omega arith
+steps_more End a b h = omega arith
+steps_more (IsStale relation n) a b h = omega arith

@@ -1,0 +1,230 @@
+-- Leaves that change one after another.
+use Rattle.std.proofs.Common.{
+  ◌≡◌,
+  ◌≢◌,
+  ℕ,
+  ◌+◌,
+  ◌<◌,
+  ◌≤◌,
+  List,
+  length,
+  refl,
+  ap,
+  sym,
+  subst,
+  ◌∙◌,
+  inl,
+  inr,
+  arith,
+}
+use Rattle.std.specs.Prelude.{Some, slice_get}
+use Rattle.std.proofs.lemmas.Bool.{cases_eq}
+use Rattle.std.proofs.lemmas.Option.{same_Some, slice_get_within}
+use Rattle.djq_index.specs.Entries.{Entry, cnt}
+use Rattle.djq_tree.specs.Tree.{Tree}
+use Rattle.djq_tree.specs.Labels.{label_at}
+use Rattle.djq_reduct.specs.Tables.{entries_at}
+use Rattle.djq_reduct.specs.Reducts.{Reducts, IsReducts}
+use Rattle.djq_reduct.specs.Marks.{IsBare}
+use Rattle.djq_propagate.specs.Updates.{HasKept}
+use Rattle.djq_query.specs.declared.numbered.NumberedAtom.{NumberedAtom}
+use Rattle.djq_query.specs.Pattern.{Shape}
+use Rattle.djq_live.specs.Changes.{Gains, Loses, Keeps}
+use Rattle.djq_live.specs.Stepping.{HasMore, ChangesAt, ChangesBelow, HoldBelow}
+use Rattle.djq_live.proofs.Tabling.{tuple_wide}
+
+-- what holds the same before and after may stand in a change's place
+abbrev pub IsStable : (Shape → List Entry → List Entry → Type 0) → Type 0
+IsStable Changes = (p : Shape) (ds es fs gs : List Entry) → Keeps ds es → Changes p es fs
+    → Keeps fs gs → Changes p ds gs
+
+pub gains_stable : (cells : List ℕ) → IsStable (λ p old new. Gains p cells old new)
+gains_stable cells p ds es fs gs early g late = λ u wide.
+    let a = early u in
+    let b = late u in (
+      λ there.
+          elim ((g u wide).0 (omega arith)) [
+            | inl before ↦ inl (omega arith)
+            | inr is ↦ inr is
+          ],
+      λ either.
+          elim either [
+            | inl before ↦ (let k = (g u wide).1 (inl (omega arith)) in omega arith)
+            | inr is ↦ (let k = (g u wide).1 (inr is) in omega arith)
+          ],
+    )
+
+pub loses_stable : (cells : List ℕ) → IsStable (λ p old new. Loses p cells old new)
+loses_stable cells p ds es fs gs early g late = λ u wide.
+    let a = early u in
+    let b = late u in (
+      λ there.
+          let k = (g u wide).0 (omega arith) in
+          let l = k.0 in
+          (omega arith, k.1),
+      λ both.
+          let l = both.0 in
+          let k = (g u wide).1 (omega arith, both.1) in
+          omega arith,
+    )
+
+keeps_itself : (es : List Entry) → Keeps es es
+keeps_itself es u = refl
+
+pub keeps_both : (es fs gs : List Entry) → Keeps es fs → Keeps fs gs → Keeps es gs
+keeps_both es fs gs h k u = k u ∙ h u
+
+pub below_none : (Changes : Shape → List Entry → List Entry → Type 0) (at : ℕ)
+    (atoms : List NumberedAtom) (ps : List Shape) (r : Reducts) → IsReducts r → IsBare r.tables
+    → ChangesBelow Changes at atoms ps 0 r r
+below_none Changes at atoms ps r sound bare = record {
+  sound = sound;
+  tree = refl;
+  bare = bare;
+  over = λ j m p low e f is. absurd (omega arith);
+  others = λ j m e out u. refl;
+}
+
+pub below_skip : (Changes : Shape → List Entry → List Entry → Type 0) (at : ℕ)
+    (atoms : List NumberedAtom) (ps : List Shape) (k : ℕ) (m : NumberedAtom) (r s : Reducts)
+    → slice_get atoms k ≡ Some m → m.relation ≢ at → ChangesBelow Changes at atoms ps k r s
+    → ChangesBelow Changes at atoms ps (k + 1) r s
+below_skip Changes at atoms ps k m r s e out h = record {
+  sound = h.sound;
+  tree = h.tree;
+  bare = h.bare;
+  over = λ j n p low f g is.
+      elim (cases_eq j k) [
+        | inl here ↦ absurd
+            (out
+            (ap (λ (a : NumberedAtom). a.relation)
+            (same_Some m n (sym e ∙ ap (λ (i : ℕ). slice_get atoms i) (sym here) ∙ f)) ∙ is))
+        | inr apart ↦ h.over j n p (omega arith) f g is
+      ];
+  others = λ j n f other. h.others j n f (λ low. other (omega arith));
+}
+
+low_in : (atoms : List NumberedAtom) (r s : Reducts) (j : ℕ) (m : NumberedAtom)
+    → r.tree.leaves ≡ length atoms → s.tree ≡ r.tree → slice_get atoms j ≡ Some m
+    → j < s.tree.leaves
+low_in atoms r s j m long e f =
+    let low = slice_get_within atoms j m f in
+    subst (λ (t : Tree). j < t.leaves) (sym e) (omega arith)
+
+pub below_step : (Changes : Shape → List Entry → List Entry → Type 0) (at : ℕ)
+    (atoms : List NumberedAtom) (ps : List Shape) (k : ℕ) (m : NumberedAtom) (p : Shape)
+    (r s t : Reducts) → IsStable Changes → r.tree.leaves ≡ length atoms
+    → slice_get atoms k ≡ Some m → slice_get ps k ≡ Some p → m.relation ≡ at
+    → ChangesBelow Changes at atoms ps k r s → ChangesAt Changes p k s t
+    → ChangesBelow Changes at atoms ps (k + 1) r t
+below_step Changes at atoms ps k m p r s t stable long e f on h step = record {
+  sound = step.sound;
+  tree = step.tree ∙ h.tree;
+  bare = step.bare;
+  over = λ j n q low a b is.
+      elim (cases_eq j k) [
+        | inl here ↦
+            let shape : p ≡ q = same_Some p q
+            (sym f ∙ ap (λ (i : ℕ). slice_get ps i) (sym here) ∙ b) in
+            subst (λ (i : ℕ). Changes q (entries_at r.tables i) (entries_at t.tables i)) (sym here)
+            (subst (λ (x : Shape). Changes x (entries_at r.tables k) (entries_at t.tables k)) shape
+            (stable p (entries_at r.tables k) (entries_at s.tables k) (entries_at t.tables k)
+            (entries_at t.tables k) (h.others k m e (λ l. absurd (omega arith))) step.leaf
+            (keeps_itself (entries_at t.tables k))))
+        | inr apart ↦
+            stable q (entries_at r.tables j) (entries_at r.tables j) (entries_at s.tables j)
+            (entries_at t.tables j) (keeps_itself (entries_at r.tables j))
+            (h.over j n q (omega arith) a b is)
+            (step.others j (low_in atoms r s j n long h.tree a) apart)
+      ];
+  others = λ j n a other.
+      elim (cases_eq j k) [
+        | inl here ↦ absurd
+            (other (omega arith)
+            (ap (λ (x : NumberedAtom). x.relation)
+            (same_Some n m (sym a ∙ ap (λ (i : ℕ). slice_get atoms i) here ∙ e)) ∙ on))
+        | inr apart ↦
+            keeps_both (entries_at r.tables j) (entries_at s.tables j) (entries_at t.tables j)
+            (h.others j n a (λ low. other (omega arith)))
+            (step.others j (low_in atoms r s j n long h.tree a) apart)
+      ];
+}
+
+pub below_kept : (Changes : Shape → List Entry → List Entry → Type 0) (at : ℕ)
+    (atoms : List NumberedAtom) (ps : List Shape) (k : ℕ) (r s t : Reducts) → IsStable Changes
+    → ChangesBelow Changes at atoms ps k r s → HasKept s t
+    → ChangesBelow Changes at atoms ps k r t
+below_kept Changes at atoms ps k r s t stable h kept = record {
+  sound = kept.sound;
+  tree = kept.tree ∙ h.tree;
+  bare = kept.bare;
+  over = λ j m p low e f is.
+      stable p (entries_at r.tables j) (entries_at r.tables j) (entries_at s.tables j)
+      (entries_at t.tables j) (keeps_itself (entries_at r.tables j)) (h.over j m p low e f is)
+      (kept.tables.tuples j);
+  others = λ j m e out.
+      keeps_both (entries_at r.tables j) (entries_at s.tables j) (entries_at t.tables j)
+      (h.others j m e out) (kept.tables.tuples j);
+}
+
+-- ---- leaves still to come
+
+pub leaves_stay : (Changes : Shape → List Entry → List Entry → Type 0)
+    (Holds : Shape → List Entry → Type 0) (at : ℕ) (atoms : List NumberedAtom) (ps : List Shape)
+    (k n : ℕ) (m : NumberedAtom) (p : Shape) (r s : Reducts)
+    → ((es fs : List Entry) → Keeps es fs → Holds p es → Holds p fs) → k < n
+    → HoldBelow Holds at atoms ps n r → ChangesBelow Changes at atoms ps k r s
+    → slice_get atoms k ≡ Some m → slice_get ps k ≡ Some p → m.relation ≡ at
+    → Holds p (entries_at s.tables k)
+leaves_stay Changes Holds at atoms ps k n m p r s stays low holds h e f on =
+    stays (entries_at r.tables k) (entries_at s.tables k)
+    (h.others k m e (λ l. absurd (omega arith))) (holds.each k m p low e f on)
+
+-- ---- more and more tuples, and fewer and fewer
+
+within_nodes : (r : Reducts) (j : ℕ) → IsReducts r → j < r.tree.leaves → j < length r.tree.nodes
+within_nodes r j h low =
+    let a = h.family.is_tree.stages.0 in
+    let b = h.family.is_tree.stages.1 in
+    omega arith
+
+pub gains_more : (cells : List ℕ) (p : Shape) (k : ℕ) (s t : Reducts) → IsReducts s
+    → p.width ≡ length (label_at s.tree.labels k)
+    → ChangesAt (λ q es fs. Gains q cells es fs) p k s t → HasMore s t
+gains_more cells p k s t h wide step = record {
+  tree = step.tree;
+  more = λ j u low there.
+      elim (cases_eq j k) [
+        | inl here ↦
+            let at = subst (λ (i : ℕ). 0 < cnt (entries_at s.tables i) u) here there in
+            let w = tuple_wide s k u h (within_nodes s k h (omega arith)) at in
+            subst (λ (i : ℕ). 0 < cnt (entries_at t.tables i) u) (sym here)
+            ((step.leaf u (w ∙ sym wide)).1 (inl at))
+        | inr apart ↦ (let e = step.others j low apart u in omega arith)
+      ];
+}
+
+pub loses_more : (cells : List ℕ) (p : Shape) (k : ℕ) (s t : Reducts)
+    → p.width ≡ length (label_at s.tree.labels k)
+    → ChangesAt (λ q es fs. Loses q cells es fs) p k s t → HasMore t s
+loses_more cells p k s t wide step = record {
+  tree = sym step.tree;
+  more = λ j u low there.
+      let lower = subst (λ (x : Tree). j < x.leaves) step.tree low in
+      elim (cases_eq j k) [
+        | inl here ↦
+            let at = subst (λ (i : ℕ). 0 < cnt (entries_at t.tables i) u) here there in
+            let w = tuple_wide t k u step.sound
+            (within_nodes t k step.sound (omega arith)) at in
+            let label = ap (λ (x : Tree). length (label_at x.labels k)) step.tree in
+            subst (λ (i : ℕ). 0 < cnt (entries_at s.tables i) u) (sym here)
+            ((step.leaf u (w ∙ label ∙ sym wide)).0 at).0
+        | inr apart ↦ (let e = step.others j lower apart u in omega arith)
+      ];
+}
+
+pub below_at : (Changes : Shape → List Entry → List Entry → Type 0) (at : ℕ)
+    (atoms : List NumberedAtom) (ps : List Shape) (k n : ℕ) (r s : Reducts) → k ≤ n → n ≤ k
+    → ChangesBelow Changes at atoms ps k r s → ChangesBelow Changes at atoms ps n r s
+below_at Changes at atoms ps k n r s low high h =
+    subst (λ (i : ℕ). ChangesBelow Changes at atoms ps i r s) (omega arith) h

@@ -1,0 +1,325 @@
+-- A query that is built over a catalog.
+use Rattle.std.proofs.Common.{◌≡◌, ℕ, zero, suc, ◌<◌, ◌≤◌, List, [], ◌∷◌, ◌++◌, length, refl, ap, ap₂, sym, subst, ◌∙◌, inl, inr, arith}
+use Rattle.std.specs.Prelude.{Option, None, Some, slice_get}
+use Rattle.std.specs.List.{flat_map, list_any}
+use Rattle.std.proofs.lemmas.Bool.{cases_lt}
+use Rattle.std.proofs.lemmas.Option.{same_Some, slice_get_within}
+use Rattle.std.proofs.lemmas.List.Kept.{AllPairs-from_increasing}
+use Rattle.djq_hyper.specs.Hypergraph.{member, edge_at, set_below}
+use Rattle.djq_model.specs.declared.relation.ColumnType.{ColumnType}
+use Rattle.djq_model.specs.declared.relation.Relation.{Relation}
+use Rattle.djq_model.specs.declared.query.Query.{Query}
+use Rattle.djq_model.specs.declared.query.Atom.{Atom}
+use Rattle.djq_model.specs.declared.query.Term.{Term}
+use Rattle.djq_model.specs.declared.query.Term.TheVariants.{Variable as Named, Hole, Constant}
+use Rattle.djq_model.specs.Data.{Bytes, Tuple}
+use Rattle.djq_index.specs.Entries.{Entry, cnt, marks}
+use Rattle.djq_lines.specs.Hypergraph.{edges_from, edges_of, head_of}
+use Rattle.djq_lines.specs.QueryFault.{query_fault}
+use Rattle.djq_lines.specs.Variables.{
+  Label,
+  constant_of,
+  constants_of,
+  variables_of,
+  with_term,
+  with_atom,
+}
+use Rattle.djq_tree.specs.Growing.{IsTreeOf}
+use Rattle.djq_tree.specs.Labels.{label_at}
+use Rattle.djq_tree.specs.Tree.{Tree, IsTree}
+use Rattle.djq_reduct.specs.Tables.{entries_at}
+use Rattle.djq_reduct.specs.Reducts.{Reducts, IsReducts, IsNarrow}
+use Rattle.djq_query.specs.declared.numbered.Variable.{Variable}
+use Rattle.djq_query.specs.declared.numbered.NumberedTerm.{NumberedTerm}
+use Rattle.djq_query.specs.declared.numbered.NumberedAtom.{NumberedAtom}
+use Rattle.djq_query.specs.Numbered.{
+  Numbered,
+  IsNumbered,
+  AreNumbered,
+  IsWithin,
+  is_number,
+  numbered_terms,
+}
+use Rattle.djq_query.specs.Pattern.{Shape}
+use Rattle.djq_rows.specs.Cells.{HaveCells}
+use Rattle.djq_rows.specs.Catalog.{Catalog, IsCatalog, no_relation, relation_at}
+use Rattle.djq_live.specs.Asked.{AreSuited, HaveConstants, IsAsked}
+use Rattle.djq_live.specs.Building.{
+  AreBindable,
+  AreFilled,
+  ArePatternsOf,
+  AtBoth,
+  SuitsRelation,
+}
+use Rattle.djq_live.specs.declared.cursors.Progress.{Progress}
+use Rattle.djq_live.specs.declared.cursors.Progress.TheVariants.{Open}
+use Rattle.djq_live.specs.Cursors.{slot_at}
+use Rattle.djq_live.specs.Live.{IsLive}
+use Rattle.djq_live.specs.Planning.{Planned, IsPlanned}
+use Rattle.djq_live.specs.Leaves.{IsOver, IsPatternOf}
+use Rattle.djq_live.proofs.Graphs.{count_labels, edges_long, head_numbers, high_head}
+use Rattle.djq_live.proofs.Heads.{has_at}
+use Rattle.djq_live.proofs.Later.{atom_at}
+use Rattle.djq_live.proofs.Patterns.{bound_long, cells_long}
+use Rattle.djq_live.proofs.Sets.{set_has, set_lacks}
+use Rattle.djq_live.proofs.Trees.{
+  edge_says,
+  label_few,
+  narrow_labels,
+  no_more,
+  numbered_long,
+  tree_head,
+  tree_label,
+  tree_leaves,
+}
+use Rattle.djq_live.proofs.Typing.{numbered_asked}
+
+-- ---- constants
+
+have_parts : (texts : List Bytes) (xs ys : Tuple) → HaveCells texts (xs ++ ys)
+    → HaveCells texts xs × HaveCells texts ys
+have_parts texts [] ys h = (tt, h)
+have_parts texts (x ∷ xs) ys h = let r = have_parts texts xs ys h.1 in ((h.0, r.0), r.1)
+
+terms_have : (texts : List Bytes) (known : List Label) (ts : List Term)
+    → HaveCells texts (flat_map constant_of ts) → HaveConstants texts (numbered_terms known ts)
+unfolding numbered_terms
+terms_have texts known [] h = tt
+terms_have texts known (Named x ∷ ts) h = (tt, terms_have texts (with_term known (Named x)) ts h)
+terms_have texts known (Hole ∷ ts) h = (tt, terms_have texts (with_term known Hole) ts h)
+terms_have texts known (Constant v ∷ ts) h = (h.0, terms_have texts known ts h.1)
+
+pub atoms_have : (texts : List Bytes) (rs : List Relation) (known : List Label)
+    (atoms : List Atom) (ms : List NumberedAtom) (j : ℕ) (m : NumberedAtom)
+    → HaveCells texts (constants_of atoms) → AreNumbered rs known atoms ms
+    → slice_get ms j ≡ Some m → HaveConstants texts m.terms
+unfolding AreNumbered
+atoms_have texts rs known [] [] j m h is at = absurd cc
+atoms_have texts rs known [] (k ∷ ms) j m h is at = absurd is
+atoms_have texts rs known (a ∷ atoms) [] j m h is at = absurd is
+atoms_have texts rs known (a ∷ atoms) (k ∷ ms) zero m h is at =
+    let p = have_parts texts (flat_map constant_of a.terms) (constants_of atoms) h in
+    subst (λ (o : NumberedAtom). HaveConstants texts o.terms) (same_Some k m at)
+    (subst (λ (ts : List NumberedTerm). HaveConstants texts ts) (sym is.0.1)
+    (terms_have texts known a.terms p.0))
+atoms_have texts rs known (a ∷ atoms) (k ∷ ms) (suc j) m h is at =
+    let p = have_parts texts (flat_map constant_of a.terms) (constants_of atoms) h in
+    atoms_have texts rs (with_atom known a) atoms ms j m p.1 is.1 at
+
+-- ---- what is given
+
+pub record IsGiven (c : Catalog) (q : Query) (n : Numbered) (t : Tree) : Type 0 where
+  pub catalog : IsCatalog c
+  pub sound : query_fault c.relations q ≡ None
+  pub numbered : IsNumbered c.relations q n
+  pub named : IsTreeOf (edges_of q) (head_of q) t
+  pub within : IsWithin n
+  pub tree : IsTree t
+  pub constants : HaveCells c.texts (constants_of q.atoms)
+
+suited_long : (texts : List Bytes) (vs : List Variable) (ts : List NumberedTerm)
+    (cs : List ColumnType) → AreSuited texts vs ts cs → length ts ≡ length cs
+suited_long texts vs [] [] h = refl
+suited_long texts vs [] (c ∷ cs) h = absurd h
+suited_long texts vs (t ∷ ts) [] h = absurd h
+suited_long texts vs (t ∷ ts) (c ∷ cs) h = ap suc (suited_long texts vs ts cs h.1)
+
+module _ (c : Catalog) (q : Query) (n : Numbered) (t : Tree) (given : IsGiven c q n t) where
+  asked : IsAsked c q n
+  asked = numbered_asked c q n given.catalog given.sound given.numbered
+      (λ j m at. atoms_have c.texts c.relations [] q.atoms n.atoms j m given.constants
+      given.numbered.atoms at)
+
+  edges_count : length (edges_of q) ≡ length n.atoms
+  edges_count =
+      edges_long (length (variables_of q.atoms)) [] q.atoms
+      ∙ sym (numbered_long c.relations [] q.atoms n.atoms given.numbered.atoms)
+
+  pub leaves_count : t.leaves ≡ length n.atoms
+  leaves_count = tree_leaves (edges_of q) (head_of q) t given.named ∙ edges_count
+
+  label_says : (j : ℕ) (m : NumberedAtom) → slice_get n.atoms j ≡ Some m → (x : ℕ)
+      → member x (label_at t.labels j) ≡ list_any (is_number x) m.terms
+  label_says j m at x =
+      let low = slice_get_within n.atoms j m at in
+      let long = edges_count in
+      let count = count_labels c.relations q n given.sound given.numbered in
+      ap (λ (l : List ℕ). member x l)
+      (tree_label (edges_of q) (head_of q) t j given.named (omega arith))
+      ∙ ap (λ (k : ℕ). member x (edge_at (edges_from k [] q.atoms) j)) count
+      ∙ edge_says c.relations (length n.variables) x [] q.atoms n.atoms j m
+      given.numbered.atoms given.within.body at
+
+  -- an atom is over a relation that is there, and has a term for each of its columns
+  atom_long : (j : ℕ) (m : NumberedAtom) → slice_get n.atoms j ≡ Some m
+      → (m.relation < length c.relations)
+      × (length m.terms ≡ length (relation_at c.relations m.relation).types)
+  atom_long j m at =
+      let a = atom_at c n.variables q.atoms n.atoms j m asked.atoms at in (
+        a.is.below,
+        suited_long c.texts n.variables m.terms
+            (relation_at c.relations m.relation).types a.is.suited,
+      )
+
+  leaf_narrow : (j : ℕ) → j < t.leaves → length (label_at t.labels j) ≤ 16
+  leaf_narrow j low =
+      let count = leaves_count in
+      let there = has_at n.atoms j (omega arith) in
+      let m = there.element in
+      let l = atom_long j m there.is in
+      let few = label_few (label_at t.labels j) m.terms
+      (AllPairs-from_increasing (label_at t.labels j) (given.tree.sets j).rising)
+      (label_says j m there.is) in
+      let narrow = (given.catalog.kept m.relation no_relation l.0).narrow in
+      let same = l.1 in
+      omega arith
+
+  head_says : (x : ℕ) → member x t.head ≡ member x n.head
+  head_says x =
+      let count = count_labels c.relations q n given.sound given.numbered in
+      let k = length n.variables in
+      let is : t.head ≡ set_below k n.head =
+      tree_head (edges_of q) (head_of q) t given.named
+      ∙ ap₂ (λ (i : ℕ) (xs : List ℕ). set_below i xs) count
+      (sym (head_numbers c.relations q n given.sound given.numbered)) in
+      ap (λ (l : List ℕ). member x l) is
+      ∙ elim (cases_lt x k) [
+        | inl low ↦ set_has k x n.head low
+        | inr past ↦ set_lacks k x n.head past
+            ∙ sym (high_head k x n.head past given.within.head)
+      ]
+
+  head_narrow : length t.head ≤ 16
+  head_narrow =
+      let few = no_more t.head n.head (AllPairs-from_increasing t.head given.tree.head_set.rising)
+      (λ x m. sym (head_says x) ∙ m) in
+      let narrow = given.within.narrow in
+      omega arith
+
+  pub narrow_tree : IsNarrow t
+  narrow_tree = record { labels = narrow_labels t given.tree leaf_narrow; head = head_narrow }
+
+  pub bindable : AreBindable c.texts t n.atoms
+  bindable = record {
+    leaves = (let count = leaves_count in let fits = given.tree.fits in omega arith);
+    constants = λ j m at. atoms_have c.texts c.relations [] q.atoms n.atoms j m given.constants
+        given.numbered.atoms at;
+    labels = label_says;
+    narrow = narrow_labels t given.tree leaf_narrow;
+  }
+
+  pub suited : (ps : List Shape) → ArePatternsOf c.texts t.labels n.atoms ps
+      → AtBoth (λ j m p. SuitsRelation c (label_at t.labels j) m.relation p) n.atoms ps
+  suited ps are j m p at here =
+      let is = are.each j m p at here in
+      let l = atom_long j m at in
+      let long = cells_long c.texts m.terms is.cells is.are in
+      record {
+        there = l.0;
+        width = is.width;
+        columns = ap (λ ss. length ss) is.slots
+            ∙ bound_long (label_at t.labels j) m.terms is.cells long ∙ l.1;
+      }
+
+  pub over : (ps : List Shape) (before r : Reducts) → ArePatternsOf c.texts t.labels n.atoms ps
+      → length ps ≡ length n.atoms → AreFilled c n.atoms ps (length n.atoms) before r
+      → before.tree ≡ t → IsReducts r → IsOver c q n ps r
+  over ps before r are long filled same sound =
+      let tree : r.tree ≡ t = filled.tree ∙ same in
+      record {
+        asked = asked;
+        reducts = sound;
+        head = λ x. ap (λ (s : Tree). member x s.head) tree ∙ head_says x;
+        long = ap (λ (s : Tree). s.leaves) tree ∙ leaves_count;
+        patterns = long;
+        leaves = λ j m p at here. record {
+          pattern = subst (λ (s : Tree). IsPatternOf c.texts (label_at s.labels j) m p) (sym tree)
+              (are.each j m p at here);
+          holds = filled.filled j m p at here (slice_get_within n.atoms j m at);
+        };
+      }
+
+-- reducts without tuples
+cnt_none : (es : List Entry) (u : List ℕ) → es ≡ [] → cnt es u ≡ 0
+unfolding cnt
+cnt_none es u e = ap (λ (l : List Entry). cnt l u) e
+
+marks_none : (es : List Entry) (u : List ℕ) → es ≡ [] → cnt (marks es) u ≡ 0
+unfolding cnt marks
+marks_none es u e = ap (λ (l : List Entry). cnt (marks l) u) e
+
+pub none_filled : (c : Catalog) (atoms : List NumberedAtom) (ps : List Shape) (r : Reducts)
+    → ((k : ℕ) → entries_at r.tables k ≡ []) → AreFilled c atoms ps 0 r r
+none_filled c atoms ps r empty = record {
+  tree = refl;
+  bare = record { none = λ i v. marks_none (entries_at r.tables i) v (empty i) };
+  filled = λ j m p at here low. absurd (omega arith);
+  empty = λ j from low u. cnt_none (entries_at r.tables j) u (empty j);
+}
+
+-- ---- as the calls say it
+
+pub given_of : (c : Catalog) (q : Query) (n : Numbered) (t : Tree) (p : Planned) → IsCatalog c
+    → query_fault c.relations q ≡ None → IsPlanned c.relations q p
+    → n ≡ p.numbered → t ≡ p.tree → IsWithin n → IsTree t
+    → HaveCells c.texts (constants_of q.atoms) → IsGiven c q n t
+given_of c q n t p catalog sound planned e f within tree constants = record {
+  catalog = catalog;
+  sound = sound;
+  numbered = subst (λ (m : Numbered). IsNumbered c.relations q m) (sym e) planned.numbered;
+  named = subst (λ (s : Tree). IsTreeOf (edges_of q) (head_of q) s) (sym f) planned.named;
+  within = within;
+  tree = tree;
+  constants = constants;
+}
+
+pub suit_there : (c : Catalog) (q : Query) (n : Numbered) (t s : Tree)
+    (atoms later : List NumberedAtom) (ps qs : List Shape) → IsGiven c q n t → atoms ≡ n.atoms
+    → later ≡ n.atoms → qs ≡ ps → s ≡ t → ArePatternsOf c.texts t.labels atoms ps
+    → AtBoth (λ j m p. SuitsRelation c (label_at s.labels j) m.relation p) later qs
+suit_there c q n t s atoms later ps qs given is too same trees are =
+    let here : ArePatternsOf c.texts t.labels n.atoms ps =
+    subst (λ (l : List NumberedAtom). ArePatternsOf c.texts t.labels l ps) is are in
+    subst (λ (u : Tree). AtBoth (λ j m p. SuitsRelation c (label_at u.labels j) m.relation p)
+    later qs) (sym trees)
+    (subst (λ (l : List NumberedAtom). AtBoth
+    (λ j m p. SuitsRelation c (label_at t.labels j) m.relation p) l qs) (sym too)
+    (subst (λ (rs : List Shape). AtBoth
+    (λ j m p. SuitsRelation c (label_at t.labels j) m.relation p) n.atoms rs) (sym same)
+    (suited c q n t given ps here)))
+
+no_cursor : (k : ℕ) (p : Progress) → slot_at [] k ≡ Some p → ⊥
+no_cursor k p e = absurd cc
+
+pub live_there : (c : Catalog) (q : Query) (n : Numbered) (t : Tree)
+    (atoms later : List NumberedAtom) (ps qs : List Shape) (before r : Reducts)
+    (cursors : List (Option Progress)) → IsGiven c q n t → atoms ≡ n.atoms → later ≡ n.atoms
+    → qs ≡ ps → before.tree ≡ t → length ps ≡ length atoms
+    → ArePatternsOf c.texts t.labels atoms ps
+    → AreFilled c later qs (length later) before r → IsReducts r → cursors ≡ []
+    → IsLive c (record {
+      query = q;
+      numbered = n;
+      patterns = ps;
+      reducts = r;
+      cursors = cursors;
+    })
+live_there c q n t atoms later ps qs before r cursors given is too same trees long are filled sound
+    none =
+    let here : ArePatternsOf c.texts t.labels n.atoms ps =
+    subst (λ (l : List NumberedAtom). ArePatternsOf c.texts t.labels l ps) is are in
+    let there : AreFilled c n.atoms ps (length n.atoms) before r =
+    subst (λ (rs : List Shape). AreFilled c n.atoms rs (length n.atoms) before r) same
+    (subst (λ (l : List NumberedAtom). AreFilled c l qs (length l) before r) too filled) in
+    record {
+      kept = record {
+        over = over c q n t given ps before r here
+            (long ∙ ap (λ (l : List NumberedAtom). length l) is) there trees sound;
+        named = subst (λ (s : Tree). IsTreeOf (edges_of q) (head_of q) s)
+            (sym (filled.tree ∙ trees)) given.named;
+        bare = filled.bare;
+      };
+      fits = λ k cursor ended e. absurd
+          (no_cursor k (Open cursor ended)
+          (sym (ap (λ (cs : List (Option Progress)). slot_at cs k) none) ∙ e));
+    }

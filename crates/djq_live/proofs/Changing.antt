@@ -1,0 +1,259 @@
+-- Leaves once rows have changed.
+use Rattle.std.proofs.Common.{
+  ◌≡◌,
+  ℕ,
+  ◌<◌,
+  true,
+  List,
+  [],
+  ◌∷◌,
+  length,
+  refl,
+  ap,
+  sym,
+  subst,
+  ◌∙◌,
+  inl,
+  inr,
+  arith,
+}
+use Rattle.std.specs.Prelude.{Some, Contains, slice_get}
+use Rattle.std.proofs.lemmas.Bool.{cases_eq}
+use Rattle.djq_hyper.specs.Hypergraph.{member}
+use Rattle.djq_model.specs.declared.query.Query.{Query}
+use Rattle.djq_model.specs.Data.{Tuple}
+use Rattle.djq_model.specs.Typed.{fits}
+use Rattle.djq_index.specs.Entries.{Entry}
+use Rattle.djq_tree.specs.Labels.{label_at}
+use Rattle.djq_tree.specs.Tree.{Tree}
+use Rattle.djq_reduct.specs.Tables.{entries_at}
+use Rattle.djq_reduct.specs.Reducts.{Reducts}
+use Rattle.djq_query.specs.declared.numbered.NumberedAtom.{NumberedAtom}
+use Rattle.djq_query.specs.Numbered.{Numbered}
+use Rattle.djq_query.specs.Pattern.{Shape, filled}
+use Rattle.djq_rows.specs.Cells.{cells_of, HaveCells}
+use Rattle.djq_rows.specs.Catalog.{Catalog, IsCatalog, no_relation, relation_at, rows_at}
+use Rattle.djq_rows.proofs.Lawful.{differ as cells_differ}
+use Rattle.djq_live.specs.Cells.{AreRowOf}
+use Rattle.djq_live.specs.Leaves.{Holds, IsLeafOf, IsOver}
+use Rattle.djq_live.specs.Changes.{
+  IsLater,
+  Came,
+  Went,
+  Gains,
+  Loses,
+  Keeps,
+  OverStays,
+  OverGains,
+  OverLoses,
+}
+use Rattle.djq_live.proofs.Rows.{all_in}
+use Rattle.djq_live.proofs.Members.{in_left, in_last, in_pushed, in_without, still_in}
+use Rattle.djq_live.proofs.Later.{asked_later, atom_at, pattern_later, cells_later}
+
+have_cells : (c : Catalog) (at : ℕ) (row : Tuple) → IsCatalog c → at < length c.relations
+    → Contains (rows_at c.relations at) row → HaveCells c.texts row
+have_cells c at row h low there =
+    all_in (HaveCells c.texts) (rows_at c.relations at) row (h.kept at no_relation low).cells there
+
+row_fits : (c : Catalog) (at : ℕ) (row : Tuple) → IsCatalog c → at < length c.relations
+    → Contains (rows_at c.relations at) row → fits (relation_at c.relations at).types row ≡ true
+row_fits c at row h low there =
+    all_in (λ r. fits (relation_at c.relations at).types r ≡ true) (rows_at c.relations at) row
+    (h.kept at no_relation low).typed there
+
+-- a row of the earlier catalog, against one of the later
+pub row_on : (c d : Catalog) (at : ℕ) (cells : List ℕ) → IsCatalog c → IsLater c d
+    → at < length c.relations → (is : AreRowOf c at cells)
+    → Contains (rows_at d.relations at) is.row
+    → AreRowOf d at cells
+row_on c d at cells h l low is there = record {
+  row = is.row;
+  there = there;
+  are = is.are ∙ sym (cells_later c d is.row l (have_cells c at is.row h low is.there));
+}
+
+row_back : (c d : Catalog) (at : ℕ) (cells : List ℕ) → IsCatalog c → IsLater c d
+    → at < length c.relations → (is : AreRowOf d at cells)
+    → Contains (rows_at c.relations at) is.row
+    → AreRowOf c at cells
+row_back c d at cells h l low is there = record {
+  row = is.row;
+  there = there;
+  are = is.are ∙ cells_later c d is.row l (have_cells c at is.row h low there);
+}
+
+-- ---- one relation's rows
+
+same_rows : (c d : Catalog) (at : ℕ) (p : Shape) (es fs : List Entry) → IsCatalog c → IsLater c d
+    → at < length c.relations → rows_at d.relations at ≡ rows_at c.relations at → Keeps es fs
+    → Holds c at p es → Holds d at p fs
+same_rows c d at p es fs h l low e keeps holds = record {
+  exact = λ u wide. (
+    λ there.
+        let is = (holds.exact u wide).0 (subst (λ (n : ℕ). 0 < n) (keeps u) there) in
+        row_on c d at (filled u p.slots) h l low is
+        (subst (λ (rows : List Tuple). Contains rows is.row) (sym e) is.there),
+    λ is.
+        subst (λ (n : ℕ). 0 < n) (sym (keeps u))
+        ((holds.exact u wide).1
+        (row_back c d at (filled u p.slots) h l low is
+        (subst (λ (rows : List Tuple). Contains rows is.row) e is.there))),
+  );
+}
+
+came_rows : (c d : Catalog) (at : ℕ) (cells : List ℕ) (row : Tuple) (p : Shape)
+    (es fs : List Entry) → IsCatalog c → at < length c.relations → Came c d at cells row
+    → Gains p cells es fs → Holds c at p es → Holds d at p fs
+came_rows c d at cells row p es fs h low came gains holds = record {
+  exact = λ u wide. (
+    λ there.
+        elim ((gains u wide).0 there) [
+          | inl before ↦
+              let is = (holds.exact u wide).0 before in
+              row_on c d at (filled u p.slots) h came.later low is
+              (subst (λ (rows : List Tuple). Contains rows is.row) (sym came.rows)
+              (in_left is.row (rows_at c.relations at) (row ∷ []) is.there))
+          | inr new ↦ record {
+            row = row;
+            there = subst (λ (rows : List Tuple). Contains rows row) (sym came.rows)
+                (in_last row (rows_at c.relations at));
+            are = new ∙ came.stand.are;
+          }
+        ],
+    λ is.
+        (gains u wide).1
+        (elim (in_pushed row is.row (rows_at c.relations at)
+        (subst (λ (rows : List Tuple). Contains rows is.row) came.rows is.there)) [
+          | inl before ↦ inl
+              ((holds.exact u wide).1 (row_back c d at
+              (filled u p.slots) h came.later low is before))
+          | inr new ↦ inr
+              (is.are ∙ ap (λ (r : Tuple). cells_of d.texts r) (sym new) ∙ sym came.stand.are)
+        ]),
+  );
+}
+
+-- a row that went has other cells than those that are left
+other_cells : (c d : Catalog) (at : ℕ) (cells : List ℕ) (row x : Tuple) → Went c d at cells row
+    → at < length d.relations → Contains (rows_at d.relations at) x
+    → cells_of d.texts x ≡ cells → row ≡ x
+other_cells c d at cells row x went low there e =
+    cells_differ d.texts (relation_at d.relations at).types row x went.stand.of
+    (row_fits d at x went.later.catalog low there) went.stand.have
+    (have_cells d at x went.later.catalog low there) (sym went.stand.are ∙ sym e)
+
+went_rows : (c d : Catalog) (at : ℕ) (cells : List ℕ) (row : Tuple) (p : Shape)
+    (es fs : List Entry) → IsCatalog c → at < length c.relations → Went c d at cells row
+    → Loses p cells es fs → Holds c at p es → Holds d at p fs
+went_rows c d at cells row p es fs h low went loses holds =
+    let later : at < length d.relations = (let long = went.later.long in omega arith) in
+    record {
+      exact = λ u wide. (
+        λ there.
+            let both = (loses u wide).0 there in
+            let is = (holds.exact u wide).0 both.0 in
+            row_on c d at (filled u p.slots) h went.later low is
+            (subst (λ (rows : List Tuple). Contains rows is.row) (sym went.rows)
+            (still_in (rows_at c.relations at) row is.row is.there
+            (λ (same : row ≡ is.row). both.1
+            (is.are ∙ ap (λ (r : Tuple). cells_of c.texts r) (sym same)
+            ∙ sym (cells_later c d row went.later
+            (have_cells c at row h low
+            (subst (λ (r : Tuple). Contains (rows_at c.relations at) r) (sym same) is.there)))
+            ∙ sym went.stand.are)))),
+        λ is.
+            let left = in_without (rows_at c.relations at) row is.row
+            (h.kept at no_relation low).differ
+            (subst (λ (rows : List Tuple). Contains rows is.row) went.rows is.there) in
+            (loses u wide).1 (
+              (holds.exact u wide).1 (row_back c d at
+                  (filled u p.slots) h went.later low is left.0),
+              λ same. left.1
+                  (other_cells c d at cells row is.row went later is.there (sym is.are ∙ same)),
+            ),
+      );
+    }
+
+-- ---- all leaves
+
+label_same : (r s : Reducts) (j : ℕ) → s.tree ≡ r.tree
+    → label_at r.tree.labels j ≡ label_at s.tree.labels j
+label_same r s j e = ap (λ (t : Tree). label_at t.labels j) (sym e)
+
+-- a leaf of the later catalog, where its entries hold what they should
+leaf_later : (c d : Catalog) (q : Query) (n : Numbered) (ps : List Shape) (r s : Reducts) (j : ℕ)
+    (m : NumberedAtom) (p : Shape) → IsOver c q n ps r → IsLater c d → s.tree ≡ r.tree
+    → slice_get n.atoms j ≡ Some m → slice_get ps j ≡ Some p
+    → (m.relation < length c.relations → Holds c m.relation p (entries_at r.tables j)
+    → Holds d m.relation p (entries_at s.tables j))
+    → IsLeafOf d (label_at s.tree.labels j) m p (entries_at s.tables j)
+leaf_later c d q n ps r s j m p h l tree e f turns =
+    let leaf = h.leaves j m p e f in
+    let a = atom_at c n.variables q.atoms n.atoms j m h.asked.atoms e in
+    subst (λ (label : List ℕ). IsLeafOf d label m p (entries_at s.tables j))
+    (label_same r s j tree)
+    (record {
+      pattern = pattern_later c d n.variables
+          (label_at r.tree.labels j) a.atom m p l a.is leaf.pattern;
+      holds = turns a.is.below leaf.holds;
+    })
+
+head_same : (r s : Reducts) (x : ℕ) → s.tree ≡ r.tree → member x s.tree.head ≡ member x r.tree.head
+head_same r s x e = ap (λ (t : Tree). member x t.head) e
+
+pub over_stays : OverStays
+over_stays c d q n ps r h rows = record {
+  asked = asked_later c d q n rows.later h.asked;
+  reducts = h.reducts;
+  head = h.head;
+  long = h.long;
+  patterns = h.patterns;
+  leaves = λ j m p e f. leaf_later c d q n ps r r j m p h rows.later refl e f
+      (λ low holds. same_rows c d m.relation p (entries_at r.tables j) (entries_at r.tables j)
+      h.asked.catalog rows.later low (rows.same m.relation low) (λ u. refl) holds);
+}
+
+pub over_gains : OverGains
+over_gains c d q n ps r s at cells row h came change = record {
+  asked = asked_later c d q n came.later h.asked;
+  reducts = change.reducts;
+  head = λ x. head_same r s x change.tree ∙ h.head x;
+  long = ap (λ (t : Tree). t.leaves) change.tree ∙ h.long;
+  patterns = h.patterns;
+  leaves = λ j m p e f. leaf_later c d q n ps r s j m p h came.later change.tree e f
+      (λ low holds.
+      elim (cases_eq m.relation at) [
+        | inl same ↦
+            subst (λ (k : ℕ). Holds d k p (entries_at s.tables j)) (sym same)
+            (came_rows c d at cells row p (entries_at r.tables j) (entries_at s.tables j)
+            h.asked.catalog (subst (λ (k : ℕ). k < length c.relations) same low) came
+            (change.over j m p e f same)
+            (subst (λ (k : ℕ). Holds c k p (entries_at r.tables j)) same holds))
+        | inr other ↦ same_rows c d m.relation p (entries_at r.tables j) (entries_at s.tables j)
+            h.asked.catalog came.later low (came.others m.relation low other)
+            (change.others j m e other) holds
+      ]);
+}
+
+pub over_loses : OverLoses
+over_loses c d q n ps r s at cells row h went change = record {
+  asked = asked_later c d q n went.later h.asked;
+  reducts = change.reducts;
+  head = λ x. head_same r s x change.tree ∙ h.head x;
+  long = ap (λ (t : Tree). t.leaves) change.tree ∙ h.long;
+  patterns = h.patterns;
+  leaves = λ j m p e f. leaf_later c d q n ps r s j m p h went.later change.tree e f
+      (λ low holds.
+      elim (cases_eq m.relation at) [
+        | inl same ↦
+            subst (λ (k : ℕ). Holds d k p (entries_at s.tables j)) (sym same)
+            (went_rows c d at cells row p (entries_at r.tables j) (entries_at s.tables j)
+            h.asked.catalog (subst (λ (k : ℕ). k < length c.relations) same low) went
+            (change.over j m p e f same)
+            (subst (λ (k : ℕ). Holds c k p (entries_at r.tables j)) same holds))
+        | inr other ↦ same_rows c d m.relation p (entries_at r.tables j) (entries_at s.tables j)
+            h.asked.catalog went.later low (went.others m.relation low other)
+            (change.others j m e other) holds
+      ]);
+}

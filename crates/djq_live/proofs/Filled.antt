@@ -1,0 +1,89 @@
+-- A leaf that is filled row by row.
+use Rattle.std.proofs.Common.{
+  ◌≡◌,
+  ℕ,
+  zero,
+  suc,
+  ◌<◌,
+  List,
+  [],
+  ◌∷◌,
+  ◌++◌,
+  length,
+  map,
+  refl,
+  ap,
+  sym,
+  subst,
+  ◌∙◌,
+  inl,
+  inr,
+  arith,
+}
+use Rattle.std.specs.Prelude.{Contains, slice_index_or}
+use Rattle.std.proofs.lemmas.List.{get_or-map, length-map}
+use Rattle.djq_model.specs.Data.{Tuple}
+use Rattle.djq_query.specs.Pattern.{filled}
+use Rattle.djq_rows.specs.Cells.{cells_of}
+use Rattle.djq_rows.specs.Catalog.{Catalog, rows_at}
+use Rattle.djq_live.specs.Cells.{AreRowOf}
+use Rattle.djq_live.specs.Changes.{LeafIsEmpty, LeafGains, LeafIsFilled}
+use Rattle.djq_live.proofs.Members.{in_none, in_left, in_last, in_pushed}
+
+pub leaf_empty : LeafIsEmpty
+leaf_empty p es none u wide =
+    (λ there. absurd (let z = none u in omega arith), λ is. absurd (in_none (filled u p.slots) is))
+
+pub leaf_gains : LeafGains
+leaf_gains rows cells p old new holds gains u wide = (
+  λ there.
+      elim ((gains u wide).0 there) [
+        | inl before ↦ in_left (filled u p.slots) rows (cells ∷ []) ((holds u wide).0 before)
+        | inr same ↦
+            subst (λ (v : List ℕ). Contains (rows ++ cells ∷ []) v) (sym same) (in_last cells rows)
+      ],
+  λ is.
+      (gains u wide).1
+      (elim (in_pushed cells (filled u p.slots) rows is)
+      [ inl before ↦ inl ((holds u wide).1 before) | inr same ↦ inr (sym same) ]),
+)
+
+-- an element doesn't depend on what stands past the end
+default_row : (rows : List Tuple) (i : ℕ) (d e : Tuple) → i < length rows
+    → slice_index_or rows i e ≡ slice_index_or rows i d
+default_row [] i d e low = absurd (omega arith)
+default_row (r ∷ rows) zero d e low = refl
+default_row (r ∷ rows) (suc i) d e low = default_row rows i d e (omega arith)
+
+row_in : (c : Catalog) (at : ℕ) (cells : List ℕ)
+    → Contains (map (cells_of c.texts) (rows_at c.relations at)) cells → AreRowOf c at cells
+row_in c at cells is =
+    let rows = rows_at c.relations at in
+    let low = is.1 in
+    let long = length-map rows (cells_of c.texts) in
+    let within : is.0 < length rows = omega arith in
+    record {
+      row = slice_index_or rows is.0 [];
+      there = (is.0, within, default_row rows is.0 [] (slice_index_or rows is.0 []) within);
+      are = sym is.2 ∙ get_or-map (cells_of c.texts) rows is.0 [] cells within;
+    }
+
+in_row : (c : Catalog) (at : ℕ) (cells : List ℕ) → AreRowOf c at cells
+    → Contains (map (cells_of c.texts) (rows_at c.relations at)) cells
+in_row c at cells is =
+    let rows = rows_at c.relations at in
+    let low = is.there.1 in
+    let long = length-map rows (cells_of c.texts) in (
+      is.there.0,
+      omega arith,
+      get_or-map (cells_of c.texts) rows is.there.0 is.row cells low
+          ∙ ap (λ (r : Tuple). cells_of c.texts r) is.there.2 ∙ sym is.are,
+    )
+
+pub leaf_filled : LeafIsFilled
+leaf_filled c at p es holds = record {
+  exact = λ u wide. (
+    λ there. row_in c at (filled u p.slots) ((holds u wide).0 there),
+    λ is. (holds u wide).1 (in_row c at (filled u p.slots) is),
+  );
+}

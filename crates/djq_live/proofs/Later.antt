@@ -1,0 +1,122 @@
+-- A query over a later catalog.
+use Rattle.std.proofs.Common.{◌≡◌, ℕ, zero, suc, List, [], ◌∷◌, ◌++◌, ap, sym, subst, ◌∙◌, arith}
+use Rattle.std.specs.Prelude.{Some, slice_get}
+use Rattle.std.proofs.lemmas.Option.{same_Some}
+use Rattle.djq_model.specs.declared.value.Value.{Value}
+use Rattle.djq_model.specs.declared.relation.ColumnType.{ColumnType}
+use Rattle.djq_model.specs.declared.query.Query.{Query}
+use Rattle.djq_model.specs.declared.query.Atom.{Atom}
+use Rattle.djq_model.specs.Data.{Bytes, Tuple}
+use Rattle.djq_query.specs.declared.numbered.Variable.{Variable}
+use Rattle.djq_query.specs.declared.numbered.NumberedTerm.{NumberedTerm}
+use Rattle.djq_query.specs.declared.numbered.NumberedTerm.TheVariants.{
+  Variable as Number,
+  Constant as Fixed,
+}
+use Rattle.djq_query.specs.declared.numbered.NumberedAtom.{NumberedAtom}
+use Rattle.djq_query.specs.Numbered.{Numbered}
+use Rattle.djq_query.specs.Pattern.{Shape}
+use Rattle.djq_rows.specs.Cells.{cell_of, cells_of, HasCell, HaveCells}
+use Rattle.djq_rows.specs.Catalog.{Catalog, relation_at}
+use Rattle.djq_rows.proofs.Lawful.{stay}
+use Rattle.djq_live.specs.Asked.{AreSuited, IsAtomOf, AreAtomsOf, IsAsked}
+use Rattle.djq_live.specs.Leaves.{AreCellsOf, IsPatternOf}
+use Rattle.djq_live.specs.Changes.{IsLater}
+use Rattle.djq_live.proofs.Terms.{heads}
+
+pub has_later : (texts more : List Bytes) (v : Value) → HasCell texts v → HasCell (texts ++ more) v
+has_later texts more v h = (stay texts more (v ∷ []) (h, tt)).0.0
+
+pub cell_later : (texts more : List Bytes) (v : Value) → HasCell texts v
+    → cell_of (texts ++ more) v ≡ cell_of texts v
+cell_later texts more v h = heads (cell_of (texts ++ more) v) (cell_of texts v) [] []
+    (stay texts more (v ∷ []) (h, tt)).1
+
+suited_later : (texts more : List Bytes) (vs : List Variable) (ns : List NumberedTerm)
+    (cs : List ColumnType) → AreSuited texts vs ns cs → AreSuited (texts ++ more) vs ns cs
+suited_later texts more vs [] [] h = tt
+suited_later texts more vs [] (c ∷ cs) h = absurd h
+suited_later texts more vs (n ∷ ns) [] h = absurd h
+suited_later texts more vs (Number x ∷ ns) (c ∷ cs) h =
+    (h.0, suited_later texts more vs ns cs h.1)
+suited_later texts more vs (Fixed v ∷ ns) (c ∷ cs) h =
+    ((h.0.0, has_later texts more v h.0.1), suited_later texts more vs ns cs h.1)
+
+bound_later : (texts more : List Bytes) (vs : List Variable) (ns : List NumberedTerm)
+    (cs : List ColumnType) (ks : List ℕ) → AreSuited texts vs ns cs → AreCellsOf texts ns ks
+    → AreCellsOf (texts ++ more) ns ks
+bound_later texts more vs [] cs [] h are = tt
+bound_later texts more vs [] cs (k ∷ ks) h are = absurd are
+bound_later texts more vs (n ∷ ns) cs [] h are = absurd are
+bound_later texts more vs (n ∷ ns) [] (k ∷ ks) h are = absurd h
+bound_later texts more vs (Number x ∷ ns) (c ∷ cs) (k ∷ ks) h are =
+    (tt, bound_later texts more vs ns cs ks h.1 are.1)
+bound_later texts more vs (Fixed v ∷ ns) (c ∷ cs) (k ∷ ks) h are =
+    (are.0 ∙ sym (cell_later texts more v h.0.1), bound_later texts more vs ns cs ks h.1 are.1)
+
+atom_later : (c d : Catalog) (vs : List Variable) (a : Atom) (m : NumberedAtom) → IsLater c d
+    → IsAtomOf c vs a m → IsAtomOf d vs a m
+atom_later c d vs a m l h = record {
+  below = (let low = h.below in let long = l.long in omega arith);
+  named = l.named m.relation h.below ∙ h.named;
+  shown = h.shown;
+  suited = subst (λ (cs : List ColumnType). AreSuited d.texts vs m.terms cs)
+      (sym (l.typed m.relation h.below))
+      (subst (λ (texts : List Bytes). AreSuited texts vs m.terms
+      (relation_at c.relations m.relation).types) (sym l.texts)
+      (suited_later c.texts l.more vs m.terms (relation_at c.relations m.relation).types h.suited));
+}
+
+atoms_later : (c d : Catalog) (vs : List Variable) (atoms : List Atom) (ms : List NumberedAtom)
+    → IsLater c d → AreAtomsOf c vs atoms ms → AreAtomsOf d vs atoms ms
+atoms_later c d vs [] [] l h = tt
+atoms_later c d vs [] (m ∷ ms) l h = absurd h
+atoms_later c d vs (a ∷ atoms) [] l h = absurd h
+atoms_later c d vs (a ∷ atoms) (m ∷ ms) l h =
+    (atom_later c d vs a m l h.0, atoms_later c d vs atoms ms l h.1)
+
+pub asked_later : (c d : Catalog) (q : Query) (n : Numbered) → IsLater c d → IsAsked c q n
+    → IsAsked d q n
+asked_later c d q n l h = record {
+  catalog = l.catalog;
+  atoms = atoms_later c d n.variables q.atoms n.atoms l h.atoms;
+  one = h.one;
+  fresh = h.fresh;
+  head = h.head;
+}
+
+-- the atom that an atom by number stands for
+pub record AtomAt (c : Catalog) (vs : List Variable) (m : NumberedAtom) : Type 0 where
+  pub atom : Atom
+  pub is : IsAtomOf c vs atom m
+
+pub atom_at : (c : Catalog) (vs : List Variable) (atoms : List Atom) (ms : List NumberedAtom)
+    (j : ℕ) (m : NumberedAtom) → AreAtomsOf c vs atoms ms → slice_get ms j ≡ Some m
+    → AtomAt c vs m
+atom_at c vs [] [] j m h e = absurd cc
+atom_at c vs [] (n ∷ ms) j m h e = absurd h
+atom_at c vs (a ∷ atoms) [] j m h e = absurd h
+atom_at c vs (a ∷ atoms) (n ∷ ms) zero m h e = record {
+  atom = a;
+  is = subst (λ (k : NumberedAtom). IsAtomOf c vs a k) (same_Some n m e) h.0;
+}
+atom_at c vs (a ∷ atoms) (n ∷ ms) (suc j) m h e = atom_at c vs atoms ms j m h.1 e
+
+pub pattern_later : (c d : Catalog) (vs : List Variable) (l : List ℕ) (a : Atom)
+    (m : NumberedAtom) (p : Shape) → IsLater c d → IsAtomOf c vs a m → IsPatternOf c.texts l m p
+    → IsPatternOf d.texts l m p
+pattern_later c d vs l a m p later is h = record {
+  variables = h.variables;
+  width = h.width;
+  cells = h.cells;
+  are = subst (λ (texts : List Bytes). AreCellsOf texts m.terms h.cells) (sym later.texts)
+      (bound_later c.texts later.more vs m.terms (relation_at c.relations m.relation).types h.cells
+      is.suited h.are);
+  slots = h.slots;
+}
+
+-- a row has the same cells later on
+pub cells_later : (c d : Catalog) (row : Tuple) → IsLater c d → HaveCells c.texts row
+    → cells_of d.texts row ≡ cells_of c.texts row
+cells_later c d row l h =
+    ap (λ (texts : List Bytes). cells_of texts row) l.texts ∙ (stay c.texts l.more row h).1

@@ -1,0 +1,225 @@
+-- What an update of one leaf does to it, and what is listed of it.
+use Rattle.std.proofs.Common.{
+  ◌≡◌,
+  ℕ,
+  ◌+◌,
+  ◌*◌,
+  ◌<◌,
+  ◌≤◌,
+  Bool,
+  true,
+  false,
+  List,
+  [],
+  ◌++◌,
+  length,
+  refl,
+  ap,
+  sym,
+  subst,
+  ◌∙◌,
+  inl,
+  inr,
+  arith,
+}
+use Rattle.std.specs.Prelude.{◌↔◌, Option, None, Some}
+use Rattle.std.proofs.lemmas.Option.{same_Some, none-some}
+use Rattle.std.proofs.lemmas.List.{length-append}
+use Rattle.djq_machine.specs.Store.{most_steps}
+use Rattle.djq_index.specs.Tuple.{same}
+use Rattle.djq_index.proofs.Counts.{cnt_split}
+use Rattle.djq_index.proofs.Apart.{cnt_once}
+use Rattle.djq_index.proofs.Tuples.{same_cases, is_same, one_true, one_other}
+use Rattle.djq_tree.specs.Tree.{Tree}
+use Rattle.djq_reduct.specs.Tables.{entries_at}
+use Rattle.djq_reduct.specs.Reducts.{Reducts, IsReducts}
+use Rattle.djq_reduct.specs.Marks.{IsBare}
+use Rattle.djq_reduct.proofs.Family.{apart_at}
+use Rattle.djq_propagate.specs.Updates.{HasInserted, HasMarked, HasKept, HasDropped}
+use Rattle.djq_cursor.specs.Listing.{IsListing}
+use Rattle.djq_cursor.specs.Changed.{IsGained}
+use Rattle.djq_cursor.specs.Log.{Log}
+use Rattle.djq_query.specs.Pattern.{Shape, filled}
+use Rattle.djq_live.specs.Changes.{Gains, Loses}
+use Rattle.djq_live.specs.Stepping.{ChangesAt, ListsWhere}
+use Rattle.djq_live.proofs.Gaining.{gained_none, gained_same, listing_as, same_more}
+use Rattle.djq_live.proofs.Telling.{tells_none, tells_both, counts_none, counts_both}
+
+-- the tuple is the one that gives the cells
+abbrev pub IsOnly : Option (List ℕ) → Shape → List ℕ → Type 0
+IsOnly o p cells = (u : List ℕ) → length u ≡ p.width → (o ≡ Some u) ↔ (filled u p.slots ≡ cells)
+
+pub only_as : (p : Shape) (cells u v : List ℕ) → v ≡ u → IsOnly (Some u) p cells
+    → IsOnly (Some v) p cells
+only_as p cells u v e only = subst (λ (w : List ℕ). IsOnly (Some w) p cells) (sym e) only
+
+lower : (r s : Reducts) (i : ℕ) → s.tree ≡ r.tree → i < r.tree.leaves → i < s.tree.leaves
+lower r s i e low = subst (λ (t : Tree). i < t.leaves) (sym e) low
+
+-- ---- what comes
+
+pub inserted_gains : (cells u : List ℕ) (p : Shape) (j : ℕ) (old mid new : Reducts)
+    → IsOnly (Some u) p cells → HasInserted old mid j u → HasKept mid new
+    → ChangesAt (λ q es fs. Gains q cells es fs) p j old new
+inserted_gains cells u p j old mid new only came kept = record {
+  sound = kept.sound;
+  tree = kept.tree ∙ sym came.without.tree;
+  bare = kept.bare;
+  leaf = λ v wide.
+      let a = kept.tables.tuples j v in
+      let s = cnt_split (entries_at mid.tables j) v in
+      let l = came.without.leaf v in
+      let m = came.marked v in (
+        λ there.
+            elim (same_cases u v) [
+              | inl is ↦ inr ((only v wide).0 (ap (λ (w : List ℕ). Some w) is))
+              | inr other ↦ inl (let o = one_other u v other in omega arith)
+            ],
+        λ either.
+            elim either [
+              | inl before ↦ omega arith
+              | inr e ↦
+                  let is = same_Some u v ((only v wide).1 e) in
+                  let o = one_true (same u v) (is_same u v is) in
+                  omega arith
+            ],
+      );
+  others = λ i low apart v.
+      kept.tables.tuples i v
+      ∙ sym (came.without.others i v (subst (λ (t : Tree). i < t.leaves) came.without.tree low)
+      apart);
+}
+
+pub unmatched_gains : (cells : List ℕ) (p : Shape) (j : ℕ) (r : Reducts) → IsOnly None p cells
+    → IsReducts r → IsBare r.tables → ChangesAt (λ q es fs. Gains q cells es fs) p j r r
+unmatched_gains cells p j r only sound bare = record {
+  sound = sound;
+  tree = refl;
+  bare = bare;
+  leaf = λ v wide. (
+    λ there. inl there,
+    λ either.
+        elim either [
+          | inl before ↦ before
+          | inr e ↦ absurd (none-some v ((only v wide).1 e))
+        ],
+  );
+  others = λ i low apart v. refl;
+}
+
+-- ---- what goes
+
+pub marked_loses : (cells u : List ℕ) (p : Shape) (j : ℕ) (old mid new : Reducts)
+    → IsOnly (Some u) p cells → IsReducts old → HasMarked old mid j u → HasDropped mid new j
+    → ChangesAt (λ q es fs. Loses q cells es fs) p j old new
+marked_loses cells u p j old mid new only sound marked went = record {
+  sound = went.sound;
+  tree = went.without.tree ∙ marked.tree;
+  bare = went.bare;
+  leaf = λ v wide.
+      let a = marked.tables.tuples j v in
+      let s = cnt_split (entries_at mid.tables j) v in
+      let l = went.without.leaf v in
+      let m = marked.marked v in
+      let once = cnt_once (entries_at old.tables j) v
+      (apart_at old.tables j (sound.family.sound j)) in (
+        λ there. (
+          omega arith,
+          λ e.
+              let is = same_Some u v ((only v wide).1 e) in
+              let o = one_true (same u v) (is_same u v is) in
+              omega arith,
+        ),
+        λ both.
+            elim (same_cases u v) [
+              | inl is ↦ absurd (both.1 ((only v wide).0 (ap (λ (w : List ℕ). Some w) is)))
+              | inr other ↦
+                  let o = one_other u v other in
+                  let before = both.0 in
+                  omega arith
+            ],
+      );
+  others = λ i low apart v.
+      went.without.others i v (lower old mid i marked.tree low) apart
+      ∙ marked.tables.tuples i v;
+}
+
+pub unmatched_loses : (cells : List ℕ) (p : Shape) (j : ℕ) (r : Reducts) → IsOnly None p cells
+    → IsReducts r → IsBare r.tables → ChangesAt (λ q es fs. Loses q cells es fs) p j r r
+unmatched_loses cells p j r only sound bare = record {
+  sound = sound;
+  tree = refl;
+  bare = bare;
+  leaf = λ v wide. (
+    λ there. (there, λ e. none-some v ((only v wide).1 e)),
+    λ both. both.0,
+  );
+  others = λ i low apart v. refl;
+}
+
+-- ---- what is listed
+
+pub lists_as : (wanted came : Bool) (P Q : List ℕ → Type 0) (h k calls : ℕ) (old new : Log)
+    (before now : ℕ) → h ≡ k → ((u : List ℕ) → P u ↔ Q u)
+    → ListsWhere wanted came P h calls old new before now
+    → ListsWhere wanted came Q k calls old new before now
+lists_as true came P Q h k calls old new before now e same l = record {
+  answers = l.answers;
+  listing = listing_as P Q l.answers same l.listing;
+  tells = l.tells;
+  counted = subst (λ (n : ℕ). now ≤ before + (length l.answers + calls) * most_steps n) e l.counted;
+}
+lists_as false came P Q h k calls old new before now e same l = l
+
+pub lists_none : (wanted came : Bool) (r : Reducts) (h calls : ℕ) (log : Log) (n : ℕ)
+    → ListsWhere wanted came (IsGained r r) h calls log log n n
+lists_none true came r h calls log n = record {
+  answers = [];
+  listing = gained_none r;
+  tells = tells_none came log;
+  counted = counts_none n (length {A = List ℕ} [] + calls) (most_steps h);
+}
+lists_none false came r h calls log n = (refl, refl)
+
+pub lists_both : (wanted came : Bool) (P Q R : List ℕ → Type 0) (h c d : ℕ) (old mid new : Log)
+    (x y z : ℕ)
+    → ((us vs : List (List ℕ)) → IsListing P us → IsListing Q vs → IsListing R (us ++ vs))
+    → ListsWhere wanted came P h c old mid x y → ListsWhere wanted came Q h d mid new y z
+    → ListsWhere wanted came R h (c + d) old new x z
+lists_both true came P Q R h c d old mid new x y z both l k = record {
+  answers = l.answers ++ k.answers;
+  listing = both l.answers k.answers l.listing k.listing;
+  tells = tells_both came l.answers k.answers old mid new l.tells k.tells;
+  counted = subst (λ (n : ℕ). z ≤ x + (n + (c + d)) * most_steps h)
+      (sym (length-append l.answers k.answers))
+      (counts_both x y z (length l.answers) (length k.answers) c d (most_steps h) l.counted
+      k.counted);
+}
+lists_both false came P Q R h c d old mid new x y z both l k = (k.0 ∙ l.0, k.1 ∙ l.1)
+
+-- the listing of the marks, once they are cleared
+pub inserted_lists : (wanted came : Bool) (j : ℕ) (u : List ℕ) (old mid new : Reducts)
+    (log told : Log) (before now : ℕ) → HasInserted old mid j u → HasKept mid new
+    → ListsWhere wanted came (IsGained mid old) (length mid.tree.head) 1 log told before now
+    → ListsWhere wanted came (IsGained new old) (length old.tree.head) 1 log told before now
+inserted_lists wanted came j u old mid new log told before now came_in kept l =
+    lists_as wanted came (IsGained mid old) (IsGained new old) (length mid.tree.head)
+    (length old.tree.head) 1 log told before now
+    (ap (λ (t : Tree). length t.head) (sym came_in.without.tree))
+    (λ v. gained_same old mid new v came_in.sound kept.sound
+    (same_more mid new kept.tree kept.tables.tuples)
+    (same_more new mid (sym kept.tree) (λ k w. sym (kept.tables.tuples k w))))
+    l
+
+pub marked_lists : (wanted came : Bool) (j : ℕ) (u : List ℕ) (old mid new : Reducts)
+    (log told : Log) (before now : ℕ) → IsReducts old → HasMarked old mid j u
+    → ListsWhere wanted came (IsGained mid new) (length mid.tree.head) 1 log told before now
+    → ListsWhere wanted came (IsGained old new) (length old.tree.head) 1 log told before now
+marked_lists wanted came j u old mid new log told before now sound marked l =
+    lists_as wanted came (IsGained mid new) (IsGained old new) (length mid.tree.head)
+    (length old.tree.head) 1 log told before now
+    (ap (λ (t : Tree). length t.head) marked.tree)
+    (λ v. gained_same new mid old v marked.sound sound
+    (same_more mid old (sym marked.tree) (λ k w. sym (marked.tables.tuples k w)))
+    (same_more old mid marked.tree marked.tables.tuples))
+    l

@@ -1,0 +1,249 @@
+-- A leaf takes the rows of a relation in, one after another.
+use Rattle.std.proofs.Common.{◌≡◌, ℕ, suc, ◌+◌, ◌<◌, ◌≤◌, true, false, List, [], ◌∷◌, ◌++◌, length, map, refl, ap, sym, subst, ◌∙◌, inl, inr, arith, append_assoc}
+use Rattle.std.specs.Prelude.{◌↔◌, Some, Contains, slice_get, slice_index_or}
+use Rattle.std.proofs.Common.{append-nil, length-append}
+use Rattle.std.proofs.Math.Seq.{get_or-append_seam}
+use Rattle.std.proofs.lemmas.Bool.{cases_eq, cases_lt, false≢true}
+use Rattle.std.proofs.lemmas.List.{get_or_append_left, get_or-map, length-map}
+use Rattle.std.proofs.lemmas.Option.{same_Some}
+use Rattle.djq_model.specs.Data.{Tuple}
+use Rattle.djq_model.specs.Typed.{fits, is_of}
+use Rattle.djq_model.specs.declared.relation.ColumnType.{ColumnType}
+use Rattle.djq_index.specs.Tuple.{same, one}
+use Rattle.djq_index.specs.Entries.{Entry, cnt}
+use Rattle.djq_index.proofs.Counts.{cnt_split}
+use Rattle.djq_index.proofs.Tuples.{same_cases, same_refl}
+use Rattle.djq_tree.specs.Tree.{Tree}
+use Rattle.djq_reduct.specs.Tables.{entries_at}
+use Rattle.djq_reduct.specs.Reducts.{Reducts}
+use Rattle.djq_reduct.specs.Marks.{IsBare}
+use Rattle.djq_propagate.specs.Updates.{HasInserted, HasKept}
+use Rattle.djq_query.specs.declared.numbered.NumberedAtom.{NumberedAtom}
+use Rattle.djq_query.specs.Pattern.{Shape, filled}
+use Rattle.djq_rows.specs.Cells.{cells_of}
+use Rattle.djq_rows.specs.Catalog.{Catalog, IsCatalog, no_relation, relation_at, rows_at}
+use Rattle.djq_rows.proofs.Encoding.{cells_long}
+use Rattle.djq_rows.proofs.Lawful.{differ}
+use Rattle.djq_live.specs.Changes.{HoldsThese}
+use Rattle.djq_live.specs.Leaves.{Holds}
+use Rattle.djq_live.specs.Building.{AreFilled, HasTaken, IsFilled, TakesRow, cells_at}
+use Rattle.djq_live.proofs.Terms.{both}
+use Rattle.djq_live.proofs.Filled.{leaf_empty, leaf_gains, leaf_filled}
+
+-- ---- one row
+
+one_is : (u : List ℕ) → one (same u u) ≡ 1
+unfolding one
+one_is u = rw (same_refl u) refl
+
+one_isnt : (u v : List ℕ) → same u v ≡ false → one (same u v) ≡ 0
+unfolding one
+one_isnt u v e = rw e refl
+
+-- what a leaf holds once a tuple came, and its marks are cleared
+came_count : (old mid new : Reducts) (leaf : ℕ) (u v : List ℕ) → HasInserted old mid leaf u
+    → HasKept mid new
+    → cnt (entries_at new.tables leaf) v ≡ cnt (entries_at old.tables leaf) v + one (same u v)
+came_count old mid new leaf u v i k =
+    let kept = k.tables.tuples leaf v in
+    let split = cnt_split (entries_at mid.tables leaf) v in
+    let plain = i.without.leaf v in
+    let marked = i.marked v in
+    omega arith
+
+pub took_row : (p : Shape) (leaf : ℕ) (cells u : List ℕ) (old mid new : Reducts)
+    → HasInserted old mid leaf u → HasKept mid new
+    → ((v : List ℕ) → length v ≡ p.width → (Some u ≡ Some v) ↔ (filled v p.slots ≡ cells))
+    → TakesRow p leaf cells old new
+took_row p leaf cells u old mid new i k exact = record {
+  tree = k.tree ∙ sym i.without.tree;
+  bare = k.bare;
+  gains = λ v wide.
+      let count = came_count old mid new leaf u v i k in (
+        λ there. elim (same_cases u v) [
+          | inl is ↦ inr ((exact v wide).0 (ap (λ (w : List ℕ). Some w) is))
+          | inr isnt ↦ inl (let none = one_isnt u v isnt in omega arith)
+        ],
+        λ h. elim h [
+          | inl before ↦ omega arith
+          | inr fills ↦
+              let is : u ≡ v = same_Some u v ((exact v wide).1 fills) in
+              let some : one (same u v) ≡ 1 =
+              ap (λ (w : List ℕ). one (same u w)) (sym is) ∙ one_is u in
+              omega arith
+        ],
+      );
+  others = λ j low other v.
+      k.tables.tuples j v
+      ∙ sym (i.without.others j v
+      (let e = ap (λ (t : Tree). t.leaves) i.without.tree in omega arith) other);
+}
+
+-- ---- a relation's rows
+
+-- equal rows of cells would be one row
+twice : (f : Tuple → List ℕ) (rows : List Tuple) (done more : List (List ℕ)) (x : List ℕ)
+    → map f rows ≡ done ++ x ∷ more
+    → ((i j : ℕ) → i < j → j < length rows
+    → f (slice_index_or rows i []) ≡ f (slice_index_or rows j []) → ⊥)
+    → Contains done x → ⊥
+twice f rows done more x parts differs c =
+    let i = c.0 in
+    let low = c.1 in
+    let long : length rows ≡ length done + length (x ∷ more) =
+    sym (length-map rows f) ∙ ap (λ (l : List (List ℕ)). length l) parts
+    ∙ length-append done (x ∷ more) in
+    let early : i < length rows = omega arith in
+    let late : length done < length rows = omega arith in
+    let first : f (slice_index_or rows i []) ≡ x =
+    sym (get_or-map f rows i [] x early)
+    ∙ ap (λ (l : List (List ℕ)). slice_index_or l i x) parts
+    ∙ get_or_append_left done (x ∷ more) x i low ∙ c.2 in
+    let second : f (slice_index_or rows (length done) []) ≡ x =
+    sym (get_or-map f rows (length done) [] x late)
+    ∙ ap (λ (l : List (List ℕ)). slice_index_or l (length done) x) parts
+    ∙ get_or-append_seam done x more x in
+    differs i (length done) low late (first ∙ sym second)
+
+rows_differ : (c : Catalog) (at : ℕ) → IsCatalog c → at < length c.relations → (i j : ℕ) → i < j
+    → j < length (rows_at c.relations at)
+    → cells_of c.texts (slice_index_or (rows_at c.relations at) i [])
+    ≡ cells_of c.texts (slice_index_or (rows_at c.relations at) j []) → ⊥
+rows_differ c at h low i j less late e =
+    let kept = h.kept at no_relation low in
+    let rows = rows_at c.relations at in
+    let types = (relation_at c.relations at).types in
+    kept.differ i j [] less late
+    (differ c.texts types (slice_index_or rows i []) (slice_index_or rows j [])
+    (kept.typed i [] (omega arith)) (kept.typed j [] late) (kept.cells i [] (omega arith))
+    (kept.cells j [] late) e)
+
+pub start_taken : (c : Catalog) (at : ℕ) (p : Shape) (leaf : ℕ) (left : List (List ℕ))
+    (old : Reducts) → left ≡ cells_at c at
+    → ((u : List ℕ) → cnt (entries_at old.tables leaf) u ≡ 0) → IsBare old.tables
+    → HasTaken c at p leaf left old old
+start_taken c at p leaf left old all empty bare = record {
+  done = [];
+  parts = sym all;
+  holds = leaf_empty p (entries_at old.tables leaf) empty;
+  tree = refl;
+  bare = bare;
+  others = λ j low other u. refl;
+}
+
+pub step_taken : (c : Catalog) (at : ℕ) (p : Shape) (leaf : ℕ) (row : List ℕ)
+    (before left : List (List ℕ)) (old mid new : Reducts) → HasTaken c at p leaf before old mid
+    → before ≡ row ∷ left → TakesRow p leaf row mid new → HasTaken c at p leaf left old new
+step_taken c at p leaf row before left old mid new h next takes = record {
+  done = h.done ++ row ∷ [];
+  parts = h.parts ∙ ap (λ (l : List (List ℕ)). h.done ++ l) next
+      ∙ sym (append_assoc h.done (row ∷ []) left);
+  holds = leaf_gains h.done row p (entries_at mid.tables leaf) (entries_at new.tables leaf)
+      h.holds takes.gains;
+  tree = takes.tree ∙ h.tree;
+  bare = takes.bare;
+  others = λ j low other u.
+      takes.others j (let e = ap (λ (t : Tree). t.leaves) h.tree in omega arith) other u
+      ∙ h.others j low other u;
+}
+
+pub end_taken : (c : Catalog) (at : ℕ) (p : Shape) (leaf : ℕ) (left : List (List ℕ))
+    (old new : Reducts) → HasTaken c at p leaf left old new → left ≡ []
+    → IsFilled c at p leaf old new
+end_taken c at p leaf left old new h over = record {
+  holds = leaf_filled c at p (entries_at new.tables leaf)
+      (subst (λ (rows : List (List ℕ)). HoldsThese rows p (entries_at new.tables leaf))
+      (sym (h.parts ∙ ap (λ (l : List (List ℕ)). h.done ++ l) over ∙ append-nil h.done))
+      h.holds);
+  tree = h.tree;
+  bare = h.bare;
+  others = h.others;
+}
+
+-- the next row's tuple isn't there
+pub absent_row : (c : Catalog) (at : ℕ) (p : Shape) (leaf : ℕ) (row : List ℕ)
+    (before left : List (List ℕ)) (old mid : Reducts) → IsCatalog c → at < length c.relations
+    → HasTaken c at p leaf before old mid → before ≡ row ∷ left
+    → (u : List ℕ) → length u ≡ p.width → filled u p.slots ≡ row
+    → cnt (entries_at mid.tables leaf) u ≡ 0
+absent_row c at p leaf row before left old mid catalog low h next u wide fills =
+    elim (cases_lt 0 (cnt (entries_at mid.tables leaf) u)) [
+      | inl there ↦ absurd
+          (twice (cells_of c.texts) (rows_at c.relations at) h.done left row
+          (h.parts ∙ ap (λ (l : List (List ℕ)). h.done ++ l) next)
+          (rows_differ c at catalog low)
+          (subst (λ (x : List ℕ). Contains h.done x) fills ((h.holds u wide).0 there)))
+      | inr none ↦ omega arith
+    ]
+
+fits_long : (types : List ColumnType) (row : Tuple) → fits types row ≡ true
+    → length row ≡ length types
+fits_long [] [] h = refl
+fits_long [] (v ∷ vs) h = absurd (false≢true h)
+fits_long (t ∷ ts) [] h = absurd (false≢true h)
+fits_long (t ∷ ts) (v ∷ vs) h = ap suc (fits_long ts vs (both (is_of t v) (fits ts vs) h).1)
+
+-- and it is as wide as the relation
+pub wide_row : (c : Catalog) (at : ℕ) (p : Shape) (leaf : ℕ) (row : List ℕ)
+    (before left : List (List ℕ)) (old mid : Reducts) → IsCatalog c → at < length c.relations
+    → HasTaken c at p leaf before old mid → before ≡ row ∷ left
+    → length row ≡ length (relation_at c.relations at).types
+wide_row c at p leaf row before left old mid catalog low h next =
+    let rows = rows_at c.relations at in
+    let f = cells_of c.texts in
+    let i = length h.done in
+    let parts : map f rows ≡ h.done ++ row ∷ left =
+    h.parts ∙ ap (λ (l : List (List ℕ)). h.done ++ l) next in
+    let long : length rows ≡ length h.done + length (row ∷ left) =
+    sym (length-map rows f) ∙ ap (λ (l : List (List ℕ)). length l) parts
+    ∙ length-append h.done (row ∷ left) in
+    let within : i < length rows = omega arith in
+    let is : f (slice_index_or rows i []) ≡ row =
+    sym (get_or-map f rows i [] row within)
+    ∙ ap (λ (l : List (List ℕ)). slice_index_or l i row) parts
+    ∙ get_or-append_seam h.done row left row in
+    ap (λ (l : List ℕ). length l) (sym is)
+    ∙ cells_long c.texts (slice_index_or rows i [])
+    ∙ fits_long (relation_at c.relations at).types (slice_index_or rows i [])
+    ((catalog.kept at no_relation low).typed i [] within)
+
+-- ---- all leaves
+
+holds_kept : (c : Catalog) (at : ℕ) (p : Shape) (es fs : List Entry)
+    → ((u : List ℕ) → cnt fs u ≡ cnt es u) → Holds c at p es → Holds c at p fs
+holds_kept c at p es fs same h = record {
+  exact = λ u wide. (
+    λ there. (h.exact u wide).0 (let e = same u in omega arith),
+    λ is. (let e = same u in let s = (h.exact u wide).1 is in omega arith),
+  );
+}
+
+pub step_filled : (c : Catalog) (atoms : List NumberedAtom) (ps : List Shape) (j : ℕ)
+    (m : NumberedAtom) (p : Shape) (old mid new : Reducts)
+    → length atoms ≤ old.tree.leaves → j < length atoms
+    → slice_get atoms j ≡ Some m → slice_get ps j ≡ Some p
+    → AreFilled c atoms ps j old mid → IsFilled c m.relation p j mid new
+    → AreFilled c atoms ps (j + 1) old new
+step_filled c atoms ps j m p old mid new few within at there h fills =
+    let leaves = ap (λ (t : Tree). t.leaves) h.tree in
+    record {
+      tree = fills.tree ∙ h.tree;
+      bare = fills.bare;
+      filled = λ k n r e f low.
+          elim (cases_eq k j) [
+            | inl here ↦
+                let same : m ≡ n = same_Some m n (sym at ∙ ap (slice_get atoms) (sym here) ∙ e) in
+                let also : p ≡ r = same_Some p r (sym there ∙ ap (slice_get ps) (sym here) ∙ f) in
+                subst (λ (i : ℕ). Holds c n.relation r (entries_at new.tables i)) (sym here)
+                (subst (λ (s : Shape). Holds c n.relation s (entries_at new.tables j)) also
+                (subst (λ (o : NumberedAtom). Holds c o.relation p (entries_at new.tables j)) same
+                fills.holds))
+            | inr apart ↦
+                holds_kept c n.relation r (entries_at mid.tables k) (entries_at new.tables k)
+                (fills.others k (omega arith) apart)
+                (h.filled k n r e f (omega arith))
+          ];
+      empty = λ k from low u.
+          fills.others k (omega arith) (λ e. absurd (omega arith)) u
+          ∙ h.empty k (omega arith) low u;
+    }

@@ -1,0 +1,5 @@
+use Rattle.djq_live.proofs.Placing.{deleted_went}
+use Rattle.djq_live.proofs.changes.deleted_went.Goals as goal
+
+pub returns : goal.returns
+returns c = deleted_went

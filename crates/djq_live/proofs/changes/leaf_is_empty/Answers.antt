@@ -1,0 +1,5 @@
+use Rattle.djq_live.proofs.Filled.{leaf_empty}
+use Rattle.djq_live.proofs.changes.leaf_is_empty.Goals as goal
+
+pub returns : goal.returns
+returns c = leaf_empty

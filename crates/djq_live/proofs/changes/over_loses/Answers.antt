@@ -1,0 +1,5 @@
+use Rattle.djq_live.proofs.Changing.{over_loses}
+use Rattle.djq_live.proofs.changes.over_loses.Goals as goal
+
+pub returns : goal.returns
+returns c = over_loses

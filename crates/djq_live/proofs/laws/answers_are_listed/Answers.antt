@@ -1,0 +1,5 @@
+use Rattle.djq_live.proofs.Showing.{listed}
+use Rattle.djq_live.proofs.laws.answers_are_listed.Goals as goal
+
+pub returns : goal.returns
+returns c = listed

@@ -1,0 +1,5 @@
+use Rattle.djq_live.proofs.Showing.{are_shown}
+use Rattle.djq_live.proofs.laws.answers_are_shown.Goals as goal
+
+pub returns : goal.returns
+returns c = are_shown

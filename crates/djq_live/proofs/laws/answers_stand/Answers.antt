@@ -1,0 +1,5 @@
+use Rattle.djq_live.proofs.Showing.{stand}
+use Rattle.djq_live.proofs.laws.answers_stand.Goals as goal
+
+pub returns : goal.returns
+returns c = stand

@@ -1,0 +1,5 @@
+use Rattle.djq_live.proofs.Typing.{numbered_asked}
+use Rattle.djq_live.proofs.laws.numbered_is_asked.Goals as goal
+
+pub returns : goal.returns
+returns c = numbered_asked

@@ -1,0 +1,205 @@
+use Rattle.std.proofs.Common.{ℕ, length, sym, subst, ◌∙◌, arith}
+use Rattle.djq_live.specs.Changes.{Came, Gains}
+use Rattle.djq_live.specs.Live.{Live}
+use Rattle.djq_live.specs.Updating.{CountsDelta}
+use Rattle.djq_live.proofs.Below.{below_at}
+use Rattle.djq_live.proofs.Rowing.{leaves_as, put_there}
+use Rattle.djq_live.proofs.Living.{
+  can_add,
+  add_leaves,
+  add_lacks,
+  follows_came,
+  given_back,
+  same_query,
+  logs_came,
+  counts_came,
+}
+use Rattle.djq_live.proofs.live.LiveQuery.add.Goals as goal
+
+pub add_to_leaves-done-requires-clause-leaves : goal.add_to_leaves-done-requires-clause-leaves
+add_to_leaves-done-requires-clause-leaves g c =
+    let l : Live = record {
+      query = c.self.inside.query;
+      numbered = c.self.inside.numbered;
+      patterns = c.self.inside.patterns.items;
+      reducts = c.self.inside.reducts;
+      cursors = c.self.inside.cursors;
+    } in
+    add_leaves l c.args.relation.at
+    c.args.cells.now c.atoms-atoms.result.now c.as_slice-patterns.result.now c.atoms-atoms.ensures
+    c.as_slice-patterns.ensures.value
+    (can_add l c.args.self.now c.args.relation.at c.args.cells.now c.self.view_is c.requires)
+
+pub add_to_leaves-done-requires-clause-absent : goal.add_to_leaves-done-requires-clause-absent
+add_to_leaves-done-requires-clause-absent g c =
+    let l : Live = record {
+      query = c.self.inside.query;
+      numbered = c.self.inside.numbered;
+      patterns = c.self.inside.patterns.items;
+      reducts = c.self.inside.reducts;
+      cursors = c.self.inside.cursors;
+    } in
+    add_lacks l c.args.relation.at
+    c.args.cells.now c.atoms-atoms.result.now c.as_slice-patterns.result.now c.atoms-atoms.ensures
+    c.as_slice-patterns.ensures.value
+    (can_add l c.args.self.now c.args.relation.at c.args.cells.now c.self.view_is c.requires)
+
+pub add_to_leaves-done-requires-clause-bare : goal.add_to_leaves-done-requires-clause-bare
+add_to_leaves-done-requires-clause-bare g c =
+    let l : Live = record {
+      query = c.self.inside.query;
+      numbered = c.self.inside.numbered;
+      patterns = c.self.inside.patterns.items;
+      reducts = c.self.inside.reducts;
+      cursors = c.self.inside.cursors;
+    } in
+    (can_add l c.args.self.now c.args.relation.at c.args.cells.now c.self.view_is
+    c.requires).kept.bare
+
+pub returns-then-done-atoms-clause-added : goal.returns-then-done-atoms-clause-added
+returns-then-done-atoms-clause-added g c =
+    let l : Live = record {
+      query = c.self.inside.query;
+      numbered = c.self.inside.numbered;
+      patterns = c.self.inside.patterns.items;
+      reducts = c.self.inside.reducts;
+      cursors = c.self.inside.cursors;
+    } in
+    follows_came l c.args.self.now c.add_to_leaves-done.new.reducts c.args.relation.at
+    c.args.cells.now c.atoms-atoms.result.now c.as_slice-patterns.result.now c.self.view_is
+    c.atoms-atoms.ensures c.as_slice-patterns.ensures.value
+    (below_at (λ p old new. Gains p c.args.cells.now old new) c.args.relation.at
+    c.atoms-atoms.result.now c.as_slice-patterns.result.now c.add_to_leaves-done.result
+    (length c.atoms-atoms.result.now) c.self.inside.reducts c.add_to_leaves-done.new.reducts
+    (let e = c.if-done-atoms.true in omega arith) (let e = c.if-done-atoms.true in omega arith)
+    c.add_to_leaves-done.ensures.gained)
+
+pub returns-then-done-atoms-clause-same : goal.returns-then-done-atoms-clause-same
+returns-then-done-atoms-clause-same g c =
+    let l : Live = record {
+      query = c.self.inside.query;
+      numbered = c.self.inside.numbered;
+      patterns = c.self.inside.patterns.items;
+      reducts = c.self.inside.reducts;
+      cursors = c.self.inside.cursors;
+    } in
+    same_query l c.args.self.now c.add_to_leaves-done.new.reducts c.self.view_is
+    c.add_to_leaves-done.ensures.gained.tree
+
+pub returns-then-done-atoms-clause-log : goal.returns-then-done-atoms-clause-log
+returns-then-done-atoms-clause-log g c =
+    let l : Live = record {
+      query = c.self.inside.query;
+      numbered = c.self.inside.numbered;
+      patterns = c.self.inside.patterns.items;
+      reducts = c.self.inside.reducts;
+      cursors = c.self.inside.cursors;
+    } in
+    logs_came c.args.wanted l c.args.self.now c.add_to_leaves-done.new.reducts c.args.relation.at
+    c.args.cells.now c.atoms-atoms.result.now c.as_slice-patterns.result.now
+    (length c.self.inside.reducts.tree.head) _ c.args.log.now c.add_to_leaves-done.new.log
+    c.args.steps.now.listing c.add_to_leaves-done.new.steps.listing c.self.view_is
+    c.atoms-atoms.ensures c.as_slice-patterns.ensures.value
+    c.add_to_leaves-done.ensures.more
+    (below_at (λ p old new. Gains p c.args.cells.now old new) c.args.relation.at
+    c.atoms-atoms.result.now c.as_slice-patterns.result.now c.add_to_leaves-done.result
+    (length c.atoms-atoms.result.now) c.self.inside.reducts c.add_to_leaves-done.new.reducts
+    (let e = c.if-done-atoms.true in omega arith) (let e = c.if-done-atoms.true in omega arith)
+    c.add_to_leaves-done.ensures.gained)
+    c.add_to_leaves-done.ensures.listed
+
+pub returns-then-done-atoms-clause-counted : goal.returns-then-done-atoms-clause-counted
+returns-then-done-atoms-clause-counted g c =
+    let l : Live = record {
+      query = c.self.inside.query;
+      numbered = c.self.inside.numbered;
+      patterns = c.self.inside.patterns.items;
+      reducts = c.self.inside.reducts;
+      cursors = c.self.inside.cursors;
+    } in
+    counts_came c.args.wanted l c.args.self.now c.add_to_leaves-done.new.reducts c.args.relation.at
+    c.args.cells.now c.atoms-atoms.result.now c.as_slice-patterns.result.now
+    c.add_to_leaves-done.result c.args.log.now c.add_to_leaves-done.new.log
+    c.args.steps.now.listing c.add_to_leaves-done.new.steps.listing c.self.view_is
+    c.atoms-atoms.ensures c.as_slice-patterns.ensures.value
+    c.add_to_leaves-done.ensures.more c.add_to_leaves-done.ensures.gained
+    c.add_to_leaves-done.ensures.listed
+
+pub give_from_leaves-requires-clause-leaves : goal.give_from_leaves-requires-clause-leaves
+give_from_leaves-requires-clause-leaves g c =
+    let l : Live = record {
+      query = c.self.inside.query;
+      numbered = c.self.inside.numbered;
+      patterns = c.self.inside.patterns.items;
+      reducts = c.self.inside.reducts;
+      cursors = c.self.inside.cursors;
+    } in
+    leaves_as c.args.relation.at
+    c.args.cells.now c.atoms-atoms.result.now c.as_slice-patterns.result.now c.self.inside.reducts
+    c.add_to_leaves-done.new.reducts
+    c.add_to_leaves-done.ensures.gained.tree
+    (add_leaves l c.args.relation.at
+    c.args.cells.now c.atoms-atoms.result.now c.as_slice-patterns.result.now c.atoms-atoms.ensures
+    c.as_slice-patterns.ensures.value
+    (can_add l c.args.self.now c.args.relation.at c.args.cells.now c.self.view_is c.requires))
+
+pub give_from_leaves-requires-clause-end : goal.give_from_leaves-requires-clause-end
+give_from_leaves-requires-clause-end g c = c.add_to_leaves-done.ensures.done
+
+pub give_from_leaves-requires-clause-there : goal.give_from_leaves-requires-clause-there
+give_from_leaves-requires-clause-there g c =
+    put_there c.args.cells.now c.args.relation.at c.atoms-atoms.result.now
+    c.as_slice-patterns.result.now c.add_to_leaves-done.result c.self.inside.reducts
+    c.add_to_leaves-done.new.reducts c.add_to_leaves-done.ensures.gained
+
+pub give_from_leaves-requires-clause-bare : goal.give_from_leaves-requires-clause-bare
+give_from_leaves-requires-clause-bare g c = c.add_to_leaves-done.ensures.gained.bare
+
+pub returns-clause-refused : goal.returns-clause-refused
+returns-clause-refused g c =
+    let l : Live = record {
+      query = c.self.inside.query;
+      numbered = c.self.inside.numbered;
+      patterns = c.self.inside.patterns.items;
+      reducts = c.self.inside.reducts;
+      cursors = c.self.inside.cursors;
+    } in
+    given_back l c.args.self.now c.add_to_leaves-done.new.reducts
+    c.give_from_leaves.new.reducts c.args.relation.at
+    c.args.cells.now c.atoms-atoms.result.now c.as_slice-patterns.result.now
+    c.add_to_leaves-done.result c.self.view_is
+    c.atoms-atoms.ensures c.as_slice-patterns.ensures.value
+    (can_add l c.args.self.now c.args.relation.at c.args.cells.now c.self.view_is c.requires)
+    c.add_to_leaves-done.ensures.gained c.give_from_leaves.ensures.lost
+
+pub returns-clause-same : goal.returns-clause-same
+returns-clause-same g c =
+    let l : Live = record {
+      query = c.self.inside.query;
+      numbered = c.self.inside.numbered;
+      patterns = c.self.inside.patterns.items;
+      reducts = c.self.inside.reducts;
+      cursors = c.self.inside.cursors;
+    } in
+    same_query l c.args.self.now c.give_from_leaves.new.reducts c.self.view_is
+    (c.give_from_leaves.ensures.lost.tree ∙ c.add_to_leaves-done.ensures.gained.tree)
+
+pub returns-clause-counted : goal.returns-clause-counted
+returns-clause-counted g c =
+    let l : Live = record {
+      query = c.self.inside.query;
+      numbered = c.self.inside.numbered;
+      patterns = c.self.inside.patterns.items;
+      reducts = c.self.inside.reducts;
+      cursors = c.self.inside.cursors;
+    } in
+    subst (λ (n : ℕ). CountsDelta c.args.wanted (λ x y. Came x y c.args.relation.at
+    c.args.cells.now) c.args.self.now c.args.relation.at c.args.steps.now.listing n)
+    (sym c.give_from_leaves.ensures.listing)
+    (counts_came c.args.wanted l c.args.self.now c.add_to_leaves-done.new.reducts c.args.relation.at
+    c.args.cells.now c.atoms-atoms.result.now c.as_slice-patterns.result.now
+    c.add_to_leaves-done.result c.args.log.now c.add_to_leaves-done.new.log
+    c.args.steps.now.listing c.add_to_leaves-done.new.steps.listing c.self.view_is
+    c.atoms-atoms.ensures c.as_slice-patterns.ensures.value
+    c.add_to_leaves-done.ensures.more c.add_to_leaves-done.ensures.gained
+    c.add_to_leaves-done.ensures.listed)

@@ -1,0 +1,110 @@
+use Rattle.std.proofs.Common.{length, arith}
+use Rattle.djq_live.specs.Live.{Live}
+use Rattle.djq_live.proofs.Living.{
+  can_delete,
+  delete_leaves,
+  delete_there,
+  follows_went,
+  same_query,
+  logs_went,
+  counts_went,
+}
+use Rattle.djq_live.proofs.live.LiveQuery.delete.Goals as goal
+
+pub take_from_leaves-requires-clause-leaves : goal.take_from_leaves-requires-clause-leaves
+take_from_leaves-requires-clause-leaves g c =
+    let l : Live = record {
+      query = c.self.inside.query;
+      numbered = c.self.inside.numbered;
+      patterns = c.self.inside.patterns.items;
+      reducts = c.self.inside.reducts;
+      cursors = c.self.inside.cursors;
+    } in
+    delete_leaves l c.args.relation.at c.args.cells.now c.atoms-atoms.result.now
+    c.as_slice-patterns.result.now c.atoms-atoms.ensures c.as_slice-patterns.ensures.value
+    (can_delete l c.args.self.now c.args.relation.at c.args.cells.now c.self.view_is c.requires)
+
+pub take_from_leaves-requires-clause-end : goal.take_from_leaves-requires-clause-end
+take_from_leaves-requires-clause-end g c = omega arith
+
+pub take_from_leaves-requires-clause-there : goal.take_from_leaves-requires-clause-there
+take_from_leaves-requires-clause-there g c =
+    let l : Live = record {
+      query = c.self.inside.query;
+      numbered = c.self.inside.numbered;
+      patterns = c.self.inside.patterns.items;
+      reducts = c.self.inside.reducts;
+      cursors = c.self.inside.cursors;
+    } in
+    delete_there l c.args.relation.at c.args.cells.now c.atoms-atoms.result.now
+    c.as_slice-patterns.result.now c.atoms-atoms.ensures c.as_slice-patterns.ensures.value
+    (can_delete l c.args.self.now c.args.relation.at c.args.cells.now c.self.view_is c.requires)
+
+pub take_from_leaves-requires-clause-bare : goal.take_from_leaves-requires-clause-bare
+take_from_leaves-requires-clause-bare g c =
+    let l : Live = record {
+      query = c.self.inside.query;
+      numbered = c.self.inside.numbered;
+      patterns = c.self.inside.patterns.items;
+      reducts = c.self.inside.reducts;
+      cursors = c.self.inside.cursors;
+    } in
+    (can_delete l c.args.self.now c.args.relation.at c.args.cells.now c.self.view_is
+    c.requires).kept.bare
+
+pub returns-clause-deleted : goal.returns-clause-deleted
+returns-clause-deleted g c =
+    let l : Live = record {
+      query = c.self.inside.query;
+      numbered = c.self.inside.numbered;
+      patterns = c.self.inside.patterns.items;
+      reducts = c.self.inside.reducts;
+      cursors = c.self.inside.cursors;
+    } in
+    follows_went l c.args.self.now c.take_from_leaves.new.reducts c.args.relation.at
+    c.args.cells.now c.atoms-atoms.result.now c.as_slice-patterns.result.now c.self.view_is
+    c.atoms-atoms.ensures c.as_slice-patterns.ensures.value c.take_from_leaves.ensures.lost
+
+pub returns-clause-same : goal.returns-clause-same
+returns-clause-same g c =
+    let l : Live = record {
+      query = c.self.inside.query;
+      numbered = c.self.inside.numbered;
+      patterns = c.self.inside.patterns.items;
+      reducts = c.self.inside.reducts;
+      cursors = c.self.inside.cursors;
+    } in
+    same_query l c.args.self.now c.take_from_leaves.new.reducts c.self.view_is
+    c.take_from_leaves.ensures.lost.tree
+
+pub returns-clause-log : goal.returns-clause-log
+returns-clause-log g c =
+    let l : Live = record {
+      query = c.self.inside.query;
+      numbered = c.self.inside.numbered;
+      patterns = c.self.inside.patterns.items;
+      reducts = c.self.inside.reducts;
+      cursors = c.self.inside.cursors;
+    } in
+    logs_went c.args.wanted l c.args.self.now c.take_from_leaves.new.reducts c.args.relation.at
+    c.args.cells.now c.atoms-atoms.result.now c.as_slice-patterns.result.now
+    (length c.self.inside.reducts.tree.head) _ c.args.log.now c.take_from_leaves.new.log
+    c.args.steps.now.listing c.take_from_leaves.new.steps.listing c.self.view_is
+    c.atoms-atoms.ensures c.as_slice-patterns.ensures.value c.take_from_leaves.ensures.fewer
+    c.take_from_leaves.ensures.lost c.take_from_leaves.ensures.listed
+
+pub returns-clause-counted : goal.returns-clause-counted
+returns-clause-counted g c =
+    let l : Live = record {
+      query = c.self.inside.query;
+      numbered = c.self.inside.numbered;
+      patterns = c.self.inside.patterns.items;
+      reducts = c.self.inside.reducts;
+      cursors = c.self.inside.cursors;
+    } in
+    counts_went c.args.wanted l c.args.self.now c.take_from_leaves.new.reducts
+    c.args.relation.at c.args.cells.now c.atoms-atoms.result.now c.as_slice-patterns.result.now
+    c.args.log.now c.take_from_leaves.new.log c.args.steps.now.listing
+    c.take_from_leaves.new.steps.listing c.self.view_is c.atoms-atoms.ensures
+    c.as_slice-patterns.ensures.value c.take_from_leaves.ensures.fewer
+    c.take_from_leaves.ensures.lost c.take_from_leaves.ensures.listed

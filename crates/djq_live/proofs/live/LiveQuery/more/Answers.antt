@@ -1,0 +1,19 @@
+use Rattle.std.proofs.Common.{arith}
+use Rattle.djq_live.proofs.Advancing.{more_gives, slot_fits}
+use Rattle.djq_live.proofs.Asking.{narrow}
+use Rattle.djq_live.proofs.live.LiveQuery.more.Goals as goal
+
+pub look-requires-clause-fits : goal.look-requires-clause-fits
+look-requires-clause-fits g c p e =
+    slot_fits _ c.args.self.now c.args.slot p c.self.view_is c.requires.fits e
+
+pub returns-clause-gives : goal.returns-clause-gives
+returns-clause-gives g c cat live =
+    more_gives cat _ c.args.self.now c.args.slot c.look.result c.look.new.self c.self.view_is live
+    c.look.ensures.looks
+
+pub returns-clause-counted : goal.returns-clause-counted
+returns-clause-counted g c cat live =
+    let short = narrow cat _ c.args.self.now c.self.view_is live in
+    let counted = c.look.ensures.counted in
+    omega arith

@@ -1,0 +1,16 @@
+use Rattle.std.proofs.Common.{List, ℕ, sym, subst}
+use Rattle.std.specs.Prelude.{◌↔◌, Contains}
+use Rattle.djq_live.proofs.Ordering.{Rises, ordered_rises, ordered_members}
+use Rattle.djq_live.proofs.rest.name_rest.Goals as goal
+
+pub returns : goal.returns
+returns c =
+    let is = c.in_ok-edges.ensures in
+    record {
+      order = subst (λ (edges : List (List ℕ)). Rises edges) (sym is)
+          (ordered_rises c.args.rest.now);
+      edges = subst (λ (edges : List (List ℕ)). (e : List ℕ)
+          → Contains edges e ↔ Contains c.args.rest.now e) (sym is)
+          (ordered_members c.args.rest.now);
+      names = c.in_ok-names.ensures;
+    }

@@ -1,0 +1,5 @@
+use Rattle.djq_live.proofs.Untouched.{stays_lives}
+use Rattle.djq_live.proofs.staying.live_stays.Goals as goal
+
+pub returns : goal.returns
+returns c = stays_lives

@@ -1,0 +1,10 @@
+use Rattle.djq_live.proofs.Leafing.{marked_loses, only_as}
+use Rattle.djq_live.proofs.stepping.give_from_leaf.Goals as goal
+
+pub returns-clause-lost : goal.returns-clause-lost
+returns-clause-lost g c =
+    marked_loses c.args.cells.now c.as_slice.result.now c.args.pattern.now c.args.leaf
+    c.args.reducts.now c.mark_removal.new.reducts c.finish_removal.new.reducts
+    (only_as c.args.pattern.now c.args.cells.now c.in-Some.tuple c.as_slice.result.now
+    c.as_slice.ensures c.in-Some.ensures.exact) c.laws.ensures.sound c.mark_removal.ensures.marked
+    c.finish_removal.ensures.dropped

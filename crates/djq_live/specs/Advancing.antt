@@ -1,0 +1,73 @@
+-- What reads of one cursor do, in tuples of the tree.
+use Rattle.std.specs.Prelude.{
+  ℕ,
+  List,
+  [],
+  ◌∷◌,
+  ◌++◌,
+  ◌≡◌,
+  Bool,
+  true,
+  false,
+  ⊤,
+  Option,
+  Some,
+  slice_set,
+}
+use Rattle.djq_reduct.specs.Reducts.{Reducts}
+use Rattle.djq_cursor.specs.declared.cursor.Cursor.{Cursor}
+use Rattle.djq_reduct.specs.Answers.{IsAnswerOf}
+use Rattle.djq_cursor.specs.Listing.{AreSome, IsListing}
+use Rattle.djq_cursor.specs.Given.{given, Fits}
+use Rattle.djq_live.specs.declared.cursors.Progress.{Progress}
+use Rattle.djq_live.specs.declared.cursors.Progress.TheVariants.{Open, Stale}
+use Rattle.djq_live.specs.declared.listing.Next.{Next}
+use Rattle.djq_live.specs.declared.listing.Next.TheVariants.{Given, End, Stale as IsStale}
+use Rattle.djq_live.specs.Cursors.{slot_at}
+
+-- an open cursor fits the reducts
+abbrev pub FitsOver : Reducts → Progress → Type 0
+FitsOver r (Open cursor ended) = Fits r cursor
+FitsOver r (Stale relation n) = ⊤
+
+-- the cursor isn't stale
+abbrev pub IsOpen : Progress → Type 0
+IsOpen (Open cursor ended) = ⊤
+IsOpen (Stale relation n) = ⊥
+
+-- A cursor goes on by one answer that it hasn't given.
+pub record Advances (r : Reducts) (old : Cursor) (u : List ℕ) (new : Cursor) : Type 0 where
+  pub fits : Fits r new
+  pub gives : given r new ≡ given r old ++ u ∷ []
+  pub some : AreSome (IsAnswerOf r) (given r new)
+
+-- A cursor has given each answer, and stays there.
+pub record Ends (r : Reducts) (old new : Cursor) : Type 0 where
+  pub fits : Fits r new
+  pub gives : given r new ≡ given r old
+  pub all : IsListing (IsAnswerOf r) (given r old)
+
+-- What a read gives: one answer that is left, the end exactly where none is, or what made the
+-- cursor stale.
+abbrev pub Reads : Reducts → Progress → Next → List ℕ → Progress → Type 0
+Reads r (Open old ended) Given u (Open new e) = Advances r old u new × (e ≡ false)
+Reads r (Open old ended) End u (Open new e) = Ends r old new × (e ≡ true)
+Reads r (Stale q m) (IsStale relation n) u new = (relation ≡ q) × (n ≡ m) × (new ≡ Stale q m)
+Reads r _ _ u _ = ⊥
+
+-- A look at whether an answer is left: the cursor has given what it had given before.
+abbrev pub Looks : Reducts → Progress → Bool → Progress → Type 0
+Looks r (Open old ended) true new =
+    (new ≡ Open old false) × ((u : List ℕ) × (next : Cursor) × Advances r old u next)
+Looks r (Open old ended) false new =
+    (new ≡ Open old true) × IsListing (IsAnswerOf r) (given r old)
+Looks r (Stale q m) left new = ⊥
+
+-- the cursor in a slot is read so, and the others are as before
+pub record InSlot (Read : Progress → Progress → Type 0) (old : List (Option Progress)) (k : ℕ)
+    (new : List (Option Progress)) : Type 0 where
+  pub before : Progress
+  pub there : slot_at old k ≡ Some before
+  pub after : Progress
+  pub read : Read before after
+  pub is : new ≡ slice_set old k (Some after)

@@ -1,0 +1,143 @@
+-- What becomes of a registered query where a row comes or goes.
+use Rattle.std.specs.Prelude.{
+  ◌≡◌,
+  ◌≢◌,
+  ◌↔◌,
+  ◌⊎◌,
+  ℕ,
+  ◌<◌,
+  ◌≤◌,
+  List,
+  [],
+  ◌∷◌,
+  ◌++◌,
+  length,
+  Some,
+  Contains,
+  map,
+  slice_get,
+}
+use Rattle.djq_model.specs.declared.query.Query.{Query}
+use Rattle.djq_model.specs.Data.{Bytes, Tuple, without_row}
+use Rattle.djq_index.specs.Entries.{Entry, cnt}
+use Rattle.djq_reduct.specs.Tables.{entries_at}
+use Rattle.djq_reduct.specs.Reducts.{Reducts, IsReducts}
+use Rattle.djq_query.specs.declared.numbered.NumberedAtom.{NumberedAtom}
+use Rattle.djq_query.specs.Numbered.{Numbered}
+use Rattle.djq_query.specs.Pattern.{Shape, filled}
+use Rattle.djq_rows.specs.Cells.{cells_of}
+use Rattle.djq_rows.specs.Catalog.{
+  Catalog,
+  IsCatalog,
+  StandForRow,
+  relation_at,
+  rows_at,
+  with_rows_at,
+}
+use Rattle.djq_live.specs.Leaves.{Holds, IsOver}
+
+-- A later catalog: the relations are there with their names and types, and further relations and
+-- texts may be.
+pub record IsLater (c d : Catalog) : Type 0 where
+  pub catalog : IsCatalog d
+  pub more : List Bytes
+  pub texts : d.texts ≡ c.texts ++ more
+  pub long : length c.relations ≤ length d.relations
+  pub named : (at : ℕ) → at < length c.relations
+      → (relation_at d.relations at).name ≡ (relation_at c.relations at).name
+  pub typed : (at : ℕ) → at < length c.relations
+      → (relation_at d.relations at).types ≡ (relation_at c.relations at).types
+
+-- no relation has other rows
+pub record HasSameRows (c d : Catalog) : Type 0 where
+  pub later : IsLater c d
+  pub same : (at : ℕ) → at < length c.relations → rows_at d.relations at ≡ rows_at c.relations at
+
+-- a row with these cells came into the relation at a place
+pub record Came (c d : Catalog) (at : ℕ) (cells : List ℕ) (row : Tuple) : Type 0 where
+  pub later : IsLater c d
+  pub stand : StandForRow d at cells row
+  pub rows : rows_at d.relations at ≡ rows_at c.relations at ++ row ∷ []
+  pub others : (k : ℕ) → k < length c.relations → k ≢ at
+      → rows_at d.relations k ≡ rows_at c.relations k
+
+-- it went out of it
+pub record Went (c d : Catalog) (at : ℕ) (cells : List ℕ) (row : Tuple) : Type 0 where
+  pub later : IsLater c d
+  pub stand : StandForRow d at cells row
+  pub rows : rows_at d.relations at ≡ without_row (rows_at c.relations at) row
+  pub others : (k : ℕ) → k < length c.relations → k ≢ at
+      → rows_at d.relations k ≡ rows_at c.relations k
+
+-- the entries gained the tuples that put into the atom give these cells, of which there is one at
+-- most; or they lost them
+abbrev pub Gains : Shape → List ℕ → List Entry → List Entry → Type 0
+Gains p cells old new = (u : List ℕ) → length u ≡ p.width
+    → (0 < cnt new u) ↔ ((0 < cnt old u) ⊎ (filled u p.slots ≡ cells))
+
+abbrev pub Loses : Shape → List ℕ → List Entry → List Entry → Type 0
+Loses p cells old new = (u : List ℕ) → length u ≡ p.width
+    → (0 < cnt new u) ↔ ((0 < cnt old u) × (filled u p.slots ≢ cells))
+
+-- the entries hold the same tuples
+abbrev pub Keeps : List Entry → List Entry → Type 0
+Keeps old new = (u : List ℕ) → cnt new u ≡ cnt old u
+
+-- the leaves of the atoms over the relation at a place changed so, and the others hold the same
+pub record LeavesChange (Changes : Shape → List Entry → List Entry → Type 0) (at : ℕ)
+    (n : Numbered) (ps : List Shape) (r s : Reducts) : Type 0 where
+  pub reducts : IsReducts s
+  pub tree : s.tree ≡ r.tree
+  pub over : (j : ℕ) (m : NumberedAtom) (p : Shape) → slice_get n.atoms j ≡ Some m
+      → slice_get ps j ≡ Some p → m.relation ≡ at
+      → Changes p (entries_at r.tables j) (entries_at s.tables j)
+  pub others : (j : ℕ) (m : NumberedAtom) → slice_get n.atoms j ≡ Some m → m.relation ≢ at
+      → Keeps (entries_at r.tables j) (entries_at s.tables j)
+
+-- Where no rows change, the reducts stay those of the query.
+abbrev pub OverStays : Type 0
+OverStays = (c d : Catalog) (q : Query) (n : Numbered) (ps : List Shape) (r : Reducts)
+    → IsOver c q n ps r → HasSameRows c d → IsOver d q n ps r
+
+-- Where a row came, they are once the leaves have gained its tuples.
+abbrev pub OverGains : Type 0
+OverGains = (c d : Catalog) (q : Query) (n : Numbered) (ps : List Shape) (r s : Reducts) (at : ℕ)
+    (cells : List ℕ) (row : Tuple) → IsOver c q n ps r → Came c d at cells row
+    → LeavesChange (λ p old new. Gains p cells old new) at n ps r s → IsOver d q n ps s
+
+-- Where a row went, they are once the leaves have lost its tuples.
+abbrev pub OverLoses : Type 0
+OverLoses = (c d : Catalog) (q : Query) (n : Numbered) (ps : List Shape) (r s : Reducts) (at : ℕ)
+    (cells : List ℕ) (row : Tuple) → IsOver c q n ps r → Went c d at cells row
+    → LeavesChange (λ p old new. Loses p cells old new) at n ps r s → IsOver d q n ps s
+
+-- A row that is added to a catalog came, and one that is deleted went.
+abbrev pub AddedCame : Type 0
+AddedCame = (c d : Catalog) (at : ℕ) (cells : List ℕ) (row : Tuple) → IsCatalog d
+    → at < length c.relations → StandForRow c at cells row → d.texts ≡ c.texts
+    → d.relations ≡ with_rows_at c.relations at (rows_at c.relations at ++ row ∷ [])
+    → Came c d at cells row
+
+abbrev pub DeletedWent : Type 0
+DeletedWent = (c d : Catalog) (at : ℕ) (cells : List ℕ) (row : Tuple) → IsCatalog d
+    → at < length c.relations → StandForRow c at cells row → d.texts ≡ c.texts
+    → d.relations ≡ with_rows_at c.relations at (without_row (rows_at c.relations at) row)
+    → Went c d at cells row
+
+-- a leaf's entries hold exactly the tuples that put into the atom give one of these rows of cells
+abbrev pub HoldsThese : List (List ℕ) → Shape → List Entry → Type 0
+HoldsThese rows p es = (u : List ℕ) → length u ≡ p.width
+    → (0 < cnt es u) ↔ Contains rows (filled u p.slots)
+
+-- A leaf is filled row by row: without tuples it holds those of no rows, a row more makes it gain
+-- the row's tuples, and with all rows of a relation it holds what it should.
+abbrev pub LeafIsEmpty : Type 0
+LeafIsEmpty = (p : Shape) (es : List Entry) → ((u : List ℕ) → cnt es u ≡ 0) → HoldsThese [] p es
+
+abbrev pub LeafGains : Type 0
+LeafGains = (rows : List (List ℕ)) (cells : List ℕ) (p : Shape) (old new : List Entry)
+    → HoldsThese rows p old → Gains p cells old new → HoldsThese (rows ++ cells ∷ []) p new
+
+abbrev pub LeafIsFilled : Type 0
+LeafIsFilled = (c : Catalog) (at : ℕ) (p : Shape) (es : List Entry)
+    → HoldsThese (map (cells_of c.texts) (rows_at c.relations at)) p es → Holds c at p es

@@ -1,0 +1,16 @@
+pub mod Cells
+pub mod Asked
+pub mod Leaves
+pub mod Shown
+pub mod Changes
+pub mod Cursors
+pub mod Advancing
+pub mod Order
+pub mod Live
+pub mod Planning
+pub mod Updating
+pub mod Reading
+pub mod Staying
+pub mod Stepping
+pub mod Ordering
+pub mod Building

@@ -1,0 +1,117 @@
+-- What becomes of reducts where a row's tuples come or go, leaf after leaf, and what a log tells of
+-- it.
+use Rattle.std.specs.Prelude.{
+  ◌≡◌,
+  ◌≢◌,
+  ◌==◌,
+  ◌+◌,
+  ◌*◌,
+  ℕ,
+  ◌<◌,
+  ◌≤◌,
+  Bool,
+  true,
+  false,
+  List,
+  ◌++◌,
+  length,
+  map,
+  take,
+  filter,
+  Some,
+  slice_get,
+}
+use Rattle.djq_machine.specs.Store.{most_steps}
+use Rattle.djq_index.specs.Entries.{Entry, cnt}
+use Rattle.djq_tree.specs.Labels.{label_at}
+use Rattle.djq_reduct.specs.Tables.{entries_at}
+use Rattle.djq_reduct.specs.Reducts.{Reducts, IsReducts}
+use Rattle.djq_reduct.specs.Marks.{IsBare}
+use Rattle.djq_cursor.specs.Listing.{IsListing}
+use Rattle.djq_cursor.specs.declared.log.Line.{Line}
+use Rattle.djq_cursor.specs.Log.{Log}
+use Rattle.djq_query.specs.declared.numbered.NumberedAtom.{NumberedAtom}
+use Rattle.djq_query.specs.Pattern.{Shape, filled}
+use Rattle.djq_live.specs.Changes.{Keeps}
+
+-- no entry's tuple gives these cells, put into the atom; or each tuple that gives them is there
+abbrev pub Lacks : List ℕ → Shape → List Entry → Type 0
+Lacks cells p es = (u : List ℕ) → length u ≡ p.width → filled u p.slots ≡ cells → cnt es u ≡ 0
+
+abbrev pub Has : List ℕ → Shape → List Entry → Type 0
+Has cells p es = (u : List ℕ) → length u ≡ p.width → filled u p.slots ≡ cells → 0 < cnt es u
+
+-- One leaf changed so, each other one holds what it held, and no update is unfinished.
+pub record ChangesAt (Changes : Shape → List Entry → List Entry → Type 0) (p : Shape) (j : ℕ)
+    (r s : Reducts) : Type 0 where
+  pub sound : IsReducts s
+  pub tree : s.tree ≡ r.tree
+  pub bare : IsBare s.tables
+  pub leaf : Changes p (entries_at r.tables j) (entries_at s.tables j)
+  pub others : (i : ℕ) → i < r.tree.leaves → i ≢ j
+      → Keeps (entries_at r.tables i) (entries_at s.tables i)
+
+-- So did the leaves below k whose atoms are over the relation at a place; each other one holds what
+-- it held.
+pub record ChangesBelow (Changes : Shape → List Entry → List Entry → Type 0) (at : ℕ)
+    (atoms : List NumberedAtom) (ps : List Shape) (k : ℕ) (r s : Reducts) : Type 0 where
+  pub sound : IsReducts s
+  pub tree : s.tree ≡ r.tree
+  pub bare : IsBare s.tables
+  pub over : (j : ℕ) (m : NumberedAtom) (p : Shape) → j < k → slice_get atoms j ≡ Some m
+      → slice_get ps j ≡ Some p → m.relation ≡ at
+      → Changes p (entries_at r.tables j) (entries_at s.tables j)
+  pub others : (j : ℕ) (m : NumberedAtom) → slice_get atoms j ≡ Some m
+      → (j < k → m.relation ≢ at) → Keeps (entries_at r.tables j) (entries_at s.tables j)
+
+-- the leaves of the one have all tuples that those of the other have
+pub record HasMore (small big : Reducts) : Type 0 where
+  pub tree : big.tree ≡ small.tree
+  pub more : (j : ℕ) (u : List ℕ) → j < small.tree.leaves → 0 < cnt (entries_at small.tables j) u
+      → 0 < cnt (entries_at big.tables j) u
+
+-- The reducts have a leaf for each atom, whose pattern has the leaf's width and a slot for each of
+-- the cells of a row of the relation at a place.
+pub record AreLeaves (at : ℕ) (cells : List ℕ) (atoms : List NumberedAtom) (ps : List Shape)
+    (r : Reducts) : Type 0 where
+  pub long : r.tree.leaves ≡ length atoms
+  pub patterns : length ps ≡ length atoms
+  pub wide : (j : ℕ) (p : Shape) → slice_get ps j ≡ Some p
+      → p.width ≡ length (label_at r.tree.labels j)
+  pub fits : (j : ℕ) (m : NumberedAtom) (p : Shape) → slice_get atoms j ≡ Some m
+      → slice_get ps j ≡ Some p → m.relation ≡ at → length cells ≡ length p.slots
+
+-- the leaves below k whose atoms are over the relation at a place hold such entries
+pub record HoldBelow (Holds : Shape → List Entry → Type 0) (at : ℕ) (atoms : List NumberedAtom)
+    (ps : List Shape) (k : ℕ) (r : Reducts) : Type 0 where
+  pub each : (j : ℕ) (m : NumberedAtom) (p : Shape) → j < k → slice_get atoms j ≡ Some m
+      → slice_get ps j ≡ Some p → m.relation ≡ at → Holds p (entries_at r.tables j)
+
+-- how many of the first k atoms are over the relation at a place
+abbrev pub atoms_below : ℕ → List NumberedAtom → ℕ → ℕ
+atoms_below at atoms k = length (filter (λ a. a.relation == at) (take k atoms))
+
+-- the lines that tell of answers
+abbrev pub lines_of : Bool → List (List ℕ) → List Line
+lines_of came us = map (λ u. record { came = came; answer = u }) us
+
+-- Unless it is lost, the log tells of these answers behind what it told.
+pub record TellsOf (came : Bool) (us : List (List ℕ)) (old new : Log) : Type 0 where
+  pub behind : new.lost ≡ false → new.lines ≡ old.lines ++ lines_of came us
+  pub stays : old.lost ≡ true → new.lost ≡ true
+
+-- The log tells of all tuples that changed; listing them took a call for each, and so many more,
+-- each
+-- of which counts at most what it may in a head of h variables.
+pub record ListsAll (came : Bool) (Changed : List ℕ → Type 0) (h calls : ℕ) (old new : Log)
+    (before now : ℕ) : Type 0 where
+  pub answers : List (List ℕ)
+  pub listing : IsListing Changed answers
+  pub tells : TellsOf came answers old new
+  pub counted : now ≤ before + (length answers + calls) * most_steps h
+
+-- So it is where the delta is wanted; else nothing is listed.
+abbrev pub ListsWhere : Bool → Bool → (List ℕ → Type 0) → ℕ → ℕ → Log → Log → ℕ → ℕ → Type 0
+ListsWhere true came Changed h calls old new before now =
+    ListsAll came Changed h calls old new before now
+ListsWhere false came Changed h calls old new before now = (new ≡ old) × (now ≡ before)

@@ -1,0 +1,76 @@
+-- What becomes of a registered query where a row of a relation comes or goes, and what its log says.
+use Rattle.std.specs.Prelude.{ℕ, List, ◌++◌, ◌≡◌, ◌+◌, ◌*◌, ◌≤◌, ◌==◌, Bool, true, false, Contains, filter, length, map, if◌then◌else◌}
+use Rattle.djq_model.specs.Data.{Bytes, Tuple}
+use Rattle.djq_model.specs.Answer.{IsAnswer}
+use Rattle.djq_lines.specs.declared.answer.Sign.TheVariants.{Came as HasCome, Went as HasGone}
+use Rattle.djq_machine.specs.Delta.{Change, IsDelta}
+use Rattle.djq_machine.specs.Store.{most_steps}
+use Rattle.djq_cursor.specs.declared.log.Line.{Line}
+use Rattle.djq_cursor.specs.Log.{Log}
+use Rattle.djq_rows.specs.Catalog.{Catalog, rows_at}
+use Rattle.djq_live.specs.Changes.{Came, Went}
+use Rattle.djq_live.specs.Live.{Live, IsKept, values_of}
+
+-- A row with these cells came into a relation, whose catalog the query was kept over.
+pub record CanAdd (l : Live) (at : ℕ) (cells : List ℕ) : Type 0 where
+  pub before : Catalog
+  pub after : Catalog
+  pub row : Tuple
+  pub kept : IsKept before l
+  pub came : Came before after at cells row
+
+-- A row with these cells was there, and went out.
+pub record CanDelete (l : Live) (at : ℕ) (cells : List ℕ) : Type 0 where
+  pub before : Catalog
+  pub after : Catalog
+  pub row : Tuple
+  pub kept : IsKept before l
+  pub there : Contains (rows_at before.relations at) row
+  pub went : Went before after at cells row
+
+-- The query is kept over the later catalog, too.
+abbrev pub Follows : (Catalog → Catalog → Tuple → Type 0) → Live → Live → Type 0
+Follows Changed old new = (c d : Catalog) (row : Tuple) → IsKept c old → Changed c d row
+    → IsKept d new
+
+-- the change that a line of a log tells
+abbrev pub change_of : List Bytes → Live → Line → Change
+change_of texts l k = record {
+  sign = if k.came then HasCome else HasGone;
+  answer = values_of texts l k.answer;
+}
+
+-- the answers that came or went as one catalog became another
+abbrev pub IsDeltaOf : Live → Catalog → Catalog → List Change → Type 0
+IsDeltaOf l c d = IsDelta (IsAnswer c.relations l.query) (IsAnswer d.relations l.query)
+
+-- Unless the log is lost, it tells the delta behind what it told.
+pub record Logs (Changed : Catalog → Catalog → Tuple → Type 0) (old : Live) (log new : Log) :
+    Type 0 where
+  pub lines : List Line
+  pub behind : new.lost ≡ false → new.lines ≡ log.lines ++ lines
+  pub tells : new.lost ≡ false → (c d : Catalog) (row : Tuple) → IsKept c old → Changed c d row
+      → IsDeltaOf old c d (map (change_of d.texts old) lines)
+  pub stays : log.lost ≡ true → new.lost ≡ true
+
+-- What becomes of the log, where the delta is wanted and where it isn't.
+abbrev pub LogsWhere : Bool → (Catalog → Catalog → Tuple → Type 0) → Live → Log → Log → Type 0
+LogsWhere true Changed old log new = Logs Changed old log new
+LogsWhere false Changed old log new = new ≡ log
+
+-- how many atoms are over the relation at a place
+abbrev pub atoms_over : Live → ℕ → ℕ
+atoms_over l at = length (filter (λ a. a.relation == at) l.numbered.atoms)
+
+-- What listing a delta counts at most: as much as an answer for each that came or went, and for
+-- each atom over the relation.
+abbrev pub delta_bound : Live → ℕ → List Change → ℕ
+delta_bound l at changes = (length changes + atoms_over l at) * most_steps (length l.query.head)
+
+-- the listing count, where the delta is wanted and where it isn't
+abbrev pub CountsDelta :
+    Bool → (Catalog → Catalog → Tuple → Type 0) → Live → ℕ → ℕ → ℕ → Type 0
+CountsDelta true Changed old at before now = (c d : Catalog) (row : Tuple) (changes : List Change)
+    → IsKept c old → Changed c d row → IsDeltaOf old c d changes
+    → now ≤ before + delta_bound old at changes
+CountsDelta false Changed old at before now = now ≡ before

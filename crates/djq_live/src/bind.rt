@@ -1,0 +1,81 @@
+//! The patterns of a query's atoms.
+ghost use Rattle.std.specs.Prelude.{◌≡◌, ℕ, ◌≤◌, ◌<◌, IfOk, length};
+ghost use Rattle.std.specs.List.{list_any};
+ghost use Rattle.djq_hyper.specs.Hypergraph.{member};
+ghost use Rattle.djq_tree.specs.Labels.{label_at};
+ghost use Rattle.djq_query.specs.Numbered.{is_number};
+ghost use Rattle.djq_live.specs.Asked.{HasConstant, HaveConstants};
+ghost use Rattle.djq_live.specs.Building.{ArePatternsOf, AreBindable};
+ghost use Rattle.djq_live.specs.Leaves.{AreCellsOf, IsCellOf, IsPatternOf};
+
+use djq_hyper::VarSet;
+use djq_model::NoMem;
+use djq_query::{NumberedAtom, NumberedTerm, Pattern};
+use djq_rows::Catalog;
+use djq_tree::Tree;
+use std::alloc::Global;
+
+// The cell of a constant, which has one; of a variable any.
+fn constant_cell(catalog: &Catalog, term: &NumberedTerm) -> u64
+    requires { HasConstant catalog.now.texts term.now }
+    ensures { IsCellOf catalog.now.texts term.now result }
+{
+    match term {
+        NumberedTerm::Variable(_) => 0,
+        NumberedTerm::Constant(value) => match catalog.cell(value) {
+            Some(cell) => cell,
+            None => unreachable!(),
+        },
+    }
+}
+
+// A cell for each term, where the term is a constant its own.
+fn constant_cells(
+    alloc: Global,
+    catalog: &Catalog,
+    terms: &[NumberedTerm],
+) -> Result<Vec<u64>, NoMem>
+    requires { HaveConstants catalog.now.texts terms.now }
+    ensures { IfOk result (λ cells. AreCellsOf catalog.now.texts terms.now cells.items) }
+{
+    let mut cells = Vec::new(alloc);
+    'terms: for i in 0..terms.len() {
+        cells.push(constant_cell(catalog, &terms[i]))?;
+    }
+    Ok(cells)
+}
+
+// The pattern of an atom whose constants have cells, over the set of its variables.
+fn bind_atom(
+    alloc: Global,
+    catalog: &Catalog,
+    atom: &NumberedAtom,
+    label: VarSet,
+) -> Result<Pattern, NoMem>
+    requires constants { HaveConstants catalog.now.texts atom.now.terms }
+    requires label { (x : ℕ) → member x label ≡ list_any (is_number x) atom.now.terms }
+    requires narrow { length label ≤ 16 }
+    ensures { IfOk result (IsPatternOf catalog.now.texts label atom.now) }
+{
+    let cells = constant_cells(alloc, catalog, atom.terms.as_slice())?;
+    atom.bind(alloc, label, &cells)
+}
+
+/// The patterns of atoms whose constants have cells, over the leaves' labels.
+pub(crate) fn bind_atoms(
+    alloc: Global,
+    catalog: &Catalog,
+    atoms: &[NumberedAtom],
+    tree: &Tree,
+) -> Result<Vec<Pattern>, NoMem>
+    requires { AreBindable catalog.now.texts tree.now atoms.now }
+    ensures long { IfOk result (λ ps. length ps.items ≡ length atoms.now) }
+    ensures patterns { IfOk result (λ ps. ArePatternsOf catalog.now.texts tree.now.labels atoms.now
+        ps.items) }
+{
+    let mut patterns = Vec::new(alloc);
+    'atoms: for j in 0..atoms.len() {
+        patterns.push(bind_atom(alloc, catalog, &atoms[j], tree.label(j))?)?;
+    }
+    Ok(patterns)
+}

@@ -1,0 +1,45 @@
+ghost use Rattle.djq_live.specs.Changes.{OverStays, OverGains, OverLoses};
+ghost use Rattle.djq_live.specs.Changes.{AddedCame, DeletedWent};
+ghost use Rattle.djq_live.specs.Changes.{LeafIsEmpty, LeafGains, LeafIsFilled};
+
+/// Where no rows change, the reducts stay those of the query, however many texts and relations more
+/// there are.
+pub fn over_stays()
+    ensures { OverStays }
+{}
+
+/// Where a row came, the reducts are those of the query once each leaf over the row's relation has
+/// gained the tuple that put into its atom gives the row, if there is one.
+pub fn over_gains()
+    ensures { OverGains }
+{}
+
+/// Where a row went, they are once each such leaf has lost that tuple.
+pub fn over_loses()
+    ensures { OverLoses }
+{}
+
+/// A row that a catalog added came.
+pub fn added_came()
+    ensures { AddedCame }
+{}
+
+/// A row that a catalog deleted went.
+pub fn deleted_went()
+    ensures { DeletedWent }
+{}
+
+/// A leaf without tuples holds those of no rows.
+pub fn leaf_is_empty()
+    ensures { LeafIsEmpty }
+{}
+
+/// A leaf that gains a row's tuples holds those of the rows before and of that row.
+pub fn leaf_gains()
+    ensures { LeafGains }
+{}
+
+/// A leaf that holds the tuples of all rows of a relation holds what it should.
+pub fn leaf_is_filled()
+    ensures { LeafIsFilled }
+{}

@@ -1,0 +1,103 @@
+//! The leaves of a query, row by row.
+ghost use Rattle.std.specs.Prelude.{◌≡◌, ℕ, ◌<◌, ◌≤◌, List, IfOk, length};
+ghost use Rattle.djq_index.specs.Entries.{cnt};
+ghost use Rattle.djq_query.specs.Pattern.{filled};
+ghost use Rattle.djq_reduct.specs.Tables.{entries_at};
+ghost use Rattle.djq_reduct.specs.Marks.{IsBare};
+ghost use Rattle.djq_tree.specs.Labels.{label_at};
+ghost use Rattle.djq_live.specs.Building.{
+  AtBoth,
+  AreFilled,
+  IsFilled,
+  SuitsRelation,
+  TakesRow,
+};
+
+use djq_model::NoMem;
+use djq_propagate::{finish_insertion, insert_leaf};
+use djq_query::{NumberedAtom, Pattern};
+use djq_reduct::Reducts;
+use djq_rows::{Catalog, RelationId};
+use djq_steps::Tally;
+use std::sync::ledger::Ledger;
+
+// Takes a row, whose tuple isn't there, into a leaf.
+fn insert_row<U: Ledger>(
+    reducts: &mut Reducts,
+    leaf: usize,
+    pattern: &Pattern,
+    row: &[u64],
+    update: &mut Tally<U>,
+) -> Result<(), NoMem>
+    requires leaf { leaf < reducts.old.tree.leaves }
+    requires width { pattern.now.width ≡ length (label_at reducts.old.tree.labels leaf) }
+    requires columns { length row.now ≡ length pattern.now.slots }
+    requires absent { (u : List ℕ) → length u ≡ pattern.now.width → filled u pattern.now.slots
+        ≡ row.now → cnt (entries_at reducts.old.tables leaf) u ≡ 0 }
+    requires bare { IsBare reducts.old.tables }
+    ensures { IfOk result (λ _. TakesRow pattern.now leaf row.now reducts.old reducts.new) }
+{
+    let Some(tuple) = pattern.matches(row) else {
+        return Ok(());
+    };
+    insert_leaf(reducts, leaf, tuple.as_slice(), update)?;
+    finish_insertion(reducts, leaf, update);
+    Ok(())
+}
+
+// Fills a leaf without tuples with a relation's rows.
+fn fill_leaf<R: Ledger, U: Ledger>(
+    catalog: &Catalog,
+    relation: usize,
+    pattern: &Pattern,
+    leaf: usize,
+    reducts: &mut Reducts,
+    rows: &mut Tally<R>,
+    update: &mut Tally<U>,
+) -> Result<(), NoMem>
+    requires leaf { leaf < reducts.old.tree.leaves }
+    requires suits { SuitsRelation catalog.now (label_at reducts.old.tree.labels leaf) relation
+        pattern.now }
+    requires empty { (u : List ℕ) → cnt (entries_at reducts.old.tables leaf) u ≡ 0 }
+    requires bare { IsBare reducts.old.tables }
+    ensures { IfOk result (λ _. IsFilled catalog.now relation pattern.now leaf reducts.old
+        reducts.new) }
+{
+    catalog.laws();
+    let mut walk = catalog.rows(RelationId { at: relation }, rows);
+    'rows: while let Some(row) = walk.next(rows) {
+        insert_row(reducts, leaf, pattern, row, update)?;
+    }
+    Ok(())
+}
+
+/// Fills the leaves of reducts without tuples with the rows of the atoms' relations.
+pub(crate) fn fill_leaves<R: Ledger, U: Ledger>(
+    catalog: &Catalog,
+    atoms: &[NumberedAtom],
+    patterns: &[Pattern],
+    reducts: &mut Reducts,
+    rows: &mut Tally<R>,
+    update: &mut Tally<U>,
+) -> Result<(), NoMem>
+    requires long { length patterns.now ≡ length atoms.now }
+    requires leaves { length atoms.now ≤ reducts.old.tree.leaves }
+    requires suit { AtBoth (λ j m p. SuitsRelation catalog.now (label_at reducts.old.tree.labels j)
+        m.relation p) atoms.now patterns.now }
+    requires empty { AreFilled catalog.now atoms.now patterns.now 0 reducts.old reducts.old }
+    ensures { IfOk result (λ _. AreFilled catalog.now atoms.now patterns.now (length atoms.now)
+        reducts.old reducts.new) }
+{
+    'atoms: for j in 0..atoms.len() {
+        fill_leaf(
+            catalog,
+            atoms[j].relation,
+            &patterns[j],
+            j,
+            reducts,
+            rows,
+            update,
+        )?;
+    }
+    Ok(())
+}

@@ -1,0 +1,31 @@
+ghost use Rattle.djq_live.specs.Asked.{NumberedIsAsked};
+ghost use Rattle.djq_live.specs.Shown.{AnswersAreShown, AnswersAreListed};
+ghost use Rattle.djq_live.specs.Shown.{AnswersDiffer, AnswersStand};
+
+/// A tuple of values is an answer of the query exactly where an answer of the tree shows it: a
+/// tuple of cells whose projection on every node of `out` is in the node's table (Idris, Ugarte and
+/// Vansummeren 2017).
+pub fn answers_are_shown()
+    ensures { AnswersAreShown }
+{}
+
+/// The cells of an answer of the tree stand for the values that it shows.
+pub fn answers_stand()
+    ensures { AnswersStand }
+{}
+
+/// Different answers of the tree show different tuples.
+pub fn answers_differ()
+    ensures { AnswersDiffer }
+{}
+
+/// A listing of the tree's answers shows a listing of the query's.
+pub fn answers_are_listed()
+    ensures { AnswersAreListed }
+{}
+
+/// A query without a fault is asked by its numbers, once its constants have cells: terms suit their
+/// columns, and each variable has one type.
+pub fn numbered_is_asked()
+    ensures { NumberedIsAsked }
+{}

@@ -1,0 +1,65 @@
+//! One registered query, kept answerable while the rows below it change.
+//!
+//! [`plan_query`] judges a query: it is free-connex and has a tree, or a rest shows why it isn't.
+//! [`LiveQuery::build`] fills the tree's tables from a catalog's rows; [`LiveQuery::add`] and
+//! [`LiveQuery::delete`] keep them as rows come and go, and log how the answers changed where that
+//! is wanted; cursors list the answers, one a call, each at a bounded cost.
+//!
+//! ```text
+//! q(z,x) <- r(x,_), s(x,z,3)     x is 0, _ is 1, z is 2; the head is 2, 0
+//! leaf 0 over 0,1                (5,7): r has the row 5 7
+//! leaf 1 over 0,2                (5,9): s has the row 5 9 3
+//! an answer of the tree          (5,9), over 0,2 in rising order
+//! shows                          9 5, in the head's order
+//! ```
+//!
+//! It keeps no rows and no texts: it is kept *over* a catalog, which the engine changes first. What
+//! ties the two is a predicate of the contracts, `IsLive` (`specs/Live.antt`), and each call says
+//! over which catalog the query is kept afterwards. A change makes no cursor stale by itself: whoever
+//! reads one next calls [`LiveQuery::outdate`] before.
+//!
+//! What surprises: no contract needs a word on how a leaf's tuples came. A leaf holds exactly the
+//! tuples that put into the atom give a row of the relation, so constants and repeated variables
+//! need no case, and neither do relations that are read twice.
+//!
+//! Inside, the functions with empty bodies are laws between tables and answers. An answer goes
+//! through an assignment of cells to numbers. From a node of `out` down to the leaves it is extended
+//! trim by trim, by a tuple of the trim's child: what the trim drops is in no label above it, so
+//! nothing that was settled changes. From values to cells each hole takes the cell of the row where
+//! it stands. A row goes into its leaves, or out of them, one after another, and what is listed leaf
+//! by leaf is the change of the answers: they only grow, or only shrink.
+#![tactic(auto)]
+
+pub use build::intern_constants;
+pub use changes::{
+    added_came, deleted_went, leaf_gains, leaf_is_empty, leaf_is_filled, over_gains, over_loses,
+    over_stays,
+};
+pub use cursors::Progress;
+pub use fault::query_fault_of;
+pub use laws::{
+    answers_are_listed, answers_are_shown, answers_differ, answers_stand, numbered_is_asked,
+};
+pub use listing::Next;
+pub use live::LiveQuery;
+pub use plan::{PlannedQuery, Unplanned, plan_query};
+pub use staying::{came_passes, live_stays, went_passes};
+
+mod bind;
+mod build;
+mod changes;
+mod cursors;
+mod fault;
+mod fill;
+mod laws;
+mod listing;
+mod live;
+mod lookup;
+mod names;
+mod plan;
+mod rest;
+mod staying;
+mod stepping;
+#[cfg(test)]
+mod tests;
+mod update;

@@ -1,0 +1,179 @@
+//! Cursors over a registered query, and what they give.
+ghost use Rattle.std.specs.Prelude.{
+  ◌≡◌,
+  ◌+◌,
+  ◌≤◌,
+  ◌<◌,
+  None,
+  Some,
+  IsSome,
+  IfOk,
+  IfErr,
+  OnOk,
+  OnErr,
+  length,
+  slice_get,
+  slice_set,
+};
+ghost use Rattle.djq_model.specs.Answer.{IsAnswer};
+ghost use Rattle.djq_model.specs.Lent.{value_lent};
+ghost use Rattle.djq_machine.specs.Store.{most_steps, Tells, answer_types, misfit};
+ghost use Rattle.djq_rows.specs.Catalog.{Catalog as CatalogModel};
+ghost use Rattle.djq_reduct.specs.Answers.{IsAnswerOf};
+ghost use Rattle.djq_live.specs.Cursors.{slot_at, are_vacant};
+ghost use Rattle.djq_live.specs.Live.{IsLive, FitsIn, values_of};
+ghost use Rattle.djq_live.specs.Reading.{NextGives, MoreGives, next_steps, OpensIn, IsFreshIn};
+
+use crate::live::LiveQuery;
+use crate::lookup::{column_at, has_cells, suits_head};
+use djq_lines::Refusal;
+use djq_model::{Lent, Name, NoMem, Value};
+use djq_reduct::{Answer, column_of};
+use djq_rows::Catalog;
+use djq_steps::{Ledgers, Listing, Tally};
+
+/// What the next read of a cursor gives.
+#[derive(Clone, Copy, Debug)]
+pub enum Next {
+    /// A further answer.
+    Given,
+    /// No answer is left.
+    End,
+    /// The cursor is stale.
+    Stale {
+        /// The relation whose change made it so.
+        relation: Name,
+        /// The number of that change.
+        seq: u64,
+    },
+}
+
+impl LiveQuery {
+    /// Whether no cursor is over it, stale or not.
+    pub fn is_idle(&self) -> bool
+        ensures { result ≡ are_vacant self.now.cursors }
+    {
+        self.cursors.is_empty()
+    }
+
+    /// Puts a cursor that has given nothing into a free slot, and tells which.
+    ///
+    /// # Errors
+    ///
+    /// `NoMem` out of memory. Nothing has changed.
+    pub fn open(&mut self) -> Result<usize, NoMem>
+        ensures ok { IfOk result (λ k. OpensIn self.old k self.new) }
+        ensures live { (c : CatalogModel) → IsLive c self.old → IsLive c self.new }
+        ensures err { OnErr result (self.new ≡ self.old) }
+    {
+        self.cursors.open()
+    }
+
+    /// Takes the cursor out of a slot.
+    pub fn close(&mut self, slot: usize)
+        requires { IsSome (slot_at self.old.cursors slot) }
+        ensures closed { self.new
+            ≡ record self.old { cursors = slice_set self.old.cursors slot None } }
+        ensures live { (c : CatalogModel) → IsLive c self.old → IsLive c self.new }
+    {
+        self.cursors.close(slot);
+    }
+
+    /// Reads the cursor in a slot: gives a further answer, or says that none is left, or what made
+    /// it stale. It takes no memory, and counts at most two look-ups and links for each variable of
+    /// the head, and one.
+    pub fn next<L: Ledgers>(
+        &mut self,
+        slot: usize,
+        answer: &mut Answer,
+        listing: &mut Tally<Listing<L>>,
+    ) -> Next
+        requires there { IsSome (slot_at self.old.cursors slot) }
+        requires fits { FitsIn self.old slot }
+        ensures gives { (c : CatalogModel) → IsLive c self.old
+            → NextGives c self.old slot result answer.new self.new }
+        ensures counted { (c : CatalogModel) → IsLive c self.old → listing.new ≤ listing.old
+            + next_steps result (length self.old.query.head) }
+    {
+        self.cursors.read(slot, &self.reducts, answer, listing)
+    }
+
+    /// Whether a further answer is left for a cursor that isn't stale; where none is, it stands at
+    /// its end. It takes no memory, and counts as much as [`next`](LiveQuery::next).
+    pub fn more<L: Ledgers>(&mut self, slot: usize, listing: &mut Tally<Listing<L>>) -> bool
+        requires fresh { IsFreshIn self.old slot }
+        requires fits { FitsIn self.old slot }
+        ensures gives { (c : CatalogModel) → IsLive c self.old
+            → MoreGives c self.old slot result self.new }
+        ensures counted { (c : CatalogModel) → IsLive c self.old → listing.new ≤ listing.old
+            + most_steps (length self.old.query.head) }
+    {
+        self.cursors.look(slot, &self.reducts, listing)
+    }
+
+    /// Whether a tuple suits the query's answers.
+    ///
+    /// # Errors
+    ///
+    /// `Arity` where it has another number of values, else `WrongType` where one has another type.
+    pub fn suits(&self, tuple: &[Value]) -> Result<(), Refusal>
+        ensures ok { OnOk result ((c : CatalogModel) → IsLive c self.now
+            → misfit (answer_types c.relations (Some self.now.query)) tuple.now ≡ None) }
+        ensures err { IfErr result (λ r. (c : CatalogModel) → IsLive c self.now
+            → misfit (answer_types c.relations (Some self.now.query)) tuple.now ≡ Some r) }
+    {
+        let head = self.numbered.head();
+        if tuple.len() != head.len() {
+            return Err(Refusal::Arity);
+        }
+        self.numbered.within();
+        if !suits_head(self.numbered.variables(), head, tuple) {
+            return Err(Refusal::WrongType);
+        }
+        Ok(())
+    }
+
+    /// Whether a tuple that suits the query's answers is one. It takes no memory, and counts at
+    /// most one look-up for each atom.
+    pub fn has<L: Ledgers>(
+        &self,
+        catalog: &Catalog,
+        tuple: &[Value],
+        listing: &mut Tally<Listing<L>>,
+    ) -> bool
+        requires live { IsLive catalog.now self.now }
+        requires suits { misfit (answer_types catalog.now.relations (Some self.now.query)) tuple.now
+            ≡ None }
+        ensures tells { Tells (IsAnswer catalog.now.relations self.now.query tuple.now) result }
+        ensures counted { listing.new ≤ listing.old + length self.now.query.atoms }
+    {
+        self.reducts.laws();
+        self.numbered.within();
+        let Some(cells) = catalog.cells(tuple) else {
+            return false;
+        };
+        has_cells(&self.reducts, self.numbered.head(), &cells, listing)
+    }
+
+    /// How many values an answer has.
+    pub fn width(&self) -> usize
+        ensures { result ≡ length self.now.query.head }
+    {
+        self.query.head.len()
+    }
+
+    /// A value of an answer, in the head's order. A text is lent by the catalog.
+    pub fn value<'a>(&self, catalog: &'a Catalog, answer: &Answer, at: usize) -> Lent<'a>
+        requires live { IsLive catalog.now self.now }
+        requires answer { IsAnswerOf self.now.reducts answer.now }
+        requires within { at < length self.now.query.head }
+        ensures { slice_get (values_of catalog.now.texts self.now answer.now) at
+            ≡ Some (value_lent result) }
+    {
+        self.numbered.within();
+        let variable = self.numbered.head()[at];
+        let column = column_at(self.numbered.variables(), variable);
+        let cell = answer.as_slice()[column_of(self.reducts.tree().head(), variable)];
+        catalog.value(column, cell)
+    }
+}

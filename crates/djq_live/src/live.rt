@@ -1,0 +1,35 @@
+ghost use Rattle.std.specs.Prelude.{◌≡◌};
+
+use crate::cursors::Cursors;
+use djq_model::Query;
+use djq_query::{NumberedQuery, Pattern};
+use djq_reduct::Reducts;
+use std::marker::Model;
+
+/// One registered query: kept answerable while the rows below it change.
+#[derive(Drop)]
+pub struct LiveQuery {
+    pub(crate) query: Query,
+    pub(crate) numbered: NumberedQuery,
+    // one for each atom
+    pub(crate) patterns: Vec<Pattern>,
+    pub(crate) reducts: Reducts,
+    pub(crate) cursors: Cursors,
+}
+
+impl Model for LiveQuery {
+    ghost use Rattle.djq_live.specs.Live.{Live};
+
+    ghost Value = { Live };
+
+    ghost view = { λ l. record { query = l.query; numbered = l.numbered; patterns = l.patterns.items; reducts = l.reducts; cursors = l.cursors } };
+}
+
+impl LiveQuery {
+    /// The query.
+    pub fn query(&self) -> &Query
+        ensures { result.now ≡ self.now.query }
+    {
+        &self.query
+    }
+}

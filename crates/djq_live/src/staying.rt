@@ -1,0 +1,18 @@
+//! What stays of the queries that a change of rows doesn't touch.
+ghost use Rattle.djq_live.specs.Staying.{LiveStays, CamePasses, WentPasses};
+
+/// Where no rows change, each registered query is kept over the later catalog, however many texts
+/// and relations more there are, and its cursors stand where they stood.
+pub fn live_stays()
+    ensures { LiveStays }
+{}
+
+/// Where a row came, so it is with each query that doesn't read its relation.
+pub fn came_passes()
+    ensures { CamePasses }
+{}
+
+/// Where a row went, likewise.
+pub fn went_passes()
+    ensures { WentPasses }
+{}

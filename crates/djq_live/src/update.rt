@@ -1,0 +1,149 @@
+//! What becomes of a registered query where a row of a relation comes or goes.
+ghost use Rattle.std.specs.Prelude.{◌≡◌, ℕ, false, OnOk, OnErr};
+ghost use Rattle.djq_model.specs.Data.{Tuple};
+ghost use Rattle.djq_rows.specs.Catalog.{Catalog as CatalogModel};
+ghost use Rattle.djq_live.specs.Changes.{Came, Went, HasSameRows};
+ghost use Rattle.djq_live.specs.Cursors.{outdated_slots};
+ghost use Rattle.djq_live.specs.Live.{IsKept, IsLive, SameQuery};
+ghost use Rattle.djq_live.specs.Updating.{CanAdd, CanDelete, Follows, LogsWhere, CountsDelta};
+
+use crate::changes::over_stays;
+use crate::live::LiveQuery;
+use crate::stepping::{add_to_leaves, give_from_leaves, take_from_leaves};
+use djq_cursor::DeltaLog;
+use djq_model::{Name, NoMem};
+use djq_rows::RelationId;
+use djq_steps::{Ledgers, Steps};
+
+impl LiveQuery {
+    /// Takes in a row that came into a relation, given by its cells; it goes into the leaves over
+    /// the relation one after another. Where the delta is wanted, the log tells behind what it told
+    /// which answers came. [`outdate`](LiveQuery::outdate) is to be called before a cursor is read.
+    ///
+    /// # Errors
+    ///
+    /// `NoMem` out of memory; rows and answers are as before.
+    pub fn add<L: Ledgers>(
+        &mut self,
+        relation: RelationId,
+        cells: &[u64],
+        wanted: bool,
+        log: &mut DeltaLog,
+        steps: &mut Steps<L>,
+    ) -> Result<(), NoMem>
+        requires { CanAdd self.old relation.at cells.now }
+        ensures added { OnOk result (Follows (λ c d. Came c d relation.at cells.now)
+            self.old self.new) }
+        ensures refused { OnErr result ((c : CatalogModel) → IsKept c self.old
+            → IsKept c self.new) }
+        ensures same { SameQuery self.old self.new }
+        ensures log { OnOk result (LogsWhere wanted (λ c d. Came c d relation.at cells.now)
+            self.old log.old log.new) }
+        ensures counted { CountsDelta wanted (λ c d. Came c d relation.at cells.now)
+            self.old relation.at steps.old.listing steps.new.listing }
+    {
+        let atoms = self.numbered.atoms();
+        let patterns = self.patterns.as_slice();
+        let done = add_to_leaves(
+            &mut self.reducts,
+            atoms,
+            patterns,
+            relation.at,
+            cells,
+            wanted,
+            log,
+            steps,
+        );
+        if done == atoms.len() {
+            return Ok(());
+        }
+        give_from_leaves(
+            &mut self.reducts,
+            atoms,
+            patterns,
+            done,
+            relation.at,
+            cells,
+            steps,
+        );
+        Err(NoMem)
+    }
+
+    /// Takes out a row that went out of a relation, given by its cells, leaf by leaf. Where the
+    /// delta is wanted, the log tells behind what it told which answers went. It takes no memory
+    /// but the log's. [`outdate`](LiveQuery::outdate) is to be called before a cursor is read.
+    pub fn delete<L: Ledgers>(
+        &mut self,
+        relation: RelationId,
+        cells: &[u64],
+        wanted: bool,
+        log: &mut DeltaLog,
+        steps: &mut Steps<L>,
+    )
+        requires { CanDelete self.old relation.at cells.now }
+        ensures deleted { Follows (λ c d. Went c d relation.at cells.now) self.old self.new }
+        ensures same { SameQuery self.old self.new }
+        ensures log { LogsWhere wanted (λ c d. Went c d relation.at cells.now)
+            self.old log.old log.new }
+        ensures counted { CountsDelta wanted (λ c d. Went c d relation.at cells.now)
+            self.old relation.at steps.old.listing steps.new.listing }
+    {
+        let atoms = self.numbered.atoms();
+        let patterns = self.patterns.as_slice();
+        let end = atoms.len();
+        take_from_leaves(
+            &mut self.reducts,
+            atoms,
+            patterns,
+            end,
+            relation.at,
+            cells,
+            wanted,
+            log,
+            steps,
+        );
+    }
+
+    /// Gives a row back that [`add`](LiveQuery::add) took in, without a delta. It takes no memory.
+    pub fn give_back<L: Ledgers>(
+        &mut self,
+        relation: RelationId,
+        cells: &[u64],
+        steps: &mut Steps<L>,
+    )
+        requires { CanDelete self.old relation.at cells.now }
+        ensures deleted { Follows (λ c d. Went c d relation.at cells.now) self.old self.new }
+        ensures same { SameQuery self.old self.new }
+        ensures counted { steps.new.listing ≡ steps.old.listing }
+    {
+        let atoms = self.numbered.atoms();
+        let patterns = self.patterns.as_slice();
+        let end = atoms.len();
+        give_from_leaves(
+            &mut self.reducts,
+            atoms,
+            patterns,
+            end,
+            relation.at,
+            cells,
+            steps,
+        );
+    }
+
+    /// Makes its open cursors stale, by a change of a relation of this number.
+    pub fn outdate(&mut self, relation: Name, seq: u64)
+        ensures outdated { self.new ≡ record self.old {
+          cursors = outdated_slots relation seq self.old.cursors;
+        } }
+        ensures live { (c : CatalogModel) → IsKept c self.old → IsLive c self.new }
+    {
+        self.cursors.outdate(relation, seq);
+    }
+
+    /// It is kept over a later catalog with the same rows, and its cursors go on. It does nothing.
+    pub fn stays(&self)
+        ensures { (c d : CatalogModel) → HasSameRows c d → IsLive c self.now → IsLive d self.now }
+    {
+        over_stays();
+    }
+}

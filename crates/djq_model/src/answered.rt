@@ -1,0 +1,37 @@
+ghost use Rattle.std.specs.Prelude.{◌≡◌, ◌<◌, Some, length, slice_get};
+ghost use Rattle.djq_model.specs.Lent.{value_lent};
+
+use crate::lent::Lent;
+use crate::value::Row;
+
+/// A tuple whose values are lent one at a time, wherever they stand: an answer is told from it
+/// without being made.
+pub trait Answered {
+    ghost use Rattle.std.specs.Prelude.{◌≡◌, ◌<◌, Some, length, slice_get};
+    ghost use Rattle.djq_model.specs.Data.{Tuple};
+    ghost use Rattle.djq_model.specs.Lent.{value_lent};
+
+    // The tuple of its values.
+    ghost values: { Self → Tuple };
+
+    /// How many values it has.
+    fn len(&self) -> usize
+        ensures { result ≡ length (values self.now) };
+
+    /// The value at a place.
+    fn value(&self, at: usize) -> Lent<'_>
+        requires { at < length (values self.now) }
+        ensures { slice_get (values self.now) at ≡ Some (value_lent result) };
+}
+
+impl Answered for Row {
+    ghost values = { λ row. row };
+
+    fn len(&self) -> usize {
+        self.len()
+    }
+
+    fn value(&self, at: usize) -> Lent<'_> {
+        self.as_slice()[at].lend()
+    }
+}

@@ -1,0 +1,51 @@
+-- What a replay writes: the lines that were sent to sessions, or which line of the schedule is the
+-- first that is outside the grammar.
+use Rattle.std.specs.Prelude.{ℕ, List, [], ◌∷◌, ◌++◌, ◌==◌, if◌then◌else◌, codes}
+use Rattle.std.specs.Fmt.{decimal}
+use Rattle.std.specs.List.{flat_map}
+use Rattle.djq_io.specs.declared.hub.Told.{Told}
+use Rattle.djq_io.specs.declared.hub.Told.TheVariants.{Sending}
+use Rattle.djq_model.specs.Data.{Bytes}
+
+-- a line of a session, behind its number
+abbrev pub session_line : ℕ → Bytes → Bytes
+session_line s line = decimal s ++ codes "< " ++ line ++ 10 ∷ []
+
+-- The lines of a session that end in these bytes. The first began so, in bytes before them.
+abbrev pub ended_lines : ℕ → Bytes → Bytes → Bytes
+ended_lines s begun [] = []
+ended_lines s begun (b ∷ bytes) = if b == 10 then session_line s begun ++ ended_lines s [] bytes
+    else ended_lines s (begun ++ b ∷ []) bytes
+
+-- What is behind the last LF of these bytes, and all of them where there is none, behind this.
+abbrev pub begun_line : Bytes → Bytes → Bytes
+begun_line begun [] = begun
+begun_line begun (b ∷ bytes) = if b == 10 then begun_line [] bytes
+    else begun_line (begun ++ b ∷ []) bytes
+
+-- the bytes that a call sends to a session
+abbrev pub sent_by : ℕ → Told → Bytes
+sent_by s (Sending t sent piece) = if t == s then piece else []
+sent_by s _ = []
+
+-- all bytes that are sent to a session
+abbrev pub sent_to : ℕ → List Told → Bytes
+sent_to s told = flat_map (λ t. sent_by s t) told
+
+-- the lines that end in what a call sends, behind these calls
+abbrev pub ended_by : List Told → Told → Bytes
+ended_by earlier (Sending s sent piece) = ended_lines s (begun_line [] (sent_to s earlier)) piece
+ended_by earlier _ = []
+
+abbrev pub text_behind : List Told → List Told → Bytes
+text_behind earlier [] = []
+text_behind earlier (t ∷ told) = ended_by earlier t ++ text_behind (earlier ++ t ∷ []) told
+
+-- **What was sent**: each line behind its session's number, in the order in which their LFs were
+-- sent. What a session was sent behind its last LF is no line.
+abbrev pub sent_text : List Told → Bytes
+sent_text told = text_behind [] told
+
+-- the line that says which line is the first outside the grammar
+abbrev pub outside_line : ℕ → Bytes
+outside_line n = codes "schedule " ++ decimal n ++ 10 ∷ []
