@@ -161,11 +161,13 @@ module _ (old : Parts) (name : Bytes) (row : Tuple) where
         → queries_in new.queries.items new.order ≡ queries_in old.queries.items old.order → AddsRow (kept_in old).store name row (Err NoMemory) (kept_in new).store
     add_lacking mid new l same seq queries = record {
       answer = subst (λ (o : Option Refusal). Answers o (Err NoMemory) (AddsAs (kept_in old).store name row (kept_in new).store)
-          (λ r. (has_row (rows_of (old.catalog).relations name) row ≡ false) × RefusedByTexts (kept_in old).store (texts_in row) (kept_in new).store r)) (sym m.passes)
-          (absent, (
-            subst (λ (x : Catalog). LearnsFirst (old.catalog).texts (texts_in row) x.texts) (sym same) l.learns,
-            texts_only new (ap (λ (x : Catalog). x.relations) same ∙ l.relations) queries seq,
-          ));
+          (λ r. (has_row (rows_of (old.catalog).relations name) row ≡ false) × RefusedByTexts (kept_in old).store (texts_in row) (kept_in new).store r)) (sym m.passes) (
+            absent,
+            (
+              subst (λ (x : Catalog). LearnsFirst (old.catalog).texts (texts_in row) x.texts) (sym same) l.learns,
+              texts_only new (ap (λ (x : Catalog). x.relations) same ∙ l.relations) queries seq,
+            ),
+          );
       stays = none_stays m.passes;
     }
 

@@ -2,8 +2,7 @@ ghost use Rattle.std.specs.Prelude.{◌≡◌, ◌<◌};
 ghost use Rattle.djq_reduct.specs.Marks.{AreMarks};
 
 use anyhow::Result;
-use djq_cursor::Cursor;
-use djq_cursor::DeltaCursor;
+use djq_cursor::{Cursor, DeltaCursor};
 use djq_reduct::{Answer, Reducts};
 use djq_steps::Tally;
 use std::sync::ledger::Ledger;

@@ -2,8 +2,7 @@ ghost use Rattle.std.specs.Prelude.{◌≡◌, ◌<◌, IfOk, IfSome};
 ghost use Rattle.djq_reduct.specs.Marks.{IsBare, AreMarks};
 
 use super::naive::{ASSIGNMENTS, Naive, count, no_counts, number_of, numbered};
-use djq_cursor::DeltaCursor;
-use djq_cursor::{Cursor, has};
+use djq_cursor::{Cursor, DeltaCursor, has};
 use djq_hyper::{Edges, VarSet};
 use djq_plan::plan;
 use djq_propagate::{finish_insertion, finish_removal, insert_leaf, mark_removal, undo_insertion};

@@ -53,12 +53,12 @@ returns-in-Ok-take_in-clause-ok g c row new = record {
     relations = added_is c.args.parts.now.catalog.relations c.add_row.new.self.relations c.args.id.at row
         c.in-Ok._outcome (c.in-Ok.ensures.adds row new.stand) new.absent;
     carries = put_carries c.args.parts.now.catalog c.add_row.new.self c.args.id.at c.requires.there c.args.cells.now row new c.laws.ensures c.laws-2.ensures
-    c.add_row.ensures.texts
-    (added_is c.args.parts.now.catalog.relations c.add_row.new.self.relations c.args.id.at row
-    c.in-Ok._outcome (c.in-Ok.ensures.adds row new.stand) new.absent)
+        c.add_row.ensures.texts
+        (added_is c.args.parts.now.catalog.relations c.add_row.new.self.relations c.args.id.at row
+        c.in-Ok._outcome (c.in-Ok.ensures.adds row new.stand) new.absent)
         c.args.parts.now.queries.items c.args.parts.now.order c.args.parts.now.readers.items c.requires.whole c.as_slice-places.result.now
-    (places_read c.args.parts.now.readers.items c.args.id.at c.index.result.now
-    c.as_slice-places.result.now (omega (arith, c.requires.there, c.requires.whole.long)) c.index.ensures c.as_slice-places.ensures)
+        (places_read c.args.parts.now.readers.items c.args.id.at c.index.result.now
+        c.as_slice-places.result.now (omega (arith, c.requires.there, c.requires.whole.long)) c.index.ensures c.as_slice-places.ensures)
         c.added_came.ensures c.came_passes.ensures c.take_in.new.queries.items
         c.in-Ok-take_in.ensures.taken;
   };
@@ -79,12 +79,12 @@ returns-in-Err-take_in-clause-err g c =
     record {
       catalog = back;
       carries = wait_carries c.args.parts.now.catalog c.add_row.new.self c.args.id.at c.requires.there c.args.cells.now c.requires.new.0 c.requires.new.1 c.laws.ensures c.laws-2.ensures
-    c.add_row.ensures.texts
-    (added_is c.args.parts.now.catalog.relations c.add_row.new.self.relations c.args.id.at c.requires.new.0
-    c.in-Ok._outcome (c.in-Ok.ensures.adds c.requires.new.0 c.requires.new.1.stand) c.requires.new.1.absent)
+          c.add_row.ensures.texts
+          (added_is c.args.parts.now.catalog.relations c.add_row.new.self.relations c.args.id.at c.requires.new.0
+          c.in-Ok._outcome (c.in-Ok.ensures.adds c.requires.new.0 c.requires.new.1.stand) c.requires.new.1.absent)
           c.args.parts.now.queries.items c.args.parts.now.order c.args.parts.now.readers.items c.requires.whole c.as_slice-places.result.now
-    (places_read c.args.parts.now.readers.items c.args.id.at c.index.result.now
-    c.as_slice-places.result.now (omega (arith, c.requires.there, c.requires.whole.long)) c.index.ensures c.as_slice-places.ensures)
+          (places_read c.args.parts.now.readers.items c.args.id.at c.index.result.now
+          c.as_slice-places.result.now (omega (arith, c.requires.there, c.requires.whole.long)) c.index.ensures c.as_slice-places.ensures)
           c.added_came.ensures c.deleted_went.ensures c.take_in.new.queries.items
           c.in-Err-take_in.ensures.given c.delete_row.new.self back;
     }

@@ -42,17 +42,17 @@ pub returns-clause-ok : goal.returns-clause-ok
 returns-clause-ok g c = record {
   relation = c.in_ok-relation.ensures.ok;
   passes = delete_passes c.args.catalog.now.relations c.args.name.now c.args.row.now c.args.seq
-    c.in_ok-relation.relation.at c.in_ok-relation.ensures.ok
+      c.in_ok-relation.relation.at c.in_ok-relation.ensures.ok
       (sym (c.if-not-has_row.ensures.has c.args.row.now (record {
-      of = c.in_ok-relation.ensures.ok.suits;
-      have = c.in-Some.ensures.tells.0;
-      are = c.as_slice.ensures ∙ c.in-Some.ensures.tells.1;
-    }))) (omega arith);
+        of = c.in_ok-relation.ensures.ok.suits;
+        have = c.in-Some.ensures.tells.0;
+        are = c.as_slice.ensures ∙ c.in-Some.ensures.tells.1;
+      }))) (omega arith);
   there = sym (c.if-not-has_row.ensures.has c.args.row.now (record {
-      of = c.in_ok-relation.ensures.ok.suits;
-      have = c.in-Some.ensures.tells.0;
-      are = c.as_slice.ensures ∙ c.in-Some.ensures.tells.1;
-    }));
+    of = c.in_ok-relation.ensures.ok.suits;
+    have = c.in-Some.ensures.tells.0;
+    are = c.as_slice.ensures ∙ c.in-Some.ensures.tells.1;
+  }));
   have = c.in-Some.ensures.tells.0;
   cells = c.in-Some.ensures.tells.1;
   more = omega arith;
