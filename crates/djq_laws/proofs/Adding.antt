@@ -1,7 +1,7 @@
 -- A listing and a delta come to a listing.
-use Rattle.std.specs.Prelude.{zero, suc, List, [], ◌∷◌, ◌≡◌, ◌++◌, ◌⊎◌, Bool, true, false, not, cond, filter, map, All, AllPairs, Contains}
+use Rattle.std.specs.Prelude.{suc, List, [], ◌∷◌, ◌≡◌, ◌++◌, ◌⊎◌, Bool, true, false, not, cond, filter, map, All, AllPairs, Contains}
 use Rattle.std.proofs.Common.{refl, ap, ◌∙◌, subst, inl, inr, arith}
-use Rattle.std.proofs.lemmas.List.Elements.{All-nil, All-cons, All-head, All-tail, All-append, All-contains, Contains-append_left, Contains-append_right, Contains-append_cases}
+use Rattle.std.proofs.lemmas.List.Elements.{All-nil, All-cons, All-head, All-tail, All-append, All-contains, Contains-append_left, Contains-append_right}
 use Rattle.std.proofs.lemmas.List.Kept.{AllPairs-filter, AllPairs-cons}
 use Rattle.djq_model.specs.Data.{Tuple, tuple_eq, has_row}
 use Rattle.djq_model.specs.Answer.{IsAnswer, IsListing}
@@ -10,27 +10,8 @@ use Rattle.djq_lines.specs.declared.answer.Sign.{Sign}
 use Rattle.djq_lines.specs.declared.answer.Sign.TheVariants.{Came, Went}
 use Rattle.djq_machine.specs.Delta.{Change, HasChanged, IsDelta}
 use Rattle.djq_laws.specs.Added.{same_sign, of_sign, added_up, DeltasAddUp}
-
--- what a list contains
-nothing_there : {A : Type 0} (x : A) → Contains [] x → ⊥
-nothing_there x h = absurd (omega (arith, h.1))
-
-only_one : {A : Type 0} (y x : A) → Contains (y ∷ []) x → y ≡ x
-only_one y x (zero, l, e) = e
-only_one y x (suc k, l, e) = absurd (omega (arith, l))
-
-first_or_later : {A : Type 0} (y : A) (ys : List A) (x : A) → Contains (y ∷ ys) x → (y ≡ x) ⊎ Contains ys x
-first_or_later y ys x h = step (Contains-append_cases (y ∷ []) ys x h)
-  where
-    step : Contains (y ∷ []) x ⊎ Contains ys x → (y ≡ x) ⊎ Contains ys x
-    step (inl k) = inl (only_one y x k)
-    step (inr k) = inr k
-
-first_there : {A : Type 0} (y : A) (ys : List A) (x : A) → y ≡ x → Contains (y ∷ ys) x
-first_there y ys x e = (0, omega arith, e)
-
-later_there : {A : Type 0} (y : A) (ys : List A) (x : A) → Contains ys x → Contains (y ∷ ys) x
-later_there y ys x h = Contains-append_right (y ∷ []) ys x h
+use Rattle.djq_laws.proofs.Containing.{nothing_there, first_or_later, first_there, later_there, kept_there}
+use Rattle.djq_laws.proofs.Deciding.{Decided, answer_decided}
 
 -- whether a row is among rows
 pub row_found : (ts : List Tuple) (t : Tuple) → Contains ts t → has_row ts t ≡ true
@@ -58,16 +39,6 @@ kept_hold P Q p (x ∷ xs) f h = step (p x) refl (kept_hold P Q p xs f (All-tail
     step : (b : Bool) → p x ≡ b → All Q (filter p xs) → All Q (cond b (x ∷ filter p xs) (filter p xs))
     step true e rest = All-cons Q x (filter p xs) (f x e (All-head P x xs h)) rest
     step false e rest = rest
-
-kept_there : {A : Type 0} (p : A → Bool) (xs : List A) (x : A) → p x ≡ true → Contains xs x → Contains (filter p xs) x
-kept_there p [] x e h = absurd (nothing_there x h)
-kept_there p (y ∷ ys) x e h = step (p y) refl (first_or_later y ys x h) (λ k. kept_there p ys x e k)
-  where
-    step : (b : Bool) → p y ≡ b → (y ≡ x) ⊎ Contains ys x → (Contains ys x → Contains (filter p ys) x) → Contains (cond b (y ∷ filter p ys) (filter p ys)) x
-    step true k (inl same) more = first_there y (filter p ys) x same
-    step true k (inr c) more = later_there y (filter p ys) x (more c)
-    step false k (inl same) more = let yes : p y ≡ true = ap p same ∙ e in absurd (cc (yes, k))
-    step false k (inr c) more = more c
 
 -- pairs of a list
 pairs_head : {A : Type 0} (R : A → A → Type 0) (x : A) (xs : List A) → AllPairs R (x ∷ xs) → All (R x) xs
@@ -140,8 +111,8 @@ sign_there s t (c ∷ cs) h = by (first_or_later c cs (record { sign = s; answer
     by (inl e) more = here (same_sign s c.sign) (ap (λ (d : Change). same_sign s d.sign) e ∙ sign_same s) (ap (λ (d : Change). d.answer) e)
     by (inr k) more = later (same_sign s c.sign) (more k)
 
--- of a listing, a delta and what is listed behind it
-module _ (Before After : Tuple → Type 0) (ts us : List Tuple) (changes : List Change) (listing : IsListing Before ts) (delta : IsDelta Before After changes) (behind : IsListing After us) where
+-- of a listing and a delta, where it is decided what an answer behind it is
+module _ (Before After : Tuple → Type 0) (ts : List Tuple) (changes : List Change) (decided : (t : Tuple) → Decided (After t)) (listing : IsListing Before ts) (delta : IsDelta Before After changes) where
   came_changed : All (HasChanged Before After Came) (of_sign Came changes)
   came_changed = sign_changed Before After Came changes delta.changed
 
@@ -150,13 +121,12 @@ module _ (Before After : Tuple → Type 0) (ts us : List Tuple) (changes : List 
 
   -- an answer before that didn't go is one afterwards
   stays : (t : Tuple) → not (has_row (of_sign Went changes) t) ≡ true → Before t → After t
-  stays t e before = by (has_row us t) refl
+  stays t e before = by (decided t)
     where
-      by : (b : Bool) → has_row us t ≡ b → After t
-      by true k = All-contains After us t behind.answers (row_there us t k)
-      by false k =
-          let went : has_row (of_sign Went changes) t ≡ true = row_found (of_sign Went changes) t
-          (sign_there Went t changes (delta.complete Went t (before, λ a. let yes : has_row us t ≡ true = row_found us t (behind.complete t a) in absurd (cc (yes, k))))) in
+      by : Decided (After t) → After t
+      by (inl after) = after
+      by (inr none) =
+          let went : has_row (of_sign Went changes) t ≡ true = row_found (of_sign Went changes) t (sign_there Went t changes (delta.complete Went t (before, none))) in
           let no : not (has_row (of_sign Went changes) t) ≡ false = ap not went in
           absurd (cc (no, e))
 
@@ -192,4 +162,4 @@ module _ (Before After : Tuple → Type 0) (ts us : List Tuple) (changes : List 
   }
 
 pub deltas_add_up : DeltasAddUp
-deltas_add_up before after q ts us changes listing delta behind = adds_up (IsAnswer before q) (IsAnswer after q) ts us changes listing delta behind
+deltas_add_up before after q ts changes listing delta = adds_up (IsAnswer before q) (IsAnswer after q) ts changes (answer_decided after q) listing delta

@@ -115,7 +115,7 @@ unread name q h = at_read (reads q name) h
     at_read true k = absurd cc
     at_read false k = refl
 
-same_itself : (rs : List Relation) (q : Query) → SameAnswers rs rs q
+pub same_itself : (rs : List Relation) (q : Query) → SameAnswers rs rs q
 same_itself rs q = record { there = λ t h. h; back = λ t h. h }
 
 -- A session that is changed, where the change keeps what its cursors give.
@@ -129,7 +129,7 @@ same_gives : (old new : State) → new ≡ old → CursorsGive old → CursorsGi
 same_gives old new e h = subst CursorsGive (sym e) h
 
 -- The commands.
-done_of : {A : Type 0} (o : Option Refusal) (a : A) (D : A → Type 0) (L : Refusal → Type 0) → Answers o (Ok a) D L → D a
+pub done_of : {A : Type 0} (o : Option Refusal) (a : A) (D : A → Type 0) (L : Refusal → Type 0) → Answers o (Ok a) D L → D a
 done_of None a D L h = h
 done_of (Some r) a D L h = absurd h
 
@@ -163,7 +163,7 @@ same_texts : (old new : Store) → new ≡ old → new ≡ record old { texts = 
 same_texts old new e = subst (λ (st : Store). st ≡ record old { texts = st.texts }) (sym e) refl
 
 -- what a refusal changes: nothing by a condition, and what a late one does
-refused_store : {A : Type 0} (o : Option Refusal) (r : Refusal) (D : A → Type 0) (L : Refusal → Type 0) (old new : Store)
+pub refused_store : {A : Type 0} (o : Option Refusal) (r : Refusal) (D : A → Type 0) (L : Refusal → Type 0) (old new : Store)
     → Answers o (Err r) D L → (is_some o ≡ true → new ≡ old) → (L r → new ≡ record old { texts = new.texts })
     → new ≡ record old { texts = new.texts }
 refused_store None r D L old new h stays late = late h
@@ -179,7 +179,7 @@ out_of_memory_gives old name store new e after g =
     (outdated_give old.store.relations old.store.relations old.store.queries (by_relation name) old.store.seq old.sessions (λ q apart. same_itself old.store.relations q) g)
 
 -- a row that isn't added
-add_refused : (old : Store) (name : Bytes) (row : Tuple) (r : Refusal) (new : Store) → AddsRow old name row (Err r) new → new ≡ record old { texts = new.texts }
+pub add_refused : (old : Store) (name : Bytes) (row : Tuple) (r : Refusal) (new : Store) → AddsRow old name row (Err r) new → new ≡ record old { texts = new.texts }
 add_refused old name row r new h =
     refused_store (add_refusal old name row) r (AddsAs old name row new)
     (λ t. (has_row (rows_of old.relations name) row ≡ false) × RefusedByTexts old (texts_in row) new t) old new h.answer h.stays
@@ -204,7 +204,7 @@ delete_gives old name row (Ok Absent) store new h after g =
     unchanged_gives old name store new d.1 after g
 delete_gives old name row (Err r) store new h after g = unchanged_gives old name store new h.stays after g
 
-query_late : (old : Store) (q : Query) (r : Refusal) (new : Store) → RefusedLate old q new r → new ≡ record old { texts = new.texts }
+pub query_late : (old : Store) (q : Query) (r : Refusal) (new : Store) → RefusedLate old q new r → new ≡ record old { texts = new.texts }
 query_late old q r new (inl h) = refused_texts old (texts_in (constants_of q.atoms)) new r h.1
 query_late old q r new (inr h) = same_texts old new h.1
 

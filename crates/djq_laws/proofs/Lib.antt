@@ -13,4 +13,9 @@ pub mod Giving
 pub mod Courses
 pub mod Heading
 pub mod Stopping
+pub mod Containing
+pub mod Deciding
 pub mod Adding
+pub mod Telling
+pub mod Watching
+pub mod Watched

@@ -42,12 +42,12 @@ module _ (P : Telling → Type 0) (says : (m : Telling) (s : ℕ) (text : Bytes)
   watcher_keeps d n s pending m new there (inr (inl h)) p = subst P (sym h.1) (says m s _ there p)
   watcher_keeps d n s pending m new there (inr (inr h)) p = subst P (sym h.4) (ends m s _ Memory tt there p)
 
-  session_keeps : (d : Delta) (n : ℕ) (m : Telling) (s : ℕ) (new : Telling) (o : Option Session) → watcher_of m d.query.name s ≡ o
+  pub session_keeps : (d : Delta) (n : ℕ) (m : Telling) (s : ℕ) (new : Telling) (o : Option Session) → watcher_of m d.query.name s ≡ o
       → MatchOption o (new ≡ m) (λ x. TellsWatcher d n s x.pending m new) → P m → P new
   session_keeps d n m s new None e h p = subst P (sym h) p
   session_keeps d n m s new (Some x) e h p = watcher_keeps d n s x.pending m new (watcher_open m d.query.name s x e) h p
 
-  delta_keeps : (n : ℕ) (m : Telling) (d : Delta) (new : Telling) → TellsDelta n m d new → P m → P new
+  pub delta_keeps : (n : ℕ) (m : Telling) (d : Delta) (new : Telling) → TellsDelta n m d new → P m → P new
   delta_keeps n m d new h p =
       walk_keeps (TellsSession d n) P (λ from s to k q. session_keeps d n from s to (watcher_of from d.query.name s) refl k q) m (ids_of m.state) new h p
 
@@ -58,10 +58,15 @@ module _ (P : Telling → Type 0) (says : (m : Telling) (s : ℕ) (text : Bytes)
   reply_keeps s reply m new None there (inr h) p = subst P (sym h.1) (ends m s end_memory Memory tt there p)
   reply_keeps s reply m new (Some c) there h p = subst P (sym h) p
 
-  pub change_keeps : (old : State) (s : ℕ) (relation : Bytes) (rows : List Tuple) (outdates accepted : Bool) (store : Store) (reply : Bytes) (e : Effect) (new : State)
-      (h : ChangeStep old s relation rows outdates accepted store reply e new) → P (beginning old relation outdates store) → P h.last
-  change_keeps old s relation rows outdates accepted store reply e new h p =
-      let told = walk_keeps (TellsDelta store.seq) P (λ from d to k q. delta_keeps store.seq from d to k q) (beginning old relation outdates store) (cond accepted h.deltas []) h.told h.tells p in
+  pub last_keeps : (old : State) (s : ℕ) (relation : Bytes) (rows : List Tuple) (outdates accepted : Bool) (store : Store) (reply : Bytes) (e : Effect) (new : State)
+      (h : ChangeStep old s relation rows outdates accepted store reply e new) → P h.told → P h.last
+  last_keeps old s relation rows outdates accepted store reply e new h told =
       let f = some_and (session_of h.told.state s) (λ x. MatchOption x.cause
       ((h.last ≡ says_more s reply h.told) ⊎ ((list_any (λ part. part.0 == s) h.told.queued ≡ true) × (h.last ≡ ends_more s end_memory Memory h.told))) (λ c. h.last ≡ h.told)) h.replies in
       reply_keeps s reply h.told h.last (f.0).cause (rw f.1 refl) f.2 told
+
+  pub change_keeps : (old : State) (s : ℕ) (relation : Bytes) (rows : List Tuple) (outdates accepted : Bool) (store : Store) (reply : Bytes) (e : Effect) (new : State)
+      (h : ChangeStep old s relation rows outdates accepted store reply e new) → P (beginning old relation outdates store) → P h.last
+  change_keeps old s relation rows outdates accepted store reply e new h p =
+      last_keeps old s relation rows outdates accepted store reply e new h
+      (walk_keeps (TellsDelta store.seq) P (λ from d to k q. delta_keeps store.seq from d to k q) (beginning old relation outdates store) (cond accepted h.deltas []) h.told h.tells p)

@@ -23,9 +23,8 @@ of_sign sign (c ∷ cs) = if same_sign sign c.sign then c.answer ∷ of_sign sig
 abbrev pub added_up : List Tuple → List Change → List Tuple
 added_up ts changes = filter (λ t. not (has_row (of_sign Went changes) t)) ts ++ of_sign Came changes
 
--- A listing and the delta of a change come to a listing of the answers behind it, where these have
--- one.
+-- A listing and the delta of a change come to a listing of the answers behind it.
 abbrev pub DeltasAddUp : Type 0
-DeltasAddUp = (before after : List Relation) (q : Query) (ts us : List Tuple) (changes : List Change)
+DeltasAddUp = (before after : List Relation) (q : Query) (ts : List Tuple) (changes : List Change)
     → IsListing (IsAnswer before q) ts → IsDelta (IsAnswer before q) (IsAnswer after q) changes
-    → IsListing (IsAnswer after q) us → IsListing (IsAnswer after q) (added_up ts changes)
+    → IsListing (IsAnswer after q) (added_up ts changes)

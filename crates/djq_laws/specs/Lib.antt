@@ -5,3 +5,4 @@ pub mod Lines
 pub mod Course
 pub mod Given
 pub mod Added
+pub mod Watched

@@ -17,6 +17,7 @@ ghost use Rattle.djq_laws.specs.Sent.{SentBytes};
 ghost use Rattle.djq_laws.specs.Lines.{LinesInOrder};
 ghost use Rattle.djq_laws.specs.Given.{RunsGive, CoursesGive};
 ghost use Rattle.djq_laws.specs.Added.{DeltasAddUp};
+ghost use Rattle.djq_laws.specs.Watched.{WatchersHaveAnswers};
 
 /// A session that is open stays so in every step that doesn't close it.
 pub fn stays_open()
@@ -80,4 +81,11 @@ pub fn courses_give()
 /// takes out the answers that went, and puts in those that came, has what it would list anew.
 pub fn deltas_add_up()
     ensures { DeltasAddUp }
+{}
+
+/// A session that watches a query all along a run, and adds up what it is told of it, has the
+/// answers of the query over the present rows. It is told each accepted change of a relation that
+/// the query reads.
+pub fn watchers_have_answers()
+    ensures { WatchersHaveAnswers }
 {}

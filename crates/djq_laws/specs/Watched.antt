@@ -1,0 +1,106 @@
+-- What a session is told that watches a query all along a run.
+use Rattle.std.specs.Prelude.{ℕ, List, [], ◌∷◌, ◌==◌, ◌≡◌, ◌<◌, ◌++◌, ◌&&◌, Bool, true, false, not, None, Some, IsSomeAnd, if◌then◌else◌, filter, map, AllPairs}
+use Rattle.std.specs.List.{flat_map}
+use Rattle.djq_model.specs.declared.query.Query.{Query}
+use Rattle.djq_model.specs.Data.{Bytes, Tuple, query_of}
+use Rattle.djq_model.specs.Answer.{IsAnswer, IsListing}
+use Rattle.djq_lines.specs.declared.command.Command.{Command}
+use Rattle.djq_lines.specs.declared.command.Command.TheVariants.{Add, Del}
+use Rattle.djq_lines.specs.Grammar.{Reading, refused, says as says_command, reading_of}
+use Rattle.djq_lines.specs.Reply.{text_of}
+use Rattle.djq_machine.specs.State.{Store, State, session_of}
+use Rattle.djq_machine.specs.Stale.{reads}
+use Rattle.djq_machine.specs.Delta.{Change, delta_lines}
+use Rattle.djq_machine.specs.Watch.{is_watching}
+use Rattle.djq_machine.specs.LineStep.{LineOutcome, run}
+use Rattle.djq_machine.specs.Step.{Event, stepped, Step}
+use Rattle.djq_machine.specs.Run.{Did, Walk, out}
+use Rattle.djq_laws.specs.Added.{added_up}
+
+-- A session goes on, and watches a registered query.
+pub record IsWatcher (q : Query) (s : ℕ) (st : State) : Type 0 where
+  pub registered : query_of st.store.queries q.name ≡ Some q
+  pub watches : IsSomeAnd (session_of st s) (λ x. (x.cause ≡ None) × (is_watching q.name x ≡ true))
+
+-- It does so before a step and behind it.
+pub record WatchesStep (q : Query) (s : ℕ) (old : State) (d : Did) (new : State) : Type 0 where
+  pub before : IsWatcher q s old
+  pub step : Step old d.event d.effect new
+  pub behind : IsWatcher q s new
+
+-- A run in each state of which it does so.
+abbrev pub WatchesAlong : Query → ℕ → State → List Did → State → Type 0
+WatchesAlong q s = Walk (WatchesStep q s)
+
+-- whether a line is to change the rows of a relation that a query reads
+abbrev pub command_changes : Query → Command → Bool
+command_changes q (Add name row) = reads q name
+command_changes q (Del name row) = reads q name
+command_changes q _ = false
+
+abbrev pub line_changes : Query → Reading → Bool
+line_changes q (refused r) = false
+line_changes q (says_command c) = command_changes q c
+
+abbrev pub outcome_changes : Query → LineOutcome → Bool
+outcome_changes q (run l) = line_changes q (reading_of l)
+outcome_changes q _ = false
+
+abbrev pub event_changes : Query → Event → Bool
+event_changes q (stepped t outcome) = outcome_changes q outcome
+event_changes q _ = false
+
+-- the number of an accepted change of such a relation, where an event is one
+abbrev pub number_by : Query → Store → Event → Store → List ℕ
+number_by q old event new =
+    if not (new.seq == old.seq) && event_changes q event then new.seq ∷ [] else []
+
+-- the numbers of all of a run
+abbrev pub numbers_along : (q : Query) (s : ℕ) (old : State) (done : List Did) (new : State) → WatchesAlong q s old done new → List ℕ
+numbers_along q s old [] new walk = []
+numbers_along q s old (d ∷ done) new walk =
+    number_by q old.store d.event walk.0.store ++ numbers_along q s walk.0 done new walk.2
+
+-- the parts for a session, of those that are queued
+abbrev pub parts_for : ℕ → List (ℕ × Bytes) → List Bytes
+parts_for s queued = map (λ p. p.1) (filter (λ p. p.0 == s) queued)
+
+-- the parts that a run queues to a session, in order
+abbrev pub parts_to : ℕ → List Did → List Bytes
+parts_to s done = flat_map (λ d. parts_for s d.effect.queued) done
+
+-- The first are among the second, in their order.
+abbrev pub AreAmong : List Bytes → List Bytes → Type 0
+AreAmong [] parts = Unit {0}
+AreAmong (t ∷ ts) parts = (before : List Bytes) × (behind : List Bytes)
+    × (parts ≡ before ++ t ∷ behind) × AreAmong ts behind
+
+-- the number of a change, and how it changed the answers of a query
+pub record Told : Type 0 where
+  pub number : ℕ
+  pub changes : List Change
+
+-- the lines that tell it
+abbrev pub told_text : Bytes → Told → Bytes
+told_text query t = text_of (delta_lines query t.changes t.number)
+
+-- what a session has that adds up one delta after another
+abbrev pub all_added_up : List Tuple → List Told → List Tuple
+all_added_up ts [] = ts
+all_added_up ts (t ∷ more) = all_added_up (added_up ts t.changes) more
+
+-- Along a run in which a session watches a query it is told a delta for each accepted change of a
+-- relation that the query reads, by rising number: their lines are parts of all that is queued to
+-- it. They add up from any listing of the answers at the start to a listing of those at the end.
+pub record IsTold (q : Query) (s : ℕ) (old : State) (done : List Did) (new : State) (walk : WatchesAlong q s old done new) : Type 0 where
+  pub told : List Told
+  pub whole : flat_map (λ part. part) (parts_to s done) ≡ out s done
+  pub among : AreAmong (map (told_text q.name) told) (parts_to s done)
+  pub numbers : map (λ t. t.number) told ≡ numbers_along q s old done new walk
+  pub rising : AllPairs (λ m n. m < n) (map (λ t. t.number) told)
+  pub adds_up : (ts : List Tuple) → IsListing (IsAnswer old.store.relations q) ts
+      → IsListing (IsAnswer new.store.relations q) (all_added_up ts told)
+
+-- So it is from any state on, whatever the other sessions do.
+abbrev pub WatchersHaveAnswers : Type 0
+WatchersHaveAnswers = (q : Query) (s : ℕ) (old : State) (done : List Did) (new : State) (walk : WatchesAlong q s old done new) → IsTold q s old done new walk
