@@ -17,7 +17,7 @@ ghost use Rattle.djq_laws.specs.Sent.{SentBytes};
 ghost use Rattle.djq_laws.specs.Lines.{LinesInOrder};
 ghost use Rattle.djq_laws.specs.Given.{RunsGive, CoursesGive};
 ghost use Rattle.djq_laws.specs.Added.{DeltasAddUp};
-ghost use Rattle.djq_laws.specs.Watched.{WatchersHaveAnswers};
+ghost use Rattle.djq_laws.specs.Watched.{WatchersHaveAnswers, ListedAndWatched};
 
 /// A session that is open stays so in every step that doesn't close it.
 pub fn stays_open()
@@ -88,4 +88,10 @@ pub fn deltas_add_up()
 /// the query reads.
 pub fn watchers_have_answers()
     ensures { WatchersHaveAnswers }
+{}
+
+/// A session that lists a query through a cursor, and watches it from then on, has the answers over
+/// the present rows by adding up what it is told.
+pub fn listed_and_watched()
+    ensures { ListedAndWatched }
 {}
