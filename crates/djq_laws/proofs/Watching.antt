@@ -37,7 +37,7 @@ use Rattle.djq_machine.specs.Command.{OpensTo, BecomesWhere, with_cursor, with_w
 use Rattle.djq_machine.specs.LineStep.{LineOutcome, long, blank, slow, no_room, run, ReadStep, FrontStep, behind_line}
 use Rattle.djq_machine.specs.Step.{Event, opened, fed, stepped, took, ended, closed, FedStep, TookStep, EndedStep, Acts, with_relations, Step}
 use Rattle.djq_machine.specs.Call.{cause_of, cause_in}
-use Rattle.djq_laws.specs.Watched.{IsWatcher, command_changes, line_changes, outcome_changes, event_changes}
+use Rattle.djq_laws.specs.Watched.{IsWatcher, line_changes, event_changes}
 use Rattle.djq_laws.proofs.Finding.{some_and, and_some}
 use Rattle.djq_laws.proofs.Told.{change_keeps}
 use Rattle.djq_laws.proofs.Queueing.{session_changed, session_other, stepped_cause}
@@ -182,7 +182,7 @@ module _ (q : Query) (s : ℕ) (old : State) (registered : query_of old.store.qu
   delete_tells t name row (Err r) store reply e new running h c =
       stays q s e.queued (reads q name) old.store store (ap (λ (st : Store). st.relations) h.stays) (ap (λ (st : Store). st.seq) h.stays)
 
-  command_tells : (t : ℕ) (x : Session) (c : Command) (e : Effect) (new : State) → cause_of new s ≡ None → CommandStep old t x c e new → StepTells q s old.store new.store e.queued (command_changes q c)
+  command_tells : (t : ℕ) (x : Session) (c : Command) (e : Effect) (new : State) → cause_of new s ≡ None → CommandStep old t x c e new → StepTells q s old.store new.store e.queued (line_changes q (says_command c))
   command_tells t x (Rel name types) e new running h = of_store q s e.queued false old h.store new h.state (relation_stays q s e.queued false old.store name types h.result h.store h.done)
   command_tells t x (Add name row) e new running h =
       subst (λ (st : Store). StepTells q s old.store st e.queued (reads q name)) (sym (change_store old t name _ _ _ h.store _ e new h.change))
@@ -205,7 +205,7 @@ module _ (q : Query) (s : ℕ) (old : State) (registered : query_of old.store.qu
   read_tells : (t : ℕ) (x : Session) (r : Reading) (e : Effect) (new : State) → cause_of new s ≡ None → ReadStep old t x r e new → StepTells q s old.store new.store e.queued (line_changes q r)
   read_tells t x (refused r) e new running h = same_state q s e.queued false old new h.1
   read_tells t x (says_command c) e new running (true, h) = command_tells t x c e new running h
-  read_tells t x (says_command c) e new running (false, h) = same_state q s e.queued (command_changes q c) old new h.1.1
+  read_tells t x (says_command c) e new running (false, h) = same_state q s e.queued (line_changes q (says_command c)) old new h.1.1
 
 -- a line that is taken changes no watches
 line_watches : (q : Bytes) (old : State) (t : ℕ) (rest : Bytes) (s : ℕ) (b : Bool) → (t == s) ≡ b → Watches q (session_of old s) → Watches q (session_of (with_session old t (behind_line rest)) s)
@@ -219,7 +219,7 @@ line_watches q old t rest s false e w =
     subst (λ (o : Option Session). Watches q o) (sym (session_other old t s (behind_line rest) (λ x. refl) e)) w
 
 front_tells : (q : Query) (s : ℕ) (old : State) → query_of old.store.queries q.name ≡ Some q → Watches q.name (session_of old s)
-    → (t : ℕ) (x : Session) (outcome : LineOutcome) (e : Effect) (new : State) → cause_of new s ≡ None → FrontStep old t x outcome e new → StepTells q s old.store new.store e.queued (outcome_changes q outcome)
+    → (t : ℕ) (x : Session) (outcome : LineOutcome) (e : Effect) (new : State) → cause_of new s ≡ None → FrontStep old t x outcome e new → StepTells q s old.store new.store e.queued (event_changes q (stepped t outcome))
 front_tells q s old registered watches t x long e new running h = one_session q s e.queued false old new t _ h.1.1
 front_tells q s old registered watches t x (blank l) e new running h = one_session q s e.queued false old new t _ h.1.then.1
 front_tells q s old registered watches t x (slow l) e new running h = same_store q s e.queued false old new (ap (λ (st : State). st.store) h.2.then.1)

@@ -4,15 +4,14 @@ use Rattle.std.specs.List.{flat_map}
 use Rattle.djq_model.specs.declared.query.Query.{Query}
 use Rattle.djq_model.specs.Data.{Bytes, Tuple, query_of}
 use Rattle.djq_model.specs.Answer.{IsAnswer, IsListing}
-use Rattle.djq_lines.specs.declared.command.Command.{Command}
 use Rattle.djq_lines.specs.declared.command.Command.TheVariants.{Add, Del}
-use Rattle.djq_lines.specs.Grammar.{Reading, refused, says as says_command, reading_of}
+use Rattle.djq_lines.specs.Grammar.{Reading, says as says_command, reading_of}
 use Rattle.djq_lines.specs.Reply.{text_of}
 use Rattle.djq_machine.specs.State.{Store, State, Session, Cursor, open_at, session_of}
 use Rattle.djq_machine.specs.Stale.{reads}
 use Rattle.djq_machine.specs.Delta.{Change, delta_lines}
 use Rattle.djq_machine.specs.Watch.{is_watching}
-use Rattle.djq_machine.specs.LineStep.{LineOutcome, run}
+use Rattle.djq_machine.specs.LineStep.{run}
 use Rattle.djq_machine.specs.Step.{Event, stepped, Step}
 use Rattle.djq_machine.specs.Run.{Did, Walk, out}
 use Rattle.djq_machine.specs.Gives.{CursorsGive}
@@ -34,24 +33,17 @@ abbrev pub WatchesAlong : Query → ℕ → State → List Did → State → Typ
 WatchesAlong q s = Walk (WatchesStep q s)
 
 -- whether a line is to change the rows of a relation that a query reads
-abbrev pub command_changes : Query → Command → Bool
-command_changes q (Add name row) = reads q name
-command_changes q (Del name row) = reads q name
-command_changes q _ = false
-
 abbrev pub line_changes : Query → Reading → Bool
-line_changes q (refused r) = false
-line_changes q (says_command c) = command_changes q c
+line_changes q (says_command (Add name row)) = reads q name
+line_changes q (says_command (Del name row)) = reads q name
+line_changes q _ = false
 
-abbrev pub outcome_changes : Query → LineOutcome → Bool
-outcome_changes q (run l) = line_changes q (reading_of l)
-outcome_changes q _ = false
-
+-- whether an event runs such a line
 abbrev pub event_changes : Query → Event → Bool
-event_changes q (stepped t outcome) = outcome_changes q outcome
+event_changes q (stepped t (run l)) = line_changes q (reading_of l)
 event_changes q _ = false
 
--- the number of an accepted change of such a relation, where an event is one
+-- the number of an accepted change by such an event
 abbrev pub number_by : Query → Store → Event → Store → List ℕ
 number_by q old event new =
     if not (new.seq == old.seq) && event_changes q event then new.seq ∷ [] else []
