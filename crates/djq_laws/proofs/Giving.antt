@@ -71,7 +71,7 @@ position_registered rs None p (open_at given finished) same h = absurd h
 position_registered rs (Some q) p (open_at given finished) same h = let e = same q refl in rw e h
 position_registered rs o p (stale r n) same h = tt
 
-found_in_front : (qs : List Query) (q : Query) (name : Bytes) (found : Query) → query_of qs name ≡ Some found → query_of (qs ++ q ∷ []) name ≡ Some found
+pub found_in_front : (qs : List Query) (q : Query) (name : Bytes) (found : Query) → query_of qs name ≡ Some found → query_of (qs ++ q ∷ []) name ≡ Some found
 found_in_front [] q name found e = absurd cc
 found_in_front (r ∷ qs) q name found e = at_first (bytes_eq r.name name) e (λ k. found_in_front qs q name found k)
   where
@@ -223,7 +223,7 @@ query_gives old q (Err r) store new h after g =
     (refused_store (query_refusal old.store q) r (RegistersAs old.store q store) (RefusedLate old.store q store) old.store store h.answer h.stays (query_late old.store q r store)) after g
 
 -- A query that no session uses is no cursor's.
-dropped_query : (qs : List Query) (name other : Bytes) → bytes_eq other name ≡ false → query_of (drop_first (λ p. bytes_eq p.name name) qs) other ≡ query_of qs other
+pub dropped_query : (qs : List Query) (name other : Bytes) → bytes_eq other name ≡ false → query_of (drop_first (λ p. bytes_eq p.name name) qs) other ≡ query_of qs other
 dropped_query qs name other ne =
     find_dropped (λ (p : Query). bytes_eq p.name name) (λ (p : Query). bytes_eq p.name other) (λ p e. apart_from p.name name other (bytes_eq p.name other) refl ne e) qs
 
@@ -236,7 +236,7 @@ dropped_give rs qs q xs none h = λ k d lt.
     subst (λ (o : Option Query). PositionGives rs o c.position) (sym (dropped_query qs q c.query (none_pass (λ (z : Cursor). bytes_eq z.query q) x.cursors unused j e within))) (h k d lt j e within)
 
 -- the condition on use doesn't hold of a query that is dropped
-unused_of : (a b : Bool) (r t : Refusal) (u : ⊤) (D : ⊤ → Type 0) (L : Refusal → Type 0) → Answers (cond a (Some r) (cond b (Some t) None)) (Ok u) D L → b ≡ false
+pub unused_of : (a b : Bool) (r t : Refusal) (u : ⊤) (D : ⊤ → Type 0) (L : Refusal → Type 0) → Answers (cond a (Some r) (cond b (Some t) None)) (Ok u) D L → b ≡ false
 unused_of true b r t u D L h = absurd h
 unused_of false true r t u D L h = absurd h
 unused_of false false r t u D L h = refl

@@ -19,3 +19,4 @@ pub mod Adding
 pub mod Telling
 pub mod Watching
 pub mod Watched
+pub mod Staying

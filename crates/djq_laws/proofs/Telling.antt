@@ -45,7 +45,7 @@ Watches q o = IsSomeAnd o (λ x. is_watching q x ≡ true)
 abbrev pub IsOver : State → ℕ → Type 0
 IsOver st s = cause_of st s ≡ None → ⊥
 
-some_of : (o : Option Session) → IsSome o → (x : Session) × (o ≡ Some x)
+pub some_of : (o : Option Session) → IsSome o → (x : Session) × (o ≡ Some x)
 some_of None h = absurd cc
 some_of (Some x) h = (x, refl)
 
@@ -56,7 +56,7 @@ ended_over st t cause there h =
     let e : cause_of (with_session st t (ended_by cause)) t ≡ Some cause = ap cause_in (session_changed st t (ended_by cause) (λ x. refl)) ∙ ap (λ o. cause_in (option_map (ended_by cause) o)) f.1 in
     absurd (cc (e, h))
 
-over_stays : (st : State) (t : ℕ) (cause : EndCause) (s : ℕ) (b : Bool) → (t == s) ≡ b → IsOpen st t → IsOver st s → IsOver (with_session st t (ended_by cause)) s
+pub over_stays : (st : State) (t : ℕ) (cause : EndCause) (s : ℕ) (b : Bool) → (t == s) ≡ b → IsOpen st t → IsOver st s → IsOver (with_session st t (ended_by cause)) s
 over_stays st t cause s true e there over h =
     let k : t ≡ s = eqb-true t s e in
     ended_over st t cause there (ap (λ i. cause_of (with_session st t (ended_by cause)) i) k ∙ h)
@@ -64,7 +64,7 @@ over_stays st t cause s false e there over h =
     over (ap cause_in (sym (session_other st t s (ended_by cause) (λ x. refl) e)) ∙ h)
 
 -- one that watches does so still, or is over
-watches_still : (q : Bytes) (st : State) (t : ℕ) (cause : EndCause) (s : ℕ) (b : Bool) → (t == s) ≡ b → IsOpen st t → Watches q (session_of st s)
+pub watches_still : (q : Bytes) (st : State) (t : ℕ) (cause : EndCause) (s : ℕ) (b : Bool) → (t == s) ≡ b → IsOpen st t → Watches q (session_of st s)
     → Watches q (session_of (with_session st t (ended_by cause)) s) ⊎ IsOver (with_session st t (ended_by cause)) s
 watches_still q st t cause s true e there w =
     let k : t ≡ s = eqb-true t s e in
@@ -81,7 +81,7 @@ find_mapped p f keeps (x ∷ xs) = step (p x) (keeps x) (find_mapped p f keeps x
     step true e h = rw e refl
     step false e h = rw e h
 
-watches_changed : (q : Bytes) (old : State) (relation : Bytes) (store : Store) (s : ℕ) → Watches q (session_of old s) → Watches q (session_of (changed old relation true store) s)
+pub watches_changed : (q : Bytes) (old : State) (relation : Bytes) (store : Store) (s : ℕ) → Watches q (session_of old s) → Watches q (session_of (changed old relation true store) s)
 watches_changed q old relation store s w =
     let f = λ (x : Session). record x { cursors = map (outdated_cursor old.store.queries (by_relation relation) store.seq) x.cursors } in
     let g = some_and (session_of old s) (λ x. is_watching q x ≡ true) w in

@@ -135,7 +135,7 @@ module _ (q : Query) (s : ℕ) (queued : List (ℕ × Bytes)) (changes : Bool) w
   explain_stays old t (Some p) e new h = lines_stay old t (explain_lines p h.tree) e new h.tells
 
 -- The store behind a change is the one that the change left.
-change_store : (old : State) (t : ℕ) (name : Bytes) (rows : List Tuple) (outdates accepted : Bool) (store : Store) (reply : Bytes) (e : Effect) (new : State)
+pub change_store : (old : State) (t : ℕ) (name : Bytes) (rows : List Tuple) (outdates accepted : Bool) (store : Store) (reply : Bytes) (e : Effect) (new : State)
     → ChangeStep old t name rows outdates accepted store reply e new → new.store ≡ store
 change_store old t name rows outdates accepted store reply e new h =
     ap (λ (st : State). st.store) h.state
@@ -294,7 +294,7 @@ reordered_tells : (q : Query) (s : ℕ) (old mid : Store) (rs : List Relation) (
 reordered_tells q s old mid rs queued changes same (is_quiet answers seq) = is_quiet (same_then old.relations mid.relations rs q answers same) seq
 reordered_tells q s old mid rs queued changes same (is_told delta seq counts) = is_told (delta_to old.relations mid.relations rs q mid.seq s queued same delta) seq counts
 
-queued_store : (st : State) (qs : List (ℕ × Bytes)) → (queue_all st qs).store ≡ st.store
+pub queued_store : (st : State) (qs : List (ℕ × Bytes)) → (queue_all st qs).store ≡ st.store
 queued_store st [] = refl
 queued_store st (p ∷ ps) = queued_store (queue st p) ps
 

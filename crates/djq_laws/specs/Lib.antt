@@ -6,3 +6,4 @@ pub mod Course
 pub mod Given
 pub mod Added
 pub mod Watched
+pub mod Staying

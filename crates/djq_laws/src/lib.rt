@@ -18,6 +18,7 @@ ghost use Rattle.djq_laws.specs.Lines.{LinesInOrder};
 ghost use Rattle.djq_laws.specs.Given.{RunsGive, CoursesGive};
 ghost use Rattle.djq_laws.specs.Added.{DeltasAddUp};
 ghost use Rattle.djq_laws.specs.Watched.{WatchersHaveAnswers, ListedAndWatched};
+ghost use Rattle.djq_laws.specs.Staying.{WatchersStay};
 
 /// A session that is open stays so in every step that doesn't close it.
 pub fn stays_open()
@@ -94,4 +95,10 @@ pub fn watchers_have_answers()
 /// the present rows by adding up what it is told.
 pub fn listed_and_watched()
     ensures { ListedAndWatched }
+{}
+
+/// A session that watches a registered query does so as long as it goes on and doesn't unwatch it:
+/// the query stays registered.
+pub fn watchers_stay()
+    ensures { WatchersStay }
 {}
