@@ -20,3 +20,4 @@ pub mod Telling
 pub mod Watching
 pub mod Watched
 pub mod Staying
+pub mod Live

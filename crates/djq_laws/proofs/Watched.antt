@@ -1,23 +1,20 @@
 -- A session that watches a query all along a run adds up what it is told.
-use Rattle.std.specs.Prelude.{ℕ, List, [], ◌∷◌, ◌==◌, ◌≡◌, ◌<◌, ◌≤◌, ◌+◌, ◌++◌, ◌⊎◌, ◌&&◌, Bool, true, false, not, cond, Option, Some, filter, map, All, Contains}
+use Rattle.std.specs.Prelude.{ℕ, List, [], ◌∷◌, ◌==◌, ◌≡◌, ◌<◌, ◌≤◌, ◌+◌, ◌++◌, ◌⊎◌, ◌&&◌, Bool, true, false, not, cond, filter, map, All, Contains}
 use Rattle.std.specs.List.{flat_map}
 use Rattle.std.proofs.Common.{refl, sym, ap, ap₂, ◌∙◌, subst, append_assoc, inl, inr, arith}
 use Rattle.std.proofs.lemmas.Bool.{eq-eqb, ne_eqb}
 use Rattle.std.proofs.lemmas.Grind.{flat_map-append}
-use Rattle.std.proofs.lemmas.List.Elements.{All-nil, All-cons, All-append, All-contains, All-weaker}
+use Rattle.std.proofs.lemmas.List.Elements.{All-nil, All-cons, All-append, All-weaker}
 use Rattle.std.proofs.lemmas.List.Kept.{AllPairs-cons}
-use Rattle.djq_model.specs.declared.relation.Relation.{Relation}
 use Rattle.djq_model.specs.declared.query.Query.{Query}
-use Rattle.djq_model.specs.Data.{Bytes, Tuple, query_of}
+use Rattle.djq_model.specs.Data.{Bytes, Tuple}
 use Rattle.djq_model.specs.Answer.{IsAnswer, IsListing}
-use Rattle.djq_machine.specs.State.{Store, State, Session, Cursor, Position, open_at}
+use Rattle.djq_machine.specs.State.{Store, State}
 use Rattle.djq_machine.specs.Step.{Event}
-use Rattle.djq_machine.specs.Gives.{PositionGives}
 use Rattle.djq_machine.specs.Run.{Did, to_session, out}
 use Rattle.djq_laws.specs.Added.{added_up}
-use Rattle.djq_laws.specs.Watched.{WatchesAlong, event_changes, number_by, numbers_along, parts_for, parts_to, AreAmong, Told, told_text, IsTold, WatchersHaveAnswers, ListedAndWatched}
+use Rattle.djq_laws.specs.Watched.{WatchesAlong, event_changes, number_by, numbers_along, parts_for, parts_to, AreAmong, Told, told_text, IsTold, WatchersHaveAnswers}
 use Rattle.djq_laws.proofs.Answering.{SameAnswers}
-use Rattle.djq_laws.proofs.Changing.{all_found}
 use Rattle.djq_laws.proofs.Containing.{nothing_there, first_or_later, kept_there, mapped_there}
 use Rattle.djq_laws.proofs.Adding.{deltas_add_up}
 use Rattle.djq_laws.proofs.Watching.{StepTells, is_quiet, is_told, step_tells}
@@ -147,18 +144,3 @@ watchers_have_answers q s old [] new walk = record {
 watchers_have_answers q s old (d ∷ done) new walk =
     let h = walk.1 in
     told_more q s old d done new walk (step_tells q s old d.event d.effect walk.0 h.step h.before h.behind) (watchers_have_answers q s walk.0 done new walk.2)
-
--- What a finished cursor has given is a listing.
-finished_listing : (relations : List Relation) (o : Option Query) (q : Query) (given : List Tuple) (p : Position) → o ≡ Some q → p ≡ open_at given true
-    → PositionGives relations o p → IsListing (IsAnswer relations q) given
-finished_listing relations o q given p is at h =
-    let here : PositionGives relations (Some q) (open_at given true) = subst (λ (r : Position). PositionGives relations (Some q) r) at (subst (λ (r : Option Query). PositionGives relations r p) is h) in
-    here.listing refl
-
-pub listed_and_watched : ListedAndWatched
-listed_and_watched q s old done new walk gives given h t =
-    let st = old.store in
-    let of_session = all_found (λ (x : Session). All (λ (c : Cursor). PositionGives st.relations (query_of st.queries c.query) c.position) x.cursors)
-    (λ (x : Session). x.id == s) old.sessions h.session gives h.is_session in
-    let of_cursor = All-contains (λ (c : Cursor). PositionGives st.relations (query_of st.queries c.query) c.position) (h.session).cursors h.cursor of_session h.is_cursor in
-    t.adds_up given (finished_listing st.relations (query_of st.queries (h.cursor).query) q given (h.cursor).position h.of_query h.is_finished of_cursor)

@@ -7,3 +7,4 @@ pub mod Given
 pub mod Added
 pub mod Watched
 pub mod Staying
+pub mod Live

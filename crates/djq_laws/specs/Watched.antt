@@ -1,5 +1,5 @@
 -- What a session is told that watches a query all along a run.
-use Rattle.std.specs.Prelude.{ℕ, List, [], ◌∷◌, ◌==◌, ◌≡◌, ◌<◌, ◌++◌, ◌&&◌, Bool, true, false, not, None, Some, IsSomeAnd, if◌then◌else◌, filter, map, AllPairs, Contains}
+use Rattle.std.specs.Prelude.{ℕ, List, [], ◌∷◌, ◌==◌, ◌≡◌, ◌<◌, ◌++◌, ◌&&◌, Bool, true, false, not, None, Some, IsSomeAnd, if◌then◌else◌, filter, map, AllPairs}
 use Rattle.std.specs.List.{flat_map}
 use Rattle.djq_model.specs.declared.query.Query.{Query}
 use Rattle.djq_model.specs.Data.{Bytes, Tuple, query_of}
@@ -7,14 +7,13 @@ use Rattle.djq_model.specs.Answer.{IsAnswer, IsListing}
 use Rattle.djq_lines.specs.declared.command.Command.TheVariants.{Add, Del}
 use Rattle.djq_lines.specs.Grammar.{Reading, says as says_command, reading_of}
 use Rattle.djq_lines.specs.Reply.{text_of}
-use Rattle.djq_machine.specs.State.{Store, State, Session, Cursor, open_at, session_of}
+use Rattle.djq_machine.specs.State.{Store, State, session_of}
 use Rattle.djq_machine.specs.Stale.{reads}
 use Rattle.djq_machine.specs.Delta.{Change, delta_lines}
 use Rattle.djq_machine.specs.Watch.{is_watching}
 use Rattle.djq_machine.specs.LineStep.{run}
 use Rattle.djq_machine.specs.Step.{Event, stepped, Step}
 use Rattle.djq_machine.specs.Run.{Did, Walk, out}
-use Rattle.djq_machine.specs.Gives.{CursorsGive}
 use Rattle.djq_laws.specs.Added.{added_up}
 
 -- A session goes on, and watches a registered query.
@@ -97,19 +96,3 @@ pub record IsTold (q : Query) (s : ℕ) (old : State) (done : List Did) (new : S
 -- So it is from any state on, whatever the other sessions do.
 abbrev pub WatchersHaveAnswers : Type 0
 WatchersHaveAnswers = (q : Query) (s : ℕ) (old : State) (done : List Did) (new : State) (walk : WatchesAlong q s old done new) → IsTold q s old done new walk
-
--- A cursor of a session was told the end, and has given these.
-pub record HasListed (q : Query) (s : ℕ) (st : State) (given : List Tuple) : Type 0 where
-  pub session : Session
-  pub is_session : session_of st s ≡ Some session
-  pub cursor : Cursor
-  pub is_cursor : Contains session.cursors cursor
-  pub of_query : query_of st.store.queries cursor.query ≡ Some q
-  pub is_finished : cursor.position ≡ open_at given true
-
--- Where cursors give what they should, a session that lists a query and watches it from then on adds
--- up to a listing of the answers at the end.
-abbrev pub ListedAndWatched : Type 0
-ListedAndWatched = (q : Query) (s : ℕ) (old : State) (done : List Did) (new : State) (walk : WatchesAlong q s old done new)
-    → CursorsGive old → (given : List Tuple) → HasListed q s old given
-    → (t : IsTold q s old done new walk) → IsListing (IsAnswer new.store.relations q) (all_added_up given t.told)

@@ -17,8 +17,9 @@ ghost use Rattle.djq_laws.specs.Sent.{SentBytes};
 ghost use Rattle.djq_laws.specs.Lines.{LinesInOrder};
 ghost use Rattle.djq_laws.specs.Given.{RunsGive, CoursesGive};
 ghost use Rattle.djq_laws.specs.Added.{DeltasAddUp};
-ghost use Rattle.djq_laws.specs.Watched.{WatchersHaveAnswers, ListedAndWatched};
+ghost use Rattle.djq_laws.specs.Watched.{WatchersHaveAnswers};
 ghost use Rattle.djq_laws.specs.Staying.{WatchersStay};
+ghost use Rattle.djq_laws.specs.Live.{ListingsStayLive};
 
 /// A session that is open stays so in every step that doesn't close it.
 pub fn stays_open()
@@ -91,14 +92,14 @@ pub fn watchers_have_answers()
     ensures { WatchersHaveAnswers }
 {}
 
-/// A session that lists a query through a cursor, and watches it from then on, has the answers over
-/// the present rows by adding up what it is told.
-pub fn listed_and_watched()
-    ensures { ListedAndWatched }
-{}
-
 /// A session that watches a registered query does so as long as it goes on and doesn't unwatch it:
 /// the query stays registered.
 pub fn watchers_stay()
     ensures { WatchersStay }
+{}
+
+/// A session that has listed a query through a cursor, and watches it, has the answers over the
+/// present rows by adding up what it is told, as long as it goes on and doesn't unwatch it.
+pub fn listings_stay_live()
+    ensures { ListingsStayLive }
 {}
