@@ -1,4 +1,5 @@
 pub mod Running
 pub mod Finishing
+pub mod Living
 pub mod Gathering
 pub mod Replaying

@@ -1,3 +1,4 @@
 pub mod Replay
 pub mod Ends
 pub mod Finished
+pub mod Live

@@ -1,4 +1,5 @@
 ghost use Rattle.djq.specs.Finished.{FinishedCursors};
+ghost use Rattle.djq.specs.Live.{RunIsLive, ServeIsLive};
 
 /// At each moment of a run of the program, a cursor that was open and had been told the end had
 /// listed every answer of its query over the rows that were there then, each once, and nothing
@@ -8,4 +9,15 @@ ghost use Rattle.djq.specs.Finished.{FinishedCursors};
 /// end.
 pub fn finished_cursors_have_listed()
     ensures { FinishedCursors }
+{}
+
+/// From each moment of a run of the program on, a session that has listed a query through a cursor,
+/// and watches it, has the answers over the rows that are there by adding up what it is told.
+pub fn run_stays_live()
+    ensures { RunIsLive }
+{}
+
+/// So it is with each session that the program serves.
+pub fn serve_stays_live()
+    ensures { ServeIsLive }
 {}

@@ -20,7 +20,7 @@ use djq_io::{StdSink, StdSource};
 use djq_net::TcpHub;
 pub use djq_run::Status;
 use djq_steps::{Blanks, Ledgers, Steps};
-pub use laws::finished_cursors_have_listed;
+pub use laws::{finished_cursors_have_listed, run_stays_live, serve_stays_live};
 pub use program::run_program;
 use std::alloc::AllocError;
 use std::marker::Brand;

@@ -1,0 +1,5 @@
+use Rattle.djq.proofs.Living.{serve_is_live}
+use Rattle.djq.proofs.laws.serve_stays_live.Goals as goal
+
+pub returns : goal.returns
+returns c = serve_is_live
