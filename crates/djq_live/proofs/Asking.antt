@@ -108,7 +108,7 @@ use Rattle.djq_live.proofs.Heads.{in_atom}
 use Rattle.djq_live.proofs.Picking.{member_at}
 use Rattle.djq_live.proofs.Rows.{found_at}
 use Rattle.djq_live.proofs.Showable.{stands_at}
-use Rattle.djq_live.proofs.Showing.{query_answer, tree_answer, stand, head_stands}
+use Rattle.djq_live.proofs.Showing.{query_answer, tree_answer, stand}
 use Rattle.djq_live.proofs.Terms.{HasOne, both}
 
 -- ---- the type of a head's variable
