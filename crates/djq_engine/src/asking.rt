@@ -10,6 +10,7 @@ use crate::lent::LentAnswer;
 use crate::parts::Parts;
 use crate::places::find_query;
 use djq_lines::Refusal;
+use djq_live::answers_are_showable;
 use djq_model::{Name, Value};
 use djq_reduct::Answer;
 use djq_steps::{Ledgers, Listing, Tally};
@@ -62,6 +63,7 @@ pub fn answer_in<'a>(parts: &'a Parts, id: CursorId, answer: &'a Answer) -> Lent
     requires there { IsThere (kept_in parts.now) id answer.now }
     ensures { AnswerIs (kept_in parts.now) id answer.now result }
 {
+    answers_are_showable();
     match &parts.queries[id.query.at] {
         Some(live) => LentAnswer::new(&parts.catalog, live, answer),
         None => unreachable!(),

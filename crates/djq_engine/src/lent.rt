@@ -1,7 +1,6 @@
 ghost use Rattle.std.specs.Prelude.{◌≡◌, ◌<◌, Some, length, slice_get};
 ghost use Rattle.djq_model.specs.Lent.{value_lent};
-ghost use Rattle.djq_reduct.specs.Answers.{IsAnswerOf};
-ghost use Rattle.djq_live.specs.Live.{IsLive, values_of};
+ghost use Rattle.djq_live.specs.Live.{IsKept, IsShowable, values_of};
 
 use djq_live::LiveQuery;
 use djq_model::Lent;
@@ -22,24 +21,23 @@ impl<'a> Model for LentAnswer<'a> {
 
     ghost Value = { Tuple };
 
-    ghost use Rattle.djq_reduct.specs.Answers.{IsAnswerOf};
-    ghost use Rattle.djq_live.specs.Live.{IsLive, values_of};
+    ghost use Rattle.djq_live.specs.Live.{IsKept, IsShowable, values_of};
 
     ghost view = { λ a. values_of a.catalog.now.texts a.query.now a.answer.now };
 
-    ghost invariant = { λ a. IsLive a.catalog.now a.query.now
-        × IsAnswerOf a.query.now.reducts a.answer.now };
+    ghost invariant = { λ a. IsKept a.catalog.now a.query.now
+        × IsShowable a.catalog.now.texts a.query.now a.answer.now };
 }
 
 impl<'a> LentAnswer<'a> {
-    /// An answer of a query that is kept over a catalog.
+    /// An answer of a query that is kept over a catalog, or one that was taken out.
     pub(crate) fn new(
         catalog: &'a Catalog,
         query: &'a LiveQuery,
         answer: &'a Answer,
     ) -> LentAnswer<'a>
-        requires live { IsLive catalog.now query.now }
-        requires answer { IsAnswerOf query.now.reducts answer.now }
+        requires kept { IsKept catalog.now query.now }
+        requires showable { IsShowable catalog.now.texts query.now answer.now }
         ensures { result ≡ values_of catalog.now.texts query.now answer.now }
     {
         LentAnswer {

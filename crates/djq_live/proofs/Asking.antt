@@ -91,7 +91,7 @@ use Rattle.djq_rows.specs.Catalog.{Catalog, IsCatalog, relation_at}
 use Rattle.djq_rows.proofs.Encoding.{value_back, unknown_row}
 use Rattle.djq_live.specs.Asked.{column_of, AreSuited, IsAtomOf, AreAtomsOf}
 use Rattle.djq_live.specs.Leaves.{IsOver}
-use Rattle.djq_live.specs.Live.{Live, IsLive}
+use Rattle.djq_live.specs.Live.{Live, IsLive, IsKeptSomewhere, IsShowable}
 use Rattle.djq_live.specs.Order.{reading, AreCellsOfAnswer}
 use Rattle.djq_live.specs.Shown.{value_at, shown, AreShownAs}
 use Rattle.djq_live.proofs.Columns.{
@@ -107,7 +107,8 @@ use Rattle.djq_live.proofs.Columns.{
 use Rattle.djq_live.proofs.Heads.{in_atom}
 use Rattle.djq_live.proofs.Picking.{member_at}
 use Rattle.djq_live.proofs.Rows.{found_at}
-use Rattle.djq_live.proofs.Showing.{query_answer, tree_answer, stand, head_stands}
+use Rattle.djq_live.proofs.Showable.{stands_at}
+use Rattle.djq_live.proofs.Showing.{query_answer, tree_answer, stand}
 use Rattle.djq_live.proofs.Terms.{HasOne, both}
 
 -- ---- the type of a head's variable
@@ -524,22 +525,22 @@ pub record ReadsValue (texts : List Bytes) (n : Numbered) (F u : List ℕ) (at p
   pub stands : StandsFor texts kind (slice_index slice place) value
   pub is : slice_get (shown texts n F u) at ≡ Some value
 
-pub reads_value : (c : Catalog) (l m : Live) (u : List ℕ) (at place : ℕ) (kind : ColumnType)
-    (slice hs : List ℕ) (vs : List Variable) (t : Tree) (F : List ℕ) → l ≡ m → IsLive c m
-    → IsAnswerOf m.reducts u → at < length m.query.head → hs ≡ l.numbered.head
+pub reads_value : (texts : List Bytes) (l m : Live) (u : List ℕ) (at place : ℕ) (kind : ColumnType)
+    (slice hs : List ℕ) (vs : List Variable) (t : Tree) (F : List ℕ) → l ≡ m
+    → IsKeptSomewhere m → IsShowable texts m u → at < length m.query.head → hs ≡ l.numbered.head
     → vs ≡ l.numbered.variables → t ≡ l.reducts.tree → F ≡ t.head
     → kind ≡ column_of vs (slice_index hs at) → place ≡ column F (slice_index hs at)
-    → slice ≡ u → ReadsValue c.texts m.numbered m.reducts.tree.head u at place kind slice
-reads_value c l m u at place kind slice hs vs t F e live is within head variables tree set typed
+    → slice ≡ u → ReadsValue texts m.numbered m.reducts.tree.head u at place kind slice
+reads_value texts l m u at place kind slice hs vs t F e kept is within head variables tree set typed
     stood cells =
-    let over = live.kept.over in
+    let over = kept.1.over in
     let n = m.numbered in
     let G = m.reducts.tree.head in
     let x = slice_index n.head at in
     let heads = head ∙ ap (λ (o : Live). o.numbered.head) e in
     let here : slice_index hs at ≡ x = ap (λ (ys : List ℕ). slice_index ys at) heads in
     let low : at < length n.head =
-    (let k = head_long c m.query n m.patterns m.reducts over in omega arith) in
+    (let k = head_long kept.0 m.query n m.patterns m.reducts over in omega arith) in
     let in_head = member_at n.head at low in
     let sets : F ≡ G = set ∙ ap (λ (v : Tree). v.head) tree
     ∙ ap (λ (o : Live). o.reducts.tree.head) e in
@@ -551,15 +552,15 @@ reads_value c l m u at place kind slice hs vs t F e live is within head variable
     let under = column_within G x (over.head x ∙ in_head) in
     record {
       low = omega arith;
-      value = value_at c.texts n.variables G u x;
+      value = value_at texts n.variables G u x;
       stands =
-          subst (λ (k : ColumnType). StandsFor c.texts k (slice_index slice place)
-          (value_at c.texts n.variables G u x)) (sym kind_is)
-          (subst (λ (k : ℕ). StandsFor c.texts (column_of n.variables x) k
-          (value_at c.texts n.variables G u x))
+          subst (λ (k : ColumnType). StandsFor texts k (slice_index slice place)
+          (value_at texts n.variables G u x)) (sym kind_is)
+          (subst (λ (k : ℕ). StandsFor texts (column_of n.variables x) k
+          (value_at texts n.variables G u x))
           (sym (ap₂ slice_index cells place_is))
-          (head_stands c m.query n m.patterns m.reducts u x over is in_head));
+          (stands_at texts n.variables G u n.head at is.stands low));
       is =
-          slice_get-map (value_at c.texts n.variables G u) n.head at
-          ∙ ap (option_map (value_at c.texts n.variables G u)) (slice_get-get_or n.head at 0 low);
+          slice_get-map (value_at texts n.variables G u) n.head at
+          ∙ ap (option_map (value_at texts n.variables G u)) (slice_get-get_or n.head at 0 low);
     }

@@ -11,6 +11,8 @@ pub mod Heads
 pub mod Showing
 pub mod Members
 pub mod Later
+pub mod Showable
+pub mod Bound
 pub mod Changing
 pub mod Placing
 pub mod Typing

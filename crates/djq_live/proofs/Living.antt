@@ -76,6 +76,7 @@ use Rattle.djq_live.proofs.Members.{in_none, in_cons, in_rest}
 use Rattle.djq_live.proofs.Columns.{member_here, member_on}
 use Rattle.djq_live.proofs.Listings.{few}
 use Rattle.djq_live.proofs.Showing.{tree_answer}
+use Rattle.djq_live.proofs.Showable.{new_lines, old_lines}
 use Rattle.djq_live.proofs.Rowing.{
   leaves_of,
   none_there,
@@ -335,6 +336,9 @@ came_logged true l s at cells h calls log new x y more change k = record {
   behind = k.tells.behind;
   tells = λ whole c d row kept came. gains_log l s at cells k.answers c d row more change
       k.listing kept came;
+  shown = λ whole c d row kept came. new_lines d l s k.answers
+      (added_kept c d l s at cells row kept came change) change.tree
+      (λ i u low. (k.listing.all i u low).is);
   stays = k.tells.stays;
 }
 came_logged false l s at cells h calls log new x y more change k = k.0
@@ -350,6 +354,8 @@ went_logged true l s at cells h calls log new x y more change k = record {
   behind = k.tells.behind;
   tells = λ whole c d row kept went. loses_log l s at cells k.answers c d row more change
       k.listing kept went;
+  shown = λ whole c d row kept went. old_lines c d l k.answers kept went.later
+      (λ i u low. (k.listing.all i u low).is);
   stays = k.tells.stays;
 }
 went_logged false l s at cells h calls log new x y more change k = k.0

@@ -94,10 +94,10 @@ in_leaves c q n ps r a h sat j low =
 
 -- ---- heads
 
-first_label : (x y : Option Label) (xs ys : List (Option Label)) → x ∷ xs ≡ y ∷ ys → x ≡ y
+pub first_label : (x y : Option Label) (xs ys : List (Option Label)) → x ∷ xs ≡ y ∷ ys → x ≡ y
 first_label x y xs ys e = same_Some x y (ap (λ (l : List (Option Label)). slice_get l 0) e)
 
-rest_labels : (x y : Option Label) (xs ys : List (Option Label)) → x ∷ xs ≡ y ∷ ys → xs ≡ ys
+pub rest_labels : (x y : Option Label) (xs ys : List (Option Label)) → x ∷ xs ≡ y ∷ ys → xs ≡ ys
 rest_labels x y xs ys e = ap (λ (l : List (Option Label)). drop 1 l) e
 
 -- what is said of each variable of the head and its name makes two tuples the same

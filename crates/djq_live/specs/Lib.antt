@@ -7,6 +7,7 @@ pub mod Cursors
 pub mod Advancing
 pub mod Order
 pub mod Live
+pub mod Body
 pub mod Planning
 pub mod Updating
 pub mod Reading

@@ -1,5 +1,5 @@
 -- One registered query, as it is kept over a catalog.
-use Rattle.std.specs.Prelude.{ℕ, List, ◌≡◌, Bool, Option, Some, map}
+use Rattle.std.specs.Prelude.{ℕ, List, ◌++◌, length, ◌≡◌, Bool, Option, Some, map}
 use Rattle.djq_model.specs.declared.query.Query.{Query}
 use Rattle.djq_model.specs.Data.{Bytes, Tuple}
 use Rattle.djq_lines.specs.Hypergraph.{edges_of, head_of}
@@ -7,13 +7,14 @@ use Rattle.djq_machine.specs.State.{Position, open_at, stale}
 use Rattle.djq_tree.specs.Growing.{IsTreeOf}
 use Rattle.djq_reduct.specs.Reducts.{Reducts}
 use Rattle.djq_reduct.specs.Marks.{IsBare}
+use Rattle.djq_reduct.specs.Answers.{IsAnswerOf}
 use Rattle.djq_cursor.specs.declared.cursor.Cursor.{Cursor}
 use Rattle.djq_cursor.specs.Given.{given, Fits}
 use Rattle.djq_query.specs.Numbered.{Numbered}
 use Rattle.djq_query.specs.Pattern.{Shape}
 use Rattle.djq_rows.specs.Catalog.{Catalog}
 use Rattle.djq_live.specs.Leaves.{IsOver}
-use Rattle.djq_live.specs.Shown.{shown}
+use Rattle.djq_live.specs.Shown.{shown, AreShownAs}
 use Rattle.djq_live.specs.declared.cursors.Progress.{Progress}
 use Rattle.djq_live.specs.declared.cursors.Progress.TheVariants.{Open, Stale}
 use Rattle.djq_live.specs.Cursors.{slot_at}
@@ -50,6 +51,24 @@ pub record IsLive (c : Catalog) (l : Live) : Type 0 where
 -- the values that a tuple of the tree shows, in the head's order
 abbrev pub values_of : List Bytes → Live → List ℕ → Tuple
 values_of texts l u = shown texts l.numbered l.reducts.tree.head u
+
+-- A tuple of cells has a cell for each variable of the head, and they stand for the values it shows.
+-- So it is of each answer, and of one that was taken out.
+pub record IsShowable (texts : List Bytes) (l : Live) (u : List ℕ) : Type 0 where
+  pub wide : length u ≡ length (l.reducts).tree.head
+  pub stands : AreShownAs texts (l.numbered).variables (l.reducts).tree.head u (l.numbered).head
+      (values_of texts l u)
+
+-- An answer of a query that is kept is showable.
+abbrev pub AnswersAreShowable : Type 0
+AnswersAreShowable = (c : Catalog) (l : Live) → IsKept c l → (u : List ℕ) → IsAnswerOf l.reducts u
+    → IsShowable c.texts l u
+
+-- What is showable stays so as rows change and texts become known, and shows the same values.
+abbrev pub ShowableStays : Type 0
+ShowableStays = (texts more : List Bytes) (l m : Live) (u : List ℕ) → m.numbered ≡ l.numbered
+    → (m.reducts).tree ≡ (l.reducts).tree → IsShowable texts l u
+    → IsShowable (texts ++ more) m u × (values_of (texts ++ more) m u ≡ values_of texts l u)
 
 -- the answers that a cursor has given
 abbrev pub given_by : List Bytes → Live → Cursor → List Tuple

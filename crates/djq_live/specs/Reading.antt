@@ -1,5 +1,5 @@
 -- What reads of a registered query give.
-use Rattle.std.specs.Prelude.{ℕ, List, [], ◌∷◌, ◌++◌, ◌≡◌, Bool, true, false, Option, None, Some, IsSomeAnd, slice_set}
+use Rattle.std.specs.Prelude.{ℕ, List, [], ◌∷◌, ◌++◌, ◌≡◌, Bool, true, false, None, Some, IsSomeAnd, slice_set}
 use Rattle.djq_model.specs.Data.{Tuple}
 use Rattle.djq_model.specs.Answer.{IsAnswer}
 use Rattle.djq_machine.specs.State.{Position, open_at, stale}

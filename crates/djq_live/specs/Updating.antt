@@ -1,5 +1,5 @@
 -- What becomes of a registered query where a row of a relation comes or goes, and what its log says.
-use Rattle.std.specs.Prelude.{ℕ, List, ◌++◌, ◌≡◌, ◌+◌, ◌*◌, ◌≤◌, ◌==◌, Bool, true, false, Contains, filter, length, map, if◌then◌else◌}
+use Rattle.std.specs.Prelude.{ℕ, List, ◌++◌, ◌≡◌, ◌+◌, ◌*◌, ◌≤◌, ◌==◌, Bool, true, false, All, Contains, filter, length, map, if◌then◌else◌}
 use Rattle.djq_model.specs.Data.{Bytes, Tuple}
 use Rattle.djq_model.specs.Answer.{IsAnswer}
 use Rattle.djq_lines.specs.declared.answer.Sign.TheVariants.{Came as HasCome, Went as HasGone}
@@ -9,7 +9,7 @@ use Rattle.djq_cursor.specs.declared.log.Line.{Line}
 use Rattle.djq_cursor.specs.Log.{Log}
 use Rattle.djq_rows.specs.Catalog.{Catalog, rows_at}
 use Rattle.djq_live.specs.Changes.{Came, Went}
-use Rattle.djq_live.specs.Live.{Live, IsKept, values_of}
+use Rattle.djq_live.specs.Live.{Live, IsKept, IsShowable, values_of}
 
 -- A row with these cells came into a relation, whose catalog the query was kept over.
 pub record CanAdd (l : Live) (at : ℕ) (cells : List ℕ) : Type 0 where
@@ -44,13 +44,15 @@ change_of texts l k = record {
 abbrev pub IsDeltaOf : Live → Catalog → Catalog → List Change → Type 0
 IsDeltaOf l c d = IsDelta (IsAnswer c.relations l.query) (IsAnswer d.relations l.query)
 
--- Unless the log is lost, it tells the delta behind what it told.
+-- Unless the log is lost, it tells the delta behind what it told, in lines that can be shown.
 pub record Logs (Changed : Catalog → Catalog → Tuple → Type 0) (old : Live) (log new : Log) :
     Type 0 where
   pub lines : List Line
   pub behind : new.lost ≡ false → new.lines ≡ log.lines ++ lines
   pub tells : new.lost ≡ false → (c d : Catalog) (row : Tuple) → IsKept c old → Changed c d row
       → IsDeltaOf old c d (map (change_of d.texts old) lines)
+  pub shown : new.lost ≡ false → (c d : Catalog) (row : Tuple) → IsKept c old → Changed c d row
+      → All (λ k. IsShowable d.texts old k.answer) lines
   pub stays : log.lost ≡ true → new.lost ≡ true
 
 -- What becomes of the log, where the delta is wanted and where it isn't.

@@ -1,6 +1,8 @@
 ghost use Rattle.djq_live.specs.Asked.{NumberedIsAsked};
 ghost use Rattle.djq_live.specs.Shown.{AnswersAreShown, AnswersAreListed};
 ghost use Rattle.djq_live.specs.Shown.{AnswersDiffer, AnswersStand};
+ghost use Rattle.djq_live.specs.Live.{AnswersAreShowable, ShowableStays};
+ghost use Rattle.djq_live.specs.Body.{HeadsAreBound};
 
 /// A tuple of values is an answer of the query exactly where an answer of the tree shows it: a
 /// tuple of cells whose projection on every node of `out` is in the node's table (Idris, Ugarte and
@@ -28,4 +30,19 @@ pub fn answers_are_listed()
 /// columns, and each variable has one type.
 pub fn numbered_is_asked()
     ensures { NumberedIsAsked }
+{}
+
+/// An answer of a query that is kept can be shown.
+pub fn answers_are_showable()
+    ensures { AnswersAreShowable }
+{}
+
+/// What can be shown stays so as rows change and texts become known, and shows the same values.
+pub fn showable_stays()
+    ensures { ShowableStays }
+{}
+
+/// A query that is kept has each variable of its head in an atom.
+pub fn heads_are_bound()
+    ensures { HeadsAreBound }
 {}

@@ -19,9 +19,8 @@ ghost use Rattle.djq_model.specs.Answer.{IsAnswer};
 ghost use Rattle.djq_model.specs.Lent.{value_lent};
 ghost use Rattle.djq_machine.specs.Store.{most_steps, Tells, answer_types, misfit};
 ghost use Rattle.djq_rows.specs.Catalog.{Catalog as CatalogModel};
-ghost use Rattle.djq_reduct.specs.Answers.{IsAnswerOf};
 ghost use Rattle.djq_live.specs.Cursors.{slot_at, are_vacant};
-ghost use Rattle.djq_live.specs.Live.{IsLive, FitsIn, values_of};
+ghost use Rattle.djq_live.specs.Live.{IsLive, IsKeptSomewhere, IsShowable, FitsIn, values_of};
 ghost use Rattle.djq_live.specs.Reading.{NextGives, MoreGives, next_steps, OpensIn, IsFreshIn};
 
 use crate::live::LiveQuery;
@@ -162,10 +161,11 @@ impl LiveQuery {
         self.query.head.len()
     }
 
-    /// A value of an answer, in the head's order. A text is lent by the catalog.
+    /// A value of an answer, or of one that was taken out, in the head's order. A text is lent by
+    /// the catalog.
     pub fn value<'a>(&self, catalog: &'a Catalog, answer: &Answer, at: usize) -> Lent<'a>
-        requires live { IsLive catalog.now self.now }
-        requires answer { IsAnswerOf self.now.reducts answer.now }
+        requires kept { IsKeptSomewhere self.now }
+        requires showable { IsShowable catalog.now.texts self.now answer.now }
         requires within { at < length self.now.query.head }
         ensures { slice_get (values_of catalog.now.texts self.now answer.now) at
             ≡ Some (value_lent result) }

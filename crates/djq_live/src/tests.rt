@@ -135,6 +135,7 @@ fn read_pair(live: &LiveQuery, catalog: &Catalog, answer: &Answer) -> Option<(i6
     if live.width() != 2 {
         return None;
     }
+    answers_are_showable();
     let first = number(live.value(catalog, answer, 0));
     Some((first, number(live.value(catalog, answer, 1))))
 }

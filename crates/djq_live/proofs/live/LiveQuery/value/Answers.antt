@@ -6,36 +6,36 @@ use Rattle.djq_live.proofs.live.LiveQuery.value.Goals as goal
 
 pub bounds-as_slice-column_of : goal.bounds-as_slice-column_of
 bounds-as_slice-column_of c =
-    (reads_value c.args.catalog.now _ c.args.self.now c.args.answer.now c.args.at
+    (reads_value c.args.catalog.now.texts _ c.args.self.now c.args.answer.now c.args.at
     c.column_of.result c.column_at-column.result c.as_slice.result.now c.head.result.now
-    c.variables.result.now c.tree.result.now c.head-2.result c.self.view_is c.requires.live
-    c.requires.answer c.requires.within c.head.ensures c.variables.ensures c.tree.ensures
+    c.variables.result.now c.tree.result.now c.head-2.result c.self.view_is c.requires.kept
+    c.requires.showable c.requires.within c.head.ensures c.variables.ensures c.tree.ensures
     c.head-2.ensures c.column_at-column.ensures c.column_of.ensures c.as_slice.ensures).low
 
 pub offset_bounds-as_slice-column_of : goal.offset_bounds-as_slice-column_of
 offset_bounds-as_slice-column_of c =
     let below : c.column_of.result < length c.as_slice.result.now =
-    (reads_value c.args.catalog.now _ c.args.self.now c.args.answer.now c.args.at
+    (reads_value c.args.catalog.now.texts _ c.args.self.now c.args.answer.now c.args.at
     c.column_of.result c.column_at-column.result c.as_slice.result.now c.head.result.now
-    c.variables.result.now c.tree.result.now c.head-2.result c.self.view_is c.requires.live
-    c.requires.answer c.requires.within c.head.ensures c.variables.ensures c.tree.ensures
+    c.variables.result.now c.tree.result.now c.head-2.result c.self.view_is c.requires.kept
+    c.requires.showable c.requires.within c.head.ensures c.variables.ensures c.tree.ensures
     c.head-2.ensures c.column_at-column.ensures c.column_of.ensures c.as_slice.ensures).low in
     search rules
 
 pub value-requires : goal.value-requires
 value-requires c =
-    let r = reads_value c.args.catalog.now _ c.args.self.now c.args.answer.now c.args.at
+    let r = reads_value c.args.catalog.now.texts _ c.args.self.now c.args.answer.now c.args.at
     c.column_of.result c.column_at-column.result c.as_slice.result.now c.head.result.now
-    c.variables.result.now c.tree.result.now c.head-2.result c.self.view_is c.requires.live
-    c.requires.answer c.requires.within c.head.ensures c.variables.ensures c.tree.ensures
+    c.variables.result.now c.tree.result.now c.head-2.result c.self.view_is c.requires.kept
+    c.requires.showable c.requires.within c.head.ensures c.variables.ensures c.tree.ensures
     c.head-2.ensures c.column_at-column.ensures c.column_of.ensures c.as_slice.ensures in
     record { value = r.value; stands = r.stands }
 
 pub returns : goal.returns
 returns c =
-    let r = reads_value c.args.catalog.now _ c.args.self.now c.args.answer.now c.args.at
+    let r = reads_value c.args.catalog.now.texts _ c.args.self.now c.args.answer.now c.args.at
     c.column_of.result c.column_at-column.result c.as_slice.result.now c.head.result.now
-    c.variables.result.now c.tree.result.now c.head-2.result c.self.view_is c.requires.live
-    c.requires.answer c.requires.within c.head.ensures c.variables.ensures c.tree.ensures
+    c.variables.result.now c.tree.result.now c.head-2.result c.self.view_is c.requires.kept
+    c.requires.showable c.requires.within c.head.ensures c.variables.ensures c.tree.ensures
     c.head-2.ensures c.column_at-column.ensures c.column_of.ensures c.as_slice.ensures in
     r.is ∙ ap (λ (v : Value). Some v) (sym (c.value.ensures r.value r.stands))

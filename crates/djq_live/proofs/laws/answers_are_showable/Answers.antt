@@ -1,0 +1,5 @@
+use Rattle.djq_live.proofs.Showable.{answer_showable}
+use Rattle.djq_live.proofs.laws.answers_are_showable.Goals as goal
+
+pub returns : goal.returns
+returns c = answer_showable

@@ -1,0 +1,5 @@
+use Rattle.djq_live.proofs.Showable.{stays_showable}
+use Rattle.djq_live.proofs.laws.showable_stays.Goals as goal
+
+pub returns : goal.returns
+returns c = stays_showable
