@@ -1,0 +1,5 @@
+use Rattle.djq_deltas.proofs.Finite.{answers_are_finite}
+use Rattle.djq_deltas.proofs.answers_are_finite.Goals as goal
+
+pub returns : goal.returns
+returns c = answers_are_finite

@@ -1,0 +1,5 @@
+use Rattle.djq_deltas.proofs.Finite.{deltas_exist}
+use Rattle.djq_deltas.proofs.deltas_exist.Goals as goal
+
+pub returns : goal.returns
+returns c = deltas_exist

@@ -1,0 +1,27 @@
+-- Which queries have finitely many answers.
+use Rattle.std.specs.Prelude.{List, Contains}
+use Rattle.djq_model.specs.declared.relation.Relation.{Relation}
+use Rattle.djq_model.specs.declared.query.Query.{Query}
+use Rattle.djq_model.specs.declared.query.Atom.{Atom}
+use Rattle.djq_model.specs.declared.query.Term.TheVariants.{Variable}
+use Rattle.djq_model.specs.Data.{Bytes, Tuple}
+use Rattle.djq_model.specs.Answer.{IsAnswer, IsListing}
+use Rattle.djq_machine.specs.Delta.{Change, IsDelta}
+
+-- A variable stands in an atom of a query.
+abbrev pub IsInBody : Bytes → Query → Type 0
+IsInBody x q = (a : Atom) × Contains q.atoms a × Contains a.terms (Variable x)
+
+-- Each variable of the head does.
+abbrev pub IsBound : Query → Type 0
+IsBound q = (x : Bytes) → Contains q.head x → IsInBody x q
+
+-- A bound query has a listing of its answers.
+abbrev pub AnswersAreFinite : Type 0
+AnswersAreFinite = (relations : List Relation) (q : Query) → IsBound q
+    → (ts : List Tuple) × IsListing (IsAnswer relations q) ts
+
+-- And each change of relations has a delta.
+abbrev pub DeltasExist : Type 0
+DeltasExist = (before after : List Relation) (q : Query) → IsBound q
+    → (changes : List Change) × IsDelta (IsAnswer before q) (IsAnswer after q) changes

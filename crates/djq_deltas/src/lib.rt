@@ -1,0 +1,18 @@
+//! That every query has finitely many answers, and every change of relations a delta.
+//!
+//! The function here is empty: its contract is the law, and its proof says nothing of code. What a
+//! change brings and takes is then a list that may be spoken of, also where a program never made it:
+//! where its log was lost, or a row was refused.
+#![tactic(auto)]
+
+ghost use Rattle.djq_deltas.specs.Finite.{AnswersAreFinite, DeltasExist};
+
+/// A query has finitely many answers, where each variable of its head stands in its body.
+pub fn answers_are_finite()
+    ensures { AnswersAreFinite }
+{}
+
+/// So each change of relations has a delta: the answers that came and those that went, each once.
+pub fn deltas_exist()
+    ensures { DeltasExist }
+{}
