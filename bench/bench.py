@@ -1,18 +1,27 @@
 #!/usr/bin/env python3
-"""What djq costs on this machine: python3 bench/bench.py PROGRAM [--rows N] [--only NAME ..].
+"""What djq costs on this machine, beside SQLite: python3 bench/bench.py PROGRAM [--rows N] [--runs R] [--only NAME ..].
 
-Makes its own streams, feeds them to PROGRAM by pipes, and prints a table. Nothing is built and
-nothing is kept. Beside some of the lines stands the same work by SQLite, in memory, with triggers,
-through Python's own module. Standard library alone.
+Each part makes a stream of lines, feeds it to PROGRAM over a pipe, and gives SQLite the same work, in memory, with
+triggers that log each answer that comes or goes; then both are compared, answer by answer. Each part runs with N rows
+and with 4N. README.md beside this file says how to read the table. Standard library alone; nothing is kept.
 """
 
 import argparse
 import random
+import select
+import socket
 import sqlite3
+import statistics
 import subprocess
 import sys
 import threading
 import time
+
+SENTINEL = b"has nothing_is_named_so"  # a line that is answered by LAST alone
+LAST = b"err 4 no query\n"
+
+
+# The program over a pipe, and SQLite
 
 
 class Session:
@@ -20,7 +29,7 @@ class Session:
 
     def __init__(self, program):
         self.process = subprocess.Popen(
-            [program, "run"], stdin=subprocess.PIPE, stdout=subprocess.PIPE, bufsize=1 << 20
+            [program, "run"], stdin=subprocess.PIPE, stdout=subprocess.PIPE, bufsize=0
         )
 
     def __enter__(self):
@@ -30,235 +39,522 @@ class Session:
         self.process.stdin.close()
         self.process.stdout.read()
         self.process.wait()
+        self.process.stdout.close()
 
-    def batch(self, lines):
-        """Sends lines at once; gives the seconds until each is answered by one line, and these."""
-        text = ("\n".join(lines) + "\n").encode()
+    def feed(self, lines):
+        """Sends lines in one piece; gives the seconds until all is answered, and the lines of the answer."""
+        text = ("\n".join(lines) + "\n").encode() + SENTINEL + b"\n"
+        pieces, tail = [], b""
         writer = threading.Thread(target=self._write, args=(text,))
         begin = time.perf_counter()
         writer.start()
-        replies = [self.process.stdout.readline() for _ in lines]
+        while not tail.endswith(LAST):
+            piece = self.process.stdout.read(1 << 20)
+            if not piece:
+                raise SystemExit("the program ended")
+            pieces.append(piece)
+            tail = (tail + piece)[-len(LAST) :]
         seconds = time.perf_counter() - begin
         writer.join()
-        return seconds, [reply.decode().rstrip("\n") for reply in replies]
+        return seconds, b"".join(pieces)[: -len(LAST)].decode().split("\n")[:-1]
 
     def _write(self, text):
-        self.process.stdin.write(text)
-        self.process.stdin.flush()
-
-    def ask(self, line):
-        """Sends a line that is answered by one."""
-        return self.batch([line])[1][0]
-
-    def list(self, line):
-        """Sends a `next`; gives its answers and its last line."""
-        self._write((line + "\n").encode())
-        answers = []
-        while True:
-            reply = self.process.stdout.readline().decode().rstrip("\n")
-            if not reply.startswith("= "):
-                return answers, reply
-            answers.append(reply[2:])
-
-    def list_all(self, cursor, count):
-        """Reads a cursor to its end by pieces; gives how many answers it gave."""
-        told, last = 0, "more"
-        while last == "more":
-            answers, last = self.list(f"next {cursor} {count}")
-            told += len(answers)
-        return told
+        view = memoryview(text)
+        while view:
+            view = view[self.process.stdin.write(view) :]
 
     def bytes(self):
         """The resident bytes of the program."""
         with open(f"/proc/{self.process.pid}/status", encoding="ascii") as status:
-            for line in status:
-                if line.startswith("VmRSS:"):
-                    return int(line.split()[1]) * 1024
-        return 0
+            return next(int(line.split()[1]) * 1024 for line in status if line.startswith("VmRSS:"))
 
 
-class Table:
-    """The lines that were measured."""
-
-    def line(self, name, value, unit, beside=""):
-        print(f"{name:52} {value:>14,.0f} {unit:10} {beside}", flush=True)
-
-
-def serves(program, lines):
-    """Whether a program serves these lines."""
-    with Session(program) as session:
-        return not any(reply.startswith("err") for reply in session.batch(lines)[1])
-
-
-def rows_of(count, groups, seed):
-    """Different pairs of integers whose second one has so many values."""
-    chance = random.Random(seed)
-    pairs = [(at, chance.randrange(groups)) for at in range(count)]
-    chance.shuffle(pairs)
-    return pairs
-
-
-def load(table, program, count):
-    """Rows without a query: integers, and an integer and a text."""
-    with Session(program) as session:
-        session.ask("rel r int int")
-        before = session.bytes()
-        seconds, _ = session.batch([f"add r {x} {y}" for x, y in rows_of(count, count, 1)])
-        table.line(f"load {count:,} rows of two integers", seconds / count * 1e9, "ns a row")
-        table.line("  memory", (session.bytes() - before) / count, "bytes a row")
-    if not serves(program, ["rel r int text"]):
-        return
-    with Session(program) as session:
-        session.ask("rel r int text")
-        before = session.bytes()
-        texts = min(count, 100_000)
-        lines = [f'add r {at} "text{at % texts:08}"' for at in range(count)]
-        seconds, _ = session.batch(lines)
-        name = f"load {count:,} rows of an integer and one of {texts:,} texts"
-        table.line(name, seconds / count * 1e9, "ns a row")
-        table.line("  memory", (session.bytes() - before) / count, "bytes a row")
-
-
-JOIN = "query q(x,y,z) <- r(x,y), s(y,z)"
-PAIRS = ["rel r int int", "rel s int int"]
-
-
-def sqlite_join():
-    """The same join by triggers that put each answer that comes or goes into a log."""
+def base_of(script):
     base = sqlite3.connect(":memory:", isolation_level=None)
-    base.executescript(
-        """
-        create table r(x, y, primary key (x, y)) without rowid; create index ry on r(y);
-        create table s(y, z, primary key (y, z)) without rowid;
-        create table log(sign, x, y, z);
-        create trigger ri after insert on r begin
-          insert into log select '+', new.x, new.y, z from s where y = new.y; end;
-        create trigger si after insert on s begin
-          insert into log select '+', x, new.y, new.z from r where y = new.y; end;
-        create trigger rd after delete on r begin
-          insert into log select '-', old.x, old.y, z from s where y = old.y; end;
-        create trigger sd after delete on s begin
-          insert into log select '-', x, old.y, old.z from r where y = old.y; end;
-        """
-    )
+    base.executescript("create table log(sign, a, b, c, d);" + script)
     return base
 
 
-def join(table, program, count):
-    """Rows below a join of two atoms, about one partner each."""
-    half = count // 2
-    r, s = rows_of(half, half, 2), rows_of(half, half, 3)
-    lines = []
-    for (x, y), (z, w) in zip(r, s):
-        lines += [f"add r {x} {y}", f"add s {w} {z}"]
+def base_bytes(base):
+    return base.execute("select page_count * page_size from pragma_page_count, pragma_page_size").fetchone()[0]
+
+
+def apply(base, changes):
+    """Gives SQLite the changes, one after another, and reads what its triggers logged; gives the seconds, and the log."""
+    words = {}
+    for table, row in {(table, len(row)) for _, table, row in changes}:
+        marks = ", ".join("?" * row)
+        names = [column[1] for column in base.execute(f"pragma table_info({table})")]
+        words["add", table] = f"insert into {table} values ({marks})"
+        words["del", table] = f"delete from {table} where " + " and ".join(f"{name} = ?" for name in names)
+    base.execute("delete from log")
+    begin = time.perf_counter()
+    for word, table, row in changes:
+        base.execute(words[word, table], row)
+    log = base.execute("select * from log order by rowid").fetchall()
+    return time.perf_counter() - begin, log
+
+
+def lines_of(changes):
+    return [f"{word} {table} " + " ".join(map(str, row)) for word, table, row in changes]
+
+
+def deltas_of_lines(lines):
+    """What the program told for each change: the set of the answers that came and went, with the watched queries' names."""
+    deltas, told = [], set()
+    for line in lines:
+        if line.startswith("ok "):
+            deltas.append(told)
+            told = set()
+        elif not line.startswith("at "):
+            sign, _, *values = line.split(" ")
+            told.add((sign, *map(int, values)))
+    return deltas
+
+
+def deltas_of_log(log, width):
+    """The same of SQLite's log, in which a row `at` ends what a change brought."""
+    deltas, told = [], set()
+    for sign, *values in log:
+        if sign == "at":
+            deltas.append(told)
+            told = set()
+        else:
+            told.add((sign, *values[:width]))
+    return deltas
+
+
+def answers_of(lines):
+    return sorted(tuple(map(int, line[2:].split(" "))) for line in lines if line.startswith("= "))
+
+
+def same(ours, theirs, what):
+    if ours != theirs:
+        raise SystemExit(f"{what}: djq and SQLite tell different answers")
+
+
+def listing(cursor, query, answers):
+    """The lines that list so many answers."""
+    return [f"open {cursor} {query}"] + [f"next {cursor} 1000"] * (answers // 1000 + 1) + [f"close {cursor}"]
+
+
+# The parts: each gives rows of (what, value, SQLite's value, unit) for a number of rows
+
+
+PAIR = "create table {0}(x, y, primary key (x, y)) without rowid; create index {0}y on {0}(y, x);"
+
+
+def pairs(count, groups, seed):
+    """Different pairs of integers whose second one has so many values."""
+    chance = random.Random(seed)
+    rows = [(at, chance.randrange(groups)) for at in range(count)]
+    chance.shuffle(rows)
+    return rows
+
+
+def load(program, count):
+    """Rows without a query."""
+    changes = [("add", "r", row) for row in pairs(count, count, 1)]
     with Session(program) as session:
-        session.batch(PAIRS + [JOIN])
+        session.feed(["rel r int int"])
         before = session.bytes()
-        seconds, _ = session.batch(lines)
-        base = sqlite_join()
-        begin = time.perf_counter()
-        for (x, y), (z, w) in zip(r, s):
-            base.execute("insert into r values (?, ?)", (x, y))
-            base.execute("insert into s values (?, ?)", (w, z))
-        other = time.perf_counter() - begin
-        beside = f"SQLite's triggers {other / (2 * half) * 1e9:,.0f}"
-        table.line(f"load {2 * half:,} rows below a join", seconds / (2 * half) * 1e9, "ns a row", beside)
-        table.line("  memory", (session.bytes() - before) / (2 * half), "bytes a row")
-        session.ask("open c q")
-        begin = time.perf_counter()
-        told = session.list_all("c", 1000)
-        seconds = time.perf_counter() - begin
-        expected = base.execute("select count(*) from r join s using (y)").fetchone()[0]
-        assert told == expected, (told, expected)
-        table.line(f"list its {told:,} answers", seconds / max(told, 1) * 1e9, "ns each")
-        gone = [f"del r {x} {y}" for x, y in r]
-        seconds, _ = session.batch(gone)
-        table.line(f"delete {half:,} rows of it", seconds / half * 1e9, "ns a row")
+        ours, told = session.feed(lines_of(changes))
+        same(told, [f"ok added {at + 1}" for at in range(count)], "load")
+        memory = (session.bytes() - before) / count
+    base = base_of("create table r(x, y, primary key (x, y)) without rowid;")
+    theirs, _ = apply(base, changes)
+    yield "load: add a row, no query", ours / count, theirs / count, "ns"
+    yield "load: memory", memory, base_bytes(base) / count, "bytes a row"
 
 
-def hub(table, program, side):
-    """One value in the middle: the first ten of many answers, and a long listing."""
-    lines = [f"add r {at} 0" for at in range(side)] + [f"add s 0 {at}" for at in range(side)]
+JOIN = ["rel r int int", "rel s int int", "query q(x,y,z) <- r(x,y), s(y,z)"]
+JOIN_BASE = (
+    PAIR.format("r") + PAIR.format("s") + """
+    create trigger ri after insert on r begin
+      insert into log select '+', new.x, new.y, y, null from s where x = new.y; end;
+    create trigger si after insert on s begin
+      insert into log select '+', x, new.x, new.y, null from r where y = new.x; end;"""
+)  # fmt: skip
+
+
+def join(program, count):
+    """Rows below a join of two atoms, about one partner each; then a listing of it, and its rows go again."""
+    half = count // 2
+    changes = []
+    for (x, y), (z, w) in zip(pairs(half, half, 2), pairs(half, half, 3)):
+        changes += [("add", "r", (x, y)), ("add", "s", (w, z))]
+    gone = [("del", table, row) for _, table, row in changes]
+    base = base_of(JOIN_BASE)
+    theirs, _ = apply(base, changes)
+    taken = base_bytes(base) / count
+    begin = time.perf_counter()
+    expected = base.execute("select r.x, r.y, s.y from r join s on r.y = s.x").fetchall()
+    their_listing = time.perf_counter() - begin
+    their_removal, _ = apply(base, gone)
     with Session(program) as session:
-        session.batch(PAIRS + [JOIN])
-        session.batch(lines)
-        begin = time.perf_counter()
-        session.ask("open c q")
-        answers, last = session.list("next c 10")
-        seconds = time.perf_counter() - begin
-        assert len(answers) == 10 and last == "more"
-        table.line(f"first 10 of {side * side:,} answers, with `open`", seconds * 1e9, "ns")
-    long = min(side, 1000)
-    lines = [f"add r {at} 0" for at in range(long)] + [f"add s 0 {at}" for at in range(long)]
-    with Session(program) as session:
-        session.batch(PAIRS + [JOIN])
-        session.batch(lines)
-        session.ask("open c q")
-        begin = time.perf_counter()
-        told = session.list_all("c", 1000)
-        seconds = time.perf_counter() - begin
-        table.line(f"list {told:,} answers", seconds / told * 1e9, "ns each")
+        session.feed(JOIN)
+        before = session.bytes()
+        ours, _ = session.feed(lines_of(changes))
+        memory = (session.bytes() - before) / count
+        our_listing, told = session.feed(listing("c", "q", len(expected)))
+        same(answers_of(told), sorted(expected), "join")
+        our_removal, _ = session.feed(lines_of(gone))
+    yield "join: add a row below q(x,y,z) <- r(x,y), s(y,z)", ours / count, theirs / count, "ns"
+    yield "join: memory", memory, taken, "bytes a row"
+    yield "join: list all, an answer", our_listing / len(expected), their_listing / len(expected), "ns"
+    yield "join: delete a row", our_removal / count, their_removal / count, "ns"
 
 
-def beside_others(table, program, count):
-    """Adds to a relation that no query reads, beside 64 queries on others, and beside one."""
-    for queries in (1, 64):
-        with Session(program) as session:
-            session.batch(PAIRS + ["rel t int int"])
-            session.batch([f"query q{at}(x,y,z) <- r(x,y), s(y,z)" for at in range(queries)])
-            seconds, _ = session.batch([f"add t {at} {at}" for at in range(count)])
-            name = f"add to a relation beside {queries} queries on others"
-            table.line(name, seconds / count * 1e9, "ns a row")
-
-
-def watched(table, program, side):
-    """A watched path of three atoms: each change brings or takes sixteen answers."""
+def dead_ends(program, count):
+    """The first ten answers, where nearly every row of the middle has a partner on one side only."""
+    half = count // 4 * 2
+    rows = [(table, (at, at)) for table in "rt" for at in range(0, half, 2)]
+    rows += [("s", (at, at + 1) if at % 2 == 0 else (at, at - 1)) for at in range(half)]
+    rows += [("s", (at, at)) for at in range(half - 20, half, 2)]
+    random.Random(4).shuffle(rows)
+    changes = [("add", table, row) for table, row in rows]
     path = "query p(a,b,c,d) <- r(a,b), s(b,c), t(c,d)"
-    lines = ["rel r int int", "rel s int int", "rel t int int", path, "watch p"]
-    if not serves(program, lines):
-        return
+    times = 1000
     with Session(program) as session:
-        session.batch(lines)
-        fill = [f"add r {b * 4 + k} {b}" for b in range(side) for k in range(4)]
-        fill += [f"add t {b} {b * 4 + k}" for b in range(side) for k in range(4)]
-        for line in fill:
-            session._write((line + "\n").encode())
-            while not session.process.stdout.readline().startswith(b"ok"):
-                pass
-        told, begin = 0, time.perf_counter()
-        for at in range(side):
-            for line in (f"add s {at} {at}", f"del s {at} {at}"):
-                session._write((line + "\n").encode())
-                while not session.process.stdout.readline().startswith(b"ok"):
-                    told += 1
-        seconds = time.perf_counter() - begin
-        table.line("watched change with 16 answers", seconds / (2 * side) * 1e9, "ns")
-        table.line("  lines told", told / seconds, "a second")
+        session.feed(["rel r int int", "rel s int int", "rel t int int", path])
+        session.feed(lines_of(changes))
+        _, told = session.feed(["open c p", "next c 20", "close c"])
+        ours, _ = session.feed(["open c p", "next c 10", "close c"] * times)
+    base = base_of("".join(map(PAIR.format, "rst")) + "create trigger n after insert on r when 0 begin select 0; end;")
+    apply(base, changes)
+    base.execute("analyze")
+    wanted = "select r.x, s.x, t.x, t.y from r, s, t where r.y = s.x and s.y = t.x limit ?"
+    same(answers_of(told), sorted(base.execute(wanted, (20,))), "dead ends")
+    begin = time.perf_counter()
+    for _ in range(3):
+        base.execute(wanted, (10,)).fetchall()
+    theirs = time.perf_counter() - begin
+    yield "dead ends: open, first 10 answers, close", ours / times, theirs / 3, "ns"
+
+
+FAN_BASE = "".join(map(PAIR.format, "rst")) + """
+    create trigger si after insert on s begin
+      insert into log select '+', r.x, new.x, new.y, t.y from r, t where r.y = new.x and t.x = new.y;
+      insert into log(sign) values ('at'); end;
+    create trigger sd after delete on s begin
+      insert into log select '-', r.x, old.x, old.y, t.y from r, t where r.y = old.x and t.x = old.y;
+      insert into log(sign) values ('at'); end;"""
+
+
+def fan_out(program, count):
+    """A watched path of three atoms: each change of the middle brings or takes sixteen answers."""
+    groups = count // 8
+    fill = [("add", "r", (4 * at + k, at)) for at in range(groups) for k in range(4)]
+    fill += [("add", "t", (at, 4 * at + k)) for at in range(groups) for k in range(4)]
+    chance, changes = random.Random(5), []
+    for _ in range(min(groups, 5000)):
+        row = (chance.randrange(groups), chance.randrange(groups))
+        changes += [("add", "s", row), ("del", "s", row)]
+    with Session(program) as session:
+        session.feed(["rel r int int", "rel s int int", "rel t int int", "query p(a,b,c,d) <- r(a,b), s(b,c), t(c,d)"])
+        session.feed(lines_of(fill))
+        session.feed(["watch p"])
+        ours, told = session.feed(lines_of(changes))
+    base = base_of(FAN_BASE)
+    apply(base, fill)
+    theirs, log = apply(base, changes)
+    deltas = deltas_of_lines(told)
+    same(deltas, deltas_of_log(log, 4), "fan-out")
+    same({len(delta) for delta in deltas}, {16}, "fan-out")
+    number = len(changes)
+    yield "fan-out: a watched change that tells 16 answers", ours / number, theirs / number, "ns"
+    yield "fan-out: answers told", 16 * number / ours, 16 * number / theirs, "a second"
+
+
+HIERARCHICAL_BASE = "".join(map(PAIR.format, "rs")) + "".join(
+    f"""
+    create trigger {one}{when} after {event} on {one} begin
+      insert into log select '{sign}', {row}.x, null, null, null
+        where not exists (select 1 from {one} where x = {row}.x and y <> {row}.y)
+        and exists (select 1 from {other} where x = {row}.x);
+      insert into log(sign) values ('at'); end;"""
+    for one, other in ("rs", "sr")
+    for when, event, sign, row in (("i", "insert", "+", "new"), ("d", "delete", "-", "old"))
+)
+
+
+def hierarchical(program, count):
+    """A watched q-hierarchical query, whose changes cost the same whatever there is: h(x) <- r(x,y), s(x,z)."""
+    groups = count // 8
+    chance = random.Random(6)
+    draw = lambda: (chance.choice("rs"), (chance.randrange(groups), chance.randrange(16)))
+    rows = set()
+    while len(rows) < count:
+        rows.add(draw())
+    changes = []
+    for _ in range(min(count, 20_000)):
+        table, row = draw()
+        changes.append(("del" if (table, row) in rows else "add", table, row))
+        rows ^= {(table, row)}
+    fill = [("add", table, row) for table, row in sorted(rows.symmetric_difference(odd(changes)))]
+    with Session(program) as session:
+        session.feed(["rel r int int", "rel s int int", "query h(x) <- r(x,_), s(x,_)"])
+        session.feed(lines_of(fill))
+        session.feed(["watch h"])
+        ours, told = session.feed(lines_of(changes))
+    base = base_of(HIERARCHICAL_BASE)
+    apply(base, fill)
+    theirs, log = apply(base, changes)
+    same(deltas_of_lines(told), deltas_of_log(log, 1), "hierarchical")
+    yield "hierarchical: a watched change of h(x) <- r(x,_), s(x,_)", ours / len(changes), theirs / len(changes), "ns"
+
+
+def odd(changes):
+    """The rows that come or go an odd number of times."""
+    rows = set()
+    for _, table, row in changes:
+        rows ^= {(table, row)}
+    return rows
+
+
+def many_queries(program, count):
+    """64 watched queries on one relation, of which each change is told to all and changes the answers of one."""
+    fill = [("add", "r", (at, at % 64)) for at in range(count // 4)]
+    changes = [(word, "r", (count + at, at % 64)) for at in range(min(count, 2500)) for word in ("add", "del")]
+    with Session(program) as session:
+        session.feed(["rel r int int"] + [f"query w{at}(x) <- r(x,{at})" for at in range(64)])
+        session.feed(lines_of(fill))
+        session.feed([f"watch w{at}" for at in range(64)])
+        ours, told = session.feed(lines_of(changes))
+    base = base_of(PAIR.format("r") + "".join(
+        f"""create trigger i{at} after insert on r when new.y = {at} begin
+              insert into log values ('+', new.x, null, null, null); insert into log(sign) values ('at'); end;
+            create trigger d{at} after delete on r when old.y = {at} begin
+              insert into log values ('-', old.x, null, null, null); insert into log(sign) values ('at'); end;"""
+        for at in range(64)
+    ))  # fmt: skip
+    apply(base, fill)
+    theirs, log = apply(base, changes)
+    same(deltas_of_lines(told), deltas_of_log(log, 1), "64 queries")
+    same(sum(line.startswith("at ") for line in told), 64 * len(changes), "64 queries")
+    yield "64 queries: a change that all 64 watched queries read", ours / len(changes), theirs / len(changes), "ns"
+
+
+def untouched(program, count):
+    """Adds to a relation that no query reads, with nothing else there, and beside a watched join."""
+    changes = [("add", "t", (at, at)) for at in range(count)]
+    measured = []
+    for lines in (["rel t int int"], JOIN + ["rel t int int", "add r 1 1", "add s 1 1", "watch q"]):
+        with Session(program) as session:
+            session.feed(lines)
+            seconds, told = session.feed(lines_of(changes))
+            same(len(told), count, "untouched")
+            measured.append(seconds)
+    base = base_of(JOIN_BASE + "create table t(x, y, primary key (x, y)) without rowid;")
+    theirs, log = apply(base, changes)
+    same(log, [], "untouched")
+    yield "untouched: add to a relation, no query", measured[0] / count, theirs / count, "ns"
+    yield "untouched: the same beside a watched query on others", measured[1] / count, theirs / count, "ns"
 
 
 PARTS = {
     "load": load,
     "join": join,
-    "hub": lambda table, program, count: hub(table, program, max(10, min(20_000, count // 20))),
-    "beside": lambda table, program, count: beside_others(table, program, count // 4),
-    "watched": lambda table, program, count: watched(table, program, max(10, count // 100)),
+    "dead-ends": dead_ends,
+    "fan-out": fan_out,
+    "hierarchical": hierarchical,
+    "64-queries": many_queries,
+    "untouched": untouched,
 }
+
+
+# Over loopback
+
+
+class Server:
+    """`PROGRAM serve` on a free port of loopback."""
+
+    def __init__(self, program):
+        with socket.create_server(("127.0.0.1", 0)) as free:
+            self.port = free.getsockname()[1]
+        self.process = subprocess.Popen([program, "serve", f"127.0.0.1:{self.port}"])
+
+    def __enter__(self):
+        self.clients = []
+        self.connect()
+        return self
+
+    def __exit__(self, *_error):
+        for client in self.clients:
+            client.close()
+        self.process.kill()
+        self.process.wait()
+
+    def connect(self):
+        until = time.monotonic() + 10
+        while True:
+            try:
+                client = socket.create_connection(("127.0.0.1", self.port))
+                break
+            except ConnectionRefusedError:
+                if time.monotonic() > until:
+                    raise
+                time.sleep(0.02)
+        client.setsockopt(socket.IPPROTO_TCP, socket.TCP_NODELAY, 1)
+        self.clients.append(client)
+        return client
+
+    def processor(self):
+        """The nanoseconds that the program was on a processor."""
+        with open(f"/proc/{self.process.pid}/schedstat", encoding="ascii") as file:
+            return int(file.read().split()[0])
+
+
+def ask(client, text, lines=1):
+    """Sends text and waits for so many lines."""
+    client.sendall(text)
+    return hear(client, lines)
+
+
+def hear(client, lines):
+    heard = b""
+    while heard.count(b"\n") < lines:
+        heard += client.recv(65536)
+    return heard
+
+
+def waiting(program, count):
+    """One client that waits for each reply."""
+    with Server(program) as server:
+        client = server.clients[0]
+        ask(client, b"rel r int\n")
+        begin = time.perf_counter()
+        for at in range(count):
+            ask(client, b"add r %d\n" % at)
+        yield "one client that waits for each reply", count / (time.perf_counter() - begin), "replies a second"
+
+
+def pipelining(program, count):
+    """Clients that send many lines at once, beside others that say nothing."""
+    for number, others in ((1, 0), (1, 63), (8, 0), (64, 0)):
+        with Server(program) as server:
+            ask(server.clients[0], b"rel r int int\n")
+            clients = [server.clients[0]] + [server.connect() for _ in range(number - 1)]
+            for _ in range(others):
+                server.connect()
+            each = count // number
+            due = {}
+            for at, client in enumerate(clients):
+                client.setblocking(False)
+                due[client] = [b"".join(b"add r %d %d\n" % (at, row) for row in range(each)), each]
+            begin = time.perf_counter()
+            while due:
+                readable, writable, _ = select.select(due, [client for client in due if due[client][0]], [])
+                for client in writable:
+                    due[client][0] = due[client][0][client.send(due[client][0][:65536]) :]
+                for client in readable:
+                    due[client][1] -= client.recv(1 << 20).count(b"\n")
+                    if due[client][1] == 0:
+                        del due[client]
+            seconds = time.perf_counter() - begin
+            beside = f" beside {others} idle" if others else ""
+            yield f"{number} that send many lines at once{beside}", each * number / seconds, "replies a second"
+
+
+def latency(program, count):
+    """From an add in one session to the delta in another."""
+    with Server(program) as server:
+        one, two = server.clients[0], server.connect()
+        ask(one, b"rel r int\nquery q(x) <- r(x)\n", 2)
+        if not ask(two, b"watch q\n").startswith(b"ok watch"):
+            return
+        taken = []
+        for at in range(min(count, 5000)):
+            begin = time.perf_counter()
+            one.sendall(b"add r %d\n" % at)
+            same(hear(two, 2), b"+ q %d\nat q %d\n" % (at, at + 1), "latency")
+            taken.append(time.perf_counter() - begin)
+            hear(one, 1)
+        yield "from an add to the delta in another session, median", statistics.median(taken) * 1e6, "us"
+        yield "  of a hundred, the slowest", statistics.quantiles(taken, n=100)[-1] * 1e6, "us"
+
+
+def idle(program, _count):
+    """What a server uses that nobody talks to."""
+    for number in (0, 64):
+        with Server(program) as server:
+            if number == 0:
+                server.clients.pop().close()
+            while len(server.clients) < number:
+                server.connect()
+            time.sleep(0.5)
+            before, seconds = server.processor(), 4
+            time.sleep(seconds)
+            share = (server.processor() - before) / seconds / 1e9
+            yield f"idle with {number} connections", share * 100, "% of a processor"
+
+
+LOOPBACK = {"waiting": waiting, "pipelining": pipelining, "latency": latency, "idle": idle}
+
+
+# The table
+
+
+def least(part, program, count, runs):
+    """A part's rows, each value the best of its runs."""
+    best = {}
+    for _ in range(runs):
+        for what, ours, theirs, unit in part(program, count):
+            better = max if unit == "a second" else min
+            if what in best:
+                ours, theirs = better(ours, best[what][0]), better(theirs, best[what][1])
+            best[what] = (ours, theirs, unit)
+    return best
+
+
+def watches(program):
+    with Session(program) as session:
+        _, told = session.feed(["rel r int", "query q(x) <- r(x)", "watch q"])
+        return told[-1].startswith("ok watch")
+
+
+def number(value, unit):
+    value = value * 1e9 if unit == "ns" else value
+    return f"{value:,.0f}"
+
+
+def print_parts(given, names):
+    head = f"| what | unit | djq, {given.rows:,} | {4 * given.rows:,} | growth | SQLite | {4 * given.rows:,} | growth |"
+    print(head + "\n|---|---|---|---|---|---|---|---|", flush=True)
+    for name in names:
+        small = least(PARTS[name], given.program, given.rows, given.runs)
+        large = least(PARTS[name], given.program, 4 * given.rows, given.runs)
+        for what, (ours, theirs, unit) in small.items():
+            our_large, their_large, _ = large[what]
+            cells = [number(value, unit) for value in (ours, our_large, theirs, their_large)]
+            cells.insert(2, f"{our_large / max(ours, 1e-12):.2f}")
+            cells.append(f"{their_large / max(theirs, 1e-12):.2f}")
+            print(f"| {what} | {unit} | " + " | ".join(cells) + " |", flush=True)
+
+
+def print_loopback(given, names):
+    print("\n| over loopback | |\n|---|---|", flush=True)
+    for name in names:
+        for what, value, unit in LOOPBACK[name](given.program, given.rows):
+            print(f"| {what} | {value:,.{2 if value < 10 else 0}f} {unit} |", flush=True)
 
 
 def main():
     words = argparse.ArgumentParser(description=__doc__.splitlines()[0])
     words.add_argument("program")
-    words.add_argument("--rows", type=int, default=400_000, help="rows in a stream")
-    words.add_argument("--only", nargs="*", choices=sorted(PARTS), default=list(PARTS))
+    words.add_argument("--rows", type=int, default=50_000, help="N, the rows of a stream; each part runs with 4N too")
+    words.add_argument("--runs", type=int, default=1, help="how often each part runs; the best is told")
+    words.add_argument("--only", nargs="*", choices=[*PARTS, *LOOPBACK], default=[*PARTS, *LOOPBACK])
     given = words.parse_args()
-    table = Table()
-    for name in given.only:
-        if name in ("join", "hub", "beside") and not serves(given.program, PAIRS + [JOIN]):
-            print(f"{name}: not served by this program")
-            continue
-        PARTS[name](table, given.program, given.rows)
-    return 0
+    parts = [name for name in PARTS if name in given.only]
+    if not watches(given.program):
+        parts = [name for name in parts if name in ("load", "join", "dead-ends")]
+        print("this program serves no watches: what needs them is left out\n")
+    if parts:
+        print_parts(given, parts)
+    if names := [name for name in LOOPBACK if name in given.only]:
+        print_loopback(given, names)
 
 
 if __name__ == "__main__":
-    sys.exit(main())
+    main()
