@@ -9,6 +9,7 @@ It needs Python's standard library alone. One line is printed for each test that
 
 import os
 import random
+import resource
 import select
 import socket
 import struct
@@ -460,15 +461,18 @@ def a_closed_input_is_a_failed_read():
 class Serving:
     """A program that serves an address of loopback, and its clients."""
 
-    def __init__(self, *words):
+    def __init__(self, *words, memory=None):
         self.words = words
+        self.limit = (lambda: resource.setrlimit(resource.RLIMIT_AS, (memory, memory))) if memory else None
 
     def __enter__(self):
         with socket.socket() as free:
             free.bind(("127.0.0.1", 0))
             self.port = free.getsockname()[1]
         words = [PROGRAM, "serve", f"127.0.0.1:{self.port}", *self.words]
-        self.program = subprocess.Popen(words, stdin=subprocess.DEVNULL, stdout=subprocess.PIPE)
+        self.program = subprocess.Popen(
+            words, stdin=subprocess.DEVNULL, stdout=subprocess.PIPE, preexec_fn=self.limit
+        )
         self.clients = []
         return self
 
@@ -502,18 +506,28 @@ class Client:
     def __init__(self, stream):
         self.stream = stream
         self.stream.settimeout(PATIENCE)
+        self.heard = b""
 
     def say(self, text):
         self.stream.sendall(text)
 
+    def more(self):
+        piece = self.stream.recv(65536)
+        if piece == b"":
+            raise AssertionError(f"the session ended: heard {self.heard!r}")
+        self.heard += piece
+
     def hear(self, count):
-        heard = b""
-        while len(heard) < count:
-            piece = self.stream.recv(min(65536, count - len(heard)))
-            if piece == b"":
-                raise AssertionError(f"the session ended: heard {heard!r}")
-            heard += piece
+        while len(self.heard) < count:
+            self.more()
+        heard, self.heard = self.heard[:count], self.heard[count:]
         return heard
+
+    def line(self):
+        while b"\n" not in self.heard:
+            self.more()
+        line, self.heard = self.heard.split(b"\n", 1)
+        return line
 
     def ask(self, line, *replies):
         want = b"".join(reply + b"\n" for reply in replies)
@@ -525,12 +539,10 @@ class Client:
         return self.to_the_end()
 
     def to_the_end(self):
-        heard = b""
-        while True:
-            piece = self.stream.recv(65536)
-            if piece == b"":
-                return heard
-            heard += piece
+        pieces = [self.heard]
+        while piece := self.stream.recv(65536):
+            pieces.append(piece)
+        return b"".join(pieces)
 
     def reset(self):
         self.stream.setsockopt(socket.SOL_SOCKET, socket.SO_LINGER, struct.pack("ii", 1, 0))
@@ -650,6 +662,518 @@ def a_schedule_is_replayed():
 def a_schedule_with_a_line_outside_its_grammar_is_not_run():
     for line in [b"say 2 x", b"", b"open 1", b"open 01", b"end 1 now", b"fly 1", b"say 1 " + b"x" * 8187]:
         expect(run(b"open 1\nsay 1 rel r int\n" + line + b"\nsay 3\n", ("replay",)), (b"schedule 3\n", 7), line[:9])
+
+
+# Watches
+
+
+@test
+def a_watcher_is_told_before_the_reply():
+    session = [
+        (b"rel r int int", [b"ok"]),
+        (b"query q(x) <- r(x,y)", [b"ok query 3"]),
+        (b"watch q", [b"ok watch 0"]),
+        (b"add r 1 10", [b"+ q 1", b"at q 1", b"ok added 1"]),
+        (b"add r 1 11", [b"at q 2", b"ok added 2"]),
+        (b"open c q", [b"ok open"]),
+        (b"next c 9", [b"= 1", b"end"]),
+        (b"add r 1 11", [b"ok same 2"]),
+        (b"del r 1 10", [b"at q 3", b"ok removed 3"]),
+        (b"del r 1 11", [b"- q 1", b"at q 4", b"ok removed 4"]),
+        (b"del r 1 11", [b"ok absent 4"]),
+        (b"unwatch q", [b"ok"]),
+        (b"add r 2 2", [b"ok added 5"]),
+        (b"watch q", [b"ok watch 5"]),
+        (b"add r 2 3", [b"at q 6", b"ok added 6"]),
+    ]
+    expect_run(lines_of(session), replies_of(session))
+    expect_run(lines_of(session, b"\r\n"), replies_of(session))
+    with Talk() as talk:
+        for byte in lines_of(session):
+            talk.say(bytes([byte]))
+        expect(talk.end(), (replies_of(session), 0))
+
+
+@test
+def a_self_join_is_told_once_for_each_answer():
+    lines = [b"rel r int int", b"query q(x,y,z) <- r(x,y), r(y,z)", b"watch q", b"add r 1 1", b"add r 1 2", b"del r 1 1"]
+    output, status = run(texts_of_lines(lines))
+    told = output.splitlines()
+    told[9:11] = sorted(told[9:11])
+    want = [b"ok", b"ok query 7", b"ok watch 0", b"+ q 1 1 1", b"at q 1", b"ok added 1", b"+ q 1 1 2", b"at q 2",
+            b"ok added 2", b"- q 1 1 1", b"- q 1 1 2", b"at q 3", b"ok removed 3"]
+    expect((told, status), (want, 0))
+
+
+@test
+def watches_are_refused_in_order():
+    session = [
+        (b"watch", [b"err 1 syntax"]),
+        (b"watch q p", [b"err 1 syntax"]),
+        (b"unwatch 1", [b"err 1 syntax"]),
+        (b"watch q", [b"err 4 no query"]),
+        (b"unwatch q", [b"err 4 no query"]),
+        (b"rel q int", [b"ok"]),
+        (b"watch q", [b"err 4 no query"]),
+        (b"query q() <- q(_)", [b"ok query 1"]),
+        (b"unwatch q", [b"ok"]),
+        (b"watch q", [b"ok watch 0"]),
+        (b"watch q", [b"ok watch 0"]),
+        (b"drop q", [b"err 14 in use"]),
+        (b"add q 7", [b"+ q", b"at q 1", b"ok added 1"]),
+        (b"add q 8", [b"at q 2", b"ok added 2"]),
+        (b"watch q", [b"ok watch 2"]),
+        (b"unwatch q", [b"ok"]),
+        (b"drop q", [b"ok"]),
+        (b"unwatch q", [b"err 4 no query"]),
+        (b"query q(x) <- q(x)", [b"ok query 3"]),
+        (b"add q 9", [b"ok added 3"]),
+        (b"watch q", [b"ok watch 3"]),
+        (b"quit", [b"bye"]),
+    ]
+    expect_run(lines_of(session), replies_of(session))
+
+
+@test
+def texts_are_told_as_they_were_said():
+    session = [
+        (b"rel t int text", [b"ok"]),
+        (b"query q(x) <- t(_,x)", [b"ok query 3"]),
+        (b"watch q", [b"ok watch 0"]),
+        ('add t 1 "a\\n\\"\\\\ äö 😀"'.encode(), ['+ q "a\\n\\"\\\\ äö 😀"'.encode(), b"at q 1", b"ok added 1"]),
+        (b'add t -1 ""', [b'+ q ""', b"at q 2", b"ok added 2"]),
+        (b'del t -1 ""', [b'- q ""', b"at q 3", b"ok removed 3"]),
+    ]
+    expect_run(lines_of(session), replies_of(session))
+
+
+@test
+def queries_go_by_registration_and_sessions_by_opening():
+    schedule = (b"open 1\nopen 2\nopen 7\nsay 2 rel r int\nsay 2 query z(x) <- r(x)\nsay 2 query a(x) <- r(x)\n"
+                b"say 7 watch a\nsay 7 watch z\nsay 2 watch a\nsay 2 watch z\nsay 1 watch a\nsay 2 add r 5\n"
+                b"say 2 unwatch z\nsay 7 quit\nsay 1 del r 5\nend 1\nend 2\n")
+    told = (b"2< ok\n2< ok query 3\n2< ok query 3\n7< ok watch 0\n7< ok watch 0\n2< ok watch 0\n2< ok watch 0\n1< ok watch 0\n"
+            b"1< + a 5\n1< at a 1\n2< + z 5\n2< at z 1\n2< + a 5\n2< at a 1\n2< ok added 1\n"
+            b"7< + z 5\n7< at z 1\n7< + a 5\n7< at a 1\n2< ok\n7< bye\n"
+            b"1< - a 5\n1< at a 2\n1< ok removed 2\n2< - a 5\n2< at a 2\n")
+    expect(run(schedule, ("replay",)), (told, 0))
+
+
+@test
+def a_change_within_a_line_of_the_watcher():
+    schedule = (b"open 1\nopen 2\nsay 1 rel r int\nsay 1 query q(x) <- r(x)\nsay 2 watch q\nsay 1 add r 1\nsay 1 open c q\n"
+                b"part 2 add r\nsay 1 next c 1\nsay 2  2\nsay 1 next c 1\nend 1\nend 2\n")
+    told = (b"1< ok\n1< ok query 3\n2< ok watch 0\n1< ok added 1\n2< + q 1\n2< at q 1\n1< ok open\n1< = 1\n1< end\n"
+            b"2< + q 2\n2< at q 2\n2< ok added 2\n1< stale c r 2\n")
+    expect(run(schedule, ("replay",)), (told, 0))
+
+
+@test
+def a_watcher_that_is_not_sent_to_ends_slow():
+    text = b'"' + b"a" * 255 + b'"'
+    wide = b" ".join([text] * 4)
+    schedule = [b"open 1", b"open 2", b"open 3", b"say 2 rel t text text text text", b"say 2 rel r int", b"say 2 add t " + wide]
+    schedule += [b"say 2 add r %d" % at for at in range(1, 33)]
+    schedule += [b"say 2 query q(a,b,c,d,x,y) <- t(a,b,c,d), r(x), r(y)", b"say 2 query w(x) <- r(x)", b"say 1 watch w",
+                 b"say 3 watch w", b"say 1 open c q", b"again 1", b"say 1 next c 1000", b"say 1 next c 1000",
+                 b"say 2 add r 33", b"say 2 drop w", b"say 3 unwatch w", b"say 2 drop w", b"free 1", b"end 2", b"end 3"]
+    output, status = run(texts_of_lines(schedule), ("replay",))
+    told = {number: [] for number in (b"1", b"2", b"3")}
+    for line in output.splitlines():
+        number, _, line = line.partition(b"< ")
+        told[number].append(line)
+    expect(status, 0)
+    expect(told[b"3"], [b"ok watch 33", b"+ w 33", b"at w 34", b"ok"])
+    expect(told[b"2"][-5:], [b"ok query 13", b"ok query 3", b"ok added 34", b"err 14 in use", b"ok"])
+    mute = told[b"1"]
+    expect(mute[:2] + [mute[1002]] + mute[-2:], [b"ok watch 33", b"ok open", b"more", b"end", b"end slow"])
+    answers = mute[2:1002] + mute[1003:-2]
+    expect(set(answers), {b"= %s %d %d" % (wide, x, y) for x in range(1, 33) for y in range(1, 33)})
+    expect(len(answers), 1024)
+
+
+@test
+def a_long_delta_is_whole_and_a_further_one_finds_the_session_slow():
+    # 4,900 lines of over 260 bytes are pending as the second delta of one change begins
+    lines = [b"rel t int text", b"rel u int", b"rel s int", b"query q(x,a,y,z) <- t(x,a), u(y), s(z)", b"query p(z) <- s(z)"]
+    replies = [b"ok", b"ok", b"ok", b"ok query 9", b"ok query 3"]
+    text = b'"%s"' % (b"a" * 250)
+    lines += [b"add t %d %s" % (at, text) for at in range(70)] + [b"add u %d" % at for at in range(70)]
+    replies += [b"ok added %d" % at for at in range(1, 141)]
+    lines += [b"watch q", b"add s 7", b"watch p", b"del s 7", b"add s 8"]
+    came, went = (sorted(b"%s q %d %s %d 7" % (sign, x, text, y) for x in range(70) for y in range(70)) for sign in (b"+", b"-"))
+    output, status = run(texts_of_lines(lines))
+    told = output.splitlines()
+    at = len(replies)
+    expect(told[:at + 1], replies + [b"ok watch 140"])
+    expect(sorted(told[at + 1:at + 4901]), came)
+    expect(told[at + 4901:at + 4904], [b"at q 141", b"ok added 141", b"ok watch 141"])
+    expect(sorted(told[at + 4904:at + 9804]), went)
+    expect((told[at + 9804:], status), ([b"at q 142", b"end slow"], 8))
+
+
+def read_answer(text):
+    return tuple(int(cell) for cell in text.split())
+
+
+class Following:
+    """The answers of the queries that a session watches, as its deltas add up."""
+
+    def __init__(self, client):
+        self.client = client
+        self.answers = {}
+
+    def take(self, query, seq):
+        """Reads one delta of a query, which has to be the next that comes."""
+        kept = self.answers[query]
+        told = set()
+        while (line := self.client.line())[:1] in (b"+", b"-"):
+            sign, name, values = (line + b" ").split(b" ", 2)
+            expect(name, query, line)
+            answer = read_answer(values)
+            expect((answer in kept, answer in told), (sign == b"-", False), line)
+            told.add(answer)
+            kept ^= {answer}
+        expect(line, b"at %s %d" % (query, seq))
+
+
+def random_row(chance, relation, most):
+    return tuple(chance.randrange(most) for _ in range(1 if relation == "t" else 2))
+
+
+def change_row(client, chance, rows, most):
+    """Says that a random row comes or goes; gives its relation, whether that changes something, and the reply's word."""
+    relation = chance.choice("rrssst")
+    row = random_row(chance, relation, most)
+    word = chance.choice((b"add", b"del"))
+    client.say(b"%s %s %s\n" % (word, relation.encode(), b" ".join(b"%d" % cell for cell in row)))
+    changes = (word == b"add") != (row in rows[relation])
+    if changes:
+        rows[relation] ^= {row}
+    said = {b"add": (b"same", b"added"), b"del": (b"absent", b"removed")}[word][changes]
+    return relation, changes, said
+
+
+@test
+def deltas_add_up_to_a_fresh_listing():
+    chance = random.Random(11)
+    rows = {"r": set(), "s": set(), "t": set()}
+    seq = 0
+    with Serving() as serving:
+        changer, sessions = serving.client(), [Following(serving.client()) for _ in range(3)]
+        changer.ask(b"rel r int int\nrel s int int\nrel t int", b"ok", b"ok", b"ok")
+        for text, head, _ in JOINS:
+            changer.ask(b"query " + text, b"ok query %d" % (2 * len(head) + 1))
+        for turn in range(1000):
+            session, (text, head, atoms) = chance.choice(sessions), chance.choice(JOINS)
+            if chance.random() < 0.2:
+                if text[:1] in session.answers:
+                    session.client.ask(b"unwatch " + text[:1], b"ok")
+                    del session.answers[text[:1]]
+                else:
+                    session.client.ask(b"watch " + text[:1], b"ok watch %d" % seq)
+                    session.answers[text[:1]] = listed(changer, b"k", text[:1])
+            relation, changed, said = change_row(changer, chance, rows, 4)
+            seq += changed
+            expect(changer.line(), b"ok %s %d" % (said, seq))
+            for text, head, atoms in JOINS:
+                if changed and any(read == relation for read, _ in atoms):
+                    fresh = listed(changer, b"k", text[:1])
+                    expect(fresh, brute(head, atoms, rows), text)
+                    for session in sessions:
+                        if text[:1] in session.answers:
+                            session.take(text[:1], seq)
+                            expect(session.answers[text[:1]], fresh, text)
+
+
+@test
+def a_watcher_that_never_reads_ends_alone():
+    with Serving() as serving:
+        changer, mute, other = (serving.client() for _ in range(3))
+        changer.ask(b"rel r int text\nrel s int\nrel u int", b"ok", b"ok", b"ok")
+        for number in range(300):
+            changer.ask(b'add r %d "%s"' % (number, b"a" * 250), b"ok added %d" % (number + 1))
+        changer.ask(b"query q(x,a,y) <- r(x,a), s(y)\nquery p(y) <- u(y)", b"ok query 7", b"ok query 3")
+        mute.ask(b"watch q\nwatch p", b"ok watch 300", b"ok watch 300")
+        other.ask(b"watch q", b"ok watch 300")
+        seq, signs = 300, (b"- q ", b"+ q ")
+        while True:
+            seq, comes = seq + 1, seq % 2 == 0
+            changer.ask(b"%s s 1" % (b"del", b"add")[comes], b"ok %s %d" % ((b"removed", b"added")[comes], seq))
+            expect({other.line()[:4] for _ in range(300)}, {signs[comes]})
+            expect(other.line(), b"at q %d" % seq)
+            changer.say(b"drop p\n")
+            if changer.line() == b"ok":
+                break  # nobody watches it any more
+            expect(seq < 2300, True, "the mute watcher never ends")
+        told = mute.to_the_end().split(b"\n")
+        expect(told[-2:], [b"end slow", b""])
+        ats = [line for line in told if line.startswith(b"at ")]
+        expect(ats, [b"at q %d" % number for number in range(301, seq)], "the deltas before the one that found too much pending")
+        changer.ask(b'del r 7 "%s"' % (b"a" * 250), b"ok removed %d" % (seq + 1))
+        other.ask(b"quit", *[b'- q 7 "%s" 1' % (b"a" * 250)] * comes, b"at q %d" % (seq + 1), b"bye")
+        changer.ask(b"stop", b"bye")
+        expect(serving.end(), (b"", 0))
+
+
+@test
+def a_delta_that_finds_no_memory_ends_its_watcher_alone():
+    # the delta has 100,000 lines of over 1,000 bytes, and the program is given 100 MB
+    text = b" ".join([b'"' + b"a" * 255 + b'"'] * 4)
+    with Serving(memory=100_000_000) as serving:
+        changer, watcher, other = (serving.client() for _ in range(3))
+        changer.ask(b"rel t text text text text\nrel r int\nrel s int", b"ok", b"ok", b"ok")
+        changer.ask(b"query q(a,b,c,d,x) <- t(a,b,c,d), r(x), s(y)\nquery p(x) <- s(x)", b"ok query 11", b"ok query 3")
+        changer.ask(b"add t " + text, b"ok added 1")
+        for first in range(0, 100_000, 1000):
+            lines = [b"add r %d" % (first + at) for at in range(1000)]
+            changer.ask(b"\n".join(lines), *[b"ok added %d" % (first + at + 2) for at in range(1000)])
+        watcher.ask(b"watch q", b"ok watch 100001")
+        other.ask(b"watch p", b"ok watch 100001")
+        changer.ask(b"add s 5", b"ok added 100002")
+        other.ask(b"quit", b"+ p 5", b"at p 100002", b"bye")
+        told = watcher.to_the_end().split(b"\n")
+        expect(told[-2:], [b"end memory", b""])
+        for line in told[:-2]:
+            expect(line.startswith(b"+ q " + text), True, line[:20])
+        expect(len(set(told)), len(told), "different answers, and no `at`")
+        changer.ask(b"drop q", b"ok")
+        changer.ask(b"stop", b"bye")
+        expect(serving.end(), (b"", 0))
+
+
+class Swimmer:
+    """One of many clients at once: it sends lines in bursts, and checks what comes by what it sent, in order."""
+
+    def __init__(self, client, chance, text):
+        self.stream, self.chance, self.query = client.stream, chance, text[:1]
+        self.stream.setblocking(False)
+        self.outgoing, self.incoming = b"", b""
+        self.answers, self.due, self.listing = set(), [], None
+        self.seq, self.finished, self.deltas = 0, 0, 0
+        self.say(b"watch " + self.query, b"ok")
+
+    def say(self, line, form):
+        self.outgoing += line + b"\n"
+        self.due.append(form)
+
+    def burst(self):
+        for _ in range(self.chance.randrange(1, 20)):
+            relation = self.chance.choice("rrssst")
+            row = b" ".join(b"%d" % cell for cell in random_row(self.chance, relation, 5))
+            self.say(b"%s %s %s" % (self.chance.choice((b"add", b"del")), relation.encode(), row), b"ok")
+        self.list()
+
+    def list(self):
+        self.say(b"open c " + self.query, b"ok")
+        self.say(b"next c 1000", b"list")
+        self.say(b"close c", b"ok")
+
+    def take(self, line):
+        word, _, rest = line.partition(b" ")
+        if word in (b"+", b"-"):
+            query, _, values = rest.partition(b" ")
+            answer = read_answer(values)
+            expect((query, answer in self.answers), (self.query, word == b"-"), line)
+            self.answers ^= {answer}
+        elif word == b"at":
+            query, seq = rest.split(b" ")
+            expect((query, int(seq) > self.seq), (self.query, True), line)
+            self.seq, self.deltas = int(seq), self.deltas + 1
+        elif self.due[0] == b"list":
+            self.listing = self.listing or []
+            if word == b"=":
+                self.listing.append(read_answer(rest))
+                return
+            if word == b"end":
+                # a listing that nothing came between is what the deltas add up to
+                expect(len(set(self.listing)), len(self.listing), "different answers")
+                expect(set(self.listing), self.answers, "a listing beside the deltas")
+                self.finished += 1
+            else:
+                expect(line[:8], b"stale c ", "a listing")
+            self.listing = None
+            self.due.pop(0)
+        else:
+            expect(word, self.due.pop(0), line)
+
+
+def swim(swimmers, go_on):
+    """Moves what can be moved, until nothing is due and nobody begins a further burst."""
+    streams = {swimmer.stream: swimmer for swimmer in swimmers}
+    until = time.monotonic() + PATIENCE * 3
+    while any(swimmer.due or swimmer.outgoing for swimmer in swimmers) or go_on():
+        expect(time.monotonic() < until, True, "replies are due")
+        readable, writable, _ = select.select(streams, [s.stream for s in swimmers if s.outgoing], [], 1)
+        for stream in writable:
+            swimmer = streams[stream]
+            swimmer.outgoing = swimmer.outgoing[stream.send(swimmer.outgoing):]
+        for stream in readable:
+            swimmer = streams[stream]
+            piece = stream.recv(1 << 20)
+            expect(piece != b"", True, "the session goes on")
+            *lines, swimmer.incoming = (swimmer.incoming + piece).split(b"\n")
+            for line in lines:
+                swimmer.take(line)
+        if go_on():
+            for swimmer in swimmers:
+                if not swimmer.due:
+                    swimmer.burst()
+
+
+@test
+def sixty_four_clients_add_and_watch_and_list_at_once():
+    with Serving() as serving:
+        first = serving.client()
+        first.ask(b"rel r int int\nrel s int int\nrel t int", b"ok", b"ok", b"ok")
+        for text, head, _ in JOINS:
+            first.ask(b"query " + text, b"ok query %d" % (2 * len(head) + 1))
+        clients = [first] + [serving.client() for _ in range(63)]
+        swimmers = [Swimmer(client, random.Random(at), JOINS[at % len(JOINS)][0]) for at, client in enumerate(clients)]
+        swim(swimmers, lambda: False)
+        until = time.monotonic() + 4
+        swim(swimmers, lambda: time.monotonic() < until)
+        # now nothing changes any more, so each listing is finished
+        before = [swimmer.finished for swimmer in swimmers]
+        for swimmer in swimmers:
+            swimmer.list()
+        swim(swimmers, lambda: False)
+        expect([swimmer.finished - 1 for swimmer in swimmers], before, "listings at the end")
+        expect(min(swimmer.deltas for swimmer in swimmers) > 0, True, "deltas")
+        for text in {swimmer.query for swimmer in swimmers}:
+            told = [swimmer.answers for swimmer in swimmers if swimmer.query == text]
+            expect(all(answers == told[0] for answers in told), True, text)
+
+
+KILLED = """
+import socket, sys
+stream = socket.create_connection(("127.0.0.1", int(sys.argv[1])))
+stream.sendall(b"watch q\\nopen c q\\nadd r " + sys.argv[2].encode())
+sys.stdout.write(stream.recv(5).decode())
+sys.stdout.flush()
+while True:
+    stream.sendall(b" 1\\nadd r " + sys.argv[2].encode())
+    stream.recv(65536)
+"""
+
+
+@test
+def clients_are_killed_in_the_middle_of_lines():
+    with Serving() as serving:
+        watcher, changer = serving.client(), serving.client()
+        changer.ask(b"rel r int int\nquery q(x,y) <- r(x,y)", b"ok", b"ok query 5")
+        following = Following(watcher)
+        following.answers[b"q"] = set()
+        watcher.ask(b"watch q", b"ok watch 0")
+        for number in range(8):
+            words = [sys.executable, "-c", KILLED, str(serving.port), str(number)]
+            victim = subprocess.Popen(words, stdout=subprocess.PIPE)
+            expect(victim.stdout.read(5), b"ok wa")
+            time.sleep(0.02)
+            victim.kill()
+            victim.wait()
+            victim.stdout.close()
+        changer.ask(b"open c q", b"ok open")
+        changer.say(b"add r 99 99\n")
+        seq = int(changer.line().removeprefix(b"ok added "))
+        for number in range(1, seq + 1):
+            following.take(b"q", number)
+        expect(listed(changer, b"k", b"q"), following.answers[b"q"])
+        expect(following.answers[b"q"] - {(99, 99)} <= {(number, 1) for number in range(8)}, True, "rows of whole lines alone")
+        # the dead sessions' watches and cursors are given up
+        changer.ask(b"close c", b"ok")
+        watcher.ask(b"unwatch q", b"ok")
+        until = time.monotonic() + PATIENCE
+        while True:
+            changer.say(b"drop q\n")
+            if changer.line() == b"ok":
+                break
+            expect(time.monotonic() < until, True, "the query stays in use")
+        changer.ask(b"stop", b"bye")
+        expect(serving.end(), (b"", 0))
+
+
+@test
+def two_watchers_send_single_bytes_in_turn():
+    with Serving() as serving:
+        clients = one, two = serving.client(), serving.client()
+        one.ask(b"rel r int\nquery q(x) <- r(x)\nwatch q", b"ok", b"ok query 3", b"ok watch 0")
+        two.ask(b"watch q", b"ok watch 0")
+        for before in range(0, 40, 2):
+            rows = [b"%d" % (before + 10), b"%d" % (before + 11)]
+            for here, there in zip(b"add r %s\n" % rows[0], b"add r %s\n" % rows[1]):
+                one.say(bytes([here]))
+                two.say(bytes([there]))
+            told = [[client.line() for _ in range(5)] for client in clients]
+            # either line may be run first; both are told in that order, each reply behind its own delta
+            first = min(rows, key=lambda row: told[0].index(b"+ q " + row))
+            ordered = [first] + [row for row in rows if row != first]
+            for row, lines in zip(rows, told):
+                want = []
+                for seq, other in enumerate(ordered, before + 1):
+                    want += [b"+ q " + other, b"at q %d" % seq] + [b"ok added %d" % seq] * (other == row)
+                expect(lines, want)
+        one.ask(b"stop", b"bye")
+        expect(serving.end(), (b"", 0))
+
+
+def two_terminals():
+    """The sessions of two terminals that the protocol's page shows: for each the rows of its two columns."""
+    with open(os.path.join(os.path.dirname(os.path.abspath(__file__)), "..", "docs", "PROTOCOL.md"), encoding="utf-8") as page:
+        blocks = page.read().split("```")[1::2]
+    for block in blocks:
+        head, *rows = block.strip("\n").split("\n")
+        if head.split() == ["one", "two"]:
+            second = head.index("two")
+            yield [(row[:second].rstrip(), row[second:].rstrip()) for row in rows]
+
+
+@test
+def sessions_of_two_terminals_go_as_the_page_shows():
+    shown = 0
+    for rows in two_terminals():
+        with Serving() as serving:
+            clients = serving.client(), serving.client()
+            answers = {client: [] for client in clients}
+            for row in rows:
+                for client, cell in zip(clients, row):
+                    want = cell.strip().encode()
+                    if want == b"" or want.startswith(b"the set is"):
+                        continue
+                    if not cell.startswith(" "):
+                        client.say(want + b"\n")
+                        answers[client] = []
+                        continue
+                    line = client.line()
+                    if want.startswith(b"= "):
+                        answers[client] += [(want, line)]  # in any order
+                        expect(line[:2], b"= ")
+                    else:
+                        expect(line, want, row)
+                    if want == b"end":
+                        expect(*(sorted(side) for side in zip(*answers[client])))
+        shown += 1
+    expect(shown, 2, "sessions of two terminals")
+@test
+def a_load_is_run_and_summed_up():
+    expect(run(b"", ("gen", "5", "1")), (b"rows 3 1\nchanges 4\nanswers 2\nsum 5\n", 0))
+    large = b"rows 7441 7436\nchanges 14901\nanswers 44043\nsum 82060188\n"
+    for _ in range(2):
+        expect(run(b"", ("gen", "20000", "7")), (large, 0))
+
+
+@test
+def a_load_has_a_number_of_changes_and_a_seed():
+    for words in [
+        (),
+        ("5",),
+        ("0", "1"),
+        ("1000001", "1"),
+        ("5", "2147483648"),
+        ("5", "x"),
+        ("5", "1", "1"),
+    ]:
+        expect(run(b"", ("gen", *words)), (USAGE, 1), words)
 
 
 def main():

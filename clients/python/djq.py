@@ -142,12 +142,6 @@ class InUse(Refused):
     number = 14
 
 
-class Later(Refused):
-    """This version of the server doesn't serve the command yet."""
-
-    number = 15
-
-
 class NotFreeConnex(Refused):
     """The query isn't free-connex. `edges` is what is left of its hypergraph, each edge the names of its variables."""
 
@@ -173,7 +167,7 @@ REFUSALS: dict[int, type[Refused]] = {
     kind.number: kind
     for kind in (
         Syntax, Taken, NoRelation, NoQuery, NoCursor, Arity, WrongType, HeadUnbound,
-        HeadRepeated, VariableType, LimitReached, OutOfMemory, InUse, Later,
+        HeadRepeated, VariableType, LimitReached, OutOfMemory, InUse,
     )
 }  # fmt: skip
 
@@ -509,13 +503,14 @@ class Connection:
         """The next change of a watched query; none where none came for so many seconds."""
         waiting = self._protocol.changes.setdefault(query, deque())
         until = None if timeout is None else time.monotonic() + timeout
+        left = timeout
         while not waiting:
             if self._protocol.ended is not None:
                 raise self._protocol.ended
-            left = None if until is None else until - time.monotonic()
             if left is not None and left < 0:
                 return None
             self._move(left)
+            left = None if until is None else until - time.monotonic()
         return waiting.popleft()[1]
 
     # Inside

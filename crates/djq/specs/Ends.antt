@@ -20,8 +20,9 @@ use Rattle.djq_serve.specs.declared.served.Served.TheVariants.{Stopped, Over, Tu
 use Rattle.djq_serve.specs.Told.{Shown}
 use Rattle.djq_serve.specs.Ends.{ServeEnds, FaultsCount}
 use Rattle.djq_words.specs.declared.commands.Asked.{Asked}
-use Rattle.djq_words.specs.declared.commands.Asked.TheVariants.{Run, Serve, Replay}
+use Rattle.djq_words.specs.declared.commands.Asked.TheVariants.{Run, Serve, Replay, Gen}
 use Rattle.djq_words.specs.Asks.{Asks, Answers}
+use Rattle.djq.specs.Gen.{GenEnds}
 use Rattle.djq.specs.Replay.{ReplayEnds}
 
 -- the line that tells the commands
@@ -115,6 +116,11 @@ pub record NoTransfer (before now : Outside) : Type 0 where
   pub taken : now.taken ≡ before.taken
   pub write_faults : now.write_faults ≡ before.write_faults
 
+-- nothing was read
+pub record NoneRead (before now : Outside) : Type 0 where
+  pub reading : now.reading ≡ before.reading
+  pub read_faults : now.read_faults ≡ before.read_faults
+
 -- The words ask for the sessions of the hub.
 abbrev pub is_serve : Asked → Bool
 is_serve (Serve addr turns) = true
@@ -130,6 +136,9 @@ EndsAs (Some Run) status before hub now hub' = Serves status before now × (hub'
 EndsAs (Some (Serve addr turns)) status before hub now hub' =
     HubEnds status addr.now turns hub before.counted hub' now.counted × NoTransfer before now
 EndsAs (Some Replay) status before hub now hub' = ReplayEnds status before now × (hub' ≡ hub)
+EndsAs (Some (Gen n seed)) status before hub now hub' =
+    GenEnds status n seed before.taken before.write_faults before.counted now.taken now.write_faults
+    now.counted × NoneRead before now × (hub' ≡ hub)
 
 -- How the program ends, by the words of its command line: as what they ask for, and as no command
 -- where they ask for nothing; or out of memory before they were read.

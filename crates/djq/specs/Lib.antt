@@ -1,4 +1,5 @@
 pub mod Replay
+pub mod Gen
 pub mod Ends
 pub mod Finished
 pub mod Live

@@ -1,5 +1,6 @@
 //! A join query server, as a program: `djq run` serves one session from standard input to standard
-//! output, `djq serve ADDR` the sessions that come over TCP, and `djq replay` those of a schedule.
+//! output, `djq serve ADDR` the sessions that come over TCP, `djq replay` those of a schedule, and
+//! `djq gen N SEED` that of a generated load.
 //!
 //! [`run_program`] is the program over any source, sink and hub. Its contract says what was
 //! written: the replies of a run of the join machine, so it is the theorem of the whole product.
@@ -9,6 +10,7 @@
 #[cfg(test)]
 mod hub_tests;
 mod laws;
+mod load;
 mod program;
 mod replay;
 #[cfg(test)]

@@ -5,6 +5,7 @@ ghost use Rattle.djq_laws.specs.Course.{outside};
 ghost use Rattle.djq_serve.specs.Told.{shown};
 ghost use Rattle.djq.specs.Ends.{ProgramEnds, AsksToServe, Serves, HubEnds, Explains, hub_seen, status_of};
 
+use crate::load::generate;
 use crate::replay::replay;
 use djq_core::Core;
 use djq_io::{Hub, Listened, Sink, Source, Written, write_all};
@@ -22,7 +23,7 @@ const USAGE: &[u8] = b"usage: djq run | serve ADDR [--turns N] | replay | gen N 
 ///
 /// `run` serves one session from the source to the sink. `serve` lets the hub listen at an address,
 /// and serves the sessions that come. `replay` serves a hub of its own, which goes by the schedule
-/// in the source. Other words are answered by the usage line. The hub has opened no session before,
+/// in the source. `gen` runs a generated load, and writes what it comes to. Other words are answered by the usage line. The hub has opened no session before,
 /// and words other than those of `serve` leave it as it is.
 pub fn run_program<S: Source, K: Sink, H: Hub, L: Ledgers>(
     alloc: Global,
@@ -47,6 +48,7 @@ pub fn run_program<S: Source, K: Sink, H: Hub, L: Ledgers>(
         Ok(Some(Asked::Run)) => serve_source(alloc, source, sink, steps),
         Ok(Some(Asked::Serve(addr, turns))) => serve_hub(alloc, addr, turns, hub, steps),
         Ok(Some(Asked::Replay)) => replay(alloc, source, sink, steps),
+        Ok(Some(Asked::Gen(n, seed))) => generate(alloc, n, seed, sink, steps),
         Ok(None) => explain_usage(sink),
         Err(_) => Status::NoMemory,
     }

@@ -96,7 +96,7 @@ fn replay_schedule<K: Sink, L: Ledgers>(
 }
 
 /// Writes the text. The status is that of a text that is written whole.
-fn write_text<K: Sink>(sink: &mut K, text: &[u8], status: Status) -> Status
+pub(crate) fn write_text<K: Sink>(sink: &mut K, text: &[u8], status: Status) -> Status
     ensures { Wrote result status text.now (K.taken sink.old) (K.faults sink.old)
         (K.taken sink.new) (K.faults sink.new) }
 {

@@ -126,6 +126,8 @@ fn other_words_get_the_usage_line(rt: HostRuntime) -> Result<(), Fail> {
         &["djq", "fly"],
         &["djq", "run", "run"],
         &["djq", "running"],
+        &["djq", "gen", "0", "1"],
+        &["djq", "gen", "1000001", "1"],
     ];
     for words in lists {
         let mut source = MemSource::new(SESSION.to_vec(rt.alloc())?, 8192);
@@ -252,5 +254,19 @@ fn a_schedule_outside_the_grammar_is_not_run(rt: HostRuntime) -> Result<(), Fail
         Status::Schedule(3)
     );
     assert_eq!(rt; sink.taken(), Some(b"schedule 3\n".as_slice()));
+    Ok(())
+}
+
+/// The load of five changes puts the row 0 1 into r twice.
+#[test]
+fn a_load_is_run_and_summed_up(rt: HostRuntime) -> Result<(), Fail> {
+    let mut source = MemSource::new(SESSION.to_vec(rt.alloc())?, 8192);
+    let mut sink = MemSink::new(rt.alloc());
+    assert_eq!(rt;
+        run_words(&rt, &["djq", "gen", "5", "1"], &mut source, &mut sink),
+        Status::Done
+    );
+    let summary = b"rows 3 1\nchanges 4\nanswers 2\nsum 5\n";
+    assert_eq!(rt; sink.taken(), Some(summary.as_slice()));
     Ok(())
 }

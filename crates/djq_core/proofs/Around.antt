@@ -9,7 +9,7 @@ use Rattle.djq_engine.specs.Kept.{Kept, Held}
 use Rattle.djq_machine.specs.State.{Session, State, session_of, with_session}
 use Rattle.djq_core.specs.declared.open.OpenSession.{OpenSession}
 use Rattle.djq_core.specs.Views.{Talk, session_in, open_in, state_in}
-use Rattle.djq_core.specs.Sound.{IsBelow, Rises, ids_of, all_ids, AreHeld, AreApart, AreOwned, NoneOnceEnded, AreEndedWithout, IsSound}
+use Rattle.djq_core.specs.Sound.{IsBelow, Rises, ids_of, all_ids, AreHeld, AreApart, AreOwned, NoneOnceEnded, AreEndedWithout, AreCounted, IsSound}
 use Rattle.djq_core.specs.Performs.{among}
 use Rattle.djq_core.proofs.Ids.{held_split, held_join}
 
@@ -102,8 +102,8 @@ parts k front s d back sound =
       ended_back = ended.1.1;
     }
 
-pub whole : (k : Kept) (front : List OpenSession) (s : ℕ) (d : Talk) (back : List OpenSession) → Around k.cursors front s d back → IsSound k (among front s d back)
-whole k front s d back p = record {
+pub whole : (k : Kept) (front : List OpenSession) (s : ℕ) (d : Talk) (back : List OpenSession) → Around k.cursors front s d back → AreCounted k.registered (among front s d back) → IsSound k (among front s d back)
+whole k front s d back p counted = record {
   rising = subst Rises (sym (ids_are front s d back)) p.rising;
   few = omega (arith, p.few, length-append front (record { id = s; session = d } ∷ back));
   cursors_held = subst (λ (cs : List CursorId). AreHeld k.cursors cs) (sym (cursors_are front s d back))
@@ -111,6 +111,7 @@ whole k front s d back p = record {
   apart = subst AreApart (sym (cursors_are front s d back)) p.apart;
   owned = subst (AreOwned k.cursors) (sym (cursors_are front s d back)) p.owned;
   ended = ended_join front (record { id = s; session = d } ∷ back) p.ended_front (p.ended_here, p.ended_back);
+  counted = counted;
 }
 
 -- What is found and changed at a session's id.

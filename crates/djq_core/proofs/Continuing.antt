@@ -29,6 +29,7 @@ use Rattle.djq_core.proofs.Cursors.{ids_append, regroup, moved}
 use Rattle.djq_core.proofs.Naming.{at_found, at_none}
 use Rattle.djq_core.proofs.Replying.{refused, around_bytes}
 use Rattle.djq_core.proofs.GivingUp.{ends_costing}
+use Rattle.djq_core.proofs.Watching.{recount, stays_same, stays_on, count_moved}
 
 -- what costs no more than nothing
 pub counting : (M : State → ℕ → Session → Effect → State → Type 0) (stops : Bool) (old : Kept) (before : Talk) (new : Kept) (after : Talk) (was now : ℕ) → now ≤ was → Performs M stops old before new after 0 0
@@ -172,7 +173,9 @@ does_whole old new before after c n h q given ended count was now f held known a
           let a = parts old front s before back sound in
           let m = moved_among old new before c n h p cut held w.stands front back s false after.room a in
           subst (λ (d : Talk). IsSound new (among front s d back)) (sym w.queued)
-          (whole new front s (record before { pending = before.pending ++ text; room = after.room }) back (around_bytes new.cursors front s before before.held (before.pending ++ text) after.room back m.1));
+          (whole new front s (record before { pending = before.pending ++ text; room = after.room }) back (around_bytes new.cursors front s before before.held (before.pending ++ text) after.room back m.1)
+          (recount old new.registered front s before (record before { pending = before.pending ++ text; room = after.room }) back
+          (stays_same old.registered new.registered before.watches before.watches w.stands.registered refl) (λ q. q) sound));
       counted = w.counted;
     }
 
@@ -184,7 +187,7 @@ does_cut old mid new before between last after c n h q given ended count was now
     let lines = text_of (map answer_line w.told) in
     let text = lines ++ end_memory in
     let cut = name_cut before.cursors c n f in
-    let up : GivesUp old before new (record before { cursors = [] }) = record {
+    let up : GivesUp old before new (record before { cursors = []; watches = [] }) = record {
       store = g.store ∙ w.stands.store;
       gone = λ x a. g.gone x (subst (λ (cs : List CursorId). is_among x cs ≡ true) (sym (ap (λ (d : Talk). ids_of d.cursors) w.queued)) a);
       others = λ x a.
@@ -192,10 +195,12 @@ does_cut old mid new before between last after c n h q given ended count was now
           let here = (apart_split x (ids_of cut.front) (n.cursor ∷ ids_of cut.back) (subst (IsApart x) (ids_cut before.cursors c n cut) a)).1.0 in
           g.others x (subst (IsApart x) (sym same) a) ∙ w.stands.others x (same_id_flip n.cursor x here);
       session = refl;
+      counted = stays_on old.registered mid.registered new.registered before.watches between.watches []
+          (stays_same old.registered mid.registered before.watches between.watches w.stands.registered (ap (λ (d : Talk). d.watches) w.queued)) g.counted;
     } in
-    let left : after ≡ record before { cursors = []; room = after.room; cause = Some Memory; pending = behind before.pending (Some text) }
-    = r ∙ ap (λ (d : Talk). record d { pending = d.pending ++ end_memory; room = after.room; cause = Some Memory }) (g.session ∙ ap (λ (d : Talk). record d { cursors = [] }) w.queued)
-    ∙ ap (λ (bs : Bytes). record before { cursors = []; room = after.room; cause = Some Memory; pending = bs }) (append_assoc before.pending lines end_memory) in
+    let left : after ≡ record before { cursors = []; watches = []; room = after.room; cause = Some Memory; pending = behind before.pending (Some text) }
+    = r ∙ ap (λ (d : Talk). record d { pending = d.pending ++ end_memory; room = after.room; cause = Some Memory }) (g.session ∙ ap (λ (d : Talk). record d { cursors = []; watches = [] }) w.queued)
+    ∙ ap (λ (bs : Bytes). record before { cursors = []; watches = []; room = after.room; cause = Some Memory; pending = bs }) (append_assoc before.pending lines end_memory) in
     ends_costing _ false old new before after (Some text) ((length w.told + 1) * most_steps (length q.head)) Memory was now up left w.counted (λ st s x store same.
     let e = to_one s (Some text) ((length w.told + 1) * most_steps (length q.head)) in
     next_at old before c n h q count st (with_session st s (ended_by Memory)) s x e f held known store same
@@ -246,7 +251,7 @@ pub does_next_cut : (old mid new : Kept) (before between after : Talk) (c : Byte
     → IsReady old before → named before.cursors c ≡ Some n → Lists old n.cursor before count WasCut mid between was now → CutsOff mid between new after
     → Executes (Next c count) false old before new after was now
 does_next_cut old mid new before between after c n count was now ready f l cut =
-    cut_at old mid new before between (record between { cursors = [] }) after c n l.cursor l.query (l.cursor).position count was now ready f l.held l.registered refl l.lists cut.gives_up cut.ends
+    cut_at old mid new before between (record between { cursors = []; watches = [] }) after c n l.cursor l.query (l.cursor).position count was now ready f l.held l.registered refl l.lists cut.gives_up cut.ends
 
 cut_owns : (old mid : Kept) (before between : Talk) (c : Bytes) (n : NamedCursor CursorId) (h : Held) (q : Query) (p : Position) (count was now : ℕ)
     → IsOwn old before → named before.cursors c ≡ Some n → ListsAt old n.cursor before count h q p WasCut mid between was now → IsOwn mid between
@@ -256,6 +261,7 @@ cut_owns old mid before between c n h q (open_at given ended) count was now own 
     record {
       cursors_held = subst (λ (ns : List (NamedCursor CursorId)). AreHeld mid.cursors (ids_of ns)) (sym same) (own_moved old mid before.cursors c n h w.position cut w.stands own.cursors_held own.apart);
       apart = subst (λ (ns : List (NamedCursor CursorId)). AreApart (ids_of ns)) (sym same) own.apart;
+      counted = count_moved old.registered mid.registered before.watches between.watches w.stands.registered (ap (λ (d : Talk). d.watches) w.queued) own.counted;
     }
 cut_owns old mid before between c n h q (stale a b) count was now own f w = absurd w
 

@@ -4,7 +4,7 @@ use Rattle.std.specs.Prelude.{MatchOption, IsSomeAnd, is_none}
 use Rattle.djq_model.specs.Data.{Bytes, query_of}
 use Rattle.djq_model.specs.declared.query.Query.{Query}
 use Rattle.djq_lines.specs.declared.answer.Refusal.{Refusal}
-use Rattle.djq_lines.specs.declared.answer.Refusal.TheVariants.{Syntax, Taken, NoRelation, NoQuery, NoCursor, Arity, WrongType, HeadUnbound, HeadRepeated, VariableType, Limit, NoMemory, InUse, Later}
+use Rattle.djq_lines.specs.declared.answer.Refusal.TheVariants.{Syntax, Taken, NoRelation, NoQuery, NoCursor, Arity, WrongType, HeadUnbound, HeadRepeated, VariableType, Limit, NoMemory, InUse}
 use Rattle.djq_lines.specs.declared.answer.EndCause.TheVariants.{Memory}
 use Rattle.djq_lines.specs.declared.rest.QueryOutcome.{QueryOutcome}
 use Rattle.djq_lines.specs.declared.command.Command.TheVariants.{Query as Register, Explain}
@@ -21,24 +21,25 @@ use Rattle.djq_engine.specs.declared.cursor.CursorId.{CursorId}
 use Rattle.djq_engine.specs.Kept.{Kept, SameCursors, Explains, ExplainGives, HasTree}
 use Rattle.djq_core.specs.declared.open.OpenSession.{OpenSession}
 use Rattle.djq_core.specs.Views.{Talk, session_in, state_in}
-use Rattle.djq_core.specs.Sound.{ids_of, all_ids, AreHeld, AreApart, IsOwn, IsSound, IsReady}
+use Rattle.djq_core.specs.Sound.{ids_of, all_ids, AreHeld, AreApart, HasCount, StaysCounted, IsOwn, IsSound, IsReady}
 use Rattle.djq_core.specs.Ends.{GivesUp, CutsOff}
 use Rattle.djq_core.specs.Performs.{among, to_one, behind, unqueued, Performs, Executes}
 use Rattle.djq_core.proofs.Ids.{agree_same, agree_held, agree_open}
 use Rattle.djq_core.proofs.Around.{parts, whole}
 use Rattle.djq_core.proofs.GivingUp.{ends_among}
 use Rattle.djq_core.proofs.Replying.{around_same, refused}
+use Rattle.djq_core.proofs.Watching.{recount, stays_same, stays_on}
 
 -- Something is done, the cursors stay as they are, and the session is cut off.
 pub cut_off_after : (M : State → ℕ → Session → Effect → State → Type 0) (old mid new : Kept) (before between after : Talk) (was now : ℕ)
-    → SameCursors old.cursors mid.cursors → between ≡ record before { room = between.room } → CutsOff mid between new after → now ≡ was
+    → SameCursors old.cursors mid.cursors → StaysCounted old.registered before.watches mid.registered before.watches → between ≡ record before { room = between.room } → CutsOff mid between new after → now ≡ was
     → ((st : State) (s : ℕ) (x : Session) → st.store ≡ old.store → M st s x (to_one s (Some end_memory) 0) (with_session (record st { store = mid.store }) s (ended_by Memory)))
     → Performs M false old before new after was now
-cut_off_after M old mid new before between after was now same roomy cut counted does =
+cut_off_after M old mid new before between after was now same stays roomy cut counted does =
     let cut' : CutsOff mid (record before { room = between.room }) new after = subst (λ (d : Talk). CutsOff mid d new after) roomy cut in
     let g = cut'.gives_up in
-    let up : GivesUp mid before new (record before { cursors = [] }) = record { store = g.store; gone = g.gone; others = g.others; session = refl } in
-    let left : after ≡ record before { cursors = []; room = after.room; cause = Some Memory; pending = behind before.pending (Some end_memory) } = cut'.ends in
+    let up : GivesUp mid before new (record before { cursors = []; watches = [] }) = record { store = g.store; gone = g.gone; others = g.others; session = refl; counted = g.counted } in
+    let left : after ≡ record before { cursors = []; watches = []; room = after.room; cause = Some Memory; pending = behind before.pending (Some end_memory) } = cut'.ends in
     let around = λ (front back : List OpenSession) (s : ℕ) (sound : IsSound old (among front s before back)).
     around_same old.cursors mid.cursors front s before back same (parts old front s before back sound) in
     record {
@@ -56,27 +57,31 @@ cut_off_after M old mid new before between after was now same roomy cut counted 
           (does st s (session_in old.cursors s before) refl));
       sound = λ front back s sound.
           subst (λ (d : Talk). IsSound new (among front s d back)) (sym left)
-          (whole new front s (record before { cursors = []; room = after.room; cause = Some Memory; pending = behind before.pending (Some end_memory) }) back
-          (ends_among mid new before Memory false after.room (behind before.pending (Some end_memory)) up front back s (around front back s sound)).1);
+          (whole new front s (record before { cursors = []; watches = []; room = after.room; cause = Some Memory; pending = behind before.pending (Some end_memory) }) back
+          (ends_among mid new before Memory false after.room (behind before.pending (Some end_memory)) up front back s (around front back s sound)).1
+          (recount old new.registered front s before (record before { cursors = []; watches = []; room = after.room; cause = Some Memory; pending = behind before.pending (Some end_memory) }) back
+          (stays_on old.registered mid.registered new.registered before.watches before.watches [] stays g.counted) (λ q. refl) sound));
       counted = omega (arith, counted);
     }
 
 -- with other room the session's own cursors are as they were
-pub own_still : (old mid : Kept) (before between : Talk) → SameCursors old.cursors mid.cursors → between ≡ record before { room = between.room } → IsOwn old before → IsOwn mid between
-own_still old mid before between same roomy own =
+pub own_still : (old mid : Kept) (before between : Talk) → SameCursors old.cursors mid.cursors → StaysCounted old.registered before.watches mid.registered before.watches → between ≡ record before { room = between.room } → IsOwn old before → IsOwn mid between
+own_still old mid before between same stays roomy own =
     let names = ap (λ (d : Talk). d.cursors) roomy in
     record {
       cursors_held = subst (λ (ns : List (NamedCursor CursorId)). AreHeld mid.cursors (ids_of ns)) (sym names)
           (agree_held old.cursors mid.cursors (ids_of before.cursors) (agree_same old.cursors mid.cursors (ids_of before.cursors) same) own.cursors_held);
       apart = subst (λ (ns : List (NamedCursor CursorId)). AreApart (ids_of ns)) (sym names) own.apart;
+      counted = subst (λ (ws : List Bytes). HasCount mid.registered ws) (sym (ap (λ (d : Talk). d.watches) roomy))
+          ((own.counted).0, stays (own.counted).0 (own.counted).1);
     }
 
 -- the reply to `query` is cut
 pub does_query_cut : (old mid new : Kept) (before between after : Talk) (q : Query) (result : Result QueryOutcome Refusal) (was now : ℕ)
-    → now ≡ was → IsReady old before → RegistersQuery old.store q result mid.store → SameCursors old.cursors mid.cursors → Lacks before between (query_reply result) → CutsOff mid between new after
+    → now ≡ was → IsReady old before → RegistersQuery old.store q result mid.store → SameCursors old.cursors mid.cursors → StaysCounted old.registered before.watches mid.registered before.watches → Lacks before between (query_reply result) → CutsOff mid between new after
     → Executes (Register q) false old before new after was now
-does_query_cut old mid new before between after q result was now counted ready registers same lacks cut =
-    cut_off_after _ old mid new before between after was now same lacks.same cut counted (λ st s x e. inr (record {
+does_query_cut old mid new before between after q result was now counted ready registers same stays lacks cut =
+    cut_off_after _ old mid new before between after was now same stays lacks.same cut counted (λ st s x e. inr (record {
       result = result;
       store = mid.store;
       done = subst (λ store. RegistersQuery store q result mid.store) (sym e) registers;
@@ -103,7 +108,7 @@ cut_explained : (k : Kept) (new : Kept) (before between after : Talk) (name : By
     → IsSomeAnd (query_of (k.store).queries name) HasTree → Executes (Explain name) false k before new after 0 0
 cut_explained k new before between after name roomy cut tree =
     let q = there_is HasTree (query_of (k.store).queries name) tree in
-    cut_off_after _ k k new before between after 0 0 (λ id. refl) roomy cut refl (λ st s x e.
+    cut_off_after _ k k new before between after 0 0 (λ id. refl) (stays_same k.registered k.registered before.watches before.watches refl refl) roomy cut refl (λ st s x e.
     let new' = with_session (record st { store = k.store }) s (ended_by Memory) in
     let same : with_session st s (ended_by Memory) ≡ new' = ap (λ (w : Store). with_session (record st { store = w }) s (ended_by Memory)) e in
     let first = first_line _ (line (codes "end")) in
@@ -170,7 +175,6 @@ late_is P HeadRepeated h = absurd h
 late_is P VariableType h = absurd h
 late_is P Limit h = absurd h
 late_is P InUse h = absurd h
-late_is P Later h = absurd h
 
 absent_of : (o : Option Query) (r : Refusal) → (r ≡ NoMemory → ⊥) → explain_answers o (Err r) → (o ≡ None) × (r ≡ NoQuery)
 absent_of None r other h = (refl, h)

@@ -13,12 +13,14 @@ use Rattle.djq_engine.specs.declared.cursor.CursorId.{CursorId}
 use Rattle.djq_engine.specs.Kept.{Kept, Held, held_at, same_id, IsHeld, ClosesCursor}
 use Rattle.djq_core.specs.declared.open.OpenSession.{OpenSession}
 use Rattle.djq_core.specs.Views.{Talk, session_in, state_in}
-use Rattle.djq_core.specs.Sound.{ids_of, all_ids, AreHeld, IsApart, AreApart, IsOwn, IsSound, is_among}
-use Rattle.djq_core.specs.Ends.{GivesUp, cut_text}
+use Rattle.djq_core.specs.Sound.{ids_of, all_ids, AreHeld, IsApart, AreApart, IsOwn, IsSound, is_among, listed}
+use Rattle.djq_core.specs.Ends.{GivesUp, GivesUpCursors, GivesUpWatches, cut_text}
+use Rattle.djq_core.specs.Telling.{KeepsTold}
 use Rattle.djq_core.specs.Performs.{among, to_one, behind, unqueued, Performs}
 use Rattle.djq_core.proofs.Ids.{Agree, agree_others, agree_held, apart_split, apart_join, taken_out, held_split, same_id_flip, owned_without, same_id_same}
 use Rattle.djq_core.proofs.Around.{Around, parts, whole}
 use Rattle.djq_core.proofs.Cursors.{ids_append, moved}
+use Rattle.djq_core.proofs.Watching.{recount, stays_same, stays_on, count_moved}
 
 -- One cursor after another is given up.
 
@@ -29,9 +31,12 @@ pub record Giving (old : Kept) (before : Talk) (k : Kept) (d : Talk) : Type 0 wh
   pub session : d ≡ record before { cursors = d.cursors }
   pub gone : (gone : List (NamedCursor CursorId)) × (before.cursors ≡ d.cursors ++ gone)
   pub lost : (c : CursorId) → is_among c (ids_of gone.0) ≡ true → held_at k.cursors c ≡ None
+  pub registered : k.registered ≡ old.registered
+  pub affected : k.affected ≡ old.affected
+  pub told : k.told ≡ old.told
 
 pub giving_starts : (k : Kept) (d : Talk) → IsOwn k d → Giving k d k d
-giving_starts k d own = record { own = own; store = refl; others = λ c a. refl; session = refl; gone = ([], sym (append-nil d.cursors)); lost = λ c a. absurd (cc (a)) }
+giving_starts k d own = record { own = own; store = refl; others = λ c a. refl; session = refl; gone = ([], sym (append-nil d.cursors)); lost = λ c a. absurd (cc (a)); registered = refl; affected = refl; told = refl }
 
 -- the cursor that is popped is held
 pub popped_held : (k : Kept) (d e : Talk) (id : CursorId) → IsOwn k d → PopsCursor d e (Some id) → IsHeld k id
@@ -51,6 +56,7 @@ giving_goes_on old before k d e k' id g p o =
       own = record {
         cursors_held = agree_held k.cursors k'.cursors (ids_of e.cursors) (agree_others k.cursors k'.cursors id (ids_of e.cursors) o.others apart.0) held.0;
         apart = subst AreApart (append-nil (ids_of e.cursors)) apart.1.1;
+        counted = count_moved k.registered k'.registered d.watches e.watches o.registered (ap (λ (x : Talk). x.watches) p.2) g.own.counted;
       };
       store = o.store ∙ g.store;
       others = λ c a.
@@ -60,6 +66,9 @@ giving_goes_on old before k d e k' id g p o =
       session = p.2 ∙ ap (λ (x : Talk). record x { cursors = e.cursors }) g.session;
       gone = (record { name = p.0; cursor = id } ∷ g.gone.0, g.gone.1 ∙ ap (λ (ns : List (NamedCursor CursorId)). ns ++ g.gone.0) p.1 ∙ append_assoc e.cursors (record { name = p.0; cursor = id } ∷ []) g.gone.0);
       lost = λ c a. step c (same_id id c) refl a;
+      registered = o.registered ∙ g.registered;
+      affected = o.affected ∙ g.affected;
+      told = o.told ∙ g.told;
     }
   where
     -- the one that is popped is gone, and so are those before it
@@ -67,12 +76,35 @@ giving_goes_on old before k d e k' id g p o =
     step c true e a = ap (held_at k'.cursors) (sym (same_id_same id c e)) ∙ o.gone
     step c false e a = o.others c (same_id_flip id c e) ∙ g.lost c a
 
-pub given_up : (old : Kept) (before : Talk) (k : Kept) (d e : Talk) → Giving old before k d → PopsCursor d e None → GivesUp old before k e
+pub given_up : (old : Kept) (before : Talk) (k : Kept) (d e : Talk) → Giving old before k d → PopsCursor d e None → GivesUpCursors old before k e
 given_up old before k d e g p = record {
   store = g.store;
   gone = λ c a. g.lost c (subst (λ (ns : List (NamedCursor CursorId)). is_among c (ids_of ns) ≡ true) (g.gone.1 ∙ ap (λ (ns : List (NamedCursor CursorId)). ns ++ g.gone.0) p.0) a);
   others = g.others;
   session = p.1 ∙ g.session ∙ ap (λ (ns : List (NamedCursor CursorId)). record before { cursors = ns }) p.0;
+  registered = g.registered;
+  affected = g.affected;
+  told = g.told;
+}
+
+-- The watches are given up behind them.
+pub both_given_up : (old mid new : Kept) (before between after : Talk) → GivesUpCursors old before mid between → GivesUpWatches mid between new after → GivesUp old before new after
+both_given_up old mid new before between after g w =
+    let rest = w.rest in record {
+      store = ap (λ (k : Kept). k.store) rest ∙ g.store;
+      gone = λ c a. ap (λ (k : Kept). held_at k.cursors c) rest ∙ g.gone c a;
+      others = λ c a. ap (λ (k : Kept). held_at k.cursors c) rest ∙ g.others c a;
+      session = w.session ∙ ap (λ (d : Talk). record d { watches = [] }) g.session;
+      counted = stays_on old.registered mid.registered new.registered before.watches between.watches []
+          (stays_same old.registered mid.registered before.watches between.watches g.registered (ap (λ (d : Talk). d.watches) g.session)) w.counted;
+    }
+
+pub both_kept_told : (old mid new : Kept) (before between after : Talk) → GivesUpCursors old before mid between → GivesUpWatches mid between new after → KeepsTold old new
+both_kept_told old mid new before between after g w = record {
+  store = ap (λ (k : Kept). k.store) w.rest ∙ g.store;
+  listed = w.listed ∙ ap listed g.registered;
+  affected = ap (λ (k : Kept). k.affected) w.rest ∙ g.affected;
+  told = ap (λ (k : Kept). k.told) w.rest ∙ g.told;
 }
 
 -- The cursors of the other sessions.
@@ -112,15 +144,15 @@ agree_apart old new bs [] h a = tt
 agree_apart old new bs (c ∷ cs) h a = (h c a.0, agree_apart old new bs cs h a.1)
 
 -- A session that has given up its cursors and ends, among others.
-pub ends_among : (old new : Kept) (before : Talk) (cause : EndCause) (stopped : Bool) (room : ℕ) (pending : Bytes) → GivesUp old before new (record before { cursors = [] })
+pub ends_among : (old new : Kept) (before : Talk) (cause : EndCause) (stopped : Bool) (room : ℕ) (pending : Bytes) → GivesUp old before new (record before { cursors = []; watches = [] })
     → (front back : List OpenSession) (s : ℕ) → Around old.cursors front s before back
-    → (state_in new stopped (among front s (record before { cursors = []; room = room; cause = Some cause }) back) ≡ with_session (state_in old stopped (among front s before back)) s (ended_by cause))
-    × Around new.cursors front s (record before { cursors = []; room = room; cause = Some cause; pending = pending }) back
+    → (state_in new stopped (among front s (record before { cursors = []; watches = []; room = room; cause = Some cause }) back) ≡ with_session (state_in old stopped (among front s before back)) s (ended_by cause))
+    × Around new.cursors front s (record before { cursors = []; watches = []; room = room; cause = Some cause; pending = pending }) back
 ends_among old new before cause stopped room pending g front back s p =
     let ids = ids_of before.cursors in
     let ga = agree_apart old.cursors new.cursors ids (all_ids front) g.others (apart_fronts (all_ids front) ids (all_ids back) p.apart) in
     let ge = agree_apart old.cursors new.cursors ids (all_ids back) g.others (apart_backs ids (all_ids back) (apart_rest (all_ids front) (ids ++ all_ids back) p.apart)) in (
-      moved old new stopped front s before (record before { cursors = []; room = room; cause = Some cause }) back (ended_by cause) p ga ge g.store refl,
+      moved old new stopped front s before (record before { cursors = []; watches = []; room = room; cause = Some cause }) back (ended_by cause) p ga ge g.store refl,
       record {
         rising = p.rising;
         few = p.few;
@@ -137,7 +169,7 @@ ends_among old new before cause stopped room pending g front back s p =
 
 -- A session gives up its cursors and ends, for a cause; a text may be queued to it.
 pub ends_costing : (M : State → ℕ → Session → Effect → State → Type 0) (stops : Bool) (old new : Kept) (before after : Talk) (text : Option Bytes) (cost : ℕ) (cause : EndCause) (was now : ℕ)
-    → GivesUp old before new (record before { cursors = [] }) → after ≡ record before { cursors = []; room = after.room; cause = Some cause; pending = behind before.pending text }
+    → GivesUp old before new (record before { cursors = []; watches = [] }) → after ≡ record before { cursors = []; watches = []; room = after.room; cause = Some cause; pending = behind before.pending text }
     → now ≤ was + cost
     → ((st : State) (s : ℕ) (x : Session) → st.store ≡ old.store → x ≡ session_in old.cursors s before → M st s x (to_one s text cost) (with_session (record st { stopped = stops || st.stopped }) s (ended_by cause)))
     → Performs M stops old before new after was now
@@ -155,8 +187,9 @@ ends_costing M stops old new before after text cost cause was now up left counte
   sound = λ front back s sound.
       let p = parts old front s before back sound in
       subst (λ (d : Talk). IsSound new (among front s d back)) (sym left)
-      (whole new front s (record before { cursors = []; room = after.room; cause = Some cause; pending = behind before.pending text }) back
-      (ends_among old new before cause false after.room (behind before.pending text) up front back s p).1);
+      (whole new front s (record before { cursors = []; watches = []; room = after.room; cause = Some cause; pending = behind before.pending text }) back
+      (ends_among old new before cause false after.room (behind before.pending text) up front back s p).1
+      (recount old new.registered front s before (record before { cursors = []; watches = []; room = after.room; cause = Some cause; pending = behind before.pending text }) back up.counted (λ q. refl) sound));
   counted = counted;
 }
 
@@ -165,9 +198,9 @@ pub ends : (M : State → ℕ → Session → Effect → State → Type 0) (stop
     → ((st : State) (s : ℕ) (x : Session) → M st s x (to_one s text 0) (with_session (record st { stopped = stops || st.stopped }) s (ended_by cause)))
     → Performs M stops old before new after 0 0
 ends M stops old new before mid after text cause g same does =
-    let left : after ≡ record before { cursors = []; room = after.room; cause = Some cause; pending = behind before.pending text }
+    let left : after ≡ record before { cursors = []; watches = []; room = after.room; cause = Some cause; pending = behind before.pending text }
     = same ∙ ap (λ (d : Talk). record d { pending = behind d.pending text; room = after.room; cause = Some cause }) g.session in
-    let up : GivesUp old before new (record before { cursors = [] }) = record { store = g.store; gone = g.gone; others = g.others; session = refl } in
+    let up : GivesUp old before new (record before { cursors = []; watches = [] }) = record { store = g.store; gone = g.gone; others = g.others; session = refl; counted = g.counted } in
     ends_costing M stops old new before after text 0 cause 0 0 up left (omega arith) (λ st s x e f. does st s x)
 
 -- whether bytes are held decides what is said of them

@@ -28,7 +28,7 @@ same_relations [] = tt
 same_relations (r ∷ rs) = (refl, refl, IsPermutation-refl r.rows, same_relations rs)
 
 -- what was queued to a session is queued by the machine
-queued : (k : Kept) (stopped : Bool) (front : List OpenSession) (s : ℕ) (before after : Talk) (back : List OpenSession) (text : Option Bytes) (cost : ℕ) → IsSound k (among front s after back)
+pub queued : (k : Kept) (stopped : Bool) (front : List OpenSession) (s : ℕ) (before after : Talk) (back : List OpenSession) (text : Option Bytes) (cost : ℕ) → IsSound k (among front s after back)
     → after.pending ≡ behind before.pending text → state_in k stopped (among front s after back) ≡ queue_all (state_in k stopped (among front s (unqueued before after) back)) (to_one s text cost).queued
 queued k stopped front s before after back None cost sound e = ap (λ (bs : Bytes). state_in k stopped (among front s (record after { pending = bs }) back)) e
 queued k stopped front s before after back (Some text) cost sound e =

@@ -16,22 +16,24 @@ use Rattle.djq_engine.specs.declared.cursor.CursorId.{CursorId}
 use Rattle.djq_engine.specs.Kept.{Kept, Held, held_at, IsHeld, OpensCursor, ClosesCursor}
 use Rattle.djq_core.specs.declared.open.OpenSession.{OpenSession}
 use Rattle.djq_core.specs.Views.{Talk, query_in, position_in, cursor_in, session_in, state_in}
-use Rattle.djq_core.specs.Sound.{ids_of, all_ids, AreHeld, IsApart, AreApart, NoneOnceEnded, IsReady, AreOwned}
+use Rattle.djq_core.specs.Sound.{ids_of, all_ids, AreHeld, IsApart, AreApart, NoneOnceEnded, QuietOnceEnded, StaysCounted, IsReady, AreOwned}
 use Rattle.djq_core.specs.Opens.{Opens}
 use Rattle.djq_core.specs.Performs.{among, to_one, unqueued, Performs, Executes}
 use Rattle.djq_core.proofs.Ids.{Agree, agree_others, agree_held, agree_names, fresh_apart, apart_split, apart_join, taken_out, put_in, held_split, held_join, owned_more, owned_less}
 use Rattle.djq_core.proofs.Around.{Around, parts, map_append}
 use Rattle.djq_core.proofs.Cursors.{Cut, cut_found, cursor_seen, drop-map, refusal_same, ids_append, regroup, ungroup, moved}
 use Rattle.djq_core.proofs.Replying.{replied, refused, sound_replied}
+use Rattle.djq_core.proofs.Watching.{recount, stays_same}
 
 -- The session's command is answered after its cursors have changed.
 pub answered : (M : State → ℕ → Session → Effect → State → Type 0) (old new : Kept) (before mid after : Talk) (text : Bytes)
-    → Replies mid after text → mid.pending ≡ before.pending
+    → Replies mid after text → mid.pending ≡ before.pending → StaysCounted old.registered before.watches new.registered mid.watches
+    → (QuietOnceEnded before.cause before.watches → QuietOnceEnded mid.cause mid.watches)
     → ((front back : List OpenSession) (s : ℕ) (stopped : Bool) → Around old.cursors front s before back
     → (M (state_in old stopped (among front s before back)) s (session_in old.cursors s before) (to_one s (Some text) 0) (state_in new stopped (among front s (record mid { room = after.room }) back)))
     × Around new.cursors front s mid back)
     → Performs M false old before new after 0 0
-answered M old new before mid after text r same does = record {
+answered M old new before mid after text r same stays still does = record {
   text = Some text;
   cost = 0;
   pending = ap (λ (d : Talk). d.pending) r ∙ ap (λ (p : Bytes). p ++ text) same;
@@ -39,7 +41,8 @@ answered M old new before mid after text r same does = record {
       let seen : record mid { room = after.room } ≡ unqueued before after = ap (λ (p : Bytes). record mid { pending = p; room = after.room }) same ∙ sym (ap (λ (d : Talk). unqueued before d) r) in
       subst (λ (d : Talk). M (state_in old stopped (among front s before back)) s (session_in old.cursors s before) (to_one s (Some text) 0) (state_in new stopped (among front s d back)))
       seen (does front back s stopped (parts old front s before back sound)).0;
-  sound = λ front back s sound. sound_replied new front s mid after text back r (does front back s false (parts old front s before back sound)).1;
+  sound = λ front back s sound. sound_replied new front s mid after text back r (does front back s false (parts old front s before back sound)).1
+      (recount old new.registered front s before mid back stays still sound);
   counted = omega arith;
 }
 
@@ -97,7 +100,9 @@ pub does_open : (old new : Kept) (before mid after : Talk) (c q : Bytes) (result
 does_open old new before mid after c q (Ok u) ready opens r =
     let o = opens.opens in
     let same : mid ≡ record before { cursors = before.cursors ++ record { name = c; cursor = o.0 } ∷ [] } = o.2 in
-    answered _ old new before mid after (ok_reply (codes "ok open") (Ok u)) r (ap (λ (d : Talk). d.pending) same) (λ front back s stopped p.
+    answered _ old new before mid after (ok_reply (codes "ok open") (Ok u)) r (ap (λ (d : Talk). d.pending) same)
+    (stays_same old.registered new.registered before.watches mid.watches (o.1).registered (ap (λ (d : Talk). d.watches) same))
+    (subst (λ (d : Talk). QuietOnceEnded d.cause d.watches) (sym same)) (λ front back s stopped p.
     let step = opened old new before c q o.0 o.1 ready.running front back s stopped after.room p in (
       record {
         result = Ok u;
@@ -110,7 +115,8 @@ does_open old new before mid after c q (Ok u) ready opens r =
 does_open old new before mid after c q (Err e) ready opens r =
     let o = opens.opens in
     let failed : Result ⊤ Refusal = Err e in
-    replied _ old new before after (ok_reply (codes "ok open") failed) (subst (λ (d : Talk). Replies d after (refusal_line e)) o.2 r) o.1 (λ st s x store same. record {
+    replied _ old new before after (ok_reply (codes "ok open") failed) (subst (λ (d : Talk). Replies d after (refusal_line e)) o.3 r) o.1
+    (stays_same old.registered new.registered before.watches before.watches o.2 refl) (λ st s x store same. record {
       result = failed;
       answer = subst (λ (w : Option Refusal). Answers w failed (λ _. ⊤) (OutOfMemoryWhere ⊤))
           (refusal_same old before c q ∙ ap₂ (λ (w : Store) (cs : List Cursor). open_refusal w cs c q) (sym store) (sym (ap (λ (y : Session). y.cursors) same))) opens.answer;
@@ -189,7 +195,9 @@ pub does_close : (old new : Kept) (before mid after : Talk) (c : Bytes) (n : Nam
     → IsReady old before → named before.cursors c ≡ Some n → ClosesCursor old n.cursor new → mid ≡ record before { cursors = drop_first (is_named c) before.cursors }
     → Replies mid after (line (codes "ok")) → Executes (Close c) false old before new after 0 0
 does_close old new before mid after c n ready f o same r =
-    answered _ old new before mid after (line (codes "ok")) r (ap (λ (d : Talk). d.pending) same) (λ front back s stopped p.
+    answered _ old new before mid after (line (codes "ok")) r (ap (λ (d : Talk). d.pending) same)
+    (stays_same old.registered new.registered before.watches mid.watches o.registered (ap (λ (d : Talk). d.watches) same))
+    (subst (λ (d : Talk). QuietOnceEnded d.cause d.watches) (sym same)) (λ front back s stopped p.
     let step = closed old new before c n o ready.running (cut_found (is_named c) before.cursors n f) front back s stopped after.room p in (
       at_found old.cursors before.cursors c n _ _ f (refl, ap (λ (d : Talk). state_in new stopped (among front s (record d { room = after.room }) back)) same ∙ step.0),
       subst (λ (d : Talk). Around new.cursors front s d back) (sym same) step.1,

@@ -18,6 +18,7 @@ use Rattle.djq_machine.specs.Effect.{Effect, EndsWith, nothing}
 use Rattle.djq_machine.specs.Step.{EndedStep, Event, opened, fed, took, ended, closed, Acts, is_dry}
 use Rattle.djq_machine.specs.Run.{pending_of, pending_in}
 use Rattle.djq_machine.specs.Call.{Counts, Makes, IsOpen, FedGives, StepGives, cause_of, held_of, ids_of as state_ids}
+use Rattle.djq_engine.specs.declared.cursor.CursorId.{CursorId}
 use Rattle.djq_engine.specs.Kept.{Kept, Held as HeldCursor}
 use Rattle.djq_core.specs.declared.open.OpenSession.{OpenSession}
 use Rattle.djq_session.specs.Dialog.{IsFresh}
@@ -26,6 +27,7 @@ use Rattle.djq_core.specs.Sound.{IsBelow, Rises, IsSound, IsOwn, IsCore, ids_of,
 use Rattle.djq_core.specs.Ends.{GivesUp, EndsQuietly}
 use Rattle.djq_core.specs.Performs.{among, to_one, Performs}
 use Rattle.djq_core.specs.Stepping.{StepsTo}
+use Rattle.djq_core.proofs.Watching.{has_count, count_left, count_more}
 use Rattle.djq_core.proofs.Ids.{Agree, held_join, apart_split, agree_open, agree_held, owned_without}
 use Rattle.djq_core.proofs.Around.{ended_join, parts, ids_are, cursors_are, open_are, found, becomes, rises_push, rises_without, IsAbove, above_front, map_append}
 use Rattle.djq_core.proofs.Taking.{sound_bytes}
@@ -36,12 +38,12 @@ ids : List OpenSession → List ℕ
 ids xs = map (λ (x : OpenSession). x.id) xs
 
 -- a list is cut where an element stands
-cut_at : (xs : List OpenSession) (at : ℕ) (e : OpenSession) → at < length xs → e ≡ get_or xs at e → xs ≡ take at xs ++ e ∷ drop (suc at) xs
+pub cut_at : (xs : List OpenSession) (at : ℕ) (e : OpenSession) → at < length xs → e ≡ get_or xs at e → xs ≡ take at xs ++ e ∷ drop (suc at) xs
 cut_at [] at e l h = absurd (omega arith)
 cut_at (x ∷ xs) zero e l h = ap (λ (y : OpenSession). y ∷ xs) (sym h)
 cut_at (x ∷ xs) (suc at) e l h = ap (λ (r : List OpenSession). x ∷ r) (cut_at xs at e (omega arith) h)
 
-set_at : (xs : List OpenSession) (at : ℕ) (y : OpenSession) → at < length xs → set xs at y ≡ take at xs ++ y ∷ drop (suc at) xs
+pub set_at : (xs : List OpenSession) (at : ℕ) (y : OpenSession) → at < length xs → set xs at y ≡ take at xs ++ y ∷ drop (suc at) xs
 set_at [] at y l = absurd (omega arith)
 set_at (x ∷ xs) zero y l = refl
 set_at (x ∷ xs) (suc at) y l = ap (λ (r : List OpenSession). x ∷ r) (set_at xs at y (omega arith))
@@ -73,6 +75,14 @@ here k is xs id_room room at s e core l i h =
       ids = λ d. ap ids (put d) ∙ ids_are (take at xs) s d (drop (suc at) xs) ∙ sym (ap ids cut ∙ ids_are (take at xs) s e.session (drop (suc at) xs));
     }
 
+-- a session that stands where an id does has it
+pub id_by : (k : Kept) (is sl : List ℕ) (xs : List OpenSession) (id_room room at s : ℕ) (e : OpenSession) → IsCore k is xs id_room room → sl ≡ is → at < length sl → get_or sl at 0 ≡ s → e ≡ get_or xs at e
+    → (at < length xs) × (e.id ≡ s)
+unfolding ids
+id_by k is sl xs id_room room at s e core v l i h =
+    let within : at < length xs = omega (arith, subst (λ (ns : List ℕ). at < length ns) v l, ap length core.ids_are, length-map xs (λ (x : OpenSession). x.id)) in
+    (within, sym (id_at xs at e within h) ∙ sym (ap (λ (ns : List ℕ). get_or ns at 0) core.ids_are) ∙ subst (λ (ns : List ℕ). get_or ns at 0 ≡ s) v i)
+
 -- an open session's id is among the ids
 found_id : (hs : List HeldCursor) (xs : List OpenSession) (s : ℕ) → is_some (find (λ (x : Session). eqb x.id s) (map (open_in hs) xs)) ≡ true → (n : ℕ) × (n < length (map (λ (x : OpenSession). x.id) xs)) × (get_or (map (λ (x : OpenSession). x.id) xs) n s ≡ s)
 found_id hs [] s h = absurd (cc)
@@ -91,7 +101,7 @@ pub ids_rise : (k : Kept) (is : List ℕ) (xs : List OpenSession) (id_room room 
 ids_rise k is xs id_room room core = subst Rises (sym core.ids_are) core.sound.rising
 
 -- its cursors are its own
-apart_of : (xs ys zs : _) → AreApart (xs ++ (ys ++ zs)) → AreApart ys
+pub apart_of : (xs ys zs : List CursorId) → AreApart (xs ++ (ys ++ zs)) → AreApart ys
 apart_of [] ys zs h = front ys zs h
   where
     front : (ys zs : _) → AreApart (ys ++ zs) → AreApart ys
@@ -102,7 +112,7 @@ apart_of (x ∷ xs) ys zs h = apart_of xs ys zs h.1
 pub owns : (k : Kept) (xs : List OpenSession) (at s : ℕ) (e : OpenSession) → Here k xs at s e → IsOwn k e.session
 owns k xs at s e h =
     let p = parts k (take at xs) s e.session (drop (suc at) xs) h.sound in
-    record { cursors_held = p.held_here; apart = apart_of (all_ids (take at xs)) (ids_of (e.session).cursors) (all_ids (drop (suc at) xs)) p.apart }
+    record { counted = has_count k (take at xs) s e.session (drop (suc at) xs) h.sound; cursors_held = p.held_here; apart = apart_of (all_ids (take at xs)) (ids_of (e.session).cursors) (all_ids (drop (suc at) xs)) p.apart }
 
 -- the core with one session changed
 pub still_core : (k new : Kept) (is : List ℕ) (xs : List OpenSession) (id_room room at s : ℕ) (e : OpenSession) (d : Talk) → IsCore k is xs id_room room → Here k xs at s e
@@ -373,6 +383,7 @@ closes k new is xs id_room room at s e d stopped core h within g =
           apart = subst AreApart (sym both) (without (all_ids front) mine (all_ids back) p.apart);
           owned = subst (AreOwned new.cursors) (sym both) (owned_without k.cursors new.cursors (all_ids front) mine (all_ids back) g.gone g.others p.owned);
           ended = ended_join front back p.ended_front p.ended_back;
+          counted = count_left k new front s e.session d back (g.counted) h.sound;
         });
         room_for_ids = core.room_for_ids;
         room_for_all = core.room_for_all;
@@ -389,7 +400,8 @@ above_all hs (x ∷ xs) s h = (h 0 (open_in hs x) (omega arith), above_all hs xs
 fresh_session : (hs : List HeldCursor) (s : ℕ) (d : Talk) → IsFresh d → session_in hs s d ≡ fresh s
 fresh_session hs s d f =
     ap₂ (λ (held pending : Bytes). record (session_in hs s d) { held = held; pending = pending }) f.held f.pending
-    ∙ ap₂ (λ (c : Option EndCause) (ns : _). record { id = s; held = []; pending = []; cause = c; cursors = map (cursor_in hs) ns; watches = [] }) f.cause f.cursors
+    ∙ ap₂ (λ (c : Option EndCause) (ns : _). record { id = s; held = []; pending = []; cause = c; cursors = map (cursor_in hs) ns; watches = d.watches }) f.cause f.cursors
+    ∙ ap (λ (ws : List Bytes). record { id = s; held = []; pending = []; cause = None; cursors = []; watches = ws }) f.watches
 
 pub opens : (k : Kept) (is : List ℕ) (xs : List OpenSession) (id_room room s : ℕ) (d : Talk) (st : State) (stopped : Bool) → IsCore k is xs id_room room → state_in k stopped xs ≡ st → length is < SESSIONS → IsFresh d → All (λ (x : Session). x.id < s) st.sessions
     → (Makes st (opened s) (state_in k stopped (xs ++ record { id = s; session = d } ∷ [])) × IsOpen (state_in k stopped (xs ++ record { id = s; session = d } ∷ [])) s)
@@ -409,6 +421,7 @@ opens k is xs id_room room s d st stopped core v less f above =
       apart = subst AreApart (sym ids) core.sound.apart;
       owned = subst (AreOwned k.cursors) (sym ids) core.sound.owned;
       ended = ended_join xs (record { id = s; session = d } ∷ []) core.sound.ended (subst (λ (c : Option EndCause). NoneOnceEnded c d.cursors) (sym f.cause) tt, tt);
+      counted = count_more k.registered xs s d f.watches f.cause core.sound.counted;
     } in (
       (
         subst (λ (z : State). Makes z (opened s) (state_in k stopped grown)) v

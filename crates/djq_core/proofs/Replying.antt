@@ -1,8 +1,9 @@
 -- Commands that leave the session's cursors as they are.
-use Rattle.std.proofs.Common.{ℕ, ◌+◌, ◌≤◌, ◌≡◌, ◌++◌, Bool, true, false, List, [], ◌∷◌, map, Option, None, Some, Result, codes, refl, sym, ap, ◌∙◌, subst, arith, ◌||◌, ◌⊎◌, inl, inr, ap₂, option_map}
-use Rattle.std.specs.Prelude.{⊤, ◌==◌, if◌then◌else◌, find, IsSome, IsSomeAnd}
-use Rattle.djq_model.specs.Data.{Bytes, Tuple, query_of, bytes_eq}
+use Rattle.std.proofs.Common.{ℕ, zero, suc, ◌+◌, ◌<◌, ◌≤◌, ◌≡◌, ◌++◌, Bool, true, false, List, [], ◌∷◌, map, Option, None, Some, Result, Ok, Err, codes, refl, sym, ap, ◌∙◌, subst, arith, ◌||◌, ◌⊎◌, inl, inr, ap₂, option_map}
+use Rattle.std.specs.Prelude.{⊤, ◌==◌, if◌then◌else◌, find, IsSome, IsSomeAnd, IfSome, is_none, nat_lt}
+use Rattle.djq_model.specs.Data.{Bytes, Tuple, query_of, bytes_eq, drop_first}
 use Rattle.std.specs.List.{list_any}
+use Rattle.std.proofs.lemmas.Bool.{ltb-true, lt-ltb}
 use Rattle.djq_model.specs.Equality.{bytes_eq-decides}
 use Rattle.djq_model.specs.declared.query.Query.{Query}
 use Rattle.djq_session.specs.declared.named.NamedCursor.{NamedCursor}
@@ -15,20 +16,22 @@ use Rattle.djq_lines.specs.declared.answer.DeleteOutcome.{DeleteOutcome}
 use Rattle.djq_lines.specs.declared.rest.QueryOutcome.{QueryOutcome}
 use Rattle.djq_lines.specs.declared.command.Command.TheVariants.{Rel, Add, Del, Query as Register, Has, Drop}
 use Rattle.djq_lines.specs.Reply.{ok_reply, add_reply, delete_reply, query_reply, has_reply}
-use Rattle.djq_machine.specs.State.{Session, State, Cursor, session_of}
+use Rattle.djq_lines.specs.declared.answer.Refusal.TheVariants.{NoQuery, InUse}
+use Rattle.djq_machine.specs.Conditions.{first_of, Answers, OutOfMemoryWhere}
+use Rattle.djq_machine.specs.State.{Store, Session, State, Cursor, session_of}
 use Rattle.djq_machine.specs.Store.{MakesRelation, AddsRow, DeletesRow, RegistersQuery, TellsWhether, has_steps, DropsQuery}
 use Rattle.djq_machine.specs.Stale.{by_relation, outdated_sessions, add_outdates, add_accepted, delete_outdates, changed}
 use Rattle.djq_machine.specs.Watch.{affected}
 use Rattle.djq_machine.specs.Effect.{Effect}
 use Rattle.djq_session.specs.Dialog.{Replies}
-use Rattle.djq_engine.specs.Kept.{Kept, Held, held_at, SameCursors, Outdates, outdated_held, same_id, Uses, DropGives}
+use Rattle.djq_engine.specs.Kept.{Kept, Held, held_at, SameCursors, Outdates, outdated_held, same_id, Uses, DropGives, Registered, registered_of, is_watched}
 use Rattle.djq_core.specs.declared.open.OpenSession.{OpenSession}
 use Rattle.djq_core.specs.Views.{Talk, session_in, open_in, state_in, query_in, cursor_in}
-use Rattle.djq_core.specs.Sound.{ids_of, all_ids, AreHeld, IsSound, is_among}
+use Rattle.djq_core.specs.Sound.{ids_of, all_ids, AreHeld, AreCounted, StaysCounted, IsSound, is_among, watchers_in, times_in, is_among_watches}
 use Rattle.djq_core.specs.Performs.{among, to_one, unqueued, Performs, Executes}
 use Rattle.djq_core.proofs.Ids.{agree_same, agree_held, agree_open, outdated_find, outdated_all_held, outdated_open, owned_still, among_either, held_split, same_id_same, or_true}
 use Rattle.djq_core.proofs.Around.{Around, parts, whole, open_are, found}
-use Rattle.djq_core.proofs.Changing.{none_affected, change_replies}
+use Rattle.djq_core.proofs.Watching.{recount, stays_same, counted_same, none_watching, unwatched, found_there, same_name, stays_dropped}
 
 -- a reply changes nothing of a session that the machine sees but its bytes
 pub quiet : (hs : List Held) (s : ℕ) (before after : Talk) (text : Bytes) → Replies before after text → session_in hs s (unqueued before after) ≡ session_in hs s before
@@ -73,10 +76,11 @@ around_bytes hs front s d held pending room back p = record {
 
 -- a reply leaves all sound
 pub sound_replied : (k : Kept) (front : List OpenSession) (s : ℕ) (before after : Talk) (text : Bytes) (back : List OpenSession) → Replies before after text
-    → Around k.cursors front s before back → IsSound k (among front s after back)
-sound_replied k front s before after text back r p =
+    → Around k.cursors front s before back → AreCounted k.registered (among front s before back) → IsSound k (among front s after back)
+sound_replied k front s before after text back r p counted =
     subst (λ (d : Talk). IsSound k (among front s d back)) (sym r)
-    (whole k front s (record before { pending = before.pending ++ text; room = after.room }) back (around_bytes k.cursors front s before before.held (before.pending ++ text) after.room back p))
+    (whole k front s (record before { pending = before.pending ++ text; room = after.room }) back (around_bytes k.cursors front s before before.held (before.pending ++ text) after.room back p)
+    (counted_same k.registered front s before (record before { pending = before.pending ++ text; room = after.room }) back refl (λ q. q) counted))
 
 -- what is known around a session holds where all cursors are as before
 pub around_same : (old new : List Held) (front : List OpenSession) (s : ℕ) (d : Talk) (back : List OpenSession) → SameCursors old new → Around old front s d back → Around new front s d back
@@ -86,11 +90,11 @@ around_same old new front s d back same p =
 
 -- Something is done and answered, and the cursors stay as they are.
 pub replied_among : (M : State → ℕ → Session → Effect → State → Type 0) (old new : Kept) (before after : Talk) (text : Bytes) (cost was now : ℕ)
-    → Replies before after text → SameCursors old.cursors new.cursors → now ≤ was + cost
+    → Replies before after text → SameCursors old.cursors new.cursors → StaysCounted old.registered before.watches new.registered before.watches → now ≤ was + cost
     → ((front back : List OpenSession) (s : ℕ) (stopped : Bool) → IsSound old (among front s before back)
     → (let st = state_in old stopped (among front s before back) in M st s (session_in old.cursors s before) (to_one s (Some text) cost) (record st { store = new.store })))
     → Performs M false old before new after was now
-replied_among M old new before after text cost was now r same counted does = record {
+replied_among M old new before after text cost was now r same stays counted does = record {
   text = Some text;
   cost = cost;
   pending = ap (λ (d : Talk). d.pending) r;
@@ -102,33 +106,34 @@ replied_among M old new before after text cost was now r same counted does = rec
       subst (λ (ys : List Session). M (state_in old stopped xs) s (session_in old.cursors s before) (to_one s (Some text) cost) (record { store = new.store; stopped = stopped; sessions = ys }))
       (sym eq) (does front back s stopped sound);
   sound = λ front back s sound.
-      sound_replied new front s before after text back r (around_same old.cursors new.cursors front s before back same (parts old front s before back sound));
+      sound_replied new front s before after text back r (around_same old.cursors new.cursors front s before back same (parts old front s before back sound))
+      (recount old new.registered front s before before back stays (λ q. q) sound);
   counted = counted;
 }
 
 pub replied_costing : (M : State → ℕ → Session → Effect → State → Type 0) (old new : Kept) (before after : Talk) (text : Bytes) (cost was now : ℕ)
-    → Replies before after text → SameCursors old.cursors new.cursors → now ≤ was + cost
+    → Replies before after text → SameCursors old.cursors new.cursors → StaysCounted old.registered before.watches new.registered before.watches → now ≤ was + cost
     → ((st : State) (s : ℕ) (x : Session) → st.store ≡ old.store → x ≡ session_in old.cursors s before → M st s x (to_one s (Some text) cost) (record st { store = new.store }))
     → Performs M false old before new after was now
-replied_costing M old new before after text cost was now r same counted does =
-    replied_among M old new before after text cost was now r same counted
+replied_costing M old new before after text cost was now r same stays counted does =
+    replied_among M old new before after text cost was now r same stays counted
     (λ front back s stopped sound. does (state_in old stopped (among front s before back)) s (session_in old.cursors s before) refl refl)
 
 pub replied : (M : State → ℕ → Session → Effect → State → Type 0) (old new : Kept) (before after : Talk) (text : Bytes)
-    → Replies before after text → SameCursors old.cursors new.cursors
+    → Replies before after text → SameCursors old.cursors new.cursors → StaysCounted old.registered before.watches new.registered before.watches
     → ((st : State) (s : ℕ) (x : Session) → st.store ≡ old.store → x ≡ session_in old.cursors s before → M st s x (to_one s (Some text) 0) (record st { store = new.store }))
     → Performs M false old before new after 0 0
-replied M old new before after text r same does = replied_costing M old new before after text 0 0 0 r same (omega arith) does
+replied M old new before after text r same stays does = replied_costing M old new before after text 0 0 0 r same stays (omega arith) does
 
 pub refused : (M : State → ℕ → Session → Effect → State → Type 0) (k : Kept) (before after : Talk) (text : Bytes)
     → Replies before after text → ((st : State) (s : ℕ) (x : Session) → st.store ≡ k.store → x ≡ session_in k.cursors s before → M st s x (to_one s (Some text) 0) st) → Performs M false k before k after 0 0
-refused M k before after text r does = replied M k k before after text r (λ id. refl) (λ st s x e f. subst (λ (st' : State). M st s x (to_one s (Some text) 0) st') (ap (λ store. record st { store = store }) e) (does st s x e f))
+refused M k before after text r does = replied M k k before after text r (λ id. refl) (stays_same k.registered k.registered before.watches before.watches refl refl) (λ st s x e f. subst (λ (st' : State). M st s x (to_one s (Some text) 0) st') (ap (λ store. record st { store = store }) e) (does st s x e f))
 
 pub does_rel : (old new : Kept) (before after : Talk) (name : Bytes) (types : List ColumnType) (result : Result ⊤ Refusal)
-    → MakesRelation old.store name types result new.store → SameCursors old.cursors new.cursors → Replies before after (ok_reply (codes "ok") result)
+    → MakesRelation old.store name types result new.store → SameCursors old.cursors new.cursors → new.registered ≡ old.registered → Replies before after (ok_reply (codes "ok") result)
     → Executes (Rel name types) false old before new after 0 0
-does_rel old new before after name types result makes same r =
-    replied _ old new before after (ok_reply (codes "ok") result) r same (λ st s x e f. record {
+does_rel old new before after name types result makes same still r =
+    replied _ old new before after (ok_reply (codes "ok") result) r same (stays_same old.registered new.registered before.watches before.watches still refl) (λ st s x e f. record {
       result = result;
       store = new.store;
       done = subst (λ store. MakesRelation store name types result new.store) (sym e) makes;
@@ -137,10 +142,10 @@ does_rel old new before after name types result makes same r =
     })
 
 pub does_query : (old new : Kept) (before after : Talk) (q : Query) (result : Result QueryOutcome Refusal) (was now : ℕ)
-    → now ≡ was → RegistersQuery old.store q result new.store → SameCursors old.cursors new.cursors → Replies before after (query_reply result)
+    → now ≡ was → RegistersQuery old.store q result new.store → SameCursors old.cursors new.cursors → StaysCounted old.registered before.watches new.registered before.watches → Replies before after (query_reply result)
     → Executes (Register q) false old before new after was now
-does_query old new before after q result was now counted registers same r =
-    replied_costing _ old new before after (query_reply result) 0 was now r same (omega (arith, counted)) (λ st s x e f. inl (record {
+does_query old new before after q result was now counted registers same stays r =
+    replied_costing _ old new before after (query_reply result) 0 was now r same stays (omega (arith, counted)) (λ st s x e f. inl (record {
       result = result;
       store = new.store;
       done = subst (λ store. RegistersQuery store q result new.store) (sym e) registers;
@@ -169,61 +174,17 @@ moves_open old new name true xs out =
     outdated_open (old.store).queries name (new.store).seq old.cursors new.cursors xs (λ c. out c ∙ outdated_find (old.store).queries name (new.store).seq old.cursors c)
 moves_open old new name false xs out = agree_open old.cursors new.cursors xs (agree_same old.cursors new.cursors (all_ids xs) out)
 
--- A change of a relation, or none, is done and answered.
-pub changes : (M : State → ℕ → Session → Effect → State → Type 0) (old new : Kept) (before after : Talk) (text name : Bytes) (b : Bool) (was now : ℕ)
-    → now ≡ was → before.cause ≡ None → Replies before after text → Outdates old name b new
-    → ((st : State) (s : ℕ) (x : Session) → st.store ≡ old.store → affected st name ≡ [] → IsSomeAnd (session_of (changed st name b new.store) s) (λ y. y.cause ≡ None)
-    → M st s x (to_one s (Some text) 0) (changed st name b new.store))
-    → Performs M false old before new after was now
-changes M old new before after text name b was now counted running r out does = record {
-  text = Some text;
-  cost = 0;
-  pending = ap (λ (d : Talk). d.pending) r;
-  does = λ front back s stopped sound.
-      let xs = among front s before back in
-      let eq : map (open_in new.cursors) (among front s (unqueued before after) back) ≡ _
-      = open_quiet new.cursors front s before (unqueued before after) back (quiet new.cursors s before after text r)
-      ∙ moves_open old new name b xs out in
-      subst (λ (ys : List Session). M (state_in old stopped xs) s (session_in old.cursors s before) (to_one s (Some text) 0) (record { store = new.store; stopped = stopped; sessions = ys }))
-      (sym eq) (does (state_in old stopped xs) s (session_in old.cursors s before) refl (none_affected old stopped xs name)
-      (subst (λ (ys : List Session). IsSomeAnd (find (λ (y : Session). y.id == s) ys) (λ y. y.cause ≡ None)) (moves_open old new name b xs out)
-      (subst (λ (o : Option Session). IsSomeAnd o (λ y. y.cause ≡ None)) (sym (found new stopped front s before back (moved front back s (parts old front s before back sound)))) running)));
-  sound = λ front back s sound.
-      sound_replied new front s before after text back r (moved front back s (parts old front s before back sound));
-  counted = omega (arith, counted);
-}
-  where
-    moved : (front back : List OpenSession) (s : ℕ) → Around old.cursors front s before back → Around new.cursors front s before back
-    moved front back s p =
-        around_held old.cursors new.cursors front s before back (λ h. moves_held old new name b (all_ids front) out h) (λ h. moves_held old new name b (ids_of before.cursors) out h) (λ h. moves_held old new name b (all_ids back) out h) (λ c i. moves_still old new name b c out i) p
-
-pub does_add : (old new : Kept) (before after : Talk) (name : Bytes) (row : Tuple) (result : Result AddOutcome Refusal) (was now : ℕ)
-    → now ≡ was → AddsRow old.store name row result new.store → Outdates old name (add_outdates result) new → Replies before after (add_reply result (new.store).seq)
-    → before.cause ≡ None → Executes (Add name row) false old before new after was now
-does_add old new before after name row result was now counted adds out r running =
-    changes _ old new before after (add_reply result (new.store).seq) name (add_outdates result) was now counted running r out (λ st s x e none on. record {
-      result = result;
-      store = new.store;
-      done = subst (λ store. AddsRow store name row result new.store) (sym e) adds;
-      change = change_replies st s name _ (add_outdates result) (add_accepted result) new.store (add_reply result (new.store).seq) none on;
-    })
-
-pub does_delete : (old new : Kept) (before after : Talk) (name : Bytes) (row : Tuple) (result : Result DeleteOutcome Refusal) (was now : ℕ)
-    → now ≡ was → DeletesRow old.store name row result new.store → Outdates old name (delete_outdates result) new → Replies before after (delete_reply result (new.store).seq)
-    → before.cause ≡ None → Executes (Del name row) false old before new after was now
-does_delete old new before after name row result was now counted deletes out r running =
-    changes _ old new before after (delete_reply result (new.store).seq) name (delete_outdates result) was now counted running r out (λ st s x e none on. record {
-      result = result;
-      store = new.store;
-      done = subst (λ store. DeletesRow store name row result new.store) (sym e) deletes;
-      change = change_replies st s name _ (delete_outdates result) (delete_outdates result) new.store (delete_reply result (new.store).seq) none on;
-    })
+-- what is known around a session holds once a change outdated cursors
+pub around_outdated : (old new : Kept) (name : Bytes) (b : Bool) (front : List OpenSession) (s : ℕ) (d : Talk) (back : List OpenSession) → Outdates old name b new
+    → Around old.cursors front s d back → Around new.cursors front s d back
+around_outdated old new name b front s d back out p =
+    around_held old.cursors new.cursors front s d back (λ h. moves_held old new name b (all_ids front) out h) (λ h. moves_held old new name b (ids_of d.cursors) out h) (λ h. moves_held old new name b (all_ids back) out h) (λ c i. moves_still old new name b c out i) p
 
 pub does_has : (k : Kept) (before after : Talk) (q : Bytes) (t : Tuple) (result : Result Bool Refusal) (was now : ℕ)
     → TellsWhether k.store q t result → now ≤ was + has_steps (query_of k.store.queries q) → Replies before after (has_reply result)
     → Executes (Has q t) false k before k after was now
 does_has k before after q t result was now tells counted r =
-    replied_costing _ k k before after (has_reply result) (has_steps (query_of k.store.queries q)) was now r (λ id. refl) counted (λ st s x e f. record {
+    replied_costing _ k k before after (has_reply result) (has_steps (query_of k.store.queries q)) was now r (λ id. refl) (stays_same k.registered k.registered before.watches before.watches refl refl) counted (λ st s x e f. record {
       result = result;
       tells = subst (λ store. TellsWhether store q t result) (sym e) tells;
       effect = ap (λ store. to_one s (Some (has_reply result)) (has_steps (query_of store.queries q))) (sym e);
@@ -248,12 +209,13 @@ names_unused hs q (n ∷ names) held none =
     ap₂ (λ b d. b || d) (ap (λ (o : Option Held). bytes_eq (query_in o) q) held.0.1 ∙ other_query held.0.0 q (none n.cursor held.0.0 held.0.1))
     (names_unused hs q names held.1 none)
 
-sessions_unused : (hs : List Held) (q : Bytes) (xs : List OpenSession) → AreHeld hs (all_ids xs) → ((id : CursorId) (h : Held) → held_at hs id ≡ Some h → h.query ≡ q → ⊥)
+sessions_unused : (hs : List Held) (q : Bytes) (xs : List OpenSession) → AreHeld hs (all_ids xs) → ((id : CursorId) (h : Held) → held_at hs id ≡ Some h → h.query ≡ q → ⊥) → watchers_in xs q ≡ 0
     → list_any (uses q) (map (open_in hs) xs) ≡ false
-sessions_unused hs q [] held none = refl
-sessions_unused hs q (x ∷ xs) held none =
+sessions_unused hs q [] held none watched = refl
+sessions_unused hs q (x ∷ xs) held none watched =
     let two = held_split hs (ids_of (x.session).cursors) (all_ids xs) held in
-    ap₂ (λ b d. (b || false) || d) (names_unused hs q (x.session).cursors two.0 none) (sessions_unused hs q xs two.1 none)
+    let z = none_watching x xs q watched in
+    ap₂ (λ b d. b || d) (ap₂ (λ b d. b || d) (names_unused hs q (x.session).cursors two.0 none) (unwatched (x.session).watches q z.0)) (sessions_unused hs q xs two.1 none z.1)
 
 names_used : (hs : List Held) (q : Bytes) (id : CursorId) (h : Held) (names : List (NamedCursor CursorId)) → held_at hs id ≡ Some h → h.query ≡ q → is_among id (ids_of names) ≡ true
     → list_any (λ (c : Cursor). bytes_eq c.query q) (map (cursor_in hs) names) ≡ true
@@ -277,17 +239,84 @@ sessions_used hs q id h (x ∷ xs) found same there = step (among_either id (ids
   where
     step : (is_among id (ids_of (x.session).cursors) ≡ true) ⊎ (is_among id (all_ids xs) ≡ true) → (is_among id (all_ids xs) ≡ true → list_any (uses q) (map (open_in hs) xs) ≡ true)
         → list_any (uses q) (map (open_in hs) (x ∷ xs)) ≡ true
-    step (inl e) more = ap (λ b. (b || false) || list_any (uses q) (map (open_in hs) xs)) (names_used hs q id h (x.session).cursors found same e)
+    step (inl e) more = ap (λ b. (b || is_among_watches (x.session).watches q) || list_any (uses q) (map (open_in hs) xs)) (names_used hs q id h (x.session).cursors found same e)
     step (inr e) more = ap (λ d. uses q (open_in hs x) || d) (more e) ∙ or_true (uses q (open_in hs x))
 
+-- a session that watches it uses it
+sessions_watch : (hs : List Held) (q : Bytes) (xs : List OpenSession) → 0 < watchers_in xs q → list_any (uses q) (map (open_in hs) xs) ≡ true
+sessions_watch hs q [] some = absurd (omega (arith, some))
+sessions_watch hs q (x ∷ xs) some = step (is_among_watches (x.session).watches q) refl (times_in (x.session).watches q) refl some (λ k. sessions_watch hs q xs k)
+  where
+    step : (b : Bool) → is_among_watches (x.session).watches q ≡ b → (n : ℕ) → times_in (x.session).watches q ≡ n → 0 < n + watchers_in xs q
+        → (0 < watchers_in xs q → list_any (uses q) (map (open_in hs) xs) ≡ true) → list_any (uses q) (map (open_in hs) (x ∷ xs)) ≡ true
+    step true e n f some more =
+        ap (λ b. (list_any (λ (c : Cursor). bytes_eq c.query q) (map (cursor_in hs) (x.session).cursors) || b) || list_any (uses q) (map (open_in hs) xs)) e
+        ∙ ap (λ b. b || list_any (uses q) (map (open_in hs) xs)) (or_true (list_any (λ (c : Cursor). bytes_eq c.query q) (map (cursor_in hs) (x.session).cursors)))
+    step false e n f some more =
+        let none : n ≡ 0 = sym f ∙ ap (λ (b : Bool). if b then 1 else 0) e in
+        ap (λ d. uses q (open_in hs x) || d) (more (omega (arith, some, none))) ∙ or_true (uses q (open_in hs x))
+
+-- how many sessions watch a query, as the engine tells it
+
+watched_by : (rs : List Registered) (xs : List OpenSession) (q : Bytes) → AreCounted rs xs → (r : Registered) → registered_of rs q ≡ Some r → r.watchers ≡ watchers_in xs q
+watched_by rs xs q counted r f =
+    let there = found_there rs q r f in
+    counted.counted r there.0 ∙ ap (watchers_in xs) (same_name r.query.name q there.1)
+
+is_watched_some : (r : Registered) → is_watched r ≡ true → 0 < r.watchers
+is_watched_some r h = ltb-true 0 r.watchers h
+
+is_watched_none : (r : Registered) → is_watched r ≡ false → r.watchers ≡ 0
+is_watched_none r h = step r.watchers refl h
+  where
+    step : (n : ℕ) → r.watchers ≡ n → nat_lt 0 r.watchers ≡ false → r.watchers ≡ 0
+    step zero e h = e
+    step (suc n) e h = let some : nat_lt 0 r.watchers ≡ true = lt-ltb 0 r.watchers (omega (arith, e)) in absurd (cc (some, h))
+
+sees_watched : (rs : List Registered) (xs : List OpenSession) (q : Bytes) → AreCounted rs xs → IsSomeAnd (registered_of rs q) (λ r. is_watched r ≡ true) → 0 < watchers_in xs q
+sees_watched rs xs q counted h = by (registered_of rs q) refl h
+  where
+    by : (o : Option Registered) → registered_of rs q ≡ o → IsSomeAnd o (λ r. is_watched r ≡ true) → 0 < watchers_in xs q
+    by None f g = absurd g
+    by (Some r) f g = subst (λ (n : ℕ). 0 < n) (watched_by rs xs q counted r f) (is_watched_some r g)
+
+sees_unwatched : (rs : List Registered) (xs : List OpenSession) (q : Bytes) → AreCounted rs xs → IfSome (registered_of rs q) (λ r. is_watched r ≡ false) → watchers_in xs q ≡ 0
+sees_unwatched rs xs q counted h = by (registered_of rs q) refl h (watchers_in xs q) refl
+  where
+    by : (o : Option Registered) → registered_of rs q ≡ o → IfSome o (λ r. is_watched r ≡ false) → (n : ℕ) → watchers_in xs q ≡ n → n ≡ 0
+    by (Some r) f g n e = sym e ∙ sym (watched_by rs xs q counted r f) ∙ is_watched_none r g
+    by None f g zero e = refl
+    by None f g (suc n) e = let some : IsSome (registered_of rs q) = counted.known q (omega (arith, e)) in absurd (cc (some, f))
+
 use_is : (k : Kept) (q : Bytes) (used : Bool) (xs : List OpenSession) → IsSound k xs → Uses k q used → used ≡ list_any (uses q) (map (open_in k.cursors) xs)
-use_is k q true xs sound u = sym (sessions_used k.cursors q u.0 u.1 xs u.2 u.3 (sound.owned u.0 (subst (λ (o : Option Held). IsSome o) (sym u.2) refl)))
-use_is k q false xs sound u = sym (sessions_unused k.cursors q xs sound.cursors_held u)
+use_is k q true xs sound (inl u) = sym (sessions_used k.cursors q u.0 u.1 xs u.2 u.3 (sound.owned u.0 (subst (λ (o : Option Held). IsSome o) (sym u.2) refl)))
+use_is k q true xs sound (inr w) = sym (sessions_watch k.cursors q xs (sees_watched k.registered xs q sound.counted w))
+use_is k q false xs sound u = sym (sessions_unused k.cursors q xs sound.cursors_held u.0 (sees_unwatched k.registered xs q sound.counted u.1))
+
+-- what is dropped was in no use
+dropped_unused : (st st' : Store) (used : Bool) (q : Bytes) (d : ⊤) → DropsQuery st used q (Ok d) st' → used ≡ false
+dropped_unused st st' used q d drops =
+    step used (is_none (query_of st.queries q)) (λ x. st' ≡ record st { queries = drop_first (λ (p : Query). bytes_eq p.name q) st.queries }) (OutOfMemoryWhere ⊥) drops.answer
+  where
+    step : (u b : Bool) (Done : ⊤ → Type 0) (Late : Refusal → Type 0) → Answers (first_of ((b, NoQuery) ∷ (u, InUse) ∷ [])) (Ok d) Done Late → u ≡ false
+    step false b D L h = refl
+    step true true D L h = absurd h
+    step true false D L h = absurd h
+
+unwatched_there : (k : Kept) (q : Bytes) (used : Bool) → Uses k q used → used ≡ false → (r : Registered) → registered_of k.registered q ≡ Some r → r.watchers ≡ 0
+unwatched_there k q true u e r f = absurd (cc (e))
+unwatched_there k q false u e r f = is_watched_none r (subst (λ (o : Option Registered). IfSome o (λ x. is_watched x ≡ false)) f u.1)
+
+drop_stays : (old new : Kept) (before : Talk) (q : Bytes) (result : Result ⊤ Refusal) → DropGives old q result new → StaysCounted old.registered before.watches new.registered before.watches
+drop_stays old new before q (Ok d) g =
+    subst (λ (rs : List Registered). StaysCounted old.registered before.watches rs before.watches) (sym g.registered)
+    (stays_dropped old.registered q before.watches (unwatched_there old q g.used g.is_used (dropped_unused old.store new.store g.used q d g.store)))
+drop_stays old new before q (Err e) g = stays_same old.registered new.registered before.watches before.watches g.registered refl
 
 pub does_drop : (old new : Kept) (before after : Talk) (q : Bytes) (result : Result ⊤ Refusal)
     → DropGives old q result new → Replies before after (ok_reply (codes "ok") result) → Executes (Drop q) false old before new after 0 0
 does_drop old new before after q result d r =
-    replied_among _ old new before after (ok_reply (codes "ok") result) 0 0 0 r d.cursors (omega arith) (λ front back s stopped sound. record {
+    replied_among _ old new before after (ok_reply (codes "ok") result) 0 0 0 r d.cursors (drop_stays old new before q result d) (omega arith) (λ front back s stopped sound. record {
       result = result;
       store = new.store;
       done = subst (λ (used : Bool). DropsQuery old.store used q result new.store) (use_is old q d.used (among front s before back) sound d.is_used) d.store;

@@ -8,15 +8,15 @@ use Rattle.djq_model.specs.declared.query.Atom.{Atom}
 use Rattle.djq_model.specs.Data.{Bytes}
 use Rattle.djq_value.specs.Token.{Token, word, text, open_paren, close_paren, comma, arrow, stray, tokens}
 use Rattle.djq_value.specs.Literal.{is_name, natural_of, literal_of}
-use Rattle.djq_lines.specs.declared.answer.Refusal.TheVariants.{WrongType, Syntax, Later}
+use Rattle.djq_lines.specs.declared.answer.Refusal.TheVariants.{WrongType, Syntax}
 use Rattle.djq_lines.specs.declared.command.Command.{Command}
 use Rattle.djq_lines.specs.declared.command.Command.TheVariants.{Rel, Add, Del, Query as Register, Drop, Open, Next, Close, Has, Watch, Unwatch, Explain, Quit, Stop}
 use Rattle.djq_lines.specs.declared.keyword.Keyword.{Keyword}
 use Rattle.djq_lines.specs.declared.keyword.Keyword.TheVariants.{Rel as RelWord, Add as AddWord, Del as DelWord, Query as QueryWord, Drop as DropWord, Open as OpenWord, Next as NextWord, Close as CloseWord, Has as HasWord, Watch as WatchWord, Unwatch as UnwatchWord, Explain as ExplainWord, Quit as QuitWord, Stop as StopWord}
 use Rattle.djq_lines.specs.Reply.{refusal_line}
-use Rattle.djq_lines.specs.Grammar.{Reading, refused, says, reading_in, reading_of, command_of, command_in, command_with, command_behind, is_served, is_in_range, takes_memory_to_read, is_count, count_of, keyword_of, nothing, type_of, named_some, named_any, query_in, query_of, body_in, atoms_in, atoms_within, atom_in, behind_atom, in_front, list_in, name_of, one_name, two_names, name_and_count}
+use Rattle.djq_lines.specs.Grammar.{Reading, refused, says, reading_in, reading_of, command_of, command_in, command_with, command_behind, is_in_range, takes_memory_to_read, is_count, count_of, keyword_of, nothing, type_of, named_some, named_any, query_in, query_of, body_in, atoms_in, atoms_within, atom_in, behind_atom, in_front, list_in, name_of, one_name, two_names, name_and_count}
 use Rattle.djq_proto.specs.declared.refusal.LineRefusal.{LineRefusal}
-use Rattle.djq_proto.specs.declared.refusal.LineRefusal.TheVariants.{Syntax as Outside, Later as Unserved, Range, NoMem}
+use Rattle.djq_proto.specs.declared.refusal.LineRefusal.TheVariants.{Syntax as Outside, Range, NoMem}
 use Rattle.djq_proto.specs.Reading.{Gives, Reads}
 use Rattle.djq_machine.specs.LineStep.{ReadStep}
 use Rattle.djq_session.specs.Dialog.{Replies}
@@ -26,15 +26,14 @@ use Rattle.djq_core.specs.Performs.{Performs}
 use Rattle.djq_core.specs.Stepping.{IsRunnable, refused_as}
 use Rattle.djq_core.proofs.Taking.{reads_refused, reads_nothing}
 
--- what a command's two tests give
-read_by : (served in_range : Bool) (c : Command) (r : Reading) → served ≡ true → in_range ≡ true → cond served (cond in_range (says c) (refused WrongType)) (refused Later) ≡ says c
-read_by true true c r e f = refl
-read_by true false c r e f = absurd (cc)
-read_by false b c r e f = absurd (cc)
+-- what a command in range gives
+read_by : (in_range : Bool) (c : Command) → in_range ≡ true → cond in_range (says c) (refused WrongType) ≡ says c
+read_by true c e = refl
+read_by false c e = absurd (cc)
 
 in_says : (o : Option Command) (c : Command) → Gives o (Ok c) → reading_in o ≡ says c
 in_says None c g = absurd (cc (g.0))
-in_says (Some a) c g = read_by (is_served a) (is_in_range a) a (says a) g.0.1 g.0.2 ∙ ap (λ (x : Command). says x) (sym g.0.0)
+in_says (Some a) c g = read_by (is_in_range a) a g.0.1 ∙ ap (λ (x : Command). says x) (sym g.0.0)
 
 pub reads_as : (line : Bytes) (c : Command) → Reads line (Ok c) → reading_of line ≡ says c
 reads_as line c g = in_says (command_of line) c g
@@ -43,23 +42,18 @@ in_outside : (o : Option Command) → Gives o (Err Outside) → reading_in o ≡
 in_outside None g = refl
 in_outside (Some a) g = absurd g.0
 
-in_unserved : (o : Option Command) → Gives o (Err Unserved) → reading_in o ≡ refused Later
-in_unserved None g = absurd (cc (g.0))
-in_unserved (Some a) g = ap (λ (b : Bool). cond b (cond (is_in_range a) (says a) (refused WrongType)) (refused Later)) g.0
-
 in_range_past : (o : Option Command) → Gives o (Err Range) → reading_in o ≡ refused WrongType
 in_range_past None g = absurd (cc (g.0))
-in_range_past (Some a) g = ap₂ (λ (b d : Bool). cond b (cond d (says a) (refused WrongType)) (refused Later)) g.0.0 g.0.1
+in_range_past (Some a) g = ap (λ (b : Bool). cond b (says a) (refused WrongType)) g.0
 
 in_memory : (o : Option Command) → Gives o (Err NoMem) → (c : Command) × (reading_in o ≡ says c) × (takes_memory_to_read c ≡ true)
 in_memory None g = absurd (cc (g.0))
-in_memory (Some a) g = (a, read_by (is_served a) (is_in_range a) a (says a) g.0.0 g.0.1, g.1)
+in_memory (Some a) g = (a, read_by (is_in_range a) a g.0, g.1)
 
 -- a line that gives no command
 pub reads_err : (k : Kept) (before after : Talk) (line : Bytes) (r : LineRefusal) (was : ℕ) → Reads line (Err r) → Replies before after (refusal_line (refused_as r))
     → Performs (λ st s x e st'. ReadStep st s x (reading_of line) e st') false k before k after was was
 reads_err k before after line Outside was g reply = reads_refused k before after line Syntax was (in_outside (command_of line) g) reply
-reads_err k before after line Unserved was g reply = reads_refused k before after line Later was (in_unserved (command_of line) g) reply
 reads_err k before after line Range was g reply = reads_refused k before after line WrongType was (in_range_past (command_of line) g) reply
 reads_err k before after line NoMem was g reply = let m = in_memory (command_of line) g in reads_nothing k before after line m.0 was m.1 m.2 reply
 
@@ -252,25 +246,25 @@ registered_of line q e = step (is_utf8 line) e
     step true f = in_tokens (tokens line) f
     step false f = absurd (cc)
 
-run_as : (line : Bytes) (c : Command) → command_of line ≡ Some c → is_served c ≡ true → IsRunnable c
-run_as line (Rel n cs) e s = tt
-run_as line (Add n row) e s = tt
-run_as line (Del n row) e s = tt
-run_as line (Register q) e s = registered_of line q e
-run_as line (Drop q) e s = tt
-run_as line (Open c q) e s = tt
-run_as line (Next c n) e s = counted_of line c n e
-run_as line (Close c) e s = tt
-run_as line (Has q row) e s = tt
-run_as line (Watch q) e s = absurd (cc)
-run_as line (Unwatch q) e s = absurd (cc)
-run_as line (Explain q) e s = tt
-run_as line Quit e s = tt
-run_as line Stop e s = tt
+run_as : (line : Bytes) (c : Command) → command_of line ≡ Some c → IsRunnable c
+run_as line (Rel n cs) e = tt
+run_as line (Add n row) e = tt
+run_as line (Del n row) e = tt
+run_as line (Register q) e = registered_of line q e
+run_as line (Drop q) e = tt
+run_as line (Open c q) e = tt
+run_as line (Next c n) e = counted_of line c n e
+run_as line (Close c) e = tt
+run_as line (Has q row) e = tt
+run_as line (Watch q) e = tt
+run_as line (Unwatch q) e = tt
+run_as line (Explain q) e = tt
+run_as line Quit e = tt
+run_as line Stop e = tt
 
 runnable_in : (line : Bytes) (o : Option Command) (c : Command) → command_of line ≡ o → Gives o (Ok c) → IsRunnable c
 runnable_in line None c e g = absurd (cc (g.0))
-runnable_in line (Some a) c e g = run_as line c (e ∙ ap (λ (x : Command). Some x) (sym g.0.0)) (subst (λ (x : Command). is_served x ≡ true) (sym g.0.0) g.0.1)
+runnable_in line (Some a) c e g = run_as line c (e ∙ ap (λ (x : Command). Some x) (sym g.0.0))
 
 pub runnable : (line : Bytes) (c : Command) → Reads line (Ok c) → IsRunnable c
 runnable line c g = runnable_in line (command_of line) c refl g

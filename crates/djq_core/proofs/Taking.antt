@@ -21,12 +21,14 @@ use Rattle.djq_core.specs.Stepping.{Fronts}
 use Rattle.djq_core.proofs.Around.{parts, whole, becomes, looks}
 use Rattle.djq_core.proofs.Replying.{refused, around_bytes}
 use Rattle.djq_core.proofs.Continuing.{counting}
+use Rattle.djq_core.proofs.Watching.{recount, stays_same}
 
 -- a session with other bytes held is as sound
 pub sound_bytes : (k : Kept) (front : List OpenSession) (s : ℕ) (d : Talk) (held pending : Bytes) (room : ℕ) (back : List OpenSession) → IsSound k (among front s d back)
     → IsSound k (among front s (record d { held = held; pending = pending; room = room }) back)
 sound_bytes k front s d held pending room back sound =
     whole k front s (record d { held = held; pending = pending; room = room }) back (around_bytes k.cursors front s d held pending room back (parts k front s d back sound))
+    (recount k k.registered front s d (record d { held = held; pending = pending; room = room }) back (stays_same k.registered k.registered d.watches d.watches refl refl) (λ q. q) sound)
 
 -- What is done with more room is done.
 pub with_room : (M : State → ℕ → Session → Effect → State → Type 0) (stops : Bool) (old : Kept) (before mid : Talk) (new : Kept) (after : Talk) (was now : ℕ)

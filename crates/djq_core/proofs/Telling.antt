@@ -78,6 +78,7 @@ starts_at k id d h (open_at given ended) was e held apart room = record {
     there = held ∙ ap (λ (p : Position). Some (record h { position = p })) (e ∙ ap (λ (ts : List Tuple). open_at ts ended) (sym (append-nil given)));
     others = λ other a. refl;
     store = refl;
+    registered = refl;
     apart = subst AreDifferent (sym (append-nil given)) apart;
   };
   answers = λ q f. (λ i x l. absurd (omega arith));
@@ -148,6 +149,7 @@ moves_on old id h p r k k' e s m apart =
       there = subst (λ (x : CursorId). held_at k'.cursors x ≡ Some (record h { position = r })) same m.there;
       others = λ other a. m.others other (subst (λ (x : CursorId). same_id other x ≡ false) (sym same) a) ∙ s.others other a;
       store = m.store ∙ s.store;
+      registered = m.registered ∙ s.registered;
       apart = apart;
     }
 

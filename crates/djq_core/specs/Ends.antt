@@ -10,20 +10,38 @@ use Rattle.djq_session.specs.Dialog.{EndsWith}
 use Rattle.djq_engine.specs.declared.cursor.CursorId.{CursorId}
 use Rattle.djq_engine.specs.Kept.{Kept, held_at}
 use Rattle.djq_core.specs.Views.{Talk}
-use Rattle.djq_core.specs.Sound.{ids_of, is_among, IsApart}
+use Rattle.djq_core.specs.Sound.{ids_of, is_among, IsApart, StaysCounted, listed}
 use Rattle.djq_core.specs.Performs.{to_one}
 
 -- The cursors of a session are gone, and nothing else.
-pub record GivesUp (old : Kept) (before : Talk) (new : Kept) (after : Talk) : Type 0 where
+pub record GivesUpCursors (old : Kept) (before : Talk) (new : Kept) (after : Talk) : Type 0 where
   pub store : new.store ≡ old.store
   pub gone : (c : CursorId) → is_among c (ids_of before.cursors) ≡ true → held_at new.cursors c ≡ None
   pub others : (c : CursorId) → IsApart c (ids_of before.cursors) → held_at new.cursors c ≡ held_at old.cursors c
   pub session : after ≡ record before { cursors = [] }
+  pub registered : new.registered ≡ old.registered
+  pub affected : new.affected ≡ old.affected
+  pub told : new.told ≡ old.told
 
--- Out of memory in the midst of a reply: the cursors of a session are gone, and it is told so and ends.
+-- The watches of a session are gone, and nothing else.
+pub record GivesUpWatches (old : Kept) (before : Talk) (new : Kept) (after : Talk) : Type 0 where
+  pub rest : new ≡ record old { registered = new.registered }
+  pub session : after ≡ record before { watches = [] }
+  pub counted : StaysCounted old.registered before.watches new.registered []
+  pub listed : listed new.registered ≡ listed old.registered
+
+-- Both are gone, and nothing else.
+pub record GivesUp (old : Kept) (before : Talk) (new : Kept) (after : Talk) : Type 0 where
+  pub store : new.store ≡ old.store
+  pub gone : (c : CursorId) → is_among c (ids_of before.cursors) ≡ true → held_at new.cursors c ≡ None
+  pub others : (c : CursorId) → IsApart c (ids_of before.cursors) → held_at new.cursors c ≡ held_at old.cursors c
+  pub session : after ≡ record before { cursors = []; watches = [] }
+  pub counted : StaysCounted old.registered before.watches new.registered []
+
+-- Out of memory in the midst of a reply: the cursors and watches of a session are gone, and it is told so and ends.
 pub record CutsOff (old : Kept) (before : Talk) (new : Kept) (after : Talk) : Type 0 where
-  pub gives_up : GivesUp old before new (record before { cursors = [] })
-  pub ends : EndsWith (record before { cursors = [] }) after end_memory Memory
+  pub gives_up : GivesUp old before new (record before { cursors = []; watches = [] })
+  pub ends : EndsWith (record before { cursors = []; watches = [] }) after end_memory Memory
 
 -- that bytes are held which no line end follows
 abbrev pub cut_text : Bytes → Option Bytes

@@ -4,4 +4,7 @@ pub mod Performs
 pub mod Opens
 pub mod Ends
 pub mod Listing
+pub mod Watches
+pub mod Changing
+pub mod Telling
 pub mod Stepping

@@ -20,6 +20,7 @@ pub record StandsAt (old : Kept) (id : CursorId) (h : Held) (position : Position
   pub there : held_at new.cursors id ≡ Some (record h { position = position })
   pub others : OthersStay old.cursors id new.cursors
   pub store : new.store ≡ old.store
+  pub registered : new.registered ≡ old.registered
   pub apart : GivesApart position
 
 -- All lines of a listing are queued.

@@ -1,12 +1,13 @@
 -- What holds of the core's sessions between its calls.
-use Rattle.std.specs.Prelude.{ℕ, List, [], ◌∷◌, ◌≡◌, ◌+◌, ◌++◌, ◌<◌, ◌≤◌, Bool, true, false, Option, None, Some, IsSome, length, map, ⊤}
+use Rattle.std.specs.Prelude.{ℕ, List, [], ◌∷◌, ◌≡◌, ◌+◌, ◌++◌, ◌<◌, ◌≤◌, Bool, true, false, Option, None, Some, IsSome, Contains, if◌then◌else◌, length, map, ⊤}
 use Rattle.std.specs.List.{list_any}
+use Rattle.djq_model.specs.Data.{Bytes, bytes_eq}
 use Rattle.djq_model.specs.Answer.{AreDifferent}
 use Rattle.djq_lines.specs.declared.answer.EndCause.{EndCause}
 use Rattle.djq_lines.specs.declared.limits.TheConstants.{SESSIONS, REPLY_BYTES, LAST_LINE_BYTES}
 use Rattle.djq_session.specs.declared.named.NamedCursor.{NamedCursor}
 use Rattle.djq_engine.specs.declared.cursor.CursorId.{CursorId}
-use Rattle.djq_engine.specs.Kept.{Kept, Held, held_at, same_id}
+use Rattle.djq_engine.specs.Kept.{Kept, Held, Registered, held_at, same_id, registered_of}
 use Rattle.djq_machine.specs.State.{Position, open_at, stale}
 use Rattle.djq_core.specs.declared.open.OpenSession.{OpenSession}
 use Rattle.djq_core.specs.Views.{Talk}
@@ -65,8 +66,66 @@ abbrev pub AreEndedWithout : List OpenSession → Type 0
 AreEndedWithout [] = ⊤
 AreEndedWithout (x ∷ xs) = NoneOnceEnded (x.session).cause (x.session).cursors × AreEndedWithout xs
 
+-- whether a query is among the names that a session watches
+abbrev pub is_among_watches : List Bytes → Bytes → Bool
+is_among_watches ws q = list_any (λ w. bytes_eq w q) ws
+
+-- 1 where it is
+abbrev pub times_in : List Bytes → Bytes → ℕ
+times_in ws q = if is_among_watches ws q then 1 else 0
+
+-- how many sessions watch a query
+abbrev pub watchers_in : List OpenSession → Bytes → ℕ
+watchers_in [] q = 0
+watchers_in (x ∷ xs) q = times_in (x.session).watches q + watchers_in xs q
+
+-- no name is there twice
+abbrev pub AreOnce : List Bytes → Type 0
+AreOnce [] = ⊤
+AreOnce (w ∷ ws) = (is_among_watches ws w ≡ false) × AreOnce ws
+
+-- no session watches a query twice
+abbrev pub AllOnce : List OpenSession → Type 0
+AllOnce [] = ⊤
+AllOnce (x ∷ xs) = AreOnce (x.session).watches × AllOnce xs
+
+-- a session that has ended watches nothing
+abbrev pub QuietOnceEnded : Option EndCause → List Bytes → Type 0
+QuietOnceEnded None ws = ⊤
+QuietOnceEnded (Some c) ws = ws ≡ []
+
+abbrev pub AreQuiet : List OpenSession → Type 0
+AreQuiet [] = ⊤
+AreQuiet (x ∷ xs) = QuietOnceEnded (x.session).cause (x.session).watches × AreQuiet xs
+
+-- The engine counts the sessions that watch each query, and each query that is watched is registered.
+pub record AreCounted (rs : List Registered) (xs : List OpenSession) : Type 0 where
+  pub counted : (r : Registered) → Contains rs r → r.watchers ≡ watchers_in xs r.query.name
+  pub known : (q : Bytes) → 0 < watchers_in xs q → IsSome (registered_of rs q)
+  pub once : AllOnce xs
+  pub quiet : AreQuiet xs
+
+-- The same of a session that watches these queries, where so many others watch each.
+pub record IsCounted (others : Bytes → ℕ) (rs : List Registered) (ws : List Bytes) : Type 0 where
+  pub counted : (r : Registered) → Contains rs r → r.watchers ≡ others r.query.name + times_in ws r.query.name
+  pub known : (q : Bytes) → 0 < others q + times_in ws q → IsSome (registered_of rs q)
+  pub few : (q : Bytes) → others q < SESSIONS
+  pub once : AreOnce ws
+
+-- What a session watches is counted, with what others do.
+abbrev pub HasCount : List Registered → List Bytes → Type 0
+HasCount rs ws = (others : Bytes → ℕ) × IsCounted others rs ws
+
+-- Whatever others watch, the engine counts right afterwards where it did before.
+abbrev pub StaysCounted : List Registered → List Bytes → List Registered → List Bytes → Type 0
+StaysCounted rs ws rs' ws' = (others : Bytes → ℕ) → IsCounted others rs ws → IsCounted others rs' ws'
+
+-- the registered queries, whoever watches them
+abbrev pub listed : List Registered → List Registered
+listed rs = map (λ (r : Registered). record r { watchers = 0 }) rs
+
 -- The ids of the sessions rise, and there are at most so many; the engine holds their cursors, no two of which are the
--- same, and no others; and those that have ended have none.
+-- same, and no others; those that have ended have none; and what they watch is counted.
 pub record IsSound (k : Kept) (xs : List OpenSession) : Type 0 where
   pub rising : Rises (map (λ x. x.id) xs)
   pub few : length xs ≤ SESSIONS
@@ -74,11 +133,13 @@ pub record IsSound (k : Kept) (xs : List OpenSession) : Type 0 where
   pub apart : AreApart (all_ids xs)
   pub owned : AreOwned k.cursors (all_ids xs)
   pub ended : AreEndedWithout xs
+  pub counted : AreCounted k.registered xs
 
--- A session's own cursors are held by the engine, and no two are the same.
+-- A session's own cursors are held by the engine, and no two are the same; and what it watches is counted.
 pub record IsOwn (k : Kept) (d : Talk) : Type 0 where
   pub cursors_held : AreHeld k.cursors (ids_of d.cursors)
   pub apart : AreApart (ids_of d.cursors)
+  pub counted : HasCount k.registered d.watches
 
 -- A session's command begins: it goes on, and there is room for a reply and for its last line.
 pub record IsReady (k : Kept) (d : Talk) : Type 0 where

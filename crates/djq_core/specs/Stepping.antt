@@ -4,11 +4,11 @@ use Rattle.djq_model.specs.Data.{Bytes}
 use Rattle.djq_lines.specs.declared.answer.EndCause.{EndCause}
 use Rattle.djq_lines.specs.declared.answer.EndCause.TheVariants.{Long, Slow, Memory}
 use Rattle.djq_lines.specs.declared.command.Command.{Command}
-use Rattle.djq_lines.specs.declared.command.Command.TheVariants.{Query as Register, Next, Watch, Unwatch}
+use Rattle.djq_lines.specs.declared.command.Command.TheVariants.{Query as Register, Next}
 use Rattle.djq_lines.specs.declared.answer.Refusal.{Refusal}
-use Rattle.djq_lines.specs.declared.answer.Refusal.TheVariants.{Syntax, WrongType, NoMemory, Later}
+use Rattle.djq_lines.specs.declared.answer.Refusal.TheVariants.{Syntax, WrongType, NoMemory}
 use Rattle.djq_proto.specs.declared.refusal.LineRefusal.{LineRefusal}
-use Rattle.djq_proto.specs.declared.refusal.LineRefusal.TheVariants.{Syntax as Outside, Later as Unserved, Range, NoMem}
+use Rattle.djq_proto.specs.declared.refusal.LineRefusal.TheVariants.{Syntax as Outside, Range, NoMem}
 use Rattle.djq_machine.specs.declared.machine.Stepped.{Stepped}
 use Rattle.djq_machine.specs.declared.machine.Stepped.TheVariants.{Ran, Dry, Ended}
 use Rattle.djq_machine.specs.LineStep.{LineOutcome, long, blank, slow, no_room, run, FrontStep}
@@ -16,20 +16,21 @@ use Rattle.djq_machine.specs.Step.{is_dry}
 use Rattle.djq_machine.specs.Call.{Counts}
 use Rattle.djq_engine.specs.Kept.{Kept}
 use Rattle.djq_core.specs.Views.{Talk}
-use Rattle.djq_core.specs.Performs.{Performs}
+use Rattle.djq_core.specs.declared.change.Change.{Change}
+use Rattle.djq_core.specs.declared.change.Left.{Left}
+use Rattle.djq_core.specs.declared.change.Left.TheVariants.{Nothing, Stopping, Telling}
+use Rattle.djq_core.specs.Performs.{Performs, Executes}
+use Rattle.djq_core.specs.Changing.{IsChange, LeavesChange}
 
--- The command is served, as a line says one: its query has an atom at least, and it asks for an answer at least.
+-- As a line says a command: its query has an atom at least, and it asks for an answer at least.
 abbrev pub IsRunnable : Command → Type 0
 IsRunnable (Register q) = 0 < length q.atoms
 IsRunnable (Next c count) = 1 ≤ count
-IsRunnable (Watch q) = ⊥
-IsRunnable (Unwatch q) = ⊥
 IsRunnable _ = ⊤
 
 -- what a line that gives no command is answered
 abbrev pub refused_as : LineRefusal → Refusal
 refused_as Outside = Syntax
-refused_as Unserved = Later
 refused_as Range = WrongType
 refused_as NoMem = NoMemory
 
@@ -58,3 +59,23 @@ StepsTo Dry stops old before new after was now = (before.cause ≡ None) × (is_
 StepsTo (Ended c) stops old before new after was now = MatchOption before.cause
     (EndsBefore c stops old before new after was now)
     (λ d. (d ≡ c) × Unchanged stops old before new after was now)
+
+-- A command is done, or what is left of it is to tell a change.
+abbrev pub Obeys : Command → Left → Kept → Talk → Kept → Talk → ℕ → ℕ → Type 0
+Obeys command Nothing old before new after was now = Executes command false old before new after was now
+Obeys command Stopping old before new after was now = Executes command true old before new after was now
+Obeys command (Telling change) old before new after was now = IsChange command old change new was now × (after ≡ before)
+
+-- So it is of a line.
+abbrev pub LineLeaves : Bytes → Left → Kept → Talk → Kept → Talk → ℕ → ℕ → Type 0
+LineLeaves l Nothing old before new after was now = Fronts (run l) false old before new after was now
+LineLeaves l Stopping old before new after was now = Fronts (run l) true old before new after was now
+LineLeaves l (Telling change) old before new after was now = LeavesChange change old before new after was now
+
+-- And of a step.
+abbrev pub LeavesTo : Stepped → Left → Kept → Talk → Kept → Talk → Counts → Counts → Type 0
+LeavesTo stepped Nothing old before new after was now = StepsTo stepped false old before new after was now
+LeavesTo stepped Stopping old before new after was now = StepsTo stepped true old before new after was now
+LeavesTo Ran (Telling change) old before new after was now = LeavesChange change old before new after was.listing now.listing
+LeavesTo Dry (Telling change) old before new after was now = ⊥
+LeavesTo (Ended c) (Telling change) old before new after was now = ⊥

@@ -4,14 +4,13 @@ use Rattle.djq_model.specs.Data.{Bytes}
 use Rattle.djq_session.specs.declared.named.NamedCursor.{NamedCursor}
 use Rattle.djq_session.specs.Dialog.{Dialog}
 use Rattle.djq_engine.specs.declared.cursor.CursorId.{CursorId}
-use Rattle.djq_engine.specs.declared.cursor.QueryId.{QueryId}
 use Rattle.djq_engine.specs.Kept.{Kept, Held, held_at}
 use Rattle.djq_machine.specs.State.{Position, stale, Cursor, Session, State}
 use Rattle.djq_core.specs.declared.open.OpenSession.{OpenSession}
 
--- A session over the engine: its cursors are the engine's.
+-- A session over the engine: its cursors are the engine's, and it watches queries by name.
 abbrev pub Talk : Type 0
-Talk = Dialog CursorId QueryId
+Talk = Dialog CursorId Bytes
 
 -- the query and the position of a cursor that the engine holds; it holds each that a session has
 abbrev pub query_in : Option Held → Bytes
@@ -28,7 +27,7 @@ cursor_in hs n = record { name = n.name; query = query_in (held_at hs n.cursor);
 
 -- a session of this id
 abbrev pub session_in : List Held → ℕ → Talk → Session
-session_in hs s d = record { id = s; held = d.held; pending = d.pending; cause = d.cause; cursors = map (cursor_in hs) d.cursors; watches = [] }
+session_in hs s d = record { id = s; held = d.held; pending = d.pending; cause = d.cause; cursors = map (cursor_in hs) d.cursors; watches = d.watches }
 
 -- an open session
 abbrev pub open_in : List Held → OpenSession → Session

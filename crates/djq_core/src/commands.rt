@@ -1,15 +1,17 @@
 //! Commands on the relations, the queries and a session's cursors.
 ghost use Rattle.std.specs.Prelude.{◌≡◌, ◌<◌, false, true, length};
-ghost use Rattle.djq_lines.specs.declared.command.Command.TheVariants.{Rel, Add, Del};
+ghost use Rattle.djq_lines.specs.declared.command.Command.TheVariants.{Rel};
 ghost use Rattle.djq_lines.specs.declared.command.Command.TheVariants.{Query as Register, Drop, Open};
 ghost use Rattle.djq_lines.specs.declared.command.Command.TheVariants.{Close, Has, Quit, Stop};
 ghost use Rattle.djq_lines.specs.declared.command.Command.TheVariants.{Explain};
 ghost use Rattle.djq_core.specs.Opens.{Opens};
 ghost use Rattle.djq_core.specs.Performs.{Executes};
+ghost use Rattle.djq_core.specs.Changing.{Adds, Deletes};
 ghost use Rattle.djq_core.specs.Sound.{IsReady};
 
+use crate::change::{Change, Outcome};
 use crate::ending::{cut_off, give_up};
-use djq_engine::{CursorId, Engine, QueryId};
+use djq_engine::{CursorId, Engine};
 use djq_lines::limits::CURSORS;
 use djq_lines::{EndCause, Refusal};
 use djq_model::{Name, Query, Types, Value};
@@ -19,7 +21,7 @@ use djq_steps::{Ledgers, Listing, Steps, Tally};
 /// `rel`: a new relation.
 pub(crate) fn run_rel(
     engine: &mut Engine,
-    session: &mut Session<CursorId, QueryId>,
+    session: &mut Session<CursorId, Name>,
     name: Name,
     types: Types,
 )
@@ -30,43 +32,45 @@ pub(crate) fn run_rel(
     session.answer_done(outcome);
 }
 
-/// `add`: a row goes into a relation.
+/// `add`: a row goes into a relation. What is left is to tell it and to answer.
 pub(crate) fn run_add<L: Ledgers>(
     engine: &mut Engine,
-    session: &mut Session<CursorId, QueryId>,
     name: &Name,
     row: &[Value],
     steps: &mut Steps<L>,
-)
-    requires { IsReady engine.old session.old }
-    ensures { Executes (Add name.now row.now) false engine.old session.old engine.new session.new
-        steps.old.listing steps.new.listing }
+) -> Change
+    ensures { Adds engine.old name.now row.now result engine.new steps.old.listing
+        steps.new.listing }
 {
-    let outcome = engine.add(name, row, steps);
-    session.answer_added(outcome, engine.seq());
+    engine.laws();
+    Change {
+        relation: *name,
+        outcome: Outcome::Added(engine.add(name, row, steps)),
+    }
 }
 
-/// `del`: a row goes out of a relation.
+/// `del`: a row goes out of a relation, likewise.
 pub(crate) fn run_del<L: Ledgers>(
     engine: &mut Engine,
-    session: &mut Session<CursorId, QueryId>,
     name: &Name,
     row: &[Value],
     steps: &mut Steps<L>,
-)
-    requires { IsReady engine.old session.old }
-    ensures { Executes (Del name.now row.now) false engine.old session.old engine.new session.new
-        steps.old.listing steps.new.listing }
+) -> Change
+    ensures { Deletes engine.old name.now row.now result engine.new steps.old.listing
+        steps.new.listing }
 {
-    let outcome = engine.del(name, row, steps);
-    session.answer_deleted(outcome, engine.seq());
+    engine.laws();
+    Change {
+        relation: *name,
+        outcome: Outcome::Deleted(engine.del(name, row, steps)),
+    }
 }
 
 /// `query`: a query is registered, or a rest shows why it isn't. Out of memory in a long rest, the
 /// session ends.
 pub(crate) fn run_query<L: Ledgers>(
     engine: &mut Engine,
-    session: &mut Session<CursorId, QueryId>,
+    session: &mut Session<CursorId, Name>,
     query: Query,
     steps: &mut Steps<L>,
 )
@@ -76,6 +80,7 @@ pub(crate) fn run_query<L: Ledgers>(
         steps.old.listing steps.new.listing }
 {
     let outcome = engine.query(query, steps);
+    engine.laws();
     if session.answer_registered(&outcome).is_err() {
         cut_off(engine, session);
     }
@@ -84,7 +89,7 @@ pub(crate) fn run_query<L: Ledgers>(
 /// `open`: a cursor in front of a query's answers.
 pub(crate) fn run_open(
     engine: &mut Engine,
-    session: &mut Session<CursorId, QueryId>,
+    session: &mut Session<CursorId, Name>,
     name: &Name,
     query: &Name,
 )
@@ -99,7 +104,7 @@ pub(crate) fn run_open(
 // A new cursor of the engine under a name of the session, where nothing refuses it.
 fn open_cursor(
     engine: &mut Engine,
-    session: &mut Session<CursorId, QueryId>,
+    session: &mut Session<CursorId, Name>,
     name: &Name,
     query: &Name,
 ) -> Result<(), Refusal>
@@ -109,6 +114,7 @@ fn open_cursor(
         return Err(Refusal::Taken);
     }
     if session.cursors() >= CURSORS {
+        engine.laws();
         return Err(if engine.query_id(query).is_some() {
             Refusal::Limit
         } else {
@@ -126,7 +132,7 @@ fn open_cursor(
 }
 
 /// `close`: a cursor is given up.
-pub(crate) fn run_close(engine: &mut Engine, session: &mut Session<CursorId, QueryId>, name: &Name)
+pub(crate) fn run_close(engine: &mut Engine, session: &mut Session<CursorId, Name>, name: &Name)
     requires { IsReady engine.old session.old }
     ensures { Executes (Close name.now) false engine.old session.old engine.new session.new 0 0 }
 {
@@ -141,7 +147,7 @@ pub(crate) fn run_close(engine: &mut Engine, session: &mut Session<CursorId, Que
 }
 
 /// `drop`: a query is registered no more.
-pub(crate) fn run_drop(engine: &mut Engine, session: &mut Session<CursorId, QueryId>, query: &Name)
+pub(crate) fn run_drop(engine: &mut Engine, session: &mut Session<CursorId, Name>, query: &Name)
     requires { IsReady engine.old session.old }
     ensures { Executes (Drop query.now) false engine.old session.old engine.new session.new 0 0 }
 {
@@ -152,7 +158,7 @@ pub(crate) fn run_drop(engine: &mut Engine, session: &mut Session<CursorId, Quer
 /// `has`: whether a tuple is an answer of a query.
 pub(crate) fn run_has<L: Ledgers>(
     engine: &Engine,
-    session: &mut Session<CursorId, QueryId>,
+    session: &mut Session<CursorId, Name>,
     query: &Name,
     tuple: &[Value],
     listing: &mut Tally<Listing<L>>,
@@ -166,11 +172,7 @@ pub(crate) fn run_has<L: Ledgers>(
 }
 
 /// `explain`: the lines that explain the tree of a query. Out of memory, the session ends.
-pub(crate) fn run_explain(
-    engine: &mut Engine,
-    session: &mut Session<CursorId, QueryId>,
-    query: &Name,
-)
+pub(crate) fn run_explain(engine: &mut Engine, session: &mut Session<CursorId, Name>, query: &Name)
     requires { IsReady engine.old session.old }
     ensures { Executes (Explain query.now) false
         engine.old session.old engine.new session.new 0 0 }
@@ -189,7 +191,7 @@ pub(crate) fn run_explain(
 }
 
 /// `quit`: the session ends.
-pub(crate) fn run_quit(engine: &mut Engine, session: &mut Session<CursorId, QueryId>)
+pub(crate) fn run_quit(engine: &mut Engine, session: &mut Session<CursorId, Name>)
     requires { IsReady engine.old session.old }
     ensures { Executes Quit false engine.old session.old engine.new session.new 0 0 }
 {
@@ -198,7 +200,7 @@ pub(crate) fn run_quit(engine: &mut Engine, session: &mut Session<CursorId, Quer
 }
 
 /// `stop`: the session ends, and the server is stopped.
-pub(crate) fn run_stop(engine: &mut Engine, session: &mut Session<CursorId, QueryId>)
+pub(crate) fn run_stop(engine: &mut Engine, session: &mut Session<CursorId, Name>)
     requires { IsReady engine.old session.old }
     ensures { Executes Stop true engine.old session.old engine.new session.new 0 0 }
 {

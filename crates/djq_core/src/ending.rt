@@ -1,28 +1,53 @@
 //! A session's end: its cursors are given up, and its last line is queued.
-ghost use Rattle.std.specs.Prelude.{◌≡◌, false, None, Some};
+ghost use Rattle.std.specs.Prelude.{◌≡◌, [], false, None, Some};
 ghost use Rattle.djq_lines.specs.Reply.{end_line, input_cut};
 ghost use Rattle.djq_lines.specs.declared.answer.EndCause.TheVariants.{Input};
 ghost use Rattle.djq_machine.specs.Effect.{EndsWith};
-ghost use Rattle.djq_core.specs.Ends.{CutsOff, GivesUp, EndsQuietly};
+ghost use Rattle.djq_core.specs.Ends.{CutsOff, GivesUp, GivesUpCursors, GivesUpWatches, EndsQuietly};
 ghost use Rattle.djq_core.specs.Performs.{Performs};
-ghost use Rattle.djq_core.specs.Sound.{IsOwn};
+ghost use Rattle.djq_core.specs.Telling.{KeepsTold};
+ghost use Rattle.djq_core.specs.Sound.{IsOwn, HasCount};
 
-use djq_engine::{CursorId, Engine, QueryId};
+use djq_engine::{CursorId, Engine};
 use djq_lines::{EndCause, EndLine};
+use djq_model::Name;
 use djq_session::Session;
 
-/// The engine gives up the cursors of a session, and nothing else.
-pub(crate) fn give_up(engine: &mut Engine, session: &mut Session<CursorId, QueryId>)
+// The engine gives up the cursors of a session, and nothing else.
+fn give_up_cursors(engine: &mut Engine, session: &mut Session<CursorId, Name>)
     requires { IsOwn engine.old session.old }
-    ensures { GivesUp engine.old session.old engine.new session.new }
+    ensures { GivesUpCursors engine.old session.old engine.new session.new }
 {
     while let Some(id) = session.pop_cursor() {
         engine.close(id);
     }
 }
 
+// The engine counts a session no more among those that watch its queries.
+fn give_up_watches(engine: &mut Engine, session: &mut Session<CursorId, Name>)
+    requires { HasCount engine.old.registered session.old.watches }
+    ensures { GivesUpWatches engine.old session.old engine.new session.new }
+{
+    while let Some(query) = session.pop_watch() {
+        engine.laws();
+        if let Some(id) = engine.query_id(&query) {
+            engine.unwatch(id);
+        }
+    }
+}
+
+/// The engine gives up the cursors and the watches of a session, and nothing else.
+pub(crate) fn give_up(engine: &mut Engine, session: &mut Session<CursorId, Name>)
+    requires { IsOwn engine.old session.old }
+    ensures gives_up { GivesUp engine.old session.old engine.new session.new }
+    ensures told { KeepsTold engine.old engine.new }
+{
+    give_up_cursors(engine, session);
+    give_up_watches(engine, session);
+}
+
 /// Out of memory in the midst of a reply, a session ends, and is told so.
-pub(crate) fn cut_off(engine: &mut Engine, session: &mut Session<CursorId, QueryId>)
+pub(crate) fn cut_off(engine: &mut Engine, session: &mut Session<CursorId, Name>)
     requires own { IsOwn engine.old session.old }
     requires running { session.old.cause ≡ None }
     ensures { CutsOff engine.old session.old engine.new session.new }
@@ -34,7 +59,7 @@ pub(crate) fn cut_off(engine: &mut Engine, session: &mut Session<CursorId, Query
 /// A session ends with a line that tells why.
 pub(crate) fn end_by(
     engine: &mut Engine,
-    session: &mut Session<CursorId, QueryId>,
+    session: &mut Session<CursorId, Name>,
     line: EndLine,
     cause: EndCause,
 )
@@ -43,13 +68,15 @@ pub(crate) fn end_by(
     ensures performs { Performs (λ st s x e st'. EndsWith (end_line line) cause st s e st') false
         engine.old session.old engine.new session.new 0 0 }
     ensures ended { session.new.cause ≡ Some cause }
+    ensures told { KeepsTold engine.old engine.new }
+    ensures watches { session.new.watches ≡ [] }
 {
     give_up(engine, session);
     session.end_by(line, cause);
 }
 
 /// A session's input has ended: where bytes are held, which no line end follows, that is said.
-pub(crate) fn end_input(engine: &mut Engine, session: &mut Session<CursorId, QueryId>)
+pub(crate) fn end_input(engine: &mut Engine, session: &mut Session<CursorId, Name>)
     requires own { IsOwn engine.old session.old }
     requires running { session.old.cause ≡ None }
     ensures { Performs (λ st s x e st'. EndsQuietly session.old.held st s e st') false

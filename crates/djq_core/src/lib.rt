@@ -20,10 +20,13 @@
 
 pub use serving::Core;
 
+mod change;
 mod commands;
 mod ending;
 mod line;
 mod listing;
 mod open;
 mod serving;
+mod tell;
 mod told;
+mod watch;

@@ -3,108 +3,114 @@ ghost use Rattle.std.specs.Prelude.{◌≡◌, ◌≤◌, ◌||◌, None, Bool, 
 ghost use Rattle.djq_lines.specs.Line.{a_line, front_of, is_blank as is_blank_line};
 ghost use Rattle.djq_lines.specs.declared.limits.TheConstants.{PENDING_BYTES};
 ghost use Rattle.djq_machine.specs.Call.{counts};
-ghost use Rattle.djq_machine.specs.LineStep.{run};
-ghost use Rattle.djq_core.specs.Performs.{Executes};
 ghost use Rattle.djq_core.specs.Sound.{IsOwn, IsReady};
-ghost use Rattle.djq_core.specs.Stepping.{Fronts, IsRunnable, StepsTo, refused_as};
+ghost use Rattle.djq_core.specs.Stepping.{IsRunnable, LeavesTo, LineLeaves, Obeys, refused_as};
 
+use crate::change::Left;
 use crate::commands::{
     run_add, run_close, run_del, run_drop, run_explain, run_has, run_open, run_query, run_quit,
     run_rel, run_stop,
 };
 use crate::ending::end_by;
 use crate::listing::run_next;
-use djq_engine::{CursorId, Engine, QueryId};
+use crate::watch::{run_unwatch, run_watch};
+use djq_engine::{CursorId, Engine};
 use djq_lines::limits::{PENDING_BYTES, REPLY_BYTES};
 use djq_lines::{Command, EndCause, EndLine, Refusal};
 use djq_machine::Stepped;
+use djq_model::Name;
 use djq_proto::{Front, LineRefusal, is_blank, read_command};
 use djq_session::Session;
 use djq_steps::{Ledgers, Steps};
 use std::alloc::Global;
 
-// Runs a command, and tells whether it stops the server.
+// Runs a command, and tells what is left to do.
 fn obey<L: Ledgers>(
     engine: &mut Engine,
-    session: &mut Session<CursorId, QueryId>,
+    session: &mut Session<CursorId, Name>,
     command: Command,
     steps: &mut Steps<L>,
-) -> bool
+) -> Left
     requires ready { IsReady engine.old session.old }
-    requires served { IsRunnable command }
-    ensures { Executes command result engine.old session.old engine.new session.new
+    requires runnable { IsRunnable command }
+    ensures { Obeys command result engine.old session.old engine.new session.new
         steps.old.listing steps.new.listing }
 {
     match command {
         Command::Rel { name, types } => {
             run_rel(engine, session, name, types);
-            false
+            Left::Nothing
         }
         Command::Add { name, row } => {
-            run_add(engine, session, &name, row.as_slice(), steps);
-            false
+            Left::Telling(run_add(engine, &name, row.as_slice(), steps))
         }
         Command::Del { name, row } => {
-            run_del(engine, session, &name, row.as_slice(), steps);
-            false
+            Left::Telling(run_del(engine, &name, row.as_slice(), steps))
         }
         Command::Query { query } => {
             run_query(engine, session, query, steps);
-            false
+            Left::Nothing
         }
         Command::Open { cursor, query } => {
             run_open(engine, session, &cursor, &query);
-            false
+            Left::Nothing
         }
         Command::Next { cursor, count } => {
             run_next(engine, session, &cursor, count, &mut steps.listing);
-            false
+            Left::Nothing
         }
         Command::Close { cursor } => {
             run_close(engine, session, &cursor);
-            false
+            Left::Nothing
         }
         Command::Drop { query } => {
             run_drop(engine, session, &query);
-            false
+            Left::Nothing
         }
         Command::Has { query, row } => {
             run_has(engine, session, &query, row.as_slice(), &mut steps.listing);
-            false
+            Left::Nothing
+        }
+        Command::Watch { query } => {
+            run_watch(engine, session, &query);
+            Left::Nothing
+        }
+        Command::Unwatch { query } => {
+            run_unwatch(engine, session, &query);
+            Left::Nothing
         }
         Command::Explain { query } => {
             run_explain(engine, session, &query);
-            false
+            Left::Nothing
         }
         Command::Quit => {
             run_quit(engine, session);
-            false
+            Left::Nothing
         }
         Command::Stop => {
             run_stop(engine, session);
-            true
+            Left::Stopping
         }
-        Command::Watch { .. } | Command::Unwatch { .. } => unreachable!(),
     }
 }
 
-// Takes the line in front, runs what it says, and tells whether that stops the server. Room for a
-// reply was kept.
+// Takes the line in front, runs what it says, and tells what is left to do. Room for a reply was
+// kept.
 fn run_line<L: Ledgers>(
     alloc: Global,
     engine: &mut Engine,
-    session: &mut Session<CursorId, QueryId>,
+    session: &mut Session<CursorId, Name>,
     end: usize,
     rest: usize,
     steps: &mut Steps<L>,
-) -> bool
+) -> Left
     requires ready { IsReady engine.old session.old }
     requires front { front_of session.old.held ≡ a_line (take end session.old.held)
         (drop rest session.old.held) }
     requires within { (end ≤ length session.old.held) × (rest ≤ length session.old.held) }
     requires said { is_blank_line (take end session.old.held) ≡ false }
     requires few { length session.old.pending ≤ PENDING_BYTES }
-    ensures { Fronts (run (take end session.old.held)) result
+    ensures { LineLeaves (take end session.old.held) result
         engine.old session.old engine.new session.new steps.old.listing steps.new.listing }
 {
     let command = read_command(alloc, &session.held()[..end]);
@@ -113,7 +119,7 @@ fn run_line<L: Ledgers>(
         Ok(command) => obey(engine, session, command, steps),
         Err(refusal) => {
             session.refuse(refusal_of(refusal));
-            false
+            Left::Nothing
         }
     }
 }
@@ -124,74 +130,72 @@ fn refusal_of(refusal: LineRefusal) -> Refusal
 {
     match refusal {
         LineRefusal::Syntax => Refusal::Syntax,
-        LineRefusal::Later => Refusal::Later,
         LineRefusal::Range => Refusal::WrongType,
         LineRefusal::NoMem => Refusal::NoMemory,
     }
 }
 
-// Runs the line in front of a session that goes on, in the order of checks, and tells whether that
-// stops the server.
+// Runs the line in front of a session that goes on, in the order of checks, and tells what is left
+// to do.
 fn step_line<L: Ledgers>(
     alloc: Global,
     engine: &mut Engine,
-    session: &mut Session<CursorId, QueryId>,
+    session: &mut Session<CursorId, Name>,
     end: usize,
     rest: usize,
     steps: &mut Steps<L>,
-) -> (Stepped, bool)
+) -> (Stepped, Left)
     requires own { IsOwn engine.old session.old }
     requires running { session.old.cause ≡ None }
     requires front { front_of session.old.held ≡ a_line (take end session.old.held)
         (drop rest session.old.held) }
     requires within { (end ≤ length session.old.held) × (rest ≤ length session.old.held) }
-    ensures { StepsTo result.0 result.1 engine.old session.old engine.new session.new
+    ensures { LeavesTo result.0 result.1 engine.old session.old engine.new session.new
         (counts steps.old.listing steps.old.update steps.old.rows)
         (counts steps.new.listing steps.new.update steps.new.rows) }
 {
     if is_blank(&session.held()[..end]) {
         session.take_line(rest);
-        return (Stepped::Ran, false);
+        return (Stepped::Ran, Left::Nothing);
     }
     if session.pending().len() > PENDING_BYTES {
         session.take_line(rest);
         end_by(engine, session, EndLine::Slow, EndCause::Slow);
-        return (Stepped::Ended(EndCause::Slow), false);
+        return (Stepped::Ended(EndCause::Slow), Left::Nothing);
     }
     match session.keep(REPLY_BYTES) {
         Ok(()) => {
-            let stops = run_line(alloc, engine, session, end, rest, steps);
-            (Stepped::Ran, stops)
+            let left = run_line(alloc, engine, session, end, rest, steps);
+            (Stepped::Ran, left)
         }
         Err(_) => {
             session.take_line(rest);
             end_by(engine, session, EndLine::Memory, EndCause::Memory);
-            (Stepped::Ended(EndCause::Memory), false)
+            (Stepped::Ended(EndCause::Memory), Left::Nothing)
         }
     }
 }
 
-/// Runs the line in front of a session, unless it has ended, and tells whether that stops the
-/// server.
+/// Runs the line in front of a session, unless it has ended, and tells what is left to do.
 pub(crate) fn step_session<L: Ledgers>(
     alloc: Global,
     engine: &mut Engine,
-    session: &mut Session<CursorId, QueryId>,
+    session: &mut Session<CursorId, Name>,
     steps: &mut Steps<L>,
-) -> (Stepped, bool)
+) -> (Stepped, Left)
     requires { IsOwn engine.old session.old }
-    ensures { StepsTo result.0 result.1 engine.old session.old engine.new session.new
+    ensures { LeavesTo result.0 result.1 engine.old session.old engine.new session.new
         (counts steps.old.listing steps.old.update steps.old.rows)
         (counts steps.new.listing steps.new.update steps.new.rows) }
 {
     if let Some(cause) = session.cause() {
-        return (Stepped::Ended(cause), false);
+        return (Stepped::Ended(cause), Left::Nothing);
     }
     match session.front() {
-        Front::Dry => (Stepped::Dry, false),
+        Front::Dry => (Stepped::Dry, Left::Nothing),
         Front::Long => {
             end_by(engine, session, EndLine::Long, EndCause::Long);
-            (Stepped::Ended(EndCause::Long), false)
+            (Stepped::Ended(EndCause::Long), Left::Nothing)
         }
         Front::Line { end, rest } => step_line(alloc, engine, session, end, rest, steps),
     }

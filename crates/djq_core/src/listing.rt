@@ -8,7 +8,7 @@ ghost use Rattle.djq_core.specs.Sound.{AreHeld, IsReady};
 
 use crate::ending::cut_off;
 use crate::told::ToldAnswer;
-use djq_engine::{Answer, CursorId, Engine, Next, QueryId};
+use djq_engine::{Answer, CursorId, Engine, Next};
 use djq_lines::Refusal;
 use djq_model::{Name, NoMem};
 use djq_session::Session;
@@ -29,7 +29,7 @@ pub(crate) enum Listed {
 /// session ends.
 pub(crate) fn run_next<L: Ledgers>(
     engine: &mut Engine,
-    session: &mut Session<CursorId, QueryId>,
+    session: &mut Session<CursorId, Name>,
     name: &Name,
     count: u32,
     listing: &mut Tally<Listing<L>>,
@@ -52,7 +52,7 @@ pub(crate) fn run_next<L: Ledgers>(
 // Reads a cursor, and queues its answers and the last line, as long as there is room.
 fn list_answers<L: Ledgers>(
     engine: &mut Engine,
-    session: &mut Session<CursorId, QueryId>,
+    session: &mut Session<CursorId, Name>,
     id: CursorId,
     count: u32,
     listing: &mut Tally<Listing<L>>,

@@ -3,9 +3,12 @@ ghost use Rattle.djq_model.specs.Data.{rows_of};
 ghost use Rattle.djq_machine.specs.State.{opening};
 ghost use Rattle.djq_core.specs.Sound.{Rises};
 
+use crate::change::Left;
 use crate::ending::{end_by, end_input, give_up};
 use crate::line::step_session;
 use crate::open::OpenSession;
+use crate::tell::tell_change;
+use bytes::BytesMut;
 use djq_engine::Engine;
 use djq_lines::limits::SESSIONS;
 use djq_lines::{EndCause, EndLine};
@@ -32,6 +35,8 @@ pub struct Core {
     ids: Vec<u64>,
     sessions: Vec<OpenSession>,
     stopped: bool,
+    // where a delta is printed once for all who watch
+    text: BytesMut,
     alloc: Global,
 }
 
@@ -64,6 +69,7 @@ impl Core {
             ids: Vec::with_capacity(alloc, SESSIONS)?,
             sessions: Vec::with_capacity(alloc, SESSIONS)?,
             stopped: false,
+            text: BytesMut::new(alloc),
             alloc,
         })
     }
@@ -123,13 +129,18 @@ impl Machine for Core {
     fn step<L: Ledgers>(&mut self, id: u64, steps: &mut Steps<L>) -> Stepped {
         let at = place_of(self.ids.as_slice(), id);
         let found = &mut self.sessions[at];
-        let (stepped, stops) = step_session(
-            self.alloc,
-            &mut self.engine,
-            &mut found.session,
-            steps,
-        );
-        self.stopped |= stops;
+        let (stepped, left) = step_session(self.alloc, &mut self.engine, &mut found.session, steps);
+        match left {
+            Left::Nothing => {}
+            Left::Stopping => self.stopped = true,
+            Left::Telling(change) => tell_change(
+                &mut self.engine,
+                &mut self.sessions,
+                at,
+                change.outcome,
+                &mut self.text,
+            ),
+        }
         stepped
     }
 

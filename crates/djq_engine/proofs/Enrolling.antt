@@ -178,7 +178,7 @@ module _ (c : Catalog) (gs hs : List (Option Live)) (order order' : List ℕ) (r
       ∙ sym (ap (held_of c.texts id) there ∙ ap (option_map (held_as c.texts l id)) (all_empty l.cursors (eqb-true (count_by is_some l.cursors) 0 e) id.cursor)))
       (λ i d. ap (held_of c.texts id) (others i d)) id.query.at ∙ sym (held_is c.texts gs id)
 
-  by_name : (j : ℕ) → is_reader order j ≡ true → bytes_eq (query_in (place_at gs j)).name l.query.name ≡ (j == at)
+  pub by_name : (j : ℕ) → is_reader order j ≡ true → bytes_eq (query_in (place_at gs j)).name l.query.name ≡ (j == at)
   by_name j e = by_there (place_at gs j) refl (sym (s.listed j) ∙ e)
     where
       by_test : (m : Live) → place_at gs j ≡ Some m → (b : Bool) → bytes_eq m.query.name l.query.name ≡ b → b ≡ (j == at)

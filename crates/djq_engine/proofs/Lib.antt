@@ -17,3 +17,9 @@ pub mod Enrolling
 pub mod Telling
 pub mod Refusing
 pub mod Unseating
+pub mod Told
+pub mod Enlisted
+pub mod Tending
+pub mod Reporting
+pub mod Attending
+pub mod Keeping

@@ -1,8 +1,8 @@
 -- What the machine says of a query that is to be registered, or dropped.
 use Rattle.std.proofs.Common.{ℕ, zero, suc, List, [], ◌∷◌, ◌++◌, ◌+◌, ◌*◌, ◌≡◌, ◌≢◌, ◌<◌, ◌≤◌, ◌⊎◌, inl, inr, Bool, true, false, refl, sym, ap, ap₂, ◌∙◌, subst, length, set, arith, append-nil}
-use Rattle.std.specs.Prelude.{Option, None, Some, is_some, is_none, IsSomeAnd, option_map, count_by, Result, Ok, Err, position, cond, nat_le, ⊤}
+use Rattle.std.specs.Prelude.{Option, None, Some, is_some, is_none, IsSomeAnd, IfSome, option_map, count_by, Result, Ok, Err, position, cond, nat_le, ⊤}
 use Rattle.std.proofs.lemmas.Bool.{eq-eqb, eqb-true, cases_lt, le-leb, lt-leb, false≢true}
-use Rattle.std.proofs.lemmas.List.{length-map}
+use Rattle.std.proofs.lemmas.List.{length-map, get_or-set_other}
 use Rattle.djq_model.specs.declared.relation.Relation.{Relation}
 use Rattle.djq_model.specs.declared.query.Query.{Query}
 use Rattle.djq_model.specs.Data.{Bytes, Tuple, bytes_eq, query_of, drop_first}
@@ -25,20 +25,24 @@ use Rattle.djq_rows.specs.Laws.{TextsStay}
 use Rattle.djq_live.specs.declared.cursors.Progress.{Progress}
 use Rattle.djq_live.specs.Cursors.{slot_at, are_vacant}
 use Rattle.djq_live.specs.Planning.{InternsConstants}
-use Rattle.djq_live.specs.Live.{Live, IsLive}
+use Rattle.djq_cursor.specs.Log.{Log}
+use Rattle.djq_live.specs.Live.{Live, IsLive, ShowableStays}
 use Rattle.djq_live.specs.Staying.{StaysOver, LiveStays}
 use Rattle.djq_engine.specs.declared.cursor.CursorId.{CursorId}
 use Rattle.djq_engine.specs.declared.parts.Parts.{Parts}
-use Rattle.djq_engine.specs.Kept.{Held, held_at, SameCursors, DropGives, Uses}
-use Rattle.djq_engine.specs.Places.{place_at, readers_at, queries_in, store_of, kept_of, held_as, held_from, held_of, is_query, left}
+use Rattle.djq_engine.specs.Kept.{Held, Registered as Enlisted, registered_of, is_watched, held_at, SameCursors, DropGives}
+use Rattle.djq_engine.specs.Places.{place_at, readers_at, query_in, queries_in, store_of, kept_of, held_as, held_from, held_of, is_query, left, watchers_at, watched_at, registered_as, registered_in, Watches}
 use Rattle.djq_engine.specs.Sound.{IsSound}
+use Rattle.djq_engine.specs.Tending.{AreShown}
+use Rattle.djq_engine.proofs.Tending.{shown_more}
 use Rattle.djq_engine.specs.Placing.{LeavesAll}
 use Rattle.djq_engine.specs.Registering.{Registers, SameParts}
 use Rattle.djq_engine.specs.Whole.{kept_in, IsWhole}
 use Rattle.djq_engine.proofs.Conditions.{answers_refused, answers_done, front_refuses, front_passes, first_false}
 use Rattle.djq_engine.proofs.Aging.{rested_held}
 use Rattle.djq_engine.proofs.Carrying.{sound_texts}
-use Rattle.djq_engine.proofs.Enrolling.{registered_sound, registered_cursors, registered_queries, dropped_sound, dropped_cursors, dropped_queries, all_empty, sound_same, queries_same, cursors_same}
+use Rattle.djq_engine.proofs.Enrolling.{registered_sound, registered_cursors, registered_queries, dropped_sound, dropped_cursors, dropped_queries, by_name, all_empty, sound_same, queries_same, cursors_same}
+use Rattle.djq_engine.proofs.Enlisted.{name_found, name_unknown, delisted}
 use Rattle.djq_engine.proofs.Holding.{held_is}
 use Rattle.djq_engine.proofs.Naming.{Named, query_found, query_named, no_query_of, unnamed}
 use Rattle.djq_engine.proofs.Storing.{learned_rows, all_stay}
@@ -119,6 +123,13 @@ pub constants_stay : LiveStays → TextsStay → (c d : Catalog) (gs : List (Opt
 constants_stay law texts c d gs order readers s h e cs result k =
     let t = constants_learned c.texts cs result d.texts k in
     all_stay law c d gs order readers s (learned_rows texts c d t.0 h e t.1)
+
+-- what can be shown stays so as they do
+pub mid_shown : ShowableStays → TextsStay → (old new : List Bytes) (cs : Tuple) (result : Result ⊤ InternRefusal) → InternsConstants old cs result new → (gs : List (Option Live)) (logs : List Log) → AreShown old gs logs → AreShown new gs logs
+mid_shown law texts old new cs result k gs logs h =
+    let t = constants_learned old cs result new k in
+    let m = texts old t.0 in
+    shown_more law old m.0 new (t.1 ∙ m.1) gs logs h
 
 pub all_first : (old cs new : List Bytes) → LearnsAll old cs new → LearnsFirst old cs new
 all_first old cs new h = record { first = cs; rest = []; parts = sym (append-nil cs); learned = h.0 }
@@ -224,22 +235,26 @@ module _ (old : Parts) (s : IsWhole old) (name : Bytes) where
   pub drop_unknown : None ≡ position (is_query name) old.queries.items → DropGives (kept_in old) name (Err NoQuery) (kept_in old)
   drop_unknown e = record {
     used = false;
-    is_used = λ id h found named.
-        let o = over_place (old.catalog).texts old.queries.items id h found in
-        false≢true (sym (unnamed old.queries.items name id.query.at o.0 e o.1)
-        ∙ (bytes_eq-decides (o.0).query.name name).1 (sym o.2 ∙ named));
+    is_used = (
+      λ id h found named.
+          let o = over_place (old.catalog).texts old.queries.items id h found in
+          false≢true (sym (unnamed old.queries.items name id.query.at o.0 e o.1)
+          ∙ (bytes_eq-decides (o.0).query.name name).1 (sym o.2 ∙ named)),
+      subst (λ (o : Option Enlisted). IfSome o (λ r. is_watched r ≡ false)) (sym (name_unknown old.catalog old.queries.items old.order old.readers.items old.watchers.items s name e)) tt,
+    );
     store = record {
       answer = answers_refused (drop_refusal (kept_in old).store false name) NoQuery _ _ (ap (λ (o : Option Query). cond (is_none o) (Some NoQuery) None) (no_query_of old.catalog old.queries.items old.order old.readers.items s name e));
       stays = refl;
     };
     cursors = λ id. refl;
+    registered = refl;
   }
 
   module _ (at : ℕ) (n : Named old.queries.items name at) where
     found : query_of (queries_in old.queries.items old.order) name ≡ Some n.query.query
     found = query_named old.catalog old.queries.items old.order old.readers.items s name at n
 
-    used : are_vacant n.query.cursors ≡ false → Uses (kept_in old) name true
+    used : are_vacant n.query.cursors ≡ false → (id : CursorId) × (h : Held) × (held_at (kept_in old).cursors id ≡ Some h) × (h.query ≡ name)
     used e =
         let k = one_filled n.query.cursors (λ z. false≢true (sym e ∙ eq-eqb (count_by is_some n.query.cursors) 0 z)) in
         let id : CursorId = record { query = record { at = at }; cursor = k.0 } in
@@ -248,15 +263,31 @@ module _ (old : Parts) (s : IsWhole old) (name : Bytes) where
     pub drop_in_use : are_vacant n.query.cursors ≡ false → DropGives (kept_in old) name (Err InUse) (kept_in old)
     drop_in_use e = record {
       used = true;
-      is_used = used e;
+      is_used = inl (used e);
       store = record {
         answer = answers_refused (drop_refusal (kept_in old).store true name) InUse _ _ (ap (λ (o : Option Query). cond (is_none o) (Some NoQuery) (Some InUse)) found);
         stays = refl;
       };
       cursors = λ id. refl;
+      registered = refl;
     }
 
-    unused : are_vacant n.query.cursors ≡ true → Uses (kept_in old) name false
+    enlisted_as : registered_of (kept_in old).registered name ≡ Some (registered_as old.queries.items old.watchers.items at)
+    enlisted_as = name_found old.catalog old.queries.items old.order old.readers.items old.watchers.items s name at n
+
+    pub drop_watched : watched_at old.watchers.items at ≡ true → DropGives (kept_in old) name (Err InUse) (kept_in old)
+    drop_watched e = record {
+      used = true;
+      is_used = inr (subst (λ (o : Option Enlisted). IsSomeAnd o (λ r. is_watched r ≡ true)) (sym enlisted_as) e);
+      store = record {
+        answer = answers_refused (drop_refusal (kept_in old).store true name) InUse _ _ (ap (λ (o : Option Query). cond (is_none o) (Some NoQuery) (Some InUse)) found);
+        stays = refl;
+      };
+      cursors = λ id. refl;
+      registered = refl;
+    }
+
+    unused : are_vacant n.query.cursors ≡ true → (id : CursorId) (h : Held) → held_at (kept_in old).cursors id ≡ Some h → h.query ≡ name → ⊥
     unused e id h held named =
         let o = over_place (old.catalog).texts old.queries.items id h held in
         let place : id.query.at ≡ at = s.named id.query.at at o.0 n.query o.1 n.there (sym o.2 ∙ named ∙ sym n.called) in
@@ -264,13 +295,14 @@ module _ (old : Parts) (s : IsWhole old) (name : Bytes) where
         false≢true (sym (ap (λ (x : Live). is_some (slot_at x.cursors id.cursor)) same
         ∙ ap is_some (all_empty n.query.cursors (eqb-true (count_by is_some n.query.cursors) 0 e) id.cursor)) ∙ o.3)
 
-    pub drop_done : (hs : List (Option Live)) (order' : List ℕ) (readers' : List (List ℕ)) → hs ≡ set old.queries.items at None → order' ≡ left at old.order → LeavesAll at old.readers.items readers'
-        → are_vacant n.query.cursors ≡ true → IsSound old.catalog hs order' readers' × DropGives (kept_in old) name (Ok tt) (kept_of old.catalog hs order' old.seq)
-    drop_done hs order' readers' is places leaves e = (
+    pub drop_done : (hs : List (Option Live)) (order' : List ℕ) (readers' : List (List ℕ)) (w : Watches) → hs ≡ set old.queries.items at None → order' ≡ left at old.order → LeavesAll at old.readers.items readers'
+        → are_vacant n.query.cursors ≡ true → watched_at old.watchers.items at ≡ false → w.watchers ≡ old.watchers.items
+        → IsSound old.catalog hs order' readers' × DropGives (kept_in old) name (Ok tt) (kept_of old.catalog hs order' old.seq w)
+    drop_done hs order' readers' w is places leaves e unwatched same = (
       dropped_sound old.catalog old.queries.items hs old.order order' old.readers.items readers' s at n.query n.there is places leaves,
       record {
         used = false;
-        is_used = unused e;
+        is_used = (unused e, subst (λ (o : Option Enlisted). IfSome o (λ r. is_watched r ≡ false)) (sym enlisted_as) unwatched);
         store = record {
           answer = answers_done (drop_refusal (kept_in old).store false name) tt _ _ (ap (λ (o : Option Query). cond (is_none o) (Some NoQuery) None) found)
               (ap (λ (qs : List Query). (let st : Store = record { relations = (old.catalog).relations; texts = (old.catalog).texts; queries = qs; seq = old.seq } in st))
@@ -279,6 +311,12 @@ module _ (old : Parts) (s : IsWhole old) (name : Bytes) where
           stays = tt;
         };
         cursors = dropped_cursors old.catalog old.queries.items hs old.order order' old.readers.items readers' s at n.query n.there is places leaves e;
+        registered =
+            ap₂ (λ (ws os : List ℕ). registered_in hs ws os) same places
+            ∙ delisted old.queries.items hs old.watchers.items old.order at name
+            (λ i d. ap (λ (xs : List (Option Live)). place_at xs i) is ∙ get_or-set_other old.queries.items at i None None d)
+            (λ j m. ap (λ (x : Bytes). bytes_eq (query_in (place_at old.queries.items j)).name x) (sym n.called)
+            ∙ by_name old.catalog old.queries.items hs old.order order' old.readers.items readers' s at n.query n.there is places leaves j m);
       },
     )
 

@@ -12,8 +12,8 @@ use Rattle.djq_live.specs.declared.cursors.Progress.{Progress}
 use Rattle.djq_live.specs.Cursors.{slot_at, SetsSlot}
 use Rattle.djq_live.specs.Live.{Live, IsLive}
 use Rattle.djq_engine.specs.declared.cursor.CursorId.{CursorId}
-use Rattle.djq_engine.specs.Kept.{Held, held_at, same_id, OthersStay}
-use Rattle.djq_engine.specs.Places.{place_at, is_live, query_in, queries_in, reads_place, held_as, held_from, held_of, store_of, readers_at}
+use Rattle.djq_engine.specs.Kept.{Held, Registered, held_at, same_id, OthersStay}
+use Rattle.djq_engine.specs.Places.{place_at, is_live, query_in, queries_in, reads_place, held_as, held_from, held_of, store_of, readers_at, id_at, watchers_at, registered_as, registered_in}
 use Rattle.djq_engine.specs.Sound.{IsSound}
 use Rattle.djq_engine.proofs.Holding.{held_is}
 use Rattle.djq_engine.proofs.Listing.{filter_members, map_members}
@@ -81,6 +81,10 @@ module _ (c : Catalog) (gs : List (Option Live)) (order : List ℕ) (readers : L
 
   pub moved_store : (seq : ℕ) → store_of c (set gs id.query.at (Some m)) order seq ≡ store_of c gs order seq
   moved_store seq = ap (λ (qs : List Query). (let st : Store = record { relations = c.relations; texts = c.texts; queries = qs; seq = seq } in st)) moved_queries
+
+  pub moved_registered : (ws : List ℕ) → registered_in (set gs id.query.at (Some m)) ws order ≡ registered_in gs ws order
+  moved_registered ws = map_members (registered_as (set gs id.query.at (Some m)) ws) (registered_as gs ws) order
+      (λ j h. ap (λ (q : Query). (let r : Registered = record { id = id_at j; query = q; watchers = watchers_at ws j } in r)) (query_same j))
 
   -- where only a slot of its cursors has changed
   module _ (slot : Option Progress) (cs : List (Option Progress)) (is : m ≡ record l { cursors = cs }) (moved : SetsSlot l.cursors id.cursor slot cs) where

@@ -1,17 +1,22 @@
 -- What the parts of a change of rows do.
-use Rattle.std.specs.Prelude.{ℕ, List, [], ◌∷◌, ◌++◌, ◌≡◌, ◌<◌, ◌≤◌, true, false, Option, Some, length}
+use Rattle.std.specs.Prelude.{ℕ, List, [], ◌∷◌, ◌++◌, ◌+◌, ◌≡◌, ◌<◌, ◌≤◌, true, false, Option, Some, length, map, sum_by, ⊤}
 use Rattle.djq_model.specs.Data.{Bytes, Tuple, has_row, without_row}
+use Rattle.djq_model.specs.declared.relation.Relation.{Relation}
+use Rattle.djq_model.specs.Answer.{IsAnswer}
 use Rattle.djq_model.specs.Known.{texts_in}
 use Rattle.djq_lines.specs.declared.limits.TheConstants.{ROWS}
 use Rattle.djq_machine.specs.Store.{LearnsAll, LearnsFirst, FindsNoPlace}
 use Rattle.djq_dict.specs.declared.refusal.InternRefusal.{InternRefusal}
 use Rattle.djq_dict.specs.declared.refusal.InternRefusal.TheVariants.{Full, NoMem}
 use Rattle.djq_rows.specs.Catalog.{Catalog, StandForRow, rows_at, with_rows_at}
+use Rattle.djq_machine.specs.Delta.{Change, IsDelta}
 use Rattle.djq_live.specs.Live.{Live}
+use Rattle.djq_live.specs.Updating.{change_of}
 use Rattle.djq_live.specs.Staying.{StaysOver}
 use Rattle.djq_engine.specs.declared.parts.Parts.{Parts}
-use Rattle.djq_engine.specs.Places.{place_at, readers_at}
+use Rattle.djq_engine.specs.Places.{place_at, is_reader, readers_at, watched_at, log_at}
 use Rattle.djq_engine.specs.Reaching.{Reach, Ages, Carries}
+use Rattle.djq_engine.specs.Tending.{cost_at}
 
 -- The cells stand for a row that isn't there, and there is room for it.
 pub record IsNew (c : Catalog) (at : ℕ) (cells : List ℕ) (row : Tuple) : Type 0 where
@@ -30,11 +35,14 @@ pub record IsOld (c : Catalog) (at : ℕ) (cells : List ℕ) (row : Tuple) : Typ
 abbrev pub HasOld : Catalog → ℕ → List ℕ → Type 0
 HasOld c at cells = (row : Tuple) × IsOld c at cells row
 
--- Nothing but the catalog and the queries changes.
+-- Nothing but the catalog, the queries and the logs changes.
 pub record KeepsRest (old new : Parts) : Type 0 where
   pub readers : new.readers.items ≡ old.readers.items
   pub order : new.order ≡ old.order
   pub seq : new.seq ≡ old.seq
+  pub watchers : new.watchers.items ≡ old.watchers.items
+  pub changed : new.changed ≡ old.changed
+  pub long : length new.logs.items ≡ length old.logs.items
 
 -- The readers of a relation are carried over to the new catalog.
 abbrev pub CarriesReaders : ℕ → Parts → Parts → Type 0
@@ -94,4 +102,35 @@ pub record AgesReaders (at : ℕ) (name : Bytes) (old new : Parts) : Type 0 wher
   pub reach : Reach (readers_at old.readers.items at) (Ages name old.seq) old.queries.items
       new.queries.items
   pub catalog : new.catalog ≡ old.catalog
+  pub logs : new.logs.items ≡ old.logs.items
   pub rest : KeepsRest old new
+
+-- These answers of a query come or go where a relation has other rows.
+abbrev pub IsDeltaWith : ℕ → List Tuple → List Relation → Live → List Change → Type 0
+IsDeltaWith at rows relations l changes =
+    IsDelta (IsAnswer relations l.query) (IsAnswer (with_rows_at relations at rows) l.query) changes
+
+-- Unless it is lost, the log of a watched query that reads the relation tells them.
+abbrev pub TellsRows : ℕ → List Tuple → Parts → Parts → Type 0
+TellsRows at rows old new = (i : ℕ) (l : Live)
+    → is_reader (readers_at old.readers.items at) i ≡ true → watched_at old.watchers.items i ≡ true
+    → place_at old.queries.items i ≡ Some l → (log_at new.logs.items i).lost ≡ false
+    → IsDeltaWith at rows (old.catalog).relations l
+    (map (change_of (new.catalog).texts l) (log_at new.logs.items i).lines)
+
+-- These are such deltas of the watched queries that read the relation.
+abbrev pub DeltasWith : ℕ → List Tuple → Parts → (ℕ → List Change) → Type 0
+DeltasWith at rows old f = (i : ℕ) (l : Live)
+    → is_reader (readers_at old.readers.items at) i ≡ true → watched_at old.watchers.items i ≡ true
+    → place_at old.queries.items i ≡ Some l → IsDeltaWith at rows (old.catalog).relations l (f i)
+
+-- What listing them counts at most, whatever deltas they have.
+abbrev pub CountsRows : ℕ → List Tuple → Parts → ℕ → ℕ → Type 0
+CountsRows at rows old before now = (f : ℕ → List Change) → DeltasWith at rows old f
+    → now ≤ before + sum_by (cost_at old.watchers.items old.queries.items at f)
+    (readers_at old.readers.items at)
+
+-- Where a text finds no place, nothing is listed.
+abbrev pub Idles : ℕ → ℕ → InternRefusal → Type 0
+Idles before now Full = now ≤ before
+Idles before now NoMem = ⊤

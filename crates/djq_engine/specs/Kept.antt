@@ -1,7 +1,7 @@
 -- What contracts see of an engine, and what its calls do to its cursors.
-use Rattle.std.specs.Prelude.{ℕ, List, [], ◌∷◌, ◌==◌, ◌≡◌, ◌≤◌, ◌+◌, ◌++◌, ◌&&◌, Bool, true, false, Option, None, Some, is_none, IsSome, IsSomeAnd, Result, Err, if◌then◌else◌, map, find, length, slice_index_or, ⊤}
+use Rattle.std.specs.Prelude.{ℕ, List, [], ◌∷◌, ◌==◌, ◌≡◌, ◌≤◌, ◌+◌, ◌++◌, ◌&&◌, ◌⊎◌, Bool, true, false, not, Option, None, Some, is_none, IsSome, IsSomeAnd, IfSome, Result, Ok, Err, if◌then◌else◌, map, filter, find, length, nat_lt, slice_index_or, ⊤}
 use Rattle.djq_model.specs.declared.query.Query.{Query}
-use Rattle.djq_model.specs.Data.{Bytes, Tuple, query_of}
+use Rattle.djq_model.specs.Data.{Bytes, Tuple, bytes_eq, change_first, query_of}
 use Rattle.djq_model.specs.Answer.{IsAnswer}
 use Rattle.djq_lines.specs.declared.answer.Refusal.{Refusal}
 use Rattle.djq_lines.specs.declared.answer.Refusal.TheVariants.{NoQuery}
@@ -12,12 +12,14 @@ use Rattle.djq_tree.specs.Explaining.{explain_of}
 use Rattle.djq_machine.specs.State.{Store, Position, open_at, stale}
 use Rattle.djq_machine.specs.Conditions.{first_of, Answers, OutOfMemoryWhere}
 use Rattle.djq_machine.specs.Store.{DropsQuery, IsLeft, AreAll, most_steps}
-use Rattle.djq_machine.specs.Stale.{outdated, outdater_of, by_relation}
+use Rattle.djq_machine.specs.Stale.{reads, outdated, outdater_of, by_relation}
+use Rattle.djq_machine.specs.Delta.{Change}
 use Rattle.djq_reduct.specs.Answers.{IsAnswerOf}
 use Rattle.djq_live.specs.declared.listing.Next.{Next}
 use Rattle.djq_live.specs.declared.listing.Next.TheVariants.{Given, End, Stale}
 use Rattle.djq_live.specs.Live.{Live, values_of}
 use Rattle.djq_engine.specs.declared.cursor.CursorId.{CursorId}
+use Rattle.djq_engine.specs.declared.cursor.QueryId.{QueryId}
 
 -- A cursor that the engine keeps: over which query, and how far it has come.
 pub record Held : Type 0 where
@@ -25,12 +27,60 @@ pub record Held : Type 0 where
   pub query : Bytes
   pub position : Position
 
--- What the engine keeps: the store of the join machine, and cursors. Beside them the queries by
+-- A registered query of the engine, and how many sessions watch it.
+pub record Registered : Type 0 where
+  pub id : QueryId
+  pub query : Query
+  pub watchers : ℕ
+
+-- What the engine keeps: the store of the join machine, and cursors; the registered queries, in
+-- order of registration; those that read the relation of the last accepted change, in that order;
+-- and by place how a query's answers changed last, or that it was lost. Beside them the queries by
 -- place, of which contracts speak only where an answer is lent.
 pub record Kept : Type 0 where
   pub store : Store
   pub cursors : List Held
+  pub registered : List Registered
+  pub affected : List QueryId
+  pub told : List (Option (List Change))
   pub places : List (Option Live)
+
+-- whether two ids name the same query
+abbrev pub same_query : QueryId → QueryId → Bool
+same_query a b = a.at == b.at
+
+-- the registered query of an id
+abbrev pub registered_at : List Registered → QueryId → Option Registered
+registered_at rs id = find (λ r. same_query r.id id) rs
+
+-- the registered query of a name
+abbrev pub registered_of : List Registered → Bytes → Option Registered
+registered_of rs name = find (λ r. bytes_eq r.query.name name) rs
+
+-- that an engine keeps a query
+abbrev pub IsRegistered : Kept → QueryId → Type 0
+IsRegistered k id = IsSome (registered_at k.registered id)
+
+-- whether a session watches it
+abbrev pub is_watched : Registered → Bool
+is_watched r = nat_lt 0 r.watchers
+
+-- the queries that read a relation
+abbrev pub readers_of : List Registered → Bytes → List Registered
+readers_of rs relation = filter (λ r. reads r.query relation) rs
+
+-- the queries that read a relation and are watched
+abbrev pub affected_of : List Registered → Bytes → List Registered
+affected_of rs relation = filter (λ r. reads r.query relation && is_watched r) rs
+
+-- the queries, of which one has other watchers
+abbrev pub with_watchers : QueryId → (ℕ → ℕ) → List Registered → List Registered
+with_watchers id f rs =
+    change_first (λ r. same_query r.id id) (λ r. record r { watchers = f r.watchers }) rs
+
+-- how a query's answers changed last; None where that was lost
+abbrev pub told_at : Kept → QueryId → Option (List Change)
+told_at k id = slice_index_or k.told id.at None
 
 -- whether two ids name the same cursor
 abbrev pub same_id : CursorId → CursorId → Bool
@@ -68,6 +118,7 @@ pub record OpensCursor (old : Kept) (query : Bytes) (id : CursorId) (new : Kept)
       ≡ Some (record { id = id; query = query; position = open_at [] false })
   pub others : OthersStay old.cursors id new.cursors
   pub store : new.store ≡ old.store
+  pub registered : new.registered ≡ old.registered
 
 -- What `open` answers.
 pub record OpenGives (old : Kept) (query : Bytes) (result : Result CursorId Refusal) (new : Kept) :
@@ -81,6 +132,7 @@ pub record MovesCursor (old : Kept) (h : Held) (position : Position) (new : Kept
   pub there : held_at new.cursors h.id ≡ Some (record h { position = position })
   pub others : OthersStay old.cursors h.id new.cursors
   pub store : new.store ≡ old.store
+  pub registered : new.registered ≡ old.registered
 
 -- what holds of the query over which a cursor of this id is
 abbrev pub AtQuery : Kept → CursorId → (Live → Type 0) → Type 0
@@ -154,21 +206,34 @@ pub record ClosesCursor (old : Kept) (id : CursorId) (new : Kept) : Type 0 where
   pub gone : held_at new.cursors id ≡ None
   pub others : OthersStay old.cursors id new.cursors
   pub store : new.store ≡ old.store
+  pub registered : new.registered ≡ old.registered
+  pub affected : new.affected ≡ old.affected
+  pub told : new.told ≡ old.told
 
--- Whether a cursor that is held, stale or not, is over a query.
+-- Whether a query is in use: a cursor that is held, stale or not, is over it, or a session watches
+-- it.
 abbrev pub Uses : Kept → Bytes → Bool → Type 0
 Uses k query true =
-    (id : CursorId) × (h : Held) × (held_at k.cursors id ≡ Some h) × (h.query ≡ query)
+    ((id : CursorId) × (h : Held) × (held_at k.cursors id ≡ Some h) × (h.query ≡ query))
+    ⊎ IsSomeAnd (registered_of k.registered query) (λ r. is_watched r ≡ true)
 Uses k query false =
-    (id : CursorId) (h : Held) → held_at k.cursors id ≡ Some h → h.query ≡ query → ⊥
+    ((id : CursorId) (h : Held) → held_at k.cursors id ≡ Some h → h.query ≡ query → ⊥)
+    × IfSome (registered_of k.registered query) (λ r. is_watched r ≡ false)
 
--- A query that no cursor is over is registered no more, and all cursors are as before.
+-- the registered queries once a query was dropped, or wasn't
+abbrev pub DropsRegistered : List Registered → Bytes → Result ⊤ Refusal → List Registered → Type 0
+DropsRegistered old query (Ok done) new =
+    new ≡ filter (λ r. not (bytes_eq r.query.name query)) old
+DropsRegistered old query (Err r) new = new ≡ old
+
+-- A query that isn't in use is registered no more, and all cursors are as before.
 pub record DropGives (old : Kept) (query : Bytes) (result : Result ⊤ Refusal) (new : Kept) :
     Type 0 where
   pub used : Bool
   pub is_used : Uses old query used
   pub store : DropsQuery old.store used query result new.store
   pub cursors : SameCursors old.cursors new.cursors
+  pub registered : DropsRegistered old.registered query result new.registered
 
 -- The lines explain the tree that the choice rule names.
 pub record Explains (q : Query) (lines : List ℕ) : Type 0 where

@@ -1,6 +1,6 @@
 -- The registered queries in their places and their cursors, as the engine keeps them, and what
 -- contracts see of them.
-use Rattle.std.specs.Prelude.{ℕ, zero, suc, List, [], ◌∷◌, ◌++◌, ◌==◌, ◌≡◌, ◌&&◌, Bool, true, false, not, Option, None, Some, is_some, IsSomeAnd, option_map, map, filter, length, slice_index_or}
+use Rattle.std.specs.Prelude.{ℕ, zero, suc, List, [], ◌∷◌, ◌++◌, ◌==◌, ◌≡◌, ◌&&◌, nat_lt, Bool, true, false, not, Option, None, Some, is_some, IsSomeAnd, option_map, if◌then◌else◌, map, filter, length, slice_index_or}
 use Rattle.std.specs.List.{list_any}
 use Rattle.djq_model.specs.declared.query.Query.{Query}
 use Rattle.djq_model.specs.Data.{Bytes, bytes_eq}
@@ -10,8 +10,12 @@ use Rattle.djq_rows.specs.Catalog.{Catalog}
 use Rattle.djq_live.specs.declared.cursors.Progress.{Progress}
 use Rattle.djq_live.specs.Cursors.{slot_at}
 use Rattle.djq_live.specs.Live.{Live, position_of}
+use Rattle.djq_live.specs.Updating.{change_of}
+use Rattle.djq_machine.specs.Delta.{Change}
+use Rattle.djq_cursor.specs.Log.{Log}
 use Rattle.djq_engine.specs.declared.cursor.CursorId.{CursorId}
-use Rattle.djq_engine.specs.Kept.{Held, Kept}
+use Rattle.djq_engine.specs.declared.cursor.QueryId.{QueryId}
+use Rattle.djq_engine.specs.Kept.{Held, Registered, Kept}
 
 -- the query in a place, where one is registered there
 abbrev pub place_at : List (Option Live) → ℕ → Option Live
@@ -88,10 +92,64 @@ store_of c gs order seq = record {
   seq = seq;
 }
 
+-- how many sessions watch the query in a place
+abbrev pub watchers_at : List ℕ → ℕ → ℕ
+watchers_at watchers i = slice_index_or watchers i 0
+
+-- whether one does
+abbrev pub watched_at : List ℕ → ℕ → Bool
+watched_at watchers i = nat_lt 0 (watchers_at watchers i)
+
+-- what stands for the log of no place
+abbrev pub no_log : Log
+no_log = record { lines = []; lost = true }
+
+-- the log in a place
+abbrev pub log_at : List Log → ℕ → Log
+log_at logs i = slice_index_or logs i no_log
+
+-- the name of a place
+abbrev pub id_at : ℕ → QueryId
+id_at i = record { at = i }
+
+-- the query in a place, as contracts see it
+abbrev pub registered_as : List (Option Live) → List ℕ → ℕ → Registered
+registered_as gs watchers i = record {
+  id = id_at i;
+  query = query_in (place_at gs i);
+  watchers = watchers_at watchers i;
+}
+
+-- the registered queries, in order
+abbrev pub registered_in : List (Option Live) → List ℕ → List ℕ → List Registered
+registered_in gs watchers order = map (registered_as gs watchers) order
+
+-- what a log tells of the answers of a query
+abbrev pub told_of : List Bytes → Option Live → Log → Option (List Change)
+told_of texts None log = None
+told_of texts (Some l) log = if log.lost then None else Some (map (change_of texts l) log.lines)
+
+-- what the logs tell, by place
+abbrev pub told_from : List Bytes → List (Option Live) → List Log → List (Option (List Change))
+told_from texts [] logs = []
+told_from texts (g ∷ gs) [] = []
+told_from texts (g ∷ gs) (log ∷ logs) = told_of texts g log ∷ told_from texts gs logs
+
+-- What the engine keeps for watching: the readers of each relation, how many sessions watch the
+-- query in each place, its log, and the relation of the last accepted change.
+pub record Watches : Type 0 where
+  pub readers : List (List ℕ)
+  pub watchers : List ℕ
+  pub logs : List Log
+  pub changed : ℕ
+
 -- what contracts see
-abbrev pub kept_of : Catalog → List (Option Live) → List ℕ → ℕ → Kept
-kept_of c gs order seq = record {
+abbrev pub kept_of : Catalog → List (Option Live) → List ℕ → ℕ → Watches → Kept
+kept_of c gs order seq w = record {
   store = store_of c gs order seq;
   cursors = held_from c.texts zero gs;
+  registered = registered_in gs w.watchers order;
+  affected = map id_at (readers_at w.readers w.changed);
+  told = told_from c.texts gs w.logs;
   places = gs;
 }

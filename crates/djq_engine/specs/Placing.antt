@@ -5,12 +5,21 @@ use Rattle.djq_model.specs.declared.relation.Relation.{Relation}
 use Rattle.djq_machine.specs.Stale.{reads}
 use Rattle.djq_rows.specs.Catalog.{relation_at}
 use Rattle.djq_live.specs.Live.{Live}
-use Rattle.djq_engine.specs.Places.{place_at, readers_at, left}
+use Rattle.djq_cursor.specs.Log.{Log}
+use Rattle.djq_engine.specs.Places.{place_at, readers_at, watchers_at, log_at, left}
 use Rattle.djq_engine.specs.Sound.{AreOnce}
 
 -- What stands in each place is as before.
 abbrev pub SamePlaces : List (Option Live) → List (Option Live) → Type 0
 SamePlaces old new = (i : ℕ) → place_at new i ≡ place_at old i
+
+-- Each place is watched as before.
+abbrev pub SameWatchers : List ℕ → List ℕ → Type 0
+SameWatchers old new = (i : ℕ) → watchers_at new i ≡ watchers_at old i
+
+-- Each log is as before, or empty.
+abbrev pub SameLogs : List Log → List Log → Type 0
+SameLogs old new = (i : ℕ) → (log_at new i ≡ log_at old i) ⊎ ((log_at new i).lines ≡ [])
 
 -- in none of these lists is a place twice
 abbrev pub AllOnce : List (List ℕ) → Type 0

@@ -2,8 +2,8 @@
 use Rattle.std.specs.Prelude.{ℕ, List, [], ◌∷◌, ◌++◌, ◌≡◌, ◌≢◌, Option, None, Some, length}
 use Rattle.djq_live.specs.Live.{Live}
 use Rattle.djq_engine.specs.declared.parts.Parts.{Parts}
-use Rattle.djq_engine.specs.Places.{place_at}
-use Rattle.djq_engine.specs.Placing.{SamePlaces, SameLists, JoinsReaders}
+use Rattle.djq_engine.specs.Places.{place_at, watchers_at, log_at}
+use Rattle.djq_engine.specs.Placing.{SamePlaces, SameLists, SameWatchers, SameLogs, JoinsReaders}
 
 -- A query stands in a place where none was, which comes behind the others in order, and behind the
 -- readers of each relation that it reads.
@@ -17,6 +17,13 @@ pub record Registers (q : Live) (old new : Parts) : Type 0 where
       new.readers.items
   pub catalog : new.catalog ≡ old.catalog
   pub seq : new.seq ≡ old.seq
+  pub unwatched : watchers_at new.watchers.items place ≡ 0
+  pub watchers : (i : ℕ) → i ≢ place → watchers_at new.watchers.items i
+      ≡ watchers_at old.watchers.items i
+  pub empty : (log_at new.logs.items place).lines ≡ []
+  pub logs : SameLogs old.logs.items new.logs.items
+  pub watched : length new.watchers.items ≡ length new.queries.items
+  pub logged : length new.logs.items ≡ length new.queries.items
 
 -- Nothing that is seen has changed.
 pub record SameParts (old new : Parts) : Type 0 where
@@ -25,3 +32,7 @@ pub record SameParts (old new : Parts) : Type 0 where
   pub order : new.order ≡ old.order
   pub catalog : new.catalog ≡ old.catalog
   pub seq : new.seq ≡ old.seq
+  pub watchers : SameWatchers old.watchers.items new.watchers.items
+  pub logs : SameLogs old.logs.items new.logs.items
+  pub watched : length new.watchers.items ≡ length new.queries.items
+  pub logged : length new.logs.items ≡ length new.queries.items

@@ -1,13 +1,30 @@
 -- The parts of an engine together.
+use Rattle.std.specs.Prelude.{◌≡◌, length}
 use Rattle.djq_engine.specs.declared.parts.Parts.{Parts}
 use Rattle.djq_engine.specs.Kept.{Kept}
-use Rattle.djq_engine.specs.Places.{kept_of}
+use Rattle.djq_engine.specs.Places.{Watches, kept_of}
 use Rattle.djq_engine.specs.Sound.{IsSound}
+use Rattle.djq_engine.specs.Tending.{AreShown}
+
+-- what is kept for watching
+abbrev pub watches_in : Parts → Watches
+watches_in p = record {
+  readers = p.readers.items;
+  watchers = p.watchers.items;
+  logs = p.logs.items;
+  changed = p.changed;
+}
 
 -- what contracts see
 abbrev pub kept_in : Parts → Kept
-kept_in p = kept_of p.catalog p.queries.items p.order p.seq
+kept_in p = kept_of p.catalog p.queries.items p.order p.seq (watches_in p)
 
 -- what holds between any two calls
 abbrev pub IsWhole : Parts → Type 0
 IsWhole p = IsSound p.catalog p.queries.items p.order p.readers.items
+
+-- Each place has its number of watchers, and its log, which can be shown.
+pub record IsTended (p : Parts) : Type 0 where
+  pub watched : length p.watchers.items ≡ length p.queries.items
+  pub logged : length p.logs.items ≡ length p.queries.items
+  pub shown : AreShown (p.catalog).texts p.queries.items p.logs.items

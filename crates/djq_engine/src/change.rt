@@ -1,17 +1,19 @@
 //! A change of a relation's rows, in the catalog and in the queries that read it.
-ghost use Rattle.std.specs.Prelude.{◌≡◌, ◌<◌, true, false, OnOk, OnErr, IfErr, length};
-ghost use Rattle.djq_model.specs.Data.{Tuple, has_row};
+ghost use Rattle.std.specs.Prelude.{◌≡◌, ◌<◌, [], ◌∷◌, ◌++◌, true, false, OnOk, OnErr, IfErr, length};
+ghost use Rattle.djq_model.specs.Data.{Tuple, has_row, without_row};
 ghost use Rattle.djq_model.specs.Typed.{fits};
 ghost use Rattle.djq_lines.specs.declared.limits.TheConstants.{ROWS};
 ghost use Rattle.djq_rows.specs.Catalog.{relation_at, rows_at};
 ghost use Rattle.djq_engine.specs.Changing.{IsNew, HasNew, IsOld, HasOld, KeepsRest};
 ghost use Rattle.djq_engine.specs.Changing.{Puts, Waits, Drops, PutsRow, Lacks};
-ghost use Rattle.djq_engine.specs.Whole.{IsWhole};
+ghost use Rattle.djq_engine.specs.Changing.{TellsRows, CountsRows, Idles};
+ghost use Rattle.djq_engine.specs.Tending.{AreShown};
+ghost use Rattle.djq_engine.specs.Whole.{IsWhole, IsTended};
 
 use crate::parts::Parts;
 use crate::reach::{let_out, take_in};
 use djq_dict::InternRefusal;
-use djq_live::{added_came, came_passes, deleted_went, live_stays, went_passes};
+use djq_live::{added_came, came_passes, deleted_went, live_stays, showable_stays, went_passes};
 use djq_model::{NoMem, Value};
 use djq_rows::{RelationId, texts_stay};
 use djq_steps::{Ledgers, Steps};
@@ -24,13 +26,20 @@ fn put_cells<L: Ledgers>(
     steps: &mut Steps<L>,
 ) -> Result<(), NoMem>
     requires whole { IsWhole parts.old }
+    requires tended { IsTended parts.old }
     requires there { id.at < length parts.old.catalog.relations }
     requires new { HasNew parts.old.catalog id.at cells.now }
     ensures ok { OnOk result ((row : Tuple) → IsNew parts.old.catalog id.at cells.now row
         → Puts id.at row parts.old parts.new) }
     ensures err { OnErr result (Waits id.at parts.old parts.new) }
     ensures rest { KeepsRest parts.old parts.new }
-    ensures counted { steps.new.listing ≡ steps.old.listing }
+    ensures shown { AreShown parts.new.catalog.texts parts.old.queries.items parts.new.logs.items }
+    ensures tells { OnOk result ((row : Tuple) → IsNew parts.old.catalog id.at cells.now row
+        → TellsRows id.at (rows_at parts.old.catalog.relations id.at ++ row ∷ []) parts.old
+        parts.new) }
+    ensures counted { (row : Tuple) → IsNew parts.old.catalog id.at cells.now row
+        → CountsRows id.at (rows_at parts.old.catalog.relations id.at ++ row ∷ []) parts.old
+        steps.old.listing steps.new.listing }
 {
     added_came();
     deleted_went();
@@ -42,7 +51,16 @@ fn put_cells<L: Ledgers>(
     }
     parts.catalog.laws();
     let places = parts.readers[id.at].as_slice();
-    match take_in(&mut parts.queries, places, id, cells, &mut parts.log, steps) {
+    let watchers = parts.watchers.as_slice();
+    match take_in(
+        &mut parts.queries,
+        watchers,
+        &mut parts.logs,
+        places,
+        id,
+        cells,
+        steps,
+    ) {
         Ok(()) => Ok(()),
         Err(error) => {
             let _ = parts.catalog.delete_row(id, cells, &mut steps.rows);
@@ -64,6 +82,7 @@ pub fn put_row<L: Ledgers>(
     steps: &mut Steps<L>,
 ) -> Result<(), InternRefusal>
     requires whole { IsWhole parts.old }
+    requires tended { IsTended parts.old }
     requires there { id.at < length parts.old.catalog.relations }
     requires suits { fits (relation_at parts.old.catalog.relations id.at).types row.now ≡ true }
     requires absent { has_row (rows_at parts.old.catalog.relations id.at) row.now ≡ false }
@@ -71,10 +90,17 @@ pub fn put_row<L: Ledgers>(
     ensures ok { OnOk result (PutsRow id.at row.now parts.old parts.new) }
     ensures err { IfErr result (Lacks id.at row.now parts.old parts.new) }
     ensures rest { KeepsRest parts.old parts.new }
-    ensures counted { steps.new.listing ≡ steps.old.listing }
+    ensures shown { AreShown parts.new.catalog.texts parts.old.queries.items parts.new.logs.items }
+    ensures tells { OnOk result (TellsRows id.at
+        (rows_at parts.old.catalog.relations id.at ++ row.now ∷ []) parts.old parts.new) }
+    ensures counted { CountsRows id.at
+        (rows_at parts.old.catalog.relations id.at ++ row.now ∷ []) parts.old
+        steps.old.listing steps.new.listing }
+    ensures idle { IfErr result (Idles steps.old.listing steps.new.listing) }
 {
     live_stays();
     texts_stay();
+    showable_stays();
     parts.catalog.laws();
     let cells = match parts.catalog.intern_row(row) {
         Ok(cells) => cells,
@@ -90,7 +116,7 @@ pub fn put_row<L: Ledgers>(
     }
 }
 
-/// Deletes a row that is there, by its cells. It takes no memory.
+/// Deletes a row that is there, by its cells. It takes no memory but the logs'.
 pub fn drop_cells<L: Ledgers>(
     parts: &mut Parts,
     id: RelationId,
@@ -98,12 +124,19 @@ pub fn drop_cells<L: Ledgers>(
     steps: &mut Steps<L>,
 )
     requires whole { IsWhole parts.old }
+    requires tended { IsTended parts.old }
     requires there { id.at < length parts.old.catalog.relations }
     requires old { HasOld parts.old.catalog id.at cells.now }
     ensures drops { (row : Tuple) → IsOld parts.old.catalog id.at cells.now row
         → Drops id.at row parts.old parts.new }
     ensures rest { KeepsRest parts.old parts.new }
-    ensures counted { steps.new.listing ≡ steps.old.listing }
+    ensures shown { AreShown parts.new.catalog.texts parts.old.queries.items parts.new.logs.items }
+    ensures tells { (row : Tuple) → IsOld parts.old.catalog id.at cells.now row
+        → TellsRows id.at (without_row (rows_at parts.old.catalog.relations id.at) row) parts.old
+        parts.new }
+    ensures counted { (row : Tuple) → IsOld parts.old.catalog id.at cells.now row
+        → CountsRows id.at (without_row (rows_at parts.old.catalog.relations id.at) row) parts.old
+        steps.old.listing steps.new.listing }
 {
     deleted_went();
     went_passes();
@@ -111,5 +144,14 @@ pub fn drop_cells<L: Ledgers>(
     let _ = parts.catalog.delete_row(id, cells, &mut steps.rows);
     parts.catalog.laws();
     let places = parts.readers[id.at].as_slice();
-    let_out(&mut parts.queries, places, id, cells, &mut parts.log, steps);
+    let watchers = parts.watchers.as_slice();
+    let_out(
+        &mut parts.queries,
+        watchers,
+        &mut parts.logs,
+        places,
+        id,
+        cells,
+        steps,
+    );
 }

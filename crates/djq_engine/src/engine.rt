@@ -1,23 +1,29 @@
-ghost use Rattle.std.specs.Prelude.{◌≡◌, ◌≤◌, ◌+◌, ◌<◌, is_some, [], length, IfOk};
-ghost use Rattle.djq_model.specs.Data.{query_of, rows_of};
+ghost use Rattle.std.specs.Prelude.{◌≡◌, ◌≤◌, ◌+◌, ◌-◌, ◌<◌, ◌∷◌, ◌++◌, false, [], length, map, option_map, slice_get, IfOk, IsSomeAnd, AllPairs};
+ghost use Rattle.djq_model.specs.Data.{bytes_eq, query_of, rows_of, without_row};
+ghost use Rattle.djq_lines.specs.declared.limits.TheConstants.{SESSIONS};
 ghost use Rattle.djq_machine.specs.State.{opening};
 ghost use Rattle.djq_machine.specs.Store.{MakesRelation, AddsRow, DeletesRow, RegistersQuery};
 ghost use Rattle.djq_machine.specs.Store.{TellsWhether, has_steps};
-ghost use Rattle.djq_machine.specs.Stale.{add_outdates, delete_outdates};
+ghost use Rattle.djq_machine.specs.Stale.{add_outdates, add_accepted, delete_outdates};
 ghost use Rattle.djq_engine.specs.Kept.{SameCursors, Outdates, DropGives, OpenGives, NextGives};
 ghost use Rattle.djq_engine.specs.Kept.{MoreGives, ClosesCursor, IsHeld, IsFresh, IsThere};
 ghost use Rattle.djq_engine.specs.Kept.{AnswerIs, ExplainGives};
+ghost use Rattle.djq_engine.specs.Kept.{registered_of, registered_at, same_query, IsRegistered};
+ghost use Rattle.djq_engine.specs.Kept.{with_watchers, told_at};
+ghost use Rattle.djq_engine.specs.Watching.{TellsChange, Enrols};
 
 use crate::asking::{answer_in, explain_in, has_in};
 use crate::cursor::{CursorId, QueryId};
 use crate::lent::LentAnswer;
 use crate::parts::Parts;
-use crate::places::find_query;
 use crate::reading::{close_in, more_in, next_in, open_in};
 use crate::registering::{drop_in, query_in};
 use crate::rows::{add_in, del_in, rel_in};
-use djq_cursor::DeltaLog;
-use djq_lines::{AddOutcome, DeleteOutcome, QueryOutcome, Refusal};
+use crate::watching::{
+    affected_count_in, affected_in, delta_len_in, delta_line_in, laws_in, query_id_in, query_name_in, unwatch_in,
+    watch_in, watchers_in,
+};
+use djq_lines::{AddOutcome, DeleteOutcome, QueryOutcome, Refusal, Sign};
 use djq_live::Next;
 use djq_model::{Name, NoMem, Query, Sequence, Types, Value};
 use djq_reduct::Answer;
@@ -39,11 +45,11 @@ impl Model for Engine {
 
     ghost Value = { Kept };
 
-    ghost use Rattle.djq_engine.specs.Whole.{kept_in, IsWhole};
+    ghost use Rattle.djq_engine.specs.Whole.{kept_in, IsWhole, IsTended};
 
     ghost view = { λ e. kept_in e.parts };
 
-    ghost invariant = { λ e. IsWhole e.parts };
+    ghost invariant = { λ e. IsWhole e.parts × IsTended e.parts };
 }
 
 impl Engine {
@@ -55,6 +61,7 @@ impl Engine {
     pub fn new(alloc: Global) -> Result<Engine, NoMem>
         ensures store { IfOk result (λ e. e.store ≡ opening.store) }
         ensures cursors { IfOk result (λ e. e.cursors ≡ []) }
+        ensures registered { IfOk result (λ e. e.registered ≡ []) }
     {
         match Catalog::new(alloc) {
             Ok(catalog) => Ok(Engine {
@@ -63,9 +70,11 @@ impl Engine {
                     catalog,
                     readers: Vec::new(alloc),
                     queries: Vec::new(alloc),
+                    watchers: Vec::new(alloc),
+                    logs: Vec::new(alloc),
                     order: Sequence::new(alloc),
                     seq: 0,
-                    log: DeltaLog::new(alloc),
+                    changed: 0,
                 },
             }),
             Err(error) => Err(error),
@@ -91,12 +100,91 @@ impl Engine {
 
     /// The id of a query. `None` exactly where no query has the name.
     pub fn query_id(&self, name: &Name) -> Option<QueryId>
-        ensures { is_some result ≡ is_some (query_of self.now.store.queries name.now) }
+        ensures { result ≡ option_map (λ r. r.id) (registered_of self.now.registered name.now) }
     {
-        match find_query(self.parts.queries.as_slice(), name) {
-            Some(at) => Some(QueryId { at }),
-            None => None,
-        }
+        query_id_in(&self.parts, name)
+    }
+
+    /// The name of a registered query.
+    pub fn query_name(&self, id: QueryId) -> Name
+        requires { IsRegistered self.now id }
+        ensures { IsSomeAnd (registered_at self.now.registered id) (λ r. result ≡ r.query.name) }
+    {
+        query_name_in(&self.parts, id)
+    }
+
+    /// What holds of an engine between any two calls. It does nothing.
+    pub fn laws(&self)
+        ensures queries { map (λ r. r.query) self.now.registered ≡ self.now.store.queries }
+        ensures apart { AllPairs (λ r s. same_query r.id s.id ≡ false) self.now.registered }
+        ensures named { AllPairs (λ r s. bytes_eq r.query.name s.query.name ≡ false)
+            self.now.registered }
+    {
+        laws_in(&self.parts);
+    }
+
+    /// A session more watches a query. Its changes are told from now on. It takes no memory.
+    pub fn watch(&mut self, id: QueryId)
+        requires registered { IsRegistered self.old id }
+        requires few { IsSomeAnd (registered_at self.old.registered id)
+            (λ r. r.watchers < SESSIONS) }
+        ensures { self.new ≡ record self.old {
+          registered = with_watchers id (λ n. n + 1) self.old.registered;
+        } }
+    {
+        watch_in(&mut self.parts, id);
+    }
+
+    /// A session that watched a query does so no more. It takes no memory.
+    pub fn unwatch(&mut self, id: QueryId)
+        requires { IsSomeAnd (registered_at self.old.registered id) (λ r. 0 < r.watchers) }
+        ensures { self.new ≡ record self.old {
+          registered = with_watchers id (λ n. n - 1) self.old.registered;
+        } }
+    {
+        unwatch_in(&mut self.parts, id);
+    }
+
+    /// How many sessions watch a query.
+    pub fn watchers(&self, id: QueryId) -> u32
+        requires { IsRegistered self.now id }
+        ensures { IsSomeAnd (registered_at self.now.registered id) (λ r. result ≡ r.watchers) }
+    {
+        watchers_in(&self.parts, id)
+    }
+
+    /// How many queries read the relation of the last accepted change.
+    pub fn affected_count(&self) -> usize
+        ensures { result ≡ length self.now.affected }
+    {
+        affected_count_in(&self.parts)
+    }
+
+    /// The nth of them, in order of registration.
+    pub fn affected(&self, nth: usize) -> QueryId
+        requires { nth < length self.now.affected }
+        ensures { slice_get self.now.affected nth ≡ Some result }
+    {
+        affected_in(&self.parts, nth)
+    }
+
+    /// How many answers of a query came or went with the last change of a relation that it reads.
+    /// `None` where that was lost for want of memory.
+    pub fn delta_len(&self, id: QueryId) -> Option<usize>
+        requires { IsRegistered self.now id }
+        ensures { result ≡ option_map (λ changes. length changes) (told_at self.now id) }
+    {
+        delta_len_in(&self.parts, id)
+    }
+
+    /// One of them: whether it came or went, and the answer, lent.
+    pub fn delta_line(&self, id: QueryId, nth: usize) -> (Sign, LentAnswer<'_>)
+        requires registered { IsRegistered self.now id }
+        requires within { IsSomeAnd (told_at self.now id) (λ changes. nth < length changes) }
+        ensures { IsSomeAnd (told_at self.now id) (λ changes. IsSomeAnd (slice_get changes nth)
+            (λ c. (result.0 ≡ c.sign) × (result.1 ≡ c.answer))) }
+    {
+        delta_line_in(&self.parts, id, nth)
     }
 
     /// Makes a relation without rows.
@@ -109,6 +197,7 @@ impl Engine {
     pub fn rel(&mut self, name: Name, types: Types) -> Result<(), Refusal>
         ensures makes { MakesRelation self.old.store name types result self.new.store }
         ensures cursors { SameCursors self.old.cursors self.new.cursors }
+        ensures registered { self.new.registered ≡ self.old.registered }
     {
         rel_in(&mut self.parts, name, types)
     }
@@ -130,7 +219,11 @@ impl Engine {
     ) -> Result<AddOutcome, Refusal>
         ensures adds { AddsRow self.old.store name.now row.now result self.new.store }
         ensures outdates { Outdates self.old name.now (add_outdates result) self.new }
-        ensures counted { steps.new.listing ≡ steps.old.listing }
+        ensures watches { self.new.registered ≡ self.old.registered }
+        ensures tells { TellsChange self.old name.now
+            (rows_of self.old.store.relations name.now ++ row.now ∷ [])
+            (add_outdates result) (add_accepted result) self.new
+            steps.old.listing steps.new.listing }
     {
         add_in(&mut self.parts, name, row, steps)
     }
@@ -150,7 +243,11 @@ impl Engine {
     ) -> Result<DeleteOutcome, Refusal>
         ensures deletes { DeletesRow self.old.store name.now row.now result self.new.store }
         ensures outdates { Outdates self.old name.now (delete_outdates result) self.new }
-        ensures counted { steps.new.listing ≡ steps.old.listing }
+        ensures watches { self.new.registered ≡ self.old.registered }
+        ensures tells { TellsChange self.old name.now
+            (without_row (rows_of self.old.store.relations name.now) row.now)
+            (delete_outdates result) (delete_outdates result) self.new
+            steps.old.listing steps.new.listing }
     {
         del_in(&mut self.parts, name, row, steps)
     }
@@ -172,6 +269,7 @@ impl Engine {
         requires { 0 < length query.atoms }
         ensures registers { RegistersQuery self.old.store query result self.new.store }
         ensures cursors { SameCursors self.old.cursors self.new.cursors }
+        ensures enrols { Enrols self.old.registered query result self.new.registered }
         ensures counted { steps.new.listing ≡ steps.old.listing }
     {
         query_in(&mut self.parts, query, steps)
@@ -182,8 +280,8 @@ impl Engine {
     ///
     /// # Errors
     ///
-    /// `NoQuery` where none has the name; `InUse` where a cursor is over it, stale or not. Nothing
-    /// has changed.
+    /// `NoQuery` where none has the name; `InUse` where a cursor is over it, stale or not, or a
+    /// session watches it. Nothing has changed.
     pub fn drop_query(&mut self, query: &Name) -> Result<(), Refusal>
         ensures { DropGives self.old query.now result self.new }
     {

@@ -1,6 +1,6 @@
 ghost use Rattle.std.specs.Prelude.{◌≡◌, ◌<◌, Some, length, slice_get};
 ghost use Rattle.djq_model.specs.Lent.{value_lent};
-ghost use Rattle.djq_live.specs.Live.{IsKept, IsShowable, values_of};
+ghost use Rattle.djq_live.specs.Live.{IsLive, IsShowable, values_of};
 
 use djq_live::LiveQuery;
 use djq_model::Lent;
@@ -8,7 +8,7 @@ use djq_reduct::Answer;
 use djq_rows::Catalog;
 use std::marker::Model;
 
-/// An answer that is lent as its values, in the head's order. Contracts see the tuple of them.
+/// An answer that is lent as its values, in the head's order, or one that went. Contracts see the tuple of them.
 #[derive(Drop)]
 pub struct LentAnswer<'a> {
     catalog: &'a Catalog,
@@ -21,22 +21,22 @@ impl<'a> Model for LentAnswer<'a> {
 
     ghost Value = { Tuple };
 
-    ghost use Rattle.djq_live.specs.Live.{IsKept, IsShowable, values_of};
+    ghost use Rattle.djq_live.specs.Live.{IsLive, IsShowable, values_of};
 
     ghost view = { λ a. values_of a.catalog.now.texts a.query.now a.answer.now };
 
-    ghost invariant = { λ a. IsKept a.catalog.now a.query.now
+    ghost invariant = { λ a. IsLive a.catalog.now a.query.now
         × IsShowable a.catalog.now.texts a.query.now a.answer.now };
 }
 
 impl<'a> LentAnswer<'a> {
-    /// An answer of a query that is kept over a catalog, or one that was taken out.
+    /// An answer of a query that is kept over a catalog, or one that went.
     pub(crate) fn new(
         catalog: &'a Catalog,
         query: &'a LiveQuery,
         answer: &'a Answer,
     ) -> LentAnswer<'a>
-        requires kept { IsKept catalog.now query.now }
+        requires live { IsLive catalog.now query.now }
         requires showable { IsShowable catalog.now.texts query.now answer.now }
         ensures { result ≡ values_of catalog.now.texts query.now answer.now }
     {

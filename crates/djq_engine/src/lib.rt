@@ -19,3 +19,4 @@ mod reach;
 mod reading;
 mod registering;
 mod rows;
+mod watching;

@@ -14,10 +14,14 @@ pub struct Parts {
     pub readers: Vec<Sequence<usize>>,
     /// A place keeps its query until that is dropped, and is vacant then.
     pub queries: Vec<Option<LiveQuery>>,
+    /// For each place how many sessions watch its query.
+    pub watchers: Vec<u32>,
+    /// For each place how the answers of its query changed last, while it was watched.
+    pub logs: Vec<DeltaLog>,
     /// The places of the registered queries, in order of registration.
     pub order: Sequence<usize>,
     /// The number of accepted changes of rows.
     pub seq: u64,
-    /// Where a change would tell how answers change. Nobody watches yet.
-    pub log: DeltaLog,
+    /// The place of the relation of the last one.
+    pub changed: usize,
 }

@@ -1,11 +1,13 @@
 //! The places of the registered queries.
 ghost use Rattle.std.specs.Prelude.{◌≡◌, ◌==◌, ◌<◌, None, not, filter, position, length, IfOk};
-ghost use Rattle.djq_engine.specs.Places.{place_at, is_query, left};
+ghost use Rattle.djq_engine.specs.Places.{place_at, is_query, left, watched_at};
 ghost use Rattle.djq_engine.specs.Sound.{AreOnce};
-ghost use Rattle.djq_engine.specs.Placing.{SamePlaces, AllOnce, LeavesAll};
+ghost use Rattle.djq_engine.specs.Placing.{SamePlaces, SameWatchers, SameLogs, AllOnce, LeavesAll};
 
+use djq_cursor::DeltaLog;
 use djq_live::LiveQuery;
 use djq_model::{Name, NoMem, Sequence};
+use std::alloc::Global;
 
 // Whether a place has the query of a name.
 fn is_named(place: &Option<LiveQuery>, name: &Name) -> bool
@@ -24,22 +26,47 @@ pub fn find_query(queries: &[Option<LiveQuery>], name: &Name) -> Option<usize>
     queries.iter().position(|place| is_named(place, name))
 }
 
-/// A place where no query is registered, which is made where there is none.
+/// A place where no query is registered, which is made where there is none, unwatched and with an
+/// empty log.
 ///
 /// # Errors
 ///
 /// `NoMem` out of memory.
-pub fn vacant_place(queries: &mut Vec<Option<LiveQuery>>) -> Result<usize, NoMem>
+pub fn vacant_place(
+    alloc: Global,
+    queries: &mut Vec<Option<LiveQuery>>,
+    watchers: &mut Vec<u32>,
+    logs: &mut Vec<DeltaLog>,
+) -> Result<usize, NoMem>
+    requires watched { length watchers.old.items ≡ length queries.old.items }
+    requires logged { length logs.old.items ≡ length queries.old.items }
     ensures place { IfOk result (λ at. at < length queries.new.items) }
     ensures vacant { IfOk result (λ at. place_at queries.new.items at ≡ None) }
     ensures same { SamePlaces queries.old.items queries.new.items }
+    ensures watchers { SameWatchers watchers.old.items watchers.new.items }
+    ensures logs { SameLogs logs.old.items logs.new.items }
+    ensures watched { length watchers.new.items ≡ length queries.new.items }
+    ensures logged { length logs.new.items ≡ length queries.new.items }
 {
     if let Some(at) = queries.iter().position(|place| place.is_none()) {
         return Ok(at);
     }
     let at = queries.len();
-    queries.push(None)?;
+    queries.reserve(1)?;
+    watchers.reserve(1)?;
+    logs.reserve(1)?;
+    queries.push_reserved(None);
+    watchers.push_reserved(0);
+    logs.push_reserved(DeltaLog::new(alloc));
     Ok(at)
+}
+
+/// Whether a session watches the query in a place.
+pub fn is_watched(watchers: &[u32], at: usize) -> bool
+    requires { at < length watchers.now }
+    ensures { result ≡ watched_at watchers.now at }
+{
+    watchers[at] > 0
 }
 
 // Where a place stands in a list of places.

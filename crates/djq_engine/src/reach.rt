@@ -1,35 +1,105 @@
 //! What a change does to the queries that read its relation, one after another. No other query is
 //! looked at.
-ghost use Rattle.std.specs.Prelude.{◌≡◌, [], ◌∷◌, ⊤, IsSomeAnd, OnOk, OnErr};
-ghost use Rattle.djq_live.specs.Updating.{CanAdd, CanDelete};
+ghost use Rattle.std.specs.Prelude.{◌≡◌, ◌<◌, [], ◌∷◌, ⊤, IsSomeAnd, OnOk, OnErr, length};
+ghost use Rattle.djq_live.specs.Changes.{Came, Went};
+ghost use Rattle.djq_live.specs.Updating.{CanAdd, CanDelete, CountsDelta};
 ghost use Rattle.djq_engine.specs.Places.{place_at};
+ghost use Rattle.djq_engine.specs.Tending.{Readies, TellsWhere, Tends, TellsAt, Shows, Costs};
 ghost use Rattle.djq_engine.specs.Sound.{AreOnce};
 ghost use Rattle.djq_engine.specs.Reaching.{Reach, AllAt, CanCome, CanGo};
 ghost use Rattle.djq_engine.specs.Reaching.{TakesIn, LetsOut, Remains, GivesBack, Ages};
 
+use crate::places::is_watched;
 use djq_cursor::DeltaLog;
 use djq_live::LiveQuery;
 use djq_model::{Name, NoMem};
 use djq_rows::RelationId;
 use djq_steps::{Ledgers, Steps};
 
+// A log is made ready to tell anew, where that is wanted.
+fn ready(log: &mut DeltaLog, wanted: bool)
+    ensures { Readies wanted log.old log.new }
+{
+    if wanted {
+        log.clear();
+    }
+}
+
+// A query takes in a row that came. Where it is watched, its log tells anew which answers came.
+fn take_one<L: Ledgers>(
+    query: &mut LiveQuery,
+    wanted: bool,
+    log: &mut DeltaLog,
+    relation: RelationId,
+    cells: &[u64],
+    steps: &mut Steps<L>,
+) -> Result<(), NoMem>
+    requires { CanAdd query.old relation.at cells.now }
+    ensures taken { OnOk result (TakesIn relation.at cells.now query.old query.new) }
+    ensures refused { OnErr result (Remains query.old query.new) }
+    ensures tells { OnOk result (TellsWhere wanted (λ c d. Came c d relation.at cells.now)
+        query.old log.old log.new) }
+    ensures none { OnErr result (log.new.lines ≡ []) }
+    ensures counted { CountsDelta wanted (λ c d. Came c d relation.at cells.now)
+        query.old relation.at steps.old.listing steps.new.listing }
+{
+    ready(log, wanted);
+    match query.add(relation, cells, wanted, log, steps) {
+        Ok(()) => Ok(()),
+        Err(error) => {
+            log.clear();
+            Err(error)
+        }
+    }
+}
+
+// A query lets out a row that went. Where it is watched, its log tells anew which answers went.
+fn let_one<L: Ledgers>(
+    query: &mut LiveQuery,
+    wanted: bool,
+    log: &mut DeltaLog,
+    relation: RelationId,
+    cells: &[u64],
+    steps: &mut Steps<L>,
+)
+    requires { CanDelete query.old relation.at cells.now }
+    ensures lets { LetsOut relation.at cells.now query.old query.new }
+    ensures tells { TellsWhere wanted (λ c d. Went c d relation.at cells.now)
+        query.old log.old log.new }
+    ensures counted { CountsDelta wanted (λ c d. Went c d relation.at cells.now)
+        query.old relation.at steps.old.listing steps.new.listing }
+{
+    ready(log, wanted);
+    query.delete(relation, cells, wanted, log, steps);
+}
+
 // The query in a place takes in a row that came.
 fn take_at<L: Ledgers>(
     queries: &mut Vec<Option<LiveQuery>>,
+    watchers: &[u32],
+    logs: &mut Vec<DeltaLog>,
     at: usize,
     relation: RelationId,
     cells: &[u64],
-    log: &mut DeltaLog,
     steps: &mut Steps<L>,
 ) -> Result<(), NoMem>
-    requires { IsSomeAnd (place_at queries.old.items at) (λ l. CanAdd l relation.at cells.now) }
+    requires can { IsSomeAnd (place_at queries.old.items at) (λ l. CanAdd l relation.at cells.now) }
+    requires watched { at < length watchers.now }
+    requires logged { at < length logs.old.items }
     ensures ok { OnOk result (Reach (at ∷ []) (TakesIn relation.at cells.now)
         queries.old.items queries.new.items) }
     ensures err { OnErr result (Reach (at ∷ []) Remains queries.old.items queries.new.items) }
-    ensures counted { steps.new.listing ≡ steps.old.listing }
+    ensures tells { OnOk result (Tends (at ∷ [])
+        (TellsAt watchers.now (λ c d. Came c d relation.at cells.now))
+        queries.old.items logs.old.items logs.new.items) }
+    ensures shows { Tends (at ∷ []) (Shows (λ c d. Came c d relation.at cells.now))
+        queries.old.items logs.old.items logs.new.items }
+    ensures counted { Costs (λ c d. Came c d relation.at cells.now) (at ∷ []) watchers.now
+        queries.old.items relation.at steps.old.listing steps.new.listing }
 {
+    let wanted = is_watched(watchers, at);
     match &mut queries[at] {
-        Some(query) => query.add(relation, cells, false, log, steps),
+        Some(query) => take_one(query, wanted, &mut logs[at], relation, cells, steps),
         None => unreachable!(),
     }
 }
@@ -37,19 +107,27 @@ fn take_at<L: Ledgers>(
 // It lets out a row that went.
 fn let_at<L: Ledgers>(
     queries: &mut Vec<Option<LiveQuery>>,
+    watchers: &[u32],
+    logs: &mut Vec<DeltaLog>,
     at: usize,
     relation: RelationId,
     cells: &[u64],
-    log: &mut DeltaLog,
     steps: &mut Steps<L>,
 )
-    requires { IsSomeAnd (place_at queries.old.items at) (λ l. CanDelete l relation.at cells.now) }
+    requires can { IsSomeAnd (place_at queries.old.items at)
+        (λ l. CanDelete l relation.at cells.now) }
+    requires watched { at < length watchers.now }
+    requires logged { at < length logs.old.items }
     ensures reach { Reach (at ∷ []) (LetsOut relation.at cells.now)
         queries.old.items queries.new.items }
-    ensures counted { steps.new.listing ≡ steps.old.listing }
+    ensures tells { Tends (at ∷ []) (TellsAt watchers.now (λ c d. Went c d relation.at cells.now))
+        queries.old.items logs.old.items logs.new.items }
+    ensures counted { Costs (λ c d. Went c d relation.at cells.now) (at ∷ []) watchers.now
+        queries.old.items relation.at steps.old.listing steps.new.listing }
 {
+    let wanted = is_watched(watchers, at);
     match &mut queries[at] {
-        Some(query) => query.delete(relation, cells, false, log, steps),
+        Some(query) => let_one(query, wanted, &mut logs[at], relation, cells, steps),
         None => unreachable!(),
     }
 }
@@ -84,30 +162,40 @@ fn age_at(queries: &mut Vec<Option<LiveQuery>>, at: usize, relation: Name, seq: 
     }
 }
 
-/// The queries in these places take in a row that came into a relation, given by its cells; or, out
-/// of memory, those that had taken it give it back.
+/// The queries in these places take in a row that came into a relation, given by its cells, and the
+/// logs of those that are watched tell anew which answers came; or, out of memory, those that had
+/// taken it give it back.
 ///
 /// # Errors
 ///
 /// `NoMem` out of memory; answers are as before.
 pub fn take_in<L: Ledgers>(
     queries: &mut Vec<Option<LiveQuery>>,
+    watchers: &[u32],
+    logs: &mut Vec<DeltaLog>,
     places: &[usize],
     relation: RelationId,
     cells: &[u64],
-    log: &mut DeltaLog,
     steps: &mut Steps<L>,
 ) -> Result<(), NoMem>
     requires once { AreOnce places.now }
     requires can { CanCome places.now relation.at cells.now queries.old.items }
+    requires watched { length watchers.now ≡ length queries.old.items }
+    requires logged { length logs.old.items ≡ length queries.old.items }
     ensures taken { OnOk result (Reach places.now (TakesIn relation.at cells.now)
         queries.old.items queries.new.items) }
     ensures given { OnErr result (Reach places.now (GivesBack relation.at cells.now)
         queries.old.items queries.new.items) }
-    ensures counted { steps.new.listing ≡ steps.old.listing }
+    ensures tells { OnOk result (Tends places.now
+        (TellsAt watchers.now (λ c d. Came c d relation.at cells.now))
+        queries.old.items logs.old.items logs.new.items) }
+    ensures shows { Tends places.now (Shows (λ c d. Came c d relation.at cells.now))
+        queries.old.items logs.old.items logs.new.items }
+    ensures counted { Costs (λ c d. Came c d relation.at cells.now) places.now watchers.now
+        queries.old.items relation.at steps.old.listing steps.new.listing }
 {
     for at in 0..places.len() {
-        match take_at(queries, places[at], relation, cells, log, steps) {
+        match take_at(queries, watchers, logs, places[at], relation, cells, steps) {
             Ok(()) => {}
             Err(error) => {
                 give_back(queries, &places[..at], relation, cells, steps);
@@ -137,23 +225,30 @@ fn give_back<L: Ledgers>(
     }
 }
 
-/// The queries in these places let out a row that went out of a relation. It takes no memory.
+/// The queries in these places let out a row that went out of a relation, and the logs of those
+/// that are watched tell anew which answers went. It takes no memory but the logs'.
 pub fn let_out<L: Ledgers>(
     queries: &mut Vec<Option<LiveQuery>>,
+    watchers: &[u32],
+    logs: &mut Vec<DeltaLog>,
     places: &[usize],
     relation: RelationId,
     cells: &[u64],
-    log: &mut DeltaLog,
     steps: &mut Steps<L>,
 )
     requires once { AreOnce places.now }
     requires can { CanGo places.now relation.at cells.now queries.old.items }
+    requires watched { length watchers.now ≡ length queries.old.items }
+    requires logged { length logs.old.items ≡ length queries.old.items }
     ensures reach { Reach places.now (LetsOut relation.at cells.now)
         queries.old.items queries.new.items }
-    ensures counted { steps.new.listing ≡ steps.old.listing }
+    ensures tells { Tends places.now (TellsAt watchers.now (λ c d. Went c d relation.at cells.now))
+        queries.old.items logs.old.items logs.new.items }
+    ensures counted { Costs (λ c d. Went c d relation.at cells.now) places.now watchers.now
+        queries.old.items relation.at steps.old.listing steps.new.listing }
 {
     for at in 0..places.len() {
-        let_at(queries, places[at], relation, cells, log, steps);
+        let_at(queries, watchers, logs, places[at], relation, cells, steps);
     }
 }
 

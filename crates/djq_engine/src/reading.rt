@@ -3,7 +3,7 @@ ghost use Rattle.std.specs.Prelude.{◌≡◌, ⊤, IsSomeAnd, IfOk, OnErr};
 ghost use Rattle.djq_engine.specs.Places.{place_at};
 ghost use Rattle.djq_engine.specs.Kept.{IsHeld, IsFresh, OpenGives, NextGives, MoreGives, ClosesCursor};
 ghost use Rattle.djq_engine.specs.Moving.{Moves, IsReadable, IsFreshly, OpensAt, ClosesAt, ReadsAt, TellsAt};
-ghost use Rattle.djq_engine.specs.Whole.{kept_in, IsWhole};
+ghost use Rattle.djq_engine.specs.Whole.{kept_in, IsWhole, IsTended};
 
 use crate::cursor::{CursorId, QueryId};
 use crate::parts::Parts;
@@ -74,8 +74,10 @@ fn more_at<L: Ledgers>(
 
 /// Opens a cursor in front of the answers of a query.
 pub fn open_in(parts: &mut Parts, query: &Name) -> Result<CursorId, Refusal>
-    requires { IsWhole parts.old }
+    requires whole { IsWhole parts.old }
+    requires tended { IsTended parts.old }
     ensures whole { IsWhole parts.new }
+    ensures tended { IsTended parts.new }
     ensures gives { OpenGives (kept_in parts.old) query.now result (kept_in parts.new) }
 {
     let Some(at) = find_query(parts.queries.as_slice(), query) else {
@@ -93,8 +95,10 @@ pub fn open_in(parts: &mut Parts, query: &Name) -> Result<CursorId, Refusal>
 /// Gives up a cursor.
 pub fn close_in(parts: &mut Parts, id: CursorId)
     requires whole { IsWhole parts.old }
+    requires tended { IsTended parts.old }
     requires held { IsHeld (kept_in parts.old) id }
     ensures whole { IsWhole parts.new }
+    ensures tended { IsTended parts.new }
     ensures closes { ClosesCursor (kept_in parts.old) id (kept_in parts.new) }
 {
     close_at(&mut parts.queries, id.query.at, id.cursor);
@@ -108,8 +112,10 @@ pub fn next_in<L: Ledgers>(
     listing: &mut Tally<Listing<L>>,
 ) -> Next
     requires whole { IsWhole parts.old }
+    requires tended { IsTended parts.old }
     requires held { IsHeld (kept_in parts.old) id }
     ensures whole { IsWhole parts.new }
+    ensures tended { IsTended parts.new }
     ensures gives { NextGives (kept_in parts.old) id result answer.new (kept_in parts.new)
         listing.old listing.new }
 {
@@ -119,8 +125,10 @@ pub fn next_in<L: Ledgers>(
 /// Tells whether an answer is left for a cursor that isn't stale.
 pub fn more_in<L: Ledgers>(parts: &mut Parts, id: CursorId, listing: &mut Tally<Listing<L>>) -> bool
     requires whole { IsWhole parts.old }
+    requires tended { IsTended parts.old }
     requires fresh { IsFresh (kept_in parts.old) id }
     ensures whole { IsWhole parts.new }
+    ensures tended { IsTended parts.new }
     ensures gives { MoreGives (kept_in parts.old) id result (kept_in parts.new)
         listing.old listing.new }
 {

@@ -7,14 +7,17 @@ ghost use Rattle.djq_engine.specs.Kept.{SameCursors, DropGives};
 ghost use Rattle.djq_engine.specs.Places.{place_at};
 ghost use Rattle.djq_engine.specs.Placing.{JoinsReaders, JoinsSome};
 ghost use Rattle.djq_engine.specs.Registering.{Registers, SameParts};
-ghost use Rattle.djq_engine.specs.Whole.{kept_in, IsWhole};
+ghost use Rattle.djq_engine.specs.Watching.{Enrols};
+ghost use Rattle.djq_engine.specs.Whole.{kept_in, IsWhole, IsTended};
 
 use crate::parts::Parts;
-use crate::places::{find_query, leave_all, leave_out, vacant_place};
+use crate::places::{find_query, is_watched, leave_all, leave_out, vacant_place};
 use djq_dict::InternRefusal;
 use djq_lines::limits::QUERIES;
 use djq_lines::{QueryOutcome, Refusal};
-use djq_live::{LiveQuery, Unplanned, intern_constants, live_stays, plan_query, query_fault_of};
+use djq_live::{
+    LiveQuery, Unplanned, intern_constants, live_stays, plan_query, query_fault_of, showable_stays,
+};
 use djq_model::{Name, NoMem, Query, Sequence};
 use djq_rows::{Catalog, RelationId, texts_stay};
 use djq_steps::{Ledgers, Steps};
@@ -66,11 +69,13 @@ fn join_readers(
 // Puts a query in a vacant place, behind the others in order and behind the readers of its
 // relations; or changes nothing that is seen, out of memory.
 fn register(parts: &mut Parts, query: LiveQuery) -> Result<(), NoMem>
-    requires { IsWhole parts.old }
+    requires whole { IsWhole parts.old }
+    requires tended { IsTended parts.old }
     ensures ok { OnOk result (Registers query parts.old parts.new) }
     ensures err { OnErr result (SameParts parts.old parts.new) }
 {
-    let at = match vacant_place(&mut parts.queries) {
+    let (queries, watchers, logs) = (&mut parts.queries, &mut parts.watchers, &mut parts.logs);
+    let at = match vacant_place(parts.alloc, queries, watchers, logs) {
         Ok(at) => at,
         Err(error) => return Err(error),
     };
@@ -80,6 +85,8 @@ fn register(parts: &mut Parts, query: LiveQuery) -> Result<(), NoMem>
     }
     match join_readers(&mut parts.readers, &parts.catalog, query.query(), at) {
         Ok(()) => {
+            parts.watchers[at] = 0;
+            parts.logs[at].clear();
             parts.queries[at] = Some(query);
             Ok(())
         }
@@ -115,15 +122,20 @@ pub fn query_in<L: Ledgers>(
     steps: &mut Steps<L>,
 ) -> Result<QueryOutcome, Refusal>
     requires whole { IsWhole parts.old }
+    requires tended { IsTended parts.old }
     requires some { 0 < length query.atoms }
     ensures whole { IsWhole parts.new }
+    ensures tended { IsTended parts.new }
     ensures registers { RegistersQuery (kept_in parts.old).store query result
         (kept_in parts.new).store }
     ensures cursors { SameCursors (kept_in parts.old).cursors (kept_in parts.new).cursors }
+    ensures enrols { Enrols (kept_in parts.old).registered query result
+        (kept_in parts.new).registered }
     ensures counted { steps.new.listing ≡ steps.old.listing }
 {
     live_stays();
     texts_stay();
+    showable_stays();
     if let Some(refusal) = judge_query(parts, &query) {
         return Err(refusal);
     }
@@ -161,20 +173,26 @@ fn is_idle(queries: &[Option<LiveQuery>], at: usize) -> bool
     }
 }
 
-/// Drops a query that no cursor is over.
+/// Drops a query that no cursor is over and no session watches.
 pub fn drop_in(parts: &mut Parts, query: &Name) -> Result<(), Refusal>
-    requires { IsWhole parts.old }
+    requires whole { IsWhole parts.old }
+    requires tended { IsTended parts.old }
     ensures whole { IsWhole parts.new }
+    ensures tended { IsTended parts.new }
     ensures gives { DropGives (kept_in parts.old) query.now result (kept_in parts.new) }
 {
     let Some(at) = find_query(parts.queries.as_slice(), query) else {
         return Err(Refusal::NoQuery);
     };
+    if is_watched(parts.watchers.as_slice(), at) {
+        return Err(Refusal::InUse);
+    }
     if !is_idle(parts.queries.as_slice(), at) {
         return Err(Refusal::InUse);
     }
     leave_all(&mut parts.readers, at);
     leave_out(&mut parts.order, at);
+    parts.logs[at].clear();
     parts.queries[at] = None;
     Ok(())
 }

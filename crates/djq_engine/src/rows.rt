@@ -1,22 +1,25 @@
 //! Rows that are added and deleted, and relations that are made.
-ghost use Rattle.std.specs.Prelude.{◌≡◌, ◌<◌, ⊤, length};
+ghost use Rattle.std.specs.Prelude.{◌≡◌, ◌<◌, [], ◌∷◌, ◌++◌, ⊤, length};
+ghost use Rattle.djq_model.specs.Data.{rows_of, without_row};
 ghost use Rattle.djq_machine.specs.Store.{MakesRelation, AddsRow, DeletesRow};
-ghost use Rattle.djq_machine.specs.Stale.{add_outdates, delete_outdates};
+ghost use Rattle.djq_machine.specs.Stale.{add_outdates, add_accepted, delete_outdates};
 ghost use Rattle.djq_engine.specs.Kept.{Outdates, SameCursors};
 ghost use Rattle.djq_engine.specs.Places.{readers_at};
 ghost use Rattle.djq_engine.specs.Sound.{AreOnce};
 ghost use Rattle.djq_engine.specs.Reaching.{AllAt};
 ghost use Rattle.djq_engine.specs.Changing.{AgesReaders};
-ghost use Rattle.djq_engine.specs.Whole.{kept_in, IsWhole};
+ghost use Rattle.djq_engine.specs.Watching.{TellsChange};
+ghost use Rattle.djq_engine.specs.Whole.{kept_in, IsWhole, IsTended};
 
 use crate::change::{drop_cells, put_row};
 use crate::judge::{judge_add, judge_delete};
 use crate::parts::Parts;
 use crate::reach::age;
+use djq_deltas::deltas_exist;
 use djq_dict::InternRefusal;
 use djq_lines::limits::{COLUMNS, RELATIONS};
 use djq_lines::{AddOutcome, DeleteOutcome, Refusal};
-use djq_live::live_stays;
+use djq_live::{heads_are_bound, live_stays};
 use djq_model::{Name, Sequence, Types, Value};
 use djq_rows::{RelationId, names_tell};
 use djq_steps::{Ledgers, Steps};
@@ -40,15 +43,23 @@ pub fn add_in<L: Ledgers>(
     row: &[Value],
     steps: &mut Steps<L>,
 ) -> Result<AddOutcome, Refusal>
-    requires { IsWhole parts.old }
+    requires whole { IsWhole parts.old }
+    requires tended { IsTended parts.old }
     ensures whole { IsWhole parts.new }
+    ensures tended { IsTended parts.new }
     ensures adds { AddsRow (kept_in parts.old).store name.now row.now result
         (kept_in parts.new).store }
     ensures outdates { Outdates (kept_in parts.old) name.now (add_outdates result)
         (kept_in parts.new) }
-    ensures counted { steps.new.listing ≡ steps.old.listing }
+    ensures watches { (kept_in parts.new).registered ≡ (kept_in parts.old).registered }
+    ensures tells { TellsChange (kept_in parts.old) name.now
+        (rows_of (kept_in parts.old).store.relations name.now ++ row.now ∷ [])
+        (add_outdates result) (add_accepted result) (kept_in parts.new)
+        steps.old.listing steps.new.listing }
 {
     names_tell();
+    deltas_exist();
+    heads_are_bound();
     parts.catalog.laws();
     let judged = judge_add(&parts.catalog, name, row, parts.seq, &mut steps.rows)?;
     let Some(id) = judged else {
@@ -63,26 +74,36 @@ pub fn add_in<L: Ledgers>(
         }
     }
     parts.seq += 1;
+    parts.changed = id.at;
     age_readers(parts, id, name);
     Ok(AddOutcome::Added)
 }
 
-/// Deletes a row from a relation. Where it isn't there, nothing changes. It takes no memory.
+/// Deletes a row from a relation. Where it isn't there, nothing changes. It takes no memory
+/// but the logs'.
 pub fn del_in<L: Ledgers>(
     parts: &mut Parts,
     name: &Name,
     row: &[Value],
     steps: &mut Steps<L>,
 ) -> Result<DeleteOutcome, Refusal>
-    requires { IsWhole parts.old }
+    requires whole { IsWhole parts.old }
+    requires tended { IsTended parts.old }
     ensures whole { IsWhole parts.new }
+    ensures tended { IsTended parts.new }
     ensures deletes { DeletesRow (kept_in parts.old).store name.now row.now result
         (kept_in parts.new).store }
     ensures outdates { Outdates (kept_in parts.old) name.now (delete_outdates result)
         (kept_in parts.new) }
-    ensures counted { steps.new.listing ≡ steps.old.listing }
+    ensures watches { (kept_in parts.new).registered ≡ (kept_in parts.old).registered }
+    ensures tells { TellsChange (kept_in parts.old) name.now
+        (without_row (rows_of (kept_in parts.old).store.relations name.now) row.now)
+        (delete_outdates result) (delete_outdates result) (kept_in parts.new)
+        steps.old.listing steps.new.listing }
 {
     names_tell();
+    deltas_exist();
+    heads_are_bound();
     parts.catalog.laws();
     let judged = judge_delete(&parts.catalog, name, row, parts.seq, &mut steps.rows)?;
     let Some(found) = judged else {
@@ -90,17 +111,21 @@ pub fn del_in<L: Ledgers>(
     };
     drop_cells(parts, found.relation, found.cells.as_slice(), steps);
     parts.seq += 1;
+    parts.changed = found.relation.at;
     age_readers(parts, found.relation, name);
     Ok(DeleteOutcome::Removed)
 }
 
 /// Makes a relation without rows.
 pub fn rel_in(parts: &mut Parts, name: Name, types: Types) -> Result<(), Refusal>
-    requires { IsWhole parts.old }
+    requires whole { IsWhole parts.old }
+    requires tended { IsTended parts.old }
     ensures whole { IsWhole parts.new }
+    ensures tended { IsTended parts.new }
     ensures makes { MakesRelation (kept_in parts.old).store name types result
         (kept_in parts.new).store }
     ensures cursors { SameCursors (kept_in parts.old).cursors (kept_in parts.new).cursors }
+    ensures registered { (kept_in parts.new).registered ≡ (kept_in parts.old).registered }
 {
     live_stays();
     if parts.catalog.id(&name).is_some() {

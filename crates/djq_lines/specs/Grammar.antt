@@ -49,7 +49,7 @@ use Rattle.djq_value.specs.Token.{Token, word, open_paren, close_paren, comma, a
 use Rattle.djq_value.specs.Literal.{is_name, is_small_value, literal_of, natural_of}
 use Rattle.djq_lines.specs.declared.limits.TheConstants.{NEXT_COUNT}
 use Rattle.djq_lines.specs.declared.answer.Refusal.{Refusal}
-use Rattle.djq_lines.specs.declared.answer.Refusal.TheVariants.{Syntax, WrongType, Later}
+use Rattle.djq_lines.specs.declared.answer.Refusal.TheVariants.{Syntax, WrongType}
 use Rattle.djq_lines.specs.declared.keyword.Keyword.{Keyword}
 use Rattle.djq_lines.specs.declared.keyword.Keyword.TheVariants.{
   Rel as RelWord,
@@ -301,24 +301,15 @@ takes_memory_to_read (Has q row) = true
 takes_memory_to_read (Register q) = true
 takes_memory_to_read _ = false
 
--- What is served.
-
--- whether a command is served yet
-abbrev pub is_served : Command → Bool
-is_served (Watch q) = false
-is_served (Unwatch q) = false
-is_served _ = true
-
--- What a line says: why it isn't run, whatever the state is; or a command that is served, whose
--- literals are within their limits.
+-- What a line says: why it isn't run, whatever the state is; or a command whose literals are within
+-- their limits.
 pub data Reading : Type 0 where
   refused : Refusal → Reading
   says : Command → Reading
 
 abbrev pub reading_in : Option Command → Reading
 reading_in None = refused Syntax
-reading_in (Some c) =
-    if is_served c then (if is_in_range c then says c else refused WrongType) else refused Later
+reading_in (Some c) = if is_in_range c then says c else refused WrongType
 
 abbrev pub reading_of : Bytes → Reading
 reading_of line = reading_in (command_of line)

@@ -35,7 +35,6 @@ use Rattle.djq_lines.specs.declared.answer.Refusal.TheVariants.{
   Limit,
   NoMemory,
   InUse,
-  Later,
 }
 use Rattle.djq_lines.specs.declared.answer.EndLine.{EndLine}
 use Rattle.djq_lines.specs.declared.answer.EndLine.TheVariants.{Long, Slow, Memory, Full}
@@ -72,7 +71,6 @@ refusal_line VariableType = line (codes "err 10 variable type")
 refusal_line Limit = line (codes "err 11 limit")
 refusal_line NoMemory = line (codes "err 12 memory")
 refusal_line InUse = line (codes "err 14 in use")
-refusal_line Later = line (codes "err 15 later")
 
 -- the lines that end a session, and the one that says that input ended within a line
 abbrev pub end_long : Bytes

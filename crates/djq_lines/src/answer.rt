@@ -27,8 +27,6 @@ pub enum Refusal {
     NoMemory,
     /// 14: a cursor or a watch is on the query.
     InUse,
-    /// 15: the line isn't served yet.
-    Later,
 }
 
 /// What `add` did to a row that suits its relation.

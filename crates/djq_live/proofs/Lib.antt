@@ -13,6 +13,7 @@ pub mod Members
 pub mod Later
 pub mod Showable
 pub mod Bound
+pub mod Moving
 pub mod Changing
 pub mod Placing
 pub mod Typing

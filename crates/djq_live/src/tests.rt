@@ -15,6 +15,8 @@ use std::alloc::Global;
 use std::marker::Brand;
 use std::test::Fail;
 
+mod updates;
+
 /// A term of one letter: a hole, a digit or a variable.
 fn read_term(letter: u8) -> Term {
     if letter == b'_' {

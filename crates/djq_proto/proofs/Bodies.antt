@@ -10,7 +10,7 @@ use Rattle.std.proofs.lemmas.Bool.{cond-true, true≢false}
 use Rattle.djq_model.specs.declared.query.Term.{Term}
 use Rattle.djq_proto.specs.Reading.{ReadsAs, ReadsPart, is_comma, is_outside, is_small_query}
 use Rattle.djq_proto.specs.declared.refusal.LineRefusal.{LineRefusal}
-use Rattle.djq_proto.specs.declared.refusal.LineRefusal.TheVariants.{Syntax, Later, Range, NoMem}
+use Rattle.djq_proto.specs.declared.refusal.LineRefusal.TheVariants.{Syntax, Range, NoMem}
 use Rattle.djq_proto.proofs.Listing.{all_true, held_err, onto, onto-more}
 
 -- Behind an item, a list or an atom are fewer tokens than so many.
@@ -158,7 +158,6 @@ pub part_some : {A : Type 0} (in_range : A → Bool) (o : Option (A × List Toke
 part_some in_range (Some p) r new h inside = (p.0, ap (λ us. Some (p.0, us)) (sym h.1), h.0)
 part_some in_range None (Ok a) new h inside = absurd (cc)
 part_some in_range None (Err Syntax) new h inside = absurd (cc)
-part_some in_range None (Err Later) new h inside = absurd (cc)
 part_some in_range None (Err Range) new h inside = absurd (cc)
 part_some in_range None (Err NoMem) new h inside = absurd (cc)
 
@@ -167,7 +166,6 @@ pub part_none : {A : Type 0} (in_range : A → Bool) (o : Option (A × List Toke
 part_none in_range None r new h outside = refl
 part_none in_range (Some p) (Ok a) new h outside = absurd (cc)
 part_none in_range (Some p) (Err Syntax) new h outside = absurd (h.0)
-part_none in_range (Some p) (Err Later) new h outside = absurd (cc)
 part_none in_range (Some p) (Err Range) new h outside = absurd (cc)
 part_none in_range (Some p) (Err NoMem) new h outside = absurd (cc)
 
@@ -204,7 +202,6 @@ pub head_refused : (n : Bytes) (head : List Bytes) (o : Option (List Atom)) (ato
     → ReadsAs is_small_query (option_map (λ bs. record { name = n; head = head; atoms = bs }) o) (Err e)
 head_refused n head None atoms e h k = absurd (cc)
 head_refused n head (Some bs) atoms Syntax h k = absurd h
-head_refused n head (Some bs) atoms Later h k = absurd h
 head_refused n head (Some bs) atoms Range h k = absurd (true≢false (sym (all_true head) ∙ h))
 head_refused n head (Some bs) atoms NoMem h k = k.1
 

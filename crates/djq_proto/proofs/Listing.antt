@@ -6,7 +6,7 @@ use Rattle.djq_value.specs.Token.{Token, comma, close_paren}
 use Rattle.djq_lines.specs.Grammar.{all_of, in_front, more_in, put_first}
 use Rattle.djq_proto.specs.Reading.{ReadsAs, ReadsPart, is_outside}
 use Rattle.djq_proto.specs.declared.refusal.LineRefusal.{LineRefusal}
-use Rattle.djq_proto.specs.declared.refusal.LineRefusal.TheVariants.{Syntax, Later, Range, NoMem}
+use Rattle.djq_proto.specs.declared.refusal.LineRefusal.TheVariants.{Syntax, Range, NoMem}
 
 -- items in front of others
 abbrev pub onto : {A : Type 0} → List A → Option (List A) → Option (List A)
@@ -52,7 +52,6 @@ pub reads_some : {A : Type 0} (in_range : A → Bool) (o : Option A) (r : Result
 reads_some in_range (Some x) r h inside = (x, refl, h)
 reads_some in_range None (Ok a) h inside = absurd (cc)
 reads_some in_range None (Err Syntax) h inside = absurd (cc)
-reads_some in_range None (Err Later) h inside = absurd (cc)
 reads_some in_range None (Err Range) h inside = absurd (cc)
 reads_some in_range None (Err NoMem) h inside = absurd (cc)
 
@@ -101,6 +100,5 @@ err_is (Err x) e h = ap (λ y. Err y) h
 pub held_err : {A B : Type 0} (fits : A → Bool) (holds : B → Bool) (xs : List A) (b : B) (e : LineRefusal) → holds b ≡ list_all fits xs
     → ReadsAs (list_all fits) (Some xs) (Err e) → ReadsAs holds (Some b) (Err e)
 held_err fits holds xs b Syntax same h = absurd h
-held_err fits holds xs b Later same h = absurd h
 held_err fits holds xs b Range same h = same ∙ h
 held_err fits holds xs b NoMem same h = same ∙ h

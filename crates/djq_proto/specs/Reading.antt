@@ -5,9 +5,9 @@ use Rattle.djq_model.specs.Data.{Bytes}
 use Rattle.djq_model.specs.declared.query.Query.{Query}
 use Rattle.djq_lines.specs.declared.command.Command.{Command}
 use Rattle.djq_value.specs.Token.{Token, comma}
-use Rattle.djq_lines.specs.Grammar.{command_of, is_in_range, is_served, is_small_atom, takes_memory_to_read}
+use Rattle.djq_lines.specs.Grammar.{command_of, is_in_range, is_small_atom, takes_memory_to_read}
 use Rattle.djq_proto.specs.declared.refusal.LineRefusal.{LineRefusal}
-use Rattle.djq_proto.specs.declared.refusal.LineRefusal.TheVariants.{Syntax, Later, Range, NoMem}
+use Rattle.djq_proto.specs.declared.refusal.LineRefusal.TheVariants.{Syntax, Range, NoMem}
 
 -- Nothing is there to be read, and `Syntax` is answered; or something is. Then the answer is `Range`
 -- where it isn't in range, else it or out of memory.
@@ -44,18 +44,9 @@ abbrev pub TakesMemory : Option Command → Result Command LineRefusal → Type 
 TakesMemory (Some c) (Err NoMem) = takes_memory_to_read c ≡ true
 TakesMemory o r = Unit {0}
 
--- The same of a command, which may not be served: then `Later` is answered.
-abbrev pub ReadsCommand : Option Command → Result Command LineRefusal → Type 0
-ReadsCommand None r = r ≡ Err Syntax
-ReadsCommand (Some c) (Ok d) = (d ≡ c) × (is_served c ≡ true) × (is_in_range c ≡ true)
-ReadsCommand (Some c) (Err Later) = is_served c ≡ false
-ReadsCommand (Some c) (Err Range) = (is_served c ≡ true) × (is_in_range c ≡ false)
-ReadsCommand (Some c) (Err NoMem) = (is_served c ≡ true) × (is_in_range c ≡ true)
-ReadsCommand (Some c) (Err Syntax) = ⊥
-
 -- what reading a command answers
 abbrev pub Gives : Option Command → Result Command LineRefusal → Type 0
-Gives o r = ReadsCommand o r × TakesMemory o r
+Gives o r = ReadsAs is_in_range o r × TakesMemory o r
 
 -- what reading a line answers
 abbrev pub Reads : Bytes → Result Command LineRefusal → Type 0

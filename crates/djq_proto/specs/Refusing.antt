@@ -2,15 +2,12 @@
 use Rattle.djq_value.specs.declared.literal.LiteralRefusal.{LiteralRefusal}
 use Rattle.djq_value.specs.declared.literal.LiteralRefusal.TheVariants.{Syntax as NoLiteral, Range as PastLimit, NoMem as OutOfMemory}
 use Rattle.djq_proto.specs.declared.refusal.LineRefusal.{LineRefusal}
-use Rattle.djq_proto.specs.declared.refusal.LineRefusal.TheVariants.{Syntax, Later, Range, NoMem}
+use Rattle.djq_proto.specs.declared.refusal.LineRefusal.TheVariants.{Syntax, Range, NoMem}
 
 -- the one that comes first
 abbrev pub first_of : LineRefusal → LineRefusal → LineRefusal
 first_of Syntax r = Syntax
-first_of Later Syntax = Syntax
-first_of Later _ = Later
 first_of Range Syntax = Syntax
-first_of Range Later = Later
 first_of Range _ = Range
 first_of NoMem r = r
 

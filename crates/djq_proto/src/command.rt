@@ -19,9 +19,8 @@ use std::str;
 ///
 /// # Errors
 ///
-/// `Syntax` exactly where the line is outside the grammar. Else `Later` exactly where its command
-/// isn't served, else `Range` exactly where a literal is past its limit. `NoMem` only for a line
-/// that is in range and holds types, literals or a query.
+/// `Syntax` exactly where the line is outside the grammar. Else `Range` exactly where a literal is
+/// past its limit. `NoMem` only for a line that is in range and holds types, literals or a query.
 pub fn read_command(alloc: Global, line: &[u8]) -> Result<Command, LineRefusal>
     ensures { Reads line.now result }
 {
@@ -103,9 +102,13 @@ fn read_behind(
             let query = read_one_name(lexer)?;
             Ok(Command::Explain { query })
         }
-        Keyword::Watch | Keyword::Unwatch => {
-            read_one_name(lexer)?;
-            Err(LineRefusal::Later)
+        Keyword::Watch => {
+            let query = read_one_name(lexer)?;
+            Ok(Command::Watch { query })
+        }
+        Keyword::Unwatch => {
+            let query = read_one_name(lexer)?;
+            Ok(Command::Unwatch { query })
         }
     }
 }

@@ -11,9 +11,6 @@ pub enum LineRefusal {
     /// The line is in no form of the grammar.
     #[error("syntax")]
     Syntax,
-    /// The line isn't served yet.
-    #[error("a line that isn't served yet")]
-    Later,
     /// A literal of the line is past its limit.
     #[error("a literal past its limit")]
     Range,
@@ -29,7 +26,6 @@ impl LineRefusal {
     {
         match (self, other) {
             (LineRefusal::Syntax, _) | (_, LineRefusal::Syntax) => LineRefusal::Syntax,
-            (LineRefusal::Later, _) | (_, LineRefusal::Later) => LineRefusal::Later,
             (LineRefusal::Range, _) | (_, LineRefusal::Range) => LineRefusal::Range,
             (LineRefusal::NoMem, LineRefusal::NoMem) => LineRefusal::NoMem,
         }

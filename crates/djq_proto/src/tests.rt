@@ -17,18 +17,19 @@ fn letter(alloc: Global, line: &[u8]) -> char {
         Ok(Command::Drop { .. }) => 'p',
         Ok(Command::Has { .. }) => 'h',
         Ok(Command::Explain { .. }) => 'e',
+        Ok(Command::Watch { .. }) => 'w',
+        Ok(Command::Unwatch { .. }) => 'u',
         Ok(Command::Quit) => 'x',
         Ok(Command::Stop) => 'y',
         Ok(_) => '?',
         Err(LineRefusal::Syntax) => 'S',
-        Err(LineRefusal::Later) => 'L',
         Err(LineRefusal::Range) => 'R',
         Err(LineRefusal::NoMem) => 'M',
     }
 }
 
-// Lines and what they say: a letter for each command that is served, S for none of the grammar, L
-// for one that isn't served, R for a literal past its limit.
+// Lines and what they say: a letter for each command, S for none of the grammar, R for a literal
+// past its limit.
 const LINES: [(&[u8], char); 105] = [
     (b"rel r int", 'r'),
     (b"  rel  r_1 int   int ", 'r'),
@@ -128,8 +129,8 @@ const LINES: [(&[u8], char); 105] = [
     (b"has q 1 \"a\"", 'h'),
     (b"has q 99999999999999999999", 'R'),
     (b"has q x", 'S'),
-    (b"watch q", 'L'),
-    (b"unwatch q", 'L'),
+    (b"watch q", 'w'),
+    (b"unwatch q", 'u'),
     (b"explain q", 'e'),
     (b"explain q q", 'S'),
     (b"quit", 'x'),

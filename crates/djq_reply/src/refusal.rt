@@ -22,6 +22,5 @@ pub(crate) fn refusal_words(refusal: Refusal) -> &'static [u8]
         Refusal::Limit => b"err 11 limit",
         Refusal::NoMemory => b"err 12 memory",
         Refusal::InUse => b"err 14 in use",
-        Refusal::Later => b"err 15 later",
     }
 }

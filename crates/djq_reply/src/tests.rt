@@ -23,7 +23,6 @@ fn refusals_have_their_words(rt: HostRuntime) -> Result<(), Fail> {
         (Refusal::Limit, b"err 11 limit\n"),
         (Refusal::NoMemory, b"err 12 memory\n"),
         (Refusal::InUse, b"err 14 in use\n"),
-        (Refusal::Later, b"err 15 later\n"),
     ];
     for (refusal, want) in cases {
         let mut out = BytesMut::with_capacity(rt.alloc(), REPLY_BYTES + LAST_LINE_BYTES)?;

@@ -63,10 +63,10 @@ abbrev pub MayQueue : {C Q A E : Type 0} → Dialog C Q → Dialog C Q → Bytes
 MayQueue old new text (Ok a) = Queues old new text
 MayQueue old new text (Err e) = Lacks old new text
 
--- Room is made for a text of this length and the last line, or as much as there was is left.
+-- Room is made for a text of this length and the last line; or there was too little, and as much as there was is left.
 abbrev pub KeepsFor : {A E : Type 0} → ℕ → ℕ → ℕ → Result A E → Type 0
 KeepsFor count old new (Ok a) = (count + LAST_LINE_BYTES ≤ new) × (old ≤ new)
-KeepsFor count old new (Err e) = old ≤ new
+KeepsFor count old new (Err e) = (old ≤ new) × (old < count + LAST_LINE_BYTES)
 
 -- A line is queued, and the cause kept.
 abbrev pub EndsWith : {C Q : Type 0} → Dialog C Q → Dialog C Q → Bytes → EndCause → Type 0

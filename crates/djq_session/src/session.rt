@@ -48,7 +48,7 @@ impl<C, Q> Model for Session<C, Q> {
     ghost invariant = { λ s. IsKept s.cause s.output.spare s.cursors.items };
 }
 
-impl<C: Copy, Q: Copy + Eq> Session<C, Q> {
+impl<C: Copy, Q: Copy + PartialEq> Session<C, Q> {
     /// A session as it opens. It takes the room that is kept for its last line.
     ///
     /// # Errors

@@ -1,5 +1,5 @@
 -- What words ask for, from what a parse of them found.
-use Rattle.std.specs.Prelude.{ℕ, List, [], ◌≡◌, ◌≢◌, true, Option, None, Some, IsSomeAnd, option_map, Ok, Err, codes, length}
+use Rattle.std.specs.Prelude.{ℕ, List, [], ◌≡◌, ◌≢◌, true, Option, None, Some, IsSomeAnd, option_map, Ok, Err, codes, length, slice_index}
 use Rattle.std.proofs.Common.{refl, sym, ap, ◌∙◌, ap₂, subst, inl, inr, arith}
 use Rattle.std.specs.Str.Parse.{ParsesUnsigned}
 use Rattle.std.specs.declared.num.ParseIntError.{ParseIntError}
@@ -8,9 +8,9 @@ use Rattle.clap.specs.declared.error.Error.{Error}
 use Rattle.clap.specs.declared.error.ErrorKind.TheVariants.{OutOfMemory}
 use Rattle.clap.proofs.OnLiterals.{clap_on_literals}
 use Rattle.djq_words.specs.declared.commands.Asked.{Asked}
-use Rattle.djq_words.specs.declared.commands.Asked.TheVariants.{Run, Serve, Replay}
+use Rattle.djq_words.specs.declared.commands.Asked.TheVariants.{Run, Serve, Replay, Gen}
 use Rattle.djq_words.specs.Commands.{djq_app}
-use Rattle.djq_words.specs.Asks.{TurnsAre, IsAsked, AskedBy, ServeAsked, Answers}
+use Rattle.djq_words.specs.Asks.{TurnsAre, Spells, IsRead, IsAsked, AskedBy, ServeAsked, GenAsked, Answers}
 
 pub simple : is_simple djq_app ≡ true
 unfolding clap_on_literals
@@ -44,11 +44,21 @@ serve_not_run e = let n = ap length e in absurd (omega (arith, n))
 serve_not_replay : codes "serve" ≡ codes "replay" → ⊥
 serve_not_replay e = let n = ap length e in absurd (omega (arith, n))
 
+serve_not_gen : codes "serve" ≡ codes "gen" → ⊥
+serve_not_gen e = let n = ap length e in absurd (omega (arith, n))
+
+gen_not_run : codes "gen" ≡ codes "run" → ⊥
+gen_not_run e = let n = ap (λ (bs : Text). slice_index bs 0) e in absurd (omega (arith, n))
+
+gen_not_replay : codes "gen" ≡ codes "replay" → ⊥
+gen_not_replay e = let n = ap length e in absurd (omega (arith, n))
+
 -- what `serve` was given asks for nothing
 pub none_asked : (rows : List Row) → ((addr : Text) (n : ℕ) → first_of (codes "ADDR") rows ≡ Some addr → TurnsAre (first_of (codes "turns") rows) n → ⊥) → ServeAsked rows None
 none_asked rows h Run asks = serve_not_run asks
 none_asked rows h (Serve addr n) asks = h addr.now n asks.1 asks.2
 none_asked rows h Replay asks = serve_not_replay asks
+none_asked rows h (Gen n seed) asks = serve_not_gen asks.0
 
 pub no_addr : (rows : List Row) → first_of (codes "ADDR") rows ≡ None → ServeAsked rows None
 no_addr rows none = none_asked rows (λ addr n given turns. absurd (none_some (sym none ∙ given)))
@@ -63,11 +73,28 @@ pub turns_unspelled : (rows : List Row) (text : Text) (error : ParseIntError) �
 turns_unspelled rows text error given h =
     none_asked rows (λ addr n is turns. let t = subst (λ (k : Option Text). TurnsAre k n) given turns in h (t.0, t.1))
 
+-- what `gen` was given asks for nothing
+pub gen_asks_none : (rows : List Row) → ((n seed : ℕ) → Spells (first_of (codes "N") rows) n → Spells (first_of (codes "SEED") rows) seed → ⊥) → GenAsked rows None
+gen_asks_none rows h Run asks = gen_not_run asks
+gen_asks_none rows h (Serve addr n) asks = serve_not_gen (sym asks.0)
+gen_asks_none rows h Replay asks = gen_not_replay asks
+gen_asks_none rows h (Gen n seed) asks = h n seed asks.1 asks.2
+
+pub none_read : (o : Option Text) → o ≡ None → IsRead o None
+none_read o e n h = subst (λ (k : Option Text). Spells k n) e h
+
+pub number_read : (text : Text) (n : ℕ) (o : Option Text) → o ≡ Some text → ParsesUnsigned {E = ParseIntError} 32 10 text (Ok n) → IsRead o (Some n)
+number_read text n o e h = subst (λ (k : Option Text). Spells k n) (sym e) (h.0.0, h.0.1, h.1)
+
+pub number_unread : (text : Text) (error : ParseIntError) (o : Option Text) → o ≡ Some text → ParsesUnsigned {E = ParseIntError} 32 10 text (Err error) → IsRead o None
+number_unread text error o e h n spells = let t = subst (λ (k : Option Text). Spells k n) e spells in h (t.0, t.1)
+
 -- another name asks for nothing
-pub other_asked : (name : Text) (rows : List Row) → name ≢ codes "run" → name ≢ codes "serve" → name ≢ codes "replay" → AskedBy (Some (name, rows)) None
-other_asked name rows run serve replay Run asks = absurd (run asks)
-other_asked name rows run serve replay (Serve addr n) asks = absurd (serve asks.0)
-other_asked name rows run serve replay Replay asks = absurd (replay asks)
+pub other_asked : (name : Text) (rows : List Row) → name ≢ codes "run" → name ≢ codes "serve" → name ≢ codes "replay" → name ≢ codes "gen" → AskedBy (Some (name, rows)) None
+other_asked name rows run serve replay generate Run asks = absurd (run asks)
+other_asked name rows run serve replay generate (Serve addr n) asks = absurd (serve asks.0)
+other_asked name rows run serve replay generate Replay asks = absurd (replay asks)
+other_asked name rows run serve replay generate (Gen n seed) asks = absurd (generate asks.0)
 
 -- what a parse found, by its name and its rows
 pub found_is : {A : Type 0} (f : A → Text) (g : A → List Row) (x : Option A) (name : Text) (rows : List Row)

@@ -3,7 +3,7 @@ use Rattle.std.specs.Prelude.{ℕ, List, [], ◌≡◌, ◌<◌, ◌^◌, Option
 use Rattle.std.specs.Str.Parse.{IsNumeral, digits_value, without_leading_plus}
 use Rattle.clap.specs.Words.{Text, Row, fault_of, first_of, subcommand_of}
 use Rattle.djq_words.specs.declared.commands.Asked.{Asked}
-use Rattle.djq_words.specs.declared.commands.Asked.TheVariants.{Run, Serve, Replay}
+use Rattle.djq_words.specs.declared.commands.Asked.TheVariants.{Run, Serve, Replay, Gen}
 use Rattle.djq_words.specs.declared.commands.TheConstants.{MOST_TURNS}
 use Rattle.djq_words.specs.Commands.{djq_app}
 
@@ -13,12 +13,25 @@ TurnsAre None n = n ≡ MOST_TURNS
 TurnsAre (Some text) n = let digits = without_leading_plus text in
     IsNumeral 10 digits × (digits_value 10 digits < 2 ^ 64) × (n ≡ digits_value 10 digits)
 
+-- a number of 32 bits that a text spells
+abbrev pub Spells : Option Text → ℕ → Type 0
+Spells None n = ⊥
+Spells (Some text) n = let digits = without_leading_plus text in
+    IsNumeral 10 digits × (digits_value 10 digits < 2 ^ 32) × (n ≡ digits_value 10 digits)
+
+-- A text is read as the number that it spells; or it spells none.
+abbrev pub IsRead : Option Text → Option ℕ → Type 0
+IsRead text (Some n) = Spells text n
+IsRead text None = (n : ℕ) → Spells text n → ⊥
+
 -- A subcommand, by its name and what it was given, asks for this.
 abbrev pub IsAsked : Text × List Row → Asked → Type 0
 IsAsked c Run = c.0 ≡ codes "run"
 IsAsked c (Serve addr turns) = (c.0 ≡ codes "serve") × (first_of (codes "ADDR") c.1 ≡ Some addr.now)
     × TurnsAre (first_of (codes "turns") c.1) turns
 IsAsked c Replay = c.0 ≡ codes "replay"
+IsAsked c (Gen n seed) = (c.0 ≡ codes "gen") × Spells (first_of (codes "N") c.1) n
+    × Spells (first_of (codes "SEED") c.1) seed
 
 -- What is asked for, where something is.
 abbrev pub AskedBy : Option (Text × List Row) → Option Asked → Type 0
@@ -29,6 +42,10 @@ AskedBy (Some c) None = (a : Asked) → IsAsked c a → ⊥
 -- What `serve` asks for, by what it was given.
 abbrev pub ServeAsked : List Row → Option Asked → Type 0
 ServeAsked rows asked = AskedBy (Some (codes "serve", rows)) asked
+
+-- What `gen` asks for, by what it was given.
+abbrev pub GenAsked : List Row → Option Asked → Type 0
+GenAsked rows asked = AskedBy (Some (codes "gen", rows)) asked
 
 -- `clap` takes the words for the command set, and the command that they name asks for this.
 abbrev pub Asks : List Text → Asked → Type 0

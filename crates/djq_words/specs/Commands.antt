@@ -16,6 +16,19 @@ turns_rule = record (new_rule (codes "turns"))
 abbrev pub serve_app : App
 serve_app = with_rule (with_rule (new_app (codes "serve")) addr_rule) turns_rule
 
+-- the number of changes of `gen`, from 1 to 1000000, and its seed, from 0 to 2147483647, which must be
+-- there
+abbrev pub changes_rule : Rule
+changes_rule = record (new_rule (codes "N")) { required = true; parser = Some (Unsigned 1 1000000) }
+
+abbrev pub seed_rule : Rule
+seed_rule = record (new_rule (codes "SEED"))
+    { required = true; parser = Some (Unsigned 0 2147483647) }
+
+-- `gen N SEED`
+abbrev pub gen_app : App
+gen_app = with_rule (with_rule (new_app (codes "gen")) changes_rule) seed_rule
+
 -- the program, which has no help or version words, and wants one of its commands
 abbrev pub bare_app : App
 bare_app = let a = new_app (codes "djq") in
@@ -31,5 +44,5 @@ bare_app = let a = new_app (codes "djq") in
 
 -- the program with its commands
 abbrev pub djq_app : App
-djq_app = with_subcommand (with_subcommand (with_subcommand bare_app (new_app (codes "run")).top)
-    serve_app.top) (new_app (codes "replay")).top
+djq_app = with_subcommand (with_subcommand (with_subcommand (with_subcommand bare_app (new_app (codes "run")).top)
+    serve_app.top) (new_app (codes "replay")).top) gen_app.top

@@ -1,8 +1,8 @@
 ghost use Rattle.std.specs.Prelude.{◌≡◌, false, IfOk, map};
 ghost use Rattle.clap.specs.declared.builder.command.Command.TheViews.{out-Command as fields_of};
-ghost use Rattle.clap.specs.Words.{app_of, found_of, rows_of, subcommand_rows_of};
-ghost use Rattle.djq_words.specs.Commands.{serve_app, djq_app};
-ghost use Rattle.djq_words.specs.Asks.{AskedBy, ServeAsked, Answers};
+ghost use Rattle.clap.specs.Words.{app_of, first_of, found_of, rows_of, subcommand_rows_of};
+ghost use Rattle.djq_words.specs.Commands.{serve_app, gen_app, djq_app};
+ghost use Rattle.djq_words.specs.Asks.{AskedBy, ServeAsked, GenAsked, IsRead, Answers};
 
 use clap::builder::ValueParser;
 use clap::error::ErrorKind;
@@ -11,6 +11,12 @@ use std::alloc::{AllocError, Global};
 
 /// The most turns that `serve` may be asked for, and as many as it takes where it isn't.
 pub const MOST_TURNS: u64 = 9_223_372_036_854_775_807;
+
+/// The most changes of a generated load.
+pub const MOST_CHANGES: u64 = 1_000_000;
+
+/// The greatest seed of a generated load.
+pub const LAST_SEED: u64 = 2_147_483_647;
 
 /// What the words of the command line ask for.
 #[derive(Clone, Copy, Debug)]
@@ -21,6 +27,8 @@ pub enum Asked<'a> {
     Serve(&'a str, u64),
     /// `replay`: the sessions of a schedule, which is read from the source.
     Replay,
+    /// `gen N SEED`: a generated load of so many changes, from this seed.
+    Gen(u32, u32),
 }
 
 /// The command `serve`.
@@ -35,12 +43,27 @@ fn serve_command<'a>(alloc: Global) -> Result<Command<'a>, AllocError>
     Command::new(alloc, "serve").arg(addr)?.arg(turns)
 }
 
+/// The command `gen`.
+fn gen_command<'a>(alloc: Global) -> Result<Command<'a>, AllocError>
+    ensures app { IfOk result (λ c. app_of c ≡ gen_app) }
+    ensures local { IfOk result (λ c. (fields_of c).has_globals ≡ false) }
+{
+    let changes = Arg::new(alloc, "N")
+        .required(true)
+        .value_parser(ValueParser::unsigned(1, MOST_CHANGES));
+    let seed = Arg::new(alloc, "SEED")
+        .required(true)
+        .value_parser(ValueParser::unsigned(0, LAST_SEED));
+    Command::new(alloc, "gen").arg(changes)?.arg(seed)
+}
+
 /// The command set.
 fn djq_command<'a>(alloc: Global) -> Result<Command<'a>, AllocError>
     ensures app { IfOk result (λ c. app_of c ≡ djq_app) }
     ensures local { IfOk result (λ c. (fields_of c).has_globals ≡ false) }
 {
     let serve = serve_command(alloc)?;
+    let load = gen_command(alloc)?;
     let bare = Command::new(alloc, "djq")
         .disable_help_flag(true)
         .disable_version_flag(true)
@@ -48,7 +71,8 @@ fn djq_command<'a>(alloc: Global) -> Result<Command<'a>, AllocError>
         .subcommand_required(true);
     bare.subcommand(Command::new(alloc, "run"))?
         .subcommand(serve)?
-        .subcommand(Command::new(alloc, "replay"))
+        .subcommand(Command::new(alloc, "replay"))?
+        .subcommand(load)
 }
 
 /// What these words ask for, of which the first is the program's name, or `None` where they are no
@@ -79,6 +103,7 @@ fn asked_by<'a>(matches: &ArgMatches<'a>) -> Option<Asked<'a>>
         "run" => Some(Asked::Run),
         "serve" => serve_asked(inner),
         "replay" => Some(Asked::Replay),
+        "gen" => gen_asked(inner),
         _ => None,
     }
 }
@@ -93,6 +118,32 @@ fn serve_asked<'a>(given: &ArgMatches<'a>) -> Option<Asked<'a>>
     };
     match text.parse::<u64>() {
         Ok(turns) => Some(Asked::Serve(addr, turns)),
+        Err(_) => None,
+    }
+}
+
+/// What `gen` asks for, by what it was given.
+fn gen_asked<'a>(given: &ArgMatches<'a>) -> Option<Asked<'a>>
+    ensures { GenAsked (rows_of (found_of given.now)) result }
+{
+    let Some(changes) = number_given(given, "N") else {
+        return None;
+    };
+    match number_given(given, "SEED") {
+        Some(seed) => Some(Asked::Gen(changes, seed)),
+        None => None,
+    }
+}
+
+/// The number that was given under a name, where there is one of 32 bits.
+fn number_given<'a>(given: &ArgMatches<'a>, name: &str) -> Option<u32>
+    ensures { IsRead (first_of name.now (rows_of (found_of given.now))) result }
+{
+    let Some(text) = given.get_str(name) else {
+        return None;
+    };
+    match text.parse::<u32>() {
+        Ok(number) => Some(number),
         Err(_) => None,
     }
 }

@@ -12,4 +12,4 @@ mod commands;
 #[cfg(test)]
 mod tests;
 
-pub use commands::{Asked, MOST_TURNS, read_words};
+pub use commands::{Asked, LAST_SEED, MOST_CHANGES, MOST_TURNS, read_words};

@@ -22,6 +22,15 @@ fn serve_has_an_address_and_turns(rt: HostRuntime) -> Result<(), Fail> {
 }
 
 #[test]
+fn gen_has_a_number_and_a_seed(rt: HostRuntime) -> Result<(), Fail> {
+    let asked = read_words(rt.alloc(), &["djq", "gen", "1000000", "0"])?;
+    assert!(rt; matches!(asked, Some(Asked::Gen(1_000_000, 0))));
+    let asked = read_words(rt.alloc(), &["djq", "gen", "1", "2147483647"])?;
+    assert!(rt; matches!(asked, Some(Asked::Gen(1, 2_147_483_647))));
+    Ok(())
+}
+
+#[test]
 fn other_words_are_no_command(rt: HostRuntime) -> Result<(), Fail> {
     let lists = [
         [].as_slice(),
@@ -33,6 +42,12 @@ fn other_words_are_no_command(rt: HostRuntime) -> Result<(), Fail> {
         &["djq", "serve"],
         &["djq", "serve", "a:1", "--turns", "0"],
         &["djq", "replay", "file"],
+        &["djq", "gen"],
+        &["djq", "gen", "5"],
+        &["djq", "gen", "0", "1"],
+        &["djq", "gen", "1000001", "1"],
+        &["djq", "gen", "5", "2147483648"],
+        &["djq", "gen", "5", "1", "1"],
     ];
     for words in lists {
         let asked = read_words(rt.alloc(), words)?;

@@ -325,3 +325,302 @@ fn a_long_listing_is_whole(rt: HostRuntime) -> Result<(), NoMem> {
     assert!(rt; lists_whole::<Brand>(&rt, Blanks::new(&rt))?);
     Ok(())
 }
+
+// Whether a session is answered one of two texts, which is then taken.
+fn is_told_either(core: &mut Core, id: u64, want: &[u8], other: &[u8]) -> bool {
+    if !is_open(core, id) {
+        return false;
+    }
+    let text = core.pending(id);
+    let right = text == want || text == other;
+    let count = text.len();
+    core.took(id, count);
+    right
+}
+
+// A session makes a self-join and watches it.
+fn watch_self_join<L: Ledgers>(core: &mut Core, steps: &mut Steps<L>, id: u64) -> bool {
+    say(
+        core,
+        steps,
+        id,
+        b"rel r int int\nquery q(x,y,z) <- r(x,y), r(y,z)\nwatch q\n",
+    );
+    is_told(core, id, b"ok\nok query 7\nok watch 0\n")
+}
+
+// The delta of a self-join is told to the session that changes, before its reply, and to another.
+// Lines of one delta come in any order.
+fn tells_a_self_join<L: Ledgers>(rt: &HostRuntime, blanks: Blanks) -> Result<bool, NoMem>
+    requires listing { blanks.listing.name ≡ L.listing }
+    requires update { blanks.update.name ≡ L.update }
+    requires rows { blanks.rows.name ≡ L.rows }
+{
+    let mut steps = Steps::<L>::new(rt, blanks);
+    let mut core = Core::new(rt.alloc())?;
+    let opened = open(&mut core, 1) && open(&mut core, 2);
+    let watched = watch_self_join(&mut core, &mut steps, 1);
+    say(&mut core, &mut steps, 2, b"watch q\n");
+    say(&mut core, &mut steps, 1, b"add r 1 1\nadd r 1 2\n");
+    let own = is_told(
+        &mut core,
+        1,
+        b"+ q 1 1 1\nat q 1\nok added 1\n+ q 1 1 2\nat q 2\nok added 2\n",
+    );
+    let other = is_told(
+        &mut core,
+        2,
+        b"ok watch 0\n+ q 1 1 1\nat q 1\n+ q 1 1 2\nat q 2\n",
+    );
+    Ok(opened && watched && own && other)
+}
+
+#[test]
+fn a_self_join_is_told(rt: HostRuntime) -> Result<(), NoMem> {
+    assert!(rt; tells_a_self_join::<Brand>(&rt, Blanks::new(&rt))?);
+    Ok(())
+}
+
+// A row that goes takes two answers of a self-join with it.
+fn tells_what_goes<L: Ledgers>(rt: &HostRuntime, blanks: Blanks) -> Result<bool, NoMem>
+    requires listing { blanks.listing.name ≡ L.listing }
+    requires update { blanks.update.name ≡ L.update }
+    requires rows { blanks.rows.name ≡ L.rows }
+{
+    let mut steps = Steps::<L>::new(rt, blanks);
+    let mut core = Core::new(rt.alloc())?;
+    let opened = open(&mut core, 1) && open(&mut core, 2);
+    let watched = watch_self_join(&mut core, &mut steps, 1);
+    say(&mut core, &mut steps, 2, b"add r 1 1\nadd r 1 2\nwatch q\n");
+    let before = is_told(&mut core, 2, b"ok added 1\nok added 2\nok watch 2\n");
+    say(&mut core, &mut steps, 2, b"del r 1 1\n");
+    let gone = is_told_either(
+        &mut core,
+        2,
+        b"- q 1 1 1\n- q 1 1 2\nat q 3\nok removed 3\n",
+        b"- q 1 1 2\n- q 1 1 1\nat q 3\nok removed 3\n",
+    );
+    Ok(opened && watched && before && gone)
+}
+
+#[test]
+fn what_goes_is_told(rt: HostRuntime) -> Result<(), NoMem> {
+    assert!(rt; tells_what_goes::<Brand>(&rt, Blanks::new(&rt))?);
+    Ok(())
+}
+
+// Opens sessions 1, 2 and 3.
+fn open_three(core: &mut Core) -> bool {
+    open(core, 1) && open(core, 2) && open(core, 3)
+}
+
+// Session 1 makes two queries of one relation, and watches the second first.
+fn watch_two<L: Ledgers>(core: &mut Core, steps: &mut Steps<L>) -> bool {
+    say(
+        core,
+        steps,
+        1,
+        b"rel r int int\nquery q(x) <- r(x,_)\nquery p(y) <- r(_,y)\nwatch p\nwatch q\n",
+    );
+    is_told(
+        core,
+        1,
+        b"ok\nok query 3\nok query 3\nok watch 0\nok watch 0\n",
+    )
+}
+
+// Two queries of one relation are told in order of registration, to the two that watch, and the
+// third session is told nothing; where no answer came or went `at` is told alone.
+fn tells_in_order<L: Ledgers>(rt: &HostRuntime, blanks: Blanks) -> Result<bool, NoMem>
+    requires listing { blanks.listing.name ≡ L.listing }
+    requires update { blanks.update.name ≡ L.update }
+    requires rows { blanks.rows.name ≡ L.rows }
+{
+    let mut steps = Steps::<L>::new(rt, blanks);
+    let mut core = Core::new(rt.alloc())?;
+    let ready = open_three(&mut core) && watch_two(&mut core, &mut steps);
+    say(&mut core, &mut steps, 2, b"watch p\nwatch q\n");
+    say(&mut core, &mut steps, 3, b"add r 1 2\nadd r 1 3\n");
+    let first = is_told(
+        &mut core,
+        1,
+        b"+ q 1\nat q 1\n+ p 2\nat p 1\nat q 2\n+ p 3\nat p 2\n",
+    );
+    let second = is_told(
+        &mut core,
+        2,
+        b"ok watch 0\nok watch 0\n+ q 1\nat q 1\n+ p 2\nat p 1\nat q 2\n+ p 3\nat p 2\n",
+    );
+    let third = is_told(&mut core, 3, b"ok added 1\nok added 2\n");
+    Ok(ready && first && second && third)
+}
+
+#[test]
+fn two_queries_are_told_in_order(rt: HostRuntime) -> Result<(), NoMem> {
+    assert!(rt; tells_in_order::<Brand>(&rt, Blanks::new(&rt))?);
+    Ok(())
+}
+
+// A row that isn't there, a refused line, and a change of another relation tell nothing.
+fn tells_changes_alone<L: Ledgers>(rt: &HostRuntime, blanks: Blanks) -> Result<bool, NoMem>
+    requires listing { blanks.listing.name ≡ L.listing }
+    requires update { blanks.update.name ≡ L.update }
+    requires rows { blanks.rows.name ≡ L.rows }
+{
+    let mut steps = Steps::<L>::new(rt, blanks);
+    let mut core = Core::new(rt.alloc())?;
+    let ready = open_three(&mut core) && watch_two(&mut core, &mut steps);
+    say(
+        &mut core,
+        &mut steps,
+        2,
+        b"del r 9 9\nadd r 1\nrel s int\nadd s 1\n",
+    );
+    let changed = is_told(&mut core, 2, b"ok absent 0\nerr 6 arity\nok\nok added 1\n");
+    let nothing = is_told(&mut core, 1, b"");
+    Ok(ready && changed && nothing)
+}
+
+#[test]
+fn changes_alone_are_told(rt: HostRuntime) -> Result<(), NoMem> {
+    assert!(rt; tells_changes_alone::<Brand>(&rt, Blanks::new(&rt))?);
+    Ok(())
+}
+
+// Session 1 makes a query, watches it twice, and watches one that isn't there.
+fn watch_twice<L: Ledgers>(core: &mut Core, steps: &mut Steps<L>) -> bool {
+    say(
+        core,
+        steps,
+        1,
+        b"rel r int\nquery q(x) <- r(x)\nwatch p\nunwatch p\nwatch q\nwatch q\n",
+    );
+    is_told(
+        core,
+        1,
+        b"ok\nok query 3\nerr 4 no query\nerr 4 no query\nok watch 0\nok watch 0\n",
+    )
+}
+
+// A query that is watched isn't dropped; one that was watched twice is given up by one `unwatch`.
+fn ends_a_watch<L: Ledgers>(rt: &HostRuntime, blanks: Blanks) -> Result<bool, NoMem>
+    requires listing { blanks.listing.name ≡ L.listing }
+    requires update { blanks.update.name ≡ L.update }
+    requires rows { blanks.rows.name ≡ L.rows }
+{
+    let mut steps = Steps::<L>::new(rt, blanks);
+    let mut core = Core::new(rt.alloc())?;
+    let ready = open_three(&mut core) && watch_twice(&mut core, &mut steps);
+    say(&mut core, &mut steps, 2, b"drop q\nunwatch q\ndrop q\n");
+    let refused = is_told(&mut core, 2, b"err 14 in use\nok\nerr 14 in use\n");
+    say(
+        &mut core,
+        &mut steps,
+        1,
+        b"add r 1\nunwatch q\nadd r 2\ndrop q\nwatch q\n",
+    );
+    let ended = is_told(
+        &mut core,
+        1,
+        b"+ q 1\nat q 1\nok added 1\nok\nok added 2\nok\nerr 4 no query\n",
+    );
+    Ok(ready && refused && ended)
+}
+
+#[test]
+fn a_watch_ends(rt: HostRuntime) -> Result<(), NoMem> {
+    assert!(rt; ends_a_watch::<Brand>(&rt, Blanks::new(&rt))?);
+    Ok(())
+}
+
+// A session that ends, and one that is closed, watch no more: the query can be dropped.
+fn ends_by_leaving<L: Ledgers>(rt: &HostRuntime, blanks: Blanks) -> Result<bool, NoMem>
+    requires listing { blanks.listing.name ≡ L.listing }
+    requires update { blanks.update.name ≡ L.update }
+    requires rows { blanks.rows.name ≡ L.rows }
+{
+    let mut steps = Steps::<L>::new(rt, blanks);
+    let mut core = Core::new(rt.alloc())?;
+    let ready = open_three(&mut core) && watch_twice(&mut core, &mut steps);
+    say(&mut core, &mut steps, 2, b"watch q\nquit\n");
+    say(&mut core, &mut steps, 3, b"add r 1\ndrop q\n");
+    let left = is_told(&mut core, 2, b"ok watch 0\nbye\n");
+    close(&mut core, 1);
+    say(&mut core, &mut steps, 3, b"drop q\n");
+    let dropped = is_told(&mut core, 3, b"ok added 1\nerr 14 in use\nok\n");
+    Ok(ready && left && dropped)
+}
+
+#[test]
+fn who_leaves_watches_no_more(rt: HostRuntime) -> Result<(), NoMem> {
+    assert!(rt; ends_by_leaving::<Brand>(&rt, Blanks::new(&rt))?);
+    Ok(())
+}
+
+// Session 1 makes ten texts of 64 bytes, and a query of four of them each: 10,000 answers, each of
+// 270 bytes as it is listed.
+fn add_texts<L: Ledgers>(core: &mut Core, steps: &mut Steps<L>) {
+    say(core, steps, 1, b"rel b text\n");
+    say(
+        core,
+        steps,
+        1,
+        b"query p(x,y,z,w) <- b(x), b(y), b(z), b(w)\n",
+    );
+    let mut row = *b"add b \"0123456789012345678901234567890123456789012345678901234567890123\"\n";
+    for first in *b"0123456789" {
+        row[7] = first;
+        say(core, steps, 1, &row);
+    }
+}
+
+// A session lists 4,000 of these answers, and takes none: above a MiB is pending.
+fn list_texts<L: Ledgers>(core: &mut Core, steps: &mut Steps<L>, id: u64) -> bool {
+    say(core, steps, id, b"open c p\nnext c 1000\nnext c 1000\n");
+    say(core, steps, id, b"next c 1000\nnext c 1000\n");
+    is_open(core, id) && core.pending(id).len() > 4 * 270_000
+}
+
+// Whether a session ended as slow, which it was told last.
+fn is_slow(core: &Core, id: u64) -> bool {
+    if !is_open(core, id) {
+        return false;
+    }
+    let slow = match core.cause(id) {
+        Some(EndCause::Slow) => true,
+        _ => false,
+    };
+    slow && core.pending(id).ends_with(b"more\nend slow\n")
+}
+
+// Whether a session that is open is told this last.
+fn is_told_last(core: &Core, id: u64, want: &[u8]) -> bool {
+    is_open(core, id) && core.pending(id).ends_with(want)
+}
+
+// Of three sessions that watch, one has too much pending: it ends with `end slow`, told nothing of
+// the delta, and the two others are told.
+fn ends_the_slow<L: Ledgers>(rt: &HostRuntime, blanks: Blanks) -> Result<bool, NoMem>
+    requires listing { blanks.listing.name ≡ L.listing }
+    requires update { blanks.update.name ≡ L.update }
+    requires rows { blanks.rows.name ≡ L.rows }
+{
+    let mut steps = Steps::<L>::new(rt, blanks);
+    let mut core = Core::new(rt.alloc())?;
+    let ready = open_three(&mut core) && watch_twice(&mut core, &mut steps);
+    add_texts(&mut core, &mut steps);
+    say(&mut core, &mut steps, 2, b"watch q\n");
+    say(&mut core, &mut steps, 3, b"watch q\n");
+    let listed = list_texts(&mut core, &mut steps, 2);
+    say(&mut core, &mut steps, 3, b"add r 5\n");
+    let slow = is_slow(&core, 2);
+    let first = is_told_last(&core, 1, b"ok added 10\n+ q 5\nat q 11\n");
+    let third = is_told(&mut core, 3, b"ok watch 10\n+ q 5\nat q 11\nok added 11\n");
+    Ok(ready && listed && slow && first && third)
+}
+
+#[test]
+fn a_slow_watcher_ends(rt: HostRuntime) -> Result<(), NoMem> {
+    assert!(rt; ends_the_slow::<Brand>(&rt, Blanks::new(&rt))?);
+    Ok(())
+}

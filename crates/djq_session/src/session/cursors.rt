@@ -15,7 +15,7 @@ fn place_of<C>(cursors: &[NamedCursor<C>], name: &Name) -> Option<usize>
     cursors.iter().position(|named| named.name == *name)
 }
 
-impl<C: Copy, Q: Copy + Eq> Session<C, Q> {
+impl<C: Copy, Q: Copy + PartialEq> Session<C, Q> {
     /// What is kept for the cursor of a name. `None` exactly where there is no such cursor.
     pub fn cursor(&self, name: &Name) -> Option<C>
         ensures { result ≡ option_map (λ n. n.cursor) (named self.now.cursors name.now) }

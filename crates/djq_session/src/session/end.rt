@@ -8,7 +8,7 @@ use super::Session;
 use djq_lines::{EndCause, EndLine};
 use djq_reply::{say_bye, say_cut, say_end};
 
-impl<C: Copy, Q: Copy + Eq> Session<C, Q> {
+impl<C: Copy, Q: Copy + PartialEq> Session<C, Q> {
     /// Why it takes no further commands. `None` exactly where it goes on.
     pub fn cause(&self) -> Option<EndCause>
         ensures { result ≡ self.now.cause }

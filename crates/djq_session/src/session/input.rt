@@ -6,7 +6,7 @@ use bytes::BytesMut;
 use djq_model::NoMem;
 use djq_proto::{Front, Splitter};
 
-impl<C: Copy, Q: Copy + Eq> Session<C, Q> {
+impl<C: Copy, Q: Copy + PartialEq> Session<C, Q> {
     /// Bytes come, behind those that are held.
     ///
     /// # Errors

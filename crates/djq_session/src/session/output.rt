@@ -7,7 +7,7 @@ use bytes::BytesMut;
 use djq_lines::limits::LAST_LINE_BYTES;
 use djq_model::NoMem;
 
-impl<C: Copy, Q: Copy + Eq> Session<C, Q> {
+impl<C: Copy, Q: Copy + PartialEq> Session<C, Q> {
     /// Makes room for so many bytes of output, and for the last line behind them.
     ///
     /// # Errors

@@ -2,7 +2,7 @@
 ghost use Rattle.std.specs.Prelude.{◌+◌, ◌≤◌, ◌++◌, codes};
 ghost use Rattle.djq_lines.specs.Reply.{add_reply, answer_line, at_line, change_line};
 ghost use Rattle.djq_lines.specs.Reply.{delete_reply, has_reply, last_line};
-ghost use Rattle.djq_lines.specs.Reply.{ok_reply, query_reply, refusal_line, stale_line};
+ghost use Rattle.djq_lines.specs.Reply.{ok_reply, query_reply, refusal_line, stale_line, watch_reply};
 ghost use Rattle.djq_lines.specs.declared.limits.TheConstants.{LAST_LINE_BYTES, REPLY_BYTES};
 ghost use Rattle.djq_session.specs.Dialog.{MayQueue, Replies};
 
@@ -11,10 +11,10 @@ use djq_lines::{AddOutcome, DeleteOutcome, QueryOutcome, Refusal, Sign};
 use djq_model::{Answered, Name, NoMem};
 use djq_reply::{
     put_answer, put_at, put_change, put_explained, put_last, put_registered, say_added,
-    say_deleted, say_done, say_has, say_opened, say_refused, say_stale,
+    say_deleted, say_done, say_has, say_opened, say_refused, say_stale, say_watched,
 };
 
-impl<C: Copy, Q: Copy + Eq> Session<C, Q> {
+impl<C: Copy, Q: Copy + PartialEq> Session<C, Q> {
     /// A refused command is answered.
     pub fn refuse(&mut self, refusal: Refusal)
         requires { REPLY_BYTES + LAST_LINE_BYTES ≤ self.old.room }
@@ -77,6 +77,14 @@ impl<C: Copy, Q: Copy + Eq> Session<C, Q> {
         ensures { Replies self.old self.new (has_reply outcome) }
     {
         say_has(&mut self.output, outcome);
+    }
+
+    /// `watch` is answered, at a number of changes.
+    pub fn answer_watched(&mut self, outcome: Result<(), Refusal>, seq: u64)
+        requires { REPLY_BYTES + LAST_LINE_BYTES ≤ self.old.room }
+        ensures { Replies self.old self.new (watch_reply outcome seq) }
+    {
+        say_watched(&mut self.output, outcome, seq);
     }
 
     /// `next` is answered on a stale cursor, by the relation that changed and the number of the

@@ -7,13 +7,13 @@ use super::Session;
 use djq_model::NoMem;
 
 // Where a query stands among those that are watched.
-fn place_of<Q: Copy + Eq>(watches: &[Q], query: Q) -> Option<usize>
+fn place_of<Q: Copy + PartialEq>(watches: &[Q], query: Q) -> Option<usize>
     ensures { result ≡ position (λ q. Q.eq q query) watches.now }
 {
     watches.iter().position(|watched| *watched == query)
 }
 
-impl<C: Copy, Q: Copy + Eq> Session<C, Q> {
+impl<C: Copy, Q: Copy + PartialEq> Session<C, Q> {
     /// It watches a further query.
     ///
     /// # Errors

@@ -1,12 +1,19 @@
-use Rattle.djq_core.proofs.GivingUp.{giving_starts, popped_held, giving_goes_on}
+use Rattle.std.proofs.Common.{List, subst, sym, ap}
+use Rattle.djq_model.specs.Data.{Bytes}
+use Rattle.djq_core.specs.Views.{Talk}
+use Rattle.djq_core.specs.Sound.{HasCount}
+use Rattle.djq_core.proofs.GivingUp.{both_given_up, both_kept_told}
+use Rattle.djq_core.proofs.Watching.{count_moved}
 use Rattle.djq_core.proofs.ending.give_up.Goals as goal
 
-pub loop-id-init : goal.loop-id-init
-loop-id-init c = giving_starts c.args.engine.now c.args.session.now c.requires
+pub give_up_watches-requires : goal.give_up_watches-requires
+give_up_watches-requires c = count_moved c.args.engine.now.registered c.give_up_cursors.new.engine.registered c.args.session.now.watches c.give_up_cursors.new.session.watches
+    c.give_up_cursors.ensures.registered (ap (λ (d : Talk). d.watches) c.give_up_cursors.ensures.session) c.requires.counted
 
-pub close-requires : goal.close-requires
-close-requires c = popped_held c.loop-id.engine c.loop-id.session c.pop_cursor.new.self c.in-Some.id c.loop-id.invariant.own c.in-Some.ensures
+pub returns-clause-gives_up : goal.returns-clause-gives_up
+returns-clause-gives_up c = both_given_up c.args.engine.now c.give_up_cursors.new.engine c.give_up_watches.new.engine c.args.session.now c.give_up_cursors.new.session c.give_up_watches.new.session
+    c.give_up_cursors.ensures c.give_up_watches.ensures
 
-pub loop-id-preserved : goal.loop-id-preserved
-loop-id-preserved c = giving_goes_on c.args.engine.now c.args.session.now c.loop-id.engine c.loop-id.session c.pop_cursor.new.self c.close.new.self c.in-Some.id
-    c.loop-id.invariant c.in-Some.ensures c.close.ensures
+pub returns-clause-told : goal.returns-clause-told
+returns-clause-told c = both_kept_told c.args.engine.now c.give_up_cursors.new.engine c.give_up_watches.new.engine c.args.session.now c.give_up_cursors.new.session c.give_up_watches.new.session
+    c.give_up_cursors.ensures c.give_up_watches.ensures

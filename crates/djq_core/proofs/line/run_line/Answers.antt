@@ -4,22 +4,22 @@ use Rattle.djq_lines.specs.Reply.{refusal_line}
 use Rattle.djq_lines.specs.declared.answer.Refusal.{Refusal}
 use Rattle.djq_proto.specs.Reading.{Reads}
 use Rattle.djq_session.specs.Dialog.{Replies}
-use Rattle.djq_core.proofs.Taking.{runs, reads_command}
+use Rattle.djq_core.proofs.Taking.{runs}
+use Rattle.djq_core.proofs.Leaving.{line_leaves}
 use Rattle.djq_core.proofs.Saying.{reads_as, reads_err, runnable}
 use Rattle.djq_core.proofs.line.run_line.Goals as goal
 
-pub obey-requires-clause-served : goal.obey-requires-clause-served
-obey-requires-clause-served g c = runnable (take c.args.end c.held.result.now) c.in-Ok.command c.in-Ok.ensures
+pub obey-requires-clause-runnable : goal.obey-requires-clause-runnable
+obey-requires-clause-runnable g c = runnable (take c.args.end c.held.result.now) c.in-Ok.command c.in-Ok.ensures
 
 pub returns-in-Ok : goal.returns-in-Ok
 returns-in-Ok g c =
     let old = c.args.session.now in
     let line = take c.args.end old.held in
     let said = subst (λ (bs : Bytes). Reads (take c.args.end bs) (Ok c.in-Ok.command)) c.held.ensures c.in-Ok.ensures in
-    runs c.obey.result c.args.engine.now old c.take_line.new.self line (drop c.args.rest old.held) c.obey.new.engine c.obey.new.session c.args.steps.now.listing c.obey.new.steps.listing
-    c.requires.front c.take_line.ensures c.requires.said c.requires.few
-    (reads_command c.obey.result c.args.engine.now c.take_line.new.self line c.in-Ok.command c.obey.new.engine c.obey.new.session c.args.steps.now.listing c.obey.new.steps.listing
-    (reads_as line c.in-Ok.command said) c.obey.ensures)
+    line_leaves c.obey.result c.args.engine.now old c.take_line.new.self line (drop c.args.rest old.held) c.in-Ok.command c.obey.new.engine c.obey.new.session c.args.steps.now.listing c.obey.new.steps.listing
+    c.requires.front c.take_line.ensures c.requires.said c.requires.few c.requires.ready.running c.requires.ready.room
+    (reads_as line c.in-Ok.command said) c.obey.ensures
 
 pub returns-in-Err : goal.returns-in-Err
 returns-in-Err g c =

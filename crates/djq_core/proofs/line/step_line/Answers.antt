@@ -3,12 +3,11 @@ use Rattle.djq_model.specs.Data.{Bytes}
 use Rattle.djq_lines.specs.declared.limits.TheConstants.{PENDING_BYTES}
 use Rattle.djq_lines.specs.declared.answer.EndCause.TheVariants.{Slow, Memory}
 use Rattle.djq_lines.specs.Line.{is_blank}
-use Rattle.djq_machine.specs.LineStep.{run}
 use Rattle.djq_machine.specs.Call.{counts}
-use Rattle.djq_core.specs.Stepping.{Fronts}
+use Rattle.djq_core.specs.Stepping.{LineLeaves}
 use Rattle.djq_core.specs.Views.{Talk}
-use Rattle.djq_core.proofs.Fronting.{is_slow, is_unheard, is_dropped, ran_blank, ran_line, ended_before}
-use Rattle.djq_core.proofs.Taking.{with_room}
+use Rattle.djq_core.proofs.Fronting.{is_slow, is_unheard, is_dropped, ran_blank, ended_before}
+use Rattle.djq_core.proofs.Leaving.{step_leaves}
 use Rattle.djq_core.proofs.line.step_line.Goals as goal
 
 pub returns-then-is_blank : goal.returns-then-is_blank
@@ -49,8 +48,7 @@ returns-in-Ok g c =
     let old = c.args.session.now in
     let line = take c.args.end old.held in
     let same : c.keep.new.self.held ≡ old.held = ap (λ (d : Talk). d.held) c.in-Ok.ensures.others in
-    let ran : Fronts (run line) c.run_line-stops.result c.args.engine.now c.keep.new.self c.run_line-stops.new.engine c.run_line-stops.new.session c.args.steps.now.listing c.run_line-stops.new.steps.listing
-    = subst (λ (bs : Bytes). Fronts (run (take c.args.end bs)) c.run_line-stops.result c.args.engine.now c.keep.new.self c.run_line-stops.new.engine c.run_line-stops.new.session c.args.steps.now.listing c.run_line-stops.new.steps.listing) same c.run_line-stops.ensures in
-    ran_line c.run_line-stops.result c.args.engine.now old c.run_line-stops.new.engine c.run_line-stops.new.session line (counts c.args.steps.now.listing c.args.steps.now.update c.args.steps.now.rows)
-    (counts c.run_line-stops.new.steps.listing c.run_line-stops.new.steps.update c.run_line-stops.new.steps.rows) c.requires.running
-    (with_room _ c.run_line-stops.result c.args.engine.now old c.keep.new.self c.run_line-stops.new.engine c.run_line-stops.new.session c.args.steps.now.listing c.run_line-stops.new.steps.listing c.in-Ok.ensures.others ran)
+    let left : LineLeaves line c.run_line-left.result c.args.engine.now c.keep.new.self c.run_line-left.new.engine c.run_line-left.new.session c.args.steps.now.listing c.run_line-left.new.steps.listing
+    = subst (λ (bs : Bytes). LineLeaves (take c.args.end bs) c.run_line-left.result c.args.engine.now c.keep.new.self c.run_line-left.new.engine c.run_line-left.new.session c.args.steps.now.listing c.run_line-left.new.steps.listing) same c.run_line-left.ensures in
+    step_leaves c.run_line-left.result c.args.engine.now old c.keep.new.self line c.run_line-left.new.engine c.run_line-left.new.session (counts c.args.steps.now.listing c.args.steps.now.update c.args.steps.now.rows)
+    (counts c.run_line-left.new.steps.listing c.run_line-left.new.steps.update c.run_line-left.new.steps.rows) c.in-Ok.ensures.others c.requires.running left

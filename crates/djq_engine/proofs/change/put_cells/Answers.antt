@@ -1,6 +1,15 @@
-use Rattle.std.proofs.Common.{arith}
+use Rattle.std.proofs.Common.{◌∙◌, ◌++◌, ◌∷◌, [], ℕ, List, arith, subst, sym}
+use Rattle.djq_model.specs.Data.{Bytes}
+use Rattle.djq_rows.specs.Catalog.{rows_at}
+use Rattle.djq_live.specs.Changes.{Came}
+use Rattle.djq_live.specs.Live.{IsKept}
+use Rattle.djq_engine.specs.Reaching.{AllAt}
+use Rattle.djq_engine.specs.Tending.{AreShown, Costs, Tends, TellsAt}
+use Rattle.djq_engine.proofs.Carrying.{readers_kept}
+use Rattle.djq_engine.proofs.Tending.{counts_rows, shown_tended, tells_rows}
 use Rattle.djq_engine.proofs.Storing.{
   added_is,
+  came,
   can_come,
   catalog_back,
   catalog_same,
@@ -88,3 +97,82 @@ returns-in-Err-take_in-clause-err g c =
           c.added_came.ensures c.deleted_went.ensures c.take_in.new.queries.items
           c.in-Err-take_in.ensures.given c.delete_row.new.self back;
     }
+
+pub returns-in-Ok-take_in-clause-tells : goal.returns-in-Ok-take_in-clause-tells
+returns-in-Ok-take_in-clause-tells g c row new =
+    let old = c.args.parts.now in
+    let d = c.add_row.new.self in
+    let is = (added_is old.catalog.relations d.relations c.args.id.at row
+    c.in-Ok._outcome (c.in-Ok.ensures.adds row new.stand) new.absent) in
+    tells_rows (λ x y. Came x y c.args.id.at c.args.cells.now) old.catalog d old.queries.items old.order old.readers.items c.requires.whole c.args.id.at c.requires.there
+    old.watchers.items c.as_slice-places.result.now
+    (places_read old.readers.items c.args.id.at c.index.result.now
+    c.as_slice-places.result.now (omega (arith, c.requires.there, c.requires.whole.long)) c.index.ensures c.as_slice-places.ensures)
+    row (came old.catalog d c.args.id.at c.requires.there c.args.cells.now row new c.laws.ensures c.laws-2.ensures c.add_row.ensures.texts is c.added_came.ensures)
+    (rows_at old.catalog.relations c.args.id.at ++ row ∷ []) is old.logs.items c.take_in.new.logs.items
+    (subst (λ (ws : List ℕ). Tends c.as_slice-places.result.now (TellsAt ws (λ x y. Came x y c.args.id.at c.args.cells.now)) old.queries.items old.logs.items c.take_in.new.logs.items) c.as_slice-watchers.ensures.value
+    c.in-Ok-take_in.ensures.tells)
+
+pub returns-in-Ok-take_in-clause-counted : goal.returns-in-Ok-take_in-clause-counted
+returns-in-Ok-take_in-clause-counted g c row new =
+    let old = c.args.parts.now in
+    let d = c.add_row.new.self in
+    let is = (added_is old.catalog.relations d.relations c.args.id.at row
+    c.in-Ok._outcome (c.in-Ok.ensures.adds row new.stand) new.absent) in
+    counts_rows (λ x y. Came x y c.args.id.at c.args.cells.now) old.catalog d old.queries.items old.order old.readers.items c.requires.whole c.args.id.at c.requires.there
+    old.watchers.items c.as_slice-places.result.now
+    (places_read old.readers.items c.args.id.at c.index.result.now
+    c.as_slice-places.result.now (omega (arith, c.requires.there, c.requires.whole.long)) c.index.ensures c.as_slice-places.ensures)
+    row (came old.catalog d c.args.id.at c.requires.there c.args.cells.now row new c.laws.ensures c.laws-2.ensures c.add_row.ensures.texts is c.added_came.ensures)
+    (rows_at old.catalog.relations c.args.id.at ++ row ∷ []) is c.args.steps.now.listing c.take_in.new.steps.listing
+    (subst (λ (ws : List ℕ). Costs (λ x y. Came x y c.args.id.at c.args.cells.now) c.as_slice-places.result.now ws old.queries.items c.args.id.at c.args.steps.now.listing c.take_in.new.steps.listing) c.as_slice-watchers.ensures.value
+    c.take_in.ensures.counted)
+
+pub returns-in-Err-take_in-clause-counted : goal.returns-in-Err-take_in-clause-counted
+returns-in-Err-take_in-clause-counted g c row new =
+    let old = c.args.parts.now in
+    let d = c.add_row.new.self in
+    let is = (added_is old.catalog.relations d.relations c.args.id.at row
+    c.in-Ok._outcome (c.in-Ok.ensures.adds row new.stand) new.absent) in
+    counts_rows (λ x y. Came x y c.args.id.at c.args.cells.now) old.catalog d old.queries.items old.order old.readers.items c.requires.whole c.args.id.at c.requires.there
+    old.watchers.items c.as_slice-places.result.now
+    (places_read old.readers.items c.args.id.at c.index.result.now
+    c.as_slice-places.result.now (omega (arith, c.requires.there, c.requires.whole.long)) c.index.ensures c.as_slice-places.ensures)
+    row (came old.catalog d c.args.id.at c.requires.there c.args.cells.now row new c.laws.ensures c.laws-2.ensures c.add_row.ensures.texts is c.added_came.ensures)
+    (rows_at old.catalog.relations c.args.id.at ++ row ∷ []) is c.args.steps.now.listing c.take_in.new.steps.listing
+    (subst (λ (ws : List ℕ). Costs (λ x y. Came x y c.args.id.at c.args.cells.now) c.as_slice-places.result.now ws old.queries.items c.args.id.at c.args.steps.now.listing c.take_in.new.steps.listing) c.as_slice-watchers.ensures.value
+    c.take_in.ensures.counted)
+
+pub returns-in-Err-clause-shown : goal.returns-in-Err-clause-shown
+returns-in-Err-clause-shown g c =
+    subst (λ (ts : List Bytes). AreShown ts c.args.parts.now.queries.items c.args.parts.now.logs.items) (sym c.add_row.ensures.texts) c.requires.tended.shown
+
+pub returns-in-Ok-take_in-clause-shown : goal.returns-in-Ok-take_in-clause-shown
+returns-in-Ok-take_in-clause-shown g c =
+    let old = c.args.parts.now in
+    let d = c.add_row.new.self in
+    let row = c.requires.new.0 in
+    let new = c.requires.new.1 in
+    let is = (added_is old.catalog.relations d.relations c.args.id.at row
+    c.in-Ok._outcome (c.in-Ok.ensures.adds row new.stand) new.absent) in
+    subst (λ (ts : List Bytes). AreShown ts old.queries.items c.take_in.new.logs.items) (sym c.add_row.ensures.texts)
+    (shown_tended (λ x y. Came x y c.args.id.at c.args.cells.now) old.catalog d old.queries.items c.as_slice-places.result.now old.logs.items c.take_in.new.logs.items row
+    (subst (λ (ps : List ℕ). AllAt ps old.queries.items (λ l. IsKept old.catalog l)) (sym (places_read old.readers.items c.args.id.at c.index.result.now
+    c.as_slice-places.result.now (omega (arith, c.requires.there, c.requires.whole.long)) c.index.ensures c.as_slice-places.ensures))
+    (readers_kept old.catalog old.queries.items old.order old.readers.items c.requires.whole c.args.id.at c.requires.there))
+    (came old.catalog d c.args.id.at c.requires.there c.args.cells.now row new c.laws.ensures c.laws-2.ensures c.add_row.ensures.texts is c.added_came.ensures) c.add_row.ensures.texts c.take_in.ensures.shows c.requires.tended.shown)
+
+pub returns-in-Err-take_in-clause-shown : goal.returns-in-Err-take_in-clause-shown
+returns-in-Err-take_in-clause-shown g c =
+    let old = c.args.parts.now in
+    let d = c.add_row.new.self in
+    let row = c.requires.new.0 in
+    let new = c.requires.new.1 in
+    let is = (added_is old.catalog.relations d.relations c.args.id.at row
+    c.in-Ok._outcome (c.in-Ok.ensures.adds row new.stand) new.absent) in
+    subst (λ (ts : List Bytes). AreShown ts old.queries.items c.take_in.new.logs.items) (sym (c.delete_row.ensures.texts ∙ c.add_row.ensures.texts))
+    (shown_tended (λ x y. Came x y c.args.id.at c.args.cells.now) old.catalog d old.queries.items c.as_slice-places.result.now old.logs.items c.take_in.new.logs.items row
+    (subst (λ (ps : List ℕ). AllAt ps old.queries.items (λ l. IsKept old.catalog l)) (sym (places_read old.readers.items c.args.id.at c.index.result.now
+    c.as_slice-places.result.now (omega (arith, c.requires.there, c.requires.whole.long)) c.index.ensures c.as_slice-places.ensures))
+    (readers_kept old.catalog old.queries.items old.order old.readers.items c.requires.whole c.args.id.at c.requires.there))
+    (came old.catalog d c.args.id.at c.requires.there c.args.cells.now row new c.laws.ensures c.laws-2.ensures c.add_row.ensures.texts is c.added_came.ensures) c.add_row.ensures.texts c.take_in.ensures.shows c.requires.tended.shown)

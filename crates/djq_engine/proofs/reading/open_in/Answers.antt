@@ -1,14 +1,17 @@
-use Rattle.std.proofs.Common.{◌∙◌, ap, sym, subst}
+use Rattle.std.proofs.Common.{ap, subst, sym, ◌∙◌, List, length}
 use Rattle.std.specs.Prelude.{position, IsSomeAnd, Option, ⊤}
 use Rattle.djq_live.specs.Live.{Live}
 use Rattle.djq_engine.specs.Places.{is_query}
+use Rattle.djq_engine.specs.Whole.{watches_in}
 use Rattle.djq_engine.proofs.Naming.{first_query}
 use Rattle.djq_engine.proofs.Cursors.{open_refused, open_lacks, open_gives}
+use Rattle.djq_engine.specs.Tending.{AreShown}
+use Rattle.djq_engine.proofs.Keeping.{opened_kept}
 use Rattle.djq_engine.proofs.reading.open_in.Goals as goal
 
 pub returns-in_default-clause-gives : goal.returns-in_default-clause-gives
 returns-in_default-clause-gives c =
-    open_refused c.args.parts.now.catalog c.args.parts.now.queries.items c.args.parts.now.order c.args.parts.now.readers.items c.args.parts.now.seq c.requires c.args.query.now
+    open_refused c.args.parts.now.catalog c.args.parts.now.queries.items c.args.parts.now.order c.args.parts.now.readers.items c.args.parts.now.seq (watches_in c.args.parts.now) c.requires.whole c.args.query.now
     (c.in_default.ensures ∙ ap (position (is_query c.args.query.now)) c.as_slice.ensures.value)
 
 pub open_at-requires : goal.open_at-requires
@@ -17,15 +20,35 @@ open_at-requires c =
 
 pub returns-in-Ok-clause-whole : goal.returns-in-Ok-clause-whole
 returns-in-Ok-clause-whole c =
-    (open_gives c.args.parts.now.catalog c.args.parts.now.queries.items c.args.parts.now.order c.args.parts.now.readers.items c.args.parts.now.seq c.requires c.args.query.now (record { query = record { at = c.in-Some.at }; cursor = c.in-Ok.cursor }) c.open_at.new.queries.items
+    (open_gives c.args.parts.now.catalog c.args.parts.now.queries.items c.args.parts.now.order c.args.parts.now.readers.items c.args.parts.now.seq (watches_in c.args.parts.now) c.requires.whole c.args.query.now (record { query = record { at = c.in-Some.at }; cursor = c.in-Ok.cursor }) c.open_at.new.queries.items
     (first_query c.args.parts.now.queries.items c.args.query.now c.in-Some.at (c.in-Some.ensures ∙ ap (position (is_query c.args.query.now)) c.as_slice.ensures.value)) c.in-Ok.ensures.ok).0
 
 pub returns-in-Ok-clause-gives : goal.returns-in-Ok-clause-gives
 returns-in-Ok-clause-gives c =
-    (open_gives c.args.parts.now.catalog c.args.parts.now.queries.items c.args.parts.now.order c.args.parts.now.readers.items c.args.parts.now.seq c.requires c.args.query.now (record { query = record { at = c.in-Some.at }; cursor = c.in-Ok.cursor }) c.open_at.new.queries.items
+    (open_gives c.args.parts.now.catalog c.args.parts.now.queries.items c.args.parts.now.order c.args.parts.now.readers.items c.args.parts.now.seq (watches_in c.args.parts.now) c.requires.whole c.args.query.now (record { query = record { at = c.in-Some.at }; cursor = c.in-Ok.cursor }) c.open_at.new.queries.items
     (first_query c.args.parts.now.queries.items c.args.query.now c.in-Some.at (c.in-Some.ensures ∙ ap (position (is_query c.args.query.now)) c.as_slice.ensures.value)) c.in-Ok.ensures.ok).1
 
 pub returns-in-Err-clause-gives : goal.returns-in-Err-clause-gives
 returns-in-Err-clause-gives c =
-    (open_lacks c.args.parts.now.catalog c.args.parts.now.queries.items c.args.parts.now.order c.args.parts.now.readers.items c.args.parts.now.seq c.requires c.args.query.now c.in-Some.at c.open_at.new.queries.items
+    (open_lacks c.args.parts.now.catalog c.args.parts.now.queries.items c.args.parts.now.order c.args.parts.now.readers.items c.args.parts.now.seq (watches_in c.args.parts.now) c.requires.whole c.args.query.now c.in-Some.at c.open_at.new.queries.items
     (first_query c.args.parts.now.queries.items c.args.query.now c.in-Some.at (c.in-Some.ensures ∙ ap (position (is_query c.args.query.now)) c.as_slice.ensures.value)) c.in-Err.ensures.err).1
+
+pub returns-in-Ok-clause-tended : goal.returns-in-Ok-clause-tended
+returns-in-Ok-clause-tended c =
+    let old = c.args.parts.now in
+    let k = opened_kept old.catalog old.queries.items c.open_at.new.queries.items old.order old.readers.items c.requires.whole old.logs.items c.in-Some.at c.in-Ok.cursor c.in-Ok.ensures.ok in
+    record {
+      watched = c.requires.tended.watched ∙ sym k.long;
+      logged = c.requires.tended.logged ∙ sym k.long;
+      shown = k.shown c.requires.tended.shown;
+    }
+
+pub returns-in-Err-clause-tended : goal.returns-in-Err-clause-tended
+returns-in-Err-clause-tended c =
+    let old = c.args.parts.now in
+    let e = c.in-Err.ensures.err in
+    record {
+      watched = c.requires.tended.watched ∙ sym (ap (λ (gs : List (Option Live)). length gs) e);
+      logged = c.requires.tended.logged ∙ sym (ap (λ (gs : List (Option Live)). length gs) e);
+      shown = subst (λ (gs : List (Option Live)). AreShown old.catalog.texts gs old.logs.items) (sym e) c.requires.tended.shown;
+    }

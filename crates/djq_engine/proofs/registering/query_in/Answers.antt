@@ -10,9 +10,14 @@ use Rattle.djq_model.specs.Data.{query_of}
 use Rattle.djq_machine.specs.Store.{LearnsAll, LearnsFirst}
 use Rattle.djq_rows.specs.Catalog.{Catalog}
 use Rattle.djq_engine.specs.declared.parts.Parts.{Parts}
-use Rattle.djq_engine.specs.Places.{queries_in}
+use Rattle.djq_engine.specs.Kept.{Registered}
+use Rattle.djq_engine.specs.Places.{id_at, place_at, query_in, queries_in, registered_in}
+use Rattle.djq_engine.specs.Tending.{AreShown}
 use Rattle.djq_engine.specs.Whole.{IsWhole}
-use Rattle.djq_engine.proofs.Refusing.{all_first, constants_stay, enrolled_cursors, enrolled_queries, enrolled_whole, passes_of, query_done, query_lacks, same_cursors, same_queries, same_whole}
+use Rattle.std.specs.Prelude.{is_some}
+use Rattle.djq_engine.proofs.Enlisted.{enlisted, registered_none, registered_same}
+use Rattle.djq_engine.proofs.Tending.{shown_enrolled, shown_places}
+use Rattle.djq_engine.proofs.Refusing.{mid_shown, all_first, constants_stay, enrolled_cursors, enrolled_queries, enrolled_whole, passes_of, query_done, query_lacks, same_cursors, same_queries, same_whole}
 use Rattle.djq_engine.proofs.registering.query_in.Goals as goal
 
 pub returns-in-Err-Full-clause-whole : goal.returns-in-Err-Full-clause-whole
@@ -56,8 +61,8 @@ returns-in-Err-clause-registers g c =
     c.intern_constants-known.ensures.relations refl c.in-Ok.ensures.planned.connex
     (all_first c.args.parts.now.catalog.texts (texts_in (constants_of c.args.query.atoms)) c.intern_constants-known.new.catalog.texts c.in-Ok-known.ensures.interns.0) refl
 
-pub register-requires : goal.register-requires
-register-requires g c =
+pub register-requires-clause-whole : goal.register-requires-clause-whole
+register-requires-clause-whole g c =
     let old = c.args.parts.now in
     sound_texts old.catalog c.intern_constants-known.new.catalog old.queries.items old.order old.readers.items c.intern_constants-known.ensures.relations (constants_stay c.live_stays.ensures c.texts_stay.ensures old.catalog c.intern_constants-known.new.catalog old.queries.items old.order old.readers.items c.requires.whole c.laws.ensures
     c.intern_constants-known.ensures.relations (constants_of c.args.query.atoms) c.intern_constants-known.result c.intern_constants-known.ensures.interns) c.requires.whole
@@ -141,3 +146,84 @@ returns-in-Err-register-clause-cursors g c id =
     let r = c.in-Err-register.ensures.err in
     same_cursors mid new whole r id ∙ rested_held old.catalog c.intern_constants-known.new.catalog old.queries.items (constants_stay c.live_stays.ensures c.texts_stay.ensures old.catalog c.intern_constants-known.new.catalog old.queries.items old.order old.readers.items c.requires.whole c.laws.ensures
     c.intern_constants-known.ensures.relations (constants_of c.args.query.atoms) c.intern_constants-known.result c.intern_constants-known.ensures.interns) id
+
+pub returns-in-Err-Full-clause-tended : goal.returns-in-Err-Full-clause-tended
+returns-in-Err-Full-clause-tended g c =
+    let old = c.args.parts.now in
+    record {
+      watched = c.requires.tended.watched;
+      logged = c.requires.tended.logged;
+      shown = mid_shown c.showable_stays.ensures c.texts_stay.ensures old.catalog.texts c.intern_constants-known.new.catalog.texts (constants_of c.args.query.atoms) c.intern_constants-known.result c.intern_constants-known.ensures.interns old.queries.items old.logs.items c.requires.tended.shown;
+    }
+
+pub returns-in-Err-NoMem-known-clause-tended : goal.returns-in-Err-NoMem-known-clause-tended
+returns-in-Err-NoMem-known-clause-tended g c =
+    let old = c.args.parts.now in
+    record {
+      watched = c.requires.tended.watched;
+      logged = c.requires.tended.logged;
+      shown = mid_shown c.showable_stays.ensures c.texts_stay.ensures old.catalog.texts c.intern_constants-known.new.catalog.texts (constants_of c.args.query.atoms) c.intern_constants-known.result c.intern_constants-known.ensures.interns old.queries.items old.logs.items c.requires.tended.shown;
+    }
+
+pub returns-in-Err-clause-tended : goal.returns-in-Err-clause-tended
+returns-in-Err-clause-tended g c =
+    let old = c.args.parts.now in
+    record {
+      watched = c.requires.tended.watched;
+      logged = c.requires.tended.logged;
+      shown = mid_shown c.showable_stays.ensures c.texts_stay.ensures old.catalog.texts c.intern_constants-known.new.catalog.texts (constants_of c.args.query.atoms) c.intern_constants-known.result c.intern_constants-known.ensures.interns old.queries.items old.logs.items c.requires.tended.shown;
+    }
+
+pub register-requires-clause-tended : goal.register-requires-clause-tended
+register-requires-clause-tended g c =
+    let old = c.args.parts.now in
+    record {
+      watched = c.requires.tended.watched;
+      logged = c.requires.tended.logged;
+      shown = mid_shown c.showable_stays.ensures c.texts_stay.ensures old.catalog.texts c.intern_constants-known.new.catalog.texts (constants_of c.args.query.atoms) c.intern_constants-known.result c.intern_constants-known.ensures.interns old.queries.items old.logs.items c.requires.tended.shown;
+    }
+
+pub returns-in-Ok-register-clause-tended : goal.returns-in-Ok-register-clause-tended
+returns-in-Ok-register-clause-tended g c =
+    let old = c.args.parts.now in
+    let new = c.register.new.parts in
+    let r = c.in-Ok-register.ensures.ok in
+    record {
+      watched = r.watched;
+      logged = r.logged;
+      shown = subst (λ (x : Catalog). AreShown x.texts new.queries.items new.logs.items) (sym r.catalog)
+          (shown_enrolled c.intern_constants-known.new.catalog.texts old.queries.items new.queries.items old.logs.items new.logs.items r.place r.others r.empty r.logs (mid_shown c.showable_stays.ensures c.texts_stay.ensures old.catalog.texts c.intern_constants-known.new.catalog.texts (constants_of c.args.query.atoms) c.intern_constants-known.result c.intern_constants-known.ensures.interns old.queries.items old.logs.items c.requires.tended.shown));
+    }
+
+pub returns-in-Err-register-clause-tended : goal.returns-in-Err-register-clause-tended
+returns-in-Err-register-clause-tended g c =
+    let old = c.args.parts.now in
+    let new = c.register.new.parts in
+    let r = c.in-Err-register.ensures.err in
+    record {
+      watched = r.watched;
+      logged = r.logged;
+      shown = subst (λ (x : Catalog). AreShown x.texts new.queries.items new.logs.items) (sym r.catalog)
+          (shown_places c.intern_constants-known.new.catalog.texts old.queries.items new.queries.items old.logs.items new.logs.items r.queries r.logs (mid_shown c.showable_stays.ensures c.texts_stay.ensures old.catalog.texts c.intern_constants-known.new.catalog.texts (constants_of c.args.query.atoms) c.intern_constants-known.result c.intern_constants-known.ensures.interns old.queries.items old.logs.items c.requires.tended.shown));
+    }
+
+pub returns-in-Ok-register-clause-enrols : goal.returns-in-Ok-register-clause-enrols
+returns-in-Ok-register-clause-enrols g c =
+    let old = c.args.parts.now in
+    let new = c.register.new.parts in
+    let r = c.in-Ok-register.ensures.ok in
+    let l = c.in-Ok-build.live in (
+      id_at r.place,
+      registered_none old.catalog old.queries.items old.order old.readers.items old.watchers.items c.requires.whole (id_at r.place) r.vacant,
+      ap (registered_in new.queries.items new.watchers.items) r.last
+          ∙ enlisted old.queries.items new.queries.items old.watchers.items new.watchers.items old.order r.place l (c.requires.whole.listed r.place ∙ ap is_some r.vacant) r.here r.unwatched r.others r.watchers
+          ∙ ap (λ (q : Query). registered_in old.queries.items old.watchers.items old.order ++ (let x : Registered = record { id = id_at r.place; query = q; watchers = 0 } in x) ∷ []) c.in-Ok-build.ensures.query,
+    )
+
+pub returns-in-Err-register-clause-enrols : goal.returns-in-Err-register-clause-enrols
+returns-in-Err-register-clause-enrols g c =
+    let old = c.args.parts.now in
+    let new = c.register.new.parts in
+    let r = c.in-Err-register.ensures.err in
+    ap (registered_in new.queries.items new.watchers.items) r.order
+    ∙ registered_same old.queries.items new.queries.items old.watchers.items new.watchers.items old.order (λ i. ap query_in (r.queries i)) r.watchers

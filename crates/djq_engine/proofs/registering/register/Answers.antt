@@ -1,7 +1,9 @@
-use Rattle.std.proofs.Common.{◌≡◌, ◌∙◌, refl, sym, ap, ap₂, ℕ, ◌∷◌, ◌++◌, ◌-◌, List, [], length}
+use Rattle.std.proofs.Common.{◌≡◌, ◌≢◌, ◌∙◌, ◌<◌, refl, sym, ap, ap₂, arith, ℕ, ◌∷◌, ◌++◌, ◌-◌, List, [], length, length-set, set, inl, inr}
 use Rattle.std.specs.Prelude.{None, remove}
-use Rattle.djq_engine.specs.Places.{place_at, is_reader, readers_at}
+use Rattle.std.proofs.lemmas.List.{get_or-set_same, get_or-set_other}
+use Rattle.djq_engine.specs.Places.{place_at, is_reader, readers_at, watchers_at, log_at, no_log}
 use Rattle.djq_engine.proofs.Enrolling.{lists_once, lists_without, joined_once, joined_left}
+use Rattle.djq_engine.proofs.Lists.{logs_cleared}
 use Rattle.djq_engine.proofs.Unseating.{remove_last, last_place}
 use Rattle.djq_engine.proofs.registering.register.Goals as goal
 
@@ -9,8 +11,8 @@ pub leave_all-requires : goal.leave_all-requires
 leave_all-requires c =
     let old = c.args.parts.now in
     joined_once c.in-Ok.at old.readers.items c.join_readers.new.lists.items
-    (lists_once old.catalog old.queries.items old.order old.readers.items c.requires)
-    (lists_without old.catalog old.queries.items old.order old.readers.items c.in-Ok.at c.requires
+    (lists_once old.catalog old.queries.items old.order old.readers.items c.requires.whole)
+    (lists_without old.catalog old.queries.items old.order old.readers.items c.in-Ok.at c.requires.whole
     (sym (c.in-Ok.ensures.same c.in-Ok.at) ∙ c.in-Ok.ensures.vacant))
     c.in-Err-join_readers.ensures.err
 
@@ -22,7 +24,7 @@ returns-in-Err-join_readers-clause-err c =
       readers = joined_left c.in-Ok.at old.readers.items c.join_readers.new.lists.items
           c.leave_all.new.lists.items
           (lists_without old.catalog old.queries.items old.order old.readers.items c.in-Ok.at
-          c.requires (sym (c.in-Ok.ensures.same c.in-Ok.at) ∙ c.in-Ok.ensures.vacant))
+          c.requires.whole (sym (c.in-Ok.ensures.same c.in-Ok.at) ∙ c.in-Ok.ensures.vacant))
           c.in-Err-join_readers.ensures.err c.leave_all.ensures;
       order = c.remove.ensures.others
           ∙ ap₂ (λ (l : List ℕ) (k : ℕ). remove l k) c.in-Ok-push.ensures.ok
@@ -31,4 +33,8 @@ returns-in-Err-join_readers-clause-err c =
           ∙ remove_last old.order c.in-Ok.at;
       catalog = refl;
       seq = refl;
+      watchers = c.vacant_place.ensures.watchers;
+      logs = c.vacant_place.ensures.logs;
+      watched = c.vacant_place.ensures.watched;
+      logged = c.vacant_place.ensures.logged;
     }

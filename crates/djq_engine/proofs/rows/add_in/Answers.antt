@@ -1,10 +1,15 @@
-use Rattle.std.proofs.Common.{◌+◌, ◌++◌, ◌∷◌, [], ◌∙◌, ap, subst}
-use Rattle.std.specs.Prelude.{Option}
+use Rattle.std.proofs.Common.{◌+◌, ◌++◌, ◌∷◌, [], ◌∙◌, ap, arith, false, subst, sym, Bool, rules, ◌≡◌}
+use Rattle.djq_model.specs.Data.{rows_of}
+use Rattle.std.specs.Prelude.{Err, IfErr, Option, Some}
+use Rattle.djq_lines.specs.declared.answer.Refusal.{Refusal}
+use Rattle.djq_machine.specs.Store.{add_refusal}
 use Rattle.djq_dict.specs.declared.refusal.InternRefusal.{InternRefusal}
 use Rattle.djq_rows.specs.declared.relation_id.RelationId.{RelationId}
 use Rattle.djq_rows.specs.Catalog.{rows_at}
-use Rattle.djq_engine.specs.Judging.{JudgesAdd}
-use Rattle.djq_engine.specs.Changing.{Lacks}
+use Rattle.djq_engine.specs.Judging.{JudgesAdd, bare}
+use Rattle.djq_engine.specs.Changing.{Idles, Lacks}
+use Rattle.djq_engine.specs.Watching.{TellsChange}
+use Rattle.djq_engine.specs.Whole.{kept_in}
 use Rattle.djq_engine.proofs.Adding.{
   add_done,
   add_lacking,
@@ -17,11 +22,22 @@ use Rattle.djq_engine.proofs.Adding.{
   rested_whole,
   same_names,
 }
+use Rattle.djq_engine.proofs.Reporting.{
+  add_refused_tells,
+  adds_done,
+  adds_refused,
+  alike_now,
+  registered_now,
+  registered_still,
+  tells_nothing,
+  tended_now,
+  tended_still,
+}
 use Rattle.djq_engine.proofs.rows.add_in.Goals as goal
 
 pub returns-in-Err-Full-clause-whole : goal.returns-in-Err-Full-clause-whole
 returns-in-Err-Full-clause-whole g c =
-    rested_whole c.args.parts.now c.put_row.new.parts c.requires (subst (λ (r : InternRefusal). Lacks c.in-Some.id.at c.args.row.now c.args.parts.now c.put_row.new.parts r) c.in-Err-Full.field-0-is c.in-Err-Full.ensures.err).rests c.put_row.ensures.rest
+    rested_whole c.args.parts.now c.put_row.new.parts c.requires.whole (subst (λ (r : InternRefusal). Lacks c.in-Some.id.at c.args.row.now c.args.parts.now c.put_row.new.parts r) c.in-Err-Full.field-0-is c.in-Err-Full.ensures.err).rests c.put_row.ensures.rest
 
 pub returns-in-Err-Full-clause-outdates : goal.returns-in-Err-Full-clause-outdates
 returns-in-Err-Full-clause-outdates g c = rested_cursors c.args.parts.now c.put_row.new.parts (subst (λ (r : InternRefusal). Lacks c.in-Some.id.at c.args.row.now c.args.parts.now c.put_row.new.parts r) c.in-Err-Full.field-0-is c.in-Err-Full.ensures.err).rests
@@ -32,49 +48,49 @@ returns-in-Err-Full-clause-adds g c =
 
 pub age_readers-requires-clause-once : goal.age_readers-requires-clause-once
 age_readers-requires-clause-once g c =
-    mid_once c.args.parts.now c.put_row.new.parts c.requires c.in-Some.id.at (subst (λ (j : Option RelationId). JudgesAdd c.args.parts.now.catalog.relations c.args.name.now c.args.row.now c.args.parts.now.seq j) c.in-Some.is c.in_ok-judged.ensures.ok).relation.below
+    mid_once c.args.parts.now c.put_row.new.parts c.requires.whole c.in-Some.id.at (subst (λ (j : Option RelationId). JudgesAdd c.args.parts.now.catalog.relations c.args.name.now c.args.row.now c.args.parts.now.seq j) c.in-Some.is c.in_ok-judged.ensures.ok).relation.below
     (subst (λ (r : InternRefusal). Lacks c.in-Some.id.at c.args.row.now c.args.parts.now c.put_row.new.parts r) c.in-Err-NoMem.field-0-is c.in-Err-NoMem.ensures.err).carries c.put_row.ensures.rest.readers c.put_row.ensures.rest.order
     (names_kept c.args.parts.now.catalog c.put_row.new.parts.catalog (subst (λ (r : InternRefusal). Lacks c.in-Some.id.at c.args.row.now c.args.parts.now c.put_row.new.parts r) c.in-Err-NoMem.field-0-is c.in-Err-NoMem.ensures.err).relations)
 
 pub age_readers-requires-clause-there : goal.age_readers-requires-clause-there
 age_readers-requires-clause-there g c =
-    mid_there c.args.parts.now c.put_row.new.parts c.requires c.in-Some.id.at (subst (λ (j : Option RelationId). JudgesAdd c.args.parts.now.catalog.relations c.args.name.now c.args.row.now c.args.parts.now.seq j) c.in-Some.is c.in_ok-judged.ensures.ok).relation.below
+    mid_there c.args.parts.now c.put_row.new.parts c.requires.whole c.in-Some.id.at (subst (λ (j : Option RelationId). JudgesAdd c.args.parts.now.catalog.relations c.args.name.now c.args.row.now c.args.parts.now.seq j) c.in-Some.is c.in_ok-judged.ensures.ok).relation.below
     (subst (λ (r : InternRefusal). Lacks c.in-Some.id.at c.args.row.now c.args.parts.now c.put_row.new.parts r) c.in-Err-NoMem.field-0-is c.in-Err-NoMem.ensures.err).carries c.put_row.ensures.rest.readers c.put_row.ensures.rest.order
     (names_kept c.args.parts.now.catalog c.put_row.new.parts.catalog (subst (λ (r : InternRefusal). Lacks c.in-Some.id.at c.args.row.now c.args.parts.now c.put_row.new.parts r) c.in-Err-NoMem.field-0-is c.in-Err-NoMem.ensures.err).relations)
 
 pub returns-in-Err-NoMem-clause-whole : goal.returns-in-Err-NoMem-clause-whole
 returns-in-Err-NoMem-clause-whole g c =
-    (aged c.args.parts.now c.put_row.new.parts c.requires c.in-Some.id.at (subst (λ (j : Option RelationId). JudgesAdd c.args.parts.now.catalog.relations c.args.name.now c.args.row.now c.args.parts.now.seq j) c.in-Some.is c.in_ok-judged.ensures.ok).relation.below
+    (aged c.args.parts.now c.put_row.new.parts c.requires.whole c.in-Some.id.at (subst (λ (j : Option RelationId). JudgesAdd c.args.parts.now.catalog.relations c.args.name.now c.args.row.now c.args.parts.now.seq j) c.in-Some.is c.in_ok-judged.ensures.ok).relation.below
     (subst (λ (r : InternRefusal). Lacks c.in-Some.id.at c.args.row.now c.args.parts.now c.put_row.new.parts r) c.in-Err-NoMem.field-0-is c.in-Err-NoMem.ensures.err).carries c.put_row.ensures.rest.readers c.put_row.ensures.rest.order
     (names_kept c.args.parts.now.catalog c.put_row.new.parts.catalog (subst (λ (r : InternRefusal). Lacks c.in-Some.id.at c.args.row.now c.args.parts.now c.put_row.new.parts r) c.in-Err-NoMem.field-0-is c.in-Err-NoMem.ensures.err).relations) c.age_readers.new.parts c.args.name.now (subst (λ (j : Option RelationId). JudgesAdd c.args.parts.now.catalog.relations c.args.name.now c.args.row.now c.args.parts.now.seq j) c.in-Some.is c.in_ok-judged.ensures.ok).relation.named c.age_readers.ensures).whole
 
 pub returns-in-Err-NoMem-clause-outdates : goal.returns-in-Err-NoMem-clause-outdates
 returns-in-Err-NoMem-clause-outdates g c =
-    (aged c.args.parts.now c.put_row.new.parts c.requires c.in-Some.id.at (subst (λ (j : Option RelationId). JudgesAdd c.args.parts.now.catalog.relations c.args.name.now c.args.row.now c.args.parts.now.seq j) c.in-Some.is c.in_ok-judged.ensures.ok).relation.below
+    (aged c.args.parts.now c.put_row.new.parts c.requires.whole c.in-Some.id.at (subst (λ (j : Option RelationId). JudgesAdd c.args.parts.now.catalog.relations c.args.name.now c.args.row.now c.args.parts.now.seq j) c.in-Some.is c.in_ok-judged.ensures.ok).relation.below
     (subst (λ (r : InternRefusal). Lacks c.in-Some.id.at c.args.row.now c.args.parts.now c.put_row.new.parts r) c.in-Err-NoMem.field-0-is c.in-Err-NoMem.ensures.err).carries c.put_row.ensures.rest.readers c.put_row.ensures.rest.order
     (names_kept c.args.parts.now.catalog c.put_row.new.parts.catalog (subst (λ (r : InternRefusal). Lacks c.in-Some.id.at c.args.row.now c.args.parts.now c.put_row.new.parts r) c.in-Err-NoMem.field-0-is c.in-Err-NoMem.ensures.err).relations) c.age_readers.new.parts c.args.name.now (subst (λ (j : Option RelationId). JudgesAdd c.args.parts.now.catalog.relations c.args.name.now c.args.row.now c.args.parts.now.seq j) c.in-Some.is c.in_ok-judged.ensures.ok).relation.named c.age_readers.ensures).cursors
 
 pub age_readers-requires-2-clause-once : goal.age_readers-requires-2-clause-once
 age_readers-requires-2-clause-once g c =
-    mid_once c.args.parts.now (record c.put_row.new.parts { seq = c.put_row.new.parts.seq + 1 }) c.requires c.in-Some.id.at (subst (λ (j : Option RelationId). JudgesAdd c.args.parts.now.catalog.relations c.args.name.now c.args.row.now c.args.parts.now.seq j) c.in-Some.is c.in_ok-judged.ensures.ok).relation.below
+    mid_once c.args.parts.now (record c.put_row.new.parts { seq = c.put_row.new.parts.seq + 1; changed = c.in-Some.id.at }) c.requires.whole c.in-Some.id.at (subst (λ (j : Option RelationId). JudgesAdd c.args.parts.now.catalog.relations c.args.name.now c.args.row.now c.args.parts.now.seq j) c.in-Some.is c.in_ok-judged.ensures.ok).relation.below
     c.in-Ok.ensures.ok.has.carries c.put_row.ensures.rest.readers c.put_row.ensures.rest.order
     (same_names c.args.parts.now.catalog c.put_row.new.parts.catalog c.in-Some.id.at (rows_at c.args.parts.now.catalog.relations c.in-Some.id.at ++ c.args.row.now ∷ []) (subst (λ (j : Option RelationId). JudgesAdd c.args.parts.now.catalog.relations c.args.name.now c.args.row.now c.args.parts.now.seq j) c.in-Some.is c.in_ok-judged.ensures.ok).relation.below c.in-Ok.ensures.ok.has.relations)
 
 pub age_readers-requires-2-clause-there : goal.age_readers-requires-2-clause-there
 age_readers-requires-2-clause-there g c =
-    mid_there c.args.parts.now (record c.put_row.new.parts { seq = c.put_row.new.parts.seq + 1 }) c.requires c.in-Some.id.at (subst (λ (j : Option RelationId). JudgesAdd c.args.parts.now.catalog.relations c.args.name.now c.args.row.now c.args.parts.now.seq j) c.in-Some.is c.in_ok-judged.ensures.ok).relation.below
+    mid_there c.args.parts.now (record c.put_row.new.parts { seq = c.put_row.new.parts.seq + 1; changed = c.in-Some.id.at }) c.requires.whole c.in-Some.id.at (subst (λ (j : Option RelationId). JudgesAdd c.args.parts.now.catalog.relations c.args.name.now c.args.row.now c.args.parts.now.seq j) c.in-Some.is c.in_ok-judged.ensures.ok).relation.below
     c.in-Ok.ensures.ok.has.carries c.put_row.ensures.rest.readers c.put_row.ensures.rest.order
     (same_names c.args.parts.now.catalog c.put_row.new.parts.catalog c.in-Some.id.at (rows_at c.args.parts.now.catalog.relations c.in-Some.id.at ++ c.args.row.now ∷ []) (subst (λ (j : Option RelationId). JudgesAdd c.args.parts.now.catalog.relations c.args.name.now c.args.row.now c.args.parts.now.seq j) c.in-Some.is c.in_ok-judged.ensures.ok).relation.below c.in-Ok.ensures.ok.has.relations)
 
 pub returns-clause-whole : goal.returns-clause-whole
 returns-clause-whole g c =
-    (aged c.args.parts.now (record c.put_row.new.parts { seq = c.put_row.new.parts.seq + 1 }) c.requires c.in-Some.id.at (subst (λ (j : Option RelationId). JudgesAdd c.args.parts.now.catalog.relations c.args.name.now c.args.row.now c.args.parts.now.seq j) c.in-Some.is c.in_ok-judged.ensures.ok).relation.below
+    (aged c.args.parts.now (record c.put_row.new.parts { seq = c.put_row.new.parts.seq + 1; changed = c.in-Some.id.at }) c.requires.whole c.in-Some.id.at (subst (λ (j : Option RelationId). JudgesAdd c.args.parts.now.catalog.relations c.args.name.now c.args.row.now c.args.parts.now.seq j) c.in-Some.is c.in_ok-judged.ensures.ok).relation.below
     c.in-Ok.ensures.ok.has.carries c.put_row.ensures.rest.readers c.put_row.ensures.rest.order
     (same_names c.args.parts.now.catalog c.put_row.new.parts.catalog c.in-Some.id.at (rows_at c.args.parts.now.catalog.relations c.in-Some.id.at ++ c.args.row.now ∷ []) (subst (λ (j : Option RelationId). JudgesAdd c.args.parts.now.catalog.relations c.args.name.now c.args.row.now c.args.parts.now.seq j) c.in-Some.is c.in_ok-judged.ensures.ok).relation.below c.in-Ok.ensures.ok.has.relations) c.age_readers-2.new.parts c.args.name.now (subst (λ (j : Option RelationId). JudgesAdd c.args.parts.now.catalog.relations c.args.name.now c.args.row.now c.args.parts.now.seq j) c.in-Some.is c.in_ok-judged.ensures.ok).relation.named c.age_readers-2.ensures).whole
 
 pub returns-clause-outdates : goal.returns-clause-outdates
 returns-clause-outdates g c =
-    (aged c.args.parts.now (record c.put_row.new.parts { seq = c.put_row.new.parts.seq + 1 }) c.requires c.in-Some.id.at (subst (λ (j : Option RelationId). JudgesAdd c.args.parts.now.catalog.relations c.args.name.now c.args.row.now c.args.parts.now.seq j) c.in-Some.is c.in_ok-judged.ensures.ok).relation.below
+    (aged c.args.parts.now (record c.put_row.new.parts { seq = c.put_row.new.parts.seq + 1; changed = c.in-Some.id.at }) c.requires.whole c.in-Some.id.at (subst (λ (j : Option RelationId). JudgesAdd c.args.parts.now.catalog.relations c.args.name.now c.args.row.now c.args.parts.now.seq j) c.in-Some.is c.in_ok-judged.ensures.ok).relation.below
     c.in-Ok.ensures.ok.has.carries c.put_row.ensures.rest.readers c.put_row.ensures.rest.order
     (same_names c.args.parts.now.catalog c.put_row.new.parts.catalog c.in-Some.id.at (rows_at c.args.parts.now.catalog.relations c.in-Some.id.at ++ c.args.row.now ∷ []) (subst (λ (j : Option RelationId). JudgesAdd c.args.parts.now.catalog.relations c.args.name.now c.args.row.now c.args.parts.now.seq j) c.in-Some.is c.in_ok-judged.ensures.ok).relation.below c.in-Ok.ensures.ok.has.relations) c.age_readers-2.new.parts c.args.name.now (subst (λ (j : Option RelationId). JudgesAdd c.args.parts.now.catalog.relations c.args.name.now c.args.row.now c.args.parts.now.seq j) c.in-Some.is c.in_ok-judged.ensures.ok).relation.named c.age_readers-2.ensures).cursors
 
@@ -82,7 +98,7 @@ pub returns-clause-adds : goal.returns-clause-adds
 returns-clause-adds g c =
     add_done c.args.parts.now c.args.name.now c.args.row.now c.in-Some.id.at (subst (λ (j : Option RelationId). JudgesAdd c.args.parts.now.catalog.relations c.args.name.now c.args.row.now c.args.parts.now.seq j) c.in-Some.is c.in_ok-judged.ensures.ok) c.names_tell.ensures c.laws.ensures.names c.put_row.new.parts c.age_readers-2.new.parts
     c.in-Ok.ensures.ok c.age_readers-2.ensures.catalog (c.age_readers-2.ensures.rest.seq ∙ ap (λ n. n + 1) c.put_row.ensures.rest.seq)
-    (aged c.args.parts.now (record c.put_row.new.parts { seq = c.put_row.new.parts.seq + 1 }) c.requires c.in-Some.id.at (subst (λ (j : Option RelationId). JudgesAdd c.args.parts.now.catalog.relations c.args.name.now c.args.row.now c.args.parts.now.seq j) c.in-Some.is c.in_ok-judged.ensures.ok).relation.below
+    (aged c.args.parts.now (record c.put_row.new.parts { seq = c.put_row.new.parts.seq + 1; changed = c.in-Some.id.at }) c.requires.whole c.in-Some.id.at (subst (λ (j : Option RelationId). JudgesAdd c.args.parts.now.catalog.relations c.args.name.now c.args.row.now c.args.parts.now.seq j) c.in-Some.is c.in_ok-judged.ensures.ok).relation.below
     c.in-Ok.ensures.ok.has.carries c.put_row.ensures.rest.readers c.put_row.ensures.rest.order
     (same_names c.args.parts.now.catalog c.put_row.new.parts.catalog c.in-Some.id.at (rows_at c.args.parts.now.catalog.relations c.in-Some.id.at ++ c.args.row.now ∷ []) (subst (λ (j : Option RelationId). JudgesAdd c.args.parts.now.catalog.relations c.args.name.now c.args.row.now c.args.parts.now.seq j) c.in-Some.is c.in_ok-judged.ensures.ok).relation.below c.in-Ok.ensures.ok.has.relations) c.age_readers-2.new.parts c.args.name.now (subst (λ (j : Option RelationId). JudgesAdd c.args.parts.now.catalog.relations c.args.name.now c.args.row.now c.args.parts.now.seq j) c.in-Some.is c.in_ok-judged.ensures.ok).relation.named c.age_readers-2.ensures).queries
 
@@ -90,6 +106,66 @@ pub returns-in-Err-NoMem-clause-adds : goal.returns-in-Err-NoMem-clause-adds
 returns-in-Err-NoMem-clause-adds g c =
     add_lacking c.args.parts.now c.args.name.now c.args.row.now c.in-Some.id.at (subst (λ (j : Option RelationId). JudgesAdd c.args.parts.now.catalog.relations c.args.name.now c.args.row.now c.args.parts.now.seq j) c.in-Some.is c.in_ok-judged.ensures.ok) c.put_row.new.parts c.age_readers.new.parts
     (subst (λ (r : InternRefusal). Lacks c.in-Some.id.at c.args.row.now c.args.parts.now c.put_row.new.parts r) c.in-Err-NoMem.field-0-is c.in-Err-NoMem.ensures.err) c.age_readers.ensures.catalog (c.age_readers.ensures.rest.seq ∙ c.put_row.ensures.rest.seq)
-    (aged c.args.parts.now c.put_row.new.parts c.requires c.in-Some.id.at (subst (λ (j : Option RelationId). JudgesAdd c.args.parts.now.catalog.relations c.args.name.now c.args.row.now c.args.parts.now.seq j) c.in-Some.is c.in_ok-judged.ensures.ok).relation.below
+    (aged c.args.parts.now c.put_row.new.parts c.requires.whole c.in-Some.id.at (subst (λ (j : Option RelationId). JudgesAdd c.args.parts.now.catalog.relations c.args.name.now c.args.row.now c.args.parts.now.seq j) c.in-Some.is c.in_ok-judged.ensures.ok).relation.below
     (subst (λ (r : InternRefusal). Lacks c.in-Some.id.at c.args.row.now c.args.parts.now c.put_row.new.parts r) c.in-Err-NoMem.field-0-is c.in-Err-NoMem.ensures.err).carries c.put_row.ensures.rest.readers c.put_row.ensures.rest.order
     (names_kept c.args.parts.now.catalog c.put_row.new.parts.catalog (subst (λ (r : InternRefusal). Lacks c.in-Some.id.at c.args.row.now c.args.parts.now c.put_row.new.parts r) c.in-Err-NoMem.field-0-is c.in-Err-NoMem.ensures.err).relations) c.age_readers.new.parts c.args.name.now (subst (λ (j : Option RelationId). JudgesAdd c.args.parts.now.catalog.relations c.args.name.now c.args.row.now c.args.parts.now.seq j) c.in-Some.is c.in_ok-judged.ensures.ok).relation.named c.age_readers.ensures).queries
+
+pub returns-in_err-judged-clause-tells : goal.returns-in_err-judged-clause-tells
+returns-in_err-judged-clause-tells g c =
+    let old = c.args.parts.now in
+    let h : IfErr c.from_residual.result (λ (r : Refusal). add_refusal (bare old.catalog.relations old.seq) c.args.name.now c.args.row.now ≡ Some r) = search rules in
+    add_refused_tells old c.args.name.now c.args.row.now c.from_residual.result c.from_residual.ensures.0 h c.args.steps.now.listing
+
+pub returns-in_default-clause-tells : goal.returns-in_default-clause-tells
+returns-in_default-clause-tells g c =
+    let old = c.args.parts.now in
+    tells_nothing (kept_in old) (kept_in old) c.args.name.now (rows_of old.catalog.relations c.args.name.now ++ c.args.row.now ∷ []) c.args.steps.now.listing c.args.steps.now.listing (omega arith)
+
+pub returns-in-Err-Full-clause-tended : goal.returns-in-Err-Full-clause-tended
+returns-in-Err-Full-clause-tended g c =
+    tended_still c.args.parts.now c.put_row.new.parts c.requires.tended c.put_row.ensures.rest (subst (λ (r : InternRefusal). Lacks c.in-Some.id.at c.args.row.now c.args.parts.now c.put_row.new.parts r) c.in-Err-Full.field-0-is c.in-Err-Full.ensures.err).rests.queries c.put_row.ensures.shown
+
+pub returns-in-Err-Full-clause-watches : goal.returns-in-Err-Full-clause-watches
+returns-in-Err-Full-clause-watches g c =
+    registered_still c.args.parts.now c.put_row.new.parts c.put_row.ensures.rest (subst (λ (r : InternRefusal). Lacks c.in-Some.id.at c.args.row.now c.args.parts.now c.put_row.new.parts r) c.in-Err-Full.field-0-is c.in-Err-Full.ensures.err).rests.queries
+
+pub returns-in-Err-Full-clause-tells : goal.returns-in-Err-Full-clause-tells
+returns-in-Err-Full-clause-tells g c =
+    let old = c.args.parts.now in
+    tells_nothing (kept_in old) (kept_in c.put_row.new.parts) c.args.name.now (rows_of old.catalog.relations c.args.name.now ++ c.args.row.now ∷ []) c.args.steps.now.listing c.put_row.new.steps.listing
+    (subst (λ (r : InternRefusal). Idles c.args.steps.now.listing c.put_row.new.steps.listing r) c.in-Err-Full.field-0-is c.in-Err-Full.ensures.idle)
+
+pub returns-in-Err-NoMem-clause-tended : goal.returns-in-Err-NoMem-clause-tended
+returns-in-Err-NoMem-clause-tended g c =
+    tended_now c.args.parts.now c.put_row.new.parts c.age_readers.new.parts c.in-Some.id.at c.args.name.now (subst (λ (r : InternRefusal). Lacks c.in-Some.id.at c.args.row.now c.args.parts.now c.put_row.new.parts r) c.in-Err-NoMem.field-0-is c.in-Err-NoMem.ensures.err).carries
+    c.put_row.ensures.rest.watchers c.put_row.ensures.rest.order c.put_row.ensures.rest.long c.age_readers.ensures c.requires.tended c.put_row.ensures.shown
+
+pub returns-in-Err-NoMem-clause-watches : goal.returns-in-Err-NoMem-clause-watches
+returns-in-Err-NoMem-clause-watches g c =
+    registered_now c.args.parts.now c.put_row.new.parts c.age_readers.new.parts c.in-Some.id.at c.args.name.now (subst (λ (r : InternRefusal). Lacks c.in-Some.id.at c.args.row.now c.args.parts.now c.put_row.new.parts r) c.in-Err-NoMem.field-0-is c.in-Err-NoMem.ensures.err).carries
+    c.put_row.ensures.rest.watchers c.put_row.ensures.rest.order c.put_row.ensures.rest.long c.age_readers.ensures
+
+pub returns-in-Err-NoMem-clause-tells : goal.returns-in-Err-NoMem-clause-tells
+returns-in-Err-NoMem-clause-tells g c =
+    adds_refused c.args.parts.now c.requires.whole c.args.name.now c.args.row.now c.in-Some.id.at (subst (λ (j : Option RelationId). JudgesAdd c.args.parts.now.catalog.relations c.args.name.now c.args.row.now c.args.parts.now.seq j) c.in-Some.is c.in_ok-judged.ensures.ok).relation c.deltas_exist.ensures c.heads_are_bound.ensures c.names_tell.ensures c.laws.ensures.names
+    c.args.steps.now.listing c.put_row.new.steps.listing c.put_row.ensures.counted (kept_in c.age_readers.new.parts)
+
+pub returns-clause-tended : goal.returns-clause-tended
+returns-clause-tended g c =
+    tended_now c.args.parts.now (record c.put_row.new.parts { seq = c.put_row.new.parts.seq + 1; changed = c.in-Some.id.at }) c.age_readers-2.new.parts c.in-Some.id.at c.args.name.now c.in-Ok.ensures.ok.has.carries
+    c.put_row.ensures.rest.watchers c.put_row.ensures.rest.order c.put_row.ensures.rest.long c.age_readers-2.ensures c.requires.tended c.put_row.ensures.shown
+
+pub returns-clause-watches : goal.returns-clause-watches
+returns-clause-watches g c =
+    registered_now c.args.parts.now (record c.put_row.new.parts { seq = c.put_row.new.parts.seq + 1; changed = c.in-Some.id.at }) c.age_readers-2.new.parts c.in-Some.id.at c.args.name.now c.in-Ok.ensures.ok.has.carries
+    c.put_row.ensures.rest.watchers c.put_row.ensures.rest.order c.put_row.ensures.rest.long c.age_readers-2.ensures
+
+pub returns-clause-tells : goal.returns-clause-tells
+returns-clause-tells g c =
+    adds_done c.args.parts.now c.requires.whole c.args.name.now c.args.row.now c.in-Some.id.at (subst (λ (j : Option RelationId). JudgesAdd c.args.parts.now.catalog.relations c.args.name.now c.args.row.now c.args.parts.now.seq j) c.in-Some.is c.in_ok-judged.ensures.ok).relation c.deltas_exist.ensures c.heads_are_bound.ensures c.names_tell.ensures c.laws.ensures.names
+    c.args.steps.now.listing c.put_row.new.steps.listing
+    (record c.put_row.new.parts { seq = c.put_row.new.parts.seq + 1; changed = c.in-Some.id.at }) c.age_readers-2.new.parts c.age_readers-2.ensures.logs c.age_readers-2.ensures.catalog
+    (alike_now c.args.parts.now (record c.put_row.new.parts { seq = c.put_row.new.parts.seq + 1; changed = c.in-Some.id.at }) c.age_readers-2.new.parts c.in-Some.id.at c.args.name.now c.in-Ok.ensures.ok.has.carries
+    c.put_row.ensures.rest.watchers c.put_row.ensures.rest.order c.put_row.ensures.rest.long c.age_readers-2.ensures)
+    (c.age_readers-2.ensures.rest.readers ∙ c.put_row.ensures.rest.readers) c.age_readers-2.ensures.rest.changed
+    c.put_row.ensures.counted c.in-Ok.ensures.tells

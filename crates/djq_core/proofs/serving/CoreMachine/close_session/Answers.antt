@@ -25,7 +25,7 @@ pub invariant_of-self : goal.invariant_of-self
 invariant_of-self c =
     let h = here_by c.self.inside.engine c.self.inside.ids.items c.as_slice.result.now c.self.inside.sessions.items _ _ c.place_of-at.result c.args.id c.index_mut-found.result.now c.self.invariant c.as_slice.ensures.value c.place_of-at.ensures.within c.place_of-at.ensures.there c.index_mut-found.ensures.value in
     let within = within_by c.self.inside.engine c.self.inside.ids.items c.as_slice.result.now c.self.inside.sessions.items _ _ c.place_of-at.result c.self.invariant c.as_slice.ensures.value c.place_of-at.ensures.within in
-    let core = (closes c.self.inside.engine c.give_up.new.engine c.self.inside.ids.items c.self.inside.sessions.items _ _ c.place_of-at.result c.args.id c.index_mut-found.result.now c.give_up.new.session c.self.inside.stopped c.self.invariant h within c.give_up.ensures).1 in
+    let core = (closes c.self.inside.engine c.give_up.new.engine c.self.inside.ids.items c.self.inside.sessions.items _ _ c.place_of-at.result c.args.id c.index_mut-found.result.now c.give_up.new.session c.self.inside.stopped c.self.invariant h within c.give_up.ensures.gives_up).1 in
     record {
       ids_are = c.remove-id.ensures.items ∙ core.ids_are ∙ ap (λ (ys : List OpenSession). map (λ (x : OpenSession). x.id) ys) (sym c.remove-closed.ensures.items);
       sound = subst (IsSound c.give_up.new.engine) (sym c.remove-closed.ensures.items) core.sound;
@@ -38,4 +38,4 @@ returns c =
     let h = here_by c.self.inside.engine c.self.inside.ids.items c.as_slice.result.now c.self.inside.sessions.items _ _ c.place_of-at.result c.args.id c.index_mut-found.result.now c.self.invariant c.as_slice.ensures.value c.place_of-at.ensures.within c.place_of-at.ensures.there c.index_mut-found.ensures.value in
     let within = within_by c.self.inside.engine c.self.inside.ids.items c.as_slice.result.now c.self.inside.sessions.items _ _ c.place_of-at.result c.self.invariant c.as_slice.ensures.value c.place_of-at.ensures.within in
     subst (λ (ys : List OpenSession). Makes c.args.self.now (closed c.args.id (pending_of c.args.self.now c.args.id)) (state_in c.give_up.new.engine c.self.inside.stopped ys)) (sym c.remove-closed.ensures.items)
-    (subst (λ (st : State). Makes st (closed c.args.id (pending_of st c.args.id)) (state_in c.give_up.new.engine c.self.inside.stopped (remove (set c.self.inside.sessions.items c.place_of-at.result (record c.index_mut-found.result.now { session = c.give_up.new.session })) c.place_of-at.result))) c.self.view_is (closes c.self.inside.engine c.give_up.new.engine c.self.inside.ids.items c.self.inside.sessions.items _ _ c.place_of-at.result c.args.id c.index_mut-found.result.now c.give_up.new.session c.self.inside.stopped c.self.invariant h within c.give_up.ensures).0)
+    (subst (λ (st : State). Makes st (closed c.args.id (pending_of st c.args.id)) (state_in c.give_up.new.engine c.self.inside.stopped (remove (set c.self.inside.sessions.items c.place_of-at.result (record c.index_mut-found.result.now { session = c.give_up.new.session })) c.place_of-at.result))) c.self.view_is (closes c.self.inside.engine c.give_up.new.engine c.self.inside.ids.items c.self.inside.sessions.items _ _ c.place_of-at.result c.args.id c.index_mut-found.result.now c.give_up.new.session c.self.inside.stopped c.self.invariant h within c.give_up.ensures.gives_up).0)

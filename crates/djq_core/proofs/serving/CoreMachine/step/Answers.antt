@@ -1,8 +1,22 @@
-use Rattle.std.proofs.Common.{◌||◌, Bool, subst, set}
+use Rattle.std.proofs.Common.{◌||◌, ◌≤◌, ◌+◌, ◌∙◌, ℕ, suc, List, Option, Bool, true, false, subst, sym, set, take, drop}
+use Rattle.djq_lines.specs.declared.limits.TheConstants.{REPLY_BYTES, LAST_LINE_BYTES, SESSIONS}
+use Rattle.djq_machine.specs.declared.machine.Stepped.{Stepped}
+use Rattle.djq_machine.specs.declared.machine.Stepped.TheVariants.{Ran}
+use Rattle.djq_core.specs.Changing.{is_accepted, reply_of}
+use Rattle.djq_core.specs.Performs.{among}
+use Rattle.djq_core.specs.Telling.{TellsAll}
+use Rattle.djq_core.proofs.Composing.{change_gives}
+use Rattle.std.specs.Prelude.{IsSomeAnd}
 use Rattle.djq_machine.specs.State.{State}
 use Rattle.djq_core.specs.Views.{state_in}
 use Rattle.djq_machine.specs.Call.{StepGives, counts}
-use Rattle.djq_core.proofs.Places.{here_by, is_there_in, ids_rise_in, owns, steps, steps_sound, or_turned}
+use Rattle.djq_core.proofs.Places.{here_by, id_by, is_there_in, ids_rise_in, owns, steps, steps_sound, or_turned}
+use Rattle.djq_core.specs.declared.change.Left.{Left}
+use Rattle.djq_core.specs.declared.change.Left.TheVariants.{Nothing, Stopping, Telling}
+use Rattle.djq_core.specs.declared.open.OpenSession.{OpenSession}
+use Rattle.djq_core.specs.Sound.{IsSound}
+use Rattle.djq_core.specs.Stepping.{LeavesTo}
+use Rattle.djq_core.proofs.Stepping.{telling_ran, sound_left, set_there, told_there, registered_left}
 use Rattle.djq_core.proofs.serving.CoreMachine.step.Goals as goal
 
 pub place_of-at-requires-clause-rising : goal.place_of-at-requires-clause-rising
@@ -19,15 +33,107 @@ step_session-stepped-requires g c =
 pub invariant_of-self : goal.invariant_of-self
 invariant_of-self g c =
     let h = here_by c.self.inside.engine c.self.inside.ids.items c.as_slice.result.now c.self.inside.sessions.items _ _ c.place_of-at.result c.args.id c.index_mut-found.result.now c.self.invariant c.as_slice.ensures.value c.place_of-at.ensures.within c.place_of-at.ensures.there c.index_mut-found.ensures.value in
-    steps_sound c.self.inside.engine c.step_session-stepped.new.engine c.self.inside.ids.items c.self.inside.sessions.items _ _ c.place_of-at.result c.args.id c.index_mut-found.result.now c.step_session-stepped.new.session c.step_session-stepped.result.0 c.step_session-stepped.result.1
-    (counts c.args.steps.now.listing c.args.steps.now.update c.args.steps.now.rows) (counts c.step_session-stepped.new.steps.listing c.step_session-stepped.new.steps.update c.step_session-stepped.new.steps.rows) c.self.invariant h c.step_session-stepped.ensures
-
-pub returns : goal.returns
-returns g c =
-    let h = here_by c.self.inside.engine c.self.inside.ids.items c.as_slice.result.now c.self.inside.sessions.items _ _ c.place_of-at.result c.args.id c.index_mut-found.result.now c.self.invariant c.as_slice.ensures.value c.place_of-at.ensures.within c.place_of-at.ensures.there c.index_mut-found.ensures.value in
-    let left = set c.self.inside.sessions.items c.place_of-at.result (record c.index_mut-found.result.now { session = c.step_session-stepped.new.session }) in
     let before = counts c.args.steps.now.listing c.args.steps.now.update c.args.steps.now.rows in
     let now = counts c.step_session-stepped.new.steps.listing c.step_session-stepped.new.steps.update c.step_session-stepped.new.steps.rows in
-    subst (λ (b : Bool). StepGives c.args.self.now c.args.id c.step_session-stepped.result.0 (state_in c.step_session-stepped.new.engine b left) before now) (or_turned c.step_session-stepped.result.1 c.self.inside.stopped)
-    (subst (λ (st : State). StepGives st c.args.id c.step_session-stepped.result.0 (state_in c.step_session-stepped.new.engine (c.step_session-stepped.result.1 || c.self.inside.stopped) left) before now) c.self.view_is
-    (steps c.self.inside.engine c.step_session-stepped.new.engine c.self.inside.sessions.items c.place_of-at.result c.args.id c.index_mut-found.result.now c.step_session-stepped.new.session c.step_session-stepped.result.0 c.step_session-stepped.result.1 c.self.inside.stopped before now h c.step_session-stepped.ensures))
+    let leaves = subst (λ (l : Left). LeavesTo c.step_session-stepped.result.0 l c.self.inside.engine (c.index_mut-found.result.now).session c.step_session-stepped.new.engine c.step_session-stepped.new.session before now) c.in-Nothing.is c.step_session-stepped.ensures in
+    steps_sound c.self.inside.engine c.step_session-stepped.new.engine c.self.inside.ids.items c.self.inside.sessions.items _ _ c.place_of-at.result c.args.id c.index_mut-found.result.now c.step_session-stepped.new.session c.step_session-stepped.result.0 false before now c.self.invariant h leaves
+
+pub invariant_of-self-in-Stopping : goal.invariant_of-self-in-Stopping
+invariant_of-self-in-Stopping g c =
+    let h = here_by c.self.inside.engine c.self.inside.ids.items c.as_slice.result.now c.self.inside.sessions.items _ _ c.place_of-at.result c.args.id c.index_mut-found.result.now c.self.invariant c.as_slice.ensures.value c.place_of-at.ensures.within c.place_of-at.ensures.there c.index_mut-found.ensures.value in
+    let before = counts c.args.steps.now.listing c.args.steps.now.update c.args.steps.now.rows in
+    let now = counts c.step_session-stepped.new.steps.listing c.step_session-stepped.new.steps.update c.step_session-stepped.new.steps.rows in
+    let leaves = subst (λ (l : Left). LeavesTo c.step_session-stepped.result.0 l c.self.inside.engine (c.index_mut-found.result.now).session c.step_session-stepped.new.engine c.step_session-stepped.new.session before now) c.in-Stopping.is c.step_session-stepped.ensures in
+    steps_sound c.self.inside.engine c.step_session-stepped.new.engine c.self.inside.ids.items c.self.inside.sessions.items _ _ c.place_of-at.result c.args.id c.index_mut-found.result.now c.step_session-stepped.new.session c.step_session-stepped.result.0 true before now c.self.invariant h leaves
+
+pub returns-in-Nothing : goal.returns-in-Nothing
+returns-in-Nothing g c =
+    let h = here_by c.self.inside.engine c.self.inside.ids.items c.as_slice.result.now c.self.inside.sessions.items _ _ c.place_of-at.result c.args.id c.index_mut-found.result.now c.self.invariant c.as_slice.ensures.value c.place_of-at.ensures.within c.place_of-at.ensures.there c.index_mut-found.ensures.value in
+    let before = counts c.args.steps.now.listing c.args.steps.now.update c.args.steps.now.rows in
+    let now = counts c.step_session-stepped.new.steps.listing c.step_session-stepped.new.steps.update c.step_session-stepped.new.steps.rows in
+    let leaves = subst (λ (l : Left). LeavesTo c.step_session-stepped.result.0 l c.self.inside.engine (c.index_mut-found.result.now).session c.step_session-stepped.new.engine c.step_session-stepped.new.session before now) c.in-Nothing.is c.step_session-stepped.ensures in
+    let left = set c.self.inside.sessions.items c.place_of-at.result (record c.index_mut-found.result.now { session = c.step_session-stepped.new.session }) in
+    subst (λ (st : State). StepGives st c.args.id c.step_session-stepped.result.0 (state_in c.step_session-stepped.new.engine (false || c.self.inside.stopped) left) before now) c.self.view_is
+    (steps c.self.inside.engine c.step_session-stepped.new.engine c.self.inside.sessions.items c.place_of-at.result c.args.id c.index_mut-found.result.now c.step_session-stepped.new.session c.step_session-stepped.result.0 false c.self.inside.stopped before now h leaves)
+
+pub returns-in-Stopping : goal.returns-in-Stopping
+returns-in-Stopping g c =
+    let h = here_by c.self.inside.engine c.self.inside.ids.items c.as_slice.result.now c.self.inside.sessions.items _ _ c.place_of-at.result c.args.id c.index_mut-found.result.now c.self.invariant c.as_slice.ensures.value c.place_of-at.ensures.within c.place_of-at.ensures.there c.index_mut-found.ensures.value in
+    let before = counts c.args.steps.now.listing c.args.steps.now.update c.args.steps.now.rows in
+    let now = counts c.step_session-stepped.new.steps.listing c.step_session-stepped.new.steps.update c.step_session-stepped.new.steps.rows in
+    let leaves = subst (λ (l : Left). LeavesTo c.step_session-stepped.result.0 l c.self.inside.engine (c.index_mut-found.result.now).session c.step_session-stepped.new.engine c.step_session-stepped.new.session before now) c.in-Stopping.is c.step_session-stepped.ensures in
+    let left = set c.self.inside.sessions.items c.place_of-at.result (record c.index_mut-found.result.now { session = c.step_session-stepped.new.session }) in
+    subst (λ (st : State). StepGives st c.args.id c.step_session-stepped.result.0 (state_in c.step_session-stepped.new.engine (true || c.self.inside.stopped) left) before now) c.self.view_is
+    (steps c.self.inside.engine c.step_session-stepped.new.engine c.self.inside.sessions.items c.place_of-at.result c.args.id c.index_mut-found.result.now c.step_session-stepped.new.session c.step_session-stepped.result.0 true c.self.inside.stopped before now h leaves)
+
+pub tell_change-requires-clause-sound : goal.tell_change-requires-clause-sound
+tell_change-requires-clause-sound g c =
+    let h = here_by c.self.inside.engine c.self.inside.ids.items c.as_slice.result.now c.self.inside.sessions.items _ _ c.place_of-at.result c.args.id c.index_mut-found.result.now c.self.invariant c.as_slice.ensures.value c.place_of-at.ensures.within c.place_of-at.ensures.there c.index_mut-found.ensures.value in
+    let before = counts c.args.steps.now.listing c.args.steps.now.update c.args.steps.now.rows in
+    let now = counts c.step_session-stepped.new.steps.listing c.step_session-stepped.new.steps.update c.step_session-stepped.new.steps.rows in
+    let leaves = subst (λ (l : Left). LeavesTo c.step_session-stepped.result.0 l c.self.inside.engine (c.index_mut-found.result.now).session c.step_session-stepped.new.engine c.step_session-stepped.new.session before now) c.in-Telling.is c.step_session-stepped.ensures in
+    let t = telling_ran c.step_session-stepped.result.0 c.in-Telling.change c.self.inside.engine (c.index_mut-found.result.now).session c.step_session-stepped.new.engine c.step_session-stepped.new.session before now leaves in
+    subst (λ (ys : List OpenSession). IsSound c.step_session-stepped.new.engine ys) (sym (h.put c.step_session-stepped.new.session))
+    (sound_left c.in-Telling.change c.self.inside.engine c.step_session-stepped.new.engine _ c.args.id (c.index_mut-found.result.now).session c.step_session-stepped.new.session _ before.listing now.listing t.1 h.sound)
+
+pub tell_change-requires-clause-room : goal.tell_change-requires-clause-room
+tell_change-requires-clause-room g c =
+    let h = here_by c.self.inside.engine c.self.inside.ids.items c.as_slice.result.now c.self.inside.sessions.items _ _ c.place_of-at.result c.args.id c.index_mut-found.result.now c.self.invariant c.as_slice.ensures.value c.place_of-at.ensures.within c.place_of-at.ensures.there c.index_mut-found.ensures.value in
+    let before = counts c.args.steps.now.listing c.args.steps.now.update c.args.steps.now.rows in
+    let now = counts c.step_session-stepped.new.steps.listing c.step_session-stepped.new.steps.update c.step_session-stepped.new.steps.rows in
+    let leaves = subst (λ (l : Left). LeavesTo c.step_session-stepped.result.0 l c.self.inside.engine (c.index_mut-found.result.now).session c.step_session-stepped.new.engine c.step_session-stepped.new.session before now) c.in-Telling.is c.step_session-stepped.ensures in
+    let t = telling_ran c.step_session-stepped.result.0 c.in-Telling.change c.self.inside.engine (c.index_mut-found.result.now).session c.step_session-stepped.new.engine c.step_session-stepped.new.session before now leaves in
+    let i = id_by c.self.inside.engine c.self.inside.ids.items c.as_slice.result.now c.self.inside.sessions.items _ _ c.place_of-at.result c.args.id c.index_mut-found.result.now c.self.invariant c.as_slice.ensures.value c.place_of-at.ensures.within c.place_of-at.ensures.there c.index_mut-found.ensures.value in
+    let y : OpenSession = record c.index_mut-found.result.now { session = c.step_session-stepped.new.session } in
+    subst (λ (o : Option OpenSession). IsSomeAnd o (λ (x : OpenSession). REPLY_BYTES + LAST_LINE_BYTES ≤ (x.session).room)) (sym (set_there c.self.inside.sessions.items c.place_of-at.result y i.0)) (t.1).room
+
+pub tell_change-requires-clause-registered : goal.tell_change-requires-clause-registered
+tell_change-requires-clause-registered g c =
+    let h = here_by c.self.inside.engine c.self.inside.ids.items c.as_slice.result.now c.self.inside.sessions.items _ _ c.place_of-at.result c.args.id c.index_mut-found.result.now c.self.invariant c.as_slice.ensures.value c.place_of-at.ensures.within c.place_of-at.ensures.there c.index_mut-found.ensures.value in
+    let before = counts c.args.steps.now.listing c.args.steps.now.update c.args.steps.now.rows in
+    let now = counts c.step_session-stepped.new.steps.listing c.step_session-stepped.new.steps.update c.step_session-stepped.new.steps.rows in
+    let leaves = subst (λ (l : Left). LeavesTo c.step_session-stepped.result.0 l c.self.inside.engine (c.index_mut-found.result.now).session c.step_session-stepped.new.engine c.step_session-stepped.new.session before now) c.in-Telling.is c.step_session-stepped.ensures in
+    let t = telling_ran c.step_session-stepped.result.0 c.in-Telling.change c.self.inside.engine (c.index_mut-found.result.now).session c.step_session-stepped.new.engine c.step_session-stepped.new.session before now leaves in
+    let i = id_by c.self.inside.engine c.self.inside.ids.items c.as_slice.result.now c.self.inside.sessions.items _ _ c.place_of-at.result c.args.id c.index_mut-found.result.now c.self.invariant c.as_slice.ensures.value c.place_of-at.ensures.within c.place_of-at.ensures.there c.index_mut-found.ensures.value in
+    let y : OpenSession = record c.index_mut-found.result.now { session = c.step_session-stepped.new.session } in
+    registered_left c.in-Telling.change c.self.inside.engine c.step_session-stepped.new.engine (c.index_mut-found.result.now).session c.step_session-stepped.new.session before.listing now.listing t.1
+
+pub invariant_of-self-in-Telling : goal.invariant_of-self-in-Telling
+invariant_of-self-in-Telling g c =
+    let h = here_by c.self.inside.engine c.self.inside.ids.items c.as_slice.result.now c.self.inside.sessions.items _ _ c.place_of-at.result c.args.id c.index_mut-found.result.now c.self.invariant c.as_slice.ensures.value c.place_of-at.ensures.within c.place_of-at.ensures.there c.index_mut-found.ensures.value in
+    let before = counts c.args.steps.now.listing c.args.steps.now.update c.args.steps.now.rows in
+    let now = counts c.step_session-stepped.new.steps.listing c.step_session-stepped.new.steps.update c.step_session-stepped.new.steps.rows in
+    let leaves = subst (λ (l : Left). LeavesTo c.step_session-stepped.result.0 l c.self.inside.engine (c.index_mut-found.result.now).session c.step_session-stepped.new.engine c.step_session-stepped.new.session before now) c.in-Telling.is c.step_session-stepped.ensures in
+    let t = telling_ran c.step_session-stepped.result.0 c.in-Telling.change c.self.inside.engine (c.index_mut-found.result.now).session c.step_session-stepped.new.engine c.step_session-stepped.new.session before now leaves in
+    let i = id_by c.self.inside.engine c.self.inside.ids.items c.as_slice.result.now c.self.inside.sessions.items _ _ c.place_of-at.result c.args.id c.index_mut-found.result.now c.self.invariant c.as_slice.ensures.value c.place_of-at.ensures.within c.place_of-at.ensures.there c.index_mut-found.ensures.value in
+    let y : OpenSession = record c.index_mut-found.result.now { session = c.step_session-stepped.new.session } in
+    let all : TellsAll (is_accepted (c.in-Telling.change).outcome) (reply_of (c.in-Telling.change).outcome ((c.step_session-stepped.new.engine).store).seq) c.step_session-stepped.new.engine y.id (set c.self.inside.sessions.items c.place_of-at.result y) c.tell_change.new.engine c.tell_change.new.sessions.items
+    = told_there (λ (x : OpenSession). TellsAll (is_accepted (c.in-Telling.change).outcome) (reply_of (c.in-Telling.change).outcome ((c.step_session-stepped.new.engine).store).seq) c.step_session-stepped.new.engine x.id (set c.self.inside.sessions.items c.place_of-at.result y) c.tell_change.new.engine c.tell_change.new.sessions.items)
+    c.self.inside.sessions.items c.place_of-at.result y i.0 c.tell_change.ensures.tells in
+    record {
+      ids_are = (c.self.invariant).ids_are ∙ sym (h.ids c.step_session-stepped.new.session) ∙ sym all.ids;
+      sound = all.sound;
+      room_for_ids = (c.self.invariant).room_for_ids;
+      room_for_all = subst (λ (n : ℕ). SESSIONS ≤ n) (sym c.tell_change.ensures.cap) (c.self.invariant).room_for_all;
+    }
+
+pub returns-in-Telling : goal.returns-in-Telling
+returns-in-Telling g c =
+    let h = here_by c.self.inside.engine c.self.inside.ids.items c.as_slice.result.now c.self.inside.sessions.items _ _ c.place_of-at.result c.args.id c.index_mut-found.result.now c.self.invariant c.as_slice.ensures.value c.place_of-at.ensures.within c.place_of-at.ensures.there c.index_mut-found.ensures.value in
+    let before = counts c.args.steps.now.listing c.args.steps.now.update c.args.steps.now.rows in
+    let now = counts c.step_session-stepped.new.steps.listing c.step_session-stepped.new.steps.update c.step_session-stepped.new.steps.rows in
+    let leaves = subst (λ (l : Left). LeavesTo c.step_session-stepped.result.0 l c.self.inside.engine (c.index_mut-found.result.now).session c.step_session-stepped.new.engine c.step_session-stepped.new.session before now) c.in-Telling.is c.step_session-stepped.ensures in
+    let t = telling_ran c.step_session-stepped.result.0 c.in-Telling.change c.self.inside.engine (c.index_mut-found.result.now).session c.step_session-stepped.new.engine c.step_session-stepped.new.session before now leaves in
+    let i = id_by c.self.inside.engine c.self.inside.ids.items c.as_slice.result.now c.self.inside.sessions.items _ _ c.place_of-at.result c.args.id c.index_mut-found.result.now c.self.invariant c.as_slice.ensures.value c.place_of-at.ensures.within c.place_of-at.ensures.there c.index_mut-found.ensures.value in
+    let y : OpenSession = record c.index_mut-found.result.now { session = c.step_session-stepped.new.session } in
+    let all : TellsAll (is_accepted (c.in-Telling.change).outcome) (reply_of (c.in-Telling.change).outcome ((c.step_session-stepped.new.engine).store).seq) c.step_session-stepped.new.engine y.id (set c.self.inside.sessions.items c.place_of-at.result y) c.tell_change.new.engine c.tell_change.new.sessions.items
+    = told_there (λ (x : OpenSession). TellsAll (is_accepted (c.in-Telling.change).outcome) (reply_of (c.in-Telling.change).outcome ((c.step_session-stepped.new.engine).store).seq) c.step_session-stepped.new.engine x.id (set c.self.inside.sessions.items c.place_of-at.result y) c.tell_change.new.engine c.tell_change.new.sessions.items)
+    c.self.inside.sessions.items c.place_of-at.result y i.0 c.tell_change.ensures.tells in
+    let front = take c.place_of-at.result c.self.inside.sessions.items in
+    let back = drop (suc c.place_of-at.result) c.self.inside.sessions.items in
+    let told = subst (λ (n : ℕ). TellsAll (is_accepted (c.in-Telling.change).outcome) (reply_of (c.in-Telling.change).outcome ((c.step_session-stepped.new.engine).store).seq) c.step_session-stepped.new.engine n (among front c.args.id c.step_session-stepped.new.session back) c.tell_change.new.engine c.tell_change.new.sessions.items) i.1
+    (subst (λ (xs : List OpenSession). TellsAll (is_accepted (c.in-Telling.change).outcome) (reply_of (c.in-Telling.change).outcome ((c.step_session-stepped.new.engine).store).seq) c.step_session-stepped.new.engine y.id xs c.tell_change.new.engine c.tell_change.new.sessions.items) (h.put c.step_session-stepped.new.session) all) in
+    let gives = change_gives c.in-Telling.change c.self.inside.engine c.step_session-stepped.new.engine c.tell_change.new.engine (c.index_mut-found.result.now).session c.step_session-stepped.new.session front c.args.id back c.tell_change.new.sessions.items c.self.inside.stopped before now t.1 h.sound told in
+    subst (λ (r : Stepped). StepGives c.args.self.now c.args.id r (state_in c.tell_change.new.engine c.self.inside.stopped c.tell_change.new.sessions.items) before now) (sym t.0)
+    (subst (λ (st : State). StepGives st c.args.id Ran (state_in c.tell_change.new.engine c.self.inside.stopped c.tell_change.new.sessions.items) before now) c.self.view_is
+    (subst (λ (xs : List OpenSession). StepGives (state_in c.self.inside.engine c.self.inside.stopped xs) c.args.id Ran (state_in c.tell_change.new.engine c.self.inside.stopped c.tell_change.new.sessions.items) before now) (sym h.is) gives))

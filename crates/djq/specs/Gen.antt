@@ -1,0 +1,42 @@
+-- How `gen` ends: a load was run through one session, and what it comes to was written.
+use Rattle.std.specs.Prelude.{ℕ, ◌≡◌, ◌++◌, ◌⊎◌, Option, length, codes, decimal}
+use Rattle.djq_model.specs.Data.{Bytes, rows_of}
+use Rattle.djq_machine.specs.State.{State, opening}
+use Rattle.djq_machine.specs.Call.{Counts}
+use Rattle.djq_run.specs.declared.status.Status.{Status}
+use Rattle.djq_run.specs.declared.status.Status.TheVariants.{Done, NoMemory, TurnsUsed}
+use Rattle.djq_load.specs.declared.loading.Totals.{Totals}
+use Rattle.djq_load.specs.Totals.{RunsLoad}
+use Rattle.djq.specs.Replay.{Written}
+
+-- the number of rows of a relation
+abbrev pub row_count : State → Bytes → ℕ
+row_count st name = length (rows_of st.store.relations name)
+
+-- The summary: the rows of r and of s, the changes, the answers of the query, and the sum of their
+-- integers.
+abbrev pub summary : State → Totals → Bytes
+summary st totals =
+    codes "rows " ++ decimal (row_count st (codes "r"))
+    ++ codes " " ++ decimal (row_count st (codes "s"))
+    ++ codes "\nchanges " ++ decimal st.store.seq
+    ++ codes "\nanswers " ++ decimal totals.answers
+    ++ codes "\nsum " ++ decimal totals.sum
+    ++ codes "\n"
+
+-- **The theorem of `gen`.** From the opening state on, a run of the join machine fed one session the
+-- lines of the load, and then those that list the answers of its query; the totals are those of the
+-- query over the rows that are there then; and this text is the summary of it.
+pub record Generates (n seed : ℕ) (counted counted' : Counts) (text : Bytes) : Type 0 where
+  pub state : State
+  pub totals : Totals
+  pub runs : RunsLoad n seed totals opening counted state counted'
+  pub is : text ≡ summary state totals
+
+-- The summary was written; or a first part of it, where a write failed; or nothing was, as memory
+-- was wanted, or the answers were too many to read.
+abbrev pub GenEnds : Status → ℕ → ℕ → Option Bytes → ℕ → Counts → Option Bytes → ℕ → Counts → Type 0
+GenEnds status n seed taken faults counted taken' faults' counted' =
+    ((text : Bytes) × Generates n seed counted counted' text
+    × Written status Done text taken faults taken' faults')
+    ⊎ (((status ≡ NoMemory) ⊎ (status ≡ TurnsUsed)) × (taken' ≡ taken) × (faults' ≡ faults))

@@ -1,0 +1,79 @@
+ghost use Rattle.std.specs.Prelude.{◌≡◌, ◌++◌, IfOk, OnOk, decimal};
+ghost use Rattle.djq_machine.specs.Call.{counts};
+ghost use Rattle.djq.specs.Gen.{summary, Generates, GenEnds};
+
+use crate::replay::write_text;
+use djq_core::Core;
+use djq_io::Sink;
+use djq_load::{LoadRefusal, Totals, run_load};
+use djq_model::Name;
+use djq_run::Status;
+use djq_steps::{Ledgers, Steps};
+use itoa::Buffer;
+use std::alloc::{AllocError, Global};
+
+/// Runs the load of so many changes with a seed through one session of a machine, and writes what it
+/// comes to: how many rows there are, how many changes there were, how many answers there are, and
+/// what their integers add up to.
+pub(crate) fn generate<K: Sink, L: Ledgers>(
+    alloc: Global,
+    n: u32,
+    seed: u32,
+    sink: &mut K,
+    steps: &mut Steps<L>,
+) -> Status
+    ensures { GenEnds result n seed (K.taken sink.old) (K.faults sink.old)
+        (counts steps.old.listing steps.old.update steps.old.rows) (K.taken sink.new)
+        (K.faults sink.new) (counts steps.new.listing steps.new.update steps.new.rows) }
+{
+    match summarize(alloc, n, seed, steps) {
+        Ok(text) => write_text(sink, &text, Status::Done),
+        Err(LoadRefusal::NoMem) => Status::NoMemory,
+        Err(LoadRefusal::TooMany) => Status::TurnsUsed,
+    }
+}
+
+/// Runs a load, and tells what it comes to.
+fn summarize<L: Ledgers>(
+    alloc: Global,
+    n: u32,
+    seed: u32,
+    steps: &mut Steps<L>,
+) -> Result<Vec<u8>, LoadRefusal>
+    ensures { IfOk result (λ text. Generates n seed
+        (counts steps.old.listing steps.old.update steps.old.rows)
+        (counts steps.new.listing steps.new.update steps.new.rows) text.items) }
+{
+    let Ok(mut machine) = Core::new(alloc) else {
+        return Err(LoadRefusal::NoMem);
+    };
+    let totals = run_load(&mut machine, n, seed, steps)?;
+    match summary_text(alloc, &machine, totals) {
+        Ok(text) => Ok(text),
+        Err(_) => Err(LoadRefusal::NoMem),
+    }
+}
+
+/// The summary of a machine that ran a load, with the totals of its query.
+fn summary_text(alloc: Global, machine: &Core, totals: Totals) -> Result<Vec<u8>, AllocError>
+    ensures { IfOk result (λ text. text.items ≡ summary machine.now totals) }
+{
+    let mut text = Vec::new(alloc);
+    put_number(&mut text, b"rows ", machine.rows(&Name::new(b"r")))?;
+    put_number(&mut text, b" ", machine.rows(&Name::new(b"s")))?;
+    put_number(&mut text, b"\nchanges ", machine.seq())?;
+    put_number(&mut text, b"\nanswers ", totals.answers)?;
+    put_number(&mut text, b"\nsum ", totals.sum)?;
+    text.push(b'\n')?;
+    Ok(text)
+}
+
+/// Puts words and a number at the end of the text.
+fn put_number(text: &mut Vec<u8>, words: &[u8], number: u64) -> Result<(), AllocError>
+    ensures { OnOk result (text.new.items ≡ text.old.items ++ words.now ++ decimal number) }
+{
+    let mut digits = Buffer::new();
+    text.extend_from_slice(words)?;
+    text.extend_from_slice(digits.format(number).as_bytes())?;
+    Ok(())
+}

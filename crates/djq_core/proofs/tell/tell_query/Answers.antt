@@ -1,0 +1,84 @@
+use Rattle.std.proofs.Common.{ℕ, suc, ◌<◌, ◌≡◌, ◌∙◌, List, length, true, false, sym, ap, subst, arith, inl, inr, refl}
+use Rattle.djq_model.specs.Data.{Bytes}
+use Rattle.djq_engine.specs.Kept.{Kept, Registered}
+use Rattle.djq_core.specs.declared.open.OpenSession.{OpenSession}
+use Rattle.djq_core.specs.Sound.{watchers_in, is_among_watches}
+use Rattle.djq_core.specs.Performs.{Performs}
+use Rattle.djq_core.specs.Telling.{HearsDelta, Prints, TellsQuery}
+use Rattle.djq_core.proofs.Spreading.{TellsSoFar, telling_starts, told_one, untold_one, length_still, owned_at, runs_at, same_place, next_place}
+use Rattle.djq_core.proofs.Affecting.{query_told, query_untold, watchers_of, name_of}
+use Rattle.djq_core.proofs.tell.tell_query.Goals.{then-watches, else-watches}
+use Rattle.djq_core.proofs.tell.tell_query.Goals as goal
+
+pub returns-then-watchers-eq0-clause-tells : goal.returns-then-watchers-eq0-clause-tells
+returns-then-watchers-eq0-clause-tells c = λ r e.
+    query_untold c.args.engine.now c.args.id r.query.name c.args.sessions.now.items c.requires.sound
+    (sym (watchers_of c.args.engine.now c.args.sessions.now.items c.args.id r c.watchers.result c.requires.sound e c.watchers.ensures) ∙ c.if-watchers-eq0.true)
+
+pub loop-at-init : goal.loop-at-init
+loop-at-init c = (telling_starts c.query_name-query.result c.print_delta-whole.result c.print_delta-whole.new.text.items c.args.engine.now c.args.sessions.now.items c.requires.sound, refl)
+
+pub index-requires : goal.index-requires
+index-requires c =
+    let n = length_still _ _ _ c.args.engine.now c.args.sessions.now.items c.loop-at.at c.loop-at.engine c.loop-at.sessions.items c.loop-at.invariant.0 in
+    omega (arith, c.loop-at-test.true, c.len-at-end.ensures, n)
+
+pub index_mut-requires : goal.index_mut-requires
+index_mut-requires c =
+    let n = length_still _ _ _ c.args.engine.now c.args.sessions.now.items c.loop-at.at c.loop-at.engine c.loop-at.sessions.items c.loop-at.invariant.0 in
+    omega (arith, c.loop-at-test.true, c.len-at-end.ensures, n)
+
+pub tell_watcher-requires-clause-own : goal.tell_watcher-requires-clause-own
+tell_watcher-requires-clause-own c =
+    let n = length_still _ _ _ c.args.engine.now c.args.sessions.now.items c.loop-at.at c.loop-at.engine c.loop-at.sessions.items c.loop-at.invariant.0 in
+    owned_at c.loop-at.engine c.loop-at.sessions.items c.loop-at.at c.index_mut.result.now c.loop-at.invariant.0.goes_on.sound (omega (arith, c.loop-at-test.true, c.len-at-end.ensures, n)) c.index_mut.ensures.value
+
+pub tell_watcher-requires-clause-running : goal.tell_watcher-requires-clause-running
+tell_watcher-requires-clause-running c =
+    let n = length_still _ _ _ c.args.engine.now c.args.sessions.now.items c.loop-at.at c.loop-at.engine c.loop-at.sessions.items c.loop-at.invariant.0 in
+    let l : c.loop-at.at < length c.loop-at.sessions.items = omega (arith, c.loop-at-test.true, c.len-at-end.ensures, n) in
+    let same = same_place c.loop-at.sessions.items c.loop-at.at c.index.result.now c.index_mut.result.now l c.index.ensures c.index_mut.ensures.value in
+    runs_at c.loop-at.engine c.loop-at.sessions.items c.loop-at.at c.index_mut.result.now c.query_name-query.result c.loop-at.invariant.0.goes_on.sound l c.index_mut.ensures.value
+    (ap (λ (e : OpenSession). is_among_watches (e.session).watches c.query_name-query.result) same ∙ sym c.watches.ensures ∙ c.if-watches.true)
+
+pub loop-at-preserved : goal.loop-at-preserved
+loop-at-preserved c =
+    let q = c.query_name-query.result in
+    let whole = c.print_delta-whole.result in
+    let text = c.print_delta-whole.new.text.items in
+    let old = c.args.engine.now in
+    let xs = c.args.sessions.now.items in
+    let n = length_still q whole text old xs c.loop-at.at c.loop-at.engine c.loop-at.sessions.items c.loop-at.invariant.0 in
+    let l : c.loop-at.at < length c.loop-at.sessions.items = omega (arith, c.loop-at-test.true, c.len-at-end.ensures, n) in (
+      subst (λ (at : ℕ). TellsSoFar q whole text old xs at c.if-watches.engine c.if-watches.sessions.items) (next_place c.loop-at.at)
+          (elim c.if-watches.branch [
+            | then-watches w ↦
+                subst (λ (k : Kept). TellsSoFar q whole text old xs (suc c.loop-at.at) k c.if-watches.sessions.items) (sym w.engine-is)
+                (subst (λ (ys : List OpenSession). TellsSoFar q whole text old xs (suc c.loop-at.at) w.tell_watcher.new.engine ys) (sym (ap (λ v. v.items) w.sessions-is))
+                (told_one q whole text old xs c.loop-at.at c.loop-at.engine w.tell_watcher.new.engine c.loop-at.sessions.items w.index_mut.result.now w.tell_watcher.new.session
+                c.loop-at.invariant.0 l w.index_mut.ensures.value
+                (ap (λ (e : OpenSession). is_among_watches (e.session).watches q) (same_place c.loop-at.sessions.items c.loop-at.at c.index.result.now w.index_mut.result.now l c.index.ensures w.index_mut.ensures.value)
+                ∙ sym c.watches.ensures ∙ w.if-watches.true)
+                (subst (λ (bs : Bytes). Performs (λ st s x e st'. HearsDelta whole bs st s x e st') false c.loop-at.engine (w.index_mut.result.now).session w.tell_watcher.new.engine w.tell_watcher.new.session 0 0) w.as_slice.ensures w.tell_watcher.ensures.performs)
+                w.tell_watcher.ensures.kept w.tell_watcher.ensures.watches))
+            | else-watches w ↦
+                subst (λ (k : Kept). TellsSoFar q whole text old xs (suc c.loop-at.at) k c.if-watches.sessions.items) (sym w.engine-is)
+                (subst (λ (ys : List OpenSession). TellsSoFar q whole text old xs (suc c.loop-at.at) c.loop-at.engine ys) (sym (ap (λ v. v.items) w.sessions-is))
+                (untold_one q whole text old xs c.loop-at.at c.loop-at.engine c.loop-at.sessions.items c.index.result.now c.loop-at.invariant.0 l c.index.ensures (sym c.watches.ensures ∙ w.if-watches.false)))
+          ]),
+      elim c.if-watches.branch [
+        | then-watches w ↦ ap (λ v. v.cap) w.sessions-is ∙ c.loop-at.invariant.1
+        | else-watches w ↦ ap (λ v. v.cap) w.sessions-is ∙ c.loop-at.invariant.1
+      ],
+    )
+
+pub returns-clause-tells : goal.returns-clause-tells
+returns-clause-tells c = λ r e.
+    let named = name_of c.args.engine.now c.args.id r c.query_name-query.result e c.query_name-query.ensures in
+    let n = length_still _ _ _ c.args.engine.now c.args.sessions.now.items c.loop-at.at c.loop-at.engine c.loop-at.sessions.items c.loop-at.invariant.0 in
+    subst (λ (p : Bytes). TellsQuery c.args.engine.now c.args.id p c.args.sessions.now.items c.loop-at.engine c.loop-at.sessions.items) named
+    (query_told c.args.engine.now c.loop-at.engine c.args.id c.query_name-query.result c.args.sessions.now.items c.loop-at.sessions.items c.print_delta-whole.result c.print_delta-whole.new.text.items c.loop-at.at
+    (subst (λ (bs : Bytes). Prints c.args.engine.now c.args.id c.query_name-query.result c.print_delta-whole.result bs c.print_delta-whole.new.text.items) c.clear.ensures.items c.print_delta-whole.ensures)
+    c.loop-at.invariant.0 (omega (arith, c.loop-at-test.false, c.len-at-end.ensures, n))
+    (λ none. c.if-watchers-eq0.false (watchers_of c.args.engine.now c.args.sessions.now.items c.args.id r c.watchers.result c.requires.sound e c.watchers.ensures
+    ∙ ap (λ (p : Bytes). watchers_in c.args.sessions.now.items p) (sym named) ∙ none)))

@@ -1,0 +1,176 @@
+//! A change that is told to all who watch, and answered last.
+ghost use Rattle.std.specs.Prelude.{◌≡◌, ◌+◌, ◌≤◌, ◌<◌, [], false, true, None, All, IsSomeAnd, nat_le, slice_get};
+ghost use Rattle.djq_lines.specs.declared.limits.TheConstants.{LAST_LINE_BYTES, REPLY_BYTES};
+ghost use Rattle.djq_engine.specs.Kept.{IsRegistered, Registered, registered_at};
+ghost use Rattle.djq_core.specs.Changing.{is_accepted, reply_of};
+ghost use Rattle.djq_core.specs.Performs.{Performs};
+ghost use Rattle.djq_core.specs.Sound.{IsOwn, IsSound};
+ghost use Rattle.djq_core.specs.Telling.{
+  AnswersLast,
+  HearsDelta,
+  KeepsTold,
+  Prints,
+  TellsAffected,
+  TellsAll,
+  TellsQuery,
+  WatchesOn,
+};
+
+use crate::change::{Change, Outcome};
+use crate::ending::{cut_off, end_by};
+use crate::open::OpenSession;
+use crate::told::ToldAnswer;
+use bytes::BytesMut;
+use djq_engine::{CursorId, Engine, QueryId};
+use djq_lines::limits::{PENDING_BYTES, REPLY_BYTES};
+use djq_lines::{AddOutcome, DeleteOutcome, EndCause, EndLine};
+use djq_model::Name;
+use djq_reply::{put_at, put_change};
+use djq_session::Session;
+
+// Whether a change was accepted.
+fn is_accepted(outcome: Outcome) -> bool
+    ensures { result ≡ is_accepted outcome }
+{
+    match outcome {
+        Outcome::Added(Ok(added)) => match added {
+            AddOutcome::Added => true,
+            AddOutcome::Same => false,
+        },
+        Outcome::Deleted(Ok(deleted)) => match deleted {
+            DeleteOutcome::Removed => true,
+            DeleteOutcome::Absent => false,
+        },
+        Outcome::Added(Err(_)) | Outcome::Deleted(Err(_)) => false,
+    }
+}
+
+// Prints the delta of a query behind what is printed, and tells whether it is there whole: its log
+// may be lost, or there is no memory for the text.
+fn print_delta(engine: &Engine, id: QueryId, query: &Name, text: &mut BytesMut) -> bool
+    requires { IsRegistered engine.now id }
+    ensures { Prints engine.now id query.now result text.old.items text.new.items }
+{
+    let Some(count) = engine.delta_len(id) else {
+        return false;
+    };
+    for nth in 0..count {
+        let (sign, lent) = engine.delta_line(id, nth);
+        let told = ToldAnswer { lent };
+        if put_change(sign, query, &told, text).is_err() {
+            return false;
+        }
+    }
+    put_at(query, engine.seq(), text).is_ok()
+}
+
+// A session that watches is told a delta, or ends: too much is pending, or there is no memory.
+fn tell_watcher(
+    engine: &mut Engine,
+    session: &mut Session<CursorId, Name>,
+    whole: bool,
+    text: &[u8],
+)
+    requires own { IsOwn engine.old session.old }
+    requires running { session.old.cause ≡ None }
+    ensures performs { Performs (λ st s x e st'. HearsDelta whole text.now st s x e st') false
+        engine.old session.old engine.new session.new 0 0 }
+    ensures kept { KeepsTold engine.old engine.new }
+    ensures watches { WatchesOn session.old session.new }
+{
+    if session.pending().len() > PENDING_BYTES {
+        end_by(engine, session, EndLine::Slow, EndCause::Slow);
+        return;
+    }
+    if !whole {
+        end_by(engine, session, EndLine::Memory, EndCause::Memory);
+        return;
+    }
+    if session.queue(text).is_err() {
+        end_by(engine, session, EndLine::Memory, EndCause::Memory);
+    }
+}
+
+// A delta is told to all sessions that watch its query. It is printed once.
+fn tell_query(
+    engine: &mut Engine,
+    sessions: &mut Vec<OpenSession>,
+    id: QueryId,
+    text: &mut BytesMut,
+)
+    requires sound { IsSound engine.old sessions.old.items }
+    requires registered { IsRegistered engine.old id }
+    ensures tells { (r : Registered) → registered_at engine.old.registered id ≡ Some r
+        → TellsQuery engine.old id r.query.name sessions.old.items
+        engine.new sessions.new.items }
+    ensures cap { sessions.new.cap ≡ sessions.old.cap }
+{
+    if engine.watchers(id) == 0 {
+        return;
+    }
+    let query = engine.query_name(id);
+    text.clear();
+    let whole = print_delta(engine, id, &query, text);
+    for at in 0..sessions.len() {
+        if sessions[at].session.watches(query) {
+            tell_watcher(engine, &mut sessions[at].session, whole, text.as_slice());
+        }
+    }
+}
+
+// The deltas of the queries that a change affected are told, in order of registration.
+fn tell_affected(engine: &mut Engine, sessions: &mut Vec<OpenSession>, text: &mut BytesMut)
+    requires sound { IsSound engine.old sessions.old.items }
+    requires registered { All (IsRegistered engine.old) engine.old.affected }
+    ensures tells { TellsAffected engine.old sessions.old.items engine.new sessions.new.items }
+    ensures cap { sessions.new.cap ≡ sessions.old.cap }
+{
+    for nth in 0..engine.affected_count() {
+        let id = engine.affected(nth);
+        tell_query(engine, sessions, id, text);
+    }
+}
+
+// The own session is answered, where it goes on. Behind a delta room is made anew.
+fn answer_last(engine: &mut Engine, session: &mut Session<CursorId, Name>, outcome: Outcome)
+    requires { IsOwn engine.old session.old }
+    ensures { Performs (λ st s x e st'. AnswersLast (nat_le (REPLY_BYTES + LAST_LINE_BYTES)
+        session.old.room) (reply_of outcome engine.old.store.seq) st s x e st') false
+        engine.old session.old engine.new session.new 0 0 }
+{
+    if session.cause().is_some() {
+        return;
+    }
+    if session.keep(REPLY_BYTES).is_err() {
+        end_by(engine, session, EndLine::Memory, EndCause::Memory);
+        return;
+    }
+    match outcome {
+        Outcome::Added(result) => session.answer_added(result, engine.seq()),
+        Outcome::Deleted(result) => session.answer_deleted(result, engine.seq()),
+    }
+}
+
+/// Tells a change to all who watch, where it was accepted, and answers it.
+pub(crate) fn tell_change(
+    engine: &mut Engine,
+    sessions: &mut Vec<OpenSession>,
+    at: usize,
+    outcome: Outcome,
+    text: &mut BytesMut,
+)
+    requires sound { IsSound engine.old sessions.old.items }
+    requires room { IsSomeAnd (slice_get sessions.old.items at)
+        (λ x. REPLY_BYTES + LAST_LINE_BYTES ≤ x.session.room) }
+    requires registered { is_accepted outcome ≡ true
+        → All (IsRegistered engine.old) engine.old.affected }
+    ensures tells { IsSomeAnd (slice_get sessions.old.items at)
+        (λ x. TellsAll (is_accepted outcome) (reply_of outcome engine.old.store.seq) engine.old
+        x.id sessions.old.items engine.new sessions.new.items) }
+    ensures cap { sessions.new.cap ≡ sessions.old.cap }
+{
+    if is_accepted(outcome) {
+        tell_affected(engine, sessions, text);
+    }
+    answer_last(engine, &mut sessions[at].session, outcome);
+}

@@ -1,0 +1,405 @@
+-- What a change of rows makes known of the watched queries that read its relation.
+use Rattle.std.proofs.Common.{ℕ, zero, suc, List, [], ◌∷◌, ◌++◌, ◌+◌, ◌*◌, ◌≡◌, ◌≢◌, ◌<◌, ◌≤◌, ◌⊎◌, inl, inr, Bool, true, false, refl, sym, ap, ap₂, ◌∙◌, subst, length, get_or, arith}
+use Rattle.std.specs.Prelude.{◌==◌, ◌&&◌, ◌||◌, Option, None, Some, cond, map, filter, sum_by, slice_index_or, All, AllPairs, not, is_none, nat_le, Ok, Err, Result, IsErr, IfErr}
+use Rattle.std.proofs.lemmas.Bool.{eqb-true, eq-eqb, false≢true}
+use Rattle.std.proofs.lemmas.List.Sums.{sum_by-cons}
+use Rattle.std.proofs.lemmas.Nat.{mul-le}
+use Rattle.djq_model.specs.declared.relation.Relation.{Relation}
+use Rattle.djq_model.specs.declared.query.Query.{Query}
+use Rattle.djq_model.specs.declared.query.Atom.{Atom}
+use Rattle.djq_model.specs.Data.{Bytes, Tuple, bytes_eq, change_first, relation_of, has_row, rows_of, without_row}
+use Rattle.djq_model.specs.Typed.{fits}
+use Rattle.djq_lines.specs.Columns.{types_of}
+use Rattle.djq_lines.specs.declared.limits.TheConstants.{ROWS, LAST_SEQ}
+use Rattle.djq_lines.specs.declared.answer.Refusal.{Refusal}
+use Rattle.djq_lines.specs.declared.answer.Refusal.TheVariants.{NoRelation, Arity, WrongType, Limit}
+use Rattle.djq_lines.specs.declared.answer.AddOutcome.{AddOutcome}
+use Rattle.djq_lines.specs.declared.answer.DeleteOutcome.{DeleteOutcome}
+use Rattle.djq_machine.specs.Stale.{add_outdates, add_accepted, delete_outdates}
+use Rattle.djq_model.specs.Answer.{IsAnswer}
+use Rattle.djq_model.specs.Equality.{bytes_eq-decides}
+use Rattle.djq_machine.specs.Delta.{Change, IsDelta}
+use Rattle.djq_machine.specs.Store.{most_steps, with_rows, add_refusal}
+use Rattle.djq_machine.specs.Watch.{Delta, AreDeltas, delta_steps}
+use Rattle.djq_query.specs.declared.numbered.NumberedAtom.{NumberedAtom}
+use Rattle.djq_query.specs.declared.numbered.Variable.{Variable}
+use Rattle.djq_cursor.specs.Log.{Log}
+use Rattle.djq_rows.specs.Laws.{NamesTell}
+use Rattle.djq_rows.specs.Catalog.{Catalog, relation_at, rows_at, with_rows_at}
+use Rattle.djq_deltas.specs.Finite.{DeltasExist}
+use Rattle.djq_live.specs.Asked.{AreAtomsOf}
+use Rattle.djq_live.specs.Body.{HeadsAreBound}
+use Rattle.djq_live.specs.Live.{Live, IsKept}
+use Rattle.djq_live.specs.Updating.{atoms_over, delta_bound, change_of}
+use Rattle.djq_engine.specs.Kept.{Kept, Registered, affected_of, readers_of, told_at}
+use Rattle.djq_engine.specs.Places.{place_at, is_live, is_reader, readers_at, query_in, watched_at, log_at, id_at, registered_as, registered_in, told_from}
+use Rattle.djq_engine.specs.Sound.{IsSound}
+use Rattle.djq_engine.specs.Tending.{AreShown, cost_of, cost_at}
+use Rattle.djq_engine.proofs.Tending.{shown_alike}
+use Rattle.djq_engine.specs.declared.parts.Parts.{Parts}
+use Rattle.djq_engine.specs.Reaching.{Carries}
+use Rattle.djq_engine.specs.Changing.{IsDeltaWith, TellsRows, CountsRows, KeepsRest, AgesReaders}
+use Rattle.djq_engine.specs.Watching.{LogTells, LogsTell, TellsChange}
+use Rattle.djq_engine.specs.Whole.{kept_in, IsWhole, IsTended}
+use Rattle.djq_engine.specs.Judging.{bare, Suits}
+use Rattle.djq_engine.proofs.Judged.{rows_found}
+use Rattle.djq_engine.proofs.Listing.{reader_filter}
+use Rattle.djq_engine.proofs.Carrying.{readers_there, reader_is}
+use Rattle.djq_engine.proofs.Enlisted.{map_mapped, readers_are, affected_are, registered_same}
+use Rattle.djq_engine.proofs.Told.{AlikeAt, AreAlike, aged_alike, told_is, told_alike_at, query_alike_at}
+use Rattle.djq_engine.proofs.Naming.{There, live_there}
+
+-- ---- atoms over a relation, by place and by name
+
+atoms_of : (c : Catalog) (at : ℕ) (variables : List Variable) (atoms : List Atom) (ms : List NumberedAtom) → AreAtomsOf c variables atoms ms
+    → length (filter (λ m. m.relation == at) ms) ≤ length (filter (λ a. bytes_eq a.relation (relation_at c.relations at).name) atoms)
+atoms_of c at variables [] [] h = omega arith
+atoms_of c at variables [] (m ∷ ms) h = absurd h
+atoms_of c at variables (a ∷ atoms) [] h = absurd h
+atoms_of c at variables (a ∷ atoms) (m ∷ ms) h = step (m.relation == at) refl (bytes_eq a.relation (relation_at c.relations at).name) refl (atoms_of c at variables atoms ms h.1)
+  where
+    step : (b : Bool) → (m.relation == at) ≡ b → (t : Bool) → bytes_eq a.relation (relation_at c.relations at).name ≡ t
+        → length (filter (λ m. m.relation == at) ms) ≤ length (filter (λ a. bytes_eq a.relation (relation_at c.relations at).name) atoms)
+        → length (cond b (m ∷ filter (λ m. m.relation == at) ms) (filter (λ m. m.relation == at) ms))
+        ≤ length (cond t (a ∷ filter (λ a. bytes_eq a.relation (relation_at c.relations at).name) atoms) (filter (λ a. bytes_eq a.relation (relation_at c.relations at).name) atoms))
+    step true e true f k = omega (arith, k)
+    step true e false f k =
+        absurd (false≢true (sym f ∙ (bytes_eq-decides a.relation (relation_at c.relations at).name).1 (sym h.0.named ∙ ap (λ (i : ℕ). (relation_at c.relations i).name) (eqb-true m.relation at e))))
+    step false e true f k = omega (arith, k)
+    step false e false f k = k
+
+pub bound_steps : (c : Catalog) (at : ℕ) (l : Live) (changes : List Change) → IsKept c l → delta_bound l at changes ≤ delta_steps (relation_at c.relations at).name (record { query = l.query; changes = changes })
+bound_steps c at l changes k =
+    let fewer : atoms_over l at ≤ length (filter (λ a. bytes_eq a.relation (relation_at c.relations at).name) l.query.atoms) = atoms_of c at l.numbered.variables l.query.atoms l.numbered.atoms k.over.asked.atoms in
+    mul-le (length changes + atoms_over l at) (most_steps (length l.query.head)) (length changes + length (filter (λ a. bytes_eq a.relation (relation_at c.relations at).name) l.query.atoms)) (most_steps (length l.query.head)) (omega (arith, fewer)) (omega arith)
+
+-- ---- lists that are made from places
+
+all_made : {A : Type 0} (P : A → Type 0) (g : ℕ → A) (xs : List ℕ) → ((i : ℕ) → is_reader xs i ≡ true → P (g i)) → All P (map g xs)
+all_made P g [] h k d l = absurd (omega (arith, l))
+all_made P g (x ∷ xs) h zero d l = h x (ap (λ b. b || is_reader xs x) (eq-eqb x x refl))
+all_made P g (x ∷ xs) h (suc k) d l = all_made P g xs (λ i e. h i (step i (x == i) e)) k d (omega (arith, l))
+  where
+    step : (i : ℕ) (b : Bool) → is_reader xs i ≡ true → (b || is_reader xs i) ≡ true
+    step i true e = refl
+    step i false e = e
+
+both_true : (a b : Bool) → (a && b) ≡ true → (a ≡ true) × (b ≡ true)
+both_true true b e = (refl, e)
+both_true false b e = absurd (false≢true e)
+
+-- ---- the deltas
+
+module _ (c : Catalog) (gs : List (Option Live)) (order : List ℕ) (readers : List (List ℕ)) (s : IsSound c gs order readers) (at : ℕ) (low : at < length c.relations) (ws : List ℕ) (name : Bytes) (named : (relation_at c.relations at).name ≡ name)
+    (after : List Relation) where
+  abbrev watched : List ℕ
+  watched = filter (watched_at ws) (readers_at readers at)
+
+  abbrev delta_at : (ℕ → List Change) → ℕ → Delta
+  delta_at f i = record { query = query_in (place_at gs i); changes = f i }
+
+  abbrev pub deltas_with : (ℕ → List Change) → List Delta
+  deltas_with f = map (delta_at f) watched
+
+  -- deltas of the watched readers
+  abbrev pub AreFor : (ℕ → List Change) → Type 0
+  AreFor f = (i : ℕ) (l : Live) → is_reader (readers_at readers at) i ≡ true → watched_at ws i ≡ true → place_at gs i ≡ Some l
+      → IsDelta (IsAnswer c.relations l.query) (IsAnswer after l.query) (f i)
+
+  reader_there : (i : ℕ) → is_reader (readers_at readers at) i ≡ true → There gs i
+  reader_there i e = live_there gs i (both_true (is_live gs i) _ (sym (reader_is c gs order readers s at low i) ∙ e)).0
+
+  pub listed_with : (f : ℕ → List Change) → AreFor f → AreDeltas c.relations after (map (λ r. r.query) (affected_of (registered_in gs ws order) name)) (deltas_with f)
+  listed_with f h = record {
+    of_queries =
+        map_mapped (λ (d : Delta). d.query) (delta_at f) watched
+        ∙ sym (map_mapped (λ (r : Registered). r.query) (registered_as gs ws) watched)
+        ∙ ap (map (λ (r : Registered). r.query)) (sym (ap (affected_of (registered_in gs ws order)) (sym named) ∙ affected_are c gs order readers ws s at low));
+    are_deltas = all_made (λ d. IsDelta (IsAnswer c.relations d.query) (IsAnswer after d.query) d.changes) (delta_at f) watched (λ i e.
+        let b = both_true (is_reader (readers_at readers at) i) (watched_at ws i) (sym (reader_filter (watched_at ws) (readers_at readers at) i) ∙ e) in
+        let t = reader_there i b.0 in
+        subst (λ (o : Option Live). IsDelta (IsAnswer c.relations (query_in o)) (IsAnswer after (query_in o)) (f i)) (sym t.is) (h i t.query b.0 b.1 t.is));
+  }
+
+  pub steps_with : (f : ℕ → List Change) → sum_by (cost_at ws gs at f) (readers_at readers at) ≤ sum_by (delta_steps name) (deltas_with f)
+  steps_with f = subst (λ (x : Bytes). sum_by (cost_at ws gs at f) (readers_at readers at) ≤ sum_by (delta_steps x) (deltas_with f)) named (over (readers_at readers at) (λ i e. e))
+    where
+      cost_steps : (i : ℕ) → is_reader (readers_at readers at) i ≡ true → cost_of at (f i) (place_at gs i) ≤ delta_steps (relation_at c.relations at).name (delta_at f i)
+      cost_steps i e =
+          let t = reader_there i e in
+          subst (λ (o : Option Live). cost_of at (f i) o ≤ delta_steps (relation_at c.relations at).name (record { query = query_in o; changes = f i })) (sym t.is)
+          (bound_steps c at t.query (f i) (s.live i t.query t.is).kept)
+
+      over : (xs : List ℕ) → ((i : ℕ) → is_reader xs i ≡ true → is_reader (readers_at readers at) i ≡ true)
+          → sum_by (cost_at ws gs at f) xs ≤ sum_by (delta_steps (relation_at c.relations at).name) (map (delta_at f) (filter (watched_at ws) xs))
+      over [] h = omega arith
+      over (x ∷ xs) h = step (watched_at ws x) refl (over xs (λ i e. h i (behind i (x == i) e)))
+        where
+          behind : (i : ℕ) (b : Bool) → is_reader xs i ≡ true → (b || is_reader xs i) ≡ true
+          behind i true e = refl
+          behind i false e = e
+
+          step : (b : Bool) → watched_at ws x ≡ b → sum_by (cost_at ws gs at f) xs ≤ sum_by (delta_steps (relation_at c.relations at).name) (map (delta_at f) (filter (watched_at ws) xs))
+              → sum_by (cost_at ws gs at f) (x ∷ xs) ≤ sum_by (delta_steps (relation_at c.relations at).name) (map (delta_at f) (cond b (x ∷ filter (watched_at ws) xs) (filter (watched_at ws) xs)))
+          step true e more =
+              let first = sum_by-cons (cost_at ws gs at f) x xs in
+              let second = sum_by-cons (delta_steps (relation_at c.relations at).name) (delta_at f x) (map (delta_at f) (filter (watched_at ws) xs)) in
+              let cost : cost_at ws gs at f x ≡ cost_of at (f x) (place_at gs x) = ap (λ b. cond b (cost_of at (f x) (place_at gs x)) 0) e in
+              let bound = cost_steps x (h x (ap (λ b. b || is_reader xs x) (eq-eqb x x refl))) in
+              omega (arith, first, second, cost, bound, more)
+          step false e more =
+              let first = sum_by-cons (cost_at ws gs at f) x xs in
+              let cost : cost_at ws gs at f x ≡ 0 = ap (λ b. cond b (cost_of at (f x) (place_at gs x)) 0) e in
+              omega (arith, first, cost, more)
+
+  pub affected_with : map id_at (readers_at readers at) ≡ map (λ r. r.id) (readers_of (registered_in gs ws order) name)
+  affected_with =
+      sym (map_mapped (λ (r : Registered). r.id) (registered_as gs ws) (readers_at readers at))
+      ∙ ap (map (λ (r : Registered). r.id)) (sym (ap (readers_of (registered_in gs ws order)) (sym named) ∙ readers_are c gs order readers ws s at low))
+
+  pub logs_with : (f : ℕ → List Change) (new : Kept) → ((i : ℕ) → is_reader (readers_at readers at) i ≡ true → LogTells new (registered_as gs ws i) (delta_at f i))
+      → LogsTell new (affected_of (registered_in gs ws order) name) (deltas_with f)
+  logs_with f new h =
+      subst (λ (rs : List Registered). LogsTell new rs (deltas_with f)) (sym (ap (affected_of (registered_in gs ws order)) (sym named) ∙ affected_are c gs order readers ws s at low))
+      (over watched (λ i e. h i (both_true (is_reader (readers_at readers at) i) (watched_at ws i) (sym (reader_filter (watched_at ws) (readers_at readers at) i) ∙ e)).0))
+    where
+      over : (xs : List ℕ) → ((i : ℕ) → is_reader xs i ≡ true → LogTells new (registered_as gs ws i) (delta_at f i)) → LogsTell new (registered_in gs ws xs) (map (delta_at f) xs)
+      over [] k = tt
+      over (x ∷ xs) k = (k x (ap (λ b. b || is_reader xs x) (eq-eqb x x refl)), over xs (λ i e. k i (behind i (x == i) e)))
+        where
+          behind : (i : ℕ) (b : Bool) → is_reader xs i ≡ true → (b || is_reader xs i) ≡ true
+          behind i true e = refl
+          behind i false e = e
+
+  -- a delta of each query, as one exists
+  module _ (have : (i : ℕ) (l : Live) → place_at gs i ≡ Some l → (changes : List Change) × IsDelta (IsAnswer c.relations l.query) (IsAnswer after l.query) changes) where
+    some_in : (i : ℕ) (o : Option Live) → place_at gs i ≡ o → List Change
+    some_in i None e = []
+    some_in i (Some l) e = (have i l e).0
+
+    pub some_changes : ℕ → List Change
+    some_changes i = some_in i (place_at gs i) refl
+
+    pub some_are : (i : ℕ) (l : Live) → place_at gs i ≡ Some l → IsDelta (IsAnswer c.relations l.query) (IsAnswer after l.query) (some_changes i)
+    unfolding some_changes some_in
+    some_are i l there = by_place (place_at gs i) refl there
+      where
+        same_some : (x y : Live) → Some x ≡ Some y → x ≡ y
+        same_some x y f = cc
+
+        by_place : (o : Option Live) (e : place_at gs i ≡ o) → o ≡ Some l → IsDelta (IsAnswer c.relations l.query) (IsAnswer after l.query) (some_in i o e)
+        by_place None e f = absurd cc
+        by_place (Some m) e f = subst (λ (x : Live). IsDelta (IsAnswer c.relations x.query) (IsAnswer after x.query) (have i m e).0) (same_some m l f) (have i m e).1
+
+    -- the delta that a log tells, or else one that exists
+    told_or : ℕ → Option (List Change) → List Change
+    told_or i None = some_changes i
+    told_or i (Some changes) = changes
+
+    pub told_changes : Kept → ℕ → List Change
+    told_changes new i = told_or i (told_at new (id_at i))
+
+    pub told_are : (new : Kept) → ((i : ℕ) (l : Live) → is_reader (readers_at readers at) i ≡ true → watched_at ws i ≡ true → place_at gs i ≡ Some l → (changes : List Change)
+        → told_at new (id_at i) ≡ Some changes → IsDelta (IsAnswer c.relations l.query) (IsAnswer after l.query) changes) → AreFor (told_changes new)
+    unfolding told_changes told_or some_changes
+    told_are new h i l r w there = by_told (told_at new (id_at i)) refl
+      where
+        by_told : (o : Option (List Change)) → told_at new (id_at i) ≡ o → IsDelta (IsAnswer c.relations l.query) (IsAnswer after l.query) (told_or i o)
+        by_told None e = some_are i l there
+        by_told (Some changes) e = h i l r w there changes e
+
+    pub told_by_log : (new : Kept) (i : ℕ) → LogTells new (registered_as gs ws i) (delta_at (told_changes new) i)
+    unfolding told_changes told_or
+    told_by_log new i = by_told (told_at new (id_at i)) refl
+      where
+        by_told : (o : Option (List Change)) → told_at new (id_at i) ≡ o → (told_at new (id_at i) ≡ None) ⊎ (told_at new (id_at i) ≡ Some (told_or i o))
+        by_told None e = inl e
+        by_told (Some changes) e = inr e
+
+-- ---- what a log of a watched reader tells, as contracts see it
+
+pub told_delta : (texts : List Bytes) (hs : List (Option Live)) (logs : List Log) (i : ℕ) (l : Live) (D : List Change → Type 0) → AlikeAt (Some l) (place_at hs i)
+    → ((log_at logs i).lost ≡ false → D (map (change_of texts l) (log_at logs i).lines)) → (changes : List Change) → slice_index_or (told_from texts hs logs) i None ≡ Some changes → D changes
+told_delta texts hs logs i l D alike h changes e =
+    by_lost (log_at logs i).lost refl (sym (told_is texts hs logs i ∙ told_alike_at texts (log_at logs i) (Some l) (place_at hs i) alike) ∙ e)
+  where
+    same_some : (x y : List Change) → Some x ≡ Some y → x ≡ y
+    same_some x y f = cc
+
+    by_lost : (b : Bool) → (log_at logs i).lost ≡ b → cond (log_at logs i).lost None (Some (map (change_of texts l) (log_at logs i).lines)) ≡ Some changes → D changes
+    by_lost true f g = let none : cond (log_at logs i).lost None (Some (map (change_of texts l) (log_at logs i).lines)) ≡ None = ap (λ b. cond b None (Some (map (change_of texts l) (log_at logs i).lines))) f in absurd cc
+    by_lost false f g =
+        subst D (same_some (map (change_of texts l) (log_at logs i).lines) changes
+        (sym (ap (λ b. cond b None (Some (map (change_of texts l) (log_at logs i).lines))) f) ∙ g)) (h f)
+
+-- ---- the parts of an engine
+
+-- nothing is told
+pub tells_nothing : (old new : Kept) (name : Bytes) (rows : List Tuple) (before now : ℕ) → now ≤ before → TellsChange old name rows false false new before now
+tells_nothing old new name rows before now h = record {
+  deltas = [];
+  listed = record { of_queries = refl; are_deltas = λ k d l. absurd (omega (arith, l)) };
+  counted = omega (arith, h);
+  affected = λ e. absurd (false≢true e);
+  logs = λ e. absurd (false≢true e);
+}
+
+module _ (old : Parts) (s : IsWhole old) (at : ℕ) (low : at < length (old.catalog).relations) (name : Bytes) (named : (relation_at (old.catalog).relations at).name ≡ name) (rows : List Tuple)
+    (law : NamesTell) (differ : AllPairs (λ r s. r.name ≢ s.name) (old.catalog).relations)
+    (have : (i : ℕ) (l : Live) → place_at old.queries.items i ≡ Some l → (changes : List Change)
+    × IsDelta (IsAnswer (old.catalog).relations l.query) (IsAnswer (with_rows_at (old.catalog).relations at rows) l.query) changes) (before now : ℕ) (counts : CountsRows at rows old before now) where
+  after_is : with_rows_at (old.catalog).relations at rows ≡ with_rows (old.catalog).relations name rows
+  after_is =
+      sym (law (old.catalog).relations at rows differ low)
+      ∙ ap (λ (x : Bytes). change_first (λ r. bytes_eq r.name x) (λ (r : Relation). record r { rows = rows }) (old.catalog).relations) named
+
+  -- where memory was refused
+  pub tells_refused : (new : Kept) → TellsChange (kept_in old) name rows true false new before now
+  tells_refused new =
+      let c = old.catalog in
+      let after = with_rows_at c.relations at rows in
+      let f = some_changes c old.queries.items old.order old.readers.items s at low old.watchers.items name named after have in
+      let total = counts f (λ i l r w there. some_are c old.queries.items old.order old.readers.items s at low old.watchers.items name named after have i l there) in
+      let steps = steps_with c old.queries.items old.order old.readers.items s at low old.watchers.items name named after f in record {
+        deltas = deltas_with c old.queries.items old.order old.readers.items s at low old.watchers.items name named after f;
+        listed = subst (λ (rs : List Relation). AreDeltas c.relations rs (map (λ r. r.query) (affected_of (registered_in old.queries.items old.watchers.items old.order) name))
+            (deltas_with c old.queries.items old.order old.readers.items s at low old.watchers.items name named after f)) after_is
+            (listed_with c old.queries.items old.order old.readers.items s at low old.watchers.items name named after f (λ i l r w there. some_are c old.queries.items old.order old.readers.items s at low old.watchers.items name named after have i l there));
+        counted = omega (arith, total, steps);
+        affected = λ e. absurd (false≢true e);
+        logs = λ e. absurd (false≢true e);
+      }
+
+  -- where the change was accepted
+  pub tells_done : (new : Parts) → ((i : ℕ) (l : Live) → is_reader (readers_at old.readers.items at) i ≡ true → watched_at old.watchers.items i ≡ true
+      → place_at old.queries.items i ≡ Some l → (log_at new.logs.items i).lost ≡ false
+      → IsDeltaWith at rows (old.catalog).relations l (map (change_of (new.catalog).texts l) (log_at new.logs.items i).lines))
+      → AreAlike old.queries.items new.queries.items → new.readers.items ≡ old.readers.items → new.changed ≡ at
+      → TellsChange (kept_in old) name rows true true (kept_in new) before now
+  tells_done new tells alike readers changed =
+      let c = old.catalog in
+      let after = with_rows_at c.relations at rows in
+      let f = told_changes c old.queries.items old.order old.readers.items s at low old.watchers.items name named after have (kept_in new) in
+      let are = told_are c old.queries.items old.order old.readers.items s at low old.watchers.items name named after have (kept_in new)
+      (λ i l r w there changes e. told_delta (new.catalog).texts new.queries.items new.logs.items i l (λ (cs : List Change). IsDelta (IsAnswer c.relations l.query) (IsAnswer after l.query) cs)
+      (subst (λ (o : Option Live). AlikeAt o (place_at new.queries.items i)) there (alike i)) (tells i l r w there) changes e) in
+      let total = counts f are in
+      let steps = steps_with c old.queries.items old.order old.readers.items s at low old.watchers.items name named after f in record {
+        deltas = deltas_with c old.queries.items old.order old.readers.items s at low old.watchers.items name named after f;
+        listed = subst (λ (rs : List Relation). AreDeltas c.relations rs (map (λ r. r.query) (affected_of (registered_in old.queries.items old.watchers.items old.order) name))
+            (deltas_with c old.queries.items old.order old.readers.items s at low old.watchers.items name named after f)) after_is
+            (listed_with c old.queries.items old.order old.readers.items s at low old.watchers.items name named after f are);
+        counted = omega (arith, total, steps);
+        affected = λ e. ap₂ (λ (rs : List (List ℕ)) (k : ℕ). map id_at (readers_at rs k)) readers changed
+            ∙ affected_with c old.queries.items old.order old.readers.items s at low old.watchers.items name named after;
+        logs = λ e. logs_with c old.queries.items old.order old.readers.items s at low old.watchers.items name named after f (kept_in new)
+            (λ i r. told_by_log c old.queries.items old.order old.readers.items s at low old.watchers.items name named after have (kept_in new) i);
+      }
+
+-- ---- what is kept once readers were reached and their cursors outdated
+
+module _ (old mid new : Parts) (at : ℕ) (name : Bytes) (carries : Carries (readers_at old.readers.items at) old.catalog old.queries.items mid.catalog mid.queries.items)
+    (watchers : mid.watchers.items ≡ old.watchers.items) (order : mid.order ≡ old.order) (long : length mid.logs.items ≡ length old.logs.items) (a : AgesReaders at name mid new) where
+  pub alike_now : AreAlike old.queries.items new.queries.items
+  alike_now = aged_alike mid.catalog name mid.seq (readers_at old.readers.items at) (readers_at mid.readers.items at) old.queries.items mid.queries.items new.queries.items carries.reach a.reach
+
+  pub registered_now : registered_in new.queries.items new.watchers.items new.order ≡ registered_in old.queries.items old.watchers.items old.order
+  registered_now =
+      ap₂ (λ (xs ys : List ℕ). registered_in new.queries.items xs ys) (a.rest.watchers ∙ watchers) (a.rest.order ∙ order)
+      ∙ registered_same old.queries.items new.queries.items old.watchers.items old.watchers.items old.order
+      (λ i. query_alike_at (place_at old.queries.items i) (place_at new.queries.items i) (alike_now i)) (λ i. refl)
+
+  pub tended_now : IsTended old → AreShown (mid.catalog).texts old.queries.items mid.logs.items → IsTended new
+  tended_now t h = record {
+    watched = ap (λ (xs : List ℕ). length xs) (a.rest.watchers ∙ watchers) ∙ t.watched ∙ sym (a.reach.length ∙ carries.reach.length);
+    logged = ap (λ (xs : List Log). length xs) a.logs ∙ long ∙ t.logged ∙ sym (a.reach.length ∙ carries.reach.length);
+    shown = subst (λ (x : Catalog). AreShown x.texts new.queries.items new.logs.items) (sym a.catalog)
+        (subst (λ (xs : List Log). AreShown (mid.catalog).texts new.queries.items xs) (sym a.logs)
+        (shown_alike (mid.catalog).texts old.queries.items new.queries.items mid.logs.items alike_now h));
+  }
+
+pub tended_still : (old new : Parts) → IsTended old → KeepsRest old new → new.queries.items ≡ old.queries.items → AreShown (new.catalog).texts old.queries.items new.logs.items → IsTended new
+tended_still old new t k q h = record {
+  watched = ap (λ (xs : List ℕ). length xs) k.watchers ∙ t.watched ∙ sym (ap (λ (gs : List (Option Live)). length gs) q);
+  logged = k.long ∙ t.logged ∙ sym (ap (λ (gs : List (Option Live)). length gs) q);
+  shown = subst (λ (gs : List (Option Live)). AreShown (new.catalog).texts gs new.logs.items) (sym q) h;
+}
+
+pub registered_still : (old new : Parts) → KeepsRest old new → new.queries.items ≡ old.queries.items → registered_in new.queries.items new.watchers.items new.order ≡ registered_in old.queries.items old.watchers.items old.order
+registered_still old new k q =
+    ap (λ (gs : List (Option Live)). registered_in gs new.watchers.items new.order) q
+    ∙ ap₂ (λ (xs ys : List ℕ). registered_in old.queries.items xs ys) k.watchers k.order
+
+-- ---- a row that is added or deleted
+
+module _ (old : Parts) (s : IsWhole old) (name : Bytes) (row : Tuple) (at : ℕ) (m : Suits (old.catalog).relations name row at) (exist : DeltasExist) (bound : HeadsAreBound) (law : NamesTell)
+    (differ : AllPairs (λ r s. r.name ≢ s.name) (old.catalog).relations) (before now : ℕ) where
+  have : (rows : List Tuple) (i : ℕ) (l : Live) → place_at old.queries.items i ≡ Some l → (changes : List Change)
+      × IsDelta (IsAnswer (old.catalog).relations l.query) (IsAnswer (with_rows_at (old.catalog).relations at rows) l.query) changes
+  have rows i l there = exist (old.catalog).relations (with_rows_at (old.catalog).relations at rows) l.query (bound old.catalog l (s.live i l there).kept)
+
+  rows_are : rows_of (old.catalog).relations name ≡ rows_at (old.catalog).relations at
+  rows_are = rows_found (old.catalog).relations name row old.seq at m
+
+  pub adds_refused : CountsRows at (rows_at (old.catalog).relations at ++ row ∷ []) old before now → (new : Kept)
+      → TellsChange (kept_in old) name (rows_of (old.catalog).relations name ++ row ∷ []) true false new before now
+  adds_refused counts new =
+      subst (λ (rows : List Tuple). TellsChange (kept_in old) name (rows ++ row ∷ []) true false new before now) (sym rows_are)
+      (tells_refused old s at m.below name m.named (rows_at (old.catalog).relations at ++ row ∷ []) law differ (have (rows_at (old.catalog).relations at ++ row ∷ [])) before now counts new)
+
+  module _ (mid new : Parts) (logs : new.logs.items ≡ mid.logs.items) (catalog : new.catalog ≡ mid.catalog) (alike : AreAlike old.queries.items new.queries.items) (readers : new.readers.items ≡ old.readers.items) (changed : new.changed ≡ at) where
+    done : (rows : List Tuple) → CountsRows at rows old before now → TellsRows at rows old mid → TellsChange (kept_in old) name rows true true (kept_in new) before now
+    done rows counts tells = tells_done old s at m.below name m.named rows law differ (have rows) before now counts new
+        (λ i l r w there. subst (λ (ls : List Log). (log_at ls i).lost ≡ false → IsDeltaWith at rows (old.catalog).relations l (map (change_of (new.catalog).texts l) (log_at ls i).lines)) (sym logs)
+        (subst (λ (x : Catalog). (log_at mid.logs.items i).lost ≡ false → IsDeltaWith at rows (old.catalog).relations l (map (change_of x.texts l) (log_at mid.logs.items i).lines)) (sym catalog) (tells i l r w there)))
+        alike readers changed
+
+    pub adds_done : CountsRows at (rows_at (old.catalog).relations at ++ row ∷ []) old before now → TellsRows at (rows_at (old.catalog).relations at ++ row ∷ []) old mid
+        → TellsChange (kept_in old) name (rows_of (old.catalog).relations name ++ row ∷ []) true true (kept_in new) before now
+    adds_done counts tells = subst (λ (rows : List Tuple). TellsChange (kept_in old) name (rows ++ row ∷ []) true true (kept_in new) before now) (sym rows_are)
+        (done (rows_at (old.catalog).relations at ++ row ∷ []) counts tells)
+
+    pub deletes_done : CountsRows at (without_row (rows_at (old.catalog).relations at) row) old before now → TellsRows at (without_row (rows_at (old.catalog).relations at) row) old mid
+        → TellsChange (kept_in old) name (without_row (rows_of (old.catalog).relations name) row) true true (kept_in new) before now
+    deletes_done counts tells = subst (λ (rows : List Tuple). TellsChange (kept_in old) name (without_row rows row) true true (kept_in new) before now) (sym rows_are)
+        (done (without_row (rows_at (old.catalog).relations at) row) counts tells)
+
+-- a row that is refused by a condition outdates nothing
+
+outdates_by : Option Refusal → Bool
+outdates_by None = false
+outdates_by (Some r) = add_outdates (Err r)
+
+pub refused_quietly : (relations : List Relation) (name : Bytes) (row : Tuple) (seq : ℕ) (r : Refusal) → add_refusal (bare relations seq) name row ≡ Some r → add_outdates (Err r) ≡ false
+unfolding outdates_by
+refused_quietly relations name row seq r e =
+    sym (ap outdates_by e)
+    ∙ by_tests (is_none (relation_of relations name)) (not (length row == length (types_of (relation_of relations name)))) (not (fits (types_of (relation_of relations name)) row))
+    (not (has_row (rows_of relations name) row) && nat_le ROWS (length (rows_of relations name))) (not (has_row (rows_of relations name) row) && nat_le LAST_SEQ seq)
+  where
+    by_tests : (a b c d f : Bool) → outdates_by (cond a (Some NoRelation) (cond b (Some Arity) (cond c (Some WrongType) (cond d (Some Limit) (cond f (Some Limit) None))))) ≡ false
+    by_tests true b c d f = refl
+    by_tests false true c d f = refl
+    by_tests false false true d f = refl
+    by_tests false false false true f = refl
+    by_tests false false false false true = refl
+    by_tests false false false false false = refl
+
+abbrev pub TellsAdd : Parts → Bytes → Tuple → Result AddOutcome Refusal → ℕ → Type 0
+TellsAdd old name row result n =
+    TellsChange (kept_in old) name (rows_of (old.catalog).relations name ++ row ∷ []) (add_outdates result) (add_accepted result) (kept_in old) n n
+
+add_err_tells : (old : Parts) (name : Bytes) (row : Tuple) (r : Refusal) → add_refusal (bare (old.catalog).relations old.seq) name row ≡ Some r → (n : ℕ) → TellsAdd old name row (Err r) n
+add_err_tells old name row r h n =
+    subst (λ (b : Bool). TellsChange (kept_in old) name (rows_of (old.catalog).relations name ++ row ∷ []) b false (kept_in old) n n) (sym (refused_quietly (old.catalog).relations name row old.seq r h))
+    (tells_nothing (kept_in old) (kept_in old) name (rows_of (old.catalog).relations name ++ row ∷ []) n n (omega arith))
+
+pub add_refused_tells : (old : Parts) (name : Bytes) (row : Tuple) (result : Result AddOutcome Refusal) → IsErr result
+    → IfErr result (λ r. add_refusal (bare (old.catalog).relations old.seq) name row ≡ Some r) → (n : ℕ) → TellsAdd old name row result n
+add_refused_tells old name row (Ok x) e h n = absurd (false≢true e)
+add_refused_tells old name row (Err r) e h n = add_err_tells old name row r h n
+
+pub delete_refused_tells : (old : Parts) (name : Bytes) (row : Tuple) (result : Result DeleteOutcome Refusal) → IsErr result → (n : ℕ)
+    → TellsChange (kept_in old) name (without_row (rows_of (old.catalog).relations name) row) (delete_outdates result) (delete_outdates result) (kept_in old) n n
+delete_refused_tells old name row (Ok x) e n = absurd (false≢true e)
+delete_refused_tells old name row (Err r) e n = tells_nothing (kept_in old) (kept_in old) name (without_row (rows_of (old.catalog).relations name) row) n n (omega arith)

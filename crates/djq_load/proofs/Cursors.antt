@@ -1,0 +1,319 @@
+-- What the lines that open and read a cursor make of it, and what they are answered.
+use Rattle.std.specs.Prelude.{ℕ, List, [], ◌∷◌, ◌++◌, ◌==◌, ◌≡◌, ◌≤◌, ◌⊎◌, Bool, true, false, cond, Option, None, Some, is_some, IsSome, IsSomeAnd, MatchOption, option_map, Result, Ok, Err, length, find, codes, slice_index, ⊤}
+use Rattle.std.specs.List.{list_all}
+use Rattle.std.specs.Str.{IsAscii, is_utf8}
+use Rattle.std.proofs.Common.{refl, sym, ap, ◌∙◌, subst, inl, inr, arith, leb}
+use Rattle.std.proofs.lemmas.Bool.{and_parts, leb-true}
+use Rattle.std.proofs.lemmas.Str.{IsUtf8-from_ascii, is_utf8-from_IsUtf8}
+use Rattle.std.proofs.lemmas.Str.Ascii.{IsAscii-nil, IsAscii-cons}
+use Rattle.djq_model.specs.declared.query.Query.{Query}
+use Rattle.djq_model.specs.Data.{Bytes, Tuple, bytes_eq, query_of}
+use Rattle.djq_model.specs.Answer.{IsAnswer}
+use Rattle.djq_lines.specs.declared.answer.EndCause.{EndCause}
+use Rattle.djq_lines.specs.declared.answer.EndCause.TheVariants.{Memory}
+use Rattle.djq_lines.specs.declared.answer.Refusal.{Refusal}
+use Rattle.djq_lines.specs.declared.answer.Refusal.TheVariants.{Syntax, Taken, NoRelation, NoQuery, NoCursor, Arity, WrongType, HeadUnbound, HeadRepeated, VariableType, Limit, NoMemory, InUse}
+use Rattle.djq_lines.specs.declared.command.Command.{Command}
+use Rattle.djq_lines.specs.declared.command.Command.TheVariants.{Open, Next}
+use Rattle.djq_lines.specs.Line.{Front, dry, too_long, a_line, front_of, is_blank}
+use Rattle.djq_lines.specs.Grammar.{Reading, says as says_command, reading_of, reading_in, command_of, command_in}
+use Rattle.djq_lines.specs.Conditions.{first_of, Answers, OutOfMemoryWhere}
+use Rattle.djq_lines.specs.Reply.{refusal_line, end_memory, listing_lines, text_of, ok_reply}
+use Rattle.djq_value.specs.Token.{tokens}
+use Rattle.djq_machine.specs.State.{State, Session, Cursor, open_at, session_of, with_session, cursor_of, with_position, ended_by}
+use Rattle.djq_machine.specs.Effect.{Effect, nothing, says, EndsWith, RefusedStep}
+use Rattle.djq_machine.specs.Command.{open_refusal, with_cursor, OpensTo, OpenStep, NextStep, NextCutStep, NextStepAt}
+use Rattle.djq_machine.specs.LineStep.{LineOutcome, blank, run, FrontStep, ReadStep, behind_line}
+use Rattle.djq_machine.specs.Step.{Event, fed, stepped, took, FedStep, TookStep, Step}
+use Rattle.djq_machine.specs.Run.{to_session, pending_of, pending_in}
+use Rattle.djq_machine.specs.Call.{IsOpen, Makes, RanStep, Counts, cause_of, cause_in, held_of, held_in}
+use Rattle.djq_laws.proofs.Finding.{some_and, find_changed}
+use Rattle.djq_laws.proofs.Queueing.{gaining, session_changed, stepped as session_stepped, stepped_cause, stepped_pending}
+use Rattle.djq_laws.proofs.Touching.{says_to, is_stepped}
+use Rattle.djq_load.specs.Lines.{IsIdle, LineRuns, TakesAll, cursors_in, cursors_of, cursor_at, Stands}
+use Rattle.djq_load.specs.Totals.{open_line, next_line}
+use Rattle.djq_load.proofs.Idle.{IsFed, is_fed}
+
+none_some : {A : Type 0} (o : Option A) (a : A) → o ≡ None → o ≡ Some a → ⊥
+none_some o a e f = cc
+
+cursors_gained : (bytes : Bytes) (o : Option Session) → cursors_in (option_map (gaining bytes) o) ≡ cursors_in o
+cursors_gained bytes None = refl
+cursors_gained bytes (Some x) = refl
+
+cursors_kept : (f : Session → Session) → ((x : Session) → (f x).cursors ≡ x.cursors) → (o : Option Session) → cursors_in (option_map f o) ≡ cursors_in o
+cursors_kept f keeps None = refl
+cursors_kept f keeps (Some x) = keeps x
+
+-- what is queued leaves the cursors
+stepped_cursors : (old : State) (event : Event) (e : Effect) (new : State) (h : Step old event e new) → cursors_of new ≡ cursors_of h.mid
+stepped_cursors old event e new h = ap cursors_in (session_stepped old event e new h 1) ∙ cursors_gained (to_session 1 e.queued) (session_of h.mid 1)
+
+changed_cursors : (old mid : State) (f : Session → Session) → ((x : Session) → (f x).id ≡ x.id) → ((x : Session) → (f x).cursors ≡ x.cursors) → mid ≡ with_session old 1 f → cursors_of mid ≡ cursors_of old
+changed_cursors old mid f same keeps after = ap cursors_of after ∙ ap cursors_in (session_changed old 1 f same) ∙ cursors_kept f keeps (session_of old 1)
+
+-- a session that ends out of memory has its cause
+ended_cause : (old mid : State) (x : Session) → session_of old 1 ≡ Some x → mid ≡ with_session old 1 (ended_by Memory) → cause_of mid 1 ≡ Some Memory
+ended_cause old mid x found after =
+    ap (λ (st : State). cause_of st 1) after ∙ ap cause_in (session_changed old 1 (ended_by Memory) (λ y. refl) ∙ ap (λ o. option_map (ended_by Memory) o) found)
+
+fed_by_cause : (old : State) (line : Bytes) (x : Session) (e : Effect) (mid : State) (c : Option EndCause) → session_of old 1 ≡ Some x → cause_of mid 1 ≡ None
+    → MatchOption c
+    (((e ≡ nothing) × (mid ≡ with_session old 1 (λ y. record y { held = y.held ++ line }))) ⊎ EndsWith end_memory Memory old 1 e mid)
+    (λ _. (e ≡ nothing) × (mid ≡ old))
+    → cursors_of mid ≡ cursors_of old
+fed_by_cause old line x e mid None found running (inl h) = changed_cursors old mid (λ y. record y { held = y.held ++ line }) (λ y. refl) (λ y. refl) h.1
+fed_by_cause old line x e mid None found running (inr h) = absurd (none_some (cause_of mid 1) Memory running (ended_cause old mid x found h.1))
+fed_by_cause old line x e mid (Some c) found running h = ap cursors_of h.1
+
+fed_cursors : (line : Bytes) (old mid : State) → cause_of mid 1 ≡ None → Makes old (fed 1 line) mid → cursors_of mid ≡ cursors_of old
+fed_cursors line old mid running m =
+    let h = m.step in
+    let f = some_and (session_of old 1) (λ x. FedStep old 1 line x m.effect h.mid) h.acts in
+    stepped_cursors old (fed 1 line) m.effect mid h
+    ∙ fed_by_cause old line f.0 m.effect h.mid (f.0).cause f.1 (sym (stepped_cause old (fed 1 line) m.effect mid h 1) ∙ running) f.2
+
+took_cursors : (old new : State) → TakesAll old new → cursors_of new ≡ cursors_of old
+took_cursors old new (inl (none, same)) = ap cursors_of same
+took_cursors old new (inr (some, m)) =
+    let h = m.step in
+    let bytes = pending_of old 1 in
+    let f = some_and (session_of old 1) (λ x. TookStep old 1 bytes x m.effect h.mid) h.acts in
+    stepped_cursors old (took 1 bytes) m.effect new h
+    ∙ changed_cursors old h.mid (λ y. record y { pending = f.2.1.0 }) (λ y. refl) (λ y. refl) f.2.1.2
+
+-- A line that isn't blank was run: as what it is read as.
+record Runs (text : Bytes) (mid new : State) : Type 0 where
+  event : Event
+  effect : Effect
+  step : Step mid event effect new
+  session : Session
+  found : session_of mid 1 ≡ Some session
+  rest : Bytes
+  reads : ReadStep (with_session mid 1 (behind_line rest)) 1 (behind_line rest session) (reading_of text) effect step.mid
+  stays : IsOpen step.mid 1
+  pending : pending_of step.mid 1 ≡ pending_of mid 1
+
+line_in : Front → Bytes
+line_in dry = []
+line_in too_long = []
+line_in (a_line l rest) = l
+
+not_both : (b : Bool) → b ≡ true → b ≡ false → ⊥
+not_both b e f = cc
+
+text_is : (line text l rest : Bytes) (x : Session) (mid : State) → held_of mid 1 ≡ line → front_of line ≡ a_line text [] → session_of mid 1 ≡ Some x → front_of x.held ≡ a_line l rest → l ≡ text
+unfolding line_in
+text_is line text l rest x mid held is found front = ap line_in (sym front ∙ ap front_of (sym (ap held_in found) ∙ held) ∙ is)
+
+runs : (line text : Bytes) (mid new : State) (before now : Counts) → held_of mid 1 ≡ line → front_of line ≡ a_line text [] → is_blank text ≡ false → RanStep mid 1 new before now → Runs text mid new
+runs line text mid new before now held is full (l, inl m) =
+    let h = m.step in
+    let f = some_and (session_of mid 1) (λ x. (x.cause ≡ None) × FrontStep mid 1 x (blank l) m.effect h.mid) h.acts in
+    let t = f.2.1.1 in
+    absurd (not_both (is_blank text) (ap is_blank (sym (text_is line text l t.rest f.0 mid held is f.1 t.front)) ∙ f.2.1.0) full)
+runs line text mid new before now held is full (l, inr m) =
+    let h = m.step in
+    let f = some_and (session_of mid 1) (λ x. (x.cause ≡ None) × FrontStep mid 1 x (run l) m.effect h.mid) h.acts in
+    let t = f.2.1.2 in
+    let e = text_is line text l t.rest f.0 mid held is f.1 t.front in
+    let k = is_stepped mid 1 f.0 (run l) m.effect h.mid f.1 f.2.0 f.2.1 in
+    record {
+      event = stepped 1 (run l);
+      effect = m.effect;
+      step = h;
+      session = f.0;
+      found = f.1;
+      rest = t.rest;
+      reads = subst (λ (k : Bytes). ReadStep (with_session mid 1 (behind_line t.rest)) 1 (behind_line t.rest f.0) (reading_of k) m.effect h.mid) e t.then;
+      stays = subst (λ (o : Option Session). IsSome o) (sym (k.touches).now) refl;
+      pending = ap pending_in (k.touches).now ∙ k.pending ∙ sym (ap pending_in f.1);
+    }
+
+-- The session behind its line.
+behind_found : (mid : State) (x : Session) (rest : Bytes) → session_of mid 1 ≡ Some x → session_of (with_session mid 1 (behind_line rest)) 1 ≡ Some (behind_line rest x)
+behind_found mid x rest found = session_changed mid 1 (behind_line rest) (λ y. refl) ∙ ap (λ o. option_map (behind_line rest) o) found
+
+-- the state behind a command that changed the session's cursors
+changed_to : (st m : State) (y : Session) (f : Session → Session) → ((x : Session) → (f x).id ≡ x.id) → session_of st 1 ≡ Some y → m ≡ with_session st 1 f → session_of m 1 ≡ Some (f y)
+changed_to st m y f same found after = ap (λ (s : State). session_of s 1) after ∙ session_changed st 1 f same ∙ ap (λ o. option_map f o) found
+
+-- what is pending behind a step
+pending_behind : (mid new : State) (event : Event) (e : Effect) (h : Step mid event e new) (z : Session) (text : Bytes) → session_of h.mid 1 ≡ Some z → z.pending ≡ [] → to_session 1 e.queued ≡ text → pending_of new 1 ≡ text
+pending_behind mid new event e h z text found none queued =
+    stepped_pending mid event e new h 1 (subst (λ (o : Option Session). IsSome o) (sym found) refl)
+    ∙ ap (λ (o : Option Session). pending_in o ++ to_session 1 e.queued) found ∙ ap (λ (p : Bytes). p ++ to_session 1 e.queued) none ∙ queued
+
+-- Reading the cursor.
+pub record Tells (given : List Tuple) (new : State) : Type 0 where
+  pub told : List Tuple
+  pub end : Bool
+  pub stands : Stands new (given ++ told) end
+  pub pending : pending_of new 1 ≡ text_of (listing_lines told end)
+  pub few : length told ≤ 1000
+
+record NextTold (given : List Tuple) (y : Session) (e : Effect) (m : State) : Type 0 where
+  told : List Tuple
+  end : Bool
+  few : length told ≤ 1000
+  queued : to_session 1 e.queued ≡ text_of (listing_lines told end)
+  session : Session
+  found : session_of m 1 ≡ Some session
+  cursors : session.cursors ≡ with_position y.cursors (codes "c") (open_at (given ++ told) end)
+  pending : session.pending ≡ y.pending
+
+next_told : (given : List Tuple) (st : State) (y : Session) (q : Query) (e : Effect) (m : State) → session_of st 1 ≡ Some y → cause_of m 1 ≡ None
+    → NextStep st 1 (codes "c") q given 1000 e m ⊎ NextCutStep st 1 q given 1000 e m → NextTold given y e m
+next_told given st y q e m found running (inl h) = record {
+  told = h.told;
+  end = h.end;
+  few = (h.tells).at_most;
+  queued = ap (λ (d : Effect). to_session 1 d.queued) h.effect ∙ says_to 1 (text_of (listing_lines h.told h.end));
+  session = record y { cursors = with_position y.cursors (codes "c") (open_at (given ++ h.told) h.end) };
+  found = changed_to st m y (λ x. record x { cursors = with_position x.cursors (codes "c") (open_at (given ++ h.told) h.end) }) (λ x. refl) found h.state;
+  cursors = refl;
+  pending = refl;
+}
+next_told given st y q e m found running (inr h) = absurd (none_some (cause_of m 1) Memory running (ended_cause st m y found h.state))
+
+next_at : (given : List Tuple) (ended : Bool) (st : State) (y : Session) (e : Effect) (m : State) → session_of st 1 ≡ Some y → cursor_of y.cursors (codes "c") ≡ Some (cursor_at given ended) → cause_of m 1 ≡ None
+    → ReadStep st 1 y (says_command (Next (codes "c") 1000)) e m → NextTold given y e m
+next_at given ended st y e m found stands running (true, h) =
+    let at : IsSomeAnd (query_of st.store.queries (codes "q")) (λ q. NextStepAt st 1 (codes "c") q 1000 (open_at given ended) e m) =
+    subst (λ (o : Option Cursor). MatchOption o (RefusedStep st 1 NoCursor e m) (λ k. IsSomeAnd (query_of st.store.queries k.query) (λ q. NextStepAt st 1 (codes "c") q 1000 k.position e m))) stands h in
+    let q = some_and (query_of st.store.queries (codes "q")) (λ q. NextStepAt st 1 (codes "c") q 1000 (open_at given ended) e m) at in
+    next_told given st y q.0 e m found running q.2
+next_at given ended st y e m found stands running (false, h) = absurd (not_true h.0)
+  where
+    not_true : false ≡ true → ⊥
+    not_true k = cc
+
+ascii : (bs : Bytes) → list_all (λ b. leb b 127) bs ≡ true → IsAscii bs
+ascii [] h = IsAscii-nil
+ascii (b ∷ bs) h =
+    let parts = and_parts (leb b 127) (list_all (λ c. leb c 127) bs) h in
+    IsAscii-cons b bs (omega (arith, leb-true b 127 parts.0)) (ascii bs parts.1)
+
+utf8 : (bs : Bytes) → list_all (λ b. leb b 127) bs ≡ true → is_utf8 bs ≡ true
+utf8 bs h = is_utf8-from_IsUtf8 bs (IsUtf8-from_ascii bs (ascii bs h))
+
+next_reads : reading_of (codes "next c 1000") ≡ says_command (Next (codes "c") 1000)
+unfolding command_of tokens
+next_reads = ap (λ (b : Bool). reading_in (cond b (command_in (tokens (codes "next c 1000"))) None)) (utf8 (codes "next c 1000") refl)
+
+-- The cursor is at another place.
+moved : (given more : List Tuple) (ended end : Bool) (cursors : List Cursor) → cursor_of cursors (codes "c") ≡ Some (cursor_at given ended)
+    → cursor_of (with_position cursors (codes "c") (open_at more end)) (codes "c") ≡ Some (cursor_at more end)
+moved given more ended end cursors stands =
+    find_changed (λ (c : Cursor). bytes_eq c.name (codes "c")) (λ (c : Cursor). record c { position = open_at more end }) (λ c. refl) cursors
+    ∙ ap (λ (o : Option Cursor). option_map (λ (c : Cursor). record c { position = open_at more end }) o) stands
+
+next_run : (given : List Tuple) (ended : Bool) (mid new : State) → Stands mid given ended → pending_of mid 1 ≡ [] → cause_of new 1 ≡ None → Runs (codes "next c 1000") mid new → Tells given new
+next_run given ended mid new stands pending running r =
+    let st = with_session mid 1 (behind_line r.rest) in
+    let y = behind_line r.rest r.session in
+    let here = behind_found mid r.session r.rest r.found in
+    let stays : cursor_of y.cursors (codes "c") ≡ Some (cursor_at given ended) = ap (λ (o : Option Session). cursor_of (cursors_in o) (codes "c")) (sym r.found) ∙ stands in
+    let reads = subst (λ (k : Reading). ReadStep st 1 y k r.effect (r.step).mid) next_reads r.reads in
+    let t = next_at given ended st y r.effect (r.step).mid here stays (sym (stepped_cause mid r.event r.effect new r.step 1) ∙ running) reads in
+    record {
+      told = t.told;
+      end = t.end;
+      stands = ap (λ (cs : List Cursor). cursor_of cs (codes "c")) (stepped_cursors mid r.event r.effect new r.step ∙ ap cursors_in t.found ∙ t.cursors)
+          ∙ moved given (given ++ t.told) ended t.end y.cursors stays;
+      pending = pending_behind mid new r.event r.effect r.step t.session (text_of (listing_lines t.told t.end)) t.found (t.pending ∙ sym (ap pending_in r.found) ∙ pending) t.queued;
+      few = t.few;
+    }
+
+next_front : front_of next_line ≡ a_line (codes "next c 1000") []
+next_front = refl
+
+-- The line that reads the cursor was run.
+pub next_tells : (given : List Tuple) (ended : Bool) (old : State) (before : Counts) (new : State) (now : Counts) → IsIdle old → Stands old given ended → LineRuns next_line old before new now → Tells given new
+next_tells given ended old before new now idle stands h =
+    let mid = h.mid in
+    let here = is_fed next_line old mid idle h.is_held h.comes in
+    next_run given ended mid new (ap (λ (cs : List Cursor). cursor_of cs (codes "c")) (fed_cursors next_line old mid h.is_held h.comes) ∙ stands) here.pending h.running
+    (runs next_line (codes "next c 1000") mid new before now here.held next_front refl h.ran)
+
+-- Opening it.
+open_reads : reading_of (codes "open c q") ≡ says_command (Open (codes "c") (codes "q"))
+unfolding command_of tokens
+open_reads = ap (λ (b : Bool). reading_in (cond b (command_in (tokens (codes "open c q"))) None)) (utf8 (codes "open c q") refl)
+
+first_letter : (r : Refusal) → slice_index (refusal_line r) 0 ≡ 101
+first_letter Syntax = refl
+first_letter Taken = refl
+first_letter NoRelation = refl
+first_letter NoQuery = refl
+first_letter NoCursor = refl
+first_letter Arity = refl
+first_letter WrongType = refl
+first_letter HeadUnbound = refl
+first_letter HeadRepeated = refl
+first_letter VariableType = refl
+first_letter Limit = refl
+first_letter NoMemory = refl
+first_letter InUse = refl
+
+not_refused : (r : Refusal) → refusal_line r ≡ codes "ok open\n" → ⊥
+not_refused r e = let k = sym (first_letter r) ∙ ap (λ (bs : Bytes). slice_index bs 0) e in absurd (omega (arith, k))
+
+-- no cursor of the name was there
+is_new : (b : Bool) (more : Option Refusal) → (D : ⊤ → Type 0) (L : Refusal → Type 0) (u : ⊤) → Answers (cond b (Some Taken) more) (Ok u) D L → b ≡ false
+is_new true more D L u h = absurd h
+is_new false more D L u h = refl
+
+none_found : (o : Option Cursor) → is_some o ≡ false → o ≡ None
+none_found None h = refl
+none_found (Some c) h = absurd cc
+
+found_last : (cursors : List Cursor) → cursor_of cursors (codes "c") ≡ None → cursor_of (cursors ++ cursor_at [] false ∷ []) (codes "c") ≡ Some (cursor_at [] false)
+found_last [] h = refl
+found_last (c ∷ cursors) h = at_first (bytes_eq c.name (codes "c")) h (λ k. found_last cursors k)
+  where
+    at_first : (b : Bool) → cond b (Some c) (cursor_of cursors (codes "c")) ≡ None → (cursor_of cursors (codes "c") ≡ None → cursor_of (cursors ++ cursor_at [] false ∷ []) (codes "c") ≡ Some (cursor_at [] false))
+        → cond b (Some c) (cursor_of (cursors ++ cursor_at [] false ∷ []) (codes "c")) ≡ Some (cursor_at [] false)
+    at_first true k rest = absurd cc
+    at_first false k rest = rest k
+
+opened_by : (L : Refusal → Type 0) (st : State) (y : Session) (e : Effect) (m : State) (result : Result ⊤ Refusal) → session_of st 1 ≡ Some y → to_session 1 e.queued ≡ codes "ok open\n"
+    → Answers (open_refusal st.store y.cursors (codes "c") (codes "q")) result (λ _. ⊤) L → e ≡ says 1 (ok_reply (codes "ok open") result) → OpensTo st 1 (codes "c") (codes "q") m result
+    → cursor_of (cursors_of m) (codes "c") ≡ Some (cursor_at [] false)
+opened_by L st y e m (Ok u) found told answer effect after =
+    ap (λ (o : Option Session). cursor_of (cursors_in o) (codes "c")) (changed_to st m y (with_cursor (codes "c") (codes "q")) (λ x. refl) found after)
+    ∙ found_last y.cursors (none_found (cursor_of y.cursors (codes "c")) (is_new (is_some (cursor_of y.cursors (codes "c"))) _ _ _ u answer))
+opened_by L st y e m (Err r) found told answer effect after =
+    absurd (not_refused r (sym (says_to 1 (refusal_line r)) ∙ sym (ap (λ (d : Effect). to_session 1 d.queued) effect) ∙ told))
+
+open_at_once : (st : State) (y : Session) (e : Effect) (m : State) → session_of st 1 ≡ Some y → to_session 1 e.queued ≡ codes "ok open\n"
+    → ReadStep st 1 y (says_command (Open (codes "c") (codes "q"))) e m → cursor_of (cursors_of m) (codes "c") ≡ Some (cursor_at [] false)
+open_at_once st y e m found told (true, h) = opened_by _ st y e m h.result found told h.answer h.effect h.state
+open_at_once st y e m found told (false, h) = absurd (not_true h.0)
+  where
+    not_true : false ≡ true → ⊥
+    not_true k = cc
+
+open_run : (mid new : State) → pending_of mid 1 ≡ [] → pending_of new 1 ≡ codes "ok open\n" → Runs (codes "open c q") mid new → Stands new [] false
+open_run mid new none told r =
+    let st = with_session mid 1 (behind_line r.rest) in
+    let y = behind_line r.rest r.session in
+    let queued : to_session 1 (r.effect).queued ≡ codes "ok open\n" =
+    sym (stepped_pending mid r.event r.effect new r.step 1 r.stays ∙ ap (λ (p : Bytes). p ++ to_session 1 (r.effect).queued) (r.pending ∙ none)) ∙ told in
+    ap (λ (cs : List Cursor). cursor_of cs (codes "c")) (stepped_cursors mid r.event r.effect new r.step)
+    ∙ open_at_once st y r.effect (r.step).mid (behind_found mid r.session r.rest r.found) queued
+    (subst (λ (k : Reading). ReadStep st 1 y k r.effect (r.step).mid) open_reads r.reads)
+
+open_front : front_of open_line ≡ a_line (codes "open c q") []
+open_front = refl
+
+-- The line that opens the cursor was run, and answered so.
+pub open_stands : (old : State) (before : Counts) (mid : State) (now : Counts) (new : State) → IsIdle old → LineRuns open_line old before mid now → pending_of mid 1 ≡ codes "ok open\n" → TakesAll mid new → Stands new [] false
+open_stands old before mid now new idle h told takes =
+    let here = is_fed open_line old h.mid idle h.is_held h.comes in
+    ap (λ (cs : List Cursor). cursor_of cs (codes "c")) (took_cursors mid new takes)
+    ∙ open_run h.mid mid here.pending told (runs open_line (codes "open c q") h.mid mid before now here.held open_front refl h.ran)
+
+-- Taking what is pending leaves the cursor.
+pub stands_on : (given : List Tuple) (ended : Bool) (old new : State) → TakesAll old new → Stands old given ended → Stands new given ended
+stands_on given ended old new takes stands = ap (λ (cs : List Cursor). cursor_of cs (codes "c")) (took_cursors old new takes) ∙ stands

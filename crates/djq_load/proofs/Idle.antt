@@ -1,0 +1,174 @@
+-- What a line that comes to an idle session makes of it.
+use Rattle.std.specs.Prelude.{ℕ, List, [], ◌∷◌, ◌++◌, ◌≡◌, ◌+◌, ◌<◌, ◌≤◌, ◌⊎◌, true, Option, None, Some, IsSome, IsSomeAnd, length, replicate}
+use Rattle.std.proofs.Common.{refl, sym, ap, ap₂, ◌∙◌, subst, inl, inr, append-nil, length-append, arith}
+use Rattle.std.proofs.lemmas.List.{nil_from_length, replicate_more}
+use Rattle.std.proofs.lemmas.Grind.{flat_map-append}
+use Rattle.std.proofs.lemmas.List.Sums.{sum_by-append}
+use Rattle.djq_model.specs.Data.{Bytes}
+use Rattle.djq_lines.specs.Line.{a_line, behind_lf, front_of}
+use Rattle.djq_machine.specs.State.{State, Session, session_of}
+use Rattle.djq_machine.specs.LineStep.{LineOutcome, blank, run}
+use Rattle.djq_machine.specs.Step.{Event, opened, fed, stepped, took, is_dry}
+use Rattle.djq_machine.specs.Run.{Did, pieces_of, piece_of, pending_of, pending_in}
+use Rattle.djq_machine.specs.Call.{IsOpen, Makes, MakesCounted, RanStep, Counts, OpenGives, cause_of, cause_in, held_of, held_in}
+use Rattle.djq_laws.specs.declared.limits.TheConstants.{READ_BYTES}
+use Rattle.djq_laws.specs.Course.{RunNext, AwaitsInput}
+use Rattle.djq_laws.specs.Moved.{Takes, Comes, is_held, out_of_memory, is_dropped, StepsLine}
+use Rattle.djq_laws.proofs.Courses.{walk_then}
+use Rattle.djq_laws.proofs.Cutting.{line_in_front}
+use Rattle.djq_laws.proofs.Moving.{took_facts, fed_facts, stepped_facts}
+use Rattle.djq_load.specs.Lines.{Loads, IsIdle, LineRuns, TakesAll}
+
+none_some : {A : Type 0} (o : Option A) (a : A) → o ≡ None → o ≡ Some a → ⊥
+none_some o a e f = cc
+
+-- a session that a line has come to
+pub record IsFed (line : Bytes) (mid : State) : Type 0 where
+  pub is_open : IsOpen mid 1
+  pub held : held_of mid 1 ≡ line
+  pub pending : pending_of mid 1 ≡ []
+
+come : (line : Bytes) (old mid : State) → IsIdle old → cause_of mid 1 ≡ None → Comes old mid 1 line → IsFed line mid
+come line old mid idle running (is_held stays o n held pending) = record {
+  is_open = stays;
+  held = held ∙ ap (λ (h : Bytes). h ++ line) idle.held;
+  pending = pending ∙ idle.pending;
+}
+come line old mid idle running (out_of_memory stays o n held pending) = absurd (none_some _ _ running n)
+come line old mid idle running (is_dropped stays c o n held pending) = absurd (none_some _ _ idle.running o)
+
+pub is_fed : (line : Bytes) (old mid : State) → IsIdle old → cause_of mid 1 ≡ None → Makes old (fed 1 line) mid → IsFed line mid
+is_fed line old mid idle running m = come line old mid idle running (fed_facts old 1 line m.effect mid m.step)
+
+came_open : (line : Bytes) (old mid : State) → Comes old mid 1 line → IsOpen mid 1
+came_open line old mid (is_held stays o n held pending) = stays
+came_open line old mid (out_of_memory stays o n held pending) = stays
+came_open line old mid (is_dropped stays c o n held pending) = stays
+
+pub fed_open : (line : Bytes) (old mid : State) → Makes old (fed 1 line) mid → IsOpen mid 1
+fed_open line old mid m = came_open line old mid (fed_facts old 1 line m.effect mid m.step)
+
+pub ran_open : (old new : State) (before now : Counts) → RanStep old 1 new before now → IsOpen new 1
+ran_open old new before now (l, inl m) = let f : StepsLine old new 1 (blank l) = stepped_facts old 1 (blank l) m.effect new m.step in f.stays
+ran_open old new before now (l, inr m) = let f : StepsLine old new 1 (run l) = stepped_facts old 1 (run l) m.effect new m.step in f.stays
+
+-- behind the one line that was held, nothing is
+nothing_left : (held l rest : Bytes) → front_of held ≡ a_line l rest → behind_lf held ≡ Some [] → rest ≡ []
+nothing_left held l rest front one = let f = line_in_front held l rest front in same (sym f.behind ∙ one)
+  where
+    same : Some rest ≡ Some [] → rest ≡ []
+    same e = cc
+
+ran_held : (line : Bytes) (old new : State) (before now : Counts) → held_of old 1 ≡ line → behind_lf line ≡ Some [] → RanStep old 1 new before now → held_of new 1 ≡ []
+ran_held line old new before now held one (l, inl m) =
+    let f : StepsLine old new 1 (blank l) = stepped_facts old 1 (blank l) m.effect new m.step in
+    nothing_left (held_of old 1) l (held_of new 1) f.held (ap behind_lf held ∙ one)
+ran_held line old new before now held one (l, inr m) =
+    let f : StepsLine old new 1 (run l) = stepped_facts old 1 (run l) m.effect new m.step in
+    nothing_left (held_of old 1) l (held_of new 1) f.held (ap behind_lf held ∙ one)
+
+-- what taking all that is pending leaves
+record IsTaken (old new : State) : Type 0 where
+  is_open : IsOpen new 1
+  held : held_of new 1 ≡ held_of old 1
+  cause : cause_of new 1 ≡ cause_of old 1
+  pending : pending_of new 1 ≡ []
+
+none_behind : (p q : Bytes) → p ≡ p ++ q → q ≡ []
+none_behind p q e = nil_from_length q (omega (arith, ap length e, length-append p q))
+
+taken : (old new : State) → IsOpen old 1 → TakesAll old new → IsTaken old new
+taken old new there (inl (none, same)) = record {
+  is_open = subst (λ (st : State). IsOpen st 1) (sym same) there;
+  held = ap (λ (st : State). held_of st 1) same;
+  cause = ap (λ (st : State). cause_of st 1) same;
+  pending = ap (λ (st : State). pending_of st 1) same ∙ none;
+}
+taken old new there (inr (some, m)) =
+    let t : Takes old new 1 (pending_of old 1) = took_facts old 1 (pending_of old 1) m.effect new m.step in
+    record { is_open = t.stays; held = t.held; cause = t.cause; pending = none_behind (pending_of old 1) (pending_of new 1) t.pending }
+
+-- Runs that lines make, one after another.
+pub loads_none : (st : State) (counted : Counts) → Loads [] st counted st counted
+loads_none st counted = record { done = []; walk = refl; fed = refl; listing = omega arith }
+
+pub loads_one : (d : Did) (old : State) (before : Counts) (new : State) (now : Counts) → RunNext old d new → now.listing ≤ before.listing + d.effect.cost → Loads (piece_of d.event) old before new now
+loads_one d old before new now next listing = record {
+  done = d ∷ [];
+  walk = (new, next, refl);
+  fed = append-nil (piece_of d.event);
+  listing = omega (arith, listing);
+}
+
+pub loads_then : (lines more : List Bytes) (old : State) (before : Counts) (mid : State) (between : Counts) (new : State) (now : Counts)
+    → Loads lines old before mid between → Loads more mid between new now → Loads (lines ++ more) old before new now
+loads_then lines more old before mid between new now c d = record {
+  done = c.done ++ d.done;
+  walk = walk_then RunNext old c.done mid d.done new c.walk d.walk;
+  fed = flat_map-append (λ (x : Did). piece_of x.event) c.done d.done ∙ ap₂ (λ (a b : List Bytes). a ++ b) c.fed d.fed;
+  listing = omega (arith, c.listing, d.listing, sum_by-append (λ (x : Did). x.effect.cost) c.done d.done);
+}
+
+-- what is known of an open session's parts holds of the session
+of_session : (o : Option Session) → IsSome o → (P : Session → Type 0) → ((x : Session) → o ≡ Some x → P x) → IsSomeAnd o P
+of_session None there P f = absurd cc
+of_session (Some x) there P f = f x refl
+
+empty_dry : is_dry [] ≡ true
+empty_dry = refl
+
+awaits : (st : State) → IsIdle st → IsSomeAnd (session_of st 1) AwaitsInput
+awaits st idle = of_session (session_of st 1) idle.is_open AwaitsInput
+    (λ x e. record {
+      written = sym (ap pending_in e) ∙ idle.pending;
+      running = sym (ap cause_in e) ∙ idle.running;
+      dry = ap is_dry (sym (ap held_in e) ∙ idle.held) ∙ empty_dry;
+    })
+
+flushed : (st : State) → IsOpen st 1 → pending_of st 1 ≡ [] → IsSomeAnd (session_of st 1) (λ x. x.pending ≡ [])
+flushed st there pending = of_session (session_of st 1) there (λ x. x.pending ≡ []) (λ x e. sym (ap pending_in e) ∙ pending)
+
+some_byte : (line : Bytes) → behind_lf line ≡ Some [] → 0 < length line
+some_byte [] e = absurd cc
+some_byte (b ∷ line) e = omega arith
+
+-- the step that runs the line
+ran_loads : (old : State) (before : Counts) (new : State) (now : Counts) → IsOpen old 1 → pending_of old 1 ≡ [] → RanStep old 1 new before now → Loads [] old before new now
+ran_loads old before new now there pending (l, inl m) =
+    loads_one (record { event = stepped 1 (blank l); effect = m.effect }) old before new now ((refl, flushed old there pending), m.step) m.listing
+ran_loads old before new now there pending (l, inr m) =
+    loads_one (record { event = stepped 1 (run l); effect = m.effect }) old before new now ((refl, flushed old there pending), m.step) m.listing
+
+took_loads : (old : State) (counted : Counts) (new : State) → TakesAll old new → Loads [] old counted new counted
+took_loads old counted new (inl (none, same)) = subst (λ (st : State). Loads [] old counted st counted) (sym same) (loads_none old counted)
+took_loads old counted new (inr (some, m)) =
+    loads_one (record { event = took 1 (pending_of old 1); effect = m.effect }) old counted new counted ((refl, some), m.step) (omega arith)
+
+-- A line that comes, is run, and whose reply is taken.
+pub line_loads : (line : Bytes) (old : State) (before : Counts) (mid : State) (now : Counts) (new : State) → IsIdle old → behind_lf line ≡ Some [] → length line ≤ READ_BYTES
+    → LineRuns line old before mid now → TakesAll mid new → Loads (line ∷ []) old before new now
+line_loads line old before mid now new idle one short runs takes =
+    let m = runs.comes in
+    let here = is_fed line old runs.mid idle runs.is_held m in
+    let first : Loads (line ∷ []) old before runs.mid before =
+    loads_one (record { event = fed 1 line; effect = m.effect }) old before runs.mid before ((refl, some_byte line one, short, awaits old idle), m.step) (omega arith) in
+    loads_then (line ∷ []) [] old before runs.mid before new now first
+    (loads_then [] [] runs.mid before mid now new now (ran_loads runs.mid before mid now here.is_open here.pending runs.ran) (took_loads mid now new takes))
+
+pub line_idle : (line : Bytes) (old : State) (before : Counts) (mid : State) (now : Counts) (new : State) → IsIdle old → behind_lf line ≡ Some []
+    → LineRuns line old before mid now → TakesAll mid new → IsIdle new
+line_idle line old before mid now new idle one runs takes =
+    let here = is_fed line old runs.mid idle runs.is_held runs.comes in
+    let t = taken mid new (ran_open runs.mid mid before now runs.ran) takes in
+    record {
+      is_open = t.is_open;
+      held = t.held ∙ ran_held line runs.mid mid before now here.held one runs.ran;
+      pending = t.pending;
+      running = t.cause ∙ runs.running;
+    }
+
+-- the same line again
+pub loads_again : (line : Bytes) (k : ℕ) (old : State) (before : Counts) (mid : State) (between : Counts) (new : State) (now : Counts)
+    → Loads (replicate k line) old before mid between → Loads (line ∷ []) mid between new now → Loads (replicate (k + 1) line) old before new now
+loads_again line k old before mid between new now c d =
+    subst (λ (lines : List Bytes). Loads lines old before new now) (replicate_more k line) (loads_then (replicate k line) (line ∷ []) old before mid between new now c d)

@@ -1,0 +1,5 @@
+mod Idle
+mod Cursors
+mod Listing
+mod LoadLines
+mod Whole

@@ -1,0 +1,153 @@
+-- What the whole of a load comes to.
+use Rattle.std.specs.Prelude.{ℕ, List, [], ◌∷◌, ◌++◌, ◌≡◌, ◌==◌, ◌+◌, ◌*◌, ◌%◌, ◌^◌, ◌<◌, ◌≤◌, Bool, true, false, Option, None, Some, IsSomeAnd, Result, Ok, Err, All, find, length, replicate, codes, ⊤, is_err, IfOk, OnOk, ◌⊎◌}
+use Rattle.std.proofs.Common.{refl, sym, ap, ap₂, ◌∙◌, subst, inl, inr, length-append, arith}
+use Rattle.std.proofs.lemmas.List.Elements.{All-nil}
+use Rattle.djq_model.specs.declared.query.Query.{Query}
+use Rattle.djq_model.specs.Data.{Bytes, Tuple, bytes_eq, query_of}
+use Rattle.djq_model.specs.Answer.{IsAnswer, IsListing}
+use Rattle.djq_lines.specs.Reply.{listing_lines, text_of}
+use Rattle.djq_machine.specs.State.{State, Session, Cursor, open_at, session_of, cursor_of, fresh}
+use Rattle.djq_machine.specs.Step.{opened}
+use Rattle.djq_machine.specs.Effect.{Effect}
+use Rattle.djq_lines.specs.declared.limits.TheConstants.{SESSIONS}
+use Rattle.djq_machine.specs.Run.{Did, Walk, to_session, pending_of}
+use Rattle.djq_machine.specs.Call.{IsOpen, Makes, Counts, OpenGives, cause_of, held_of}
+use Rattle.djq_machine.specs.Gives.{Gives, PositionGives, CursorsGive}
+use Rattle.djq_machine.specs.declared.machine.OpenRefusal.{OpenRefusal}
+use Rattle.djq_laws.specs.Course.{RunNext}
+use Rattle.djq_laws.proofs.Changing.{all_found}
+use Rattle.djq_laws.proofs.Finding.{some_and}
+use Rattle.djq_laws.proofs.Giving.{SessionGives, CursorGives, runs_give}
+use Rattle.djq_laws.proofs.Sending.{next_runs, step_bytes}
+use Rattle.djq_laws.proofs.Queueing.{stepped_cause, stepped_held}
+use Rattle.djq_gen.specs.Load.{load}
+use Rattle.djq_load.specs.declared.loading.Totals.{Totals}
+use Rattle.djq_load.specs.declared.loading.LoadRefusal.{LoadRefusal}
+use Rattle.djq_load.specs.declared.reading.Reading.{Reading}
+use Rattle.djq_load.specs.Replies.{reading, read_bytes}
+use Rattle.djq_load.specs.Lines.{Loads, IsIdle, LineRuns, TakesAll, cursors_in, cursors_of, cursor_at, Stands}
+use Rattle.djq_load.specs.Totals.{amount_of, so_far, IsRead, IsTold, open_line, next_line, AreTotals, RunsLoad}
+use Rattle.djq_load.proofs.Idle.{loads_one, loads_then}
+use Rattle.djq_load.proofs.Cursors.{Tells, next_tells, stands_on}
+use Rattle.djq_load.proofs.Listing.{listing_read}
+
+-- The cursor was read once more.
+pub read_on : (old : State) (before : Counts) (mid : State) (now : Counts) (new : State) (r after : Reading) (text : Bytes) (most : ℕ)
+    → IsIdle old → LineRuns next_line old before mid now → text ≡ pending_of mid 1 → after ≡ read_bytes r text → TakesAll mid new → IsRead old r most → IsRead new after (most + 1000)
+read_on old before mid now new r after text most idle runs is_text is_after takes h =
+    let t = next_tells h.given r.ended old before mid now idle h.stands runs in
+    let e : after ≡ so_far (h.given ++ t.told) t.end =
+    is_after ∙ ap₂ (λ (x : Reading) (bytes : Bytes). read_bytes x bytes) h.is (is_text ∙ t.pending) ∙ listing_read h.given r.ended t.told t.end in
+    let ended : after.ended ≡ t.end = ap (λ (x : Reading). x.ended) e in
+    record {
+      given = h.given ++ t.told;
+      stands = subst (λ (b : Bool). Stands new (h.given ++ t.told) b) (sym ended) (stands_on (h.given ++ t.told) t.end mid new takes t.stands);
+      is = e ∙ ap (λ (b : Bool). so_far (h.given ++ t.told) b) (sym ended);
+      few = omega (arith, length-append h.given t.told, h.few, t.few);
+    }
+
+-- nothing was read yet
+pub read_none : (st : State) (r : Reading) → r ≡ so_far [] false → Stands st [] false → IsRead st r 0
+read_none st r e stands = record {
+  given = [];
+  stands = subst (λ (b : Bool). Stands st [] b) (sym (ap (λ (x : Reading). x.ended) e)) stands;
+  is = e ∙ ap (λ (b : Bool). so_far [] b) (sym (ap (λ (x : Reading). x.ended) e));
+  few = omega arith;
+}
+
+small : (n : ℕ) → n < 2 ^ 64 → n % 2 ^ 64 ≡ n
+small n h = omega (arith, h)
+
+-- it was read to its end
+pub read_all : (st : State) (r : Reading) (most : ℕ) → IsRead st r most → r.ended ≡ true → most < 2 ^ 64 → IsTold st (record { answers = r.answers; sum = r.sum })
+read_all st r most h ended few = record {
+  given = h.given;
+  stands = subst (λ (b : Bool). Stands st h.given b) ended h.stands;
+  answers = ap (λ (x : Reading). x.answers) h.is ∙ small (length h.given) (omega (arith, h.few, few));
+  sum = ap (λ (x : Reading). x.sum) h.is;
+}
+
+-- What a cursor that was told the end has given is a listing.
+record Found (st : State) (given : List Tuple) : Type 0 where
+  session : Session
+  is : session_of st 1 ≡ Some session
+  cursor : cursor_of session.cursors (codes "c") ≡ Some (cursor_at given true)
+
+found_in : (st : State) (given : List Tuple) (o : Option Session) → session_of st 1 ≡ o → cursor_of (cursors_in o) (codes "c") ≡ Some (cursor_at given true) → Found st given
+found_in st given None e h = absurd cc
+found_in st given (Some x) e h = record { session = x; is = e; cursor = h }
+
+none_give : (st : State) → st.sessions ≡ [] → CursorsGive st
+none_give st none = subst (λ (xs : List Session). All (SessionGives st.store.relations st.store.queries) xs) (sym none) (All-nil (SessionGives st.store.relations st.store.queries))
+
+pub totals_are : (start : State) (done : List Did) (st : State) (totals : Totals) → Walk RunNext start done st → start.sessions ≡ [] → IsTold st totals → AreTotals st totals
+totals_are start done st totals walk none h =
+    let give : CursorsGive st = runs_give start done st (next_runs start done st walk) (none_give start none) in
+    let rs = st.store.relations in
+    let qs = st.store.queries in
+    let f = found_in st h.given (session_of st 1) refl h.stands in
+    let of_session : SessionGives rs qs f.session = all_found (SessionGives rs qs) (λ (x : Session). x.id == 1) st.sessions f.session give f.is in
+    let of_cursor : PositionGives rs (query_of qs (codes "q")) (open_at h.given true) =
+    all_found (CursorGives rs qs) (λ (c : Cursor). bytes_eq c.name (codes "c")) (f.session).cursors (cursor_at h.given true) of_session f.cursor in
+    let q = some_and (query_of qs (codes "q")) (λ (q : Query). Gives (IsAnswer rs q) h.given true) of_cursor in
+    record {
+      query = q.0;
+      registered = q.1;
+      answers = h.given;
+      listing = (q.2).listing refl;
+      count = h.answers;
+      sum = h.sum;
+    }
+
+-- The session as it opens, where no other is open.
+opened_parts : (old mid : State) → old.sessions ≡ [] → ((length old.sessions < SESSIONS) × (mid ≡ record old { sessions = old.sessions ++ fresh 1 ∷ [] })) ⊎ (mid ≡ old)
+    → (held_of mid 1 ≡ []) × (cause_of mid 1 ≡ None)
+opened_parts old mid none (inl h) =
+    let alone : mid ≡ record old { sessions = fresh 1 ∷ [] } = h.1 ∙ ap (λ (xs : List Session). record old { sessions = xs ++ fresh 1 ∷ [] }) none in
+    (ap (λ (st : State). held_of st 1) alone, ap (λ (st : State). cause_of st 1) alone)
+opened_parts old mid none (inr h) =
+    let alone : mid ≡ record old { sessions = [] } = h ∙ ap (λ (xs : List Session). record old { sessions = xs }) none in
+    (ap (λ (st : State). held_of st 1) alone, ap (λ (st : State). cause_of st 1) alone)
+
+opened_idle : (old new : State) → old.sessions ≡ [] → Makes old (opened 1) new → IsOpen new 1 → IsIdle new
+opened_idle old new none m there =
+    let h = m.step in
+    let parts = opened_parts old h.mid none h.acts.2 in
+    let quiet : to_session 1 m.effect.queued ≡ [] = ap (λ (e : Effect). to_session 1 e.queued) h.acts.0 in
+    record {
+      is_open = there;
+      held = stepped_held old (opened 1) m.effect new h 1 ∙ parts.0;
+      pending = step_bytes old (opened 1) m.effect new h 1 ∙ ap (λ (q : Bytes). pending_of old 1 ++ q) quiet
+          ∙ ap (λ (xs : List Session). pending_of (record old { sessions = xs }) 1 ++ []) none;
+      running = stepped_cause old (opened 1) m.effect new h 1 ∙ parts.1;
+    }
+
+-- Opening it, where it was opened.
+pub record Begins (old new : State) (counted : Counts) : Type 0 where
+  pub idle : IsIdle new
+  pub loads : Loads [] old counted new counted
+
+pub begins : (old new : State) (counted : Counts) (r : Result ⊤ OpenRefusal) → is_err r ≡ false → OpenGives old 1 r new → old.sessions ≡ [] → Begins old new counted
+begins old new counted (Ok u) e h none = record {
+  idle = opened_idle old new none h.0 h.1;
+  loads = loads_one (record { event = opened 1; effect = h.0.effect }) old counted new counted ((refl, none), h.0.step) (omega arith);
+}
+begins old new counted (Err r) e h none = absurd cc
+
+-- The whole: the session is opened, the load fed, the cursor opened, and read to its end.
+pub runs_load : (n seed : ℕ) (totals : Totals) (start a : State) (before : Counts) (b : State) (at_b : Counts) (c : State) (at_c : Counts) (d : State) (now : Counts)
+    → start.sessions ≡ [] → Loads [] start before a before → Loads (load n seed) a before b at_b → Loads (open_line ∷ []) b at_b c at_c
+    → ((k : ℕ) × Loads (replicate k next_line) c at_c d now) → IsTold d totals → RunsLoad n seed totals start before d now
+runs_load n seed totals start a before b at_b c at_c d now none opens feeds points reads told =
+    let k = reads.0 in
+    let begun : Loads (load n seed) start before b at_b = loads_then [] (load n seed) start before a before b at_b opens feeds in
+    let rest : Loads (open_line ∷ replicate k next_line) b at_b d now = loads_then (open_line ∷ []) (replicate k next_line) b at_b c at_c d now points reads.1 in
+    let whole = loads_then (load n seed) (open_line ∷ replicate k next_line) start before b at_b d now begun rest in
+    record { nexts = k; loads = whole; totals_are = totals_are start whole.done d totals whole.walk none told }
+
+-- where it is answered at all
+pub answers_load : (n seed : ℕ) (r : Result Totals LoadRefusal) (start a : State) (before : Counts) (b : State) (at_b : Counts) (c : State) (at_c : Counts) (d : State) (now : Counts)
+    → start.sessions ≡ [] → Loads [] start before a before → Loads (load n seed) a before b at_b → Loads (open_line ∷ []) b at_b c at_c
+    → OnOk r ((k : ℕ) × Loads (replicate k next_line) c at_c d now) → IfOk r (IsTold d) → IfOk r (λ totals. RunsLoad n seed totals start before d now)
+answers_load n seed (Ok totals) start a before b at_b c at_c d now none opens feeds points reads told = runs_load n seed totals start a before b at_b c at_c d now none opens feeds points reads told
+answers_load n seed (Err r) start a before b at_b c at_c d now none opens feeds points reads told = tt

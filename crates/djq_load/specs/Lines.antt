@@ -1,0 +1,55 @@
+-- What lines that come to session 1 of a machine make of it.
+use Rattle.std.specs.Prelude.{ℕ, List, [], ◌≡◌, ◌+◌, ◌<◌, ◌≤◌, ◌⊎◌, None, Option, Some, length, codes, Bool}
+use Rattle.djq_model.specs.Data.{Bytes, Tuple}
+use Rattle.djq_machine.specs.State.{State, Session, Cursor, open_at, session_of, cursor_of}
+use Rattle.djq_machine.specs.Step.{fed, took}
+use Rattle.djq_machine.specs.Run.{Did, Walk, pieces_of, cost_of, pending_of}
+use Rattle.djq_machine.specs.Call.{IsOpen, Makes, RanStep, Counts, cause_of, held_of}
+use Rattle.djq_laws.specs.Course.{RunNext}
+
+-- **A run of the join machine in which one session, of id 1, is fed these lines**, one after
+-- another: each comes where none is left to be run and nothing is pending. It counts no more of
+-- listings than it may cost.
+pub record Loads (lines : List Bytes) (old : State) (before : Counts) (new : State)
+    (now : Counts) : Type 0 where
+  pub done : List Did
+  pub walk : Walk RunNext old done new
+  pub fed : pieces_of done ≡ lines
+  pub listing : now.listing ≤ before.listing + cost_of done
+
+-- Session 1 is open and goes on, holds nothing and has nothing pending.
+pub record IsIdle (st : State) : Type 0 where
+  pub is_open : IsOpen st 1
+  pub held : held_of st 1 ≡ []
+  pub pending : pending_of st 1 ≡ []
+  pub running : cause_of st 1 ≡ None
+
+-- A line comes and is run, or dropped where it is blank, and the session goes on.
+pub record LineRuns (line : Bytes) (old : State) (before : Counts) (new : State)
+    (now : Counts) : Type 0 where
+  pub mid : State
+  pub comes : Makes old (fed 1 line) mid
+  pub is_held : cause_of mid 1 ≡ None
+  pub ran : RanStep mid 1 new before now
+  pub running : cause_of new 1 ≡ None
+
+-- All that is pending is taken, where there is any.
+abbrev pub TakesAll : State → State → Type 0
+TakesAll old new = ((pending_of old 1 ≡ []) × (new ≡ old))
+    ⊎ ((0 < length (pending_of old 1)) × Makes old (took 1 (pending_of old 1)) new)
+
+abbrev pub cursors_in : Option Session → List Cursor
+cursors_in None = []
+cursors_in (Some x) = x.cursors
+
+-- the cursors of session 1
+abbrev pub cursors_of : State → List Cursor
+cursors_of st = cursors_in (session_of st 1)
+
+-- the cursor of a load, which has given these answers
+abbrev pub cursor_at : List Tuple → Bool → Cursor
+cursor_at given ended = record { name = codes "c"; query = codes "q"; position = open_at given ended }
+
+-- The session has that cursor.
+abbrev pub Stands : State → List Tuple → Bool → Type 0
+Stands st given ended = cursor_of (cursors_of st) (codes "c") ≡ Some (cursor_at given ended)

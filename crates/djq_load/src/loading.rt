@@ -1,0 +1,208 @@
+ghost use Rattle.std.specs.Prelude.{◌≡◌, ℕ, [], ◌∷◌, ◌+◌, ◌*◌, ◌<◌, ◌≤◌, true, false, Some, IfOk, OnOk, length, replicate};
+ghost use Rattle.djq_gen.specs.Load.{load};
+ghost use Rattle.djq_lines.specs.Line.{behind_lf};
+ghost use Rattle.djq_machine.specs.Call.{IsOpen, counts};
+ghost use Rattle.djq_machine.specs.Run.{pending_of};
+ghost use Rattle.djq_laws.specs.declared.limits.TheConstants.{READ_BYTES};
+ghost use Rattle.djq_load.specs.Lines.{Loads, IsIdle, LineRuns, TakesAll, Stands};
+ghost use Rattle.djq_load.specs.Totals.{so_far, IsRead, IsTold, open_line, next_line, RunsLoad};
+
+use crate::reading::Reading;
+use djq_gen::{LINE_BYTES, Load};
+use djq_machine::{Fed, Machine, Stepped};
+use djq_steps::{Ledgers, Steps};
+use thiserror::Error;
+
+/// The id of the session of a load.
+const ID: u64 = 1;
+
+/// The most times that the cursor is read. Each read that isn't the last gives 1000 answers.
+const MOST_READS: u64 = 18_014_398_509_481_984;
+
+/// What a load comes to.
+#[derive(Clone, Copy, Debug, PartialEq, Eq)]
+pub struct Totals {
+    /// The number of answers of its query.
+    pub answers: u64,
+    /// What the integers of these answers add up to, modulo 2^64.
+    pub sum: u64,
+}
+
+/// Why a load isn't run to its end.
+#[derive(Clone, Copy, Debug, PartialEq, Eq, Error)]
+pub enum LoadRefusal {
+    /// The session was told so, or couldn't be opened.
+    #[error("out of memory")]
+    NoMem,
+    /// The cursor was read as many times as may be: there are more than 2^63 answers.
+    #[error("too many answers")]
+    TooMany,
+}
+
+/// Opens session 1 of a machine, feeds it the load of so many changes with a seed, line by line,
+/// and reads the answers of its query to their end. No session of the machine is open before.
+///
+/// # Errors
+///
+/// `NoMem` where the machine is out of memory, `TooMany` where the answers are too many to read.
+pub fn run_load<M: Machine, L: Ledgers>(
+    machine: &mut M,
+    n: u32,
+    seed: u32,
+    steps: &mut Steps<L>,
+) -> Result<Totals, LoadRefusal>
+    requires { (M.state machine.old).sessions ≡ [] }
+    ensures { IfOk result (λ totals. RunsLoad n seed totals
+        (M.state machine.old) (counts steps.old.listing steps.old.update steps.old.rows)
+        (M.state machine.new) (counts steps.new.listing steps.new.update steps.new.rows)) }
+{
+    if machine.open_session(ID).is_err() {
+        return Err(LoadRefusal::NoMem);
+    }
+    feed_load(machine, n, seed, steps)?;
+    open_cursor(machine, steps)?;
+    list_answers(machine, steps)
+}
+
+/// Feeds the lines of a load, and runs each.
+fn feed_load<M: Machine, L: Ledgers>(
+    machine: &mut M,
+    n: u32,
+    seed: u32,
+    steps: &mut Steps<L>,
+) -> Result<(), LoadRefusal>
+    requires { IsIdle (M.state machine.old) }
+    ensures loads { OnOk result (Loads (load n seed)
+        (M.state machine.old) (counts steps.old.listing steps.old.update steps.old.rows)
+        (M.state machine.new) (counts steps.new.listing steps.new.update steps.new.rows)) }
+    ensures idle { OnOk result (IsIdle (M.state machine.new)) }
+{
+    let mut load = Load::new(n, seed);
+    let mut line = [0; LINE_BYTES];
+    'lines: while let Some(count) = load.line(&mut line) {
+        feed_line(machine, &line[..count], steps)?;
+    }
+    Ok(())
+}
+
+/// Feeds a line and runs it, and takes what it is answered, unless that is that memory is wanting.
+fn feed_line<M: Machine, L: Ledgers>(
+    machine: &mut M,
+    line: &[u8],
+    steps: &mut Steps<L>,
+) -> Result<(), LoadRefusal>
+    requires idle { IsIdle (M.state machine.old) }
+    requires one { behind_lf line.now ≡ Some [] }
+    requires short { length line.now ≤ READ_BYTES }
+    ensures loads { OnOk result (Loads (line.now ∷ [])
+        (M.state machine.old) (counts steps.old.listing steps.old.update steps.old.rows)
+        (M.state machine.new) (counts steps.new.listing steps.new.update steps.new.rows)) }
+    ensures idle { OnOk result (IsIdle (M.state machine.new)) }
+{
+    run_line(machine, line, steps)?;
+    if machine.pending(ID) == b"err 12 memory\n".as_slice() {
+        return Err(LoadRefusal::NoMem);
+    }
+    take_reply(machine);
+    Ok(())
+}
+
+/// Opens the cursor.
+fn open_cursor<M: Machine, L: Ledgers>(
+    machine: &mut M,
+    steps: &mut Steps<L>,
+) -> Result<(), LoadRefusal>
+    requires { IsIdle (M.state machine.old) }
+    ensures loads { OnOk result (Loads (open_line ∷ [])
+        (M.state machine.old) (counts steps.old.listing steps.old.update steps.old.rows)
+        (M.state machine.new) (counts steps.new.listing steps.new.update steps.new.rows)) }
+    ensures idle { OnOk result (IsIdle (M.state machine.new)) }
+    ensures stands { OnOk result (Stands (M.state machine.new) [] false) }
+{
+    run_line(machine, b"open c q\n", steps)?;
+    if machine.pending(ID) != b"ok open\n".as_slice() {
+        return Err(LoadRefusal::NoMem);
+    }
+    take_reply(machine);
+    Ok(())
+}
+
+/// Reads the cursor to its end.
+fn list_answers<M: Machine, L: Ledgers>(
+    machine: &mut M,
+    steps: &mut Steps<L>,
+) -> Result<Totals, LoadRefusal>
+    requires idle { IsIdle (M.state machine.old) }
+    requires stands { Stands (M.state machine.old) [] false }
+    ensures loads { OnOk result ((k : ℕ) × Loads (replicate k next_line)
+        (M.state machine.old) (counts steps.old.listing steps.old.update steps.old.rows)
+        (M.state machine.new) (counts steps.new.listing steps.new.update steps.new.rows)) }
+    ensures told { IfOk result (IsTold (M.state machine.new)) }
+{
+    let mut reading = Reading::new();
+    for _ in 0..MOST_READS {
+        reading = read_more(machine, reading, steps)?;
+        if reading.ended {
+            return Ok(Totals {
+                answers: reading.answers,
+                sum: reading.sum,
+            });
+        }
+    }
+    Err(LoadRefusal::TooMany)
+}
+
+/// Reads the cursor once.
+fn read_more<M: Machine, L: Ledgers>(
+    machine: &mut M,
+    reading: Reading,
+    steps: &mut Steps<L>,
+) -> Result<Reading, LoadRefusal>
+    requires { IsIdle (M.state machine.old) }
+    ensures loads { OnOk result (Loads (next_line ∷ [])
+        (M.state machine.old) (counts steps.old.listing steps.old.update steps.old.rows)
+        (M.state machine.new) (counts steps.new.listing steps.new.update steps.new.rows)) }
+    ensures idle { OnOk result (IsIdle (M.state machine.new)) }
+    ensures read { IfOk result (λ after. (most : ℕ) → IsRead (M.state machine.old) reading most
+        → IsRead (M.state machine.new) after (most + 1000)) }
+{
+    run_line(machine, b"next c 1000\n", steps)?;
+    let after = reading.read(machine.pending(ID));
+    take_reply(machine);
+    Ok(after)
+}
+
+/// Feeds a line and runs it. The session goes on behind it, or memory is wanting.
+fn run_line<M: Machine, L: Ledgers>(
+    machine: &mut M,
+    line: &[u8],
+    steps: &mut Steps<L>,
+) -> Result<(), LoadRefusal>
+    requires { IsIdle (M.state machine.old) }
+    ensures runs { OnOk result (LineRuns line.now
+        (M.state machine.old) (counts steps.old.listing steps.old.update steps.old.rows)
+        (M.state machine.new) (counts steps.new.listing steps.new.update steps.new.rows)) }
+    ensures open { OnOk result (IsOpen (M.state machine.new) 1) }
+{
+    let Fed::Held = machine.feed(ID, line) else {
+        return Err(LoadRefusal::NoMem);
+    };
+    let Stepped::Ran = machine.step(ID, steps) else {
+        return Err(LoadRefusal::NoMem);
+    };
+    match machine.cause(ID) {
+        None => Ok(()),
+        Some(_) => Err(LoadRefusal::NoMem),
+    }
+}
+
+/// Takes all that is pending.
+fn take_reply<M: Machine>(machine: &mut M)
+    requires { IsOpen (M.state machine.old) 1 }
+    ensures { TakesAll (M.state machine.old) (M.state machine.new) }
+{
+    let count = machine.pending(ID).len();
+    if 0 < count {
+        machine.took(ID, count);
+    }
+}

@@ -1,0 +1,90 @@
+#!/usr/bin/env python3
+"""An alarm rule as a join: which sensor is in a state that some team minds, and who of the team is on call.
+
+    crates/djq/out/djq serve 127.0.0.1:7007 &
+    python3 examples/alarm.py 127.0.0.1:7007
+
+An answer that comes raises an alarm, and one that goes clears it; SEQ is the number of the change that did it. The
+rule looks at three relations, so an alarm also moves when somebody else goes on call or a team minds another state.
+In another terminal, `nc 127.0.0.1 7007` and then
+
+    add readings 7 "hot"
+    del oncall "heating" "Ada"
+    add oncall "heating" "Cai"
+    del readings 7 "hot"
+
+Where the connection was lost, what was missed is told as one change. With `--once` it prints the alarms that stand and
+ends; with `--lines N` it ends after N lines.
+"""
+
+import argparse
+import os
+import sys
+
+sys.path.insert(0, os.path.join(os.path.dirname(os.path.abspath(__file__)), "..", "clients", "python"))
+import djq
+
+RULE = "alarm(sensor,state,team,person) <- readings(sensor,state), limits(state,team), oncall(team,person)"
+RELATIONS = [
+    ("readings", (int, str), [(7, "fine")]),
+    ("limits", (str, str), [("hot", "heating"), ("wet", "plumbing")]),
+    ("oncall", (str, str), [("heating", "Ada"), ("plumbing", "Bo")]),
+]
+
+
+def prepare(server):
+    """The relations and the rule, where they aren't there, and rows of new relations."""
+    for name, types, rows in RELATIONS:
+        try:
+            server.relation(name, *types)
+        except djq.Taken:
+            continue
+        for row in rows:
+            server.add(name, *row)
+    try:
+        server.query(RULE)
+    except djq.Taken:
+        pass
+
+
+def lines(live):
+    """The alarms that stand, then those that are raised and cleared, without end."""
+    for answer in sorted(live.answers):
+        yield tell("stands", live.seq, answer)
+    for change in live.changes():
+        # an alarm that moves from one person to another is cleared first
+        for answer in sorted(change.went):
+            yield tell("cleared", change.seq, answer)
+        for answer in sorted(change.came):
+            yield tell("raised", change.seq, answer)
+
+
+def tell(word, seq, answer):
+    sensor, state, team, person = answer
+    return f"{word} {seq}: sensor {sensor} is {state}, {team} calls {person}"
+
+
+def main():
+    words = argparse.ArgumentParser(description=__doc__.splitlines()[0])
+    words.add_argument("address", help="HOST:PORT of a server")
+    words.add_argument("--once", action="store_true", help="print the alarms that stand and end")
+    words.add_argument("--lines", type=int, help="end after so many lines")
+    given = words.parse_args()
+    host, _, port = given.address.rpartition(":")
+    with djq.connect(host, int(port)) as server:
+        prepare(server)
+        with server.live("alarm") as live:
+            bound = len(live.answers) if given.once else given.lines
+            told = lines(live)
+            while bound is None or bound > 0:
+                print(next(told), flush=True)
+                bound = None if bound is None else bound - 1
+
+
+if __name__ == "__main__":
+    try:
+        main()
+    except KeyboardInterrupt:
+        pass
+    except djq.Error as error:
+        sys.exit(str(error))
