@@ -14,6 +14,14 @@ use Rattle.djq_engine.specs.Placing.{LeavesAll, JoinsReaders, JoinsSome, SameLog
 pub list_read : (now old : List (List ℕ)) (k : ℕ) (p : List ℕ) → k < length now → p ≡ get_or now k p → readers_at now k ≡ readers_at old k → p ≡ readers_at old k
 list_read now old k p low is same = is ∙ get_or_default now k p [] low ∙ same
 
+-- a list with an entry is there
+pub list_there : (xs : List (List ℕ)) (k n : ℕ) → n < length (readers_at xs k) → k < length xs
+list_there xs k n low = by_order (cases_lt k (length xs))
+  where
+    by_order : (k < length xs) ⊎ (length xs ≤ k) → k < length xs
+    by_order (inl l) = l
+    by_order (inr l) = absurd (omega (arith, low, ap length (get_or_past xs k [] l)))
+
 -- One list more was changed.
 pub record Front (f : ℕ → List ℕ → List ℕ) (old new : List (List ℕ)) (k : ℕ) : Type 0 where
   pub long : length new ≡ length old
