@@ -21,7 +21,6 @@ fn letter(alloc: Global, line: &[u8]) -> char {
         Ok(Command::Unwatch { .. }) => 'u',
         Ok(Command::Quit) => 'x',
         Ok(Command::Stop) => 'y',
-        Ok(_) => '?',
         Err(LineRefusal::Syntax) => 'S',
         Err(LineRefusal::Range) => 'R',
         Err(LineRefusal::NoMem) => 'M',
