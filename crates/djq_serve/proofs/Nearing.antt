@@ -1,10 +1,10 @@
 -- That each visit of a flush gets it nearer to its end.
-use Rattle.std.specs.Prelude.{ℕ, List, [], ◌∷◌, ◌==◌, ◌≡◌, ◌+◌, ◌<◌, ◌≤◌, Bool, true, false, not, cond, Some, find, filter, length, take, sum_by, IsSomeAnd}
-use Rattle.std.proofs.Common.{refl, sym, ap, ◌∙◌, subst, length-append, length-take, arith}
+use Rattle.std.specs.Prelude.{ℕ, List, [], ◌∷◌, ◌==◌, ◌≡◌, ◌+◌, ◌<◌, ◌≤◌, Bool, true, false, not, cond, Some, find, filter, length, take, sum_by}
+use Rattle.std.proofs.Common.{refl, ap, ◌∙◌, length-append, length-take, arith}
 use Rattle.std.proofs.lemmas.List.Sums.{sum_by-cons}
 use Rattle.std.proofs.lemmas.List.Filters.{sum_by-filter_both}
 use Rattle.djq_model.specs.Data.{Bytes, change_first}
-use Rattle.djq_machine.specs.State.{State, Session, session_of, with_session}
+use Rattle.djq_machine.specs.State.{State, Session, session_of}
 use Rattle.djq_machine.specs.Effect.{Effect, nothing, queue_all}
 use Rattle.djq_machine.specs.Step.{Event, took, closed, TookStep, Step, with_relations}
 use Rattle.djq_machine.specs.Run.{pending_of}
@@ -25,17 +25,13 @@ changed_total : (p : Session → Bool) (rest : Bytes) (xs : List Session) (x : S
 changed_total p rest [] x e = absurd cc
 changed_total p rest (y ∷ xs) x e = at_first (p y) e (λ k. changed_total p rest xs x k)
   where
-    bytes : Session → ℕ
-    bytes z = length z.pending
-
-    behind : List Session
-    behind = change_first p (λ (z : Session). record z { pending = rest }) xs
-
-    at_first : (b : Bool) → cond b (Some y) (find p xs) ≡ Some x → (find p xs ≡ Some x → total behind + length x.pending ≡ total xs + length rest)
-        → total (cond b (record y { pending = rest } ∷ xs) (y ∷ behind)) + length x.pending ≡ total (y ∷ xs) + length rest
+    at_first : (b : Bool) → cond b (Some y) (find p xs) ≡ Some x
+        → (find p xs ≡ Some x → total (change_first p (λ (z : Session). record z { pending = rest }) xs) + length x.pending ≡ total xs + length rest)
+        → total (cond b (record y { pending = rest } ∷ xs) (y ∷ change_first p (λ (z : Session). record z { pending = rest }) xs)) + length x.pending ≡ total (y ∷ xs) + length rest
     at_first true k more =
         omega (arith, ap (λ (z : Session). length z.pending) (inside y x k), sum_by-cons (λ (z : Session). length z.pending) (record y { pending = rest }) xs, sum_by-cons (λ (z : Session). length z.pending) y xs)
-    at_first false k more = omega (arith, more k, sum_by-cons (λ (z : Session). length z.pending) y behind, sum_by-cons (λ (z : Session). length z.pending) y xs)
+    at_first false k more =
+        omega (arith, more k, sum_by-cons (λ (z : Session). length z.pending) y (change_first p (λ (z : Session). record z { pending = rest }) xs), sum_by-cons (λ (z : Session). length z.pending) y xs)
 
 -- a step that queues nothing leaves the sessions that the event left
 same_sessions : (old : State) (event : Event) (e : Effect) (new : State) (h : Step old event e new) → e ≡ nothing → new.sessions ≡ (h.mid).sessions

@@ -1,5 +1,5 @@
 -- A flush, from session to session.
-use Rattle.std.specs.Prelude.{ℕ, [], ◌∷◌, ◌≡◌, ◌<◌, ◌≤◌, Bool, true, false, cond, None, Some, length, take}
+use Rattle.std.specs.Prelude.{ℕ, [], ◌∷◌, ◌≡◌, ◌≤◌, Bool, true, false, cond, None, Some, length, take}
 use Rattle.std.proofs.Common.{refl, sym, ap, subst, length-take, arith}
 use Rattle.djq_io.specs.declared.hub.Sent.TheVariants.{Took}
 use Rattle.djq_io.specs.declared.hub.Told.TheVariants.{Sending}

@@ -1,5 +1,4 @@
-use Rattle.std.proofs.Common.{◌≡◌, ◌∙◌, None, Some, refl, sym, rules}
-use Rattle.djq_machine.specs.Call.{first_due}
+use Rattle.std.proofs.Common.{◌≡◌, ◌∙◌, None, refl, sym, rules}
 use Rattle.djq_serve.proofs.Agreeing.{due_open, due_above}
 use Rattle.djq_serve.proofs.Visiting.{flush_begun, flush_more, flush_done}
 use Rattle.djq_serve.proofs.flushing.flush.Goals as goal

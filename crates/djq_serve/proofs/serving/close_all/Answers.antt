@@ -1,5 +1,4 @@
 use Rattle.std.proofs.Common.{ℕ, List, ◌≡◌, ◌∙◌, None, Some, length, slice_get, refl, sym, ap, rules, arith}
-use Rattle.djq_machine.specs.Call.{ids_of}
 use Rattle.djq_serve.specs.Server.{closing, server, first_open}
 use Rattle.djq_serve.proofs.Going.{quietly_none, quietly_then}
 use Rattle.djq_serve.proofs.Agreeing.{first_is_open, first_fewer, none_first}
