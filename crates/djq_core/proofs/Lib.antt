@@ -26,3 +26,4 @@ pub mod Closing
 pub mod Composing
 pub mod Stepping
 pub mod Seen
+pub mod Owing

@@ -1,6 +1,7 @@
-ghost use Rattle.std.specs.Prelude.{◌≡◌, ◌<◌, IfOk, length, slice_index, Contains};
+ghost use Rattle.std.specs.Prelude.{◌≡◌, ◌<◌, ◌&&◌, nat_le, IfOk, find, option_map, length, slice_index, Contains};
 ghost use Rattle.djq_model.specs.Data.{rows_of};
 ghost use Rattle.djq_machine.specs.State.{opening};
+ghost use Rattle.djq_session.specs.Dialog.{is_due};
 ghost use Rattle.djq_core.specs.Sound.{Rises};
 
 use crate::change::Left;
@@ -180,9 +181,23 @@ impl Machine for Core {
         self.sessions[at].session.cause()
     }
 
+    fn due(&self, from: u128) -> Option<u64> {
+        first_due(self.sessions.as_slice(), from)
+    }
+
     fn stopped(&self) -> bool {
         self.stopped
     }
+}
+
+// The first of these sessions of at least this id to which something is due.
+fn first_due(sessions: &[OpenSession], from: u128) -> Option<u64>
+    ensures { result ≡ option_map (λ x. x.id) (find (λ x. nat_le from x.id && is_due x.session) sessions.now) }
+{
+    sessions
+        .iter()
+        .find(|open| from <= u128::from(open.id) && open.session.is_due())
+        .map(|open| open.id)
 }
 
 // Where the session of an id stands.

@@ -1,5 +1,5 @@
 -- What the calls of a machine promise.
-use Rattle.std.specs.Prelude.{ℕ, [], ◌≡◌, ◌+◌, ◌<◌, ◌≤◌, ◌⊎◌, true, Option, None, Some, IsSome, MatchOption, Result, Ok, Err, length, ⊤}
+use Rattle.std.specs.Prelude.{ℕ, [], ◌≡◌, ◌+◌, ◌<◌, ◌≤◌, ◌⊎◌, ◌&&◌, ◌||◌, Bool, true, nat_le, nat_lt, Option, None, Some, IsSome, MatchOption, is_some, find, Result, Ok, Err, length, ⊤}
 use Rattle.djq_model.specs.Data.{Bytes}
 use Rattle.djq_lines.specs.declared.limits.TheConstants.{SESSIONS}
 use Rattle.djq_lines.specs.declared.answer.EndCause.{EndCause}
@@ -15,6 +15,7 @@ pub use Rattle.djq_machine.specs.State.{ids_of}
 use Rattle.djq_machine.specs.Effect.{Effect}
 use Rattle.djq_machine.specs.LineStep.{long, blank, slow, no_room, run}
 use Rattle.djq_machine.specs.Step.{Event, opened, stepped, Step, is_dry}
+use Rattle.djq_machine.specs.Run.{pending_of}
 
 -- whether a session of this id is open
 abbrev pub IsOpen : State → ℕ → Type 0
@@ -35,6 +36,14 @@ held_in (Some x) = x.held
 -- the bytes of a session that aren't run; none where it isn't open
 abbrev pub held_of : State → ℕ → Bytes
 held_of st s = held_in (session_of st s)
+
+-- whether something is due to a session: bytes are pending for it, or it has ended
+abbrev pub is_due : State → ℕ → Bool
+is_due st s = nat_lt 0 (length (pending_of st s)) || is_some (cause_of st s)
+
+-- the first open session of at least this id to which something is due
+abbrev pub first_due : State → ℕ → Option ℕ
+first_due st from = find (λ s. nat_le from s && is_due st s) (ids_of st)
 
 -- what was counted: lookups and links of listings, of updates, and of rows
 pub record Counts : Type 0 where

@@ -42,7 +42,7 @@ pub trait Machine {
     ghost use Rattle.djq_machine.specs.State.{State};
     ghost use Rattle.djq_machine.specs.Step.{fed, took, ended, closed, is_dry};
     ghost use Rattle.djq_machine.specs.Run.{pending_of};
-    ghost use Rattle.djq_machine.specs.Call.{IsOpen, Makes, OpenGives, FedGives, StepGives, cause_of, held_of, ids_of, counts};
+    ghost use Rattle.djq_machine.specs.Call.{IsOpen, Makes, OpenGives, FedGives, StepGives, cause_of, held_of, ids_of, first_due, counts};
 
     // The state of the join machine that it keeps.
     ghost state: { Self → State };
@@ -100,6 +100,11 @@ pub trait Machine {
     fn cause(&self, id: u64) -> Option<EndCause>
         requires { IsOpen (state self.now) id }
         ensures { result ≡ cause_of (state self.now) id };
+
+    /// The first open session of at least this id to which something is due: bytes are pending for
+    /// it, or it has ended.
+    fn due(&self, from: u128) -> Option<u64>
+        ensures { result ≡ first_due (state self.now) from };
 
     /// Whether a session said `stop`.
     fn stopped(&self) -> bool

@@ -1,17 +1,19 @@
 -- That the machine and the hub have the same sessions, and which of them a flush is at.
-use Rattle.std.specs.Prelude.{ℕ, List, [], ◌∷◌, ◌++◌, ◌==◌, ◌≡◌, ◌<◌, ◌≤◌, ◌⊎◌, ◌||◌, Bool, true, false, not, cond, nat_eq, nat_le, MatchBool, Option, None, Some, is_some, IsSomeAnd, IfSome, find, filter, length, map, All, Contains}
+use Rattle.std.specs.Prelude.{ℕ, List, [], ◌∷◌, ◌++◌, ◌==◌, ◌≡◌, ◌<◌, ◌≤◌, ◌⊎◌, ◌&&◌, ◌||◌, Bool, true, false, not, cond, nat_eq, nat_le, nat_lt, MatchBool, Option, None, Some, is_some, IsSome, IsSomeAnd, IfSome, find, filter, slice_get, length, map, All, Contains}
 use Rattle.std.specs.List.{list_any}
 use Rattle.std.proofs.Common.{refl, sym, ap, ◌∙◌, subst, inl, inr, arith}
-use Rattle.std.proofs.lemmas.Bool.{eqb-true, eq-eqb, leb-true}
+use Rattle.std.proofs.lemmas.Bool.{and_parts, eqb-true, eq-eqb, leb-true}
 use Rattle.std.proofs.lemmas.List.Elements.{All-nil, All-cons, All-head, All-tail, All-filter, All-contains, All-contains_itself, Contains-push}
 use Rattle.djq_io.specs.Hub.{Ids, IsNew as IsNewId, IsRunning, with_opened, EndsInput, without}
 use Rattle.djq_io.proofs.Membership.{is_member}
 use Rattle.djq_machine.specs.State.{State, Session}
+use Rattle.djq_model.specs.Data.{Bytes}
 use Rattle.djq_machine.specs.Step.{opened}
-use Rattle.djq_machine.specs.Call.{IsOpen, Makes, ids_of}
+use Rattle.djq_machine.specs.Run.{pending_of}
+use Rattle.djq_machine.specs.Call.{IsOpen, Makes, cause_of, ids_of, is_due, first_due}
 use Rattle.djq_laws.proofs.Changing.{all_found}
 use Rattle.djq_laws.proofs.Rising.{step_ids}
-use Rattle.djq_serve.specs.Server.{due}
+use Rattle.djq_serve.specs.Server.{first_open}
 use Rattle.djq_serve.specs.Kept.{Agrees, IsNew}
 use Rattle.djq_serve.specs.Parts.{IsServed, NotServed}
 
@@ -43,11 +45,21 @@ found_passes p (y ∷ xs) x e = at_first (p y) refl e (λ k. found_passes p xs x
     at_first true passes k rest = subst (λ (z : _). p z ≡ true) (inside y x k) passes
     at_first false passes k rest = rest k
 
-pub due_contains : (st : State) (from s : ℕ) → due st from ≡ Some s → Contains (ids_of st) s
-due_contains st from s h = all_found (Contains (ids_of st)) (λ i. nat_le from i) (ids_of st) s (All-contains_itself (ids_of st)) h
+-- The session that a flush is at is open, of at least the id that the flush is from, and something is due to it.
+pub due_open : (st : State) (from s : ℕ) → first_due st from ≡ Some s → IsOpen st s
+due_open st from s h =
+    contains_open st s (all_found (Contains (ids_of st)) (λ i. nat_le from i && is_due st i) (ids_of st) s (All-contains_itself (ids_of st)) h)
 
-pub due_open : (st : State) (from s : ℕ) → due st from ≡ Some s → IsOpen st s
-due_open st from s h = contains_open st s (due_contains st from s h)
+due_parts : (st : State) (from s : ℕ) → first_due st from ≡ Some s → (nat_le from s ≡ true) × (is_due st s ≡ true)
+due_parts st from s h = and_parts (nat_le from s) (is_due st s) (found_passes (λ i. nat_le from i && is_due st i) (ids_of st) s h)
+
+pub due_above : (st : State) (from s : ℕ) → first_due st from ≡ Some s → from ≤ s
+due_above st from s h = leb-true from s (due_parts st from s h).0
+
+-- it has ended, where nothing is pending for it
+pub due_ended : (st : State) (from s : ℕ) → first_due st from ≡ Some s → pending_of st s ≡ [] → IsSome (cause_of st s)
+due_ended st from s h none =
+    ap (λ (bytes : Bytes). nat_lt 0 (length bytes) || is_some (cause_of st s)) (sym none) ∙ (due_parts st from s h).1
 
 -- The hub has the machine's sessions, after a change that opens and closes none.
 pub agrees_same : (old new : State) (ids ids' : Ids) → ids_of new ≡ ids_of old → ids' ≡ ids → Agrees old ids → Agrees new ids'
@@ -162,7 +174,14 @@ agrees_none st ids none hub =
       newest = subst (λ (is : List ℕ). All (λ s. IsSomeAnd ids.newest (λ n. s ≤ n)) is) (sym no_ids) (All-nil (λ s. IsSomeAnd ids.newest (λ n. s ≤ n)));
     }
 
--- a session that closes is one fewer
+-- The first open session: it is open, and closed it is one fewer.
+pub first_is_open : (st : State) (s : ℕ) → first_open st ≡ Some s → IsOpen st s
+first_is_open st s h = contains_open st s (in_front (ids_of st) h)
+  where
+    in_front : (is : List ℕ) → slice_get is 0 ≡ Some s → Contains is s
+    in_front [] e = absurd cc
+    in_front (i ∷ is) e = (0, omega arith, inside i s e)
+
 filter_fewer : (s : ℕ) (xs : List ℕ) → length (filter (λ i. not (i == s)) xs) ≤ length xs
 filter_fewer s [] = omega arith
 filter_fewer s (x ∷ xs) = at_first (x == s) (filter_fewer s xs)
@@ -172,20 +191,24 @@ filter_fewer s (x ∷ xs) = at_first (x == s) (filter_fewer s xs)
     at_first true h = omega (arith, h)
     at_first false h = omega (arith, h)
 
-pub fewer : (s : ℕ) (p : ℕ → Bool) (xs : List ℕ) → find p xs ≡ Some s → length (filter (λ i. not (i == s)) xs) < length xs
-fewer s p [] h = absurd cc
-fewer s p (x ∷ xs) h = at_first (p x) h (x == s) refl (λ k. fewer s p xs k)
+pub first_fewer : (st : State) (s : ℕ) → first_open st ≡ Some s → length (filter (λ i. not (i == s)) (ids_of st)) < length (ids_of st)
+first_fewer st s h = without_first (ids_of st) h
   where
-    at_first : (b : Bool) → cond b (Some x) (find p xs) ≡ Some s → (same : Bool) → (x == s) ≡ same
-        → (find p xs ≡ Some s → length (filter (λ i. not (i == s)) xs) < length xs)
-        → length (cond (not same) (x ∷ filter (λ i. not (i == s)) xs) (filter (λ i. not (i == s)) xs)) < length (x ∷ xs)
-    at_first true k true e rest = omega (arith, filter_fewer s xs)
-    at_first true k false e rest = let is : (x == s) ≡ true = eq-eqb x s (inside x s k) in absurd cc
-    at_first false k true e rest = omega (arith, filter_fewer s xs)
-    at_first false k false e rest = omega (arith, rest k)
+    without_first : (is : List ℕ) → slice_get is 0 ≡ Some s → length (filter (λ i. not (i == s)) is) < length is
+    without_first [] e = absurd cc
+    without_first (i ∷ is) e = at_first (i == s) (eq-eqb i s (inside i s e))
+      where
+        at_first : (b : Bool) → b ≡ true → length (cond (not b) (i ∷ filter (λ j. not (j == s)) is) (filter (λ j. not (j == s)) is)) < length (i ∷ is)
+        at_first true same = omega (arith, filter_fewer s is)
+        at_first false same = absurd cc
 
-pub due_above : (st : State) (from s : ℕ) → due st from ≡ Some s → from ≤ s
-due_above st from s h = let passes : nat_le from s ≡ true = found_passes (λ i. nat_le from i) (ids_of st) s h in leb-true from s passes
+-- none is open where none is the first
+pub none_first : (st : State) → first_open st ≡ None → ids_of st ≡ []
+none_first st none = no_ids (ids_of st) none
+  where
+    no_ids : (is : List ℕ) → slice_get is 0 ≡ None → is ≡ []
+    no_ids [] e = refl
+    no_ids (i ∷ is) e = absurd cc
 
 -- whether an id is among the ids, as the code asks
 pub served_by : (st : State) (s : ℕ) (b : Bool) → b ≡ list_any (λ i. nat_eq i s) (ids_of st) → st.stopped ≡ false → MatchBool b (IsServed st s) (NotServed st s)

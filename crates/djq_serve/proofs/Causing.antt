@@ -9,18 +9,17 @@ use Rattle.djq_io.specs.declared.hub.Sent.TheVariants.{Took, Again, Gone}
 use Rattle.djq_io.specs.declared.hub.Told.{Told}
 use Rattle.djq_io.specs.declared.hub.Told.TheVariants.{Turning, Closing}
 use Rattle.djq_model.specs.Data.{Bytes}
-use Rattle.djq_lines.specs.declared.answer.EndCause.{EndCause}
 use Rattle.djq_machine.specs.State.{State}
 use Rattle.djq_machine.specs.LineStep.{LineOutcome, long, blank, slow, no_room, run}
 use Rattle.djq_machine.specs.Step.{Event, took, closed}
 use Rattle.djq_machine.specs.Run.{Did, Walk, pending_of}
-use Rattle.djq_machine.specs.Call.{cause_of}
+use Rattle.djq_machine.specs.Call.{first_due}
 use Rattle.djq_laws.proofs.Finding.{some_and}
 use Rattle.djq_laws.proofs.Stopping.{IsNoLine, step_stopped}
 use Rattle.djq_serve.specs.declared.served.Served.{Served}
 use Rattle.djq_serve.specs.declared.served.Served.TheVariants.{Stopped, TurnsUsed, HubFault}
 use Rattle.djq_serve.specs.Told.{by_turn, turn_is_over, turn_is_failed, has_over, has_failed}
-use Rattle.djq_serve.specs.Server.{Next, more_lines, next_turn, no_turn, Phase, waiting, lines, flushing, closing, Server, server, Move, all_told, Happens, Stays, LetsIn, Brings, may_run, behind_front, SendsSome, Leaves, Visits, after, due, Passes, LinesAt, FlushesAt, ServesAt, Serves}
+use Rattle.djq_serve.specs.Server.{Next, more_lines, next_turn, no_turn, Phase, waiting, lines, flushing, closing, Server, server, Move, all_told, Happens, Stays, LetsIn, Brings, may_run, behind_front, SendsSome, Leaves, Visits, after, first_open, Passes, LinesAt, FlushesAt, ServesAt, Serves}
 use Rattle.djq_serve.specs.Ends.{says_stopped, says_over, says_fault, IsCaused}
 
 -- whether a session said `stop`, a turn was over, and a turn failed
@@ -134,13 +133,12 @@ sends_quiet (Took n) s st told done new (piece, some, len, is, happens) = record
 sends_quiet Again s st told done new (is, stays) = record { stopped = kept_still st new done stays; over = ap has_over is; failed = ap has_failed is }
 sends_quiet Gone s st told done new (is, happens) = record { stopped = kept_stop (closed s (pending_of st s)) st new done tt happens; over = ap has_over is; failed = ap has_failed is }
 
-leaves_quiet : (c : Option EndCause) (s : ℕ) (st : State) (told : List Told) (done : List Did) (new : State) → Leaves c s st told done new → Quiet st new told
-leaves_quiet None s st told done new (is, stays) = record { stopped = kept_still st new done stays; over = ap has_over is; failed = ap has_failed is }
-leaves_quiet (Some c) s st told done new (is, happens) = record { stopped = kept_stop (closed s []) st new done tt happens; over = ap has_over is; failed = ap has_failed is }
+leaves_quiet : (s : ℕ) (st : State) (told : List Told) (done : List Did) (new : State) → Leaves s st told done new → Quiet st new told
+leaves_quiet s st told done new (is, happens) = record { stopped = kept_stop (closed s []) st new done tt happens; over = ap has_over is; failed = ap has_failed is }
 
-visits_quiet : (s from : ℕ) (st : State) (told : List Told) (done : List Did) (new : State) (to : ℕ) → Visits s from st told done new to → Quiet st new told
-visits_quiet s from st told done new to (inl (some, sent, sends, place)) = sends_quiet sent s st told done new sends
-visits_quiet s from st told done new to (inr (none, leaves, place)) = leaves_quiet (cause_of st s) s st told done new leaves
+visits_quiet : (s : ℕ) (st : State) (told : List Told) (done : List Did) (new : State) (to : ℕ) → Visits s st told done new to → Quiet st new told
+visits_quiet s st told done new to (inl (some, sent, sends, place)) = sends_quiet sent s st told done new sends
+visits_quiet s st told done new to (inr (none, cause, leaves, place)) = leaves_quiet s st told done new leaves
 
 -- behind a flush
 turn_ends_as : (b : Bool) (st : State) (told : List Told) → st.stopped ≡ b → Flags st told st.stopped false false → Stands (cond b (closing Stopped) waiting) st told
@@ -152,10 +150,10 @@ after_stands (more_lines s) st told f = f
 after_stands next_turn st told f = turn_ends_as st.stopped st told refl f
 after_stands no_turn st told f = f
 
-flush_stands : (from : ℕ) (next : Next) (st : State) (m : Move) (new : Server) (o : Option ℕ) (told : List Told) → FlushesAt from next st m new o → Behind next st told → Stands new.phase new.state (told ++ m.told)
-flush_stands from next st m new None told passes f = stands_unchanged st (after st next) m new told (unchanged st (after st next) m new passes) (after_stands next st told f)
-flush_stands from next st m new (Some s) told (to, visits, phase) f =
-    let q = visits_quiet s from st m.told m.done new.state to visits in
+flush_stands : (next : Next) (st : State) (m : Move) (new : Server) (o : Option ℕ) (told : List Told) → FlushesAt next st m new o → Behind next st told → Stands new.phase new.state (told ++ m.told)
+flush_stands next st m new None told passes f = stands_unchanged st (after st next) m new told (unchanged st (after st next) m new passes) (after_stands next st told f)
+flush_stands next st m new (Some s) told (to, visits, phase) f =
+    let q = visits_quiet s st m.told m.done new.state to visits in
     phase_as (flushing to next) new.phase new.state _ phase (quiet_flags next st new.state told m.told f q.stopped q.over q.failed)
 
 close_flags : (a b c : Bool) (old new : State) (told more : List Told) → Flags old told a b c → new.stopped ≡ old.stopped → has_over more ≡ false → has_failed more ≡ false → Flags new (told ++ more) a b c
@@ -174,9 +172,9 @@ move_stands waiting st m new told (inl passes) f = stands_unchanged st (closing 
 move_stands waiting st m new told (inr (turn, piece, more, is, brings)) f =
     subst (λ (ts : List Told). Stands new.phase new.state (told ++ ts)) (sym is) (turn_stands turn piece st more m.done new.state new.phase told brings f)
 move_stands (lines s) st m new told g f = lines_stand s st m new (may_run st s) told g f
-move_stands (flushing from next) st m new told g f = flush_stands from next st m new (due st from) told g f
+move_stands (flushing from next) st m new told g f = flush_stands next st m new (first_due st from) told g f
 move_stands (closing answer) st m new told g f =
-    let k = some_and (due st 0) (λ s. (m.told ≡ Closing s ∷ []) × Happens (closed s (pending_of st s)) st m.done new.state × (new.phase ≡ closing answer)) g in
+    let k = some_and (first_open st) (λ s. (m.told ≡ Closing s ∷ []) × Happens (closed s (pending_of st s)) st m.done new.state × (new.phase ≡ closing answer)) g in
     phase_as (closing answer) new.phase new.state _ k.2.2
     (close_flags (says_stopped answer) (says_over answer) (says_fault answer) st new.state told m.told f (kept_stop (closed k.0 (pending_of st k.0)) st new.state m.done tt k.2.1)
     (ap has_over k.2.0) (ap has_failed k.2.0))

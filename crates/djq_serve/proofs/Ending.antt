@@ -1,15 +1,14 @@
 -- How taking turns ends, and closing what is open.
-use Rattle.std.specs.Prelude.{ℕ, List, [], ◌∷◌, ◌==◌, ◌≡◌, ◌+◌, ◌<◌, ◌≤◌, cond, None, Some, nat_le, find}
-use Rattle.std.proofs.Common.{refl, sym, ap, ◌∙◌, subst, inr, arith}
-use Rattle.std.proofs.lemmas.Bool.{le-leb}
+use Rattle.std.specs.Prelude.{ℕ, List, [], ◌==◌, ◌≡◌, ◌+◌, ◌<◌, ◌≤◌, Some, find}
+use Rattle.std.proofs.Common.{ap, ◌∙◌, subst, inr, arith}
 use Rattle.djq_io.specs.Faults.{Counted}
 use Rattle.djq_machine.specs.State.{State, Session}
 use Rattle.djq_machine.specs.Step.{is_dry}
-use Rattle.djq_machine.specs.Call.{Counts, ids_of, held_in}
+use Rattle.djq_machine.specs.Call.{Counts, held_in}
 use Rattle.djq_serve.specs.declared.served.Served.{Served}
 use Rattle.djq_serve.specs.declared.served.Served.TheVariants.{Stopped, Over, TurnsUsed, HubFault}
 use Rattle.djq_serve.specs.Told.{Shown}
-use Rattle.djq_serve.specs.Server.{waiting, closing, server, due}
+use Rattle.djq_serve.specs.Server.{waiting, closing, server}
 use Rattle.djq_serve.specs.Goes.{seen, Goes}
 use Rattle.djq_serve.specs.Kept.{AllSettled}
 use Rattle.djq_serve.specs.Ends.{HasTaken, FaultsCount}
@@ -48,17 +47,6 @@ all_taken x y entry now old st turns taken so_far all = record {
   goes = goes_then (seen x entry 0) (server old waiting) (seen y now taken) (server st waiting) (seen y now taken) (server st (closing TurnsUsed)) so_far (turns_over y st now taken);
   has_taken = all;
 }
-
--- none is open where none is due
-pub none_due : (st : State) → due st 0 ≡ None → ids_of st ≡ []
-none_due st none = no_ids (ids_of st) none
-  where
-    no_ids : (is : List ℕ) → find (λ i. nat_le 0 i) is ≡ None → is ≡ []
-    no_ids [] e = refl
-    no_ids (i ∷ is) e = absurd (some_none (sym (ap (λ b. cond b (Some i) (find (λ j. nat_le 0 j) is)) (le-leb 0 i (omega arith))) ∙ e))
-      where
-        some_none : Some i ≡ None → ⊥
-        some_none k = cc
 
 -- where no session is open all are settled
 pub none_settled : (st : State) → st.sessions ≡ [] → AllSettled st

@@ -11,18 +11,17 @@ use Rattle.djq_io.specs.declared.hub.Sent.TheVariants.{Took, Again, Gone}
 use Rattle.djq_io.specs.declared.hub.Told.{Told}
 use Rattle.djq_io.specs.declared.hub.Told.TheVariants.{Turning, Sending, Closing}
 use Rattle.djq_model.specs.Data.{Bytes}
-use Rattle.djq_lines.specs.declared.answer.EndCause.{EndCause}
 use Rattle.djq_machine.specs.State.{State}
 use Rattle.djq_machine.specs.Effect.{Effect}
 use Rattle.djq_machine.specs.LineStep.{LineOutcome}
 use Rattle.djq_machine.specs.Step.{Event, opened, fed, stepped, took, ended, closed, Step}
 use Rattle.djq_machine.specs.Run.{Did, Run, Walk, taken_by, all_taken, pending_of}
-use Rattle.djq_machine.specs.Call.{cause_of}
+use Rattle.djq_machine.specs.Call.{first_due}
 use Rattle.djq_laws.proofs.Courses.{walk_then}
 use Rattle.djq_laws.proofs.Finding.{some_and}
 use Rattle.djq_serve.specs.declared.served.Served.TheVariants.{TurnsUsed}
 use Rattle.djq_serve.specs.Told.{sent_by, sent_to}
-use Rattle.djq_serve.specs.Server.{Next, next_turn, Phase, waiting, lines, flushing, closing, Server, Move, all_told, all_done, Happens, Stays, LetsIn, Brings, may_run, SendsSome, Leaves, Visits, after, due, Passes, LinesAt, FlushesAt, ServesAt, Serves}
+use Rattle.djq_serve.specs.Server.{Next, next_turn, Phase, waiting, lines, flushing, closing, Server, Move, all_told, all_done, Happens, Stays, LetsIn, Brings, may_run, SendsSome, Visits, after, first_open, Passes, LinesAt, FlushesAt, ServesAt, Serves}
 use Rattle.djq_serve.specs.Ends.{refuses, NeverRefused}
 
 -- What a move does is seen in parts: the calls of the hub, the steps, the states. A fact of each kind of
@@ -90,26 +89,22 @@ module _ (P : State → List Told → List Did → State → Type 0) (h : OfMove
   by_sending Again s st told done new (is, stays) = told_as st new told _ done is (by_none st _ done new stays (h.blocked st s))
   by_sending Gone s st told done new (is, happens) = told_as st new told _ done is (by_step (closed s (pending_of st s)) st _ done new happens (h.gone st new s (pending_of st s)))
 
-  by_leaving : (c : Option EndCause) (s : ℕ) (st : State) (told : List Told) (done : List Did) (new : State) → Leaves c s st told done new → P st told done new
-  by_leaving None s st told done new (is, stays) = told_as st new told [] done is (by_none st [] done new stays (h.quiet st))
-  by_leaving (Some c) s st told done new (is, happens) = told_as st new told _ done is (by_step (closed s []) st _ done new happens (h.closes st new s []))
+  by_visit : (s : ℕ) (st : State) (told : List Told) (done : List Did) (new : State) (to : ℕ) → Visits s st told done new to → P st told done new
+  by_visit s st told done new to (inl (some, sent, sends, place)) = by_sending sent s st told done new sends
+  by_visit s st told done new to (inr (none, cause, (is, happens), place)) = told_as st new told _ done is (by_step (closed s []) st _ done new happens (h.closes st new s []))
 
-  by_visit : (s from : ℕ) (st : State) (told : List Told) (done : List Did) (new : State) (to : ℕ) → Visits s from st told done new to → P st told done new
-  by_visit s from st told done new to (inl (some, sent, sends, place)) = by_sending sent s st told done new sends
-  by_visit s from st told done new to (inr (none, leaves, place)) = by_leaving (cause_of st s) s st told done new leaves
-
-  by_flush : (from : ℕ) (next : Next) (st : State) (m : Move) (new : Server) (o : Option ℕ) → FlushesAt from next st m new o → P st m.told m.done new.state
-  by_flush from next st m new None passes = by_passing st (after st next) m new passes
-  by_flush from next st m new (Some s) (to, visits, phase) = by_visit s from st m.told m.done new.state to visits
+  by_flush : (next : Next) (st : State) (m : Move) (new : Server) (o : Option ℕ) → FlushesAt next st m new o → P st m.told m.done new.state
+  by_flush next st m new None passes = by_passing st (after st next) m new passes
+  by_flush next st m new (Some s) (to, visits, phase) = by_visit s st m.told m.done new.state to visits
 
   by_phase : (p : Phase) (st : State) (m : Move) (new : Server) → ServesAt p st m new → P st m.told m.done new.state
   by_phase waiting st m new (inl passes) = by_passing st (closing TurnsUsed) m new passes
   by_phase waiting st m new (inr (turn, piece, more, is, brings)) =
       told_as st new.state m.told (Turning turn piece ∷ more) m.done is (by_turn_of turn piece st more m.done new.state new.phase brings)
   by_phase (lines s) st m new g = by_lines s st m new (may_run st s) g
-  by_phase (flushing from next) st m new g = by_flush from next st m new (due st from) g
+  by_phase (flushing from next) st m new g = by_flush next st m new (first_due st from) g
   by_phase (closing answer) st m new g =
-      let f = some_and (due st 0) (λ s. (m.told ≡ Closing s ∷ []) × Happens (closed s (pending_of st s)) st m.done new.state × (new.phase ≡ closing answer)) g in
+      let f = some_and (first_open st) (λ s. (m.told ≡ Closing s ∷ []) × Happens (closed s (pending_of st s)) st m.done new.state × (new.phase ≡ closing answer)) g in
       told_as st new.state m.told (Closing f.0 ∷ []) m.done f.2.0 (by_step (closed f.0 (pending_of st f.0)) st _ m.done new.state f.2.1 (h.closes st new.state f.0 (pending_of st f.0)))
 
   pub of_move : (old : Server) (m : Move) (new : Server) → Serves old m new → P old.state m.told m.done new.state

@@ -5,6 +5,7 @@ pub mod Settling
 pub mod Moving
 pub mod Fronting
 pub mod Visiting
+pub mod Nearing
 pub mod Lining
 pub mod Bringing
 pub mod Ending

@@ -1,5 +1,5 @@
 -- Each move of the server, as its code makes it.
-use Rattle.std.specs.Prelude.{ℕ, List, [], ◌∷◌, ◌≡◌, ◌+◌, ◌<◌, Bool, true, false, Option, None, Some, IsSomeAnd, length}
+use Rattle.std.specs.Prelude.{ℕ, List, [], ◌∷◌, ◌≡◌, ◌+◌, ◌<◌, Bool, true, false, Option, None, Some, IsSome, IsSomeAnd, length}
 use Rattle.std.proofs.Common.{refl, sym, subst, inl, inr, arith}
 use Rattle.std.proofs.lemmas.List.Sums.{sum_by-cons}
 use Rattle.djq_io.specs.declared.hub.Turn.{Turn}
@@ -7,16 +7,15 @@ use Rattle.djq_io.specs.declared.hub.Sent.TheVariants.{Took, Again, Gone}
 use Rattle.djq_io.specs.declared.hub.Told.{Told}
 use Rattle.djq_io.specs.declared.hub.Told.TheVariants.{Turning, Sending, Closing}
 use Rattle.djq_model.specs.Data.{Bytes}
-use Rattle.djq_lines.specs.declared.answer.EndCause.{EndCause}
 use Rattle.djq_machine.specs.State.{State}
 use Rattle.djq_machine.specs.LineStep.{LineOutcome}
 use Rattle.djq_machine.specs.Step.{Event, stepped, took, closed, Step}
 use Rattle.djq_machine.specs.Run.{Did, pending_of}
-use Rattle.djq_machine.specs.Call.{Makes, MakesCounted, Counts, cause_of}
+use Rattle.djq_machine.specs.Call.{Makes, MakesCounted, Counts, cause_of, first_due}
 use Rattle.djq_serve.specs.declared.served.Served.{Served}
 use Rattle.djq_serve.specs.declared.served.Served.TheVariants.{TurnsUsed}
 use Rattle.djq_serve.specs.Told.{Shown, Tells, turn_in, turns_in}
-use Rattle.djq_serve.specs.Server.{Next, next_turn, Phase, waiting, lines, flushing, closing, server, move, Happens, Brings, may_run, behind_front, Leaves, after, due, LinesAt, FlushesAt}
+use Rattle.djq_serve.specs.Server.{Next, next_turn, Phase, waiting, lines, flushing, closing, server, move, Happens, Brings, may_run, behind_front, after, first_open, LinesAt, FlushesAt}
 use Rattle.djq_serve.specs.Goes.{seen, Goes, GoesQuietly}
 use Rattle.djq_serve.proofs.Telling.{tells_none}
 use Rattle.djq_serve.proofs.Going.{goes_by, goes_quietly}
@@ -24,64 +23,50 @@ use Rattle.djq_serve.proofs.Going.{goes_by, goes_quietly}
 pub happens : (event : Event) (old new : State) (m : Makes old event new) → Happens event old (record { event = event; effect = m.effect } ∷ []) new
 happens event old new m = (m.effect, m.step, refl)
 
--- A flush: no session is left; bytes were taken; none are taken now; the session is gone; it has
--- ended, and nothing is pending; or it stays.
+-- A flush: nothing is due any more; bytes were taken; none are taken now; the session is gone; or it
+-- has ended, and nothing is pending.
 
-pub flush_over : (hub : Shown) (st : State) (from : ℕ) (next : Next) → due st from ≡ None → GoesQuietly hub (server st (flushing from next)) hub (server st (after st next))
+pub flush_over : (hub : Shown) (st : State) (from : ℕ) (next : Next) → first_due st from ≡ None → GoesQuietly hub (server st (flushing from next)) hub (server st (after st next))
 flush_over hub st from next none =
     let m = move [] [] in
     goes_quietly hub hub (server st (flushing from next)) (server st (after st next)) m
-    (subst (λ (o : Option ℕ). FlushesAt from next st m (server st (after st next)) o) (sym none) (refl, refl)) (tells_none hub) refl
+    (subst (λ (o : Option ℕ). FlushesAt next st m (server st (after st next)) o) (sym none) (refl, refl)) (tells_none hub) refl
 
-pub visit_takes : (hub hub' : Shown) (st new : State) (from : ℕ) (next : Next) (s n : ℕ) (piece : Bytes) → due st from ≡ Some s → 0 < length (pending_of st s)
+pub visit_takes : (hub hub' : Shown) (st new : State) (from : ℕ) (next : Next) (s n : ℕ) (piece : Bytes) → first_due st from ≡ Some s → 0 < length (pending_of st s)
     → 0 < length piece → n ≡ length piece → Makes st (took s piece) new → Tells hub hub' (Sending s (Took n) piece ∷ [])
-    → GoesQuietly hub (server st (flushing from next)) hub' (server new (flushing from next))
-visit_takes hub hub' st new from next s n piece is_due some many len makes told =
+    → GoesQuietly hub (server st (flushing from next)) hub' (server new (flushing s next))
+visit_takes hub hub' st new from next s n piece due some many len makes told =
     let m = move (Sending s (Took n) piece ∷ []) (record { event = took s piece; effect = makes.effect } ∷ []) in
-    let b = server new (flushing from next) in
+    let b = server new (flushing s next) in
     goes_quietly hub hub' (server st (flushing from next)) b m
-    (subst (λ (o : Option ℕ). FlushesAt from next st m b o) (sym is_due) (from, inl (some, Took n, (piece, many, len, refl, happens (took s piece) st new makes), refl), refl)) told refl
+    (subst (λ (o : Option ℕ). FlushesAt next st m b o) (sym due) (s, inl (some, Took n, (piece, many, len, refl, happens (took s piece) st new makes), refl), refl)) told refl
 
-pub visit_blocked : (hub hub' : Shown) (st : State) (from : ℕ) (next : Next) (s : ℕ) → due st from ≡ Some s → 0 < length (pending_of st s) → Tells hub hub' (Sending s Again [] ∷ [])
+pub visit_blocked : (hub hub' : Shown) (st : State) (from : ℕ) (next : Next) (s : ℕ) → first_due st from ≡ Some s → 0 < length (pending_of st s) → Tells hub hub' (Sending s Again [] ∷ [])
     → GoesQuietly hub (server st (flushing from next)) hub' (server st (flushing (s + 1) next))
-visit_blocked hub hub' st from next s is_due some told =
+visit_blocked hub hub' st from next s due some told =
     let m = move (Sending s Again [] ∷ []) [] in
     let b = server st (flushing (s + 1) next) in
     goes_quietly hub hub' (server st (flushing from next)) b m
-    (subst (λ (o : Option ℕ). FlushesAt from next st m b o) (sym is_due) (s + 1, inl (some, Again, (refl, (refl, refl)), refl), refl)) told refl
+    (subst (λ (o : Option ℕ). FlushesAt next st m b o) (sym due) (s + 1, inl (some, Again, (refl, (refl, refl)), refl), refl)) told refl
 
-pub visit_gone : (hub hub' : Shown) (st new : State) (from : ℕ) (next : Next) (s : ℕ) → due st from ≡ Some s → 0 < length (pending_of st s)
+pub visit_gone : (hub hub' : Shown) (st new : State) (from : ℕ) (next : Next) (s : ℕ) → first_due st from ≡ Some s → 0 < length (pending_of st s)
     → Makes st (closed s (pending_of st s)) new → Tells hub hub' (Sending s Gone [] ∷ Closing s ∷ [])
     → GoesQuietly hub (server st (flushing from next)) hub' (server new (flushing (s + 1) next))
-visit_gone hub hub' st new from next s is_due some makes told =
+visit_gone hub hub' st new from next s due some makes told =
     let m = move (Sending s Gone [] ∷ Closing s ∷ []) (record { event = closed s (pending_of st s); effect = makes.effect } ∷ []) in
     let b = server new (flushing (s + 1) next) in
     goes_quietly hub hub' (server st (flushing from next)) b m
-    (subst (λ (o : Option ℕ). FlushesAt from next st m b o) (sym is_due) (s + 1, inl (some, Gone, (refl, happens (closed s (pending_of st s)) st new makes), refl), refl)) told refl
+    (subst (λ (o : Option ℕ). FlushesAt next st m b o) (sym due) (s + 1, inl (some, Gone, (refl, happens (closed s (pending_of st s)) st new makes), refl), refl)) told refl
 
-leaves_at : (s : ℕ) (st new : State) (c : Option EndCause) (told : List Told) (done : List Did) → IsSomeAnd c (λ _. (told ≡ Closing s ∷ []) × Happens (closed s []) st done new) → Leaves c s st told done new
-leaves_at s st new None told done h = absurd h
-leaves_at s st new (Some c) told done h = h
-
-pub visit_closes : (hub hub' : Shown) (st new : State) (from : ℕ) (next : Next) (s : ℕ) (c : EndCause) → due st from ≡ Some s → pending_of st s ≡ [] → cause_of st s ≡ Some c
+pub visit_closes : (hub hub' : Shown) (st new : State) (from : ℕ) (next : Next) (s : ℕ) → first_due st from ≡ Some s → pending_of st s ≡ [] → IsSome (cause_of st s)
     → Makes st (closed s (pending_of st s)) new → Tells hub hub' (Closing s ∷ [])
     → GoesQuietly hub (server st (flushing from next)) hub' (server new (flushing (s + 1) next))
-visit_closes hub hub' st new from next s c is_due none cause makes told =
+visit_closes hub hub' st new from next s due none ended makes told =
     let m = move (Closing s ∷ []) (record { event = closed s []; effect = makes.effect } ∷ []) in
     let b = server new (flushing (s + 1) next) in
-    let quiet : Makes st (closed s []) new = record { effect = makes.effect; step = subst (λ (bytes : Bytes). Step st (closed s bytes) makes.effect new) none makes.step } in
+    let quiet : Step st (closed s []) makes.effect new = subst (λ (bytes : Bytes). Step st (closed s bytes) makes.effect new) none makes.step in
     goes_quietly hub hub' (server st (flushing from next)) b m
-    (subst (λ (o : Option ℕ). FlushesAt from next st m b o) (sym is_due)
-    (s + 1, inr (none, subst (λ (k : Option EndCause). Leaves k s st m.told m.done new) (sym cause) (refl, (makes.effect, quiet.step, refl)), refl), refl)) told refl
-
-pub visit_passes : (hub : Shown) (st : State) (from : ℕ) (next : Next) (s : ℕ) → due st from ≡ Some s → pending_of st s ≡ [] → cause_of st s ≡ None
-    → GoesQuietly hub (server st (flushing from next)) hub (server st (flushing (s + 1) next))
-visit_passes hub st from next s is_due none running =
-    let m = move [] [] in
-    let b = server st (flushing (s + 1) next) in
-    goes_quietly hub hub (server st (flushing from next)) b m
-    (subst (λ (o : Option ℕ). FlushesAt from next st m b o) (sym is_due)
-    (s + 1, inr (none, subst (λ (k : Option EndCause). Leaves k s st [] [] st) (sym running) (refl, (refl, refl)), refl), refl)) (tells_none hub) refl
+    (subst (λ (o : Option ℕ). FlushesAt next st m b o) (sym due) (s + 1, inr (none, ended, (refl, (makes.effect, quiet, refl)), refl), refl)) told refl
 
 -- The lines of a session: one comes to something, or none may be run.
 
@@ -120,11 +105,11 @@ turn_goes hub hub' counted turns st new turn piece more done next brings none to
 
 -- A session is closed at the end.
 
-pub closing_goes : (hub hub' : Shown) (st new : State) (answer : Served) (s : ℕ) → due st 0 ≡ Some s → Makes st (closed s (pending_of st s)) new → Tells hub hub' (Closing s ∷ [])
+pub closing_goes : (hub hub' : Shown) (st new : State) (answer : Served) (s : ℕ) → first_open st ≡ Some s → Makes st (closed s (pending_of st s)) new → Tells hub hub' (Closing s ∷ [])
     → GoesQuietly hub (server st (closing answer)) hub' (server new (closing answer))
-closing_goes hub hub' st new answer s is_due makes told =
+closing_goes hub hub' st new answer s first makes told =
     let m = move (Closing s ∷ []) (record { event = closed s (pending_of st s); effect = makes.effect } ∷ []) in
     let b = server new (closing answer) in
     goes_quietly hub hub' (server st (closing answer)) b m
-    (subst (λ (o : Option ℕ). IsSomeAnd o (λ t. (m.told ≡ Closing t ∷ []) × Happens (closed t (pending_of st t)) st m.done new × (b.phase ≡ closing answer))) (sym is_due)
+    (subst (λ (o : Option ℕ). IsSomeAnd o (λ t. (m.told ≡ Closing t ∷ []) × Happens (closed t (pending_of st t)) st m.done new × (b.phase ≡ closing answer))) (sym first)
     (refl, happens (closed s (pending_of st s)) st new makes, refl)) told refl

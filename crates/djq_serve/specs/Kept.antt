@@ -1,7 +1,7 @@
 -- What the loops of the server keep.
-use Rattle.std.specs.Prelude.{ℕ, [], ◌∷◌, ◌++◌, ◌==◌, ◌≡◌, ◌<◌, ◌≤◌, ◌⊎◌, true, false, Some, IsSome, IsSomeAnd, length, All}
+use Rattle.std.specs.Prelude.{ℕ, [], ◌∷◌, ◌+◌, ◌-◌, ◌++◌, ◌==◌, ◌≡◌, ◌<◌, ◌≤◌, ◌⊎◌, true, false, Some, IsSome, IsSomeAnd, length, sum_by, All}
 use Rattle.djq_io.specs.Hub.{Ids}
-use Rattle.djq_machine.specs.State.{State}
+use Rattle.djq_machine.specs.State.{State, Session}
 use Rattle.djq_machine.specs.Step.{is_dry}
 use Rattle.djq_machine.specs.Call.{cause_of, held_of, ids_of}
 
@@ -32,3 +32,8 @@ pub record Spares (old new : State) : Type 0 where
   pub settled : (s : ℕ) → IsSettled old s → IsSettled new s
   pub held : (s : ℕ) → length (held_of new s) ≤ length (held_of old s)
   pub stopped : new.stopped ≡ old.stopped
+
+-- How much a flush may do still: ids that it goes past, and bytes that it sends.
+abbrev pub ahead : State → ℕ → ℕ
+ahead st from = (18446744073709551616 - from) + sum_by (λ (x : Session). length x.pending)
+    st.sessions

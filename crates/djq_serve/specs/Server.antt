@@ -1,6 +1,6 @@
 -- What the server does: one thing after another, by the machine's state and where the server
 -- stands.
-use Rattle.std.specs.Prelude.{ℕ, List, [], ◌∷◌, ◌≡◌, ◌+◌, ◌<◌, ◌≤◌, ◌⊎◌, ◌&&◌, Bool, true, false, not, nat_le, nat_lt, Option, None, Some, is_none, IsSomeAnd, find, length, if◌then◌else◌}
+use Rattle.std.specs.Prelude.{ℕ, List, [], ◌∷◌, ◌≡◌, ◌+◌, ◌<◌, ◌≤◌, ◌⊎◌, ◌&&◌, Bool, true, false, not, nat_lt, Option, None, Some, is_none, IsSome, IsSomeAnd, slice_get, length, if◌then◌else◌}
 use Rattle.std.specs.List.{flat_map}
 use Rattle.djq_io.specs.Hub.{Takes, taken_by}
 use Rattle.djq_io.specs.declared.hub.Turn.{Turn}
@@ -11,14 +11,13 @@ use Rattle.djq_io.specs.declared.hub.Told.{Told}
 use Rattle.djq_io.specs.declared.hub.Told.TheVariants.{Turning, Sending, Closing}
 use Rattle.djq_model.specs.Data.{Bytes}
 use Rattle.djq_lines.specs.declared.limits.TheConstants.{SESSIONS}
-use Rattle.djq_lines.specs.declared.answer.EndCause.{EndCause}
 use Rattle.djq_lines.specs.Reply.{end_full, end_memory}
 use Rattle.djq_machine.specs.State.{State}
 use Rattle.djq_machine.specs.Effect.{Effect}
 use Rattle.djq_machine.specs.LineStep.{LineOutcome, long, blank, slow, no_room, run}
 use Rattle.djq_machine.specs.Step.{Event, opened, fed, stepped, took, ended, closed, Step, is_dry}
 use Rattle.djq_machine.specs.Run.{Did, pending_of}
-use Rattle.djq_machine.specs.Call.{IsOpen, cause_of, held_of, ids_of}
+use Rattle.djq_machine.specs.Call.{IsOpen, cause_of, held_of, ids_of, first_due}
 use Rattle.djq_laws.specs.declared.limits.TheConstants.{READ_BYTES}
 use Rattle.djq_serve.specs.declared.served.Served.{Served}
 use Rattle.djq_serve.specs.declared.served.Served.TheVariants.{Stopped, Over, TurnsUsed, HubFault}
@@ -38,7 +37,7 @@ pub data Phase : Type 0 where
   waiting : Phase
   -- it runs a line of this session, if it may
   lines : ℕ → Phase
-  -- it flushes, from the first open session of at least this id on
+  -- it flushes, from the first open session of at least this id to which something is due
   flushing : ℕ → Next → Phase
   -- it closes the sessions that are open, and then answers
   closing : Served → Phase
@@ -131,23 +130,23 @@ SendsSome Again s old told done new = (told ≡ Sending s Again [] ∷ []) × St
 SendsSome Gone s old told done new = (told ≡ Sending s Gone [] ∷ Closing s ∷ [])
     × Happens (closed s (pending_of old s)) old done new
 
--- A session with nothing pending is closed, where it has ended.
-abbrev pub Leaves : Option EndCause → ℕ → State → List Told → List Did → State → Type 0
-Leaves None s old told done new = (told ≡ []) × Stays old done new
-Leaves (Some c) s old told done new = (told ≡ Closing s ∷ []) × Happens (closed s []) old done new
+-- A session that has ended, and for which nothing is pending, is closed.
+abbrev pub Leaves : ℕ → State → List Told → List Did → State → Type 0
+Leaves s old told done new = (told ≡ Closing s ∷ []) × Happens (closed s []) old done new
 
 -- a flush stays at a session of which bytes were taken, and else goes on behind it
-abbrev pub place_after : Sent → ℕ → ℕ → ℕ
-place_after (Took n) from s = from
-place_after Again from s = s + 1
-place_after Gone from s = s + 1
+abbrev pub place_after : Sent → ℕ → ℕ
+place_after (Took n) s = s
+place_after Again s = s + 1
+place_after Gone s = s + 1
 
--- A flush at a session.
-abbrev pub Visits : ℕ → ℕ → State → List Told → List Did → State → ℕ → Type 0
-Visits s from old told done new to =
+-- A flush at a session to which something is due: bytes are pending for it, or it has ended.
+abbrev pub Visits : ℕ → State → List Told → List Did → State → ℕ → Type 0
+Visits s old told done new to =
     ((0 < length (pending_of old s)) × (sent : Sent) × SendsSome sent s old told done new
-    × (to ≡ place_after sent from s))
-    ⊎ ((pending_of old s ≡ []) × Leaves (cause_of old s) s old told done new × (to ≡ s + 1))
+    × (to ≡ place_after sent s))
+    ⊎ ((pending_of old s ≡ []) × IsSome (cause_of old s) × Leaves s old told done new
+    × (to ≡ s + 1))
 
 -- where the server stands behind a flush
 abbrev pub after : State → Next → Phase
@@ -155,9 +154,9 @@ after st (more_lines s) = lines s
 after st next_turn = if st.stopped then closing Stopped else waiting
 after st no_turn = closing Over
 
--- the first open session of at least this id
-abbrev pub due : State → ℕ → Option ℕ
-due st from = find (λ s. nat_le from s) (ids_of st)
+-- the first open session
+abbrev pub first_open : State → Option ℕ
+first_open st = slice_get (ids_of st) 0
 
 -- no call of the hub and no step: the server stands elsewhere
 abbrev pub Passes : State → Phase → Move → Server → Type 0
@@ -169,9 +168,9 @@ LinesAt s old m new true = (m.told ≡ []) × RunsOne s old m.done new.state new
 LinesAt s old m new false = Passes old (flushing 0 next_turn) m new
 
 -- A flush, by the session that it is at.
-abbrev pub FlushesAt : ℕ → Next → State → Move → Server → Option ℕ → Type 0
-FlushesAt from next old m new None = Passes old (after old next) m new
-FlushesAt from next old m new (Some s) = (to : ℕ) × Visits s from old m.told m.done new.state to
+abbrev pub FlushesAt : Next → State → Move → Server → Option ℕ → Type 0
+FlushesAt next old m new None = Passes old (after old next) m new
+FlushesAt next old m new (Some s) = (to : ℕ) × Visits s old m.told m.done new.state to
     × (new.phase ≡ flushing to next)
 
 -- The next thing that the server does, by where it stands.
@@ -181,8 +180,8 @@ ServesAt waiting old m new =
     ⊎ ((turn : Turn) × (piece : Bytes) × (more : List Told) × (m.told ≡ Turning turn piece ∷ more)
     × Brings turn piece old more m.done new.state new.phase)
 ServesAt (lines s) old m new = LinesAt s old m new (may_run old s)
-ServesAt (flushing from next) old m new = FlushesAt from next old m new (due old from)
-ServesAt (closing answer) old m new = IsSomeAnd (due old 0) (λ s.
+ServesAt (flushing from next) old m new = FlushesAt next old m new (first_due old from)
+ServesAt (closing answer) old m new = IsSomeAnd (first_open old) (λ s.
     (m.told ≡ Closing s ∷ []) × Happens (closed s (pending_of old s)) old m.done new.state
     × (new.phase ≡ closing answer))
 

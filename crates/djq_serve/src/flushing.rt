@@ -1,22 +1,15 @@
-ghost use Rattle.std.specs.Prelude.{◌≡◌, ℕ, ◌+◌, [], ◌∷◌, Some, find, nat_le};
+ghost use Rattle.std.specs.Prelude.{◌≡◌, ℕ, ◌<◌, ◌≤◌, [], ◌∷◌, Some};
 ghost use Rattle.djq_io.specs.declared.hub.Told.{Told};
 ghost use Rattle.djq_machine.specs.Step.{closed};
 ghost use Rattle.djq_machine.specs.Run.{pending_of};
-ghost use Rattle.djq_machine.specs.Call.{IsOpen, Makes};
+ghost use Rattle.djq_machine.specs.Call.{IsOpen, Makes, first_due};
 ghost use Rattle.djq_serve.specs.Told.{shown, Tells};
-ghost use Rattle.djq_serve.specs.Server.{Next, flushing, server, after, due};
+ghost use Rattle.djq_serve.specs.Server.{Next, flushing, server, after};
 ghost use Rattle.djq_serve.specs.Goes.{GoesQuietly};
-ghost use Rattle.djq_serve.specs.Kept.{Agrees, Spares};
+ghost use Rattle.djq_serve.specs.Kept.{Agrees, Spares, ahead};
 
 use djq_io::{Hub, Sent};
 use djq_machine::Machine;
-
-/// The first of the ids that is at least this number.
-pub(crate) fn first_from(ids: &[u64], from: u128) -> Option<u64>
-    ensures { result ≡ find (λ s. nat_le from s) ids.now }
-{
-    ids.iter().copied().find(|id| from <= u128::from(*id))
-}
 
 /// Closes an open session, at the hub and in the machine.
 pub(crate) fn close<M: Machine, H: Hub>(machine: &mut M, hub: &mut H, id: u64)
@@ -33,36 +26,43 @@ pub(crate) fn close<M: Machine, H: Hub>(machine: &mut M, hub: &mut H, id: u64)
     machine.close_session(id);
 }
 
-/// Sends what is pending for an open session, until all is taken or the hub takes no more now. It
-/// is closed where it is gone, and where it has ended and nothing is pending.
-fn visit<M: Machine, H: Hub>(machine: &mut M, hub: &mut H, id: u64)
+/// Sends once what is pending for an open session to which something is due, and answers from which
+/// id on the flush goes: it stays where bytes were taken. The session is closed where it is gone,
+/// and where nothing is pending, since then it has ended.
+fn visit<M: Machine, H: Hub>(machine: &mut M, hub: &mut H, id: u64) -> u128
     requires open { IsOpen (M.state machine.old) id }
     requires agrees { Agrees (M.state machine.old) (H.ids hub.old) }
-    ensures goes { (from : ℕ) (next : Next) → due (M.state machine.old) from ≡ Some id
+    ensures goes { (from : ℕ) (next : Next) → first_due (M.state machine.old) from ≡ Some id
         → GoesQuietly (shown (H.past hub.old) (H.script hub.old) (H.ids hub.old))
         (server (M.state machine.old) (flushing from next))
         (shown (H.past hub.new) (H.script hub.new) (H.ids hub.new))
-        (server (M.state machine.new) (flushing (id + 1) next)) }
+        (server (M.state machine.new) (flushing result next)) }
+    ensures nearer { (from : ℕ) → from ≤ id
+        → ahead (M.state machine.new) result < ahead (M.state machine.old) from }
     ensures agrees { Agrees (M.state machine.new) (H.ids hub.new) }
     ensures spares { Spares (M.state machine.old) (M.state machine.new) }
     ensures faults { H.faults hub.new ≡ H.faults hub.old }
 {
-    'sends: while !machine.pending(id).is_empty() {
-        match hub.send(id, machine.pending(id)) {
-            Sent::Took(count) => machine.took(id, count),
-            Sent::Again => return,
-            Sent::Gone => {
-                close(machine, hub, id);
-                return;
-            }
-        }
-    }
-    if machine.cause(id).is_some() {
+    let behind = u128::from(id) + 1;
+    let pending = machine.pending(id);
+    if pending.is_empty() {
         close(machine, hub, id);
+        return behind;
+    }
+    match hub.send(id, pending) {
+        Sent::Took(count) => {
+            machine.took(id, count);
+            u128::from(id)
+        }
+        Sent::Again => behind,
+        Sent::Gone => {
+            close(machine, hub, id);
+            behind
+        }
     }
 }
 
-/// Goes through the open sessions by rising id.
+/// Goes by rising id through the open sessions to which something is due.
 pub(crate) fn flush<M: Machine, H: Hub>(machine: &mut M, hub: &mut H)
     requires agrees { Agrees (M.state machine.old) (H.ids hub.old) }
     ensures goes { (next : Next) → GoesQuietly
@@ -75,8 +75,7 @@ pub(crate) fn flush<M: Machine, H: Hub>(machine: &mut M, hub: &mut H)
     ensures faults { H.faults hub.new ≡ H.faults hub.old }
 {
     let mut from: u128 = 0;
-    'visits: while let Some(id) = first_from(machine.ids(), from) {
-        visit(machine, hub, id);
-        from = u128::from(id) + 1;
+    'visits: while let Some(id) = machine.due(from) {
+        from = visit(machine, hub, id);
     }
 }

@@ -9,7 +9,7 @@ ghost use Rattle.djq_serve.specs.Kept.{Agrees, AllSettled};
 ghost use Rattle.djq_serve.specs.Ends.{ServeEnds, FaultsCount};
 ghost use Rattle.djq_serve.specs.Parts.{Took};
 
-use crate::flushing::{close, first_from};
+use crate::flushing::close;
 use crate::served::Served;
 use crate::turning::take_turn;
 use djq_io::Hub;
@@ -83,7 +83,7 @@ fn close_all<M: Machine, H: Hub>(machine: &mut M, hub: &mut H)
     ensures none { ids_of (M.state machine.new) ≡ [] }
     ensures faults { H.faults hub.new ≡ H.faults hub.old }
 {
-    'closes: while let Some(id) = first_from(machine.ids(), 0) {
+    'closes: while let Some(id) = machine.ids().first().copied() {
         close(machine, hub, id);
     }
 }

@@ -1,5 +1,5 @@
 -- What contracts see of a session, and what its calls do to it.
-use Rattle.std.specs.Prelude.{ℕ, List, [], ◌∷◌, ◌≡◌, ◌+◌, ◌++◌, ◌≤◌, ◌<◌, Bool, false, Option, None, Some, Result, Ok, Err, length, find, AllPairs}
+use Rattle.std.specs.Prelude.{ℕ, List, [], ◌∷◌, ◌≡◌, ◌+◌, ◌++◌, ◌≤◌, ◌<◌, ◌||◌, Bool, false, nat_lt, Option, None, Some, is_some, Result, Ok, Err, length, find, AllPairs}
 use Rattle.djq_model.specs.Data.{Bytes, bytes_eq}
 use Rattle.djq_lines.specs.declared.limits.TheConstants.{CURSORS, LAST_LINE_BYTES}
 use Rattle.djq_lines.specs.declared.answer.EndCause.{EndCause}
@@ -34,6 +34,10 @@ pub record IsKept {C : Type 0} (why : Option EndCause) (spare : ℕ) (names : Li
   pub room : KeepsRoom why spare
   pub few : length names ≤ CURSORS
   pub different : AllPairs (λ a b. bytes_eq a.name b.name ≡ false) names
+
+-- whether something is due to a session: bytes are pending for it, or it has ended
+abbrev pub is_due : {C Q : Type 0} → Dialog C Q → Bool
+is_due d = nat_lt 0 (length d.pending) || is_some d.cause
 
 -- Nothing came, nothing is queued, and nothing is named.
 pub record IsFresh {C Q : Type 0} (d : Dialog C Q) : Type 0 where

@@ -2,7 +2,7 @@ ghost use Rattle.std.specs.Prelude.{◌≡◌, ◌+◌, ◌≤◌, ◌++◌, Non
 ghost use Rattle.djq_lines.specs.Reply.{bye, end_line, input_cut};
 ghost use Rattle.djq_lines.specs.declared.limits.TheConstants.{LAST_LINE_BYTES, REPLY_BYTES};
 ghost use Rattle.djq_lines.specs.declared.answer.EndCause.TheVariants.{Input};
-ghost use Rattle.djq_session.specs.Dialog.{EndsWith};
+ghost use Rattle.djq_session.specs.Dialog.{EndsWith, is_due};
 
 use super::Session;
 use djq_lines::{EndCause, EndLine};
@@ -14,6 +14,13 @@ impl<C: Copy, Q: Copy + PartialEq> Session<C, Q> {
         ensures { result ≡ self.now.cause }
     {
         self.cause
+    }
+
+    /// Whether something is due to it: bytes are pending for it, or it has ended.
+    pub fn is_due(&self) -> bool
+        ensures { result ≡ is_due self.now }
+    {
+        !self.output.is_empty() || self.cause.is_some()
     }
 
     /// It takes no further commands, for a cause.

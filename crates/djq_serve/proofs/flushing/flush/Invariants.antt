@@ -1,5 +1,6 @@
-use Rattle.std.proofs.Common.{◌≡◌, ◌-◌}
+use Rattle.std.proofs.Common.{◌≡◌}
 use Rattle.djq_serve.specs.Told.{shown}
+use Rattle.djq_serve.specs.Kept.{ahead}
 use Rattle.djq_serve.proofs.Visiting.{Flushing}
 use Rattle.djq_serve.proofs.flushing.flush.Given as goal
 
@@ -15,4 +16,4 @@ invariant-visits g l =
     }
 
 abbrev pub decreases-visits : goal.decreases-visits
-decreases-visits g l = 18446744073709551616 - l.from
+decreases-visits g l = ahead (g.M.Machine.state l.machine) l.from

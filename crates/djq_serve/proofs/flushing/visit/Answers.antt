@@ -1,79 +1,100 @@
-use Rattle.std.proofs.Common.{◌≡◌, ◌<◌, ◌∙◌, true, false, is_some, refl, sym, ap, length, rules, arith}
-use Rattle.djq_serve.proofs.Telling.{tells_send}
-use Rattle.djq_serve.proofs.Agreeing.{open_at_hub}
-use Rattle.djq_serve.proofs.Visiting.{visit_begun, takes_some, took_fewer, takes_none, finds_gone, closes_ended, passes_by, closed_after, caused, uncaused, empty}
+use Rattle.std.proofs.Common.{◌≡◌, ◌+◌, ◌<◌, ◌∙◌, ℕ, [], length, sym, ap, rules, arith}
+use Rattle.djq_machine.specs.Step.{took}
+use Rattle.djq_machine.specs.Run.{pending_of}
+use Rattle.djq_laws.proofs.Rising.{step_ids}
+use Rattle.djq_serve.proofs.Telling.{tells_send, tells_more}
+use Rattle.djq_serve.proofs.Agreeing.{agrees_same, due_ended, open_at_hub}
+use Rattle.djq_serve.proofs.Settling.{took_spares, closed_spares}
+use Rattle.djq_serve.proofs.Moving.{visit_blocked, visit_gone, visit_closes}
+use Rattle.djq_serve.proofs.Visiting.{empty, at_place, takes_some}
+use Rattle.djq_serve.proofs.Nearing.{took_nearer, closed_nearer}
 use Rattle.djq_serve.proofs.flushing.visit.Goals as goal
 
-pub sends-init : goal.sends-init
-sends-init g c = record {
-  visiting = visit_begun _ (g.M.Machine.state c.args.machine.now) c.args.id c.requires.open c.requires.agrees;
-  faults = refl;
-}
-
-pub pending-requires : goal.pending-requires
-pending-requires g c = c.sends.invariant.visiting.is_open
-
-pub pending-requires-in-sends : goal.pending-requires-in-sends
-pending-requires-in-sends g c = c.sends.invariant.visiting.is_open
-
 pub send-requires-clause-is_open : goal.send-requires-clause-is_open
-send-requires-clause-is_open g c =
-    open_at_hub (g.M.Machine.state c.sends.machine) (g.H.Hub.ids c.sends.hub) c.args.id c.sends.invariant.visiting.agrees c.sends.invariant.visiting.is_open
+send-requires-clause-is_open g c = open_at_hub (g.M.Machine.state c.args.machine.now) (g.H.Hub.ids c.args.hub.now) c.args.id c.requires.agrees c.requires.open
 
-pub sends-smaller : goal.sends-smaller
-sends-smaller g c =
+-- Nothing is pending, and the session is closed.
+
+pub returns-then-is_empty-clause-goes : goal.returns-then-is_empty-clause-goes
+returns-then-is_empty-clause-goes g c from next due =
     let state = g.M.Machine.state in
-    took_fewer (state c.sends.machine) (state c.took.new.self) c.args.id c.in-Took.count _ c.pending-in-sends.ensures c.in-Took.ensures.takes.0 c.in-Took.ensures.takes.1 c.took.ensures
+    let old = state c.args.machine.now in
+    let same : c.from-behind.result ≡ c.args.id = search rules in
+    let none : pending_of old c.args.id ≡ [] = sym c.pending-pending.ensures ∙ empty c.pending-pending.result.now (search rules) in
+    at_place _ _ old (state c.close.new.machine) from (c.args.id + 1) (c.from-behind.result + 1) next (ap (λ (n : ℕ). n + 1) same)
+    (visit_closes _ _ old (state c.close.new.machine) from next c.args.id due none (due_ended old from c.args.id due none) c.close.ensures.makes c.close.ensures.told)
 
-pub sends-preserved : goal.sends-preserved
-sends-preserved g c =
+pub returns-then-is_empty-clause-nearer : goal.returns-then-is_empty-clause-nearer
+returns-then-is_empty-clause-nearer g c =
+    let state = g.M.Machine.state in
+    let same : c.from-behind.result ≡ c.args.id = search rules in
+    closed_nearer (state c.args.machine.now) (state c.close.new.machine) c.args.id (c.from-behind.result + 1) _ (search rules) (ap (λ (n : ℕ). n + 1) same) c.close.ensures.makes
+
+pub returns-then-is_empty-clause-spares : goal.returns-then-is_empty-clause-spares
+returns-then-is_empty-clause-spares g c =
+    let state = g.M.Machine.state in
+    closed_spares (state c.args.machine.now) c.args.id _ (state c.close.new.machine) c.close.ensures.makes
+
+-- Bytes were taken.
+
+pub returns-in-Took-clause-goes : goal.returns-in-Took-clause-goes
+returns-in-Took-clause-goes g c from next due =
     let state = g.M.Machine.state in
     let sent = c.in-Took.ensures in
-    record {
-      visiting = takes_some _ _ _ (state c.args.machine.now) (state c.sends.machine) (state c.took.new.self) c.args.id c.in-Took.count _
-          c.sends.invariant.visiting c.pending-in-sends.ensures sent.takes.0 sent.takes.1 c.took.ensures
-          (tells_send _ _ _ _ _ _ c.args.id _ _ sent.past sent.script sent.ids) sent.ids;
-      faults = sent.faults ∙ c.sends.invariant.faults;
-    }
+    let same : c.from.result ≡ c.args.id = search rules in
+    at_place _ _ (state c.args.machine.now) (state c.took.new.self) from c.args.id c.from.result next same
+    (takes_some _ _ (state c.args.machine.now) (state c.took.new.self) c.args.id c.in-Took.count _ c.pending-pending.ensures sent.takes.0 sent.takes.1 c.took.ensures
+    (tells_send _ _ _ _ _ _ c.args.id _ _ sent.past sent.script sent.ids) from next due)
+
+pub returns-in-Took-clause-nearer : goal.returns-in-Took-clause-nearer
+returns-in-Took-clause-nearer g c =
+    let state = g.M.Machine.state in
+    let sent = c.in-Took.ensures in
+    let same : c.from.result ≡ c.args.id = search rules in
+    took_nearer (state c.args.machine.now) (state c.took.new.self) c.args.id c.from.result c.in-Took.count _ same c.pending-pending.ensures sent.takes.0 sent.takes.1 c.took.ensures
+
+pub returns-in-Took-clause-agrees : goal.returns-in-Took-clause-agrees
+returns-in-Took-clause-agrees g c =
+    let state = g.M.Machine.state in
+    agrees_same (state c.args.machine.now) (state c.took.new.self) _ _ (step_ids _ (took c.args.id _) c.took.ensures.effect _ c.took.ensures.step) c.in-Took.ensures.ids c.requires.agrees
+
+pub returns-in-Took-clause-spares : goal.returns-in-Took-clause-spares
+returns-in-Took-clause-spares g c =
+    let state = g.M.Machine.state in
+    took_spares (state c.args.machine.now) c.args.id _ (state c.took.new.self) c.took.ensures
+
+-- None are taken now.
 
 pub returns-in-Again-clause-goes : goal.returns-in-Again-clause-goes
-returns-in-Again-clause-goes g c =
-    let state = g.M.Machine.state in
+returns-in-Again-clause-goes g c from next due =
+    let old = g.M.Machine.state c.args.machine.now in
     let sent = c.in-Again.ensures in
-    let some : 0 < length c.pending.result.now = search rules in
-    takes_none _ _ _ (state c.args.machine.now) (state c.sends.machine) c.args.id c.sends.invariant.visiting (omega (arith, some, ap length c.pending.ensures))
-    (tells_send _ _ _ _ _ _ c.args.id _ _ sent.past sent.script sent.ids)
+    let same : c.from-behind.result ≡ c.args.id = search rules in
+    let some : 0 < length c.pending-pending.result.now = search rules in
+    at_place _ _ old old from (c.args.id + 1) (c.from-behind.result + 1) next (ap (λ (n : ℕ). n + 1) same)
+    (visit_blocked _ _ old from next c.args.id due (omega (arith, some, ap length c.pending-pending.ensures)) (tells_send _ _ _ _ _ _ c.args.id _ _ sent.past sent.script sent.ids))
+
+-- The session is gone, and is closed.
 
 pub returns-in-Gone-clause-goes : goal.returns-in-Gone-clause-goes
-returns-in-Gone-clause-goes g c =
+returns-in-Gone-clause-goes g c from next due =
     let state = g.M.Machine.state in
+    let old = state c.args.machine.now in
+    let new = state c.close-in-Gone.new.machine in
     let sent = c.in-Gone.ensures in
-    let some : 0 < length c.pending.result.now = search rules in
-    finds_gone _ _ _ _ (state c.args.machine.now) (state c.sends.machine) (state c.close.new.machine) c.args.id c.sends.invariant.visiting (omega (arith, some, ap length c.pending.ensures))
-    (tells_send _ _ _ _ _ _ c.args.id _ _ sent.past sent.script sent.ids) c.close.ensures.told c.close.ensures.makes
+    let same : c.from-behind.result ≡ c.args.id = search rules in
+    let some : 0 < length c.pending-pending.result.now = search rules in
+    at_place _ _ old new from (c.args.id + 1) (c.from-behind.result + 1) next (ap (λ (n : ℕ). n + 1) same)
+    (visit_gone _ _ old new from next c.args.id due (omega (arith, some, ap length c.pending-pending.ensures)) c.close-in-Gone.ensures.makes
+    (tells_more _ _ _ _ _ (tells_send _ _ _ _ _ _ c.args.id _ _ sent.past sent.script sent.ids) c.close-in-Gone.ensures.told))
+
+pub returns-in-Gone-clause-nearer : goal.returns-in-Gone-clause-nearer
+returns-in-Gone-clause-nearer g c =
+    let state = g.M.Machine.state in
+    let same : c.from-behind.result ≡ c.args.id = search rules in
+    closed_nearer (state c.args.machine.now) (state c.close-in-Gone.new.machine) c.args.id (c.from-behind.result + 1) _ (search rules) (ap (λ (n : ℕ). n + 1) same) c.close-in-Gone.ensures.makes
 
 pub returns-in-Gone-clause-spares : goal.returns-in-Gone-clause-spares
 returns-in-Gone-clause-spares g c =
     let state = g.M.Machine.state in
-    closed_after _ _ (state c.args.machine.now) (state c.sends.machine) (state c.close.new.machine) c.args.id _ c.sends.invariant.visiting c.close.ensures.makes
-
-pub returns-then-is_some-clause-goes : goal.returns-then-is_some-clause-goes
-returns-then-is_some-clause-goes g c =
-    let state = g.M.Machine.state in
-    let none = empty c.pending.result.now (search rules) in
-    let ended : is_some c.cause.result ≡ true = search rules in
-    let cause = caused c.cause.result ended in
-    closes_ended _ _ _ (state c.args.machine.now) (state c.sends.machine) (state c.close-then-is_some.new.machine) c.args.id cause.0 c.sends.invariant.visiting
-    (sym c.pending.ensures ∙ none) (sym c.cause.ensures ∙ cause.1) c.close-then-is_some.ensures.makes c.close-then-is_some.ensures.told
-
-pub returns-then-is_some-clause-spares : goal.returns-then-is_some-clause-spares
-returns-then-is_some-clause-spares g c =
-    let state = g.M.Machine.state in
-    closed_after _ _ (state c.args.machine.now) (state c.sends.machine) (state c.close-then-is_some.new.machine) c.args.id _ c.sends.invariant.visiting c.close-then-is_some.ensures.makes
-
-pub returns-else-is_some-clause-goes : goal.returns-else-is_some-clause-goes
-returns-else-is_some-clause-goes g c =
-    let state = g.M.Machine.state in
-    let none = empty c.pending.result.now (search rules) in
-    let running : is_some c.cause.result ≡ false = search rules in
-    passes_by _ _ (state c.args.machine.now) (state c.sends.machine) c.args.id c.sends.invariant.visiting (sym c.pending.ensures ∙ none) (sym c.cause.ensures ∙ uncaused c.cause.result running)
+    closed_spares (state c.args.machine.now) c.args.id _ (state c.close-in-Gone.new.machine) c.close-in-Gone.ensures.makes
