@@ -20,8 +20,8 @@ use crate::reading::{close_in, more_in, next_in, open_in};
 use crate::registering::{drop_in, query_in};
 use crate::rows::{add_in, del_in, rel_in};
 use crate::watching::{
-    affected_count_in, affected_in, delta_len_in, delta_line_in, laws_in, query_id_in, query_name_in, unwatch_in,
-    watch_in, watchers_in,
+    affected_count_in, affected_in, delta_len_in, delta_line_in, laws_in, query_id_in,
+    query_name_in, unwatch_in, watch_in, watchers_in,
 };
 use djq_lines::{AddOutcome, DeleteOutcome, QueryOutcome, Refusal, Sign};
 use djq_live::Next;

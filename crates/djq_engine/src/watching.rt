@@ -107,7 +107,9 @@ pub fn affected_in(parts: &Parts, nth: usize) -> QueryId
     ensures { slice_get (kept_in parts.now).affected nth ≡ Some result }
 {
     let readers = &parts.readers[parts.changed];
-    QueryId { at: readers.as_slice()[nth] }
+    QueryId {
+        at: readers.as_slice()[nth],
+    }
 }
 
 /// How many answers of a query came or went with the last change of a relation that it reads.

@@ -13,7 +13,7 @@ returns c =
     let xs = readers_at p.readers.items p.changed in
     let low : n < length xs = omega (arith, c.requires, length-map xs id_at) in
     let is = c.as_slice.ensures ∙ c.index-readers.ensures
-        ∙ get_or_default p.readers.items p.changed c.index-readers.result.now [] (list_there p.readers.items p.changed n low) in
+    ∙ get_or_default p.readers.items p.changed c.index-readers.result.now [] (list_there p.readers.items p.changed n low) in
     slice_get-map id_at xs n
     ∙ ap (option_map id_at) (slice_get-get_or xs n 0 low)
     ∙ ap (λ (ys : List ℕ). Some (id_at (slice_index_or ys n 0))) (sym is)
