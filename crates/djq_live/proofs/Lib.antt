@@ -31,6 +31,7 @@ pub mod Ending
 pub mod Leafing
 pub mod Below
 pub mod Passing
+pub mod Sizing
 pub mod Rowing
 pub mod Parting
 pub mod Turning
