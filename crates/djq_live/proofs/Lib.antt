@@ -36,6 +36,7 @@ pub mod Rowing
 pub mod Parting
 pub mod Turning
 pub mod Living
+pub mod Costing
 pub mod Ordering
 pub mod Sets
 pub mod Graphs
