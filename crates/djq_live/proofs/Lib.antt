@@ -37,6 +37,7 @@ pub mod Parting
 pub mod Turning
 pub mod Living
 pub mod Costing
+pub mod Small
 pub mod Ordering
 pub mod Sets
 pub mod Graphs

@@ -1,6 +1,7 @@
 -- What becomes of a registered query where a row of a relation comes or goes, and what its log says.
 use Rattle.std.specs.Prelude.{ℕ, List, ◌++◌, ◌≡◌, ◌+◌, ◌*◌, ◌≤◌, ◌==◌, Bool, true, false, All, Contains, filter, length, map, if◌then◌else◌}
-use Rattle.djq_model.specs.Data.{Bytes, Tuple}
+use Rattle.djq_model.specs.declared.query.Atom.{Atom}
+use Rattle.djq_model.specs.Data.{Bytes, Tuple, rows_of}
 use Rattle.djq_model.specs.Answer.{IsAnswer}
 use Rattle.djq_lines.specs.declared.answer.Sign.TheVariants.{Came as HasCome, Went as HasGone}
 use Rattle.djq_machine.specs.Delta.{Change, IsDelta}
@@ -89,3 +90,13 @@ update_bound l n =
 abbrev pub CountsUpdate : ℕ → Live → ℕ → ℕ → ℕ → Type 0
 CountsUpdate times l at before now = (n : ℕ) → HasAtMost l.reducts n
     → now ≤ before + times * (atoms_over l at * update_bound l n)
+
+-- no relation that the query reads has more than n rows
+pub record HasFewRows (c : Catalog) (l : Live) (n : ℕ) : Type 0 where
+  pub each : (a : Atom) → Contains (l.query).atoms a
+      → length (rows_of c.relations a.relation) ≤ n
+
+-- Then no leaf has more than n tuples.
+abbrev pub LeavesAreSmall : Type 0
+LeavesAreSmall = (c : Catalog) (l : Live) (n : ℕ) → IsKept c l → HasFewRows c l n
+    → HasAtMost l.reducts n
