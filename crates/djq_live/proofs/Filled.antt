@@ -68,7 +68,7 @@ row_in c at cells is =
       are = sym is.2 ∙ get_or-map (cells_of c.texts) rows is.0 [] cells within;
     }
 
-in_row : (c : Catalog) (at : ℕ) (cells : List ℕ) → AreRowOf c at cells
+pub in_row : (c : Catalog) (at : ℕ) (cells : List ℕ) → AreRowOf c at cells
     → Contains (map (cells_of c.texts) (rows_at c.relations at)) cells
 in_row c at cells is =
     let rows = rows_at c.relations at in

@@ -23,7 +23,7 @@ use Rattle.std.specs.Prelude.{Some, slice_get}
 use Rattle.std.specs.List.{list_any}
 use Rattle.std.proofs.lemmas.Bool.{cases_lt, false≢true}
 use Rattle.std.proofs.lemmas.List.{get_or_past, get_or-take, length-take}
-use Rattle.djq_hyper.specs.Hypergraph.{member}
+use Rattle.djq_hyper.specs.Hypergraph.{degree, member}
 use Rattle.djq_hyper.proofs.Members.{from_true}
 use Rattle.djq_hyper.proofs.Owning.{edge_with}
 use Rattle.djq_model.specs.declared.query.Query.{Query}
@@ -48,17 +48,15 @@ has_at (x ∷ xs) zero low = record { element = x; is = refl }
 has_at (x ∷ xs) (suc j) low = let r = has_at xs j (omega arith) in
     record { element = r.element; is = r.is }
 
--- a variable of the head lies in a leaf's label
+-- a variable lies in a leaf's label
 pub record InLeaf (t : Tree) (x : ℕ) : Type 0 where
   pub leaf : ℕ
   pub low : leaf < t.leaves
   pub has : member x (label_at t.labels leaf) ≡ true
 
-pub in_leaf : (t : Tree) (x : ℕ) → IsTree t → member x t.head ≡ true → InLeaf t x
-in_leaf t x s m =
-    let d = s.head.covered x m in
-    let e = edge_with (leaf_labels t) x
-    (leaf_has t s d.0 x (from_true (member x (label_at t.labels d.0)) d.2)) in
+pub leaf_with : (t : Tree) (x : ℕ) → 0 < degree x (leaf_labels t) → InLeaf t x
+leaf_with t x some =
+    let e = edge_with (leaf_labels t) x some in
     elim (cases_lt e.0 t.leaves) [
       | inl low ↦ record {
         leaf = e.0;
@@ -73,6 +71,11 @@ in_leaf t x s m =
           (let k = length-take t.leaves t.labels in omega arith))) ∙ e.1))
     ]
 
+pub in_leaf : (t : Tree) (x : ℕ) → IsTree t → member x t.head ≡ true → InLeaf t x
+in_leaf t x s m =
+    let d = s.head.covered x m in
+    leaf_with t x (leaf_has t s d.0 x (from_true (member x (label_at t.labels d.0)) d.2))
+
 -- so it stands in an atom
 pub record InAtom (n : Numbered) (x : ℕ) : Type 0 where
   pub place : ℕ
@@ -80,10 +83,9 @@ pub record InAtom (n : Numbered) (x : ℕ) : Type 0 where
   pub at : slice_get n.atoms place ≡ Some atom
   pub has : list_any (is_number x) atom.terms ≡ true
 
-pub in_atom : (c : Catalog) (q : Query) (n : Numbered) (ps : List Shape) (r : Reducts) (x : ℕ)
-    → IsOver c q n ps r → member x n.head ≡ true → InAtom n x
-in_atom c q n ps r x h m =
-    let i = in_leaf r.tree x h.reducts.family.is_tree (h.head x ∙ m) in
+pub leaf_atom : (c : Catalog) (q : Query) (n : Numbered) (ps : List Shape) (r : Reducts)
+    (x : ℕ) → IsOver c q n ps r → InLeaf r.tree x → InAtom n x
+leaf_atom c q n ps r x h i =
     let low = i.low in
     let a = has_at n.atoms i.leaf (let e = h.long in omega arith) in
     let p = has_at ps i.leaf (let e = h.long in let f = h.patterns in omega arith) in
@@ -94,3 +96,8 @@ in_atom c q n ps r x h m =
       at = a.is;
       has = sym (leaf.pattern.variables x) ∙ i.has;
     }
+
+pub in_atom : (c : Catalog) (q : Query) (n : Numbered) (ps : List Shape) (r : Reducts) (x : ℕ)
+    → IsOver c q n ps r → member x n.head ≡ true → InAtom n x
+in_atom c q n ps r x h m =
+    leaf_atom c q n ps r x h (in_leaf r.tree x h.reducts.family.is_tree (h.head x ∙ m))

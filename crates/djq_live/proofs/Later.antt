@@ -1,6 +1,6 @@
 -- A query over a later catalog.
 use Rattle.std.proofs.Common.{◌≡◌, ℕ, zero, suc, List, [], ◌∷◌, ◌++◌, ap, sym, subst, ◌∙◌, arith}
-use Rattle.std.specs.Prelude.{Some, slice_get}
+use Rattle.std.specs.Prelude.{Contains, Some, slice_get}
 use Rattle.std.proofs.lemmas.Option.{same_Some}
 use Rattle.djq_model.specs.declared.value.Value.{Value}
 use Rattle.djq_model.specs.declared.relation.ColumnType.{ColumnType}
@@ -22,6 +22,7 @@ use Rattle.djq_rows.proofs.Lawful.{stay}
 use Rattle.djq_live.specs.Asked.{AreSuited, IsAtomOf, AreAtomsOf, IsAsked}
 use Rattle.djq_live.specs.Leaves.{AreCellsOf, IsPatternOf}
 use Rattle.djq_live.specs.Changes.{IsLater}
+use Rattle.djq_live.proofs.Members.{in_first, in_rest}
 use Rattle.djq_live.proofs.Terms.{heads}
 
 pub has_later : (texts more : List Bytes) (v : Value) → HasCell texts v → HasCell (texts ++ more) v
@@ -86,21 +87,26 @@ asked_later c d q n l h = record {
 }
 
 -- the atom that an atom by number stands for
-pub record AtomAt (c : Catalog) (vs : List Variable) (m : NumberedAtom) : Type 0 where
+pub record AtomAt (c : Catalog) (vs : List Variable) (atoms : List Atom) (m : NumberedAtom) :
+    Type 0 where
   pub atom : Atom
+  pub there : Contains atoms atom
   pub is : IsAtomOf c vs atom m
 
 pub atom_at : (c : Catalog) (vs : List Variable) (atoms : List Atom) (ms : List NumberedAtom)
     (j : ℕ) (m : NumberedAtom) → AreAtomsOf c vs atoms ms → slice_get ms j ≡ Some m
-    → AtomAt c vs m
+    → AtomAt c vs atoms m
 atom_at c vs [] [] j m h e = absurd cc
 atom_at c vs [] (n ∷ ms) j m h e = absurd h
 atom_at c vs (a ∷ atoms) [] j m h e = absurd h
 atom_at c vs (a ∷ atoms) (n ∷ ms) zero m h e = record {
   atom = a;
+  there = in_first a atoms;
   is = subst (λ (k : NumberedAtom). IsAtomOf c vs a k) (same_Some n m e) h.0;
 }
-atom_at c vs (a ∷ atoms) (n ∷ ms) (suc j) m h e = atom_at c vs atoms ms j m h.1 e
+atom_at c vs (a ∷ atoms) (n ∷ ms) (suc j) m h e =
+    let r = atom_at c vs atoms ms j m h.1 e in
+    record { atom = r.atom; there = in_rest a r.atom atoms r.there; is = r.is }
 
 pub pattern_later : (c d : Catalog) (vs : List Variable) (l : List ℕ) (a : Atom)
     (m : NumberedAtom) (p : Shape) → IsLater c d → IsAtomOf c vs a m → IsPatternOf c.texts l m p

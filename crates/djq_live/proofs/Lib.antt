@@ -31,10 +31,13 @@ pub mod Ending
 pub mod Leafing
 pub mod Below
 pub mod Passing
+pub mod Sizing
 pub mod Rowing
 pub mod Parting
 pub mod Turning
 pub mod Living
+pub mod Costing
+pub mod Small
 pub mod Ordering
 pub mod Sets
 pub mod Graphs

@@ -1,32 +1,7 @@
 -- What an update of the leaves makes of a registered query.
-use Rattle.std.proofs.Common.{
-  ◌≡◌,
-  ℕ,
-  zero,
-  suc,
-  ◌+◌,
-  ◌*◌,
-  ◌≤◌,
-  Bool,
-  true,
-  false,
-  List,
-  [],
-  ◌∷◌,
-  length,
-  map,
-  take,
-  refl,
-  ap,
-  sym,
-  subst,
-  ◌∙◌,
-  inl,
-  inr,
-  arith,
-}
-use Rattle.std.specs.Prelude.{◌==◌, Contains, Option, Some, filter, slice_get}
-use Rattle.std.proofs.lemmas.Bool.{cases_Bool, false≢true, or_cases, eqb-true}
+use Rattle.std.proofs.Common.{◌≡◌, ℕ, ◌+◌, ◌*◌, ◌≤◌, Bool, true, false, List, [], ◌∷◌, length, map, refl, ap, sym, subst, ◌∙◌, inl, inr, arith}
+use Rattle.std.specs.Prelude.{◌==◌, Contains, Option, Some, slice_get}
+use Rattle.std.proofs.lemmas.Bool.{false≢true, or_cases, eqb-true}
 use Rattle.std.proofs.lemmas.List.{length-map}
 use Rattle.std.proofs.lemmas.List.Kept.{AllPairs-from_increasing}
 use Rattle.std.proofs.lemmas.Nat.{mul-le}
@@ -75,6 +50,7 @@ use Rattle.djq_live.specs.Stepping.{
 use Rattle.djq_live.proofs.Members.{in_none, in_cons, in_rest}
 use Rattle.djq_live.proofs.Columns.{member_here, member_on}
 use Rattle.djq_live.proofs.Listings.{few}
+use Rattle.djq_live.proofs.Passing.{part_few}
 use Rattle.djq_live.proofs.Showing.{tree_answer}
 use Rattle.djq_live.proofs.Showable.{new_lines, old_lines}
 use Rattle.djq_live.proofs.Rowing.{
@@ -361,17 +337,6 @@ went_logged true l s at cells h calls log new x y more change k = record {
 went_logged false l s at cells h calls log new x y more change k = k.0
 
 -- ---- counts
-
-part_few : (p : NumberedAtom → Bool) (xs : List NumberedAtom) (k : ℕ)
-    → length (filter p (take k xs)) ≤ length (filter p xs)
-part_few p [] zero = omega arith
-part_few p [] (suc k) = omega arith
-part_few p (x ∷ xs) zero = omega arith
-part_few p (x ∷ xs) (suc k) =
-    elim (cases_Bool (p x)) [
-      | inl is ↦ rw is (let r = part_few p xs k in omega arith)
-      | inr isnt ↦ rw isnt (part_few p xs k)
-    ]
 
 within : (x y a b m n h k : ℕ) → y ≤ x + (a + m) * most_steps h → a ≤ b → m ≤ n → h ≤ k
     → y ≤ x + (b + n) * most_steps k

@@ -3,6 +3,8 @@ use Rattle.std.proofs.Common.{
   ◌≡◌,
   ◌≢◌,
   ℕ,
+  zero,
+  suc,
   ◌+◌,
   ◌<◌,
   ◌≤◌,
@@ -11,7 +13,10 @@ use Rattle.std.proofs.Common.{
   false,
   cond,
   List,
+  [],
+  ◌∷◌,
   length,
+  take,
   refl,
   ap,
   sym,
@@ -21,7 +26,7 @@ use Rattle.std.proofs.Common.{
   inr,
   arith,
 }
-use Rattle.std.specs.Prelude.{◌==◌, Some, slice_get, slice_index_or}
+use Rattle.std.specs.Prelude.{◌==◌, Some, filter, slice_get, slice_index_or}
 use Rattle.std.proofs.lemmas.Bool.{cases_Bool, eqb-true, eq-eqb}
 use Rattle.std.proofs.lemmas.Option.{slice_get-get_or}
 use Rattle.std.proofs.lemmas.List.Filters.{length-filter_more}
@@ -50,6 +55,17 @@ pub got : {A : Type 0} (xs : List A) (i : ℕ) (x : A) → i < length xs
 got xs i x low e = slice_get-get_or xs i x low ∙ ap (λ y. Some y) (sym e)
 
 -- ---- counting the leaves over a relation
+
+pub part_few : (p : NumberedAtom → Bool) (xs : List NumberedAtom) (k : ℕ)
+    → length (filter p (take k xs)) ≤ length (filter p xs)
+part_few p [] zero = omega arith
+part_few p [] (suc k) = omega arith
+part_few p (x ∷ xs) zero = omega arith
+part_few p (x ∷ xs) (suc k) =
+    elim (cases_Bool (p x)) [
+      | inl is ↦ rw is (let r = part_few p xs k in omega arith)
+      | inr isnt ↦ rw isnt (part_few p xs k)
+    ]
 
 same_number : (a b : ℕ) → a ≡ b → (a == b) ≡ true
 same_number a b e = eq-eqb a b e

@@ -112,7 +112,7 @@ push_past : (x n : ℕ) (l : List ℕ) → (x ≡ n → ⊥) → member x (l ++ 
 push_past x n [] apart = member_past x n [] apart
 push_past x n (y ∷ l) apart = ap (λ b. (x == y) || b) (push_past x n l apart)
 
-below_has : (n x : ℕ) → x < n → member x (numbers_below n) ≡ true
+pub below_has : (n x : ℕ) → x < n → member x (numbers_below n) ≡ true
 below_has zero x low = absurd (omega arith)
 below_has (suc n) x low =
     elim (cases_eq x n) [

@@ -1,28 +1,6 @@
 -- Queries that a change of rows doesn't touch.
-use Rattle.std.proofs.Common.{
-  ◌≡◌,
-  ℕ,
-  ◌<◌,
-  zero,
-  suc,
-  Bool,
-  true,
-  false,
-  List,
-  [],
-  ◌∷◌,
-  ◌++◌,
-  length,
-  map,
-  refl,
-  ap,
-  ap₂,
-  sym,
-  subst,
-  ◌∙◌,
-  inr,
-}
-use Rattle.std.specs.Prelude.{Option, None, Some, slice_get, slice_index, slice_index_or, ◌||◌, All}
+use Rattle.std.proofs.Common.{◌≡◌, ℕ, zero, suc, Bool, true, false, List, [], ◌∷◌, ◌++◌, map, refl, ap, ap₂, sym, subst, ◌∙◌}
+use Rattle.std.specs.Prelude.{Some, slice_get, slice_index, ◌||◌, All}
 use Rattle.std.specs.List.{list_any}
 use Rattle.std.proofs.lemmas.Bool.{false≢true}
 use Rattle.std.proofs.lemmas.List.Elements.{All-head, All-tail}
@@ -30,25 +8,20 @@ use Rattle.std.proofs.lemmas.Option.{same_Some}
 use Rattle.djq_hyper.specs.Hypergraph.{member}
 use Rattle.djq_model.specs.declared.value.Value.{Value}
 use Rattle.djq_model.specs.declared.query.Atom.{Atom}
-use Rattle.djq_model.specs.declared.query.Query.{Query}
 use Rattle.djq_model.specs.Data.{Bytes, Tuple, bytes_eq}
 use Rattle.djq_model.specs.Equality.{bytes_eq-decides}
 use Rattle.djq_machine.specs.State.{open_at}
 use Rattle.djq_machine.specs.Stale.{reads}
-use Rattle.djq_index.specs.Entries.{Entry, cnt}
+use Rattle.djq_index.specs.Entries.{Entry}
 use Rattle.djq_reduct.specs.Columns.{column}
-use Rattle.djq_reduct.specs.Reducts.{Reducts}
-use Rattle.djq_reduct.specs.Tables.{entries_at}
-use Rattle.djq_reduct.specs.Answers.{IsAnswerOf, on_node}
+use Rattle.djq_reduct.specs.Answers.{IsAnswerOf}
 use Rattle.djq_cursor.specs.declared.cursor.Cursor.{Cursor}
 use Rattle.djq_cursor.specs.Given.{given}
 use Rattle.djq_cursor.proofs.Listed.{cursor_answers}
 use Rattle.djq_query.specs.declared.numbered.Variable.{Variable}
 use Rattle.djq_query.specs.declared.numbered.NumberedAtom.{NumberedAtom}
-use Rattle.djq_query.specs.Numbered.{Numbered}
 use Rattle.djq_query.specs.Pattern.{Shape}
 use Rattle.djq_rows.specs.Cells.{cell_of, StandsFor, HasCell}
-use Rattle.djq_rows.specs.Parts.{value_of}
 use Rattle.djq_rows.specs.Catalog.{Catalog, relation_at}
 use Rattle.djq_rows.proofs.Encoding.{stands_back}
 use Rattle.djq_rows.proofs.Lawful.{stay}
@@ -57,16 +30,8 @@ use Rattle.djq_live.specs.declared.cursors.Progress.TheVariants.{Open, Stale}
 use Rattle.djq_live.specs.Cursors.{slot_at}
 use Rattle.djq_live.specs.Asked.{AreAtomsOf, column_of}
 use Rattle.djq_live.specs.Leaves.{IsOver}
-use Rattle.djq_live.specs.Shown.{value_at, shown}
-use Rattle.djq_live.specs.Changes.{
-  IsLater,
-  HasSameRows,
-  Came,
-  Went,
-  Gains,
-  Loses,
-  LeavesChange,
-}
+use Rattle.djq_live.specs.Shown.{value_at}
+use Rattle.djq_live.specs.Changes.{IsLater, Gains, Loses, LeavesChange}
 use Rattle.djq_live.specs.Live.{Live, IsKept, IsLive, given_by, position_of, values_of}
 use Rattle.djq_live.specs.Staying.{StaysOver, LiveStays, CamePasses, WentPasses}
 use Rattle.djq_live.proofs.Columns.{member_here, member_on}

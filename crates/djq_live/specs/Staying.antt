@@ -1,5 +1,5 @@
 -- What stays of a registered query where rows change that it doesn't read.
-use Rattle.std.specs.Prelude.{ℕ, List, ◌≡◌, ◌<◌, false, Option, Some, length}
+use Rattle.std.specs.Prelude.{ℕ, List, ◌≡◌, ◌<◌, false, Some, length}
 use Rattle.djq_model.specs.Data.{Tuple}
 use Rattle.djq_machine.specs.Stale.{reads}
 use Rattle.djq_rows.specs.Catalog.{Catalog, relation_at}

@@ -24,9 +24,11 @@ use Rattle.std.specs.Prelude.{
 use Rattle.djq_machine.specs.Store.{most_steps}
 use Rattle.djq_index.specs.Entries.{Entry, cnt}
 use Rattle.djq_tree.specs.Labels.{label_at}
+use Rattle.djq_tree.specs.Tree.{Tree}
 use Rattle.djq_reduct.specs.Tables.{entries_at}
 use Rattle.djq_reduct.specs.Reducts.{Reducts, IsReducts}
 use Rattle.djq_reduct.specs.Marks.{IsBare}
+use Rattle.djq_propagate.specs.Updates.{HasAtMost, paths}
 use Rattle.djq_cursor.specs.Listing.{IsListing}
 use Rattle.djq_cursor.specs.declared.log.Line.{Line}
 use Rattle.djq_cursor.specs.Log.{Log}
@@ -115,3 +117,34 @@ abbrev pub ListsWhere : Bool → Bool → (List ℕ → Type 0) → ℕ → ℕ 
 ListsWhere true came Changed h calls old new before now =
     ListsAll came Changed h calls old new before now
 ListsWhere false came Changed h calls old new before now = (new ≡ old) × (now ≡ before)
+
+-- No leaf has more than n + 1 tuples, with the one counted in that is to come into the leaf j.
+pub record HasRoom (r : Reducts) (j n : ℕ) : Type 0 where
+  pub leaf : length (entries_at r.tables j) ≤ n
+  pub all : HasAtMost r (n + 1)
+
+-- The leaf j has one tuple more at most, and each other one no more than it had.
+pub record GrowsAt (j : ℕ) (r s : Reducts) : Type 0 where
+  pub leaf : length (entries_at s.tables j) ≤ length (entries_at r.tables j) + 1
+  pub others : (i : ℕ) → i < r.tree.leaves → i ≢ j
+      → length (entries_at s.tables i) ≤ length (entries_at r.tables i)
+
+-- no leaf has more than one tuple more
+pub record GrowsByOne (r s : Reducts) : Type 0 where
+  pub each : (j : ℕ) → j < r.tree.leaves
+      → length (entries_at s.tables j) ≤ length (entries_at r.tables j) + 1
+
+-- what an update of a leaf counts at most, where no leaf has more than n tuples before it
+abbrev pub leaf_bound : Tree → ℕ → ℕ
+leaf_bound t n = 16 * (paths t * (n + 1))
+
+-- A tuple that came into the leaf j counts so many times the bound at most.
+abbrev pub CountsLeaf : Reducts → ℕ → ℕ → ℕ → ℕ → Type 0
+CountsLeaf r j times before now = (n : ℕ) → HasRoom r j n
+    → now ≤ before + times * leaf_bound r.tree n
+
+-- Updates count so many times the bound at most, where no leaf has more than n tuples before all
+-- of them.
+abbrev pub CountsLeaves : Reducts → ℕ → ℕ → ℕ → Type 0
+CountsLeaves r times before now = (n : ℕ) → HasAtMost r n
+    → now ≤ before + times * leaf_bound r.tree n

@@ -1,10 +1,12 @@
 -- What becomes of a registered query where a row of a relation comes or goes, and what its log says.
 use Rattle.std.specs.Prelude.{ℕ, List, ◌++◌, ◌≡◌, ◌+◌, ◌*◌, ◌≤◌, ◌==◌, Bool, true, false, All, Contains, filter, length, map, if◌then◌else◌}
-use Rattle.djq_model.specs.Data.{Bytes, Tuple}
+use Rattle.djq_model.specs.declared.query.Atom.{Atom}
+use Rattle.djq_model.specs.Data.{Bytes, Tuple, rows_of}
 use Rattle.djq_model.specs.Answer.{IsAnswer}
 use Rattle.djq_lines.specs.declared.answer.Sign.TheVariants.{Came as HasCome, Went as HasGone}
 use Rattle.djq_machine.specs.Delta.{Change, IsDelta}
 use Rattle.djq_machine.specs.Store.{most_steps}
+use Rattle.djq_propagate.specs.Updates.{HasAtMost}
 use Rattle.djq_cursor.specs.declared.log.Line.{Line}
 use Rattle.djq_cursor.specs.Log.{Log}
 use Rattle.djq_rows.specs.Catalog.{Catalog, rows_at}
@@ -76,3 +78,25 @@ CountsDelta true Changed old at before now = (c d : Catalog) (row : Tuple) (chan
     → IsKept c old → Changed c d row → IsDeltaOf old c d changes
     → now ≤ before + delta_bound old at changes
 CountsDelta false Changed old at before now = now ≡ before
+
+-- What an update counts at most for an atom, where no leaf has more than n tuples before it. No path
+-- to the root has more nodes than there are atoms and variables: there is one meet fewer than atoms,
+-- and each trim drops a variable that no other one drops.
+abbrev pub update_bound : Live → ℕ → ℕ
+update_bound l n =
+    16 * ((length l.numbered.atoms + length l.numbered.variables) * (n + 1))
+
+-- the update count: so many times the bound at most for each atom over the relation
+abbrev pub CountsUpdate : ℕ → Live → ℕ → ℕ → ℕ → Type 0
+CountsUpdate times l at before now = (n : ℕ) → HasAtMost l.reducts n
+    → now ≤ before + times * (atoms_over l at * update_bound l n)
+
+-- no relation that the query reads has more than n rows
+pub record HasFewRows (c : Catalog) (l : Live) (n : ℕ) : Type 0 where
+  pub each : (a : Atom) → Contains (l.query).atoms a
+      → length (rows_of c.relations a.relation) ≤ n
+
+-- Then no leaf has more than n tuples.
+abbrev pub LeavesAreSmall : Type 0
+LeavesAreSmall = (c : Catalog) (l : Live) (n : ℕ) → IsKept c l → HasFewRows c l n
+    → HasAtMost l.reducts n

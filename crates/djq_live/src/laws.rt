@@ -3,6 +3,7 @@ ghost use Rattle.djq_live.specs.Shown.{AnswersAreShown, AnswersAreListed};
 ghost use Rattle.djq_live.specs.Shown.{AnswersDiffer, AnswersStand};
 ghost use Rattle.djq_live.specs.Live.{AnswersAreShowable, ShowableStays};
 ghost use Rattle.djq_live.specs.Body.{HeadsAreBound};
+ghost use Rattle.djq_live.specs.Updating.{LeavesAreSmall};
 
 /// A tuple of values is an answer of the query exactly where an answer of the tree shows it: a
 /// tuple of cells whose projection on every node of `out` is in the node's table (Idris, Ugarte and
@@ -45,4 +46,9 @@ pub fn showable_stays()
 /// A query that is kept has each variable of its head in an atom.
 pub fn heads_are_bound()
     ensures { HeadsAreBound }
+{}
+
+/// A leaf of a query that is kept has no more tuples than its relation has rows.
+pub fn leaves_are_small()
+    ensures { LeavesAreSmall }
 {}

@@ -18,6 +18,10 @@ ghost use Rattle.djq_live.specs.Stepping.{
   HoldBelow,
   ListsAll,
   ListsWhere,
+  GrowsAt,
+  GrowsByOne,
+  CountsLeaf,
+  CountsLeaves,
   atoms_below,
 };
 
@@ -94,6 +98,12 @@ fn add_to_leaf<L: Ledgers>(
     ensures refused { OnErr result (HasKept reducts.old reducts.new) }
     ensures log { OnErr result (log.new ≡ log.old) }
     ensures listing { OnErr result (steps.new.listing ≡ steps.old.listing) }
+    ensures grows { OnOk result (GrowsAt leaf reducts.old reducts.new) }
+    ensures updates { OnOk result (CountsLeaf reducts.old leaf 1
+        steps.old.update steps.new.update) }
+    ensures refusal { OnErr result (CountsLeaf reducts.old leaf 3
+        steps.old.update steps.new.update) }
+    ensures rows { steps.new.rows ≡ steps.old.rows }
 {
     reducts.laws();
     let Some(tuple) = pattern.matches(cells) else {
@@ -124,6 +134,8 @@ fn take_from_leaf<L: Ledgers>(
         reducts.old reducts.new }
     ensures listed { ListsWhere wanted false (IsGained reducts.old reducts.new)
         (length reducts.old.tree.head) 1 log.old log.new steps.old.listing steps.new.listing }
+    ensures updates { CountsLeaves reducts.old 1 steps.old.update steps.new.update }
+    ensures rows { steps.new.rows ≡ steps.old.rows }
 {
     reducts.laws();
     let Some(tuple) = pattern.matches(cells) else {
@@ -158,6 +170,16 @@ pub(crate) fn add_to_leaves<L: Ledgers>(
     ensures listed { ListsWhere wanted true (IsGained reducts.new reducts.old)
         (length reducts.old.tree.head) (atoms_below relation atoms.now result)
         log.old log.new steps.old.listing steps.new.listing }
+    ensures grows { GrowsByOne reducts.old reducts.new }
+    ensures updates { result ≡ length atoms.now
+        → CountsLeaves reducts.old (atoms_below relation atoms.now result)
+        steps.old.update steps.new.update }
+    ensures refusal { result < length atoms.now
+        → CountsLeaves reducts.old (atoms_below relation atoms.now result + 3)
+        steps.old.update steps.new.update }
+    ensures left { result < length atoms.now → atoms_below relation atoms.now result + 1
+        ≤ atoms_below relation atoms.now (length atoms.now) }
+    ensures rows { steps.new.rows ≡ steps.old.rows }
 {
     reducts.laws();
     'leaves: for leaf in 0..atoms.len() {
@@ -195,6 +217,9 @@ pub(crate) fn take_from_leaves<L: Ledgers>(
     ensures listed { ListsWhere wanted false (IsGained reducts.old reducts.new)
         (length reducts.old.tree.head) (atoms_below relation atoms.now end)
         log.old log.new steps.old.listing steps.new.listing }
+    ensures updates { CountsLeaves reducts.old (atoms_below relation atoms.now end)
+        steps.old.update steps.new.update }
+    ensures rows { steps.new.rows ≡ steps.old.rows }
 {
     reducts.laws();
     'leaves: for leaf in 0..end {
@@ -221,6 +246,8 @@ fn give_from_leaf<L: Ledgers>(
     ensures lost { ChangesAt (λ p old new. Loses p cells.now old new) pattern.now leaf
         reducts.old reducts.new }
     ensures listing { steps.new.listing ≡ steps.old.listing }
+    ensures updates { CountsLeaves reducts.old 1 steps.old.update steps.new.update }
+    ensures rows { steps.new.rows ≡ steps.old.rows }
 {
     reducts.laws();
     let Some(tuple) = pattern.matches(cells) else {
@@ -248,6 +275,9 @@ pub(crate) fn give_from_leaves<L: Ledgers>(
     ensures lost { ChangesBelow (λ p old new. Loses p cells.now old new) relation atoms.now
         patterns.now end reducts.old reducts.new }
     ensures listing { steps.new.listing ≡ steps.old.listing }
+    ensures updates { CountsLeaves reducts.old (atoms_below relation atoms.now end)
+        steps.old.update steps.new.update }
+    ensures rows { steps.new.rows ≡ steps.old.rows }
 {
     reducts.laws();
     'leaves: for leaf in 0..end {

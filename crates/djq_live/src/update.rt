@@ -5,7 +5,14 @@ ghost use Rattle.djq_rows.specs.Catalog.{Catalog as CatalogModel};
 ghost use Rattle.djq_live.specs.Changes.{Came, Went, HasSameRows};
 ghost use Rattle.djq_live.specs.Cursors.{outdated_slots};
 ghost use Rattle.djq_live.specs.Live.{IsKept, IsLive, SameQuery};
-ghost use Rattle.djq_live.specs.Updating.{CanAdd, CanDelete, Follows, LogsWhere, CountsDelta};
+ghost use Rattle.djq_live.specs.Updating.{
+  CanAdd,
+  CanDelete,
+  Follows,
+  LogsWhere,
+  CountsDelta,
+  CountsUpdate,
+};
 
 use crate::changes::over_stays;
 use crate::live::LiveQuery;
@@ -20,9 +27,13 @@ impl LiveQuery {
     /// the relation one after another. Where the delta is wanted, the log tells behind what it told
     /// which answers came. [`outdate`](LiveQuery::outdate) is to be called before a cursor is read.
     ///
+    /// For each atom over the relation the update count rises by at most 16(m + v)(n + 1), where the
+    /// query has m atoms and v variables, holes counted in, and no leaf more than n tuples before.
+    ///
     /// # Errors
     ///
-    /// `NoMem` out of memory; rows and answers are as before.
+    /// `NoMem` out of memory; rows and answers are as before. The update count then rises by at most
+    /// three times as much, since the leaves that took the row in give it back.
     pub fn add<L: Ledgers>(
         &mut self,
         relation: RelationId,
@@ -41,6 +52,11 @@ impl LiveQuery {
             self.old log.old log.new) }
         ensures counted { CountsDelta wanted (λ c d. Came c d relation.at cells.now)
             self.old relation.at steps.old.listing steps.new.listing }
+        ensures updates { OnOk result (CountsUpdate 1 self.old relation.at
+            steps.old.update steps.new.update) }
+        ensures refusal { OnErr result (CountsUpdate 3 self.old relation.at
+            steps.old.update steps.new.update) }
+        ensures rows { steps.new.rows ≡ steps.old.rows }
     {
         let atoms = self.numbered.atoms();
         let patterns = self.patterns.as_slice();
@@ -71,7 +87,8 @@ impl LiveQuery {
 
     /// Takes out a row that went out of a relation, given by its cells, leaf by leaf. Where the
     /// delta is wanted, the log tells behind what it told which answers went. It takes no memory
-    /// but the log's. [`outdate`](LiveQuery::outdate) is to be called before a cursor is read.
+    /// but the log's, and its update count is bounded as that of [`add`](LiveQuery::add).
+    /// [`outdate`](LiveQuery::outdate) is to be called before a cursor is read.
     pub fn delete<L: Ledgers>(
         &mut self,
         relation: RelationId,
@@ -87,6 +104,9 @@ impl LiveQuery {
             self.old log.old log.new }
         ensures counted { CountsDelta wanted (λ c d. Went c d relation.at cells.now)
             self.old relation.at steps.old.listing steps.new.listing }
+        ensures updates { CountsUpdate 1 self.old relation.at
+            steps.old.update steps.new.update }
+        ensures rows { steps.new.rows ≡ steps.old.rows }
     {
         let atoms = self.numbered.atoms();
         let patterns = self.patterns.as_slice();
@@ -104,7 +124,8 @@ impl LiveQuery {
         );
     }
 
-    /// Gives a row back that [`add`](LiveQuery::add) took in, without a delta. It takes no memory.
+    /// Gives a row back that [`add`](LiveQuery::add) took in, without a delta. It takes no memory, and
+    /// its update count is bounded as that of `add`.
     pub fn give_back<L: Ledgers>(
         &mut self,
         relation: RelationId,
@@ -115,6 +136,9 @@ impl LiveQuery {
         ensures deleted { Follows (λ c d. Went c d relation.at cells.now) self.old self.new }
         ensures same { SameQuery self.old self.new }
         ensures counted { steps.new.listing ≡ steps.old.listing }
+        ensures updates { CountsUpdate 1 self.old relation.at
+            steps.old.update steps.new.update }
+        ensures rows { steps.new.rows ≡ steps.old.rows }
     {
         let atoms = self.numbered.atoms();
         let patterns = self.patterns.as_slice();

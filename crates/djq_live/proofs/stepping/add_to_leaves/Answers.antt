@@ -1,4 +1,4 @@
-use Rattle.std.proofs.Common.{true, ◌+◌, ◌<◌, length, ℕ, sym, subst}
+use Rattle.std.proofs.Common.{true, ◌+◌, ◌<◌, length, ℕ, sym, subst, ◌∙◌}
 use Rattle.djq_live.specs.Changes.{Gains}
 use Rattle.djq_live.specs.Stepping.{Lacks, atoms_below}
 use Rattle.djq_live.proofs.Below.{
@@ -23,6 +23,14 @@ use Rattle.djq_live.proofs.Passing.{
   lacks_stay,
   wide_stays,
 }
+use Rattle.djq_live.proofs.Sizing.{
+  counts_as,
+  grows_next,
+  counts_next,
+  kept_grows,
+  counts_last,
+  one_more,
+}
 use Rattle.djq_cursor.specs.Changed.{IsGained}
 use Rattle.djq_live.proofs.stepping.add_to_leaves.Goals as goal
 
@@ -44,6 +52,15 @@ leaves-preserved-then-atoms-leaf g c = record {
       c.leaves-test.true c.index-atoms-leaf.is (off_as c.index-atoms-leaf.result _ c.args.relation
       c.index-atoms-leaf.is c.if-atoms-leaf.true))
       c.leaves.invariant.listed;
+  grows = c.leaves.invariant.grows;
+  updates = counts_as c.args.reducts.now
+      (atoms_below c.args.relation c.args.atoms.now c.leaves.leaf) _ c.args.steps.now.update
+      c.leaves.steps.update
+      (counts_past c.args.relation c.args.atoms.now c.leaves.leaf c.index-atoms-leaf.result
+      c.leaves-test.true c.index-atoms-leaf.is (off_as c.index-atoms-leaf.result _ c.args.relation
+      c.index-atoms-leaf.is c.if-atoms-leaf.true))
+      c.leaves.invariant.updates;
+  rows = c.leaves.invariant.rows;
 }
 
 pub add_to_leaf-requires-clause-wide : goal.add_to_leaf-requires-clause-wide
@@ -135,4 +152,49 @@ leaves-preserved g c =
           c.leaves-test.true c.index-atoms-leaf.is (on_as c.index-atoms-leaf.result _
           c.args.relation c.index-atoms-leaf.is c.if-atoms-leaf.false))
           c.leaves.invariant.listed c.in-Ok.ensures.listed;
+      grows = grows_next (λ p old new. Gains p c.args.cells.now old new) c.args.relation
+          c.args.atoms.now c.args.patterns.now c.leaves.leaf c.index-atoms-leaf.result
+          c.args.reducts.now c.leaves.reducts c.add_to_leaf.new.reducts
+          (got c.args.atoms.now c.leaves.leaf c.index-atoms-leaf.result c.leaves-test.true
+          c.index-atoms-leaf.is)
+          c.leaves.invariant.changed c.leaves.invariant.grows c.in-Ok.ensures.grows;
+      updates = counts_next (λ p old new. Gains p c.args.cells.now old new) c.args.relation
+          c.args.atoms.now c.args.patterns.now c.leaves.leaf c.index-atoms-leaf.result
+          c.args.reducts.now c.leaves.reducts
+          (atoms_below c.args.relation c.args.atoms.now c.leaves.leaf)
+          (atoms_below c.args.relation c.args.atoms.now (c.leaves.leaf + 1))
+          c.args.steps.now.update c.leaves.steps.update c.add_to_leaf.new.steps.update
+          (got c.args.atoms.now c.leaves.leaf c.index-atoms-leaf.result c.leaves-test.true
+          c.index-atoms-leaf.is)
+          (subst (λ (n : ℕ). c.leaves.leaf < n) (sym c.requires.leaves.long) c.leaves-test.true)
+          c.leaves.invariant.changed c.leaves.invariant.grows
+          (counts_over c.args.relation c.args.atoms.now c.leaves.leaf c.index-atoms-leaf.result
+          c.leaves-test.true c.index-atoms-leaf.is (on_as c.index-atoms-leaf.result _
+          c.args.relation c.index-atoms-leaf.is c.if-atoms-leaf.false))
+          c.leaves.invariant.updates c.in-Ok.ensures.updates;
+      rows = c.add_to_leaf.ensures.rows ∙ c.leaves.invariant.rows;
     }
+
+pub returns-in_default-clause-grows : goal.returns-in_default-clause-grows
+returns-in_default-clause-grows g c =
+    kept_grows c.args.reducts.now c.leaves.reducts c.add_to_leaf.new.reducts
+    c.leaves.invariant.changed.tree c.leaves.invariant.grows c.in_default.ensures.refused
+
+pub returns-in_default-clause-refusal : goal.returns-in_default-clause-refusal
+returns-in_default-clause-refusal g c = λ low.
+    counts_last (λ p old new. Gains p c.args.cells.now old new) c.args.relation
+    c.args.atoms.now c.args.patterns.now c.leaves.leaf c.index-atoms-leaf.result
+    c.args.reducts.now c.leaves.reducts
+    (atoms_below c.args.relation c.args.atoms.now c.leaves.leaf)
+    c.args.steps.now.update c.leaves.steps.update c.add_to_leaf.new.steps.update
+    (got c.args.atoms.now c.leaves.leaf c.index-atoms-leaf.result c.leaves-test.true
+    c.index-atoms-leaf.is)
+    (subst (λ (n : ℕ). c.leaves.leaf < n) (sym c.requires.leaves.long) c.leaves-test.true)
+    c.leaves.invariant.changed c.leaves.invariant.grows c.leaves.invariant.updates
+    c.in_default.ensures.refusal
+
+pub returns-in_default-clause-left : goal.returns-in_default-clause-left
+returns-in_default-clause-left g c = λ low.
+    one_more c.args.relation c.args.atoms.now c.leaves.leaf c.index-atoms-leaf.result
+    c.leaves-test.true c.index-atoms-leaf.is
+    (on_as c.index-atoms-leaf.result _ c.args.relation c.index-atoms-leaf.is c.if-atoms-leaf.false)

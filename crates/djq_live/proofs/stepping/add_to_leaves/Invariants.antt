@@ -1,7 +1,14 @@
-use Rattle.std.proofs.Common.{true, length}
+use Rattle.std.proofs.Common.{◌≡◌, true, length}
 use Rattle.djq_cursor.specs.Changed.{IsGained}
 use Rattle.djq_live.specs.Changes.{Gains}
-use Rattle.djq_live.specs.Stepping.{HasMore, ChangesBelow, ListsWhere, atoms_below}
+use Rattle.djq_live.specs.Stepping.{
+  HasMore,
+  ChangesBelow,
+  ListsWhere,
+  GrowsByOne,
+  CountsLeaves,
+  atoms_below,
+}
 use Rattle.djq_live.proofs.stepping.add_to_leaves.Given as goal
 
 abbrev pub invariant-leaves : goal.invariant-leaves
@@ -12,4 +19,8 @@ invariant-leaves g l = record {
   listed : ListsWhere l.wanted true (IsGained l.reducts l.fn.reducts) (length
       l.fn.reducts.tree.head)
       (atoms_below l.relation l.atoms l.leaf) l.fn.log l.log l.fn.steps.listing l.steps.listing;
+  grows : GrowsByOne l.fn.reducts l.reducts;
+  updates : CountsLeaves l.fn.reducts (atoms_below l.relation l.atoms l.leaf) l.fn.steps.update
+      l.steps.update;
+  rows : l.steps.rows ≡ l.fn.steps.rows;
 }

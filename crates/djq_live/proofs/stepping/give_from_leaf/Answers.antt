@@ -1,4 +1,5 @@
 use Rattle.djq_live.proofs.Leafing.{marked_loses, only_as}
+use Rattle.djq_live.proofs.Sizing.{removal_counts}
 use Rattle.djq_live.proofs.stepping.give_from_leaf.Goals as goal
 
 pub returns-clause-lost : goal.returns-clause-lost
@@ -8,3 +9,10 @@ returns-clause-lost g c =
     (only_as c.args.pattern.now c.args.cells.now c.in-Some.tuple c.as_slice.result.now
     c.as_slice.ensures c.in-Some.ensures.exact) c.laws.ensures.sound c.mark_removal.ensures.marked
     c.finish_removal.ensures.dropped
+
+pub returns-clause-updates : goal.returns-clause-updates
+returns-clause-updates g c =
+    removal_counts c.args.leaf c.as_slice.result.now c.args.reducts.now
+    c.mark_removal.new.reducts c.args.steps.now.update c.mark_removal.new.tally
+    c.finish_removal.new.tally c.laws.ensures.sound c.mark_removal.ensures.marked
+    c.mark_removal.ensures.counted c.finish_removal.ensures.counted

@@ -1,5 +1,6 @@
 use Rattle.std.proofs.Common.{false}
 use Rattle.djq_live.proofs.Leafing.{marked_loses, marked_lists, only_as}
+use Rattle.djq_live.proofs.Sizing.{removal_counts}
 use Rattle.djq_live.proofs.stepping.take_from_leaf.Goals as goal
 
 pub returns-clause-lost : goal.returns-clause-lost
@@ -18,3 +19,10 @@ returns-clause-listed g c =
     c.mark_removal.ensures.marked
     (c.list_where.ensures c.finish_removal.new.reducts c.finish_removal.ensures.dropped.sound
     c.finish_removal.ensures.dropped.without)
+
+pub returns-clause-updates : goal.returns-clause-updates
+returns-clause-updates g c =
+    removal_counts c.args.leaf c.as_slice.result.now c.args.reducts.now
+    c.mark_removal.new.reducts c.args.steps.now.update c.mark_removal.new.tally
+    c.finish_removal.new.tally c.laws.ensures.sound c.mark_removal.ensures.marked
+    c.mark_removal.ensures.counted c.finish_removal.ensures.counted

@@ -1,4 +1,4 @@
-use Rattle.std.proofs.Common.{false, ◌+◌, ◌<◌, length, ℕ, sym, subst}
+use Rattle.std.proofs.Common.{false, ◌+◌, ◌<◌, length, ℕ, sym, subst, ◌∙◌}
 use Rattle.djq_live.specs.Changes.{Loses}
 use Rattle.djq_live.specs.Stepping.{Has, atoms_below}
 use Rattle.djq_live.proofs.Below.{below_skip, below_step, loses_stable, loses_more, leaves_stay}
@@ -15,6 +15,7 @@ use Rattle.djq_live.proofs.Passing.{
   has_stay,
   wide_stays,
 }
+use Rattle.djq_live.proofs.Sizing.{counts_as, counts_fewer}
 use Rattle.djq_cursor.specs.Changed.{IsGained}
 use Rattle.djq_live.proofs.stepping.take_from_leaves.Goals as goal
 
@@ -38,6 +39,15 @@ leaves-preserved-then-atoms-leaf g c = record {
       c.requires.end) c.index-atoms-leaf.is (off_as c.index-atoms-leaf.result _ c.args.relation
       c.index-atoms-leaf.is c.if-atoms-leaf.true))
       c.leaves.invariant.listed;
+  updates = counts_as c.args.reducts.now
+      (atoms_below c.args.relation c.args.atoms.now c.leaves.leaf) _ c.args.steps.now.update
+      c.leaves.steps.update
+      (counts_past c.args.relation c.args.atoms.now c.leaves.leaf c.index-atoms-leaf.result
+      (below_end c.leaves.leaf c.args.end (length c.args.atoms.now) c.leaves-test.true
+      c.requires.end) c.index-atoms-leaf.is (off_as c.index-atoms-leaf.result _ c.args.relation
+      c.index-atoms-leaf.is c.if-atoms-leaf.true))
+      c.leaves.invariant.updates;
+  rows = c.leaves.invariant.rows;
 }
 
 pub take_from_leaf-requires-clause-wide : goal.take_from_leaf-requires-clause-wide
@@ -118,4 +128,15 @@ leaves-preserved g c =
           c.requires.end) c.index-atoms-leaf.is (on_as c.index-atoms-leaf.result _
           c.args.relation c.index-atoms-leaf.is c.if-atoms-leaf.false))
           c.leaves.invariant.listed c.take_from_leaf.ensures.listed;
+      updates = counts_fewer c.args.reducts.now c.leaves.reducts
+          (atoms_below c.args.relation c.args.atoms.now c.leaves.leaf)
+          (atoms_below c.args.relation c.args.atoms.now (c.leaves.leaf + 1))
+          c.args.steps.now.update c.leaves.steps.update c.take_from_leaf.new.steps.update
+          c.leaves.invariant.changed.sound c.leaves.invariant.more
+          (counts_over c.args.relation c.args.atoms.now c.leaves.leaf c.index-atoms-leaf.result
+          (below_end c.leaves.leaf c.args.end (length c.args.atoms.now) c.leaves-test.true
+          c.requires.end) c.index-atoms-leaf.is (on_as c.index-atoms-leaf.result _
+          c.args.relation c.index-atoms-leaf.is c.if-atoms-leaf.false))
+          c.leaves.invariant.updates c.take_from_leaf.ensures.updates;
+      rows = c.take_from_leaf.ensures.rows ∙ c.leaves.invariant.rows;
     }

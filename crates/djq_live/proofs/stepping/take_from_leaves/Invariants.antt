@@ -1,7 +1,13 @@
-use Rattle.std.proofs.Common.{false, length}
+use Rattle.std.proofs.Common.{◌≡◌, false, length}
 use Rattle.djq_cursor.specs.Changed.{IsGained}
 use Rattle.djq_live.specs.Changes.{Loses}
-use Rattle.djq_live.specs.Stepping.{HasMore, ChangesBelow, ListsWhere, atoms_below}
+use Rattle.djq_live.specs.Stepping.{
+  HasMore,
+  ChangesBelow,
+  ListsWhere,
+  CountsLeaves,
+  atoms_below,
+}
 use Rattle.djq_live.proofs.stepping.take_from_leaves.Given as goal
 
 abbrev pub invariant-leaves : goal.invariant-leaves
@@ -12,4 +18,7 @@ invariant-leaves g l = record {
   listed : ListsWhere l.wanted false (IsGained l.fn.reducts l.reducts) (length
       l.fn.reducts.tree.head)
       (atoms_below l.relation l.atoms l.leaf) l.fn.log l.log l.fn.steps.listing l.steps.listing;
+  updates : CountsLeaves l.fn.reducts (atoms_below l.relation l.atoms l.leaf) l.fn.steps.update
+      l.steps.update;
+  rows : l.steps.rows ≡ l.fn.steps.rows;
 }

@@ -1,5 +1,6 @@
-use Rattle.std.proofs.Common.{arith}
+use Rattle.std.proofs.Common.{length, arith}
 use Rattle.djq_live.specs.Live.{Live}
+use Rattle.djq_live.proofs.Costing.{counts_all}
 use Rattle.djq_live.proofs.Living.{
   can_delete,
   delete_leaves,
@@ -77,3 +78,18 @@ returns-clause-same g c =
 
 pub returns-clause-counted : goal.returns-clause-counted
 returns-clause-counted g c = c.give_from_leaves.ensures.listing
+
+pub returns-clause-updates : goal.returns-clause-updates
+returns-clause-updates g c =
+    let l : Live = record {
+      query = c.self.inside.query;
+      numbered = c.self.inside.numbered;
+      patterns = c.self.inside.patterns.items;
+      reducts = c.self.inside.reducts;
+      cursors = c.self.inside.cursors;
+    } in
+    let can = can_delete l c.args.self.now c.args.relation.at c.args.cells.now c.self.view_is
+    c.requires in
+    counts_all l c.args.self.now c.args.relation.at c.atoms-atoms.result.now
+    (length c.atoms-atoms.result.now) c.args.steps.now.update c.give_from_leaves.new.steps.update
+    c.self.view_is c.atoms-atoms.ensures (can.before, can.kept) c.give_from_leaves.ensures.updates

@@ -1,0 +1,153 @@
+-- How much an update of a registered query counts, measured by its atoms and variables.
+use Rattle.std.proofs.Common.{◌≡◌, ℕ, ◌+◌, ◌*◌, ◌<◌, ◌≤◌, true, List, [], ◌∷◌, length, sym, subst, inl, inr, arith, mul-le-mul_left, mul-le-mul_right}
+use Rattle.std.specs.Prelude.{◌==◌, None, Some}
+use Rattle.std.specs.List.{list_any}
+use Rattle.std.proofs.lemmas.Bool.{eqb-true, false≢true, or_cases}
+use Rattle.std.proofs.lemmas.List.{length-map}
+use Rattle.std.proofs.lemmas.Nat.{mul-le}
+use Rattle.std.proofs.lemmas.Option.{slice_get_within}
+use Rattle.djq_hyper.specs.Hypergraph.{numbers_below}
+use Rattle.djq_model.specs.declared.query.Query.{Query}
+use Rattle.djq_model.specs.declared.query.Term.{Term}
+use Rattle.djq_model.specs.declared.query.Term.TheVariants.{Variable as Named, Hole, Constant}
+use Rattle.djq_lines.specs.Variables.{Label}
+use Rattle.djq_tree.specs.Tree.{Tree}
+use Rattle.djq_tree.proofs.Trimming.{all_trims_of}
+use Rattle.djq_plan.proofs.Stepping.{length_below}
+use Rattle.djq_reduct.specs.Reducts.{Reducts}
+use Rattle.djq_propagate.specs.Updates.{paths}
+use Rattle.djq_query.specs.declared.numbered.Variable.{Variable}
+use Rattle.djq_query.specs.declared.numbered.NumberedTerm.{NumberedTerm}
+use Rattle.djq_query.specs.declared.numbered.NumberedTerm.TheVariants.{
+  Variable as Number,
+  Constant as Fixed,
+}
+use Rattle.djq_query.specs.declared.numbered.NumberedAtom.{NumberedAtom}
+use Rattle.djq_query.specs.Numbered.{Numbered, labels, is_number}
+use Rattle.djq_query.specs.Meaning.{IsShown, AreShown}
+use Rattle.djq_query.specs.Pattern.{Shape}
+use Rattle.djq_rows.specs.Catalog.{Catalog}
+use Rattle.djq_live.specs.Asked.{IsAsked}
+use Rattle.djq_live.specs.Leaves.{IsOver}
+use Rattle.djq_live.specs.Live.{Live, IsKept, IsKeptSomewhere}
+use Rattle.djq_live.specs.Stepping.{GrowsByOne, CountsLeaves, atoms_below, leaf_bound}
+use Rattle.djq_live.specs.Updating.{CountsUpdate, atoms_over, update_bound}
+use Rattle.djq_live.proofs.Heads.{InAtom, leaf_with, leaf_atom}
+use Rattle.djq_live.proofs.Later.{atom_at}
+use Rattle.djq_live.proofs.Passing.{part_few}
+use Rattle.djq_live.proofs.Sets.{below_has}
+use Rattle.djq_live.proofs.Sizing.{all_grown}
+
+-- ---- paths are no longer than there are atoms and variables
+
+number_low : (ls : List Label) (t : Term) (n : NumberedTerm) (x : ℕ) → IsShown ls t n
+    → is_number x n ≡ true → x < length ls
+number_low ls (Named y) (Number k) x shown is =
+    let low = slice_get_within ls k (Some y) shown in
+    let e = eqb-true x k is in
+    omega arith
+number_low ls Hole (Number k) x shown is =
+    let low = slice_get_within ls k None shown in
+    let e = eqb-true x k is in
+    omega arith
+number_low ls (Constant v) (Number k) x shown is = absurd shown
+number_low ls (Named y) (Fixed w) x shown is = absurd shown
+number_low ls Hole (Fixed w) x shown is = absurd shown
+number_low ls (Constant v) (Fixed w) x shown is = absurd (false≢true is)
+
+numbers_low : (ls : List Label) (ts : List Term) (ns : List NumberedTerm) (x : ℕ)
+    → AreShown ls ts ns → list_any (is_number x) ns ≡ true → x < length ls
+numbers_low ls [] [] x shown has = absurd (false≢true has)
+numbers_low ls [] (n ∷ ns) x shown has = absurd shown
+numbers_low ls (t ∷ ts) [] x shown has = absurd shown
+numbers_low ls (t ∷ ts) (n ∷ ns) x shown has =
+    elim (or_cases (is_number x n) (list_any (is_number x) ns) has) [
+      | inl here ↦ number_low ls t n x shown.0 here
+      | inr there ↦ numbers_low ls ts ns x shown.1 there
+    ]
+
+variable_low : (c : Catalog) (q : Query) (n : Numbered) (x : ℕ) → IsAsked c q n → InAtom n x
+    → x < length n.variables
+variable_low c q n x h at =
+    let a = atom_at c n.variables q.atoms n.atoms at.place at.atom h.atoms at.at in
+    let low = numbers_low (labels n.variables) a.atom.terms at.atom.terms x a.is.shown at.has in
+    let long = length-map n.variables (λ (v : Variable). v.name) in
+    omega arith
+
+-- each trim drops a variable that no other one drops
+few_paths : (c : Catalog) (q : Query) (n : Numbered) (ps : List Shape) (r : Reducts)
+    → IsOver c q n ps r → paths r.tree ≤ length n.atoms + length n.variables
+few_paths c q n ps r h =
+    let v = length n.variables in
+    let few = all_trims_of r.tree h.reducts.family.is_tree (numbers_below v)
+    (λ x d. below_has v x
+    (variable_low c q n x h.asked (leaf_atom c q n ps r x h (leaf_with r.tree x d)))) in
+    let long = length_below v in
+    let leaves = h.long in
+    omega arith
+
+leaf_within : (c : Catalog) (l : Live) (n : ℕ) → IsKept c l
+    → leaf_bound (l.reducts).tree n ≤ update_bound l n
+leaf_within c l n h =
+    let few = few_paths c l.query l.numbered l.patterns l.reducts h.over in
+    let product = mul-le-mul_right (n + 1) few in
+    omega arith
+
+-- ---- what a call counts
+
+below_over : (l : Live) (at : ℕ) (atoms : List NumberedAtom) (k : ℕ)
+    → atoms ≡ (l.numbered).atoms → atoms_below at atoms k ≤ atoms_over l at
+below_over l at atoms k e =
+    subst (λ (a : List NumberedAtom). atoms_below at a k ≤ atoms_over l at) (sym e)
+    (part_few (λ (a : NumberedAtom). a.relation == at) (l.numbered).atoms k)
+
+sum_all : (j o b u x y : ℕ) → j ≤ o → b ≤ u → y ≤ x + j * b → y ≤ x + 1 * (o * u)
+sum_all j o b u x y few within first =
+    let product = mul-le j b o u few within in
+    omega arith
+
+pub counts_all : (l self : Live) (at : ℕ) (atoms : List NumberedAtom) (k x y : ℕ) → l ≡ self
+    → atoms ≡ (l.numbered).atoms → IsKeptSomewhere l
+    → CountsLeaves l.reducts (atoms_below at atoms k) x y → CountsUpdate 1 self at x y
+counts_all l self at atoms k x y e a kept counts =
+    subst (λ (z : Live). CountsUpdate 1 z at x y) e
+    (λ n few. sum_all (atoms_below at atoms k) (atoms_over l at) (leaf_bound (l.reducts).tree n)
+    (update_bound l n) x y (below_over l at atoms k a) (leaf_within kept.0 l n kept.1)
+    (counts n few))
+
+-- giving back counts at most twice what taking in does, since a leaf has one tuple more
+twice_bound : (t : Tree) (n : ℕ) → leaf_bound t (n + 1) ≤ 2 * leaf_bound t n
+twice_bound t n = twice (paths t) n
+  where
+    twice : (p m : ℕ) → 16 * (p * (m + 1 + 1)) ≤ 2 * (16 * (p * (m + 1)))
+    twice p m =
+        let a : p * (m + 1) ≡ p * m + p = omega arith in
+        let b : p * (m + 1 + 1) ≡ p * m + 2 * p = omega arith in
+        omega arith
+
+sum_back : (j o b d u x y z : ℕ) → j + 1 ≤ o → b ≤ u → d ≤ 2 * b → y ≤ x + (j + 3) * b
+    → z ≤ y + j * d → z ≤ x + 3 * (o * u)
+sum_back j o b d u x y z few within twice first second =
+    let a = mul-le-mul_left j twice in
+    let p = mul-le (j + 1) b o u few within in
+    let e : (j + 3) * b ≡ j * b + 3 * b = omega arith in
+    let f : j * (2 * b) ≡ 2 * (j * b) = omega arith in
+    let g : (j + 1) * b ≡ j * b + b = omega arith in
+    omega arith
+
+pub counts_back : (l self : Live) (s : Reducts) (at : ℕ) (atoms : List NumberedAtom)
+    (k x y z : ℕ) → l ≡ self → atoms ≡ (l.numbered).atoms → IsKeptSomewhere l
+    → s.tree ≡ (l.reducts).tree → GrowsByOne l.reducts s
+    → atoms_below at atoms k + 1 ≤ atoms_below at atoms (length atoms)
+    → CountsLeaves l.reducts (atoms_below at atoms k + 3) x y
+    → CountsLeaves s (atoms_below at atoms k) y z → CountsUpdate 3 self at x z
+counts_back l self s at atoms k x y z e a kept tree grows more first second =
+    subst (λ (v : Live). CountsUpdate 3 v at x z) e
+    (λ n few.
+    let j = atoms_below at atoms k in
+    let over = below_over l at atoms (length atoms) a in
+    sum_back j (atoms_over l at) (leaf_bound (l.reducts).tree n)
+    (leaf_bound (l.reducts).tree (n + 1)) (update_bound l n) x y z (omega arith)
+    (leaf_within kept.0 l n kept.1) (twice_bound (l.reducts).tree n) (first n few)
+    (subst (λ (t : Tree). z ≤ y + j * leaf_bound t (n + 1)) tree
+    (second (n + 1) (all_grown l.reducts s n tree grows few))))

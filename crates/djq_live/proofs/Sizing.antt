@@ -1,0 +1,276 @@
+-- How long leaves get in an update, and how much it counts.
+use Rattle.std.proofs.Common.{◌≡◌, ℕ, ◌+◌, ◌*◌, ◌<◌, ◌≤◌, List, ◌∷◌, length, ap, sym, subst, inl, inr, arith}
+use Rattle.std.specs.Prelude.{◌≢◌, ◌==◌, Some, filter, slice_get, slice_index_or}
+use Rattle.std.proofs.lemmas.Bool.{cases_eq, cases_lt}
+use Rattle.std.proofs.Math.Seq.{take-length}
+use Rattle.djq_index.specs.Tuple.{same, one}
+use Rattle.djq_index.specs.Entries.{Entry, cnt}
+use Rattle.djq_index.proofs.Counts.{cnt_cons, cnt_split}
+use Rattle.djq_index.proofs.Apart.{cnt_once, stands}
+use Rattle.djq_index.proofs.Tuples.{one_same}
+use Rattle.djq_tree.specs.Tree.{Tree}
+use Rattle.djq_reduct.specs.Tables.{entries_at}
+use Rattle.djq_reduct.specs.Reducts.{Reducts, IsReducts}
+use Rattle.djq_reduct.proofs.Family.{apart_at}
+use Rattle.djq_propagate.specs.Updates.{HasInserted, HasMarked, HasKept, HasAtMost, paths}
+use Rattle.djq_propagate.proofs.Measuring.{length_even, length_less}
+use Rattle.djq_query.specs.declared.numbered.NumberedAtom.{NumberedAtom}
+use Rattle.djq_query.specs.Pattern.{Shape}
+use Rattle.djq_live.specs.Stepping.{
+  HasMore,
+  ChangesBelow,
+  HasRoom,
+  GrowsAt,
+  GrowsByOne,
+  CountsLeaf,
+  CountsLeaves,
+  atoms_below,
+  leaf_bound,
+}
+use Rattle.djq_live.proofs.Passing.{counts_over, part_few}
+
+-- ---- a tuple comes
+
+longer_leaf : (j : ℕ) (u : List ℕ) (old mid : Reducts) → HasInserted old mid j u
+    → length (entries_at mid.tables j) ≤ length (entries_at old.tables j) + 1
+longer_leaf j u old mid came =
+    let es = entries_at mid.tables j in
+    let ds = entries_at old.tables j in
+    let split = cnt_split es u in
+    let marked = came.marked u in
+    let here = one_same u in
+    let s = stands es u (omega arith) in
+    let more : length es ≤ length (s.entry ∷ ds) =
+    length_less es (s.entry ∷ ds)
+    (λ v.
+    let first = cnt_cons s.entry ds v in
+    let is : one (same s.entry.tuple v) ≡ one (same u v) =
+    ap (λ (w : List ℕ). one (same w v)) s.tuple in
+    let parts = cnt_split es v in
+    let plain = came.without.leaf v in
+    let mark = came.marked v in
+    omega arith) in
+    omega arith
+
+same_leaf : (j : ℕ) (u : List ℕ) (old mid : Reducts) (i : ℕ) → HasInserted old mid j u
+    → i < old.tree.leaves → i ≢ j
+    → length (entries_at mid.tables i) ≡ length (entries_at old.tables i)
+same_leaf j u old mid i came low apart =
+    length_even (entries_at mid.tables i) (entries_at old.tables i)
+    (λ v. sym
+    (came.without.others i v (subst (λ (t : Tree). i < t.leaves) came.without.tree low) apart))
+
+pub inserted_grows : (j : ℕ) (u : List ℕ) (old mid new : Reducts) → HasInserted old mid j u
+    → HasKept mid new → GrowsAt j old new
+inserted_grows j u old mid new came kept = record {
+  leaf = (let a = longer_leaf j u old mid came in
+      let b = length_even (entries_at new.tables j) (entries_at mid.tables j)
+      (kept.tables.tuples j) in
+      omega arith);
+  others = λ i low apart.
+      let a = same_leaf j u old mid i came low apart in
+      let b = length_even (entries_at new.tables i) (entries_at mid.tables i)
+      (kept.tables.tuples i) in
+      omega arith;
+}
+
+-- ---- what it counts
+
+sum_inserted : (p n x y z : ℕ) → y ≤ x + 10 * (p * (n + 1)) → z ≤ y + p * (1 + (n + 1))
+    → z ≤ x + 1 * (16 * (p * (n + 1)))
+sum_inserted p n x y z first second =
+    let a : p * (n + 1) ≡ p * n + p = omega arith in
+    let b : p * (1 + (n + 1)) ≡ p * n + 2 * p = omega arith in
+    omega arith
+
+sum_removed : (p n x y z : ℕ) → 0 < p → y ≤ x + 6 * (p * n)
+    → z ≤ y + 1 + 5 * (p * n) + p * (1 + n) → z ≤ x + 1 * (16 * (p * (n + 1)))
+sum_removed p n x y z some first second =
+    let a : p * (n + 1) ≡ p * n + p = omega arith in
+    let b : p * (1 + n) ≡ p * n + p = omega arith in
+    omega arith
+
+room_after : (j : ℕ) (u : List ℕ) (n : ℕ) (old mid : Reducts) → HasInserted old mid j u
+    → HasRoom old j n → HasAtMost mid (n + 1)
+room_after j u n old mid came room = record {
+  each = λ i low.
+      let lower : i < old.tree.leaves =
+      subst (λ (t : Tree). i < t.leaves) (sym came.without.tree) low in
+      elim (cases_eq i j) [
+        | inl here ↦
+            subst (λ (k : ℕ). length (entries_at mid.tables k) ≤ n + 1) (sym here)
+            (let a = longer_leaf j u old mid came in let b = room.leaf in omega arith)
+        | inr apart ↦
+            let a = same_leaf j u old mid i came lower apart in
+            let b = room.all.each i lower in
+            omega arith
+      ];
+}
+
+pub insertion_counts : (j : ℕ) (u : List ℕ) (old mid : Reducts) (x y z : ℕ)
+    → HasInserted old mid j u
+    → ((n : ℕ) → HasAtMost mid n → y ≤ x + 10 * (paths old.tree * n))
+    → ((n : ℕ) → HasAtMost mid n → z ≤ y + paths mid.tree * (1 + n)) → CountsLeaf old j 1 x z
+insertion_counts j u old mid x y z came first second = λ n room.
+    let few = room_after j u n old mid came room in
+    sum_inserted (paths old.tree) n x y z (first (n + 1) few)
+    (subst (λ (t : Tree). z ≤ y + paths t * (1 + (n + 1))) (sym came.without.tree)
+    (second (n + 1) few))
+
+some_path : (r : Reducts) → IsReducts r → 0 < paths r.tree
+some_path r h = let some = h.family.is_tree.some in omega arith
+
+pub removal_counts : (j : ℕ) (u : List ℕ) (old mid : Reducts) (x y z : ℕ) → IsReducts old
+    → HasMarked old mid j u
+    → ((n : ℕ) → HasAtMost old n → y ≤ x + 6 * (paths old.tree * n))
+    → ((n : ℕ) → HasAtMost mid n
+    → z ≤ y + 1 + 5 * (paths mid.tree * n) + paths mid.tree * (1 + n))
+    → CountsLeaves old 1 x z
+removal_counts j u old mid x y z sound marked first second = λ n few.
+    let still : HasAtMost mid n = record {
+      each = λ i low.
+          let a = few.each i (subst (λ (t : Tree). i < t.leaves) marked.tree low) in
+          let b = length_even (entries_at mid.tables i) (entries_at old.tables i)
+          (marked.tables.tuples i) in
+          omega arith;
+    } in
+    sum_removed (paths old.tree) n x y z (some_path old sound) (first n few)
+    (subst (λ (t : Tree). z ≤ y + 1 + 5 * (paths t * n) + paths t * (1 + n)) marked.tree
+    (second n still))
+
+-- ---- leaf after leaf
+
+pub counts_as : (r : Reducts) (j k x y : ℕ) → j ≡ k → CountsLeaves r j x y
+    → CountsLeaves r k x y
+counts_as r j k x y e h = subst (λ (i : ℕ). CountsLeaves r i x y) e h
+
+sum_next : (j k b x y z : ℕ) → j + 1 ≡ k → y ≤ x + j * b → z ≤ y + 1 * b → z ≤ x + k * b
+sum_next j k b x y z e first second =
+    subst (λ (i : ℕ). z ≤ x + i * b) e
+    (let a : (j + 1) * b ≡ j * b + b = omega arith in omega arith)
+
+bound_as : (r s : Reducts) (n c y z : ℕ) → s.tree ≡ r.tree → z ≤ y + c * leaf_bound s.tree n
+    → z ≤ y + c * leaf_bound r.tree n
+bound_as r s n c y z e h = subst (λ (t : Tree). z ≤ y + c * leaf_bound t n) e h
+
+-- with fewer tuples there are at most as many
+fewer_stay : (small big : Reducts) (n : ℕ) → IsReducts small → HasMore small big
+    → HasAtMost big n → HasAtMost small n
+fewer_stay small big n h more few = record {
+  each = λ j low.
+      let es = entries_at small.tables j in
+      let ds = entries_at big.tables j in
+      let a = few.each j (subst (λ (t : Tree). j < t.leaves) (sym more.tree) low) in
+      let b = length_less es ds
+      (λ v. elim (cases_lt 0 (cnt es v)) [
+        | inl some ↦
+            let there = more.more j v low some in
+            let once = cnt_once es v (apart_at small.tables j (h.family.sound j)) in
+            omega arith
+        | inr none ↦ omega arith
+      ]) in
+      omega arith;
+}
+
+pub counts_fewer : (r s : Reducts) (j k x y z : ℕ) → IsReducts s → HasMore s r → j + 1 ≡ k
+    → CountsLeaves r j x y → CountsLeaves s 1 y z → CountsLeaves r k x z
+counts_fewer r s j k x y z h more e first second = λ n few.
+    sum_next j k (leaf_bound r.tree n) x y z e (first n few)
+    (bound_as r s n 1 y z (sym more.tree) (second n (fewer_stay s r n h more few)))
+
+pub all_grown : (r s : Reducts) (n : ℕ) → s.tree ≡ r.tree → GrowsByOne r s → HasAtMost r n
+    → HasAtMost s (n + 1)
+all_grown r s n e grows few = record {
+  each = λ j low.
+      let lower : j < r.tree.leaves = subst (λ (t : Tree). j < t.leaves) e low in
+      let a = grows.each j lower in
+      let b = few.each j lower in
+      omega arith;
+}
+
+-- the next leaf is as long as before all
+still_long : (Changes : Shape → List Entry → List Entry → Type 0) (at : ℕ)
+    (atoms : List NumberedAtom) (ps : List Shape) (k : ℕ) (m : NumberedAtom) (r s : Reducts)
+    → slice_get atoms k ≡ Some m → ChangesBelow Changes at atoms ps k r s
+    → length (entries_at s.tables k) ≡ length (entries_at r.tables k)
+still_long Changes at atoms ps k m r s e h =
+    length_even (entries_at s.tables k) (entries_at r.tables k)
+    (h.others k m e (λ low. absurd (omega arith)))
+
+room_for : (Changes : Shape → List Entry → List Entry → Type 0) (at : ℕ)
+    (atoms : List NumberedAtom) (ps : List Shape) (k : ℕ) (m : NumberedAtom) (r s : Reducts)
+    (n : ℕ) → slice_get atoms k ≡ Some m → k < r.tree.leaves
+    → ChangesBelow Changes at atoms ps k r s → GrowsByOne r s → HasAtMost r n → HasRoom s k n
+room_for Changes at atoms ps k m r s n e low h grows few = record {
+  leaf = (let a = still_long Changes at atoms ps k m r s e h in
+      let b = few.each k low in
+      omega arith);
+  all = all_grown r s n h.tree grows few;
+}
+
+pub grows_next : (Changes : Shape → List Entry → List Entry → Type 0) (at : ℕ)
+    (atoms : List NumberedAtom) (ps : List Shape) (k : ℕ) (m : NumberedAtom) (r s t : Reducts)
+    → slice_get atoms k ≡ Some m → ChangesBelow Changes at atoms ps k r s → GrowsByOne r s
+    → GrowsAt k s t → GrowsByOne r t
+grows_next Changes at atoms ps k m r s t e h grows step = record {
+  each = λ j low.
+      elim (cases_eq j k) [
+        | inl here ↦
+            subst (λ (i : ℕ). length (entries_at t.tables i) ≤ length (entries_at r.tables i) + 1)
+            (sym here)
+            (let a = still_long Changes at atoms ps k m r s e h in
+            let b = step.leaf in
+            omega arith)
+        | inr apart ↦
+            let a = step.others j (subst (λ (x : Tree). j < x.leaves) (sym h.tree) low) apart in
+            let b = grows.each j low in
+            omega arith
+      ];
+}
+
+pub counts_next : (Changes : Shape → List Entry → List Entry → Type 0) (at : ℕ)
+    (atoms : List NumberedAtom) (ps : List Shape) (k : ℕ) (m : NumberedAtom) (r s : Reducts)
+    (i j x y z : ℕ) → slice_get atoms k ≡ Some m → k < r.tree.leaves
+    → ChangesBelow Changes at atoms ps k r s → GrowsByOne r s → i + 1 ≡ j
+    → CountsLeaves r i x y → CountsLeaf s k 1 y z → CountsLeaves r j x z
+counts_next Changes at atoms ps k m r s i j x y z e low h grows one first second = λ n few.
+    sum_next i j (leaf_bound r.tree n) x y z one (first n few)
+    (bound_as r s n 1 y z h.tree
+    (second n (room_for Changes at atoms ps k m r s n e low h grows few)))
+
+-- ---- a leaf that is refused
+
+pub kept_grows : (r s t : Reducts) → s.tree ≡ r.tree → GrowsByOne r s → HasKept s t
+    → GrowsByOne r t
+kept_grows r s t e grows kept = record {
+  each = λ j low.
+      let a = grows.each j low in
+      let b = length_even (entries_at t.tables j) (entries_at s.tables j) (kept.tables.tuples j) in
+      omega arith;
+}
+
+sum_last : (i b x y z : ℕ) → y ≤ x + i * b → z ≤ y + 3 * b → z ≤ x + (i + 3) * b
+sum_last i b x y z first second =
+    let a : (i + 3) * b ≡ i * b + 3 * b = omega arith in
+    omega arith
+
+pub counts_last : (Changes : Shape → List Entry → List Entry → Type 0) (at : ℕ)
+    (atoms : List NumberedAtom) (ps : List Shape) (k : ℕ) (m : NumberedAtom) (r s : Reducts)
+    (i x y z : ℕ) → slice_get atoms k ≡ Some m → k < r.tree.leaves
+    → ChangesBelow Changes at atoms ps k r s → GrowsByOne r s → CountsLeaves r i x y
+    → CountsLeaf s k 3 y z → CountsLeaves r (i + 3) x z
+counts_last Changes at atoms ps k m r s i x y z e low h grows first second = λ n few.
+    sum_last i (leaf_bound r.tree n) x y z (first n few)
+    (bound_as r s n 3 y z h.tree
+    (second n (room_for Changes at atoms ps k m r s n e low h grows few)))
+
+-- the leaf that is refused is one more over the relation
+pub one_more : (at : ℕ) (atoms : List NumberedAtom) (k : ℕ) (m : NumberedAtom)
+    → k < length atoms → m ≡ slice_index_or atoms k m → m.relation ≡ at
+    → atoms_below at atoms k + 1 ≤ atoms_below at atoms (length atoms)
+one_more at atoms k m low e on =
+    let next = counts_over at atoms k m low e on in
+    let few = part_few (λ (a : NumberedAtom). a.relation == at) atoms (k + 1) in
+    let all = ap (λ (l : List NumberedAtom). length (filter (λ a. a.relation == at) l))
+    (take-length atoms) in
+    omega arith

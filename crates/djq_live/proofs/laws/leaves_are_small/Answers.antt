@@ -1,0 +1,5 @@
+use Rattle.djq_live.proofs.Small.{leaves_small}
+use Rattle.djq_live.proofs.laws.leaves_are_small.Goals as goal
+
+pub returns : goal.returns
+returns c = leaves_small
