@@ -179,9 +179,9 @@ few_nodes t s = omega (arith, both_kinds t.nodes, not_trims_of t s)
 spread : (P n : ℕ) → 2 * P * n ≡ 2 * (P * n)
 spread P n = omega arith
 
-pub put_bounded : (t : Tree) (old : List Table) (a n x z : ℕ) → IsReducts (both t old) → HasAtMost (both t old) n → ((m : ℕ) → AreAtMost old m → length (entries_at old a) < m → z + 9 * size old ≤ x + 9 * (m * length t.nodes)) → z ≤ x + 18 * (paths t * (1 + n))
-put_bounded t old a n x z r few h =
+pub put_bounded : (t : Tree) (old : List Table) (a n x z : ℕ) → IsReducts (both t old) → HasAtMost (both t old) n → length (entries_at old a) < n → ((m : ℕ) → AreAtMost old m → length (entries_at old a) < m → z + 9 * size old ≤ x + 9 * (m * length t.nodes)) → z ≤ x + 18 * (paths t * n)
+put_bounded t old a n x z r few room h =
     let all = sized t old n r few in
-    let first = h (1 + n) (record { each = λ i. omega (arith, all i) }) (omega (arith, all a)) in
-    let m = mul-le-mul_right (1 + n) (few_nodes t r.family.is_tree) in
-    omega (arith, turned (length t.nodes) (1 + n), spread (paths t) (1 + n))
+    let first = h n (record { each = all }) room in
+    let m = mul-le-mul_right n (few_nodes t r.family.is_tree) in
+    omega (arith, turned (length t.nodes) n, spread (paths t) n)

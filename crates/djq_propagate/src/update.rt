@@ -35,7 +35,7 @@ pub fn insert_leaf<L: Ledger>(
     ensures inserted { IfOk result (λ _. HasInserted reducts.old reducts.new leaf tuple.now) }
     ensures refused { OnErr result (HasKept reducts.old reducts.new) }
     ensures counted { IfOk result (λ _. (n : ℕ) → HasAtMost reducts.new n → tally.new ≤ tally.old + 10 * (paths reducts.old.tree * n)) }
-    ensures bounded { OnErr result ((n : ℕ) → HasAtMost reducts.old n → tally.new ≤ tally.old + 18 * (paths reducts.old.tree * (1 + n))) }
+    ensures bounded { OnErr result ((n : ℕ) → HasAtMost reducts.old n → length (entries_at reducts.old.tables leaf) < n → tally.new ≤ tally.old + 18 * (paths reducts.old.tree * n)) }
 {
     let _tables = &reducts.tables;
     put(&reducts.tree, &mut reducts.tables, leaf, tuple, tally)
@@ -56,7 +56,7 @@ fn put<L: Ledger>(
     ensures inserted { IfOk result (λ _. HasInserted (record { tree = tree.now; tables = tables.old.items }) (record { tree = tree.now; tables = tables.new.items }) leaf tuple.now) }
     ensures refused { OnErr result (HasKept (record { tree = tree.now; tables = tables.old.items }) (record { tree = tree.now; tables = tables.new.items })) }
     ensures counted { IfOk result (λ _. (n : ℕ) → HasAtMost (record { tree = tree.now; tables = tables.new.items }) n → tally.new ≤ tally.old + 10 * (paths tree.now * n)) }
-    ensures bounded { OnErr result ((n : ℕ) → HasAtMost (record { tree = tree.now; tables = tables.old.items }) n → tally.new ≤ tally.old + 18 * (paths tree.now * (1 + n))) }
+    ensures bounded { OnErr result ((n : ℕ) → HasAtMost (record { tree = tree.now; tables = tables.old.items }) n → length (entries_at tables.old.items leaf) < n → tally.new ≤ tally.old + 18 * (paths tree.now * n)) }
 {
     live(tree, tables, leaf, tuple, tally)?;
     touch_path(tree, tables, leaf, false, tally);

@@ -36,8 +36,8 @@ returns-in_err-live-clause-refused g c =
 
 pub returns-in_err-live-clause-bounded : goal.returns-in_err-live-clause-bounded
 returns-in_err-live-clause-bounded g c =
-    on_err c.from_residual.result ((n : ℕ) → HasAtMost (both c.args.tree.now c.args.tables.now.items) n → c.live.new.tally ≤ c.args.tally.now + 18 * (paths c.args.tree.now * (1 + n)))
-    (λ n few. put_bounded c.args.tree.now c.args.tables.now.items c.args.leaf n c.args.tally.now c.live.new.tally c.requires.reducts few c.in_err-live.ensures.bounded)
+    on_err c.from_residual.result ((n : ℕ) → HasAtMost (both c.args.tree.now c.args.tables.now.items) n → length (entries_at c.args.tables.now.items c.args.leaf) < n → c.live.new.tally ≤ c.args.tally.now + 18 * (paths c.args.tree.now * n))
+    (λ n few room. put_bounded c.args.tree.now c.args.tables.now.items c.args.leaf n c.args.tally.now c.live.new.tally c.requires.reducts few room c.in_err-live.ensures.bounded)
 
 pub touch_path-requires-clause-family : goal.touch_path-requires-clause-family
 touch_path-requires-clause-family g c =
