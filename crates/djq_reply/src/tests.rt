@@ -9,7 +9,7 @@ use std::test::Fail;
 
 #[test]
 fn refusals_have_their_words(rt: HostRuntime) -> Result<(), Fail> {
-    let cases: [(Refusal, &[u8]); 14] = [
+    let cases: [(Refusal, &[u8]); 13] = [
         (Refusal::Syntax, b"err 1 syntax\n"),
         (Refusal::Taken, b"err 2 taken\n"),
         (Refusal::NoRelation, b"err 3 no relation\n"),
