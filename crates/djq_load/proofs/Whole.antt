@@ -1,11 +1,12 @@
 -- What the whole of a load comes to.
-use Rattle.std.specs.Prelude.{ℕ, List, [], ◌∷◌, ◌++◌, ◌≡◌, ◌==◌, ◌+◌, ◌*◌, ◌%◌, ◌^◌, ◌<◌, ◌≤◌, Bool, true, false, Option, None, Some, IsSomeAnd, Result, Ok, Err, All, find, length, replicate, codes, ⊤, is_err, IfOk, OnOk, ◌⊎◌}
+use Rattle.std.specs.Prelude.{ℕ, List, [], ◌∷◌, ◌++◌, ◌≡◌, ◌≢◌, ◌==◌, ◌+◌, ◌%◌, ◌^◌, ◌<◌, Bool, true, false, Option, None, Some, Result, Ok, Err, All, length, replicate, codes, ⊤, is_err, IfOk, OnOk, ◌⊎◌}
 use Rattle.std.proofs.Common.{refl, sym, ap, ap₂, ◌∙◌, subst, inl, inr, length-append, arith}
 use Rattle.std.proofs.lemmas.List.Elements.{All-nil}
 use Rattle.djq_model.specs.declared.query.Query.{Query}
 use Rattle.djq_model.specs.Data.{Bytes, Tuple, bytes_eq, query_of}
-use Rattle.djq_model.specs.Answer.{IsAnswer, IsListing}
-use Rattle.djq_lines.specs.Reply.{listing_lines, text_of}
+use Rattle.djq_model.specs.Answer.{IsAnswer}
+use Rattle.djq_lines.specs.declared.answer.Refusal.TheVariants.{NoMemory}
+use Rattle.djq_lines.specs.Reply.{refusal_line}
 use Rattle.djq_machine.specs.State.{State, Session, Cursor, open_at, session_of, cursor_of, fresh}
 use Rattle.djq_machine.specs.Step.{opened}
 use Rattle.djq_machine.specs.Effect.{Effect}
@@ -24,12 +25,18 @@ use Rattle.djq_gen.specs.Load.{load}
 use Rattle.djq_load.specs.declared.loading.Totals.{Totals}
 use Rattle.djq_load.specs.declared.loading.LoadRefusal.{LoadRefusal}
 use Rattle.djq_load.specs.declared.reading.Reading.{Reading}
-use Rattle.djq_load.specs.Replies.{reading, read_bytes}
-use Rattle.djq_load.specs.Lines.{Loads, IsIdle, LineRuns, TakesAll, cursors_in, cursors_of, cursor_at, Stands}
-use Rattle.djq_load.specs.Totals.{amount_of, so_far, IsRead, IsTold, open_line, next_line, AreTotals, RunsLoad}
+use Rattle.djq_load.specs.Replies.{read_bytes}
+use Rattle.djq_load.specs.Lines.{Loads, IsIdle, LineRuns, TakesAll, cursors_in, cursor_at, Stands}
+use Rattle.djq_load.specs.Totals.{so_far, IsRead, IsTold, open_line, next_line, AreTotals, RunsLoad}
+use Rattle.djq_load.proofs.Served.{quiet, listed}
 use Rattle.djq_load.proofs.Idle.{loads_one, loads_then}
-use Rattle.djq_load.proofs.Cursors.{Tells, next_tells, stands_on}
+use Rattle.djq_load.proofs.Cursors.{next_tells, stands_on}
 use Rattle.djq_load.proofs.Listing.{listing_read}
+
+-- What is pending as the cursor was read.
+pub read_served : (old : State) (before : Counts) (mid : State) (now : Counts) (r : Reading) → IsIdle old → LineRuns next_line old before mid now → ((most : ℕ) × IsRead old r most) → pending_of mid 1 ≢ refusal_line NoMemory
+read_served old before mid now r idle runs (most, h) e =
+    let t = next_tells h.given r.ended old before mid now idle h.stands runs in listed t.told t.end (sym t.pending ∙ e)
 
 -- The cursor was read once more.
 pub read_on : (old : State) (before : Counts) (mid : State) (now : Counts) (new : State) (r after : Reading) (text : Bytes) (most : ℕ)
@@ -130,7 +137,7 @@ pub record Begins (old new : State) (counted : Counts) : Type 0 where
 pub begins : (old new : State) (counted : Counts) (r : Result ⊤ OpenRefusal) → is_err r ≡ false → OpenGives old 1 r new → old.sessions ≡ [] → Begins old new counted
 begins old new counted (Ok u) e h none = record {
   idle = opened_idle old new none h.0 h.1;
-  loads = loads_one (record { event = opened 1; effect = h.0.effect }) old counted new counted ((refl, none), h.0.step) (omega arith);
+  loads = loads_one (record { event = opened 1; effect = h.0.effect }) old counted new counted ((refl, none), h.0.step) (quiet (to_session 1 (h.0.effect).queued) (ap (λ (e : Effect). to_session 1 e.queued) (h.0.step).acts.0)) (omega arith);
 }
 begins old new counted (Err r) e h none = absurd cc
 

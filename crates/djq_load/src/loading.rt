@@ -158,7 +158,8 @@ fn read_more<M: Machine, L: Ledgers>(
     reading: Reading,
     steps: &mut Steps<L>,
 ) -> Result<Reading, LoadRefusal>
-    requires { IsIdle (M.state machine.old) }
+    requires idle { IsIdle (M.state machine.old) }
+    requires reads { (most : ℕ) × IsRead (M.state machine.old) reading most }
     ensures loads { OnOk result (Loads (next_line ∷ [])
         (M.state machine.old) (counts steps.old.listing steps.old.update steps.old.rows)
         (M.state machine.new) (counts steps.new.listing steps.new.update steps.new.rows)) }

@@ -11,6 +11,9 @@ loop-init g c = record {
   read = read_none _ _ c.new-reading.ensures c.requires.stands;
 }
 
+pub read_more-requires-clause-reads : goal.read_more-requires-clause-reads
+read_more-requires-clause-reads g c = (1000 * c.loop.counter, c.loop.invariant.read)
+
 pub returns-then-reading-clause-loads : goal.returns-then-reading-clause-loads
 returns-then-reading-clause-loads g c =
     (c.loop.counter + 1, loads_again next_line c.loop.counter _ _ _ _ _ _ c.loop.invariant.loads c.in_ok-reading.ensures.loads)
