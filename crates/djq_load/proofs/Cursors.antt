@@ -1,5 +1,5 @@
 -- What the lines that open and read a cursor make of it, and what they are answered.
-use Rattle.std.specs.Prelude.{ℕ, List, [], ◌∷◌, ◌++◌, ◌==◌, ◌≡◌, ◌≤◌, ◌⊎◌, Bool, true, false, cond, Option, None, Some, is_some, IsSome, IsSomeAnd, MatchOption, option_map, Result, Ok, Err, length, find, codes, slice_index, ⊤}
+use Rattle.std.specs.Prelude.{List, [], ◌∷◌, ◌++◌, ◌≡◌, ◌≤◌, ◌⊎◌, Bool, true, false, cond, Option, None, Some, is_some, IsSome, IsSomeAnd, MatchOption, option_map, Result, Ok, Err, length, codes, slice_index, ⊤}
 use Rattle.std.specs.List.{list_all}
 use Rattle.std.specs.Str.{IsAscii, is_utf8}
 use Rattle.std.proofs.Common.{refl, sym, ap, ◌∙◌, subst, inl, inr, arith, leb}
@@ -8,22 +8,20 @@ use Rattle.std.proofs.lemmas.Str.{IsUtf8-from_ascii, is_utf8-from_IsUtf8}
 use Rattle.std.proofs.lemmas.Str.Ascii.{IsAscii-nil, IsAscii-cons}
 use Rattle.djq_model.specs.declared.query.Query.{Query}
 use Rattle.djq_model.specs.Data.{Bytes, Tuple, bytes_eq, query_of}
-use Rattle.djq_model.specs.Answer.{IsAnswer}
 use Rattle.djq_lines.specs.declared.answer.EndCause.{EndCause}
 use Rattle.djq_lines.specs.declared.answer.EndCause.TheVariants.{Memory}
 use Rattle.djq_lines.specs.declared.answer.Refusal.{Refusal}
 use Rattle.djq_lines.specs.declared.answer.Refusal.TheVariants.{Syntax, Taken, NoRelation, NoQuery, NoCursor, Arity, WrongType, HeadUnbound, HeadRepeated, VariableType, Limit, NoMemory, InUse}
-use Rattle.djq_lines.specs.declared.command.Command.{Command}
 use Rattle.djq_lines.specs.declared.command.Command.TheVariants.{Open, Next}
 use Rattle.djq_lines.specs.Line.{Front, dry, too_long, a_line, front_of, is_blank}
 use Rattle.djq_lines.specs.Grammar.{Reading, says as says_command, reading_of, reading_in, command_of, command_in}
-use Rattle.djq_lines.specs.Conditions.{first_of, Answers, OutOfMemoryWhere}
+use Rattle.djq_lines.specs.Conditions.{Answers}
 use Rattle.djq_lines.specs.Reply.{refusal_line, end_memory, listing_lines, text_of, ok_reply}
 use Rattle.djq_value.specs.Token.{tokens}
 use Rattle.djq_machine.specs.State.{State, Session, Cursor, open_at, session_of, with_session, cursor_of, with_position, ended_by}
 use Rattle.djq_machine.specs.Effect.{Effect, nothing, says, EndsWith, RefusedStep}
-use Rattle.djq_machine.specs.Command.{open_refusal, with_cursor, OpensTo, OpenStep, NextStep, NextCutStep, NextStepAt}
-use Rattle.djq_machine.specs.LineStep.{LineOutcome, blank, run, FrontStep, ReadStep, behind_line}
+use Rattle.djq_machine.specs.Command.{open_refusal, with_cursor, OpensTo, NextStep, NextCutStep, NextStepAt}
+use Rattle.djq_machine.specs.LineStep.{blank, run, FrontStep, ReadStep, behind_line}
 use Rattle.djq_machine.specs.Step.{Event, fed, stepped, took, FedStep, TookStep, Step}
 use Rattle.djq_machine.specs.Run.{to_session, pending_of, pending_in}
 use Rattle.djq_machine.specs.Call.{IsOpen, Makes, RanStep, Counts, cause_of, cause_in, held_of, held_in}
@@ -32,7 +30,7 @@ use Rattle.djq_laws.proofs.Queueing.{gaining, session_changed, stepped as sessio
 use Rattle.djq_laws.proofs.Touching.{says_to, is_stepped}
 use Rattle.djq_load.specs.Lines.{IsIdle, LineRuns, TakesAll, cursors_in, cursors_of, cursor_at, Stands}
 use Rattle.djq_load.specs.Totals.{open_line, next_line}
-use Rattle.djq_load.proofs.Idle.{IsFed, is_fed}
+use Rattle.djq_load.proofs.Idle.{is_fed}
 
 none_some : {A : Type 0} (o : Option A) (a : A) → o ≡ None → o ≡ Some a → ⊥
 none_some o a e f = cc
@@ -151,11 +149,13 @@ pub record Tells (given : List Tuple) (new : State) : Type 0 where
   pub stands : Stands new (given ++ told) end
   pub pending : pending_of new 1 ≡ text_of (listing_lines told end)
   pub few : length told ≤ 1000
+  pub full : end ≡ false → length told ≡ 1000
 
 record NextTold (given : List Tuple) (y : Session) (e : Effect) (m : State) : Type 0 where
   told : List Tuple
   end : Bool
   few : length told ≤ 1000
+  full : end ≡ false → length told ≡ 1000
   queued : to_session 1 e.queued ≡ text_of (listing_lines told end)
   session : Session
   found : session_of m 1 ≡ Some session
@@ -168,6 +168,7 @@ next_told given st y q e m found running (inl h) = record {
   told = h.told;
   end = h.end;
   few = (h.tells).at_most;
+  full = (h.tells).all_asked;
   queued = ap (λ (d : Effect). to_session 1 d.queued) h.effect ∙ says_to 1 (text_of (listing_lines h.told h.end));
   session = record y { cursors = with_position y.cursors (codes "c") (open_at (given ++ h.told) h.end) };
   found = changed_to st m y (λ x. record x { cursors = with_position x.cursors (codes "c") (open_at (given ++ h.told) h.end) }) (λ x. refl) found h.state;
@@ -223,6 +224,7 @@ next_run given ended mid new stands pending running r =
           ∙ moved given (given ++ t.told) ended t.end y.cursors stays;
       pending = pending_behind mid new r.event r.effect r.step t.session (text_of (listing_lines t.told t.end)) t.found (t.pending ∙ sym (ap pending_in r.found) ∙ pending) t.queued;
       few = t.few;
+      full = t.full;
     }
 
 next_front : front_of next_line ≡ a_line (codes "next c 1000") []

@@ -1,23 +1,30 @@
 -- What a line that comes to an idle session makes of it.
-use Rattle.std.specs.Prelude.{ℕ, List, [], ◌∷◌, ◌++◌, ◌≡◌, ◌+◌, ◌<◌, ◌≤◌, ◌⊎◌, true, Option, None, Some, IsSome, IsSomeAnd, length, replicate}
+use Rattle.std.specs.Prelude.{ℕ, List, [], ◌∷◌, ◌++◌, ◌≡◌, ◌≢◌, ◌+◌, ◌<◌, ◌≤◌, true, Option, None, Some, IsSome, IsSomeAnd, length, replicate}
 use Rattle.std.proofs.Common.{refl, sym, ap, ap₂, ◌∙◌, subst, inl, inr, append-nil, length-append, arith}
 use Rattle.std.proofs.lemmas.List.{nil_from_length, replicate_more}
 use Rattle.std.proofs.lemmas.Grind.{flat_map-append}
+use Rattle.std.proofs.lemmas.List.Elements.{All-nil, All-cons, All-append}
 use Rattle.std.proofs.lemmas.List.Sums.{sum_by-append}
 use Rattle.djq_model.specs.Data.{Bytes}
+use Rattle.djq_lines.specs.declared.answer.Refusal.TheVariants.{NoMemory}
 use Rattle.djq_lines.specs.Line.{a_line, behind_lf, front_of}
+use Rattle.djq_lines.specs.Reply.{refusal_line}
 use Rattle.djq_machine.specs.State.{State, Session, session_of}
 use Rattle.djq_machine.specs.LineStep.{LineOutcome, blank, run}
-use Rattle.djq_machine.specs.Step.{Event, opened, fed, stepped, took, is_dry}
-use Rattle.djq_machine.specs.Run.{Did, pieces_of, piece_of, pending_of, pending_in}
-use Rattle.djq_machine.specs.Call.{IsOpen, Makes, MakesCounted, RanStep, Counts, OpenGives, cause_of, cause_in, held_of, held_in}
+use Rattle.djq_machine.specs.Effect.{Effect}
+use Rattle.djq_machine.specs.Step.{Event, fed, stepped, took, is_dry, Step}
+use Rattle.djq_machine.specs.Run.{Did, piece_of, pending_of, pending_in, to_session}
+use Rattle.djq_machine.specs.Call.{IsOpen, Makes, MakesCounted, RanStep, Counts, cause_of, cause_in, held_of, held_in}
 use Rattle.djq_laws.specs.declared.limits.TheConstants.{READ_BYTES}
 use Rattle.djq_laws.specs.Course.{RunNext, AwaitsInput}
+use Rattle.djq_laws.specs.Sent.{gone_by}
 use Rattle.djq_laws.specs.Moved.{Takes, Comes, is_held, out_of_memory, is_dropped, StepsLine}
 use Rattle.djq_laws.proofs.Courses.{walk_then}
 use Rattle.djq_laws.proofs.Cutting.{line_in_front}
 use Rattle.djq_laws.proofs.Moving.{took_facts, fed_facts, stepped_facts}
-use Rattle.djq_load.specs.Lines.{Loads, IsIdle, LineRuns, TakesAll}
+use Rattle.djq_laws.proofs.Sending.{step_bytes}
+use Rattle.djq_load.specs.Lines.{Loads, IsServed, IsIdle, LineRuns, TakesAll}
+use Rattle.djq_load.proofs.Served.{quiet}
 
 none_some : {A : Type 0} (o : Option A) (a : A) → o ≡ None → o ≡ Some a → ⊥
 none_some o a e f = cc
@@ -88,15 +95,27 @@ taken old new there (inr (some, m)) =
     let t : Takes old new 1 (pending_of old 1) = took_facts old 1 (pending_of old 1) m.effect new m.step in
     record { is_open = t.stays; held = t.held; cause = t.cause; pending = none_behind (pending_of old 1) (pending_of new 1) t.pending }
 
+-- What is queued where nothing is pending and nothing is taken is what is pending then.
+queued_is : (old : State) (event : Event) (e : Effect) (new : State) → Step old event e new → gone_by 1 event ≡ [] → pending_of old 1 ≡ [] → pending_of new 1 ≡ to_session 1 e.queued
+queued_is old event e new h kept none =
+    sym (ap (λ (gone : Bytes). gone ++ pending_of new 1) kept) ∙ step_bytes old event e new h 1 ∙ ap (λ (p : Bytes). p ++ to_session 1 e.queued) none
+
+-- what is queued where all that is pending is taken, and nothing is pending then
+queued_none : (old new : State) (e : Effect) → Step old (took 1 (pending_of old 1)) e new → pending_of new 1 ≡ [] → to_session 1 e.queued ≡ []
+queued_none old new e h none =
+    let p = pending_of old 1 in
+    none_behind p (to_session 1 e.queued) (sym (append-nil p) ∙ ap (λ (q : Bytes). p ++ q) (sym none) ∙ step_bytes old (took 1 p) e new h 1)
+
 -- Runs that lines make, one after another.
 pub loads_none : (st : State) (counted : Counts) → Loads [] st counted st counted
-loads_none st counted = record { done = []; walk = refl; fed = refl; listing = omega arith }
+loads_none st counted = record { done = []; walk = refl; fed = refl; served = All-nil IsServed; listing = omega arith }
 
-pub loads_one : (d : Did) (old : State) (before : Counts) (new : State) (now : Counts) → RunNext old d new → now.listing ≤ before.listing + d.effect.cost → Loads (piece_of d.event) old before new now
-loads_one d old before new now next listing = record {
+pub loads_one : (d : Did) (old : State) (before : Counts) (new : State) (now : Counts) → RunNext old d new → IsServed d → now.listing ≤ before.listing + d.effect.cost → Loads (piece_of d.event) old before new now
+loads_one d old before new now next served listing = record {
   done = d ∷ [];
   walk = (new, next, refl);
   fed = append-nil (piece_of d.event);
+  served = All-cons IsServed d [] served (All-nil IsServed);
   listing = omega (arith, listing);
 }
 
@@ -106,6 +125,7 @@ loads_then lines more old before mid between new now c d = record {
   done = c.done ++ d.done;
   walk = walk_then RunNext old c.done mid d.done new c.walk d.walk;
   fed = flat_map-append (λ (x : Did). piece_of x.event) c.done d.done ∙ ap₂ (λ (a b : List Bytes). a ++ b) c.fed d.fed;
+  served = All-append IsServed c.done d.done c.served d.served;
   listing = omega (arith, c.listing, d.listing, sum_by-append (λ (x : Did). x.effect.cost) c.done d.done);
 }
 
@@ -133,27 +153,34 @@ some_byte [] e = absurd cc
 some_byte (b ∷ line) e = omega arith
 
 -- the step that runs the line
-ran_loads : (old : State) (before : Counts) (new : State) (now : Counts) → IsOpen old 1 → pending_of old 1 ≡ [] → RanStep old 1 new before now → Loads [] old before new now
-ran_loads old before new now there pending (l, inl m) =
-    loads_one (record { event = stepped 1 (blank l); effect = m.effect }) old before new now ((refl, flushed old there pending), m.step) m.listing
-ran_loads old before new now there pending (l, inr m) =
-    loads_one (record { event = stepped 1 (run l); effect = m.effect }) old before new now ((refl, flushed old there pending), m.step) m.listing
+ran_one : (old : State) (before : Counts) (outcome : LineOutcome) (new : State) (now : Counts) → IsOpen old 1 → pending_of old 1 ≡ [] → pending_of new 1 ≢ refusal_line NoMemory
+    → MakesCounted old (stepped 1 outcome) new before now → Loads [] old before new now
+ran_one old before outcome new now there pending served m =
+    loads_one (record { event = stepped 1 outcome; effect = m.effect }) old before new now ((refl, flushed old there pending), m.step)
+    (λ e. served (queued_is old (stepped 1 outcome) m.effect new m.step refl pending ∙ e)) m.listing
 
-took_loads : (old : State) (counted : Counts) (new : State) → TakesAll old new → Loads [] old counted new counted
-took_loads old counted new (inl (none, same)) = subst (λ (st : State). Loads [] old counted st counted) (sym same) (loads_none old counted)
-took_loads old counted new (inr (some, m)) =
-    loads_one (record { event = took 1 (pending_of old 1); effect = m.effect }) old counted new counted ((refl, some), m.step) (omega arith)
+ran_loads : (old : State) (before : Counts) (new : State) (now : Counts) → IsOpen old 1 → pending_of old 1 ≡ [] → pending_of new 1 ≢ refusal_line NoMemory → RanStep old 1 new before now → Loads [] old before new now
+ran_loads old before new now there pending served (l, inl m) = ran_one old before (blank l) new now there pending served m
+ran_loads old before new now there pending served (l, inr m) = ran_one old before (run l) new now there pending served m
+
+took_loads : (old : State) (counted : Counts) (new : State) → pending_of new 1 ≡ [] → TakesAll old new → Loads [] old counted new counted
+took_loads old counted new pending (inl (none, same)) = subst (λ (st : State). Loads [] old counted st counted) (sym same) (loads_none old counted)
+took_loads old counted new pending (inr (some, m)) =
+    loads_one (record { event = took 1 (pending_of old 1); effect = m.effect }) old counted new counted ((refl, some), m.step)
+    (quiet (to_session 1 (m.effect).queued) (queued_none old new m.effect m.step pending)) (omega arith)
 
 -- A line that comes, is run, and whose reply is taken.
 pub line_loads : (line : Bytes) (old : State) (before : Counts) (mid : State) (now : Counts) (new : State) → IsIdle old → behind_lf line ≡ Some [] → length line ≤ READ_BYTES
-    → LineRuns line old before mid now → TakesAll mid new → Loads (line ∷ []) old before new now
-line_loads line old before mid now new idle one short runs takes =
+    → LineRuns line old before mid now → pending_of mid 1 ≢ refusal_line NoMemory → TakesAll mid new → Loads (line ∷ []) old before new now
+line_loads line old before mid now new idle one short runs served takes =
     let m = runs.comes in
     let here = is_fed line old runs.mid idle runs.is_held m in
     let first : Loads (line ∷ []) old before runs.mid before =
-    loads_one (record { event = fed 1 line; effect = m.effect }) old before runs.mid before ((refl, some_byte line one, short, awaits old idle), m.step) (omega arith) in
+    loads_one (record { event = fed 1 line; effect = m.effect }) old before runs.mid before ((refl, some_byte line one, short, awaits old idle), m.step)
+    (quiet (to_session 1 (m.effect).queued) (sym (queued_is old (fed 1 line) m.effect runs.mid m.step refl idle.pending) ∙ here.pending)) (omega arith) in
+    let t = taken mid new (ran_open runs.mid mid before now runs.ran) takes in
     loads_then (line ∷ []) [] old before runs.mid before new now first
-    (loads_then [] [] runs.mid before mid now new now (ran_loads runs.mid before mid now here.is_open here.pending runs.ran) (took_loads mid now new takes))
+    (loads_then [] [] runs.mid before mid now new now (ran_loads runs.mid before mid now here.is_open here.pending served runs.ran) (took_loads mid now new t.pending takes))
 
 pub line_idle : (line : Bytes) (old : State) (before : Counts) (mid : State) (now : Counts) (new : State) → IsIdle old → behind_lf line ≡ Some []
     → LineRuns line old before mid now → TakesAll mid new → IsIdle new

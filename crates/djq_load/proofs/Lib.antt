@@ -1,3 +1,4 @@
+mod Served
 mod Idle
 mod Cursors
 mod Listing

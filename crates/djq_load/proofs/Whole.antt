@@ -1,11 +1,12 @@
 -- What the whole of a load comes to.
-use Rattle.std.specs.Prelude.{ℕ, List, [], ◌∷◌, ◌++◌, ◌≡◌, ◌==◌, ◌+◌, ◌*◌, ◌%◌, ◌^◌, ◌<◌, ◌≤◌, Bool, true, false, Option, None, Some, IsSomeAnd, Result, Ok, Err, All, find, length, replicate, codes, ⊤, is_err, IfOk, OnOk, ◌⊎◌}
+use Rattle.std.specs.Prelude.{ℕ, List, [], ◌∷◌, ◌++◌, ◌≡◌, ◌≢◌, ◌==◌, ◌+◌, ◌*◌, ◌%◌, ◌^◌, ◌<◌, Bool, true, false, Option, None, Some, Result, Ok, Err, All, length, replicate, codes, ⊤, is_err, IfOk, OnOk, ◌⊎◌}
 use Rattle.std.proofs.Common.{refl, sym, ap, ap₂, ◌∙◌, subst, inl, inr, length-append, arith}
 use Rattle.std.proofs.lemmas.List.Elements.{All-nil}
 use Rattle.djq_model.specs.declared.query.Query.{Query}
 use Rattle.djq_model.specs.Data.{Bytes, Tuple, bytes_eq, query_of}
-use Rattle.djq_model.specs.Answer.{IsAnswer, IsListing}
-use Rattle.djq_lines.specs.Reply.{listing_lines, text_of}
+use Rattle.djq_model.specs.Answer.{IsAnswer}
+use Rattle.djq_lines.specs.declared.answer.Refusal.TheVariants.{NoMemory}
+use Rattle.djq_lines.specs.Reply.{refusal_line}
 use Rattle.djq_machine.specs.State.{State, Session, Cursor, open_at, session_of, cursor_of, fresh}
 use Rattle.djq_machine.specs.Step.{opened}
 use Rattle.djq_machine.specs.Effect.{Effect}
@@ -21,20 +22,27 @@ use Rattle.djq_laws.proofs.Giving.{SessionGives, CursorGives, runs_give}
 use Rattle.djq_laws.proofs.Sending.{next_runs, step_bytes}
 use Rattle.djq_laws.proofs.Queueing.{stepped_cause, stepped_held}
 use Rattle.djq_gen.specs.Load.{load}
+use Rattle.djq_load.specs.declared.loading.TheConstants.{MOST_READS}
 use Rattle.djq_load.specs.declared.loading.Totals.{Totals}
 use Rattle.djq_load.specs.declared.loading.LoadRefusal.{LoadRefusal}
 use Rattle.djq_load.specs.declared.reading.Reading.{Reading}
-use Rattle.djq_load.specs.Replies.{reading, read_bytes}
-use Rattle.djq_load.specs.Lines.{Loads, IsIdle, LineRuns, TakesAll, cursors_in, cursors_of, cursor_at, Stands}
-use Rattle.djq_load.specs.Totals.{amount_of, so_far, IsRead, IsTold, open_line, next_line, AreTotals, RunsLoad}
+use Rattle.djq_load.specs.Replies.{read_bytes}
+use Rattle.djq_load.specs.Lines.{Loads, IsIdle, LineRuns, TakesAll, cursors_in, cursor_at, Stands}
+use Rattle.djq_load.specs.Totals.{so_far, IsRead, IsTold, IsCut, open_line, next_line, AreTotals, RunsLoad, StopsShort}
+use Rattle.djq_load.proofs.Served.{quiet, listed}
 use Rattle.djq_load.proofs.Idle.{loads_one, loads_then}
-use Rattle.djq_load.proofs.Cursors.{Tells, next_tells, stands_on}
+use Rattle.djq_load.proofs.Cursors.{next_tells, stands_on}
 use Rattle.djq_load.proofs.Listing.{listing_read}
+
+-- What is pending as the cursor was read.
+pub read_served : (old : State) (before : Counts) (mid : State) (now : Counts) (r : Reading) → IsIdle old → LineRuns next_line old before mid now → ((most : ℕ) × IsRead old r most) → pending_of mid 1 ≢ refusal_line NoMemory
+read_served old before mid now r idle runs (most, h) e =
+    let t = next_tells h.given r.ended old before mid now idle h.stands runs in listed t.told t.end (sym t.pending ∙ e)
 
 -- The cursor was read once more.
 pub read_on : (old : State) (before : Counts) (mid : State) (now : Counts) (new : State) (r after : Reading) (text : Bytes) (most : ℕ)
-    → IsIdle old → LineRuns next_line old before mid now → text ≡ pending_of mid 1 → after ≡ read_bytes r text → TakesAll mid new → IsRead old r most → IsRead new after (most + 1000)
-read_on old before mid now new r after text most idle runs is_text is_after takes h =
+    → IsIdle old → LineRuns next_line old before mid now → text ≡ pending_of mid 1 → after ≡ read_bytes r text → TakesAll mid new → r.ended ≡ false → IsRead old r most → IsRead new after (most + 1000)
+read_on old before mid now new r after text most idle runs is_text is_after takes going h =
     let t = next_tells h.given r.ended old before mid now idle h.stands runs in
     let e : after ≡ so_far (h.given ++ t.told) t.end =
     is_after ∙ ap₂ (λ (x : Reading) (bytes : Bytes). read_bytes x bytes) h.is (is_text ∙ t.pending) ∙ listing_read h.given r.ended t.told t.end in
@@ -44,6 +52,7 @@ read_on old before mid now new r after text most idle runs is_text is_after take
       stands = subst (λ (b : Bool). Stands new (h.given ++ t.told) b) (sym ended) (stands_on (h.given ++ t.told) t.end mid new takes t.stands);
       is = e ∙ ap (λ (b : Bool). so_far (h.given ++ t.told) b) (sym ended);
       few = omega (arith, length-append h.given t.told, h.few, t.few);
+      full = λ k. omega (arith, length-append h.given t.told, h.full going, t.full (sym ended ∙ k));
     }
 
 -- nothing was read yet
@@ -53,6 +62,7 @@ read_none st r e stands = record {
   stands = subst (λ (b : Bool). Stands st [] b) (sym (ap (λ (x : Reading). x.ended) e)) stands;
   is = e ∙ ap (λ (b : Bool). so_far [] b) (sym (ap (λ (x : Reading). x.ended) e));
   few = omega arith;
+  full = λ k. refl;
 }
 
 small : (n : ℕ) → n < 2 ^ 64 → n % 2 ^ 64 ≡ n
@@ -67,34 +77,52 @@ read_all st r most h ended few = record {
   sum = ap (λ (x : Reading). x.sum) h.is;
 }
 
--- What a cursor that was told the end has given is a listing.
-record Found (st : State) (given : List Tuple) : Type 0 where
+-- it was read as often as may be, and not to its end
+pub read_cut : (st : State) (r : Reading) (most : ℕ) → IsRead st r most → r.ended ≡ false → IsCut st most
+read_cut st r most h going = record {
+  given = h.given;
+  stands = subst (λ (b : Bool). Stands st h.given b) going h.stands;
+  are = h.full going;
+}
+
+-- What the cursor has given are answers of its query, each once.
+record Found (st : State) (given : List Tuple) (ended : Bool) : Type 0 where
   session : Session
   is : session_of st 1 ≡ Some session
-  cursor : cursor_of session.cursors (codes "c") ≡ Some (cursor_at given true)
+  cursor : cursor_of session.cursors (codes "c") ≡ Some (cursor_at given ended)
 
-found_in : (st : State) (given : List Tuple) (o : Option Session) → session_of st 1 ≡ o → cursor_of (cursors_in o) (codes "c") ≡ Some (cursor_at given true) → Found st given
-found_in st given None e h = absurd cc
-found_in st given (Some x) e h = record { session = x; is = e; cursor = h }
+found_in : (st : State) (given : List Tuple) (ended : Bool) (o : Option Session) → session_of st 1 ≡ o → cursor_of (cursors_in o) (codes "c") ≡ Some (cursor_at given ended) → Found st given ended
+found_in st given ended None e h = absurd cc
+found_in st given ended (Some x) e h = record { session = x; is = e; cursor = h }
 
 none_give : (st : State) → st.sessions ≡ [] → CursorsGive st
 none_give st none = subst (λ (xs : List Session). All (SessionGives st.store.relations st.store.queries) xs) (sym none) (All-nil (SessionGives st.store.relations st.store.queries))
 
-pub totals_are : (start : State) (done : List Did) (st : State) (totals : Totals) → Walk RunNext start done st → start.sessions ≡ [] → IsTold st totals → AreTotals st totals
-totals_are start done st totals walk none h =
+record HasGiven (st : State) (given : List Tuple) (ended : Bool) : Type 0 where
+  query : Query
+  registered : query_of st.store.queries (codes "q") ≡ Some query
+  gives : Gives (IsAnswer st.store.relations query) given ended
+
+has_given : (start : State) (done : List Did) (st : State) (given : List Tuple) (ended : Bool) → Walk RunNext start done st → start.sessions ≡ [] → Stands st given ended → HasGiven st given ended
+has_given start done st given ended walk none stands =
     let give : CursorsGive st = runs_give start done st (next_runs start done st walk) (none_give start none) in
     let rs = st.store.relations in
     let qs = st.store.queries in
-    let f = found_in st h.given (session_of st 1) refl h.stands in
+    let f = found_in st given ended (session_of st 1) refl stands in
     let of_session : SessionGives rs qs f.session = all_found (SessionGives rs qs) (λ (x : Session). x.id == 1) st.sessions f.session give f.is in
-    let of_cursor : PositionGives rs (query_of qs (codes "q")) (open_at h.given true) =
-    all_found (CursorGives rs qs) (λ (c : Cursor). bytes_eq c.name (codes "c")) (f.session).cursors (cursor_at h.given true) of_session f.cursor in
-    let q = some_and (query_of qs (codes "q")) (λ (q : Query). Gives (IsAnswer rs q) h.given true) of_cursor in
+    let of_cursor : PositionGives rs (query_of qs (codes "q")) (open_at given ended) =
+    all_found (CursorGives rs qs) (λ (c : Cursor). bytes_eq c.name (codes "c")) (f.session).cursors (cursor_at given ended) of_session f.cursor in
+    let q = some_and (query_of qs (codes "q")) (λ (q : Query). Gives (IsAnswer rs q) given ended) of_cursor in
+    record { query = q.0; registered = q.1; gives = q.2 }
+
+totals_are : (start : State) (done : List Did) (st : State) (totals : Totals) → Walk RunNext start done st → start.sessions ≡ [] → IsTold st totals → AreTotals st totals
+totals_are start done st totals walk none h =
+    let q = has_given start done st h.given true walk none h.stands in
     record {
-      query = q.0;
-      registered = q.1;
+      query = q.query;
+      registered = q.registered;
       answers = h.given;
-      listing = (q.2).listing refl;
+      listing = (q.gives).listing refl;
       count = h.answers;
       sum = h.sum;
     }
@@ -130,24 +158,33 @@ pub record Begins (old new : State) (counted : Counts) : Type 0 where
 pub begins : (old new : State) (counted : Counts) (r : Result ⊤ OpenRefusal) → is_err r ≡ false → OpenGives old 1 r new → old.sessions ≡ [] → Begins old new counted
 begins old new counted (Ok u) e h none = record {
   idle = opened_idle old new none h.0 h.1;
-  loads = loads_one (record { event = opened 1; effect = h.0.effect }) old counted new counted ((refl, none), h.0.step) (omega arith);
+  loads = loads_one (record { event = opened 1; effect = h.0.effect }) old counted new counted ((refl, none), h.0.step) (quiet (to_session 1 (h.0.effect).queued) (ap (λ (e : Effect). to_session 1 e.queued) (h.0.step).acts.0)) (omega arith);
 }
 begins old new counted (Err r) e h none = absurd cc
 
--- The whole: the session is opened, the load fed, the cursor opened, and read to its end.
-pub runs_load : (n seed : ℕ) (totals : Totals) (start a : State) (before : Counts) (b : State) (at_b : Counts) (c : State) (at_c : Counts) (d : State) (now : Counts)
-    → start.sessions ≡ [] → Loads [] start before a before → Loads (load n seed) a before b at_b → Loads (open_line ∷ []) b at_b c at_c
-    → ((k : ℕ) × Loads (replicate k next_line) c at_c d now) → IsTold d totals → RunsLoad n seed totals start before d now
-runs_load n seed totals start a before b at_b c at_c d now none opens feeds points reads told =
-    let k = reads.0 in
+-- The whole: the session is opened, the load fed, the cursor opened, and read so many times.
+all_loads : (n seed k : ℕ) (start a : State) (before : Counts) (b : State) (at_b : Counts) (c : State) (at_c : Counts) (d : State) (now : Counts)
+    → Loads [] start before a before → Loads (load n seed) a before b at_b → Loads (open_line ∷ []) b at_b c at_c
+    → Loads (replicate k next_line) c at_c d now → Loads (load n seed ++ open_line ∷ replicate k next_line) start before d now
+all_loads n seed k start a before b at_b c at_c d now opens feeds points reads =
     let begun : Loads (load n seed) start before b at_b = loads_then [] (load n seed) start before a before b at_b opens feeds in
-    let rest : Loads (open_line ∷ replicate k next_line) b at_b d now = loads_then (open_line ∷ []) (replicate k next_line) b at_b c at_c d now points reads.1 in
-    let whole = loads_then (load n seed) (open_line ∷ replicate k next_line) start before b at_b d now begun rest in
-    record { nexts = k; loads = whole; totals_are = totals_are start whole.done d totals whole.walk none told }
+    let rest : Loads (open_line ∷ replicate k next_line) b at_b d now = loads_then (open_line ∷ []) (replicate k next_line) b at_b c at_c d now points reads in
+    loads_then (load n seed) (open_line ∷ replicate k next_line) start before b at_b d now begun rest
 
--- where it is answered at all
+-- to its end, where the totals are answered
 pub answers_load : (n seed : ℕ) (r : Result Totals LoadRefusal) (start a : State) (before : Counts) (b : State) (at_b : Counts) (c : State) (at_c : Counts) (d : State) (now : Counts)
     → start.sessions ≡ [] → Loads [] start before a before → Loads (load n seed) a before b at_b → Loads (open_line ∷ []) b at_b c at_c
     → OnOk r ((k : ℕ) × Loads (replicate k next_line) c at_c d now) → IfOk r (IsTold d) → IfOk r (λ totals. RunsLoad n seed totals start before d now)
-answers_load n seed (Ok totals) start a before b at_b c at_c d now none opens feeds points reads told = runs_load n seed totals start a before b at_b c at_c d now none opens feeds points reads told
+answers_load n seed (Ok totals) start a before b at_b c at_c d now none opens feeds points reads told =
+    let whole = all_loads n seed reads.0 start a before b at_b c at_c d now opens feeds points reads.1 in
+    record { nexts = reads.0; loads = whole; totals_are = totals_are start whole.done d totals whole.walk none told }
 answers_load n seed (Err r) start a before b at_b c at_c d now none opens feeds points reads told = tt
+
+-- and not to its end
+pub stops_short : (n seed : ℕ) (start a : State) (before : Counts) (b : State) (at_b : Counts) (c : State) (at_c : Counts) (d : State) (now : Counts)
+    → start.sessions ≡ [] → Loads [] start before a before → Loads (load n seed) a before b at_b → Loads (open_line ∷ []) b at_b c at_c
+    → (k : ℕ) × (k ≡ MOST_READS) × Loads (replicate k next_line) c at_c d now × IsCut d (1000 * k) → StopsShort n seed start before d now
+stops_short n seed start a before b at_b c at_c d now none opens feeds points (k, most, reads, cut) =
+    let whole = all_loads n seed k start a before b at_b c at_c d now opens feeds points reads in
+    let q = has_given start whole.done d cut.given false whole.walk none cut.stands in
+    record { nexts = k; most = most; loads = whole; given = cut.given; stands = cut.stands; many = cut.are; query = q.query; registered = q.registered; gives = q.gives }

@@ -1,20 +1,28 @@
 -- What lines that come to session 1 of a machine make of it.
-use Rattle.std.specs.Prelude.{ℕ, List, [], ◌≡◌, ◌+◌, ◌<◌, ◌≤◌, ◌⊎◌, None, Option, Some, length, codes, Bool}
+use Rattle.std.specs.Prelude.{List, [], ◌≡◌, ◌≢◌, ◌+◌, ◌<◌, ◌≤◌, ◌⊎◌, None, Option, Some, length, codes, Bool, All}
 use Rattle.djq_model.specs.Data.{Bytes, Tuple}
+use Rattle.djq_lines.specs.declared.answer.Refusal.TheVariants.{NoMemory}
+use Rattle.djq_lines.specs.Reply.{refusal_line}
 use Rattle.djq_machine.specs.State.{State, Session, Cursor, open_at, session_of, cursor_of}
 use Rattle.djq_machine.specs.Step.{fed, took}
-use Rattle.djq_machine.specs.Run.{Did, Walk, pieces_of, cost_of, pending_of}
+use Rattle.djq_machine.specs.Run.{Did, Walk, pieces_of, cost_of, pending_of, to_session}
 use Rattle.djq_machine.specs.Call.{IsOpen, Makes, RanStep, Counts, cause_of, held_of}
 use Rattle.djq_laws.specs.Course.{RunNext}
 
+-- What was done didn't tell session 1 that memory is wanting.
+abbrev pub IsServed : Did → Type 0
+IsServed d = to_session 1 d.effect.queued ≢ refusal_line NoMemory
+
 -- **A run of the join machine in which one session, of id 1, is fed these lines**, one after
--- another: each comes where none is left to be run and nothing is pending. It counts no more of
+-- another: each comes where none is left to be run and nothing is pending. No line is answered that
+-- memory is wanting, so each did what it says or was refused for what it says. It counts no more of
 -- listings than it may cost.
 pub record Loads (lines : List Bytes) (old : State) (before : Counts) (new : State)
     (now : Counts) : Type 0 where
   pub done : List Did
   pub walk : Walk RunNext old done new
   pub fed : pieces_of done ≡ lines
+  pub served : All IsServed done
   pub listing : now.listing ≤ before.listing + cost_of done
 
 -- Session 1 is open and goes on, holds nothing and has nothing pending.

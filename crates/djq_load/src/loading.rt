@@ -1,11 +1,13 @@
-ghost use Rattle.std.specs.Prelude.{◌≡◌, ℕ, [], ◌∷◌, ◌+◌, ◌*◌, ◌<◌, ◌≤◌, true, false, Some, IfOk, OnOk, length, replicate};
+ghost use Rattle.std.specs.Prelude.{◌≡◌, ℕ, [], ◌∷◌, ◌+◌, ◌*◌, ◌<◌, ◌≤◌, true, false, Some, Err, IfOk, OnOk, IfErr, length, replicate};
 ghost use Rattle.djq_gen.specs.Load.{load};
 ghost use Rattle.djq_lines.specs.Line.{behind_lf};
 ghost use Rattle.djq_machine.specs.Call.{IsOpen, counts};
 ghost use Rattle.djq_machine.specs.Run.{pending_of};
 ghost use Rattle.djq_laws.specs.declared.limits.TheConstants.{READ_BYTES};
+ghost use Rattle.djq_load.specs.declared.loading.TheConstants.{MOST_READS};
+ghost use Rattle.djq_load.specs.declared.loading.LoadRefusal.TheVariants.{NoMem, TooMany};
 ghost use Rattle.djq_load.specs.Lines.{Loads, IsIdle, LineRuns, TakesAll, Stands};
-ghost use Rattle.djq_load.specs.Totals.{so_far, IsRead, IsTold, open_line, next_line, RunsLoad};
+ghost use Rattle.djq_load.specs.Totals.{so_far, IsRead, IsTold, IsCut, open_line, next_line, RunsLoad, StopsShort};
 
 use crate::reading::Reading;
 use djq_gen::{LINE_BYTES, Load};
@@ -52,9 +54,12 @@ pub fn run_load<M: Machine, L: Ledgers>(
     steps: &mut Steps<L>,
 ) -> Result<Totals, LoadRefusal>
     requires { (M.state machine.old).sessions ≡ [] }
-    ensures { IfOk result (λ totals. RunsLoad n seed totals
+    ensures totals { IfOk result (λ totals. RunsLoad n seed totals
         (M.state machine.old) (counts steps.old.listing steps.old.update steps.old.rows)
         (M.state machine.new) (counts steps.new.listing steps.new.update steps.new.rows)) }
+    ensures short { result ≡ Err TooMany → StopsShort n seed
+        (M.state machine.old) (counts steps.old.listing steps.old.update steps.old.rows)
+        (M.state machine.new) (counts steps.new.listing steps.new.update steps.new.rows) }
 {
     if machine.open_session(ID).is_err() {
         return Err(LoadRefusal::NoMem);
@@ -76,6 +81,7 @@ fn feed_load<M: Machine, L: Ledgers>(
         (M.state machine.old) (counts steps.old.listing steps.old.update steps.old.rows)
         (M.state machine.new) (counts steps.new.listing steps.new.update steps.new.rows)) }
     ensures idle { OnOk result (IsIdle (M.state machine.new)) }
+    ensures memory { IfErr result (λ refusal. refusal ≡ NoMem) }
 {
     let mut load = Load::new(n, seed);
     let mut line = [0; LINE_BYTES];
@@ -98,6 +104,7 @@ fn feed_line<M: Machine, L: Ledgers>(
         (M.state machine.old) (counts steps.old.listing steps.old.update steps.old.rows)
         (M.state machine.new) (counts steps.new.listing steps.new.update steps.new.rows)) }
     ensures idle { OnOk result (IsIdle (M.state machine.new)) }
+    ensures memory { IfErr result (λ refusal. refusal ≡ NoMem) }
 {
     run_line(machine, line, steps)?;
     if machine.pending(ID) == b"err 12 memory\n".as_slice() {
@@ -118,6 +125,7 @@ fn open_cursor<M: Machine, L: Ledgers>(
         (M.state machine.new) (counts steps.new.listing steps.new.update steps.new.rows)) }
     ensures idle { OnOk result (IsIdle (M.state machine.new)) }
     ensures stands { OnOk result (Stands (M.state machine.new) [] false) }
+    ensures memory { IfErr result (λ refusal. refusal ≡ NoMem) }
 {
     run_line(machine, b"open c q\n", steps)?;
     if machine.pending(ID) != b"ok open\n".as_slice() {
@@ -138,6 +146,10 @@ fn list_answers<M: Machine, L: Ledgers>(
         (M.state machine.old) (counts steps.old.listing steps.old.update steps.old.rows)
         (M.state machine.new) (counts steps.new.listing steps.new.update steps.new.rows)) }
     ensures told { IfOk result (IsTold (M.state machine.new)) }
+    ensures short { result ≡ Err TooMany → (k : ℕ) × (k ≡ MOST_READS) × Loads (replicate k next_line)
+        (M.state machine.old) (counts steps.old.listing steps.old.update steps.old.rows)
+        (M.state machine.new) (counts steps.new.listing steps.new.update steps.new.rows)
+        × IsCut (M.state machine.new) (1000 * k) }
 {
     let mut reading = Reading::new();
     for _ in 0..MOST_READS {
@@ -158,13 +170,16 @@ fn read_more<M: Machine, L: Ledgers>(
     reading: Reading,
     steps: &mut Steps<L>,
 ) -> Result<Reading, LoadRefusal>
-    requires { IsIdle (M.state machine.old) }
+    requires idle { IsIdle (M.state machine.old) }
+    requires going { reading.ended ≡ false }
+    requires reads { (most : ℕ) × IsRead (M.state machine.old) reading most }
     ensures loads { OnOk result (Loads (next_line ∷ [])
         (M.state machine.old) (counts steps.old.listing steps.old.update steps.old.rows)
         (M.state machine.new) (counts steps.new.listing steps.new.update steps.new.rows)) }
     ensures idle { OnOk result (IsIdle (M.state machine.new)) }
     ensures read { IfOk result (λ after. (most : ℕ) → IsRead (M.state machine.old) reading most
         → IsRead (M.state machine.new) after (most + 1000)) }
+    ensures memory { IfErr result (λ refusal. refusal ≡ NoMem) }
 {
     run_line(machine, b"next c 1000\n", steps)?;
     let after = reading.read(machine.pending(ID));
@@ -183,6 +198,7 @@ fn run_line<M: Machine, L: Ledgers>(
         (M.state machine.old) (counts steps.old.listing steps.old.update steps.old.rows)
         (M.state machine.new) (counts steps.new.listing steps.new.update steps.new.rows)) }
     ensures open { OnOk result (IsOpen (M.state machine.new) 1) }
+    ensures memory { IfErr result (λ refusal. refusal ≡ NoMem) }
 {
     let Fed::Held = machine.feed(ID, line) else {
         return Err(LoadRefusal::NoMem);

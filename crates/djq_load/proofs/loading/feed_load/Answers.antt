@@ -1,5 +1,4 @@
-use Rattle.std.proofs.Common.{List, [], ◌∷◌, ◌++◌, ℕ, ◌∙◌, refl, sym, ap, subst, length, take, append_assoc, length-take, arith}
-use Rattle.std.proofs.lemmas.List.{take_all}
+use Rattle.std.proofs.Common.{List, [], ◌∷◌, ◌++◌, ℕ, ◌∙◌, sym, ap, subst, take, append_assoc}
 use Rattle.djq_load.proofs.Idle.{loads_none, loads_then}
 use Rattle.djq_load.proofs.LoadLines.{AreOnes, load_ones}
 use Rattle.djq_load.proofs.loading.feed_load.Goals as goal

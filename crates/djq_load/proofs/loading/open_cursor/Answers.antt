@@ -1,10 +1,12 @@
 use Rattle.std.proofs.Common.{refl, sym, ◌∙◌, rules, arith}
 use Rattle.djq_load.proofs.Idle.{line_loads, line_idle}
 use Rattle.djq_load.proofs.Cursors.{open_stands}
+use Rattle.djq_load.proofs.Served.{opened}
 use Rattle.djq_load.proofs.loading.open_cursor.Goals as goal
 
 pub returns-clause-loads : goal.returns-clause-loads
-returns-clause-loads g c = line_loads _ _ _ _ _ _ c.requires refl (omega arith) c.in_ok-run_line.ensures.runs c.take_reply.ensures
+returns-clause-loads g c = line_loads _ _ _ _ _ _ c.requires refl (omega arith) c.in_ok-run_line.ensures.runs
+    (opened _ (sym c.pending.ensures ∙ search rules)) c.take_reply.ensures
 
 pub returns-clause-idle : goal.returns-clause-idle
 returns-clause-idle g c = line_idle _ _ _ _ _ _ c.requires refl c.in_ok-run_line.ensures.runs c.take_reply.ensures
