@@ -6,7 +6,7 @@ use Rattle.djq_machine.specs.Call.{Counts}
 use Rattle.djq_run.specs.declared.status.Status.{Status}
 use Rattle.djq_run.specs.declared.status.Status.TheVariants.{Done, NoMemory, TurnsUsed}
 use Rattle.djq_load.specs.declared.loading.Totals.{Totals}
-use Rattle.djq_load.specs.Totals.{RunsLoad}
+use Rattle.djq_load.specs.Totals.{RunsLoad, StopsShort}
 use Rattle.djq.specs.Replay.{Written}
 
 -- the number of rows of a relation
@@ -33,10 +33,16 @@ pub record Generates (n seed : ℕ) (counted counted' : Counts) (text : Bytes) :
   pub runs : RunsLoad n seed totals opening counted state counted'
   pub is : text ≡ summary state totals
 
+-- From the opening state on, a run that stops short: its query has more answers than may be read.
+abbrev pub HasTooMany : ℕ → ℕ → Counts → Counts → Type 0
+HasTooMany n seed counted counted' =
+    (state : State) × StopsShort n seed opening counted state counted'
+
 -- The summary was written; or a first part of it, where a write failed; or nothing was, as memory
--- was wanted, or the answers were too many to read.
+-- was wanted, or as the answers are too many to read.
 abbrev pub GenEnds : Status → ℕ → ℕ → Option Bytes → ℕ → Counts → Option Bytes → ℕ → Counts → Type 0
 GenEnds status n seed taken faults counted taken' faults' counted' =
     ((text : Bytes) × Generates n seed counted counted' text
     × Written status Done text taken faults taken' faults')
-    ⊎ (((status ≡ NoMemory) ⊎ (status ≡ TurnsUsed)) × (taken' ≡ taken) × (faults' ≡ faults))
+    ⊎ (((status ≡ NoMemory) ⊎ ((status ≡ TurnsUsed) × HasTooMany n seed counted counted'))
+    × (taken' ≡ taken) × (faults' ≡ faults))

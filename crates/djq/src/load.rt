@@ -1,6 +1,7 @@
-ghost use Rattle.std.specs.Prelude.{◌≡◌, ◌++◌, IfOk, OnOk, decimal};
+ghost use Rattle.std.specs.Prelude.{◌≡◌, ◌++◌, Err, IfOk, OnOk, decimal};
 ghost use Rattle.djq_machine.specs.Call.{counts};
-ghost use Rattle.djq.specs.Gen.{summary, Generates, GenEnds};
+ghost use Rattle.djq_load.specs.declared.loading.LoadRefusal.TheVariants.{TooMany};
+ghost use Rattle.djq.specs.Gen.{summary, Generates, HasTooMany, GenEnds};
 
 use crate::replay::write_text;
 use djq_core::Core;
@@ -40,9 +41,12 @@ fn summarize<L: Ledgers>(
     seed: u32,
     steps: &mut Steps<L>,
 ) -> Result<Vec<u8>, LoadRefusal>
-    ensures { IfOk result (λ text. Generates n seed
+    ensures text { IfOk result (λ text. Generates n seed
         (counts steps.old.listing steps.old.update steps.old.rows)
         (counts steps.new.listing steps.new.update steps.new.rows) text.items) }
+    ensures short { result ≡ Err TooMany → HasTooMany n seed
+        (counts steps.old.listing steps.old.update steps.old.rows)
+        (counts steps.new.listing steps.new.update steps.new.rows) }
 {
     let Ok(mut machine) = Core::new(alloc) else {
         return Err(LoadRefusal::NoMem);
