@@ -1,7 +1,7 @@
 #!/usr/bin/env python3
 """Holds the pages against what they speak of: paths, names, sessions, the table of crates, the kit's line.
 
-    tests/pages.py PATH_TO_DJQ
+    tests/docs.py PATH_TO_DJQ
 
 It needs Python's standard library alone. One line is printed for each place that doesn't hold, and last
 `N passed, N failed`; the status is 0 where none failed.
