@@ -31,6 +31,7 @@ pub fn insert_leaf<L: Ledger>(
     requires leaf { leaf < reducts.old.tree.leaves }
     requires wide { length tuple.now ≡ length (label_at reducts.old.tree.labels leaf) }
     requires absent { cnt (entries_at reducts.old.tables leaf) tuple.now ≡ 0 }
+    requires few { length (entries_at reducts.old.tables leaf) < 4294967295 }
     requires bare { IsBare reducts.old.tables }
     ensures inserted { IfOk result (λ _. HasInserted reducts.old reducts.new leaf tuple.now) }
     ensures refused { OnErr result (HasKept reducts.old reducts.new) }
@@ -52,6 +53,7 @@ fn put<L: Ledger>(
     requires leaf { leaf < tree.now.leaves }
     requires wide { length tuple.now ≡ length (label_at tree.now.labels leaf) }
     requires absent { cnt (entries_at tables.old.items leaf) tuple.now ≡ 0 }
+    requires few { length (entries_at tables.old.items leaf) < 4294967295 }
     requires bare { IsBare tables.old.items }
     ensures inserted { IfOk result (λ _. HasInserted (record { tree = tree.now; tables = tables.old.items }) (record { tree = tree.now; tables = tables.new.items }) leaf tuple.now) }
     ensures refused { OnErr result (HasKept (record { tree = tree.now; tables = tables.old.items }) (record { tree = tree.now; tables = tables.new.items })) }
