@@ -1,5 +1,5 @@
 -- A schedule's hub has no more turns than its lines, so that one turn more finds it over; and it never fails.
-use Rattle.std.specs.Prelude.{ℕ, List, [], ◌∷◌, ◌++◌, ◌≡◌, ◌+◌, ◌<◌, ◌≤◌, ◌⊎◌, ◌||◌, Bool, true, false, Option, Some, IfSome, length, take}
+use Rattle.std.specs.Prelude.{ℕ, List, [], ◌∷◌, ◌++◌, ◌≡◌, ◌+◌, ◌<◌, ◌≤◌, ◌⊎◌, ◌||◌, Bool, true, false, Option, Some, Result, Ok, Err, OnErr, IfSome, length, take}
 use Rattle.std.specs.Option.{option_map}
 use Rattle.std.proofs.Common.{refl, sym, ap, ◌∙◌, subst, inl, inr, arith, length-append, length-take}
 use Rattle.std.proofs.lemmas.List.Sums.{sum_by-cons}
@@ -30,7 +30,7 @@ use Rattle.djq_serve.specs.declared.served.Served.TheVariants.{Stopped, Over, Tu
 use Rattle.djq_serve.specs.Told.{Shown, shown, Place, place, Answers as IsAnswered, turn_is_over, turn_is_failed, by_turn, has_over, has_failed, turn_in, turns_in}
 use Rattle.djq_serve.specs.Server.{all_told}
 use Rattle.djq_serve.specs.Ends.{FaultsCount, ServeEnds}
-use Rattle.djq.specs.Replay.{hub_of, IsWhole, Replays}
+use Rattle.djq.specs.Replay.{hub_of, IsWhole, Replays, LacksMemory}
 
 -- the next turn of a script is gone, and those that are left are short too
 record OneLess (old new : List Coming) : Type 0 where
@@ -110,18 +110,16 @@ no_fault : FaultsCount HubFailed 0 0 → ⊥
 no_fault (least, inl rose) = absurd (omega (arith, rose))
 no_fault (least, inr top) = absurd (omega (arith, top))
 
--- Serving such a hub ends as it is over, or a session says `stop`.
-is_whole : (answer : Served) (turns : List Coming) (most : ℕ) (counted counted' : Counts) (state : State) (hub : Shown) (script : Script) → ServeEnds answer most (hub_of turns) counted opening hub counted' state
-    → FaultsCount answer 0 0 → hub.script ≡ Some script → AllShort turns → length turns < most → IsWhole answer
-is_whole Stopped turns most counted counted' state hub script ends faults told all fewer = tt
-is_whole Over turns most counted counted' state hub script ends faults told all fewer = tt
-is_whole HubFailed turns most counted counted' state hub script ends faults told all fewer = no_fault faults
-is_whole AllTaken turns most counted counted' state hub script ends faults told all fewer =
+-- Serving such a hub, which tells its turns to the end, ends as it is over, or a session says `stop`.
+is_whole : (answer : Served) (turns : List Coming) (most : ℕ) (counted counted' : Counts) (state : State) (told : List Told) (left : Script) (ids : Ids)
+    → ServeEnds answer most (hub_of turns) counted opening (shown (Some told) (Some left) ids) counted' state
+    → FaultsCount answer 0 0 → AllShort turns → length turns < most → IsWhole answer
+is_whole Stopped turns most counted counted' state told left ids ends faults all fewer = tt
+is_whole Over turns most counted counted' state told left ids ends faults all fewer = tt
+is_whole HubFailed turns most counted counted' state told left ids ends faults all fewer = no_fault faults
+is_whole AllTaken turns most counted counted' state told left ids ends faults all fewer =
     let start = place (record { blocked = []; turns = turns }) no_ids in
-    let moves = all_told ends.goes.moves in
-    let walk : Walk IsAnswered start moves (place script hub.ids) =
-    subst (λ (o : Option Script). IfSome o (λ b. Walk IsAnswered start moves (place b hub.ids))) told ends.goes.told.played in
-    let took = calls moves start (place script hub.ids) walk all ends.caused.over ends.caused.failed in
+    let took = calls (all_told ends.goes.moves) start (place left ids) ends.goes.told.played all ends.caused.over ends.caused.failed in
     absurd (omega (arith, took.taken, ends.goes.turned, ends.has_taken, fewer))
 
 -- the hub that a schedule is made
@@ -134,26 +132,54 @@ made_hub bytes hub made =
 pub made_steady : (bytes : Bytes) (hub : Recorded) → IsMade bytes hub → NeverFails hub
 made_steady bytes hub made = record { listens = made.listens; turns = made.fails; sends = made.sends }
 
--- The hub of a schedule was served, and its past is told.
+-- The hub of a schedule was served.
+pub serves : (bytes : Bytes) (made hub : Recorded) (answer : Served) (most : ℕ) (counted counted' : Counts) (start state : State) (seen : Shown) → IsMade bytes made → hub ≡ made
+    → most ≡ length (lines_of bytes) + 1 → start ≡ opening → ServeEnds answer most (shown hub.past (script_of hub) hub.ids) counted start seen counted' state
+    → ServeEnds answer (length (lines_of bytes) + 1) (hub_of made.script.turns) counted opening seen counted' state
+serves bytes made hub answer most counted counted' start state seen is_made same is_most is_start ends =
+    let turns = made.script.turns in
+    let of_made = ap (λ (h : Recorded). shown h.past (script_of h) h.ids) same ∙ made_hub bytes made is_made in
+    let from_opening : ServeEnds answer most (hub_of turns) counted opening seen counted' state =
+    subst (λ (st : State). ServeEnds answer most (hub_of turns) counted st seen counted' state) is_start
+    (subst (λ (h : Shown). ServeEnds answer most h counted start seen counted' state) of_made ends) in
+    subst (λ (n : ℕ). ServeEnds answer n (hub_of turns) counted opening seen counted' state) is_most from_opening
+
+-- Its past is told at the end.
 pub replays : (bytes : Bytes) (made hub hub' : Recorded) (answer : Served) (most : ℕ) (counted counted' : Counts) (start state : State) (told : List Told) (text : Bytes) → IsMade bytes made → hub ≡ made
     → most ≡ length (lines_of bytes) + 1 → start ≡ opening → Some told ≡ hub'.past → ServeEnds answer most (shown hub.past (script_of hub) hub.ids) counted start (shown hub'.past (script_of hub') hub'.ids) counted' state
     → FaultsCount answer 0 0 → text ≡ sent_text told → Replays made.script.turns (length (lines_of bytes) + 1) counted counted' text
 replays bytes made hub hub' answer most counted counted' start state told text is_made same is_most is_start past ends faults is_text =
     let turns = made.script.turns in
-    let seen = shown hub'.past (script_of hub') hub'.ids in
-    let of_made = ap (λ (h : Recorded). shown h.past (script_of h) h.ids) same ∙ made_hub bytes made is_made in
-    let from_opening : ServeEnds answer most (hub_of turns) counted opening seen counted' state =
-    subst (λ (st : State). ServeEnds answer most (hub_of turns) counted st seen counted' state) is_start
-    (subst (λ (h : Shown). ServeEnds answer most h counted start seen counted' state) of_made ends) in
+    let lines = length (lines_of bytes) in
+    let seen : shown hub'.past (script_of hub') hub'.ids ≡ shown (Some told) (Some hub'.script) hub'.ids =
+    ap (λ (p : Option (List Told)). shown p (option_map (λ _. hub'.script) p) hub'.ids) (sym past) in
+    let served = subst (λ (h : Shown). ServeEnds answer (lines + 1) (hub_of turns) counted opening h counted' state) seen
+    (serves bytes made hub answer most counted counted' start state (shown hub'.past (script_of hub') hub'.ids) is_made same is_most is_start ends) in
     let more = turn_for_each_line bytes turns is_made.turns in
     record {
-      hub = seen;
       told = told;
-      past = sym past;
+      left = hub'.script;
+      ids = hub'.ids;
       state = state;
       answer = answer;
-      ends = subst (λ (n : ℕ). ServeEnds answer n (hub_of turns) counted opening seen counted' state) is_most from_opening;
-      whole = is_whole answer turns most counted counted' state seen hub'.script from_opening faults
-          (ap (λ (p : Option (List Told)). option_map (λ _. hub'.script) p) (sym past)) (turns_are_short bytes turns is_made.turns) (omega (arith, more, is_most));
+      ends = served;
+      whole = is_whole answer turns (lines + 1) counted counted' state told hub'.script hub'.ids served faults (turns_are_short bytes turns is_made.turns) (omega (arith, more));
       sent = is_text;
     }
+
+-- And where it isn't, or what was sent couldn't be told, it was served.
+pub served_untold : (bytes : Bytes) (made hub : Recorded) (answer : Served) (most : ℕ) (counted counted' : Counts) (start state : State) (seen : Shown) → IsMade bytes made → hub ≡ made
+    → most ≡ length (lines_of bytes) + 1 → start ≡ opening → ServeEnds answer most (shown hub.past (script_of hub) hub.ids) counted start seen counted' state
+    → LacksMemory (Ok made.script.turns) bytes counted counted'
+served_untold bytes made hub answer most counted counted' start state seen is_made same is_most is_start ends =
+    inr (record { hub = seen; state = state; answer = answer; ends = serves bytes made hub answer most counted counted' start state seen is_made same is_most is_start ends })
+
+-- Nothing was counted.
+pub none_counted : (r : Result (List Coming) ℕ) (bytes : Bytes) (counted : Counts) → LacksMemory r bytes counted counted
+none_counted (Err n) bytes counted = refl
+none_counted (Ok turns) bytes counted = inl refl
+
+-- what holds in any case
+pub on_err : {A E : Type 0} (r : Result A E) (P : Type 0) → P → OnErr r P
+on_err (Ok a) P h = tt
+on_err (Err e) P h = h

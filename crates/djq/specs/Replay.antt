@@ -2,7 +2,8 @@
 use Rattle.std.specs.Prelude.{ℕ, List, [], ◌≡◌, ◌+◌, ◌<◌, ◌≤◌, ◌⊎◌, Option, Some, length, take, Result, Ok, Err}
 use Rattle.std.specs.List.{concat}
 use Rattle.djq_io.specs.Faults.{Counted}
-use Rattle.djq_io.specs.Hub.{no_ids}
+use Rattle.djq_io.specs.Hub.{Ids, no_ids}
+use Rattle.djq_io.specs.Script.{Script}
 use Rattle.djq_io.specs.Sink.{Gains}
 use Rattle.djq_io.specs.Source.{Reading, Gives}
 use Rattle.djq_io.specs.declared.hub.Coming.{Coming}
@@ -63,18 +64,29 @@ IsWhole AllTaken = ⊥
 IsWhole HubFailed = ⊥
 
 -- **The theorem of `replay`.** The hub of these turns was served from the opening state on, until
--- it was over or a session said `stop`: by moves that are a run of the join machine, of which the
--- hub tells, with each session sent what is its. And this text is the lines that were sent.
+-- it was over or a session said `stop`: by moves that are a run of the join machine, with each
+-- session sent what is its. The hub tells all calls that it was asked, and what is left of its turns,
+-- so each turn that was taken is the next of these. And this text is the lines that were sent.
 pub record Replays (turns : List Coming) (most : ℕ) (counted counted' : Counts) (text : Bytes)
     : Type 0 where
-  pub hub : Shown
   pub told : List Told
-  pub past : hub.past ≡ Some told
+  pub left : Script
+  pub ids : Ids
+  pub state : State
+  pub answer : Served
+  pub ends : ServeEnds answer most (hub_of turns) counted opening (shown (Some told) (Some left) ids)
+      counted' state
+  pub whole : IsWhole answer
+  pub sent : text ≡ sent_text told
+
+-- The hub of these turns was served from the opening state on, and nothing is said of what was sent:
+-- by moves that are a run of the join machine, which counted no more of listings than it may cost.
+-- Where the hub still tells its turns, they are these.
+pub record ServesUntold (turns : List Coming) (most : ℕ) (counted counted' : Counts) : Type 0 where
+  pub hub : Shown
   pub state : State
   pub answer : Served
   pub ends : ServeEnds answer most (hub_of turns) counted opening hub counted' state
-  pub whole : IsWhole answer
-  pub sent : text ≡ sent_text told
 
 -- What is to be written for a schedule: the line that says which of its lines is the first outside
 -- the grammar, and nothing is run; or what was sent, where none is. It is served for one turn more
@@ -83,6 +95,13 @@ abbrev pub ComesTo : Result (List Coming) ℕ → Bytes → Counts → Counts �
 ComesTo (Err n) bytes counted counted' text = (text ≡ outside_line n) × (counted' ≡ counted)
 ComesTo (Ok turns) bytes counted counted' text =
     Replays turns (length (lines_of bytes) + 1) counted counted' text
+
+-- What was done for a schedule where memory was wanted: nothing was counted; or its hub was served,
+-- and what was sent couldn't be told.
+abbrev pub LacksMemory : Result (List Coming) ℕ → Bytes → Counts → Counts → Type 0
+LacksMemory (Err n) bytes counted counted' = counted' ≡ counted
+LacksMemory (Ok turns) bytes counted counted' =
+    (counted' ≡ counted) ⊎ ServesUntold turns (length (lines_of bytes) + 1) counted counted'
 
 -- the status of a schedule whose text was written
 abbrev pub status_for : Result (List Coming) ℕ → Status
@@ -97,13 +116,15 @@ Written status whole text taken faults taken' faults' =
     ⊎ ((status ≡ WriteFault) × (n : ℕ) × (n < length text) × Gains taken taken' (take n text)
     × Counted faults faults')
 
--- What a schedule comes to was written; or memory was wanted, and nothing was.
+-- What a schedule comes to was written; or memory was wanted, and nothing was. In both cases no more
+-- was counted of listings than the run of the schedule may cost.
 abbrev pub WritesFor : Status → Bytes → Option Bytes → ℕ → Counts → Option Bytes → ℕ → Counts
     → Type 0
 WritesFor status bytes taken faults counted taken' faults' counted' =
     ((text : Bytes) × ComesTo (turns_of bytes) bytes counted counted' text
     × Written status (status_for (turns_of bytes)) text taken faults taken' faults')
-    ⊎ ((status ≡ NoMemory) × (taken' ≡ taken) × (faults' ≡ faults))
+    ⊎ ((status ≡ NoMemory) × LacksMemory (turns_of bytes) bytes counted counted'
+    × (taken' ≡ taken) × (faults' ≡ faults))
 
 -- The whole schedule was read, and then written of.
 pub record WritesWhole (status : Status) (before now : Outside) : Type 0 where

@@ -1,10 +1,10 @@
-ghost use Rattle.std.specs.Prelude.{◌≡◌, ℕ, List, ◌+◌, ◌<◌, length, Option, IfOk, MatchResult};
+ghost use Rattle.std.specs.Prelude.{◌≡◌, ℕ, List, ◌+◌, ◌<◌, length, Option, Ok, IfOk, OnErr, MatchResult};
 ghost use Rattle.djq_io.specs.Source.{Reading};
 ghost use Rattle.djq_machine.specs.Call.{counts};
 ghost use Rattle.djq_laws.specs.Course.{outside};
 ghost use Rattle.djq_schedule.specs.Schedule.{lines_of};
 ghost use Rattle.djq_schedule.specs.Made.{turns_of, IsMade};
-ghost use Rattle.djq.specs.Replay.{ReadsWhole, StopsReading, Replays, ComesTo, status_for, Written as Wrote, WritesFor, ReplayEnds};
+ghost use Rattle.djq.specs.Replay.{ReadsWhole, StopsReading, Replays, ComesTo, LacksMemory, status_for, Written as Wrote, WritesFor, ReplayEnds};
 
 use djq_core::Core;
 use djq_io::{MemHub, Read, Sink, Source, SteadyHub, Written, write_all};
@@ -16,8 +16,9 @@ use djq_steps::{Ledgers, Steps};
 use std::alloc::{AllocError, Global};
 
 /// Reads a schedule from the source, serves its hub, and writes each line that was sent to a
-/// session, in the order of the sends. A schedule with a line outside the grammar isn't run, and
-/// the first such line is told.
+/// session, in the order of the sends. What is served are the turns of the schedule, in order, until
+/// none is left or a session said `stop`. A schedule with a line outside the grammar isn't run, and
+/// the first such line is told. Out of memory nothing is written.
 pub(crate) fn replay<S: Source, K: Sink, L: Ledgers>(
     alloc: Global,
     source: &mut S,
@@ -116,6 +117,9 @@ fn make_text<L: Ledgers>(
         (counts steps.old.listing steps.old.update steps.old.rows)
         (counts steps.new.listing steps.new.update steps.new.rows) made.0.items) }
     ensures status { IfOk result (λ made. made.1 ≡ status_for (turns_of bytes.now)) }
+    ensures memory { OnErr result (LacksMemory (turns_of bytes.now) bytes.now
+        (counts steps.old.listing steps.old.update steps.old.rows)
+        (counts steps.new.listing steps.new.update steps.new.rows)) }
 {
     match schedule_hub(alloc, bytes) {
         Ok(hub) => Ok((serve_schedule(alloc, bytes, hub, steps)?, Status::Done)),
@@ -134,9 +138,12 @@ fn serve_schedule<L: Ledgers>(
     steps: &mut Steps<L>,
 ) -> Result<Vec<u8>, AllocError>
     requires { IsMade bytes.now hub }
-    ensures { IfOk result (λ text. Replays hub.script.turns (length (lines_of bytes.now) + 1)
+    ensures text { IfOk result (λ text. Replays hub.script.turns (length (lines_of bytes.now) + 1)
         (counts steps.old.listing steps.old.update steps.old.rows)
         (counts steps.new.listing steps.new.update steps.new.rows) text.items) }
+    ensures memory { OnErr result (LacksMemory (Ok hub.script.turns) bytes.now
+        (counts steps.old.listing steps.old.update steps.old.rows)
+        (counts steps.new.listing steps.new.update steps.new.rows)) }
 {
     let Ok(mut machine) = Core::new(alloc) else {
         return Err(AllocError);
