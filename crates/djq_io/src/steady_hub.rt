@@ -35,9 +35,11 @@ impl SteadyHub {
         SteadyHub { hub }
     }
 
-    /// All calls so far with their answers, or `None` once they are lost.
+    /// All calls so far with their answers, or `None` once they are lost. No send among them found
+    /// its session gone.
     pub fn past(&self) -> Option<&[Told]>
-        ensures { option_copied result ≡ self.now.past }
+        ensures past { option_copied result ≡ self.now.past }
+        ensures steady { NeverFails self.now }
     {
         self.hub.past()
     }
