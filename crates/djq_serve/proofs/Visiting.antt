@@ -1,8 +1,8 @@
 -- A flush, from session to session.
 use Rattle.std.specs.Prelude.{ℕ, [], ◌∷◌, ◌≡◌, ◌≤◌, Bool, true, false, cond, None, Some, length, take}
-use Rattle.std.proofs.Common.{refl, sym, ap, subst, length-take, arith}
+use Rattle.std.proofs.Common.{refl, sym, ap, subst, arith}
+use Rattle.djq_io.specs.declared.hub.Sent.{Sent}
 use Rattle.djq_io.specs.declared.hub.Sent.TheVariants.{Took}
-use Rattle.djq_io.specs.declared.hub.Told.TheVariants.{Sending}
 use Rattle.djq_model.specs.Data.{Bytes}
 use Rattle.djq_machine.specs.State.{State}
 use Rattle.djq_machine.specs.Step.{took}
@@ -10,7 +10,7 @@ use Rattle.djq_machine.specs.Run.{pending_of}
 use Rattle.djq_machine.specs.Call.{Makes, first_due}
 use Rattle.djq_serve.specs.Told.{Shown, Tells}
 use Rattle.djq_serve.specs.declared.served.Served.TheVariants.{Stopped}
-use Rattle.djq_serve.specs.Server.{Next, next_turn, waiting, flushing, closing, server, after}
+use Rattle.djq_serve.specs.Server.{Next, next_turn, waiting, flushing, closing, server, offering, after}
 use Rattle.djq_serve.specs.Goes.{GoesQuietly}
 use Rattle.djq_serve.specs.Kept.{Agrees, Spares}
 use Rattle.djq_serve.proofs.Going.{quietly_then, quietly_none}
@@ -26,15 +26,18 @@ pub at_place : (x y : Shown) (old new : State) (from to place : ℕ) (next : Nex
     → GoesQuietly x (server old (flushing from next)) y (server new (flushing place next))
 at_place x y old new from to place next same goes = subst (λ (k : ℕ). GoesQuietly x (server old (flushing from next)) y (server new (flushing k next))) (sym same) goes
 
+-- all pending bytes were offered
+pub offers_all : (x y : Shown) (s : ℕ) (sent : Sent) (piece pending : Bytes) → piece ≡ pending → Tells x y (offering s piece sent ∷ [])
+    → Tells x y (offering s pending sent ∷ [])
+offers_all x y s sent piece pending same told = subst (λ (bytes : Bytes). Tells x y (offering s bytes sent ∷ [])) same told
+
 -- some of the pending bytes were taken
 pub takes_some : (x y : Shown) (old new : State) (s n : ℕ) (piece : Bytes) → piece ≡ pending_of old s → 1 ≤ n → n ≤ length piece
-    → Makes old (took s (take n (pending_of old s))) new → Tells x y (Sending s (Took n) (take n piece) ∷ [])
+    → Makes old (took s (take n (pending_of old s))) new → Tells x y (offering s piece (Took n) ∷ [])
     → (from : ℕ) (next : Next) → first_due old from ≡ Some s → GoesQuietly x (server old (flushing from next)) y (server new (flushing s next))
 takes_some x y old new s n piece is_piece some within makes told from next due =
-    let bytes = take n (pending_of old s) in
-    let told_bytes : Tells x y (Sending s (Took n) bytes ∷ []) = subst (λ (p : Bytes). Tells x y (Sending s (Took n) (take n p) ∷ [])) is_piece told in
-    let len : length bytes ≡ n = omega (arith, length-take n (pending_of old s), within, ap length is_piece) in
-    visit_takes x y old new from next s n bytes due (omega (arith, some, within, ap length is_piece)) (omega (arith, some, len)) (sym len) makes told_bytes
+    visit_takes x y old new from next s n due some (omega (arith, within, ap length is_piece)) makes
+    (offers_all x y s (Took n) piece (pending_of old s) is_piece told)
 
 -- What a flush keeps from its entry on.
 pub record Flushing (x y : Shown) (old now : State) (from : ℕ) : Type 0 where

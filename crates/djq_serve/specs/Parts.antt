@@ -12,7 +12,7 @@ use Rattle.djq_machine.specs.Call.{IsOpen, Makes, Counts}
 use Rattle.djq_serve.specs.declared.served.Served.{Served}
 use Rattle.djq_serve.specs.declared.served.Served.TheVariants.{Stopped, Over, TurnsUsed, HubFault}
 use Rattle.djq_serve.specs.Told.{Shown, Tells}
-use Rattle.djq_serve.specs.Server.{Phase, waiting, closing, server, LetsIn}
+use Rattle.djq_serve.specs.Server.{Phase, waiting, closing, server, offering, LetsIn}
 use Rattle.djq_serve.specs.Goes.{seen, Goes}
 use Rattle.djq_serve.specs.Kept.{AllSettled}
 use Rattle.djq_serve.specs.Ends.{HasTaken}
@@ -29,11 +29,11 @@ pub record Admits (old : State) (hub : Shown) (s : ℕ) (new : State) (hub' : Sh
   pub lets_in : LetsIn s old more new
   pub told : Tells hub hub' more
 
--- One line was sent to a session, once, and it was closed.
+-- A line was offered to a session, whole and once, and it was closed.
 pub record Refuses (hub : Shown) (s : ℕ) (text : Bytes) (hub' : Shown) : Type 0 where
   pub sent : Sent
   pub takes : Takes sent text
-  pub told : Tells hub hub' (Sending s sent (taken_by sent text) ∷ Closing s ∷ [])
+  pub told : Tells hub hub' (offering s text sent ∷ Closing s ∷ [])
   pub ids : hub'.ids ≡ without hub.ids s
 
 -- A session is open, and no session said `stop`.
