@@ -18,7 +18,8 @@ use Rattle.djq_laws.proofs.Sending.{step_bytes}
 abbrev NotAmong : ℕ → List ℕ → Type 0
 NotAmong s ids = All (λ i. (i == s) ≡ false) ids
 
-not_found : (s : ℕ) (xs : List Session) → NotAmong s (map (λ (x : Session). x.id) xs) → find (λ (x : Session). x.id == s) xs ≡ None
+not_found : (s : ℕ) (xs : List Session) → NotAmong s (map (λ (x : Session). x.id) xs)
+    → find (λ (x : Session). x.id == s) xs ≡ None
 not_found s [] h = refl
 not_found s (x ∷ xs) h =
     let rest = map (λ (y : Session). y.id) xs in
@@ -43,13 +44,15 @@ not_both true e f = cc
 not_both false e f = cc
 
 -- A session that isn't open has none of its bytes taken.
-not_there : (s t : ℕ) (old : State) (P : Session → Type 0) → (t == s) ≡ true → NotAmong s (ids_of old) → IsSomeAnd (session_of old t) P → ⊥
+not_there : (s t : ℕ) (old : State) (P : Session → Type 0) → (t == s) ≡ true → NotAmong s (ids_of old)
+    → IsSomeAnd (session_of old t) P → ⊥
 not_there s t old P same out there =
     let f = some_and (session_of old t) P there in
     let found : session_of old s ≡ Some f.0 = subst (λ i. session_of old i ≡ Some f.0) (eqb-true t s same) f.1 in
     not_both (s == s) (eq-eqb s s refl) (at_found (λ i. (i == s) ≡ false) s old.sessions f.0 found out)
 
-none_by : (s : ℕ) (old : State) (event : Event) (e : Effect) (new : State) → Step old event e new → NotAmong s (ids_of old) → taken_by s event ≡ []
+none_by : (s : ℕ) (old : State) (event : Event) (e : Effect) (new : State) → Step old event e new
+    → NotAmong s (ids_of old) → taken_by s event ≡ []
 none_by s old (opened t) e new h out = refl
 none_by s old (fed t bytes) e new h out = refl
 none_by s old (stepped t outcome) e new h out = refl
@@ -89,7 +92,8 @@ behind P [] ys h = h
 behind P (x ∷ xs) ys h = behind P xs ys (All-tail P x (xs ++ ys) h)
 
 -- So nothing more is taken of a session that was closed.
-none_taken : (s : ℕ) (old : State) (done : List Did) (new : State) → Run old done new → All (λ t. s < t) (all_opened done)
+none_taken : (s : ℕ) (old : State) (done : List Did) (new : State) → Run old done new
+    → All (λ t. s < t) (all_opened done)
     → NotAmong s (ids_of old) → all_taken s done ≡ []
 none_taken s old [] new w above out = refl
 none_taken s old (d ∷ done) new w above out =
@@ -107,19 +111,24 @@ record Later (here : List ℕ) (opening : List ℕ) : Type 0 where
 later : (here opening : List ℕ) → AllPairs (λ s t. s < t) (here ++ opening) → Later here opening
 later [] opening h = record { above = All-nil (λ s. All (λ t. s < t) opening); rising = h }
 later (s ∷ here) opening h =
-    let rest = later here opening (λ i j d lt within. h (suc i) (suc j) d (omega (arith, lt)) (omega (arith, within))) in
-    let head : All (λ t. s < t) (here ++ opening) = λ k d within. h zero (suc k) d (omega arith) (omega (arith, within)) in
+    let rest = later here opening
+    (λ i j d lt within. h (suc i) (suc j) d (omega (arith, lt)) (omega (arith, within))) in
+    let head : All (λ t. s < t) (here ++ opening) =
+    λ k d within. h zero (suc k) d (omega arith) (omega (arith, within)) in
     record {
       above = All-cons (λ i. All (λ t. i < t) opening) s here (behind (λ t. s < t) here opening head) rest.above;
       rising = rest.rising;
     }
 
 -- one event on
-later_still : (event : Event) (here here' rest : List ℕ) → IdsBehind event here here' → Later here (opened_by event ++ rest) → Later here' rest
+later_still : (event : Event) (here here' rest : List ℕ) → IdsBehind event here here'
+    → Later here (opened_by event ++ rest) → Later here' rest
 later_still (opened s) here here' rest h l = by_opening h
   where
     above : All (λ i. All (λ t. i < t) rest) here
-    above = All-weaker (λ i. All (λ t. i < t) (s ∷ rest)) (λ i. All (λ t. i < t) rest) (λ i k. All-tail (λ t. i < t) s rest k) here l.above
+    above =
+        All-weaker (λ i. All (λ t. i < t) (s ∷ rest)) (λ i. All (λ t. i < t) rest)
+        (λ i k. All-tail (λ t. i < t) s rest k) here l.above
 
     first : All (λ t. s < t) rest
     first = λ k d within. l.rising zero (suc k) d (omega arith) (omega (arith, within))
@@ -150,7 +159,8 @@ in_turn gone mid old queued taken left more first rest =
 
 -- as a session closes
 at_close : (gone mid old queued taken dropped left more : Bytes) → gone ++ mid ≡ old ++ queued
-    → taken ++ (dropped ++ left) ≡ mid ++ more → taken ≡ [] → taken ++ ((gone ++ dropped) ++ left) ≡ old ++ (queued ++ more)
+    → taken ++ (dropped ++ left) ≡ mid ++ more → taken ≡ []
+    → taken ++ ((gone ++ dropped) ++ left) ≡ old ++ (queued ++ more)
 at_close gone mid old queued taken dropped left more first rest none =
     ap (λ bytes. bytes ++ ((gone ++ dropped) ++ left)) none
     ∙ append_assoc gone dropped left
@@ -169,11 +179,14 @@ not_in_filter s (i ∷ ids) = by_id (i == s) refl (not_in_filter s ids)
     by_id true same rest = rest
     by_id false apart rest = All-cons (λ j. (j == s) ≡ false) i others apart rest
 
-closing_order : (s t : ℕ) (bytes : Bytes) (old : State) (e : Effect) (mid : State) (done : List Did) (new : State) → Step old (closed t bytes) e mid
+closing_order : (s t : ℕ) (bytes : Bytes) (old : State) (e : Effect) (mid : State) (done : List Did) (new : State)
+    → Step old (closed t bytes) e mid
     → Run mid done new → All (λ i. All (λ j. i < j) (all_opened done)) (ids_of old)
     → all_taken s done ++ (all_dropped s done ++ pending_of new s) ≡ pending_of mid s ++ out s done
-    → all_taken s done ++ ((dropped_by s (closed t bytes) ++ all_dropped s done) ++ pending_of new s) ≡ pending_of old s ++ (to_session s e.queued ++ out s done)
-closing_order s t bytes old e mid done new h w above rest = by_id (t == s) refl (step_bytes old (closed t bytes) e mid h s)
+    → all_taken s done ++ ((dropped_by s (closed t bytes) ++ all_dropped s done) ++ pending_of new s)
+    ≡ pending_of old s ++ (to_session s e.queued ++ out s done)
+closing_order s t bytes old e mid done new h w above rest =
+    by_id (t == s) refl (step_bytes old (closed t bytes) e mid h s)
   where
     gone_ids : ids_of mid ≡ filter (λ i. not (i == t)) (ids_of old)
     gone_ids = step_ids old (closed t bytes) e mid h
@@ -185,37 +198,51 @@ closing_order s t bytes old e mid done new h w above rest = by_id (t == s) refl 
         let later_ones : All (λ j. t < j) (all_opened done) =
         at_found (λ i. All (λ j. i < j) (all_opened done)) t old.sessions found.0 found.1 above in
         none_taken s mid done new w (subst (λ i. All (λ j. i < j) (all_opened done)) is later_ones)
-        (subst (NotAmong s) (sym gone_ids) (subst (λ i. NotAmong s (filter (λ j. not (j == i)) (ids_of old))) (sym is) (not_in_filter s (ids_of old))))
+        (subst (NotAmong s) (sym gone_ids)
+        (subst (λ i. NotAmong s (filter (λ j. not (j == i)) (ids_of old))) (sym is) (not_in_filter s (ids_of old))))
 
     by_id : (b : Bool) → (t == s) ≡ b → cond b bytes [] ++ pending_of mid s ≡ pending_of old s ++ to_session s e.queued
-        → all_taken s done ++ ((cond b bytes [] ++ all_dropped s done) ++ pending_of new s) ≡ pending_of old s ++ (to_session s e.queued ++ out s done)
+        → all_taken s done ++ ((cond b bytes [] ++ all_dropped s done) ++ pending_of new s)
+        ≡ pending_of old s ++ (to_session s e.queued ++ out s done)
     by_id true same first =
-        at_close bytes (pending_of mid s) (pending_of old s) (to_session s e.queued) (all_taken s done) (all_dropped s done) (pending_of new s) (out s done) first rest (none same)
+        at_close bytes (pending_of mid s) (pending_of old s) (to_session s e.queued) (all_taken s done)
+        (all_dropped s done) (pending_of new s) (out s done) first rest (none same)
     by_id false apart first =
-        in_turn [] (pending_of mid s) (pending_of old s) (to_session s e.queued) (all_taken s done) (all_dropped s done ++ pending_of new s) (out s done) first rest
+        in_turn [] (pending_of mid s) (pending_of old s) (to_session s e.queued) (all_taken s done)
+        (all_dropped s done ++ pending_of new s) (out s done) first rest
 
 -- What was taken, dropped and is pending, one event earlier.
-step_order : (s : ℕ) (event : Event) (old : State) (e : Effect) (mid : State) (done : List Did) (new : State) → Step old event e mid
+step_order : (s : ℕ) (event : Event) (old : State) (e : Effect) (mid : State) (done : List Did) (new : State)
+    → Step old event e mid
     → Run mid done new → Later (ids_of old) (opened_by event ++ all_opened done)
     → all_taken s done ++ (all_dropped s done ++ pending_of new s) ≡ pending_of mid s ++ out s done
-    → (taken_by s event ++ all_taken s done) ++ ((dropped_by s event ++ all_dropped s done) ++ pending_of new s) ≡ pending_of old s ++ (to_session s e.queued ++ out s done)
+    → (taken_by s event ++ all_taken s done) ++ ((dropped_by s event ++ all_dropped s done) ++ pending_of new s)
+    ≡ pending_of old s ++ (to_session s e.queued ++ out s done)
 step_order s (opened t) old e mid done new h w l rest =
-    in_turn [] (pending_of mid s) (pending_of old s) (to_session s e.queued) (all_taken s done) (all_dropped s done ++ pending_of new s) (out s done) (step_bytes old (opened t) e mid h s) rest
+    in_turn [] (pending_of mid s) (pending_of old s) (to_session s e.queued) (all_taken s done)
+    (all_dropped s done ++ pending_of new s) (out s done) (step_bytes old (opened t) e mid h s) rest
 step_order s (fed t bytes) old e mid done new h w l rest =
-    in_turn [] (pending_of mid s) (pending_of old s) (to_session s e.queued) (all_taken s done) (all_dropped s done ++ pending_of new s) (out s done) (step_bytes old (fed t bytes) e mid h s) rest
+    in_turn [] (pending_of mid s) (pending_of old s) (to_session s e.queued) (all_taken s done)
+    (all_dropped s done ++ pending_of new s) (out s done) (step_bytes old (fed t bytes) e mid h s) rest
 step_order s (stepped t outcome) old e mid done new h w l rest =
-    in_turn [] (pending_of mid s) (pending_of old s) (to_session s e.queued) (all_taken s done) (all_dropped s done ++ pending_of new s) (out s done) (step_bytes old (stepped t outcome) e mid h s) rest
+    in_turn [] (pending_of mid s) (pending_of old s) (to_session s e.queued) (all_taken s done)
+    (all_dropped s done ++ pending_of new s) (out s done) (step_bytes old (stepped t outcome) e mid h s) rest
 step_order s (took t bytes) old e mid done new h w l rest =
-    in_turn (taken_by s (took t bytes)) (pending_of mid s) (pending_of old s) (to_session s e.queued) (all_taken s done) (all_dropped s done ++ pending_of new s) (out s done) (step_bytes old (took t bytes) e mid h s) rest
+    in_turn (taken_by s (took t bytes)) (pending_of mid s) (pending_of old s) (to_session s e.queued) (all_taken s done)
+    (all_dropped s done ++ pending_of new s) (out s done) (step_bytes old (took t bytes) e mid h s) rest
 step_order s (ended t) old e mid done new h w l rest =
-    in_turn [] (pending_of mid s) (pending_of old s) (to_session s e.queued) (all_taken s done) (all_dropped s done ++ pending_of new s) (out s done) (step_bytes old (ended t) e mid h s) rest
-step_order s (closed t bytes) old e mid done new h w l rest = closing_order s t bytes old e mid done new h w l.above rest
+    in_turn [] (pending_of mid s) (pending_of old s) (to_session s e.queued) (all_taken s done)
+    (all_dropped s done ++ pending_of new s) (out s done) (step_bytes old (ended t) e mid h s) rest
+step_order s (closed t bytes) old e mid done new h w l rest =
+    closing_order s t bytes old e mid done new h w l.above rest
 
-run_order : (s : ℕ) (old : State) (done : List Did) (new : State) → Run old done new → Later (ids_of old) (all_opened done)
+run_order : (s : ℕ) (old : State) (done : List Did) (new : State) → Run old done new
+    → Later (ids_of old) (all_opened done)
     → all_taken s done ++ (all_dropped s done ++ pending_of new s) ≡ pending_of old s ++ out s done
 run_order s old [] new w l = ap (λ st. pending_of st s) w ∙ sym (append-nil (pending_of old s))
 run_order s old (d ∷ done) new w l =
-    let next = later_still d.event (ids_of old) (ids_of w.0) (all_opened done) (step_ids old d.event d.effect w.0 w.1) l in
+    let ids = step_ids old d.event d.effect w.0 w.1 in
+    let next = later_still d.event (ids_of old) (ids_of w.0) (all_opened done) ids l in
     step_order s d.event old d.effect w.0 done new w.1 w.2 l (run_order s w.0 done new w.2 next)
 
 pub sent_in_order : SentInOrder

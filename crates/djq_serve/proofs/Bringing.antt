@@ -3,8 +3,9 @@ use Rattle.std.specs.Prelude.{ℕ, List, [], ◌∷◌, ◌≡◌, ◌+◌, ◌<
 use Rattle.std.proofs.Common.{refl, sym, ap, ◌∙◌, subst, inl, inr, length-take, arith}
 use Rattle.std.proofs.lemmas.Bool.{lt-ltb, le-ltb}
 use Rattle.std.proofs.lemmas.List.Sorted.{IsPermutation-refl}
-use Rattle.djq_io.specs.Hub.{Ids, Takes}
+use Rattle.djq_io.specs.Hub.{Ids, Takes, without}
 use Rattle.djq_io.specs.declared.hub.Turn.TheVariants.{Opened, Bytes as Brought, Ended, Idle, Over as HubOver, Failed}
+use Rattle.djq_io.specs.declared.hub.Sent.{Sent}
 use Rattle.djq_io.specs.declared.hub.Told.{Told}
 use Rattle.djq_io.specs.declared.hub.Told.TheVariants.{Turning, Closing}
 use Rattle.djq_model.specs.declared.relation.Relation.{Relation}
@@ -63,6 +64,12 @@ refused st new hub hub' s text n same is_text r = record {
       (inr (λ there. not_open st s n.above (subst (λ (k : State). IsOpen k s) same there), r.sent, subst (λ (t : Bytes). Takes r.sent t) (sym is_text) r.takes, refl));
   told = r.told;
 }
+
+-- a line was offered, and the session closed
+pub refuses_by : (hub hub' : Shown) (s : ℕ) (sent : Sent) (piece text : Bytes) → piece ≡ text → Takes sent piece
+    → Tells hub hub' (offering s piece sent ∷ Closing s ∷ []) → hub'.ids ≡ without hub.ids s → Refuses hub s text hub'
+refuses_by hub hub' s sent piece text same takes told ids =
+    subst (λ (t : Bytes). Refuses hub s t hub') same (record { sent = sent; takes = takes; told = told; ids = ids })
 
 pub is_full : (st new : State) (hub hub' : Shown) (s : ℕ) → IsNew st hub.ids s → new ≡ st → SESSIONS ≤ length st.sessions → Refuses hub s end_full hub' → Admits st hub s new hub'
 is_full st new hub hub' s n same many r = refused st new hub hub' s end_full n same (full_text st many) r

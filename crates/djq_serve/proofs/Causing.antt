@@ -129,7 +129,11 @@ record Quiet (st new : State) (told : List Told) : Type 0 where
   pub failed : has_failed told ≡ false
 
 sends_quiet : (sent : Sent) (s : ℕ) (st : State) (told : List Told) (done : List Did) (new : State) → SendsSome sent s st told done new → Quiet st new told
-sends_quiet (Took n) s st told done new (some, within, is, happens) = record { stopped = kept_stop (took s (take n (pending_of st s))) st new done tt happens; over = ap has_over is; failed = ap has_failed is }
+sends_quiet (Took n) s st told done new (some, within, is, happens) = record {
+  stopped = kept_stop (took s (take n (pending_of st s))) st new done tt happens;
+  over = ap has_over is;
+  failed = ap has_failed is;
+}
 sends_quiet Again s st told done new (is, stays) = record { stopped = kept_still st new done stays; over = ap has_over is; failed = ap has_failed is }
 sends_quiet Gone s st told done new (is, happens) = record { stopped = kept_stop (closed s (pending_of st s)) st new done tt happens; over = ap has_over is; failed = ap has_failed is }
 

@@ -22,7 +22,8 @@ use Rattle.djq_serve.proofs.Lawful.{serve_runs, serve_sends, serve_opens}
 use Rattle.djq_serve.proofs.Causing.{is_caused}
 
 -- None was open at first, and all that opened have rising ids.
-rising_from : (old : State) (told : List Told) (done : List Did) (x z : Shown) → old.sessions ≡ [] → all_opened done ≡ opened_in told
+rising_from : (old : State) (told : List Told) (done : List Did) (x z : Shown) → old.sessions ≡ []
+    → all_opened done ≡ opened_in told
     → Tells x z told → OpensOnce old done × AllPairs (λ s t. s < t) (all_opened done)
 rising_from old told done x z alone same tells =
     let rising : AllPairs (λ s t. s < t) (all_opened done) =
@@ -30,9 +31,11 @@ rising_from old told done x z alone same tells =
     let none : ids_of old ≡ [] = ap (λ (xs : List Session). map (λ (x : Session). x.id) xs) alone in
     (subst (λ (is : List ℕ). AllPairs (λ s t. s < t) (is ++ all_opened done)) (sym none) rising, rising)
 
-pub serve_ends : (answer : Served) (turns : ℕ) (x y z : Shown) (before now : Counts) (old mid new : State) → old.stopped ≡ false
+pub serve_ends : (answer : Served) (turns : ℕ) (x y z : Shown) (before now : Counts) (old mid new : State)
+    → old.stopped ≡ false
     → old.sessions ≡ [] → Took answer turns x before old y now mid
-    → ((k : Served) → GoesQuietly y (server mid (closing k)) z (server new (closing k))) → ids_of new ≡ [] → Agrees new z.ids
+    → ((k : Served) → GoesQuietly y (server mid (closing k)) z (server new (closing k))) → ids_of new ≡ []
+    → Agrees new z.ids
     → ServeEnds answer turns x before old z now new
 serve_ends answer turns x y z before now old mid new going alone took closes none agrees =
     let whole = goes_then (seen x before 0) (server old waiting) (seen y now took.taken) (server mid (closing answer)) (seen z now took.taken) (server new (closing answer))

@@ -31,15 +31,20 @@ use Rattle.djq_serve.proofs.Opening.{opens_at, opened_in}
 pub record OfMove (P : State → List Told → List Did → State → Type 0) : Type 0 where
   pub quiet : (st : State) → P st [] [] st
   pub opens : (st new : State) (s : ℕ) (piece : Bytes) (e : Effect) → Step st (opened s) e new → P st (Turning (Opened s) piece ∷ []) (record { event = opened s; effect = e } ∷ []) new
-  pub refuses : (st new : State) (s offered : ℕ) (piece taken : Bytes) (sent : Sent) (e : Effect) → Step st (opened s) e new
-      → P st (Turning (Opened s) piece ∷ Sending s offered sent taken ∷ Closing s ∷ []) (record { event = opened s; effect = e } ∷ []) new
+  pub refuses : (st new : State) (s offered : ℕ) (piece taken : Bytes) (sent : Sent) (e : Effect)
+      → Step st (opened s) e new
+      → P st (Turning (Opened s) piece ∷ Sending s offered sent taken ∷ Closing s ∷ [])
+      (record { event = opened s; effect = e } ∷ []) new
   pub feeds : (st new : State) (s n : ℕ) (piece : Bytes) (e : Effect) → Step st (fed s piece) e new → P st (Turning (Brought s n) piece ∷ []) (record { event = fed s piece; effect = e } ∷ []) new
   pub ends : (st new : State) (s : ℕ) (piece : Bytes) (e : Effect) → Step st (ended s) e new → P st (Turning (Ended s) piece ∷ []) (record { event = ended s; effect = e } ∷ []) new
-  pub idles : (st : State) (turn : Turn) (piece : Bytes) → opens_at (Turning turn piece) ≡ [] → P st (Turning turn piece ∷ []) [] st
+  pub idles : (st : State) (turn : Turn) (piece : Bytes) → opens_at (Turning turn piece) ≡ []
+      → P st (Turning turn piece ∷ []) [] st
   pub runs : (st new : State) (s : ℕ) (outcome : LineOutcome) (e : Effect) → Step st (stepped s outcome) e new → P st [] (record { event = stepped s outcome; effect = e } ∷ []) new
-  pub takes : (st new : State) (s offered n : ℕ) (piece : Bytes) (e : Effect) → Step st (took s piece) e new → P st (Sending s offered (Took n) piece ∷ []) (record { event = took s piece; effect = e } ∷ []) new
+  pub takes : (st new : State) (s offered n : ℕ) (piece : Bytes) (e : Effect) → Step st (took s piece) e new
+      → P st (Sending s offered (Took n) piece ∷ []) (record { event = took s piece; effect = e } ∷ []) new
   pub blocked : (st : State) (s offered : ℕ) → P st (Sending s offered Again [] ∷ []) [] st
-  pub gone : (st new : State) (s offered : ℕ) (bytes : Bytes) (e : Effect) → Step st (closed s bytes) e new → P st (Sending s offered Gone [] ∷ Closing s ∷ []) (record { event = closed s bytes; effect = e } ∷ []) new
+  pub gone : (st new : State) (s offered : ℕ) (bytes : Bytes) (e : Effect) → Step st (closed s bytes) e new
+      → P st (Sending s offered Gone [] ∷ Closing s ∷ []) (record { event = closed s bytes; effect = e } ∷ []) new
   pub closes : (st new : State) (s : ℕ) (bytes : Bytes) (e : Effect) → Step st (closed s bytes) e new → P st (Closing s ∷ []) (record { event = closed s bytes; effect = e } ∷ []) new
 
 module _ (P : State → List Told → List Did → State → Type 0) (h : OfMove P) where
@@ -75,11 +80,16 @@ module _ (P : State → List Told → List Did → State → Type 0) (h : OfMove
       told_as st new (Turning (Ended s) piece ∷ more) (Turning (Ended s) piece ∷ []) done (ap (λ (ts : List Told). Turning (Ended s) piece ∷ ts) none)
       (by_step (ended s) st _ done new happens (h.ends st new s piece))
   by_turn_of Idle piece st more done new next (stays, none, phase) =
-      told_as st new (Turning Idle piece ∷ more) (Turning Idle piece ∷ []) done (ap (λ (ts : List Told). Turning Idle piece ∷ ts) none) (by_none st _ done new stays (h.idles st Idle piece refl))
+      told_as st new (Turning Idle piece ∷ more) (Turning Idle piece ∷ []) done
+      (ap (λ (ts : List Told). Turning Idle piece ∷ ts) none) (by_none st _ done new stays (h.idles st Idle piece refl))
   by_turn_of HubOver piece st more done new next (stays, none, phase) =
-      told_as st new (Turning HubOver piece ∷ more) (Turning HubOver piece ∷ []) done (ap (λ (ts : List Told). Turning HubOver piece ∷ ts) none) (by_none st _ done new stays (h.idles st HubOver piece refl))
+      told_as st new (Turning HubOver piece ∷ more) (Turning HubOver piece ∷ []) done
+      (ap (λ (ts : List Told). Turning HubOver piece ∷ ts) none)
+      (by_none st _ done new stays (h.idles st HubOver piece refl))
   by_turn_of Failed piece st more done new next (stays, none, phase) =
-      told_as st new (Turning Failed piece ∷ more) (Turning Failed piece ∷ []) done (ap (λ (ts : List Told). Turning Failed piece ∷ ts) none) (by_none st _ done new stays (h.idles st Failed piece refl))
+      told_as st new (Turning Failed piece ∷ more) (Turning Failed piece ∷ []) done
+      (ap (λ (ts : List Told). Turning Failed piece ∷ ts) none)
+      (by_none st _ done new stays (h.idles st Failed piece refl))
 
   by_lines : (s : ℕ) (st : State) (m : Move) (new : Server) (b : Bool) → LinesAt s st m new b → P st m.told m.done new.state
   by_lines s st m new true (none, (outcome, happens, phase)) =
@@ -91,8 +101,12 @@ module _ (P : State → List Told → List Did → State → Type 0) (h : OfMove
       let piece = take n (pending_of st s) in
       told_as st new told _ done is
       (by_step (took s piece) st _ done new happens (h.takes st new s (length (pending_of st s)) n piece))
-  by_sending Again s st told done new (is, stays) = told_as st new told _ done is (by_none st _ done new stays (h.blocked st s (length (pending_of st s))))
-  by_sending Gone s st told done new (is, happens) = told_as st new told _ done is (by_step (closed s (pending_of st s)) st _ done new happens (h.gone st new s (length (pending_of st s)) (pending_of st s)))
+  by_sending Again s st told done new (is, stays) =
+      told_as st new told _ done is (by_none st _ done new stays (h.blocked st s (length (pending_of st s))))
+  by_sending Gone s st told done new (is, happens) =
+      told_as st new told _ done is
+      (by_step (closed s (pending_of st s)) st _ done new happens
+      (h.gone st new s (length (pending_of st s)) (pending_of st s)))
 
   by_visit : (s : ℕ) (st : State) (told : List Told) (done : List Did) (new : State) (to : ℕ) → Visits s st told done new to → P st told done new
   by_visit s st told done new to (inl (some, sent, sends, place)) = by_sending sent s st told done new sends
@@ -193,7 +207,8 @@ opens_by = record {
   closes = λ st new s bytes e step. refl;
 }
 
-pub serve_opens : (old : Server) (moves : List Move) (new : Server) → Walk Serves old moves new → all_opened (all_done moves) ≡ opened_in (all_told moves)
+pub serve_opens : (old : Server) (moves : List Move) (new : Server) → Walk Serves old moves new
+    → all_opened (all_done moves) ≡ opened_in (all_told moves)
 serve_opens old [] new w = refl
 serve_opens old (m ∷ moves) new w =
     flat_map-append (λ (d : Did). opened_by d.event) m.done (all_done moves)

@@ -42,9 +42,11 @@ visit_takes hub hub' st new from next s n due some within makes told =
     let b = server new (flushing s next) in
     goes_quietly hub hub' (server st (flushing from next)) b m
     (subst (λ (o : Option ℕ). FlushesAt next st m b o) (sym due)
-    (s, inl (omega (arith, some, within), Took n, (some, within, refl, happens event st new makes), refl), refl)) told refl
+    (s, inl (omega (arith, some, within), Took n, (some, within, refl, happens event st new makes), refl), refl))
+    told refl
 
-pub visit_blocked : (hub hub' : Shown) (st : State) (from : ℕ) (next : Next) (s : ℕ) → first_due st from ≡ Some s → 0 < length (pending_of st s)
+pub visit_blocked : (hub hub' : Shown) (st : State) (from : ℕ) (next : Next) (s : ℕ) → first_due st from ≡ Some s
+    → 0 < length (pending_of st s)
     → Tells hub hub' (offering s (pending_of st s) Again ∷ [])
     → GoesQuietly hub (server st (flushing from next)) hub' (server st (flushing (s + 1) next))
 visit_blocked hub hub' st from next s due some told =
@@ -57,7 +59,8 @@ pub visit_gone : (hub hub' : Shown) (st new : State) (from : ℕ) (next : Next) 
     → Makes st (closed s (pending_of st s)) new → Tells hub hub' (offering s (pending_of st s) Gone ∷ Closing s ∷ [])
     → GoesQuietly hub (server st (flushing from next)) hub' (server new (flushing (s + 1) next))
 visit_gone hub hub' st new from next s due some makes told =
-    let m = move (offering s (pending_of st s) Gone ∷ Closing s ∷ []) (record { event = closed s (pending_of st s); effect = makes.effect } ∷ []) in
+    let d : Did = record { event = closed s (pending_of st s); effect = makes.effect } in
+    let m = move (offering s (pending_of st s) Gone ∷ Closing s ∷ []) (d ∷ []) in
     let b = server new (flushing (s + 1) next) in
     goes_quietly hub hub' (server st (flushing from next)) b m
     (subst (λ (o : Option ℕ). FlushesAt next st m b o) (sym due) (s + 1, inl (some, Gone, (refl, happens (closed s (pending_of st s)) st new makes), refl), refl)) told refl

@@ -60,8 +60,9 @@ tells_turn past past' script script' ids ids' turn buf room gains follows turns 
 }
 
 -- a send
-pub tells_send : (past past' : Option (List Told)) (script script' : Option Script) (ids ids' : Ids) (s : ℕ) (sent : Sent)
-    (text : Bytes) → Gains past past' (offering s text sent ∷ []) → WhereTold script script' (λ x y. Sends s (length text) sent x y)
+pub tells_send : (past past' : Option (List Told)) (script script' : Option Script) (ids ids' : Ids) (s : ℕ)
+    (sent : Sent) (text : Bytes) → Gains past past' (offering s text sent ∷ []) → WhereTold script script'
+    (λ x y. Sends s (length text) sent x y)
     → ids' ≡ ids → Tells (shown past script ids) (shown past' script' ids') (offering s text sent ∷ [])
 tells_send past past' script script' ids ids' s sent text gains sends same = record {
   past = gains;

@@ -73,7 +73,8 @@ returns-in-Again-clause-goes g c from next due =
     let some : 0 < length c.pending-pending.result.now = search rules in
     at_place _ _ old old from (c.args.id + 1) (c.from-behind.result + 1) next (ap (λ (n : ℕ). n + 1) same)
     (visit_blocked _ _ old from next c.args.id due (omega (arith, some, ap length c.pending-pending.ensures))
-    (offers_all _ _ c.args.id _ _ _ c.pending-pending.ensures (tells_send _ _ _ _ _ _ c.args.id _ _ sent.past sent.script sent.ids)))
+    (offers_all _ _ c.args.id _ _ _ c.pending-pending.ensures
+    (tells_send _ _ _ _ _ _ c.args.id _ _ sent.past sent.script sent.ids)))
 
 -- The session is gone, and is closed.
 
@@ -88,7 +89,8 @@ returns-in-Gone-clause-goes g c from next due =
     at_place _ _ old new from (c.args.id + 1) (c.from-behind.result + 1) next (ap (λ (n : ℕ). n + 1) same)
     (visit_gone _ _ old new from next c.args.id due (omega (arith, some, ap length c.pending-pending.ensures)) c.close-in-Gone.ensures.makes
     (tells_more _ _ _ _ _
-    (offers_all _ _ c.args.id _ _ _ c.pending-pending.ensures (tells_send _ _ _ _ _ _ c.args.id _ _ sent.past sent.script sent.ids))
+    (offers_all _ _ c.args.id _ _ _ c.pending-pending.ensures
+    (tells_send _ _ _ _ _ _ c.args.id _ _ sent.past sent.script sent.ids))
     c.close-in-Gone.ensures.told))
 
 pub returns-in-Gone-clause-nearer : goal.returns-in-Gone-clause-nearer
