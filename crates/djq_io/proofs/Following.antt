@@ -29,7 +29,8 @@ where_told P script script' (Some o) (Some n) told gains holds = holds
 pub sends_by : (hub : Recorded) (id : ℕ) (piece : List ℕ) (sent : Sent) → sent ≡ send_of hub id piece
     → Sends id (length piece) sent hub.script hub.script
 sends_by hub id piece sent is =
-    subst (λ s. Sends id (length piece) s hub.script hub.script) (sym is) (at_head (is_send_due id hub.failing_sends) (list_any (λ other. nat_eq other id) hub.script.blocked) refl)
+    subst (λ s. Sends id (length piece) s hub.script hub.script) (sym is)
+    (at_head (is_send_due id hub.failing_sends) (list_any (λ other. nat_eq other id) hub.script.blocked) refl)
   where
     at_head : (due blocked : Bool) → list_any (λ other. nat_eq other id) hub.script.blocked ≡ blocked
         → Sends id (length piece) (cond due Gone (cond blocked Again (Took (length piece)))) hub.script hub.script

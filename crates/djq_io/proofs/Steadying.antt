@@ -30,7 +30,8 @@ send_quiet hub id offered piece taken sent none is =
     ∙ by_blocked (list_any (λ other. nat_eq other id) hub.script.blocked)
   where
     answer : Bool → Sent
-    answer due = cond due Gone (cond (list_any (λ other. nat_eq other id) hub.script.blocked) Again (Took (length piece)))
+    answer due =
+        cond due Gone (cond (list_any (λ other. nat_eq other id) hub.script.blocked) Again (Took (length piece)))
 
     by_blocked : (b : Bool) → is_gone (Sending id offered (cond b Again (Took (length piece))) taken) ≡ false
     by_blocked true = refl

@@ -51,10 +51,15 @@ has_at past i t text begun within is h = record {
 }
 
 -- a piece was sent
-piece_sent : (told : List Told) (id offered : ℕ) (sent : Sent) (piece text text' : Bytes) (begun begun' : ℕ → Bytes) → HasSent told text begun
-    → text' ≡ text ++ ended_lines id (begun id) piece → ((s : ℕ) → begun' s ≡ cond (nat_eq id s) (begun_line (begun id) piece) (begun s)) → HasSent (told ++ Sending id offered sent piece ∷ []) text' begun'
+piece_sent : (told : List Told) (id offered : ℕ) (sent : Sent) (piece text text' : Bytes) (begun begun' : ℕ → Bytes)
+    → HasSent told text begun
+    → text' ≡ text ++ ended_lines id (begun id) piece
+    → ((s : ℕ) → begun' s ≡ cond (nat_eq id s) (begun_line (begun id) piece) (begun s))
+    → HasSent (told ++ Sending id offered sent piece ∷ []) text' begun'
 piece_sent told id offered sent piece text text' begun begun' h is_text is_begun = record {
-  lines = is_text ∙ ap₂ (λ (a b : Bytes). a ++ ended_lines id b piece) h.lines (h.rests id) ∙ sym (sent_more told (Sending id offered sent piece));
+  lines =
+      is_text ∙ ap₂ (λ (a b : Bytes). a ++ ended_lines id b piece) h.lines (h.rests id)
+      ∙ sym (sent_more told (Sending id offered sent piece));
   rests = λ s. is_begun s ∙ at_session s (nat_eq id s) refl ∙ sym (sent_begun s told (Sending id offered sent piece));
 }
   where
@@ -69,12 +74,16 @@ none_sent told t text begun no_lines none h = record {
   rests = λ s. h.rests s ∙ ap (λ (bytes : Bytes). begun_line (begun_line [] (sent_to s told)) bytes) (sym (none s)) ∙ sym (sent_begun s told t);
 }
 
-pub sending_at : (past : List Told) (i : ℕ) (t : Told) (id offered : ℕ) (sent : Sent) (piece text text' : Bytes) (begun begun' : ℕ → Bytes) → i < length past → t ≡ get_or past i t → t ≡ Sending id offered sent piece
+pub sending_at : (past : List Told) (i : ℕ) (t : Told) (id offered : ℕ) (sent : Sent)
+    (piece text text' : Bytes) (begun begun' : ℕ → Bytes) → i < length past → t ≡ get_or past i t → t ≡ Sending id offered sent piece
     → HasSent (take i past) text begun → text' ≡ text ++ ended_lines id (begun id) piece → ((s : ℕ) → begun' s ≡ cond (nat_eq id s) (begun_line (begun id) piece) (begun s)) → HasSent (take (i + 1) past) text' begun'
 sending_at past i t id offered sent piece text text' begun begun' within is sends h is_text is_begun =
-    has_at past i t text' begun' within is (subst (λ (u : Told). HasSent (take i past ++ u ∷ []) text' begun') (sym sends) (piece_sent (take i past) id offered sent piece text text' begun begun' h is_text is_begun))
+    has_at past i t text' begun' within is
+    (subst (λ (u : Told). HasSent (take i past ++ u ∷ []) text' begun') (sym sends)
+    (piece_sent (take i past) id offered sent piece text text' begun begun' h is_text is_begun))
 
-pub other_at : (past : List Told) (i : ℕ) (t : Told) (text : Bytes) (begun : ℕ → Bytes) → i < length past → t ≡ get_or past i t → ((id offered : ℕ) (sent : Sent) (piece : Bytes) → t ≡ Sending id offered sent piece → ⊥)
+pub other_at : (past : List Told) (i : ℕ) (t : Told) (text : Bytes) (begun : ℕ → Bytes) → i < length past
+    → t ≡ get_or past i t → ((id offered : ℕ) (sent : Sent) (piece : Bytes) → t ≡ Sending id offered sent piece → ⊥)
     → HasSent (take i past) text begun → HasSent (take (i + 1) past) text begun
 other_at past i (Listening addr answer) text begun within is other h = has_at past i (Listening addr answer) text begun within is (none_sent (take i past) (Listening addr answer) text begun refl (λ s. refl) h)
 other_at past i (Turning turn piece) text begun within is other h = has_at past i (Turning turn piece) text begun within is (none_sent (take i past) (Turning turn piece) text begun refl (λ s. refl) h)
