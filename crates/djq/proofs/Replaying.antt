@@ -6,7 +6,7 @@ use Rattle.std.proofs.lemmas.List.Sums.{sum_by-cons}
 use Rattle.djq_io.specs.Hub.{Ids, no_ids}
 use Rattle.djq_io.specs.MemHub.{Recorded, script_of}
 use Rattle.djq_io.specs.Script.{Script, Passes, Cuts, Sends}
-use Rattle.djq_io.specs.SteadyHub.{NeverFails}
+use Rattle.djq_io.specs.SteadyHub.{has_gone, NeverFails}
 use Rattle.djq_io.specs.declared.hub.Coming.{Coming}
 use Rattle.djq_io.specs.declared.hub.Incoming.{Incoming}
 use Rattle.djq_io.specs.declared.hub.Incoming.TheVariants.{Brings}
@@ -75,18 +75,18 @@ both_false true b h = absurd cc
 both_false false b h = (refl, h)
 
 -- a send leaves the script as it was
-script_stays : (s : ℕ) (sent : Sent) (old new : Script) → Sends s sent old new → new ≡ old
-script_stays s (Took n) old new h = h.1
-script_stays s Again old new h = h.1
-script_stays s Gone old new h = h
+script_stays : (s offered : ℕ) (sent : Sent) (old new : Script) → Sends s offered sent old new → new ≡ old
+script_stays s offered (Took n) old new h = h.2
+script_stays s offered Again old new h = h.1
+script_stays s offered Gone old new h = h
 
 one_call : (t : Told) (old new : Place) → IsAnswered old t new → AllShort old.script.turns → by_turn turn_is_over t ≡ false → by_turn turn_is_failed t ≡ false → TookAtMost old.script.turns (t ∷ []) new.script.turns
 one_call (Turning turn piece) old new h all over failed =
     let less = turned turn piece old new h all over failed in
     record { taken = omega (arith, less.less); short = less.short }
-one_call (Sending s sent piece) old new h all over failed = record {
-  taken = omega (arith, ap (λ (script : Script). length script.turns) (script_stays s sent old.script new.script h.0));
-  short = subst (λ (script : Script). AllShort script.turns) (sym (script_stays s sent old.script new.script h.0)) all;
+one_call (Sending s offered sent piece) old new h all over failed = record {
+  taken = omega (arith, ap (λ (script : Script). length script.turns) (script_stays s offered sent old.script new.script h.0));
+  short = subst (λ (script : Script). AllShort script.turns) (sym (script_stays s offered sent old.script new.script h.0)) all;
 }
 one_call (Closing s) old new h all over failed = record {
   taken = omega (arith, ap (λ (script : Script). length script.turns) h.0);
@@ -132,13 +132,18 @@ made_hub bytes hub made =
     ∙ ap (λ (ids : Ids). shown (Some []) (Some (record { blocked = []; turns = hub.script.turns })) ids) made.ids
 
 pub made_steady : (bytes : Bytes) (hub : Recorded) → IsMade bytes hub → NeverFails hub
-made_steady bytes hub made = record { listens = made.listens; turns = made.fails; sends = made.sends }
+made_steady bytes hub made = record {
+  listens = made.listens;
+  turns = made.fails;
+  sends = made.sends;
+  past = subst (λ (past : Option (List Told)). IfSome past (λ told. has_gone told ≡ false)) (sym made.past) refl;
+}
 
 -- The hub of a schedule was served, and its past is told.
 pub replays : (bytes : Bytes) (made hub hub' : Recorded) (answer : Served) (most : ℕ) (counted counted' : Counts) (start state : State) (told : List Told) (text : Bytes) → IsMade bytes made → hub ≡ made
     → most ≡ length (lines_of bytes) + 1 → start ≡ opening → Some told ≡ hub'.past → ServeEnds answer most (shown hub.past (script_of hub) hub.ids) counted start (shown hub'.past (script_of hub') hub'.ids) counted' state
-    → FaultsCount answer 0 0 → text ≡ sent_text told → Replays made.script.turns (length (lines_of bytes) + 1) counted counted' text
-replays bytes made hub hub' answer most counted counted' start state told text is_made same is_most is_start past ends faults is_text =
+    → FaultsCount answer 0 0 → NeverFails hub' → text ≡ sent_text told → Replays made.script.turns (length (lines_of bytes) + 1) counted counted' text
+replays bytes made hub hub' answer most counted counted' start state told text is_made same is_most is_start past ends faults steady is_text =
     let turns = made.script.turns in
     let seen = shown hub'.past (script_of hub') hub'.ids in
     let of_made = ap (λ (h : Recorded). shown h.past (script_of h) h.ids) same ∙ made_hub bytes made is_made in
@@ -155,5 +160,6 @@ replays bytes made hub hub' answer most counted counted' start state told text i
       ends = subst (λ (n : ℕ). ServeEnds answer n (hub_of turns) counted opening seen counted' state) is_most from_opening;
       whole = is_whole answer turns most counted counted' state seen hub'.script from_opening faults
           (ap (λ (p : Option (List Told)). option_map (λ _. hub'.script) p) (sym past)) (turns_are_short bytes turns is_made.turns) (omega (arith, more, is_most));
+      none_gone = subst (λ (p : Option (List Told)). IfSome p (λ t. has_gone t ≡ false)) (sym past) steady.past;
       sent = is_text;
     }

@@ -1,10 +1,11 @@
 -- How `replay` ends: a schedule is read whole, its hub is served, and what was sent is written.
-use Rattle.std.specs.Prelude.{ℕ, List, [], ◌≡◌, ◌+◌, ◌<◌, ◌≤◌, ◌⊎◌, Option, Some, length, take, Result, Ok, Err}
+use Rattle.std.specs.Prelude.{ℕ, List, [], false, ◌≡◌, ◌+◌, ◌<◌, ◌≤◌, ◌⊎◌, Option, Some, length, take, Result, Ok, Err}
 use Rattle.std.specs.List.{concat}
 use Rattle.djq_io.specs.Faults.{Counted}
 use Rattle.djq_io.specs.Hub.{no_ids}
 use Rattle.djq_io.specs.Sink.{Gains}
 use Rattle.djq_io.specs.Source.{Reading, Gives}
+use Rattle.djq_io.specs.SteadyHub.{has_gone}
 use Rattle.djq_io.specs.declared.hub.Coming.{Coming}
 use Rattle.djq_io.specs.declared.hub.Told.{Told}
 use Rattle.djq_model.specs.Data.{Bytes}
@@ -64,7 +65,8 @@ IsWhole HubFailed = ⊥
 
 -- **The theorem of `replay`.** The hub of these turns was served from the opening state on, until
 -- it was over or a session said `stop`: by moves that are a run of the join machine, of which the
--- hub tells, with each session sent what is its. And this text is the lines that were sent.
+-- hub tells, with each session sent what is its. No send found its session gone: so each took all that
+-- was offered, unless the session was blocked. And this text is the lines that were sent.
 pub record Replays (turns : List Coming) (most : ℕ) (counted counted' : Counts) (text : Bytes)
     : Type 0 where
   pub hub : Shown
@@ -74,6 +76,7 @@ pub record Replays (turns : List Coming) (most : ℕ) (counted counted' : Counts
   pub answer : Served
   pub ends : ServeEnds answer most (hub_of turns) counted opening hub counted' state
   pub whole : IsWhole answer
+  pub none_gone : has_gone told ≡ false
   pub sent : text ≡ sent_text told
 
 -- What is to be written for a schedule: the line that says which of its lines is the first outside

@@ -16,4 +16,4 @@ serve-requires-clause-going g c = ap (λ (st : State). st.stopped) c.in-Ok.ensur
 pub returns-in-Some : goal.returns-in-Some
 returns-in-Some g c =
     IfOk-weaker c.sent_text.result _ _ (λ text sent. replays c.args.bytes.now c.args.hub c.of-hub.result c.serve.new.hub c.serve.result _ _ _ _ _ c.in-Some.past.now text.items
-    c.requires c.of-hub.ensures (ap (λ (n : ℕ). n + 1) c.count_lines.ensures.counted) c.in-Ok.ensures c.in-Some.ensures c.serve.ensures.ends c.serve.ensures.faults sent) c.sent_text.ensures
+    c.requires c.of-hub.ensures (ap (λ (n : ℕ). n + 1) c.count_lines.ensures.counted) c.in-Ok.ensures c.in-Some.ensures.past c.serve.ensures.ends c.serve.ensures.faults c.in-Some.ensures.steady sent) c.sent_text.ensures
