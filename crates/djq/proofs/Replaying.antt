@@ -84,10 +84,12 @@ one_call : (t : Told) (old new : Place) → IsAnswered old t new → AllShort ol
 one_call (Turning turn piece) old new h all over failed =
     let less = turned turn piece old new h all over failed in
     record { taken = omega (arith, less.less); short = less.short }
-one_call (Sending s offered sent piece) old new h all over failed = record {
-  taken = omega (arith, ap (λ (script : Script). length script.turns) (script_stays s offered sent old.script new.script h.0));
-  short = subst (λ (script : Script). AllShort script.turns) (sym (script_stays s offered sent old.script new.script h.0)) all;
-}
+one_call (Sending s offered sent piece) old new h all over failed =
+    let stays = script_stays s offered sent old.script new.script h.0 in
+    record {
+      taken = omega (arith, ap (λ (script : Script). length script.turns) stays);
+      short = subst (λ (script : Script). AllShort script.turns) (sym stays) all;
+    }
 one_call (Closing s) old new h all over failed = record {
   taken = omega (arith, ap (λ (script : Script). length script.turns) h.0);
   short = subst (λ (script : Script). AllShort script.turns) (sym h.0) all;
