@@ -1,11 +1,12 @@
 -- How `replay` ends: a schedule is read whole, its hub is served, and what was sent is written.
-use Rattle.std.specs.Prelude.{ℕ, List, [], ◌≡◌, ◌+◌, ◌<◌, ◌≤◌, ◌⊎◌, Option, Some, length, take, Result, Ok, Err}
+use Rattle.std.specs.Prelude.{ℕ, List, [], false, ◌≡◌, ◌+◌, ◌<◌, ◌≤◌, ◌⊎◌, Option, Some, length, take, Result, Ok, Err}
 use Rattle.std.specs.List.{concat}
 use Rattle.djq_io.specs.Faults.{Counted}
 use Rattle.djq_io.specs.Hub.{Ids, no_ids}
 use Rattle.djq_io.specs.Script.{Script}
 use Rattle.djq_io.specs.Sink.{Gains}
 use Rattle.djq_io.specs.Source.{Reading, Gives}
+use Rattle.djq_io.specs.SteadyHub.{has_gone}
 use Rattle.djq_io.specs.declared.hub.Coming.{Coming}
 use Rattle.djq_io.specs.declared.hub.Told.{Told}
 use Rattle.djq_model.specs.Data.{Bytes}
@@ -63,30 +64,29 @@ IsWhole Over = Unit {0}
 IsWhole AllTaken = ⊥
 IsWhole HubFailed = ⊥
 
--- **The theorem of `replay`.** The hub of these turns was served from the opening state on, until
--- it was over or a session said `stop`: by moves that are a run of the join machine, with each
--- session sent what is its. The hub tells all calls that it was asked, and what is left of its turns,
--- so each turn that was taken is the next of these. And this text is the lines that were sent.
-pub record Replays (turns : List Coming) (most : ℕ) (counted counted' : Counts) (text : Bytes)
-    : Type 0 where
-  pub told : List Told
+-- The hub of these turns was served from the opening state on, until it was over or a session said
+-- `stop`: by moves that are a run of the join machine, which counted no more of listings than it may
+-- cost, with each session sent what is its. The hub tells what is left of its turns, so each turn
+-- that was taken is the next of these. At the end it tells this past.
+pub record Plays (turns : List Coming) (most : ℕ) (counted counted' : Counts)
+    (past : Option (List Told)) : Type 0 where
   pub left : Script
   pub ids : Ids
   pub state : State
   pub answer : Served
-  pub ends : ServeEnds answer most (hub_of turns) counted opening (shown (Some told) (Some left) ids)
+  pub ends : ServeEnds answer most (hub_of turns) counted opening (shown past (Some left) ids)
       counted' state
   pub whole : IsWhole answer
-  pub sent : text ≡ sent_text told
 
--- The hub of these turns was served from the opening state on, and nothing is said of what was sent:
--- by moves that are a run of the join machine, which counted no more of listings than it may cost.
--- Where the hub still tells its turns, they are these.
-pub record ServesUntold (turns : List Coming) (most : ℕ) (counted counted' : Counts) : Type 0 where
-  pub hub : Shown
-  pub state : State
-  pub answer : Served
-  pub ends : ServeEnds answer most (hub_of turns) counted opening hub counted' state
+-- **The theorem of `replay`.** The hub of these turns was served, and tells all calls that it was
+-- asked. No send among them found its session gone: so each took all that was offered, unless the
+-- session was blocked. And this text is the lines that were sent.
+pub record Replays (turns : List Coming) (most : ℕ) (counted counted' : Counts) (text : Bytes)
+    : Type 0 where
+  pub told : List Told
+  pub plays : Plays turns most counted counted' (Some told)
+  pub none_gone : has_gone told ≡ false
+  pub sent : text ≡ sent_text told
 
 -- What is to be written for a schedule: the line that says which of its lines is the first outside
 -- the grammar, and nothing is run; or what was sent, where none is. It is served for one turn more
@@ -96,12 +96,12 @@ ComesTo (Err n) bytes counted counted' text = (text ≡ outside_line n) × (coun
 ComesTo (Ok turns) bytes counted counted' text =
     Replays turns (length (lines_of bytes) + 1) counted counted' text
 
--- What was done for a schedule where memory was wanted: nothing was counted; or its hub was served,
--- and what was sent couldn't be told.
+-- What was done for a schedule where memory was wanted: nothing was counted; or its hub was served
+-- all the same, and what was sent couldn't be told.
 abbrev pub LacksMemory : Result (List Coming) ℕ → Bytes → Counts → Counts → Type 0
 LacksMemory (Err n) bytes counted counted' = counted' ≡ counted
-LacksMemory (Ok turns) bytes counted counted' =
-    (counted' ≡ counted) ⊎ ServesUntold turns (length (lines_of bytes) + 1) counted counted'
+LacksMemory (Ok turns) bytes counted counted' = (counted' ≡ counted)
+    ⊎ ((past : Option (List Told)) × Plays turns (length (lines_of bytes) + 1) counted counted' past)
 
 -- the status of a schedule whose text was written
 abbrev pub status_for : Result (List Coming) ℕ → Status

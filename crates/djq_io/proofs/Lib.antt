@@ -8,3 +8,4 @@ pub mod Marking
 pub mod CountingSends
 pub mod Following
 pub mod FaultsOf
+mod Steadying

@@ -6,6 +6,7 @@ pub mod Alike
 pub mod Touching
 pub mod Moving
 pub mod Sending
+pub mod Dropping
 pub mod Cutting
 pub mod Rising
 pub mod Answering

@@ -13,7 +13,7 @@ pub mod limits;
 
 ghost use Rattle.djq_laws.specs.Moved.{StaysOpen, BytesCome, BytesAreTaken, InputEnds, LineIsTaken};
 ghost use Rattle.djq_laws.specs.Rising.{IdsRise};
-ghost use Rattle.djq_laws.specs.Sent.{SentBytes};
+ghost use Rattle.djq_laws.specs.Sent.{SentBytes, SentInOrder};
 ghost use Rattle.djq_laws.specs.Lines.{LinesInOrder};
 ghost use Rattle.djq_laws.specs.Given.{RunsGive, CoursesGive};
 ghost use Rattle.djq_laws.specs.Added.{DeltasAddUp};
@@ -59,6 +59,12 @@ pub fn ids_rise()
 /// and all that was queued to it, in order: along every run.
 pub fn sent_bytes()
     ensures { SentBytes }
+{}
+
+/// What was taken of a session's bytes comes before what was dropped as it closed, and before what
+/// is pending: along every run in which no session opens twice.
+pub fn sent_in_order()
+    ensures { SentInOrder }
 {}
 
 /// A session's bytes are run in order, whatever the other sessions do: along every run in which it
