@@ -21,3 +21,6 @@ pub mod Watching
 pub mod Watched
 pub mod Staying
 pub mod Live
+pub mod Apart
+pub mod Storing
+pub mod Sounding

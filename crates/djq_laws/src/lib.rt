@@ -20,6 +20,7 @@ ghost use Rattle.djq_laws.specs.Added.{DeltasAddUp};
 ghost use Rattle.djq_laws.specs.Watched.{WatchersHaveAnswers};
 ghost use Rattle.djq_laws.specs.Staying.{WatchersStay};
 ghost use Rattle.djq_laws.specs.Live.{ListingsStayLive};
+ghost use Rattle.djq_laws.specs.Sound.{RunsKeepSound, StatesAreSound};
 
 /// A session that is open stays so in every step that doesn't close it.
 pub fn stays_open()
@@ -48,6 +49,15 @@ pub fn input_ends()
 /// it says whether the session ends, and by which cause.
 pub fn line_is_taken()
     ensures { LineIsTaken }
+{}
+
+/// Each state that a run comes to from the opening state is sound: relations, queries, known texts,
+/// the rows of a relation and the answers that an open cursor has given are without repeats; cursors
+/// and watches are of registered queries; a session that has ended has none of them; and texts and
+/// sessions are within their limits, sessions by rising id. Every run keeps it so.
+pub fn states_are_sound()
+    ensures kept { RunsKeepSound }
+    ensures reached { StatesAreSound }
 {}
 
 /// The open sessions stay by rising id, along every run.
