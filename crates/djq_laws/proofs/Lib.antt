@@ -24,3 +24,4 @@ pub mod Live
 pub mod Apart
 pub mod Storing
 pub mod Sounding
+pub mod Listing

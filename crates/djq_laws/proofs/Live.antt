@@ -20,7 +20,7 @@ finished_listing relations o q given p is at h =
     let here : PositionGives relations (Some q) (open_at given true) = subst (λ (r : Position). PositionGives relations (Some q) r) at (subst (λ (r : Option Query). PositionGives relations r p) is h) in
     here.listing refl
 
-listed : (q : Query) (s : ℕ) (st : State) (given : List Tuple) → CursorsGive st → HasListed q s st given → IsListing (IsAnswer st.store.relations q) given
+pub listed : (q : Query) (s : ℕ) (st : State) (given : List Tuple) → CursorsGive st → HasListed q s st given → IsListing (IsAnswer st.store.relations q) given
 listed q s st given gives h =
     let store = st.store in
     let of_session = all_found (λ (x : Session). All (λ (c : Cursor). PositionGives store.relations (query_of store.queries c.query) c.position) x.cursors)

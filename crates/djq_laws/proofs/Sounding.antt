@@ -203,7 +203,7 @@ is_registered : (o : Option Query) → is_none o ≡ false → IsSome o
 is_registered None e = absurd cc
 is_registered (Some q) e = refl
 
-none_first : (a : Bool) (r : Refusal) (o : Option Refusal) → cond a (Some r) o ≡ None → a ≡ false
+pub none_first : (a : Bool) (r : Refusal) (o : Option Refusal) → cond a (Some r) o ≡ None → a ≡ false
 none_first true r o h = absurd cc
 none_first false r o h = refl
 
@@ -331,7 +331,7 @@ read_kept old s x (refused r) e new found runs h k = same_kept old new h.1 k
 read_kept old s x (says_command c) e new found runs (true, h) k = command_kept old s x c e new found runs h k
 read_kept old s x (says_command c) e new found runs (false, h) k = same_kept old new h.1.1 k
 
-without_line_kept : (old : State) (s : ℕ) (rest : Bytes) → AreKept old → AreKept (with_session old s (behind_line rest))
+pub without_line_kept : (old : State) (s : ℕ) (rest : Bytes) → AreKept old → AreKept (with_session old s (behind_line rest))
 without_line_kept old s rest k = others_stay old (with_session old s (behind_line rest)) s (behind_line rest) (λ x. refl) (λ x. refl) (λ x. refl) refl k
 
 front_kept : (old : State) (s : ℕ) (x : Session) (outcome : LineOutcome) (e : Effect) (new : State) → session_of old s ≡ Some x → x.cause ≡ None → FrontStep old s x outcome e new → AreKept old → AreKept new
@@ -444,7 +444,7 @@ step_sound old event e new h g =
 pub runs_keep_sound : RunsKeepSound
 runs_keep_sound old done new w g = walk_keeps (λ (o : State) (d : Did) (n : State). Step o d.event d.effect n) IsSoundState (λ o d n h. step_sound o d.event d.effect n h) old done new w g
 
-opening_sound : IsSoundState opening
+pub opening_sound : IsSoundState opening
 opening_sound = record {
   store = record {
     relations = nothing_apart (λ a b. a ≢ b);

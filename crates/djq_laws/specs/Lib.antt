@@ -9,3 +9,4 @@ pub mod Watched
 pub mod Staying
 pub mod Live
 pub mod Sound
+pub mod Listed
