@@ -22,3 +22,7 @@ pub mod Watching
 pub mod Watched
 pub mod Staying
 pub mod Live
+pub mod Apart
+pub mod Storing
+pub mod Sounding
+pub mod Listing

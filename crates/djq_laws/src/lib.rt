@@ -20,6 +20,8 @@ ghost use Rattle.djq_laws.specs.Added.{DeltasAddUp};
 ghost use Rattle.djq_laws.specs.Watched.{WatchersHaveAnswers};
 ghost use Rattle.djq_laws.specs.Staying.{WatchersStay};
 ghost use Rattle.djq_laws.specs.Live.{ListingsStayLive};
+ghost use Rattle.djq_laws.specs.Sound.{RunsKeepSound, StatesAreSound};
+ghost use Rattle.djq_laws.specs.Listed.{GivenIsTold, ListedIsTold};
 
 /// A session that is open stays so in every step that doesn't close it.
 pub fn stays_open()
@@ -50,6 +52,15 @@ pub fn line_is_taken()
     ensures { LineIsTaken }
 {}
 
+/// Each state that a run comes to from the opening state is sound: relations, queries, known texts,
+/// the rows of a relation and the answers that an open cursor has given are without repeats; cursors
+/// and watches are of registered queries; a session that has ended has none of them; and texts and
+/// sessions are within their limits, sessions by rising id. Every run keeps it so.
+pub fn states_are_sound()
+    ensures kept { RunsKeepSound }
+    ensures reached { StatesAreSound }
+{}
+
 /// The open sessions stay by rising id, along every run.
 pub fn ids_rise()
     ensures { IdsRise }
@@ -77,6 +88,15 @@ pub fn lines_in_order()
 /// and once its last answer was `end` all of them, each once.
 pub fn runs_give()
     ensures { RunsGive }
+{}
+
+/// What an open cursor has given is what its session was told since it opened it: the replies to
+/// its `next` lines are page by page those answers, in order, and the last of them tells the end
+/// exactly where the cursor is finished. So a session that has listed a query was told each answer
+/// over the present rows, once.
+pub fn given_is_told()
+    ensures given { GivenIsTold }
+    ensures listed { ListedIsTold }
 {}
 
 /// Every course of the program has the headline: the bytes sent, the lines taken, and what the
