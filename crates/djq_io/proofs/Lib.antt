@@ -1,5 +1,6 @@
 pub mod Gives
 pub mod Gains
+pub mod Writing
 pub mod Parts
 pub mod Counting
 pub mod Mapping
