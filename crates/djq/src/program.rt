@@ -22,9 +22,12 @@ const USAGE: &[u8] = b"usage: djq run | serve ADDR [--turns N] | replay | gen N 
 /// Runs the program by the words of its command line, of which the first is its name.
 ///
 /// `run` serves one session from the source to the sink. `serve` lets the hub listen at an address,
-/// and serves the sessions that come. `replay` serves a hub of its own, which goes by the schedule
-/// in the source. `gen` runs a generated load, and writes what it comes to. Other words are answered by the usage line. The hub has opened no session before,
-/// and words other than those of `serve` leave it as it is.
+/// and serves the sessions that come. `replay` serves a hub of its own, whose turns are those of the
+/// schedule in the source, in order. `gen` runs a generated load, lists the answers of its query to
+/// their end, and writes what it comes to. Other words are answered by the usage line. Out of memory
+/// no more is counted of listings than the part that was done may cost.
+///
+/// The hub has opened no session before, and words other than those of `serve` leave it as it is.
 pub fn run_program<S: Source, K: Sink, H: Hub, L: Ledgers>(
     alloc: Global,
     words: &[&str],

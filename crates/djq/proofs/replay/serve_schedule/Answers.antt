@@ -21,10 +21,16 @@ returns-in-Some-clause-text g c =
 
 pub returns-in-Some-clause-memory : goal.returns-in-Some-clause-memory
 returns-in-Some-clause-memory g c =
-    on_err c.sent_text.result _ (inr (c.serve.new.hub.past, plays c.args.bytes.now c.args.hub c.of-hub.result c.serve.new.hub c.serve.result _ _ _ _ _
-    c.requires c.of-hub.ensures (ap (λ (n : ℕ). n + 1) c.count_lines.ensures.counted) c.in-Ok.ensures c.serve.ensures.ends c.serve.ensures.faults))
+    on_err c.sent_text.result _ (inr (
+      c.serve.new.hub.past,
+      plays c.args.bytes.now c.args.hub c.of-hub.result c.serve.new.hub c.serve.result _ _ _ _ _
+          c.requires c.of-hub.ensures (ap (λ (n : ℕ). n + 1) c.count_lines.ensures.counted) c.in-Ok.ensures c.serve.ensures.ends c.serve.ensures.faults,
+    ))
 
 pub returns-clause-memory : goal.returns-clause-memory
 returns-clause-memory g c =
-    inr (c.serve.new.hub.past, plays c.args.bytes.now c.args.hub c.of-hub.result c.serve.new.hub c.serve.result _ _ _ _ _
-    c.requires c.of-hub.ensures (ap (λ (n : ℕ). n + 1) c.count_lines.ensures.counted) c.in-Ok.ensures c.serve.ensures.ends c.serve.ensures.faults)
+    inr (
+      c.serve.new.hub.past,
+      plays c.args.bytes.now c.args.hub c.of-hub.result c.serve.new.hub c.serve.result _ _ _ _ _
+          c.requires c.of-hub.ensures (ap (λ (n : ℕ). n + 1) c.count_lines.ensures.counted) c.in-Ok.ensures c.serve.ensures.ends c.serve.ensures.faults,
+    )
