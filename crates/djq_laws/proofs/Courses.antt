@@ -90,7 +90,7 @@ event_bytes old (took s bytes) e new may h =
     let own : s ≡ 1 = may.0 in
     let t : Takes old new 1 bytes = took_facts old 1 bytes e new (subst (λ k. Step old (took k bytes) e new) own h) in
     let part : take (length bytes) (pending_of old 1) ≡ bytes =
-        ap (λ p. take (length bytes) p) t.pending ∙ take-append-le (length bytes) bytes (pending_of new 1) (omega arith) ∙ take_all (length bytes) bytes (omega arith) in
+    ap (λ p. take (length bytes) p) t.pending ∙ take-append-le (length bytes) bytes (pending_of new 1) (omega arith) ∙ take_all (length bytes) bytes (omega arith) in
     subst (λ k. bytes_of (writes_by old (took s bytes)) ≡ taken_by 1 (took k bytes)) (sym own) (append-nil (take (length bytes) (pending_of old 1)) ∙ part)
 
 pub does_bytes : (old : State) (done : List Did) (writes : List Write) (new : State) → Does old done writes new → bytes_of writes ≡ all_taken 1 done

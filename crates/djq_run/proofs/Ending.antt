@@ -24,7 +24,7 @@ use Rattle.djq_run.specs.declared.status.Status.{Status}
 use Rattle.djq_run.specs.declared.status.Status.TheVariants.{Done, Usage, ReadFault, HubFault, TurnsUsed, NoMemory, Schedule, SessionEnded, WriteFault as StatusWriteFault}
 use Rattle.djq_run.specs.declared.session.Served.{Served}
 use Rattle.djq_run.specs.declared.session.Served.TheVariants.{AwaitsInput as Waiting, Ended, WriteFault}
-use Rattle.djq_run.specs.Ends.{Awaits, IsAtEnd, IsWellEnded, EndedBy, IsCutOff, Stands, ReadsCount, WritesCount, is_write_fault, RunEnds}
+use Rattle.djq_run.specs.Ends.{Awaits, IsAtEnd, IsWellEnded, EndedBy, IsCutOff, Stands, ReadsCount, WritesCount, RunEnds}
 use Rattle.djq_run.proofs.Going.{PieceFed, awaits, by_opening, goes_begun}
 use Rattle.djq_run.specs.Parts.{GoesTo, Serves, WritesCount as ServedCount, GoesOn, ReadEnds, status_of, has_failed, failed_by}
 
@@ -178,9 +178,11 @@ opened_awaits old new none m there =
 -- The run so far, and a read that gave a byte at least.
 pub so_far_more : (o o' o'' : Outside) (old mid new : State) (n : ℕ) (c : Course old o o' mid) (well : c.failed ≡ false) → n ≤ length (all_fed 1 c.done) → (r : ReadEnds None o' o'' mid new)
     → (d : Course old o o'' new) × (d.failed ≡ false) × (n + 1 ≤ length (all_fed 1 d.done))
-so_far_more o o' o'' old mid new n c well far r =
-    (course_then o o' o'' old mid new c well r.course, course_then_failed o o' o'' old mid new c well r.course ∙ r.failed,
-    omega (arith, far, r.goes_on.1, fed_more o o' o'' old mid new c well r.course))
+so_far_more o o' o'' old mid new n c well far r = (
+  course_then o o' o'' old mid new c well r.course,
+  course_then_failed o o' o'' old mid new c well r.course ∙ r.failed,
+  omega (arith, far, r.goes_on.1, fed_more o o' o'' old mid new c well r.course),
+)
 
 -- All reads were made, and the session still awaits input.
 pub turns_used : (o o' : Outside) (old new : State) (c : Course old o o' new) → c.failed ≡ false → MOST_READS ≤ length (all_fed 1 c.done) → Awaits new → o'.read_faults ≡ o.read_faults → o'.write_faults ≡ o.write_faults

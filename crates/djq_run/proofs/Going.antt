@@ -49,9 +49,10 @@ pub by_line : (o : Outside) (told : Option (List Write)) (faults : ℕ) (old new
     → MakesCounted old (stepped 1 outcome) new before now → GoesTo false old (with_sink o told faults before) (with_sink o told faults now) new
 by_line o told faults old new outcome before now there pending m =
     let d : Did = record { event = stepped 1 outcome; effect = m.effect } in
-    let may : MayRun old (stepped 1 outcome) = (refl, flushed_session old there pending) in
-    (course_one (with_sink o told faults before) (with_sink o told faults now) old new d (may, m.step) (gives_none o.reading) (gains_none told) m.listing,
-    course_one_well (with_sink o told faults before) (with_sink o told faults now) old new d (may, m.step) (gives_none o.reading) (gains_none told) m.listing)
+    let may : MayRun old (stepped 1 outcome) = (refl, flushed_session old there pending) in (
+      course_one (with_sink o told faults before) (with_sink o told faults now) old new d (may, m.step) (gives_none o.reading) (gains_none told) m.listing,
+      course_one_well (with_sink o told faults before) (with_sink o told faults now) old new d (may, m.step) (gives_none o.reading) (gains_none told) m.listing,
+    )
 
 -- a piece that the source gave, and that is fed
 pub record PieceFed (o o' : Outside) (old new : State) (bytes : Bytes) : Type 0 where
@@ -83,16 +84,18 @@ by_end reading reading' rf rf' told wf counted old new same waits m =
 -- a read that failed
 pub by_failure : (reading reading' : Option Reading) (rf rf' : ℕ) (told : Option (List Write)) (wf : ℕ) (counted : Counts) (old : State) → reading' ≡ reading
     → GoesTo false old (outside reading rf told wf counted) (outside reading' rf' told wf counted) old
-by_failure reading reading' rf rf' told wf counted old same =
-    (record {
-      done = [];
-      writes = [];
-      does = (refl, refl);
-      failed = false;
-      read = subst (λ (r : Option Reading). Gives reading r []) (sym same) (gives_none reading);
-      written = gains_none told;
-      listing = omega arith;
-    }, refl)
+by_failure reading reading' rf rf' told wf counted old same = (
+  record {
+    done = [];
+    writes = [];
+    does = (refl, refl);
+    failed = false;
+    read = subst (λ (r : Option Reading). Gives reading r []) (sym same) (gives_none reading);
+    written = gains_none told;
+    listing = omega arith;
+  },
+  refl,
+)
 
 -- a write of all that is pending, which took a first part of it
 pub by_write : (o : Outside) (told told' : Option (List Write)) (wf wf' n : ℕ) (old new : State) (piece : Bytes) → piece ≡ pending_of old 1 → 1 ≤ n → n ≤ length piece
@@ -102,7 +105,7 @@ by_write o told told' wf wf' n old new piece same some within gains m =
     let bytes = take n (pending_of old 1) in
     let size : n ≡ length bytes = omega (arith, ap length same, length-take n (pending_of old 1)) in
     let offered : record { piece = piece; answer = Took n } ≡ record { piece = pending_of old 1; answer = Took (length bytes) } =
-        ap (λ p. record { piece = p; answer = Took n }) same ∙ ap (λ k. record { piece = pending_of old 1; answer = Took k }) size in
+    ap (λ p. record { piece = p; answer = Took n }) same ∙ ap (λ k. record { piece = pending_of old 1; answer = Took k }) size in
     by_event (with_sink o told wf o.counted) (with_sink o told' wf' o.counted) old new (took 1 bytes) m (refl, omega (arith, size, some)) (gives_none o.reading)
     (subst (λ (w : Write). Gains told told' (w ∷ [])) offered gains) refl
 
@@ -111,9 +114,10 @@ pub by_fault : (o : Outside) (told told' : Option (List Write)) (wf wf' : ℕ) (
     → Gains told told' (record { piece = piece; answer = WriteFailed } ∷ []) → GoesTo true old (with_sink o told wf o.counted) (with_sink o told' wf' o.counted) old
 by_fault o told told' wf wf' old piece same gains =
     let last = subst (λ (p : Bytes). Gains told told' (record { piece = p; answer = WriteFailed } ∷ [])) same gains in
-    let none : o.counted.listing ≤ o.counted.listing = omega arith in
-    (course_failed (with_sink o told wf o.counted) (with_sink o told' wf' o.counted) old (gives_none o.reading) last none,
-    course_failed_so (with_sink o told wf o.counted) (with_sink o told' wf' o.counted) old (gives_none o.reading) last none)
+    let none : o.counted.listing ≤ o.counted.listing = omega arith in (
+      course_failed (with_sink o told wf o.counted) (with_sink o told' wf' o.counted) old (gives_none o.reading) last none,
+      course_failed_so (with_sink o told wf o.counted) (with_sink o told' wf' o.counted) old (gives_none o.reading) last none,
+    )
 
 -- nothing was done yet
 pub goes_begun : (o : Outside) (old : State) → GoesTo false old o o old

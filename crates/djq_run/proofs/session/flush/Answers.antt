@@ -1,4 +1,4 @@
-use Rattle.std.proofs.Common.{rules, ◌≡◌, ◌≤◌, ◌∙◌, length, take, refl, ap, arith}
+use Rattle.std.proofs.Common.{rules, ◌≤◌, ◌∙◌, length, take, refl, ap, arith}
 use Rattle.djq_machine.specs.Run.{pending_of}
 use Rattle.djq_laws.specs.Moved.{Takes}
 use Rattle.djq_laws.proofs.Moving.{took_facts}
@@ -25,7 +25,7 @@ writes-preserved g c =
     let same = c.pending-in-writes.ensures in
     let takes = c.in-Took.ensures.takes in
     let t : Takes (state c.writes.machine) (state c.took.new.self) 1 (take c.in-Took.count (pending_of (state c.writes.machine) 1)) =
-        took_facts _ 1 _ c.took.ensures.effect _ c.took.ensures.step in
+    took_facts _ 1 _ c.took.ensures.effect _ c.took.ensures.step in
     record {
       is_open = t.stays;
       course = λ o. goes_then _ _ _ _ _ _ _ (c.writes.invariant.course o)
