@@ -1,5 +1,6 @@
 -- How `gen` ends: a load was run through one session, and what it comes to was written.
-use Rattle.std.specs.Prelude.{ℕ, ◌≡◌, ◌++◌, ◌⊎◌, Option, length, codes, decimal}
+use Rattle.std.specs.Prelude.{ℕ, List, ◌≡◌, ◌++◌, ◌⊎◌, Option, length, codes, decimal}
+use Rattle.djq_io.specs.declared.sink.Write.{Write}
 use Rattle.djq_model.specs.Data.{Bytes, rows_of}
 use Rattle.djq_machine.specs.State.{State, opening}
 use Rattle.djq_machine.specs.Call.{Counts}
@@ -40,9 +41,10 @@ HasTooMany n seed counted counted' =
 
 -- The summary was written; or a first part of it, where a write failed; or nothing was, as memory
 -- was wanted, or as the answers are too many to read.
-abbrev pub GenEnds : Status → ℕ → ℕ → Option Bytes → ℕ → Counts → Option Bytes → ℕ → Counts → Type 0
-GenEnds status n seed taken faults counted taken' faults' counted' =
+abbrev pub GenEnds : Status → ℕ → ℕ → Option (List Write) → ℕ → Counts → Option (List Write) → ℕ
+    → Counts → Type 0
+GenEnds status n seed writing faults counted writing' faults' counted' =
     ((text : Bytes) × Generates n seed counted counted' text
-    × Written status Done text taken faults taken' faults')
+    × Written status Done text writing faults writing' faults')
     ⊎ (((status ≡ NoMemory) ⊎ ((status ≡ TurnsUsed) × HasTooMany n seed counted counted'))
-    × (taken' ≡ taken) × (faults' ≡ faults))
+    × (writing' ≡ writing) × (faults' ≡ faults))

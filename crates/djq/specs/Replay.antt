@@ -1,9 +1,10 @@
 -- How `replay` ends: a schedule is read whole, its hub is served, and what was sent is written.
-use Rattle.std.specs.Prelude.{ℕ, List, [], ◌≡◌, ◌+◌, ◌<◌, ◌≤◌, ◌⊎◌, Option, Some, length, take, Result, Ok, Err}
+use Rattle.std.specs.Prelude.{ℕ, List, [], ◌≡◌, ◌+◌, ◌<◌, ◌≤◌, ◌⊎◌, Option, Some, length, take, drop, Result, Ok, Err}
 use Rattle.std.specs.List.{concat}
 use Rattle.djq_io.specs.Faults.{Counted}
 use Rattle.djq_io.specs.Hub.{no_ids}
-use Rattle.djq_io.specs.Sink.{Gains}
+use Rattle.djq_io.specs.Written.{GainsBytes, FailsBehind}
+use Rattle.djq_io.specs.declared.sink.Write.{Write}
 use Rattle.djq_io.specs.Source.{Reading, Gives}
 use Rattle.djq_io.specs.declared.hub.Coming.{Coming}
 use Rattle.djq_io.specs.declared.hub.Told.{Told}
@@ -90,32 +91,33 @@ status_for (Err n) = Schedule n
 status_for (Ok turns) = Done
 
 -- The sink took all of the text, and the status is this; or it took a first part that isn't the
--- whole, and a write failed.
-abbrev pub Written : Status → Status → Bytes → Option Bytes → ℕ → Option Bytes → ℕ → Type 0
-Written status whole text taken faults taken' faults' =
-    ((status ≡ whole) × Gains taken taken' text × (faults' ≡ faults))
-    ⊎ ((status ≡ WriteFault) × (n : ℕ) × (n < length text) × Gains taken taken' (take n text)
-    × Counted faults faults')
+-- whole, and then a write failed, which was the last.
+abbrev pub Written : Status → Status → Bytes → Option (List Write) → ℕ → Option (List Write) → ℕ
+    → Type 0
+Written status whole text writing faults writing' faults' =
+    ((status ≡ whole) × GainsBytes writing writing' text × (faults' ≡ faults))
+    ⊎ ((status ≡ WriteFault) × (n : ℕ) × (n < length text)
+    × FailsBehind writing writing' (take n text) (drop n text) × Counted faults faults')
 
 -- What a schedule comes to was written; or memory was wanted, and nothing was.
-abbrev pub WritesFor : Status → Bytes → Option Bytes → ℕ → Counts → Option Bytes → ℕ → Counts
-    → Type 0
-WritesFor status bytes taken faults counted taken' faults' counted' =
+abbrev pub WritesFor : Status → Bytes → Option (List Write) → ℕ → Counts → Option (List Write) → ℕ
+    → Counts → Type 0
+WritesFor status bytes writing faults counted writing' faults' counted' =
     ((text : Bytes) × ComesTo (turns_of bytes) bytes counted counted' text
-    × Written status (status_for (turns_of bytes)) text taken faults taken' faults')
-    ⊎ ((status ≡ NoMemory) × (taken' ≡ taken) × (faults' ≡ faults))
+    × Written status (status_for (turns_of bytes)) text writing faults writing' faults')
+    ⊎ ((status ≡ NoMemory) × (writing' ≡ writing) × (faults' ≡ faults))
 
 -- The whole schedule was read, and then written of.
 pub record WritesWhole (status : Status) (before now : Outside) : Type 0 where
   pub bytes : Bytes
   pub reads : ReadsWhole before.reading now.reading before.read_faults now.read_faults bytes
-  pub writes : WritesFor status bytes before.taken before.write_faults before.counted now.taken
+  pub writes : WritesFor status bytes before.writing before.write_faults before.counted now.writing
       now.write_faults now.counted
 
 -- Reading stopped before the end: nothing is run or written.
 pub record Stops (status : Status) (before now : Outside) : Type 0 where
   pub reading : StopsReading status before.reading now.reading before.read_faults now.read_faults
-  pub taken : now.taken ≡ before.taken
+  pub writing : now.writing ≡ before.writing
   pub no_fault : now.write_faults ≡ before.write_faults
   pub none_counted : now.counted ≡ before.counted
 

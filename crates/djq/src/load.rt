@@ -23,8 +23,8 @@ pub(crate) fn generate<K: Sink, L: Ledgers>(
     sink: &mut K,
     steps: &mut Steps<L>,
 ) -> Status
-    ensures { GenEnds result n seed (K.taken sink.old) (K.faults sink.old)
-        (counts steps.old.listing steps.old.update steps.old.rows) (K.taken sink.new)
+    ensures { GenEnds result n seed (K.told sink.old) (K.faults sink.old)
+        (counts steps.old.listing steps.old.update steps.old.rows) (K.told sink.new)
         (K.faults sink.new) (counts steps.new.listing steps.new.update steps.new.rows) }
 {
     match summarize(alloc, n, seed, steps) {

@@ -25,9 +25,9 @@ pub(crate) fn replay<S: Source, K: Sink, L: Ledgers>(
     steps: &mut Steps<L>,
 ) -> Status
     ensures { ReplayEnds result
-        (outside (S.told source.old) (S.faults source.old) (K.taken sink.old) (K.faults sink.old)
+        (outside (S.told source.old) (S.faults source.old) (K.told sink.old) (K.faults sink.old)
         (counts steps.old.listing steps.old.update steps.old.rows))
-        (outside (S.told source.new) (S.faults source.new) (K.taken sink.new) (K.faults sink.new)
+        (outside (S.told source.new) (S.faults source.new) (K.told sink.new) (K.faults sink.new)
         (counts steps.new.listing steps.new.update steps.new.rows)) }
 {
     match read_whole(alloc, source) {
@@ -85,8 +85,8 @@ fn replay_schedule<K: Sink, L: Ledgers>(
     sink: &mut K,
     steps: &mut Steps<L>,
 ) -> Status
-    ensures { WritesFor result bytes.now (K.taken sink.old) (K.faults sink.old)
-        (counts steps.old.listing steps.old.update steps.old.rows) (K.taken sink.new)
+    ensures { WritesFor result bytes.now (K.told sink.old) (K.faults sink.old)
+        (counts steps.old.listing steps.old.update steps.old.rows) (K.told sink.new)
         (K.faults sink.new) (counts steps.new.listing steps.new.update steps.new.rows) }
 {
     match make_text(alloc, bytes, steps) {
@@ -97,8 +97,8 @@ fn replay_schedule<K: Sink, L: Ledgers>(
 
 /// Writes the text. The status is that of a text that is written whole.
 pub(crate) fn write_text<K: Sink>(sink: &mut K, text: &[u8], status: Status) -> Status
-    ensures { Wrote result status text.now (K.taken sink.old) (K.faults sink.old)
-        (K.taken sink.new) (K.faults sink.new) }
+    ensures { Wrote result status text.now (K.told sink.old) (K.faults sink.old)
+        (K.told sink.new) (K.faults sink.new) }
 {
     match write_all(sink, text) {
         Written::All => status,
