@@ -30,17 +30,17 @@ pub record HasListed (q : Query) (s : ℕ) (st : State) (given : List Tuple) : T
 
 -- What a session was given, and the deltas that it is told along a run, add up to a listing of the
 -- answers at the end. It watches the query all the while, and is told one delta for each accepted
--- change of a relation that the query reads and none for another number: by rising number, their
--- lines parts of all that is queued to it.
-pub record StaysLive (q : Query) (s : ℕ) (given : List Tuple) (old : State) (done : List Did) (new : State) : Type 0
-  where
-    pub walk : WatchesAlong q s old done new
-    pub told : List Told
-    pub whole : flat_map (λ part. part) (parts_to s done) ≡ out s done
-    pub among : AreAmong (map (told_text q.name) told) (parts_to s done)
-    pub numbers : map (λ t. t.number) told ≡ numbers_along q s old done new walk
-    pub rising : AllPairs (λ m n. m < n) (map (λ t. t.number) told)
-    pub listing : IsListing (IsAnswer new.store.relations q) (all_added_up given told)
+-- change of a relation that the query reads, by rising number: their lines are parts of all that is
+-- queued to it.
+pub record StaysLive (q : Query) (s : ℕ) (given : List Tuple) (old : State) (done : List Did)
+    (new : State) : Type 0 where
+  pub walk : WatchesAlong q s old done new
+  pub told : List Told
+  pub whole : flat_map (λ part. part) (parts_to s done) ≡ out s done
+  pub among : AreAmong (map (told_text q.name) told) (parts_to s done)
+  pub numbers : map (λ t. t.number) told ≡ numbers_along q s old done new walk
+  pub rising : AllPairs (λ m n. m < n) (map (λ t. t.number) told)
+  pub listing : IsListing (IsAnswer new.store.relations q) (all_added_up given told)
 
 -- So it is along every run from a state in which it has listed and watches a query, if it doesn't
 -- unwatch it, and goes on at the end.

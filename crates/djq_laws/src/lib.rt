@@ -119,7 +119,8 @@ pub fn watchers_stay()
 {}
 
 /// A session that has listed a query through a cursor, and watches it, has the answers over the
-/// present rows by adding up what it is told, as long as it goes on and doesn't unwatch it.
+/// present rows by adding up what it is told, as long as it goes on and doesn't unwatch it: one
+/// delta for each accepted change of a relation that the query reads, by rising number.
 pub fn listings_stay_live()
     ensures { ListingsStayLive }
 {}
