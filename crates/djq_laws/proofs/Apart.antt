@@ -158,7 +158,7 @@ pub rows_more : (rows : List Tuple) (row : Tuple) → AreDifferent rows → has_
     → AreDifferent (rows ++ row ∷ [])
 rows_more rows row h none = pairs_push (λ s t. s ≡ t → ⊥) rows row h (row_absent rows row none)
 
-without_dropped : (rows : List Tuple) (row : Tuple) → without_row rows row ≡ drop_first (λ r. tuple_eq r row) rows
+pub without_dropped : (rows : List Tuple) (row : Tuple) → without_row rows row ≡ drop_first (λ r. tuple_eq r row) rows
 without_dropped [] row = refl
 without_dropped (r ∷ rows) row = ap (λ rest. cond (tuple_eq r row) rows (r ∷ rest)) (without_dropped rows row)
 

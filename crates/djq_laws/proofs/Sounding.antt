@@ -1,48 +1,10 @@
 -- Each state that the machine comes to is sound.
-use Rattle.std.specs.Prelude.{
-  ℕ,
-  List,
-  [],
-  ◌∷◌,
-  ◌==◌,
-  ◌≡◌,
-  ◌≢◌,
-  ◌<◌,
-  ◌≤◌,
-  ◌+◌,
-  ◌++◌,
-  ◌⊎◌,
-  Bool,
-  true,
-  false,
-  not,
-  cond,
-  length,
-  filter,
-  Option,
-  None,
-  Some,
-  is_some,
-  is_none,
-  nat_le,
-  IsSome,
-  IsSomeAnd,
-  MatchOption,
-  option_map,
-  Result,
-  Ok,
-  Err,
-  map,
-  All,
-  AllPairs,
-  ⊤,
-}
+use Rattle.std.specs.Prelude.{ℕ, List, [], ◌∷◌, ◌==◌, ◌≡◌, ◌≢◌, ◌<◌, ◌≤◌, ◌+◌, ◌++◌, ◌⊎◌, Bool, true, false, not, cond, length, filter, Option, None, Some, is_some, is_none, nat_le, IsSome, IsSomeAnd, MatchOption, option_map, Result, Ok, Err, map, All, ⊤}
 use Rattle.std.specs.List.{list_any, slice_index_or}
 use Rattle.std.proofs.Common.{refl, sym, ap, ◌∙◌, subst, inl, inr, arith}
 use Rattle.std.proofs.lemmas.List.{length-map, length-append}
 use Rattle.std.proofs.lemmas.List.Elements.{All-nil, All-push, All-weaker, All-filter}
 use Rattle.djq_model.specs.declared.query.Query.{Query}
-use Rattle.djq_model.specs.declared.relation.Relation.{Relation}
 use Rattle.djq_model.specs.Data.{Bytes, Tuple, bytes_eq, drop_first, query_of}
 use Rattle.djq_lines.specs.Conditions.{first_of, Answers, OutOfMemoryWhere}
 use Rattle.djq_lines.specs.declared.limits.TheConstants.{CURSORS, SESSIONS}
@@ -69,6 +31,8 @@ use Rattle.djq_lines.specs.declared.command.Command.TheVariants.{
 }
 use Rattle.djq_lines.specs.Grammar.{Reading, refused, says as says_command, reading_of}
 use Rattle.djq_lines.specs.Reply.{end_memory}
+use Rattle.djq_lines.specs.Hypergraph.{edges_of, head_of}
+use Rattle.djq_machine.specs.Store.{IsFreeConnex}
 use Rattle.djq_machine.specs.State.{
   Store,
   State,
@@ -137,6 +101,7 @@ use Rattle.djq_machine.proofs.Walks.{walk_keeps}
 use Rattle.djq_laws.specs.Sound.{
   AreApart,
   IsSoundStore,
+  IsSoundRelation,
   GaveOnce,
   IsSoundCursor,
   IsSoundSession,
@@ -700,10 +665,11 @@ pub opening_sound : IsSoundState opening
 opening_sound = record {
   store = record {
     relations = nothing_apart (λ a b. a ≢ b);
-    rows = All-nil (λ (r : Relation). AllPairs (λ s t. s ≡ t → ⊥) r.rows);
+    rows = All-nil IsSoundRelation;
     texts = nothing_apart (λ a b. a ≢ b);
     few = omega arith;
     queries = nothing_apart (λ a b. a ≢ b);
+    connex = All-nil (λ (q : Query). IsFreeConnex (edges_of q) (head_of q));
   };
   sessions = All-nil (IsSoundSession []);
   rising = nothing_apart (λ s t. s < t);

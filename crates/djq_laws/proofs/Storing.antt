@@ -3,6 +3,8 @@ use Rattle.std.specs.Prelude.{
   List,
   [],
   ◌∷◌,
+  ◌==◌,
+  ◌&&◌,
   ◌≡◌,
   ◌≤◌,
   ◌++◌,
@@ -11,11 +13,13 @@ use Rattle.std.specs.Prelude.{
   true,
   false,
   cond,
+  not,
   length,
   Option,
   None,
   Some,
   is_some,
+  is_none,
   nat_le,
   nat_lt,
   map,
@@ -26,7 +30,8 @@ use Rattle.std.specs.Prelude.{
   ⊤,
 }
 use Rattle.std.proofs.Common.{refl, sym, ap, ◌∙◌, subst, inl, inr, arith}
-use Rattle.std.proofs.lemmas.List.Elements.{All-cons, All-head, All-tail, All-push}
+use Rattle.std.proofs.lemmas.List.Sorted.{All-permutation}
+use Rattle.std.proofs.lemmas.List.Elements.{All-nil, All-cons, All-head, All-tail, All-push}
 use Rattle.djq_model.specs.declared.relation.Relation.{Relation}
 use Rattle.djq_model.specs.declared.relation.ColumnType.{ColumnType}
 use Rattle.djq_model.specs.declared.query.Query.{Query}
@@ -34,6 +39,7 @@ use Rattle.djq_model.specs.Data.{
   Bytes,
   Tuple,
   bytes_eq,
+  tuple_eq,
   drop_first,
   relation_of,
   rows_in,
@@ -44,14 +50,18 @@ use Rattle.djq_model.specs.Data.{
 }
 use Rattle.djq_model.specs.Answer.{AreDifferent}
 use Rattle.djq_model.specs.Known.{texts_in}
+use Rattle.djq_model.specs.Typed.{fits}
+use Rattle.djq_lines.specs.Columns.{types_of}
+use Rattle.djq_lines.specs.Hypergraph.{edges_of, head_of}
+use Rattle.djq_machine.specs.Store.{IsFreeConnex}
 use Rattle.djq_lines.specs.Variables.{constants_of}
 use Rattle.djq_lines.specs.Conditions.{first_of, Answers, OutOfMemoryWhere}
 use Rattle.djq_lines.specs.QueryFault.{query_faults}
-use Rattle.djq_lines.specs.declared.limits.TheConstants.{COLUMNS, RELATIONS, QUERIES, TEXTS}
+use Rattle.djq_lines.specs.declared.limits.TheConstants.{COLUMNS, RELATIONS, QUERIES, TEXTS, ROWS, LAST_SEQ}
 use Rattle.djq_lines.specs.declared.rest.QueryOutcome.{QueryOutcome}
 use Rattle.djq_lines.specs.declared.rest.QueryOutcome.TheVariants.{Registered, Cyclic, NotConnex}
 use Rattle.djq_lines.specs.declared.answer.Refusal.{Refusal}
-use Rattle.djq_lines.specs.declared.answer.Refusal.TheVariants.{Taken, Limit, NoMemory}
+use Rattle.djq_lines.specs.declared.answer.Refusal.TheVariants.{Taken, Limit, NoMemory, NoRelation, Arity, WrongType}
 use Rattle.djq_lines.specs.declared.answer.AddOutcome.{AddOutcome}
 use Rattle.djq_lines.specs.declared.answer.AddOutcome.TheVariants.{Added, Same}
 use Rattle.djq_lines.specs.declared.answer.DeleteOutcome.{DeleteOutcome}
@@ -76,8 +86,8 @@ use Rattle.djq_machine.specs.Store.{
   drop_refusal,
 }
 use Rattle.djq_machine.specs.Step.{SameRelations}
-use Rattle.djq_laws.specs.Sound.{AreApart, IsSoundStore}
-use Rattle.djq_laws.proofs.Changing.{all_changed}
+use Rattle.djq_laws.specs.Sound.{AreApart, IsSoundRelation, IsSoundStore}
+use Rattle.djq_laws.proofs.Changing.{all_changed, all_dropped}
 use Rattle.djq_laws.proofs.Apart.{
   names_push,
   names_changed,
@@ -86,6 +96,7 @@ use Rattle.djq_laws.proofs.Apart.{
   rows_more,
   rows_less,
   rows_moved,
+  without_dropped,
   nothing_apart,
 }
 use Rattle.djq_laws.proofs.Giving.{done_of, add_refused, query_late, refused_store}
@@ -104,7 +115,14 @@ free_name (Some x) rest a D L h = absurd h
 with_texts : (old new : Store) → new ≡ record old { texts = new.texts } → AreApart new.texts → length new.texts ≤ TEXTS
     → IsSoundStore old → IsSoundStore new
 with_texts old new e apart few s = subst IsSoundStore (sym e)
-    (record { relations = s.relations; rows = s.rows; texts = apart; few = few; queries = s.queries })
+    (record {
+      relations = s.relations;
+      rows = s.rows;
+      texts = apart;
+      few = few;
+      queries = s.queries;
+      connex = s.connex;
+    })
 
 same_store : (old new : Store) → new ≡ old → IsSoundStore old → IsSoundStore new
 same_store old new e s = subst IsSoundStore (sym e) s
@@ -138,11 +156,12 @@ related_store old name types (Ok u) new h s =
     (λ _. new ≡ record old { relations = old.relations ++ made ∷ [] }) (OutOfMemoryWhere ⊤) h.answer in
     subst IsSoundStore (sym e) (record {
       relations = names_push (λ (x : Relation). x.name) old.relations made s.relations none;
-      rows = All-push (λ (x : Relation). AreDifferent x.rows) old.relations made s.rows
-          (nothing_apart (λ a b. a ≡ b → ⊥));
+      rows = All-push IsSoundRelation old.relations made s.rows
+          (record { typed = All-nil (λ t. fits types t ≡ true); once = nothing_apart (λ a b. a ≡ b → ⊥) });
       texts = s.texts;
       few = s.few;
       queries = s.queries;
+      connex = s.connex;
     })
 related_store old name types (Err r) new h s = same_store old new h.stays s
 
@@ -155,27 +174,60 @@ related_queries old name types (Ok u) new h =
 related_queries old name types (Err r) new h = ap (λ (st : Store). st.queries) h.stays
 
 -- other rows in one relation
-rows_there : (rs : List Relation) (name : Bytes) (rows : List Tuple) → All (λ (x : Relation). AreDifferent x.rows) rs
-    → ((x : Relation) → relation_of rs name ≡ Some x → AreDifferent x.rows → AreDifferent rows)
-    → All (λ (x : Relation). AreDifferent x.rows) (with_rows rs name rows)
+rows_there : (rs : List Relation) (name : Bytes) (rows : List Tuple) → All IsSoundRelation rs
+    → ((x : Relation) → relation_of rs name ≡ Some x → IsSoundRelation x → IsSoundRelation (record x { rows = rows }))
+    → All IsSoundRelation (with_rows rs name rows)
 rows_there rs name rows h keeps =
-    all_changed (λ (x : Relation). AreDifferent x.rows) (λ (x : Relation). bytes_eq x.name name)
+    all_changed IsSoundRelation (λ (x : Relation). bytes_eq x.name name)
     (λ (x : Relation). record x { rows = rows }) rs h (λ x found k. keeps x found k)
+
+-- the rows of the relation that is found
+rows_found : (P : Tuple → Type 0) (o : Option Relation) (x : Relation) → o ≡ Some x → All P x.rows → All P (rows_in o)
+rows_found P o x found h = subst (λ (p : Option Relation). All P (rows_in p)) (sym found) h
+
+-- a row that isn't refused fits
+passed : {A : Type 0} (o : Option Refusal) (a : A) (D : A → Type 0) (L : Refusal → Type 0) → Answers o (Ok a) D L
+    → o ≡ None
+passed None a D L h = refl
+passed (Some r) a D L h = absurd h
+
+third_fails : (a b d : Bool) (r t u : Refusal) (o : Option Refusal)
+    → cond a (Some r) (cond b (Some t) (cond (not d) (Some u) o)) ≡ None → d ≡ true
+third_fails false false true r t u o h = refl
+third_fails true b d r t u o h = absurd cc
+third_fails false true d r t u o h = absurd cc
+third_fails false false false r t u o h = absurd cc
+
+row_fits : (old : Store) (name : Bytes) (row : Tuple) → add_refusal old name row ≡ None
+    → fits (types_of (relation_of old.relations name)) row ≡ true
+row_fits old name row none =
+    let types = types_of (relation_of old.relations name) in
+    let rows = rows_of old.relations name in
+    third_fails (is_none (relation_of old.relations name)) (not (length row == length types)) (fits types row)
+    NoRelation Arity WrongType
+    (first_of ((not (has_row rows row) && nat_le ROWS (length rows), Limit)
+    ∷ (not (has_row rows row) && nat_le LAST_SEQ old.seq, Limit) ∷ [])) none
 
 -- `add`
 pub added_store : (old : Store) (name : Bytes) (row : Tuple) (r : Result AddOutcome Refusal) (new : Store)
     → AddsRow old name row r new → IsSoundStore old → IsSoundStore new
 added_store old name row (Ok Added) new h s =
     let d = done_of (add_refusal old name row) Added (AddsAs old name row new) _ h.answer in
+    let none = passed (add_refusal old name row) Added (AddsAs old name row new) _ h.answer in
     let rows = rows_of old.relations name in
     subst IsSoundStore (sym d.2) (record {
       relations = names_changed (λ (x : Relation). x.name) (λ (x : Relation). bytes_eq x.name name)
           (λ (x : Relation). record x { rows = rows ++ row ∷ [] }) (λ x. refl) old.relations s.relations;
-      rows = rows_there old.relations name (rows ++ row ∷ []) s.rows (λ x found k.
-          rows_more rows row (subst (λ (o : Option Relation). AreDifferent (rows_in o)) (sym found) k) d.0);
+      rows = rows_there old.relations name (rows ++ row ∷ []) s.rows (λ x found k. record {
+        typed = All-push (λ t. fits x.types t ≡ true) rows row
+            (rows_found (λ t. fits x.types t ≡ true) (relation_of old.relations name) x found k.typed)
+            (subst (λ (o : Option Relation). fits (types_of o) row ≡ true) found (row_fits old name row none));
+        once = rows_more rows row (subst (λ (o : Option Relation). AreDifferent (rows_in o)) (sym found) k.once) d.0;
+      });
       texts = texts_apart old.texts (texts_in row) s.texts;
       few = subst (λ (st : Store). length st.texts ≤ TEXTS) d.2 d.1;
       queries = s.queries;
+      connex = s.connex;
     })
 added_store old name row (Ok Same) new h s =
     let d = done_of (add_refusal old name row) Same (AddsAs old name row new) _ h.answer in
@@ -205,11 +257,16 @@ deleted_store old name row (Ok Removed) new h s =
     subst IsSoundStore (sym d.1) (record {
       relations = names_changed (λ (x : Relation). x.name) (λ (x : Relation). bytes_eq x.name name)
           (λ (x : Relation). record x { rows = without_row rows row }) (λ x. refl) old.relations s.relations;
-      rows = rows_there old.relations name (without_row rows row) s.rows (λ x found k.
-          rows_less rows row (subst (λ (o : Option Relation). AreDifferent (rows_in o)) (sym found) k));
+      rows = rows_there old.relations name (without_row rows row) s.rows (λ x found k. record {
+        typed = subst (λ ts. All (λ t. fits x.types t ≡ true) ts) (sym (without_dropped rows row))
+            (all_dropped (λ t. fits x.types t ≡ true) (λ t. tuple_eq t row) rows
+            (rows_found (λ t. fits x.types t ≡ true) (relation_of old.relations name) x found k.typed));
+        once = rows_less rows row (subst (λ (o : Option Relation). AreDifferent (rows_in o)) (sym found) k.once);
+      });
       texts = s.texts;
       few = s.few;
       queries = s.queries;
+      connex = s.connex;
     })
 deleted_store old name row (Ok Absent) new h s =
     let d = done_of (delete_refusal old name row) Absent (DeletesAs old name row new) (OutOfMemoryWhere ⊥) h.answer in
@@ -240,6 +297,7 @@ registered_store old q (Ok (Registered most)) new h s =
       texts = texts_apart old.texts (texts_in (constants_of q.atoms)) s.texts;
       few = subst (λ (st : Store). length st.texts ≤ TEXTS) d.3 d.2;
       queries = names_push (λ (x : Query). x.name) old.queries q s.queries none;
+      connex = All-push (λ (x : Query). IsFreeConnex (edges_of x) (head_of x)) old.queries q s.connex d.0;
     })
 registered_store old q (Ok (Cyclic rest)) new h s =
     let d = done_of (query_refusal old q) (Cyclic rest) (RegistersAs old q new) (RefusedLate old q new) h.answer in
@@ -283,6 +341,8 @@ dropped_store old used name (Ok u) new h s =
       texts = s.texts;
       few = s.few;
       queries = names_dropped (λ (x : Query). x.name) (λ n. bytes_eq n name) old.queries s.queries;
+      connex = all_dropped (λ (x : Query). IsFreeConnex (edges_of x) (head_of x)) (λ (x : Query). bytes_eq x.name name)
+          old.queries s.connex;
     })
 dropped_store old used name (Err r) new h s = same_store old new h.stays s
 
@@ -295,12 +355,15 @@ moved_names (r ∷ rs) (m ∷ ms) h = ap (λ n. n ∷ map (λ (x : Relation). x.
 moved_names [] (m ∷ ms) h = absurd h
 moved_names (r ∷ rs) [] h = absurd h
 
-moved_rows : (rs moved : List Relation) → SameRelations rs moved → All (λ (x : Relation). AreDifferent x.rows) rs
-    → All (λ (x : Relation). AreDifferent x.rows) moved
+moved_rows : (rs moved : List Relation) → SameRelations rs moved → All IsSoundRelation rs → All IsSoundRelation moved
 moved_rows [] [] h s = s
 moved_rows (r ∷ rs) (m ∷ ms) h s =
-    let P = λ (x : Relation). AreDifferent x.rows in
-    All-cons P m ms (rows_moved r.rows m.rows h.2 (All-head P r rs s)) (moved_rows rs ms h.3 (All-tail P r rs s))
+    let k = All-head IsSoundRelation r rs s in
+    All-cons IsSoundRelation m ms (record {
+      typed = subst (λ types. All (λ t. fits types t ≡ true) m.rows) (sym h.1)
+          (All-permutation (λ t. fits r.types t ≡ true) r.rows m.rows h.2 k.typed);
+      once = rows_moved r.rows m.rows h.2 k.once;
+    }) (moved_rows rs ms h.3 (All-tail IsSoundRelation r rs s))
 moved_rows [] (m ∷ ms) h s = absurd h
 moved_rows (r ∷ rs) [] h s = absurd h
 
@@ -312,4 +375,5 @@ moved_store old relations h s = record {
   texts = s.texts;
   few = s.few;
   queries = s.queries;
+  connex = s.connex;
 }
