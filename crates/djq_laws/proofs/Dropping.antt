@@ -1,5 +1,5 @@
 -- What is taken of a session's bytes comes before what is dropped, where no session opens twice.
-use Rattle.std.specs.Prelude.{ℕ, List, [], ◌∷◌, ◌==◌, ◌≡◌, ◌<◌, ◌++◌, ◌⊎◌, Bool, true, false, not, cond, filter, Option, None, Some, IsSomeAnd, find, map, All, AllPairs}
+use Rattle.std.specs.Prelude.{ℕ, List, [], ◌∷◌, ◌==◌, ◌≡◌, ◌<◌, ◌++◌, ◌⊎◌, Bool, true, false, not, cond, filter, None, Some, IsSomeAnd, find, map, All, AllPairs}
 use Rattle.std.proofs.Common.{zero, suc, refl, sym, ap, ◌∙◌, subst, append_assoc, append-nil, inl, inr, arith}
 use Rattle.std.proofs.lemmas.Bool.{eqb-true, eq-eqb}
 use Rattle.std.proofs.lemmas.List.Elements.{All-nil, All-cons, All-head, All-tail, All-push, All-filter, All-weaker}

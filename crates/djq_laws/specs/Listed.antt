@@ -1,5 +1,24 @@
 -- What a session is told in reply to `next`, against what its cursors have given.
-use Rattle.std.specs.Prelude.{ℕ, List, [], ◌∷◌, ◌==◌, ◌≡◌, ◌++◌, ◌&&◌, Bool, true, false, Option, None, Some, if◌then◌else◌, option_map, map, codes}
+use Rattle.std.specs.Prelude.{
+  ℕ,
+  List,
+  [],
+  ◌∷◌,
+  ◌==◌,
+  ◌≡◌,
+  ◌++◌,
+  ◌&&◌,
+  Bool,
+  true,
+  false,
+  Option,
+  None,
+  Some,
+  if◌then◌else◌,
+  option_map,
+  map,
+  codes,
+}
 use Rattle.std.specs.List.{flat_map}
 use Rattle.djq_model.specs.Data.{Bytes, Tuple, bytes_eq}
 use Rattle.djq_model.specs.declared.query.Query.{Query}

@@ -30,9 +30,10 @@ pub record HasListed (q : Query) (s : ℕ) (st : State) (given : List Tuple) : T
 
 -- What a session was given, and the deltas that it is told along a run, add up to a listing of the
 -- answers at the end. It watches the query all the while, and is told one delta for each accepted
--- change of a relation that the query reads and none for another number: by rising number, their
--- lines parts of all that is queued to it.
-pub record StaysLive (q : Query) (s : ℕ) (given : List Tuple) (old : State) (done : List Did) (new : State) : Type 0 where
+-- change of a relation that the query reads, by rising number: their lines are parts of all that is
+-- queued to it.
+pub record StaysLive (q : Query) (s : ℕ) (given : List Tuple) (old : State) (done : List Did)
+    (new : State) : Type 0 where
   pub walk : WatchesAlong q s old done new
   pub told : List Told
   pub whole : flat_map (λ part. part) (parts_to s done) ≡ out s done

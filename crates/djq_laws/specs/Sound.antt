@@ -1,9 +1,13 @@
 -- What holds of every state that the machine comes to.
-use Rattle.std.specs.Prelude.{List, [], ◌≡◌, ◌≢◌, ◌≤◌, IsSome, length, map, All, AllPairs}
+use Rattle.std.specs.Prelude.{List, [], ◌≡◌, ◌≢◌, ◌≤◌, true, IsSome, length, map, All, AllPairs}
+use Rattle.djq_model.specs.declared.relation.Relation.{Relation}
 use Rattle.djq_model.specs.declared.query.Query.{Query}
 use Rattle.djq_model.specs.Data.{Bytes, query_of}
 use Rattle.djq_model.specs.Answer.{AreDifferent}
+use Rattle.djq_model.specs.Typed.{fits}
 use Rattle.djq_lines.specs.declared.limits.TheConstants.{SESSIONS, TEXTS}
+use Rattle.djq_lines.specs.Hypergraph.{edges_of, head_of}
+use Rattle.djq_machine.specs.Store.{IsFreeConnex}
 use Rattle.djq_machine.specs.State.{Store, State, Session, Cursor, Position, open_at, stale, opening}
 use Rattle.djq_machine.specs.Run.{Did, Run}
 use Rattle.djq_laws.specs.Rising.{AreRising}
@@ -12,14 +16,20 @@ use Rattle.djq_laws.specs.Rising.{AreRising}
 abbrev pub AreApart : List Bytes → Type 0
 AreApart names = AllPairs (λ a b. a ≢ b) names
 
--- Relations have names of their own, and queries; no row stands twice in a relation; and each known
--- text is known once, and no more are than may be.
+-- The rows of a relation are of its columns' types, and none stands twice.
+pub record IsSoundRelation (r : Relation) : Type 0 where
+  pub typed : All (λ row. fits r.types row ≡ true) r.rows
+  pub once : AreDifferent r.rows
+
+-- Relations have names of their own, and queries, each of which is free-connex; and each known text
+-- is known once, and no more are than may be.
 pub record IsSoundStore (st : Store) : Type 0 where
   pub relations : AreApart (map (λ r. r.name) st.relations)
-  pub rows : All (λ r. AreDifferent r.rows) st.relations
+  pub rows : All IsSoundRelation st.relations
   pub texts : AreApart st.texts
   pub few : length st.texts ≤ TEXTS
   pub queries : AreApart (map (λ q. q.name) st.queries)
+  pub connex : All (λ q. IsFreeConnex (edges_of q) (head_of q)) st.queries
 
 -- An open cursor has given no answer twice.
 abbrev pub GaveOnce : Position → Type 0

@@ -53,9 +53,10 @@ pub fn line_is_taken()
 {}
 
 /// Each state that a run comes to from the opening state is sound: relations, queries, known texts,
-/// the rows of a relation and the answers that an open cursor has given are without repeats; cursors
-/// and watches are of registered queries; a session that has ended has none of them; and texts and
-/// sessions are within their limits, sessions by rising id. Every run keeps it so.
+/// the rows of a relation and the answers that an open cursor has given are without repeats; rows
+/// are of their columns' types, and queries free-connex; cursors and watches are of registered
+/// queries; a session that has ended has none of them; and texts and sessions are within their
+/// limits, sessions by rising id. Every run keeps it so.
 pub fn states_are_sound()
     ensures kept { RunsKeepSound }
     ensures reached { StatesAreSound }
@@ -125,7 +126,8 @@ pub fn watchers_stay()
 {}
 
 /// A session that has listed a query through a cursor, and watches it, has the answers over the
-/// present rows by adding up what it is told, as long as it goes on and doesn't unwatch it.
+/// present rows by adding up what it is told, as long as it goes on and doesn't unwatch it: one
+/// delta for each accepted change of a relation that the query reads, by rising number.
 pub fn listings_stay_live()
     ensures { ListingsStayLive }
 {}

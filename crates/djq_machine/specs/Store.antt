@@ -79,7 +79,7 @@ use Rattle.djq_lines.specs.Variables.{constants_of}
 use Rattle.djq_lines.specs.Hypergraph.{edges_of, head_of}
 use Rattle.djq_lines.specs.Rest.{IsNamedRest}
 use Rattle.djq_lines.specs.QueryFault.{whole_query_refusal}
-use Rattle.djq_hyper.specs.JoinTree.{IsFreeConnex}
+pub use Rattle.djq_hyper.specs.JoinTree.{IsFreeConnex}
 use Rattle.djq_hyper.specs.Refusing.{IsCyclic, IsNotConnex}
 use Rattle.djq_machine.specs.State.{Store}
 use Rattle.djq_machine.specs.Conditions.{first_of, Answers, OutOfMemoryWhere}

@@ -1,5 +1,5 @@
 -- A write that failed is the last of a run.
-use Rattle.std.specs.Prelude.{List, [], ◌∷◌, ◌++◌, ◌≡◌, ◌≢◌, Bool, true, false, All}
+use Rattle.std.specs.Prelude.{List, [], ◌∷◌, ◌++◌, ◌≡◌, ◌≢◌, Bool, true, false}
 use Rattle.std.proofs.Common.{refl, sym, ap, ◌∙◌, subst, append-nil}
 use Rattle.std.proofs.lemmas.List.Elements.{All-head, All-tail}
 use Rattle.djq_io.specs.Sink.{bytes_of, NoneFailed}
@@ -7,12 +7,12 @@ use Rattle.djq_io.specs.declared.sink.Write.{Write}
 use Rattle.djq_io.specs.declared.sink.Wrote.TheVariants.{Failed}
 use Rattle.djq_machine.specs.State.{State}
 use Rattle.djq_machine.specs.Run.{all_taken, pending_of}
-use Rattle.djq_laws.specs.Course.{Outside, Does, last_write}
+use Rattle.djq_laws.specs.Course.{Does, last_write}
 use Rattle.djq_laws.proofs.Courses.{does_well}
 use Rattle.djq_laws.proofs.Heading.{headline}
 use Rattle.djq_run.specs.declared.status.Status.{Status}
 use Rattle.djq_run.specs.declared.status.Status.TheVariants.{Done, Usage, ReadFault, WriteFault, HubFault, TurnsUsed, NoMemory, Schedule, SessionEnded}
-use Rattle.djq_run.specs.Ends.{RunEnds, is_write_fault}
+use Rattle.djq_run.specs.Ends.{is_write_fault}
 use Rattle.djq_run.specs.LastWrite.{FailedWriteIsLast}
 
 -- where one behind those that went well failed, it is that one

@@ -24,7 +24,7 @@ use Rattle.djq_run.specs.declared.status.Status.{Status}
 use Rattle.djq_run.specs.declared.status.Status.TheVariants.{Done, Usage, ReadFault, HubFault, TurnsUsed, NoMemory, Schedule, SessionEnded, WriteFault as StatusWriteFault}
 use Rattle.djq_run.specs.declared.session.Served.{Served}
 use Rattle.djq_run.specs.declared.session.Served.TheVariants.{AwaitsInput as Waiting, Ended, WriteFault}
-use Rattle.djq_run.specs.Ends.{Awaits, IsAtEnd, IsWellEnded, EndedBy, IsCutOff, Stands, ReadsCount, WritesCount, is_write_fault, RunEnds}
+use Rattle.djq_run.specs.Ends.{Awaits, IsAtEnd, IsWellEnded, EndedBy, IsCutOff, Stands, ReadsCount, WritesCount, RunEnds}
 use Rattle.djq_run.proofs.Going.{PieceFed, awaits, by_opening, goes_begun}
 use Rattle.djq_run.specs.Parts.{GoesTo, Serves, WritesCount as ServedCount, GoesOn, ReadEnds, status_of, has_failed, failed_by}
 

@@ -1,5 +1,5 @@
 -- What the parts of a run leave of the session.
-use Rattle.std.specs.Prelude.{ℕ, List, [], ◌++◌, ◌≡◌, ◌<◌, ◌≤◌, false, Option, None, Some, IfSome, MatchOption, length, take}
+use Rattle.std.specs.Prelude.{ℕ, List, [], ◌≡◌, ◌<◌, ◌≤◌, false, Option, None, Some, IfSome, MatchOption, length, take}
 use Rattle.std.proofs.Common.{refl, sym, ap, ◌∙◌, subst, inl, inr, length-append, length-take, arith}
 use Rattle.djq_io.specs.declared.sink.Write.{Write}
 use Rattle.djq_lines.specs.declared.answer.EndCause.{EndCause}

@@ -1,4 +1,4 @@
-use Rattle.std.proofs.Common.{rules, ◌≡◌, ◌≤◌, ◌∙◌, length, take, refl, ap, arith}
+use Rattle.std.proofs.Common.{rules, ◌≤◌, ◌∙◌, length, take, refl, ap, arith}
 use Rattle.djq_machine.specs.Run.{pending_of}
 use Rattle.djq_laws.specs.Moved.{Takes}
 use Rattle.djq_laws.proofs.Moving.{took_facts}
