@@ -33,9 +33,10 @@ usage_line = line (codes "usage: djq run | serve ADDR [--turns N] | replay | gen
 -- **The theorem of `run`.** There is a run of the join machine from its opening state to this one.
 -- The pieces that it was fed are those that were read, in order, and what was read is run and
 -- answered before the next read. What was written and then what is pending is all that it queued,
--- in order; and where a write failed, nothing was done behind it. No more was counted than it may cost. At each moment of it each open cursor had given
--- different answers of its query over the rows that were there then, and all of them where it was
--- told the end. And the status says exactly how far the run went.
+-- in order; and where a write failed, nothing was done behind it. No more was counted than it may
+-- cost. At each moment of it each open cursor had given different answers of its query over the rows
+-- that were there then, and all of them where it was told the end. And the status says exactly how
+-- far the run went.
 pub record Serves (status : Status) (before now : Outside) : Type 0 where
   pub state : State
   pub run : RunEnds status before now opening state
