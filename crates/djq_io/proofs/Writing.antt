@@ -21,23 +21,32 @@ took_well k = λ e. cc
 
 -- nothing was written
 pub writes_none : (o : Option (List Write)) → GainsBytes o o []
-writes_none o = record { writes = []; told = gains_none o; well = All-nil (λ (w : Write). w.answer ≢ Failed); all = refl }
+writes_none o = record {
+  writes = [];
+  told = gains_none o;
+  well = All-nil (λ (w : Write). w.answer ≢ Failed);
+  all = refl;
+}
 
 -- one write more
-pub writes_more : (o m n : Option (List Write)) (bytes rest : List ℕ) (k : ℕ) → GainsBytes o m bytes → Gains m n (record { piece = rest; answer = Took k } ∷ [])
+pub writes_more : (o m n : Option (List Write)) (bytes rest : List ℕ) (k : ℕ) → GainsBytes o m bytes
+    → Gains m n (record { piece = rest; answer = Took k } ∷ [])
     → GainsBytes o n (bytes ++ take k rest)
 writes_more o m n bytes rest k g gains =
     let w : Write = record { piece = rest; answer = Took k } in
-    let one = All-cons (λ (v : Write). v.answer ≢ Failed) w [] (took_well k) (All-nil (λ (v : Write). v.answer ≢ Failed)) in
+    let one = All-cons (λ (v : Write). v.answer ≢ Failed) w [] (took_well k)
+    (All-nil (λ (v : Write). v.answer ≢ Failed)) in
     record {
       writes = g.writes ++ w ∷ [];
       told = gains_more o m n g.writes (w ∷ []) g.told gains;
       well = All-append (λ (v : Write). v.answer ≢ Failed) g.writes (w ∷ []) g.well one;
-      all = ap (λ bs. bs ++ take k rest) g.all ∙ ap (λ bs. bytes_of g.writes ++ bs) (sym (append-nil (take k rest))) ∙ sym (bytes_more g.writes (w ∷ []));
+      all = ap (λ bs. bs ++ take k rest) g.all ∙ ap (λ bs. bytes_of g.writes ++ bs) (sym (append-nil (take k rest)))
+          ∙ sym (bytes_more g.writes (w ∷ []));
     }
 
 -- one write more, which failed
-pub fails_behind : (o m n : Option (List Write)) (bytes rest : List ℕ) → GainsBytes o m bytes → Gains m n (record { piece = rest; answer = Failed } ∷ [])
+pub fails_behind : (o m n : Option (List Write)) (bytes rest : List ℕ) → GainsBytes o m bytes
+    → Gains m n (record { piece = rest; answer = Failed } ∷ [])
     → FailsBehind o n bytes rest
 fails_behind o m n bytes rest g gains = record {
   writes = g.writes;

@@ -39,8 +39,10 @@ headline start before now st c none =
     let walk = walk_of start c.done c.writes st c.does in
     record {
       written = does_bytes start c.done c.writes st c.does;
-      sent = ap (λ g. g ++ pending_of st 1) (sym (gone_taken start c.done st walk)) ∙ run_bytes 1 start c.done st (next_runs start c.done st walk)
+      sent = ap (λ g. g ++ pending_of st 1) (sym (gone_taken start c.done st walk))
+          ∙ run_bytes 1 start c.done st (next_runs start c.done st walk)
           ∙ ap (λ p. p ++ out 1 c.done) (none_pending start none);
       lines = in_order 1 start c.done st (next_runs start c.done st walk) (walk_spares start c.done st walk);
-      cursors = λ mid passed. runs_give start passed.0 mid (next_runs start passed.0 mid passed.3) (none_give start none);
+      cursors = λ mid passed. runs_give start passed.0 mid (next_runs start passed.0 mid passed.3)
+          (none_give start none);
     }

@@ -62,7 +62,13 @@ pub record Outside : Type 0 where
 -- the outside, of its parts
 abbrev pub outside : Option Reading → ℕ → Option (List Write) → ℕ → Counts → Outside
 outside reading read_faults writing write_faults counted =
-    record { reading = reading; read_faults = read_faults; writing = writing; write_faults = write_faults; counted = counted }
+    record {
+      reading = reading;
+      read_faults = read_faults;
+      writing = writing;
+      write_faults = write_faults;
+      counted = counted;
+    }
 
 -- A run of the machine, as `run` may make it. The pieces that the session was fed are the pieces
 -- that the source gave, in order: what was read is fed, and what it brings about is done before the

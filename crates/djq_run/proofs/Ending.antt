@@ -96,8 +96,10 @@ ends_done reading mid new ended cause held pending at_end =
     ended_by (IsWellEnded reading new) new Input (cause ∙ ended.cause) pending (at_end, ap (λ bytes. is_dry bytes) held ∙ ended.dry)
 
 -- the bytes fed along a course and one behind it
-pub fed_more : (o o' o'' : Outside) (old mid new : State) (c : Course old o o' mid) (well : c.failed ≡ false) (d : Course mid o' o'' new)
-    → length (all_fed 1 (course_then o o' o'' old mid new c well d).done) ≡ length (all_fed 1 c.done) + length (all_fed 1 d.done)
+pub fed_more : (o o' o'' : Outside) (old mid new : State) (c : Course old o o' mid) (well : c.failed ≡ false)
+    (d : Course mid o' o'' new)
+    → length (all_fed 1 (course_then o o' o'' old mid new c well d).done) ≡ length (all_fed 1 c.done) + length
+    (all_fed 1 d.done)
 fed_more o o' o'' old mid new c well d =
     ap (λ (done : List Did). length (all_fed 1 done)) (course_then_done o o' o'' old mid new c well d)
     ∙ ap length (flat_map-append (λ (x : Did). fed_by 1 x.event) c.done d.done) ∙ length-append (all_fed 1 c.done) (all_fed 1 d.done)
@@ -114,7 +116,9 @@ served_failed (Ended Memory) = refl
 served_failed WriteFault = refl
 
 -- What a piece comes to, whose lines were served.
-pub piece_ends : (served : Served) (o mid_o o' : Outside) (old mid new : State) (bytes : Bytes) → PieceFed o mid_o old mid bytes → GoesTo (has_failed served) mid mid_o o' new → Awaits old → Comes old mid 1 bytes
+pub piece_ends : (served : Served) (o mid_o o' : Outside) (old mid new : State) (bytes : Bytes)
+    → PieceFed o mid_o old mid bytes → GoesTo (has_failed served) mid mid_o o' new → Awaits old
+    → Comes old mid 1 bytes
     → Serves served mid new → 0 < length bytes → o'.read_faults ≡ o.read_faults → ServedCount served o.write_faults o'.write_faults → ReadEnds (status_of served) o o' old new
 piece_ends served o mid_o o' old mid new bytes piece c waits comes serves some reads writes =
     let whole = course_then o mid_o o' old mid new piece.course piece.well c.0 in
@@ -122,7 +126,8 @@ piece_ends served o mid_o o' old mid new bytes piece c waits comes serves some r
       course = whole;
       failed = course_then_failed o mid_o o' old mid new piece.course piece.well c.0 ∙ c.1 ∙ served_failed served;
       goes_on = served_as served (all_fed 1 whole.done) o o' old mid new (awaits_running old waits) (piece_input old mid bytes comes) serves
-          (omega (arith, some, fed_more o mid_o o' old mid new piece.course piece.well c.0, ap length piece.fed)) reads writes;
+          (omega (arith, some, fed_more o mid_o o' old mid new piece.course piece.well c.0, ap length piece.fed))
+          reads writes;
     }
 
 -- What a status says, with more bytes fed before.
@@ -142,7 +147,8 @@ pub still_at_end : (reading reading' : Option Reading) → IsAtEnd reading → r
 still_at_end reading reading' h same = subst (λ (r : Option Reading). IsAtEnd r) (sym same) h
 
 -- The run so far, in which no fault was met, and a read that ends it.
-pub run_ends : (status : Status) (before mid_o now : Outside) (start mid state : State) (c : Course start before mid_o mid) → c.failed ≡ false → (r : ReadEnds (Some status) mid_o now mid state)
+pub run_ends : (status : Status) (before mid_o now : Outside) (start mid state : State)
+    (c : Course start before mid_o mid) → c.failed ≡ false → (r : ReadEnds (Some status) mid_o now mid state)
     → mid_o.read_faults ≡ before.read_faults → mid_o.write_faults ≡ before.write_faults → RunEnds status before now start state
 run_ends status before mid_o now start mid state c well r reads writes =
     let d : Course mid mid_o now state = r.course in
@@ -150,7 +156,9 @@ run_ends status before mid_o now start mid state c well r reads writes =
     record {
       course = course_then before mid_o now start mid state c well d;
       failed = course_then_failed before mid_o now start mid state c well d ∙ r.failed;
-      stands = inl (stands_more status (all_fed 1 d.done) (all_fed 1 (course_then before mid_o now start mid state c well d).done) now.reading state (omega (arith, fed_more before mid_o now start mid state c well d)) g.0);
+      stands = inl (stands_more status (all_fed 1 d.done) (all_fed 1
+          (course_then before mid_o now start mid state c well d).done) now.reading state
+          (omega (arith, fed_more before mid_o now start mid state c well d)) g.0);
       read_faults = subst (λ n. ReadsCount status n now.read_faults) reads g.1;
       write_faults = subst (λ n. WritesCount status n now.write_faults) writes g.2;
     }
@@ -176,7 +184,8 @@ opened_awaits old new none m there =
     awaits new there pending (stepped_cause old (opened 1) m.effect new h 1 ∙ parts.1) (ap (λ bytes. is_dry bytes) held)
 
 -- The run so far, and a read that gave a byte at least.
-pub so_far_more : (o o' o'' : Outside) (old mid new : State) (n : ℕ) (c : Course old o o' mid) (well : c.failed ≡ false) → n ≤ length (all_fed 1 c.done) → (r : ReadEnds None o' o'' mid new)
+pub so_far_more : (o o' o'' : Outside) (old mid new : State) (n : ℕ) (c : Course old o o' mid)
+    (well : c.failed ≡ false) → n ≤ length (all_fed 1 c.done) → (r : ReadEnds None o' o'' mid new)
     → (d : Course old o o'' new) × (d.failed ≡ false) × (n + 1 ≤ length (all_fed 1 d.done))
 so_far_more o o' o'' old mid new n c well far r = (
   course_then o o' o'' old mid new c well r.course,
@@ -185,9 +194,17 @@ so_far_more o o' o'' old mid new n c well far r = (
 )
 
 -- All reads were made, and the session still awaits input.
-pub turns_used : (o o' : Outside) (old new : State) (c : Course old o o' new) → c.failed ≡ false → MOST_READS ≤ length (all_fed 1 c.done) → Awaits new → o'.read_faults ≡ o.read_faults → o'.write_faults ≡ o.write_faults
+pub turns_used : (o o' : Outside) (old new : State) (c : Course old o o' new) → c.failed ≡ false
+    → MOST_READS ≤ length (all_fed 1 c.done) → Awaits new → o'.read_faults ≡ o.read_faults
+    → o'.write_faults ≡ o.write_faults
     → RunEnds TurnsUsed o o' old new
-turns_used o o' old new c well far waits reads writes = record { course = c; failed = well; stands = inl (waits, far); read_faults = reads; write_faults = writes }
+turns_used o o' old new c well far waits reads writes = record {
+  course = c;
+  failed = well;
+  stands = inl (waits, far);
+  read_faults = reads;
+  write_faults = writes;
+}
 
 -- Out of memory before anything was done.
 pub not_begun : (o : Outside) (old new : State) → new ≡ old → RunEnds NoMemory o o old new
@@ -202,6 +219,9 @@ not_opened o old new (Err Full) e h = not_begun o old new h.1
 not_opened o old new (Err NoMem) e h = not_begun o old new h.1
 
 -- The session is open, and awaits input.
-pub begun : (o : Outside) (old new : State) (r : Result ⊤ OpenRefusal) → is_err r ≡ false → OpenGives old 1 r new → old.sessions ≡ [] → Awaits new × ((c : Course old o o new) × (c.failed ≡ false) × (0 ≤ length (all_fed 1 c.done)))
-begun o old new (Ok u) e h none = let g = by_opening o old new none h.0 in (opened_awaits old new none h.0 h.1, (g.0, g.1, omega arith))
+pub begun : (o : Outside) (old new : State) (r : Result ⊤ OpenRefusal) → is_err r ≡ false → OpenGives old 1 r new
+    → old.sessions ≡ [] → Awaits new × ((c : Course old o o new) × (c.failed ≡ false)
+    × (0 ≤ length (all_fed 1 c.done)))
+begun o old new (Ok u) e h none = let g = by_opening o old new none h.0 in
+    (opened_awaits old new none h.0 h.1, (g.0, g.1, omega arith))
 begun o old new (Err r) e h none = absurd cc

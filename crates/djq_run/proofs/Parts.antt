@@ -18,13 +18,23 @@ use Rattle.djq_run.specs.Parts.{GoesTo, with_sink}
 use Rattle.djq_run.proofs.Going.{goes_begun, by_line}
 
 -- a write that took some bytes leaves fewer pending
-pub fewer_pending : (n : ℕ) (old new : State) → 1 ≤ n → n ≤ length (pending_of old 1) → Takes old new 1 (take n (pending_of old 1)) → length (pending_of new 1) < length (pending_of old 1)
+pub fewer_pending : (n : ℕ) (old new : State) → 1 ≤ n → n ≤ length (pending_of old 1)
+    → Takes old new 1 (take n (pending_of old 1)) → length (pending_of new 1) < length (pending_of old 1)
 fewer_pending n old new some within t =
-    omega (arith, some, within, ap length t.pending, length-append (take n (pending_of old 1)) (pending_of new 1), length-take n (pending_of old 1))
+    omega (
+      arith,
+      some,
+      within,
+      ap length t.pending,
+      length-append (take n (pending_of old 1))
+          (pending_of new 1),
+      length-take n (pending_of old 1),
+    )
 
 -- A line that was blank or was run: the session stays open, its input hasn't ended, and fewer bytes are held.
 pub record LineRan (old new : State) (before now : Counts) : Type 0 where
-  pub course : (o : Outside) (told : Option (List Write)) (faults : ℕ) → GoesTo false old (with_sink o told faults before) (with_sink o told faults now) new
+  pub course : (o : Outside) (told : Option (List Write)) (faults : ℕ)
+      → GoesTo false old (with_sink o told faults before) (with_sink o told faults now) new
   pub is_open : IsOpen new 1
   pub input : cause_of new 1 ≡ Some Input → ⊥
   pub fewer : length (held_of new 1) < length (held_of old 1)
@@ -55,7 +65,8 @@ line_ran old new before now there pending (l, inr m) =
 
 -- A step that ran no line: the session has ended by this cause, before it or by it.
 pub record LineEnded (c : EndCause) (old new : State) (before now : Counts) : Type 0 where
-  pub course : (o : Outside) (told : Option (List Write)) (faults : ℕ) → GoesTo false old (with_sink o told faults before) (with_sink o told faults now) new
+  pub course : (o : Outside) (told : Option (List Write)) (faults : ℕ)
+      → GoesTo false old (with_sink o told faults before) (with_sink o told faults now) new
   pub is_open : IsOpen new 1
   pub cause : cause_of new 1 ≡ Some c
   pub input : c ≡ Input → cause_of old 1 ≡ Some Input
@@ -85,8 +96,10 @@ ended_before c old new before now None e there pending h = ended_by c old new be
 ended_before c old new before now (Some d) e there pending h =
     let same : cause_of old 1 ≡ Some c = e ∙ ap (λ k. Some k) h.0 in
     record {
-      course = λ o told faults. subst (λ (st : State). GoesTo false old (with_sink o told faults before) (with_sink o told faults now) st) (sym h.1)
-          (subst (λ (k : Counts). GoesTo false old (with_sink o told faults before) (with_sink o told faults k) old) (sym h.2) (goes_begun (with_sink o told faults before) old));
+      course = λ o told faults. subst (λ (st : State). GoesTo false old (with_sink o told faults before)
+          (with_sink o told faults now) st) (sym h.1)
+          (subst (λ (k : Counts). GoesTo false old (with_sink o told faults before) (with_sink o told faults k) old)
+          (sym h.2) (goes_begun (with_sink o told faults before) old));
       is_open = subst (λ (st : State). IsOpen st 1) (sym h.1) there;
       cause = ap (λ (st : State). cause_of st 1) h.1 ∙ same;
       input = λ i. same ∙ ap (λ k. Some k) i;

@@ -23,7 +23,8 @@ HasFailedWrite status before now start state ends earlier failed later =
 -- many flushes. And what they wrote, and then what the failed write was offered, is all that was
 -- queued.
 pub record BreaksOff (status : Status) (before now : Outside) (start state : State)
-    (ends : RunEnds status before now start state) (earlier : List Write) (failed : Write) (later : List Write) : Type 0 where
+    (ends : RunEnds status before now start state) (earlier : List Write) (failed : Write)
+    (later : List Write) : Type 0 where
   pub last : later ≡ []
   pub is : status ≡ WriteFault
   pub does : Does start ends.course.done earlier state
@@ -31,7 +32,8 @@ pub record BreaksOff (status : Status) (before now : Outside) (start state : Sta
 
 -- **A write that fails ends the run.**
 abbrev pub FailedWriteIsLast : Type 0
-FailedWriteIsLast = (status : Status) (before now : Outside) (start state : State) (ends : RunEnds status before now start state)
+FailedWriteIsLast = (status : Status) (before now : Outside) (start state : State)
+    (ends : RunEnds status before now start state)
     → (earlier : List Write) (failed : Write) (later : List Write)
     → HasFailedWrite status before now start state ends earlier failed later → start.sessions ≡ []
     → BreaksOff status before now start state ends earlier failed later

@@ -71,11 +71,14 @@ no_addr rows none = none_asked rows (λ addr n given turns. absurd (none_some (s
 pub turns_spelled : (text : Text) (n : ℕ) (o : Option Text) → o ≡ Some text → Spells 64 text n → TurnsAre o n
 turns_spelled text n o e h = subst (λ (k : Option Text). TurnsAre k n) (sym e) h
 
-pub turns_unspelled : (rows : List Row) (text : Text) → first_of (codes "turns") rows ≡ Some text → ReadsAs text None → ServeAsked rows None
-turns_unspelled rows text given h = none_asked rows (λ addr n is turns. h n (subst (λ (k : Option Text). TurnsAre k n) given turns))
+pub turns_unspelled : (rows : List Row) (text : Text) → first_of (codes "turns") rows ≡ Some text → ReadsAs text None
+    → ServeAsked rows None
+turns_unspelled rows text given h = none_asked rows (λ addr n is turns. h n
+    (subst (λ (k : Option Text). TurnsAre k n) given turns))
 
 -- what `gen` was given asks for nothing
-pub gen_asks_none : (rows : List Row) → ((n seed : ℕ) → IsGiven (first_of (codes "N") rows) n → IsGiven (first_of (codes "SEED") rows) seed → ⊥) → GenAsked rows None
+pub gen_asks_none : (rows : List Row) → ((n seed : ℕ) → IsGiven (first_of (codes "N") rows) n
+    → IsGiven (first_of (codes "SEED") rows) seed → ⊥) → GenAsked rows None
 gen_asks_none rows h Run asks = gen_not_run asks
 gen_asks_none rows h (Serve addr n) asks = serve_not_gen (sym asks.0)
 gen_asks_none rows h Replay asks = gen_not_replay asks
@@ -84,17 +87,21 @@ gen_asks_none rows h (Gen n seed) asks = h n seed asks.1 asks.2
 pub none_read : (o : Option Text) → o ≡ None → IsRead o None
 none_read o e n h = subst (λ (k : Option Text). IsGiven k n) e h
 
-pub number_read : (text : Text) (n : ℕ) (o : Option Text) → o ≡ Some text → Spells 64 text n → n < 2 ^ 32 → IsRead o (Some n)
+pub number_read : (text : Text) (n : ℕ) (o : Option Text) → o ≡ Some text → Spells 64 text n → n < 2 ^ 32
+    → IsRead o (Some n)
 number_read text n o e h few = subst (λ (k : Option Text). IsGiven k n) (sym e) (few, h.1)
 
 pub number_unread : (text : Text) (o : Option Text) → o ≡ Some text → ReadsAs text None → IsRead o None
-number_unread text o e h n given = let g = subst (λ (k : Option Text). IsGiven k n) e given in h n (omega (arith, g.0), g.1)
+number_unread text o e h n given = let g = subst (λ (k : Option Text). IsGiven k n) e given in
+    h n (omega (arith, g.0), g.1)
 
 -- a text spells one number
 pub one_number : (text : Text) (m n : ℕ) → Spells 64 text m → Spells 64 text n → m ≡ n
-one_number text m n h k = sym (decimal_is_IsNumeral m h.0).1 ∙ ap (λ (t : Text). digits_value 10 t) (sym h.1 ∙ k.1) ∙ (decimal_is_IsNumeral n k.0).1
+one_number text m n h k = sym (decimal_is_IsNumeral m h.0).1 ∙ ap (λ (t : Text). digits_value 10 t) (sym h.1 ∙ k.1)
+    ∙ (decimal_is_IsNumeral n k.0).1
 
-pub number_large : (text : Text) (n : ℕ) (o : Option Text) → o ≡ Some text → Spells 64 text n → (n < 2 ^ 32 → ⊥) → IsRead o None
+pub number_large : (text : Text) (n : ℕ) (o : Option Text) → o ≡ Some text → Spells 64 text n → (n < 2 ^ 32 → ⊥)
+    → IsRead o None
 number_large text n o e h large k given =
     let g = subst (λ (i : Option Text). IsGiven i k) e given in
     let same : k ≡ n = one_number text k n (omega (arith, g.0), g.1) h in
@@ -102,19 +109,24 @@ number_large text n o e h large k given =
 
 -- decimal digits have no sign before them
 unsigned : (n : ℕ) → n < 2 ^ 64 → without_leading_plus (decimal n) ≡ decimal n
-unsigned zero h = without_leading_plus_none (decimal 0) (λ e. let d = ap (λ (t : Text). get_or t 0 0) (decimal_digit 0 (omega arith)) in absurd (omega (arith, d, e)))
-unsigned (suc n) h = without_leading_plus_none (decimal (suc n)) (λ e. let d = first_decimal (suc n) (omega arith) h in absurd (omega (arith, d, e)))
+unsigned zero h = without_leading_plus_none (decimal 0) (λ e. let d =
+    ap (λ (t : Text). get_or t 0 0) (decimal_digit 0 (omega arith)) in absurd (omega (arith, d, e)))
+unsigned (suc n) h = without_leading_plus_none (decimal (suc n))
+    (λ e. let d = first_decimal (suc n) (omega arith) h in absurd (omega (arith, d, e)))
 
 -- What a text spells is what it is parsed as.
-numeral : (text : Text) (n : ℕ) → Spells 64 text n → IsNumeral 10 (without_leading_plus text) × (digits_value 10 (without_leading_plus text) ≡ n)
+numeral : (text : Text) (n : ℕ) → Spells 64 text n → IsNumeral 10 (without_leading_plus text)
+    × (digits_value 10 (without_leading_plus text) ≡ n)
 numeral text n h =
     let same : without_leading_plus text ≡ decimal n = ap (λ (t : Text). without_leading_plus t) h.1 ∙ unsigned n h.0 in
     subst (λ (t : Text). IsNumeral 10 t × (digits_value 10 t ≡ n)) (sym same) (decimal_is_IsNumeral n h.0)
 
-pub not_parsed : (text : Text) (error : ParseIntError) → ParsesUnsigned {E = ParseIntError} 64 10 text (Err error) → ReadsAs text None
+pub not_parsed : (text : Text) (error : ParseIntError) → ParsesUnsigned {E = ParseIntError} 64 10 text (Err error)
+    → ReadsAs text None
 not_parsed text error h n spells = let t = numeral text n spells in h (t.0, omega (arith, t.1, spells.0))
 
-pub not_spelled : (text : Text) (m : ℕ) → ParsesUnsigned {E = ParseIntError} 64 10 text (Ok m) → text ≢ decimal m → ReadsAs text None
+pub not_spelled : (text : Text) (m : ℕ) → ParsesUnsigned {E = ParseIntError} 64 10 text (Ok m) → text ≢ decimal m
+    → ReadsAs text None
 not_spelled text m h other n spells =
     let t = numeral text n spells in
     let same : n ≡ m = sym t.1 ∙ sym h.1 in

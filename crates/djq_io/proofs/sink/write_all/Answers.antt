@@ -13,6 +13,7 @@ loop-at-preserved g c =
     let takes = rw rest at c.in-Took.ensures.takes in
     record {
       within = omega (arith, length-drop at piece, takes.1);
-      gained = rw take-add (writes_more _ _ _ (take at piece) (drop at piece) c.in-Took.n c.loop-at.invariant.gained (rw rest at c.in-Took.ensures.told));
+      gained = rw take-add (writes_more _ _ _ (take at piece) (drop at piece) c.in-Took.n c.loop-at.invariant.gained
+          (rw rest at c.in-Took.ensures.told));
       faults = cc (c.in-Took.ensures.faults);
     }

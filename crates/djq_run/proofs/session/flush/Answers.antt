@@ -16,15 +16,18 @@ writes-smaller g c =
     let state = g.M.Machine.state in
     let same = c.pending-in-writes.ensures in
     let takes = c.in-Took.ensures.takes in
-    let within : c.in-Took.count ≤ length (pending_of (state c.writes.machine) 1) = omega (arith, takes.1, ap length same) in
-    fewer_pending c.in-Took.count (state c.writes.machine) (state c.took.new.self) takes.0 within (took_facts _ 1 _ c.took.ensures.effect _ c.took.ensures.step)
+    let within : c.in-Took.count ≤ length (pending_of (state c.writes.machine) 1) =
+    omega (arith, takes.1, ap length same) in
+    fewer_pending c.in-Took.count (state c.writes.machine) (state c.took.new.self) takes.0 within
+    (took_facts _ 1 _ c.took.ensures.effect _ c.took.ensures.step)
 
 pub writes-preserved : goal.writes-preserved
 writes-preserved g c =
     let state = g.M.Machine.state in
     let same = c.pending-in-writes.ensures in
     let takes = c.in-Took.ensures.takes in
-    let t : Takes (state c.writes.machine) (state c.took.new.self) 1 (take c.in-Took.count (pending_of (state c.writes.machine) 1)) =
+    let t : Takes (state c.writes.machine) (state c.took.new.self) 1
+    (take c.in-Took.count (pending_of (state c.writes.machine) 1)) =
     took_facts _ 1 _ c.took.ensures.effect _ c.took.ensures.step in
     record {
       is_open = t.stays;
@@ -39,7 +42,8 @@ writes-preserved g c =
 pub returns-in-Failed : goal.returns-in-Failed
 returns-in-Failed g c =
     record {
-      course = λ o. goes_then _ _ _ _ _ _ _ (c.writes.invariant.course o) (by_fault o _ _ _ _ _ _ c.pending-in-writes.ensures c.in-Failed.ensures.told);
+      course = λ o. goes_then _ _ _ _ _ _ _ (c.writes.invariant.course o)
+          (by_fault o _ _ _ _ _ _ c.pending-in-writes.ensures c.in-Failed.ensures.told);
       is_open = c.writes.invariant.is_open;
       held = c.writes.invariant.held;
       cause = c.writes.invariant.cause;

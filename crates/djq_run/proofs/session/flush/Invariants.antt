@@ -13,7 +13,8 @@ invariant-writes g l =
     let faults = g.K.Sink.faults in
     record {
       is_open : IsOpen (state l.machine) 1;
-      course : (o : Outside) → GoesTo false (state l.fn.machine) (with_sink o (told l.fn.sink) (faults l.fn.sink) o.counted)
+      course : (o : Outside) → GoesTo false (state l.fn.machine)
+          (with_sink o (told l.fn.sink) (faults l.fn.sink) o.counted)
           (with_sink o (told l.sink) (faults l.sink) o.counted) (state l.machine);
       held : held_of (state l.machine) 1 ≡ held_of (state l.fn.machine) 1;
       cause : cause_of (state l.machine) 1 ≡ cause_of (state l.fn.machine) 1;

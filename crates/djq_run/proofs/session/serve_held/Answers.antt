@@ -44,11 +44,15 @@ returns-in-Dry-clause-course g c o =
     let told = g.K.Sink.told in
     let faults = g.K.Sink.faults in
     let before = counts c.lines.steps.listing c.lines.steps.update c.lines.steps.rows in
-    let entry = with_sink o (told c.args.sink.now) (faults c.args.sink.now) (counts c.args.steps.now.listing c.args.steps.now.update c.args.steps.now.rows) in
+    let entry = with_sink o (told c.args.sink.now) (faults c.args.sink.now)
+    (counts c.args.steps.now.listing c.args.steps.now.update c.args.steps.now.rows) in
     let flushed = c.lines-test.ensures in
     let dry = c.in-Dry.ensures in
-    subst (λ (st : State). GoesTo false (state c.args.machine.now) entry (with_sink o (told c.flush.new.sink) (faults c.flush.new.sink) (counts c.step.new.steps.listing c.step.new.steps.update c.step.new.steps.rows)) st) (sym dry.0)
-    (subst (λ (k : Counts). GoesTo false (state c.args.machine.now) entry (with_sink o (told c.flush.new.sink) (faults c.flush.new.sink) k) (state c.flush.new.machine)) (sym dry.1)
+    subst (λ (st : State). GoesTo false (state c.args.machine.now) entry
+    (with_sink o (told c.flush.new.sink) (faults c.flush.new.sink)
+    (counts c.step.new.steps.listing c.step.new.steps.update c.step.new.steps.rows)) st) (sym dry.0)
+    (subst (λ (k : Counts). GoesTo false (state c.args.machine.now) entry
+    (with_sink o (told c.flush.new.sink) (faults c.flush.new.sink) k) (state c.flush.new.machine)) (sym dry.1)
     (goes_then _ _ _ _ _ _ _ (c.lines.invariant.course o) (flushed.course (record o { counted = before }))))
 
 pub flush-requires-in-Ended : goal.flush-requires-in-Ended

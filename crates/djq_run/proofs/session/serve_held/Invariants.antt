@@ -14,8 +14,10 @@ invariant-lines g l =
     record {
       is_open : IsOpen (state l.machine) 1;
       course : (o : Outside) → GoesTo false (state l.fn.machine)
-          (with_sink o (told l.fn.sink) (faults l.fn.sink) (counts l.fn.steps.listing l.fn.steps.update l.fn.steps.rows))
-          (with_sink o (told l.sink) (faults l.sink) (counts l.steps.listing l.steps.update l.steps.rows)) (state l.machine);
+          (with_sink o (told l.fn.sink) (faults l.fn.sink)
+          (counts l.fn.steps.listing l.fn.steps.update l.fn.steps.rows))
+          (with_sink o (told l.sink) (faults l.sink) (counts l.steps.listing l.steps.update l.steps.rows))
+          (state l.machine);
       input : cause_of (state l.machine) 1 ≡ Some Input → cause_of (state l.fn.machine) 1 ≡ Some Input;
       same : faults l.sink ≡ faults l.fn.sink;
     }

@@ -29,15 +29,19 @@ returns-in-Got g c =
     let new = state c.serve_held.new.machine in
     let before = counts c.args.steps.now.listing c.args.steps.now.update c.args.steps.now.rows in
     let now = counts c.serve_held.new.steps.listing c.serve_held.new.steps.update c.serve_held.new.steps.rows in
-    let o = outside (told c.args.source.now) (rf c.args.source.now) (wrote c.args.sink.now) (wf c.args.sink.now) before in
-    let mid_o = outside (told c.read.new.self) (rf c.read.new.self) (wrote c.args.sink.now) (wf c.args.sink.now) before in
-    let o' = outside (told c.read.new.self) (rf c.read.new.self) (wrote c.serve_held.new.sink) (wf c.serve_held.new.sink) now in
+    let o = outside (told c.args.source.now) (rf c.args.source.now) (wrote c.args.sink.now)
+    (wf c.args.sink.now) before in
+    let mid_o = outside (told c.read.new.self) (rf c.read.new.self) (wrote c.args.sink.now)
+    (wf c.args.sink.now) before in
+    let o' = outside (told c.read.new.self) (rf c.read.new.self) (wrote c.serve_held.new.sink)
+    (wf c.serve_held.new.sink) now in
     let reads = c.in-Got.ensures.reads in
     let bytes = take c.in-Got.count c.read.new.buf in
     let some : 0 < length bytes = omega (arith, length-take c.in-Got.count c.read.new.buf, reads.0, reads.1) in
     let few : length bytes ≤ READ_BYTES = omega (arith, length-take c.in-Got.count c.read.new.buf, reads.1, c.read.auto.buf, c.requires.most) in
     let m = c.feed.ensures.makes in
-    let piece = by_piece (told c.args.source.now) (told c.read.new.self) (rf c.args.source.now) (rf c.read.new.self) (wrote c.args.sink.now) (wf c.args.sink.now) before old mid bytes c.requires.awaits some few reads.2 m in
+    let piece = by_piece (told c.args.source.now) (told c.read.new.self) (rf c.args.source.now) (rf c.read.new.self)
+    (wrote c.args.sink.now) (wf c.args.sink.now) before old mid bytes c.requires.awaits some few reads.2 m in
     subst (λ (s : Option Status). ReadEnds s o o' old new) (sym c.status.ensures)
     (piece_ends c.serve_held.result o mid_o o' old mid new bytes piece (c.serve_held.ensures.course mid_o) c.requires.awaits (fed_facts old 1 bytes m.effect mid m.step)
     c.serve_held.ensures.serves some c.in-Got.ensures.faults c.serve_held.ensures.faults)
@@ -54,14 +58,18 @@ returns-then-flush g c =
     let mid = state c.end_session.new.self in
     let new = state c.flush.new.machine in
     let counted = counts c.args.steps.now.listing c.args.steps.now.update c.args.steps.now.rows in
-    let o = outside (told c.args.source.now) (rf c.args.source.now) (wrote c.args.sink.now) (wf c.args.sink.now) counted in
-    let mid_o = outside (told c.read.new.self) (rf c.read.new.self) (wrote c.args.sink.now) (wf c.args.sink.now) counted in
-    let o' = outside (told c.read.new.self) (rf c.read.new.self) (wrote c.flush.new.sink) (wf c.flush.new.sink) counted in
+    let o = outside (told c.args.source.now) (rf c.args.source.now) (wrote c.args.sink.now)
+    (wf c.args.sink.now) counted in
+    let mid_o = outside (told c.read.new.self) (rf c.read.new.self) (wrote c.args.sink.now)
+    (wf c.args.sink.now) counted in
+    let o' = outside (told c.read.new.self) (rf c.read.new.self) (wrote c.flush.new.sink)
+    (wf c.flush.new.sink) counted in
     let reads = c.in-End.ensures.reads in
     let m = c.end_session.ensures in
     let at_end = still_at_end (told c.args.source.now) (told c.read.new.self) reads.0 reads.1 in
     let flushed = c.if-flush.ensures in
-    let first = by_end (told c.args.source.now) (told c.read.new.self) (rf c.args.source.now) (rf c.read.new.self) (wrote c.args.sink.now) (wf c.args.sink.now) counted old mid reads.1 c.requires.awaits m in
+    let first = by_end (told c.args.source.now) (told c.read.new.self) (rf c.args.source.now) (rf c.read.new.self)
+    (wrote c.args.sink.now) (wf c.args.sink.now) counted old mid reads.1 c.requires.awaits m in
     let whole = goes_then o mid_o o' old mid new false first (flushed.course mid_o) in
     record {
       course = whole.0;
@@ -84,14 +92,18 @@ returns-else-flush g c =
     let mid = state c.end_session.new.self in
     let new = state c.flush.new.machine in
     let counted = counts c.args.steps.now.listing c.args.steps.now.update c.args.steps.now.rows in
-    let o = outside (told c.args.source.now) (rf c.args.source.now) (wrote c.args.sink.now) (wf c.args.sink.now) counted in
-    let mid_o = outside (told c.read.new.self) (rf c.read.new.self) (wrote c.args.sink.now) (wf c.args.sink.now) counted in
-    let o' = outside (told c.read.new.self) (rf c.read.new.self) (wrote c.flush.new.sink) (wf c.flush.new.sink) counted in
+    let o = outside (told c.args.source.now) (rf c.args.source.now) (wrote c.args.sink.now)
+    (wf c.args.sink.now) counted in
+    let mid_o = outside (told c.read.new.self) (rf c.read.new.self) (wrote c.args.sink.now)
+    (wf c.args.sink.now) counted in
+    let o' = outside (told c.read.new.self) (rf c.read.new.self) (wrote c.flush.new.sink)
+    (wf c.flush.new.sink) counted in
     let reads = c.in-End.ensures.reads in
     let m = c.end_session.ensures in
     let at_end = still_at_end (told c.args.source.now) (told c.read.new.self) reads.0 reads.1 in
     let flushed = c.if-flush.ensures in
-    let first = by_end (told c.args.source.now) (told c.read.new.self) (rf c.args.source.now) (rf c.read.new.self) (wrote c.args.sink.now) (wf c.args.sink.now) counted old mid reads.1 c.requires.awaits m in
+    let first = by_end (told c.args.source.now) (told c.read.new.self) (rf c.args.source.now) (rf c.read.new.self)
+    (wrote c.args.sink.now) (wf c.args.sink.now) counted old mid reads.1 c.requires.awaits m in
     let whole = goes_then o mid_o o' old mid new true first (flushed.course mid_o) in
     record {
       course = whole.0;
@@ -107,5 +119,6 @@ returns-in-Failed g c =
     let wrote = g.K.Sink.told c.args.sink.now in
     let wf = g.K.Sink.faults c.args.sink.now in
     let counted = counts c.args.steps.now.listing c.args.steps.now.update c.args.steps.now.rows in
-    let none = by_failure (told c.args.source.now) (told c.read.new.self) (rf c.args.source.now) (rf c.read.new.self) wrote wf counted (g.M.Machine.state c.args.machine.now) c.in-Failed.ensures.reads in
+    let none = by_failure (told c.args.source.now) (told c.read.new.self) (rf c.args.source.now)
+    (rf c.read.new.self) wrote wf counted (g.M.Machine.state c.args.machine.now) c.in-Failed.ensures.reads in
     record { course = none.0; failed = none.1; goes_on = (c.requires.awaits, c.in-Failed.ensures.faults, refl) }

@@ -13,5 +13,6 @@ returns-in_default c = not_parsed c.args.text.now c.in_default.field-0 c.in_defa
 pub returns-else-eq : goal.returns-else-eq
 returns-else-eq c =
     let equal = slice_eq-Decides Decides-eqb c.format.result.now c.args.text.now c.eq.result c.eq.ensures in
-    let other : c.args.text.now ≢ decimal c.in-Ok.number = λ e. let yes = equal.1 (c.format.ensures.text ∙ sym e) in let no = c.if-eq.false in cc in
+    let other : c.args.text.now ≢ decimal c.in-Ok.number = λ e. let yes = equal.1 (c.format.ensures.text ∙ sym e) in
+    let no = c.if-eq.false in cc in
     not_spelled c.args.text.now c.in-Ok.number c.in-Ok.ensures.value.0 other

@@ -24,7 +24,9 @@ returns-in-Some-number_in c =
     let f = found_of c.args.given.now in
     let given = sym (first_value-rows f (codes "ADDR")) ∙ sym c.get_str.ensures ∙ ap (λ (o : Option (Bor (List ℕ))). option_map (λ s. s.now) o) c.in_ok-addr.was in
     let spelled = sym (first_value-rows f (codes "turns")) ∙ sym c.get_str-2.ensures ∙ ap (λ (o : Option (Bor (List ℕ))). option_map (λ s. s.now) o) c.in-Some.is in
-    (refl, given, turns_spelled c.in-Some.text.now c.in-Some-number_in.turns (first_of (codes "turns") (rows_of f)) spelled c.in-Some-number_in.ensures)
+    let text = c.in-Some.text.now in
+    let turns = turns_spelled text _ (first_of (codes "turns") (rows_of f)) spelled c.in-Some-number_in.ensures in
+    (refl, given, turns)
 
 pub returns-in-None : goal.returns-in-None
 returns-in-None c =
