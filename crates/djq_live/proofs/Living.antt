@@ -14,7 +14,7 @@ use Rattle.djq_lines.specs.declared.answer.Sign.TheVariants.{Came as HasCome, We
 use Rattle.djq_machine.specs.Delta.{Change}
 use Rattle.djq_machine.specs.Store.{most_steps}
 use Rattle.djq_tree.specs.Tree.{Tree}
-use Rattle.djq_reduct.specs.Reducts.{Reducts}
+use Rattle.djq_reduct.specs.Reducts.{Reducts, SameTables}
 use Rattle.djq_cursor.specs.Listing.{IsListing}
 use Rattle.djq_cursor.specs.Changed.{IsGained}
 use Rattle.djq_cursor.specs.Log.{Log}
@@ -60,6 +60,7 @@ use Rattle.djq_live.proofs.Rowing.{
   added_kept,
   lost_kept,
   back_kept,
+  back_tables,
 }
 use Rattle.djq_live.proofs.Parting.{
   IsPart,
@@ -208,6 +209,22 @@ given_back l self s t at cells atoms ps k e a p can gains loses = λ c h.
     (outside (λ x y. ChangesBelow (λ q old new. Loses q cells old new) at x y k s t) atoms
     (l.numbered).atoms ps l.patterns a p loses)
     (subst (λ (x : Live). IsKept c x) (sym e) h)
+
+pub tables_back : (l self : Live) (s t : Reducts) (at : ℕ) (cells : List ℕ)
+    (atoms : List NumberedAtom) (ps : List Shape) (k : ℕ) → l ≡ self
+    → atoms ≡ (l.numbered).atoms → ps ≡ l.patterns → CanAdd l at cells
+    → ChangesBelow (λ p old new. Gains p cells old new) at atoms ps k l.reducts s
+    → ChangesBelow (λ p old new. Loses p cells old new) at atoms ps k s t
+    → SameTables self.reducts t
+tables_back l self s t at cells atoms ps k e a p can gains loses =
+    subst (λ (x : Live). SameTables x.reducts t) e
+    (back_tables can.before l s t at cells k
+    (add_lacks l at cells (l.numbered).atoms l.patterns refl refl can)
+    (outside (λ x y. ChangesBelow (λ q old new. Gains q cells old new) at x y k l.reducts s) atoms
+    (l.numbered).atoms ps l.patterns a p gains)
+    (outside (λ x y. ChangesBelow (λ q old new. Loses q cells old new) at x y k s t) atoms
+    (l.numbered).atoms ps l.patterns a p loses)
+    can.kept)
 
 -- ---- what answers show
 
