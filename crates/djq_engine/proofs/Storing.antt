@@ -69,8 +69,9 @@ pub all_stay : LiveStays → (c d : Catalog) (gs : List (Option Live)) (order : 
 all_stay law c d gs order readers s h i l e = law c d l h (s.live i l e)
 
 pub lacks_of : (at : ℕ) (row : Tuple) (old new : Parts) (r : InternRefusal) → InternsRow (old.catalog).texts row (Err r) (new.catalog).texts → (new.catalog).relations ≡ (old.catalog).relations → new.queries.items ≡ old.queries.items
+    → new.logs.items ≡ old.logs.items
     → ((i : ℕ) (l : Live) → place_at old.queries.items i ≡ Some l → StaysOver old.catalog new.catalog l) → Lacks at row old new r
-lacks_of at row old new TextsFull h e q stay = record {
+lacks_of at row old new TextsFull h e q logs stay = record {
   finds = record {
     first = h.1.first;
     next = h.1.next;
@@ -81,8 +82,9 @@ lacks_of at row old new TextsFull h e q stay = record {
     full = h.1.full;
   };
   rests = record { queries = q; relations = e; stay = stay };
+  logs = logs;
 }
-lacks_of at row old new NoMemForTexts h e q stay = record {
+lacks_of at row old new NoMemForTexts h e q logs stay = record {
   learns = record { first = h.first; rest = h.rest; parts = h.parts; learned = h.learned };
   relations = e;
   carries = subst (λ (hs : List (Option Live)). Carries (readers_at old.readers.items at) old.catalog old.queries.items new.catalog hs) (sym q)

@@ -1,5 +1,5 @@
 -- What the parts of a change of rows do.
-use Rattle.std.specs.Prelude.{ℕ, List, [], ◌∷◌, ◌++◌, ◌+◌, ◌≡◌, ◌<◌, ◌≤◌, true, false, Option, Some, length, map, sum_by, ⊤}
+use Rattle.std.specs.Prelude.{ℕ, List, [], ◌∷◌, ◌++◌, ◌+◌, ◌≡◌, ◌<◌, ◌≤◌, ◌&&◌, Bool, true, false, Option, Some, length, map, sum_by, ⊤}
 use Rattle.djq_model.specs.Data.{Bytes, Tuple, has_row, without_row}
 use Rattle.djq_model.specs.declared.relation.Relation.{Relation}
 use Rattle.djq_model.specs.Answer.{IsAnswer}
@@ -88,10 +88,11 @@ pub record LacksMemory (at : ℕ) (row : Tuple) (old new : Parts) : Type 0 where
   pub relations : (new.catalog).relations ≡ (old.catalog).relations
   pub carries : CarriesReaders at old new
 
--- The relations and the queries are as before.
+-- The relations, the queries and the logs are as before.
 pub record LacksPlace (row : Tuple) (old new : Parts) : Type 0 where
   pub finds : FindsNoPlace (old.catalog).texts (texts_in row) (new.catalog).texts
   pub rests : RestsOver old new
+  pub logs : new.logs.items ≡ old.logs.items
 
 abbrev pub Lacks : ℕ → Tuple → Parts → Parts → InternRefusal → Type 0
 Lacks at row old new Full = LacksPlace row old new
@@ -123,6 +124,18 @@ abbrev pub DeltasWith : ℕ → List Tuple → Parts → (ℕ → List Change) �
 DeltasWith at rows old f = (i : ℕ) (l : Live)
     → is_reader (readers_at old.readers.items at) i ≡ true → watched_at old.watchers.items i ≡ true
     → place_at old.queries.items i ≡ Some l → IsDeltaWith at rows (old.catalog).relations l (f i)
+
+-- The logs of queries are as before, but for those in places that are reached.
+abbrev pub KeepsLogs : (ℕ → Bool) → Parts → Parts → Type 0
+KeepsLogs reached old new = (i : ℕ) (l : Live) → place_at old.queries.items i ≡ Some l
+    → reached i ≡ false → log_at new.logs.items i ≡ log_at old.logs.items i
+
+-- whether the query in a place reads the relation, and whether it is watched too
+abbrev pub reads_at : Parts → ℕ → ℕ → Bool
+reads_at p at i = is_reader (readers_at p.readers.items at) i
+
+abbrev pub tells_at : Parts → ℕ → ℕ → Bool
+tells_at p at i = reads_at p at i && watched_at p.watchers.items i
 
 -- What listing them counts at most, whatever deltas they have.
 abbrev pub CountsRows : ℕ → List Tuple → Parts → ℕ → ℕ → Type 0

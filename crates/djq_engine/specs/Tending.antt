@@ -1,11 +1,11 @@
 -- What a change does to the logs of the queries that read its relation, and what listing counts.
-use Rattle.std.specs.Prelude.{ℕ, List, [], ◌≡◌, ◌≤◌, ◌+◌, ◌⊎◌, Bool, true, false, Option, None, Some, if◌then◌else◌, length, map, sum_by, All, ⊤}
+use Rattle.std.specs.Prelude.{ℕ, List, [], ◌≡◌, ◌<◌, ◌≤◌, ◌+◌, ◌⊎◌, Bool, true, false, Option, None, Some, if◌then◌else◌, length, map, sum_by, All, ⊤}
 use Rattle.djq_model.specs.Data.{Bytes, Tuple}
 use Rattle.djq_machine.specs.Delta.{Change}
 use Rattle.djq_cursor.specs.Log.{Log}
 use Rattle.djq_rows.specs.Catalog.{Catalog}
 use Rattle.djq_live.specs.Live.{Live, IsKept, IsShowable}
-use Rattle.djq_live.specs.Updating.{change_of, IsDeltaOf, delta_bound}
+use Rattle.djq_live.specs.Updating.{change_of, IsDeltaOf, IsEmpty, delta_bound}
 use Rattle.djq_engine.specs.Places.{place_at, is_reader, log_at, watched_at}
 use Rattle.djq_engine.specs.Reaching.{AllAt}
 
@@ -54,6 +54,16 @@ pub record Tends (places : List ℕ) (Does : ℕ → Live → Log → Log → Ty
   pub long : length new ≡ length old
   pub each : (i : ℕ) → TendedAt (Does i) (is_reader places i) (place_at gs i) (log_at old i)
       (log_at new i)
+
+-- each of these places has a log
+abbrev pub HaveLogs : List ℕ → List Log → Type 0
+HaveLogs places logs = (i : ℕ) → is_reader places i ≡ true → i < length logs
+
+-- The logs in these places are emptied, and no other changes.
+pub record Empties (places : List ℕ) (old new : List Log) : Type 0 where
+  pub long : length new ≡ length old
+  pub emptied : (i : ℕ) → is_reader places i ≡ true → IsEmpty (log_at new i)
+  pub others : (i : ℕ) → is_reader places i ≡ false → log_at new i ≡ log_at old i
 
 -- These are deltas of the queries in these places that are watched.
 abbrev pub DeltasOf :

@@ -168,8 +168,9 @@ impl Engine {
         affected_in(&self.parts, nth)
     }
 
-    /// How many answers of a query came or went with the last change of a relation that it reads.
-    /// `None` where that was lost for want of memory.
+    /// How many answers of a query came or went with the last change of a relation that it reads,
+    /// while it was watched; 0 once a row was refused there for want of memory. `None` where that
+    /// was lost for want of memory.
     pub fn delta_len(&self, id: QueryId) -> Option<usize>
         requires { IsRegistered self.now id }
         ensures { result ≡ option_map (λ changes. length changes) (told_at self.now id) }
@@ -209,8 +210,8 @@ impl Engine {
     ///
     /// `NoRelation` where none has the name; `Arity` and `WrongType` where the row doesn't suit its
     /// columns; `Limit` where the relation, the number of changes or that of known texts is at its
-    /// limit; `NoMemory` out of memory, and cursors over the relation are stale. Texts that became
-    /// known stay so, and no row has changed.
+    /// limit; `NoMemory` out of memory, and cursors over the relation are stale, and nothing is told
+    /// of the queries that read it. Texts that became known stay so, and no row has changed.
     pub fn add<L: Ledgers>(
         &mut self,
         name: &Name,

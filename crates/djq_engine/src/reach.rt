@@ -5,6 +5,7 @@ ghost use Rattle.djq_live.specs.Changes.{Came, Went};
 ghost use Rattle.djq_live.specs.Updating.{CanAdd, CanDelete, CountsDelta};
 ghost use Rattle.djq_engine.specs.Places.{place_at};
 ghost use Rattle.djq_engine.specs.Tending.{Readies, TellsWhere, Tends, TellsAt, Shows, Costs};
+ghost use Rattle.djq_engine.specs.Tending.{HaveLogs, Empties};
 ghost use Rattle.djq_engine.specs.Sound.{AreOnce};
 ghost use Rattle.djq_engine.specs.Reaching.{Reach, AllAt, CanCome, CanGo};
 ghost use Rattle.djq_engine.specs.Reaching.{TakesIn, LetsOut, Remains, GivesBack, Ages};
@@ -44,13 +45,7 @@ fn take_one<L: Ledgers>(
         query.old relation.at steps.old.listing steps.new.listing }
 {
     ready(log, wanted);
-    match query.add(relation, cells, wanted, log, steps) {
-        Ok(()) => Ok(()),
-        Err(error) => {
-            log.clear();
-            Err(error)
-        }
-    }
+    query.add(relation, cells, wanted, log, steps)
 }
 
 // A query lets out a row that went. Where it is watched, its log tells anew which answers went.
@@ -249,6 +244,16 @@ pub fn let_out<L: Ledgers>(
 {
     for at in 0..places.len() {
         let_at(queries, watchers, logs, places[at], relation, cells, steps);
+    }
+}
+
+/// The logs in these places are emptied.
+pub fn empty_logs(logs: &mut Vec<DeltaLog>, places: &[usize])
+    requires { HaveLogs places.now logs.old.items }
+    ensures { Empties places.now logs.old.items logs.new.items }
+{
+    for at in 0..places.len() {
+        logs[places[at]].clear();
     }
 }
 

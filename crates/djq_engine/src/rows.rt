@@ -14,14 +14,14 @@ ghost use Rattle.djq_engine.specs.Whole.{kept_in, IsWhole, IsTended};
 use crate::change::{drop_cells, put_row};
 use crate::judge::{judge_add, judge_delete};
 use crate::parts::Parts;
-use crate::reach::age;
+use crate::reach::{age, empty_logs};
 use djq_deltas::deltas_exist;
 use djq_dict::InternRefusal;
 use djq_lines::limits::{COLUMNS, RELATIONS};
 use djq_lines::{AddOutcome, DeleteOutcome, Refusal};
-use djq_live::{heads_are_bound, live_stays};
+use djq_live::{heads_are_bound, live_stays, showable_stays};
 use djq_model::{Name, Sequence, Types, Value};
-use djq_rows::{RelationId, names_tell};
+use djq_rows::{RelationId, names_tell, texts_stay};
 use djq_steps::{Ledgers, Steps};
 
 // The open cursors over a relation become stale, by a change of the present number.
@@ -60,6 +60,8 @@ pub fn add_in<L: Ledgers>(
     names_tell();
     deltas_exist();
     heads_are_bound();
+    texts_stay();
+    showable_stays();
     parts.catalog.laws();
     let judged = judge_add(&parts.catalog, name, row, parts.seq, &mut steps.rows)?;
     let Some(id) = judged else {
@@ -69,6 +71,7 @@ pub fn add_in<L: Ledgers>(
         Ok(()) => {}
         Err(InternRefusal::Full) => return Err(Refusal::Limit),
         Err(InternRefusal::NoMem) => {
+            empty_logs(&mut parts.logs, parts.readers[id.at].as_slice());
             age_readers(parts, id, name);
             return Err(Refusal::NoMemory);
         }
@@ -104,6 +107,7 @@ pub fn del_in<L: Ledgers>(
     names_tell();
     deltas_exist();
     heads_are_bound();
+    showable_stays();
     parts.catalog.laws();
     let judged = judge_delete(&parts.catalog, name, row, parts.seq, &mut steps.rows)?;
     let Some(found) = judged else {

@@ -1,12 +1,14 @@
-use Rattle.std.proofs.Common.{◌∙◌, ◌++◌, ◌∷◌, [], ℕ, List, arith, subst, sym}
+use Rattle.std.proofs.Common.{◌∙◌, ◌++◌, ◌∷◌, [], ℕ, List, ap, arith, refl, subst, sym}
+use Rattle.std.specs.Prelude.{◌&&◌}
 use Rattle.djq_model.specs.Data.{Bytes}
 use Rattle.djq_rows.specs.Catalog.{rows_at}
 use Rattle.djq_live.specs.Changes.{Came}
 use Rattle.djq_live.specs.Live.{IsKept}
+use Rattle.djq_engine.specs.Places.{is_reader, watched_at}
 use Rattle.djq_engine.specs.Reaching.{AllAt}
-use Rattle.djq_engine.specs.Tending.{AreShown, Costs, Tends, TellsAt}
+use Rattle.djq_engine.specs.Tending.{AreShown, Costs, Shows, Tends, TellsAt}
 use Rattle.djq_engine.proofs.Carrying.{readers_kept}
-use Rattle.djq_engine.proofs.Tending.{counts_rows, shown_tended, tells_rows}
+use Rattle.djq_engine.proofs.Tending.{counts_rows, shown_tended, tells_rows, tends_apart, tends_quiet}
 use Rattle.djq_engine.proofs.Storing.{
   added_is,
   came,
@@ -176,3 +178,22 @@ returns-in-Err-take_in-clause-shown g c =
     c.as_slice-places.result.now (omega (arith, c.requires.there, c.requires.whole.long)) c.index.ensures c.as_slice-places.ensures))
     (readers_kept old.catalog old.queries.items old.order old.readers.items c.requires.whole c.args.id.at c.requires.there))
     (came old.catalog d c.args.id.at c.requires.there c.args.cells.now row new c.laws.ensures c.laws-2.ensures c.add_row.ensures.texts is c.added_came.ensures) c.add_row.ensures.texts c.take_in.ensures.shows c.requires.tended.shown)
+
+pub returns-in-Err-clause-apart : goal.returns-in-Err-clause-apart
+returns-in-Err-clause-apart g c i l there e = refl
+
+pub returns-in-Ok-take_in-clause-quiet : goal.returns-in-Ok-take_in-clause-quiet
+returns-in-Ok-take_in-clause-quiet g c i l there e =
+    let old = c.args.parts.now in
+    tends_quiet (λ x y. Came x y c.args.id.at c.args.cells.now) old.watchers.items c.as_slice-places.result.now old.queries.items old.logs.items c.take_in.new.logs.items
+    (subst (λ (ws : List ℕ). Tends c.as_slice-places.result.now (TellsAt ws (λ x y. Came x y c.args.id.at c.args.cells.now)) old.queries.items old.logs.items c.take_in.new.logs.items) c.as_slice-watchers.ensures.value
+    c.in-Ok-take_in.ensures.tells) i l there
+    (ap (λ (ps : List ℕ). is_reader ps i && watched_at old.watchers.items i) (places_read old.readers.items c.args.id.at c.index.result.now
+    c.as_slice-places.result.now (omega (arith, c.requires.there, c.requires.whole.long)) c.index.ensures c.as_slice-places.ensures) ∙ e)
+
+pub returns-in-Err-take_in-clause-apart : goal.returns-in-Err-take_in-clause-apart
+returns-in-Err-take_in-clause-apart g c i l there e =
+    let old = c.args.parts.now in
+    tends_apart (Shows (λ x y. Came x y c.args.id.at c.args.cells.now)) c.as_slice-places.result.now old.queries.items old.logs.items c.take_in.new.logs.items c.take_in.ensures.shows i
+    (ap (λ (ps : List ℕ). is_reader ps i) (places_read old.readers.items c.args.id.at c.index.result.now
+    c.as_slice-places.result.now (omega (arith, c.requires.there, c.requires.whole.long)) c.index.ensures c.as_slice-places.ensures) ∙ e)

@@ -1,4 +1,4 @@
-use Rattle.std.proofs.Common.{ℕ, List, ◌+◌, ◌∙◌, ap, arith, sym, subst, rules, ◌≡◌}
+use Rattle.std.proofs.Common.{ℕ, List, ◌+◌, ◌∙◌, ap, arith, refl, sym, subst, rules, ◌≡◌}
 use Rattle.std.specs.Prelude.{Err, Option}
 use Rattle.djq_model.specs.Data.{rows_of, without_row}
 use Rattle.djq_engine.specs.Whole.{kept_in}
@@ -7,7 +7,7 @@ use Rattle.djq_engine.specs.declared.judge.Deletion.{Deletion}
 use Rattle.djq_engine.specs.Judging.{JudgesDelete}
 use Rattle.djq_engine.specs.Changing.{IsOld}
 use Rattle.djq_engine.proofs.Adding.{aged, delete_done, mid_once, mid_there, old_row, same_names}
-use Rattle.djq_engine.proofs.Reporting.{alike_now, delete_refused_tells, deletes_done, registered_now, tells_nothing, tended_now}
+use Rattle.djq_engine.proofs.Reporting.{alike_now, delete_refused_tells, deletes_done, registered_now, tells_nothing, tended_now, told_drop}
 use Rattle.djq_engine.proofs.rows.del_in.Goals as goal
 
 pub age_readers-requires-clause-once : goal.age_readers-requires-clause-once
@@ -70,7 +70,7 @@ returns-in_err-judged-clause-tells g c =
 pub returns-in_default-clause-tells : goal.returns-in_default-clause-tells
 returns-in_default-clause-tells g c =
     let old = c.args.parts.now in
-    tells_nothing (kept_in old) (kept_in old) c.args.name.now (without_row (rows_of old.catalog.relations c.args.name.now) c.args.row.now) c.args.steps.now.listing c.args.steps.now.listing (omega arith)
+    tells_nothing (kept_in old) (kept_in old) c.args.name.now (without_row (rows_of old.catalog.relations c.args.name.now) c.args.row.now) c.args.steps.now.listing c.args.steps.now.listing (omega arith) (λ id h. refl)
 
 pub returns-clause-tended : goal.returns-clause-tended
 returns-clause-tended g c =
@@ -93,6 +93,12 @@ returns-clause-tells g c =
     (old_row c.args.parts.now c.args.name.now c.args.row.now c.in-Some.found (subst (λ (j : Option Deletion). JudgesDelete c.args.parts.now.catalog c.args.name.now c.args.row.now c.args.parts.now.seq j) c.in-Some.is c.in_ok-judged.ensures.ok)))).has.carries
     c.drop_cells.ensures.rest.watchers c.drop_cells.ensures.rest.order c.drop_cells.ensures.rest.long c.age_readers.ensures)
     (c.age_readers.ensures.rest.readers ∙ c.drop_cells.ensures.rest.readers) c.age_readers.ensures.rest.changed
+    c.drop_cells.ensures.quiet
+    (told_drop c.showable_stays.ensures c.args.parts.now c.drop_cells.new.parts c.age_readers.new.parts c.in-Some.found.relation.at c.args.row.now (c.drop_cells.ensures.drops c.args.row.now (subst (λ (cells : List ℕ). IsOld c.args.parts.now.catalog c.in-Some.found.relation.at cells c.args.row.now) (sym c.as_slice.ensures)
+    (old_row c.args.parts.now c.args.name.now c.args.row.now c.in-Some.found (subst (λ (j : Option Deletion). JudgesDelete c.args.parts.now.catalog c.args.name.now c.args.row.now c.args.parts.now.seq j) c.in-Some.is c.in_ok-judged.ensures.ok)))) c.age_readers.ensures.catalog c.requires.tended
+    (alike_now c.args.parts.now (record c.drop_cells.new.parts { seq = c.drop_cells.new.parts.seq + 1; changed = c.in-Some.found.relation.at }) c.age_readers.new.parts c.in-Some.found.relation.at c.args.name.now (c.drop_cells.ensures.drops c.args.row.now (subst (λ (cells : List ℕ). IsOld c.args.parts.now.catalog c.in-Some.found.relation.at cells c.args.row.now) (sym c.as_slice.ensures)
+    (old_row c.args.parts.now c.args.name.now c.args.row.now c.in-Some.found (subst (λ (j : Option Deletion). JudgesDelete c.args.parts.now.catalog c.args.name.now c.args.row.now c.args.parts.now.seq j) c.in-Some.is c.in_ok-judged.ensures.ok)))).has.carries
+    c.drop_cells.ensures.rest.watchers c.drop_cells.ensures.rest.order c.drop_cells.ensures.rest.long c.age_readers.ensures))
     (c.drop_cells.ensures.counted c.args.row.now (subst (λ (cells : List ℕ). IsOld c.args.parts.now.catalog c.in-Some.found.relation.at cells c.args.row.now) (sym c.as_slice.ensures)
     (old_row c.args.parts.now c.args.name.now c.args.row.now c.in-Some.found (subst (λ (j : Option Deletion). JudgesDelete c.args.parts.now.catalog c.args.name.now c.args.row.now c.args.parts.now.seq j) c.in-Some.is c.in_ok-judged.ensures.ok)))) (c.drop_cells.ensures.tells c.args.row.now (subst (λ (cells : List ℕ). IsOld c.args.parts.now.catalog c.in-Some.found.relation.at cells c.args.row.now) (sym c.as_slice.ensures)
     (old_row c.args.parts.now c.args.name.now c.args.row.now c.in-Some.found (subst (λ (j : Option Deletion). JudgesDelete c.args.parts.now.catalog c.args.name.now c.args.row.now c.args.parts.now.seq j) c.in-Some.is c.in_ok-judged.ensures.ok))))
