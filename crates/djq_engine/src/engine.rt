@@ -10,9 +10,10 @@ ghost use Rattle.djq_engine.specs.Kept.{MoreGives, ClosesCursor, IsHeld, IsFresh
 ghost use Rattle.djq_engine.specs.Kept.{AnswerIs, ExplainGives};
 ghost use Rattle.djq_engine.specs.Kept.{registered_of, registered_at, same_query, IsRegistered};
 ghost use Rattle.djq_engine.specs.Kept.{with_watchers, told_at};
+ghost use Rattle.djq_engine.specs.Lending.{LendsQuery};
 ghost use Rattle.djq_engine.specs.Watching.{TellsChange, Enrols};
 
-use crate::asking::{answer_in, explain_in, has_in};
+use crate::asking::{answer_in, explain_in, has_in, live_in};
 use crate::cursor::{CursorId, QueryId};
 use crate::lent::LentAnswer;
 use crate::parts::Parts;
@@ -24,7 +25,7 @@ use crate::watching::{
     query_name_in, unwatch_in, watch_in, watchers_in,
 };
 use djq_lines::{AddOutcome, DeleteOutcome, QueryOutcome, Refusal, Sign};
-use djq_live::Next;
+use djq_live::{LiveQuery, Next};
 use djq_model::{Name, NoMem, Query, Sequence, Types, Value};
 use djq_reduct::Answer;
 use djq_rows::Catalog;
@@ -111,6 +112,15 @@ impl Engine {
         ensures { IsSomeAnd (registered_at self.now.registered id) (λ r. result ≡ r.query.name) }
     {
         query_name_in(&self.parts, id)
+    }
+
+    /// A registered query. Its tables are those of its tree over the rows as they are: they say which
+    /// tuples are its answers. Its cursors stand where those of the engine do.
+    pub fn live(&self, id: QueryId) -> &LiveQuery
+        requires { IsRegistered self.now id }
+        ensures { LendsQuery self.now id result.now }
+    {
+        live_in(&self.parts, id)
     }
 
     /// What holds of an engine between any two calls. It does nothing.
