@@ -105,7 +105,7 @@ module _ (c : Catalog) (gs : List (Option Live)) (order : List ℕ) (readers : L
       (record { fresh = by_progress h.progress h.slot (subst (λ (o : Option Held). IsSomeAnd o (λ x. IsOpenAt x.position)) cursor_found f); fits = (s.live id.query.at h.query h.there).fits id.cursor })
     where
       by_progress : (p : Progress) → slot_at h.query.cursors id.cursor ≡ Some p → IsOpenAt (position_of c.texts h.query p) → live.IsFreshIn h.query id.cursor
-      by_progress (Open cursor ended) e o = (cursor, ended, e)
+      by_progress (Open cursor ended) e o = (cursor, (ended, e))
       by_progress (Stale r n) e o = absurd o
 
   module _ (hs : List (Option Live)) (m : Live) (is : hs ≡ set gs id.query.at (Some m)) where
