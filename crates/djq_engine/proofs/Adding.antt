@@ -165,6 +165,7 @@ module _ (old : Parts) (name : Bytes) (row : Tuple) where
             absent,
             (
               subst (λ (x : Catalog). LearnsFirst (old.catalog).texts (texts_in row) x.texts) (sym same) l.learns,
+              subst (λ (x : Catalog). length x.texts ≤ TEXTS) (sym same) l.many,
               texts_only new (ap (λ (x : Catalog). x.relations) same ∙ l.relations) queries seq,
             ),
           );

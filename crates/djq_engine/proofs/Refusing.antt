@@ -146,11 +146,12 @@ module _ (c d : Catalog) (gs hs : List (Option Live)) (order places : List ℕ) 
   stays : query_refusal (store_of c gs order seq) q ≡ None → is_some (query_refusal (store_of c gs order seq) q) ≡ true → {P : Type 0} → P
   stays e h = absurd (false≢true (sym (ap is_some e) ∙ h))
 
-  pub query_lacks : IsFreeConnex (edges_of q) (head_of q) → LearnsFirst c.texts (texts_in (constants_of q.atoms)) d.texts → queries_in hs places ≡ queries_in gs order
+  pub query_lacks : IsFreeConnex (edges_of q) (head_of q) → LearnsFirst c.texts (texts_in (constants_of q.atoms)) d.texts
+      → length d.texts ≤ TEXTS → queries_in hs places ≡ queries_in gs order
       → RegistersQuery (store_of c gs order seq) q (Err NoMemory) (store_of d hs places n)
-  query_lacks connex learns queries = record {
+  query_lacks connex learns many queries = record {
     answer = subst (λ (o : Option Refusal). Answers o (Err NoMemory) (RegistersAs (store_of c gs order seq) q (store_of d hs places n)) (RefusedLate (store_of c gs order seq) q (store_of d hs places n))) (sym none)
-        (inl (connex, (learns, store_with c d gs hs order places seq n d.texts (queries_in gs order) rel refl queries same)));
+        (inl (connex, (learns, many, store_with c d gs hs order places seq n d.texts (queries_in gs order) rel refl queries same)));
     stays = λ h. stays none h;
   }
 

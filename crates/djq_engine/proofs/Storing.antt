@@ -69,9 +69,9 @@ pub all_stay : LiveStays → (c d : Catalog) (gs : List (Option Live)) (order : 
 all_stay law c d gs order readers s h i l e = law c d l h (s.live i l e)
 
 pub lacks_of : (at : ℕ) (row : Tuple) (old new : Parts) (r : InternRefusal) → InternsRow (old.catalog).texts row (Err r) (new.catalog).texts → (new.catalog).relations ≡ (old.catalog).relations → new.queries.items ≡ old.queries.items
-    → new.logs.items ≡ old.logs.items
+    → new.logs.items ≡ old.logs.items → length (new.catalog).texts ≤ TEXTS
     → ((i : ℕ) (l : Live) → place_at old.queries.items i ≡ Some l → StaysOver old.catalog new.catalog l) → Lacks at row old new r
-lacks_of at row old new TextsFull h e q logs stay = record {
+lacks_of at row old new TextsFull h e q logs many stay = record {
   finds = record {
     first = h.1.first;
     next = h.1.next;
@@ -84,8 +84,9 @@ lacks_of at row old new TextsFull h e q logs stay = record {
   rests = record { queries = q; relations = e; stay = stay };
   logs = logs;
 }
-lacks_of at row old new NoMemForTexts h e q logs stay = record {
+lacks_of at row old new NoMemForTexts h e q logs many stay = record {
   learns = record { first = h.first; rest = h.rest; parts = h.parts; learned = h.learned };
+  many = many;
   relations = e;
   carries = subst (λ (hs : List (Option Live)). Carries (readers_at old.readers.items at) old.catalog old.queries.items new.catalog hs) (sym q)
       (idle_carries old.catalog new.catalog old.queries.items (readers_at old.readers.items at) stay);
@@ -212,14 +213,16 @@ puts_row at row old new c1 rel learn many stay p = record {
 }
 
 pub waits_row : (at : ℕ) (row : Tuple) (old new : Parts) (c1 : Catalog) → c1.relations ≡ (old.catalog).relations → c1.texts ≡ all_learned (old.catalog).texts (texts_in row)
+    → length c1.texts ≤ TEXTS
     → ((i : ℕ) (l : Live) → place_at old.queries.items i ≡ Some l → StaysOver old.catalog c1 l) → Waits at (record old { catalog = c1 }) new → LacksMemory at row old new
-waits_row at row old new c1 rel learn stay w = record {
+waits_row at row old new c1 rel learn many stay w = record {
   learns = record {
     first = texts_in row;
     rest = [];
     parts = sym (append-nil (texts_in row));
     learned = ap (λ (x : Catalog). x.texts) w.catalog ∙ learn;
   };
+  many = subst (λ (x : Catalog). length x.texts ≤ TEXTS) (sym w.catalog) many;
   relations = ap (λ (x : Catalog). x.relations) w.catalog ∙ rel;
   carries = texts_then old.catalog c1 new.catalog old.queries.items new.queries.items (readers_at old.readers.items at) stay w.carries;
 }

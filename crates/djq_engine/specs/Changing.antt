@@ -4,7 +4,7 @@ use Rattle.djq_model.specs.Data.{Bytes, Tuple, has_row, without_row}
 use Rattle.djq_model.specs.declared.relation.Relation.{Relation}
 use Rattle.djq_model.specs.Answer.{IsAnswer}
 use Rattle.djq_model.specs.Known.{texts_in}
-use Rattle.djq_lines.specs.declared.limits.TheConstants.{ROWS}
+use Rattle.djq_lines.specs.declared.limits.TheConstants.{ROWS, TEXTS}
 use Rattle.djq_machine.specs.Store.{LearnsAll, LearnsFirst, FindsNoPlace}
 use Rattle.djq_dict.specs.declared.refusal.InternRefusal.{InternRefusal}
 use Rattle.djq_dict.specs.declared.refusal.InternRefusal.TheVariants.{Full, NoMem}
@@ -82,9 +82,10 @@ pub record PutsRow (at : ℕ) (row : Tuple) (old new : Parts) : Type 0 where
   pub learns : LearnsAll (old.catalog).texts (texts_in row) (new.catalog).texts
   pub has : HasRows at (rows_at (old.catalog).relations at ++ row ∷ []) old new
 
--- The relations are as before, and readers were reached.
+-- The relations are as before, no more texts are known than may be, and readers were reached.
 pub record LacksMemory (at : ℕ) (row : Tuple) (old new : Parts) : Type 0 where
   pub learns : LearnsFirst (old.catalog).texts (texts_in row) (new.catalog).texts
+  pub many : length (new.catalog).texts ≤ TEXTS
   pub relations : (new.catalog).relations ≡ (old.catalog).relations
   pub carries : CarriesReaders at old new
 

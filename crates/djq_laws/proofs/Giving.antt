@@ -156,7 +156,7 @@ unchanged_gives old name store new e after g = same_gives old new (after ∙ ap 
 -- A late refusal changes no more than which texts are known.
 refused_texts : (old : Store) (texts : List Bytes) (new : Store) (r : Refusal) → RefusedByTexts old texts new r → new ≡ record old { texts = new.texts }
 refused_texts old texts new Limit h = h.1
-refused_texts old texts new NoMemory h = h.1
+refused_texts old texts new NoMemory h = h.2
 refused_texts old texts new _ h = absurd h
 
 same_texts : (old new : Store) → new ≡ old → new ≡ record old { texts = new.texts }

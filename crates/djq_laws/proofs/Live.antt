@@ -30,5 +30,14 @@ listed q s st given gives h =
 
 pub listings_stay_live : ListingsStayLive
 listings_stay_live old gives q s given h watches done new run keeps goes_on =
-    let t = watchers_have_answers q s old done new (watchers_stay q s old done new run keeps watches goes_on) in
-    record { told = t.told; among = t.among; listing = t.adds_up given (listed q s old given gives h) }
+    let walk = watchers_stay q s old done new run keeps watches goes_on in
+    let t = watchers_have_answers q s old done new walk in
+    record {
+      walk = walk;
+      told = t.told;
+      whole = t.whole;
+      among = t.among;
+      numbers = t.numbers;
+      rising = t.rising;
+      listing = t.adds_up given (listed q s old given gives h);
+    }

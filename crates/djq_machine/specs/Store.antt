@@ -113,12 +113,13 @@ pub record FindsNoPlace (old texts known : List Bytes) : Type 0 where
   pub full : length known ≡ TEXTS
 
 -- A command that needs texts is refused late, at the limit of texts or out of memory: the first of
--- them have become known, and nothing else has changed.
+-- them have become known, never more than may be, and nothing else has changed.
 abbrev pub RefusedByTexts : Store → List Bytes → Store → Refusal → Type 0
 RefusedByTexts old texts new Limit =
     FindsNoPlace old.texts texts new.texts × (new ≡ record old { texts = new.texts })
 RefusedByTexts old texts new NoMemory =
-    LearnsFirst old.texts texts new.texts × (new ≡ record old { texts = new.texts })
+    LearnsFirst old.texts texts new.texts × (length new.texts ≤ TEXTS)
+    × (new ≡ record old { texts = new.texts })
 RefusedByTexts old texts new _ = ⊥
 
 -- `rel`
