@@ -257,19 +257,3 @@ given_back places k d at cells old now mid new o low a b c = record {
         (subst (λ (p : Option Live). DoneAt (LetsOut at cells) true p (place_at new i)) middle
         (subst (λ (b : Bool). DoneAt (LetsOut at cells) b (place_at mid i) (place_at new i)) e (c.each i))))
     by_front i false e = by_last i e (get_or places k d == i) refl
-
--- what one query answers
-
-pub taken_ok : {E : Type 0} (gs : List (Option Live)) (i : ℕ) (p : Option Live) (l m : Live) (at : ℕ) (cells : List ℕ) (result : Result ⊤ E)
-    → IsSomeAnd (place_at gs i) (λ l. CanAdd l at cells) → p ≡ get_or gs i p → p ≡ Some l
-    → OnOk result (Follows (λ c d row. Came c d at cells row) l m) → SameQuery l m
-    → OnOk result (Reach (i ∷ []) (TakesIn at cells) gs (set gs i (Some m)))
-taken_ok gs i p l m at cells (Ok x) h is some f s = reach_read (TakesIn at cells) gs i p l m (λ l. CanAdd l at cells) h is some (record { follows = f; same = s })
-taken_ok gs i p l m at cells (Err r) h is some f s = tt
-
-pub taken_err : {E : Type 0} (gs : List (Option Live)) (i : ℕ) (p : Option Live) (l m : Live) (at : ℕ) (cells : List ℕ) (result : Result ⊤ E)
-    → IsSomeAnd (place_at gs i) (λ l. CanAdd l at cells) → p ≡ get_or gs i p → p ≡ Some l
-    → OnErr result ((c : Catalog) → IsKept c l → IsKept c m) → SameQuery l m
-    → OnErr result (Reach (i ∷ []) Remains gs (set gs i (Some m)))
-taken_err gs i p l m at cells (Ok x) h is some f s = tt
-taken_err gs i p l m at cells (Err r) h is some f s = reach_read Remains gs i p l m (λ l. CanAdd l at cells) h is some (record { kept = f; same = s })

@@ -56,7 +56,7 @@ use Rattle.djq_engine.proofs.Reaching.{place_below}
 
 -- ---- atoms over a relation, by place and by name
 
-atoms_of : (c : Catalog) (at : ℕ) (variables : List Variable) (atoms : List Atom) (ms : List NumberedAtom) → AreAtomsOf c variables atoms ms
+pub atoms_of : (c : Catalog) (at : ℕ) (variables : List Variable) (atoms : List Atom) (ms : List NumberedAtom) → AreAtomsOf c variables atoms ms
     → length (filter (λ m. m.relation == at) ms) ≤ length (filter (λ a. bytes_eq a.relation (relation_at c.relations at).name) atoms)
 atoms_of c at variables [] [] h = omega arith
 atoms_of c at variables [] (m ∷ ms) h = absurd h
@@ -89,7 +89,7 @@ all_made P g (x ∷ xs) h (suc k) d l = all_made P g xs (λ i e. h i (step i (x 
     step i true e = refl
     step i false e = e
 
-both_true : (a b : Bool) → (a && b) ≡ true → (a ≡ true) × (b ≡ true)
+pub both_true : (a b : Bool) → (a && b) ≡ true → (a ≡ true) × (b ≡ true)
 both_true true b e = (refl, e)
 both_true false b e = absurd (false≢true e)
 

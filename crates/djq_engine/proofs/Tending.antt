@@ -27,7 +27,7 @@ use Rattle.djq_engine.proofs.Listing.{apart, reader_more, or_true, or_false}
 use Rattle.djq_engine.proofs.Carrying.{readers_kept}
 use Rattle.djq_engine.proofs.Reaching.{below_some, everywhere, only, once_at, reader_there}
 
-reader_front : (places : List ℕ) (k i : ℕ) → is_reader (take k places) i ≡ true → is_reader places i ≡ true
+pub reader_front : (places : List ℕ) (k i : ℕ) → is_reader (take k places) i ≡ true → is_reader places i ≡ true
 reader_front [] zero i e = e
 reader_front [] (suc k) i e = e
 reader_front (p ∷ places) zero i e = absurd (false≢true e)
@@ -74,6 +74,10 @@ log_read logs i log low is = is ∙ get_or_default logs i log no_log low
 pub on_ok : {A E : Type 0} {P Q : Type 0} (r : Result A E) → (P → Q) → OnOk r P → OnOk r Q
 on_ok (Ok a) f h = f h
 on_ok (Err e) f h = tt
+
+pub on_both : {A E : Type 0} {P Q R : Type 0} (r : Result A E) → (P → Q → R) → OnOk r P → OnOk r Q → OnOk r R
+on_both (Ok a) f h k = f h k
+on_both (Err e) f h k = tt
 
 pub on_err : {A E : Type 0} {P Q : Type 0} (r : Result A E) → (P → Q) → OnErr r P → OnErr r Q
 on_err (Ok a) f h = tt

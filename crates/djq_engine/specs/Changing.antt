@@ -16,7 +16,7 @@ use Rattle.djq_live.specs.Staying.{StaysOver}
 use Rattle.djq_engine.specs.declared.parts.Parts.{Parts}
 use Rattle.djq_engine.specs.Places.{place_at, is_reader, readers_at, watched_at, log_at}
 use Rattle.djq_engine.specs.Reaching.{Reach, Ages, Carries}
-use Rattle.djq_engine.specs.Tending.{cost_at}
+use Rattle.djq_engine.specs.Tending.{Works, cost_at}
 
 -- The cells stand for a row that isn't there, and there is room for it.
 pub record IsNew (c : Catalog) (at : ℕ) (cells : List ℕ) (row : Tuple) : Type 0 where
@@ -144,7 +144,13 @@ CountsRows at rows old before now = (f : ℕ → List Change) → DeltasWith at 
     → now ≤ before + sum_by (cost_at old.watchers.items old.queries.items at f)
     (readers_at old.readers.items at)
 
--- Where a text finds no place, nothing is listed.
+-- What taking a row in or out counts at most: so many times what the updates of the relation's readers
+-- do.
+abbrev pub WorksRows : ℕ → ℕ → Parts → ℕ → ℕ → Type 0
+WorksRows at times old before now =
+    Works (readers_at old.readers.items at) old.queries.items at times before now
+
+-- Where a text finds no place, nothing is listed and nothing updated.
 abbrev pub Idles : ℕ → ℕ → InternRefusal → Type 0
 Idles before now Full = now ≤ before
 Idles before now NoMem = ⊤

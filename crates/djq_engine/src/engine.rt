@@ -12,6 +12,7 @@ ghost use Rattle.djq_engine.specs.Kept.{registered_of, registered_at, same_query
 ghost use Rattle.djq_engine.specs.Kept.{with_watchers, told_at};
 ghost use Rattle.djq_engine.specs.Lending.{LendsQuery};
 ghost use Rattle.djq_engine.specs.Watching.{TellsChange, Enrols};
+ghost use Rattle.djq_engine.specs.Watching.{CountsUpdates, add_times, delete_times};
 
 use crate::asking::{answer_in, explain_in, has_in, live_in};
 use crate::cursor::{CursorId, QueryId};
@@ -216,6 +217,10 @@ impl Engine {
     /// Adds a row to a relation, whose texts become known. Where the row is there already, nothing
     /// changes; where it wasn't, cursors over the relation become stale.
     ///
+    /// For each atom over the relation of each query the update count rises by at most
+    /// 16(m + v)(n + 1), where the query has m atoms and v variables, holes counted in, and no
+    /// relation that it reads more than n rows before; out of memory by three times that.
+    ///
     /// # Errors
     ///
     /// `NoRelation` where none has the name; `Arity` and `WrongType` where the row doesn't suit its
@@ -235,12 +240,15 @@ impl Engine {
             (rows_of self.old.store.relations name.now ++ row.now ∷ [])
             (add_outdates result) (add_accepted result) self.new
             steps.old.listing steps.new.listing }
+        ensures updates { CountsUpdates (add_times result) self.old name.now
+            steps.old.update steps.new.update }
     {
         add_in(&mut self.parts, name, row, steps)
     }
 
     /// Deletes a row from a relation. Where it isn't there, nothing changes; where it was, cursors
-    /// over the relation become stale. It takes no memory.
+    /// over the relation become stale. It takes no memory, and its update count is bounded as that of
+    /// [`add`](Engine::add).
     ///
     /// # Errors
     ///
@@ -259,6 +267,8 @@ impl Engine {
             (without_row (rows_of self.old.store.relations name.now) row.now)
             (delete_outdates result) (delete_outdates result) self.new
             steps.old.listing steps.new.listing }
+        ensures updates { CountsUpdates (delete_times result) self.old name.now
+            steps.old.update steps.new.update }
     {
         del_in(&mut self.parts, name, row, steps)
     }

@@ -6,7 +6,7 @@ use Rattle.djq_live.specs.Changes.{Went}
 use Rattle.djq_live.specs.Live.{IsKept}
 use Rattle.djq_engine.specs.Places.{is_reader, watched_at}
 use Rattle.djq_engine.specs.Reaching.{AllAt}
-use Rattle.djq_engine.specs.Tending.{AreShown, Costs, Tends, TellsAt}
+use Rattle.djq_engine.specs.Tending.{AreShown, Costs, Tends, TellsAt, Works}
 use Rattle.djq_engine.proofs.Carrying.{readers_kept}
 use Rattle.djq_engine.proofs.Tending.{counts_rows, shown_tended, tells_rows, tells_show, tends_quiet}
 use Rattle.djq_engine.proofs.Storing.{places_read, deleted_is, gone_once, can_go, drop_carries}
@@ -104,3 +104,10 @@ returns-clause-quiet g c i l there e =
     c.let_out.ensures.tells) i l there
     (ap (λ (ps : List ℕ). is_reader ps i && watched_at old.watchers.items i) (places_read old.readers.items c.args.id.at c.index.result.now
     c.as_slice-places.result.now (omega (arith, c.requires.there, c.requires.whole.long)) c.index.ensures c.as_slice-places.ensures) ∙ e)
+
+pub returns-clause-updates : goal.returns-clause-updates
+returns-clause-updates g c =
+    let old = c.args.parts.now in
+    subst (λ (ps : List ℕ). Works ps old.queries.items c.args.id.at 1 c.args.steps.now.update c.let_out.new.steps.update) (places_read old.readers.items c.args.id.at c.index.result.now
+    c.as_slice-places.result.now (omega (arith, c.requires.there, c.requires.whole.long)) c.index.ensures c.as_slice-places.ensures)
+    c.let_out.ensures.updates

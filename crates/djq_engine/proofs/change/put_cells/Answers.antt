@@ -6,7 +6,7 @@ use Rattle.djq_live.specs.Changes.{Came}
 use Rattle.djq_live.specs.Live.{IsKept}
 use Rattle.djq_engine.specs.Places.{is_reader, watched_at}
 use Rattle.djq_engine.specs.Reaching.{AllAt}
-use Rattle.djq_engine.specs.Tending.{AreShown, Costs, Shows, Tends, TellsAt}
+use Rattle.djq_engine.specs.Tending.{AreShown, Costs, Shows, Tends, TellsAt, Works}
 use Rattle.djq_engine.proofs.Carrying.{readers_kept}
 use Rattle.djq_engine.proofs.Tending.{counts_rows, shown_tended, tells_rows, tends_apart, tends_quiet}
 use Rattle.djq_engine.proofs.Storing.{
@@ -197,3 +197,20 @@ returns-in-Err-take_in-clause-apart g c i l there e =
     tends_apart (Shows (λ x y. Came x y c.args.id.at c.args.cells.now)) c.as_slice-places.result.now old.queries.items old.logs.items c.take_in.new.logs.items c.take_in.ensures.shows i
     (ap (λ (ps : List ℕ). is_reader ps i) (places_read old.readers.items c.args.id.at c.index.result.now
     c.as_slice-places.result.now (omega (arith, c.requires.there, c.requires.whole.long)) c.index.ensures c.as_slice-places.ensures) ∙ e)
+
+pub returns-in-Err-clause-refusal : goal.returns-in-Err-clause-refusal
+returns-in-Err-clause-refusal g c n few = omega arith
+
+pub returns-in-Ok-take_in-clause-updates : goal.returns-in-Ok-take_in-clause-updates
+returns-in-Ok-take_in-clause-updates g c =
+    let old = c.args.parts.now in
+    subst (λ (ps : List ℕ). Works ps old.queries.items c.args.id.at 1 c.args.steps.now.update c.take_in.new.steps.update) (places_read old.readers.items c.args.id.at c.index.result.now
+    c.as_slice-places.result.now (omega (arith, c.requires.there, c.requires.whole.long)) c.index.ensures c.as_slice-places.ensures)
+    c.in-Ok-take_in.ensures.updates
+
+pub returns-in-Err-take_in-clause-refusal : goal.returns-in-Err-take_in-clause-refusal
+returns-in-Err-take_in-clause-refusal g c =
+    let old = c.args.parts.now in
+    subst (λ (ps : List ℕ). Works ps old.queries.items c.args.id.at 3 c.args.steps.now.update c.take_in.new.steps.update) (places_read old.readers.items c.args.id.at c.index.result.now
+    c.as_slice-places.result.now (omega (arith, c.requires.there, c.requires.whole.long)) c.index.ensures c.as_slice-places.ensures)
+    c.in-Err-take_in.ensures.refusal

@@ -125,3 +125,12 @@ returns-in-Ok-put_cells-clause-quiet g c = c.in-Ok-put_cells.ensures.quiet
 
 pub returns-in-Err-put_cells-clause-apart : goal.returns-in-Err-put_cells-clause-apart
 returns-in-Err-put_cells-clause-apart g c = c.in-Err-put_cells.ensures.apart
+
+pub returns-in-Err-clause-refusal : goal.returns-in-Err-clause-refusal
+returns-in-Err-clause-refusal g c n few = omega arith
+
+pub returns-in-Ok-put_cells-clause-updates : goal.returns-in-Ok-put_cells-clause-updates
+returns-in-Ok-put_cells-clause-updates g c = c.in-Ok-put_cells.ensures.updates
+
+pub returns-in-Err-put_cells-clause-refusal : goal.returns-in-Err-put_cells-clause-refusal
+returns-in-Err-put_cells-clause-refusal g c = c.in-Err-put_cells.ensures.refusal

@@ -1,9 +1,9 @@
 use Rattle.djq_live.specs.Changes.{Came}
-use Rattle.djq_engine.proofs.Tending.{on_err, on_ok, tells_where}
+use Rattle.djq_engine.proofs.Tending.{on_both, on_err, on_ok, tells_where}
 use Rattle.djq_engine.proofs.reach.take_one.Goals as goal
 
 pub returns-clause-taken : goal.returns-clause-taken
-returns-clause-taken g c = on_ok c.add.result (λ h. record { follows = h; same = c.add.ensures.same }) c.add.ensures.added
+returns-clause-taken g c = on_both c.add.result (λ h k. record { follows = h; same = c.add.ensures.same; grows = k }) c.add.ensures.added c.add.ensures.grows
 
 pub returns-clause-refused : goal.returns-clause-refused
 returns-clause-refused g c = on_err c.add.result (λ h. record { kept = h; same = c.add.ensures.same }) c.add.ensures.refused

@@ -44,6 +44,7 @@ use Rattle.djq_engine.specs.Places.{readers_at}
 use Rattle.djq_engine.specs.Tending.{Empties, HaveLogs}
 use Rattle.djq_engine.proofs.Storing.{places_read}
 use Rattle.djq_engine.proofs.Tending.{empties_same, shown_same}
+use Rattle.djq_engine.proofs.Working.{counts_updates}
 use Rattle.djq_engine.proofs.rows.add_in.Goals as goal
 
 pub returns-in-Err-Full-clause-whole : goal.returns-in-Err-Full-clause-whole
@@ -212,3 +213,26 @@ empty_logs-requires g c =
     (sym (places_read mid.readers.items c.in-Some.id.at c.index.result.now c.as_slice.result.now
     (readers_within old mid c.requires.whole c.in-Some.id.at (subst (λ (j : Option RelationId). JudgesAdd c.args.parts.now.catalog.relations c.args.name.now c.args.row.now c.args.parts.now.seq j) c.in-Some.is c.in_ok-judged.ensures.ok).relation.below c.put_row.ensures.rest.readers) c.index.ensures c.as_slice.ensures))
     (have_logs old mid c.requires.whole c.in-Some.id.at (subst (λ (j : Option RelationId). JudgesAdd c.args.parts.now.catalog.relations c.args.name.now c.args.row.now c.args.parts.now.seq j) c.in-Some.is c.in_ok-judged.ensures.ok).relation.below c.requires.tended c.put_row.ensures.rest)
+
+pub returns-in_err-judged-clause-updates : goal.returns-in_err-judged-clause-updates
+returns-in_err-judged-clause-updates g c n few = omega arith
+
+pub returns-in_default-clause-updates : goal.returns-in_default-clause-updates
+returns-in_default-clause-updates g c n few = omega arith
+
+pub returns-in-Err-Full-clause-updates : goal.returns-in-Err-Full-clause-updates
+returns-in-Err-Full-clause-updates g c n few =
+    let still = subst (λ (r : InternRefusal). Idles c.args.steps.now.update c.put_row.new.steps.update r) c.in-Err-Full.field-0-is c.in-Err-Full.ensures.unmoved in
+    omega (arith, still)
+
+pub returns-in-Err-NoMem-clause-updates : goal.returns-in-Err-NoMem-clause-updates
+returns-in-Err-NoMem-clause-updates g c =
+    let m = (subst (λ (j : Option RelationId). JudgesAdd c.args.parts.now.catalog.relations c.args.name.now c.args.row.now c.args.parts.now.seq j) c.in-Some.is c.in_ok-judged.ensures.ok) in
+    counts_updates c.args.parts.now c.requires.whole c.in-Some.id.at m.relation.below c.args.name.now m.relation.named c.leaves_are_small.ensures
+    3 c.args.steps.now.update c.put_row.new.steps.update c.in-Err-NoMem.ensures.refusal
+
+pub returns-clause-updates : goal.returns-clause-updates
+returns-clause-updates g c =
+    let m = (subst (λ (j : Option RelationId). JudgesAdd c.args.parts.now.catalog.relations c.args.name.now c.args.row.now c.args.parts.now.seq j) c.in-Some.is c.in_ok-judged.ensures.ok) in
+    counts_updates c.args.parts.now c.requires.whole c.in-Some.id.at m.relation.below c.args.name.now m.relation.named c.leaves_are_small.ensures
+    1 c.args.steps.now.update c.put_row.new.steps.update c.in-Ok.ensures.updates

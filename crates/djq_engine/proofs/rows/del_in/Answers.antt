@@ -8,6 +8,7 @@ use Rattle.djq_engine.specs.Judging.{JudgesDelete}
 use Rattle.djq_engine.specs.Changing.{IsOld}
 use Rattle.djq_engine.proofs.Adding.{aged, delete_done, mid_once, mid_there, old_row, same_names}
 use Rattle.djq_engine.proofs.Reporting.{alike_now, delete_refused_tells, deletes_done, registered_now, tells_nothing, tended_now, told_drop}
+use Rattle.djq_engine.proofs.Working.{counts_updates}
 use Rattle.djq_engine.proofs.rows.del_in.Goals as goal
 
 pub age_readers-requires-clause-once : goal.age_readers-requires-clause-once
@@ -102,3 +103,15 @@ returns-clause-tells g c =
     (c.drop_cells.ensures.counted c.args.row.now (subst (λ (cells : List ℕ). IsOld c.args.parts.now.catalog c.in-Some.found.relation.at cells c.args.row.now) (sym c.as_slice.ensures)
     (old_row c.args.parts.now c.args.name.now c.args.row.now c.in-Some.found (subst (λ (j : Option Deletion). JudgesDelete c.args.parts.now.catalog c.args.name.now c.args.row.now c.args.parts.now.seq j) c.in-Some.is c.in_ok-judged.ensures.ok)))) (c.drop_cells.ensures.tells c.args.row.now (subst (λ (cells : List ℕ). IsOld c.args.parts.now.catalog c.in-Some.found.relation.at cells c.args.row.now) (sym c.as_slice.ensures)
     (old_row c.args.parts.now c.args.name.now c.args.row.now c.in-Some.found (subst (λ (j : Option Deletion). JudgesDelete c.args.parts.now.catalog c.args.name.now c.args.row.now c.args.parts.now.seq j) c.in-Some.is c.in_ok-judged.ensures.ok))))
+
+pub returns-in_err-judged-clause-updates : goal.returns-in_err-judged-clause-updates
+returns-in_err-judged-clause-updates g c n few = omega arith
+
+pub returns-in_default-clause-updates : goal.returns-in_default-clause-updates
+returns-in_default-clause-updates g c n few = omega arith
+
+pub returns-clause-updates : goal.returns-clause-updates
+returns-clause-updates g c =
+    let m = (subst (λ (j : Option Deletion). JudgesDelete c.args.parts.now.catalog c.args.name.now c.args.row.now c.args.parts.now.seq j) c.in-Some.is c.in_ok-judged.ensures.ok) in
+    counts_updates c.args.parts.now c.requires.whole c.in-Some.found.relation.at m.relation.below c.args.name.now m.relation.named c.leaves_are_small.ensures
+    1 c.args.steps.now.update c.drop_cells.new.steps.update c.drop_cells.ensures.updates
