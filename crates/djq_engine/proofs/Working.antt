@@ -259,16 +259,18 @@ module _ (old : Parts) (s : IsWhole old) (at : ℕ) (low : at < length (old.cata
 
   pub counts_updates : (times before now : ℕ) → WorksRows at times old before now
       → CountsUpdates times (kept_in old) name before now
-  counts_updates times before now works n few =
-      let a = works n (small n few) in
-      let b = sums_le (work_at old.queries.items at n) (update_steps (kept_in old) name n)
-      (registered_as old.queries.items old.watchers.items) (readers_at old.readers.items at)
-      (steps_of n) in
-      let same = ap (readers_of (kept_in old).registered) (sym named)
-      ∙ readers_are old.catalog old.queries.items old.order old.readers.items
-      old.watchers.items s at low in
-      let c = mul-le-mul_left times
-      (subst (λ (rs : List Registered). sum_by (work_at old.queries.items at n)
-      (readers_at old.readers.items at) ≤ sum_by (update_steps (kept_in old) name n) rs)
-      (sym same) b) in
-      omega (arith, a, c)
+  counts_updates times before now works = record {
+    counted = λ n few.
+        let a = works n (small n few) in
+        let b = sums_le (work_at old.queries.items at n) (update_steps (kept_in old) name n)
+        (registered_as old.queries.items old.watchers.items) (readers_at old.readers.items at)
+        (steps_of n) in
+        let same = ap (readers_of (kept_in old).registered) (sym named)
+            ∙ readers_are old.catalog old.queries.items old.order old.readers.items
+            old.watchers.items s at low in
+        let c = mul-le-mul_left times
+        (subst (λ (rs : List Registered). sum_by (work_at old.queries.items at n)
+            (readers_at old.readers.items at) ≤ sum_by (update_steps (kept_in old) name n) rs)
+        (sym same) b) in
+        omega (arith, a, c);
+  }

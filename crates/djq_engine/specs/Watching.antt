@@ -79,9 +79,9 @@ AreFew k relation n = (id : QueryId) (r : Registered) → registered_at k.regist
     → length (rows_of (k.store).relations a.relation) ≤ n
 
 -- A change counts so many times at most what the updates of the queries over its relation do.
-abbrev pub CountsUpdates : ℕ → Kept → Bytes → ℕ → ℕ → Type 0
-CountsUpdates times old relation before now = (n : ℕ) → AreFew old relation n
-    → now ≤ before + times * sum_by (update_steps old relation n) (readers_of old.registered relation)
+pub record CountsUpdates (times : ℕ) (old : Kept) (relation : Bytes) (before now : ℕ) : Type 0 where
+  pub counted : (n : ℕ) → AreFew old relation n → now ≤ before + times
+      * sum_by (update_steps old relation n) (readers_of old.registered relation)
 
 -- how often: where memory is refused, rows that were taken in are given back
 abbrev pub add_times : Result AddOutcome Refusal → ℕ

@@ -273,8 +273,8 @@ pub fn empty_logs(logs: &mut Vec<DeltaLog>, places: &[usize])
     requires { HaveLogs places.now logs.old.items }
     ensures { Empties places.now logs.old.items logs.new.items }
 {
-    for at in 0..places.len() {
-        logs[places[at]].clear();
+    for nth in 0..places.len() {
+        logs[places[nth]].clear();
     }
 }
 
