@@ -56,7 +56,8 @@ use Rattle.djq_engine.proofs.Reaching.{place_below}
 
 -- ---- atoms over a relation, by place and by name
 
-pub atoms_of : (c : Catalog) (at : ℕ) (variables : List Variable) (atoms : List Atom) (ms : List NumberedAtom) → AreAtomsOf c variables atoms ms
+pub atoms_of : (c : Catalog) (at : ℕ) (variables : List Variable) (atoms : List Atom) (ms : List NumberedAtom)
+    → AreAtomsOf c variables atoms ms
     → length (filter (λ m. m.relation == at) ms) ≤ length (filter (λ a. bytes_eq a.relation (relation_at c.relations at).name) atoms)
 atoms_of c at variables [] [] h = omega arith
 atoms_of c at variables [] (m ∷ ms) h = absurd h
@@ -241,68 +242,90 @@ told_delta texts hs logs i l D alike h changes e =
 
 -- a query of which the log stays is told the same
 abbrev pub ToldStay : Parts → Parts → Type 0
-ToldStay old new = (i : ℕ) → log_at new.logs.items i ≡ log_at old.logs.items i → told_at (kept_in new) (id_at i) ≡ told_at (kept_in old) (id_at i)
+ToldStay old new = (i : ℕ) → log_at new.logs.items i ≡ log_at old.logs.items i
+    → told_at (kept_in new) (id_at i) ≡ told_at (kept_in old) (id_at i)
 
 -- of the queries that read a relation nothing is told, and the logs of the others stay
 pub record Discards (old : Parts) (at : ℕ) (new : Parts) : Type 0 where
   pub emptied : (i : ℕ) → reads_at old at i ≡ true → told_at (kept_in new) (id_at i) ≡ Some []
   pub others : KeepsLogs (reads_at old at) old new
 
-pub told_stay : ShowableStays → (old new : Parts) (more : List Bytes) → (new.catalog).texts ≡ (old.catalog).texts ++ more → IsTended old
+pub told_stay : ShowableStays → (old new : Parts) (more : List Bytes)
+    → (new.catalog).texts ≡ (old.catalog).texts ++ more → IsTended old
     → AreAlike old.queries.items new.queries.items → ToldStay old new
 told_stay law old new more e t alike i same =
     told_is (new.catalog).texts new.queries.items new.logs.items i
     ∙ ap (told_of (new.catalog).texts (place_at new.queries.items i)) same
-    ∙ told_stays law (old.catalog).texts more (new.catalog).texts e (place_at old.queries.items i) (place_at new.queries.items i) (alike i) (log_at old.logs.items i)
+    ∙ told_stays law (old.catalog).texts more (new.catalog).texts e (place_at old.queries.items i)
+    (place_at new.queries.items i) (alike i) (log_at old.logs.items i)
     (λ l there kept. t.shown i l there kept)
     ∙ sym (told_is (old.catalog).texts old.queries.items old.logs.items i)
 
-pub discards_by : (old mid new : Parts) → IsWhole old → (at : ℕ) → at < length (old.catalog).relations → mid.readers.items ≡ old.readers.items → KeepsLogs (reads_at old at) old mid
-    → Empties (readers_at mid.readers.items at) mid.logs.items new.logs.items → AreAlike old.queries.items new.queries.items → Discards old at new
+pub discards_by : (old mid new : Parts) → IsWhole old → (at : ℕ) → at < length (old.catalog).relations
+    → mid.readers.items ≡ old.readers.items → KeepsLogs (reads_at old at) old mid
+    → Empties (readers_at mid.readers.items at) mid.logs.items new.logs.items
+    → AreAlike old.queries.items new.queries.items → Discards old at new
 discards_by old mid new s at low readers apart empty alike = record {
   emptied = λ i e.
-      let t = live_there old.queries.items i (both_true (is_live old.queries.items i) _ (sym (reader_is old.catalog old.queries.items old.order old.readers.items s at low i) ∙ e)).0 in
+      let t = live_there old.queries.items i (both_true (is_live old.queries.items i) _
+      (sym (reader_is old.catalog old.queries.items old.order old.readers.items s at low i) ∙ e)).0 in
       told_is (new.catalog).texts new.queries.items new.logs.items i
-      ∙ told_empty (new.catalog).texts t.query (place_at new.queries.items i) (subst (λ (o : Option Live). AlikeAt o (place_at new.queries.items i)) t.is (alike i)) (log_at new.logs.items i)
+      ∙ told_empty (new.catalog).texts t.query (place_at new.queries.items i)
+      (subst (λ (o : Option Live). AlikeAt o (place_at new.queries.items i)) t.is (alike i)) (log_at new.logs.items i)
       (empty.emptied i (ap (λ (rs : List (List ℕ)). is_reader (readers_at rs at) i) readers ∙ e));
-  others = λ i l there e. empty.others i (ap (λ (rs : List (List ℕ)). is_reader (readers_at rs at) i) readers ∙ e) ∙ apart i l there e;
+  others = λ i l there e. empty.others i (ap (λ (rs : List (List ℕ)). is_reader (readers_at rs at) i) readers ∙ e)
+      ∙ apart i l there e;
 }
 
 -- the places of the readers are those of the code, and each has its log
-pub readers_within : (old mid : Parts) → IsWhole old → (at : ℕ) → at < length (old.catalog).relations → mid.readers.items ≡ old.readers.items → at < length mid.readers.items
-readers_within old mid s at low same = subst (λ (rs : List (List ℕ)). at < length rs) (sym same) (omega (arith, low, s.long))
+pub readers_within : (old mid : Parts) → IsWhole old → (at : ℕ) → at < length (old.catalog).relations
+    → mid.readers.items ≡ old.readers.items → at < length mid.readers.items
+readers_within old mid s at low same = subst (λ (rs : List (List ℕ)). at < length rs) (sym same)
+    (omega (arith, low, s.long))
 
-pub have_logs : (old mid : Parts) → IsWhole old → (at : ℕ) → at < length (old.catalog).relations → IsTended old → KeepsRest old mid → HaveLogs (readers_at mid.readers.items at) mid.logs.items
+pub have_logs : (old mid : Parts) → IsWhole old → (at : ℕ) → at < length (old.catalog).relations → IsTended old
+    → KeepsRest old mid → HaveLogs (readers_at mid.readers.items at) mid.logs.items
 have_logs old mid s at low t rest i e =
     let there = live_there old.queries.items i (both_true (is_live old.queries.items i) _
-    (sym (reader_is old.catalog old.queries.items old.order old.readers.items s at low i) ∙ ap (λ (rs : List (List ℕ)). is_reader (readers_at rs at) i) (sym rest.readers) ∙ e)).0 in
+    (sym (reader_is old.catalog old.queries.items old.order old.readers.items s at low i)
+    ∙ ap (λ (rs : List (List ℕ)). is_reader (readers_at rs at) i) (sym rest.readers) ∙ e)).0 in
     let below = place_below old.queries.items i there.query there.is in
     omega (arith, below, t.logged, rest.long)
 
 -- what is known of texts after each answer
 
-told_by : ShowableStays → TextsStay → (old new : Parts) (learned : List Bytes) → (new.catalog).texts ≡ all_learned (old.catalog).texts learned → IsTended old
+told_by : ShowableStays → TextsStay → (old new : Parts) (learned : List Bytes)
+    → (new.catalog).texts ≡ all_learned (old.catalog).texts learned → IsTended old
     → AreAlike old.queries.items new.queries.items → ToldStay old new
-told_by law texts old new learned e t alike = let k = texts (old.catalog).texts learned in told_stay law old new k.0 (e ∙ k.1) t alike
+told_by law texts old new learned e t alike = let k = texts (old.catalog).texts learned in told_stay law old new k.0
+    (e ∙ k.1) t alike
 
-pub told_full : ShowableStays → TextsStay → (old new : Parts) (row : Tuple) → LacksPlace row old new → IsTended old → (i : ℕ) → told_at (kept_in new) (id_at i) ≡ told_at (kept_in old) (id_at i)
+pub told_full : ShowableStays → TextsStay → (old new : Parts) (row : Tuple) → LacksPlace row old new → IsTended old
+    → (i : ℕ) → told_at (kept_in new) (id_at i) ≡ told_at (kept_in old) (id_at i)
 told_full law texts old new row l t i =
     told_by law texts old new l.finds.first l.finds.learned t
-    (λ j. alike_same (place_at old.queries.items j) (place_at new.queries.items j) (ap (λ (gs : List (Option Live)). place_at gs j) l.rests.queries)) i
+    (λ j. alike_same (place_at old.queries.items j) (place_at new.queries.items j)
+    (ap (λ (gs : List (Option Live)). place_at gs j) l.rests.queries)) i
     (ap (λ (ls : List Log). log_at ls i) l.logs)
 
-pub told_lacking : ShowableStays → TextsStay → (old mid new : Parts) (at : ℕ) (row : Tuple) → LacksMemory at row old mid → new.catalog ≡ mid.catalog → IsTended old
+pub told_lacking : ShowableStays → TextsStay → (old mid new : Parts) (at : ℕ) (row : Tuple)
+    → LacksMemory at row old mid → new.catalog ≡ mid.catalog → IsTended old
     → AreAlike old.queries.items new.queries.items → ToldStay old new
-told_lacking law texts old mid new at row l same t alike = told_by law texts old new l.learns.first (ap (λ (x : Catalog). x.texts) same ∙ l.learns.learned) t alike
+told_lacking law texts old mid new at row l same t alike = told_by law texts old new l.learns.first
+    (ap (λ (x : Catalog). x.texts) same ∙ l.learns.learned) t alike
 
-pub told_put : ShowableStays → TextsStay → (old mid new : Parts) (at : ℕ) (row : Tuple) → PutsRow at row old mid → new.catalog ≡ mid.catalog → IsTended old
+pub told_put : ShowableStays → TextsStay → (old mid new : Parts) (at : ℕ) (row : Tuple) → PutsRow at row old mid
+    → new.catalog ≡ mid.catalog → IsTended old
     → AreAlike old.queries.items new.queries.items → ToldStay old new
-told_put law texts old mid new at row p same t alike = told_by law texts old new (texts_in row) (ap (λ (x : Catalog). x.texts) same ∙ p.learns.0) t alike
+told_put law texts old mid new at row p same t alike = told_by law texts old new (texts_in row)
+    (ap (λ (x : Catalog). x.texts) same ∙ p.learns.0) t alike
 
-pub told_drop : ShowableStays → (old mid new : Parts) (at : ℕ) (row : Tuple) → Drops at row old mid → new.catalog ≡ mid.catalog → IsTended old
+pub told_drop : ShowableStays → (old mid new : Parts) (at : ℕ) (row : Tuple) → Drops at row old mid
+    → new.catalog ≡ mid.catalog → IsTended old
     → AreAlike old.queries.items new.queries.items → ToldStay old new
 told_drop law old mid new at row p same t alike =
-    told_stay law old new [] (ap (λ (x : Catalog). x.texts) same ∙ p.texts ∙ sym (append-nil (old.catalog).texts)) t alike
+    told_stay law old new [] (ap (λ (x : Catalog). x.texts) same ∙ p.texts ∙ sym (append-nil (old.catalog).texts)) t
+    alike
 
 unread_both : (a w : Bool) → (a && (w || false)) ≡ false → (a && w) ≡ false
 unread_both true true e = e
@@ -316,7 +339,8 @@ unread_either false w e = refl
 
 -- nothing is told
 pub tells_nothing : (old new : Kept) (name : Bytes) (rows : List Tuple) (before now : ℕ) → now ≤ before
-    → ((id : QueryId) → IsSomeAnd (registered_at old.registered id) (λ r. reaches name false false r ≡ false) → told_at new id ≡ told_at old id)
+    → ((id : QueryId) → IsSomeAnd (registered_at old.registered id) (λ r. reaches name false false r ≡ false)
+    → told_at new id ≡ told_at old id)
     → TellsChange old name rows false false new before now
 tells_nothing old new name rows before now h stays = record {
   deltas = [];
@@ -338,14 +362,16 @@ module _ (old : Parts) (s : IsWhole old) (at : ℕ) (low : at < length (old.cata
       ∙ ap (λ (x : Bytes). change_first (λ r. bytes_eq r.name x) (λ (r : Relation). record r { rows = rows }) (old.catalog).relations) named
 
   -- that the query in a place reads the relation, by place and by name
-  reads_are : (i : ℕ) (t : There old.queries.items i) → reads_at old at i ≡ reads (query_in (place_at old.queries.items i)) name
+  reads_are : (i : ℕ) (t : There old.queries.items i)
+      → reads_at old at i ≡ reads (query_in (place_at old.queries.items i)) name
   reads_are i t =
       reader_reads old.catalog old.queries.items old.order old.readers.items s at low i t.query t.is
       ∙ ap (reads t.query.query) named
       ∙ ap (λ (o : Option Live). reads (query_in o) name) (sym t.is)
 
   -- where memory was refused
-  pub tells_refused : (new : Parts) → Discards old at new → ToldStay old new → TellsChange (kept_in old) name rows true false (kept_in new) before now
+  pub tells_refused : (new : Parts) → Discards old at new → ToldStay old new
+      → TellsChange (kept_in old) name rows true false (kept_in new) before now
   tells_refused new empty told =
       let c = old.catalog in
       let after = with_rows_at c.relations at rows in
@@ -360,11 +386,15 @@ module _ (old : Parts) (s : IsWhole old) (at : ℕ) (low : at < length (old.cata
         affected = λ e. absurd (false≢true e);
         logs = λ e. absurd (false≢true e);
         discards = λ e f id h.
-            let r = registered_has c old.queries.items old.order old.readers.items old.watchers.items s id (λ r. reads r.query name ≡ true) h in
+            let r = registered_has c old.queries.items old.order old.readers.items old.watchers.items s id
+            (λ r. reads r.query name ≡ true) h in
             empty.emptied id.at (reads_are id.at r.0 ∙ r.1);
         stays = λ id h.
-            let r = registered_has c old.queries.items old.order old.readers.items old.watchers.items s id (λ r. reaches name true false r ≡ false) h in
-            told id.at (empty.others id.at r.0.query r.0.is (reads_are id.at r.0 ∙ unread_either (reads (query_in (place_at old.queries.items id.at)) name) (watched_at old.watchers.items id.at) r.1));
+            let r = registered_has c old.queries.items old.order old.readers.items old.watchers.items s id
+            (λ r. reaches name true false r ≡ false) h in
+            told id.at (empty.others id.at r.0.query r.0.is (reads_are id.at r.0
+            ∙ unread_either (reads (query_in (place_at old.queries.items id.at)) name)
+            (watched_at old.watchers.items id.at) r.1));
       }
 
   -- where the change was accepted
@@ -394,9 +424,12 @@ module _ (old : Parts) (s : IsWhole old) (at : ℕ) (low : at < length (old.cata
             (λ i r. told_by_log c old.queries.items old.order old.readers.items s at low old.watchers.items name named after have (kept_in new) i);
         discards = λ e f. absurd (false≢true (sym f));
         stays = λ id h.
-            let r = registered_has c old.queries.items old.order old.readers.items old.watchers.items s id (λ r. reaches name true true r ≡ false) h in
-            told id.at (quiet id.at r.0.query r.0.is (ap (λ b. b && watched_at old.watchers.items id.at) (reads_are id.at r.0)
-            ∙ unread_both (reads (query_in (place_at old.queries.items id.at)) name) (watched_at old.watchers.items id.at) r.1));
+            let r = registered_has c old.queries.items old.order old.readers.items old.watchers.items s id
+            (λ r. reaches name true true r ≡ false) h in
+            told id.at (quiet id.at r.0.query r.0.is
+            (ap (λ b. b && watched_at old.watchers.items id.at) (reads_are id.at r.0)
+            ∙ unread_both (reads (query_in (place_at old.queries.items id.at)) name)
+            (watched_at old.watchers.items id.at) r.1));
       }
 
 -- ---- what is kept once readers were reached and their cursors outdated
@@ -444,13 +477,19 @@ module _ (old : Parts) (s : IsWhole old) (name : Bytes) (row : Tuple) (at : ℕ)
   rows_are : rows_of (old.catalog).relations name ≡ rows_at (old.catalog).relations at
   rows_are = rows_found (old.catalog).relations name row old.seq at m
 
-  pub adds_refused : CountsRows at (rows_at (old.catalog).relations at ++ row ∷ []) old before now → (new : Parts) → Discards old at new → ToldStay old new
-      → TellsChange (kept_in old) name (rows_of (old.catalog).relations name ++ row ∷ []) true false (kept_in new) before now
+  pub adds_refused : CountsRows at (rows_at (old.catalog).relations at ++ row ∷ []) old before now → (new : Parts)
+      → Discards old at new → ToldStay old new
+      → TellsChange (kept_in old) name (rows_of (old.catalog).relations name ++ row ∷ []) true false (kept_in new)
+      before now
   adds_refused counts new empty told =
-      subst (λ (rows : List Tuple). TellsChange (kept_in old) name (rows ++ row ∷ []) true false (kept_in new) before now) (sym rows_are)
-      (tells_refused old s at m.below name m.named (rows_at (old.catalog).relations at ++ row ∷ []) law differ (have (rows_at (old.catalog).relations at ++ row ∷ [])) before now counts new empty told)
+      subst (λ (rows : List Tuple). TellsChange (kept_in old) name (rows ++ row ∷ []) true false (kept_in new) before
+      now) (sym rows_are)
+      (tells_refused old s at m.below name m.named (rows_at (old.catalog).relations at ++ row ∷ []) law differ
+      (have (rows_at (old.catalog).relations at ++ row ∷ [])) before now counts new empty told)
 
-  module _ (mid new : Parts) (logs : new.logs.items ≡ mid.logs.items) (catalog : new.catalog ≡ mid.catalog) (alike : AreAlike old.queries.items new.queries.items) (readers : new.readers.items ≡ old.readers.items) (changed : new.changed ≡ at)
+  module _ (mid new : Parts) (logs : new.logs.items ≡ mid.logs.items) (catalog : new.catalog ≡ mid.catalog)
+      (alike : AreAlike old.queries.items new.queries.items) (readers : new.readers.items ≡ old.readers.items)
+      (changed : new.changed ≡ at)
       (quiet : KeepsLogs (tells_at old at) old mid) (told : ToldStay old new) where
     done : (rows : List Tuple) → CountsRows at rows old before now → TellsRows at rows old mid → TellsChange (kept_in old) name rows true true (kept_in new) before now
     done rows counts tells = tells_done old s at m.below name m.named rows law differ (have rows) before now counts new
@@ -497,7 +536,8 @@ TellsAdd old name row result n =
 add_err_tells : (old : Parts) (name : Bytes) (row : Tuple) (r : Refusal) → add_refusal (bare (old.catalog).relations old.seq) name row ≡ Some r → (n : ℕ) → TellsAdd old name row (Err r) n
 add_err_tells old name row r h n =
     subst (λ (b : Bool). TellsChange (kept_in old) name (rows_of (old.catalog).relations name ++ row ∷ []) b false (kept_in old) n n) (sym (refused_quietly (old.catalog).relations name row old.seq r h))
-    (tells_nothing (kept_in old) (kept_in old) name (rows_of (old.catalog).relations name ++ row ∷ []) n n (omega arith) (λ id k. refl))
+    (tells_nothing (kept_in old) (kept_in old) name (rows_of (old.catalog).relations name ++ row ∷ []) n n
+    (omega arith) (λ id k. refl))
 
 pub add_refused_tells : (old : Parts) (name : Bytes) (row : Tuple) (result : Result AddOutcome Refusal) → IsErr result
     → IfErr result (λ r. add_refusal (bare (old.catalog).relations old.seq) name row ≡ Some r) → (n : ℕ) → TellsAdd old name row result n
@@ -507,4 +547,5 @@ add_refused_tells old name row (Err r) e h n = add_err_tells old name row r h n
 pub delete_refused_tells : (old : Parts) (name : Bytes) (row : Tuple) (result : Result DeleteOutcome Refusal) → IsErr result → (n : ℕ)
     → TellsChange (kept_in old) name (without_row (rows_of (old.catalog).relations name) row) (delete_outdates result) (delete_outdates result) (kept_in old) n n
 delete_refused_tells old name row (Ok x) e n = absurd (false≢true e)
-delete_refused_tells old name row (Err r) e n = tells_nothing (kept_in old) (kept_in old) name (without_row (rows_of (old.catalog).relations name) row) n n (omega arith) (λ id k. refl)
+delete_refused_tells old name row (Err r) e n = tells_nothing (kept_in old) (kept_in old) name
+    (without_row (rows_of (old.catalog).relations name) row) n n (omega arith) (λ id k. refl)

@@ -120,7 +120,8 @@ position_is : (texts : List Bytes) (l : Live) (id : CursorId) (o : Option Progre
 position_is texts l id None = refl
 position_is texts l id (Some p) = refl
 
-pub lends : (p : Parts) → IsWhole p → (id : QueryId) (l : Live) → place_at p.queries.items id.at ≡ Some l → AnswersAreShown
+pub lends : (p : Parts) → IsWhole p → (id : QueryId) (l : Live) → place_at p.queries.items id.at ≡ Some l
+    → AnswersAreShown
     → LendsQuery (kept_in p) id l
 lends p s id l there law =
     let c = p.catalog in

@@ -170,26 +170,34 @@ shows_front Changed places k gs old new t = record {
     by_front i true e false f o h = absurd (false≢true (sym f ∙ reader_front places k i e))
 
 -- a log that isn't told of is as before
-pub tends_quiet : (Changed : Catalog → Catalog → Tuple → Type 0) (ws ps : List ℕ) (gs : List (Option Live)) (old new : List Log) → Tends ps (TellsAt ws Changed) gs old new
-    → (i : ℕ) (l : Live) → place_at gs i ≡ Some l → (is_reader ps i && watched_at ws i) ≡ false → log_at new i ≡ log_at old i
+pub tends_quiet : (Changed : Catalog → Catalog → Tuple → Type 0) (ws ps : List ℕ) (gs : List (Option Live))
+    (old new : List Log) → Tends ps (TellsAt ws Changed) gs old new
+    → (i : ℕ) (l : Live) → place_at gs i ≡ Some l → (is_reader ps i && watched_at ws i) ≡ false
+    → log_at new i ≡ log_at old i
 tends_quiet Changed ws ps gs old new t i l there =
-    by_place (is_reader ps i) (watched_at ws i) (subst (λ (o : Option Live). TendedAt (TellsAt ws Changed i) (is_reader ps i) o (log_at old i) (log_at new i)) there (t.each i))
+    by_place (is_reader ps i) (watched_at ws i) (subst
+    (λ (o : Option Live). TendedAt (TellsAt ws Changed i) (is_reader ps i) o (log_at old i) (log_at new i)) there
+    (t.each i))
   where
-    by_place : (b w : Bool) → TendedAt (TellsWhere w Changed) b (Some l) (log_at old i) (log_at new i) → (b && w) ≡ false → log_at new i ≡ log_at old i
+    by_place : (b w : Bool) → TendedAt (TellsWhere w Changed) b (Some l) (log_at old i) (log_at new i)
+        → (b && w) ≡ false → log_at new i ≡ log_at old i
     by_place false w h e = h
     by_place true true h e = absurd (false≢true (sym e))
     by_place true false h e = h
 
-pub tends_apart : (Does : ℕ → Live → Log → Log → Type 0) (ps : List ℕ) (gs : List (Option Live)) (old new : List Log) → Tends ps Does gs old new
+pub tends_apart : (Does : ℕ → Live → Log → Log → Type 0) (ps : List ℕ) (gs : List (Option Live)) (old new : List Log)
+    → Tends ps Does gs old new
     → (i : ℕ) → is_reader ps i ≡ false → log_at new i ≡ log_at old i
-tends_apart Does ps gs old new t i e = subst (λ (b : Bool). TendedAt (Does i) b (place_at gs i) (log_at old i) (log_at new i)) e (t.each i)
+tends_apart Does ps gs old new t i e = subst (λ (b : Bool). TendedAt (Does i) b (place_at gs i) (log_at old i)
+    (log_at new i)) e (t.each i)
 
 -- ---- logs that are emptied
 
 pub empties_none : (logs : List Log) → Empties [] logs logs
 empties_none logs = record { long = refl; emptied = λ i e. absurd (false≢true e); others = λ i e. refl }
 
-pub empties_next : (places : List ℕ) (k d i : ℕ) (old mid : List Log) (m : Log) → k < length places → i ≡ get_or places k d → i < length mid
+pub empties_next : (places : List ℕ) (k d i : ℕ) (old mid : List Log) (m : Log) → k < length places
+    → i ≡ get_or places k d → i < length mid
     → Empties (take k places) old mid → IsEmpty m → Empties (take (k + 1) places) old (set mid i m)
 empties_next places k d i old mid m low at within a none = record {
   long = length-set mid i m ∙ a.long;
@@ -203,14 +211,16 @@ empties_next places k d i old mid m low at within a none = record {
   where
     more : (j : ℕ) → is_reader (take (k + 1) places) j ≡ (is_reader (take k places) j || (i == j))
     more j =
-        ap (λ (ps : List ℕ). is_reader ps j) (take_more places k d low ∙ ap (λ (x : ℕ). take k places ++ x ∷ []) (sym at))
+        ap (λ (ps : List ℕ). is_reader ps j) (take_more places k d low
+        ∙ ap (λ (x : ℕ). take k places ++ x ∷ []) (sym at))
         ∙ reader_more (take k places) i j
 
     here : is_reader (take (k + 1) places) i ≡ true
     here = more i ∙ ap (λ b. is_reader (take k places) i || b) (eq-eqb i i refl) ∙ or_true (is_reader (take k places) i)
 
     front : (j : ℕ) → (j ≡ i → ⊥) → is_reader (take (k + 1) places) j ≡ is_reader (take k places) j
-    front j d = more j ∙ ap (λ b. is_reader (take k places) j || b) (apart i j (λ s. d (sym s))) ∙ or_false (is_reader (take k places) j)
+    front j d = more j ∙ ap (λ b. is_reader (take k places) j || b) (apart i j (λ s. d (sym s)))
+        ∙ or_false (is_reader (take k places) j)
 
 pub empties_same : (places : List ℕ) (old new : List Log) → Empties places old new → SameLogs old new
 empties_same places old new a i = by_reader (is_reader places i) refl

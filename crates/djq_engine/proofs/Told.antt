@@ -99,10 +99,13 @@ aged_alike d name n ps qs gs hs ks a b i =
 
 map_as : {A B : Type 0} (f g : A → B) (xs : List A) → All (λ x. f x ≡ g x) xs → map f xs ≡ map g xs
 map_as f g [] h = refl
-map_as f g (x ∷ xs) h = ap₂ (λ y ys. y ∷ ys) (h zero x (omega arith)) (map_as f g xs (λ k d low. h (suc k) d (omega (arith, low))))
+map_as f g (x ∷ xs) h = ap₂ (λ y ys. y ∷ ys) (h zero x (omega arith))
+    (map_as f g xs (λ k d low. h (suc k) d (omega (arith, low))))
 
-pub told_stays : ShowableStays → (texts more now : List Bytes) → now ≡ texts ++ more → (o p : Option Live) → AlikeAt o p → (log : Log)
-    → ((l : Live) → o ≡ Some l → log.lost ≡ false → All (λ k. IsShowable texts l k.answer) log.lines) → told_of now p log ≡ told_of texts o log
+pub told_stays : ShowableStays → (texts more now : List Bytes) → now ≡ texts ++ more → (o p : Option Live)
+    → AlikeAt o p → (log : Log)
+    → ((l : Live) → o ≡ Some l → log.lost ≡ false → All (λ k. IsShowable texts l k.answer) log.lines)
+    → told_of now p log ≡ told_of texts o log
 told_stays law texts more now e None None a log h = refl
 told_stays law texts more now e None (Some m) a log h = absurd a
 told_stays law texts more now e (Some l) None a log h = absurd a
@@ -114,18 +117,22 @@ told_stays law texts more now e (Some l) (Some m) a log h = by_lost log.lost ref
         (ap (λ (ts : List Bytes). values_of ts m k.answer) e ∙ (law texts more l m k.answer a.numbered a.tree s).1)
 
     by_lost : (b : Bool) → log.lost ≡ b
-        → cond log.lost None (Some (map (change_of now m) log.lines)) ≡ cond log.lost None (Some (map (change_of texts l) log.lines))
+        → cond log.lost None (Some (map (change_of now m) log.lines)) ≡ cond log.lost None
+        (Some (map (change_of texts l) log.lines))
     by_lost true f =
         ap (λ b. cond b None (Some (map (change_of now m) log.lines))) f
         ∙ sym (ap (λ b. cond b None (Some (map (change_of texts l) log.lines))) f)
     by_lost false f =
         ap (λ (cs : List Change). cond log.lost None (Some cs))
-        (map_as (change_of now m) (change_of texts l) log.lines (λ k d low. line (get_or log.lines k d) (h l refl f k d low)))
+        (map_as (change_of now m) (change_of texts l) log.lines
+        (λ k d low. line (get_or log.lines k d) (h l refl f k d low)))
 
 -- an empty log tells of nothing
-pub told_empty : (texts : List Bytes) (l : Live) (p : Option Live) → AlikeAt (Some l) p → (log : Log) → IsEmpty log → told_of texts p log ≡ Some []
+pub told_empty : (texts : List Bytes) (l : Live) (p : Option Live) → AlikeAt (Some l) p → (log : Log) → IsEmpty log
+    → told_of texts p log ≡ Some []
 told_empty texts l None a log h = absurd a
-told_empty texts l (Some m) a log h = ap₂ (λ (b : Bool) (ls : List Line). cond b None (Some (map (change_of texts m) ls))) h.kept h.lines
+told_empty texts l (Some m) a log h = ap₂ (λ (b : Bool) (ls : List Line). cond b None
+    (Some (map (change_of texts m) ls))) h.kept h.lines
 
 pub told_alike_at : (texts : List Bytes) (log : Log) (o p : Option Live) → AlikeAt o p → told_of texts p log ≡ told_of texts o log
 told_alike_at texts log None None a = refl

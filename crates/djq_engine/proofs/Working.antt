@@ -266,11 +266,11 @@ module _ (old : Parts) (s : IsWhole old) (at : ℕ) (low : at < length (old.cata
         (registered_as old.queries.items old.watchers.items) (readers_at old.readers.items at)
         (steps_of n) in
         let same = ap (readers_of (kept_in old).registered) (sym named)
-            ∙ readers_are old.catalog old.queries.items old.order old.readers.items
-            old.watchers.items s at low in
+        ∙ readers_are old.catalog old.queries.items old.order old.readers.items
+        old.watchers.items s at low in
         let c = mul-le-mul_left times
         (subst (λ (rs : List Registered). sum_by (work_at old.queries.items at n)
-            (readers_at old.readers.items at) ≤ sum_by (update_steps (kept_in old) name n) rs)
+        (readers_at old.readers.items at) ≤ sum_by (update_steps (kept_in old) name n) rs)
         (sym same) b) in
         omega (arith, a, c);
   }

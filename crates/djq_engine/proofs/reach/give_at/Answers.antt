@@ -14,6 +14,9 @@ returns-clause-reach g c =
 
 pub returns-clause-updates : goal.returns-clause-updates
 returns-clause-updates g c =
-    works_one c.args.queries.now.items c.args.relation.at 1 c.args.at c.in-Some.query c.args.steps.now.update c.give_back.new.steps.update
-    (place_read c.args.queries.now.items c.args.at c.index_mut.result.now c.in-Some.query (below_some c.args.queries.now.items c.args.at (λ l. CanDelete l c.args.relation.at c.args.cells.now) c.requires) c.index_mut.ensures.value c.in-Some.is)
+    works_one c.args.queries.now.items c.args.relation.at 1 c.args.at c.in-Some.query c.args.steps.now.update
+    c.give_back.new.steps.update
+    (place_read c.args.queries.now.items c.args.at c.index_mut.result.now c.in-Some.query
+    (below_some c.args.queries.now.items c.args.at (λ l. CanDelete l c.args.relation.at c.args.cells.now) c.requires)
+    c.index_mut.ensures.value c.in-Some.is)
     c.give_back.ensures.updates

@@ -14,7 +14,8 @@ loop-at-init g c = record {
 
 pub returns-clause-updates : goal.returns-clause-updates
 returns-clause-updates g c =
-    works_front c.args.places.now c.loop-at.at c.args.queries.now.items c.args.relation.at 1 c.args.steps.now.update c.loop-at.steps.update c.loop-at.invariant.works
+    works_front c.args.places.now c.loop-at.at c.args.queries.now.items c.args.relation.at 1 c.args.steps.now.update
+    c.loop-at.steps.update c.loop-at.invariant.works
 
 pub give_at-requires : goal.give_at-requires
 give_at-requires g c =
@@ -31,7 +32,8 @@ loop-at-preserved g c = record {
       c.args.queries.now.items c.loop-at.queries.items c.give_at.new.queries.items
       c.requires.once c.loop-at-test.true c.loop-at.invariant.reach c.give_at.ensures.reach;
   works = works_next (LetsOut c.args.relation.at c.args.cells.now) c.args.places.now c.loop-at.at 0
-      c.args.queries.now.items c.loop-at.queries.items c.args.relation.at 1 c.args.steps.now.update c.loop-at.steps.update c.give_at.new.steps.update
+      c.args.queries.now.items c.loop-at.queries.items c.args.relation.at 1 c.args.steps.now.update
+      c.loop-at.steps.update c.give_at.new.steps.update
       c.requires.once c.loop-at-test.true c.loop-at.invariant.reach c.loop-at.invariant.works c.give_at.ensures.updates;
   counted = c.give_at.ensures.counted ∙ c.loop-at.invariant.counted;
 }

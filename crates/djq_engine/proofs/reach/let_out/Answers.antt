@@ -46,7 +46,8 @@ loop-at-preserved g c = record {
       c.args.queries.now.items c.loop-at.queries.items c.args.logs.now.items c.loop-at.logs.items c.let_at.new.logs.items
       c.requires.once c.loop-at-test.true c.loop-at.invariant.reach c.loop-at.invariant.tends c.let_at.ensures.tells;
   works = works_next (LetsOut c.args.relation.at c.args.cells.now) c.args.places.now c.loop-at.at 0
-      c.args.queries.now.items c.loop-at.queries.items c.args.relation.at 1 c.args.steps.now.update c.loop-at.steps.update c.let_at.new.steps.update
+      c.args.queries.now.items c.loop-at.queries.items c.args.relation.at 1 c.args.steps.now.update
+      c.loop-at.steps.update c.let_at.new.steps.update
       c.requires.once c.loop-at-test.true c.loop-at.invariant.reach c.loop-at.invariant.works c.let_at.ensures.updates;
   counted = costs_next (λ x d. Went x d c.args.relation.at c.args.cells.now) c.args.watchers.now c.args.relation.at (LetsOut c.args.relation.at c.args.cells.now) c.args.places.now c.loop-at.at 0
       c.args.queries.now.items c.loop-at.queries.items c.args.steps.now.listing c.loop-at.steps.listing c.let_at.new.steps.listing
@@ -55,7 +56,8 @@ loop-at-preserved g c = record {
 
 pub returns-clause-updates : goal.returns-clause-updates
 returns-clause-updates g c =
-    works_front c.args.places.now c.loop-at.at c.args.queries.now.items c.args.relation.at 1 c.args.steps.now.update c.loop-at.steps.update c.loop-at.invariant.works
+    works_front c.args.places.now c.loop-at.at c.args.queries.now.items c.args.relation.at 1 c.args.steps.now.update
+    c.loop-at.steps.update c.loop-at.invariant.works
 
 pub returns-clause-counted : goal.returns-clause-counted
 returns-clause-counted g c =

@@ -43,13 +43,19 @@ returns-clause-counted g c =
 pub returns-clause-updates : goal.returns-clause-updates
 returns-clause-updates g c =
     on_ok c.take_one.result
-    (λ h. works_one c.args.queries.now.items c.args.relation.at 1 c.args.at c.in-Some.query c.args.steps.now.update c.take_one.new.steps.update
-    (place_read c.args.queries.now.items c.args.at c.index_mut.result.now c.in-Some.query (below_some c.args.queries.now.items c.args.at (λ l. CanAdd l c.args.relation.at c.args.cells.now) c.requires.can) c.index_mut.ensures.value c.in-Some.is) h)
+    (λ h. works_one c.args.queries.now.items c.args.relation.at 1 c.args.at c.in-Some.query c.args.steps.now.update
+    c.take_one.new.steps.update
+    (place_read c.args.queries.now.items c.args.at c.index_mut.result.now c.in-Some.query
+    (below_some c.args.queries.now.items c.args.at (λ l. CanAdd l c.args.relation.at c.args.cells.now) c.requires.can)
+    c.index_mut.ensures.value c.in-Some.is) h)
     c.take_one.ensures.updates
 
 pub returns-clause-refusal : goal.returns-clause-refusal
 returns-clause-refusal g c =
     on_err c.take_one.result
-    (λ h. works_one c.args.queries.now.items c.args.relation.at 3 c.args.at c.in-Some.query c.args.steps.now.update c.take_one.new.steps.update
-    (place_read c.args.queries.now.items c.args.at c.index_mut.result.now c.in-Some.query (below_some c.args.queries.now.items c.args.at (λ l. CanAdd l c.args.relation.at c.args.cells.now) c.requires.can) c.index_mut.ensures.value c.in-Some.is) h)
+    (λ h. works_one c.args.queries.now.items c.args.relation.at 3 c.args.at c.in-Some.query c.args.steps.now.update
+    c.take_one.new.steps.update
+    (place_read c.args.queries.now.items c.args.at c.index_mut.result.now c.in-Some.query
+    (below_some c.args.queries.now.items c.args.at (λ l. CanAdd l c.args.relation.at c.args.cells.now) c.requires.can)
+    c.index_mut.ensures.value c.in-Some.is) h)
     c.take_one.ensures.refusal

@@ -89,13 +89,16 @@ returns-in-Err-clause-counted g c =
 
 pub returns-in-Err-clause-refusal : goal.returns-in-Err-clause-refusal
 returns-in-Err-clause-refusal g c =
-    works_back c.args.relation.at c.args.cells.now c.args.places.now c.loop-at.at 0 c.args.queries.now.items c.loop-at.queries.items c.take_at.new.queries.items
+    works_back c.args.relation.at c.args.cells.now c.args.places.now c.loop-at.at 0 c.args.queries.now.items
+    c.loop-at.queries.items c.take_at.new.queries.items
     c.args.steps.now.update c.loop-at.steps.update c.take_at.new.steps.update c.give_back.new.steps.update
-    c.requires.once c.loop-at-test.true c.loop-at.invariant.reach c.in-Err.ensures.err c.loop-at.invariant.works c.in-Err.ensures.refusal c.give_back.ensures.updates
+    c.requires.once c.loop-at-test.true c.loop-at.invariant.reach c.in-Err.ensures.err c.loop-at.invariant.works
+    c.in-Err.ensures.refusal c.give_back.ensures.updates
 
 pub returns-clause-updates : goal.returns-clause-updates
 returns-clause-updates g c =
-    works_front c.args.places.now c.loop-at.at c.args.queries.now.items c.args.relation.at 1 c.args.steps.now.update c.loop-at.steps.update c.loop-at.invariant.works
+    works_front c.args.places.now c.loop-at.at c.args.queries.now.items c.args.relation.at 1 c.args.steps.now.update
+    c.loop-at.steps.update c.loop-at.invariant.works
 
 pub returns-clause-shows : goal.returns-clause-shows
 returns-clause-shows g c =
@@ -115,7 +118,8 @@ loop-at-preserved g c = record {
       c.args.queries.now.items c.loop-at.queries.items c.args.logs.now.items c.loop-at.logs.items c.take_at.new.logs.items
       c.requires.once c.loop-at-test.true c.loop-at.invariant.reach c.loop-at.invariant.tends c.in-Ok.ensures.tells;
   works = works_next (TakesIn c.args.relation.at c.args.cells.now) c.args.places.now c.loop-at.at 0
-      c.args.queries.now.items c.loop-at.queries.items c.args.relation.at 1 c.args.steps.now.update c.loop-at.steps.update c.take_at.new.steps.update
+      c.args.queries.now.items c.loop-at.queries.items c.args.relation.at 1 c.args.steps.now.update
+      c.loop-at.steps.update c.take_at.new.steps.update
       c.requires.once c.loop-at-test.true c.loop-at.invariant.reach c.loop-at.invariant.works c.in-Ok.ensures.updates;
   counted = costs_next (λ x d. Came x d c.args.relation.at c.args.cells.now) c.args.watchers.now c.args.relation.at (TakesIn c.args.relation.at c.args.cells.now) c.args.places.now c.loop-at.at 0
       c.args.queries.now.items c.loop-at.queries.items c.args.steps.now.listing c.loop-at.steps.listing c.take_at.new.steps.listing

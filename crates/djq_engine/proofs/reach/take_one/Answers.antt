@@ -3,15 +3,18 @@ use Rattle.djq_engine.proofs.Tending.{on_both, on_err, on_ok, tells_where}
 use Rattle.djq_engine.proofs.reach.take_one.Goals as goal
 
 pub returns-clause-taken : goal.returns-clause-taken
-returns-clause-taken g c = on_both c.add.result (λ h k. record { follows = h; same = c.add.ensures.same; grows = k }) c.add.ensures.added c.add.ensures.grows
+returns-clause-taken g c = on_both c.add.result (λ h k. record { follows = h; same = c.add.ensures.same; grows = k })
+    c.add.ensures.added c.add.ensures.grows
 
 pub returns-clause-refused : goal.returns-clause-refused
-returns-clause-refused g c = on_err c.add.result (λ h. record { kept = h; same = c.add.ensures.same }) c.add.ensures.refused
+returns-clause-refused g c = on_err c.add.result (λ h. record { kept = h; same = c.add.ensures.same })
+    c.add.ensures.refused
 
 pub returns-clause-tells : goal.returns-clause-tells
 returns-clause-tells g c =
     on_ok c.add.result
-    (λ h. tells_where (λ x d. Came x d c.args.relation.at c.args.cells.now) c.args.wanted c.args.query.now c.args.log.now c.ready.new.log c.add.new.log c.ready.ensures h)
+    (λ h. tells_where (λ x d. Came x d c.args.relation.at c.args.cells.now) c.args.wanted c.args.query.now
+    c.args.log.now c.ready.new.log c.add.new.log c.ready.ensures h)
     c.add.ensures.log
 
 pub returns-clause-none : goal.returns-clause-none

@@ -60,7 +60,8 @@ pub returns-in-Err-clause-registers : goal.returns-in-Err-clause-registers
 returns-in-Err-clause-registers g c =
     query_lacks c.args.parts.now.catalog c.intern_constants-known.new.catalog c.args.parts.now.queries.items c.args.parts.now.queries.items c.args.parts.now.order c.args.parts.now.order c.args.parts.now.seq c.args.parts.now.seq c.args.query (sym c.in_default.ensures)
     c.intern_constants-known.ensures.relations refl c.in-Ok.ensures.planned.connex
-    (all_first c.args.parts.now.catalog.texts (texts_in (constants_of c.args.query.atoms)) c.intern_constants-known.new.catalog.texts c.in-Ok-known.ensures.interns.0)
+    (all_first c.args.parts.now.catalog.texts (texts_in (constants_of c.args.query.atoms))
+    c.intern_constants-known.new.catalog.texts c.in-Ok-known.ensures.interns.0)
     c.laws.ensures.many refl
 
 pub register-requires-clause-whole : goal.register-requires-clause-whole
