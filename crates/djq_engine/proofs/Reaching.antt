@@ -1,12 +1,10 @@
 -- What is done to the queries in places, one after another.
 use Rattle.std.proofs.Common.{ℕ, zero, suc, List, [], ◌∷◌, ◌++◌, ◌+◌, ◌≡◌, ◌<◌, ◌≤◌, ◌⊎◌, inl, inr, Bool, true, false, refl, sym, ap, ap₂, ◌∙◌, subst, length, get_or, set, take, arith, length-set}
-use Rattle.std.specs.Prelude.{◌==◌, ◌||◌, Option, None, Some, IsSomeAnd, Result, Ok, Err, OnOk, OnErr, ⊤}
+use Rattle.std.specs.Prelude.{◌==◌, ◌||◌, Option, None, Some, IsSomeAnd}
 use Rattle.std.proofs.lemmas.Bool.{eqb-true, eq-eqb, cases_order, cases_lt, false≢true}
 use Rattle.std.proofs.lemmas.List.{get_or-set_same, get_or-set_other, take_more, get_or_past, get_or_default}
 use Rattle.djq_live.specs.Live.{Live, IsKept, SameQuery}
-use Rattle.djq_live.specs.Updating.{CanAdd, CanDelete, Follows}
-use Rattle.djq_live.specs.Changes.{Came, Went}
-use Rattle.djq_rows.specs.Catalog.{Catalog}
+use Rattle.djq_live.specs.Updating.{CanAdd, CanDelete}
 use Rattle.djq_engine.specs.Places.{place_at, is_reader}
 use Rattle.djq_engine.specs.Sound.{AreOnce}
 use Rattle.djq_engine.specs.Reaching.{DoneAt, Reach, AllAt, CanCome, CanGo, TakesIn, LetsOut, Remains, GivesBack}

@@ -1,5 +1,5 @@
 -- A row goes into the catalog and the queries, or out of them.
-use Rattle.std.proofs.Common.{ℕ, List, [], ◌∷◌, ◌++◌, ◌≡◌, ◌≢◌, ◌<◌, ◌≤◌, Bool, true, false, refl, sym, ap, ap₂, ◌∙◌, subst, length, get_or, arith}
+use Rattle.std.proofs.Common.{ℕ, List, [], ◌∷◌, ◌++◌, ◌≡◌, ◌<◌, ◌≤◌, true, false, refl, sym, ap, ap₂, ◌∙◌, subst, length, get_or, arith}
 use Rattle.std.specs.Prelude.{Option, Some, Result, Ok, Err, Contains}
 use Rattle.std.proofs.lemmas.Bool.{false≢true}
 use Rattle.std.proofs.lemmas.List.{get_or_default, append-nil}
@@ -11,7 +11,6 @@ use Rattle.djq_lines.specs.declared.answer.AddOutcome.{AddOutcome}
 use Rattle.djq_lines.specs.declared.answer.AddOutcome.TheVariants.{Added, Same}
 use Rattle.djq_lines.specs.declared.answer.DeleteOutcome.{DeleteOutcome}
 use Rattle.djq_lines.specs.declared.answer.DeleteOutcome.TheVariants.{Removed, Absent}
-use Rattle.djq_machine.specs.Store.{LearnsFirst}
 use Rattle.djq_dict.specs.declared.refusal.InternRefusal.{InternRefusal}
 use Rattle.djq_dict.specs.declared.refusal.InternRefusal.TheVariants.{Full as TextsFull, NoMem as NoMemForTexts}
 use Rattle.djq_rows.specs.declared.refusal.RowsRefusal.{RowsRefusal}
@@ -21,15 +20,15 @@ use Rattle.djq_model.specs.Typed.{fits}
 use Rattle.djq_rows.specs.Catalog.{Catalog, IsCatalog, StandForRow, relation_at, rows_at, with_rows_at}
 use Rattle.djq_rows.specs.Changes.{AddsRow, DeletesRow, InternsRow}
 use Rattle.djq_rows.specs.Laws.{TextsStay}
-use Rattle.djq_live.specs.Changes.{IsLater, HasSameRows, Came, Went, AddedCame, DeletedWent}
-use Rattle.djq_live.specs.Live.{Live, IsKept, IsLive}
+use Rattle.djq_live.specs.Changes.{HasSameRows, Came, Went, AddedCame, DeletedWent}
+use Rattle.djq_live.specs.Live.{Live, IsKept}
 use Rattle.djq_live.specs.Staying.{StaysOver, LiveStays, CamePasses, WentPasses}
 use Rattle.djq_live.proofs.Members.{in_last}
 use Rattle.djq_engine.specs.declared.parts.Parts.{Parts}
 use Rattle.djq_engine.specs.Places.{place_at, readers_at}
 use Rattle.djq_engine.specs.Sound.{IsSound, AreOnce}
 use Rattle.djq_engine.specs.Reaching.{Reach, AllAt, CanCome, CanGo, TakesIn, LetsOut, GivesBack, Carries}
-use Rattle.djq_engine.specs.Changing.{IsNew, IsOld, RestsOver, Lacks, LacksMemory, Puts, Waits, PutsRow}
+use Rattle.djq_engine.specs.Changing.{IsNew, IsOld, Lacks, LacksMemory, Puts, Waits, PutsRow}
 use Rattle.djq_lines.specs.declared.limits.TheConstants.{TEXTS, ROWS}
 use Rattle.djq_engine.proofs.Carrying.{has_contains, without_last, last_there, rows_with, field_with, long_with, back_with, readers_once, readers_kept, came_carries, went_carries, back_carries, idle_carries, stays_itself, texts_then}
 

@@ -1,6 +1,6 @@
 -- What is told of a registered query.
-use Rattle.std.proofs.Common.{ℕ, List, [], ◌∷◌, ◌≡◌, ◌<◌, Bool, true, false, refl, sym, ap, ◌∙◌, subst, length, get_or}
-use Rattle.std.specs.Prelude.{◌==◌, not, Option, None, Some, is_none, IsSomeAnd, option_map, position, Ok, Err, map, Result}
+use Rattle.std.proofs.Common.{ℕ, List, [], ◌∷◌, ◌≡◌, Bool, refl, sym, ap, ◌∙◌, subst, length, get_or}
+use Rattle.std.specs.Prelude.{◌==◌, not, Option, None, Some, is_none, IsSomeAnd, option_map, position, Ok, Err, map}
 use Rattle.std.proofs.lemmas.List.{get_or_default}
 use Rattle.djq_model.specs.declared.query.Query.{Query}
 use Rattle.djq_model.specs.Data.{Bytes, Tuple, query_of}
@@ -13,20 +13,19 @@ use Rattle.djq_tree.specs.Explaining.{explain_of}
 use Rattle.djq_machine.specs.Conditions.{first_of}
 use Rattle.djq_machine.specs.Store.{TellsWhether, Tells, has_refusal, has_steps, answer_types, misfit}
 use Rattle.djq_rows.specs.Catalog.{Catalog}
-use Rattle.djq_reduct.specs.Answers.{IsAnswerOf}
 use Rattle.djq_live.specs.declared.cursors.Progress.{Progress}
 use Rattle.djq_live.specs.Cursors.{slot_at}
-use Rattle.djq_live.specs.Live.{Live, IsLive, IsKeptSomewhere, position_of, values_of}
+use Rattle.djq_live.specs.Live.{Live, IsKeptSomewhere, position_of}
 use Rattle.djq_live.specs.Shown.{AnswersAreShown}
 use Rattle.djq_engine.specs.declared.cursor.CursorId.{CursorId}
-use Rattle.djq_engine.specs.Kept.{ExplainGives, Explains, HasTree, IsThere, AnswerIs}
+use Rattle.djq_engine.specs.Kept.{ExplainGives, Explains, HasTree}
 use Rattle.djq_engine.specs.declared.cursor.QueryId.{QueryId}
 use Rattle.djq_engine.specs.declared.parts.Parts.{Parts}
 use Rattle.djq_engine.specs.Lending.{LendsQuery}
 use Rattle.djq_engine.specs.Whole.{kept_in, IsWhole}
 use Rattle.djq_engine.proofs.Enlisted.{registered_gives}
 use Rattle.djq_engine.proofs.Holding.{held_is}
-use Rattle.djq_engine.specs.Places.{place_at, queries_in, query_in, store_of, kept_of, held_as, held_of, is_query}
+use Rattle.djq_engine.specs.Places.{place_at, queries_in, query_in, store_of, held_as, held_of, is_query}
 use Rattle.djq_engine.specs.Sound.{IsSound}
 use Rattle.djq_engine.proofs.Conditions.{answers_refused, answers_done, answers_lacking}
 use Rattle.djq_engine.proofs.Naming.{Named, query_named, no_query_of}

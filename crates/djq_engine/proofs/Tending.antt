@@ -1,5 +1,5 @@
 -- What is done to the logs of the queries in places, one after another, and what listing counts.
-use Rattle.std.proofs.Common.{ℕ, zero, suc, List, [], ◌∷◌, ◌++◌, ◌+◌, ◌≡◌, ◌≢◌, ◌<◌, ◌≤◌, ◌⊎◌, inl, inr, Bool, true, false, refl, sym, ap, ap₂, ◌∙◌, subst, length, get_or, set, take, arith, length-set}
+use Rattle.std.proofs.Common.{ℕ, zero, suc, List, [], ◌∷◌, ◌++◌, ◌+◌, ◌≡◌, ◌≢◌, ◌<◌, ◌≤◌, ◌⊎◌, inl, inr, Bool, true, false, refl, sym, ap, ◌∙◌, subst, length, get_or, set, take, arith, length-set}
 use Rattle.std.specs.Prelude.{◌==◌, ◌||◌, ◌&&◌, Option, None, Some, IsSomeAnd, cond, map, nat_lt, sum_by, All, Result, Ok, Err, OnOk, OnErr}
 use Rattle.std.proofs.lemmas.Bool.{eqb-true, eq-eqb, false≢true}
 use Rattle.std.proofs.lemmas.List.{get_or-set_same, get_or-set_other, take_more, get_or_default}
@@ -15,11 +15,11 @@ use Rattle.djq_tree.specs.Tree.{Tree}
 use Rattle.djq_query.specs.Numbered.{Numbered}
 use Rattle.djq_live.specs.Shown.{shown, AreShownAs}
 use Rattle.djq_live.specs.Live.{Live, IsKept, IsShowable, ShowableStays}
-use Rattle.djq_live.specs.Updating.{change_of, IsDeltaOf, delta_bound, Logs, LogsWhere, CountsDelta, IsEmpty}
-use Rattle.djq_engine.specs.Places.{place_at, is_reader, readers_at, log_at, no_log, watchers_at, watched_at}
+use Rattle.djq_live.specs.Updating.{change_of, IsDeltaOf, delta_bound, LogsWhere, CountsDelta, IsEmpty}
+use Rattle.djq_engine.specs.Places.{place_at, is_reader, readers_at, log_at, no_log, watched_at}
 use Rattle.djq_engine.specs.Sound.{IsSound, AreOnce}
 use Rattle.djq_engine.specs.Reaching.{DoneAt, Reach, AllAt}
-use Rattle.djq_engine.specs.Tending.{Readies, Tells, TellsWhere, TellsAt, Shows, AreShown, TendedAt, Tends, Empties, DeltasOf, cost_of, cost_at, Costs}
+use Rattle.djq_engine.specs.Tending.{Readies, Tells, TellsWhere, TellsAt, Shows, AreShown, TendedAt, Tends, Empties, cost_of, cost_at, Costs}
 use Rattle.djq_engine.specs.Placing.{SameLogs}
 use Rattle.djq_engine.specs.Changing.{IsDeltaWith}
 use Rattle.djq_engine.proofs.Told.{Alike, AlikeAt, AreAlike}

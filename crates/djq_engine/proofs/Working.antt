@@ -1,22 +1,21 @@
 -- How much updates of the queries in places count, one after another.
-use Rattle.std.proofs.Common.{ℕ, zero, suc, List, [], ◌∷◌, ◌++◌, ◌+◌, ◌*◌, ◌≡◌, ◌<◌, ◌≤◌, Bool, true, false, refl, sym, ap, ◌∙◌, subst, length, get_or, take, arith, mul-le-mul_left}
+use Rattle.std.proofs.Common.{ℕ, List, [], ◌∷◌, ◌++◌, ◌+◌, ◌*◌, ◌≡◌, ◌<◌, ◌≤◌, Bool, true, false, refl, sym, ap, ◌∙◌, subst, length, get_or, take, arith, mul-le-mul_left}
 use Rattle.std.specs.Prelude.{◌==◌, ◌||◌, Option, None, Some, IsSomeAnd, is_some, cond, Contains, filter, map, sum_by}
 use Rattle.std.proofs.lemmas.Bool.{eqb-true, eq-eqb, false≢true}
 use Rattle.std.proofs.lemmas.List.{take_more}
 use Rattle.std.proofs.lemmas.List.Sums.{sum_by-cons, sum_by-append, sum_by-take-le, sum_by_more}
 use Rattle.std.proofs.lemmas.Nat.{mul-le}
-use Rattle.djq_model.specs.declared.query.Query.{Query}
 use Rattle.djq_model.specs.Data.{Bytes, bytes_eq}
 use Rattle.djq_machine.specs.Stale.{reads}
 use Rattle.djq_propagate.specs.Updates.{HasAtMost}
 use Rattle.djq_query.specs.Numbered.{Numbered}
 use Rattle.djq_rows.specs.Catalog.{relation_at}
-use Rattle.djq_live.specs.Live.{Live, IsKept}
+use Rattle.djq_live.specs.Live.{Live}
 use Rattle.djq_live.specs.Updating.{CountsUpdate, LeavesAreSmall, atoms_over, update_bound}
 use Rattle.djq_live.proofs.Sizing.{all_grown}
 use Rattle.djq_engine.specs.declared.parts.Parts.{Parts}
 use Rattle.djq_engine.specs.Kept.{Registered, registered_at, readers_of}
-use Rattle.djq_engine.specs.Places.{place_at, is_live, is_reader, readers_at, query_in, id_at, registered_as, registered_in}
+use Rattle.djq_engine.specs.Places.{place_at, is_live, is_reader, readers_at, query_in, id_at, registered_as}
 use Rattle.djq_engine.specs.Sound.{AreOnce}
 use Rattle.djq_engine.specs.Reaching.{DoneAt, Reach, AllAt, TakesIn, Remains}
 use Rattle.djq_engine.specs.Tending.{Works, work_of, work_at}

@@ -1,5 +1,5 @@
 -- What the parts of a change of rows do.
-use Rattle.std.specs.Prelude.{ℕ, List, [], ◌∷◌, ◌++◌, ◌+◌, ◌≡◌, ◌<◌, ◌≤◌, ◌&&◌, Bool, true, false, Option, Some, length, map, sum_by, ⊤}
+use Rattle.std.specs.Prelude.{ℕ, List, [], ◌∷◌, ◌++◌, ◌+◌, ◌≡◌, ◌<◌, ◌≤◌, ◌&&◌, Bool, true, false, Some, length, map, sum_by, ⊤}
 use Rattle.djq_model.specs.Data.{Bytes, Tuple, has_row, without_row}
 use Rattle.djq_model.specs.declared.relation.Relation.{Relation}
 use Rattle.djq_model.specs.Answer.{IsAnswer}

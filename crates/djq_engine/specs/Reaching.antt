@@ -1,5 +1,5 @@
 -- What a change does to the queries that read its relation, and to no other.
-use Rattle.std.specs.Prelude.{ℕ, List, [], ◌≡◌, ◌≢◌, ◌<◌, Bool, true, false, Option, None, Some, IsSomeAnd, Contains, length, ⊤}
+use Rattle.std.specs.Prelude.{ℕ, List, ◌≡◌, Bool, true, false, Option, None, Some, IsSomeAnd, Contains, length, ⊤}
 use Rattle.djq_model.specs.Data.{Bytes, Tuple}
 use Rattle.djq_rows.specs.Catalog.{Catalog, rows_at}
 use Rattle.djq_live.specs.Cursors.{outdated_slots}

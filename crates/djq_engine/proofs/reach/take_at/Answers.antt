@@ -1,4 +1,4 @@
-use Rattle.std.proofs.Common.{List, sym, subst, Bool}
+use Rattle.std.proofs.Common.{subst, Bool}
 use Rattle.djq_live.specs.Changes.{Came}
 use Rattle.djq_live.specs.Updating.{CanAdd}
 use Rattle.djq_engine.specs.Reaching.{Remains, TakesIn}

@@ -1,7 +1,7 @@
-use Rattle.std.proofs.Common.{◌∙◌, ◌+◌, arith, take, sym, subst}
+use Rattle.std.proofs.Common.{◌+◌, arith, take}
 use Rattle.djq_live.specs.Changes.{Came}
 use Rattle.djq_live.specs.Updating.{CanAdd}
-use Rattle.djq_engine.specs.Reaching.{Remains, TakesIn}
+use Rattle.djq_engine.specs.Reaching.{TakesIn}
 use Rattle.djq_engine.specs.Tending.{Shows, TellsAt}
 use Rattle.djq_engine.proofs.Reaching.{
   all_come,

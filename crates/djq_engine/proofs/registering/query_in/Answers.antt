@@ -12,7 +12,7 @@ use Rattle.djq_machine.specs.Store.{LearnsAll, LearnsFirst}
 use Rattle.djq_rows.specs.Catalog.{Catalog}
 use Rattle.djq_engine.specs.declared.parts.Parts.{Parts}
 use Rattle.djq_engine.specs.Kept.{Registered}
-use Rattle.djq_engine.specs.Places.{id_at, place_at, query_in, queries_in, registered_in}
+use Rattle.djq_engine.specs.Places.{id_at, query_in, queries_in, registered_in}
 use Rattle.djq_engine.specs.Tending.{AreShown}
 use Rattle.djq_engine.specs.Whole.{IsWhole}
 use Rattle.std.specs.Prelude.{is_some}

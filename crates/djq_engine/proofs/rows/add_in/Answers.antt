@@ -1,6 +1,6 @@
-use Rattle.std.proofs.Common.{ℕ, List, ◌+◌, ◌++◌, ◌∷◌, [], ◌∙◌, ap, arith, false, refl, subst, sym, Bool, rules, ◌≡◌}
+use Rattle.std.proofs.Common.{ℕ, List, ◌+◌, ◌++◌, ◌∷◌, [], ◌∙◌, ap, arith, refl, subst, sym, rules, ◌≡◌}
 use Rattle.djq_model.specs.Data.{rows_of}
-use Rattle.std.specs.Prelude.{Err, IfErr, Option, Some}
+use Rattle.std.specs.Prelude.{IfErr, Option, Some}
 use Rattle.djq_lines.specs.declared.answer.Refusal.{Refusal}
 use Rattle.djq_machine.specs.Store.{add_refusal}
 use Rattle.djq_dict.specs.declared.refusal.InternRefusal.{InternRefusal}
@@ -8,7 +8,6 @@ use Rattle.djq_rows.specs.declared.relation_id.RelationId.{RelationId}
 use Rattle.djq_rows.specs.Catalog.{rows_at}
 use Rattle.djq_engine.specs.Judging.{JudgesAdd, bare}
 use Rattle.djq_engine.specs.Changing.{Idles, Lacks}
-use Rattle.djq_engine.specs.Watching.{TellsChange}
 use Rattle.djq_engine.specs.Whole.{kept_in}
 use Rattle.djq_engine.proofs.Adding.{
   add_done,

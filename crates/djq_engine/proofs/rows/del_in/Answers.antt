@@ -1,5 +1,5 @@
-use Rattle.std.proofs.Common.{ℕ, List, ◌+◌, ◌∙◌, ap, arith, refl, sym, subst, rules, ◌≡◌}
-use Rattle.std.specs.Prelude.{Err, Option}
+use Rattle.std.proofs.Common.{ℕ, List, ◌+◌, ◌∙◌, ap, arith, refl, sym, subst}
+use Rattle.std.specs.Prelude.{Option}
 use Rattle.djq_model.specs.Data.{rows_of, without_row}
 use Rattle.djq_engine.specs.Whole.{kept_in}
 use Rattle.djq_rows.specs.Catalog.{rows_at}
