@@ -10,6 +10,7 @@ use Rattle.djq_live.proofs.Living.{
   can_add,
   add_leaves,
   add_lacks,
+  add_few,
   follows_came,
   given_back,
   tables_back,
@@ -43,6 +44,20 @@ add_to_leaves-done-requires-clause-absent g c =
       cursors = c.self.inside.cursors;
     } in
     add_lacks l c.args.relation.at
+    c.args.cells.now c.atoms-atoms.result.now c.as_slice-patterns.result.now c.atoms-atoms.ensures
+    c.as_slice-patterns.ensures.value
+    (can_add l c.args.self.now c.args.relation.at c.args.cells.now c.self.view_is c.requires)
+
+pub add_to_leaves-done-requires-clause-few : goal.add_to_leaves-done-requires-clause-few
+add_to_leaves-done-requires-clause-few g c =
+    let l : Live = record {
+      query = c.self.inside.query;
+      numbered = c.self.inside.numbered;
+      patterns = c.self.inside.patterns.items;
+      reducts = c.self.inside.reducts;
+      cursors = c.self.inside.cursors;
+    } in
+    add_few l c.args.relation.at
     c.args.cells.now c.atoms-atoms.result.now c.as_slice-patterns.result.now c.atoms-atoms.ensures
     c.as_slice-patterns.ensures.value
     (can_add l c.args.self.now c.args.relation.at c.args.cells.now c.self.view_is c.requires)
