@@ -1,5 +1,5 @@
 -- How a query is built: its atoms are bound, and its leaves filled.
-use Rattle.std.specs.Prelude.{◌≡◌, ◌≢◌, ℕ, ◌<◌, ◌≤◌, List, ◌++◌, length, Some, slice_get, map}
+use Rattle.std.specs.Prelude.{◌≡◌, ◌≢◌, ℕ, ◌+◌, ◌<◌, ◌≤◌, List, ◌++◌, length, Some, slice_get, map}
 use Rattle.std.specs.List.{list_any}
 use Rattle.djq_model.specs.Data.{Bytes}
 use Rattle.djq_hyper.specs.Hypergraph.{member}
