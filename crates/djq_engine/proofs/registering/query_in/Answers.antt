@@ -12,7 +12,7 @@ use Rattle.djq_machine.specs.Store.{LearnsAll, LearnsFirst}
 use Rattle.djq_rows.specs.Catalog.{Catalog}
 use Rattle.djq_engine.specs.declared.parts.Parts.{Parts}
 use Rattle.djq_engine.specs.Kept.{Registered}
-use Rattle.djq_engine.specs.Places.{id_at, place_at, query_in, queries_in, registered_in}
+use Rattle.djq_engine.specs.Places.{id_at, query_in, queries_in, registered_in}
 use Rattle.djq_engine.specs.Tending.{AreShown}
 use Rattle.djq_engine.specs.Whole.{IsWhole}
 use Rattle.std.specs.Prelude.{is_some}
@@ -60,7 +60,8 @@ pub returns-in-Err-clause-registers : goal.returns-in-Err-clause-registers
 returns-in-Err-clause-registers g c =
     query_lacks c.args.parts.now.catalog c.intern_constants-known.new.catalog c.args.parts.now.queries.items c.args.parts.now.queries.items c.args.parts.now.order c.args.parts.now.order c.args.parts.now.seq c.args.parts.now.seq c.args.query (sym c.in_default.ensures)
     c.intern_constants-known.ensures.relations refl c.in-Ok.ensures.planned.connex
-    (all_first c.args.parts.now.catalog.texts (texts_in (constants_of c.args.query.atoms)) c.intern_constants-known.new.catalog.texts c.in-Ok-known.ensures.interns.0)
+    (all_first c.args.parts.now.catalog.texts (texts_in (constants_of c.args.query.atoms))
+    c.intern_constants-known.new.catalog.texts c.in-Ok-known.ensures.interns.0)
     c.laws.ensures.many refl
 
 pub register-requires-clause-whole : goal.register-requires-clause-whole
