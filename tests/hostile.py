@@ -100,8 +100,10 @@ TABLE = [
     (b"add r " + b"9" * 4090 + b"\n", b"err 7 type\n", 0),
     # the grammar's edges
     (b"rel\nrel r\nadd r\ndel r\nnext c\nopen c\nclose\nhas\nquit 1\nstop stop\nQUIT\n", SYNTAX * 11, 0),
-    (b"rel r bool\nrel r int,int\nquery q(x)\nquery q(x) <-\nquery q(x) < - r(x)\nquery q(x) <- r(x),\n", SYNTAX * 6, 0),
-    (b"query q(x,) <- r(x)\nquery q(_) <- r(x)\nquery q(1) <- r(x)\nquery q(x)) <- r(x)\nquery (x) <- r(x)\n", SYNTAX * 5, 0),
+    (b"rel r bool\nrel r int,int\nquery q(x)\nquery q(x) <-\n", SYNTAX * 4, 0),
+    (b"query q(x) < - r(x)\nquery q(x) <- r(x),\nquery q(x) <- , r(x)\n", SYNTAX * 3, 0),
+    (b"query q(x,) <- r(x)\nquery q(_) <- r(x)\nquery q(1) <- r(x)\n", SYNTAX * 3, 0),
+    (b"query q(x)) <- r(x)\nquery (x) <- r(x)\nquery q(x) <- r(x) s(x)\n", SYNTAX * 3, 0),
     (b"rel rel int\nquery query(x)<-rel(x)\nopen next query\nnext next 1\n", b"ok\nok query 3\nok open\nend\n", 0),
     (b"next c 0\nnext c 1001\nnext c 1000\nnext c 0001000\nnext c \"1\"\n",
      SYNTAX * 2 + b"err 5 no cursor\n" * 2 + SYNTAX, 0),
@@ -189,8 +191,10 @@ def schedules_outside_their_grammar():
     ]:
         expect(run(schedule, ("replay",)), (b"schedule %d\n" % at, 7), schedule[:60])
     for schedule, told in [
-        (b"open 1000000", b""), (b"open 1\nend 1\nfree 1\n", b""), (b"open 1\nsay 1\nsay 1 \npart 1\npart 1 \nend 1", b""),
-        (b"open 1\nsay 1 " + b" " * 8186 + b"\n", b"1< end long\n"), (b"open 1\npart 1 \xff\nend 1", b"1< err 13 cut\n"),
+        (b"open 1000000", b""), (b"open 1\nend 1\nfree 1\n", b""),
+        (b"open 1\nsay 1\nsay 1 \npart 1\npart 1 \nend 1", b""),
+        (b"open 1\nsay 1 " + b" " * 8186 + b"\n", b"1< end long\n"),
+        (b"open 1\npart 1 \xff\nend 1", b"1< err 13 cut\n"),
         (b"open 1\nsay 1 quit\nsay 1 x\npart 1 x\nagain 1\nfree 1\nend 1\n", b"1< bye\n"),
     ]:
         expect(run(schedule, ("replay",)), (told, 0), schedule[:60])
@@ -235,8 +239,8 @@ def drained(stream, into):
 def each_write_fails_in_turn():
     """The output is closed once the replies of so many lines were read."""
     for count in range(len(TALK)):
-        program = subprocess.Popen([PROGRAM, "run"], stdin=subprocess.PIPE, stdout=subprocess.PIPE, stderr=subprocess.PIPE,
-                                   bufsize=0)
+        pipes = dict(stdin=subprocess.PIPE, stdout=subprocess.PIPE, stderr=subprocess.PIPE)
+        program = subprocess.Popen([PROGRAM, "run"], bufsize=0, **pipes)
         for line, reply in TALK[:count]:
             program.stdin.write(line)
             heard = b""

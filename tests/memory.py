@@ -227,14 +227,16 @@ has q
 has q "a"
 close c
 drop q
-""") + b"".join(b"rel r%d int\n" % at for at in range(20)) \
+""") + b"".join(b"rel r%d int\n" % at for at in range(4)) \
     + b"query q(x) <- r0(x)" + b", r0(x)" * 16 + b"\n" + b"query q(x) <- r0(x)" + b", r0(x)" * 15 + b"\n" \
-    + b"".join(b"query q%d(x) <- r1(x)\n" % at for at in range(20)) + b"".join(b"open c%d q\n" % at for at in range(17)) \
+    + b"".join(b"query q%d(x) <- r1(x)\n" % at for at in range(6)) \
+    + b"".join(b"open c%d q\n" % at for at in range(17)) \
     + b"add r0 1\nadd r1 1\nnext c0 1\nnext c15 1\n"
 
 LONG_REPLIES = b"rel r int int\nquery q(x,y) <- r(x,y)\nwatch q\n" \
     + b"".join(b"add r %d %d\n" % (at, at + 1000000000) for at in range(60)) \
-    + b"unwatch q\nopen c q\nnext c 10\nnext c 1000\nnext c 1\n" + b"query p(x) <- r(x,_), r(_,y)\nwatch p\nadd r 0 0\n" \
+    + b"unwatch q\nopen c q\nnext c 10\nnext c 1000\nnext c 1\n" \
+    + b"query p(x) <- r(x,_), r(_,y)\nwatch p\nadd r 0 0\n" \
     + b"query w(" + b",".join(b"v%d" % at for at in range(16)) + b") <- " \
     + b", ".join(b"r(v%d,v%d)" % (at, (at + 1) % 16) for at in range(16)) + b"\nexplain q\n"
 
@@ -313,7 +315,7 @@ class Refusing:
 
 
 def gen_is_followed(text, output, status, memory=False):
-    summary = model.summary_of_load(500, 3)
+    summary = model.summary_of_load(300, 3)
     if (output, status) != (summary, 0) and (not memory or (output, status) != (b"", 6)):
         raise model.Difference(f"written {output!r}, status {status}")
 
@@ -335,6 +337,9 @@ def each_growth_refused(name, text, words=("run",)):
                     break
                 try:
                     follow(text, output, status, memory=True)
+                    wants = output.count(b"err 12 memory\n") + output.count(b"end memory\n")
+                    if words[0] == "run" and wants > refused:
+                        raise model.Difference(f"memory wanted {wants} times, refused {refused} times")
                 except model.Difference as difference:
                     which = "each growth from" if many else "growth"
                     raise AssertionError(f"{name}, {which} {first} refused: {difference}\n{output[-600:]!r}") from None
@@ -387,7 +392,7 @@ def a_schedule_of_several_sessions():
 
 @test
 def a_generated_load():
-    each_growth_refused("a load", b"", ("gen", "500", "3"))
+    each_growth_refused("a load", b"", ("gen", "300", "3"))
 
 
 # ---------------------------------------------------------------- a limit of memory

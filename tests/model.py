@@ -412,7 +412,7 @@ class Session:
         self.memory, self.begun, self.may_stop = False, 0, False
 
     def begin(self, word):
-        """A command begins. What it told may end for want of memory behind a whole line in an `explain`, or among deltas."""
+        """A command begins. By want of memory an `explain` may stop behind a whole line, and so may deltas."""
         self.begun, self.may_stop = self.at, word in (b"explain", b"add", b"del")
 
     def queued(self, line):
@@ -871,8 +871,11 @@ def turn(machine, session, word, text):
     """One turn of a schedule, without the flush at its end."""
     sent = len(machine.sent)
     if word == b"open":
-        if len(machine.sessions) >= MOST_SESSIONS or session.falls(sent):
-            session.say(b"end full" if len(machine.sessions) >= MOST_SESSIONS else END_MEMORY)
+        if len(machine.sessions) >= MOST_SESSIONS:
+            session.say(b"end full")
+            machine.sent.append(session.number)
+        elif session.falls(sent):
+            session.fall()
             machine.sent.append(session.number)
         else:
             machine.sessions[session.number] = session

@@ -5,8 +5,8 @@
 
 Streams of commands over few names and few values are given to `run`, among them lines that are near the grammar and
 lines of random bytes, and the end cut anywhere; schedules of several sessions are given to `replay`, and numbers to
-`gen`. What is written is followed by tests/model.py, which computes all answers anew by brute force. A stream that the model doesn't follow
-is made as short as it will go, and printed with its seed.
+`gen`. What is written is followed by tests/model.py, which computes all answers anew by brute force. A stream that the
+model doesn't follow is made as short as it will go, and printed with its seed.
 
 It goes on for S seconds, 30 by default; where N commands are asked for, until so many were run. The same seed gives
 the same streams, and without one the time gives it. It needs Python's standard library alone. The last line is
@@ -46,12 +46,14 @@ class World:
     """What the authors of one stream named, and how much they vary."""
 
     def __init__(self, chance):
-        self.values = chance.choice([2, 2, 3, 3, 4])
+        self.values = chance.choice([2, 2, 3, 3, 4]) if chance.random() < 0.95 else 30
         # the fewer values there are, the more variables a query may have before its answers are too many
-        self.variables = VARIABLES[:{2: 8, 3: 5, 4: 4}[self.values]]
+        self.variables = VARIABLES[:{2: 8, 3: 5, 4: 4, 30: 3}[self.values]]
         self.texts = chance.random() < 0.4
         self.removals = chance.choice([0.2, 0.5, 0.8])
-        self.changes = chance.choice([10, 40, 80])
+        self.changes = chance.choice([10, 40, 80]) if self.values < 30 else 300
+        # how many lines of a hundred are near the grammar, and not in it
+        self.near = chance.choice([2, 5, 5, 5, 40])
         self.relations, self.heads = {}, {}
 
 
@@ -82,6 +84,8 @@ class Author:
             return self.chance.choice(PAST_LIMITS)
         if odd < 0.01:
             kind = b"text" if kind == b"int" else b"int"
+        if kind == b"text" and self.world.values == 30:
+            return b'"t%d"' % self.chance.randrange(30)
         if kind == b"text":
             return self.chance.choice(TEXTS[:self.world.values + 1])
         return self.chance.choice(EXTREMES) if odd > 0.97 else b"%d" % self.chance.randrange(self.world.values)
@@ -94,7 +98,7 @@ class Author:
 
     def rel(self):
         name = self.chance.choice(RELATIONS)
-        columns = self.chance.choice([1, 1, 2, 2, 2, 2, 2, 3, 3, 4])
+        columns = self.chance.choice([1, 1, 2, 2, 2, 2, 2, 3, 3, 4]) if self.world.values < 30 else 2
         if self.chance.random() < 0.03:
             columns = self.chance.choice([8, 9, 12])
         kinds = [b"text" if self.world.texts and self.chance.random() < 0.4 else b"int" for _ in range(columns)]
@@ -207,15 +211,15 @@ class Author:
         return b"drop " + name
 
     def line(self):
-        odd = self.chance.random()
-        if odd < 0.01:
+        odd = self.chance.random() * 100
+        if odd < 1:
             return random_bytes(self.chance)
         line = self.planned.pop() if self.planned else self.chance.choice(self.kinds)()
-        if odd < 0.05:
+        if odd < self.world.near:
             return mutated(self.chance, line)
-        if odd < 0.07:
+        if odd > 98:
             return spaced(self.chance, line)
-        return b" " * self.chance.randrange(4) if odd < 0.08 else line
+        return b" " * self.chance.randrange(4) if odd > 97 else line
 
     def lines(self, count):
         return [self.rel() for _ in range(self.chance.randrange(2, 7))] + [self.line() for _ in range(count)]
@@ -326,7 +330,7 @@ def flood_stream(chance):
         number = chance.randrange(1, 4)
         line = chance.choice([b"add r %d", b"add r %d", b"add r %d", b"del r %d", b"has p %d"]) % chance.randrange(10)
         if chance.random() < 0.3:
-            line = chance.choice([b"watch f", b"watch p", b"unwatch f", b"open c f", b"close c", b"next c 1000", b"next c 1000"])
+            line = chance.choice([b"watch f", b"watch p", b"unwatch f", b"open c f", b"close c"] + [b"next c 1000"] * 2)
         schedule.append(b"say %d %s" % (number, line))
         if chance.random() < 0.1:
             schedule.append(chance.choice([b"again %d", b"again %d", b"free %d"]) % chance.randrange(1, 4))
@@ -351,8 +355,9 @@ def spoilt(chance, schedule):
     """A schedule with one line that is likely outside its grammar."""
     at = chance.randrange(len(schedule))
     schedule[at] = chance.choice([
-        b"", b"open 0", b"open 01", b"open 1000001", b"open 1 ", b"say 999999 x", b"end", b"say", b"Say 1 x", b" say 1 x",
-        b"again 1 x", b"open  1", b"part 1 " + b"x" * 8200, b"say 1" + b" " * 8188, schedule[at] + b" ", b"open 1",
+        b"", b"open 0", b"open 01", b"open 1000001", b"open 1 ", b"say 999999 x", b"end", b"say", b"Say 1 x",
+        b" say 1 x", b"again 1 x", b"open  1", b"part 1 " + b"x" * 8200, b"say 1" + b" " * 8188,
+        schedule[at] + b" ", b"open 1",
     ])
 
 
