@@ -408,33 +408,45 @@ def run_within(memory, text):
     return done.stdout, done.returncode
 
 
+def changed(rows, word, row, seq, reply):
+    """The rows and the number of changes after a change that was answered; an `add` may be refused for memory."""
+    if word == b"add" and reply == b"err 12 memory":
+        return seq
+    there = row in rows
+    if there == (word == b"add"):
+        expect(reply, b"ok %s %d" % (b"same" if there else b"absent", seq), row)
+        return seq
+    expect(reply, b"ok %s %d" % (b"removed" if there else b"added", seq + 1), row)
+    rows.symmetric_difference_update({row})
+    return seq + 1
+
+
 @test
 def exactly_the_accepted_rows_are_listed_where_memory_ends():
-    # a reply of ten answers takes no memory, so that all can be listed where none is left
+    row = lambda at: b"%d %d" % (at, at * 7 % MILLION)
+    changes = [(b"add", row(at)) for at in range(MILLION)]
+    # rows go where no memory is left, and others come in their place
+    changes += [(b"del", row(at)) for at in range(2000)] + [(b"add", row(at)) for at in range(1000, MILLION, 500)]
+    # a reply of ten answers takes no memory, so all of them can be listed where none is left
     text = b"rel r int int\nquery q(x,y) <- r(x,y)\nopen c q\nnext c 10\n" \
-        + b"".join(b"add r %d %d\n" % (at, at * 7 % MILLION) for at in range(MILLION)) \
+        + b"".join(b"%s r %s\n" % change for change in changes) \
         + b"next c 1\nclose c\nopen c q\n" + b"next c 10\n" * (MILLION // 10 + 1)
     output, status = run_within(60 << 20, text)
     expect(status, 0, output[-200:])
     replies = output.split(b"\n")
     expect(replies[:4], [b"ok", b"ok query 5", b"ok open", b"end"])
-    adds, rest = replies[4:4 + MILLION], replies[4 + MILLION:]
-    accepted, seq = [], 0
-    for at, reply in enumerate(adds):
-        if reply == b"err 12 memory":
-            continue
-        seq += 1
-        expect(reply, b"ok added %d" % seq, f"row {at}")
-        accepted.append(b"= %d %d" % (at, at * 7 % MILLION))
-    expect(len(accepted) > 1000 and len(accepted) < MILLION - 1000, True, f"{len(accepted)} rows fit")
-    expect(rest[0] in (b"stale c r 1", b"stale c r 0"), True, rest[0])
-    expect(rest[1:3], [b"ok", b"ok open"])
-    listed = [reply for reply in rest[3:] if reply.startswith(b"= ")]
-    expect(len(listed), len(accepted), "how many are listed")
-    expect(sorted(listed) == sorted(accepted), True, "exactly the accepted rows are listed")
-    others = [reply for reply in rest[3:] if not reply.startswith(b"= ")]
-    expect(set(others), {b"more", b"end", b""}, "replies beside the answers")
-    print(f"{len(accepted)} of {MILLION} rows fit into 60 MiB")
+    rows, seq = set(), 0
+    for (word, said), reply in zip(changes, replies[4:]):
+        seq = changed(rows, word, said, seq, reply)
+    refused = replies[4:4 + MILLION].count(b"err 12 memory")
+    expect(1000 < refused < MILLION - 1000, True, f"{refused} of {MILLION} rows are refused")
+    rest = replies[4 + len(changes):]
+    expect(rest[:3], [b"stale c r 1", b"ok", b"ok open"])
+    listed = [reply[2:] for reply in rest[3:] if reply.startswith(b"= ")]
+    expect(len(listed), len(rows), "how many rows are listed")
+    expect(set(listed) == rows, True, "exactly the accepted rows are listed")
+    expect({reply for reply in rest[3:] if not reply.startswith(b"= ")}, {b"more", b"end", b""}, "other replies")
+    print(f"{refused} of {MILLION} rows are refused in 60 MiB, and {len(rows)} are listed in the end")
 
 
 def main():

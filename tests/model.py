@@ -35,7 +35,7 @@ class Syntax(Exception):
     """A line is in no form of the grammar."""
 
 
-class OutOfMemory(Exception):
+class OutOfMemory(Difference):
     """A session was sent `end memory` where that is allowed."""
 
 
