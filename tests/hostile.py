@@ -114,9 +114,9 @@ TABLE = [
 ]
 
 
-def run(text, words=("run",)):
+def run(text, words=("run",), error=b""):
     done = subprocess.run([PROGRAM, *words], input=text, capture_output=True, timeout=PATIENCE * 3)
-    expect(done.stderr, b"", "standard error")
+    expect(done.stderr[:len(error)] if error else done.stderr, error, "standard error")
     return done.stdout, done.returncode
 
 
@@ -326,8 +326,9 @@ def each_read_fails_in_turn():
 def a_port_that_is_taken_is_a_fault_of_the_hub():
     with socket.create_server(("127.0.0.1", 0)) as holder:
         words = ("serve", "127.0.0.1:%d" % holder.getsockname()[1])
-        expect(run(b"", words), (b"", 4))
-        expect(run(b"", words + ("--turns", "5")), (b"", 4))
+        error = b"djq: can't listen on " + words[1].encode() + b": "
+        expect(run(b"", words, error), (b"", 4))
+        expect(run(b"", words + ("--turns", "5"), error), (b"", 4))
 
 
 @test
