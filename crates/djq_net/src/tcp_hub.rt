@@ -190,12 +190,13 @@ impl<R: Net<Listener = net::TcpListener, Stream = net::TcpStream> + Eprint + Dro
         Turn::Idle
     }
 
-    /// Counts a fault of the hub itself, and answers so.
-    fn fail(&mut self) -> Turn
+    /// Counts a fault of the hub itself, says it, and answers so.
+    fn fail(&mut self, error: io::Error) -> Turn
         ensures failed { result ≡ Turn.Failed }
         ensures shown { self.new ≡ record self.old { faults = self.new.faults } }
         ensures counted { Counted self.old.faults self.new.faults }
     {
+        let _ = eprintln!(self.rt; "djq: the listener failed: {error}");
         self.faults = self.faults.saturating_add(1);
         Turn::Failed
     }
@@ -260,8 +261,10 @@ impl<R: Net<Listener = net::TcpListener, Stream = net::TcpStream> + Eprint + Dro
 
     fn turn(&mut self, buf: &mut [u8]) -> Turn {
         // A client that always has bytes doesn't keep the others from being heard.
-        if self.busy && self.wait(0).is_err() {
-            return self.fail();
+        if self.busy {
+            if let Err(error) = self.wait(0) {
+                return self.fail(error);
+            }
         }
         match self.go_round(buf) {
             Turn::Idle => self.busy = false,
@@ -273,8 +276,8 @@ impl<R: Net<Listener = net::TcpListener, Stream = net::TcpStream> + Eprint + Dro
         if self.listening.is_none() {
             return Turn::Over;
         }
-        if self.wait(LONGEST_WAIT).is_err() {
-            return self.fail();
+        if let Err(error) = self.wait(LONGEST_WAIT) {
+            return self.fail(error);
         }
         self.go_round(buf)
     }
