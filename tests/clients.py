@@ -1,61 +1,22 @@
 """Tests of the client in clients/python: its protocol on its own, and its commands and the examples against the built
 program on loopback.
 
-    python3 tests/clients.py PROGRAM
+    python3 tests/clients.py PROGRAM [NAME ..]
 
-Ends with a line `N passed, N failed`; a failure is exit status 1.
+Runs all tests, or those of these names. Ends with a line `N passed, N failed`; a failure is exit status 1.
 """
 
 import contextlib
 import os
 import random
-import socket
 import subprocess
 import sys
 import threading
 import time
 import traceback
 
-HERE = os.path.dirname(os.path.abspath(__file__))
-sys.path.insert(0, os.path.join(HERE, "..", "clients", "python"))
-import djq
-
-SECONDS = 20  # that a reply may take
-
-
-class Server:
-    """The built program on a free port of loopback."""
-
-    def __init__(self, program):
-        with socket.create_server(("127.0.0.1", 0)) as free:
-            self.port = free.getsockname()[1]
-        self.process = subprocess.Popen([program, "serve", f"127.0.0.1:{self.port}"])
-
-    def __enter__(self):
-        until = time.monotonic() + SECONDS
-        while True:
-            try:
-                self.connect().close()
-                return self
-            except djq.Disconnected:
-                if time.monotonic() > until:
-                    raise
-                time.sleep(0.02)
-
-    def __exit__(self, *_):
-        self.process.kill()
-        self.process.wait()
-
-    def connect(self):
-        return djq.connect("127.0.0.1", self.port, timeout=SECONDS)
-
-
-def raises(kind, call):
-    try:
-        call()
-    except kind as error:
-        return error
-    raise AssertionError(f"{kind.__name__} wasn't raised")
+import busy
+from serving import HERE, SECONDS, Server, djq, dropped, raises, wait_until
 
 
 # The protocol alone
@@ -75,14 +36,14 @@ def test_values_there_and_back():
 
 def test_deltas_between_replies():
     protocol = djq.Protocol()
-    first = protocol.say("add r 1", djq._UPDATE)
-    second = protocol.say("next c 2", djq._read_page)
+    first = protocol.say("add r 1", djq.protocol.READ_UPDATE)
+    second = protocol.say("next c 2", djq.protocol.read_page)
     assert protocol.outgoing == b"add r 1\nnext c 2\n"
     for byte in b'+ q 1 "a b"\n- q 2 "c"\nat q 5\nok added 5\nat q 6\n= 1 "x"\n=\nmore\n+ p\nat p 7\n':
         protocol.feed(bytes([byte]))
     assert first.result() == djq.Update(True, 5)
     assert second.result() == djq.Page([(1, "x"), ()], False)
-    assert protocol.idle()
+    assert protocol.due == 0
     changes = [change for _, change in protocol.changes["q"]]
     assert changes == [
         djq.Change(5, frozenset({(1, "a b")}), frozenset({(2, "c")})),
@@ -106,7 +67,7 @@ def test_refusals_by_their_lines():
         ("no connex x,y x,z y,z", djq.NotFreeConnex),
     ):
         protocol = djq.Protocol()
-        pending = protocol.say("query q(x) <- r(x)", djq._reader(ok_query=int))
+        pending = protocol.say("query q(x) <- r(x)", djq.protocol.READ_QUERY)
         protocol.feed(line.encode() + b"\n")
         error = raises(kind, pending.result)
         if isinstance(error, djq.NotFreeConnex):
@@ -115,10 +76,10 @@ def test_refusals_by_their_lines():
 
 def test_an_end_fails_what_is_due():
     protocol = djq.Protocol()
-    pending = protocol.say("next c 1", djq._read_page)
+    pending = protocol.say("next c 1", djq.protocol.read_page)
     protocol.feed(b"= 1\nend slow\n")
     assert raises(djq.Ended, pending.result).cause == "slow"
-    raises(djq.Ended, lambda: protocol.say("quit", djq._OK))
+    raises(djq.Ended, lambda: protocol.say("quit", djq.protocol.READ_OK))
 
 
 # Against the built program
@@ -173,7 +134,7 @@ def test_an_error_class_for_each_number(server):
         client.query("qn(x) <- n(x,_)")
         cursor = client.cursor("qn")
         for number, call in (
-            (1, lambda: client.add("N", 1)),
+            (1, lambda: client.query("N(x) <- n(x,_)")),
             (2, lambda: client.relation("n", int)),
             (3, lambda: client.delete("nothing", 1)),
             (4, lambda: client.has("nothing", 1)),
@@ -213,7 +174,7 @@ def test_pipelines(server):
         client.relation("c", int, int)
         client.query("qc(y,x) <- c(x,y)")
         rows = [(n, n * n) for n in range(20000)]
-        with client.pipeline() as many:
+        with client.pipeline(raises=False) as many:
             replies = [many.add("c", *row) for row in rows[:500]]
             replies.append(many.delete("c", 0, 0))
             found = many.has("qc", 4, 2)
@@ -286,21 +247,6 @@ def test_a_watched_query_is_in_use(server):
         with server.connect() as one:
             watched()
         wait_until(lambda: dropped(two, "qu"))
-
-
-def dropped(client, query):
-    try:
-        client.drop(query)
-        return True
-    except djq.InUse:
-        return False
-
-
-def wait_until(call):
-    until = time.monotonic() + SECONDS
-    while not call():
-        assert time.monotonic() < until, "waited too long"
-        time.sleep(0.01)
 
 
 def test_two_queries_are_told_in_order_of_registration(server):
@@ -389,7 +335,7 @@ def test_a_stalled_reader_comes_back(server):
         for number in range(300):
             other.add("sw", text, number)
         with other.live("sq") as live:
-            live._connection.watch("probe")
+            live._group._connection.watch("probe")
             # nothing of this is read, until the server ends the session, which gives up its watches
             for last in range(2000):
                 other.add("sx", last)
@@ -538,7 +484,7 @@ def test_explain(program):
 
 def test_ends(server):
     client = server.connect()
-    too_long = lambda: client._do("add " + "e" * 5000, djq._OK)
+    too_long = lambda: client._do("add " + "e" * 5000, djq.protocol.READ_OK)
     assert raises(djq.Ended, too_long).cause == "long"
     raises(djq.Ended, lambda: client.add("b", 1))
     client.close()
@@ -565,15 +511,17 @@ SERVED = [
     test_live_beside_a_fresh_listing, test_live_begins_while_rows_change, test_a_stalled_reader_comes_back,
 ]  # fmt: skip
 # each with a server of its own
-APART = [test_explain, test_stop, test_dashboard, test_alarm, test_cache]
+APART = [test_explain, test_stop, test_dashboard, test_alarm, test_cache, *busy.TESTS]
 
 
 def main():
-    program = os.path.abspath(sys.argv[1])
+    program, names = os.path.abspath(sys.argv[1]), sys.argv[2:]
     passed = failed = 0
     with Server(program) as server:
         runs = [(test, ()) for test in ALONE] + [(test, (server,)) for test in SERVED]
         for test, given in runs + [(test, (program,)) for test in APART]:
+            if names and test.__name__ not in names:
+                continue
             try:
                 test(*given)
                 passed += 1
@@ -582,7 +530,7 @@ def main():
                 print(f"{test.__name__} failed")
                 traceback.print_exc()
     print(f"{passed} passed, {failed} failed")
-    sys.exit(1 if failed else 0)
+    sys.exit(1 if failed or not passed else 0)
 
 
 if __name__ == "__main__":
