@@ -9,6 +9,9 @@ Runs all tests, or those of these names. Ends with a line `N passed, N failed`; 
 import contextlib
 import os
 import random
+import resource
+import selectors
+import signal
 import subprocess
 import sys
 import threading
@@ -357,6 +360,164 @@ def test_a_stalled_reader_comes_back(server):
             assert live.answers == set()
 
 
+# Errors that tell what is wrong
+
+
+def test_errors_tell_what_is_wrong(server):
+    with server.connect() as client:
+        client.relation("e", int, str)
+        client.query("qe(x) <- e(x,_)")
+        long_text = "ä" * 128
+        for kind, call, line, why in (
+            (djq.NoRelation, lambda: client.add("nothing", 1), "add nothing 1", "no relation is named nothing"),
+            (djq.NoQuery, lambda: client.has("nothing", 1), "has nothing 1", "no query is named nothing"),
+            (djq.NoQuery, lambda: client.cursor("nothing"), "open c1 nothing", "no query is named nothing"),
+            (djq.Taken, lambda: client.relation("e", int), "rel e int", "the name is there: e"),
+            (djq.Taken, lambda: client.query("qe(x) <- e(x,_)"), "query qe(x) <- e(x,_)", "the name is there: qe"),
+            (djq.Arity, lambda: client.add("e", 1), "add e 1", "1 values were given, and e has 2 columns"),
+            (djq.WrongType, lambda: client.add("e", 2**63, ""), f'add e {2**63} ""', "value 1 is past 64 bits"),
+            (djq.WrongType, lambda: client.add("e", "a", "b"), 'add e "a" "b"', "value 1 is a text, and its column int"),
+            (djq.WrongType, lambda: client.delete("e", 1, 2), "del e 1 2", "value 2 is an int, and its column text"),
+            (djq.WrongType, lambda: client.add("e", 1, long_text), f'add e 1 "{long_text}"', "a text of 256 bytes"),
+        ):
+            error = raises(kind, call)
+            assert error.line == line and why in error.why, (error.line, error.why)
+            assert error.words in str(error) and error.why in str(error) and line[:100] in str(error)
+
+
+def test_what_isnt_sent(server):
+    with server.connect() as client:
+        for name in ("", "N", "a b", "a\nstop", "1a", "a" * 33, "ä"):
+            for call in (client.watch, client.explain, client.drop, client.relation, client.add, client.has, client.cursor):
+                raises(djq.BadName, lambda: call(name))
+        raises(ValueError, lambda: client.query("q(x) <- r(x)\nstop"))
+        raises(ValueError, lambda: client.add("r", "\ud800"))
+        raises(djq.TooLong, lambda: client.add("r", *["t" * 255] * 16))
+        raises(djq.NotWatched, lambda: client.next_change("q", 0))
+        client.ping()
+
+
+def test_a_reply_that_doesnt_come(program):
+    with Server(program) as server, djq.connect("127.0.0.1", server.port, timeout=0.5) as client:
+        client.relation("r", int)
+        client.query("q(x) <- r(x)")
+        with client.live("q", ping=0.5, reconnect=True) as live:
+            os.kill(server.process.pid, signal.SIGSTOP)
+            error = raises(djq.Unanswered, lambda: client.add("r", 1))
+            assert error.line == "add r 1" and "may have been done" in str(error)
+            raises(djq.Disconnected, client.ping)
+            assert live.next(3) is None
+            assert not live._group._whole, "it wasn't found out that the server has stopped"
+            os.kill(server.process.pid, signal.SIGCONT)
+            assert live.next(SECONDS).restarted and live.answers == {(1,)}
+
+
+# Many sets, many rows
+
+
+def test_unwatch_forgets(server):
+    with server.connect() as client:
+        client.relation("f", int)
+        client.query("qf(x) <- f(x)")
+        client.watch("qf")
+        client.add("f", 1)
+        client.unwatch("qf")
+        raises(djq.NotWatched, lambda: client.next_change("qf", 0))
+        client.watch("qf")
+        assert client.next_change("qf", 0) is None
+
+
+def test_several_live_sets_over_one_connection(server):
+    draw = random.Random(2)
+    with server.connect() as client:
+        names = ["ga", "gb", "gc"]
+        for name in names:
+            client.relation(name, int)
+        texts = {"one": "one(x) <- ga(x)", "two": "two(x) <- ga(x), gb(x)", "three": "three(x,y) <- gb(x), gc(y)"}
+        for text in texts.values():
+            client.query(text)
+        with client.lives("one", "two") as lives, selectors.DefaultSelector() as waiting:
+            lives.add("three")
+            assert [live.query for live in lives] == list(texts) and lives.add("two") is list(lives)[1]
+            waiting.register(lives, selectors.EVENT_READ)
+            told = []
+            for _ in range(200):
+                (client.add if draw.random() < 0.5 else client.delete)(draw.choice(names), draw.randrange(5))
+                if draw.random() < 0.2:
+                    told += lives.sync()
+                    assert all(live.answers == set(client.answers(live.query)) for live in lives)
+                elif waiting.select(0):
+                    told += lives.ready()
+            told += lives.sync()
+            assert waiting.select(0) == [] and lives.next(0) is None
+            # each change that one of them reads was told, in order
+            seqs = [change.seq for _, change in told]
+            assert seqs == sorted(seqs) and seqs[-1] <= lives.seq
+            list(lives)[1].close()
+            client.drop("two")
+            client.add("ga", 9)
+            (live, change) = lives.next(SECONDS)
+            assert (live.query, change.came) == ("one", {(9,)})
+
+
+def test_more_descriptors_than_select_takes(server):
+    most = resource.getrlimit(resource.RLIMIT_NOFILE)
+    if most[1] != resource.RLIM_INFINITY and most[1] < 1200:
+        return
+    resource.setrlimit(resource.RLIMIT_NOFILE, (max(most[0], 1200), most[1]))
+    with contextlib.ExitStack() as open_ones:
+        for _ in range(1050):
+            open_ones.enter_context(open(os.devnull, "rb"))
+        with server.connect() as client:
+            assert client.fileno() > 1024
+            client.ping()
+    resource.setrlimit(resource.RLIMIT_NOFILE, most)
+
+
+def test_loads(server):
+    with server.connect() as client:
+        client.relation("m", int, str)
+        client.query("qm(x,y) <- m(x,y)")
+        client.watch("qm")
+        rows = [(number, f'"{number}"') for number in range(5000)]
+        told = []
+        assert client.load("m", iter(rows[:3000]), told.append) == 3000
+        assert client.load("m", rows, told.append) == 2000
+        assert told == sorted(told[: told.index(3000) + 1]) + sorted(told[told.index(3000) + 1 :]) and told[-1] == 5000
+        assert client.snapshot("qm") == set(rows)
+        assert len(list(client.changes("qm", 0))) == 5000
+        assert client.load("m", []) == 0
+        # nothing is sent behind a refusal that has come
+        error = raises(djq.SomeRefused, lambda: client.load("m", ((n, "x" if n != 700 else n) for n in range(10**9))))
+        assert error.refused == 1 and error.first[0].line == "add m 700 700" and error.sent < 20000
+        client.ping()
+
+
+def test_a_table_with_a_key(server):
+    draw = random.Random(4)
+    with server.connect() as client, server.connect() as other:
+        table, rows = client.table("keyed", int, int, str, key=2), {}
+        for _ in range(300):
+            key = (draw.randrange(4), draw.randrange(2))
+            if draw.random() < 0.7:
+                row = (*key, draw.choice("abc"))
+                assert table.upsert(*row) == (rows.get(key) != row)
+                rows[key] = row
+            else:
+                assert table.remove(*key) == (rows.pop(key, None) is not None)
+            assert table.get(*key) == rows.get(key)
+        assert set(table) == set(rows.values()) == client.snapshot("keyed_rows") and len(table) == len(rows)
+        # what is refused leaves the old row
+        table.upsert(9, 9, "old")
+        raises(djq.WrongType, lambda: table.upsert(9, 9, 9))
+        assert table.get(9, 9) == (9, 9, "old") and other.has("keyed_rows", 9, 9, "old")
+        # rows of others are seen, and two of a key become one
+        other.add("keyed", 9, 9, "new")
+        table.upsert(9, 9, "last")
+        assert {row for row in other.snapshot("keyed_rows") if row[0] == 9} == {(9, 9, "last")}
+        assert set(server.connect().table("keyed", int, int, str, key=2)) == set(table)
+
+
 # Examples
 
 
@@ -509,9 +670,11 @@ SERVED = [
     test_random_rows_by_two_clients, test_ends,
     test_watch_and_unwatch, test_a_watched_query_is_in_use, test_two_queries_are_told_in_order_of_registration,
     test_live_beside_a_fresh_listing, test_live_begins_while_rows_change, test_a_stalled_reader_comes_back,
+    test_errors_tell_what_is_wrong, test_what_isnt_sent, test_unwatch_forgets, test_several_live_sets_over_one_connection,
+    test_more_descriptors_than_select_takes, test_loads, test_a_table_with_a_key,
 ]  # fmt: skip
 # each with a server of its own
-APART = [test_explain, test_stop, test_dashboard, test_alarm, test_cache, *busy.TESTS]
+APART = [test_explain, test_stop, test_dashboard, test_alarm, test_cache, test_a_reply_that_doesnt_come, *busy.TESTS]
 
 
 def main():

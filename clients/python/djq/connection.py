@@ -10,7 +10,7 @@ from types import TracebackType
 from typing import TYPE_CHECKING, Callable, Iterable, Iterator, Sequence, TypeVar
 
 from . import protocol
-from .errors import Disconnected, Error, NoCursor, NotWatched, Overtaken, Refused, SomeRefused
+from .errors import Disconnected, Error, NoCursor, NotWatched, Refused, SomeRefused
 from .listing import WITHIN, list_whole
 from .protocol import FIRST_REFUSALS, MOST_ANSWERS, Answer, Change, Page, Pending, Protocol, Rows, Update, Value
 from .protocol import checked, fitting, spell, spell_line
@@ -267,14 +267,14 @@ class Connection:
             self._lose(Disconnected(f"nothing came in {timeout:g} s"))
 
     def _turn(self, lines: Sequence[tuple[str, Callable[[list[str]], object]]], until: float) -> list[Pending]:
-        """Sends lines in one write, and reads their replies once all are there."""
+        """Sends lines in one write, and reads their replies once all are there. Raises `TimeoutError` where they aren't."""
         self._settle()
         pending = [self._say(line, read) for line, read in lines]
         self._whole(self._protocol.hold)
         while self._protocol.ended is None and self._protocol.kept() < len(pending):
             left = until - time.monotonic()
             if left <= 0:
-                raise Overtaken("the replies to a listing didn't come in time")
+                raise TimeoutError
             if self.timeout is None or left < self.timeout:
                 self._move(left, hold=True)
             else:

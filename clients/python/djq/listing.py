@@ -68,14 +68,14 @@ def list_whole(connection: Connection, query: str, within: float, most: int = MO
     while True:
         listing = Listing(connection, query, most, until)
         try:
-            if listing.run(pages):
+            if _comes_to_its_end(listing, pages):
                 connection._do(*listing.close)
                 return listing
             tries, told = tries + 1, max(told, len(listing.answers))
             if time.monotonic() + pause >= until:
                 raise Overtaken(
-                    f"{query} changed before a listing came to its end, {tries} times in {within:g} s; at most {told}"
-                    f" answers were told before, and one turn tells {most * MOST_ANSWERS}"
+                    f"{query} wasn't listed in {within:g} s: rows changed before the end of a listing, or it was slow, {tries}"
+                    f" times; at most {told} answers were told before, and one turn tells {most * MOST_ANSWERS}"
                 )
             if pages == most:
                 time.sleep(pause)
@@ -84,3 +84,10 @@ def list_whole(connection: Connection, query: str, within: float, most: int = MO
             connection._give_up(CURSOR)
             raise
         pages = min(most, listing.asked)
+
+
+def _comes_to_its_end(listing: Listing, pages: int) -> bool:
+    try:
+        return listing.run(pages)
+    except TimeoutError:
+        return False
