@@ -19,6 +19,7 @@ import time
 import traceback
 
 import busy
+import pages
 from serving import HERE, SECONDS, Server, djq, dropped, raises, wait_until
 
 
@@ -674,7 +675,7 @@ SERVED = [
     test_more_descriptors_than_select_takes, test_loads, test_a_table_with_a_key,
 ]  # fmt: skip
 # each with a server of its own
-APART = [test_explain, test_stop, test_dashboard, test_alarm, test_cache, test_a_reply_that_doesnt_come, *busy.TESTS]
+APART = [test_explain, test_stop, test_dashboard, test_alarm, test_cache, test_a_reply_that_doesnt_come, *pages.TESTS, *busy.TESTS]
 
 
 def main():
