@@ -1,5 +1,5 @@
-"""Tests of the client beside rows that change, servers that go and come, and calls that are interrupted: nothing is lost
-without a word."""
+"""Tests of the client beside rows that change, servers that go and come, and calls that are interrupted: nothing is
+lost without a word."""
 
 import contextlib
 import random
@@ -61,19 +61,21 @@ def test_live_starts_anew_after_a_long_delta(program):
     """From 202,500 answers to 405,000, beside 1,000 changes a second."""
     with Server(program) as server, server.connect() as client:
         lines = grid(client, "q", 450)
-        client.query("probe(x) <- q_a(7,x)")
+        client.relation("wide", str)
+        client.query("wide(x,y) <- q_a(0,x), wide(y)")
         with churn(server, 1000, *lines):
             live = client.live("q")
-            live._group._connection.watch("probe")
-            # nothing is read of deltas of 202,500 answers each, until the session is ended, which gives up its watches
-            for turn in range(40):
-                (client.delete if turn % 2 else client.add)("q_c", 0, 2)
-                if dropped(client, "probe"):
-                    break
-            assert turn < 39, "the session never ended"
+            live._group._connection.watch("wide")
             client.add("q_c", 0, 2)
+            # nothing is read of this delta of 202,500 answers, nor of what follows, until the session is ended,
+            # which gives up its watches
+            for turn in range(1000):
+                (client.delete if turn % 2 else client.add)("wide", "t" * 250)
+                if dropped(client, "wide"):
+                    break
+            assert turn < 999, "the session never ended"
             began = time.monotonic()
-            while not live.next(SECONDS).restarted:
+            while not live.next(3 * SECONDS).restarted:
                 pass
             took = time.monotonic() - began
             assert took < 60, took

@@ -2,8 +2,8 @@
 
     python3 tests/churn.py PORT RATE LINE ..
 
-Sends the lines in turn, RATE of them a second, and reads what it is answered. Where it was late it sends what is missing at
-once. Last it prints how many lines were sent.
+Sends the lines in turn, RATE of them a second, and reads what it is answered. Where it was late it sends what is
+missing at once. Last it prints how many lines were sent.
 """
 
 import select

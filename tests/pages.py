@@ -48,7 +48,8 @@ def run_page(name, program):
     ran = {"djq": 0, "python": 0}
     with Server(program) as server, server.connect() as client:
         names = {"server": client, "djq": djq}
-        with socket.create_connection(("127.0.0.1", server.port), SECONDS) as raw, raw.makefile("rw", newline="\n") as stream:
+        raw = socket.create_connection(("127.0.0.1", server.port), SECONDS)
+        with raw, raw.makefile("rw", newline="\n") as stream:
             for kind, block in blocks(name):
                 if kind == "djq":
                     run_session(name, block, stream)

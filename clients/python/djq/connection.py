@@ -13,7 +13,7 @@ from . import protocol
 from .errors import Disconnected, Error, NoCursor, NotWatched, Refused, SomeRefused
 from .listing import WITHIN, list_whole
 from .protocol import FIRST_REFUSALS, MOST_ANSWERS, Answer, Change, Page, Pending, Protocol, Rows, Update, Value
-from .protocol import checked, fitting, spell, spell_line
+from .protocol import checked, column_type, fitting, spell, spell_line
 
 if TYPE_CHECKING:
     from .live import Live, Lives
@@ -72,8 +72,7 @@ class Connection:
 
     def relation(self, name: str, *types: type | str) -> None:
         """Makes a relation; each type is `int` or `str`."""
-        words = {int: "int", str: "text", "int": "int", "text": "text"}
-        columns = tuple(words[kind] for kind in types)
+        columns = tuple(map(column_type, types))
         self._do(fitting(" ".join(["rel", checked(name), *columns])), protocol.READ_OK)
         self._protocol.columns[name] = columns
 
@@ -200,7 +199,8 @@ class Connection:
         load = _Load(self, progress)
         lines: list[str] = []
         for row in rows:
-            lines.append(fitting(front + " ".join([str(v) if type(v) is int else spell(v) for v in row])))
+            line = front + " ".join([str(v) if type(v) is int else spell(v) for v in row])
+            lines.append(line if len(line) < 1000 else fitting(line))
             if len(lines) == ROWS_AT_ONCE:
                 if not load.send(lines):
                     break
@@ -211,7 +211,7 @@ class Connection:
         return load.finish()
 
     def changes(self, query: str, timeout: float | None = None) -> Iterator[Change]:
-        """The changes of a watched query as they come, without end; with a timeout, until none came for so many seconds."""
+        """The changes of a watched query as they come; with a timeout, until none came for so many seconds."""
         while (change := self.next_change(query, timeout)) is not None:
             yield change
 
@@ -267,7 +267,7 @@ class Connection:
             self._lose(Disconnected(f"nothing came in {timeout:g} s"))
 
     def _turn(self, lines: Sequence[tuple[str, Callable[[list[str]], object]]], until: float) -> list[Pending]:
-        """Sends lines in one write, and reads their replies once all are there. Raises `TimeoutError` where they aren't."""
+        """Sends lines in one write, and reads their replies once all are there. Raises `TimeoutError`."""
         self._settle()
         pending = [self._say(line, read) for line, read in lines]
         self._whole(self._protocol.hold)

@@ -54,7 +54,8 @@ class Refused(Error):
         self.words, self.line, self.why = words, line, why
 
     def __str__(self) -> str:
-        return self.words + (f": {self.why}" if self.why else "") + (f" (sent: {shown(self.line)})" if self.line else "")
+        why = f": {self.why}" if self.why else ""
+        return self.words + why + (f" (sent: {shown(self.line)})" if self.line else "")
 
 
 class Syntax(Refused):

@@ -1,9 +1,10 @@
 """All answers of a query at one moment, also while rows change.
 
-The server runs the lines that it reads at once in one turn, with nothing of other sessions between, and it reads at most
-8,192 bytes at once. So a cursor is opened and asked for many pages in one write. What is told is parsed only once it is
-all there: who parses as it comes is slower than the server, which ends a session that doesn't read. Where that wasn't
-all, a further turn asks for more; where a change came between, it begins again with as many pages as it had asked for.
+The server runs the lines that it reads at once in one turn, with nothing of other sessions between, and it reads at
+most 8,192 bytes at once. So a cursor is opened and asked for many pages in one write. What is told is parsed only once
+it is all there: who parses as it comes is slower than the server, which ends a session that doesn't read. Where that
+wasn't all, a further turn asks for more; where a change came between, it begins again with as many pages as it had
+asked for.
 That one write comes in one read is likely and no promise. Nothing rests on it: a cursor that isn't stale at its end has
 listed the answers of one moment, however the bytes were cut.
 """
@@ -61,7 +62,7 @@ class Listing:
 
 
 def list_whole(connection: Connection, query: str, within: float, most: int = MOST_PAGES) -> Listing:
-    """A listing that came to its end, of at most so many pages a turn. Raises `Overtaken` where none did in `within` s."""
+    """A listing that came to its end, by turns of at most so many pages. Raises `Overtaken` after `within` seconds."""
     protocol.checked(query)
     until = time.monotonic() + within
     pages, pause, tries, told = min(FIRST_PAGES, most), 0.0, 0, 0
@@ -74,8 +75,8 @@ def list_whole(connection: Connection, query: str, within: float, most: int = MO
             tries, told = tries + 1, max(told, len(listing.answers))
             if time.monotonic() + pause >= until:
                 raise Overtaken(
-                    f"{query} wasn't listed in {within:g} s: rows changed before the end of a listing, or it was slow, {tries}"
-                    f" times; at most {told} answers were told before, and one turn tells {most * MOST_ANSWERS}"
+                    f"{query} wasn't listed in {within:g} s: rows changed before the end of a listing, or it was slow,"
+                    f" {tries} times; at most {told} answers were told, and one turn tells {most * MOST_ANSWERS}"
                 )
             if pages == most:
                 time.sleep(pause)

@@ -78,8 +78,8 @@ class Lives:
     - `within`: the seconds that a listing may take, before it raises `Overtaken`.
     - `reconnect`: where the start anew fails, since the server isn't there or doesn't know the query yet, it is tried
       again, with growing pauses. Without it what failed is raised, and the next call tries again.
-    - `ping`: where nothing came for so many seconds the server is asked for a reply, so that one that is stopped is found
-      out. `timeout` is how long it may take, else as many seconds again.
+    - `ping`: where nothing came for so many seconds the server is asked for a reply, so that one that is stopped is
+      found out. `timeout` is how long it may take, else as many seconds again.
     """
 
     def __init__(
@@ -116,7 +116,7 @@ class Lives:
         self._connection.close()
 
     def fileno(self) -> int:
-        """The descriptor to wait for with `selectors`; after a change with `restarted` it is another. -1 while there is none."""
+        """The descriptor to wait for; after a change with `restarted` it is another, and -1 while there is none."""
         return self._connection.fileno()
 
     def add(self, query: str) -> Live:
@@ -160,7 +160,9 @@ class Lives:
         return list(iter(lambda: self.next(0), None))
 
     def sync(self) -> list[tuple[Live, Change]]:
-        """Waits until all sets are told up to one change, whose number is `seq` then, and gives the changes till there."""
+        """Waits until all sets are told up to one change, which is `seq` then, and gives the changes till there."""
+        if not self._lives:
+            return []
         while True:
             try:
                 self._check()

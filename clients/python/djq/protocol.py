@@ -59,6 +59,13 @@ def fitting(line: str) -> str:
     return line
 
 
+def column_type(kind: type | str) -> str:
+    """The word for a column's type, which is given as `int`, `str`, or that word."""
+    if kind not in (int, str, "int", "text"):
+        raise TypeError(f"neither int nor str: {kind!r}")
+    return {int: "int", str: "text"}.get(kind, kind)
+
+
 def read_values(text: str) -> Answer:
     """The values that a reply says, with a space before each."""
     if '"' not in text:
@@ -96,7 +103,7 @@ class Update:
 
 @dataclass(frozen=True)
 class Change:
-    """One change of a watched query's answers. After a new start `seq` is that of the listing, and `restarted` is true."""
+    """One change of a watched query's answers. After a new start `restarted` is true, and `seq` that of the listing."""
 
     seq: int
     came: frozenset[Answer]
@@ -115,7 +122,9 @@ class Page:
 class Pending(Generic[T]):
     """A command that was queued. It has its result once its reply came."""
 
-    def __init__(self, line: str, read: Callable[[list[str]], T | None], failed: Callable[[Error], None] | None) -> None:
+    def __init__(
+        self, line: str, read: Callable[[list[str]], T | None], failed: Callable[[Error], None] | None = None
+    ) -> None:
         self.line = line
         self.done = False
         self.at = 0  # the number of the line that ended its reply
@@ -163,7 +172,7 @@ class Pending(Generic[T]):
 
 
 class Rows:
-    """Many commands that were queued as one, each answered by one line: how many changed a row, and what was refused."""
+    """Many commands that were queued as one, each answered by one line: how many changed a row, what was refused."""
 
     def __init__(self, lines: list[str], columns: dict[str, tuple[str, ...]]) -> None:
         self.lines = lines
@@ -184,9 +193,9 @@ class Rows:
         end = min(len(lines), at + len(self.lines) - self.replies)
         place = at
         while place < end and lines[place].startswith("ok "):
-            if lines[place].startswith(("ok added ", "ok removed ")):
-                self.changed += 1
             place += 1
+        done = "\n".join(["", *lines[at:place]])
+        self.changed += done.count("\nok added ") + done.count("\nok removed ")
         self.replies += place - at
         if place < end and lines[place].startswith("err "):
             self._refuse(lines[place])
@@ -420,9 +429,7 @@ class Protocol:
         word, _, rest = lines[at].partition(" ")
         taken = 1
         if word in ("+", "-"):
-            query, _, values = rest.partition(" ")
-            side = self._came if word == "+" else self._went
-            side.setdefault(query, set()).add(read_values(values))
+            taken = self._delta_lines(lines, at, word, rest.partition(" ")[0])
         elif word == "at":
             self._close_delta(rest, self._lines + 1)
         elif word == "end" and rest:
@@ -433,6 +440,16 @@ class Protocol:
                 raise Error(f"no reply is due: {lines[at]!r}")
         self._lines += max(taken, 1)
         return max(taken, 1)
+
+    def _delta_lines(self, lines: list[str], at: int, sign: str, query: str) -> int:
+        """Takes the lines of answers that came, or went, and gives how many."""
+        side = (self._came if sign == "+" else self._went).setdefault(query, set())
+        front = f"{sign} {query}"
+        end = at
+        while end < len(lines) and lines[end].startswith(front) and lines[end][len(front) : len(front) + 1] in ("", " "):
+            side.add(read_values(lines[end][len(front) :]))
+            end += 1
+        return end - at
 
     def _close_delta(self, rest: str, line: int) -> None:
         query, _, seq = rest.partition(" ")

@@ -79,7 +79,7 @@ class Table:
     # Inside
 
     def _replace(self, old: set[Answer], new: list[Answer]) -> None:
-        """Sends what takes rows out and puts rows in, in one write. Where a new row is refused, the old ones come back."""
+        """Takes rows out and puts rows in, in one write. Where a new row is refused, the old ones come back."""
         lines = [spell_line("del", self.relation, row) for row in old]
         lines += [spell_line("add", self.relation, row) for row in new]
         pending = [self._connection._say(line, READ_UPDATE) for line in lines]
