@@ -43,8 +43,9 @@ def run_python(name, block, names):
     names.update(test.globs)
 
 
-def run_page(name, program):
-    """Runs the blocks of a page, those of a session and those of Python, over one server. Gives how many of each."""
+def run_page(name, program, behind=lambda client: None):
+    """Runs the blocks of a page, those of a session and those of Python, over one server, and what comes behind them.
+    Gives how many there were of each."""
     ran = {"djq": 0, "python": 0}
     with Server(program) as server, server.connect() as client:
         names = {"server": client, "djq": djq}
@@ -57,6 +58,7 @@ def run_page(name, program):
                     run_python(name, block, names)
                 if kind in ran:
                     ran[kind] += 1
+        behind(client)
     return ran
 
 
@@ -66,7 +68,11 @@ def test_recipes(program):
 
 
 def test_queries(program):
-    ran = run_page("QUERIES.md", program)
+    def helper_is_in_step(client):
+        client.query("helped_too(a,b,c,d) <- helped(a,b,c,d)")
+        assert client.snapshot("helped_too") == client.snapshot("limits_of") != set()
+
+    ran = run_page("QUERIES.md", program, helper_is_in_step)
     assert ran == {"djq": 7, "python": 1}, ran
 
 
