@@ -44,11 +44,8 @@ class Cache:
                 self.kept[key] = None
         self.kept.move_to_end(key)
         hit = self.kept[key] is not None
-        while self.kept[key] is None:
-            try:
-                self.kept[key] = sorted(self.server.answers(query))
-            except djq.Stale:
-                pass  # a row came or went meanwhile
+        if not hit:
+            self.kept[key] = sorted(self.server.snapshot(query))
         return self.kept[key], hit
 
     def _watch(self, key, query):

@@ -1,61 +1,26 @@
 """Tests of the client in clients/python: its protocol on its own, and its commands and the examples against the built
 program on loopback.
 
-    python3 tests/clients.py PROGRAM
+    python3 tests/clients.py PROGRAM [NAME ..]
 
-Ends with a line `N passed, N failed`; a failure is exit status 1.
+Runs all tests, or those of these names. Ends with a line `N passed, N failed`; a failure is exit status 1.
 """
 
 import contextlib
 import os
 import random
-import socket
+import resource
+import selectors
+import signal
 import subprocess
 import sys
 import threading
 import time
 import traceback
 
-HERE = os.path.dirname(os.path.abspath(__file__))
-sys.path.insert(0, os.path.join(HERE, "..", "clients", "python"))
-import djq
-
-SECONDS = 20  # that a reply may take
-
-
-class Server:
-    """The built program on a free port of loopback."""
-
-    def __init__(self, program):
-        with socket.create_server(("127.0.0.1", 0)) as free:
-            self.port = free.getsockname()[1]
-        self.process = subprocess.Popen([program, "serve", f"127.0.0.1:{self.port}"])
-
-    def __enter__(self):
-        until = time.monotonic() + SECONDS
-        while True:
-            try:
-                self.connect().close()
-                return self
-            except djq.Disconnected:
-                if time.monotonic() > until:
-                    raise
-                time.sleep(0.02)
-
-    def __exit__(self, *_):
-        self.process.kill()
-        self.process.wait()
-
-    def connect(self):
-        return djq.connect("127.0.0.1", self.port, timeout=SECONDS)
-
-
-def raises(kind, call):
-    try:
-        call()
-    except kind as error:
-        return error
-    raise AssertionError(f"{kind.__name__} wasn't raised")
+import busy
+import pages
+from serving import HERE, SECONDS, Server, djq, dropped, raises, wait_until
 
 
 # The protocol alone
@@ -75,14 +40,14 @@ def test_values_there_and_back():
 
 def test_deltas_between_replies():
     protocol = djq.Protocol()
-    first = protocol.say("add r 1", djq._UPDATE)
-    second = protocol.say("next c 2", djq._read_page)
+    first = protocol.say("add r 1", djq.protocol.READ_UPDATE)
+    second = protocol.say("next c 2", djq.protocol.read_page)
     assert protocol.outgoing == b"add r 1\nnext c 2\n"
     for byte in b'+ q 1 "a b"\n- q 2 "c"\nat q 5\nok added 5\nat q 6\n= 1 "x"\n=\nmore\n+ p\nat p 7\n':
         protocol.feed(bytes([byte]))
     assert first.result() == djq.Update(True, 5)
     assert second.result() == djq.Page([(1, "x"), ()], False)
-    assert protocol.idle()
+    assert protocol.due == 0
     changes = [change for _, change in protocol.changes["q"]]
     assert changes == [
         djq.Change(5, frozenset({(1, "a b")}), frozenset({(2, "c")})),
@@ -106,7 +71,7 @@ def test_refusals_by_their_lines():
         ("no connex x,y x,z y,z", djq.NotFreeConnex),
     ):
         protocol = djq.Protocol()
-        pending = protocol.say("query q(x) <- r(x)", djq._reader(ok_query=int))
+        pending = protocol.say("query q(x) <- r(x)", djq.protocol.READ_QUERY)
         protocol.feed(line.encode() + b"\n")
         error = raises(kind, pending.result)
         if isinstance(error, djq.NotFreeConnex):
@@ -115,10 +80,10 @@ def test_refusals_by_their_lines():
 
 def test_an_end_fails_what_is_due():
     protocol = djq.Protocol()
-    pending = protocol.say("next c 1", djq._read_page)
+    pending = protocol.say("next c 1", djq.protocol.read_page)
     protocol.feed(b"= 1\nend slow\n")
     assert raises(djq.Ended, pending.result).cause == "slow"
-    raises(djq.Ended, lambda: protocol.say("quit", djq._OK))
+    raises(djq.Ended, lambda: protocol.say("quit", djq.protocol.READ_OK))
 
 
 # Against the built program
@@ -173,7 +138,7 @@ def test_an_error_class_for_each_number(server):
         client.query("qn(x) <- n(x,_)")
         cursor = client.cursor("qn")
         for number, call in (
-            (1, lambda: client.add("N", 1)),
+            (1, lambda: client.query("N(x) <- n(x,_)")),
             (2, lambda: client.relation("n", int)),
             (3, lambda: client.delete("nothing", 1)),
             (4, lambda: client.has("nothing", 1)),
@@ -213,7 +178,7 @@ def test_pipelines(server):
         client.relation("c", int, int)
         client.query("qc(y,x) <- c(x,y)")
         rows = [(n, n * n) for n in range(20000)]
-        with client.pipeline() as many:
+        with client.pipeline(raises=False) as many:
             replies = [many.add("c", *row) for row in rows[:500]]
             replies.append(many.delete("c", 0, 0))
             found = many.has("qc", 4, 2)
@@ -286,21 +251,6 @@ def test_a_watched_query_is_in_use(server):
         with server.connect() as one:
             watched()
         wait_until(lambda: dropped(two, "qu"))
-
-
-def dropped(client, query):
-    try:
-        client.drop(query)
-        return True
-    except djq.InUse:
-        return False
-
-
-def wait_until(call):
-    until = time.monotonic() + SECONDS
-    while not call():
-        assert time.monotonic() < until, "waited too long"
-        time.sleep(0.01)
 
 
 def test_two_queries_are_told_in_order_of_registration(server):
@@ -389,7 +339,7 @@ def test_a_stalled_reader_comes_back(server):
         for number in range(300):
             other.add("sw", text, number)
         with other.live("sq") as live:
-            live._connection.watch("probe")
+            live._group._connection.watch("probe")
             # nothing of this is read, until the server ends the session, which gives up its watches
             for last in range(2000):
                 other.add("sx", last)
@@ -409,6 +359,164 @@ def test_a_stalled_reader_comes_back(server):
             change = next(live.changes(SECONDS))
             assert (change.seq, len(change.went), change.restarted) == (update.seq, 300, False)
             assert live.answers == set()
+
+
+# Errors that tell what is wrong
+
+
+def test_errors_tell_what_is_wrong(server):
+    with server.connect() as client:
+        client.relation("e", int, str)
+        client.query("qe(x) <- e(x,_)")
+        long_text = "ä" * 128
+        for kind, call, line, why in (
+            (djq.NoRelation, lambda: client.add("nothing", 1), "add nothing 1", "no relation is named nothing"),
+            (djq.NoQuery, lambda: client.has("nothing", 1), "has nothing 1", "no query is named nothing"),
+            (djq.NoQuery, lambda: client.cursor("nothing"), "open c1 nothing", "no query is named nothing"),
+            (djq.Taken, lambda: client.relation("e", int), "rel e int", "the name is there: e"),
+            (djq.Taken, lambda: client.query("qe(x) <- e(x,_)"), "query qe(x) <- e(x,_)", "the name is there: qe"),
+            (djq.Arity, lambda: client.add("e", 1), "add e 1", "1 values were given, and e has 2 columns"),
+            (djq.WrongType, lambda: client.add("e", 2**63, ""), f'add e {2**63} ""', "value 1 is past 64 bits"),
+            (djq.WrongType, lambda: client.add("e", "a", ""), 'add e "a" ""', "value 1 is a text, and its column int"),
+            (djq.WrongType, lambda: client.delete("e", 1, 2), "del e 1 2", "value 2 is an int, and its column text"),
+            (djq.WrongType, lambda: client.add("e", 1, long_text), f'add e 1 "{long_text}"', "a text of 256 bytes"),
+        ):
+            error = raises(kind, call)
+            assert error.line == line and why in error.why, (error.line, error.why)
+            assert error.words in str(error) and error.why in str(error) and line[:100] in str(error)
+
+
+def test_what_isnt_sent(server):
+    with server.connect() as client:
+        for name in ("", "N", "a b", "a\nstop", "1a", "a" * 33, "ä"):
+            for call in (client.watch, client.explain, client.drop, client.relation, client.add, client.cursor):
+                raises(djq.BadName, lambda: call(name))
+        raises(ValueError, lambda: client.query("q(x) <- r(x)\nstop"))
+        raises(ValueError, lambda: client.add("r", "\ud800"))
+        raises(djq.TooLong, lambda: client.add("r", *["t" * 255] * 16))
+        raises(djq.NotWatched, lambda: client.next_change("q", 0))
+        client.ping()
+
+
+def test_a_reply_that_doesnt_come(program):
+    with Server(program) as server, djq.connect("127.0.0.1", server.port, timeout=0.5) as client:
+        client.relation("r", int)
+        client.query("q(x) <- r(x)")
+        with client.live("q", ping=0.5, reconnect=True) as live:
+            os.kill(server.process.pid, signal.SIGSTOP)
+            error = raises(djq.Unanswered, lambda: client.add("r", 1))
+            assert error.line == "add r 1" and "may have been done" in str(error)
+            raises(djq.Disconnected, client.ping)
+            assert live.next(3) is None
+            assert not live._group._whole, "it wasn't found out that the server has stopped"
+            os.kill(server.process.pid, signal.SIGCONT)
+            assert live.next(SECONDS).restarted and live.answers == {(1,)}
+
+
+# Many sets, many rows
+
+
+def test_unwatch_forgets(server):
+    with server.connect() as client:
+        client.relation("f", int)
+        client.query("qf(x) <- f(x)")
+        client.watch("qf")
+        client.add("f", 1)
+        client.unwatch("qf")
+        raises(djq.NotWatched, lambda: client.next_change("qf", 0))
+        client.watch("qf")
+        assert client.next_change("qf", 0) is None
+
+
+def test_several_live_sets_over_one_connection(server):
+    draw = random.Random(2)
+    with server.connect() as client:
+        names = ["ga", "gb", "gc"]
+        for name in names:
+            client.relation(name, int)
+        texts = {"one": "one(x) <- ga(x)", "two": "two(x) <- ga(x), gb(x)", "three": "three(x,y) <- gb(x), gc(y)"}
+        for text in texts.values():
+            client.query(text)
+        with client.lives("one", "two") as lives, selectors.DefaultSelector() as waiting:
+            lives.add("three")
+            assert [live.query for live in lives] == list(texts) and lives.add("two") is list(lives)[1]
+            waiting.register(lives, selectors.EVENT_READ)
+            told = []
+            for _ in range(200):
+                (client.add if draw.random() < 0.5 else client.delete)(draw.choice(names), draw.randrange(5))
+                if draw.random() < 0.2:
+                    told += lives.sync()
+                    assert all(live.answers == set(client.answers(live.query)) for live in lives)
+                elif waiting.select(0):
+                    told += lives.ready()
+            told += lives.sync()
+            assert waiting.select(0) == [] and lives.next(0) is None
+            # each change that one of them reads was told, in order
+            seqs = [change.seq for _, change in told]
+            assert seqs == sorted(seqs) and seqs[-1] <= lives.seq
+            list(lives)[1].close()
+            client.drop("two")
+            client.add("ga", 9)
+            (live, change) = lives.next(SECONDS)
+            assert (live.query, change.came) == ("one", {(9,)})
+
+
+def test_more_descriptors_than_select_takes(server):
+    most = resource.getrlimit(resource.RLIMIT_NOFILE)
+    if most[1] != resource.RLIM_INFINITY and most[1] < 1200:
+        return
+    resource.setrlimit(resource.RLIMIT_NOFILE, (max(most[0], 1200), most[1]))
+    with contextlib.ExitStack() as open_ones:
+        for _ in range(1050):
+            open_ones.enter_context(open(os.devnull, "rb"))
+        with server.connect() as client:
+            assert client.fileno() > 1024
+            client.ping()
+    resource.setrlimit(resource.RLIMIT_NOFILE, most)
+
+
+def test_loads(server):
+    with server.connect() as client:
+        client.relation("m", int, str)
+        client.query("qm(x,y) <- m(x,y)")
+        client.watch("qm")
+        rows = [(number, f'"{number}"') for number in range(5000)]
+        told = []
+        assert client.load("m", iter(rows[:3000]), told.append) == 3000
+        assert client.load("m", rows, told.append) == 2000
+        assert told == sorted(told[: told.index(3000) + 1]) + sorted(told[told.index(3000) + 1 :]) and told[-1] == 5000
+        assert client.snapshot("qm") == set(rows)
+        assert len(list(client.changes("qm", 0))) == 5000
+        assert client.load("m", []) == 0
+        # nothing is sent behind a refusal that has come
+        error = raises(djq.SomeRefused, lambda: client.load("m", ((n, "x" if n != 700 else n) for n in range(10**9))))
+        assert error.refused == 1 and error.first[0].line == "add m 700 700" and error.sent < 20000
+        client.ping()
+
+
+def test_a_table_with_a_key(server):
+    draw = random.Random(4)
+    with server.connect() as client, server.connect() as other:
+        table, rows = client.table("keyed", int, int, str, key=2), {}
+        for _ in range(300):
+            key = (draw.randrange(4), draw.randrange(2))
+            if draw.random() < 0.7:
+                row = (*key, draw.choice("abc"))
+                assert table.upsert(*row) == (rows.get(key) != row)
+                rows[key] = row
+            else:
+                assert table.remove(*key) == (rows.pop(key, None) is not None)
+            assert table.get(*key) == rows.get(key)
+        assert set(table) == set(rows.values()) == client.snapshot("keyed_rows") and len(table) == len(rows)
+        # what is refused leaves the old row
+        table.upsert(9, 9, "old")
+        raises(djq.WrongType, lambda: table.upsert(9, 9, 9))
+        assert table.get(9, 9) == (9, 9, "old") and other.has("keyed_rows", 9, 9, "old")
+        # rows of others are seen, and two of a key become one
+        other.add("keyed", 9, 9, "new")
+        table.upsert(9, 9, "last")
+        assert {row for row in other.snapshot("keyed_rows") if row[0] == 9} == {(9, 9, "last")}
+        assert set(server.connect().table("keyed", int, int, str, key=2)) == set(table)
 
 
 # Examples
@@ -538,7 +646,7 @@ def test_explain(program):
 
 def test_ends(server):
     client = server.connect()
-    too_long = lambda: client._do("add " + "e" * 5000, djq._OK)
+    too_long = lambda: client._do("add " + "e" * 5000, djq.protocol.READ_OK)
     assert raises(djq.Ended, too_long).cause == "long"
     raises(djq.Ended, lambda: client.add("b", 1))
     client.close()
@@ -563,17 +671,25 @@ SERVED = [
     test_random_rows_by_two_clients, test_ends,
     test_watch_and_unwatch, test_a_watched_query_is_in_use, test_two_queries_are_told_in_order_of_registration,
     test_live_beside_a_fresh_listing, test_live_begins_while_rows_change, test_a_stalled_reader_comes_back,
+    test_errors_tell_what_is_wrong, test_what_isnt_sent, test_unwatch_forgets,
+    test_several_live_sets_over_one_connection, test_more_descriptors_than_select_takes, test_loads,
+    test_a_table_with_a_key,
 ]  # fmt: skip
 # each with a server of its own
-APART = [test_explain, test_stop, test_dashboard, test_alarm, test_cache]
+APART = [
+    test_explain, test_stop, test_dashboard, test_alarm, test_cache, test_a_reply_that_doesnt_come,
+    *pages.TESTS, *busy.TESTS,
+]  # fmt: skip
 
 
 def main():
-    program = os.path.abspath(sys.argv[1])
+    program, names = os.path.abspath(sys.argv[1]), sys.argv[2:]
     passed = failed = 0
     with Server(program) as server:
         runs = [(test, ()) for test in ALONE] + [(test, (server,)) for test in SERVED]
         for test, given in runs + [(test, (program,)) for test in APART]:
+            if names and test.__name__ not in names:
+                continue
             try:
                 test(*given)
                 passed += 1
@@ -582,7 +698,7 @@ def main():
                 print(f"{test.__name__} failed")
                 traceback.print_exc()
     print(f"{passed} passed, {failed} failed")
-    sys.exit(1 if failed else 0)
+    sys.exit(1 if failed or not passed else 0)
 
 
 if __name__ == "__main__":

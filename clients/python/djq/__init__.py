@@ -1,0 +1,38 @@
+"""A client of djq, the live join query server.
+
+    import djq
+
+    with djq.connect("127.0.0.1", 7007) as server:
+        server.relation("reading", int, int)
+        server.query("q(x,y) <- reading(x,y)")
+        server.add("reading", 1, 20)
+        print(list(server.answers("q")))            # [(1, 20)]
+        with server.live("q") as live:
+            for change in live.changes():           # blocks until rows change
+                print(change.seq, change.came, change.went)
+
+One connection is one session of the server; it is used from one thread. Values are `int` (64 bits) and `str` (at most
+255 bytes of UTF-8). Each error that the server may answer is an exception of its own, under `Refused`.
+
+Inside, `protocol` knows the lines and no socket: what a command sends, which reply is due, and which lines are deltas.
+`connection` moves its bytes, `listing` lists the answers of one moment, `live` keeps them up to date, and `table` keeps
+rows by key.
+"""
+
+from .connection import Connection, Cursor, Pipeline, connect
+from .errors import (
+    REFUSALS, Arity, BadName, Cyclic, Disconnected, Ended, Error, HeadRepeated, HeadUnbound, InUse, LimitReached,
+    NoCursor, NoQuery, NoRelation, NotFreeConnex, NotWatched, OutOfMemory, Overtaken, Refused, SomeRefused, Stale,
+    Syntax, Taken, TooLong, Unanswered, VariableType, WrongType,
+)  # fmt: skip
+from .live import Live, Lives
+from .protocol import MOST_ANSWERS, Answer, Change, Page, Pending, Protocol, Update, Value, read_values, spell
+from .table import Table
+
+__all__ = [
+    "MOST_ANSWERS", "REFUSALS", "Answer", "Arity", "BadName", "Change", "Connection", "Cursor", "Cyclic",
+    "Disconnected", "Ended", "Error", "HeadRepeated", "HeadUnbound", "InUse", "LimitReached", "Live", "Lives",
+    "NoCursor", "NoQuery", "NoRelation", "NotFreeConnex", "NotWatched", "OutOfMemory", "Overtaken", "Page", "Pending",
+    "Pipeline", "Protocol", "Refused", "SomeRefused", "Stale", "Syntax", "Table", "Taken", "TooLong", "Unanswered",
+    "Update", "Value", "VariableType", "WrongType", "connect", "read_values", "spell",
+]  # fmt: skip
