@@ -227,7 +227,9 @@ class Connection:
                 return None
             self._move(left)
             left = None if until is None else until - time.monotonic()
-        return waiting.popleft()[1]
+        change = waiting[0][1]
+        del waiting[0]  # no call, which might be interrupted between the change's leaving the queue and its return
+        return change
 
     # Inside
 
