@@ -200,7 +200,7 @@ VIEWS = {"table": Table, "newest": Newest, "count": Chart, "chart": Chart}
 
 def counted(count: int, thing: str) -> str:
     """So many things, in words."""
-    return f"{count} {thing}" if count == 1 else f"{count} {thing}s"
+    return f"{count or 'no'} {thing}{'' if count == 1 else 's'}"
 
 
 def clock() -> str:

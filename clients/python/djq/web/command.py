@@ -61,7 +61,7 @@ def _words() -> argparse.ArgumentParser:
 
 def _address(words: argparse.ArgumentParser, told: str) -> tuple[str, int]:
     host, _, port = told.rpartition(":")
-    if not (port.isascii() and port.isdigit() and int(port) < 65536):
+    if not (host and port.isascii() and port.isdigit() and int(port) < 65536):
         words.error(f"not HOST:PORT: {told}")
     return host.removeprefix("[").removesuffix("]"), int(port)
 

@@ -107,29 +107,29 @@ class Factory:
         return {machine for _, machine, state in self._jobs if state == "running"}
 
     def _work(self) -> None:
-        """A job comes, is begun, or is done; at times more come than are done."""
-        rush = time.monotonic() % 60 < 30
-        running = [row for row in self._jobs if row[2] == "running"]
-        waiting = sorted(row for row in self._jobs if row[2] == "waiting" and row[1] not in self._busy())
-        many = len(self._jobs) - len(running)
-        happens = self._chance.random()
-        if happens < (0.45 if rush else 0.2) and many < MOST_WAITING:
+        """Jobs come, are begun where their machine is free, and are done; for half a minute more come than are done."""
+        chance = self._chance.random
+        waiting = sorted(row for row in self._jobs if row[2] == "waiting")
+        running = sorted(row for row in self._jobs if row[2] == "running")
+        if chance() < (0.55 if time.monotonic() % 60 < 30 else 0.2) and len(waiting) < MOST_WAITING:
             self._job += 1
             self._jobs.upsert(self._job, self._chance.randint(1, len(MACHINES)), "waiting")
-        elif happens < 0.75 and waiting:
-            job, machine, _ = waiting[0]
-            self._jobs.upsert(job, machine, "running")
-        elif running and self._chance.random() < 0.7:
-            self._jobs.remove(self._chance.choice(running)[0])
+        free = [row for row in waiting if row[1] not in self._busy()]
+        if free and chance() < 0.5:
+            self._jobs.upsert(*free[0][:2], "running")
+        for job, _, _ in running:
+            if chance() < 0.06:
+                self._jobs.remove(job)
 
     def _drift(self) -> None:
-        """One gauge reads something else, the more the harder its machine works."""
+        """One gauge reads something else: more where its machine works, and now and then much more."""
         rows = sorted(self._gauges)
-        if not rows or self._chance.random() < 0.4:
+        if not rows or self._chance.random() < 0.3:
             return
         machine, gauge, reading = self._chance.choice(rows)
-        usual = GAUGES.get(gauge, (reading, 0))[0] + (12 if machine in self._busy() else -6)
-        self._gauges.upsert(machine, gauge, reading + round((usual - reading) * 0.25 + self._chance.gauss(0, 6)))
+        usual = GAUGES.get(gauge, (reading, 0))[0] + (10 if machine in self._busy() else -6)
+        jump = 22 if self._chance.random() < 0.12 else 0
+        self._gauges.upsert(machine, gauge, reading + jump + round((usual - reading) / 3 + self._chance.gauss(0, 4)))
 
     def _compare(self) -> None:
         """Brings `too_high` in step with what is measured."""
