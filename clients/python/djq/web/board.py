@@ -192,7 +192,7 @@ class Chart:
         """What is shown."""
         minutes = self._panel.minutes
         lines = [line.view() for line in self._lines]
-        return {"words": f"the last {counted(minutes, 'minute')}", "minutes": minutes, "points": POINTS + 1, "lines": lines}
+        return {"words": counted(minutes, "minute"), "minutes": minutes, "points": POINTS + 1, "lines": lines}
 
 
 VIEWS = {"table": Table, "newest": Newest, "count": Chart, "chart": Chart}

@@ -56,13 +56,17 @@ class Factory:
 
     def __init__(self, server: Connection, chance: random.Random) -> None:
         self._chance = chance
-        new = self._prepare(server)
+        self._server = server
+        try:
+            server.relation("machines", int, str)
+        except Taken:
+            pass  # by an earlier run, or by examples/dashboard.py, which has the same
         self._jobs = server.table("jobs", int, int, str, key=1)
         self._gauges = server.table("gauges", int, str, int, key=2)
         self._too_high = server.table("too_high", int, str, key=2)
         self._thresholds = server.table("thresholds", str, int, key=1)
-        if new:
-            self._fill(server)
+        if len(self._gauges) == 0:
+            self._fill()
         for query in QUERIES:
             try:
                 server.query(query)
@@ -82,26 +86,14 @@ class Factory:
         finally:
             self._measured.close()
 
-    def _prepare(self, server: Connection) -> bool:
-        """Makes the relation of machines, which `examples/dashboard.py` has too. False where there are jobs already."""
-        for name, types in (("machines", (int, str)), ("jobs", (int, int, str))):
-            try:
-                server.relation(name, *types)
-            except Taken:
-                if name == "jobs":
-                    return False
-        return True
-
-    def _fill(self, server: Connection) -> None:
-        server.load("machines", enumerate(MACHINES, 1))
+    def _fill(self) -> None:
+        self._server.load("machines", enumerate(MACHINES, 1))
         for gauge, (usual, threshold) in GAUGES.items():
             self._thresholds.upsert(gauge, threshold)
             for machine in range(1, len(MACHINES) + 1):
                 self._gauges.upsert(machine, gauge, usual + self._chance.randint(-6, 6))
-        for job in range(101, 110):
-            machine = self._chance.randint(1, len(MACHINES))
-            free = machine not in self._busy()
-            self._jobs.upsert(job, machine, "running" if free and job < 105 else "waiting")
+        for job in range(101, 101 + len(MACHINES)):
+            self._jobs.upsert(job, job - 100, "running" if job < 105 else "waiting")
 
     def _busy(self) -> set[int]:
         return {machine for _, machine, state in self._jobs if state == "running"}

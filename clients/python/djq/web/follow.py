@@ -27,7 +27,7 @@ def follow(board: Board, host: str, port: int) -> None:
             board.status(True, "live")
             rest, pause = BETWEEN, FIRST_PAUSE
         except PASSING as error:
-            board.status(False, f"waiting for the server: {error}")
+            board.status(False, f"waiting: {error}")
             rest, pause = pause, min(2 * pause, LONGEST_PAUSE)
         board.tick()
         board.publish()

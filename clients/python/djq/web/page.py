@@ -2,9 +2,13 @@
 
 from __future__ import annotations
 
-import tomllib
 from dataclasses import dataclass, field
 from typing import Any
+
+try:
+    import tomllib
+except ModuleNotFoundError as missing:
+    raise SystemExit("djq-web needs Python 3.11 or a later one") from missing
 
 from ..errors import BadName
 from ..protocol import checked

@@ -123,7 +123,7 @@ def _chart(view: View, number: int) -> str:
         for place, line in enumerate(view["lines"])
     )
     return f"""<svg role="img" aria-labelledby="title{number} words{number}"></svg>
-<p class="words" id="words{number}">{text(view["words"])}</p>
+<p class="words" id="words{number}">the last {text(view["words"])}</p>
 <ul class="lines">{lines}</ul>
 """
 
