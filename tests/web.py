@@ -71,23 +71,25 @@ def in_browser(function):
 class Web:
     """The page's program on a free port of loopback."""
 
-    def __init__(self, server, page=PAGE, *words, port=None):
+    def __init__(self, server, page=PAGE, *words, host="127.0.0.1", port=None):
         with socket.create_server(("127.0.0.1", 0)) as free:
             self.port = port or free.getsockname()[1]
         self._directory = tempfile.TemporaryDirectory()
         path = os.path.join(self._directory.name, "page.toml")
         with open(path, "w", encoding="utf-8") as file:
             file.write(page)
-        command = [sys.executable, "-m", "djq.web", f"127.0.0.1:{server.port}", "--listen", f"127.0.0.1:{self.port}"]
+        self.shown = words[words.index("--name") + 1] if host == "0.0.0.0" else host
+        command = [sys.executable, "-m", "djq.web", f"127.0.0.1:{server.port}", "--listen", f"{host}:{self.port}"]
         self.process = subprocess.Popen(
             [*command, *(("--page", path) if page else ()), *words],
             env=dict(os.environ, PYTHONPATH=os.path.join(HERE, "..", "clients", "python")),
             stdout=subprocess.PIPE,
+            stderr=subprocess.DEVNULL,
         )
 
     def __enter__(self):
         line = self.process.stdout.readline().decode()
-        assert line == f"djq-web: http://127.0.0.1:{self.port}/\n", line
+        assert line == f"djq-web: http://{self.shown}:{self.port}/\n", line
         return self
 
     def __exit__(self, *_):
@@ -213,8 +215,7 @@ def rows_of_another_session_come_and_go(program):
         client.add("r", 2, "two")
         events.until(lambda views: [row["cells"][0] for row in views["0"]["rows"]] == ["1", "2"])
         events.until(lambda views: views["1"]["lines"][0]["count"] == 2 and views["2"]["cells"] == ["2", "two"])
-        fresh = [row["fresh"] > 0 for row in events.views["0"]["rows"]]
-        expect(fresh, [False, True])
+        expect([row["came"] is not None for row in events.views["0"]["rows"]], [False, True])
         assert events.views["latest"]["words"].endswith("Rows <b>here</b>, new: 2, two"), events.views["latest"]
         client.delete("r", 2, "two")
         events.until(lambda views: events.rows() == [("1", "one")] and views["3"]["lines"][1]["count"] == 1)
@@ -292,6 +293,16 @@ def other_names_origins_and_methods_are_refused(program):
 
 
 @test
+def a_page_for_the_network_is_asked_for_by_its_name(program):
+    with Server(program) as server, fill(server), Web(server, PAGE, "--name", "factory.test", host="0.0.0.0") as web:
+        expect(web.ask(host=f"factory.test:{web.port}")[0], 200)
+        for host in (f"127.0.0.1:{web.port}", f"0.0.0.0:{web.port}", f"localhost:{web.port}"):
+            expect(web.ask(host=host)[0], 421, host)
+        status, told = run_web("127.0.0.1:1", "--demo", "--listen", f"127.0.0.1:{web.port}")
+        assert status == 1 and "Address already in use" in told, told
+
+
+@test
 def every_answer_says_what_a_browser_may_do(program):
     with shown(program) as (_, web):
         for path, status in (("/", 200), ("/page.css", 200), ("/page.js", 200), ("/icon.svg", 200), ("/events", 200),
@@ -319,8 +330,8 @@ def it_waits_for_the_server_and_finds_it_again(program):
         with Server(program, port) as again, fill(again, (1, "one"), (3, "three")):
             events.until(lambda views: views["status"]["live"])
             events.until(lambda views: events.rows() == [("1", "one"), ("3", "three")])
-            fresh = [row["fresh"] > 0 for row in events.views["0"]["rows"]]
-            expect(fresh, [False, True], "what was missed is marked")
+            came = [row["came"] is not None for row in events.views["0"]["rows"]]
+            expect(came, [False, True], "what was missed is marked")
 
 
 @test

@@ -20,7 +20,7 @@ FRESH = 6.0  # seconds for which a row that came is marked
 POINTS = 150  # of a line, over all its minutes
 MANY = 200  # rows of a change, from which on a table is put in order anew
 
-View = dict[str, Any]
+View = dict[str, Any]  # a `came` in it is by `now`
 
 # control characters, and those that turn the direction of the text around them, by what stands for them
 _UNSEEN = {code: 0x2400 + code for code in range(32) if code != 10} | {0x7F: 0x2421}
@@ -60,16 +60,16 @@ class Table:
         self._rows: list[Answer] = []
         self._came: OrderedDict[Answer, float] = OrderedDict()  # when the rows came that are still marked
 
-    def begin(self, query: str, answers: set[Answer], now: float) -> None:
+    def begin(self, query: str, answers: set[Answer]) -> None:
         """These are the query's answers."""
         self._rows = sorted(answers, key=self._key)
 
-    def change(self, query: str, answers: set[Answer], change: Change, now: float) -> None:
+    def change(self, query: str, answers: set[Answer], change: Change) -> None:
         """These are the query's answers, by this change."""
         for answer in change.went:
             self._came.pop(answer, None)
         for answer in change.came:
-            self._came[answer] = now
+            self._came[answer] = now()
             self._came.move_to_end(answer)
         # after a new start the query may be another of the same name, whose values don't compare with the old ones
         if change.restarted or len(change.came) + len(change.went) > MANY:
@@ -80,25 +80,21 @@ class Table:
         for answer in change.came:
             bisect.insort(self._rows, answer, key=self._key)
 
-    def tick(self, now: float, live: bool) -> bool:
+    def tick(self, live: bool) -> bool:
         """Time passes. Whether the view is another by that."""
         return False
 
-    def view(self, now: float) -> View:
+    def view(self) -> View:
         """What is shown."""
-        while self._came and now - next(iter(self._came.values())) >= FRESH:
+        while self._came and not is_fresh(next(iter(self._came.values()))):
             self._came.popitem(last=False)
         most = self._panel.rows
         rows = self._rows[: -most - 1 : -1] if self._panel.descending else self._rows[:most]
         return {
             **self._grid.of(rows[0] if rows else None),
             "words": self._words(len(rows)),
-            "rows": [{"cells": [*map(shown, row)], "fresh": self._fresh(row, now)} for row in rows],
+            "rows": [{"cells": [*map(shown, row)], "came": self._came.get(row)} for row in rows],
         }
-
-    def _fresh(self, row: Answer, now: float) -> int:
-        """The milliseconds for which the row is marked still."""
-        return round(1000 * max(0.0, FRESH - now + self._came[row])) if row in self._came else 0
 
     def _words(self, shows: int) -> str:
         total = len(self._rows)
@@ -115,44 +111,43 @@ class Newest:
         self._grid = Grid(panel)
         self._answer: Answer | None = None
         self._words = ""
-        self._came = 0.0
+        self._came: float | None = None
 
-    def begin(self, query: str, answers: set[Answer], now: float) -> None:
+    def begin(self, query: str, answers: set[Answer]) -> None:
         """These are the query's answers."""
         self._words = f"none has come since {clock()}"
 
-    def change(self, query: str, answers: set[Answer], change: Change, now: float) -> None:
+    def change(self, query: str, answers: set[Answer], change: Change) -> None:
         """These are the query's answers, by this change."""
         if change.came:
-            self._answer, self._came = max(change.came), now
+            self._answer, self._came = max(change.came), now()
             self._words = f"came at {clock()}"
         elif self._answer in change.went:
             self._words += f", gone at {clock()}"
 
-    def tick(self, now: float, live: bool) -> bool:
+    def tick(self, live: bool) -> bool:
         """Time passes. Whether the view is another by that."""
         return False
 
-    def view(self, now: float) -> View:
+    def view(self) -> View:
         """What is shown."""
-        fresh = 0 if self._answer is None else round(1000 * max(0.0, FRESH - now + self._came))
         cells = None if self._answer is None else [*map(shown, self._answer)]
-        return {**self._grid.of(self._answer), "words": self._words, "cells": cells, "fresh": fresh}
+        return {**self._grid.of(self._answer), "words": self._words, "cells": cells, "came": self._came}
 
 
 class History:
     """How many answers a query had, over some minutes up to now."""
 
-    def __init__(self, label: str, minutes: int, now: float) -> None:
+    def __init__(self, label: str, minutes: int) -> None:
         self.label = label
         self.count: int | None = None
         self._step = 60 * minutes / POINTS
-        self._next = now + self._step
+        self._next = now() + self._step
         self._values: deque[int | None] = deque(maxlen=POINTS)
 
-    def tick(self, now: float, live: bool) -> bool:
+    def tick(self, live: bool) -> bool:
         """Time passes. Whether a further value is held; while the server is lost, it isn't known."""
-        steps = max(0, int((now - self._next) / self._step) + 1) if now >= self._next else 0
+        steps = max(0, int((now() - self._next) // self._step) + 1)
         self._values.extend([self.count if live else None] * min(steps, POINTS))
         self._next += steps * self._step
         return steps > 0
@@ -162,7 +157,7 @@ class History:
         values = [*self._values, self.count]
         known = [value for value in values if value is not None]
         low, high = min(known, default=0), max(known, default=0)
-        span = f"between {low} and {high}" if low < high else f"always {low}" if known else "not known"
+        span = f"{low} to {high}" if low < high else f"always {low}" if known else "not known"
         return {"label": self.label, "count": self.count, "values": values, "span": span}
 
 
@@ -171,24 +166,23 @@ class Chart:
 
     def __init__(self, panel: Panel) -> None:
         self._panel = panel
-        now = time.monotonic()
-        self._lines = [History(label, panel.minutes, now) for label in panel.labels]
+        self._lines = [History(label, panel.minutes) for label in panel.labels]
 
-    def begin(self, query: str, answers: set[Answer], now: float) -> None:
+    def begin(self, query: str, answers: set[Answer]) -> None:
         """These are the query's answers."""
         for name, line in zip(self._panel.queries, self._lines):
             if name == query:
                 line.count = len(answers)
 
-    def change(self, query: str, answers: set[Answer], change: Change, now: float) -> None:
+    def change(self, query: str, answers: set[Answer], change: Change) -> None:
         """These are the query's answers, by this change."""
-        self.begin(query, answers, now)
+        self.begin(query, answers)
 
-    def tick(self, now: float, live: bool) -> bool:
+    def tick(self, live: bool) -> bool:
         """Time passes. Whether the view is another by that."""
-        return any([line.tick(now, live) for line in self._lines])
+        return any([line.tick(live) for line in self._lines])
 
-    def view(self, now: float) -> View:
+    def view(self) -> View:
         """What is shown."""
         minutes = self._panel.minutes
         lines = [line.view() for line in self._lines]
@@ -201,6 +195,16 @@ VIEWS = {"table": Table, "newest": Newest, "count": Chart, "chart": Chart}
 def counted(count: int, thing: str) -> str:
     """So many things, in words."""
     return f"{count or 'no'} {thing}{'' if count == 1 else 's'}"
+
+
+def now() -> float:
+    """The time by which views tell when a row came."""
+    return round(time.monotonic(), 3)
+
+
+def is_fresh(came: float | None) -> bool:
+    """Whether what came then is marked still."""
+    return came is not None and now() - came < FRESH
 
 
 def clock() -> str:
@@ -228,7 +232,7 @@ class Board:
     def begin(self, query: str, answers: set[Answer]) -> None:
         """These are the query's answers as the page begins."""
         for number in self._of(query):
-            self._panels[number].begin(query, answers, time.monotonic())
+            self._panels[number].begin(query, answers)
 
     def change(self, query: str, answers: set[Answer], change: Change) -> None:
         """These are the query's answers, by this change."""
@@ -236,7 +240,7 @@ class Board:
         if not came:
             return
         for number in self._of(query):
-            self._panels[number].change(query, answers, change, time.monotonic())
+            self._panels[number].change(query, answers, change)
         if (title := self._titles.get(query)) is not None:
             more = f", and {len(came) - 1} more" if len(came) > 1 else ""
             word = "new" if change.came else "gone"
@@ -249,13 +253,11 @@ class Board:
 
     def tick(self) -> None:
         """Time passes."""
-        now = time.monotonic()
-        self._dirty.update(number for number, panel in enumerate(self._panels) if panel.tick(now, self._live))
+        self._dirty.update(number for number, panel in enumerate(self._panels) if panel.tick(self._live))
 
     def publish(self) -> None:
         """Viewers are told what is another than they were told."""
-        now = time.monotonic()
-        fresh = {**self._news, **{str(number): self._panels[number].view(now) for number in self._dirty}}
+        fresh = {**self._news, **{str(number): self._panels[number].view() for number in self._dirty}}
         self._dirty.clear()
         self._news.clear()
         with self._told:

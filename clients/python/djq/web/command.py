@@ -27,11 +27,13 @@ def main() -> None:
     if is_any(listen[0]) and not given.name:
         words.error(f"{given.listen} is every address of this machine: say by --name by which name browsers ask for it")
     try:
-        web = WebServer(listen, Board(read_page(_page(given.page))), given.name)
-    except PageError as error:
+        board = Board(read_page(_page(given.page)))
+    except (PageError, OSError, UnicodeDecodeError) as error:
         sys.exit(f"djq-web: {given.page}: {error}")
-    except (OSError, UnicodeDecodeError) as error:
-        sys.exit(f"djq-web: {given.page or given.listen}: {error}")
+    try:
+        web = WebServer(listen, board, given.name)
+    except OSError as error:
+        sys.exit(f"djq-web: {given.listen}: {error.strerror}")
     if not is_loopback(listen[0]):
         print("djq-web: whoever reaches this address can read the page", file=sys.stderr)
     host = given.name[0] if is_any(listen[0]) else bracketed(listen[0])
@@ -40,7 +42,7 @@ def main() -> None:
     if given.demo:
         threading.Thread(target=run_demo, args=server, daemon=True).start()
     try:
-        follow(web.board, *server)
+        follow(board, *server)
     except KeyboardInterrupt:
         pass
     except Error as error:

@@ -103,7 +103,7 @@ class Factory:
         chance = self._chance.random
         waiting = sorted(row for row in self._jobs if row[2] == "waiting")
         running = sorted(row for row in self._jobs if row[2] == "running")
-        if chance() < (0.55 if time.monotonic() % 60 < 30 else 0.2) and len(waiting) < MOST_WAITING:
+        if chance() < (0.5 if time.monotonic() % 60 < 30 else 0.2) and len(waiting) < MOST_WAITING:
             self._job += 1
             self._jobs.upsert(self._job, self._chance.randint(1, len(MACHINES)), "waiting")
         free = [row for row in waiting if row[1] not in self._busy()]

@@ -2,6 +2,7 @@
 
 from __future__ import annotations
 
+import sys
 import time
 
 from ..live import PASSING, Live, Lives
@@ -16,7 +17,7 @@ PING = 10.0  # seconds without a byte, after which the server is asked for a rep
 
 def follow(board: Board, host: str, port: int) -> None:
     """Follows the server without end. Raises `djq.Error` where what is there isn't such a server."""
-    pause = FIRST_PAUSE
+    pause, told = FIRST_PAUSE, ""
     lives: Lives | None = None
     while True:
         try:
@@ -24,11 +25,13 @@ def follow(board: Board, host: str, port: int) -> None:
                 lives = _begin(board, host, port)
             else:
                 _take(board, lives)
-            board.status(True, "live")
-            rest, pause = BETWEEN, FIRST_PAUSE
+            live, words, rest, pause = True, "live", BETWEEN, FIRST_PAUSE
         except PASSING as error:
-            board.status(False, f"waiting: {error}")
-            rest, pause = pause, min(2 * pause, LONGEST_PAUSE)
+            live, words, rest, pause = False, f"waiting: {error}", pause, min(2 * pause, LONGEST_PAUSE)
+        if words != told:
+            board.status(live, words)
+            print(f"djq-web: {words}", file=sys.stderr, flush=True)
+            told = words
         board.tick()
         board.publish()
         time.sleep(rest)

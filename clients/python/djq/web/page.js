@@ -15,6 +15,8 @@ const state = document.getElementById("status");
 const latest = document.getElementById("latest");
 let source = null;
 let heard = 0;
+let behind = 0; // by how many milliseconds the clock here is ahead of the one by which rows came
+let lasting = 0; // milliseconds for which a row that came is marked
 
 // What comes
 
@@ -22,8 +24,11 @@ function connect() {
   if (source !== null) source.close();
   source = new EventSource("/events");
   heard = Date.now();
-  listen("page", (mark) => {
+  listen("page", (told) => {
+    const { mark, now, fresh } = JSON.parse(told);
     if (mark !== document.body.dataset.mark) location.reload();
+    behind = Date.now() - 1000 * now;
+    lasting = 1000 * fresh;
   });
   listen("beat", () => {});
   listen("status", (told) => tellState(JSON.parse(told)));
@@ -115,10 +120,11 @@ function setText(element, text) {
 }
 
 // The mark that a row came; it goes by itself.
-function setFresh(element, fresh, show) {
+function setFresh(element, came, show) {
   clearTimeout(element.fades);
-  show(fresh > 0);
-  if (fresh > 0) element.fades = setTimeout(() => show(false), fresh);
+  const left = came === null ? 0 : lasting - (Date.now() - behind - 1000 * came);
+  show(left > 0);
+  if (left > 0) element.fades = setTimeout(() => show(false), left);
 }
 
 // Tables: rows that stay keep their element, so that what a reader is at stays where it is
@@ -134,11 +140,11 @@ function drawTable(section, view) {
   const wanted = new Set(keys);
   for (const [key, row] of kept) if (!wanted.has(key)) row.remove();
   let place = body.firstElementChild;
-  view.rows.forEach(({ cells, fresh }, number) => {
+  view.rows.forEach(({ cells, came }, number) => {
     const row = kept.get(keys[number]) ?? makeRow(keys[number], cells, view.numbers);
     if (row === place) place = place.nextElementSibling;
     else body.insertBefore(row, place);
-    setFresh(row, fresh, (on) => showMark(row, on));
+    setFresh(row, came, (on) => showMark(row, on));
   });
 }
 
@@ -193,7 +199,7 @@ function drawNewest(section, view) {
   });
   section.querySelector("dl").replaceChildren(...pairs);
   setText(section.querySelector(".words"), view.words);
-  setFresh(section, view.fresh, (on) => section.classList.toggle("came", on));
+  setFresh(section, view.came, (on) => section.classList.toggle("came", on));
 }
 
 // Numbers and lines

@@ -8,7 +8,7 @@ from __future__ import annotations
 import html
 from typing import Callable
 
-from .board import Board, View
+from .board import Board, View, is_fresh
 from .page import Panel
 
 # how a page begins and ends; `mark` tells the script whether it is of this page, after the program was started anew
@@ -88,7 +88,7 @@ def _table(view: View, number: int) -> str:
 
 
 def _row(row: View, numbers: list[bool]) -> str:
-    kind, mark = (' class="came"', "<span>new</span>") if row["fresh"] else ("", "")
+    kind, mark = (' class="came"', "<span>new</span>") if is_fresh(row["came"]) else ("", "")
     cells = "".join(f"<td{_number(numeric)}>{text(cell)}</td>" for cell, numeric in zip(row["cells"], numbers))
     return f'<tr{kind}><td class="mark">{mark}</td>{cells}</tr>'
 

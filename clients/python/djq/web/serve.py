@@ -8,6 +8,7 @@ from __future__ import annotations
 
 import hashlib
 import ipaddress
+import json
 import secrets
 import socket
 import socketserver
@@ -16,7 +17,7 @@ import threading
 from http.server import BaseHTTPRequestHandler, ThreadingHTTPServer
 from importlib import resources
 
-from .board import Board
+from .board import FRESH, Board, now
 from .render import render
 
 BEAT = 5.0  # seconds without news, after which a viewer is told that the program is still there
@@ -55,6 +56,7 @@ class WebServer(ThreadingHTTPServer):
     """Listens for browsers. `names` are those by which it may be asked, beside the ones of loopback."""
 
     daemon_threads = True
+    request_queue_size = MOST_CONNECTIONS
 
     def __init__(self, address: tuple[str, int], board: Board, names: list[str]) -> None:
         self.address_family = socket.AF_INET6 if ":" in address[0] else socket.AF_INET
@@ -83,7 +85,11 @@ class WebServer(ThreadingHTTPServer):
         if not self._room.acquire(blocking=False):
             self.shutdown_request(request)
             return
-        super().process_request(request, client_address)
+        try:
+            super().process_request(request, client_address)
+        except BaseException:
+            self._room.release()
+            raise
 
     def process_request_thread(self, request: socket.socket, client_address: object) -> None:
         """Answers one connection, and makes room for another."""
@@ -163,7 +169,8 @@ class Handler(BaseHTTPRequestHandler):
         self._head(200, "text/event-stream; charset=utf-8", {})
         if self.command == "HEAD":
             return
-        self.wfile.write(f"retry: 1000\nevent: page\ndata: {self.server.mark}\n\n".encode())
+        page = json.dumps({"mark": self.server.mark, "now": now(), "fresh": FRESH})
+        self.wfile.write(f"retry: 1000\nevent: page\ndata: {page}\n\n".encode())
         version = 0
         while True:
             version, news = self.server.board.after(version, BEAT)
