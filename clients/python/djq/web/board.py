@@ -11,7 +11,7 @@ import json
 import threading
 import time
 from collections import OrderedDict, deque
-from typing import Any, Iterable
+from typing import Any, Callable, Iterable, Protocol
 
 from ..protocol import Answer, Change, Value
 from .page import Page, Panel
@@ -189,7 +189,19 @@ class Chart:
         return {"words": counted(minutes, "minute"), "minutes": minutes, "points": POINTS + 1, "lines": lines}
 
 
-VIEWS = {"table": Table, "newest": Newest, "count": Chart, "chart": Chart}
+class Shown(Protocol):
+    """What each of these views can do."""
+
+    def begin(self, query: str, answers: set[Answer]) -> None: ...
+
+    def change(self, query: str, answers: set[Answer], change: Change) -> None: ...
+
+    def tick(self, live: bool) -> bool: ...
+
+    def view(self) -> View: ...
+
+
+VIEWS: dict[str, Callable[[Panel], Shown]] = {"table": Table, "newest": Newest, "count": Chart, "chart": Chart}
 
 
 def counted(count: int, thing: str) -> str:

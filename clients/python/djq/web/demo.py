@@ -17,6 +17,7 @@ import time
 from ..connection import Connection, connect
 from ..errors import Error, Taken
 from ..live import PASSING
+from ..protocol import Answer
 
 PACE = 0.4  # seconds between two things that happen
 PAUSE = 1.0  # seconds before a server that isn't there is asked again
@@ -73,7 +74,7 @@ class Factory:
             except Taken:
                 pass
         self._measured = server.lives("measured")
-        self._job = max((job for job, _, _ in self._jobs), default=100)
+        self._job = max((int(job) for job, _, _ in self._jobs), default=100)
 
     def run(self) -> None:
         """Lets things happen without end."""
@@ -95,31 +96,33 @@ class Factory:
         for job in range(101, 101 + len(MACHINES)):
             self._jobs.upsert(job, job - 100, "running" if job < 105 else "waiting")
 
-    def _busy(self) -> set[int]:
-        return {machine for _, machine, state in self._jobs if state == "running"}
+    def _jobs_in(self, state: str) -> list[tuple[int, int]]:
+        """The jobs in a state, in order, each with its machine."""
+        return sorted((int(job), int(machine)) for job, machine, now in self._jobs if now == state)
 
     def _work(self) -> None:
         """Jobs come, are begun where their machine is free, and are done; for half a minute more come than are done."""
         chance = self._chance.random
-        waiting = sorted(row for row in self._jobs if row[2] == "waiting")
-        running = sorted(row for row in self._jobs if row[2] == "running")
+        waiting, running = self._jobs_in("waiting"), self._jobs_in("running")
         if chance() < (0.5 if time.monotonic() % 60 < 30 else 0.2) and len(waiting) < MOST_WAITING:
             self._job += 1
             self._jobs.upsert(self._job, self._chance.randint(1, len(MACHINES)), "waiting")
-        free = [row for row in waiting if row[1] not in self._busy()]
+        busy = {machine for _, machine in running}
+        free = [(job, machine) for job, machine in waiting if machine not in busy]
         if free and chance() < 0.5:
-            self._jobs.upsert(*free[0][:2], "running")
-        for job, _, _ in running:
+            self._jobs.upsert(*free[0], "running")
+        for job, _ in running:
             if chance() < 0.06:
                 self._jobs.remove(job)
 
     def _drift(self) -> None:
         """One gauge reads something else: more where its machine works, and now and then much more."""
-        rows = sorted(self._gauges)
+        rows = [(int(machine), str(gauge), int(reading)) for machine, gauge, reading in sorted(self._gauges)]
         if not rows or self._chance.random() < 0.3:
             return
         machine, gauge, reading = self._chance.choice(rows)
-        usual = GAUGES.get(gauge, (reading, 0))[0] + (10 if machine in self._busy() else -6)
+        busy = {machine for _, machine in self._jobs_in("running")}
+        usual = GAUGES.get(gauge, (reading, 0))[0] + (10 if machine in busy else -6)
         jump = 22 if self._chance.random() < 0.12 else 0
         self._gauges.upsert(machine, gauge, reading + jump + round((usual - reading) / 3 + self._chance.gauss(0, 4)))
 
@@ -127,7 +130,9 @@ class Factory:
         """Brings `too_high` in step with what is measured."""
         self._measured.sync()
         (measured,) = self._measured
-        wanted = {(machine, gauge) for machine, gauge, reading, most in measured.answers if reading > most}
+        wanted: set[Answer] = {
+            (machine, gauge) for machine, gauge, reading, most in measured.answers if int(reading) > int(most)
+        }
         there = set(self._too_high)
         for row in there - wanted:
             self._too_high.remove(*row)

@@ -16,6 +16,7 @@ import sys
 import threading
 from http.server import BaseHTTPRequestHandler, ThreadingHTTPServer
 from importlib import resources
+from typing import Any
 
 from .board import FRESH, Board, now
 from .render import render
@@ -78,9 +79,9 @@ class WebServer(ThreadingHTTPServer):
     def server_bind(self) -> None:
         """Listens without asking the system for the machine's name, which may take long."""
         socketserver.TCPServer.server_bind(self)
-        self.server_name, self.server_port = self.server_address[:2]
+        self.server_name, self.server_port = str(self.server_address[0]), self.server_address[1]
 
-    def process_request(self, request: socket.socket, client_address: object) -> None:
+    def process_request(self, request: Any, client_address: Any) -> None:
         """Answers in a thread, or closes the connection where there are too many."""
         if not self._room.acquire(blocking=False):
             self.shutdown_request(request)
@@ -91,14 +92,14 @@ class WebServer(ThreadingHTTPServer):
             self._room.release()
             raise
 
-    def process_request_thread(self, request: socket.socket, client_address: object) -> None:
+    def process_request_thread(self, request: Any, client_address: Any) -> None:
         """Answers one connection, and makes room for another."""
         try:
             super().process_request_thread(request, client_address)
         finally:
             self._room.release()
 
-    def handle_error(self, request: object, client_address: object) -> None:
+    def handle_error(self, request: Any, client_address: Any) -> None:
         """A browser that went away is no error; what else went wrong is told."""
         if not isinstance(sys.exc_info()[1], (ConnectionError, TimeoutError)):
             super().handle_error(request, client_address)
@@ -138,7 +139,7 @@ class Handler(BaseHTTPRequestHandler):
 
     def _admit(self) -> None:
         """Refuses what asks for another host's name, and what another's page asks for."""
-        hosts = self.headers.get_all("Host", [])
+        hosts: list[str] = self.headers.get_all("Host", [])
         if len(hosts) != 1 or hosts[0].strip().lower() not in self.server.hosts:
             raise Refusal(421, "this is none of the names of this page; others are given by --name")
         for origin in self.headers.get_all("Origin", []):
