@@ -177,10 +177,10 @@ def fill(server, *rows):
     """The relation and the queries of the page, and rows."""
     client = server.connect()
     client.relation("r", int, str)
-    client.query("rows(k,t) <- r(k,t)")
-    client.query("keys(k) <- r(k,_)")
     for row in rows:
         client.add("r", *row)
+    client.query("rows(k,t) <- r(k,t)")
+    client.query("keys(k) <- r(k,_)")
     return client
 
 
@@ -271,11 +271,11 @@ def other_names_origins_and_methods_are_refused(program):
         for host in (f"127.0.0.1:{web.port}", f"LOCALHOST:{web.port}", f"[::1]:{web.port}", "factory.test",
                      f"factory.test:{web.port}"):  # fmt: skip
             expect(web.ask(host=host)[0], 200, host)
-        for host in ("evil.test", f"evil.test:{web.port}", "127.0.0.1", "localhost:1", f"127.0.0.1:{web.port}.evil.test"):
+        own = f"127.0.0.1:{web.port}"
+        for host in ("evil.test", f"evil.test:{web.port}", "127.0.0.1", "localhost:1", f"{own}.test", f"evil@{own}"):
             for path in ("/", "/events", "/page.js"):
                 expect(web.ask(path, host=host)[0], 421, host, path)
-        own = f"http://127.0.0.1:{web.port}"
-        expect(web.ask("/events", Origin=own)[0], 200)
+        expect(web.ask("/events", Origin=f"http://{own}")[0], 200)
         for origin in ("http://evil.test", "null", f"http://evil.test:{web.port}", "http://localhost"):
             for path in ("/", "/events"):
                 expect(web.ask(path, Origin=origin)[0], 403, origin, path)

@@ -47,8 +47,9 @@ class Grid:
         """The columns, by an answer where there is one."""
         if answer is None:
             return {"columns": self._names, "numbers": [False] * len(self._names)}
-        names = [*self._names[: len(answer)], *(f"column {place + 1}" for place in range(len(self._names), len(answer)))]
-        return {"columns": names, "numbers": [isinstance(value, int) for value in answer]}
+        unnamed = [f"column {place + 1}" for place in range(len(self._names), len(answer))]
+        numbers = [isinstance(value, int) for value in answer]
+        return {"columns": self._names[: len(answer)] + unnamed, "numbers": numbers}
 
 
 class Table:

@@ -50,14 +50,13 @@ def main() -> None:
 
 
 def _words() -> argparse.ArgumentParser:
-    words = argparse.ArgumentParser(prog="djq-web", description="A page that shows the answers of a djq server's queries.")
-    words.add_argument("server", metavar="HOST:PORT", help="of the djq server")
-    words.add_argument("--page", metavar="FILE.toml", help="what the page shows; its form is told by `pydoc djq.web`")
-    words.add_argument("--demo", action="store_true", help="fill relations with a small factory that moves, and show it")
-    words.add_argument("--listen", metavar="HOST:PORT", default=LISTEN, help="where browsers ask for it; else %(default)s")
-    words.add_argument(
-        "--name", metavar="NAME", action="append", default=[], help="a further name by which browsers ask for it"
-    )
+    words = argparse.ArgumentParser(prog="djq-web", description="A page that shows the answers of a server's queries.")
+    add = words.add_argument
+    add("server", metavar="HOST:PORT", help="of the djq server")
+    add("--page", metavar="FILE.toml", help="what the page shows; its form is told by `pydoc djq.web`")
+    add("--demo", action="store_true", help="fill relations with a small factory that moves, and show it")
+    add("--listen", metavar="HOST:PORT", default=LISTEN, help="where browsers ask for it; else %(default)s")
+    add("--name", metavar="NAME", action="append", default=[], help="a further name by which browsers ask for it")
     return words
 
 

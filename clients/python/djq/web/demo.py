@@ -19,7 +19,7 @@ from ..errors import Error, Taken
 from ..live import PASSING
 from ..protocol import Answer
 
-PACE = 0.4  # seconds between two things that happen
+PACE = 0.6  # seconds between two things that happen
 PAUSE = 1.0  # seconds before a server that isn't there is asked again
 TIMEOUT = 10.0
 

@@ -214,7 +214,8 @@ function drawCount(section, view) {
   setText(section.querySelector(".words"), `${line.span} in ${view.words}`);
   const svg = section.querySelector("svg");
   const box = { left: 1, right: svg.clientWidth - 1, top: 3, bottom: svg.clientHeight - 3 };
-  svg.replaceChildren(makeShape("path", { class: "line0", d: pathOf(line.values, view.points, box, topOf([line]).top) }));
+  const path = pathOf(line.values, view.points, box, topOf([line]).top);
+  svg.replaceChildren(makeShape("path", { class: "line0", d: path }));
 }
 
 function drawChart(section, view) {

@@ -152,7 +152,8 @@ class Handler(BaseHTTPRequestHandler):
             raise Refusal(403, "asked for by another's page")
 
     def _answer(self, status: int, kind: str, body: bytes) -> None:
-        self._head(status, kind, {"Content-Length": str(len(body)), **({"Allow": "GET, HEAD"} if status == 405 else {})})
+        more = {"Allow": "GET, HEAD"} if status == 405 else {}
+        self._head(status, kind, {"Content-Length": str(len(body)), **more})
         if self.command != "HEAD":
             self.wfile.write(body)
 
