@@ -26,7 +26,7 @@ import threading
 import time
 import traceback
 
-from serving import HERE, SECONDS, Server, djq, wait_until
+from serving import HERE, SECONDS, Server, djq, raises, wait_until
 
 DEBIAN = "/usr/bin/python3"  # which Debian's packages are for
 PAGE = """
@@ -50,7 +50,7 @@ columns = ["key", "text"]
 kind = "chart"
 title = "Both"
 queries = ["rows", "keys"]
-labels = ["all", "keys"]
+labels = ["<s>all</s>", "keys"]
 minutes = 1
 """
 MARKUP = "<script>document.title='taken'</script><img src=x onerror=\"document.title='taken'\">&amp;</td>"
@@ -204,6 +204,7 @@ def the_page_is_whole_without_a_script(program):
         rows = re.findall(r'<tr><td class="mark"></td><td class="number">(.*?)</td><td>(.*?)</td></tr>', text)
         expect(rows, [("1", "one"), ("2", "two")])
         assert '<caption>2 rows</caption>' in text and '<p class="count">2</p>' in text
+        assert '<span class="label">&lt;s&gt;all&lt;/s&gt;</span>' in text
         assert "none has come since" in text and 'aria-live="polite"' in text
 
 
@@ -391,6 +392,8 @@ def numbers_past_those_of_a_browser_are_exact(program):
 
 @test
 def a_page_file_that_is_none_is_told_why(program):
+    from djq.web.page import PageError, read_page
+
     for page, why in (
         ("title = 1", "panels"),
         ("[[panel]]\nkind = 'pie'", "panel 1: kind is one of table, newest, count, chart"),
@@ -402,13 +405,12 @@ def a_page_file_that_is_none_is_told_why(program):
         ("[[panel]]\nkind = 'chart'\nqueries = []", "queries are from 1 to 6"),
         ("[[panel]", "not TOML"),
     ):
-        with tempfile.NamedTemporaryFile("w", suffix=".toml") as file:
-            file.write(page)
-            file.flush()
-            status, told = run_web("127.0.0.1:1", "--page", file.name)
-            assert status == 1 and why in told and file.name in told, (page, told)
+        error = raises(PageError, lambda: read_page(page))
+        assert why in str(error), (page, error)
+    with tempfile.NamedTemporaryFile("w", suffix=".toml") as file:
+        status, told = run_web("127.0.0.1:1", "--page", file.name)
+        expect((status, told), (1, f"djq-web: {file.name}: a page has panels, each under [[panel]]\n"))
     for words, why in (
-        (("127.0.0.1:1",), "--demo"),
         (("7007", "--demo"), "not HOST:PORT"),
         (("127.0.0.1:1", "--demo", "--listen", "0.0.0.0:0"), "--name"),
     ):
@@ -421,7 +423,7 @@ def run_web(*words):
         [sys.executable, "-m", "djq.web", *words],
         env=dict(os.environ, PYTHONPATH=os.path.join(HERE, "..", "clients", "python")),
         stderr=subprocess.PIPE,
-        timeout=SECONDS,
+        timeout=3 * SECONDS,
     )
     return done.returncode, done.stderr.decode()
 
