@@ -1,0 +1,149 @@
+"""What a page file says: a title and panels, each of a kind and of queries."""
+
+from __future__ import annotations
+
+from dataclasses import dataclass, field
+from typing import Any
+
+try:
+    import tomllib
+except ModuleNotFoundError as missing:
+    raise SystemExit("djq-web needs Python 3.11 or a later one") from missing
+
+from ..errors import BadName
+from ..protocol import checked
+
+MOST_PANELS = 40
+MOST_LINES = 6  # of a chart: as many as can be told apart
+MOST_ROWS = 500  # of a table
+MOST_MINUTES = 24 * 60
+MOST_COLUMNS = 256  # that a head may name
+
+
+class PageError(Exception):
+    """A page file isn't one. Says where and why."""
+
+
+@dataclass(frozen=True)
+class Panel:
+    """One part of a page. Each kind has its own of these fields: see `FIELDS`."""
+
+    kind: str
+    title: str
+    queries: list[str]
+    labels: list[str] = field(default_factory=list)
+    columns: list[str] = field(default_factory=list)
+    order: list[int] = field(default_factory=list)
+    descending: bool = False
+    rows: int = 15
+    minutes: int = 5
+    wide: bool = False
+
+
+@dataclass(frozen=True)
+class Page:
+    """A title, and the panels in order."""
+
+    title: str
+    panels: list[Panel]
+
+    def queries(self) -> list[str]:
+        """The queries of all panels, each once."""
+        return list(dict.fromkeys(query for panel in self.panels for query in panel.queries))
+
+
+# The fields of each kind, and whether they have to be there.
+FIELDS: dict[str, dict[str, bool]] = {
+    "table": {"query": True, "columns": False, "order": False, "descending": False, "rows": False, "wide": False},
+    "newest": {"query": True, "columns": False, "wide": False},
+    "count": {"query": True, "minutes": False, "wide": False},
+    "chart": {"queries": True, "labels": False, "minutes": False, "wide": False},
+}
+
+
+def read_page(text: str) -> Page:
+    """Reads a page file. Raises `PageError`."""
+    try:
+        told = tomllib.loads(text)
+    except tomllib.TOMLDecodeError as error:
+        raise PageError(f"not TOML: {error}") from error
+    _only(told, ("title", "panel"), "the page")
+    panels = told.get("panel")
+    if not isinstance(panels, list) or not all(isinstance(panel, dict) for panel in panels):
+        raise PageError("a page has panels, each under [[panel]]")
+    if len(panels) > MOST_PANELS:
+        raise PageError(f"{len(panels)} panels, and {MOST_PANELS} are the most")
+    title = _value(told, "title", str, "djq", "the page")
+    return Page(title, [_panel(panel, f"panel {number}") for number, panel in enumerate(panels, 1)])
+
+
+def _panel(told: dict[str, Any], where: str) -> Panel:
+    kind = told.get("kind")
+    if kind not in FIELDS:
+        raise PageError(f"{where}: kind is one of {', '.join(FIELDS)}")
+    fields = FIELDS[kind]
+    _only(told, ("kind", "title", *fields), f"{where}, a {kind}")
+    for name, needed in fields.items():
+        if needed and name not in told:
+            raise PageError(f"{where}: a {kind} has a {name}")
+    queries = _names(told, "queries", where) if "queries" in fields else [_value(told, "query", str, "", where)]
+    if not 1 <= len(queries) <= MOST_LINES:
+        raise PageError(f"{where}: queries are from 1 to {MOST_LINES}")
+    for query in queries:
+        try:
+            checked(query)
+        except BadName as error:
+            raise PageError(f"{where}: {error}") from error
+    labels = _names(told, "labels", where) or queries
+    if len(labels) != len(queries):
+        raise PageError(f"{where}: {len(labels)} labels, and {len(queries)} queries")
+    columns = _names(told, "columns", where)
+    if len(columns) > MOST_COLUMNS or len(set(columns)) < len(columns):
+        raise PageError(f"{where}: columns are {MOST_COLUMNS} at most, each with a name of its own")
+    return Panel(
+        kind=kind,
+        title=_value(told, "title", str, ", ".join(labels), where),
+        queries=queries,
+        labels=labels,
+        columns=columns,
+        order=_order(_names(told, "order", where), columns, where),
+        descending=_value(told, "descending", bool, False, where),
+        rows=_number(told, "rows", 15, MOST_ROWS, where),
+        minutes=_number(told, "minutes", 5, MOST_MINUTES, where),
+        wide=_value(told, "wide", bool, False, where),
+    )
+
+
+def _order(names: list[str], columns: list[str], where: str) -> list[int]:
+    """The places of the columns by which a table is in order."""
+    for name in names:
+        if name not in columns:
+            raise PageError(f"{where}: order names {name!r}, which is none of its columns")
+    return [columns.index(name) for name in names]
+
+
+def _only(told: dict[str, Any], known: tuple[str, ...], where: str) -> None:
+    for name in told:
+        if name not in known:
+            raise PageError(f"{where}: there is no {name!r}, but {', '.join(known)}")
+
+
+def _value(told: dict[str, Any], name: str, kind: type, default: Any, where: str) -> Any:
+    value = told.get(name, default)
+    if type(value) is not kind:
+        raise PageError(f"{where}: {name} is {'true or false' if kind is bool else 'a text'}")
+    return value
+
+
+def _number(told: dict[str, Any], name: str, default: int, most: int, where: str) -> int:
+    value = told.get(name, default)
+    if type(value) is not int or not 1 <= value <= most:
+        raise PageError(f"{where}: {name} is a number from 1 to {most}")
+    return value
+
+
+def _names(told: dict[str, Any], name: str, where: str) -> list[str]:
+    value = told.get(name, [])
+    if not isinstance(value, list) or not all(isinstance(one, str) for one in value):
+        raise PageError(f"{where}: {name} is a list of texts")
+    return value

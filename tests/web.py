@@ -1,0 +1,617 @@
+#!/usr/bin/env python3
+"""Tests of the page in the browser (djq.web), beside the built program on loopback: over HTTP alone, and in headless
+Chromium where it is there.
+
+    python3 tests/web.py PROGRAM [NAME ..]
+    python3 tests/web.py PROGRAM --picture FILE.png
+
+It needs Python's standard library; the tests in Chromium also the Debian packages chromium, chromium-driver and
+python3-selenium, and are skipped by name without them. A line is printed for each test that fails or is skipped, and
+last `N passed, N failed`, with `, N skipped`; the status is 0 where none failed. The second form takes a picture of the
+demo's page after it has moved for a while.
+"""
+
+import contextlib
+import http.client
+import json
+import os
+import re
+import shutil
+import signal
+import socket
+import subprocess
+import sys
+import tempfile
+import threading
+import time
+import traceback
+
+from serving import HERE, SECONDS, Server, djq, raises, wait_until
+
+DEBIAN = "/usr/bin/python3"  # which Debian's packages are for
+PAGE = """
+title = "Tests & <i>more</i>"
+[[panel]]
+kind = "table"
+title = "Rows <b>here</b>"
+query = "rows"
+columns = ["key", "<u>text</u>"]
+rows = 5
+[[panel]]
+kind = "count"
+title = "How many"
+query = "rows"
+[[panel]]
+kind = "newest"
+title = "Newest"
+query = "rows"
+columns = ["key", "text"]
+[[panel]]
+kind = "chart"
+title = "Both"
+queries = ["rows", "keys"]
+labels = ["<s>all</s>", "keys"]
+minutes = 1
+"""
+MARKUP = "<script>document.title='taken'</script><img src=x onerror=\"document.title='taken'\">&amp;</td>"
+TESTS = []
+BROWSER_TESTS = []
+
+
+def test(function):
+    TESTS.append(function)
+    return function
+
+
+def in_browser(function):
+    BROWSER_TESTS.append(function)
+    return function
+
+
+class Web:
+    """The page's program on a free port of loopback."""
+
+    def __init__(self, server, page=PAGE, *words, host="127.0.0.1", port=None):
+        with socket.create_server(("127.0.0.1", 0)) as free:
+            self.port = port or free.getsockname()[1]
+        self._directory = tempfile.TemporaryDirectory()
+        path = os.path.join(self._directory.name, "page.toml")
+        with open(path, "w", encoding="utf-8") as file:
+            file.write(page)
+        self.shown = words[words.index("--name") + 1] if host == "0.0.0.0" else host
+        command = [sys.executable, "-m", "djq.web", f"127.0.0.1:{server.port}", "--listen", f"{host}:{self.port}"]
+        self.process = subprocess.Popen(
+            [*command, *(("--page", path) if page else ()), *words],
+            env=dict(os.environ, PYTHONPATH=os.path.join(HERE, "..", "clients", "python")),
+            stdout=subprocess.PIPE,
+            stderr=subprocess.DEVNULL,
+        )
+
+    def __enter__(self):
+        line = self.process.stdout.readline().decode()
+        assert line == f"djq-web: http://{self.shown}:{self.port}/\n", line
+        return self
+
+    def __exit__(self, *_):
+        self.process.send_signal(signal.SIGINT)
+        try:
+            assert self.process.wait(SECONDS) == 0, "Ctrl-C doesn't end it well"
+        finally:
+            self.process.kill()
+            self.process.communicate()
+            self._directory.cleanup()
+
+    def ask(self, path="/", method="GET", host=None, **headers):
+        """The status, the headers and the text of what is answered."""
+        connection = http.client.HTTPConnection("127.0.0.1", self.port, timeout=SECONDS)
+        told = {"Host": host or f"127.0.0.1:{self.port}", **{k.replace("_", "-"): v for k, v in headers.items()}}
+        connection.request(method, path, headers={k: v for k, v in told.items() if v is not None})
+        reply = connection.getresponse()
+        try:
+            return reply.status, dict(reply.getheaders()), "" if path == "/events" else reply.read().decode()
+        finally:
+            connection.close()
+
+    def page(self):
+        status, _, text = self.ask()
+        assert status == 200, status
+        return text
+
+    def live(self):
+        """Waits until the page is up to date."""
+        wait_until(lambda: 'class="live"' in self.page())
+        return self
+
+
+class Events:
+    """The stream of events: `views` is what each name was told last, and `pieces` how many events came."""
+
+    def __init__(self, web):
+        self._connection = http.client.HTTPConnection("127.0.0.1", web.port, timeout=SECONDS)
+        self._connection.request("GET", "/events", headers={"Accept": "text/event-stream"})
+        reply = self._connection.getresponse()
+        assert reply.status == 200 and reply.getheader("Content-Type").startswith("text/event-stream"), reply.status
+        self._reply, self.views, self.count = reply, {}, 0
+        self._changed = threading.Condition()
+        self._thread = threading.Thread(target=self._read, daemon=True)
+        self._thread.start()
+
+    def __enter__(self):
+        return self
+
+    def __exit__(self, *_):
+        with contextlib.suppress(OSError):
+            self._connection.sock and self._connection.sock.shutdown(socket.SHUT_RDWR)
+        self._connection.close()
+
+    def _read(self):
+        name = None
+        with contextlib.suppress(OSError, ValueError, AttributeError, http.client.HTTPException):
+            while line := self._reply.readline().decode().rstrip("\n") + "\n":
+                word, _, rest = line[:-1].partition(": ")
+                if word == "event":
+                    name = rest
+                elif word == "data" and name not in ("page", "beat", None):
+                    with self._changed:
+                        self.views[name], self.count = json.loads(rest), self.count + 1
+                        self._changed.notify_all()
+                elif line == "\n" and self._reply.closed:
+                    return
+
+    def until(self, holds):
+        """Waits until what was told is so, and gives the seconds."""
+        begun = time.monotonic()
+        with self._changed:
+            assert self._changed.wait_for(lambda: holds(self.views), SECONDS), self.views
+        return time.monotonic() - begun
+
+    def rows(self, number="0"):
+        return [tuple(row["cells"]) for row in self.views[number]["rows"]]
+
+
+def expect(got, wanted, *about):
+    assert got == wanted, (got, wanted, *about)
+
+
+def fill(server, *rows):
+    """The relation and the queries of the page, and rows."""
+    client = server.connect()
+    client.relation("r", int, str)
+    for row in rows:
+        client.add("r", *row)
+    client.query("rows(k,t) <- r(k,t)")
+    client.query("keys(k) <- r(k,_)")
+    return client
+
+
+@contextlib.contextmanager
+def shown(program, *rows, page=PAGE, words=()):
+    """A server with these rows, a client of it, and the page."""
+    with Server(program) as server, fill(server, *rows) as client, Web(server, page, *words) as web:
+        yield client, web.live()
+
+
+# Over HTTP alone
+
+
+@test
+def the_page_is_whole_without_a_script(program):
+    with shown(program, (2, "two"), (1, "one")) as (_, web):
+        text = web.page()
+        assert "<title>Tests &amp; &lt;i&gt;more&lt;/i&gt;</title>" in text
+        assert '<h2 id="title0">Rows &lt;b&gt;here&lt;/b&gt;</h2>' in text
+        assert '<th scope="col" class="number">key</th><th scope="col">&lt;u&gt;text&lt;/u&gt;</th>' in text
+        rows = re.findall(r'<tr><td class="mark"></td><td class="number">(.*?)</td><td>(.*?)</td></tr>', text)
+        expect(rows, [("1", "one"), ("2", "two")])
+        assert '<caption>2 rows</caption>' in text and '<p class="count">2</p>' in text
+        assert '<span class="label">&lt;s&gt;all&lt;/s&gt;</span>' in text
+        assert "none has come since" in text and 'aria-live="polite"' in text
+
+
+@test
+def rows_of_another_session_come_and_go(program):
+    with shown(program, (1, "one")) as (client, web), Events(web) as events:
+        events.until(lambda views: len(views) == 6)
+        expect((events.rows(), events.views["status"]), ([("1", "one")], {"live": True, "words": "live"}))
+        client.add("r", 2, "two")
+        events.until(lambda views: [row["cells"][0] for row in views["0"]["rows"]] == ["1", "2"])
+        events.until(lambda views: views["1"]["lines"][0]["count"] == 2 and views["2"]["cells"] == ["2", "two"])
+        expect([row["came"] is not None for row in events.views["0"]["rows"]], [False, True])
+        assert events.views["latest"]["words"].endswith("Rows <b>here</b>, new: 2, two"), events.views["latest"]
+        client.delete("r", 2, "two")
+        events.until(lambda views: events.rows() == [("1", "one")] and views["3"]["lines"][1]["count"] == 1)
+        assert ", gone at " in events.views["2"]["words"], events.views["2"]
+        assert '<td>one</td>' in web.page() and '<td>two</td>' not in web.page()
+
+
+@test
+def changes_come_within_a_tenth_of_a_second(program):
+    with shown(program) as (client, web), Events(web) as events:
+        events.until(lambda views: "0" in views)
+        took = []
+        for key in range(15):
+            time.sleep(0.05)
+            client.add("r", key % 5, f"text {key}")
+            took.append(events.until(lambda views: views["1"]["lines"][0]["count"] == key + 1))
+        middle = sorted(took)[len(took) // 2]
+        assert middle < 0.1, took  # of most: a busy machine may hold up a few
+
+
+@test
+def a_flood_is_told_in_few_pieces(program):
+    with shown(program) as (client, web), Events(web) as events:
+        events.until(lambda views: "0" in views)
+        before, begun = events.count, time.monotonic()
+        client.load("r", [(key, "x") for key in range(5000)])
+        events.until(lambda views: views["1"]["lines"][0]["count"] == 5000)
+        pieces = events.count - before
+        # five views, each at most each 30 ms
+        assert pieces < 170 * (time.monotonic() - begun) + 30, pieces
+        expect(events.views["0"]["words"], "5 of 5000 rows")
+        with client.pipeline() as many:
+            for key in range(4998):
+                many.delete("r", key, "x")
+        events.until(lambda views: events.rows() == [("4998", "x"), ("4999", "x")])
+
+
+@test
+def markup_is_shown_as_text(program):
+    with shown(program, (1, MARKUP), (2, "a\nb"), (3, "\u202eback\x00\x1b")) as (client, web):
+        text = web.page()
+        assert "<script>d" not in text and "<img" not in text and "onerror=\"" not in text
+        assert "&lt;script&gt;document.title=&#x27;taken&#x27;&lt;/script&gt;" in text
+        assert "<td>\ufffdback\u2400\u241b</td>" in text
+        with Events(web) as events:
+            events.until(lambda views: "0" in views)
+            expect(events.rows(), [("1", MARKUP), ("2", "a\nb"), ("3", "\ufffdback\u2400\u241b")])
+
+
+@test
+def other_names_origins_and_methods_are_refused(program):
+    with shown(program, words=("--name", "factory.test")) as (_, web):
+        for host in (f"127.0.0.1:{web.port}", f"LOCALHOST:{web.port}", f"[::1]:{web.port}", "factory.test",
+                     f"factory.test:{web.port}"):  # fmt: skip
+            expect(web.ask(host=host)[0], 200, host)
+        own = f"127.0.0.1:{web.port}"
+        for host in ("evil.test", f"evil.test:{web.port}", "127.0.0.1", "localhost:1", f"{own}.test", f"evil@{own}"):
+            for path in ("/", "/events", "/page.js"):
+                expect(web.ask(path, host=host)[0], 421, host, path)
+        expect(web.ask("/events", Origin=f"http://{own}")[0], 200)
+        for origin in ("http://evil.test", "null", f"http://evil.test:{web.port}", "http://localhost"):
+            for path in ("/", "/events"):
+                expect(web.ask(path, Origin=origin)[0], 403, origin, path)
+        for site in ("cross-site", "same-site"):
+            expect(web.ask("/events", Sec_Fetch_Site=site, Sec_Fetch_Mode="no-cors")[0], 403)
+        followed = {"Sec_Fetch_Site": "cross-site", "Sec_Fetch_Mode": "navigate", "Sec_Fetch_Dest": "document"}
+        expect(web.ask("/", **followed)[0], 200, "a link to the page is followed")
+        expect(web.ask("/", **{**followed, "Sec_Fetch_Dest": "iframe"})[0], 403)
+        for method in ("POST", "PUT", "DELETE", "OPTIONS", "PATCH"):
+            status, headers, _ = web.ask(method=method)
+            expect((status, headers["Allow"]), (405, "GET, HEAD"), method)
+        for path in ("/other", "/../page.toml", "/page.py", "//x", "/events/"):
+            expect(web.ask(path)[0], 404, path)
+        expect(web.ask(method="HEAD")[2], "")
+
+
+@test
+def a_page_for_the_network_is_asked_for_by_its_name(program):
+    with Server(program) as server, fill(server), Web(server, PAGE, "--name", "factory.test", host="0.0.0.0") as web:
+        expect(web.ask(host=f"factory.test:{web.port}")[0], 200)
+        for host in (f"127.0.0.1:{web.port}", f"0.0.0.0:{web.port}", f"localhost:{web.port}"):
+            expect(web.ask(host=host)[0], 421, host)
+        status, told = run_web("127.0.0.1:1", "--demo", "--listen", f"127.0.0.1:{web.port}")
+        assert status == 1 and "Address already in use" in told, told
+
+
+@test
+def every_answer_says_what_a_browser_may_do(program):
+    with shown(program) as (_, web):
+        for path, status in (("/", 200), ("/page.css", 200), ("/page.js", 200), ("/icon.svg", 200), ("/events", 200),
+                             ("/other", 404)):  # fmt: skip
+            got, headers, _ = web.ask(path)
+            policy = headers["Content-Security-Policy"]
+            expect(got, status, path)
+            assert policy.startswith("default-src 'none'; script-src 'self'; style-src 'self';"), policy
+            assert "frame-ancestors 'none'" in policy and "unsafe" not in policy, policy
+            expect(headers["X-Content-Type-Options"], "nosniff")
+        assert "style=" not in web.page() and "onclick" not in web.page()
+
+
+@test
+def it_waits_for_the_server_and_finds_it_again(program):
+    with Server(program) as server:
+        port = server.port
+    with Server(program, port) as server, Web(server) as web, Events(web) as events:
+        events.until(lambda views: "no query" in views["status"]["words"])
+        with fill(server, (1, "one")):
+            events.until(lambda views: views["status"]["live"] and events.rows() == [("1", "one")])
+        server.__exit__()
+        events.until(lambda views: not views["status"]["live"])
+        assert 'class="waiting"' in web.page()
+        with Server(program, port) as again, fill(again, (1, "one"), (3, "three")):
+            events.until(lambda views: views["status"]["live"])
+            events.until(lambda views: events.rows() == [("1", "one"), ("3", "three")])
+            came = [row["came"] is not None for row in events.views["0"]["rows"]]
+            expect(came, [False, True], "what was missed is marked")
+
+
+@test
+def a_viewer_that_comes_again_is_told_all(program):
+    with shown(program, (1, "one")) as (client, web):
+        with Events(web) as events:
+            events.until(lambda views: len(views) == 6)
+        client.add("r", 2, "two")
+        with Events(web) as events:
+            events.until(lambda views: len(views) == 6 and events.rows() == [("1", "one"), ("2", "two")])
+
+
+@test
+def viewers_that_read_nothing_hold_nobody_up(program):
+    with shown(program) as (client, web), contextlib.ExitStack() as stack:
+        for _ in range(10):
+            stuck = stack.enter_context(socket.create_connection(("127.0.0.1", web.port)))
+            stuck.sendall(f"GET /events HTTP/1.1\r\nHost: localhost:{web.port}\r\n\r\n".encode())
+        with Events(web) as events:
+            events.until(lambda views: "0" in views)
+            for turn in range(10):
+                client.load("r", [(100 * turn + key, "x" * 200) for key in range(100)])
+            events.until(lambda views: views["1"]["lines"][0]["count"] == 1000)
+        for _ in range(120):
+            stack.enter_context(socket.create_connection(("127.0.0.1", web.port)))
+        stack.close()
+        wait_until(lambda: answers(web))
+
+
+def answers(web):
+    try:
+        return web.ask()[0] == 200
+    except (OSError, http.client.HTTPException):
+        return False
+
+
+@test
+def tables_are_in_order(program):
+    page = PAGE.replace("rows = 5", 'rows = 3\norder = ["<u>text</u>"]\ndescending = true')
+    with shown(program, (5, "a"), (1, "c"), (2, "c"), page=page) as (client, web), Events(web) as events:
+        events.until(lambda views: "0" in views and events.rows() == [("2", "c"), ("1", "c"), ("5", "a")])
+        client.add("r", 9, "b")
+        events.until(lambda views: events.rows() == [("2", "c"), ("1", "c"), ("9", "b")])
+        expect(events.views["0"]["words"], "3 of 4 rows")
+        client.delete("r", 2, "c")
+        events.until(lambda views: events.rows() == [("1", "c"), ("9", "b"), ("5", "a")])
+        client.load("r", [(key, "d") for key in range(500)])
+        events.until(lambda views: events.rows() == [("499", "d"), ("498", "d"), ("497", "d")])
+
+
+@test
+def numbers_past_those_of_a_browser_are_exact(program):
+    with shown(program, (2**63 - 1, "most"), (-(2**63), "least")) as (_, web), Events(web) as events:
+        events.until(lambda views: "0" in views)
+        expect(events.rows(), [("-9223372036854775808", "least"), ("9223372036854775807", "most")])
+
+
+@test
+def a_page_file_that_is_none_is_told_why(program):
+    from djq.web.page import PageError, read_page
+
+    for page, why in (
+        ("title = 1", "panels"),
+        ("[[panel]]\nkind = 'pie'", "panel 1: kind is one of table, newest, count, chart"),
+        ("[[panel]]\nkind = 'table'", "panel 1: a table has a query"),
+        ("[[panel]]\nkind = 'table'\nquery = 'Q'", "not a name"),
+        ("[[panel]]\nkind = 'count'\nquery = 'q'\ncolums = []", "there is no 'colums'"),
+        ("[[panel]]\nkind = 'table'\nquery = 'q'\ncolumns = ['a']\norder = ['b']", "order names 'b'"),
+        ("[[panel]]\nkind = 'table'\nquery = 'q'\nrows = 0", "rows is a number from 1 to 500"),
+        ("[[panel]]\nkind = 'chart'\nqueries = []", "queries are from 1 to 6"),
+        ("[[panel]", "not TOML"),
+    ):
+        error = raises(PageError, lambda: read_page(page))
+        assert why in str(error), (page, error)
+    with tempfile.NamedTemporaryFile("w", suffix=".toml") as file:
+        status, told = run_web("127.0.0.1:1", "--page", file.name)
+        expect((status, told), (1, f"djq-web: {file.name}: a page has panels, each under [[panel]]\n"))
+    for words, why in (
+        (("7007", "--demo"), "not HOST:PORT"),
+        (("127.0.0.1:1", "--demo", "--listen", "0.0.0.0:0"), "--name"),
+    ):
+        status, told = run_web(*words)
+        assert status == 2 and why in told, told
+
+
+def run_web(*words):
+    done = subprocess.run(
+        [sys.executable, "-m", "djq.web", *words],
+        env=dict(os.environ, PYTHONPATH=os.path.join(HERE, "..", "clients", "python")),
+        stderr=subprocess.PIPE,
+        timeout=3 * SECONDS,
+    )
+    return done.returncode, done.stderr.decode()
+
+
+@test
+def the_demo_moves_and_minds_its_thresholds(program):
+    with Server(program) as server, Web(server, "", "--demo") as web, Events(web) as events:
+        events.until(lambda views: views["status"]["live"] and len(events.views) == 9)
+        board = events.rows("5")
+        events.until(lambda views: events.rows("5") != board)
+        with server.connect() as client:
+            client.delete("thresholds", "heat", 80)
+            client.add("thresholds", "heat", 0)
+            events.until(lambda views: views["2"]["lines"][0]["count"] == 8)
+            events.until(lambda views: sum(row[2] == "heat" for row in events.rows("6")) == 8)
+            client.delete("thresholds", "heat", 0)
+            client.add("thresholds", "heat", 1000)
+            events.until(lambda views: all(row[2] != "heat" for row in events.rows("6")))
+
+
+# In a browser
+
+
+class Browser:
+    """Headless Chromium."""
+
+    def __init__(self, width=1200, height=900):
+        from selenium import webdriver
+        from selenium.webdriver.chrome.options import Options
+        from selenium.webdriver.chrome.service import Service
+
+        options = Options()
+        options.binary_location = shutil.which("chromium")
+        for word in ("headless=new", "no-sandbox", "disable-gpu", "disable-dev-shm-usage", "hide-scrollbars"):
+            options.add_argument(f"--{word}")
+        options.set_capability("goog:loggingPrefs", {"browser": "ALL"})
+        self.driver = webdriver.Chrome(service=Service(shutil.which("chromedriver")), options=options)
+        self.resize(width, height)
+
+    def resize(self, width, height):
+        size = {"width": width, "height": height, "deviceScaleFactor": 1, "mobile": False}
+        self.driver.execute_cdp_cmd("Emulation.setDeviceMetricsOverride", size)
+
+    def open(self, web):
+        self.driver.get(f"http://127.0.0.1:{web.port}/")
+
+    def run(self, script):
+        return self.driver.execute_script(script)
+
+    def rows(self):
+        return self.run(
+            "return [...document.querySelectorAll('tbody tr')].map("
+            "row => [...row.cells].map(cell => cell.textContent))"
+        )
+
+    def complaints(self):
+        return [entry["message"] for entry in self.driver.get_log("browser")]
+
+
+@in_browser
+def a_browser_shows_what_comes_and_goes(program, browser):
+    with shown(program, (1, "one")) as (client, web):
+        browser.open(web)
+        wait_until(lambda: browser.rows() == [["", "1", "one"]])
+        browser.run("document.querySelector('tbody tr').kept = true")
+        client.add("r", 0, MARKUP)
+        wait_until(lambda: browser.rows() == [["new", "0", MARKUP], ["", "1", "one"]])
+        expect(browser.run("return [document.title, document.images.length, document.scripts.length]"),
+               ["Tests & <i>more</i>", 0, 1])  # fmt: skip
+        expect(browser.run("return document.querySelectorAll('tbody tr')[1].kept"), True, "rows that stay are kept")
+        expect(browser.run("return document.querySelector('p.count').textContent"), "2")
+        expect(browser.run("return [...document.querySelectorAll('dd')].map(d => d.textContent)"), ["0", MARKUP])
+        wait_until(lambda: MARKUP in browser.run("return document.getElementById('latest').textContent"))
+        client.delete("r", 0, MARKUP)
+        wait_until(lambda: browser.rows() == [["", "1", "one"]])
+        client.add("r", 2, "two")
+        wait_until(lambda: browser.rows()[-1] == ["new", "2", "two"])
+        wait_until(lambda: browser.rows()[-1] == ["", "2", "two"])  # the mark goes by itself
+        assert browser.run("return document.querySelector('.chart path.line1').getAttribute('d')").startswith("M")
+        expect(browser.complaints(), [])
+
+
+@in_browser
+def a_browser_reads_well(program, browser):
+    long = "a text that is as long as they come, " * 6
+    with shown(program, (1, "one"), (2, long), (3, "w" * 250)) as (_, web):
+        for width in (320, 390, 1200):
+            browser.resize(width, 800)
+            browser.open(web)
+            wait_until(lambda: len(browser.rows()) == 3)
+            wide = browser.run("return document.documentElement.scrollWidth")
+            assert wide <= width, (wide, width)
+        browser.resize(1200, 900)
+        found = browser.run(
+            "return {live: document.querySelectorAll('[aria-live=polite]').length,"
+            " named: [...document.querySelectorAll('section')].every("
+            "  s => document.getElementById(s.getAttribute('aria-labelledby')).textContent !== ''),"
+            " tables: [...document.querySelectorAll('table')].every("
+            "  t => t.caption.textContent !== '' && [...t.tHead.rows[0].cells].every("
+            "   h => h.scope === 'col' && h.textContent !== '')),"
+            " levels: [...document.querySelectorAll('h1,h2,h3')].map(h => h.tagName),"
+            " lang: document.documentElement.lang}"
+        )
+        wanted = {"live": 1, "named": True, "tables": True, "levels": ["H1"] + ["H2"] * 4, "lang": "en"}
+        expect(found, wanted)
+
+
+@in_browser
+def a_browser_pauses_and_connects_again(program, browser):
+    with Server(program) as server, fill(server, (1, "one")) as client:
+        with Web(server) as web:
+            browser.open(web.live())
+            wait_until(lambda: len(browser.rows()) == 1)
+            browser.run("document.getElementById('pause').click()")
+            client.add("r", 2, "two")
+            time.sleep(0.4)
+            expect(len(browser.rows()), 1, "nothing moves while it is paused")
+            browser.run("document.getElementById('pause').click()")
+            wait_until(lambda: len(browser.rows()) == 2)
+            port = web.port
+        wait_until(lambda: "not connected" in browser.run("return document.getElementById('status').textContent"))
+        client.add("r", 3, "three")
+        with Web(server, port=port):
+            wait_until(lambda: len(browser.rows()) == 3)
+            wait_until(lambda: browser.run("return document.getElementById('status').className") == "live")
+
+
+def take_picture(program, path, seconds=100):
+    """The demo's page, once its lines are long enough. Where `pngquant` is there, the file is made small by it."""
+    with Server(program) as server, Web(server, "", "--demo") as web:
+        time.sleep(seconds)
+        browser = Browser(1080, 900)
+        try:
+            browser.open(web)
+            wait_until(lambda: browser.run("return document.querySelectorAll('tr.came').length") > 1)
+            browser.resize(1080, min(1000, browser.run("return document.body.offsetHeight")))
+            time.sleep(1)
+            browser.driver.save_screenshot(path)
+        finally:
+            browser.driver.quit()
+    if shutil.which("pngquant"):
+        subprocess.run(["pngquant", "--force", "--speed", "1", "--output", path, "64", path], check=True)
+    print(f"{path}: {os.path.getsize(path)} bytes")
+
+
+def has_browser():
+    try:
+        import selenium  # noqa: F401
+    except ImportError:
+        return False
+    return bool(shutil.which("chromium") and shutil.which("chromedriver"))
+
+
+def main(program, names):
+    passed = failed = skipped = 0
+    chosen = [function for function in TESTS + BROWSER_TESTS if not names or function.__name__ in names]
+    browser = None
+    for function in chosen:
+        begun = time.monotonic()
+        if function in BROWSER_TESTS and not has_browser():
+            skipped += 1
+            print(f"{function.__name__}: skipped, needs chromium, chromium-driver and python3-selenium")
+            continue
+        try:
+            if function in BROWSER_TESTS:
+                browser = browser or Browser()
+                function(program, browser)
+            else:
+                function(program)
+            passed += 1
+            if os.environ.get("TIMES"):
+                print(f"{function.__name__}: {time.monotonic() - begun:.1f} s", flush=True)
+        except Exception:
+            failed += 1
+            print(f"{function.__name__}: {traceback.format_exc(limit=-2)}")
+    if browser is not None:
+        browser.driver.quit()
+    print(f"{passed} passed, {failed} failed" + (f", {skipped} skipped" if skipped else ""))
+    return 1 if failed or not chosen else 0
+
+
+if __name__ == "__main__":
+    if len(sys.argv) < 2:
+        raise SystemExit(__doc__)
+    # Debian's packages are for Debian's interpreter
+    if not has_browser() and os.path.exists(DEBIAN) and not os.environ.get("DJQ_WEB_AGAIN"):
+        os.execve(DEBIAN, [DEBIAN, *sys.argv], dict(os.environ, DJQ_WEB_AGAIN="1"))
+    if sys.argv[2:3] == ["--picture"]:
+        take_picture(os.path.abspath(sys.argv[1]), sys.argv[3])
+        sys.exit(0)
+    sys.exit(main(os.path.abspath(sys.argv[1]), sys.argv[2:]))
