@@ -1,12 +1,12 @@
 -- A schedule's hub has no more turns than its lines, so that one turn more finds it over; and it never fails.
-use Rattle.std.specs.Prelude.{ℕ, List, [], ◌∷◌, ◌++◌, ◌≡◌, ◌+◌, ◌<◌, ◌≤◌, ◌⊎◌, ◌||◌, Bool, true, false, Option, Some, IfSome, length, take}
+use Rattle.std.specs.Prelude.{ℕ, List, [], ◌∷◌, ◌++◌, ◌≡◌, ◌+◌, ◌<◌, ◌≤◌, ◌⊎◌, ◌||◌, Bool, true, false, Option, Some, Result, Ok, Err, OnErr, IfSome, length, take}
 use Rattle.std.specs.Option.{option_map}
 use Rattle.std.proofs.Common.{refl, sym, ap, ◌∙◌, subst, inl, inr, arith, length-append, length-take}
 use Rattle.std.proofs.lemmas.List.Sums.{sum_by-cons}
 use Rattle.djq_io.specs.Hub.{Ids, no_ids}
-use Rattle.djq_io.specs.MemHub.{Recorded, script_of}
+use Rattle.djq_io.specs.MemHub.{Recorded}
 use Rattle.djq_io.specs.Script.{Script, Passes, Cuts, Sends}
-use Rattle.djq_io.specs.SteadyHub.{NeverFails}
+use Rattle.djq_io.specs.SteadyHub.{has_gone, NeverFails}
 use Rattle.djq_io.specs.declared.hub.Coming.{Coming}
 use Rattle.djq_io.specs.declared.hub.Incoming.{Incoming}
 use Rattle.djq_io.specs.declared.hub.Incoming.TheVariants.{Brings}
@@ -30,7 +30,7 @@ use Rattle.djq_serve.specs.declared.served.Served.TheVariants.{Stopped, Over, Tu
 use Rattle.djq_serve.specs.Told.{Shown, shown, Place, place, Answers as IsAnswered, turn_is_over, turn_is_failed, by_turn, has_over, has_failed, turn_in, turns_in}
 use Rattle.djq_serve.specs.Server.{all_told}
 use Rattle.djq_serve.specs.Ends.{FaultsCount, ServeEnds}
-use Rattle.djq.specs.Replay.{hub_of, IsWhole, Replays}
+use Rattle.djq.specs.Replay.{hub_of, IsWhole, Plays, Replays, LacksMemory}
 
 -- the next turn of a script is gone, and those that are left are short too
 record OneLess (old new : List Coming) : Type 0 where
@@ -75,19 +75,21 @@ both_false true b h = absurd cc
 both_false false b h = (refl, h)
 
 -- a send leaves the script as it was
-script_stays : (s : ℕ) (sent : Sent) (old new : Script) → Sends s sent old new → new ≡ old
-script_stays s (Took n) old new h = h.1
-script_stays s Again old new h = h.1
-script_stays s Gone old new h = h
+script_stays : (s offered : ℕ) (sent : Sent) (old new : Script) → Sends s offered sent old new → new ≡ old
+script_stays s offered (Took n) old new h = h.2
+script_stays s offered Again old new h = h.1
+script_stays s offered Gone old new h = h
 
 one_call : (t : Told) (old new : Place) → IsAnswered old t new → AllShort old.script.turns → by_turn turn_is_over t ≡ false → by_turn turn_is_failed t ≡ false → TookAtMost old.script.turns (t ∷ []) new.script.turns
 one_call (Turning turn piece) old new h all over failed =
     let less = turned turn piece old new h all over failed in
     record { taken = omega (arith, less.less); short = less.short }
-one_call (Sending s sent piece) old new h all over failed = record {
-  taken = omega (arith, ap (λ (script : Script). length script.turns) (script_stays s sent old.script new.script h.0));
-  short = subst (λ (script : Script). AllShort script.turns) (sym (script_stays s sent old.script new.script h.0)) all;
-}
+one_call (Sending s offered sent piece) old new h all over failed =
+    let stays = script_stays s offered sent old.script new.script h.0 in
+    record {
+      taken = omega (arith, ap (λ (script : Script). length script.turns) stays);
+      short = subst (λ (script : Script). AllShort script.turns) (sym stays) all;
+    }
 one_call (Closing s) old new h all over failed = record {
   taken = omega (arith, ap (λ (script : Script). length script.turns) h.0);
   short = subst (λ (script : Script). AllShort script.turns) (sym h.0) all;
@@ -110,50 +112,75 @@ no_fault : FaultsCount HubFailed 0 0 → ⊥
 no_fault (least, inl rose) = absurd (omega (arith, rose))
 no_fault (least, inr top) = absurd (omega (arith, top))
 
--- Serving such a hub ends as it is over, or a session says `stop`.
-is_whole : (answer : Served) (turns : List Coming) (most : ℕ) (counted counted' : Counts) (state : State) (hub : Shown) (script : Script) → ServeEnds answer most (hub_of turns) counted opening hub counted' state
-    → FaultsCount answer 0 0 → hub.script ≡ Some script → AllShort turns → length turns < most → IsWhole answer
-is_whole Stopped turns most counted counted' state hub script ends faults told all fewer = tt
-is_whole Over turns most counted counted' state hub script ends faults told all fewer = tt
-is_whole HubFailed turns most counted counted' state hub script ends faults told all fewer = no_fault faults
-is_whole AllTaken turns most counted counted' state hub script ends faults told all fewer =
+-- Serving such a hub, which tells its turns to the end, ends as it is over, or a session says `stop`.
+is_whole : (answer : Served) (turns : List Coming) (most : ℕ) (counted counted' : Counts) (state : State) (past : Option (List Told)) (left : Script) (ids : Ids)
+    → ServeEnds answer most (hub_of turns) counted opening (shown past (Some left) ids) counted' state
+    → FaultsCount answer 0 0 → AllShort turns → length turns < most → IsWhole answer
+is_whole Stopped turns most counted counted' state past left ids ends faults all fewer = tt
+is_whole Over turns most counted counted' state past left ids ends faults all fewer = tt
+is_whole HubFailed turns most counted counted' state past left ids ends faults all fewer = no_fault faults
+is_whole AllTaken turns most counted counted' state past left ids ends faults all fewer =
     let start = place (record { blocked = []; turns = turns }) no_ids in
-    let moves = all_told ends.goes.moves in
-    let walk : Walk IsAnswered start moves (place script hub.ids) =
-    subst (λ (o : Option Script). IfSome o (λ b. Walk IsAnswered start moves (place b hub.ids))) told ends.goes.told.played in
-    let took = calls moves start (place script hub.ids) walk all ends.caused.over ends.caused.failed in
+    let took = calls (all_told ends.goes.moves) start (place left ids) ends.goes.told.played all ends.caused.over ends.caused.failed in
     absurd (omega (arith, took.taken, ends.goes.turned, ends.has_taken, fewer))
 
+-- a hub in memory of which no call is to fail, as it shows itself
+abbrev pub steady : Recorded → Shown
+steady hub = shown hub.past (Some hub.script) hub.ids
+
 -- the hub that a schedule is made
-made_hub : (bytes : Bytes) (hub : Recorded) → IsMade bytes hub → shown hub.past (script_of hub) hub.ids ≡ hub_of hub.script.turns
+made_hub : (bytes : Bytes) (hub : Recorded) → IsMade bytes hub → steady hub ≡ hub_of hub.script.turns
 made_hub bytes hub made =
-    ap (λ (past : Option (List Told)). shown past (option_map (λ _. hub.script) past) hub.ids) made.past
+    ap (λ (past : Option (List Told)). shown past (Some hub.script) hub.ids) made.past
     ∙ ap (λ (blocked : List ℕ). shown (Some []) (Some (record { blocked = blocked; turns = hub.script.turns })) hub.ids) made.blocked
     ∙ ap (λ (ids : Ids). shown (Some []) (Some (record { blocked = []; turns = hub.script.turns })) ids) made.ids
 
 pub made_steady : (bytes : Bytes) (hub : Recorded) → IsMade bytes hub → NeverFails hub
-made_steady bytes hub made = record { listens = made.listens; turns = made.fails; sends = made.sends }
+made_steady bytes hub made = record {
+  listens = made.listens;
+  turns = made.fails;
+  sends = made.sends;
+  past = subst (λ (past : Option (List Told)). IfSome past (λ told. has_gone told ≡ false)) (sym made.past) refl;
+}
 
--- The hub of a schedule was served, and its past is told.
-pub replays : (bytes : Bytes) (made hub hub' : Recorded) (answer : Served) (most : ℕ) (counted counted' : Counts) (start state : State) (told : List Told) (text : Bytes) → IsMade bytes made → hub ≡ made
-    → most ≡ length (lines_of bytes) + 1 → start ≡ opening → Some told ≡ hub'.past → ServeEnds answer most (shown hub.past (script_of hub) hub.ids) counted start (shown hub'.past (script_of hub') hub'.ids) counted' state
-    → FaultsCount answer 0 0 → text ≡ sent_text told → Replays made.script.turns (length (lines_of bytes) + 1) counted counted' text
-replays bytes made hub hub' answer most counted counted' start state told text is_made same is_most is_start past ends faults is_text =
+-- The hub of a schedule was served.
+pub plays : (bytes : Bytes) (made hub hub' : Recorded) (answer : Served) (most : ℕ) (counted counted' : Counts) (start state : State) → IsMade bytes made → hub ≡ made
+    → most ≡ length (lines_of bytes) + 1 → start ≡ opening → ServeEnds answer most (steady hub) counted start (steady hub') counted' state
+    → FaultsCount answer 0 0 → Plays made.script.turns (length (lines_of bytes) + 1) counted counted' hub'.past
+plays bytes made hub hub' answer most counted counted' start state is_made same is_most is_start ends faults =
     let turns = made.script.turns in
-    let seen = shown hub'.past (script_of hub') hub'.ids in
-    let of_made = ap (λ (h : Recorded). shown h.past (script_of h) h.ids) same ∙ made_hub bytes made is_made in
-    let from_opening : ServeEnds answer most (hub_of turns) counted opening seen counted' state =
-    subst (λ (st : State). ServeEnds answer most (hub_of turns) counted st seen counted' state) is_start
-    (subst (λ (h : Shown). ServeEnds answer most h counted start seen counted' state) of_made ends) in
+    let lines = length (lines_of bytes) in
+    let of_made = ap steady same ∙ made_hub bytes made is_made in
+    let from_opening : ServeEnds answer most (hub_of turns) counted opening (steady hub') counted' state =
+    subst (λ (st : State). ServeEnds answer most (hub_of turns) counted st (steady hub') counted' state) is_start
+    (subst (λ (h : Shown). ServeEnds answer most h counted start (steady hub') counted' state) of_made ends) in
+    let served = subst (λ (n : ℕ). ServeEnds answer n (hub_of turns) counted opening (steady hub') counted' state) is_most from_opening in
     let more = turn_for_each_line bytes turns is_made.turns in
     record {
-      hub = seen;
-      told = told;
-      past = sym past;
+      left = hub'.script;
+      ids = hub'.ids;
       state = state;
       answer = answer;
-      ends = subst (λ (n : ℕ). ServeEnds answer n (hub_of turns) counted opening seen counted' state) is_most from_opening;
-      whole = is_whole answer turns most counted counted' state seen hub'.script from_opening faults
-          (ap (λ (p : Option (List Told)). option_map (λ _. hub'.script) p) (sym past)) (turns_are_short bytes turns is_made.turns) (omega (arith, more, is_most));
-      sent = is_text;
+      ends = served;
+      whole = is_whole answer turns (lines + 1) counted counted' state hub'.past hub'.script hub'.ids served faults (turns_are_short bytes turns is_made.turns) (omega (arith, more));
     }
+
+-- Its past is told at the end.
+pub replays : (turns : List Coming) (most : ℕ) (counted counted' : Counts) (hub' : Recorded) (told : List Told) (text : Bytes) → Plays turns most counted counted' hub'.past
+    → Some told ≡ hub'.past → NeverFails hub' → text ≡ sent_text told → Replays turns most counted counted' text
+replays turns most counted counted' hub' told text played past quiet is_text = record {
+  told = told;
+  plays = subst (λ (p : Option (List Told)). Plays turns most counted counted' p) (sym past) played;
+  none_gone = subst (λ (p : Option (List Told)). IfSome p (λ t. has_gone t ≡ false)) (sym past) quiet.past;
+  sent = is_text;
+}
+
+-- Nothing was counted.
+pub none_counted : (r : Result (List Coming) ℕ) (bytes : Bytes) (counted : Counts) → LacksMemory r bytes counted counted
+none_counted (Err n) bytes counted = refl
+none_counted (Ok turns) bytes counted = inl refl
+
+-- what holds in any case
+pub on_err : {A E : Type 0} (r : Result A E) (P : Type 0) → P → OnErr r P
+on_err (Ok a) P h = tt
+on_err (Err e) P h = h

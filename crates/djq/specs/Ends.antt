@@ -1,7 +1,8 @@
 -- How the program ends: what its status says of the run of the join machine that it made.
-use Rattle.std.specs.Prelude.{ℕ, List, [], ◌∷◌, ◌≡◌, ◌<◌, ◌⊎◌, Bool, true, false, Option, None, Some, length, take, codes}
+use Rattle.std.specs.Prelude.{ℕ, List, [], ◌∷◌, ◌≡◌, ◌<◌, ◌⊎◌, Bool, true, false, Option, None, Some, length, take, drop, codes}
 use Rattle.djq_io.specs.Faults.{Counted}
 use Rattle.djq_io.specs.Sink.{Gains}
+use Rattle.djq_io.specs.Written.{GainsBytes, FailsBehind}
 use Rattle.djq_io.specs.Script.{WhereTold}
 use Rattle.djq_io.specs.declared.hub.Listened.{Listened}
 use Rattle.djq_io.specs.declared.hub.Listened.TheVariants.{Ready, Failed}
@@ -32,9 +33,10 @@ usage_line = line (codes "usage: djq run | serve ADDR [--turns N] | replay | gen
 -- **The theorem of `run`.** There is a run of the join machine from its opening state to this one.
 -- The pieces that it was fed are those that were read, in order, and what was read is run and
 -- answered before the next read. What was written and then what is pending is all that it queued,
--- in order. No more was counted than it may cost. At each moment of it each open cursor had given
--- different answers of its query over the rows that were there then, and all of them where it was
--- told the end. And the status says exactly how far the run went.
+-- in order; and where a write failed, nothing was done behind it. No more was counted than it may
+-- cost. At each moment of it each open cursor had given different answers of its query over the rows
+-- that were there then, and all of them where it was told the end. And the status says exactly how
+-- far the run went.
 pub record Serves (status : Status) (before now : Outside) : Type 0 where
   pub state : State
   pub run : RunEnds status before now opening state
@@ -94,26 +96,27 @@ HubEnds status addr turns hub counted hub' counted' =
     ⊎ (Unheard status addr hub counted hub' counted'
     ⊎ NothingServed status hub counted hub' counted')
 
--- What is done where the words are no command: nothing is read or counted, and this is written.
-pub record Writes (before now : Outside) (written : Bytes) : Type 0 where
+-- nothing was read or counted
+pub record OnlyWrites (before now : Outside) : Type 0 where
   pub reading : now.reading ≡ before.reading
   pub read_faults : now.read_faults ≡ before.read_faults
-  pub written_is : Gains before.taken now.taken written
   pub counted : now.counted ≡ before.counted
 
--- Where the words are no command the usage line is written; or a write fails, and a first part of
--- it is.
+-- Where the words are no command nothing is read or counted, and the usage line is written; or a
+-- first part of it is, and then a write fails, which is the last.
 abbrev pub Explains : Status → Outside → Outside → Type 0
-Explains Usage before now = Writes before now usage_line × (now.write_faults ≡ before.write_faults)
-Explains WriteFault before now = (n : ℕ) × (n < length usage_line)
-    × Writes before now (take n usage_line) × Counted before.write_faults now.write_faults
+Explains Usage before now = OnlyWrites before now
+    × GainsBytes before.writing now.writing usage_line × (now.write_faults ≡ before.write_faults)
+Explains WriteFault before now = OnlyWrites before now × (n : ℕ) × (n < length usage_line)
+    × FailsBehind before.writing now.writing (take n usage_line) (drop n usage_line)
+    × Counted before.write_faults now.write_faults
 Explains _ before now = ⊥
 
 -- neither read nor written
 pub record NoTransfer (before now : Outside) : Type 0 where
   pub reading : now.reading ≡ before.reading
   pub read_faults : now.read_faults ≡ before.read_faults
-  pub taken : now.taken ≡ before.taken
+  pub writing : now.writing ≡ before.writing
   pub write_faults : now.write_faults ≡ before.write_faults
 
 -- nothing was read
@@ -137,8 +140,8 @@ EndsAs (Some (Serve addr turns)) status before hub now hub' =
     HubEnds status addr.now turns hub before.counted hub' now.counted × NoTransfer before now
 EndsAs (Some Replay) status before hub now hub' = ReplayEnds status before now × (hub' ≡ hub)
 EndsAs (Some (Gen n seed)) status before hub now hub' =
-    GenEnds status n seed before.taken before.write_faults before.counted now.taken now.write_faults
-    now.counted × NoneRead before now × (hub' ≡ hub)
+    GenEnds status n seed before.writing before.write_faults before.counted now.writing
+    now.write_faults now.counted × NoneRead before now × (hub' ≡ hub)
 
 -- How the program ends, by the words of its command line: as what they ask for, and as no command
 -- where they ask for nothing; or out of memory before they were read.

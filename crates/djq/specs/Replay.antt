@@ -1,10 +1,13 @@
 -- How `replay` ends: a schedule is read whole, its hub is served, and what was sent is written.
-use Rattle.std.specs.Prelude.{ℕ, List, [], ◌≡◌, ◌+◌, ◌<◌, ◌≤◌, ◌⊎◌, Option, Some, length, take, Result, Ok, Err}
+use Rattle.std.specs.Prelude.{ℕ, List, [], false, ◌≡◌, ◌+◌, ◌<◌, ◌≤◌, ◌⊎◌, Option, Some, length, take, drop, Result, Ok, Err}
 use Rattle.std.specs.List.{concat}
 use Rattle.djq_io.specs.Faults.{Counted}
-use Rattle.djq_io.specs.Hub.{no_ids}
-use Rattle.djq_io.specs.Sink.{Gains}
+use Rattle.djq_io.specs.Hub.{Ids, no_ids}
+use Rattle.djq_io.specs.Script.{Script}
+use Rattle.djq_io.specs.Written.{GainsBytes, FailsBehind}
+use Rattle.djq_io.specs.declared.sink.Write.{Write}
 use Rattle.djq_io.specs.Source.{Reading, Gives}
+use Rattle.djq_io.specs.SteadyHub.{has_gone}
 use Rattle.djq_io.specs.declared.hub.Coming.{Coming}
 use Rattle.djq_io.specs.declared.hub.Told.{Told}
 use Rattle.djq_model.specs.Data.{Bytes}
@@ -62,18 +65,28 @@ IsWhole Over = Unit {0}
 IsWhole AllTaken = ⊥
 IsWhole HubFailed = ⊥
 
--- **The theorem of `replay`.** The hub of these turns was served from the opening state on, until
--- it was over or a session said `stop`: by moves that are a run of the join machine, of which the
--- hub tells, with each session sent what is its. And this text is the lines that were sent.
-pub record Replays (turns : List Coming) (most : ℕ) (counted counted' : Counts) (text : Bytes)
-    : Type 0 where
-  pub hub : Shown
-  pub told : List Told
-  pub past : hub.past ≡ Some told
+-- The hub of these turns was served from the opening state on, until it was over or a session said
+-- `stop`: by moves that are a run of the join machine, which counted no more of listings than it may
+-- cost, with each session sent what is its. The hub tells what is left of its turns, so each turn
+-- that was taken is the next of these. At the end it tells this past.
+pub record Plays (turns : List Coming) (most : ℕ) (counted counted' : Counts)
+    (past : Option (List Told)) : Type 0 where
+  pub left : Script
+  pub ids : Ids
   pub state : State
   pub answer : Served
-  pub ends : ServeEnds answer most (hub_of turns) counted opening hub counted' state
+  pub ends : ServeEnds answer most (hub_of turns) counted opening (shown past (Some left) ids)
+      counted' state
   pub whole : IsWhole answer
+
+-- **The theorem of `replay`.** The hub of these turns was served, and tells all calls that it was
+-- asked. No send among them found its session gone: so each took all that was offered, unless the
+-- session was blocked. And this text is the lines that were sent.
+pub record Replays (turns : List Coming) (most : ℕ) (counted counted' : Counts) (text : Bytes)
+    : Type 0 where
+  pub told : List Told
+  pub plays : Plays turns most counted counted' (Some told)
+  pub none_gone : has_gone told ≡ false
   pub sent : text ≡ sent_text told
 
 -- What is to be written for a schedule: the line that says which of its lines is the first outside
@@ -84,38 +97,48 @@ ComesTo (Err n) bytes counted counted' text = (text ≡ outside_line n) × (coun
 ComesTo (Ok turns) bytes counted counted' text =
     Replays turns (length (lines_of bytes) + 1) counted counted' text
 
+-- What was done for a schedule where memory was wanted: nothing was counted; or its hub was served
+-- all the same, and what was sent couldn't be told.
+abbrev pub LacksMemory : Result (List Coming) ℕ → Bytes → Counts → Counts → Type 0
+LacksMemory (Err n) bytes counted counted' = counted' ≡ counted
+LacksMemory (Ok turns) bytes counted counted' = (counted' ≡ counted)
+    ⊎ ((past : Option (List Told)) × Plays turns (length (lines_of bytes) + 1) counted counted' past)
+
 -- the status of a schedule whose text was written
 abbrev pub status_for : Result (List Coming) ℕ → Status
 status_for (Err n) = Schedule n
 status_for (Ok turns) = Done
 
 -- The sink took all of the text, and the status is this; or it took a first part that isn't the
--- whole, and a write failed.
-abbrev pub Written : Status → Status → Bytes → Option Bytes → ℕ → Option Bytes → ℕ → Type 0
-Written status whole text taken faults taken' faults' =
-    ((status ≡ whole) × Gains taken taken' text × (faults' ≡ faults))
-    ⊎ ((status ≡ WriteFault) × (n : ℕ) × (n < length text) × Gains taken taken' (take n text)
-    × Counted faults faults')
-
--- What a schedule comes to was written; or memory was wanted, and nothing was.
-abbrev pub WritesFor : Status → Bytes → Option Bytes → ℕ → Counts → Option Bytes → ℕ → Counts
+-- whole, and then a write failed, which was the last.
+abbrev pub Written : Status → Status → Bytes → Option (List Write) → ℕ → Option (List Write) → ℕ
     → Type 0
-WritesFor status bytes taken faults counted taken' faults' counted' =
+Written status whole text writing faults writing' faults' =
+    ((status ≡ whole) × GainsBytes writing writing' text × (faults' ≡ faults))
+    ⊎ ((status ≡ WriteFault) × (n : ℕ) × (n < length text)
+    × FailsBehind writing writing' (take n text) (drop n text) × Counted faults faults')
+
+-- What a schedule comes to was written; or memory was wanted, and nothing was. In both cases no more
+-- was counted of listings than the run of the schedule may cost.
+abbrev pub WritesFor : Status → Bytes → Option (List Write) → ℕ → Counts → Option (List Write) → ℕ
+    → Counts → Type 0
+WritesFor status bytes writing faults counted writing' faults' counted' =
     ((text : Bytes) × ComesTo (turns_of bytes) bytes counted counted' text
-    × Written status (status_for (turns_of bytes)) text taken faults taken' faults')
-    ⊎ ((status ≡ NoMemory) × (taken' ≡ taken) × (faults' ≡ faults))
+    × Written status (status_for (turns_of bytes)) text writing faults writing' faults')
+    ⊎ ((status ≡ NoMemory) × LacksMemory (turns_of bytes) bytes counted counted'
+    × (writing' ≡ writing) × (faults' ≡ faults))
 
 -- The whole schedule was read, and then written of.
 pub record WritesWhole (status : Status) (before now : Outside) : Type 0 where
   pub bytes : Bytes
   pub reads : ReadsWhole before.reading now.reading before.read_faults now.read_faults bytes
-  pub writes : WritesFor status bytes before.taken before.write_faults before.counted now.taken
+  pub writes : WritesFor status bytes before.writing before.write_faults before.counted now.writing
       now.write_faults now.counted
 
 -- Reading stopped before the end: nothing is run or written.
 pub record Stops (status : Status) (before now : Outside) : Type 0 where
   pub reading : StopsReading status before.reading now.reading before.read_faults now.read_faults
-  pub taken : now.taken ≡ before.taken
+  pub writing : now.writing ≡ before.writing
   pub no_fault : now.write_faults ≡ before.write_faults
   pub none_counted : now.counted ≡ before.counted
 

@@ -1,7 +1,7 @@
 ghost use Rattle.std.specs.Prelude.{◌≡◌, ◌++◌, Err, IfOk, OnOk, decimal};
 ghost use Rattle.djq_machine.specs.Call.{counts};
-ghost use Rattle.djq_load.specs.declared.loading.LoadRefusal.TheVariants.{TooMany};
-ghost use Rattle.djq.specs.Gen.{summary, Generates, HasTooMany, GenEnds};
+ghost use Rattle.djq_load.specs.declared.loading.LoadRefusal.TheVariants.{NoMem, TooMany};
+ghost use Rattle.djq.specs.Gen.{summary, Generates, HasTooMany, LoadsUntold, GenEnds};
 
 use crate::replay::write_text;
 use djq_core::Core;
@@ -13,9 +13,10 @@ use djq_steps::{Ledgers, Steps};
 use itoa::Buffer;
 use std::alloc::{AllocError, Global};
 
-/// Runs the load of so many changes with a seed through one session of a machine, and writes what it
-/// comes to: how many rows there are, how many changes there were, how many answers there are, and
-/// what their integers add up to.
+/// Runs the load of so many changes with a seed through one session of a machine, lists the answers
+/// of its query to their end, and writes what it comes to: how many rows there are, how many changes
+/// there were, how many answers there are, and what their integers add up to. Out of memory nothing
+/// is written, and no more is counted of listings than the lines that came may cost.
 pub(crate) fn generate<K: Sink, L: Ledgers>(
     alloc: Global,
     n: u32,
@@ -23,8 +24,8 @@ pub(crate) fn generate<K: Sink, L: Ledgers>(
     sink: &mut K,
     steps: &mut Steps<L>,
 ) -> Status
-    ensures { GenEnds result n seed (K.taken sink.old) (K.faults sink.old)
-        (counts steps.old.listing steps.old.update steps.old.rows) (K.taken sink.new)
+    ensures { GenEnds result n seed (K.told sink.old) (K.faults sink.old)
+        (counts steps.old.listing steps.old.update steps.old.rows) (K.told sink.new)
         (K.faults sink.new) (counts steps.new.listing steps.new.update steps.new.rows) }
 {
     match summarize(alloc, n, seed, steps) {
@@ -45,6 +46,9 @@ fn summarize<L: Ledgers>(
         (counts steps.old.listing steps.old.update steps.old.rows)
         (counts steps.new.listing steps.new.update steps.new.rows) text.items) }
     ensures short { result ≡ Err TooMany → HasTooMany n seed
+        (counts steps.old.listing steps.old.update steps.old.rows)
+        (counts steps.new.listing steps.new.update steps.new.rows) }
+    ensures memory { result ≡ Err NoMem → LoadsUntold n seed
         (counts steps.old.listing steps.old.update steps.old.rows)
         (counts steps.new.listing steps.new.update steps.new.rows) }
 {

@@ -22,9 +22,12 @@ const USAGE: &[u8] = b"usage: djq run | serve ADDR [--turns N] | replay | gen N 
 /// Runs the program by the words of its command line, of which the first is its name.
 ///
 /// `run` serves one session from the source to the sink. `serve` lets the hub listen at an address,
-/// and serves the sessions that come. `replay` serves a hub of its own, which goes by the schedule
-/// in the source. `gen` runs a generated load, and writes what it comes to. Other words are answered by the usage line. The hub has opened no session before,
-/// and words other than those of `serve` leave it as it is.
+/// and serves the sessions that come. `replay` serves a hub of its own, whose turns are those of the
+/// schedule in the source, in order. `gen` runs a generated load, lists the answers of its query to
+/// their end, and writes what it comes to. Other words are answered by the usage line. Out of memory
+/// no more is counted of listings than the part that was done may cost.
+///
+/// The hub has opened no session before, and words other than those of `serve` leave it as it is.
 pub fn run_program<S: Source, K: Sink, H: Hub, L: Ledgers>(
     alloc: Global,
     words: &[&str],
@@ -35,10 +38,10 @@ pub fn run_program<S: Source, K: Sink, H: Hub, L: Ledgers>(
 ) -> Status
     requires alone { (H.ids hub.old).open_ids ≡ [] }
     ensures ends { ProgramEnds result (map (λ word. word.now) words.entry.now)
-        (outside (S.told source.old) (S.faults source.old) (K.taken sink.old) (K.faults sink.old)
+        (outside (S.told source.old) (S.faults source.old) (K.told sink.old) (K.faults sink.old)
         (counts steps.old.listing steps.old.update steps.old.rows))
         (hub_seen (shown (H.past hub.old) (H.script hub.old) (H.ids hub.old)) (H.faults hub.old))
-        (outside (S.told source.new) (S.faults source.new) (K.taken sink.new) (K.faults sink.new)
+        (outside (S.told source.new) (S.faults source.new) (K.told sink.new) (K.faults sink.new)
         (counts steps.new.listing steps.new.update steps.new.rows))
         (hub_seen (shown (H.past hub.new) (H.script hub.new) (H.ids hub.new)) (H.faults hub.new)) }
     ensures spared { (AsksToServe (map (λ word. word.now) words.entry.now) → ⊥)
@@ -62,9 +65,9 @@ fn serve_source<S: Source, K: Sink, L: Ledgers>(
     steps: &mut Steps<L>,
 ) -> Status
     ensures { Serves result
-        (outside (S.told source.old) (S.faults source.old) (K.taken sink.old) (K.faults sink.old)
+        (outside (S.told source.old) (S.faults source.old) (K.told sink.old) (K.faults sink.old)
         (counts steps.old.listing steps.old.update steps.old.rows))
-        (outside (S.told source.new) (S.faults source.new) (K.taken sink.new) (K.faults sink.new)
+        (outside (S.told source.new) (S.faults source.new) (K.told sink.new) (K.faults sink.new)
         (counts steps.new.listing steps.new.update steps.new.rows)) }
 {
     let Ok(mut machine) = Core::new(alloc) else {
@@ -118,8 +121,8 @@ fn ended_status(served: Served) -> Status
 /// Writes the usage line.
 fn explain_usage<K: Sink>(sink: &mut K) -> Status
     ensures { (reading : Option Reading) (faults : ℕ) (counted : Counts) → Explains result
-        (outside reading faults (K.taken sink.old) (K.faults sink.old) counted)
-        (outside reading faults (K.taken sink.new) (K.faults sink.new) counted) }
+        (outside reading faults (K.told sink.old) (K.faults sink.old) counted)
+        (outside reading faults (K.told sink.new) (K.faults sink.new) counted) }
 {
     match write_all(sink, USAGE) {
         Written::All => Status::Usage,

@@ -1,10 +1,10 @@
-ghost use Rattle.std.specs.Prelude.{◌≡◌, ℕ, List, ◌+◌, ◌<◌, length, Option, IfOk, MatchResult};
+ghost use Rattle.std.specs.Prelude.{◌≡◌, ℕ, List, ◌+◌, ◌<◌, length, Option, Ok, IfOk, OnErr, MatchResult};
 ghost use Rattle.djq_io.specs.Source.{Reading};
 ghost use Rattle.djq_machine.specs.Call.{counts};
 ghost use Rattle.djq_laws.specs.Course.{outside};
 ghost use Rattle.djq_schedule.specs.Schedule.{lines_of};
 ghost use Rattle.djq_schedule.specs.Made.{turns_of, IsMade};
-ghost use Rattle.djq.specs.Replay.{ReadsWhole, StopsReading, Replays, ComesTo, status_for, Written as Wrote, WritesFor, ReplayEnds};
+ghost use Rattle.djq.specs.Replay.{ReadsWhole, StopsReading, Replays, ComesTo, LacksMemory, status_for, Written as Wrote, WritesFor, ReplayEnds};
 
 use djq_core::Core;
 use djq_io::{MemHub, Read, Sink, Source, SteadyHub, Written, write_all};
@@ -16,8 +16,9 @@ use djq_steps::{Ledgers, Steps};
 use std::alloc::{AllocError, Global};
 
 /// Reads a schedule from the source, serves its hub, and writes each line that was sent to a
-/// session, in the order of the sends. A schedule with a line outside the grammar isn't run, and
-/// the first such line is told.
+/// session, in the order of the sends. What is served are the turns of the schedule, in order, until
+/// none is left or a session said `stop`. A schedule with a line outside the grammar isn't run, and
+/// the first such line is told. Out of memory nothing is written.
 pub(crate) fn replay<S: Source, K: Sink, L: Ledgers>(
     alloc: Global,
     source: &mut S,
@@ -25,9 +26,9 @@ pub(crate) fn replay<S: Source, K: Sink, L: Ledgers>(
     steps: &mut Steps<L>,
 ) -> Status
     ensures { ReplayEnds result
-        (outside (S.told source.old) (S.faults source.old) (K.taken sink.old) (K.faults sink.old)
+        (outside (S.told source.old) (S.faults source.old) (K.told sink.old) (K.faults sink.old)
         (counts steps.old.listing steps.old.update steps.old.rows))
-        (outside (S.told source.new) (S.faults source.new) (K.taken sink.new) (K.faults sink.new)
+        (outside (S.told source.new) (S.faults source.new) (K.told sink.new) (K.faults sink.new)
         (counts steps.new.listing steps.new.update steps.new.rows)) }
 {
     match read_whole(alloc, source) {
@@ -85,8 +86,8 @@ fn replay_schedule<K: Sink, L: Ledgers>(
     sink: &mut K,
     steps: &mut Steps<L>,
 ) -> Status
-    ensures { WritesFor result bytes.now (K.taken sink.old) (K.faults sink.old)
-        (counts steps.old.listing steps.old.update steps.old.rows) (K.taken sink.new)
+    ensures { WritesFor result bytes.now (K.told sink.old) (K.faults sink.old)
+        (counts steps.old.listing steps.old.update steps.old.rows) (K.told sink.new)
         (K.faults sink.new) (counts steps.new.listing steps.new.update steps.new.rows) }
 {
     match make_text(alloc, bytes, steps) {
@@ -97,8 +98,8 @@ fn replay_schedule<K: Sink, L: Ledgers>(
 
 /// Writes the text. The status is that of a text that is written whole.
 pub(crate) fn write_text<K: Sink>(sink: &mut K, text: &[u8], status: Status) -> Status
-    ensures { Wrote result status text.now (K.taken sink.old) (K.faults sink.old)
-        (K.taken sink.new) (K.faults sink.new) }
+    ensures { Wrote result status text.now (K.told sink.old) (K.faults sink.old)
+        (K.told sink.new) (K.faults sink.new) }
 {
     match write_all(sink, text) {
         Written::All => status,
@@ -116,6 +117,9 @@ fn make_text<L: Ledgers>(
         (counts steps.old.listing steps.old.update steps.old.rows)
         (counts steps.new.listing steps.new.update steps.new.rows) made.0.items) }
     ensures status { IfOk result (λ made. made.1 ≡ status_for (turns_of bytes.now)) }
+    ensures memory { OnErr result (LacksMemory (turns_of bytes.now) bytes.now
+        (counts steps.old.listing steps.old.update steps.old.rows)
+        (counts steps.new.listing steps.new.update steps.new.rows)) }
 {
     match schedule_hub(alloc, bytes) {
         Ok(hub) => Ok((serve_schedule(alloc, bytes, hub, steps)?, Status::Done)),
@@ -134,9 +138,12 @@ fn serve_schedule<L: Ledgers>(
     steps: &mut Steps<L>,
 ) -> Result<Vec<u8>, AllocError>
     requires { IsMade bytes.now hub }
-    ensures { IfOk result (λ text. Replays hub.script.turns (length (lines_of bytes.now) + 1)
+    ensures text { IfOk result (λ text. Replays hub.script.turns (length (lines_of bytes.now) + 1)
         (counts steps.old.listing steps.old.update steps.old.rows)
         (counts steps.new.listing steps.new.update steps.new.rows) text.items) }
+    ensures memory { OnErr result (LacksMemory (Ok hub.script.turns) bytes.now
+        (counts steps.old.listing steps.old.update steps.old.rows)
+        (counts steps.new.listing steps.new.update steps.new.rows)) }
 {
     let Ok(mut machine) = Core::new(alloc) else {
         return Err(AllocError);

@@ -21,6 +21,20 @@ const SESSION: &[u8] =
 const REPLIES: &[u8] =
     b"ok\nok added 1\nok added 2\nok same 2\nok removed 3\nok query 5\nok open\n= 1 2\nend\nend\nok\n";
 
+/// The same, a command apart.
+const REPLIES_APART: [&str; 10] = [
+    "ok\n",
+    "ok added 1\n",
+    "ok added 2\n",
+    "ok same 2\n",
+    "ok removed 3\n",
+    "ok query 5\n",
+    "ok open\n",
+    "= 1 2\nend\n",
+    "end\n",
+    "ok\n",
+];
+
 fn counted<S: Source, K: Sink, L: Ledgers>(
     rt: &HostRuntime,
     blanks: Blanks,
@@ -141,31 +155,62 @@ fn other_words_get_the_usage_line(rt: HostRuntime) -> Result<(), Fail> {
     Ok(())
 }
 
-/// Of the replies before the failed write nothing is lost, and what is behind isn't written.
+/// The replies to the commands before the failed write are written, and nothing else: each is one write.
 #[test]
 fn a_failed_write_ends_the_program(rt: HostRuntime) -> Result<(), Fail> {
-    let mut source = MemSource::new(SESSION.to_vec(rt.alloc())?, 8192);
-    let mut sink = MemSink::new(rt.alloc());
-    sink.fail_at(2)?;
-    assert_eq!(rt;
-        run_words(&rt, &RUN, &mut source, &mut sink),
-        Status::WriteFault
-    );
-    assert_eq!(rt; sink.taken(), Some(b"ok\n".as_slice()));
+    let mut written = 0;
+    for (write, reply) in (1u64..11).zip(REPLIES_APART) {
+        let mut source = MemSource::new(SESSION.to_vec(rt.alloc())?, 8192);
+        let mut sink = MemSink::new(rt.alloc());
+        sink.fail_at(write)?;
+        assert_eq!(rt;
+            run_words(&rt, &RUN, &mut source, &mut sink),
+            Status::WriteFault,
+            "write {write}"
+        );
+        assert_eq!(rt; sink.taken(), REPLIES.get(..written), "write {write}");
+        written = reply.len().saturating_add(written);
+    }
+    assert_eq!(rt; written, REPLIES.len());
+    Ok(())
+}
+
+/// So it is with the lines of other commands.
+#[test]
+fn a_failed_write_ends_what_is_no_session(rt: HostRuntime) -> Result<(), Fail> {
+    for words in [["djq", "fly"].as_slice(), &REPLAY] {
+        let mut source = MemSource::new(b"open 1\nsay 2 x\n".to_vec(rt.alloc())?, 8192);
+        let mut sink = MemSink::new(rt.alloc());
+        sink.fail_at(1)?;
+        assert_eq!(rt;
+            run_words(&rt, words, &mut source, &mut sink),
+            Status::WriteFault
+        );
+        assert_eq!(rt; sink.taken(), Some(b"".as_slice()));
+    }
     Ok(())
 }
 
 /// What was read before the failed read is run and answered.
 #[test]
 fn a_failed_read_ends_the_program(rt: HostRuntime) -> Result<(), Fail> {
-    let mut source = MemSource::new(SESSION.to_vec(rt.alloc())?, 15);
-    source.fail_at(2)?;
-    let mut sink = MemSink::new(rt.alloc());
-    assert_eq!(rt;
-        run_words(&rt, &RUN, &mut source, &mut sink),
-        Status::ReadFault
-    );
-    assert_eq!(rt; sink.taken(), Some(b"ok\n".as_slice()));
+    let rows = [
+        (RUN.as_slice(), 8192, 1, b"".as_slice()),
+        (&RUN, 8192, 2, REPLIES),
+        (&RUN, 15, 2, b"ok\n"),
+        (&REPLAY, 8192, 1, b""),
+    ];
+    for (words, most, read, replies) in rows {
+        let mut source = MemSource::new(SESSION.to_vec(rt.alloc())?, most);
+        source.fail_at(read)?;
+        let mut sink = MemSink::new(rt.alloc());
+        assert_eq!(rt;
+            run_words(&rt, words, &mut source, &mut sink),
+            Status::ReadFault,
+            "read {read} of {most}"
+        );
+        assert_eq!(rt; sink.taken(), Some(replies), "read {read} of {most}");
+    }
     Ok(())
 }
 

@@ -1,11 +1,10 @@
 -- What a store's rows say of it.
-use Rattle.std.proofs.Common.{◌≡◌, ◌≢◌, ℕ, zero, suc, ◌+◌, ◌-◌, ◌*◌, ◌≤◌, ◌<◌, List, [], ◌∷◌, ◌++◌, length, map, take, drop, Option, Some, None, refl, ap, ap₂, subst, sym, ◌∙◌, arith, append_assoc, length-take, length-drop}
+use Rattle.std.proofs.Common.{◌≡◌, ℕ, suc, ◌*◌, ◌<◌, List, [], ◌∷◌, ◌++◌, length, None, refl, ap, subst, sym, ◌∙◌, arith, length-take, length-drop}
 use Rattle.djq_arena.specs.declared.store.Store.{Store}
-use Rattle.djq_arena.specs.declared.chain.Pair.{Pair}
 use Rattle.djq_arena.specs.declared.chain.Ends.{Ends}
-use Rattle.djq_arena.specs.Chains.{IsOut, AreDifferent, AreBelow, first_of, last_of, Linked, pair_at}
-use Rattle.djq_arena.specs.Store.{cells_at, IsStore, live_of, free_of, IsSound, rows_in, rows_of, Holds, IsSame, SameRows}
-use Rattle.djq_arena.specs.Rows.{Row, Rows, slots, IsHeld, IsRow, AreWide, AreRows}
+use Rattle.djq_arena.specs.Chains.{AreBelow, first_of, last_of, Linked, pair_at}
+use Rattle.djq_arena.specs.Store.{cells_at, live_of, free_of, IsSound, rows_in, rows_of, IsSame, SameRows}
+use Rattle.djq_arena.specs.Rows.{Row, slots, IsHeld, AreWide, AreRows}
 use Rattle.djq_arena.proofs.Lists.{different_front, below_front}
 use Rattle.djq_arena.proofs.Chaining.{prev_here, next_here}
 use Rattle.djq_arena.proofs.Storing.{held_within}
@@ -68,4 +67,9 @@ rows_law a h = record {
 }
 
 pub same_account : (a b : Store) → IsSame a b → SameRows a b
-same_account a b h = record { width = h.alike.width; room = h.alike.slots; rows = same_rows a b h }
+same_account a b h = record {
+  width = h.alike.width;
+  room = h.alike.slots;
+  rows = same_rows a b h;
+  tidy = λ tidy. omega (arith, tidy, h.alike.slots, h.len, h.spare);
+}

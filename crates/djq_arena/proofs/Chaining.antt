@@ -1,9 +1,8 @@
 -- How chains change.
-use Rattle.std.proofs.Common.{◌≡◌, ◌≢◌, ℕ, zero, suc, ◌+◌, ◌≤◌, ◌<◌, Bool, true, false, cond, List, [], ◌∷◌, ◌++◌, length, slice_set, Option, Some, None, refl, ap, subst, sym, ◌∙◌, arith, length-set, get_or-set_same, get_or-set_other, append_assoc}
-use Rattle.std.proofs.lemmas.List.{append-nil}
+use Rattle.std.proofs.Common.{◌≡◌, ◌≢◌, ℕ, ◌<◌, List, [], ◌∷◌, ◌++◌, length, slice_set, Option, Some, None, refl, ap, sym, ◌∙◌, length-set, get_or-set_same, get_or-set_other}
 use Rattle.djq_arena.specs.declared.chain.Pair.{Pair}
-use Rattle.djq_arena.specs.Chains.{pair_at, first_or, last_from, first_of, last_of, Linked, IsOut, AreDifferent, AreBelow, set_prev, set_next, entered, left, IsWithin, Differs, Avoids, Agree, trail}
-use Rattle.djq_arena.proofs.Lists.{first_append, last_append, out_front, out_back, different_front, different_back, different_here, different_out, different_swap, below_out, below_front, below_back, last_differs, first_differs, last_avoids, first_avoids, avoids_some, avoids_none}
+use Rattle.djq_arena.specs.Chains.{pair_at, first_or, last_from, first_of, last_of, Linked, IsOut, AreDifferent, AreBelow, set_prev, set_next, entered, left, Differs, Avoids, Agree, trail}
+use Rattle.djq_arena.proofs.Lists.{first_append, different_front, different_back, different_out, different_swap, below_out, below_front, below_back, last_differs, last_avoids, first_avoids, avoids_none}
 
 pub pair_same : (links : List Pair) (i : ℕ) (p : Pair) → i < length links → pair_at (slice_set links i p) i ≡ p
 pair_same links i p h = get_or-set_same links i p (record { prev = None; next = None }) h

@@ -1,12 +1,12 @@
 -- The slots of one bucket among all.
-use Rattle.std.proofs.Common.{◌≡◌, ◌≢◌, ℕ, zero, suc, ◌+◌, ◌≤◌, ◌<◌, Bool, true, false, cond, List, [], ◌∷◌, ◌++◌, length, slice_set, slice_index_or, Option, Some, None, refl, ap, subst, sym, ◌∙◌, arith, ◌⊎◌, inl, inr, length-set, get_or-set_same, get_or-set_other, eqb-true, eq-eqb, append_assoc}
-use Rattle.std.proofs.lemmas.Bool.{cases_Bool, cases_eq, false≢true, ne_eqb}
+use Rattle.std.proofs.Common.{◌≡◌, ◌≢◌, ℕ, ◌<◌, Bool, true, false, cond, List, [], ◌∷◌, ◌++◌, length, slice_set, slice_index_or, Option, Some, None, refl, ap, subst, sym, ◌∙◌, inl, inr, length-set, get_or-set_same, get_or-set_other, eqb-true, eq-eqb}
+use Rattle.std.proofs.lemmas.Bool.{cases_Bool, cases_eq, ne_eqb}
 use Rattle.std.proofs.lemmas.List.{append-nil}
 use Rattle.djq_arena.specs.declared.chain.Pair.{Pair}
-use Rattle.djq_arena.specs.Chains.{pair_at, first_or, last_from, first_of, last_of, Linked, IsOut, AreDifferent, AreBelow, entered, left, Differs, Avoids, IsWithin}
+use Rattle.djq_arena.specs.Chains.{pair_at, last_from, first_of, last_of, Linked, IsOut, AreDifferent, AreBelow, entered, left, Differs, Avoids, IsWithin}
 use Rattle.djq_arena.specs.Store.{chosen, is_of, class, cells_at, AreBuckets, unheaded}
-use Rattle.djq_arena.proofs.Lists.{last_append, first_append, out_front, out_back, different_front, different_out, below_front, avoids_none, avoids_some, different_here, below_here, below_out, below_back, last_within, first_within}
-use Rattle.djq_arena.proofs.Chaining.{linked_same, entered_linked, entered_agree, left_linked, left_agree, length-entered, length-left, prev_here, next_here}
+use Rattle.djq_arena.proofs.Lists.{last_append, below_front, below_out, below_back, last_within, first_within}
+use Rattle.djq_arena.proofs.Chaining.{linked_same, entered_linked, entered_agree, left_linked, left_agree, prev_here, next_here}
 
 spread : (b : Bool) (x : ℕ) (xs ys : List ℕ) → cond b (x ∷ (xs ++ ys)) (xs ++ ys) ≡ cond b (x ∷ xs) xs ++ ys
 spread true x xs ys = refl

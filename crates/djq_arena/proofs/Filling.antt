@@ -1,18 +1,17 @@
 -- Rows that are written into slots.
-use Rattle.std.proofs.Common.{◌≡◌, ◌≢◌, ℕ, zero, suc, ◌+◌, ◌-◌, ◌*◌, ◌≤◌, ◌<◌, ◌==◌, Bool, true, false, cond, List, [], ◌∷◌, ◌++◌, length, map, take, drop, slice_set, slice_index_or, get_or, Option, Some, None, refl, ap, ap₂, subst, sym, ◌∙◌, arith, length-append, length-set, append_assoc, ◌⊎◌, inl, inr, min, max, length-take, length-drop, rules, Result, Ok, Err}
+use Rattle.std.proofs.Common.{◌≡◌, ◌≢◌, ℕ, ◌+◌, ◌-◌, ◌*◌, ◌≤◌, ◌<◌, ◌==◌, Bool, true, false, cond, List, [], ◌∷◌, ◌++◌, length, take, drop, Option, Some, None, refl, ap, ap₂, subst, sym, ◌∙◌, arith, length-append, append_assoc, inl, inr, length-take, length-drop, rules, Result, Ok, Err}
 use Rattle.std.specs.Result.{OnErr}
-use Rattle.std.proofs.lemmas.List.{append-nil, map-append, get_or_default, take_all, take_at, drop_at, drop-append-le, take-append-le, places, get_or_append_left, drop-drop, same_lists}
-use Rattle.std.proofs.lemmas.Bool.{cases_Bool, cases_order}
+use Rattle.std.proofs.lemmas.List.{append-nil, take_all, drop_at, drop-append-le, take-append-le, places, get_or_append_left, same_lists}
+use Rattle.std.proofs.lemmas.Bool.{cases_order}
 use Rattle.djq_arena.specs.declared.chain.Pair.{Pair}
 use Rattle.djq_arena.specs.declared.chain.Ends.{Ends}
 use Rattle.djq_arena.specs.declared.store.Store.{Store}
-use Rattle.djq_arena.specs.Chains.{pair_at, first_or, last_from, first_of, last_of, Linked, IsOut, AreDifferent, AreBelow, Agree, entered, left, IsWithin, Differs, Avoids, trail}
+use Rattle.djq_arena.specs.Chains.{pair_at, last_of, Linked, IsOut, AreDifferent, AreBelow, Agree, left, IsWithin, Avoids}
 use Rattle.djq_arena.specs.Rows.{Row}
-use Rattle.djq_arena.specs.Store.{chosen, is_of, class, cells_at, AreBuckets, unheaded, ends_of, extended, shrunk, beside, IsStore, live_of, free_of, IsSound, IsLoose, rows_in, rows_of, IsAlike, IsLinked, IsUnlinked, IsSame, Holds, IsPrepared}
-use Rattle.djq_arena.proofs.Lists.{last_append, first_append, out_front, out_back, out_append, different_front, different_back, different_out, different_here, different_swap, below_front, below_back, below_out, below_in, below_here, below_more, below_unlike, last_avoids, avoids_none, first_avoids, last_within, first_within, ends_with}
+use Rattle.djq_arena.specs.Store.{chosen, is_of, class, cells_at, AreBuckets, ends_of, shrunk, IsStore, live_of, free_of, IsSound, rows_in, rows_of, IsSame, IsPrepared}
+use Rattle.djq_arena.proofs.Lists.{out_front, different_back, different_out, different_here, different_swap, below_front, below_back, below_here, below_more, below_unlike, last_avoids, avoids_none, last_within, ends_with}
 use Rattle.djq_arena.proofs.Chaining.{linked_same, left_linked, left_agree, length-left, prev_here, next_here}
-use Rattle.djq_arena.proofs.Choosing.{entered_buckets}
-use Rattle.djq_arena.proofs.Storing.{live_is, free_is, sound, shrunk_is}
+use Rattle.djq_arena.proofs.Storing.{live_is, free_is, sound, shrunk_is, some_last}
 
 -- the cells of a row fit before the end
 pub row_fits : (x n w : ℕ) → x < n → x * w + w ≤ n * w
@@ -137,6 +136,7 @@ extends a b u h e wide room =
       rows = rows_same live;
       slots = longer ∙ omega arith;
       fits = omega arith;
+      alone = λ tidy. omega (arith, longer, tidy, e.len, e.spare);
     }
   where
     rows_same : live_of b ≡ live_of a → rows_of b ≡ rows_of a
@@ -179,6 +179,8 @@ stays a b h s =
     record {
       alike = record { sound = sound b (live_of a) (free_of a) k; width = s.width; cells = s.cells; slots = ap (λ (ls : List Pair). length ls) s.order };
       live = live_is b (live_of a) (free_of a) k;
+      len = s.len;
+      spare = s.spare;
     }
 
 -- a row that is written over another
@@ -314,6 +316,7 @@ module _ (a b : Store) (xs gs : List ℕ) (i : ℕ) (u : List ℕ) (h : IsStore 
         rows = reuse_rows live is;
         slots = ap (λ (ls : List Pair). length ls) r.order ∙ length-left a.order.items (pair_at a.order.items i) ∙ omega (arith, reuse_within);
         fits = omega (arith, reuse_within);
+        alone = λ tidy. ap (λ (ls : List Pair). length ls) r.order ∙ length-left a.order.items (pair_at a.order.items i) ∙ omega (arith, tidy, r.len, r.spare, h.spare, length-append gs (i ∷ []));
       }
 
 pub reuses : (a b : Store) (i : ℕ) (u : List ℕ) → IsSound a → a.free.last ≡ Some i → Reuses a b i u → length u ≡ a.width → IsPrepared a b i u
@@ -342,3 +345,11 @@ on_err (Err e) P p = p
 
 pub extends_at : (a b : Store) (u : List ℕ) (n : ℕ) → length a.order.items ≡ n → IsSound a → Extends a b u → length u ≡ a.width → n < 4294967295 → IsPrepared a b n u
 extends_at a b u n long h e wide room = subst (λ m. IsPrepared a b m u) long (extends a b u h e wide (omega (arith, long, room)))
+
+-- where no slot is free, each one holds a row
+pub none_free : (a : Store) → IsSound a → a.free.last ≡ None → a.spare ≡ 0
+none_free a h none = sym h.store.spare ∙ no_last (free_of a) (sym (ap (λ (e : Ends). e.last) h.store.free) ∙ none)
+  where
+    no_last : (xs : List ℕ) → last_of xs ≡ None → length xs ≡ 0
+    no_last [] l = refl
+    no_last (x ∷ xs) l = absurd (some_last x xs l)

@@ -1,16 +1,15 @@
 -- A store with other buckets.
-use Rattle.std.proofs.Common.{◌≡◌, ◌≢◌, ℕ, zero, suc, ◌+◌, ◌-◌, ◌*◌, ◌≤◌, ◌<◌, List, [], ◌∷◌, ◌++◌, length, map, take, drop, slice_set, slice_index_or, Option, Some, None, refl, ap, ap₂, subst, sym, ◌∙◌, arith, length-append, length-set, append_assoc, add-one, Bool, replicate}
+use Rattle.std.proofs.Common.{◌≡◌, ℕ, zero, suc, ◌+◌, ◌≤◌, ◌<◌, List, [], ◌∷◌, ◌++◌, length, take, drop, slice_index_or, Option, Some, None, refl, ap, ap₂, subst, sym, ◌∙◌, arith, length-set, add-one, Bool, replicate}
 use Rattle.djq_arena.specs.declared.chain.Ends.{Ends}
-use Rattle.std.proofs.lemmas.List.{append-nil, map-append, take_all, get_or-replicate, take-append-drop, length-replicate}
+use Rattle.std.proofs.lemmas.List.{take_all, get_or-replicate, take-append-drop, length-replicate}
 use Rattle.djq_arena.specs.declared.chain.Pair.{Pair}
 use Rattle.djq_arena.specs.declared.store.Store.{Store}
-use Rattle.djq_arena.specs.Chains.{pair_at, first_or, last_from, first_of, last_of, Linked, IsOut, AreDifferent, AreBelow, entered, IsWithin}
-use Rattle.djq_arena.specs.Store.{ends_of, chosen, is_of, class, cells_at, AreBuckets, IsStore, live_of, free_of, IsSound, IsLoose, rows_in, rows_of, IsAlike, IsLinked, IsSame, Holds, Enlists, IsPrepared, IsPut}
-use Rattle.djq_arena.specs.Rows.{Row}
-use Rattle.djq_arena.proofs.Lists.{out_front, different_front, different_out, different_here, below_front, below_here, starts_empty}
+use Rattle.djq_arena.specs.Chains.{pair_at, first_of, last_of, Linked, AreDifferent, AreBelow, IsWithin}
+use Rattle.djq_arena.specs.Store.{ends_of, chosen, is_of, class, cells_at, AreBuckets, IsStore, live_of, free_of, IsSound, rows_in, rows_of, IsSame, Enlists}
+use Rattle.djq_arena.proofs.Lists.{out_front, different_front, different_here, below_front, below_here}
 use Rattle.djq_arena.proofs.Chaining.{next_here, length-entered}
 use Rattle.djq_arena.proofs.Choosing.{entered_buckets, its_head}
-use Rattle.djq_arena.proofs.Storing.{live_is, free_is, sound}
+use Rattle.djq_arena.proofs.Storing.{live_is, sound}
 
 -- a list at its j-th slot
 pub record Cut (xs : List ℕ) (j i : ℕ) : Type 0 where
@@ -124,6 +123,8 @@ pub rebuilt : (a b : Store) (o : Option ℕ) (j : ℕ) → IsSound a → Rebuild
 rebuilt a b o j h r over = record {
   alike = record { sound = sound b (live_of a) (free_of a) s; width = r.width; cells = r.cells; slots = ap (λ (ls : List Pair). length ls) r.order };
   live = live_is b (live_of a) (free_of a) s;
+  len = r.len;
+  spare = r.spare;
 }
   where
     all : take j (live_of a) ≡ live_of a

@@ -1,5 +1,5 @@
 -- Lists of slots: who stands in them, and who stands first and last.
-use Rattle.std.proofs.Common.{◌≡◌, ◌≢◌, ℕ, zero, suc, ◌+◌, ◌≤◌, ◌<◌, Bool, true, false, cond, List, [], ◌∷◌, ◌++◌, length, Option, Some, None, refl, ap, subst, sym, ◌∙◌, arith, ◌⊎◌, inl, inr}
+use Rattle.std.proofs.Common.{◌≡◌, ℕ, ◌≤◌, ◌<◌, List, [], ◌∷◌, ◌++◌, Option, Some, None, refl, ap, sym, arith}
 use Rattle.djq_arena.specs.Chains.{first_or, last_from, first_of, last_of, IsOut, AreDifferent, AreBelow, IsWithin, Differs, Avoids, AreOut}
 
 pub first_append : (xs ys : List ℕ) (o : Option ℕ) → first_or (xs ++ ys) o ≡ first_or xs (first_or ys o)

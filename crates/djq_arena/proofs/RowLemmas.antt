@@ -1,13 +1,9 @@
 -- The rows of a store.
-use Rattle.std.proofs.Common.{◌≡◌, ◌≢◌, ℕ, zero, suc, ◌+◌, ◌≤◌, ◌<◌, List, [], ◌∷◌, ◌++◌, length, map, Option, Some, None, refl, ap, ap₂, subst, sym, ◌∙◌, arith, append_assoc, Bool, true, false, cond, ◌⊎◌, inl, inr, max}
-use Rattle.std.proofs.lemmas.List.{append-nil, map-append}
-use Rattle.std.proofs.lemmas.Bool.{cases_Bool}
+use Rattle.std.proofs.Common.{◌≡◌, ℕ, ◌+◌, List, [], ◌∷◌, ◌++◌, refl, ap, ap₂, sym, ◌∙◌, arith, max}
+use Rattle.std.proofs.lemmas.List.{map-append}
 use Rattle.djq_arena.specs.declared.store.Store.{Store}
-use Rattle.djq_arena.specs.declared.chain.Pair.{Pair}
-use Rattle.djq_arena.specs.Chains.{IsOut, AreDifferent, AreBelow, first_of, last_of, Linked, pair_at}
-use Rattle.djq_arena.specs.Store.{chosen, is_of, class, cells_at, IsStore, live_of, free_of, IsSound, IsLoose, rows_in, rows_of, IsAlike, IsLinked, IsSame, Holds, IsPrepared, IsPut, IsTaken, IsRenewed}
-use Rattle.djq_arena.specs.Rows.{Row, Rows, slots, IsAbsent, IsRow, IsHeld}
-use Rattle.djq_arena.proofs.Chaining.{prev_here, next_here}
+use Rattle.djq_arena.specs.Store.{cells_at, live_of, rows_in, rows_of, IsAlike, IsLinked, IsSame, Holds, IsPrepared, IsPut, IsTaken, IsRenewed}
+use Rattle.djq_arena.specs.Rows.{Row, slots, IsRow, IsHeld}
 
 pub rows_in-append : (w : ℕ) (cells : List ℕ) (xs ys : List ℕ) → rows_in w cells (xs ++ ys) ≡ rows_in w cells xs ++ rows_in w cells ys
 unfolding rows_in
@@ -41,6 +37,7 @@ puts a m d e i u same p l = record {
   rows = linked_rows d e i u l p.here ∙ ap (λ (rs : List Row). rs ++ record { slot = i; cells = u } ∷ []) (p.rows ∙ same_rows a m same);
   slots = l.alike.slots ∙ p.slots ∙ ap (λ (n : ℕ). max n (i + 1)) same.alike.slots;
   fits = omega (arith, p.fits, same.alike.slots);
+  tidy = λ tidy. omega (arith, l.alike.slots, l.len, l.spare, p.alone (omega (arith, tidy, same.alike.slots, same.len, same.spare)));
 }
 
 -- a slot that holds a row

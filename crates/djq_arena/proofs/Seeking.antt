@@ -1,17 +1,16 @@
 -- The walk through a bucket.
-use Rattle.std.proofs.Common.{◌≡◌, ◌≢◌, ℕ, zero, suc, ◌+◌, ◌≤◌, ◌<◌, List, [], ◌∷◌, ◌++◌, length, map, slice_index_or, Option, Some, None, refl, ap, ap₂, subst, sym, ◌∙◌, ◌-◌, arith, append_assoc, length-append, Bool, true, false, cond, ◌⊎◌, inl, inr, eqb-true, eq-eqb}
-use Rattle.std.proofs.lemmas.List.{append-nil, map-append}
+use Rattle.std.proofs.Common.{◌≡◌, ◌≢◌, ℕ, ◌+◌, ◌≤◌, ◌<◌, List, [], ◌∷◌, ◌++◌, length, slice_index_or, Option, Some, None, refl, ap, subst, sym, ◌∙◌, ◌-◌, arith, append_assoc, length-append, Bool, true, false, cond, inl, inr, eq-eqb}
+use Rattle.std.proofs.lemmas.List.{append-nil}
 use Rattle.std.proofs.lemmas.Bool.{cases_Bool, false≢true}
 use Rattle.std.proofs.lemmas.Nat.{and_le_r}
 use Rattle.djq_arena.specs.declared.store.Store.{Store}
-use Rattle.djq_arena.specs.declared.chain.Pair.{Pair}
-use Rattle.djq_arena.specs.Chains.{IsOut, AreDifferent, AreBelow, first_of, last_of, Linked, pair_at}
-use Rattle.djq_arena.specs.Store.{chosen, is_of, class, hash, cells_at, AreBuckets, IsStore, live_of, free_of, IsSound, rows_in, rows_of, Holds}
-use Rattle.djq_arena.specs.Rows.{Row, IsAbsent, IsRow}
+use Rattle.djq_arena.specs.Chains.{AreBelow, last_of, Linked, pair_at}
+use Rattle.djq_arena.specs.Store.{chosen, is_of, class, hash, cells_at, live_of, free_of, IsSound, rows_in, rows_of, Holds}
+use Rattle.djq_arena.specs.Rows.{IsAbsent, IsRow}
 use Rattle.djq_arena.proofs.Lists.{ends_with, ends_empty, below_front, below_here}
 use Rattle.djq_arena.proofs.Chaining.{prev_here}
 use Rattle.djq_arena.proofs.Choosing.{chosen_below, chosen_in, chosen_not}
-use Rattle.djq_arena.proofs.RowLemmas.{rows_in-append, holds_row}
+use Rattle.djq_arena.proofs.RowLemmas.{holds_row}
 
 -- none of these slots has the cells u
 unfoldable pub Misses : ℕ → List ℕ → List ℕ → List ℕ → Type 0

@@ -1,13 +1,11 @@
 -- How a store changes.
-use Rattle.std.proofs.Common.{◌≡◌, ◌≢◌, ℕ, zero, suc, ◌+◌, ◌-◌, ◌*◌, ◌≤◌, ◌<◌, Bool, true, false, cond, List, [], ◌∷◌, ◌++◌, length, map, slice_set, slice_index_or, Option, Some, None, refl, ap, ap₂, subst, sym, ◌∙◌, arith, length-append, length-set, append_assoc}
-use Rattle.std.proofs.lemmas.List.{append-nil, map-append, get_or_default}
+use Rattle.std.proofs.Common.{◌≡◌, ℕ, ◌+◌, ◌-◌, ◌<◌, List, [], ◌∷◌, ◌++◌, length, slice_set, slice_index_or, Option, Some, None, refl, ap, ap₂, subst, sym, ◌∙◌, arith, length-append, length-set, append_assoc}
+use Rattle.std.proofs.lemmas.List.{append-nil, get_or_default}
 use Rattle.djq_arena.specs.declared.chain.Pair.{Pair}
-use Rattle.djq_arena.specs.declared.chain.Ends.{Ends}
 use Rattle.djq_arena.specs.declared.store.Store.{Store}
-use Rattle.djq_arena.specs.Chains.{pair_at, first_or, last_from, first_of, last_of, Linked, IsOut, AreDifferent, AreBelow, entered, left, IsWithin, Differs, Avoids, trail}
-use Rattle.djq_arena.specs.Rows.{Row}
-use Rattle.djq_arena.specs.Store.{chosen, is_of, class, cells_at, AreBuckets, unheaded, ends_of, extended, shrunk, beside, IsStore, live_of, free_of, IsSound, IsLoose, rows_in, rows_of, IsAlike, IsLinked, IsUnlinked, IsSame, Holds}
-use Rattle.djq_arena.proofs.Lists.{last_append, first_append, out_front, out_back, out_append, out_swap, different_front, different_back, different_out, different_in, different_here, different_swap, below_front, below_back, below_out, below_in, below_here, last_avoids, avoids_none, first_avoids, last_within, first_within, outs, without_middle}
+use Rattle.djq_arena.specs.Chains.{pair_at, last_from, first_of, last_of, Linked, IsOut, AreDifferent, AreBelow, entered, left, IsWithin, Avoids}
+use Rattle.djq_arena.specs.Store.{class, cells_at, AreBuckets, unheaded, ends_of, extended, shrunk, beside, IsStore, live_of, free_of, IsSound, IsLoose, IsLinked, IsUnlinked, IsReleased, Holds}
+use Rattle.djq_arena.proofs.Lists.{last_append, out_front, out_back, different_front, different_back, different_out, different_in, different_here, different_swap, below_front, below_back, below_out, below_in, below_here, last_avoids, avoids_none, first_avoids, last_within, first_within, without_middle}
 use Rattle.djq_arena.proofs.Chaining.{linked_same, entered_linked, entered_agree, left_linked, left_agree, length-entered, length-left, prev_here, next_here, trail_is}
 use Rattle.djq_arena.proofs.Choosing.{entered_buckets, left_buckets, length-unheaded, its_prev, its_head}
 
@@ -71,6 +69,8 @@ links a b i k h l r inside its =
     record {
       alike = record { sound = sound b (live_of a ++ i ∷ []) (free_of a) s; width = r.width; cells = r.cells; slots = ap (λ (ls : List Pair). length ls) r.order ∙ length-entered a.order.items a.live.last i };
       live = live_is b (live_of a ++ i ∷ []) (free_of a) s;
+      len = r.len;
+      spare = r.spare;
     }
 
 -- what is asked where a slot comes in
@@ -84,7 +84,7 @@ beside_some : (o n e : Option ℕ) → (o ≡ None → ⊥) → beside o n e ≡
 beside_some None n e h = absurd (h refl)
 beside_some (Some x) n e h = refl
 
-some_last : (x : ℕ) (xs : List ℕ) → last_from (Some x) xs ≡ None → ⊥
+pub some_last : (x : ℕ) (xs : List ℕ) → last_from (Some x) xs ≡ None → ⊥
 some_last x [] h = cc
 some_last x (y ∷ xs) h = some_last y xs h
 
@@ -168,6 +168,8 @@ unlinks a b i k h held u inside its =
         within = rw (u.order, length-left) (below_here (length a.order.items) held.front i held.back (below_front (length a.order.items) (held.front ++ i ∷ held.back) (free_of a) was.below));
         room = rw (u.len, u.spare, u.order, length-left) (omega (arith, was.room, was.count, length-append held.front (i ∷ held.back)));
       };
+      len = omega (arith, u.len, was.count, length-append held.front (i ∷ held.back));
+      spare = u.spare;
     }
 
 -- what is asked where a slot goes
@@ -214,12 +216,14 @@ release_store a b xs fs i h r out within room = record {
   numbers = rw (r.order, length-entered) h.numbers;
 }
 
-pub releases : (a b : Store) (i : ℕ) → IsSound a → IsLoose a i → Releases a b i → IsSame a b
+pub releases : (a b : Store) (i : ℕ) → IsSound a → IsLoose a i → Releases a b i → IsReleased a b
 releases a b i h l r =
     let s = release_store a b (live_of a) (free_of a) i h.store r l.out l.within l.room in
     record {
       alike = record { sound = sound b (live_of a) (free_of a ++ i ∷ []) s; width = r.width; cells = r.cells; slots = ap (λ (ls : List Pair). length ls) r.order ∙ length-entered a.order.items a.free.last i };
       live = live_is b (live_of a) (free_of a ++ i ∷ []) s;
+      len = r.len;
+      spare = r.spare;
     }
 
 pub head_within : (a : Store) (k : ℕ) → IsSound a → k < length a.heads.items → IsWithin (length a.bucket.items) (slice_index_or a.heads.items k None)

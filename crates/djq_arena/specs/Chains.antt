@@ -1,5 +1,5 @@
 -- Doubly linked chains over slots: for each slot the one before it and the one after it.
-use Rattle.std.specs.Prelude.{◌≡◌, ◌≢◌, ⊤, ℕ, zero, suc, ◌<◌, Bool, true, false, cond, List, [], ◌∷◌, ◌++◌, map, slice_index_or, slice_set, Option, Some, None}
+use Rattle.std.specs.Prelude.{◌≡◌, ◌≢◌, ⊤, ℕ, zero, suc, ◌<◌, List, [], ◌∷◌, slice_index_or, slice_set, Option, Some, None}
 use Rattle.djq_arena.specs.declared.chain.Pair.{Pair}
 
 -- the neighbours of a slot

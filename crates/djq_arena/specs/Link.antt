@@ -1,6 +1,6 @@
 -- A slot's number or none, as one number.
 use Rattle.std.specs.Prelude.{◌≡◌, ℕ, Bool, true, false, cond, ◌==◌, Option, Some, None, refl}
-use Rattle.std.proofs.Common.{ap, sym, ◌∙◌, eqb-true}
+use Rattle.std.proofs.Common.{ap, sym, eqb-true}
 use Rattle.djq_arena.specs.declared.link.Link.TheInside.{Inside}
 
 -- what a number stands for: the highest one for none

@@ -1,5 +1,5 @@
 -- What an arena holds, as a list of rows.
-use Rattle.std.specs.Prelude.{◌≡◌, ◌≢◌, ⊤, ℕ, ◌<◌, ◌≤◌, List, [], ◌∷◌, ◌++◌, map, length}
+use Rattle.std.specs.Prelude.{◌≡◌, ◌≢◌, ⊤, ℕ, ◌≤◌, List, [], ◌∷◌, ◌++◌, map, length}
 use Rattle.djq_arena.specs.Chains.{AreDifferent, AreBelow}
 
 -- a row: its slot, and its cells

@@ -1,10 +1,10 @@
 -- Slots with the cells of a row each, chained in two ways: the rows in the order in which they came, and
 -- those of one bucket.
-use Rattle.std.specs.Prelude.{◌≡◌, ◌≢◌, ⊤, ℕ, zero, suc, ◌+◌, ◌-◌, ◌*◌, ◌/◌, ◌%◌, ◌^◌, ◌<◌, ◌≤◌, ◌==◌, Bool, true, false, cond, List, [], ◌∷◌, ◌++◌, map, take, drop, length, fold, bit_and, bit_xor, slice_index_or, slice_set, max, Option, Some, None}
+use Rattle.std.specs.Prelude.{◌≡◌, ℕ, ◌+◌, ◌-◌, ◌*◌, ◌/◌, ◌%◌, ◌^◌, ◌<◌, ◌≤◌, ◌==◌, Bool, cond, List, [], ◌∷◌, ◌++◌, map, take, drop, length, fold, bit_and, bit_xor, slice_index_or, slice_set, max, Option, Some, None}
 use Rattle.djq_arena.specs.declared.chain.Pair.{Pair}
 use Rattle.djq_arena.specs.declared.chain.Ends.{Ends}
 use Rattle.djq_arena.specs.declared.store.Store.{Store}
-use Rattle.djq_arena.specs.Chains.{first_of, last_of, Linked, IsOut, AreDifferent, AreBelow, trail, pair_at, entered}
+use Rattle.djq_arena.specs.Chains.{first_of, last_of, Linked, IsOut, AreDifferent, AreBelow, trail, entered}
 use Rattle.djq_arena.specs.Rows.{Row}
 
 -- the ends of a list
@@ -97,6 +97,10 @@ free_of s = trail s.spare s.order.items s.free.first
 pub record IsSound (s : Store) : Type 0 where
   pub store : IsStore s (live_of s) (free_of s)
 
+-- each slot holds a row, or is free
+abbrev pub IsTidy : Store → Type 0
+IsTidy s = length s.order.items ≡ s.len + s.spare
+
 -- slot i holds no row, and isn't free
 pub record IsLoose (s : Store) (i : ℕ) : Type 0 where
   pub out : IsOut i (live_of s ++ free_of s)
@@ -124,17 +128,30 @@ pub record IsAlike (old new : Store) : Type 0 where
 pub record IsLinked (old new : Store) (i : ℕ) : Type 0 where
   pub alike : IsAlike old new
   pub live : live_of new ≡ live_of old ++ i ∷ []
+  pub len : new.len ≡ old.len + 1
+  pub spare : new.spare ≡ old.spare
 
 -- slot i went, and is loose
 pub record IsUnlinked (old new : Store) (i : ℕ) : Type 0 where
   pub alike : IsAlike old new
   pub live : (xs ys : List ℕ) → live_of old ≡ xs ++ i ∷ ys → live_of new ≡ xs ++ ys
   pub loose : IsLoose new i
+  pub len : new.len + 1 ≡ old.len
+  pub spare : new.spare ≡ old.spare
 
 -- the same slots hold rows
 pub record IsSame (old new : Store) : Type 0 where
   pub alike : IsAlike old new
   pub live : live_of new ≡ live_of old
+  pub len : new.len ≡ old.len
+  pub spare : new.spare ≡ old.spare
+
+-- the same slots hold rows, and a slot more is free
+pub record IsReleased (old new : Store) : Type 0 where
+  pub alike : IsAlike old new
+  pub live : live_of new ≡ live_of old
+  pub len : new.len ≡ old.len
+  pub spare : new.spare ≡ old.spare + 1
 
 -- slot i came in as the newest of its bucket
 pub record Enlists (old new : Store) (i : ℕ) : Type 0 where
@@ -159,6 +176,7 @@ pub record IsPrepared (old new : Store) (i : ℕ) (u : List ℕ) : Type 0 where
   pub rows : rows_of new ≡ rows_of old
   pub slots : length new.order.items ≡ max (length old.order.items) (i + 1)
   pub fits : i ≤ length old.order.items
+  pub alone : IsTidy old → length new.order.items ≡ new.len + new.spare + 1
 
 -- a row came, behind all others
 pub record IsPut (old new : Store) (i : ℕ) (u : List ℕ) : Type 0 where
@@ -167,19 +185,23 @@ pub record IsPut (old new : Store) (i : ℕ) (u : List ℕ) : Type 0 where
   pub rows : rows_of new ≡ rows_of old ++ record { slot = i; cells = u } ∷ []
   pub slots : length new.order.items ≡ max (length old.order.items) (i + 1)
   pub fits : i ≤ length old.order.items
+  pub tidy : IsTidy old → IsTidy new
 
 -- the row in slot i went
 pub record IsTaken (old new : Store) (i : ℕ) : Type 0 where
   pub alike : IsAlike old new
   pub live : (xs ys : List ℕ) → live_of old ≡ xs ++ i ∷ ys → live_of new ≡ xs ++ ys
+  pub tidy : IsTidy old → IsTidy new
 
 -- the row in slot i is behind all others now
 pub record IsRenewed (old new : Store) (i : ℕ) : Type 0 where
   pub alike : IsAlike old new
   pub live : (xs ys : List ℕ) → live_of old ≡ xs ++ i ∷ ys → live_of new ≡ (xs ++ ys) ++ i ∷ []
+  pub tidy : IsTidy old → IsTidy new
 
 -- the same rows in the same slots
 pub record SameRows (old new : Store) : Type 0 where
   pub width : new.width ≡ old.width
   pub room : length new.order.items ≡ length old.order.items
   pub rows : rows_of new ≡ rows_of old
+  pub tidy : IsTidy old → IsTidy new

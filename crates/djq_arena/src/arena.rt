@@ -20,11 +20,11 @@ impl Model for Arena {
     ghost Value = { Rows };
 
     ghost use Rattle.std.specs.Prelude.{length};
-    ghost use Rattle.djq_arena.specs.Store.{rows_of, IsSound};
+    ghost use Rattle.djq_arena.specs.Store.{rows_of, IsSound, IsTidy};
 
     ghost view = { λ a. record { width = a.store.width; room = length a.store.order.items; rows = rows_of a.store } };
 
-    ghost invariant = { λ a. IsSound a.store };
+    ghost invariant = { λ a. IsSound a.store × IsTidy a.store };
 }
 
 impl Arena {
@@ -78,10 +78,10 @@ impl Arena {
         find(&self.store, cells)
     }
 
-    /// Puts in a row behind all others. It fails only out of memory, or where no number
-    /// for a slot is left, and then all stays as it was.
+    /// Puts in a row behind all others. It fails only out of memory, and then all stays as it was.
     pub fn push(&mut self, cells: &[u64]) -> Result<u32, AllocError>
-        requires { length cells.now ≡ self.old.width }
+        requires wide { length cells.now ≡ self.old.width }
+        requires few { length self.old.rows < 4294967295 }
         ensures pushed { IfOk result (λ slot. self.new.rows ≡ self.old.rows ++ record { slot = slot; cells = cells.now } ∷ []) }
         ensures room { IfOk result (λ slot. self.new.room ≡ max self.old.room (slot + 1)) }
         ensures slot { IfOk result (λ slot. slot ≤ self.old.room) }

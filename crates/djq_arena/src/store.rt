@@ -1,6 +1,6 @@
 ghost use Rattle.std.specs.Prelude.{◌≡◌, ◌+◌, ◌*◌, ◌<◌, ◌≤◌, ◌++◌, ◌∷◌, [], length, take, drop, slice_index_or, Some, None, ℕ, IfOk, OnErr, replicate, IsTrue, ◌↔◌, MatchOption, List, max};
 ghost use Rattle.djq_arena.specs.Rows.{Row, slots, IsAbsent, IsRow, IsHeld};
-ghost use Rattle.djq_arena.specs.Store.{mixed, hash, unheaded, class, cells_at, Enlists, IsPrepared, IsPut, IsTaken, IsRenewed, IsSound, IsLoose, IsLinked, IsUnlinked, IsSame, Holds, SameRows, live_of, rows_of};
+ghost use Rattle.djq_arena.specs.Store.{mixed, hash, unheaded, class, cells_at, Enlists, IsPrepared, IsPut, IsTaken, IsRenewed, IsSound, IsLoose, IsLinked, IsUnlinked, IsSame, IsReleased, IsTidy, Holds, SameRows, live_of, rows_of};
 ghost use Rattle.djq_arena.specs.Chains.{IsWithin, first_of, last_of};
 
 use crate::chain::{Ends, Pair, cut, enter, grown, leave, pair_of};
@@ -169,7 +169,7 @@ pub fn unlink(store: &mut Store, slot: u32)
 pub fn release(store: &mut Store, slot: u32)
     requires sound { IsSound store.old }
     requires loose { IsLoose store.old slot }
-    ensures released { IsSame store.old store.new }
+    ensures released { IsReleased store.old store.new }
 {
     enter(&mut store.order, store.free.last, slot);
     store.free = grown(&store.free, slot);
@@ -202,13 +202,11 @@ fn overwrite(cells: &mut Vec<u64>, from: usize, new: &[u64])
 fn fresh(store: &mut Store, cells: &[u64]) -> Result<u32, AllocError>
     requires sound { IsSound store.old }
     requires wide { length cells.now ≡ store.old.width }
+    requires few { length store.old.order.items < 4294967295 }
     ensures prepared { IfOk result (λ slot. IsPrepared store.old store.new slot cells.now) }
     ensures refused { OnErr result (IsSame store.old store.new) }
 {
     let slot = store.order.len();
-    if slot >= 4294967295 {
-        return Err(AllocError);
-    }
     store.order.reserve(1)?;
     store.bucket.reserve(1)?;
     store.cells.extend_from_slice(cells)?;
@@ -254,13 +252,11 @@ fn buckets(alloc: Global, count: usize) -> Result<Vec<Link>, AllocError>
 
 /// Twice as many buckets. Where there is no memory, all stays as it was.
 fn grow(store: &mut Store, alloc: Global) -> Result<(), AllocError>
-    requires { IsSound store.old }
+    requires sound { IsSound store.old }
+    requires few { length store.old.heads.items ≤ 4294967295 }
     ensures { IsSame store.old store.new }
 {
     let count = store.heads.len();
-    if count > usize::MAX / 2 {
-        return Err(AllocError);
-    }
     let heads = buckets(alloc, 2 * count)?;
     rebuild(store, heads);
     Ok(())
@@ -281,7 +277,9 @@ fn make_room(store: &mut Store, alloc: Global) -> Result<(), AllocError>
 /// Writes a row into a slot that holds none.
 fn prepare(store: &mut Store, cells: &[u64]) -> Result<u32, AllocError>
     requires sound { IsSound store.old }
+    requires tidy { IsTidy store.old }
     requires wide { length cells.now ≡ store.old.width }
+    requires few { store.old.len < 4294967295 }
     ensures prepared { IfOk result (λ slot. IsPrepared store.old store.new slot cells.now) }
     ensures refused { OnErr result (IsSame store.old store.new) }
 {
@@ -297,7 +295,9 @@ fn prepare(store: &mut Store, cells: &[u64]) -> Result<u32, AllocError>
 /// Puts in a row behind all others. Where there is no memory, all stays as it was.
 pub fn put(store: &mut Store, alloc: Global, cells: &[u64]) -> Result<u32, AllocError>
     requires sound { IsSound store.old }
+    requires tidy { IsTidy store.old }
     requires wide { length cells.now ≡ store.old.width }
+    requires few { store.old.len < 4294967295 }
     ensures put { IfOk result (λ slot. IsPut store.old store.new slot cells.now) }
     ensures refused { OnErr result (IsSame store.old store.new) }
 {
@@ -329,7 +329,7 @@ pub fn renew(store: &mut Store, slot: u32)
 
 /// A store without rows. It fails only out of memory.
 pub fn empty(alloc: Global, width: usize) -> Result<Store, AllocError>
-    ensures { IfOk result (λ s. IsSound s × (s.width ≡ width) × (s.order.items ≡ []) × (rows_of s ≡ [])) }
+    ensures { IfOk result (λ s. IsSound s × IsTidy s × (s.width ≡ width) × (s.order.items ≡ []) × (rows_of s ≡ [])) }
 {
     let heads = buckets(alloc, 16)?;
     Ok(Store {
@@ -354,8 +354,11 @@ pub fn empty(alloc: Global, width: usize) -> Result<Store, AllocError>
 /// Puts in a row behind all others; the rows' account of [`put`].
 pub fn push_row(store: &mut Store, alloc: Global, cells: &[u64]) -> Result<u32, AllocError>
     requires sound { IsSound store.old }
+    requires tidy { IsTidy store.old }
     requires wide { length cells.now ≡ store.old.width }
+    requires few { length (rows_of store.old) < 4294967295 }
     ensures sound { IsSound store.new }
+    ensures tidy { IsTidy store.new }
     ensures pushed { IfOk result (λ slot. rows_of store.new ≡ rows_of store.old ++ record { slot = slot; cells = cells.now } ∷ []) }
     ensures room { IfOk result (λ slot. length store.new.order.items ≡ max (length store.old.order.items) (slot + 1)) }
     ensures slot { IfOk result (λ slot. slot ≤ length store.old.order.items) }
@@ -371,8 +374,10 @@ pub fn push_row(store: &mut Store, alloc: Global, cells: &[u64]) -> Result<u32, 
 /// Takes a row out; the rows' account of [`take`].
 pub fn remove_row(store: &mut Store, slot: u32)
     requires sound { IsSound store.old }
+    requires tidy { IsTidy store.old }
     requires held { IsHeld (rows_of store.old) slot }
     ensures sound { IsSound store.new }
+    ensures tidy { IsTidy store.new }
     ensures removed { (xs : List Row) (r : Row) (ys : List Row) → rows_of store.old ≡ xs ++ r ∷ ys → r.slot ≡ slot → rows_of store.new ≡ xs ++ ys }
     ensures room { length store.new.order.items ≡ length store.old.order.items }
     ensures width { store.new.width ≡ store.old.width }
@@ -383,8 +388,10 @@ pub fn remove_row(store: &mut Store, slot: u32)
 /// Puts a row behind all others; the rows' account of [`renew`].
 pub fn renew_row(store: &mut Store, slot: u32)
     requires sound { IsSound store.old }
+    requires tidy { IsTidy store.old }
     requires held { IsHeld (rows_of store.old) slot }
     ensures sound { IsSound store.new }
+    ensures tidy { IsTidy store.new }
     ensures renewed { (xs : List Row) (r : Row) (ys : List Row) → rows_of store.old ≡ xs ++ r ∷ ys → r.slot ≡ slot → rows_of store.new ≡ (xs ++ ys) ++ r ∷ [] }
     ensures room { length store.new.order.items ≡ length store.old.order.items }
     ensures width { store.new.width ≡ store.old.width }

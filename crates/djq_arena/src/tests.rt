@@ -40,7 +40,7 @@ fn wide(arena: &Arena, cells: &[u64]) -> Option<usize> {
 fn filled(alloc: Global, count: u64) -> Result<Arena, AllocError> {
     let mut arena = Arena::new(alloc, 2)?;
     for i in 0..count {
-        if arena.width() == 2 {
+        if arena.width() == 2 && arena.len() < u32::MAX as usize {
             arena.push(&[i, i])?;
         }
     }

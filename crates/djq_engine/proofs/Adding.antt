@@ -1,5 +1,5 @@
 -- What the machine says of rows that are added and deleted.
-use Rattle.std.proofs.Common.{ℕ, zero, List, [], ◌∷◌, ◌++◌, ◌+◌, ◌≡◌, ◌≢◌, ◌<◌, ◌≤◌, Bool, true, false, refl, sym, ap, ap₂, ◌∙◌, subst, length, arith}
+use Rattle.std.proofs.Common.{ℕ, zero, List, [], ◌∷◌, ◌++◌, ◌+◌, ◌≡◌, ◌≢◌, ◌<◌, ◌≤◌, true, false, refl, sym, ap, ap₂, ◌∙◌, subst, length}
 use Rattle.std.specs.Prelude.{Option, None, Some, is_some, Ok, Err, AllPairs, map, ⊤}
 use Rattle.std.proofs.lemmas.Bool.{false≢true}
 use Rattle.djq_model.specs.declared.relation.Relation.{Relation}
@@ -10,27 +10,26 @@ use Rattle.djq_lines.specs.declared.limits.TheConstants.{TEXTS}
 use Rattle.djq_lines.specs.declared.answer.Refusal.{Refusal}
 use Rattle.djq_lines.specs.declared.answer.Refusal.TheVariants.{Limit, NoMemory}
 use Rattle.djq_lines.specs.declared.answer.AddOutcome.TheVariants.{Added, Same}
-use Rattle.djq_lines.specs.declared.answer.DeleteOutcome.TheVariants.{Removed, Absent}
+use Rattle.djq_lines.specs.declared.answer.DeleteOutcome.TheVariants.{Removed}
 use Rattle.djq_machine.specs.State.{Store}
-use Rattle.djq_machine.specs.Conditions.{Answers, OutOfMemoryWhere}
-use Rattle.djq_machine.specs.Store.{AddsRow, AddsAs, add_refusal, DeletesRow, DeletesAs, delete_refusal, with_rows, LearnsAll, LearnsFirst, FindsNoPlace, RefusedByTexts}
+use Rattle.djq_machine.specs.Conditions.{Answers}
+use Rattle.djq_machine.specs.Store.{AddsRow, AddsAs, add_refusal, DeletesRow, DeletesAs, delete_refusal, with_rows, LearnsFirst, RefusedByTexts}
 use Rattle.djq_rows.specs.Laws.{NamesTell}
 use Rattle.djq_rows.specs.Catalog.{Catalog, relation_at, rows_at, with_rows_at}
 use Rattle.djq_live.specs.Live.{Live}
-use Rattle.djq_live.specs.Staying.{StaysOver}
 use Rattle.djq_engine.specs.declared.cursor.CursorId.{CursorId}
 use Rattle.djq_engine.specs.declared.judge.Deletion.{Deletion}
 use Rattle.djq_engine.specs.declared.parts.Parts.{Parts}
-use Rattle.djq_engine.specs.Kept.{Kept, held_at, outdated_held, Outdates}
-use Rattle.djq_engine.specs.Places.{place_at, readers_at, queries_in, store_of, kept_of, held_from}
+use Rattle.djq_engine.specs.Kept.{held_at, outdated_held}
+use Rattle.djq_engine.specs.Places.{readers_at, queries_in, store_of, held_from}
 use Rattle.djq_engine.specs.Sound.{IsSound, AreOnce}
-use Rattle.djq_engine.specs.Reaching.{Reach, AllAt, Ages, Renews, Carries}
-use Rattle.djq_engine.specs.Judging.{bare, Suits, MayCome, MayGo}
-use Rattle.djq_engine.specs.Changing.{KeepsRest, HasRows, PutsRow, LacksMemory, LacksPlace, Drops, AgesReaders, RestsOver, IsOld}
+use Rattle.djq_engine.specs.Reaching.{Reach, AllAt, Ages, Carries}
+use Rattle.djq_engine.specs.Judging.{bare, MayCome, MayGo}
+use Rattle.djq_engine.specs.Changing.{KeepsRest, PutsRow, LacksMemory, LacksPlace, Drops, AgesReaders, RestsOver, IsOld}
 use Rattle.djq_engine.specs.Whole.{kept_in, IsWhole}
 use Rattle.djq_engine.proofs.Conditions.{answers_refused, answers_done}
 use Rattle.djq_engine.proofs.Carrying.{field_with, long_with, readers_once, readers_there, sound_texts}
-use Rattle.djq_engine.proofs.Aging.{Turns, turned, carried_there, SameNames, turned_sound, turned_queries, turned_held, rested_held}
+use Rattle.djq_engine.proofs.Aging.{turned, carried_there, SameNames, turned_sound, turned_queries, turned_held, rested_held}
 use Rattle.djq_engine.proofs.Judged.{rows_found}
 
 store_as : (c d : Catalog) (gs hs : List (Option Live)) (order places : List ℕ) (seq n : ℕ) (relations : List Relation) (texts : List Bytes) → d.relations ≡ relations → d.texts ≡ texts
@@ -165,6 +164,7 @@ module _ (old : Parts) (name : Bytes) (row : Tuple) where
             absent,
             (
               subst (λ (x : Catalog). LearnsFirst (old.catalog).texts (texts_in row) x.texts) (sym same) l.learns,
+              subst (λ (x : Catalog). length x.texts ≤ TEXTS) (sym same) l.many,
               texts_only new (ap (λ (x : Catalog). x.relations) same ∙ l.relations) queries seq,
             ),
           );

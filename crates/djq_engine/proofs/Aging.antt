@@ -1,23 +1,22 @@
 -- The queries that read a relation are carried over and their cursors become stale: what is kept,
 -- and where all cursors stand.
-use Rattle.std.proofs.Common.{ℕ, zero, suc, List, [], ◌∷◌, ◌≡◌, ◌<◌, Bool, true, false, refl, sym, ap, ap₂, ◌∙◌, subst, length}
-use Rattle.std.specs.Prelude.{Option, None, Some, IsSomeAnd, is_some, option_map, find, map, filter, cond, ⊤}
+use Rattle.std.proofs.Common.{ℕ, zero, suc, List, [], ◌∷◌, ◌≡◌, ◌<◌, Bool, true, false, refl, sym, ap, ◌∙◌, subst, length}
+use Rattle.std.specs.Prelude.{Option, None, Some, IsSomeAnd, is_some, option_map, map, cond, ⊤}
 use Rattle.djq_model.specs.declared.query.Query.{Query}
-use Rattle.djq_model.specs.declared.relation.Relation.{Relation}
-use Rattle.djq_model.specs.Data.{Bytes, query_of}
-use Rattle.djq_machine.specs.State.{Position, open_at, stale}
+use Rattle.djq_model.specs.Data.{Bytes}
+use Rattle.djq_machine.specs.State.{Position, stale}
 use Rattle.djq_machine.specs.Stale.{reads, outdated, outdater_of, by_relation}
 use Rattle.djq_rows.specs.Catalog.{Catalog, relation_at}
 use Rattle.djq_live.specs.declared.cursors.Progress.{Progress}
 use Rattle.djq_live.specs.declared.cursors.Progress.TheVariants.{Open, Stale}
 use Rattle.djq_live.specs.Cursors.{slot_at, outdated_progress, outdated_slots}
-use Rattle.djq_live.specs.Live.{Live, IsKept, IsLive, SameQuery, position_of}
+use Rattle.djq_live.specs.Live.{Live, IsLive, position_of}
 use Rattle.djq_live.specs.Staying.{StaysOver}
 use Rattle.djq_engine.specs.declared.cursor.CursorId.{CursorId}
 use Rattle.djq_engine.specs.Kept.{Held, held_at, same_id, outdated_held}
 use Rattle.djq_engine.specs.Places.{place_at, is_live, is_reader, readers_at, query_in, queries_in, reads_place, held_as, held_of, held_from}
 use Rattle.djq_engine.specs.Sound.{IsSound}
-use Rattle.djq_engine.specs.Reaching.{DoneAt, Reach, AllAt, Ages, Renews, Carries}
+use Rattle.djq_engine.specs.Reaching.{DoneAt, Reach, AllAt, Ages, Renews}
 use Rattle.djq_engine.proofs.Firsts.{find_mapped}
 use Rattle.djq_engine.proofs.Holding.{held_is}
 use Rattle.djq_engine.proofs.Listing.{filter_members, map_members}

@@ -1,17 +1,15 @@
 -- One more session watches a query, or one less: what is kept.
-use Rattle.std.proofs.Common.{ℕ, zero, suc, List, [], ◌∷◌, ◌≡◌, ◌≢◌, ◌<◌, ◌≤◌, Bool, true, false, refl, sym, ap, ap₂, ◌∙◌, subst, length, get_or, set, arith, length-set}
-use Rattle.std.specs.Prelude.{Option, None, Some, IsSome, IsSomeAnd, is_some, option_map, cond, map, slice_get, slice_index_or, All}
+use Rattle.std.proofs.Common.{ℕ, zero, suc, List, [], ◌∷◌, ◌≡◌, ◌<◌, Bool, true, false, refl, sym, ap, ◌∙◌, subst, length, get_or, set, arith, length-set}
+use Rattle.std.specs.Prelude.{Option, None, Some, IsSomeAnd, is_some, option_map, cond, map, slice_get, All}
 use Rattle.std.proofs.lemmas.List.{get_or-set_same, get_or-set_other, get_or_default, length-map}
-use Rattle.djq_model.specs.Data.{Bytes}
 use Rattle.djq_machine.specs.Delta.{Change}
 use Rattle.djq_cursor.specs.declared.log.Line.{Line}
-use Rattle.djq_cursor.specs.Log.{Log}
 use Rattle.djq_live.specs.Live.{Live}
 use Rattle.djq_live.specs.Updating.{change_of}
 use Rattle.djq_engine.specs.declared.cursor.QueryId.{QueryId}
 use Rattle.djq_engine.specs.declared.parts.Parts.{Parts}
 use Rattle.djq_engine.specs.Kept.{Kept, Registered, registered_at, IsRegistered, with_watchers, told_at}
-use Rattle.djq_engine.specs.Places.{place_at, is_reader, watchers_at, log_at, no_log, told_of, told_from, registered_as, registered_in, kept_of}
+use Rattle.djq_engine.specs.Places.{place_at, watchers_at, log_at, told_of, registered_as, kept_of}
 use Rattle.djq_engine.specs.Whole.{kept_in, watches_in, IsWhole, IsTended}
 use Rattle.djq_engine.proofs.Enlisted.{registered_has, registered_there, registered_gives, watchers_with}
 use Rattle.djq_engine.proofs.Naming.{There}

@@ -1,22 +1,21 @@
 -- The queries are carried over to a catalog with other rows or texts.
-use Rattle.std.proofs.Common.{ℕ, zero, suc, List, [], ◌∷◌, ◌++◌, ◌≡◌, ◌<◌, ◌≤◌, Bool, true, false, refl, sym, ap, ap₂, ◌∙◌, subst, length, arith, length-set, set}
-use Rattle.std.specs.Prelude.{◌==◌, ◌&&◌, Option, None, Some, IsSomeAnd, is_some, filter, cond, Contains, ⊤}
+use Rattle.std.proofs.Common.{ℕ, zero, suc, List, [], ◌∷◌, ◌++◌, ◌≡◌, ◌<◌, Bool, true, false, refl, sym, ap, ap₂, ◌∙◌, subst, length, length-set, set}
+use Rattle.std.specs.Prelude.{◌==◌, ◌&&◌, Option, None, Some, IsSomeAnd, is_some, filter, cond, Contains}
 use Rattle.std.proofs.lemmas.Bool.{false≢true, eqb-true, eq-eqb}
 use Rattle.std.proofs.lemmas.List.{get_or-set_same, get_or-set_other, set-get_or}
-use Rattle.djq_model.specs.Data.{Bytes, Tuple, tuple_eq, has_row, without_row}
+use Rattle.djq_model.specs.Data.{Tuple, tuple_eq, has_row, without_row}
 use Rattle.djq_model.specs.Equality.{tuple_eq-decides}
 use Rattle.djq_model.specs.declared.relation.Relation.{Relation}
 use Rattle.djq_machine.specs.Stale.{reads}
 use Rattle.djq_rows.specs.Catalog.{Catalog, no_relation, relation_at, rows_at, with_rows_at}
-use Rattle.djq_live.specs.Changes.{Came, Went, IsLater, HasSameRows}
+use Rattle.djq_live.specs.Changes.{Came, Went}
 use Rattle.djq_live.specs.Live.{Live, IsKept, IsLive, SameQuery}
-use Rattle.djq_live.specs.Staying.{StaysOver, LiveStays, CamePasses, WentPasses}
+use Rattle.djq_live.specs.Staying.{StaysOver, CamePasses, WentPasses}
 use Rattle.djq_live.proofs.Members.{in_first, in_rest}
 use Rattle.djq_engine.specs.Places.{place_at, is_live, is_reader, readers_at, reads_place}
 use Rattle.djq_engine.specs.Sound.{IsSound, AreOnce}
 use Rattle.djq_engine.specs.Reaching.{DoneAt, Reach, AllAt, TakesIn, LetsOut, GivesBack, Renews, Carries}
 use Rattle.djq_engine.proofs.Listing.{reader_filter, once_filter}
-use Rattle.djq_engine.proofs.Reaching.{same_then}
 
 -- ---- rows
 

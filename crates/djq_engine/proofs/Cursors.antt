@@ -1,13 +1,11 @@
 -- What opening, reading and closing a cursor gives.
-use Rattle.std.proofs.Common.{ℕ, zero, List, [], ◌∷◌, ◌++◌, ◌+◌, ◌≡◌, ◌<◌, ◌≤◌, Bool, true, false, refl, sym, ap, ◌∙◌, subst, length, get_or, set}
+use Rattle.std.proofs.Common.{ℕ, zero, List, [], ◌∷◌, ◌++◌, ◌+◌, ◌≡◌, ◌≤◌, Bool, true, false, refl, sym, ap, ◌∙◌, subst, length, get_or, set}
 use Rattle.std.specs.Prelude.{Option, None, Some, is_none, IsSome, IsSomeAnd, option_map, position, map, Result, Ok, Err, IfOk, ⊤}
 use Rattle.std.proofs.lemmas.List.{set-get_or}
 use Rattle.djq_model.specs.declared.query.Query.{Query}
-use Rattle.djq_model.specs.Data.{Bytes, Tuple, query_of}
-use Rattle.djq_model.specs.Answer.{IsAnswer}
-use Rattle.djq_lines.specs.declared.answer.Refusal.{Refusal}
+use Rattle.djq_model.specs.Data.{Bytes, query_of}
 use Rattle.djq_lines.specs.declared.answer.Refusal.TheVariants.{NoQuery, NoMemory}
-use Rattle.djq_machine.specs.Conditions.{first_of, Answers, OutOfMemoryWhere}
+use Rattle.djq_machine.specs.Conditions.{first_of}
 use Rattle.djq_machine.specs.State.{Position, open_at, stale}
 use Rattle.djq_machine.specs.Store.{most_steps}
 use Rattle.djq_reduct.specs.Answers.{IsAnswerOf}
@@ -16,12 +14,12 @@ use Rattle.djq_live.specs.declared.cursors.Progress.{Progress}
 use Rattle.djq_live.specs.declared.cursors.Progress.TheVariants.{Open, Stale}
 use Rattle.djq_live.specs.declared.listing.Next.{Next}
 use Rattle.djq_live.specs.declared.listing.Next.TheVariants.{Given, End, Stale as StaleNext}
-use Rattle.djq_live.specs.Cursors.{slot_at, SetsSlot}
+use Rattle.djq_live.specs.Cursors.{slot_at}
 use Rattle.djq_live.specs.Live.{Live, IsLive, position_of, values_of}
 use Rattle.djq_live.specs.Reading as live
 use Rattle.djq_engine.specs.declared.cursor.CursorId.{CursorId}
 use Rattle.djq_engine.specs.Kept.{Held, Kept, held_at, MovesCursor, OpensCursor, OpenGives, ClosesCursor, NextGives, NextGivesAt, read_steps, MoreGives, MoreGivesAt, IsHeld, IsThere, AnswerIs, IsFresh, IsOpenAt}
-use Rattle.djq_engine.specs.Places.{place_at, queries_in, held_as, held_from, held_of, store_of, kept_of, is_query, Watches, told_of, told_from}
+use Rattle.djq_engine.specs.Places.{place_at, queries_in, held_as, held_from, held_of, kept_of, is_query, Watches, told_of}
 use Rattle.djq_engine.specs.Sound.{IsSound}
 use Rattle.djq_engine.specs.Moving.{Moves, IsReadable, IsFreshly, OpensAt, ClosesAt, ReadsAt, TellsAt}
 use Rattle.djq_engine.proofs.Conditions.{answers_refused, answers_done, answers_lacking}
@@ -105,7 +103,7 @@ module _ (c : Catalog) (gs : List (Option Live)) (order : List ℕ) (readers : L
       (record { fresh = by_progress h.progress h.slot (subst (λ (o : Option Held). IsSomeAnd o (λ x. IsOpenAt x.position)) cursor_found f); fits = (s.live id.query.at h.query h.there).fits id.cursor })
     where
       by_progress : (p : Progress) → slot_at h.query.cursors id.cursor ≡ Some p → IsOpenAt (position_of c.texts h.query p) → live.IsFreshIn h.query id.cursor
-      by_progress (Open cursor ended) e o = (cursor, ended, e)
+      by_progress (Open cursor ended) e o = (cursor, (ended, e))
       by_progress (Stale r n) e o = absurd o
 
   module _ (hs : List (Option Live)) (m : Live) (is : hs ≡ set gs id.query.at (Some m)) where

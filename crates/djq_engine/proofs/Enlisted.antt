@@ -1,12 +1,11 @@
 -- The registered queries as contracts see them: which one an id or a name stands for, and how they
 -- change.
-use Rattle.std.proofs.Common.{ℕ, zero, suc, List, [], ◌∷◌, ◌++◌, ◌≡◌, ◌≢◌, ◌<◌, ◌≤◌, ◌⊎◌, inl, inr, Bool, true, false, refl, sym, ap, ap₂, ◌∙◌, subst, length, get_or, set, arith}
-use Rattle.std.specs.Prelude.{◌==◌, ◌&&◌, ◌||◌, not, Option, None, Some, is_some, IsSome, IsSomeAnd, option_map, find, map, filter, cond, position, nat_lt, AllPairs}
+use Rattle.std.proofs.Common.{ℕ, zero, suc, List, [], ◌∷◌, ◌++◌, ◌≡◌, ◌≢◌, ◌<◌, Bool, true, false, refl, sym, ap, ap₂, ◌∙◌, subst, length, get_or, arith}
+use Rattle.std.specs.Prelude.{◌==◌, ◌&&◌, ◌||◌, not, Option, None, Some, is_some, IsSome, IsSomeAnd, option_map, find, map, filter, cond, position, AllPairs}
 use Rattle.std.proofs.lemmas.Bool.{eqb-true, eq-eqb, false≢true}
-use Rattle.std.proofs.lemmas.List.{map-append, get_or-map, length-map}
-use Rattle.std.proofs.lemmas.List.Elements.{filter-append}
+use Rattle.std.proofs.lemmas.List.{map-append}
 use Rattle.djq_model.specs.declared.query.Query.{Query}
-use Rattle.djq_model.specs.Data.{Bytes, bytes_eq, change_first}
+use Rattle.djq_model.specs.Data.{Bytes, bytes_eq}
 use Rattle.djq_model.specs.Equality.{bytes_eq-decides}
 use Rattle.djq_machine.specs.Stale.{reads}
 use Rattle.djq_rows.specs.Catalog.{Catalog, relation_at}
@@ -16,7 +15,7 @@ use Rattle.djq_engine.specs.Kept.{Registered, same_query, registered_at, registe
 use Rattle.djq_engine.specs.Places.{place_at, is_live, is_reader, readers_at, query_in, queries_in, reads_place, is_query, watchers_at, watched_at, id_at, registered_as, registered_in}
 use Rattle.djq_engine.specs.Sound.{IsSound, AreOnce}
 use Rattle.djq_engine.proofs.Listing.{apart, map_members, filter_members}
-use Rattle.djq_engine.proofs.Naming.{There, Named, live_there, order_there, first_query, unnamed}
+use Rattle.djq_engine.proofs.Naming.{There, Named, live_there, order_there, unnamed}
 
 abbrev registered_with : QueryId → Query → ℕ → Registered
 registered_with id q n = record { id = id; query = q; watchers = n }

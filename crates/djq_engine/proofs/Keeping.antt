@@ -1,5 +1,5 @@
 -- Reading a cursor leaves watches as they are.
-use Rattle.std.proofs.Common.{ℕ, List, ◌≡◌, Bool, true, false, refl, sym, ap, ◌∙◌, subst, length, set, length-set}
+use Rattle.std.proofs.Common.{ℕ, List, ◌≡◌, Bool, true, false, sym, ap, ◌∙◌, subst, length, length-set}
 use Rattle.std.specs.Prelude.{Option, None, Some, IsSomeAnd}
 use Rattle.std.proofs.lemmas.List.{get_or-set_same, get_or-set_other}
 use Rattle.djq_machine.specs.State.{Position, open_at, stale}
@@ -9,9 +9,8 @@ use Rattle.djq_live.specs.declared.cursors.Progress.{Progress}
 use Rattle.djq_live.specs.declared.listing.Next.{Next}
 use Rattle.djq_live.specs.declared.listing.Next.TheVariants.{Given, End, Stale as StaleNext}
 use Rattle.djq_live.specs.Cursors.{slot_at}
-use Rattle.djq_live.specs.Live.{Live, IsLive, position_of}
+use Rattle.djq_live.specs.Live.{Live, position_of}
 use Rattle.djq_live.specs.Reading as live
-use Rattle.djq_engine.specs.declared.parts.Parts.{Parts}
 use Rattle.djq_engine.specs.Moving.{Moves, OpensAt, ClosesAt, ReadsAt, TellsAt}
 use Rattle.djq_engine.specs.Places.{place_at}
 use Rattle.djq_engine.specs.Sound.{IsSound}

@@ -23,3 +23,4 @@ pub mod Tending
 pub mod Reporting
 pub mod Attending
 pub mod Keeping
+pub mod Working

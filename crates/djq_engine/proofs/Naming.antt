@@ -1,9 +1,6 @@
 -- Queries by name and by place.
-use Rattle.std.proofs.Common.{ℕ, zero, suc, get_or, List, [], ◌∷◌, ◌≡◌, ◌<◌, ◌≤◌, ◌⊎◌, inl, inr, Bool, true, false, refl, sym, ap, ◌∙◌, subst, length, arith}
-use Rattle.std.specs.Prelude.{Option, None, Some, is_some, find, map, position, cond}
-use Rattle.std.proofs.lemmas.Bool.{cases_lt, false≢true}
-use Rattle.std.proofs.lemmas.List.{get_or_past}
-use Rattle.djq_model.specs.declared.query.Query.{Query}
+use Rattle.std.proofs.Common.{ℕ, zero, suc, get_or, List, [], ◌∷◌, ◌≡◌, ◌<◌, Bool, true, false, refl, sym, ap, ◌∙◌, length, arith}
+use Rattle.std.specs.Prelude.{Option, None, Some, is_some, find, position, cond}
 use Rattle.djq_model.specs.Data.{Bytes, bytes_eq, query_of}
 use Rattle.djq_model.specs.Equality.{bytes_eq-decides}
 use Rattle.djq_rows.specs.Catalog.{Catalog}

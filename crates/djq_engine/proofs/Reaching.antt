@@ -1,12 +1,10 @@
 -- What is done to the queries in places, one after another.
 use Rattle.std.proofs.Common.{ℕ, zero, suc, List, [], ◌∷◌, ◌++◌, ◌+◌, ◌≡◌, ◌<◌, ◌≤◌, ◌⊎◌, inl, inr, Bool, true, false, refl, sym, ap, ap₂, ◌∙◌, subst, length, get_or, set, take, arith, length-set}
-use Rattle.std.specs.Prelude.{◌==◌, ◌||◌, Option, None, Some, IsSomeAnd, Result, Ok, Err, OnOk, OnErr, ⊤}
+use Rattle.std.specs.Prelude.{◌==◌, ◌||◌, Option, None, Some, IsSomeAnd}
 use Rattle.std.proofs.lemmas.Bool.{eqb-true, eq-eqb, cases_order, cases_lt, false≢true}
 use Rattle.std.proofs.lemmas.List.{get_or-set_same, get_or-set_other, take_more, get_or_past, get_or_default}
 use Rattle.djq_live.specs.Live.{Live, IsKept, SameQuery}
-use Rattle.djq_live.specs.Updating.{CanAdd, CanDelete, Follows}
-use Rattle.djq_live.specs.Changes.{Came, Went}
-use Rattle.djq_rows.specs.Catalog.{Catalog}
+use Rattle.djq_live.specs.Updating.{CanAdd, CanDelete}
 use Rattle.djq_engine.specs.Places.{place_at, is_reader}
 use Rattle.djq_engine.specs.Sound.{AreOnce}
 use Rattle.djq_engine.specs.Reaching.{DoneAt, Reach, AllAt, CanCome, CanGo, TakesIn, LetsOut, Remains, GivesBack}
@@ -257,19 +255,3 @@ given_back places k d at cells old now mid new o low a b c = record {
         (subst (λ (p : Option Live). DoneAt (LetsOut at cells) true p (place_at new i)) middle
         (subst (λ (b : Bool). DoneAt (LetsOut at cells) b (place_at mid i) (place_at new i)) e (c.each i))))
     by_front i false e = by_last i e (get_or places k d == i) refl
-
--- what one query answers
-
-pub taken_ok : {E : Type 0} (gs : List (Option Live)) (i : ℕ) (p : Option Live) (l m : Live) (at : ℕ) (cells : List ℕ) (result : Result ⊤ E)
-    → IsSomeAnd (place_at gs i) (λ l. CanAdd l at cells) → p ≡ get_or gs i p → p ≡ Some l
-    → OnOk result (Follows (λ c d row. Came c d at cells row) l m) → SameQuery l m
-    → OnOk result (Reach (i ∷ []) (TakesIn at cells) gs (set gs i (Some m)))
-taken_ok gs i p l m at cells (Ok x) h is some f s = reach_read (TakesIn at cells) gs i p l m (λ l. CanAdd l at cells) h is some (record { follows = f; same = s })
-taken_ok gs i p l m at cells (Err r) h is some f s = tt
-
-pub taken_err : {E : Type 0} (gs : List (Option Live)) (i : ℕ) (p : Option Live) (l m : Live) (at : ℕ) (cells : List ℕ) (result : Result ⊤ E)
-    → IsSomeAnd (place_at gs i) (λ l. CanAdd l at cells) → p ≡ get_or gs i p → p ≡ Some l
-    → OnErr result ((c : Catalog) → IsKept c l → IsKept c m) → SameQuery l m
-    → OnErr result (Reach (i ∷ []) Remains gs (set gs i (Some m)))
-taken_err gs i p l m at cells (Ok x) h is some f s = tt
-taken_err gs i p l m at cells (Err r) h is some f s = reach_read Remains gs i p l m (λ l. CanAdd l at cells) h is some (record { kept = f; same = s })

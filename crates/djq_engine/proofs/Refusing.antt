@@ -1,5 +1,5 @@
 -- What the machine says of a query that is to be registered, or dropped.
-use Rattle.std.proofs.Common.{ℕ, zero, suc, List, [], ◌∷◌, ◌++◌, ◌+◌, ◌*◌, ◌≡◌, ◌≢◌, ◌<◌, ◌≤◌, ◌⊎◌, inl, inr, Bool, true, false, refl, sym, ap, ap₂, ◌∙◌, subst, length, set, arith, append-nil}
+use Rattle.std.proofs.Common.{ℕ, zero, suc, List, [], ◌∷◌, ◌++◌, ◌≡◌, ◌<◌, ◌≤◌, ◌⊎◌, inl, inr, Bool, true, false, refl, sym, ap, ap₂, ◌∙◌, subst, length, set, arith, append-nil}
 use Rattle.std.specs.Prelude.{Option, None, Some, is_some, is_none, IsSomeAnd, IfSome, option_map, count_by, Result, Ok, Err, position, cond, nat_le, ⊤}
 use Rattle.std.proofs.lemmas.Bool.{eq-eqb, eqb-true, cases_lt, le-leb, lt-leb, false≢true}
 use Rattle.std.proofs.lemmas.List.{length-map, get_or-set_other}
@@ -19,7 +19,7 @@ use Rattle.djq_lines.specs.QueryFault.{query_fault, query_faults}
 use Rattle.djq_lines.specs.Variables.{constants_of}
 use Rattle.djq_machine.specs.State.{Store}
 use Rattle.djq_machine.specs.Conditions.{first_of, Answers}
-use Rattle.djq_machine.specs.Store.{query_refusal, RegistersQuery, RegistersAs, RefusedLate, most_steps, LearnsAll, LearnsFirst, FindsNoPlace, drop_refusal, DropsQuery}
+use Rattle.djq_machine.specs.Store.{query_refusal, RegistersQuery, RegistersAs, RefusedLate, most_steps, LearnsAll, LearnsFirst, FindsNoPlace, drop_refusal}
 use Rattle.djq_rows.specs.Catalog.{Catalog, IsCatalog}
 use Rattle.djq_rows.specs.Laws.{TextsStay}
 use Rattle.djq_live.specs.declared.cursors.Progress.{Progress}
@@ -31,7 +31,7 @@ use Rattle.djq_live.specs.Staying.{StaysOver, LiveStays}
 use Rattle.djq_engine.specs.declared.cursor.CursorId.{CursorId}
 use Rattle.djq_engine.specs.declared.parts.Parts.{Parts}
 use Rattle.djq_engine.specs.Kept.{Held, Registered as Enlisted, registered_of, is_watched, held_at, SameCursors, DropGives}
-use Rattle.djq_engine.specs.Places.{place_at, readers_at, query_in, queries_in, store_of, kept_of, held_as, held_from, held_of, is_query, left, watchers_at, watched_at, registered_as, registered_in, Watches}
+use Rattle.djq_engine.specs.Places.{place_at, query_in, queries_in, store_of, kept_of, held_as, held_from, held_of, is_query, left, watched_at, registered_as, registered_in, Watches}
 use Rattle.djq_engine.specs.Sound.{IsSound}
 use Rattle.djq_engine.specs.Tending.{AreShown}
 use Rattle.djq_engine.proofs.Tending.{shown_more}
@@ -39,8 +39,6 @@ use Rattle.djq_engine.specs.Placing.{LeavesAll}
 use Rattle.djq_engine.specs.Registering.{Registers, SameParts}
 use Rattle.djq_engine.specs.Whole.{kept_in, IsWhole}
 use Rattle.djq_engine.proofs.Conditions.{answers_refused, answers_done, front_refuses, front_passes, first_false}
-use Rattle.djq_engine.proofs.Aging.{rested_held}
-use Rattle.djq_engine.proofs.Carrying.{sound_texts}
 use Rattle.djq_engine.proofs.Enrolling.{registered_sound, registered_cursors, registered_queries, dropped_sound, dropped_cursors, dropped_queries, by_name, all_empty, sound_same, queries_same, cursors_same}
 use Rattle.djq_engine.proofs.Enlisted.{name_found, name_unknown, delisted}
 use Rattle.djq_engine.proofs.Holding.{held_is}
@@ -146,11 +144,12 @@ module _ (c d : Catalog) (gs hs : List (Option Live)) (order places : List ℕ) 
   stays : query_refusal (store_of c gs order seq) q ≡ None → is_some (query_refusal (store_of c gs order seq) q) ≡ true → {P : Type 0} → P
   stays e h = absurd (false≢true (sym (ap is_some e) ∙ h))
 
-  pub query_lacks : IsFreeConnex (edges_of q) (head_of q) → LearnsFirst c.texts (texts_in (constants_of q.atoms)) d.texts → queries_in hs places ≡ queries_in gs order
+  pub query_lacks : IsFreeConnex (edges_of q) (head_of q) → LearnsFirst c.texts (texts_in (constants_of q.atoms)) d.texts
+      → length d.texts ≤ TEXTS → queries_in hs places ≡ queries_in gs order
       → RegistersQuery (store_of c gs order seq) q (Err NoMemory) (store_of d hs places n)
-  query_lacks connex learns queries = record {
+  query_lacks connex learns many queries = record {
     answer = subst (λ (o : Option Refusal). Answers o (Err NoMemory) (RegistersAs (store_of c gs order seq) q (store_of d hs places n)) (RefusedLate (store_of c gs order seq) q (store_of d hs places n))) (sym none)
-        (inl (connex, (learns, store_with c d gs hs order places seq n d.texts (queries_in gs order) rel refl queries same)));
+        (inl (connex, (learns, many, store_with c d gs hs order places seq n d.texts (queries_in gs order) rel refl queries same)));
     stays = λ h. stays none h;
   }
 

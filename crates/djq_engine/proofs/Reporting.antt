@@ -1,11 +1,11 @@
 -- What a change of rows makes known of the watched queries that read its relation.
-use Rattle.std.proofs.Common.{ℕ, zero, suc, List, [], ◌∷◌, ◌++◌, ◌+◌, ◌*◌, ◌≡◌, ◌≢◌, ◌<◌, ◌≤◌, ◌⊎◌, inl, inr, Bool, true, false, refl, sym, ap, ap₂, ◌∙◌, subst, length, get_or, arith}
-use Rattle.std.specs.Prelude.{◌==◌, ◌&&◌, ◌||◌, Option, None, Some, cond, map, filter, sum_by, slice_index_or, All, AllPairs, not, is_none, nat_le, Ok, Err, Result, IsErr, IfErr}
+use Rattle.std.proofs.Common.{ℕ, zero, suc, List, [], ◌∷◌, ◌++◌, ◌+◌, ◌≡◌, ◌≢◌, ◌<◌, ◌≤◌, ◌⊎◌, inl, inr, Bool, true, false, refl, sym, ap, ap₂, ◌∙◌, subst, length, arith}
+use Rattle.std.specs.Prelude.{◌==◌, ◌&&◌, ◌||◌, Option, None, Some, IsSomeAnd, cond, map, filter, sum_by, slice_index_or, All, AllPairs, not, is_none, nat_le, Ok, Err, Result, IsErr, IfErr}
 use Rattle.std.proofs.lemmas.Bool.{eqb-true, eq-eqb, false≢true}
+use Rattle.std.proofs.lemmas.List.{append-nil}
 use Rattle.std.proofs.lemmas.List.Sums.{sum_by-cons}
 use Rattle.std.proofs.lemmas.Nat.{mul-le}
 use Rattle.djq_model.specs.declared.relation.Relation.{Relation}
-use Rattle.djq_model.specs.declared.query.Query.{Query}
 use Rattle.djq_model.specs.declared.query.Atom.{Atom}
 use Rattle.djq_model.specs.Data.{Bytes, Tuple, bytes_eq, change_first, relation_of, has_row, rows_of, without_row}
 use Rattle.djq_model.specs.Typed.{fits}
@@ -19,39 +19,44 @@ use Rattle.djq_machine.specs.Stale.{add_outdates, add_accepted, delete_outdates}
 use Rattle.djq_model.specs.Answer.{IsAnswer}
 use Rattle.djq_model.specs.Equality.{bytes_eq-decides}
 use Rattle.djq_machine.specs.Delta.{Change, IsDelta}
+use Rattle.djq_machine.specs.Stale.{reads}
 use Rattle.djq_machine.specs.Store.{most_steps, with_rows, add_refusal}
 use Rattle.djq_machine.specs.Watch.{Delta, AreDeltas, delta_steps}
 use Rattle.djq_query.specs.declared.numbered.NumberedAtom.{NumberedAtom}
 use Rattle.djq_query.specs.declared.numbered.Variable.{Variable}
 use Rattle.djq_cursor.specs.Log.{Log}
-use Rattle.djq_rows.specs.Laws.{NamesTell}
+use Rattle.djq_rows.specs.Laws.{NamesTell, TextsStay}
+use Rattle.djq_model.specs.Known.{texts_in, all_learned}
 use Rattle.djq_rows.specs.Catalog.{Catalog, relation_at, rows_at, with_rows_at}
 use Rattle.djq_deltas.specs.Finite.{DeltasExist}
 use Rattle.djq_live.specs.Asked.{AreAtomsOf}
 use Rattle.djq_live.specs.Body.{HeadsAreBound}
-use Rattle.djq_live.specs.Live.{Live, IsKept}
+use Rattle.djq_live.specs.Live.{Live, IsKept, ShowableStays}
 use Rattle.djq_live.specs.Updating.{atoms_over, delta_bound, change_of}
-use Rattle.djq_engine.specs.Kept.{Kept, Registered, affected_of, readers_of, told_at}
-use Rattle.djq_engine.specs.Places.{place_at, is_live, is_reader, readers_at, query_in, watched_at, log_at, id_at, registered_as, registered_in, told_from}
+use Rattle.djq_engine.specs.declared.cursor.QueryId.{QueryId}
+use Rattle.djq_engine.specs.Kept.{Kept, Registered, registered_at, affected_of, readers_of, told_at}
+use Rattle.djq_engine.specs.Places.{place_at, is_live, is_reader, readers_at, query_in, watched_at, log_at, id_at, registered_as, registered_in, told_of, told_from}
 use Rattle.djq_engine.specs.Sound.{IsSound}
-use Rattle.djq_engine.specs.Tending.{AreShown, cost_of, cost_at}
+use Rattle.djq_engine.specs.Tending.{AreShown, Empties, HaveLogs, cost_of, cost_at}
 use Rattle.djq_engine.proofs.Tending.{shown_alike}
 use Rattle.djq_engine.specs.declared.parts.Parts.{Parts}
 use Rattle.djq_engine.specs.Reaching.{Carries}
-use Rattle.djq_engine.specs.Changing.{IsDeltaWith, TellsRows, CountsRows, KeepsRest, AgesReaders}
-use Rattle.djq_engine.specs.Watching.{LogTells, LogsTell, TellsChange}
+use Rattle.djq_engine.specs.Changing.{IsDeltaWith, TellsRows, CountsRows, KeepsRest, KeepsLogs, AgesReaders, LacksMemory, LacksPlace, PutsRow, Drops, reads_at, tells_at}
+use Rattle.djq_engine.specs.Watching.{LogTells, LogsTell, TellsChange, reaches}
 use Rattle.djq_engine.specs.Whole.{kept_in, IsWhole, IsTended}
 use Rattle.djq_engine.specs.Judging.{bare, Suits}
 use Rattle.djq_engine.proofs.Judged.{rows_found}
 use Rattle.djq_engine.proofs.Listing.{reader_filter}
-use Rattle.djq_engine.proofs.Carrying.{readers_there, reader_is}
-use Rattle.djq_engine.proofs.Enlisted.{map_mapped, readers_are, affected_are, registered_same}
-use Rattle.djq_engine.proofs.Told.{AlikeAt, AreAlike, aged_alike, told_is, told_alike_at, query_alike_at}
+use Rattle.djq_engine.proofs.Carrying.{reader_is, reader_reads}
+use Rattle.djq_engine.proofs.Enlisted.{map_mapped, readers_are, affected_are, registered_has, registered_same}
+use Rattle.djq_engine.proofs.Told.{AlikeAt, AreAlike, aged_alike, told_is, told_alike_at, told_empty, told_stays, query_alike_at, alike_same}
 use Rattle.djq_engine.proofs.Naming.{There, live_there}
+use Rattle.djq_engine.proofs.Reaching.{place_below}
 
 -- ---- atoms over a relation, by place and by name
 
-atoms_of : (c : Catalog) (at : ℕ) (variables : List Variable) (atoms : List Atom) (ms : List NumberedAtom) → AreAtomsOf c variables atoms ms
+pub atoms_of : (c : Catalog) (at : ℕ) (variables : List Variable) (atoms : List Atom) (ms : List NumberedAtom)
+    → AreAtomsOf c variables atoms ms
     → length (filter (λ m. m.relation == at) ms) ≤ length (filter (λ a. bytes_eq a.relation (relation_at c.relations at).name) atoms)
 atoms_of c at variables [] [] h = omega arith
 atoms_of c at variables [] (m ∷ ms) h = absurd h
@@ -84,7 +89,7 @@ all_made P g (x ∷ xs) h (suc k) d l = all_made P g xs (λ i e. h i (step i (x 
     step i true e = refl
     step i false e = e
 
-both_true : (a b : Bool) → (a && b) ≡ true → (a ≡ true) × (b ≡ true)
+pub both_true : (a b : Bool) → (a && b) ≡ true → (a ≡ true) × (b ≡ true)
 both_true true b e = (refl, e)
 both_true false b e = absurd (false≢true e)
 
@@ -234,14 +239,116 @@ told_delta texts hs logs i l D alike h changes e =
 
 -- ---- the parts of an engine
 
+-- a query of which the log stays is told the same
+abbrev pub ToldStay : Parts → Parts → Type 0
+ToldStay old new = (i : ℕ) → log_at new.logs.items i ≡ log_at old.logs.items i
+    → told_at (kept_in new) (id_at i) ≡ told_at (kept_in old) (id_at i)
+
+-- of the queries that read a relation nothing is told, and the logs of the others stay
+pub record Discards (old : Parts) (at : ℕ) (new : Parts) : Type 0 where
+  pub emptied : (i : ℕ) → reads_at old at i ≡ true → told_at (kept_in new) (id_at i) ≡ Some []
+  pub others : KeepsLogs (reads_at old at) old new
+
+pub told_stay : ShowableStays → (old new : Parts) (more : List Bytes)
+    → (new.catalog).texts ≡ (old.catalog).texts ++ more → IsTended old
+    → AreAlike old.queries.items new.queries.items → ToldStay old new
+told_stay law old new more e t alike i same =
+    told_is (new.catalog).texts new.queries.items new.logs.items i
+    ∙ ap (told_of (new.catalog).texts (place_at new.queries.items i)) same
+    ∙ told_stays law (old.catalog).texts more (new.catalog).texts e (place_at old.queries.items i)
+    (place_at new.queries.items i) (alike i) (log_at old.logs.items i)
+    (λ l there kept. t.shown i l there kept)
+    ∙ sym (told_is (old.catalog).texts old.queries.items old.logs.items i)
+
+pub discards_by : (old mid new : Parts) → IsWhole old → (at : ℕ) → at < length (old.catalog).relations
+    → mid.readers.items ≡ old.readers.items → KeepsLogs (reads_at old at) old mid
+    → Empties (readers_at mid.readers.items at) mid.logs.items new.logs.items
+    → AreAlike old.queries.items new.queries.items → Discards old at new
+discards_by old mid new s at low readers apart empty alike = record {
+  emptied = λ i e.
+      let t = live_there old.queries.items i (both_true (is_live old.queries.items i) _
+      (sym (reader_is old.catalog old.queries.items old.order old.readers.items s at low i) ∙ e)).0 in
+      told_is (new.catalog).texts new.queries.items new.logs.items i
+      ∙ told_empty (new.catalog).texts t.query (place_at new.queries.items i)
+      (subst (λ (o : Option Live). AlikeAt o (place_at new.queries.items i)) t.is (alike i)) (log_at new.logs.items i)
+      (empty.emptied i (ap (λ (rs : List (List ℕ)). is_reader (readers_at rs at) i) readers ∙ e));
+  others = λ i l there e. empty.others i (ap (λ (rs : List (List ℕ)). is_reader (readers_at rs at) i) readers ∙ e)
+      ∙ apart i l there e;
+}
+
+-- the places of the readers are those of the code, and each has its log
+pub readers_within : (old mid : Parts) → IsWhole old → (at : ℕ) → at < length (old.catalog).relations
+    → mid.readers.items ≡ old.readers.items → at < length mid.readers.items
+readers_within old mid s at low same = subst (λ (rs : List (List ℕ)). at < length rs) (sym same)
+    (omega (arith, low, s.long))
+
+pub have_logs : (old mid : Parts) → IsWhole old → (at : ℕ) → at < length (old.catalog).relations → IsTended old
+    → KeepsRest old mid → HaveLogs (readers_at mid.readers.items at) mid.logs.items
+have_logs old mid s at low t rest i e =
+    let there = live_there old.queries.items i (both_true (is_live old.queries.items i) _
+    (sym (reader_is old.catalog old.queries.items old.order old.readers.items s at low i)
+    ∙ ap (λ (rs : List (List ℕ)). is_reader (readers_at rs at) i) (sym rest.readers) ∙ e)).0 in
+    let below = place_below old.queries.items i there.query there.is in
+    omega (arith, below, t.logged, rest.long)
+
+-- what is known of texts after each answer
+
+told_by : ShowableStays → TextsStay → (old new : Parts) (learned : List Bytes)
+    → (new.catalog).texts ≡ all_learned (old.catalog).texts learned → IsTended old
+    → AreAlike old.queries.items new.queries.items → ToldStay old new
+told_by law texts old new learned e t alike = let k = texts (old.catalog).texts learned in told_stay law old new k.0
+    (e ∙ k.1) t alike
+
+pub told_full : ShowableStays → TextsStay → (old new : Parts) (row : Tuple) → LacksPlace row old new → IsTended old
+    → (i : ℕ) → told_at (kept_in new) (id_at i) ≡ told_at (kept_in old) (id_at i)
+told_full law texts old new row l t i =
+    told_by law texts old new l.finds.first l.finds.learned t
+    (λ j. alike_same (place_at old.queries.items j) (place_at new.queries.items j)
+    (ap (λ (gs : List (Option Live)). place_at gs j) l.rests.queries)) i
+    (ap (λ (ls : List Log). log_at ls i) l.logs)
+
+pub told_lacking : ShowableStays → TextsStay → (old mid new : Parts) (at : ℕ) (row : Tuple)
+    → LacksMemory at row old mid → new.catalog ≡ mid.catalog → IsTended old
+    → AreAlike old.queries.items new.queries.items → ToldStay old new
+told_lacking law texts old mid new at row l same t alike = told_by law texts old new l.learns.first
+    (ap (λ (x : Catalog). x.texts) same ∙ l.learns.learned) t alike
+
+pub told_put : ShowableStays → TextsStay → (old mid new : Parts) (at : ℕ) (row : Tuple) → PutsRow at row old mid
+    → new.catalog ≡ mid.catalog → IsTended old
+    → AreAlike old.queries.items new.queries.items → ToldStay old new
+told_put law texts old mid new at row p same t alike = told_by law texts old new (texts_in row)
+    (ap (λ (x : Catalog). x.texts) same ∙ p.learns.0) t alike
+
+pub told_drop : ShowableStays → (old mid new : Parts) (at : ℕ) (row : Tuple) → Drops at row old mid
+    → new.catalog ≡ mid.catalog → IsTended old
+    → AreAlike old.queries.items new.queries.items → ToldStay old new
+told_drop law old mid new at row p same t alike =
+    told_stay law old new [] (ap (λ (x : Catalog). x.texts) same ∙ p.texts ∙ sym (append-nil (old.catalog).texts)) t
+    alike
+
+unread_both : (a w : Bool) → (a && (w || false)) ≡ false → (a && w) ≡ false
+unread_both true true e = e
+unread_both true false e = e
+unread_both false w e = refl
+
+unread_either : (a w : Bool) → (a && (w || true)) ≡ false → a ≡ false
+unread_either true true e = e
+unread_either true false e = e
+unread_either false w e = refl
+
 -- nothing is told
-pub tells_nothing : (old new : Kept) (name : Bytes) (rows : List Tuple) (before now : ℕ) → now ≤ before → TellsChange old name rows false false new before now
-tells_nothing old new name rows before now h = record {
+pub tells_nothing : (old new : Kept) (name : Bytes) (rows : List Tuple) (before now : ℕ) → now ≤ before
+    → ((id : QueryId) → IsSomeAnd (registered_at old.registered id) (λ r. reaches name false false r ≡ false)
+    → told_at new id ≡ told_at old id)
+    → TellsChange old name rows false false new before now
+tells_nothing old new name rows before now h stays = record {
   deltas = [];
   listed = record { of_queries = refl; are_deltas = λ k d l. absurd (omega (arith, l)) };
   counted = omega (arith, h);
   affected = λ e. absurd (false≢true e);
   logs = λ e. absurd (false≢true e);
+  discards = λ e. absurd (false≢true e);
+  stays = stays;
 }
 
 module _ (old : Parts) (s : IsWhole old) (at : ℕ) (low : at < length (old.catalog).relations) (name : Bytes) (named : (relation_at (old.catalog).relations at).name ≡ name) (rows : List Tuple)
@@ -253,9 +360,18 @@ module _ (old : Parts) (s : IsWhole old) (at : ℕ) (low : at < length (old.cata
       sym (law (old.catalog).relations at rows differ low)
       ∙ ap (λ (x : Bytes). change_first (λ r. bytes_eq r.name x) (λ (r : Relation). record r { rows = rows }) (old.catalog).relations) named
 
+  -- that the query in a place reads the relation, by place and by name
+  reads_are : (i : ℕ) (t : There old.queries.items i)
+      → reads_at old at i ≡ reads (query_in (place_at old.queries.items i)) name
+  reads_are i t =
+      reader_reads old.catalog old.queries.items old.order old.readers.items s at low i t.query t.is
+      ∙ ap (reads t.query.query) named
+      ∙ ap (λ (o : Option Live). reads (query_in o) name) (sym t.is)
+
   -- where memory was refused
-  pub tells_refused : (new : Kept) → TellsChange (kept_in old) name rows true false new before now
-  tells_refused new =
+  pub tells_refused : (new : Parts) → Discards old at new → ToldStay old new
+      → TellsChange (kept_in old) name rows true false (kept_in new) before now
+  tells_refused new empty told =
       let c = old.catalog in
       let after = with_rows_at c.relations at rows in
       let f = some_changes c old.queries.items old.order old.readers.items s at low old.watchers.items name named after have in
@@ -268,6 +384,16 @@ module _ (old : Parts) (s : IsWhole old) (at : ℕ) (low : at < length (old.cata
         counted = omega (arith, total, steps);
         affected = λ e. absurd (false≢true e);
         logs = λ e. absurd (false≢true e);
+        discards = λ e f id h.
+            let r = registered_has c old.queries.items old.order old.readers.items old.watchers.items s id
+            (λ r. reads r.query name ≡ true) h in
+            empty.emptied id.at (reads_are id.at r.0 ∙ r.1);
+        stays = λ id h.
+            let r = registered_has c old.queries.items old.order old.readers.items old.watchers.items s id
+            (λ r. reaches name true false r ≡ false) h in
+            told id.at (empty.others id.at r.0.query r.0.is (reads_are id.at r.0
+            ∙ unread_either (reads (query_in (place_at old.queries.items id.at)) name)
+            (watched_at old.watchers.items id.at) r.1));
       }
 
   -- where the change was accepted
@@ -275,8 +401,9 @@ module _ (old : Parts) (s : IsWhole old) (at : ℕ) (low : at < length (old.cata
       → place_at old.queries.items i ≡ Some l → (log_at new.logs.items i).lost ≡ false
       → IsDeltaWith at rows (old.catalog).relations l (map (change_of (new.catalog).texts l) (log_at new.logs.items i).lines))
       → AreAlike old.queries.items new.queries.items → new.readers.items ≡ old.readers.items → new.changed ≡ at
+      → KeepsLogs (tells_at old at) old new → ToldStay old new
       → TellsChange (kept_in old) name rows true true (kept_in new) before now
-  tells_done new tells alike readers changed =
+  tells_done new tells alike readers changed quiet told =
       let c = old.catalog in
       let after = with_rows_at c.relations at rows in
       let f = told_changes c old.queries.items old.order old.readers.items s at low old.watchers.items name named after have (kept_in new) in
@@ -294,6 +421,14 @@ module _ (old : Parts) (s : IsWhole old) (at : ℕ) (low : at < length (old.cata
             ∙ affected_with c old.queries.items old.order old.readers.items s at low old.watchers.items name named after;
         logs = λ e. logs_with c old.queries.items old.order old.readers.items s at low old.watchers.items name named after f (kept_in new)
             (λ i r. told_by_log c old.queries.items old.order old.readers.items s at low old.watchers.items name named after have (kept_in new) i);
+        discards = λ e f. absurd (false≢true (sym f));
+        stays = λ id h.
+            let r = registered_has c old.queries.items old.order old.readers.items old.watchers.items s id
+            (λ r. reaches name true true r ≡ false) h in
+            told id.at (quiet id.at r.0.query r.0.is
+            (ap (λ b. b && watched_at old.watchers.items id.at) (reads_are id.at r.0)
+            ∙ unread_both (reads (query_in (place_at old.queries.items id.at)) name)
+            (watched_at old.watchers.items id.at) r.1));
       }
 
 -- ---- what is kept once readers were reached and their cursors outdated
@@ -341,18 +476,26 @@ module _ (old : Parts) (s : IsWhole old) (name : Bytes) (row : Tuple) (at : ℕ)
   rows_are : rows_of (old.catalog).relations name ≡ rows_at (old.catalog).relations at
   rows_are = rows_found (old.catalog).relations name row old.seq at m
 
-  pub adds_refused : CountsRows at (rows_at (old.catalog).relations at ++ row ∷ []) old before now → (new : Kept)
-      → TellsChange (kept_in old) name (rows_of (old.catalog).relations name ++ row ∷ []) true false new before now
-  adds_refused counts new =
-      subst (λ (rows : List Tuple). TellsChange (kept_in old) name (rows ++ row ∷ []) true false new before now) (sym rows_are)
-      (tells_refused old s at m.below name m.named (rows_at (old.catalog).relations at ++ row ∷ []) law differ (have (rows_at (old.catalog).relations at ++ row ∷ [])) before now counts new)
+  pub adds_refused : CountsRows at (rows_at (old.catalog).relations at ++ row ∷ []) old before now → (new : Parts)
+      → Discards old at new → ToldStay old new
+      → TellsChange (kept_in old) name (rows_of (old.catalog).relations name ++ row ∷ []) true false (kept_in new)
+      before now
+  adds_refused counts new empty told =
+      subst (λ (rows : List Tuple). TellsChange (kept_in old) name (rows ++ row ∷ []) true false (kept_in new) before
+      now) (sym rows_are)
+      (tells_refused old s at m.below name m.named (rows_at (old.catalog).relations at ++ row ∷ []) law differ
+      (have (rows_at (old.catalog).relations at ++ row ∷ [])) before now counts new empty told)
 
-  module _ (mid new : Parts) (logs : new.logs.items ≡ mid.logs.items) (catalog : new.catalog ≡ mid.catalog) (alike : AreAlike old.queries.items new.queries.items) (readers : new.readers.items ≡ old.readers.items) (changed : new.changed ≡ at) where
+  module _ (mid new : Parts) (logs : new.logs.items ≡ mid.logs.items) (catalog : new.catalog ≡ mid.catalog)
+      (alike : AreAlike old.queries.items new.queries.items) (readers : new.readers.items ≡ old.readers.items)
+      (changed : new.changed ≡ at)
+      (quiet : KeepsLogs (tells_at old at) old mid) (told : ToldStay old new) where
     done : (rows : List Tuple) → CountsRows at rows old before now → TellsRows at rows old mid → TellsChange (kept_in old) name rows true true (kept_in new) before now
     done rows counts tells = tells_done old s at m.below name m.named rows law differ (have rows) before now counts new
         (λ i l r w there. subst (λ (ls : List Log). (log_at ls i).lost ≡ false → IsDeltaWith at rows (old.catalog).relations l (map (change_of (new.catalog).texts l) (log_at ls i).lines)) (sym logs)
         (subst (λ (x : Catalog). (log_at mid.logs.items i).lost ≡ false → IsDeltaWith at rows (old.catalog).relations l (map (change_of x.texts l) (log_at mid.logs.items i).lines)) (sym catalog) (tells i l r w there)))
         alike readers changed
+        (λ i l there e. ap (λ (ls : List Log). log_at ls i) logs ∙ quiet i l there e) told
 
     pub adds_done : CountsRows at (rows_at (old.catalog).relations at ++ row ∷ []) old before now → TellsRows at (rows_at (old.catalog).relations at ++ row ∷ []) old mid
         → TellsChange (kept_in old) name (rows_of (old.catalog).relations name ++ row ∷ []) true true (kept_in new) before now
@@ -392,7 +535,8 @@ TellsAdd old name row result n =
 add_err_tells : (old : Parts) (name : Bytes) (row : Tuple) (r : Refusal) → add_refusal (bare (old.catalog).relations old.seq) name row ≡ Some r → (n : ℕ) → TellsAdd old name row (Err r) n
 add_err_tells old name row r h n =
     subst (λ (b : Bool). TellsChange (kept_in old) name (rows_of (old.catalog).relations name ++ row ∷ []) b false (kept_in old) n n) (sym (refused_quietly (old.catalog).relations name row old.seq r h))
-    (tells_nothing (kept_in old) (kept_in old) name (rows_of (old.catalog).relations name ++ row ∷ []) n n (omega arith))
+    (tells_nothing (kept_in old) (kept_in old) name (rows_of (old.catalog).relations name ++ row ∷ []) n n
+    (omega arith) (λ id k. refl))
 
 pub add_refused_tells : (old : Parts) (name : Bytes) (row : Tuple) (result : Result AddOutcome Refusal) → IsErr result
     → IfErr result (λ r. add_refusal (bare (old.catalog).relations old.seq) name row ≡ Some r) → (n : ℕ) → TellsAdd old name row result n
@@ -402,4 +546,5 @@ add_refused_tells old name row (Err r) e h n = add_err_tells old name row r h n
 pub delete_refused_tells : (old : Parts) (name : Bytes) (row : Tuple) (result : Result DeleteOutcome Refusal) → IsErr result → (n : ℕ)
     → TellsChange (kept_in old) name (without_row (rows_of (old.catalog).relations name) row) (delete_outdates result) (delete_outdates result) (kept_in old) n n
 delete_refused_tells old name row (Ok x) e n = absurd (false≢true e)
-delete_refused_tells old name row (Err r) e n = tells_nothing (kept_in old) (kept_in old) name (without_row (rows_of (old.catalog).relations name) row) n n (omega arith)
+delete_refused_tells old name row (Err r) e n = tells_nothing (kept_in old) (kept_in old) name
+    (without_row (rows_of (old.catalog).relations name) row) n n (omega arith) (λ id k. refl)

@@ -1,8 +1,8 @@
 -- The cursors of one query change: what is kept, and where all cursors stand.
-use Rattle.std.proofs.Common.{ℕ, zero, List, [], ◌≡◌, ◌<◌, ◌≤◌, ◌⊎◌, inl, inr, Bool, true, false, refl, sym, ap, ap₂, ◌∙◌, subst, length, set, arith}
-use Rattle.std.specs.Prelude.{◌==◌, ◌&&◌, Option, None, Some, IsSome, is_some, option_map, filter}
+use Rattle.std.proofs.Common.{ℕ, zero, List, ◌≡◌, ◌<◌, ◌≤◌, ◌⊎◌, inl, inr, Bool, true, false, refl, sym, ap, ◌∙◌, subst, length, set, arith}
+use Rattle.std.specs.Prelude.{◌==◌, ◌&&◌, Option, None, Some, is_some, option_map}
 use Rattle.std.proofs.lemmas.Bool.{eq-eqb, cases_lt, cases_order, false≢true}
-use Rattle.std.proofs.lemmas.List.{get_or-set_same, get_or-set_other, length-set, get_or_past}
+use Rattle.std.proofs.lemmas.List.{get_or-set_same, get_or-set_other, get_or_past}
 use Rattle.djq_model.specs.declared.query.Query.{Query}
 use Rattle.djq_model.specs.Data.{Bytes}
 use Rattle.djq_machine.specs.State.{Store}
@@ -12,8 +12,8 @@ use Rattle.djq_live.specs.declared.cursors.Progress.{Progress}
 use Rattle.djq_live.specs.Cursors.{slot_at, SetsSlot}
 use Rattle.djq_live.specs.Live.{Live, IsLive}
 use Rattle.djq_engine.specs.declared.cursor.CursorId.{CursorId}
-use Rattle.djq_engine.specs.Kept.{Held, Registered, held_at, same_id, OthersStay}
-use Rattle.djq_engine.specs.Places.{place_at, is_live, query_in, queries_in, reads_place, held_as, held_from, held_of, store_of, readers_at, id_at, watchers_at, registered_as, registered_in}
+use Rattle.djq_engine.specs.Kept.{Registered, held_at, OthersStay}
+use Rattle.djq_engine.specs.Places.{place_at, is_live, query_in, queries_in, reads_place, held_as, held_from, held_of, store_of, id_at, watchers_at, registered_as, registered_in}
 use Rattle.djq_engine.specs.Sound.{IsSound}
 use Rattle.djq_engine.proofs.Holding.{held_is}
 use Rattle.djq_engine.proofs.Listing.{filter_members, map_members}

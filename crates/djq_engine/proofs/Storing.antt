@@ -1,5 +1,5 @@
 -- A row goes into the catalog and the queries, or out of them.
-use Rattle.std.proofs.Common.{ℕ, List, [], ◌∷◌, ◌++◌, ◌≡◌, ◌≢◌, ◌<◌, ◌≤◌, Bool, true, false, refl, sym, ap, ap₂, ◌∙◌, subst, length, get_or, arith}
+use Rattle.std.proofs.Common.{ℕ, List, [], ◌∷◌, ◌++◌, ◌≡◌, ◌<◌, ◌≤◌, true, false, refl, sym, ap, ap₂, ◌∙◌, subst, length, get_or, arith}
 use Rattle.std.specs.Prelude.{Option, Some, Result, Ok, Err, Contains}
 use Rattle.std.proofs.lemmas.Bool.{false≢true}
 use Rattle.std.proofs.lemmas.List.{get_or_default, append-nil}
@@ -11,7 +11,6 @@ use Rattle.djq_lines.specs.declared.answer.AddOutcome.{AddOutcome}
 use Rattle.djq_lines.specs.declared.answer.AddOutcome.TheVariants.{Added, Same}
 use Rattle.djq_lines.specs.declared.answer.DeleteOutcome.{DeleteOutcome}
 use Rattle.djq_lines.specs.declared.answer.DeleteOutcome.TheVariants.{Removed, Absent}
-use Rattle.djq_machine.specs.Store.{LearnsFirst}
 use Rattle.djq_dict.specs.declared.refusal.InternRefusal.{InternRefusal}
 use Rattle.djq_dict.specs.declared.refusal.InternRefusal.TheVariants.{Full as TextsFull, NoMem as NoMemForTexts}
 use Rattle.djq_rows.specs.declared.refusal.RowsRefusal.{RowsRefusal}
@@ -21,15 +20,15 @@ use Rattle.djq_model.specs.Typed.{fits}
 use Rattle.djq_rows.specs.Catalog.{Catalog, IsCatalog, StandForRow, relation_at, rows_at, with_rows_at}
 use Rattle.djq_rows.specs.Changes.{AddsRow, DeletesRow, InternsRow}
 use Rattle.djq_rows.specs.Laws.{TextsStay}
-use Rattle.djq_live.specs.Changes.{IsLater, HasSameRows, Came, Went, AddedCame, DeletedWent}
-use Rattle.djq_live.specs.Live.{Live, IsKept, IsLive}
+use Rattle.djq_live.specs.Changes.{HasSameRows, Came, Went, AddedCame, DeletedWent}
+use Rattle.djq_live.specs.Live.{Live, IsKept}
 use Rattle.djq_live.specs.Staying.{StaysOver, LiveStays, CamePasses, WentPasses}
 use Rattle.djq_live.proofs.Members.{in_last}
 use Rattle.djq_engine.specs.declared.parts.Parts.{Parts}
 use Rattle.djq_engine.specs.Places.{place_at, readers_at}
 use Rattle.djq_engine.specs.Sound.{IsSound, AreOnce}
 use Rattle.djq_engine.specs.Reaching.{Reach, AllAt, CanCome, CanGo, TakesIn, LetsOut, GivesBack, Carries}
-use Rattle.djq_engine.specs.Changing.{IsNew, IsOld, RestsOver, Lacks, LacksMemory, Puts, Waits, PutsRow}
+use Rattle.djq_engine.specs.Changing.{IsNew, IsOld, Lacks, LacksMemory, Puts, Waits, PutsRow}
 use Rattle.djq_lines.specs.declared.limits.TheConstants.{TEXTS, ROWS}
 use Rattle.djq_engine.proofs.Carrying.{has_contains, without_last, last_there, rows_with, field_with, long_with, back_with, readers_once, readers_kept, came_carries, went_carries, back_carries, idle_carries, stays_itself, texts_then}
 
@@ -69,8 +68,9 @@ pub all_stay : LiveStays → (c d : Catalog) (gs : List (Option Live)) (order : 
 all_stay law c d gs order readers s h i l e = law c d l h (s.live i l e)
 
 pub lacks_of : (at : ℕ) (row : Tuple) (old new : Parts) (r : InternRefusal) → InternsRow (old.catalog).texts row (Err r) (new.catalog).texts → (new.catalog).relations ≡ (old.catalog).relations → new.queries.items ≡ old.queries.items
+    → new.logs.items ≡ old.logs.items → length (new.catalog).texts ≤ TEXTS
     → ((i : ℕ) (l : Live) → place_at old.queries.items i ≡ Some l → StaysOver old.catalog new.catalog l) → Lacks at row old new r
-lacks_of at row old new TextsFull h e q stay = record {
+lacks_of at row old new TextsFull h e q logs many stay = record {
   finds = record {
     first = h.1.first;
     next = h.1.next;
@@ -81,9 +81,11 @@ lacks_of at row old new TextsFull h e q stay = record {
     full = h.1.full;
   };
   rests = record { queries = q; relations = e; stay = stay };
+  logs = logs;
 }
-lacks_of at row old new NoMemForTexts h e q stay = record {
+lacks_of at row old new NoMemForTexts h e q logs many stay = record {
   learns = record { first = h.first; rest = h.rest; parts = h.parts; learned = h.learned };
+  many = many;
   relations = e;
   carries = subst (λ (hs : List (Option Live)). Carries (readers_at old.readers.items at) old.catalog old.queries.items new.catalog hs) (sym q)
       (idle_carries old.catalog new.catalog old.queries.items (readers_at old.readers.items at) stay);
@@ -210,14 +212,16 @@ puts_row at row old new c1 rel learn many stay p = record {
 }
 
 pub waits_row : (at : ℕ) (row : Tuple) (old new : Parts) (c1 : Catalog) → c1.relations ≡ (old.catalog).relations → c1.texts ≡ all_learned (old.catalog).texts (texts_in row)
+    → length c1.texts ≤ TEXTS
     → ((i : ℕ) (l : Live) → place_at old.queries.items i ≡ Some l → StaysOver old.catalog c1 l) → Waits at (record old { catalog = c1 }) new → LacksMemory at row old new
-waits_row at row old new c1 rel learn stay w = record {
+waits_row at row old new c1 rel learn many stay w = record {
   learns = record {
     first = texts_in row;
     rest = [];
     parts = sym (append-nil (texts_in row));
     learned = ap (λ (x : Catalog). x.texts) w.catalog ∙ learn;
   };
+  many = subst (λ (x : Catalog). length x.texts ≤ TEXTS) (sym w.catalog) many;
   relations = ap (λ (x : Catalog). x.relations) w.catalog ∙ rel;
   carries = texts_then old.catalog c1 new.catalog old.queries.items new.queries.items (readers_at old.readers.items at) stay w.carries;
 }

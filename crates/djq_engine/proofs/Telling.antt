@@ -1,6 +1,6 @@
 -- What is told of a registered query.
-use Rattle.std.proofs.Common.{ℕ, List, [], ◌∷◌, ◌≡◌, ◌<◌, Bool, true, false, refl, sym, ap, ◌∙◌, subst, length, get_or}
-use Rattle.std.specs.Prelude.{◌==◌, not, Option, None, Some, is_none, IsSomeAnd, position, Ok, Err, map, Result}
+use Rattle.std.proofs.Common.{ℕ, List, [], ◌∷◌, ◌≡◌, Bool, refl, sym, ap, ◌∙◌, subst, length, get_or}
+use Rattle.std.specs.Prelude.{◌==◌, not, Option, None, Some, is_none, IsSomeAnd, option_map, position, Ok, Err, map}
 use Rattle.std.proofs.lemmas.List.{get_or_default}
 use Rattle.djq_model.specs.declared.query.Query.{Query}
 use Rattle.djq_model.specs.Data.{Bytes, Tuple, query_of}
@@ -13,11 +13,19 @@ use Rattle.djq_tree.specs.Explaining.{explain_of}
 use Rattle.djq_machine.specs.Conditions.{first_of}
 use Rattle.djq_machine.specs.Store.{TellsWhether, Tells, has_refusal, has_steps, answer_types, misfit}
 use Rattle.djq_rows.specs.Catalog.{Catalog}
-use Rattle.djq_reduct.specs.Answers.{IsAnswerOf}
-use Rattle.djq_live.specs.Live.{Live, IsLive, IsKeptSomewhere, values_of}
+use Rattle.djq_live.specs.declared.cursors.Progress.{Progress}
+use Rattle.djq_live.specs.Cursors.{slot_at}
+use Rattle.djq_live.specs.Live.{Live, IsKeptSomewhere, position_of}
+use Rattle.djq_live.specs.Shown.{AnswersAreShown}
 use Rattle.djq_engine.specs.declared.cursor.CursorId.{CursorId}
-use Rattle.djq_engine.specs.Kept.{ExplainGives, Explains, HasTree, IsThere, AnswerIs}
-use Rattle.djq_engine.specs.Places.{place_at, queries_in, store_of, kept_of, is_query}
+use Rattle.djq_engine.specs.Kept.{ExplainGives, Explains, HasTree}
+use Rattle.djq_engine.specs.declared.cursor.QueryId.{QueryId}
+use Rattle.djq_engine.specs.declared.parts.Parts.{Parts}
+use Rattle.djq_engine.specs.Lending.{LendsQuery}
+use Rattle.djq_engine.specs.Whole.{kept_in, IsWhole}
+use Rattle.djq_engine.proofs.Enlisted.{registered_gives}
+use Rattle.djq_engine.proofs.Holding.{held_is}
+use Rattle.djq_engine.specs.Places.{place_at, queries_in, query_in, store_of, held_as, held_of, is_query}
 use Rattle.djq_engine.specs.Sound.{IsSound}
 use Rattle.djq_engine.proofs.Conditions.{answers_refused, answers_done, answers_lacking}
 use Rattle.djq_engine.proofs.Naming.{Named, query_named, no_query_of}
@@ -104,3 +112,30 @@ pub answer_read : (gs : List (Option Live)) (at : ℕ) (p : Option Live) (l : Li
 answer_read gs at p l P h is some =
     let there = place_read gs at p l (below_some gs at P h) is some in
     (there, subst (λ (o : Option Live). IsSomeAnd o P) there h)
+
+-- a registered query is lent
+position_is : (texts : List Bytes) (l : Live) (id : CursorId) (o : Option Progress)
+    → option_map (λ h. h.position) (option_map (held_as texts l id) o) ≡ option_map (position_of texts l) o
+position_is texts l id None = refl
+position_is texts l id (Some p) = refl
+
+pub lends : (p : Parts) → IsWhole p → (id : QueryId) (l : Live) → place_at p.queries.items id.at ≡ Some l
+    → AnswersAreShown
+    → LendsQuery (kept_in p) id l
+lends p s id l there law =
+    let c = p.catalog in
+    let kept = (s.live id.at l there).kept in
+    record {
+      query = registered_gives c p.queries.items p.order p.readers.items p.watchers.items s id (λ r. r.query ≡ l.query)
+          (record { query = l; is = there }) (ap query_in there);
+      place = there;
+      catalog = c;
+      relations = refl;
+      texts = refl;
+      live = s.live id.at l there;
+      answers = λ t. law c l.query l.numbered l.patterns l.reducts kept.over t;
+      cursors = λ slot.
+          let at : CursorId = record { query = id; cursor = slot } in
+          ap (option_map (λ h. h.position)) (held_is c.texts p.queries.items at ∙ ap (held_of c.texts at) there)
+          ∙ position_is c.texts l at (slot_at l.cursors slot);
+    }

@@ -1,6 +1,6 @@
 -- What is done to the logs of the queries in places, one after another, and what listing counts.
-use Rattle.std.proofs.Common.{ℕ, zero, suc, List, [], ◌∷◌, ◌++◌, ◌+◌, ◌≡◌, ◌≢◌, ◌<◌, ◌≤◌, ◌⊎◌, inl, inr, Bool, true, false, refl, sym, ap, ap₂, ◌∙◌, subst, length, get_or, set, take, arith, length-set}
-use Rattle.std.specs.Prelude.{◌==◌, ◌||◌, Option, None, Some, IsSomeAnd, cond, map, nat_lt, sum_by, All, Result, Ok, Err, OnOk, OnErr}
+use Rattle.std.proofs.Common.{ℕ, zero, suc, List, [], ◌∷◌, ◌++◌, ◌+◌, ◌≡◌, ◌≢◌, ◌<◌, ◌≤◌, ◌⊎◌, inl, inr, Bool, true, false, refl, sym, ap, ◌∙◌, subst, length, get_or, set, take, arith, length-set}
+use Rattle.std.specs.Prelude.{◌==◌, ◌||◌, ◌&&◌, Option, None, Some, IsSomeAnd, cond, map, nat_lt, sum_by, All, Result, Ok, Err, OnOk, OnErr}
 use Rattle.std.proofs.lemmas.Bool.{eqb-true, eq-eqb, false≢true}
 use Rattle.std.proofs.lemmas.List.{get_or-set_same, get_or-set_other, take_more, get_or_default}
 use Rattle.std.proofs.lemmas.List.Sums.{sum_by-cons, sum_by-append, sum_by-take-le}
@@ -15,11 +15,11 @@ use Rattle.djq_tree.specs.Tree.{Tree}
 use Rattle.djq_query.specs.Numbered.{Numbered}
 use Rattle.djq_live.specs.Shown.{shown, AreShownAs}
 use Rattle.djq_live.specs.Live.{Live, IsKept, IsShowable, ShowableStays}
-use Rattle.djq_live.specs.Updating.{change_of, IsDeltaOf, delta_bound, Logs, LogsWhere, CountsDelta}
-use Rattle.djq_engine.specs.Places.{place_at, is_reader, readers_at, log_at, no_log, watchers_at, watched_at}
+use Rattle.djq_live.specs.Updating.{change_of, IsDeltaOf, delta_bound, LogsWhere, CountsDelta, IsEmpty}
+use Rattle.djq_engine.specs.Places.{place_at, is_reader, readers_at, log_at, no_log, watched_at}
 use Rattle.djq_engine.specs.Sound.{IsSound, AreOnce}
 use Rattle.djq_engine.specs.Reaching.{DoneAt, Reach, AllAt}
-use Rattle.djq_engine.specs.Tending.{Readies, Tells, TellsWhere, TellsAt, Shows, AreShown, TendedAt, Tends, DeltasOf, cost_of, cost_at, Costs}
+use Rattle.djq_engine.specs.Tending.{Readies, Tells, TellsWhere, TellsAt, Shows, AreShown, TendedAt, Tends, Empties, cost_of, cost_at, Costs}
 use Rattle.djq_engine.specs.Placing.{SameLogs}
 use Rattle.djq_engine.specs.Changing.{IsDeltaWith}
 use Rattle.djq_engine.proofs.Told.{Alike, AlikeAt, AreAlike}
@@ -27,7 +27,7 @@ use Rattle.djq_engine.proofs.Listing.{apart, reader_more, or_true, or_false}
 use Rattle.djq_engine.proofs.Carrying.{readers_kept}
 use Rattle.djq_engine.proofs.Reaching.{below_some, everywhere, only, once_at, reader_there}
 
-reader_front : (places : List ℕ) (k i : ℕ) → is_reader (take k places) i ≡ true → is_reader places i ≡ true
+pub reader_front : (places : List ℕ) (k i : ℕ) → is_reader (take k places) i ≡ true → is_reader places i ≡ true
 reader_front [] zero i e = e
 reader_front [] (suc k) i e = e
 reader_front (p ∷ places) zero i e = absurd (false≢true e)
@@ -74,6 +74,10 @@ log_read logs i log low is = is ∙ get_or_default logs i log no_log low
 pub on_ok : {A E : Type 0} {P Q : Type 0} (r : Result A E) → (P → Q) → OnOk r P → OnOk r Q
 on_ok (Ok a) f h = f h
 on_ok (Err e) f h = tt
+
+pub on_both : {A E : Type 0} {P Q R : Type 0} (r : Result A E) → (P → Q → R) → OnOk r P → OnOk r Q → OnOk r R
+on_both (Ok a) f h k = f h k
+on_both (Err e) f h k = tt
 
 pub on_err : {A E : Type 0} {P Q : Type 0} (r : Result A E) → (P → Q) → OnErr r P → OnErr r Q
 on_err (Ok a) f h = tt
@@ -164,6 +168,66 @@ shows_front Changed places k gs old new t = record {
     by_front i false e true f (Some l) h = inl h
     by_front i true e true f o h = h
     by_front i true e false f o h = absurd (false≢true (sym f ∙ reader_front places k i e))
+
+-- a log that isn't told of is as before
+pub tends_quiet : (Changed : Catalog → Catalog → Tuple → Type 0) (ws ps : List ℕ) (gs : List (Option Live))
+    (old new : List Log) → Tends ps (TellsAt ws Changed) gs old new
+    → (i : ℕ) (l : Live) → place_at gs i ≡ Some l → (is_reader ps i && watched_at ws i) ≡ false
+    → log_at new i ≡ log_at old i
+tends_quiet Changed ws ps gs old new t i l there =
+    by_place (is_reader ps i) (watched_at ws i) (subst
+    (λ (o : Option Live). TendedAt (TellsAt ws Changed i) (is_reader ps i) o (log_at old i) (log_at new i)) there
+    (t.each i))
+  where
+    by_place : (b w : Bool) → TendedAt (TellsWhere w Changed) b (Some l) (log_at old i) (log_at new i)
+        → (b && w) ≡ false → log_at new i ≡ log_at old i
+    by_place false w h e = h
+    by_place true true h e = absurd (false≢true (sym e))
+    by_place true false h e = h
+
+pub tends_apart : (Does : ℕ → Live → Log → Log → Type 0) (ps : List ℕ) (gs : List (Option Live)) (old new : List Log)
+    → Tends ps Does gs old new
+    → (i : ℕ) → is_reader ps i ≡ false → log_at new i ≡ log_at old i
+tends_apart Does ps gs old new t i e = subst (λ (b : Bool). TendedAt (Does i) b (place_at gs i) (log_at old i)
+    (log_at new i)) e (t.each i)
+
+-- ---- logs that are emptied
+
+pub empties_none : (logs : List Log) → Empties [] logs logs
+empties_none logs = record { long = refl; emptied = λ i e. absurd (false≢true e); others = λ i e. refl }
+
+pub empties_next : (places : List ℕ) (k d i : ℕ) (old mid : List Log) (m : Log) → k < length places
+    → i ≡ get_or places k d → i < length mid
+    → Empties (take k places) old mid → IsEmpty m → Empties (take (k + 1) places) old (set mid i m)
+empties_next places k d i old mid m low at within a none = record {
+  long = length-set mid i m ∙ a.long;
+  emptied = everywhere (λ j. is_reader (take (k + 1) places) j ≡ true → IsEmpty (log_at (set mid i m) j)) i
+      (λ e. subst IsEmpty (sym (get_or-set_same mid i m no_log within)) none)
+      (λ j d e. subst IsEmpty (sym (get_or-set_other mid i j m no_log d)) (a.emptied j (sym (front j d) ∙ e)));
+  others = everywhere (λ j. is_reader (take (k + 1) places) j ≡ false → log_at (set mid i m) j ≡ log_at old j) i
+      (λ e. absurd (false≢true (sym e ∙ here)))
+      (λ j d e. get_or-set_other mid i j m no_log d ∙ a.others j (sym (front j d) ∙ e));
+}
+  where
+    more : (j : ℕ) → is_reader (take (k + 1) places) j ≡ (is_reader (take k places) j || (i == j))
+    more j =
+        ap (λ (ps : List ℕ). is_reader ps j) (take_more places k d low
+        ∙ ap (λ (x : ℕ). take k places ++ x ∷ []) (sym at))
+        ∙ reader_more (take k places) i j
+
+    here : is_reader (take (k + 1) places) i ≡ true
+    here = more i ∙ ap (λ b. is_reader (take k places) i || b) (eq-eqb i i refl) ∙ or_true (is_reader (take k places) i)
+
+    front : (j : ℕ) → (j ≡ i → ⊥) → is_reader (take (k + 1) places) j ≡ is_reader (take k places) j
+    front j d = more j ∙ ap (λ b. is_reader (take k places) j || b) (apart i j (λ s. d (sym s)))
+        ∙ or_false (is_reader (take k places) j)
+
+pub empties_same : (places : List ℕ) (old new : List Log) → Empties places old new → SameLogs old new
+empties_same places old new a i = by_reader (is_reader places i) refl
+  where
+    by_reader : (b : Bool) → is_reader places i ≡ b → (log_at new i ≡ log_at old i) ⊎ ((log_at new i).lines ≡ [])
+    by_reader true e = inr (a.emptied i e).lines
+    by_reader false e = inl (a.others i e)
 
 -- ---- what can be shown
 

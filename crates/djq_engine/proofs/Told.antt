@@ -1,7 +1,7 @@
 -- What the logs tell, by place.
-use Rattle.std.proofs.Common.{ℕ, zero, suc, List, [], ◌∷◌, ◌≡◌, Bool, true, false, refl, sym, ap, ap₂, ◌∙◌, subst, set, get_or}
-use Rattle.std.specs.Prelude.{Option, None, Some, map, cond, slice_index_or, ⊤}
-use Rattle.djq_model.specs.Data.{Bytes}
+use Rattle.std.proofs.Common.{ℕ, zero, suc, List, [], ◌∷◌, ◌++◌, ◌≡◌, Bool, true, false, refl, sym, ap, ap₂, ◌∙◌, subst, set, get_or, arith}
+use Rattle.std.specs.Prelude.{Option, None, Some, All, map, cond, slice_index_or, ⊤}
+use Rattle.djq_model.specs.Data.{Bytes, Tuple}
 use Rattle.djq_lines.specs.declared.answer.Sign.TheVariants.{Came as HasCome, Went as HasGone}
 use Rattle.djq_machine.specs.Delta.{Change}
 use Rattle.djq_tree.specs.Tree.{Tree}
@@ -10,7 +10,8 @@ use Rattle.djq_cursor.specs.declared.log.Line.{Line}
 use Rattle.djq_cursor.specs.Log.{Log}
 use Rattle.djq_rows.specs.Catalog.{Catalog}
 use Rattle.djq_live.specs.Shown.{shown}
-use Rattle.djq_live.specs.Live.{Live}
+use Rattle.djq_live.specs.Live.{Live, IsShowable, ShowableStays, values_of}
+use Rattle.djq_live.specs.Updating.{change_of, IsEmpty}
 use Rattle.djq_engine.specs.Places.{place_at, is_reader, query_in, no_log, log_at, told_of, told_from}
 use Rattle.djq_engine.specs.Reaching.{DoneAt, Reach, Renews, Ages}
 
@@ -93,6 +94,45 @@ aged_alike d name n ps qs gs hs ks a b i =
       numbered = ap (λ (x : Live). x.numbered) r.outdated;
       tree = ap (λ (x : Live). (x.reducts).tree) r.outdated;
     }) b i)
+
+-- ---- what a log tells once more texts are known
+
+map_as : {A B : Type 0} (f g : A → B) (xs : List A) → All (λ x. f x ≡ g x) xs → map f xs ≡ map g xs
+map_as f g [] h = refl
+map_as f g (x ∷ xs) h = ap₂ (λ y ys. y ∷ ys) (h zero x (omega arith))
+    (map_as f g xs (λ k d low. h (suc k) d (omega (arith, low))))
+
+pub told_stays : ShowableStays → (texts more now : List Bytes) → now ≡ texts ++ more → (o p : Option Live)
+    → AlikeAt o p → (log : Log)
+    → ((l : Live) → o ≡ Some l → log.lost ≡ false → All (λ k. IsShowable texts l k.answer) log.lines)
+    → told_of now p log ≡ told_of texts o log
+told_stays law texts more now e None None a log h = refl
+told_stays law texts more now e None (Some m) a log h = absurd a
+told_stays law texts more now e (Some l) None a log h = absurd a
+told_stays law texts more now e (Some l) (Some m) a log h = by_lost log.lost refl
+  where
+    line : (k : Line) → IsShowable texts l k.answer → change_of now m k ≡ change_of texts l k
+    line k s =
+        ap (λ (t : Tuple). (let x : Change = record { sign = cond k.came HasCome HasGone; answer = t } in x))
+        (ap (λ (ts : List Bytes). values_of ts m k.answer) e ∙ (law texts more l m k.answer a.numbered a.tree s).1)
+
+    by_lost : (b : Bool) → log.lost ≡ b
+        → cond log.lost None (Some (map (change_of now m) log.lines)) ≡ cond log.lost None
+        (Some (map (change_of texts l) log.lines))
+    by_lost true f =
+        ap (λ b. cond b None (Some (map (change_of now m) log.lines))) f
+        ∙ sym (ap (λ b. cond b None (Some (map (change_of texts l) log.lines))) f)
+    by_lost false f =
+        ap (λ (cs : List Change). cond log.lost None (Some cs))
+        (map_as (change_of now m) (change_of texts l) log.lines
+        (λ k d low. line (get_or log.lines k d) (h l refl f k d low)))
+
+-- an empty log tells of nothing
+pub told_empty : (texts : List Bytes) (l : Live) (p : Option Live) → AlikeAt (Some l) p → (log : Log) → IsEmpty log
+    → told_of texts p log ≡ Some []
+told_empty texts l None a log h = absurd a
+told_empty texts l (Some m) a log h = ap₂ (λ (b : Bool) (ls : List Line). cond b None
+    (Some (map (change_of texts m) ls))) h.kept h.lines
 
 pub told_alike_at : (texts : List Bytes) (log : Log) (o p : Option Live) → AlikeAt o p → told_of texts p log ≡ told_of texts o log
 told_alike_at texts log None None a = refl

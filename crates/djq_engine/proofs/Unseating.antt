@@ -1,5 +1,5 @@
 -- A place that came last in a list, and is taken out of it again.
-use Rattle.std.proofs.Common.{◌≡◌, ◌∙◌, refl, ap, ℕ, zero, suc, ◌+◌, ◌-◌, ◌∷◌, ◌++◌, List, [], length, arith, length-append}
+use Rattle.std.proofs.Common.{◌≡◌, ◌∙◌, refl, ap, ℕ, ◌-◌, ◌∷◌, ◌++◌, List, [], length, arith, length-append}
 use Rattle.std.specs.Prelude.{remove}
 
 pub remove_last : (xs : List ℕ) (x : ℕ) → remove (xs ++ x ∷ []) (length xs) ≡ xs

@@ -1,10 +1,10 @@
 -- What the parts of a change of rows do.
-use Rattle.std.specs.Prelude.{ℕ, List, [], ◌∷◌, ◌++◌, ◌+◌, ◌≡◌, ◌<◌, ◌≤◌, true, false, Option, Some, length, map, sum_by, ⊤}
+use Rattle.std.specs.Prelude.{ℕ, List, [], ◌∷◌, ◌++◌, ◌+◌, ◌≡◌, ◌<◌, ◌≤◌, ◌&&◌, Bool, true, false, Some, length, map, sum_by, ⊤}
 use Rattle.djq_model.specs.Data.{Bytes, Tuple, has_row, without_row}
 use Rattle.djq_model.specs.declared.relation.Relation.{Relation}
 use Rattle.djq_model.specs.Answer.{IsAnswer}
 use Rattle.djq_model.specs.Known.{texts_in}
-use Rattle.djq_lines.specs.declared.limits.TheConstants.{ROWS}
+use Rattle.djq_lines.specs.declared.limits.TheConstants.{ROWS, TEXTS}
 use Rattle.djq_machine.specs.Store.{LearnsAll, LearnsFirst, FindsNoPlace}
 use Rattle.djq_dict.specs.declared.refusal.InternRefusal.{InternRefusal}
 use Rattle.djq_dict.specs.declared.refusal.InternRefusal.TheVariants.{Full, NoMem}
@@ -16,7 +16,7 @@ use Rattle.djq_live.specs.Staying.{StaysOver}
 use Rattle.djq_engine.specs.declared.parts.Parts.{Parts}
 use Rattle.djq_engine.specs.Places.{place_at, is_reader, readers_at, watched_at, log_at}
 use Rattle.djq_engine.specs.Reaching.{Reach, Ages, Carries}
-use Rattle.djq_engine.specs.Tending.{cost_at}
+use Rattle.djq_engine.specs.Tending.{Works, cost_at}
 
 -- The cells stand for a row that isn't there, and there is room for it.
 pub record IsNew (c : Catalog) (at : ℕ) (cells : List ℕ) (row : Tuple) : Type 0 where
@@ -82,16 +82,18 @@ pub record PutsRow (at : ℕ) (row : Tuple) (old new : Parts) : Type 0 where
   pub learns : LearnsAll (old.catalog).texts (texts_in row) (new.catalog).texts
   pub has : HasRows at (rows_at (old.catalog).relations at ++ row ∷ []) old new
 
--- The relations are as before, and readers were reached.
+-- The relations are as before, no more texts are known than may be, and readers were reached.
 pub record LacksMemory (at : ℕ) (row : Tuple) (old new : Parts) : Type 0 where
   pub learns : LearnsFirst (old.catalog).texts (texts_in row) (new.catalog).texts
+  pub many : length (new.catalog).texts ≤ TEXTS
   pub relations : (new.catalog).relations ≡ (old.catalog).relations
   pub carries : CarriesReaders at old new
 
--- The relations and the queries are as before.
+-- The relations, the queries and the logs are as before.
 pub record LacksPlace (row : Tuple) (old new : Parts) : Type 0 where
   pub finds : FindsNoPlace (old.catalog).texts (texts_in row) (new.catalog).texts
   pub rests : RestsOver old new
+  pub logs : new.logs.items ≡ old.logs.items
 
 abbrev pub Lacks : ℕ → Tuple → Parts → Parts → InternRefusal → Type 0
 Lacks at row old new Full = LacksPlace row old new
@@ -124,13 +126,31 @@ DeltasWith at rows old f = (i : ℕ) (l : Live)
     → is_reader (readers_at old.readers.items at) i ≡ true → watched_at old.watchers.items i ≡ true
     → place_at old.queries.items i ≡ Some l → IsDeltaWith at rows (old.catalog).relations l (f i)
 
+-- The logs of queries are as before, but for those in places that are reached.
+abbrev pub KeepsLogs : (ℕ → Bool) → Parts → Parts → Type 0
+KeepsLogs reached old new = (i : ℕ) (l : Live) → place_at old.queries.items i ≡ Some l
+    → reached i ≡ false → log_at new.logs.items i ≡ log_at old.logs.items i
+
+-- whether the query in a place reads the relation, and whether it is watched too
+abbrev pub reads_at : Parts → ℕ → ℕ → Bool
+reads_at p at i = is_reader (readers_at p.readers.items at) i
+
+abbrev pub tells_at : Parts → ℕ → ℕ → Bool
+tells_at p at i = reads_at p at i && watched_at p.watchers.items i
+
 -- What listing them counts at most, whatever deltas they have.
 abbrev pub CountsRows : ℕ → List Tuple → Parts → ℕ → ℕ → Type 0
 CountsRows at rows old before now = (f : ℕ → List Change) → DeltasWith at rows old f
     → now ≤ before + sum_by (cost_at old.watchers.items old.queries.items at f)
     (readers_at old.readers.items at)
 
--- Where a text finds no place, nothing is listed.
+-- What taking a row in or out counts at most: so many times what the updates of the relation's readers
+-- do.
+abbrev pub WorksRows : ℕ → ℕ → Parts → ℕ → ℕ → Type 0
+WorksRows at times old before now =
+    Works (readers_at old.readers.items at) old.queries.items at times before now
+
+-- Where a text finds no place, nothing is listed and nothing updated.
 abbrev pub Idles : ℕ → ℕ → InternRefusal → Type 0
 Idles before now Full = now ≤ before
 Idles before now NoMem = ⊤

@@ -1,5 +1,5 @@
 -- Whether a row may be added to a relation, or deleted from it.
-use Rattle.std.specs.Prelude.{ℕ, List, [], ◌≡◌, ◌<◌, Bool, true, false, Option, None, Some, length}
+use Rattle.std.specs.Prelude.{ℕ, List, [], ◌≡◌, ◌<◌, true, false, Option, None, Some, length}
 use Rattle.djq_model.specs.declared.relation.Relation.{Relation}
 use Rattle.djq_model.specs.Data.{Bytes, Tuple, relation_of, rows_of, has_row}
 use Rattle.djq_model.specs.Typed.{fits}

@@ -1,6 +1,6 @@
 -- The registered queries in their places and their cursors, as the engine keeps them, and what
 -- contracts see of them.
-use Rattle.std.specs.Prelude.{ℕ, zero, suc, List, [], ◌∷◌, ◌++◌, ◌==◌, ◌≡◌, ◌&&◌, nat_lt, Bool, true, false, not, Option, None, Some, is_some, IsSomeAnd, option_map, if◌then◌else◌, map, filter, length, slice_index_or}
+use Rattle.std.specs.Prelude.{ℕ, zero, suc, List, [], ◌∷◌, ◌++◌, ◌==◌, nat_lt, Bool, true, false, not, Option, None, Some, is_some, option_map, if◌then◌else◌, map, filter, slice_index_or}
 use Rattle.std.specs.List.{list_any}
 use Rattle.djq_model.specs.declared.query.Query.{Query}
 use Rattle.djq_model.specs.Data.{Bytes, bytes_eq}

@@ -1,10 +1,11 @@
 -- What a change does to the queries that read its relation, and to no other.
-use Rattle.std.specs.Prelude.{ℕ, List, [], ◌≡◌, ◌≢◌, ◌<◌, Bool, true, false, Option, None, Some, IsSomeAnd, Contains, length, ⊤}
+use Rattle.std.specs.Prelude.{ℕ, List, ◌≡◌, Bool, true, false, Option, None, Some, IsSomeAnd, Contains, length, ⊤}
 use Rattle.djq_model.specs.Data.{Bytes, Tuple}
 use Rattle.djq_rows.specs.Catalog.{Catalog, rows_at}
 use Rattle.djq_live.specs.Cursors.{outdated_slots}
 use Rattle.djq_live.specs.Changes.{Came, Went}
 use Rattle.djq_live.specs.Live.{Live, IsKept, IsLive, SameQuery}
+use Rattle.djq_live.specs.Stepping.{GrowsByOne}
 use Rattle.djq_live.specs.Updating.{Follows}
 use Rattle.djq_live.specs.Staying.{StaysOver}
 use Rattle.djq_engine.specs.Places.{place_at, is_reader}
@@ -52,6 +53,7 @@ pub record CanGo (places : List ℕ) (at : ℕ) (cells : List ℕ) (gs : List (O
 pub record TakesIn (at : ℕ) (cells : List ℕ) (l m : Live) : Type 0 where
   pub follows : Follows (λ c d row. Came c d at cells row) l m
   pub same : SameQuery l m
+  pub grows : GrowsByOne l.reducts m.reducts
 
 -- It lets a row out that went.
 pub record LetsOut (at : ℕ) (cells : List ℕ) (l m : Live) : Type 0 where

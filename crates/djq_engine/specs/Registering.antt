@@ -1,5 +1,5 @@
 -- A query that is registered, or dropped.
-use Rattle.std.specs.Prelude.{ℕ, List, [], ◌∷◌, ◌++◌, ◌≡◌, ◌≢◌, Option, None, Some, length}
+use Rattle.std.specs.Prelude.{ℕ, [], ◌∷◌, ◌++◌, ◌≡◌, ◌≢◌, None, Some, length}
 use Rattle.djq_live.specs.Live.{Live}
 use Rattle.djq_engine.specs.declared.parts.Parts.{Parts}
 use Rattle.djq_engine.specs.Places.{place_at, watchers_at, log_at}

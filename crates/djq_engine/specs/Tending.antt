@@ -1,11 +1,12 @@
 -- What a change does to the logs of the queries that read its relation, and what listing counts.
-use Rattle.std.specs.Prelude.{ℕ, List, [], ◌≡◌, ◌≤◌, ◌+◌, ◌⊎◌, Bool, true, false, Option, None, Some, if◌then◌else◌, length, map, sum_by, All, ⊤}
+use Rattle.std.specs.Prelude.{ℕ, List, [], ◌≡◌, ◌<◌, ◌≤◌, ◌+◌, ◌*◌, ◌⊎◌, Bool, true, false, Option, None, Some, if◌then◌else◌, length, map, sum_by, All, ⊤}
 use Rattle.djq_model.specs.Data.{Bytes, Tuple}
 use Rattle.djq_machine.specs.Delta.{Change}
+use Rattle.djq_propagate.specs.Updates.{HasAtMost}
 use Rattle.djq_cursor.specs.Log.{Log}
 use Rattle.djq_rows.specs.Catalog.{Catalog}
 use Rattle.djq_live.specs.Live.{Live, IsKept, IsShowable}
-use Rattle.djq_live.specs.Updating.{change_of, IsDeltaOf, delta_bound}
+use Rattle.djq_live.specs.Updating.{change_of, IsDeltaOf, IsEmpty, atoms_over, delta_bound, update_bound}
 use Rattle.djq_engine.specs.Places.{place_at, is_reader, log_at, watched_at}
 use Rattle.djq_engine.specs.Reaching.{AllAt}
 
@@ -55,6 +56,16 @@ pub record Tends (places : List ℕ) (Does : ℕ → Live → Log → Log → Ty
   pub each : (i : ℕ) → TendedAt (Does i) (is_reader places i) (place_at gs i) (log_at old i)
       (log_at new i)
 
+-- each of these places has a log
+abbrev pub HaveLogs : List ℕ → List Log → Type 0
+HaveLogs places logs = (i : ℕ) → is_reader places i ≡ true → i < length logs
+
+-- The logs in these places are emptied, and no other changes.
+pub record Empties (places : List ℕ) (old new : List Log) : Type 0 where
+  pub long : length new ≡ length old
+  pub emptied : (i : ℕ) → is_reader places i ≡ true → IsEmpty (log_at new i)
+  pub others : (i : ℕ) → is_reader places i ≡ false → log_at new i ≡ log_at old i
+
 -- These are deltas of the queries in these places that are watched.
 abbrev pub DeltasOf :
     List ℕ → List ℕ → List (Option Live) → Catalog → Catalog → (ℕ → List Change) → Type 0
@@ -77,3 +88,16 @@ abbrev pub Costs : (Catalog → Catalog → Tuple → Type 0) → List ℕ → L
 Costs Changed places watchers gs at before now = (c d : Catalog) (row : Tuple)
     (f : ℕ → List Change) → Changed c d row → AllAt places gs (λ l. IsKept c l)
     → DeltasOf places watchers gs c d f → now ≤ before + sum_by (cost_at watchers gs at f) places
+
+-- what an update of the query in a place counts at most, where no leaf has more than n tuples before
+abbrev pub work_of : ℕ → ℕ → Option Live → ℕ
+work_of at n None = 0
+work_of at n (Some l) = atoms_over l at * update_bound l n
+
+abbrev pub work_at : List (Option Live) → ℕ → ℕ → ℕ → ℕ
+work_at gs at n i = work_of at n (place_at gs i)
+
+-- Updates of the queries in these places count so many times that at most.
+abbrev pub Works : List ℕ → List (Option Live) → ℕ → ℕ → ℕ → ℕ → Type 0
+Works places gs at times before now = (n : ℕ) → AllAt places gs (λ l. HasAtMost l.reducts n)
+    → now ≤ before + times * sum_by (work_at gs at n) places

@@ -2,19 +2,33 @@
 ghost use Rattle.std.specs.Prelude.{◌≡◌, ◌+◌, ◌≤◌};
 ghost use Rattle.djq_model.specs.Data.{query_of};
 ghost use Rattle.djq_machine.specs.Store.{TellsWhether, has_steps};
-ghost use Rattle.djq_engine.specs.Kept.{ExplainGives, IsThere, AnswerIs};
+ghost use Rattle.djq_engine.specs.Kept.{ExplainGives, IsRegistered, IsThere, AnswerIs};
+ghost use Rattle.djq_engine.specs.Lending.{LendsQuery};
 ghost use Rattle.djq_engine.specs.Whole.{kept_in, IsWhole};
 
-use crate::cursor::CursorId;
+use crate::cursor::{CursorId, QueryId};
 use crate::lent::LentAnswer;
 use crate::parts::Parts;
 use crate::places::find_query;
 use djq_lines::Refusal;
-use djq_live::answers_are_showable;
+use djq_live::{LiveQuery, answers_are_showable, answers_are_shown};
 use djq_model::{Name, Value};
 use djq_reduct::Answer;
 use djq_steps::{Ledgers, Listing, Tally};
 use djq_tree::Lines;
+
+/// A registered query.
+pub fn live_in(parts: &Parts, id: QueryId) -> &LiveQuery
+    requires whole { IsWhole parts.now }
+    requires registered { IsRegistered (kept_in parts.now) id }
+    ensures { LendsQuery (kept_in parts.now) id result.now }
+{
+    answers_are_shown();
+    match &parts.queries[id.at] {
+        Some(live) => live,
+        None => unreachable!(),
+    }
+}
 
 /// Whether a tuple is an answer of a query.
 pub fn has_in<L: Ledgers>(

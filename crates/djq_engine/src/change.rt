@@ -7,6 +7,7 @@ ghost use Rattle.djq_rows.specs.Catalog.{relation_at, rows_at};
 ghost use Rattle.djq_engine.specs.Changing.{IsNew, HasNew, IsOld, HasOld, KeepsRest};
 ghost use Rattle.djq_engine.specs.Changing.{Puts, Waits, Drops, PutsRow, Lacks};
 ghost use Rattle.djq_engine.specs.Changing.{TellsRows, CountsRows, Idles};
+ghost use Rattle.djq_engine.specs.Changing.{KeepsLogs, WorksRows, reads_at, tells_at};
 ghost use Rattle.djq_engine.specs.Tending.{AreShown};
 ghost use Rattle.djq_engine.specs.Whole.{IsWhole, IsTended};
 
@@ -33,6 +34,8 @@ fn put_cells<L: Ledgers>(
         → Puts id.at row parts.old parts.new) }
     ensures err { OnErr result (Waits id.at parts.old parts.new) }
     ensures rest { KeepsRest parts.old parts.new }
+    ensures quiet { OnOk result (KeepsLogs (tells_at parts.old id.at) parts.old parts.new) }
+    ensures apart { OnErr result (KeepsLogs (reads_at parts.old id.at) parts.old parts.new) }
     ensures shown { AreShown parts.new.catalog.texts parts.old.queries.items parts.new.logs.items }
     ensures tells { OnOk result ((row : Tuple) → IsNew parts.old.catalog id.at cells.now row
         → TellsRows id.at (rows_at parts.old.catalog.relations id.at ++ row ∷ []) parts.old
@@ -40,6 +43,10 @@ fn put_cells<L: Ledgers>(
     ensures counted { (row : Tuple) → IsNew parts.old.catalog id.at cells.now row
         → CountsRows id.at (rows_at parts.old.catalog.relations id.at ++ row ∷ []) parts.old
         steps.old.listing steps.new.listing }
+    ensures updates { OnOk result (WorksRows id.at 1 parts.old
+        steps.old.update steps.new.update) }
+    ensures refusal { OnErr result (WorksRows id.at 3 parts.old
+        steps.old.update steps.new.update) }
 {
     added_came();
     deleted_went();
@@ -90,6 +97,8 @@ pub fn put_row<L: Ledgers>(
     ensures ok { OnOk result (PutsRow id.at row.now parts.old parts.new) }
     ensures err { IfErr result (Lacks id.at row.now parts.old parts.new) }
     ensures rest { KeepsRest parts.old parts.new }
+    ensures quiet { OnOk result (KeepsLogs (tells_at parts.old id.at) parts.old parts.new) }
+    ensures apart { OnErr result (KeepsLogs (reads_at parts.old id.at) parts.old parts.new) }
     ensures shown { AreShown parts.new.catalog.texts parts.old.queries.items parts.new.logs.items }
     ensures tells { OnOk result (TellsRows id.at
         (rows_at parts.old.catalog.relations id.at ++ row.now ∷ []) parts.old parts.new) }
@@ -97,6 +106,11 @@ pub fn put_row<L: Ledgers>(
         (rows_at parts.old.catalog.relations id.at ++ row.now ∷ []) parts.old
         steps.old.listing steps.new.listing }
     ensures idle { IfErr result (Idles steps.old.listing steps.new.listing) }
+    ensures updates { OnOk result (WorksRows id.at 1 parts.old
+        steps.old.update steps.new.update) }
+    ensures refusal { OnErr result (WorksRows id.at 3 parts.old
+        steps.old.update steps.new.update) }
+    ensures unmoved { IfErr result (Idles steps.old.update steps.new.update) }
 {
     live_stays();
     texts_stay();
@@ -130,6 +144,7 @@ pub fn drop_cells<L: Ledgers>(
     ensures drops { (row : Tuple) → IsOld parts.old.catalog id.at cells.now row
         → Drops id.at row parts.old parts.new }
     ensures rest { KeepsRest parts.old parts.new }
+    ensures quiet { KeepsLogs (tells_at parts.old id.at) parts.old parts.new }
     ensures shown { AreShown parts.new.catalog.texts parts.old.queries.items parts.new.logs.items }
     ensures tells { (row : Tuple) → IsOld parts.old.catalog id.at cells.now row
         → TellsRows id.at (without_row (rows_at parts.old.catalog.relations id.at) row) parts.old
@@ -137,6 +152,7 @@ pub fn drop_cells<L: Ledgers>(
     ensures counted { (row : Tuple) → IsOld parts.old.catalog id.at cells.now row
         → CountsRows id.at (without_row (rows_at parts.old.catalog.relations id.at) row) parts.old
         steps.old.listing steps.new.listing }
+    ensures updates { WorksRows id.at 1 parts.old steps.old.update steps.new.update }
 {
     deleted_went();
     went_passes();

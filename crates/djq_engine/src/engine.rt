@@ -10,9 +10,11 @@ ghost use Rattle.djq_engine.specs.Kept.{MoreGives, ClosesCursor, IsHeld, IsFresh
 ghost use Rattle.djq_engine.specs.Kept.{AnswerIs, ExplainGives};
 ghost use Rattle.djq_engine.specs.Kept.{registered_of, registered_at, same_query, IsRegistered};
 ghost use Rattle.djq_engine.specs.Kept.{with_watchers, told_at};
+ghost use Rattle.djq_engine.specs.Lending.{LendsQuery};
 ghost use Rattle.djq_engine.specs.Watching.{TellsChange, Enrols};
+ghost use Rattle.djq_engine.specs.Watching.{CountsUpdates, add_times, delete_times};
 
-use crate::asking::{answer_in, explain_in, has_in};
+use crate::asking::{answer_in, explain_in, has_in, live_in};
 use crate::cursor::{CursorId, QueryId};
 use crate::lent::LentAnswer;
 use crate::parts::Parts;
@@ -24,7 +26,7 @@ use crate::watching::{
     query_name_in, unwatch_in, watch_in, watchers_in,
 };
 use djq_lines::{AddOutcome, DeleteOutcome, QueryOutcome, Refusal, Sign};
-use djq_live::Next;
+use djq_live::{LiveQuery, Next};
 use djq_model::{Name, NoMem, Query, Sequence, Types, Value};
 use djq_reduct::Answer;
 use djq_rows::Catalog;
@@ -113,6 +115,15 @@ impl Engine {
         query_name_in(&self.parts, id)
     }
 
+    /// A registered query. Its tables are those of its tree over the rows as they are: they say which
+    /// tuples are its answers. Its cursors stand where those of the engine do.
+    pub fn live(&self, id: QueryId) -> &LiveQuery
+        requires { IsRegistered self.now id }
+        ensures { LendsQuery self.now id result.now }
+    {
+        live_in(&self.parts, id)
+    }
+
     /// What holds of an engine between any two calls. It does nothing.
     pub fn laws(&self)
         ensures queries { map (λ r. r.query) self.now.registered ≡ self.now.store.queries }
@@ -168,8 +179,9 @@ impl Engine {
         affected_in(&self.parts, nth)
     }
 
-    /// How many answers of a query came or went with the last change of a relation that it reads.
-    /// `None` where that was lost for want of memory.
+    /// How many answers of a query came or went with the last change of a relation that it reads,
+    /// while it was watched; 0 once a row was refused there for want of memory. `None` where that
+    /// was lost for want of memory.
     pub fn delta_len(&self, id: QueryId) -> Option<usize>
         requires { IsRegistered self.now id }
         ensures { result ≡ option_map (λ changes. length changes) (told_at self.now id) }
@@ -205,12 +217,16 @@ impl Engine {
     /// Adds a row to a relation, whose texts become known. Where the row is there already, nothing
     /// changes; where it wasn't, cursors over the relation become stale.
     ///
+    /// For each atom over the relation of each query the update count rises by at most
+    /// 16(m + v)(n + 1), where the query has m atoms and v variables, holes counted in, and no
+    /// relation that it reads more than n rows before; out of memory by three times that.
+    ///
     /// # Errors
     ///
     /// `NoRelation` where none has the name; `Arity` and `WrongType` where the row doesn't suit its
     /// columns; `Limit` where the relation, the number of changes or that of known texts is at its
-    /// limit; `NoMemory` out of memory, and cursors over the relation are stale. Texts that became
-    /// known stay so, and no row has changed.
+    /// limit; `NoMemory` out of memory, and cursors over the relation are stale, and nothing is told
+    /// of the queries that read it. Texts that became known stay so, and no row has changed.
     pub fn add<L: Ledgers>(
         &mut self,
         name: &Name,
@@ -224,12 +240,15 @@ impl Engine {
             (rows_of self.old.store.relations name.now ++ row.now ∷ [])
             (add_outdates result) (add_accepted result) self.new
             steps.old.listing steps.new.listing }
+        ensures updates { CountsUpdates (add_times result) self.old name.now
+            steps.old.update steps.new.update }
     {
         add_in(&mut self.parts, name, row, steps)
     }
 
     /// Deletes a row from a relation. Where it isn't there, nothing changes; where it was, cursors
-    /// over the relation become stale. It takes no memory.
+    /// over the relation become stale. It takes no memory, and its update count is bounded as that of
+    /// [`add`](Engine::add).
     ///
     /// # Errors
     ///
@@ -248,6 +267,8 @@ impl Engine {
             (without_row (rows_of self.old.store.relations name.now) row.now)
             (delete_outdates result) (delete_outdates result) self.new
             steps.old.listing steps.new.listing }
+        ensures updates { CountsUpdates (delete_times result) self.old name.now
+            steps.old.update steps.new.update }
     {
         del_in(&mut self.parts, name, row, steps)
     }

@@ -2,7 +2,7 @@
 #![tactic(auto)]
 
 pub use cursor::{CursorId, QueryId};
-pub use djq_live::Next;
+pub use djq_live::{LiveQuery, Next};
 pub use djq_reduct::Answer;
 pub use engine::Engine;
 pub use lent::LentAnswer;

@@ -2,9 +2,10 @@
 //! looked at.
 ghost use Rattle.std.specs.Prelude.{◌≡◌, ◌<◌, [], ◌∷◌, ⊤, IsSomeAnd, OnOk, OnErr, length};
 ghost use Rattle.djq_live.specs.Changes.{Came, Went};
-ghost use Rattle.djq_live.specs.Updating.{CanAdd, CanDelete, CountsDelta};
+ghost use Rattle.djq_live.specs.Updating.{CanAdd, CanDelete, CountsDelta, CountsUpdate};
 ghost use Rattle.djq_engine.specs.Places.{place_at};
 ghost use Rattle.djq_engine.specs.Tending.{Readies, TellsWhere, Tends, TellsAt, Shows, Costs};
+ghost use Rattle.djq_engine.specs.Tending.{HaveLogs, Empties, Works};
 ghost use Rattle.djq_engine.specs.Sound.{AreOnce};
 ghost use Rattle.djq_engine.specs.Reaching.{Reach, AllAt, CanCome, CanGo};
 ghost use Rattle.djq_engine.specs.Reaching.{TakesIn, LetsOut, Remains, GivesBack, Ages};
@@ -42,15 +43,13 @@ fn take_one<L: Ledgers>(
     ensures none { OnErr result (log.new.lines ≡ []) }
     ensures counted { CountsDelta wanted (λ c d. Came c d relation.at cells.now)
         query.old relation.at steps.old.listing steps.new.listing }
+    ensures updates { OnOk result (CountsUpdate 1 query.old relation.at
+        steps.old.update steps.new.update) }
+    ensures refusal { OnErr result (CountsUpdate 3 query.old relation.at
+        steps.old.update steps.new.update) }
 {
     ready(log, wanted);
-    match query.add(relation, cells, wanted, log, steps) {
-        Ok(()) => Ok(()),
-        Err(error) => {
-            log.clear();
-            Err(error)
-        }
-    }
+    query.add(relation, cells, wanted, log, steps)
 }
 
 // A query lets out a row that went. Where it is watched, its log tells anew which answers went.
@@ -68,6 +67,7 @@ fn let_one<L: Ledgers>(
         query.old log.old log.new }
     ensures counted { CountsDelta wanted (λ c d. Went c d relation.at cells.now)
         query.old relation.at steps.old.listing steps.new.listing }
+    ensures updates { CountsUpdate 1 query.old relation.at steps.old.update steps.new.update }
 {
     ready(log, wanted);
     query.delete(relation, cells, wanted, log, steps);
@@ -96,6 +96,10 @@ fn take_at<L: Ledgers>(
         queries.old.items logs.old.items logs.new.items }
     ensures counted { Costs (λ c d. Came c d relation.at cells.now) (at ∷ []) watchers.now
         queries.old.items relation.at steps.old.listing steps.new.listing }
+    ensures updates { OnOk result (Works (at ∷ []) queries.old.items relation.at 1
+        steps.old.update steps.new.update) }
+    ensures refusal { OnErr result (Works (at ∷ []) queries.old.items relation.at 3
+        steps.old.update steps.new.update) }
 {
     let wanted = is_watched(watchers, at);
     match &mut queries[at] {
@@ -124,6 +128,8 @@ fn let_at<L: Ledgers>(
         queries.old.items logs.old.items logs.new.items }
     ensures counted { Costs (λ c d. Went c d relation.at cells.now) (at ∷ []) watchers.now
         queries.old.items relation.at steps.old.listing steps.new.listing }
+    ensures updates { Works (at ∷ []) queries.old.items relation.at 1
+        steps.old.update steps.new.update }
 {
     let wanted = is_watched(watchers, at);
     match &mut queries[at] {
@@ -144,6 +150,8 @@ fn give_at<L: Ledgers>(
     ensures reach { Reach (at ∷ []) (LetsOut relation.at cells.now)
         queries.old.items queries.new.items }
     ensures counted { steps.new.listing ≡ steps.old.listing }
+    ensures updates { Works (at ∷ []) queries.old.items relation.at 1
+        steps.old.update steps.new.update }
 {
     match &mut queries[at] {
         Some(query) => query.give_back(relation, cells, steps),
@@ -168,7 +176,7 @@ fn age_at(queries: &mut Vec<Option<LiveQuery>>, at: usize, relation: Name, seq: 
 ///
 /// # Errors
 ///
-/// `NoMem` out of memory; answers are as before.
+/// `NoMem` out of memory; answers are as before. What was counted is at most three times as much.
 pub fn take_in<L: Ledgers>(
     queries: &mut Vec<Option<LiveQuery>>,
     watchers: &[u32],
@@ -193,6 +201,10 @@ pub fn take_in<L: Ledgers>(
         queries.old.items logs.old.items logs.new.items }
     ensures counted { Costs (λ c d. Came c d relation.at cells.now) places.now watchers.now
         queries.old.items relation.at steps.old.listing steps.new.listing }
+    ensures updates { OnOk result (Works places.now queries.old.items relation.at 1
+        steps.old.update steps.new.update) }
+    ensures refusal { OnErr result (Works places.now queries.old.items relation.at 3
+        steps.old.update steps.new.update) }
 {
     for at in 0..places.len() {
         match take_at(queries, watchers, logs, places[at], relation, cells, steps) {
@@ -219,6 +231,8 @@ fn give_back<L: Ledgers>(
     ensures reach { Reach places.now (LetsOut relation.at cells.now)
         queries.old.items queries.new.items }
     ensures counted { steps.new.listing ≡ steps.old.listing }
+    ensures updates { Works places.now queries.old.items relation.at 1
+        steps.old.update steps.new.update }
 {
     for at in 0..places.len() {
         give_at(queries, places[at], relation, cells, steps);
@@ -246,9 +260,21 @@ pub fn let_out<L: Ledgers>(
         queries.old.items logs.old.items logs.new.items }
     ensures counted { Costs (λ c d. Went c d relation.at cells.now) places.now watchers.now
         queries.old.items relation.at steps.old.listing steps.new.listing }
+    ensures updates { Works places.now queries.old.items relation.at 1
+        steps.old.update steps.new.update }
 {
     for at in 0..places.len() {
         let_at(queries, watchers, logs, places[at], relation, cells, steps);
+    }
+}
+
+/// The logs in these places are emptied.
+pub fn empty_logs(logs: &mut Vec<DeltaLog>, places: &[usize])
+    requires { HaveLogs places.now logs.old.items }
+    ensures { Empties places.now logs.old.items logs.new.items }
+{
+    for nth in 0..places.len() {
+        logs[places[nth]].clear();
     }
 }
 

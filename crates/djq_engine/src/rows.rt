@@ -8,20 +8,20 @@ ghost use Rattle.djq_engine.specs.Places.{readers_at};
 ghost use Rattle.djq_engine.specs.Sound.{AreOnce};
 ghost use Rattle.djq_engine.specs.Reaching.{AllAt};
 ghost use Rattle.djq_engine.specs.Changing.{AgesReaders};
-ghost use Rattle.djq_engine.specs.Watching.{TellsChange};
+ghost use Rattle.djq_engine.specs.Watching.{TellsChange, CountsUpdates, add_times, delete_times};
 ghost use Rattle.djq_engine.specs.Whole.{kept_in, IsWhole, IsTended};
 
 use crate::change::{drop_cells, put_row};
 use crate::judge::{judge_add, judge_delete};
 use crate::parts::Parts;
-use crate::reach::age;
+use crate::reach::{age, empty_logs};
 use djq_deltas::deltas_exist;
 use djq_dict::InternRefusal;
 use djq_lines::limits::{COLUMNS, RELATIONS};
 use djq_lines::{AddOutcome, DeleteOutcome, Refusal};
-use djq_live::{heads_are_bound, live_stays};
+use djq_live::{heads_are_bound, leaves_are_small, live_stays, showable_stays};
 use djq_model::{Name, Sequence, Types, Value};
-use djq_rows::{RelationId, names_tell};
+use djq_rows::{RelationId, names_tell, texts_stay};
 use djq_steps::{Ledgers, Steps};
 
 // The open cursors over a relation become stale, by a change of the present number.
@@ -56,10 +56,15 @@ pub fn add_in<L: Ledgers>(
         (rows_of (kept_in parts.old).store.relations name.now ++ row.now ∷ [])
         (add_outdates result) (add_accepted result) (kept_in parts.new)
         steps.old.listing steps.new.listing }
+    ensures updates { CountsUpdates (add_times result) (kept_in parts.old) name.now
+        steps.old.update steps.new.update }
 {
     names_tell();
     deltas_exist();
     heads_are_bound();
+    leaves_are_small();
+    texts_stay();
+    showable_stays();
     parts.catalog.laws();
     let judged = judge_add(&parts.catalog, name, row, parts.seq, &mut steps.rows)?;
     let Some(id) = judged else {
@@ -69,6 +74,7 @@ pub fn add_in<L: Ledgers>(
         Ok(()) => {}
         Err(InternRefusal::Full) => return Err(Refusal::Limit),
         Err(InternRefusal::NoMem) => {
+            empty_logs(&mut parts.logs, parts.readers[id.at].as_slice());
             age_readers(parts, id, name);
             return Err(Refusal::NoMemory);
         }
@@ -100,10 +106,14 @@ pub fn del_in<L: Ledgers>(
         (without_row (rows_of (kept_in parts.old).store.relations name.now) row.now)
         (delete_outdates result) (delete_outdates result) (kept_in parts.new)
         steps.old.listing steps.new.listing }
+    ensures updates { CountsUpdates (delete_times result) (kept_in parts.old) name.now
+        steps.old.update steps.new.update }
 {
     names_tell();
     deltas_exist();
     heads_are_bound();
+    leaves_are_small();
+    showable_stays();
     parts.catalog.laws();
     let judged = judge_delete(&parts.catalog, name, row, parts.seq, &mut steps.rows)?;
     let Some(found) = judged else {

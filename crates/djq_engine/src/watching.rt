@@ -112,8 +112,9 @@ pub fn affected_in(parts: &Parts, nth: usize) -> QueryId
     }
 }
 
-/// How many answers of a query came or went with the last change of a relation that it reads.
-/// `None` where that was lost for want of memory.
+/// How many answers of a query came or went with the last change of a relation that it reads, while
+/// it was watched; 0 once a row was refused there for want of memory. `None` where that was lost for
+/// want of memory.
 pub fn delta_len_in(parts: &Parts, id: QueryId) -> Option<usize>
     requires whole { IsWhole parts.now }
     requires tended { IsTended parts.now }

@@ -1,11 +1,11 @@
 -- A table has at most as many tuples as there are numbers for slots.
-use Rattle.std.proofs.Common.{◌≡◌, ℕ, zero, suc, ◌+◌, ◌<◌, ◌≤◌, List, [], ◌∷◌, ◌++◌, length, ap, subst, sym, arith, ◌⊎◌, inl, inr, length-append}
+use Rattle.std.proofs.Common.{◌≡◌, ℕ, zero, suc, ◌≤◌, List, [], ◌∷◌, ◌++◌, length, ap, subst, arith, ◌⊎◌, inl, inr, length-append}
 use Rattle.std.proofs.lemmas.Bool.{cases_eq}
 use Rattle.std.proofs.lemmas.List.{length-map}
 use Rattle.djq_arena.specs.Chains.{IsOut, AreDifferent, AreBelow}
-use Rattle.djq_arena.specs.Rows.{Row, slots, AreRows}
+use Rattle.djq_arena.specs.Rows.{Row, slots}
 use Rattle.djq_arena.proofs.Lists.{different_out, different_here}
-use Rattle.djq_index.specs.Raw.{IsRaw, entries_of, entries_in}
+use Rattle.djq_index.specs.Raw.{IsRaw, entries_of}
 use Rattle.djq_index.specs.declared.raw.Raw.{Raw}
 use Rattle.djq_index.proofs.Tabling.{length_entries}
 
@@ -52,11 +52,11 @@ length_below (suc n) xs d b =
           omega (arith, ap (λ (l : List ℕ). length l) s.is, length-append s.front (n ∷ s.back), length-append s.front s.back))
     ]
 
-slots_length : (rows : List Row) → length (slots rows) ≡ length rows
+pub slots_length : (rows : List Row) → length (slots rows) ≡ length rows
 unfolding slots
 slots_length rows = length-map rows (λ r. r.slot)
 
-entries_length : (r : Raw) → length (entries_of r) ≡ length r.rows.rows
+pub entries_length : (r : Raw) → length (entries_of r) ≡ length r.rows.rows
 entries_length r = length_entries r.notes.items r.rows.rows
 
 pub few_entries : (r : Raw) → IsRaw r → length (entries_of r) ≤ 4294967295

@@ -16,3 +16,4 @@ pub mod Tabling
 pub mod Walking
 pub mod Headless
 pub mod Bounding
+pub mod Heading

@@ -90,6 +90,7 @@ pub fn project(cells: &mut Vec<u64>, key: &[usize], tuple: &[u64]) -> Result<(),
 pub fn found(keys: &mut Arena, ends: &mut Vec<Ends>, cells: &[u64]) -> Result<u32, AllocError>
     requires rows { AreRows keys.old }
     requires wide { length cells.now ≡ keys.old.width }
+    requires few { length keys.old.rows < 4294967295 }
     requires ends { keys.old.room ≤ length ends.old.items }
     ensures rows { AreRows keys.new }
     ensures width { keys.new.width ≡ keys.old.width }

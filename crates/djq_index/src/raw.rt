@@ -155,6 +155,7 @@ fn cover_links(links: &mut Vec<Pair>, slot: u32)
 fn lay(rows: &mut Arena, notes: &mut Vec<Note>, tuple: &[u64]) -> Result<u32, AllocError>
     requires rows { AreRows rows.old }
     requires wide { length tuple.now ≡ rows.old.width }
+    requires few { length rows.old.rows < 4294967295 }
     requires notes { rows.old.room ≤ length notes.old.items }
     ensures rows { AreRows rows.new }
     ensures width { rows.new.width ≡ rows.old.width }
@@ -182,6 +183,7 @@ fn lay_linked(
 ) -> Result<u32, AllocError>
     requires rows { AreRows rows.old }
     requires wide { length tuple.now ≡ rows.old.width }
+    requires few { length rows.old.rows < 4294967295 }
     requires notes { rows.old.room ≤ length notes.old.items }
     requires links { rows.old.room ≤ length links.old.items }
     ensures rows { AreRows rows.new }
@@ -210,6 +212,7 @@ fn seat(
 ) -> Result<u32, AllocError>
     requires rows { AreRows keys.old }
     requires width { keys.old.width ≡ length key.now }
+    requires few { length keys.old.rows < 4294967295 }
     requires ends { keys.old.room ≤ length ends.old.items }
     requires columns { AreColumns (length tuple.now) key.now }
     ensures rows { AreRows keys.new }
@@ -321,6 +324,7 @@ fn insert_keyed(raw: &mut Raw, tuple: &[u64]) -> Result<Place, AllocError>
     requires heads { AreHeads raw.old }
     requires absent { cnt (entries_of raw.old) tuple.now ≡ 0 }
     requires wide { length tuple.now ≡ raw.old.rows.width }
+    requires few { length (entries_of raw.old) < 4294967295 }
     ensures raw { IsBare raw.new }
     ensures heads { AreHeads raw.new }
     ensures inserted { IfOk result (λ p. Inserted raw.old.key.items (entries_of raw.old) (entries_of raw.new) tuple.now) }
@@ -354,6 +358,7 @@ fn insert_bare(raw: &mut Raw, tuple: &[u64]) -> Result<Place, AllocError>
     requires raw { IsBare raw.old }
     requires absent { cnt (entries_of raw.old) tuple.now ≡ 0 }
     requires wide { length tuple.now ≡ raw.old.rows.width }
+    requires few { length (entries_of raw.old) < 4294967295 }
     ensures raw { IsBare raw.new }
     ensures inserted { IfOk result (λ p. Inserted raw.old.key.items (entries_of raw.old) (entries_of raw.new) tuple.now) }
     ensures at { IfOk result (λ p. IsAt (entries_of raw.new) p tuple.now) }
@@ -372,6 +377,7 @@ pub fn insert_in(raw: &mut Raw, tuple: &[u64]) -> Result<Place, AllocError>
     requires raw { IsRaw raw.old }
     requires absent { cnt (entries_of raw.old) tuple.now ≡ 0 }
     requires wide { length tuple.now ≡ raw.old.rows.width }
+    requires few { length (entries_of raw.old) < 4294967295 }
     ensures raw { IsRaw raw.new }
     ensures inserted { IfOk result (λ p. Inserted raw.old.key.items (entries_of raw.old) (entries_of raw.new) tuple.now) }
     ensures at { IfOk result (λ p. IsAt (entries_of raw.new) p tuple.now) }

@@ -191,6 +191,7 @@ impl Table {
     ) -> Result<Place, AllocError>
         requires absent { cnt self.old.entries tuple.now ≡ 0 }
         requires wide { length tuple.now ≡ self.old.width }
+        requires few { length self.old.entries < 4294967295 }
         ensures inserted { IfOk result (λ p. Inserted self.old.key self.old.entries self.new.entries tuple.now) }
         ensures at { IfOk result (λ p. IsAt self.new.entries p tuple.now) }
         ensures refused { OnErr result (self.new.entries ≡ self.old.entries) }

@@ -68,7 +68,7 @@ fn marked<L: Ledger>(table: &Table, tally: &mut Tally<L>) -> u64 {
 
 /// Puts in a tuple of the table's width that isn't there, and says whether it came.
 fn put<L: Ledger>(table: &mut Table, tuple: &[u64], tally: &mut Tally<L>) -> bool {
-    if tuple.len() != table.width() {
+    if tuple.len() != table.width() || table.len() >= u32::MAX as usize {
         return false;
     }
     match table.find(tuple, tally) {

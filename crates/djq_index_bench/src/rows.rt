@@ -82,7 +82,7 @@ impl<L: Ledgers> Rows<L> {
 
 impl<L: Ledgers> Held for Rows<L> {
     fn put(&mut self, tuple: &[u64]) -> Result<(), AllocError> {
-        if tuple.len() != self.table.width() {
+        if tuple.len() != self.table.width() || self.table.len() >= u32::MAX as usize {
             return Ok(());
         }
         match self.table.find(tuple, &mut self.steps.update) {

@@ -5,7 +5,6 @@ use Rattle.std.specs.Option.{option_map}
 use Rattle.std.specs.List.{list_any}
 use Rattle.std.proofs.lemmas.List.{take-append-drop, take_all}
 use Rattle.std.proofs.lemmas.Bool.Decides.{eqb_tells}
-use Rattle.djq_io.specs.declared.hub.Coming.{Coming}
 use Rattle.djq_io.specs.declared.hub.Incoming.TheVariants.{Brings}
 use Rattle.djq_io.specs.declared.hub.Sent.{Sent}
 use Rattle.djq_io.specs.declared.hub.Sent.TheVariants.{Took, Again, Gone}
@@ -27,15 +26,17 @@ where_told P script script' (Some o) None told gains holds = tt
 where_told P script script' (Some o) (Some n) told gains holds = holds
 
 -- A send goes by the script.
-pub sends_by : (hub : Recorded) (id : ℕ) (piece : List ℕ) (sent : Sent) → sent ≡ send_of hub id piece → Sends id sent hub.script hub.script
+pub sends_by : (hub : Recorded) (id : ℕ) (piece : List ℕ) (sent : Sent) → sent ≡ send_of hub id piece
+    → Sends id (length piece) sent hub.script hub.script
 sends_by hub id piece sent is =
-    subst (λ s. Sends id s hub.script hub.script) (sym is) (at_head (is_send_due id hub.failing_sends) (list_any (λ other. nat_eq other id) hub.script.blocked) refl)
+    subst (λ s. Sends id (length piece) s hub.script hub.script) (sym is)
+    (at_head (is_send_due id hub.failing_sends) (list_any (λ other. nat_eq other id) hub.script.blocked) refl)
   where
     at_head : (due blocked : Bool) → list_any (λ other. nat_eq other id) hub.script.blocked ≡ blocked
-        → Sends id (cond due Gone (cond blocked Again (Took (length piece)))) hub.script hub.script
+        → Sends id (length piece) (cond due Gone (cond blocked Again (Took (length piece)))) hub.script hub.script
     at_head true blocked is = refl
     at_head false true is = ((is_member hub.script.blocked id).0 is, refl)
-    at_head false false is = (λ p. cc ((is_member hub.script.blocked id).1 p), refl)
+    at_head false false is = (λ p. cc ((is_member hub.script.blocked id).1 p), refl, refl)
 
 -- A send counts a fault of its session exactly where it finds it gone.
 pub counts_by : (hub : Recorded) (id : ℕ) (piece : List ℕ) (sent : Sent) (ids : List ℕ) (fails : Bool) (new : List FailingSend) → sent ≡ send_of hub id piece

@@ -1,5 +1,6 @@
 pub mod Gives
 pub mod Gains
+pub mod Writing
 pub mod Parts
 pub mod Counting
 pub mod Mapping
@@ -8,3 +9,4 @@ pub mod Marking
 pub mod CountingSends
 pub mod Following
 pub mod FaultsOf
+mod Steadying

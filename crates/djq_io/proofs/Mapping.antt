@@ -1,5 +1,5 @@
 -- A loop that changes the elements of a list one after another.
-use Rattle.std.proofs.Common.{◌≡◌, ℕ, zero, suc, ◌+◌, ◌<◌, List, [], ◌∷◌, ◌++◌, length, take, drop, get_or, map, refl, arith, ap, ◌∙◌, add-one}
+use Rattle.std.proofs.Common.{◌≡◌, ℕ, zero, suc, ◌+◌, ◌<◌, List, [], ◌∷◌, ◌++◌, length, take, drop, get_or, map, refl, arith, ap, add-one}
 use Rattle.std.proofs.Math.ListN.{set}
 
 mapped_here : {X : Type 0} (f : X → X) (xs : List X) (i : ℕ) (d : X) → i < length xs

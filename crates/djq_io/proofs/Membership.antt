@@ -1,5 +1,5 @@
 -- Whether an id is in a list, as a test and as a fact.
-use Rattle.std.proofs.Common.{◌≡◌, ℕ, ◌⊎◌, inl, inr, Bool, true, false, ◌||◌, ◌&&◌, nat_eq, not, cond, IsTrue, ◌↔◌, List, [], ◌∷◌, map, filter, refl, sym, ap, ◌∙◌, Decides, rules}
+use Rattle.std.proofs.Common.{◌≡◌, ℕ, Bool, true, false, ◌||◌, ◌&&◌, nat_eq, not, cond, IsTrue, ◌↔◌, List, [], ◌∷◌, map, filter, refl, sym, ap, ◌∙◌, Decides, rules}
 use Rattle.std.specs.Prelude.{Contains}
 use Rattle.std.specs.List.{list_any}
 use Rattle.std.proofs.lemmas.List.Elements.{Decides-contains}

@@ -1,7 +1,4 @@
-use Rattle.std.specs.Prelude.{◌≡◌, ◌≢◌, ℕ, ◌<◌, ◌≤◌, ◌==◌, ◌⊎◌, ◌↔◌, not, List, [], ◌∷◌, ◌++◌, length, take, filter, Contains, Option, Some, None, IfSome, IsSomeAnd}
-use Rattle.djq_io.specs.declared.hub.Coming.{Coming}
-use Rattle.djq_io.specs.declared.hub.Incoming.{Incoming}
-use Rattle.djq_io.specs.declared.hub.Incoming.TheVariants.{Opens, Brings, Ends, Nothing}
+use Rattle.std.specs.Prelude.{◌≡◌, ℕ, ◌<◌, ◌≤◌, ◌==◌, ◌⊎◌, ◌↔◌, not, List, [], ◌∷◌, ◌++◌, length, take, filter, Contains, Option, Some, None, IfSome}
 use Rattle.djq_io.specs.declared.hub.Turn.{Turn}
 use Rattle.djq_io.specs.declared.hub.Turn.TheVariants.{Opened, Bytes, Ended, Idle, Over, Failed}
 use Rattle.djq_io.specs.declared.hub.Sent.{Sent}

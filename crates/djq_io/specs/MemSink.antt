@@ -1,12 +1,13 @@
-use Rattle.std.specs.Prelude.{ℕ, List, length, Option, if◌then◌else◌}
+use Rattle.std.specs.Prelude.{◌≡◌, ℕ, List, ◌++◌, length, Option, if◌then◌else◌}
 use Rattle.djq_io.specs.Failing.{is_due}
 use Rattle.djq_io.specs.declared.sink.Wrote.{Wrote}
 use Rattle.djq_io.specs.declared.sink.Wrote.TheVariants.{Took, Failed}
+use Rattle.djq_io.specs.declared.sink.Write.{Write}
 
--- A sink in memory: the bytes taken, unless it lost its record of them, and the writes that are to
--- fail.
+-- A sink in memory: its writes with their answers, unless it lost its record of them, and the
+-- writes that are to fail.
 pub record Kept : Type 0 where
-  pub taken : Option (List ℕ)
+  pub told : Option (List Write)
   pub to_fail : List ℕ
 
 -- what a write of this piece answers

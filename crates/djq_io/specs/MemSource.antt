@@ -22,6 +22,12 @@ abbrev pub part_of : List ℕ → ℕ → ℕ → Read
 part_of [] most room = End
 part_of (byte ∷ bytes) most room = Got (min (min most room) (length (byte ∷ bytes)))
 
+-- how many bytes a read gives
+abbrev pub count_of : Read → ℕ
+count_of (Got n) = n
+count_of End = 0
+count_of Failed = 0
+
 -- what a read answers, with this much room
 abbrev pub read_of : Held → ℕ → Read
 read_of held room = if is_due held.to_fail then Failed else part_of held.left held.most room

@@ -1,4 +1,4 @@
-use Rattle.std.specs.Prelude.{◌≡◌, ◌≢◌, ℕ, ◌≤◌, ◌⊎◌, List, [], ◌∷◌, ◌++◌, length, take, Contains, Option, IfSome, IsSomeAnd}
+use Rattle.std.specs.Prelude.{◌≡◌, ◌≢◌, ℕ, ◌⊎◌, List, [], ◌∷◌, ◌++◌, length, take, Contains, Option, IfSome, IsSomeAnd}
 use Rattle.djq_io.specs.declared.hub.Coming.{Coming}
 use Rattle.djq_io.specs.declared.hub.Incoming.{Incoming}
 use Rattle.djq_io.specs.declared.hub.Incoming.TheVariants.{Opens, Brings, Ends, Nothing}
@@ -48,9 +48,9 @@ Follows ids Idle buf old new = (next : Incoming) × IsIdle ids next × Passes ol
 Follows ids Over buf old new = (old.turns ≡ []) × (new ≡ old)
 Follows ids Failed buf old new = new ≡ old
 
--- What a send answers by a script, which stays: `Again` exactly where the session is blocked,
--- unless it is gone.
-abbrev pub Sends : ℕ → Sent → Script → Script → Type 0
-Sends id (Took n) old new = (Contains old.blocked id → ⊥) × (new ≡ old)
-Sends id Again old new = Contains old.blocked id × (new ≡ old)
-Sends id Gone old new = new ≡ old
+-- What a send of so many bytes answers by a script, which stays: `Again` exactly where the session
+-- is blocked, and else that all of them were taken, unless the session is gone.
+abbrev pub Sends : ℕ → ℕ → Sent → Script → Script → Type 0
+Sends id offered (Took n) old new = (Contains old.blocked id → ⊥) × (n ≡ offered) × (new ≡ old)
+Sends id offered Again old new = Contains old.blocked id × (new ≡ old)
+Sends id offered Gone old new = new ≡ old

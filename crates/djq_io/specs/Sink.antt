@@ -1,19 +1,33 @@
-use Rattle.std.specs.Prelude.{◌≡◌, ℕ, ◌≤◌, List, ◌++◌, length, take, Option, IfSome, IsSomeAnd}
+use Rattle.std.specs.Prelude.{◌≡◌, ◌≢◌, ℕ, ◌≤◌, List, [], ◌++◌, length, take, Option, IfSome, IsSomeAnd, All}
+use Rattle.std.specs.List.{flat_map}
 use Rattle.djq_io.specs.Faults.{Counted}
 use Rattle.djq_io.specs.declared.sink.Wrote.{Wrote}
 use Rattle.djq_io.specs.declared.sink.Wrote.TheVariants.{Took, Failed}
+use Rattle.djq_io.specs.declared.sink.Write.{Write}
 
--- From one state of a sink to a later one it took these bytes, where it tells what it took as the
--- later state comes: what it took then is what it had taken, and then they. A sink may lose its
--- record, and claims nothing from then on.
+-- From one state of an object to a later one its record gained these, where it tells it as the
+-- later state comes: what is recorded then is what was recorded before, and then they. An object
+-- may lose its record, and claims nothing from then on.
 abbrev pub Gains : {A : Type 0} → Option (List A) → Option (List A) → List A → Type 0
 Gains old new more = IfSome new (λ n. IsSomeAnd old (λ o. n ≡ o ++ more))
 
--- What a write answers, from what was taken before to what is taken after it: a first part of the
--- piece, which isn't empty, or a failure, which takes nothing.
-abbrev pub Writes : Wrote → Option (List ℕ) → Option (List ℕ) → List ℕ → Type 0
-Writes (Took n) old new piece = (1 ≤ n) × (n ≤ length piece) × Gains old new (take n piece)
-Writes Failed old new piece = new ≡ old
+-- A write takes a first part of the piece, which isn't empty; or it fails, and takes nothing.
+abbrev pub TakesPart : Wrote → List ℕ → Type 0
+TakesPart (Took n) piece = (1 ≤ n) × (n ≤ length piece)
+TakesPart Failed piece = Unit {0}
+
+-- the bytes of a piece that a write took
+abbrev pub part_taken : Wrote → List ℕ → List ℕ
+part_taken (Took n) piece = take n piece
+part_taken Failed piece = []
+
+-- the bytes that writes took, in order
+abbrev pub bytes_of : List Write → List ℕ
+bytes_of writes = flat_map (λ w. part_taken w.answer w.piece) writes
+
+-- none of these writes failed
+abbrev pub NoneFailed : List Write → Type 0
+NoneFailed writes = All (λ w. w.answer ≢ Failed) writes
 
 -- The count of a sink's faults rises at a failed write, and stays at every other.
 abbrev pub CountsWrite : Wrote → ℕ → ℕ → Type 0

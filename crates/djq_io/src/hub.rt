@@ -63,8 +63,8 @@ pub enum Told {
     Listening(Piece, Listened),
     /// A turn, with the bytes that it brought.
     Turning(Turn, Piece),
-    /// A send to a session, with the bytes that it took.
-    Sending(u64, Sent, Piece),
+    /// A send to a session: how many bytes were offered, the answer, and the bytes that it took.
+    Sending(u64, usize, Sent, Piece),
     /// A session was closed.
     Closing(u64),
 }
@@ -115,8 +115,9 @@ pub trait Hub {
         requires is_open { Contains (ids self.old).open_ids id }
         requires some { 0 < length piece.now }
         ensures takes { Takes result piece.now }
-        ensures past { Gains (past self.old) (past self.new) (Told.Sending id result (taken_by result piece.now) ∷ []) }
-        ensures script { WhereTold (script self.old) (script self.new) (Sends id result) }
+        ensures past { Gains (past self.old) (past self.new)
+            (Told.Sending id (length piece.now) result (taken_by result piece.now) ∷ []) }
+        ensures script { WhereTold (script self.old) (script self.new) (Sends id (length piece.now) result) }
         ensures ids { ids self.new ≡ ids self.old }
         ensures faults { faults self.new ≡ faults self.old }
         ensures sessions { CountsSend result id (ids self.old).open_ids (session_faults self.old) (session_faults self.new) };

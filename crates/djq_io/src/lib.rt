@@ -1,9 +1,10 @@
 //! What a program meets outside: sources of bytes, sinks of bytes, and a hub of sessions.
 //!
-//! A [`Source`] has bytes left and pieces given, a [`Sink`] has bytes taken, and a [`Hub`] has a
-//! script of turns to come and a past. Contracts name them where they are told, as `Some`: an object
-//! in memory tells all, the standard input tells nothing (`None`). So code that is generic in them
-//! is proved once for both, and a claim on bytes is made where they are told as the call returns.
+//! A [`Source`] has bytes left and pieces given, a [`Sink`] has its writes with their answers, and a
+//! [`Hub`] has a script of turns to come and a past. Contracts name them where they are told, as
+//! `Some`: an object in memory tells all, the standard input tells nothing (`None`). So code that is
+//! generic in them is proved once for both, and a claim on bytes is made where they are told as the
+//! call returns.
 //!
 //! Each of the three counts its faults, and a hub also those of each session. A call answers
 //! `Failed` only where its count *rose*: it is greater than at the call's start, or stands at the end
@@ -47,7 +48,7 @@ pub use mem_sink::MemSink;
 pub use mem_source::MemSource;
 pub use piece::Piece;
 pub use sessions::Sessions;
-pub use sink::{Sink, Written, Wrote, write_all};
+pub use sink::{Sink, Write, Written, Wrote, write_all};
 pub use source::{Read, Source};
 pub use std_sink::StdSink;
 pub use std_source::StdSource;

@@ -206,8 +206,9 @@ impl Hub for MemHub {
         ensures exact { result ≡ send_of self.old id piece.now }
         ensures sends { self.new.failing_sends ≡ after_send id self.old.failing_sends }
         ensures takes { Takes result piece.now }
-        ensures past { Gains self.old.past self.new.past (Told.Sending id result (taken_by result piece.now) ∷ []) }
-        ensures script { WhereTold (script_of self.old) (script_of self.new) (Sends id result) }
+        ensures past { Gains self.old.past self.new.past
+            (Told.Sending id (length piece.now) result (taken_by result piece.now) ∷ []) }
+        ensures script { WhereTold (script_of self.old) (script_of self.new) (Sends id (length piece.now) result) }
         ensures others { self.new ≡ record self.old { past = self.new.past; failing_sends = self.new.failing_sends } }
         ensures ids { self.new.ids ≡ self.old.ids }
         ensures faults { hub_faults self.new ≡ hub_faults self.old }
@@ -221,8 +222,7 @@ impl Hub for MemHub {
             Sent::Took(piece.len())
         };
         let taken = Piece::copy_of(self.alloc, taken_of(sent, piece));
-        self.past
-            .push_made(taken.map(|taken| Told::Sending(id, sent, taken)));
+        self.past.push_made(taken.map(|taken| Told::Sending(id, piece.len(), sent, taken)));
         sent
     }
 

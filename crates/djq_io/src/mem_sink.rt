@@ -1,50 +1,68 @@
-ghost use Rattle.std.specs.Prelude.{◌≡◌, ◌<◌, [], ◌∷◌, ◌++◌, length, take, Some, OnOk, OnErr};
-ghost use Rattle.std.specs.Option.{option_copied};
+ghost use Rattle.std.specs.Prelude.{◌≡◌, ◌<◌, [], ◌∷◌, ◌++◌, length, Some, OnOk, OnErr, IfOk};
+ghost use Rattle.std.specs.Option.{option_copied, option_map};
 ghost use Rattle.djq_io.specs.Failing.{after_call, failed_count};
-ghost use Rattle.djq_io.specs.Sink.{Writes, CountsWrite};
+ghost use Rattle.djq_io.specs.Sink.{Gains, TakesPart, CountsWrite, part_taken, bytes_of};
 ghost use Rattle.djq_io.specs.MemSink.{write_of};
 
 use crate::failing::Failing;
+use crate::piece::Piece;
 use crate::recording::Recording;
-use crate::sink::{Sink, Wrote};
+use crate::sink::{Sink, Write, Wrote};
 use std::alloc::{AllocError, Global};
 use std::marker::Model;
 
-/// A sink that keeps what it takes in memory, seen as those bytes, or as `None` once it has lost
-/// them, and the writes that are to fail. It takes each piece whole.
+/// A sink that keeps what it takes in memory, seen as its writes with their answers, or as `None`
+/// once it has lost them, and the writes that are to fail. It takes each piece whole.
 ///
 /// It fails only where it was told to ([`MemSink::fail_at`]). Where a growth of its record is
 /// refused, it still takes the piece, and tells nothing from then on.
 #[derive(Debug, Drop)]
 pub struct MemSink {
-    taken: Recording<u8>,
+    taken: Vec<u8>,
+    writes: Recording<Write>,
     to_fail: Failing,
 }
 
 impl Model for MemSink {
+    ghost use Rattle.std.specs.Prelude.{◌≡◌, IfSome};
     ghost use Rattle.djq_io.specs.MemSink.{Kept};
 
     ghost Value = { Kept };
 
-    ghost view = { λ k. record { taken = k.taken; to_fail = k.to_fail } };
+    ghost use Rattle.djq_io.specs.Sink.{bytes_of};
+
+    ghost view = { λ k. record { told = k.writes; to_fail = k.to_fail } };
+
+    ghost invariant = { λ k. IfSome k.writes (λ writes. k.taken.items ≡ bytes_of writes) };
 }
 
 impl MemSink {
     /// A sink that took nothing yet.
     pub fn new(alloc: Global) -> Self
-        ensures { result ≡ record { taken = Some []; to_fail = [] } }
+        ensures { result ≡ record { told = Some []; to_fail = [] } }
     {
         MemSink {
-            taken: Recording::new(alloc),
+            taken: Vec::new(alloc),
+            writes: Recording::new(alloc),
             to_fail: Failing::new(alloc),
         }
     }
 
     /// The bytes that it took, or `None` once its record was lost.
     pub fn taken(&self) -> Option<&[u8]>
-        ensures { option_copied result ≡ self.now.taken }
+        ensures { option_copied result ≡ option_map bytes_of self.now.told }
     {
-        self.taken.items()
+        match self.writes.items() {
+            Some(_writes) => Some(self.taken.as_slice()),
+            None => None,
+        }
+    }
+
+    /// Its writes with their answers, or `None` once its record was lost.
+    pub fn writes(&self) -> Option<&[Write]>
+        ensures { option_copied result ≡ self.now.told }
+    {
+        self.writes.items()
     }
 
     /// Lets a write fail: 1 is the next one, 2 the one behind it, and so on.
@@ -57,22 +75,43 @@ impl MemSink {
     }
 }
 
+/// A write and its answer, where there is memory for it. What it took comes behind the bytes taken.
+fn take(taken: &mut Vec<u8>, piece: &[u8], answer: Wrote) -> Result<Write, AllocError>
+    requires { TakesPart answer piece.now }
+    ensures write { IfOk result (λ write. write ≡ record { piece = piece.now; answer = answer }) }
+    ensures taken { OnOk result (taken.new.items ≡ taken.old.items ++ part_taken answer piece.now) }
+{
+    let alloc = *taken.allocator();
+    let copy = Piece::copy_of(alloc, piece)?;
+    if let Wrote::Took(count) = answer {
+        taken.extend_from_slice(&piece[..count])?;
+    }
+    Ok(Write {
+        piece: copy,
+        answer,
+    })
+}
+
 impl Sink for MemSink {
-    ghost taken = { λ k. k.taken };
+    ghost told = { λ k. k.told };
 
     ghost faults = { λ k. failed_count k.to_fail };
 
     fn write(&mut self, piece: &[u8]) -> Wrote
         requires { 0 < length piece.now }
         ensures exact { result ≡ write_of self.old piece.now }
-        ensures writes { Writes result self.old.taken self.new.taken piece.now }
+        ensures takes { TakesPart result piece.now }
+        ensures told { Gains self.old.told self.new.told (record { piece = piece.now; answer = result } ∷ []) }
         ensures to_fail { self.new.to_fail ≡ after_call self.old.to_fail }
         ensures faults { CountsWrite result (failed_count self.old.to_fail) (failed_count self.new.to_fail) }
     {
-        if self.to_fail.count_down() {
-            return Wrote::Failed;
-        }
-        self.taken.extend(piece);
-        Wrote::Took(piece.len())
+        let answer = if self.to_fail.count_down() {
+            Wrote::Failed
+        } else {
+            Wrote::Took(piece.len())
+        };
+        let write = take(&mut self.taken, piece, answer);
+        self.writes.push_made(write);
+        answer
     }
 }

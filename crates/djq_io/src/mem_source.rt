@@ -1,7 +1,7 @@
-ghost use Rattle.std.specs.Prelude.{◌≡◌, ◌<◌, [], ◌∷◌, ◌++◌, length, Some, None, OnOk, OnErr};
+ghost use Rattle.std.specs.Prelude.{◌≡◌, ◌<◌, [], ◌∷◌, ◌++◌, length, drop, Some, OnOk, OnErr};
 ghost use Rattle.djq_io.specs.Failing.{after_call, failed_count};
 ghost use Rattle.djq_io.specs.Source.{Reads, CountsRead};
-ghost use Rattle.djq_io.specs.MemSource.{reading_of, read_of};
+ghost use Rattle.djq_io.specs.MemSource.{reading_of, read_of, count_of};
 
 use crate::failing::Failing;
 use crate::recording::Recording;
@@ -20,7 +20,8 @@ struct Span {
 ///
 /// A read gives as many bytes as the buffer has room for, and never more than a greatest number.
 /// It fails only where it was told to ([`MemSource::fail_at`]). Where a growth of its record of
-/// the pieces is refused, it still gives the piece, and tells nothing from then on.
+/// the pieces is refused, it still gives the piece, and tells nothing from then on. What it gave is
+/// gone from the bytes left in any case.
 #[derive(Debug, Drop)]
 pub struct MemSource {
     bytes: Vec<u8>,
@@ -82,6 +83,7 @@ impl Source for MemSource {
         requires { 0 < length buf.old }
         ensures exact { result ≡ read_of self.old (length buf.old) }
         ensures reads { Reads result (reading_of self.old) (reading_of self.new) buf.new }
+        ensures left { self.new.left ≡ drop (count_of result) self.old.left }
         ensures most { self.new.most ≡ self.old.most }
         ensures to_fail { self.new.to_fail ≡ after_call self.old.to_fail }
         ensures faults { CountsRead result (failed_count self.old.to_fail) (failed_count self.new.to_fail) }

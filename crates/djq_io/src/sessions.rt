@@ -1,4 +1,4 @@
-ghost use Rattle.std.specs.Prelude.{◌≡◌, ◌↔◌, ◌<◌, ◌+◌, ◌≤◌, ◌==◌, not, Contains, IsTrue, IfSome, OnOk};
+ghost use Rattle.std.specs.Prelude.{◌≡◌, ◌↔◌, ◌<◌, ◌+◌, ◌≤◌, ◌==◌, [], not, Contains, IsTrue, IfSome, OnOk};
 ghost use Rattle.djq_io.specs.Sessions.{faults_of};
 ghost use Rattle.djq_io.specs.SessionsInside.{after_end, after_fault};
 ghost use Rattle.djq_io.specs.Faults.{Counted};
@@ -74,7 +74,9 @@ impl Model for Sessions {
 impl Sessions {
     /// No session was opened yet, and there is no room for one.
     pub fn new(alloc: Global) -> Self
-        ensures { result.ids ≡ no_ids }
+        ensures ids { result.ids ≡ no_ids }
+        ensures room { result.room ≡ 0 }
+        ensures counts { result.counts ≡ [] }
     {
         Sessions {
             newest: None,
@@ -85,6 +87,7 @@ impl Sessions {
     /// Takes room for so many more sessions than are open.
     pub fn reserve(&mut self, more: usize) -> Result<(), AllocError>
         ensures ids { self.new.ids ≡ self.old.ids }
+        ensures counts { self.new.counts ≡ self.old.counts }
         ensures room { self.old.room ≤ self.new.room }
         ensures ok { OnOk result (more ≤ self.new.room) }
     {

@@ -1,5 +1,7 @@
 ghost use Rattle.djq_io.specs.Written.{WritesAll, CountsWritten};
 
+use crate::piece::Piece;
+
 /// The answer to a write.
 #[derive(Clone, Copy, Debug, PartialEq, Eq)]
 pub enum Wrote {
@@ -9,13 +11,21 @@ pub enum Wrote {
     Failed,
 }
 
+/// A write, as a sink tells it: the piece that it was offered, and its answer.
+#[derive(Debug, Drop)]
+pub struct Write {
+    pub piece: Piece,
+    pub answer: Wrote,
+}
+
 /// Where bytes go.
 pub trait Sink {
-    ghost use Rattle.std.specs.Prelude.{◌≡◌, ℕ, ◌<◌, ◌≤◌, List, length, Option};
-    ghost use Rattle.djq_io.specs.Sink.{Writes, CountsWrite};
+    ghost use Rattle.std.specs.Prelude.{◌≡◌, ℕ, ◌<◌, List, [], ◌∷◌, length, Option};
+    ghost use Rattle.djq_io.specs.Sink.{Gains, TakesPart, CountsWrite};
+    ghost use Rattle.djq_io.specs.declared.sink.Write.{Write};
 
-    // The bytes that were taken, where the sink tells them.
-    ghost taken: { Self → Option (List ℕ) };
+    // All writes so far with their answers, where the sink tells them.
+    ghost told: { Self → Option (List Write) };
 
     // How many faults it has met.
     ghost faults: { Self → ℕ };
@@ -23,7 +33,8 @@ pub trait Sink {
     /// Writes a first part of the piece.
     fn write(&mut self, piece: &[u8]) -> Wrote
         requires { 0 < length piece.now }
-        ensures writes { Writes result (taken self.old) (taken self.new) piece.now }
+        ensures takes { TakesPart result piece.now }
+        ensures told { Gains (told self.old) (told self.new) (record { piece = piece.now; answer = result } ∷ []) }
         ensures faults { CountsWrite result (faults self.old) (faults self.new) };
 }
 
@@ -32,13 +43,13 @@ pub trait Sink {
 pub enum Written {
     /// The whole piece.
     All,
-    /// So many of its bytes, fewer than it has; then a write failed.
+    /// So many of its bytes, fewer than it has; then a write failed, and none followed.
     Failed(usize),
 }
 
 /// Writes the piece until all of it is taken or a write failed. An empty piece is written at once.
 pub fn write_all<K: Sink>(sink: &mut K, piece: &[u8]) -> Written
-    ensures written { WritesAll result (K.taken sink.old) (K.taken sink.new) piece.now }
+    ensures written { WritesAll result (K.told sink.old) (K.told sink.new) piece.now }
     ensures faults { CountsWritten result (K.faults sink.old) (K.faults sink.new) }
 {
     let mut at = 0;

@@ -1,12 +1,13 @@
-ghost use Rattle.std.specs.Prelude.{◌≡◌, ◌<◌, length, None};
-ghost use Rattle.djq_io.specs.Sink.{Writes, CountsWrite};
+ghost use Rattle.std.specs.Prelude.{◌≡◌, ◌<◌, [], ◌∷◌, length, None};
+ghost use Rattle.djq_io.specs.Sink.{Gains, TakesPart, CountsWrite};
 ghost use Rattle.djq_io.specs.StdSink.{CountsOne};
+ghost use Rattle.djq_io.specs.declared.sink.Write.{Write};
 
 use crate::sink::{Sink, Wrote};
 use std::io;
 use std::marker::Model;
 
-/// A writer of `std::io` as a sink, seen as its count of faults. It tells no bytes.
+/// A writer of `std::io` as a sink, seen as its count of faults. It tells nothing.
 ///
 /// Each write is one write of the writer and a flush, so that who waits for a reply sees it. What
 /// fails is counted and not tried again; a write that takes nothing of a piece is a fault too.
@@ -36,13 +37,14 @@ impl<W: io::Write + Drop> StdSink<W> {
 impl<W: io::Write + Drop> Sink for StdSink<W> {
     ghost use Rattle.std.specs.Prelude.{None};
 
-    ghost taken = { λ _. None };
+    ghost told = { λ _. None };
 
     ghost faults = { λ faults. faults };
 
     fn write(&mut self, piece: &[u8]) -> Wrote
         requires { 0 < length piece.now }
-        ensures writes { Writes result None None piece.now }
+        ensures takes { TakesPart result piece.now }
+        ensures told { Gains {A = Write} None None (record { piece = piece.now; answer = result } ∷ []) }
         ensures faults { CountsWrite result self.old self.new }
         ensures one { CountsOne result self.old self.new }
     {

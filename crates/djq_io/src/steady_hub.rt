@@ -35,18 +35,21 @@ impl SteadyHub {
         SteadyHub { hub }
     }
 
-    /// All calls so far with their answers, or `None` once they are lost.
+    /// All calls so far with their answers, or `None` once they are lost. No send among them found
+    /// its session gone.
     pub fn past(&self) -> Option<&[Told]>
-        ensures { option_copied result ≡ self.now.past }
+        ensures past { option_copied result ≡ self.now.past }
+        ensures steady { NeverFails self.now }
     {
         self.hub.past()
     }
 }
 
 impl Hub for SteadyHub {
-    ghost use Rattle.djq_io.specs.MemHub.{script_of};
+    ghost use Rattle.std.specs.Prelude.{Some};
 
-    ghost script = { λ h. script_of h };
+    // It is told even where the record of the past is lost.
+    ghost script = { λ h. Some h.script };
 
     ghost past = { λ h. h.past };
 

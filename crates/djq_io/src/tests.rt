@@ -52,6 +52,11 @@ fn a_sink_keeps_what_it_took(rt: HostRuntime) -> Result<(), Fail> {
     assert_eq!(rt; write_all(&mut sink, b"lost"), Written::Failed(0));
     assert_eq!(rt; sink.write(b"end\n"), Wrote::Took(4));
     assert_eq!(rt; sink.taken(), Some(b"ok\nend\n".as_slice()));
+    let failed = sink.writes().is_some_and(|writes| {
+        writes.iter().any(|write| write.answer == Wrote::Failed
+            && write.piece.as_slice() == b"lost".as_slice())
+    });
+    assert!(rt; failed);
     Ok(())
 }
 

@@ -156,7 +156,7 @@ unchanged_gives old name store new e after g = same_gives old new (after ∙ ap 
 -- A late refusal changes no more than which texts are known.
 refused_texts : (old : Store) (texts : List Bytes) (new : Store) (r : Refusal) → RefusedByTexts old texts new r → new ≡ record old { texts = new.texts }
 refused_texts old texts new Limit h = h.1
-refused_texts old texts new NoMemory h = h.1
+refused_texts old texts new NoMemory h = h.2
 refused_texts old texts new _ h = absurd h
 
 same_texts : (old new : Store) → new ≡ old → new ≡ record old { texts = new.texts }
@@ -251,16 +251,16 @@ drop_gives old q (Ok u) store new h after g =
 drop_gives old q (Err r) store new h after g = same_gives old new (after ∙ ap (λ (st : Store). record old { store = st }) h.stays) g
 
 -- A cursor that opens has given nothing.
-opens_on : (o : Option Refusal) (u : ⊤) (L : Refusal → Type 0) → Answers o (Ok u) (λ _. ⊤) L → o ≡ None
+pub opens_on : (o : Option Refusal) (u : ⊤) (L : Refusal → Type 0) → Answers o (Ok u) (λ _. ⊤) L → o ≡ None
 opens_on None u L h = refl
 opens_on (Some r) u L h = absurd h
 
-none_second : (a b : Bool) (r t : Refusal) (o : Option Refusal) → cond a (Some r) (cond b (Some t) o) ≡ None → b ≡ false
+pub none_second : (a b : Bool) (r t : Refusal) (o : Option Refusal) → cond a (Some r) (cond b (Some t) o) ≡ None → b ≡ false
 none_second true b r t o h = absurd cc
 none_second false true r t o h = absurd cc
 none_second false false r t o h = refl
 
-query_there : (st : Store) (cursors : List Cursor) (c q : Bytes) → open_refusal st cursors c q ≡ None → is_none (query_of st.queries q) ≡ false
+pub query_there : (st : Store) (cursors : List Cursor) (c q : Bytes) → open_refusal st cursors c q ≡ None → is_none (query_of st.queries q) ≡ false
 query_there st cursors c q h =
     none_second (is_some (cursor_of cursors c)) (is_none (query_of st.queries q)) Taken NoQuery (first_of ((nat_le CURSORS (length cursors), Limit) ∷ [])) h
 

@@ -10,6 +10,7 @@ use Rattle.djq_laws.specs.Moved.{Spares}
 use Rattle.djq_laws.specs.Course.{MayRun, RunNext}
 use Rattle.djq_laws.specs.Given.{CoursesGive}
 use Rattle.djq_laws.proofs.Sending.{run_bytes, gone_taken, next_runs}
+use Rattle.djq_laws.proofs.Courses.{walk_of, does_bytes}
 use Rattle.djq_laws.proofs.Cutting.{in_order}
 use Rattle.djq_laws.proofs.Giving.{SessionGives, runs_give}
 
@@ -34,9 +35,14 @@ none_give : (st : State) → st.sessions ≡ [] → CursorsGive st
 none_give st none = subst (λ (xs : List Session). All (SessionGives st.store.relations st.store.queries) xs) (sym none) (All-nil (SessionGives st.store.relations st.store.queries))
 
 pub headline : CoursesGive
-headline start before now st c none = record {
-  sent = ap (λ g. g ++ pending_of st 1) (sym (gone_taken start c.done st c.walk)) ∙ run_bytes 1 start c.done st (next_runs start c.done st c.walk)
-      ∙ ap (λ p. p ++ out 1 c.done) (none_pending start none);
-  lines = in_order 1 start c.done st (next_runs start c.done st c.walk) (walk_spares start c.done st c.walk);
-  cursors = λ mid passed. runs_give start passed.0 mid (next_runs start passed.0 mid passed.3) (none_give start none);
-}
+headline start before now st c none =
+    let walk = walk_of start c.done c.writes st c.does in
+    record {
+      written = does_bytes start c.done c.writes st c.does;
+      sent = ap (λ g. g ++ pending_of st 1) (sym (gone_taken start c.done st walk))
+          ∙ run_bytes 1 start c.done st (next_runs start c.done st walk)
+          ∙ ap (λ p. p ++ out 1 c.done) (none_pending start none);
+      lines = in_order 1 start c.done st (next_runs start c.done st walk) (walk_spares start c.done st walk);
+      cursors = λ mid passed. runs_give start passed.0 mid (next_runs start passed.0 mid passed.3)
+          (none_give start none);
+    }

@@ -6,6 +6,7 @@ pub mod Alike
 pub mod Touching
 pub mod Moving
 pub mod Sending
+pub mod Dropping
 pub mod Cutting
 pub mod Rising
 pub mod Answering
@@ -21,3 +22,7 @@ pub mod Watching
 pub mod Watched
 pub mod Staying
 pub mod Live
+pub mod Apart
+pub mod Storing
+pub mod Sounding
+pub mod Listing

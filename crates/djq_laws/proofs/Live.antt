@@ -20,7 +20,7 @@ finished_listing relations o q given p is at h =
     let here : PositionGives relations (Some q) (open_at given true) = subst (λ (r : Position). PositionGives relations (Some q) r) at (subst (λ (r : Option Query). PositionGives relations r p) is h) in
     here.listing refl
 
-listed : (q : Query) (s : ℕ) (st : State) (given : List Tuple) → CursorsGive st → HasListed q s st given → IsListing (IsAnswer st.store.relations q) given
+pub listed : (q : Query) (s : ℕ) (st : State) (given : List Tuple) → CursorsGive st → HasListed q s st given → IsListing (IsAnswer st.store.relations q) given
 listed q s st given gives h =
     let store = st.store in
     let of_session = all_found (λ (x : Session). All (λ (c : Cursor). PositionGives store.relations (query_of store.queries c.query) c.position) x.cursors)
@@ -30,5 +30,14 @@ listed q s st given gives h =
 
 pub listings_stay_live : ListingsStayLive
 listings_stay_live old gives q s given h watches done new run keeps goes_on =
-    let t = watchers_have_answers q s old done new (watchers_stay q s old done new run keeps watches goes_on) in
-    record { told = t.told; among = t.among; listing = t.adds_up given (listed q s old given gives h) }
+    let walk = watchers_stay q s old done new run keeps watches goes_on in
+    let t = watchers_have_answers q s old done new walk in
+    record {
+      walk = walk;
+      told = t.told;
+      whole = t.whole;
+      among = t.among;
+      numbers = t.numbers;
+      rising = t.rising;
+      listing = t.adds_up given (listed q s old given gives h);
+    }

@@ -115,7 +115,7 @@ acts_rise old (ended s) e mid h r =
     same_rise old mid (input_ids old mid s _ _ _ _ (f.0).cause f.2) r
 acts_rise old (closed s bytes) e mid h r = closed_rise old s mid h.2 r
 
-queued_ids : (st : State) (qs : List (ℕ × Bytes)) → ids_of (queue_all st qs) ≡ ids_of st
+pub queued_ids : (st : State) (qs : List (ℕ × Bytes)) → ids_of (queue_all st qs) ≡ ids_of st
 queued_ids st [] = refl
 queued_ids st (q ∷ qs) = queued_ids (queue st q) qs ∙ with_ids st (queue st q) q.0 (λ x. record x { pending = x.pending ++ q.1 }) (λ x. refl) refl
 
@@ -140,7 +140,7 @@ opened_ids : (old : State) (s : ℕ) (mid : State) → ((length old.sessions < S
 opened_ids old s mid (inl h) = inl (ap ids_of h.1 ∙ pushed_ids old.sessions (fresh s))
 opened_ids old s mid (inr h) = inr (ap ids_of h)
 
-acts_ids : (old : State) (event : Event) (e : Effect) (mid : State) → Acts old event e mid → IdsBehind event (ids_of old) (ids_of mid)
+pub acts_ids : (old : State) (event : Event) (e : Effect) (mid : State) → Acts old event e mid → IdsBehind event (ids_of old) (ids_of mid)
 acts_ids old (opened s) e mid h = opened_ids old s mid h.2
 acts_ids old (fed s bytes) e mid h =
     let f = some_and (session_of old s) (λ x. FedStep old s bytes x e mid) h in

@@ -1,11 +1,13 @@
 -- A course of the program under the words `run`: one session, from a source to a sink.
-use Rattle.std.specs.Prelude.{ℕ, List, [], ◌≡◌, ◌+◌, ◌<◌, ◌≤◌, true, Option, None, IsSomeAnd, length}
+use Rattle.std.specs.Prelude.{ℕ, List, [], ◌∷◌, ◌++◌, ◌≡◌, ◌+◌, ◌<◌, ◌≤◌, Bool, true, false, Option, None, IsSomeAnd, length}
 use Rattle.djq_io.specs.Source.{Reading, Gives}
 use Rattle.djq_io.specs.Sink.{Gains}
+use Rattle.djq_io.specs.declared.sink.Write.{Write}
+use Rattle.djq_io.specs.declared.sink.Wrote.TheVariants.{Took, Failed}
 use Rattle.djq_model.specs.Data.{Bytes}
 use Rattle.djq_machine.specs.State.{State, Session, session_of}
 use Rattle.djq_machine.specs.Step.{Event, opened, fed, stepped, took, ended, closed, Step, is_dry}
-use Rattle.djq_machine.specs.Run.{Did, Walk, all_taken, pieces_of, cost_of}
+use Rattle.djq_machine.specs.Run.{Did, pieces_of, cost_of, pending_of}
 use Rattle.djq_machine.specs.Call.{Counts}
 use Rattle.djq_laws.specs.declared.limits.TheConstants.{READ_BYTES}
 
@@ -31,27 +33,54 @@ MayRun st (closed s bytes) = ⊥
 abbrev pub RunNext : State → Did → State → Type 0
 RunNext old d new = MayRun old d.event × Step old d.event d.effect new
 
+-- The write behind a thing that was done: bytes that are taken of the session were one write, which
+-- was offered all that was pending, and took so many.
+abbrev pub writes_by : State → Event → List Write
+writes_by st (took s bytes) = record { piece = pending_of st 1; answer = Took (length bytes) } ∷ []
+writes_by st _ = []
+
+-- From one state to another `run` did these things, one after another, by these writes.
+abbrev pub Does : State → List Did → List Write → State → Type 0
+Does old [] writes new = (new ≡ old) × (writes ≡ [])
+Does old (d ∷ done) writes new = (mid : State) × RunNext old d mid × (later : List Write)
+    × (writes ≡ writes_by old d.event ++ later) × Does mid done later new
+
+-- The write that failed behind all that was done, where one did: it was offered all that is pending.
+abbrev pub last_write : Bool → State → List Write
+last_write false st = []
+last_write true st = record { piece = pending_of st 1; answer = Failed } ∷ []
+
 -- All that the outside of the program shows: the source's bytes and pieces and its faults, the
--- sink's bytes and its faults, and what was counted.
+-- sink's writes and its faults, and what was counted.
 pub record Outside : Type 0 where
   pub reading : Option Reading
   pub read_faults : ℕ
-  pub taken : Option Bytes
+  pub writing : Option (List Write)
   pub write_faults : ℕ
   pub counted : Counts
 
 -- the outside, of its parts
-abbrev pub outside : Option Reading → ℕ → Option Bytes → ℕ → Counts → Outside
-outside reading read_faults taken write_faults counted =
-    record { reading = reading; read_faults = read_faults; taken = taken; write_faults = write_faults; counted = counted }
+abbrev pub outside : Option Reading → ℕ → Option (List Write) → ℕ → Counts → Outside
+outside reading read_faults writing write_faults counted =
+    record {
+      reading = reading;
+      read_faults = read_faults;
+      writing = writing;
+      write_faults = write_faults;
+      counted = counted;
+    }
 
 -- A run of the machine, as `run` may make it. The pieces that the session was fed are the pieces
 -- that the source gave, in order: what was read is fed, and what it brings about is done before the
--- next read. The sink gained what was taken of the session's pending bytes. And no more lookups and
--- links of listings were counted than the run may cost.
+-- next read. The sink tells one write for each time that bytes of the session were taken; and behind
+-- them at most one that failed, of what is pending still, so that nothing was done and nothing
+-- written behind it. And no more lookups and links of listings were counted than the run may cost.
 pub record Course (start : State) (before now : Outside) (state : State) : Type 0 where
   pub done : List Did
-  pub walk : Walk RunNext start done state
+  pub writes : List Write
+  pub does : Does start done writes state
+  -- whether a write failed
+  pub failed : Bool
   pub read : Gives before.reading now.reading (pieces_of done)
-  pub written : Gains before.taken now.taken (all_taken 1 done)
+  pub written : Gains before.writing now.writing (writes ++ last_write failed state)
   pub listing : now.counted.listing ≤ before.counted.listing + cost_of done

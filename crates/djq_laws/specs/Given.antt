@@ -1,5 +1,6 @@
 -- What open cursors have given along runs, and the headline of a course.
 use Rattle.std.specs.Prelude.{List, [], ◌≡◌, ◌++◌}
+use Rattle.djq_io.specs.Sink.{bytes_of}
 use Rattle.djq_machine.specs.State.{State}
 use Rattle.djq_machine.specs.Run.{Did, Run, Walk, out, all_taken, pending_of}
 use Rattle.djq_machine.specs.Gives.{CursorsGive}
@@ -17,11 +18,12 @@ abbrev pub PassedThrough : State → List Did → State → State → Type 0
 PassedThrough start done mid state = (earlier : List Did) × (later : List Did)
     × (done ≡ earlier ++ later) × Walk RunNext start earlier mid × Walk RunNext mid later state
 
--- **The headline** of a course, as far as it went. What the sink gained and what is pending still
--- is all that the run queued, in order. The lines that were taken are those that the bytes fed are
+-- **The headline** of a course, as far as it went. What the sink took and what is pending still is
+-- all that the run queued, in order. The lines that were taken are those that the bytes fed are
 -- cut into, in order. And at each moment each open cursor gives what it should.
 pub record Headline (start : State) (before now : Outside) (state : State)
     (course : Course start before now state) : Type 0 where
+  pub written : bytes_of course.writes ≡ all_taken 1 course.done
   pub sent : all_taken 1 course.done ++ pending_of state 1 ≡ out 1 course.done
   pub lines : TakesInOrder 1 start course.done state
   pub cursors : (mid : State) → PassedThrough start course.done mid state → CursorsGive mid

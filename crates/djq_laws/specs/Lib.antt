@@ -8,3 +8,5 @@ pub mod Added
 pub mod Watched
 pub mod Staying
 pub mod Live
+pub mod Sound
+pub mod Listed

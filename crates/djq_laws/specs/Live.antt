@@ -1,12 +1,22 @@
 -- What a session has that lists a query through a cursor, and watches it from then on.
-use Rattle.std.specs.Prelude.{ℕ, List, ◌≡◌, true, Some, map, All, Contains}
+use Rattle.std.specs.Prelude.{ℕ, List, ◌≡◌, ◌<◌, true, Some, map, All, AllPairs, Contains}
+use Rattle.std.specs.List.{flat_map}
 use Rattle.djq_model.specs.declared.query.Query.{Query}
 use Rattle.djq_model.specs.Data.{Tuple, query_of}
 use Rattle.djq_model.specs.Answer.{IsAnswer, IsListing}
 use Rattle.djq_machine.specs.State.{State, Session, Cursor, open_at, session_of}
-use Rattle.djq_machine.specs.Run.{Did, Run}
+use Rattle.djq_machine.specs.Run.{Did, Run, out}
 use Rattle.djq_machine.specs.Gives.{CursorsGive}
-use Rattle.djq_laws.specs.Watched.{IsWatcher, Told, told_text, parts_to, AreAmong, all_added_up}
+use Rattle.djq_laws.specs.Watched.{
+  IsWatcher,
+  WatchesAlong,
+  numbers_along,
+  Told,
+  told_text,
+  parts_to,
+  AreAmong,
+  all_added_up,
+}
 use Rattle.djq_laws.specs.Staying.{GoesOn, KeepsWatch}
 
 -- A cursor of a session was told the end, and has given these.
@@ -18,11 +28,18 @@ pub record HasListed (q : Query) (s : ℕ) (st : State) (given : List Tuple) : T
   pub of_query : query_of st.store.queries cursor.query ≡ Some q
   pub is_finished : cursor.position ≡ open_at given true
 
--- What a session was given, and the deltas among what is queued to it along a run, add up to a
--- listing of the answers at the end.
-pub record StaysLive (q : Query) (s : ℕ) (given : List Tuple) (done : List Did) (new : State) : Type 0 where
+-- What a session was given, and the deltas that it is told along a run, add up to a listing of the
+-- answers at the end. It watches the query all the while, and is told one delta for each accepted
+-- change of a relation that the query reads, by rising number: their lines are parts of all that is
+-- queued to it.
+pub record StaysLive (q : Query) (s : ℕ) (given : List Tuple) (old : State) (done : List Did)
+    (new : State) : Type 0 where
+  pub walk : WatchesAlong q s old done new
   pub told : List Told
+  pub whole : flat_map (λ part. part) (parts_to s done) ≡ out s done
   pub among : AreAmong (map (told_text q.name) told) (parts_to s done)
+  pub numbers : map (λ t. t.number) told ≡ numbers_along q s old done new walk
+  pub rising : AllPairs (λ m n. m < n) (map (λ t. t.number) told)
   pub listing : IsListing (IsAnswer new.store.relations q) (all_added_up given told)
 
 -- So it is along every run from a state in which it has listed and watches a query, if it doesn't
@@ -30,7 +47,7 @@ pub record StaysLive (q : Query) (s : ℕ) (given : List Tuple) (done : List Did
 abbrev pub LiveFrom : State → Type 0
 LiveFrom old = (q : Query) (s : ℕ) (given : List Tuple) → HasListed q s old given → IsWatcher q s old
     → (done : List Did) (new : State) → Run old done new → All (λ d. KeepsWatch q s d.event) done
-    → GoesOn new s → StaysLive q s given done new
+    → GoesOn new s → StaysLive q s given old done new
 
 -- It is so where cursors give what they should.
 abbrev pub ListingsStayLive : Type 0

@@ -13,13 +13,15 @@ pub mod limits;
 
 ghost use Rattle.djq_laws.specs.Moved.{StaysOpen, BytesCome, BytesAreTaken, InputEnds, LineIsTaken};
 ghost use Rattle.djq_laws.specs.Rising.{IdsRise};
-ghost use Rattle.djq_laws.specs.Sent.{SentBytes};
+ghost use Rattle.djq_laws.specs.Sent.{SentBytes, SentInOrder};
 ghost use Rattle.djq_laws.specs.Lines.{LinesInOrder};
 ghost use Rattle.djq_laws.specs.Given.{RunsGive, CoursesGive};
 ghost use Rattle.djq_laws.specs.Added.{DeltasAddUp};
 ghost use Rattle.djq_laws.specs.Watched.{WatchersHaveAnswers};
 ghost use Rattle.djq_laws.specs.Staying.{WatchersStay};
 ghost use Rattle.djq_laws.specs.Live.{ListingsStayLive};
+ghost use Rattle.djq_laws.specs.Sound.{RunsKeepSound, StatesAreSound};
+ghost use Rattle.djq_laws.specs.Listed.{GivenIsTold, ListedIsTold};
 
 /// A session that is open stays so in every step that doesn't close it.
 pub fn stays_open()
@@ -50,6 +52,16 @@ pub fn line_is_taken()
     ensures { LineIsTaken }
 {}
 
+/// Each state that a run comes to from the opening state is sound: relations, queries, known texts,
+/// the rows of a relation and the answers that an open cursor has given are without repeats; rows
+/// are of their columns' types, and queries free-connex; cursors and watches are of registered
+/// queries; a session that has ended has none of them; and texts and sessions are within their
+/// limits, sessions by rising id. Every run keeps it so.
+pub fn states_are_sound()
+    ensures kept { RunsKeepSound }
+    ensures reached { StatesAreSound }
+{}
+
 /// The open sessions stay by rising id, along every run.
 pub fn ids_rise()
     ensures { IdsRise }
@@ -59,6 +71,12 @@ pub fn ids_rise()
 /// and all that was queued to it, in order: along every run.
 pub fn sent_bytes()
     ensures { SentBytes }
+{}
+
+/// What was taken of a session's bytes comes before what was dropped as it closed, and before what
+/// is pending: along every run in which no session opens twice.
+pub fn sent_in_order()
+    ensures { SentInOrder }
 {}
 
 /// A session's bytes are run in order, whatever the other sessions do: along every run in which it
@@ -71,6 +89,15 @@ pub fn lines_in_order()
 /// and once its last answer was `end` all of them, each once.
 pub fn runs_give()
     ensures { RunsGive }
+{}
+
+/// What an open cursor has given is what its session was told since it opened it: the replies to
+/// its `next` lines are page by page those answers, in order, and the last of them tells the end
+/// exactly where the cursor is finished. So a session that has listed a query was told each answer
+/// over the present rows, once.
+pub fn given_is_told()
+    ensures given { GivenIsTold }
+    ensures listed { ListedIsTold }
 {}
 
 /// Every course of the program has the headline: the bytes sent, the lines taken, and what the
@@ -99,7 +126,8 @@ pub fn watchers_stay()
 {}
 
 /// A session that has listed a query through a cursor, and watches it, has the answers over the
-/// present rows by adding up what it is told, as long as it goes on and doesn't unwatch it.
+/// present rows by adding up what it is told, as long as it goes on and doesn't unwatch it: one
+/// delta for each accepted change of a relation that the query reads, by rising number.
 pub fn listings_stay_live()
     ensures { ListingsStayLive }
 {}

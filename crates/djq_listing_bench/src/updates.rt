@@ -53,6 +53,9 @@ pub fn put<L: Ledger>(
     if tuple.len() != reducts.tree().label(leaf).len() {
         return Ok(());
     }
+    if reducts.table(leaf).len() >= u32::MAX as usize {
+        return Ok(());
+    }
     match reducts.table(leaf).find(tuple, tally) {
         Some(_place) => Ok(()),
         None => {

@@ -182,7 +182,7 @@ leaves_stay Changes Holds at atoms ps k n m p r s stays low holds h e f on =
 
 -- ---- more and more tuples, and fewer and fewer
 
-within_nodes : (r : Reducts) (j : ℕ) → IsReducts r → j < r.tree.leaves → j < length r.tree.nodes
+pub within_nodes : (r : Reducts) (j : ℕ) → IsReducts r → j < r.tree.leaves → j < length r.tree.nodes
 within_nodes r j h low =
     let a = h.family.is_tree.stages.0 in
     let b = h.family.is_tree.stages.1 in

@@ -1,27 +1,29 @@
 -- What an update of the leaves makes of a registered query.
-use Rattle.std.proofs.Common.{◌≡◌, ℕ, ◌+◌, ◌*◌, ◌≤◌, Bool, true, false, List, [], ◌∷◌, length, map, refl, ap, sym, subst, ◌∙◌, inl, inr, arith}
+use Rattle.std.proofs.Common.{◌≡◌, ℕ, ◌+◌, ◌*◌, ◌<◌, ◌≤◌, ◌++◌, Bool, true, false, List, [], ◌∷◌, length, map, refl, ap, sym, subst, ◌∙◌, inl, inr, arith, length-append}
 use Rattle.std.specs.Prelude.{◌==◌, Contains, Option, Some, slice_get}
-use Rattle.std.proofs.lemmas.Bool.{false≢true, or_cases, eqb-true}
-use Rattle.std.proofs.lemmas.List.{length-map}
+use Rattle.std.proofs.lemmas.Bool.{cases_lt, false≢true, or_cases, eqb-true}
+use Rattle.std.proofs.lemmas.List.{get_or_past, length-map}
 use Rattle.std.proofs.lemmas.List.Kept.{AllPairs-from_increasing}
 use Rattle.std.proofs.lemmas.Nat.{mul-le}
 use Rattle.djq_hyper.specs.Hypergraph.{member}
 use Rattle.djq_model.specs.declared.query.Query.{Query}
 use Rattle.djq_model.specs.Data.{Bytes, Tuple}
+use Rattle.djq_model.specs.declared.relation.Relation.{Relation}
 use Rattle.djq_model.specs.Answer.{IsAnswer}
 use Rattle.djq_lines.specs.Variables.{Label}
 use Rattle.djq_lines.specs.declared.answer.Sign.TheVariants.{Came as HasCome, Went as HasGone}
 use Rattle.djq_machine.specs.Delta.{Change}
 use Rattle.djq_machine.specs.Store.{most_steps}
 use Rattle.djq_tree.specs.Tree.{Tree}
-use Rattle.djq_reduct.specs.Reducts.{Reducts}
+use Rattle.djq_reduct.specs.Tables.{entries_at}
+use Rattle.djq_reduct.specs.Reducts.{Reducts, SameTables}
 use Rattle.djq_cursor.specs.Listing.{IsListing}
 use Rattle.djq_cursor.specs.Changed.{IsGained}
 use Rattle.djq_cursor.specs.Log.{Log}
 use Rattle.djq_query.specs.declared.numbered.NumberedAtom.{NumberedAtom}
 use Rattle.djq_query.specs.Numbered.{Numbered, labels}
 use Rattle.djq_query.specs.Pattern.{Shape}
-use Rattle.djq_rows.specs.Catalog.{Catalog}
+use Rattle.djq_rows.specs.Catalog.{Catalog, IsCatalog, no_relation, rows_at}
 use Rattle.djq_live.specs.Leaves.{IsOver}
 use Rattle.djq_live.specs.Changes.{IsLater, Came, Went, Gains, Loses}
 use Rattle.djq_live.specs.Shown.{shown}
@@ -52,6 +54,7 @@ use Rattle.djq_live.proofs.Columns.{member_here, member_on}
 use Rattle.djq_live.proofs.Listings.{few}
 use Rattle.djq_live.proofs.Passing.{part_few}
 use Rattle.djq_live.proofs.Showing.{tree_answer}
+use Rattle.djq_live.proofs.Small.{leaf_few}
 use Rattle.djq_live.proofs.Showable.{new_lines, old_lines}
 use Rattle.djq_live.proofs.Rowing.{
   leaves_of,
@@ -60,6 +63,7 @@ use Rattle.djq_live.proofs.Rowing.{
   added_kept,
   lost_kept,
   back_kept,
+  back_tables,
 }
 use Rattle.djq_live.proofs.Parting.{
   IsPart,
@@ -156,6 +160,35 @@ add_lacks l at cells atoms ps e f can =
     (none_there can.before can.after l.query l.numbered l.patterns l.reducts at cells can.row
     (length (l.numbered).atoms) can.kept.over can.came)
 
+-- no relation has more rows than there are numbers
+rows_few : (c : Catalog) (at : ℕ) → IsCatalog c → length (rows_at c.relations at) ≤ 4294967295
+rows_few c at h =
+    elim (cases_lt at (length c.relations)) [
+      | inl low ↦ (h.kept at no_relation low).few
+      | inr past ↦
+          (let e = ap (λ (r : Relation). length r.rows)
+          (get_or_past c.relations at no_relation (omega arith)) in
+          omega arith)
+    ]
+
+-- so one is left in each leaf over a relation into which a row came
+pub add_few : (l : Live) (at : ℕ) (cells : List ℕ) (atoms : List NumberedAtom)
+    (ps : List Shape) → atoms ≡ (l.numbered).atoms → ps ≡ l.patterns → CanAdd l at cells
+    → HoldBelow (λ _ es. length es < 4294967295) at atoms ps (length atoms) l.reducts
+add_few l at cells atoms ps e f can =
+    inside (λ a p. HoldBelow (λ _ es. length es < 4294967295) at a p (length a) l.reducts) atoms
+    (l.numbered).atoms ps l.patterns e f
+    (record {
+      each = λ j m p low a b on.
+          let few = leaf_few can.before l j m p can.kept (let k = can.kept.over.long in omega arith)
+          a b in
+          let here = ap (λ (i : ℕ). length (rows_at can.before.relations i)) on in
+          let more = ap (λ (rows : List Tuple). length rows) can.came.rows
+          ∙ length-append (rows_at can.before.relations at) (can.row ∷ []) in
+          let most = rows_few can.after at can.came.later.catalog in
+          omega arith;
+    })
+
 pub can_add : (l self : Live) (at : ℕ) (cells : List ℕ) → l ≡ self → CanAdd self at cells
     → CanAdd l at cells
 can_add l self at cells e can = subst (λ (x : Live). CanAdd x at cells) (sym e) can
@@ -208,6 +241,22 @@ given_back l self s t at cells atoms ps k e a p can gains loses = λ c h.
     (outside (λ x y. ChangesBelow (λ q old new. Loses q cells old new) at x y k s t) atoms
     (l.numbered).atoms ps l.patterns a p loses)
     (subst (λ (x : Live). IsKept c x) (sym e) h)
+
+pub tables_back : (l self : Live) (s t : Reducts) (at : ℕ) (cells : List ℕ)
+    (atoms : List NumberedAtom) (ps : List Shape) (k : ℕ) → l ≡ self
+    → atoms ≡ (l.numbered).atoms → ps ≡ l.patterns → CanAdd l at cells
+    → ChangesBelow (λ p old new. Gains p cells old new) at atoms ps k l.reducts s
+    → ChangesBelow (λ p old new. Loses p cells old new) at atoms ps k s t
+    → SameTables self.reducts t
+tables_back l self s t at cells atoms ps k e a p can gains loses =
+    subst (λ (x : Live). SameTables x.reducts t) e
+    (back_tables can.before l s t at cells k
+    (add_lacks l at cells (l.numbered).atoms l.patterns refl refl can)
+    (outside (λ x y. ChangesBelow (λ q old new. Gains q cells old new) at x y k l.reducts s) atoms
+    (l.numbered).atoms ps l.patterns a p gains)
+    (outside (λ x y. ChangesBelow (λ q old new. Loses q cells old new) at x y k s t) atoms
+    (l.numbered).atoms ps l.patterns a p loses)
+    can.kept)
 
 -- ---- what answers show
 

@@ -35,6 +35,7 @@ use Rattle.djq_tree.specs.Tree.{Tree}
 use Rattle.djq_tree.specs.Labels.{label_at}
 use Rattle.djq_reduct.specs.Reducts.{Reducts, IsReducts}
 use Rattle.djq_propagate.specs.Updates.{HasKept}
+use Rattle.djq_propagate.proofs.Measuring.{length_even}
 use Rattle.djq_cursor.specs.Changed.{IsGained}
 use Rattle.djq_cursor.specs.Log.{Log}
 use Rattle.djq_query.specs.declared.numbered.NumberedAtom.{NumberedAtom}
@@ -167,6 +168,10 @@ kept_more r s t h kept = more_both r s t h (same_more s t kept.tree kept.tables.
 pub lacks_stay : (cells : List ℕ) (p : Shape) (es fs : List Entry) → Keeps es fs
     → Lacks cells p es → Lacks cells p fs
 lacks_stay cells p es fs keeps h u wide e = keeps u ∙ h u wide e
+
+pub few_stay : (p : Shape) (es fs : List Entry) → Keeps es fs → length es < 4294967295
+    → length fs < 4294967295
+few_stay p es fs keeps few = subst (λ (n : ℕ). n < 4294967295) (sym (length_even fs es keeps)) few
 
 pub has_stay : (cells : List ℕ) (p : Shape) (es fs : List Entry) → Keeps es fs → Has cells p es
     → Has cells p fs

@@ -30,11 +30,13 @@ use Rattle.djq_model.specs.Answer.{AreDifferent}
 use Rattle.djq_hyper.specs.Hypergraph.{member}
 use Rattle.djq_lines.specs.Hypergraph.{edges_of, head_of}
 use Rattle.djq_index.specs.Entries.{Entry, cnt}
+use Rattle.djq_index.proofs.Apart.{cnt_once}
 use Rattle.djq_tree.specs.Growing.{IsTreeOf}
 use Rattle.djq_tree.specs.Tree.{Tree}
 use Rattle.djq_tree.specs.Labels.{label_at}
 use Rattle.djq_reduct.specs.Tables.{entries_at}
-use Rattle.djq_reduct.specs.Reducts.{Reducts}
+use Rattle.djq_reduct.specs.Reducts.{Reducts, SameTables}
+use Rattle.djq_reduct.proofs.Family.{apart_at, one_family}
 use Rattle.djq_query.specs.declared.numbered.Variable.{Variable}
 use Rattle.djq_query.specs.declared.numbered.NumberedTerm.{NumberedTerm}
 use Rattle.djq_query.specs.declared.numbered.NumberedAtom.{NumberedAtom}
@@ -53,6 +55,8 @@ use Rattle.djq_live.proofs.Later.{asked_later, atom_at, cells_later}
 use Rattle.djq_live.proofs.Changing.{over_gains, over_loses}
 use Rattle.djq_live.proofs.Listings.{last_differs}
 use Rattle.djq_live.proofs.Members.{in_left}
+use Rattle.djq_live.proofs.Tabling.{tuple_wide}
+use Rattle.djq_live.proofs.Below.{within_nodes}
 use Rattle.djq_query.specs.declared.pattern.Slot.{Slot}
 
 -- ---- lengths
@@ -313,3 +317,55 @@ back_kept c l s t at cells k lacks gains loses h =
       named = tree_named l t tree h.named;
       bare = loses.bare;
     }
+
+-- all tables are as before, since the leaves' tuples are
+pub back_tables : (c : Catalog) (l : Live) (s t : Reducts) (at : ℕ) (cells : List ℕ) (k : ℕ)
+    → HoldBelow (λ q es. Lacks cells q es) at (l.numbered).atoms l.patterns
+    (length (l.numbered).atoms) l.reducts
+    → ChangesBelow (λ q old new. Gains q cells old new) at (l.numbered).atoms l.patterns k
+    l.reducts s
+    → ChangesBelow (λ q old new. Loses q cells old new) at (l.numbered).atoms l.patterns k s t
+    → IsKept c l → SameTables l.reducts t
+back_tables c l s t at cells k lacks gains loses h =
+    one_family r t h.over.reducts loses.sound
+    (record { same_tree = tree; same = λ j u low. same j u low })
+  where
+    r : Reducts
+    r = l.reducts
+
+    tree : t.tree ≡ r.tree
+    tree = loses.tree ∙ gains.tree
+
+    same : (j : ℕ) (u : List ℕ) → j < r.tree.leaves
+        → cnt (entries_at t.tables j) u ≡ cnt (entries_at r.tables j) u
+    same j u low =
+        let m = has_at (l.numbered).atoms j (let e = h.over.long in omega arith) in
+        let p = has_at l.patterns j
+        (let e = h.over.long in let f = h.over.patterns in omega arith) in
+        let wide = (h.over.leaves j m.element p.element m.is p.is).pattern.width in
+        let back : length u ≡ (p.element).width
+        → (0 < cnt (entries_at t.tables j) u) ↔ (0 < cnt (entries_at r.tables j) u) =
+        back_leaf cells at (l.numbered).atoms l.patterns k r s t j m.element p.element u lacks
+        gains loses m.is p.is in
+        let before = cnt_once (entries_at r.tables j) u
+        (apart_at r.tables j (h.over.reducts.family.sound j)) in
+        let after = cnt_once (entries_at t.tables j) u
+        (apart_at t.tables j (loses.sound.family.sound j)) in
+        elim (cases_lt 0 (cnt (entries_at r.tables j) u)) [
+          | inl there ↦
+              let w = tuple_wide r j u h.over.reducts (within_nodes r j h.over.reducts low) there in
+              let still = (back (w ∙ sym wide)).1 there in
+              omega arith
+          | inr none ↦
+              elim (cases_lt 0 (cnt (entries_at t.tables j) u)) [
+                | inl there ↦
+                    let lower : j < t.tree.leaves =
+                    subst (λ (x : Tree). j < x.leaves) (sym tree) low in
+                    let w = tuple_wide t j u loses.sound
+                    (within_nodes t j loses.sound lower) there in
+                    let label = ap (λ (x : Tree). length (label_at x.labels j)) tree in
+                    let was = (back (w ∙ label ∙ sym wide)).0 there in
+                    absurd (omega arith)
+                | inr gone ↦ omega arith
+              ]
+        ]

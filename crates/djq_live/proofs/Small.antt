@@ -18,7 +18,7 @@ use Rattle.std.proofs.Common.{
   inr,
   arith,
 }
-use Rattle.std.specs.Prelude.{Contains}
+use Rattle.std.specs.Prelude.{Contains, Some, slice_get}
 use Rattle.std.specs.List.{list_any}
 use Rattle.std.proofs.lemmas.Bool.{eqb-true, false≢true, or_cases}
 use Rattle.std.proofs.lemmas.List.{length-map}
@@ -44,6 +44,7 @@ use Rattle.djq_rows.specs.Cells.{cells_of}
 use Rattle.djq_rows.specs.Catalog.{Catalog, rows_at}
 use Rattle.djq_live.specs.Cells.{cell_under}
 use Rattle.djq_live.specs.Leaves.{IsPatternOf, IsLeafOf}
+use Rattle.djq_live.specs.Live.{Live, IsKept}
 use Rattle.djq_live.specs.Updating.{LeavesAreSmall}
 use Rattle.djq_live.proofs.Binding.{pattern_row}
 use Rattle.djq_live.proofs.Columns.{IsSimple, simple_of, reading, reading_row, row_same}
@@ -150,23 +151,31 @@ leaf_small c l m p es simple apart wide h =
     let d = length-map rows (cells_of c.texts) in
     omega arith
 
+-- a leaf has no more tuples than its atom's relation has rows
+pub leaf_few : (c : Catalog) (l : Live) (j : ℕ) (m : NumberedAtom) (p : Shape) → IsKept c l
+    → j < (l.reducts).tree.leaves → slice_get (l.numbered).atoms j ≡ Some m
+    → slice_get l.patterns j ≡ Some p
+    → length (entries_at (l.reducts).tables j) ≤ length (rows_at c.relations m.relation)
+leaf_few c l j m p h low e f =
+    let r = l.reducts in
+    let s = h.over.reducts in
+    let leaf = h.over.leaves j m p e f in
+    let within : j < length r.tree.nodes =
+    (let x = s.family.is_tree.stages.0 in let y = s.family.is_tree.stages.1 in omega arith) in
+    leaf_small c (label_at r.tree.labels j) m p (entries_at r.tables j)
+    (simple_of (label_at r.tree.labels j) (s.family.is_tree.sets j).rising)
+    (apart_at r.tables j (s.family.sound j))
+    (λ u there. tuple_wide r j u s within there ∙ sym leaf.pattern.width) leaf
+
 pub leaves_small : LeavesAreSmall
 leaves_small c l n h most = record {
   each = λ j low.
       let q = l.query in
-      let r = l.reducts in
-      let s = h.over.reducts in
       let a = has_at l.numbered.atoms j (let e = h.over.long in omega arith) in
       let p = has_at l.patterns j
       (let e = h.over.long in let f = h.over.patterns in omega arith) in
       let m = a.element in
-      let leaf = h.over.leaves j m p.element a.is p.is in
-      let within : j < length r.tree.nodes =
-      (let x = s.family.is_tree.stages.0 in let y = s.family.is_tree.stages.1 in omega arith) in
-      let few = leaf_small c (label_at r.tree.labels j) m p.element (entries_at r.tables j)
-      (simple_of (label_at r.tree.labels j) (s.family.is_tree.sets j).rising)
-      (apart_at r.tables j (s.family.sound j))
-      (λ u there. tuple_wide r j u s within there ∙ sym leaf.pattern.width) leaf in
+      let few = leaf_few c l j m p.element h low a.is p.is in
       let atom = atom_at c l.numbered.variables q.atoms l.numbered.atoms j m h.over.asked.atoms
       a.is in
       let rows = ap (λ (rs : List Tuple). length rs)

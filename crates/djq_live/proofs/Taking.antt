@@ -18,6 +18,7 @@ use Rattle.djq_reduct.specs.Tables.{entries_at}
 use Rattle.djq_reduct.specs.Reducts.{Reducts}
 use Rattle.djq_reduct.specs.Marks.{IsBare}
 use Rattle.djq_propagate.specs.Updates.{HasInserted, HasKept}
+use Rattle.djq_propagate.proofs.Measuring.{length_less}
 use Rattle.djq_query.specs.declared.numbered.NumberedAtom.{NumberedAtom}
 use Rattle.djq_query.specs.Pattern.{Shape, filled}
 use Rattle.djq_rows.specs.Cells.{cells_of}
@@ -29,6 +30,7 @@ use Rattle.djq_live.specs.Leaves.{Holds}
 use Rattle.djq_live.specs.Building.{AreFilled, HasTaken, IsFilled, TakesRow, cells_at}
 use Rattle.djq_live.proofs.Terms.{both}
 use Rattle.djq_live.proofs.Filled.{leaf_empty, leaf_gains, leaf_filled}
+use Rattle.djq_live.proofs.Sizing.{inserted_grows}
 
 -- ---- one row
 
@@ -73,6 +75,7 @@ took_row p leaf cells u old mid new i k exact = record {
               omega arith
         ],
       );
+  grows = (inserted_grows leaf u old mid new i k).leaf;
   others = λ j low other v.
       k.tables.tuples j v
       ∙ sym (i.without.others j v
@@ -126,6 +129,7 @@ start_taken c at p leaf left old all empty bare = record {
   done = [];
   parts = sym all;
   holds = leaf_empty p (entries_at old.tables leaf) empty;
+  few = length_less (entries_at old.tables leaf) [] (λ v. (let none = empty v in omega arith));
   tree = refl;
   bare = bare;
   others = λ j low other u. refl;
@@ -140,6 +144,8 @@ step_taken c at p leaf row before left old mid new h next takes = record {
       ∙ sym (append_assoc h.done (row ∷ []) left);
   holds = leaf_gains h.done row p (entries_at mid.tables leaf) (entries_at new.tables leaf)
       h.holds takes.gains;
+  few = (let a = takes.grows in let b = h.few in let d = length-append h.done (row ∷ []) in
+      omega arith);
   tree = takes.tree ∙ h.tree;
   bare = takes.bare;
   others = λ j low other u.
@@ -206,6 +212,23 @@ wide_row c at p leaf row before left old mid catalog low h next =
     ∙ cells_long c.texts (slice_index_or rows i [])
     ∙ fits_long (relation_at c.relations at).types (slice_index_or rows i [])
     ((catalog.kept at no_relation low).typed i [] within)
+
+-- there is a number left for it, as it is one more row at most than the leaf has tuples
+pub few_row : (c : Catalog) (at : ℕ) (p : Shape) (leaf : ℕ) (row : List ℕ)
+    (before left : List (List ℕ)) (old mid : Reducts) → IsCatalog c → at < length c.relations
+    → HasTaken c at p leaf before old mid → before ≡ row ∷ left
+    → length (entries_at mid.tables leaf) < 4294967295
+few_row c at p leaf row before left old mid catalog low h next =
+    let rows = rows_at c.relations at in
+    let f = cells_of c.texts in
+    let long : length rows ≡ length h.done + length (row ∷ left) =
+    sym (length-map rows f)
+    ∙ ap (λ (l : List (List ℕ)). length l)
+    (h.parts ∙ ap (λ (l : List (List ℕ)). h.done ++ l) next)
+    ∙ length-append h.done (row ∷ left) in
+    let most = (catalog.kept at no_relation low).few in
+    let some = h.few in
+    omega arith
 
 -- ---- all leaves
 

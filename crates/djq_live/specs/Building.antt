@@ -1,5 +1,5 @@
 -- How a query is built: its atoms are bound, and its leaves filled.
-use Rattle.std.specs.Prelude.{◌≡◌, ◌≢◌, ℕ, ◌<◌, ◌≤◌, List, ◌++◌, length, Some, slice_get, map}
+use Rattle.std.specs.Prelude.{◌≡◌, ◌≢◌, ℕ, ◌+◌, ◌<◌, ◌≤◌, List, ◌++◌, length, Some, slice_get, map}
 use Rattle.std.specs.List.{list_any}
 use Rattle.djq_model.specs.Data.{Bytes}
 use Rattle.djq_hyper.specs.Hypergraph.{member}
@@ -54,6 +54,7 @@ pub record TakesRow (p : Shape) (leaf : ℕ) (cells : List ℕ) (old new : Reduc
   pub tree : new.tree ≡ old.tree
   pub bare : IsBare new.tables
   pub gains : Gains p cells (entries_at old.tables leaf) (entries_at new.tables leaf)
+  pub grows : length (entries_at new.tables leaf) ≤ length (entries_at old.tables leaf) + 1
   pub others : (j : ℕ) → j < old.tree.leaves → j ≢ leaf
       → Keeps (entries_at old.tables j) (entries_at new.tables j)
 
@@ -63,6 +64,7 @@ pub record HasTaken (c : Catalog) (at : ℕ) (p : Shape) (leaf : ℕ) (left : Li
   pub done : List (List ℕ)
   pub parts : cells_at c at ≡ done ++ left
   pub holds : HoldsThese done p (entries_at new.tables leaf)
+  pub few : length (entries_at new.tables leaf) ≤ length done
   pub tree : new.tree ≡ old.tree
   pub bare : IsBare new.tables
   pub others : (j : ℕ) → j < old.tree.leaves → j ≢ leaf

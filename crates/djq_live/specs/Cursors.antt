@@ -32,6 +32,14 @@ slot_at slots k = slice_index_or slots k None
 abbrev pub are_vacant : List (Option Progress) → Bool
 are_vacant slots = count_by is_some slots == 0
 
+-- This cursor is in a slot, and isn't stale.
+abbrev pub HasOpen : List (Option Progress) → ℕ → Cursor → Type 0
+HasOpen slots k cursor = (ended : Bool) × (slot_at slots k ≡ Some (Open cursor ended))
+
+-- a cursor that isn't stale is in a slot
+abbrev pub IsOpenIn : List (Option Progress) → ℕ → Type 0
+IsOpenIn slots k = (cursor : Cursor) × HasOpen slots k cursor
+
 -- One slot becomes this, and all others are as before.
 pub record SetsSlot (old : List (Option Progress)) (k : ℕ) (slot : Option Progress)
     (new : List (Option Progress)) : Type 0 where

@@ -13,7 +13,7 @@ use Rattle.djq_live.specs.declared.cursors.Progress.{Progress}
 use Rattle.djq_live.specs.declared.cursors.Progress.TheVariants.{Open}
 use Rattle.djq_live.specs.declared.listing.Next.{Next}
 use Rattle.djq_live.specs.declared.listing.Next.TheVariants.{Given, End, Stale}
-use Rattle.djq_live.specs.Cursors.{slot_at, SetsSlot}
+use Rattle.djq_live.specs.Cursors.{slot_at, IsOpenIn, SetsSlot}
 use Rattle.djq_live.specs.Live.{Live, IsLive, position_of, values_of}
 
 -- The cursor in a slot is moved, and nothing else.
@@ -72,5 +72,4 @@ pub record OpensIn (old : Live) (k : ℕ) (new : Live) : Type 0 where
 
 -- a cursor that isn't stale is in a slot
 abbrev pub IsFreshIn : Live → ℕ → Type 0
-IsFreshIn l k = (cursor : Cursor) × (ended : Bool)
-    × (slot_at l.cursors k ≡ Some (Open cursor ended))
+IsFreshIn l k = IsOpenIn l.cursors k

@@ -1,5 +1,5 @@
 -- What becomes of a registered query where a row of a relation comes or goes, and what its log says.
-use Rattle.std.specs.Prelude.{ℕ, List, ◌++◌, ◌≡◌, ◌+◌, ◌*◌, ◌≤◌, ◌==◌, Bool, true, false, All, Contains, filter, length, map, if◌then◌else◌}
+use Rattle.std.specs.Prelude.{ℕ, List, [], ◌++◌, ◌≡◌, ◌+◌, ◌*◌, ◌≤◌, ◌==◌, Bool, true, false, All, Contains, filter, length, map, if◌then◌else◌}
 use Rattle.djq_model.specs.declared.query.Atom.{Atom}
 use Rattle.djq_model.specs.Data.{Bytes, Tuple, rows_of}
 use Rattle.djq_model.specs.Answer.{IsAnswer}
@@ -61,6 +61,11 @@ pub record Logs (Changed : Catalog → Catalog → Tuple → Type 0) (old : Live
 abbrev pub LogsWhere : Bool → (Catalog → Catalog → Tuple → Type 0) → Live → Log → Log → Type 0
 LogsWhere true Changed old log new = Logs Changed old log new
 LogsWhere false Changed old log new = new ≡ log
+
+-- The log tells of no change, and isn't lost.
+pub record IsEmpty (log : Log) : Type 0 where
+  pub lines : log.lines ≡ []
+  pub kept : log.lost ≡ false
 
 -- how many atoms are over the relation at a place
 abbrev pub atoms_over : Live → ℕ → ℕ

@@ -17,6 +17,8 @@ ghost use Rattle.djq_machine.specs.Store.{most_steps};
 ghost use Rattle.djq_live.specs.Cursors.{
   are_vacant,
   slot_at,
+  IsOpenIn,
+  HasOpen,
   OpensSlot,
   outdated_slots,
   outdated_progress,
@@ -148,6 +150,17 @@ impl Cursors {
         match self.slots.insert(progress) {
             Ok(slot) => Ok(slot),
             Err(_) => Err(NoMem),
+        }
+    }
+
+    /// The cursor in a slot, which isn't stale.
+    pub fn cursor(&self, slot: usize) -> &Cursor
+        requires { IsOpenIn self.now slot }
+        ensures { HasOpen self.now slot result.now }
+    {
+        match &self.slots[slot] {
+            Progress::Open { cursor, .. } => cursor,
+            Progress::Stale { .. } => unreachable!(),
         }
     }
 

@@ -35,6 +35,7 @@ fn insert_row<U: Ledger>(
     requires absent { (u : List ℕ) → length u ≡ pattern.now.width → filled u pattern.now.slots
         ≡ row.now → cnt (entries_at reducts.old.tables leaf) u ≡ 0 }
     requires bare { IsBare reducts.old.tables }
+    requires few { length (entries_at reducts.old.tables leaf) < 4294967295 }
     ensures { IfOk result (λ _. TakesRow pattern.now leaf row.now reducts.old reducts.new) }
 {
     let Some(tuple) = pattern.matches(row) else {

@@ -19,12 +19,13 @@ ghost use Rattle.djq_model.specs.Answer.{IsAnswer};
 ghost use Rattle.djq_model.specs.Lent.{value_lent};
 ghost use Rattle.djq_machine.specs.Store.{most_steps, Tells, answer_types, misfit};
 ghost use Rattle.djq_rows.specs.Catalog.{Catalog as CatalogModel};
-ghost use Rattle.djq_live.specs.Cursors.{slot_at, are_vacant};
+ghost use Rattle.djq_live.specs.Cursors.{slot_at, are_vacant, HasOpen};
 ghost use Rattle.djq_live.specs.Live.{IsLive, IsKeptSomewhere, IsShowable, FitsIn, values_of};
 ghost use Rattle.djq_live.specs.Reading.{NextGives, MoreGives, next_steps, OpensIn, IsFreshIn};
 
 use crate::live::LiveQuery;
 use crate::lookup::{column_at, has_cells, suits_head};
+use djq_cursor::Cursor;
 use djq_lines::Refusal;
 use djq_model::{Lent, Name, NoMem, Value};
 use djq_reduct::{Answer, column_of};
@@ -66,6 +67,15 @@ impl LiveQuery {
         ensures err { OnErr result (self.new ≡ self.old) }
     {
         self.cursors.open()
+    }
+
+    /// The cursor in a slot, which isn't stale. What it has given are the answers that reads of the
+    /// slot gave.
+    pub fn cursor(&self, slot: usize) -> &Cursor
+        requires { IsFreshIn self.now slot }
+        ensures { HasOpen self.now.cursors slot result.now }
+    {
+        self.cursors.cursor(slot)
     }
 
     /// Takes the cursor out of a slot.

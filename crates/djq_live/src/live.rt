@@ -32,4 +32,11 @@ impl LiveQuery {
     {
         &self.query
     }
+
+    /// Its tables: where it is kept over a catalog they are those of its tree over the catalog's rows.
+    pub fn reducts(&self) -> &Reducts
+        ensures { result.now ≡ self.now.reducts }
+    {
+        &self.reducts
+    }
 }

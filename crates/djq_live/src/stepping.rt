@@ -90,6 +90,7 @@ fn add_to_leaf<L: Ledgers>(
     requires wide { pattern.now.width ≡ length (label_at reducts.old.tree.labels leaf) }
     requires long { length cells.now ≡ length pattern.now.slots }
     requires absent { Lacks cells.now pattern.now (entries_at reducts.old.tables leaf) }
+    requires few { length (entries_at reducts.old.tables leaf) < 4294967295 }
     requires bare { IsBare reducts.old.tables }
     ensures gained { OnOk result (ChangesAt (λ p old new. Gains p cells.now old new) pattern.now
         leaf reducts.old reducts.new) }
@@ -161,6 +162,8 @@ pub(crate) fn add_to_leaves<L: Ledgers>(
 ) -> usize
     requires leaves { AreLeaves relation cells.now atoms.now patterns.now reducts.old }
     requires absent { HoldBelow (λ p es. Lacks cells.now p es) relation atoms.now patterns.now
+        (length atoms.now) reducts.old }
+    requires few { HoldBelow (λ _ es. length es < 4294967295) relation atoms.now patterns.now
         (length atoms.now) reducts.old }
     requires bare { IsBare reducts.old.tables }
     ensures done { result ≤ length atoms.now }

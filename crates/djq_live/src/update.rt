@@ -1,15 +1,18 @@
 //! What becomes of a registered query where a row of a relation comes or goes.
 ghost use Rattle.std.specs.Prelude.{◌≡◌, ℕ, false, OnOk, OnErr};
 ghost use Rattle.djq_model.specs.Data.{Tuple};
+ghost use Rattle.djq_reduct.specs.Reducts.{SameTables};
 ghost use Rattle.djq_rows.specs.Catalog.{Catalog as CatalogModel};
 ghost use Rattle.djq_live.specs.Changes.{Came, Went, HasSameRows};
 ghost use Rattle.djq_live.specs.Cursors.{outdated_slots};
 ghost use Rattle.djq_live.specs.Live.{IsKept, IsLive, SameQuery};
+ghost use Rattle.djq_live.specs.Stepping.{GrowsByOne};
 ghost use Rattle.djq_live.specs.Updating.{
   CanAdd,
   CanDelete,
   Follows,
   LogsWhere,
+  IsEmpty,
   CountsDelta,
   CountsUpdate,
 };
@@ -32,8 +35,9 @@ impl LiveQuery {
     ///
     /// # Errors
     ///
-    /// `NoMem` out of memory; rows and answers are as before. The update count then rises by at most
-    /// three times as much, since the leaves that took the row in give it back.
+    /// `NoMem` out of memory; all tables are as before, with the same supports, and the log is empty.
+    /// The update count then rises by at most three times as much, since the leaves that took the row
+    /// in give it back.
     pub fn add<L: Ledgers>(
         &mut self,
         relation: RelationId,
@@ -47,11 +51,14 @@ impl LiveQuery {
             self.old self.new) }
         ensures refused { OnErr result ((c : CatalogModel) → IsKept c self.old
             → IsKept c self.new) }
+        ensures tables { OnErr result (SameTables self.old.reducts self.new.reducts) }
         ensures same { SameQuery self.old self.new }
         ensures log { OnOk result (LogsWhere wanted (λ c d. Came c d relation.at cells.now)
             self.old log.old log.new) }
+        ensures emptied { OnErr result (IsEmpty log.new) }
         ensures counted { CountsDelta wanted (λ c d. Came c d relation.at cells.now)
             self.old relation.at steps.old.listing steps.new.listing }
+        ensures grows { OnOk result (GrowsByOne self.old.reducts self.new.reducts) }
         ensures updates { OnOk result (CountsUpdate 1 self.old relation.at
             steps.old.update steps.new.update) }
         ensures refusal { OnErr result (CountsUpdate 3 self.old relation.at
@@ -82,6 +89,7 @@ impl LiveQuery {
             cells,
             steps,
         );
+        log.clear();
         Err(NoMem)
     }
 

@@ -1,5 +1,5 @@
 -- What the lines that open and read a cursor make of it, and what they are answered.
-use Rattle.std.specs.Prelude.{List, [], ◌∷◌, ◌++◌, ◌≡◌, ◌≤◌, ◌⊎◌, Bool, true, false, cond, Option, None, Some, is_some, IsSome, IsSomeAnd, MatchOption, option_map, Result, Ok, Err, length, codes, slice_index, ⊤}
+use Rattle.std.specs.Prelude.{List, [], ◌∷◌, ◌++◌, ◌≡◌, ◌<◌, ◌≤◌, ◌⊎◌, Bool, true, false, cond, Option, None, Some, is_some, IsSome, IsSomeAnd, MatchOption, option_map, Result, Ok, Err, length, codes, slice_index, ⊤}
 use Rattle.std.specs.List.{list_all}
 use Rattle.std.specs.Str.{IsAscii, is_utf8}
 use Rattle.std.proofs.Common.{refl, sym, ap, ◌∙◌, subst, inl, inr, arith, leb}
@@ -8,6 +8,7 @@ use Rattle.std.proofs.lemmas.Str.{IsUtf8-from_ascii, is_utf8-from_IsUtf8}
 use Rattle.std.proofs.lemmas.Str.Ascii.{IsAscii-nil, IsAscii-cons}
 use Rattle.djq_model.specs.declared.query.Query.{Query}
 use Rattle.djq_model.specs.Data.{Bytes, Tuple, bytes_eq, query_of}
+use Rattle.djq_model.specs.Answer.{IsAnswer}
 use Rattle.djq_lines.specs.declared.answer.EndCause.{EndCause}
 use Rattle.djq_lines.specs.declared.answer.EndCause.TheVariants.{Memory}
 use Rattle.djq_lines.specs.declared.answer.Refusal.{Refusal}
@@ -18,7 +19,8 @@ use Rattle.djq_lines.specs.Grammar.{Reading, says as says_command, reading_of, r
 use Rattle.djq_lines.specs.Conditions.{Answers}
 use Rattle.djq_lines.specs.Reply.{refusal_line, end_memory, listing_lines, text_of, ok_reply}
 use Rattle.djq_value.specs.Token.{tokens}
-use Rattle.djq_machine.specs.State.{State, Session, Cursor, open_at, session_of, with_session, cursor_of, with_position, ended_by}
+use Rattle.djq_machine.specs.State.{Store, State, Session, Cursor, open_at, session_of, with_session, cursor_of, with_position, ended_by}
+use Rattle.djq_machine.specs.Store.{IsLeft}
 use Rattle.djq_machine.specs.Effect.{Effect, nothing, says, EndsWith, RefusedStep}
 use Rattle.djq_machine.specs.Command.{open_refusal, with_cursor, OpensTo, NextStep, NextCutStep, NextStepAt}
 use Rattle.djq_machine.specs.LineStep.{blank, run, FrontStep, ReadStep, behind_line}
@@ -29,8 +31,9 @@ use Rattle.djq_laws.proofs.Finding.{some_and, find_changed}
 use Rattle.djq_laws.proofs.Queueing.{gaining, session_changed, stepped as session_stepped, stepped_cause, stepped_pending}
 use Rattle.djq_laws.proofs.Touching.{says_to, is_stepped}
 use Rattle.djq_load.specs.Lines.{IsIdle, LineRuns, TakesAll, cursors_in, cursors_of, cursor_at, Stands}
-use Rattle.djq_load.specs.Totals.{open_line, next_line}
+use Rattle.djq_load.specs.Totals.{HasLeft, open_line, next_line}
 use Rattle.djq_load.proofs.Idle.{is_fed}
+use Rattle.djq_load.proofs.Left.{step_left, some_told}
 
 none_some : {A : Type 0} (o : Option A) (a : A) → o ≡ None → o ≡ Some a → ⊥
 none_some o a e f = cc
@@ -54,6 +57,30 @@ changed_cursors old mid f same keeps after = ap cursors_of after ∙ ap cursors_
 ended_cause : (old mid : State) (x : Session) → session_of old 1 ≡ Some x → mid ≡ with_session old 1 (ended_by Memory) → cause_of mid 1 ≡ Some Memory
 ended_cause old mid x found after =
     ap (λ (st : State). cause_of st 1) after ∙ ap cause_in (session_changed old 1 (ended_by Memory) (λ y. refl) ∙ ap (λ o. option_map (ended_by Memory) o) found)
+
+fed_store : (old : State) (line : Bytes) (x : Session) (e : Effect) (mid : State) (c : Option EndCause)
+    → MatchOption c
+    (((e ≡ nothing) × (mid ≡ with_session old 1 (λ y. record y { held = y.held ++ line }))) ⊎ EndsWith end_memory Memory old 1 e mid)
+    (λ _. (e ≡ nothing) × (mid ≡ old))
+    → mid.store ≡ old.store
+fed_store old line x e mid None (inl h) = ap (λ (st : State). st.store) h.1
+fed_store old line x e mid None (inr h) = ap (λ (st : State). st.store) h.1
+fed_store old line x e mid (Some c) h = ap (λ (st : State). st.store) h.1
+
+-- The answers that are left stay so as bytes come, or are taken.
+fed_left : (line : Bytes) (old mid : State) (given : List Tuple) → Makes old (fed 1 line) mid → HasLeft old.store given → HasLeft mid.store given
+fed_left line old mid given m left =
+    let h = m.step in
+    let f = some_and (session_of old 1) (λ x. FedStep old 1 line x m.effect h.mid) h.acts in
+    step_left old (fed 1 line) m.effect mid h given (subst (λ (store : Store). HasLeft store given) (sym (fed_store old line f.0 m.effect h.mid (f.0).cause f.2)) left)
+
+pub took_left : (old new : State) (given : List Tuple) → TakesAll old new → HasLeft old.store given → HasLeft new.store given
+took_left old new given (inl (none, same)) left = subst (λ (st : State). HasLeft st.store given) (sym same) left
+took_left old new given (inr (some, m)) left =
+    let h = m.step in
+    let bytes = pending_of old 1 in
+    let f = some_and (session_of old 1) (λ x. TookStep old 1 bytes x m.effect h.mid) h.acts in
+    step_left old (took 1 bytes) m.effect new h given (subst (λ (st : State). HasLeft st.store given) (sym f.2.1.2) left)
 
 fed_by_cause : (old : State) (line : Bytes) (x : Session) (e : Effect) (mid : State) (c : Option EndCause) → session_of old 1 ≡ Some x → cause_of mid 1 ≡ None
     → MatchOption c
@@ -143,47 +170,55 @@ pending_behind mid new event e h z text found none queued =
     ∙ ap (λ (o : Option Session). pending_in o ++ to_session 1 e.queued) found ∙ ap (λ (p : Bytes). p ++ to_session 1 e.queued) none ∙ queued
 
 -- Reading the cursor.
-pub record Tells (given : List Tuple) (new : State) : Type 0 where
+pub record Tells (given : List Tuple) (old new : State) : Type 0 where
   pub told : List Tuple
   pub end : Bool
   pub stands : Stands new (given ++ told) end
   pub pending : pending_of new 1 ≡ text_of (listing_lines told end)
   pub few : length told ≤ 1000
   pub full : end ≡ false → length told ≡ 1000
+  pub some : HasLeft old.store given → end ≡ true → 0 < length told
+  pub left : end ≡ false → HasLeft new.store (given ++ told)
 
-record NextTold (given : List Tuple) (y : Session) (e : Effect) (m : State) : Type 0 where
+record NextTold (given : List Tuple) (st : State) (y : Session) (e : Effect) (m : State) : Type 0 where
   told : List Tuple
   end : Bool
   few : length told ≤ 1000
   full : end ≡ false → length told ≡ 1000
+  some : HasLeft st.store given → end ≡ true → 0 < length told
+  left : end ≡ false → HasLeft m.store (given ++ told)
   queued : to_session 1 e.queued ≡ text_of (listing_lines told end)
   session : Session
   found : session_of m 1 ≡ Some session
   cursors : session.cursors ≡ with_position y.cursors (codes "c") (open_at (given ++ told) end)
   pending : session.pending ≡ y.pending
 
-next_told : (given : List Tuple) (st : State) (y : Session) (q : Query) (e : Effect) (m : State) → session_of st 1 ≡ Some y → cause_of m 1 ≡ None
-    → NextStep st 1 (codes "c") q given 1000 e m ⊎ NextCutStep st 1 q given 1000 e m → NextTold given y e m
-next_told given st y q e m found running (inl h) = record {
+next_told : (given : List Tuple) (st : State) (y : Session) (q : Query) (e : Effect) (m : State) → session_of st 1 ≡ Some y → query_of st.store.queries (codes "q") ≡ Some q → cause_of m 1 ≡ None
+    → NextStep st 1 (codes "c") q given 1000 e m ⊎ NextCutStep st 1 q given 1000 e m → NextTold given st y e m
+next_told given st y q e m found registered running (inl h) = record {
   told = h.told;
   end = h.end;
   few = (h.tells).at_most;
   full = (h.tells).all_asked;
+  some = λ left ends. some_told (IsAnswer st.store.relations q) given h.told
+      (subst (λ (o : Option Query). IsSomeAnd o (λ p. (t : Tuple) × IsLeft (IsAnswer st.store.relations p) given t)) registered left) ((h.tells).none_left ends);
+  left = λ goes. subst (λ (store : Store). HasLeft store (given ++ h.told)) (sym (ap (λ (s : State). s.store) h.state))
+      (subst (λ (o : Option Query). IsSomeAnd o (λ p. (t : Tuple) × IsLeft (IsAnswer st.store.relations p) (given ++ h.told) t)) (sym registered) ((h.tells).some_left goes));
   queued = ap (λ (d : Effect). to_session 1 d.queued) h.effect ∙ says_to 1 (text_of (listing_lines h.told h.end));
   session = record y { cursors = with_position y.cursors (codes "c") (open_at (given ++ h.told) h.end) };
   found = changed_to st m y (λ x. record x { cursors = with_position x.cursors (codes "c") (open_at (given ++ h.told) h.end) }) (λ x. refl) found h.state;
   cursors = refl;
   pending = refl;
 }
-next_told given st y q e m found running (inr h) = absurd (none_some (cause_of m 1) Memory running (ended_cause st m y found h.state))
+next_told given st y q e m found registered running (inr h) = absurd (none_some (cause_of m 1) Memory running (ended_cause st m y found h.state))
 
 next_at : (given : List Tuple) (ended : Bool) (st : State) (y : Session) (e : Effect) (m : State) → session_of st 1 ≡ Some y → cursor_of y.cursors (codes "c") ≡ Some (cursor_at given ended) → cause_of m 1 ≡ None
-    → ReadStep st 1 y (says_command (Next (codes "c") 1000)) e m → NextTold given y e m
+    → ReadStep st 1 y (says_command (Next (codes "c") 1000)) e m → NextTold given st y e m
 next_at given ended st y e m found stands running (true, h) =
     let at : IsSomeAnd (query_of st.store.queries (codes "q")) (λ q. NextStepAt st 1 (codes "c") q 1000 (open_at given ended) e m) =
     subst (λ (o : Option Cursor). MatchOption o (RefusedStep st 1 NoCursor e m) (λ k. IsSomeAnd (query_of st.store.queries k.query) (λ q. NextStepAt st 1 (codes "c") q 1000 k.position e m))) stands h in
     let q = some_and (query_of st.store.queries (codes "q")) (λ q. NextStepAt st 1 (codes "c") q 1000 (open_at given ended) e m) at in
-    next_told given st y q.0 e m found running q.2
+    next_told given st y q.0 e m found q.1 running q.2
 next_at given ended st y e m found stands running (false, h) = absurd (not_true h.0)
   where
     not_true : false ≡ true → ⊥
@@ -209,7 +244,7 @@ moved given more ended end cursors stands =
     find_changed (λ (c : Cursor). bytes_eq c.name (codes "c")) (λ (c : Cursor). record c { position = open_at more end }) (λ c. refl) cursors
     ∙ ap (λ (o : Option Cursor). option_map (λ (c : Cursor). record c { position = open_at more end }) o) stands
 
-next_run : (given : List Tuple) (ended : Bool) (mid new : State) → Stands mid given ended → pending_of mid 1 ≡ [] → cause_of new 1 ≡ None → Runs (codes "next c 1000") mid new → Tells given new
+next_run : (given : List Tuple) (ended : Bool) (mid new : State) → Stands mid given ended → pending_of mid 1 ≡ [] → cause_of new 1 ≡ None → Runs (codes "next c 1000") mid new → Tells given mid new
 next_run given ended mid new stands pending running r =
     let st = with_session mid 1 (behind_line r.rest) in
     let y = behind_line r.rest r.session in
@@ -225,18 +260,30 @@ next_run given ended mid new stands pending running r =
       pending = pending_behind mid new r.event r.effect r.step t.session (text_of (listing_lines t.told t.end)) t.found (t.pending ∙ sym (ap pending_in r.found) ∙ pending) t.queued;
       few = t.few;
       full = t.full;
+      some = t.some;
+      left = λ goes. step_left mid r.event r.effect new r.step (given ++ t.told) (t.left goes);
     }
 
 next_front : front_of next_line ≡ a_line (codes "next c 1000") []
 next_front = refl
 
 -- The line that reads the cursor was run.
-pub next_tells : (given : List Tuple) (ended : Bool) (old : State) (before : Counts) (new : State) (now : Counts) → IsIdle old → Stands old given ended → LineRuns next_line old before new now → Tells given new
+pub next_tells : (given : List Tuple) (ended : Bool) (old : State) (before : Counts) (new : State) (now : Counts) → IsIdle old → Stands old given ended → LineRuns next_line old before new now → Tells given old new
 next_tells given ended old before new now idle stands h =
     let mid = h.mid in
     let here = is_fed next_line old mid idle h.is_held h.comes in
-    next_run given ended mid new (ap (λ (cs : List Cursor). cursor_of cs (codes "c")) (fed_cursors next_line old mid h.is_held h.comes) ∙ stands) here.pending h.running
-    (runs next_line (codes "next c 1000") mid new before now here.held next_front refl h.ran)
+    let t = next_run given ended mid new (ap (λ (cs : List Cursor). cursor_of cs (codes "c")) (fed_cursors next_line old mid h.is_held h.comes) ∙ stands) here.pending h.running
+    (runs next_line (codes "next c 1000") mid new before now here.held next_front refl h.ran) in
+    record {
+      told = t.told;
+      end = t.end;
+      stands = t.stands;
+      pending = t.pending;
+      few = t.few;
+      full = t.full;
+      some = λ left. t.some (fed_left next_line old mid given h.comes left);
+      left = t.left;
+    }
 
 -- Opening it.
 open_reads : reading_of (codes "open c q") ≡ says_command (Open (codes "c") (codes "q"))

@@ -1,20 +1,24 @@
 -- What a line that comes to an idle session makes of it.
-use Rattle.std.specs.Prelude.{ℕ, List, [], ◌∷◌, ◌++◌, ◌≡◌, ◌≢◌, ◌+◌, ◌<◌, ◌≤◌, true, Option, None, Some, IsSome, IsSomeAnd, length, replicate}
-use Rattle.std.proofs.Common.{refl, sym, ap, ap₂, ◌∙◌, subst, inl, inr, append-nil, length-append, arith}
+use Rattle.std.specs.Prelude.{ℕ, List, [], ◌∷◌, ◌++◌, ◌≡◌, ◌≢◌, ◌+◌, ◌<◌, ◌≤◌, true, Option, None, Some, IsSome, IsSomeAnd, MatchOption, length, replicate}
+use Rattle.std.proofs.Common.{refl, sym, ap, ap₂, ◌∙◌, subst, inl, inr, append-nil, append_assoc, length-append, arith}
 use Rattle.std.proofs.lemmas.List.{nil_from_length, replicate_more}
 use Rattle.std.proofs.lemmas.Grind.{flat_map-append}
 use Rattle.std.proofs.lemmas.List.Elements.{All-nil, All-cons, All-append}
 use Rattle.std.proofs.lemmas.List.Sums.{sum_by-append}
 use Rattle.djq_model.specs.Data.{Bytes}
+use Rattle.djq_lines.specs.declared.answer.EndCause.{EndCause}
+use Rattle.djq_lines.specs.declared.answer.EndCause.TheVariants.{Long, Slow, Memory}
 use Rattle.djq_lines.specs.declared.answer.Refusal.TheVariants.{NoMemory}
 use Rattle.djq_lines.specs.Line.{a_line, behind_lf, front_of}
 use Rattle.djq_lines.specs.Reply.{refusal_line}
 use Rattle.djq_machine.specs.State.{State, Session, session_of}
-use Rattle.djq_machine.specs.LineStep.{LineOutcome, blank, run}
+use Rattle.djq_machine.specs.LineStep.{LineOutcome, long, blank, slow, no_room, run}
 use Rattle.djq_machine.specs.Effect.{Effect}
 use Rattle.djq_machine.specs.Step.{Event, fed, stepped, took, is_dry, Step}
 use Rattle.djq_machine.specs.Run.{Did, piece_of, pending_of, pending_in, to_session}
-use Rattle.djq_machine.specs.Call.{IsOpen, Makes, MakesCounted, RanStep, Counts, cause_of, cause_in, held_of, held_in}
+use Rattle.djq_machine.specs.declared.machine.Stepped.{Stepped}
+use Rattle.djq_machine.specs.declared.machine.Stepped.TheVariants.{Ran, Dry, Ended as HadEnded}
+use Rattle.djq_machine.specs.Call.{IsOpen, Makes, MakesCounted, RanStep, EndedStepAs, StepGives, Counts, cause_of, cause_in, held_of, held_in}
 use Rattle.djq_laws.specs.declared.limits.TheConstants.{READ_BYTES}
 use Rattle.djq_laws.specs.Course.{RunNext, AwaitsInput}
 use Rattle.djq_laws.specs.Sent.{gone_by}
@@ -23,7 +27,7 @@ use Rattle.djq_laws.proofs.Courses.{walk_then}
 use Rattle.djq_laws.proofs.Cutting.{line_in_front}
 use Rattle.djq_laws.proofs.Moving.{took_facts, fed_facts, stepped_facts}
 use Rattle.djq_laws.proofs.Sending.{step_bytes}
-use Rattle.djq_load.specs.Lines.{Loads, IsServed, IsIdle, LineRuns, TakesAll}
+use Rattle.djq_load.specs.Lines.{Loads, Feeds, BreaksOff, IsServed, IsIdle, LineRuns, TakesAll}
 use Rattle.djq_load.proofs.Served.{quiet}
 
 none_some : {A : Type 0} (o : Option A) (a : A) → o ≡ None → o ≡ Some a → ⊥
@@ -148,7 +152,7 @@ awaits st idle = of_session (session_of st 1) idle.is_open AwaitsInput
 flushed : (st : State) → IsOpen st 1 → pending_of st 1 ≡ [] → IsSomeAnd (session_of st 1) (λ x. x.pending ≡ [])
 flushed st there pending = of_session (session_of st 1) there (λ x. x.pending ≡ []) (λ x e. sym (ap pending_in e) ∙ pending)
 
-some_byte : (line : Bytes) → behind_lf line ≡ Some [] → 0 < length line
+pub some_byte : (line : Bytes) → behind_lf line ≡ Some [] → 0 < length line
 some_byte [] e = absurd cc
 some_byte (b ∷ line) e = omega arith
 
@@ -193,6 +197,97 @@ line_idle line old before mid now new idle one runs takes =
       pending = t.pending;
       running = t.cause ∙ runs.running;
     }
+
+-- Lines that come, whatever they are answered.
+feeds_one : (d : Did) (old : State) (before : Counts) (new : State) (now : Counts) → RunNext old d new → now.listing ≤ before.listing + d.effect.cost → Feeds (piece_of d.event) old before new now
+feeds_one d old before new now next listing = record {
+  done = d ∷ [];
+  walk = (new, next, refl);
+  fed = append-nil (piece_of d.event);
+  listing = omega (arith, listing);
+}
+
+feeds_then : (lines more : List Bytes) (old : State) (before : Counts) (mid : State) (between : Counts) (new : State) (now : Counts)
+    → Feeds lines old before mid between → Feeds more mid between new now → Feeds (lines ++ more) old before new now
+feeds_then lines more old before mid between new now c d = record {
+  done = c.done ++ d.done;
+  walk = walk_then RunNext old c.done mid d.done new c.walk d.walk;
+  fed = flat_map-append (λ (x : Did). piece_of x.event) c.done d.done ∙ ap₂ (λ (a b : List Bytes). a ++ b) c.fed d.fed;
+  listing = omega (arith, c.listing, d.listing, sum_by-append (λ (x : Did). x.effect.cost) c.done d.done);
+}
+
+-- the line comes
+pub comes_feeds : (line : Bytes) (old : State) (counted : Counts) (mid : State) → IsIdle old → 0 < length line → length line ≤ READ_BYTES → Makes old (fed 1 line) mid → Feeds (line ∷ []) old counted mid counted
+comes_feeds line old counted mid idle some short m =
+    feeds_one (record { event = fed 1 line; effect = m.effect }) old counted mid counted ((refl, some, short, awaits old idle), m.step) (omega arith)
+
+front_feeds : (line : Bytes) (old : State) (before : Counts) (mid : State) (outcome : LineOutcome) (new : State) (now : Counts) → IsFed line mid
+    → Feeds (line ∷ []) old before mid before → MakesCounted mid (stepped 1 outcome) new before now → Feeds (line ∷ []) old before new now
+front_feeds line old before mid outcome new now here comes m =
+    feeds_then (line ∷ []) [] old before mid before new now comes
+    (feeds_one (record { event = stepped 1 outcome; effect = m.effect }) mid before new now ((refl, flushed mid here.is_open here.pending), m.step) m.listing)
+
+ended_feeds : (line : Bytes) (old : State) (before : Counts) (mid : State) (c : EndCause) (new : State) (now : Counts) → IsFed line mid
+    → Feeds (line ∷ []) old before mid before → EndedStepAs c mid 1 new before now → Feeds (line ∷ []) old before new now
+ended_feeds line old before mid Long new now here comes m = front_feeds line old before mid long new now here comes m
+ended_feeds line old before mid Slow new now here comes (l, m) = front_feeds line old before mid (slow l) new now here comes m
+ended_feeds line old before mid Memory new now here comes (l, m) = front_feeds line old before mid (no_room l) new now here comes m
+ended_feeds line old before mid _ new now here comes m = absurd m
+
+ran_feeds : (line : Bytes) (old : State) (before : Counts) (mid new : State) (now : Counts) → IsFed line mid
+    → Feeds (line ∷ []) old before mid before → RanStep mid 1 new before now → Feeds (line ∷ []) old before new now
+ran_feeds line old before mid new now here comes (l, inl m) = front_feeds line old before mid (blank l) new now here comes m
+ran_feeds line old before mid new now here comes (l, inr m) = front_feeds line old before mid (run l) new now here comes m
+
+stepped_by : (line : Bytes) (old : State) (before : Counts) (mid : State) (r : Stepped) (new : State) (now : Counts) → IsFed line mid → cause_of mid 1 ≡ None
+    → Feeds (line ∷ []) old before mid before → StepGives mid 1 r new before now → Feeds (line ∷ []) old before new now
+stepped_by line old before mid Ran new now here running comes h = ran_feeds line old before mid new now here comes h
+stepped_by line old before mid Dry new now here running comes h =
+    subst (λ (st : State). Feeds (line ∷ []) old before st now) (sym h.0) (subst (λ (counted : Counts). Feeds (line ∷ []) old before mid counted) (sym h.1) comes)
+stepped_by line old before mid (HadEnded c) new now here running comes h =
+    ended_feeds line old before mid c new now here comes
+    (subst (λ (o : Option EndCause). MatchOption o (EndedStepAs c mid 1 new before now) (λ d. (d ≡ c) × (new ≡ mid) × (now ≡ before))) running h)
+
+-- and is run or isn't
+pub stepped_feeds : (line : Bytes) (old : State) (before : Counts) (mid : State) (r : Stepped) (new : State) (now : Counts) → IsIdle old → 0 < length line → length line ≤ READ_BYTES
+    → Makes old (fed 1 line) mid → cause_of mid 1 ≡ None → StepGives mid 1 r new before now → Feeds (line ∷ []) old before new now
+stepped_feeds line old before mid r new now idle some short m running h =
+    stepped_by line old before mid r new now (is_fed line old mid idle running m) running (comes_feeds line old before mid idle some short m) h
+
+-- and was run
+pub line_feeds : (line : Bytes) (old : State) (before : Counts) (new : State) (now : Counts) → IsIdle old → 0 < length line → length line ≤ READ_BYTES
+    → LineRuns line old before new now → Feeds (line ∷ []) old before new now
+line_feeds line old before new now idle some short runs =
+    ran_feeds line old before runs.mid new now (is_fed line old runs.mid idle runs.is_held runs.comes)
+    (comes_feeds line old before runs.mid idle some short runs.comes) runs.ran
+
+-- At one of some lines memory is wanting.
+pub breaks_at : (earlier : List Bytes) (line : Bytes) (later lines : List Bytes) (old : State) (before : Counts) (mid : State) (between : Counts) (new : State) (now : Counts)
+    → earlier ++ line ∷ later ≡ lines → Loads earlier old before mid between → Feeds (line ∷ []) mid between new now → BreaksOff lines old before new now
+breaks_at earlier line later lines old before mid between new now are loads feeds = record {
+  earlier = earlier;
+  line = line;
+  later = later;
+  are = are;
+  mid = mid;
+  between = between;
+  loads = loads;
+  feeds = feeds;
+}
+
+-- and there are lines before them, or behind them
+pub breaks_behind : (lines more : List Bytes) (old : State) (before : Counts) (mid : State) (between : Counts) (new : State) (now : Counts)
+    → Loads lines old before mid between → BreaksOff more mid between new now → BreaksOff (lines ++ more) old before new now
+breaks_behind lines more old before mid between new now loads b =
+    breaks_at (lines ++ b.earlier) b.line b.later (lines ++ more) old before b.mid b.between new now
+    (append_assoc lines b.earlier (b.line ∷ b.later) ∙ ap (λ (xs : List Bytes). lines ++ xs) b.are)
+    (loads_then lines b.earlier old before mid between b.mid b.between loads b.loads) b.feeds
+
+pub breaks_before : (lines more : List Bytes) (old : State) (before : Counts) (new : State) (now : Counts)
+    → BreaksOff lines old before new now → BreaksOff (lines ++ more) old before new now
+breaks_before lines more old before new now b =
+    breaks_at b.earlier b.line (b.later ++ more) (lines ++ more) old before b.mid b.between new now
+    (sym (append_assoc b.earlier (b.line ∷ b.later) more) ∙ ap (λ (xs : List Bytes). xs ++ more) b.are) b.loads b.feeds
 
 -- the same line again
 pub loads_again : (line : Bytes) (k : ℕ) (old : State) (before : Counts) (mid : State) (between : Counts) (new : State) (now : Counts)

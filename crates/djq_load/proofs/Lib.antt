@@ -1,5 +1,6 @@
 mod Served
 mod Idle
+mod Left
 mod Cursors
 mod Listing
 mod LoadLines

@@ -1,22 +1,20 @@
 -- The text of a listing is read as the listing is.
-use Rattle.std.specs.Prelude.{ℕ, ℤ, pos, negsuc, zero, suc, nat_lt, List, [], ◌∷◌, ◌++◌, ◌≡◌, ◌==◌, ◌+◌, ◌-◌, ◌*◌, ◌/◌, ◌%◌, ◌^◌, ◌<◌, ◌≤◌, ◌&&◌, Bool, true, false, cond, Option, None, Some, option_map, length, map, codes, sum_by}
+use Rattle.std.specs.Prelude.{ℕ, ℤ, pos, negsuc, zero, suc, nat_lt, List, [], ◌∷◌, ◌++◌, ◌≡◌, ◌==◌, ◌+◌, ◌-◌, ◌*◌, ◌/◌, ◌%◌, ◌^◌, ◌<◌, ◌≤◌, Bool, true, false, cond, Option, Some, option_map, length, map, codes, sum_by}
 use Rattle.std.specs.List.{list_all, flat_map}
 use Rattle.std.specs.Fmt.{decimal, digits, digits_onto, digit_glyph}
-use Rattle.std.proofs.Common.{refl, sym, ap, ◌∙◌, subst, append_assoc, append-nil, length-append, arith, leb}
+use Rattle.std.proofs.Common.{refl, sym, ap, ◌∙◌, append_assoc, length-append, arith, leb}
 use Rattle.std.proofs.Math.Dec.{eqb-suc-zero}
 use Rattle.std.proofs.lemmas.Bool.{cond-true, cond-false, and_parts, and_from, le-leb, leb-true, ne_eqb}
-use Rattle.std.proofs.lemmas.Fmt.{decimal_by_steps}
 use Rattle.std.proofs.lemmas.Grind.{flat_map-append}
 use Rattle.std.proofs.lemmas.List.Sums.{sum_by-append, sum_by-cons}
 use Rattle.djq_model.specs.Data.{Bytes, Tuple}
 use Rattle.djq_model.specs.declared.value.Value.{Value}
 use Rattle.djq_model.specs.declared.value.Value.TheVariants.{Int, Text as TextValue}
 use Rattle.djq_value.specs.Literal.{is_digit, digits_value, natural_of, integer_of, minus}
-use Rattle.djq_value.specs.ValueText.{value_text, escaped, quoted}
+use Rattle.djq_value.specs.ValueText.{value_text, escaped}
 use Rattle.djq_value.proofs.Words.{natural-some}
-use Rattle.djq_lines.specs.Reply.{line, cells_text, answer_line, last_line, listing_lines, text_of}
-use Rattle.djq_load.specs.declared.reading.Place.{Place}
-use Rattle.djq_load.specs.declared.reading.Place.TheVariants.{Front, Other, Answer, Text, Escape}
+use Rattle.djq_lines.specs.Reply.{cells_text, answer_line, last_line, listing_lines, text_of}
+use Rattle.djq_load.specs.declared.reading.Place.TheVariants.{Front, Answer, Text}
 use Rattle.djq_load.specs.declared.reading.Reading.{Reading}
 use Rattle.djq_load.specs.Replies.{reading, signed, read_byte, read_bytes}
 use Rattle.djq_load.specs.Totals.{residue, amount, amount_of, so_far}

@@ -1,14 +1,14 @@
 -- Each line of a load has one LF, at its end.
-use Rattle.std.specs.Prelude.{ℕ, zero, suc, List, [], ◌∷◌, ◌++◌, ◌≡◌, ◌==◌, ◌+◌, ◌/◌, ◌%◌, ◌&&◌, Bool, true, false, cond, not, Some, decimal, codes}
+use Rattle.std.specs.Prelude.{ℕ, zero, suc, List, [], ◌∷◌, ◌++◌, ◌≡◌, ◌==◌, ◌+◌, ◌/◌, ◌%◌, Bool, true, false, cond, not, Some, decimal, codes}
 use Rattle.std.specs.List.{list_all, AllByRecursion}
-use Rattle.std.proofs.Common.{refl, sym, ap, ◌∙◌, subst, arith}
+use Rattle.std.proofs.Common.{refl, ap, ◌∙◌, arith}
 use Rattle.std.proofs.lemmas.Bool.{cond-false, and_parts, and_from, ne_eqb}
 use Rattle.std.proofs.lemmas.List.Folds.{list_all-append}
 use Rattle.djq_model.specs.Data.{Bytes}
 use Rattle.djq_value.specs.Literal.{is_digit}
 use Rattle.djq_lines.specs.Line.{behind_lf}
 use Rattle.djq_gen.specs.Draws.{next, drawn}
-use Rattle.djq_gen.specs.Load.{opening, reading, verb, relation, change, pause, changes, values_of, load}
+use Rattle.djq_gen.specs.Load.{reading, verb, relation, change, pause, changes, values_of, load}
 use Rattle.djq_load.proofs.Listing.{digit_bounds, decimal_digits}
 
 -- one LF, at the end

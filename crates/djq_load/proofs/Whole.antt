@@ -1,5 +1,5 @@
 -- What the whole of a load comes to.
-use Rattle.std.specs.Prelude.{ℕ, List, [], ◌∷◌, ◌++◌, ◌≡◌, ◌≢◌, ◌==◌, ◌+◌, ◌*◌, ◌%◌, ◌^◌, ◌<◌, Bool, true, false, Option, None, Some, Result, Ok, Err, All, length, replicate, codes, ⊤, is_err, IfOk, OnOk, ◌⊎◌}
+use Rattle.std.specs.Prelude.{ℕ, List, [], ◌∷◌, ◌++◌, ◌≡◌, ◌≢◌, ◌==◌, ◌+◌, ◌*◌, ◌%◌, ◌^◌, ◌<◌, ◌≤◌, zero, suc, Bool, true, false, Option, None, Some, Result, Ok, Err, All, length, replicate, codes, ⊤, is_err, IfOk, OnOk, ◌⊎◌}
 use Rattle.std.proofs.Common.{refl, sym, ap, ap₂, ◌∙◌, subst, inl, inr, length-append, arith}
 use Rattle.std.proofs.lemmas.List.Elements.{All-nil}
 use Rattle.djq_model.specs.declared.query.Query.{Query}
@@ -27,32 +27,40 @@ use Rattle.djq_load.specs.declared.loading.Totals.{Totals}
 use Rattle.djq_load.specs.declared.loading.LoadRefusal.{LoadRefusal}
 use Rattle.djq_load.specs.declared.reading.Reading.{Reading}
 use Rattle.djq_load.specs.Replies.{read_bytes}
-use Rattle.djq_load.specs.Lines.{Loads, IsIdle, LineRuns, TakesAll, cursors_in, cursor_at, Stands}
-use Rattle.djq_load.specs.Totals.{so_far, IsRead, IsTold, IsCut, open_line, next_line, AreTotals, RunsLoad, StopsShort}
+use Rattle.djq_load.specs.Lines.{Loads, Feeds, BreaksOff, IsIdle, LineRuns, TakesAll, cursors_in, cursor_at, Stands}
+use Rattle.djq_load.specs.Totals.{so_far, reads_for, IsRead, IsTold, IsCut, open_line, next_line, AreTotals, RunsLoad, StopsShort, BreaksReading, RunsOut}
 use Rattle.djq_load.proofs.Served.{quiet, listed}
-use Rattle.djq_load.proofs.Idle.{loads_one, loads_then}
-use Rattle.djq_load.proofs.Cursors.{next_tells, stands_on}
+use Rattle.djq_load.proofs.Idle.{loads_one, loads_then, breaks_at, breaks_behind, breaks_before}
+use Rattle.djq_load.proofs.Cursors.{next_tells, stands_on, took_left}
 use Rattle.djq_load.proofs.Listing.{listing_read}
 
 -- What is pending as the cursor was read.
-pub read_served : (old : State) (before : Counts) (mid : State) (now : Counts) (r : Reading) → IsIdle old → LineRuns next_line old before mid now → ((most : ℕ) × IsRead old r most) → pending_of mid 1 ≢ refusal_line NoMemory
-read_served old before mid now r idle runs (most, h) e =
+pub read_served : (old : State) (before : Counts) (mid : State) (now : Counts) (r : Reading) → IsIdle old → LineRuns next_line old before mid now → ((reads : ℕ) × IsRead old r reads) → pending_of mid 1 ≢ refusal_line NoMemory
+read_served old before mid now r idle runs (reads, h) e =
     let t = next_tells h.given r.ended old before mid now idle h.stands runs in listed t.told t.end (sym t.pending ∙ e)
 
+-- A read was the last: behind full ones, and it told some unless it was the first.
+is_last : (reads given told : ℕ) → given ≡ 1000 * reads → told ≤ 1000 → (0 < reads → 0 < told) → reads + 1 ≡ reads_for (given + told)
+is_last zero given told full few some = omega (arith, full, few)
+is_last (suc k) given told full few some = let one : 0 < told = some (omega arith) in omega (arith, full, few, one)
+
 -- The cursor was read once more.
-pub read_on : (old : State) (before : Counts) (mid : State) (now : Counts) (new : State) (r after : Reading) (text : Bytes) (most : ℕ)
-    → IsIdle old → LineRuns next_line old before mid now → text ≡ pending_of mid 1 → after ≡ read_bytes r text → TakesAll mid new → r.ended ≡ false → IsRead old r most → IsRead new after (most + 1000)
-read_on old before mid now new r after text most idle runs is_text is_after takes going h =
+pub read_on : (old : State) (before : Counts) (mid : State) (now : Counts) (new : State) (r after : Reading) (text : Bytes) (reads : ℕ)
+    → IsIdle old → LineRuns next_line old before mid now → text ≡ pending_of mid 1 → after ≡ read_bytes r text → TakesAll mid new → r.ended ≡ false → IsRead old r reads → IsRead new after (reads + 1)
+read_on old before mid now new r after text reads idle runs is_text is_after takes going h =
     let t = next_tells h.given r.ended old before mid now idle h.stands runs in
-    let e : after ≡ so_far (h.given ++ t.told) t.end =
+    let all = h.given ++ t.told in
+    let e : after ≡ so_far all t.end =
     is_after ∙ ap₂ (λ (x : Reading) (bytes : Bytes). read_bytes x bytes) h.is (is_text ∙ t.pending) ∙ listing_read h.given r.ended t.told t.end in
     let ended : after.ended ≡ t.end = ap (λ (x : Reading). x.ended) e in
     record {
-      given = h.given ++ t.told;
-      stands = subst (λ (b : Bool). Stands new (h.given ++ t.told) b) (sym ended) (stands_on (h.given ++ t.told) t.end mid new takes t.stands);
-      is = e ∙ ap (λ (b : Bool). so_far (h.given ++ t.told) b) (sym ended);
-      few = omega (arith, length-append h.given t.told, h.few, t.few);
+      given = all;
+      stands = subst (λ (b : Bool). Stands new all b) (sym ended) (stands_on all t.end mid new takes t.stands);
+      is = e ∙ ap (λ (b : Bool). so_far all b) (sym ended);
       full = λ k. omega (arith, length-append h.given t.told, h.full going, t.full (sym ended ∙ k));
+      left = λ k some. took_left mid new all takes (t.left (sym ended ∙ k));
+      last = λ k. is_last reads (length h.given) (length t.told) (h.full going) t.few (λ some. t.some (h.left going some) (sym ended ∙ k))
+          ∙ ap reads_for (sym (length-append h.given t.told));
     }
 
 -- nothing was read yet
@@ -61,28 +69,51 @@ read_none st r e stands = record {
   given = [];
   stands = subst (λ (b : Bool). Stands st [] b) (sym (ap (λ (x : Reading). x.ended) e)) stands;
   is = e ∙ ap (λ (b : Bool). so_far [] b) (sym (ap (λ (x : Reading). x.ended) e));
-  few = omega arith;
   full = λ k. refl;
+  left = λ k some. absurd (omega (arith, some));
+  last = λ k. absurd (not_ended (sym k ∙ ap (λ (x : Reading). x.ended) e));
 }
+  where
+    not_ended : true ≡ false → ⊥
+    not_ended k = cc
 
 small : (n : ℕ) → n < 2 ^ 64 → n % 2 ^ 64 ≡ n
 small n h = omega (arith, h)
 
+-- so many answers were read by as many reads as they take
+few : (n reads : ℕ) → reads ≡ reads_for n → n ≤ 1000 * reads
+few n reads h = omega (arith, h)
+
 -- it was read to its end
-pub read_all : (st : State) (r : Reading) (most : ℕ) → IsRead st r most → r.ended ≡ true → most < 2 ^ 64 → IsTold st (record { answers = r.answers; sum = r.sum })
-read_all st r most h ended few = record {
+pub read_all : (st : State) (r : Reading) (reads : ℕ) → IsRead st r reads → r.ended ≡ true → 1000 * reads < 2 ^ 64 → IsTold st (record { answers = r.answers; sum = r.sum }) reads
+read_all st r reads h ended below = record {
   given = h.given;
   stands = subst (λ (b : Bool). Stands st h.given b) ended h.stands;
-  answers = ap (λ (x : Reading). x.answers) h.is ∙ small (length h.given) (omega (arith, h.few, few));
+  reads_are = h.last ended;
+  answers = ap (λ (x : Reading). x.answers) h.is ∙ small (length h.given) (omega (arith, few (length h.given) reads (h.last ended), below));
   sum = ap (λ (x : Reading). x.sum) h.is;
 }
 
 -- it was read as often as may be, and not to its end
-pub read_cut : (st : State) (r : Reading) (most : ℕ) → IsRead st r most → r.ended ≡ false → IsCut st most
-read_cut st r most h going = record {
+pub read_cut : (st : State) (r : Reading) (reads : ℕ) → IsRead st r reads → r.ended ≡ false → IsCut st (1000 * reads)
+read_cut st r reads h going = record {
   given = h.given;
   stands = subst (λ (b : Bool). Stands st h.given b) going h.stands;
   are = h.full going;
+}
+
+-- it was read so many times, and memory is wanting at the next
+pub read_breaks : (r : Reading) (reads : ℕ) (old : State) (before : Counts) (mid : State) (between : Counts) (new : State) (now : Counts)
+    → Loads (replicate reads next_line) old before mid between → IsRead mid r reads → r.ended ≡ false → Feeds (next_line ∷ []) mid between new now → BreaksReading [] old before new now
+read_breaks r reads old before mid between new now loads h going feeds = record {
+  nexts = reads;
+  mid = mid;
+  between = between;
+  loads = loads;
+  given = h.given;
+  stands = subst (λ (b : Bool). Stands mid h.given b) going h.stands;
+  many = h.full going;
+  feeds = feeds;
 }
 
 -- What the cursor has given are answers of its query, each once.
@@ -115,13 +146,12 @@ has_given start done st given ended walk none stands =
     let q = some_and (query_of qs (codes "q")) (λ (q : Query). Gives (IsAnswer rs q) given ended) of_cursor in
     record { query = q.0; registered = q.1; gives = q.2 }
 
-totals_are : (start : State) (done : List Did) (st : State) (totals : Totals) → Walk RunNext start done st → start.sessions ≡ [] → IsTold st totals → AreTotals st totals
-totals_are start done st totals walk none h =
+totals_are : (start : State) (done : List Did) (st : State) (totals : Totals) (reads : ℕ) → Walk RunNext start done st → start.sessions ≡ [] → (h : IsTold st totals reads) → AreTotals st h.given totals
+totals_are start done st totals reads walk none h =
     let q = has_given start done st h.given true walk none h.stands in
     record {
       query = q.query;
       registered = q.registered;
-      answers = h.given;
       listing = (q.gives).listing refl;
       count = h.answers;
       sum = h.sum;
@@ -174,11 +204,17 @@ all_loads n seed k start a before b at_b c at_c d now opens feeds points reads =
 -- to its end, where the totals are answered
 pub answers_load : (n seed : ℕ) (r : Result Totals LoadRefusal) (start a : State) (before : Counts) (b : State) (at_b : Counts) (c : State) (at_c : Counts) (d : State) (now : Counts)
     → start.sessions ≡ [] → Loads [] start before a before → Loads (load n seed) a before b at_b → Loads (open_line ∷ []) b at_b c at_c
-    → OnOk r ((k : ℕ) × Loads (replicate k next_line) c at_c d now) → IfOk r (IsTold d) → IfOk r (λ totals. RunsLoad n seed totals start before d now)
-answers_load n seed (Ok totals) start a before b at_b c at_c d now none opens feeds points reads told =
-    let whole = all_loads n seed reads.0 start a before b at_b c at_c d now opens feeds points reads.1 in
-    record { nexts = reads.0; loads = whole; totals_are = totals_are start whole.done d totals whole.walk none told }
-answers_load n seed (Err r) start a before b at_b c at_c d now none opens feeds points reads told = tt
+    → IfOk r (λ totals. (k : ℕ) × Loads (replicate k next_line) c at_c d now × IsTold d totals k) → OnOk r (cause_of d 1 ≡ None) → IfOk r (λ totals. RunsLoad n seed totals start before d now)
+answers_load n seed (Ok totals) start a before b at_b c at_c d now none opens feeds points (k, reads, told) running =
+    let whole = all_loads n seed k start a before b at_b c at_c d now opens feeds points reads in
+    record {
+      answers = told.given;
+      loads = subst (λ (m : ℕ). Loads (load n seed ++ open_line ∷ replicate m next_line) start before d now) told.reads_are whole;
+      stands = told.stands;
+      running = running;
+      totals_are = totals_are start whole.done d totals k whole.walk none told;
+    }
+answers_load n seed (Err r) start a before b at_b c at_c d now none opens feeds points told running = tt
 
 -- and not to its end
 pub stops_short : (n seed : ℕ) (start a : State) (before : Counts) (b : State) (at_b : Counts) (c : State) (at_c : Counts) (d : State) (now : Counts)
@@ -188,3 +224,34 @@ stops_short n seed start a before b at_b c at_c d now none opens feeds points (k
     let whole = all_loads n seed k start a before b at_b c at_c d now opens feeds points reads in
     let q = has_given start whole.done d cut.given false whole.walk none cut.stands in
     record { nexts = k; most = most; loads = whole; given = cut.given; stands = cut.stands; many = cut.are; query = q.query; registered = q.registered; gives = q.gives }
+
+-- Memory is wanting: at a line of the load,
+pub breaks_feeding : (n seed : ℕ) (start a : State) (before : Counts) (d : State) (now : Counts)
+    → Loads [] start before a before → BreaksOff (load n seed) a before d now → RunsOut n seed start before d now
+breaks_feeding n seed start a before d now opens breaks =
+    inr (inl (breaks_before (load n seed) (open_line ∷ []) start before d now (breaks_behind [] (load n seed) start before a before d now opens breaks)))
+
+-- at the one that opens the cursor,
+pub breaks_opening : (n seed : ℕ) (start a : State) (before : Counts) (b : State) (at_b : Counts) (d : State) (now : Counts)
+    → Loads [] start before a before → Loads (load n seed) a before b at_b → Feeds (open_line ∷ []) b at_b d now → RunsOut n seed start before d now
+breaks_opening n seed start a before b at_b d now opens feeds breaks =
+    inr (inl (breaks_at (load n seed) open_line [] (load n seed ++ open_line ∷ []) start before b at_b d now refl
+    (loads_then [] (load n seed) start before a before b at_b opens feeds) breaks))
+
+-- or at one that reads it
+pub breaks_reading : (n seed : ℕ) (start a : State) (before : Counts) (b : State) (at_b : Counts) (c : State) (at_c : Counts) (d : State) (now : Counts)
+    → Loads [] start before a before → Loads (load n seed) a before b at_b → Loads (open_line ∷ []) b at_b c at_c → BreaksReading [] c at_c d now → RunsOut n seed start before d now
+breaks_reading n seed start a before b at_b c at_c d now opens feeds points r =
+    let lines = load n seed ++ open_line ∷ [] in
+    let front : Loads lines start before c at_c =
+    loads_then (load n seed) (open_line ∷ []) start before b at_b c at_c (loads_then [] (load n seed) start before a before b at_b opens feeds) points in
+    inr (inr (record {
+      nexts = r.nexts;
+      mid = r.mid;
+      between = r.between;
+      loads = loads_then lines (replicate r.nexts next_line) start before c at_c r.mid r.between front r.loads;
+      given = r.given;
+      stands = r.stands;
+      many = r.many;
+      feeds = r.feeds;
+    }))

@@ -1,5 +1,5 @@
 -- What lines that come to session 1 of a machine make of it.
-use Rattle.std.specs.Prelude.{List, [], ◌≡◌, ◌≢◌, ◌+◌, ◌<◌, ◌≤◌, ◌⊎◌, None, Option, Some, length, codes, Bool, All}
+use Rattle.std.specs.Prelude.{List, [], ◌∷◌, ◌≡◌, ◌≢◌, ◌+◌, ◌++◌, ◌<◌, ◌≤◌, ◌⊎◌, None, Option, Some, length, codes, Bool, All}
 use Rattle.djq_model.specs.Data.{Bytes, Tuple}
 use Rattle.djq_lines.specs.declared.answer.Refusal.TheVariants.{NoMemory}
 use Rattle.djq_lines.specs.Reply.{refusal_line}
@@ -24,6 +24,28 @@ pub record Loads (lines : List Bytes) (old : State) (before : Counts) (new : Sta
   pub fed : pieces_of done ≡ lines
   pub served : All IsServed done
   pub listing : now.listing ≤ before.listing + cost_of done
+
+-- **A run in which session 1 is fed these lines**, whatever it is answered, and whether or not the
+-- last of them is run to its end. It counts no more of listings than it may cost.
+pub record Feeds (lines : List Bytes) (old : State) (before : Counts) (new : State)
+    (now : Counts) : Type 0 where
+  pub done : List Did
+  pub walk : Walk RunNext old done new
+  pub fed : pieces_of done ≡ lines
+  pub listing : now.listing ≤ before.listing + cost_of done
+
+-- Of these lines a first part was fed, each run and answered, and one line more, at which memory
+-- was wanting.
+pub record BreaksOff (lines : List Bytes) (old : State) (before : Counts) (new : State)
+    (now : Counts) : Type 0 where
+  pub earlier : List Bytes
+  pub line : Bytes
+  pub later : List Bytes
+  pub are : earlier ++ line ∷ later ≡ lines
+  pub mid : State
+  pub between : Counts
+  pub loads : Loads earlier old before mid between
+  pub feeds : Feeds (line ∷ []) mid between new now
 
 -- Session 1 is open and goes on, holds nothing and has nothing pending.
 pub record IsIdle (st : State) : Type 0 where

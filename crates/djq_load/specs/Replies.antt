@@ -1,6 +1,6 @@
 -- How the replies of a session are read: the number of answers, what their integers add up to, and
 -- whether the last line is the end of a listing.
-use Rattle.std.specs.Prelude.{ℕ, List, [], ◌∷◌, ◌==◌, ◌+◌, ◌-◌, ◌*◌, ◌%◌, ◌^◌, Bool, true, false, if◌then◌else◌}
+use Rattle.std.specs.Prelude.{ℕ, [], ◌∷◌, ◌==◌, ◌+◌, ◌-◌, ◌*◌, ◌%◌, ◌^◌, Bool, true, false, if◌then◌else◌}
 use Rattle.djq_model.specs.Data.{Bytes}
 use Rattle.djq_load.specs.declared.reading.Place.{Place}
 use Rattle.djq_load.specs.declared.reading.Place.TheVariants.{Front, Other, Answer, Text, Escape}

@@ -1,13 +1,14 @@
 -- What a load comes to.
-use Rattle.std.specs.Prelude.{ℕ, ℤ, pos, negsuc, List, ◌∷◌, ◌≡◌, ◌+◌, ◌-◌, ◌*◌, ◌++◌, ◌%◌, ◌^◌, ◌≤◌, Bool, true, false, Option, None, Some, length, replicate, codes, sum_by}
+use Rattle.std.specs.Prelude.{ℕ, ℤ, pos, negsuc, List, [], ◌∷◌, ◌≡◌, ◌+◌, ◌-◌, ◌*◌, ◌++◌, ◌/◌, ◌%◌, ◌^◌, ◌<◌, ◌⊎◌, Bool, true, false, Option, None, Some, IsSomeAnd, length, replicate, codes, sum_by}
 use Rattle.djq_model.specs.declared.query.Query.{Query}
 use Rattle.djq_model.specs.declared.value.Value.{Value}
 use Rattle.djq_model.specs.Data.{Bytes, Tuple, query_of}
 use Rattle.djq_model.specs.Answer.{IsAnswer, IsListing}
 use Rattle.djq_value.specs.Literal.{integer_of}
 use Rattle.djq_value.specs.ValueText.{value_text}
-use Rattle.djq_machine.specs.State.{State}
-use Rattle.djq_machine.specs.Call.{Counts}
+use Rattle.djq_machine.specs.State.{Store, State}
+use Rattle.djq_machine.specs.Store.{IsLeft}
+use Rattle.djq_machine.specs.Call.{Counts, cause_of}
 use Rattle.djq_machine.specs.Gives.{Gives}
 use Rattle.djq_gen.specs.Load.{load}
 use Rattle.djq_load.specs.declared.loading.TheConstants.{MOST_READS}
@@ -15,7 +16,7 @@ use Rattle.djq_load.specs.declared.loading.Totals.{Totals}
 use Rattle.djq_load.specs.declared.reading.Place.TheVariants.{Front}
 use Rattle.djq_load.specs.declared.reading.Reading.{Reading}
 use Rattle.djq_load.specs.Replies.{reading}
-use Rattle.djq_load.specs.Lines.{Loads, Stands}
+use Rattle.djq_load.specs.Lines.{Loads, Feeds, BreaksOff, Stands}
 
 -- an integer modulo 2^64; nothing where there is none
 abbrev pub residue : Option ℤ → ℕ
@@ -35,19 +36,33 @@ amount_of ts = sum_by (λ t. sum_by amount t) ts
 abbrev pub so_far : List Tuple → Bool → Reading
 so_far given ended = reading (length given % 2 ^ 64) (amount_of given % 2 ^ 64) ended Front
 
--- What was read is what the cursor has given, which are no more answers than this, and as many
--- where it wasn't told the end.
-pub record IsRead (st : State) (r : Reading) (most : ℕ) : Type 0 where
+-- how often a cursor is read, a thousand answers at a time, until it is told the end of so many
+-- answers: once where there are none, and no more where the last read is full
+abbrev pub reads_for : ℕ → ℕ
+reads_for count = 1 + (count - 1) / 1000
+
+-- The query `q` has an answer that isn't among these.
+abbrev pub HasLeft : Store → List Tuple → Type 0
+HasLeft store given = IsSomeAnd (query_of store.queries (codes "q"))
+    (λ q. (t : Tuple) × IsLeft (IsAnswer store.relations q) given t)
+
+-- What was read, by so many reads, is what the cursor has given. Where it wasn't told the end, each
+-- read gave a thousand answers, and behind the first read some are left; else the last read alone
+-- was told the end.
+pub record IsRead (st : State) (r : Reading) (reads : ℕ) : Type 0 where
   pub given : List Tuple
   pub stands : Stands st given r.ended
   pub is : r ≡ so_far given r.ended
-  pub few : length given ≤ most
-  pub full : r.ended ≡ false → length given ≡ most
+  pub full : r.ended ≡ false → length given ≡ 1000 * reads
+  pub left : r.ended ≡ false → 0 < reads → HasLeft st.store given
+  pub last : r.ended ≡ true → reads ≡ reads_for (length given)
 
--- A cursor that was told the end has given answers that come to these totals.
-pub record IsTold (st : State) (totals : Totals) : Type 0 where
+-- A cursor that was told the end, by the last of so many reads, has given answers that come to
+-- these totals.
+pub record IsTold (st : State) (totals : Totals) (reads : ℕ) : Type 0 where
   pub given : List Tuple
   pub stands : Stands st given true
+  pub reads_are : reads ≡ reads_for (length given)
   pub answers : totals.answers ≡ length given
   pub sum : totals.sum ≡ amount_of given % 2 ^ 64
 
@@ -64,24 +79,27 @@ open_line = codes "open c q\n"
 abbrev pub next_line : Bytes
 next_line = codes "next c 1000\n"
 
--- **What the totals are**: the query `q` has so many answers over the relations, each counted once,
+-- **What the totals are**: the query `q` has these answers over the relations, each counted once,
 -- and their integers add up to the sum, modulo 2^64.
-pub record AreTotals (st : State) (totals : Totals) : Type 0 where
+pub record AreTotals (st : State) (answers : List Tuple) (totals : Totals) : Type 0 where
   pub query : Query
   pub registered : query_of st.store.queries (codes "q") ≡ Some query
-  pub answers : List Tuple
   pub listing : IsListing (IsAnswer st.store.relations query) answers
   pub count : totals.answers ≡ length answers
   pub sum : totals.sum ≡ amount_of answers % 2 ^ 64
 
 -- **The theorem of a load.** Session 1 was fed the load's lines, then one that opens a cursor over
--- the query, and then as many that read it as it took to its end; and the totals are those of the
--- state that this run of the machine leads to.
+-- the query, and then as many that read it as it takes until the end is told, and none behind that.
+-- The cursor has given these answers and stands at their end, and the session hasn't ended. And the
+-- totals are those of these answers, which are all answers over the rows that this run leads to.
 pub record RunsLoad (n seed : ℕ) (totals : Totals) (old : State) (before : Counts) (new : State)
     (now : Counts) : Type 0 where
-  pub nexts : ℕ
-  pub loads : Loads (load n seed ++ open_line ∷ replicate nexts next_line) old before new now
-  pub totals_are : AreTotals new totals
+  pub answers : List Tuple
+  pub loads : Loads (load n seed ++ open_line ∷ replicate (reads_for (length answers)) next_line)
+      old before new now
+  pub stands : Stands new answers true
+  pub running : cause_of new 1 ≡ None
+  pub totals_are : AreTotals new answers totals
 
 -- **How a load stops short.** Session 1 was fed the load's lines, then one that opens a cursor over
 -- the query, and then as many that read it as may be; and the cursor still stands before its end:
@@ -97,3 +115,26 @@ pub record StopsShort (n seed : ℕ) (old : State) (before : Counts) (new : Stat
   pub query : Query
   pub registered : query_of new.store.queries (codes "q") ≡ Some query
   pub gives : Gives (IsAnswer new.store.relations query) given false
+
+-- **How reading stops out of memory.** Session 1 was fed these lines, and then some that read the
+-- cursor: each was answered a thousand answers, each of them once, and the cursor stands before its
+-- end. Then one more came that reads it, at which memory was wanting.
+pub record BreaksReading (lines : List Bytes) (old : State) (before : Counts) (new : State)
+    (now : Counts) : Type 0 where
+  pub nexts : ℕ
+  pub mid : State
+  pub between : Counts
+  pub loads : Loads (lines ++ replicate nexts next_line) old before mid between
+  pub given : List Tuple
+  pub stands : Stands mid given false
+  pub many : length given ≡ 1000 * nexts
+  pub feeds : Feeds (next_line ∷ []) mid between new now
+
+-- **How a load ends out of memory.** Nothing was done; or memory was wanting at a line of the load,
+-- or at the one that opens the cursor, or at one that reads it before its end. In each case no more
+-- was counted of listings than a run may cost that was fed a first part of the lines.
+abbrev pub RunsOut : ℕ → ℕ → State → Counts → State → Counts → Type 0
+RunsOut n seed old before new now =
+    ((new ≡ old) × (now ≡ before))
+    ⊎ (BreaksOff (load n seed ++ open_line ∷ []) old before new now
+    ⊎ BreaksReading (load n seed ++ open_line ∷ []) old before new now)

@@ -1,13 +1,13 @@
-ghost use Rattle.std.specs.Prelude.{◌≡◌, ℕ, [], ◌∷◌, ◌+◌, ◌*◌, ◌<◌, ◌≤◌, true, false, Some, Err, IfOk, OnOk, IfErr, length, replicate};
+ghost use Rattle.std.specs.Prelude.{◌≡◌, ℕ, [], ◌∷◌, ◌+◌, ◌*◌, ◌<◌, ◌≤◌, true, false, None, Some, Err, IfOk, OnOk, IfErr, OnErr, length, replicate};
 ghost use Rattle.djq_gen.specs.Load.{load};
 ghost use Rattle.djq_lines.specs.Line.{behind_lf};
-ghost use Rattle.djq_machine.specs.Call.{IsOpen, counts};
+ghost use Rattle.djq_machine.specs.Call.{IsOpen, cause_of, counts};
 ghost use Rattle.djq_machine.specs.Run.{pending_of};
 ghost use Rattle.djq_laws.specs.declared.limits.TheConstants.{READ_BYTES};
 ghost use Rattle.djq_load.specs.declared.loading.TheConstants.{MOST_READS};
 ghost use Rattle.djq_load.specs.declared.loading.LoadRefusal.TheVariants.{NoMem, TooMany};
-ghost use Rattle.djq_load.specs.Lines.{Loads, IsIdle, LineRuns, TakesAll, Stands};
-ghost use Rattle.djq_load.specs.Totals.{so_far, IsRead, IsTold, IsCut, open_line, next_line, RunsLoad, StopsShort};
+ghost use Rattle.djq_load.specs.Lines.{Loads, Feeds, BreaksOff, IsIdle, LineRuns, TakesAll, Stands};
+ghost use Rattle.djq_load.specs.Totals.{IsRead, IsTold, IsCut, open_line, next_line, RunsLoad, StopsShort, BreaksReading, RunsOut};
 
 use crate::reading::Reading;
 use djq_gen::{LINE_BYTES, Load};
@@ -42,11 +42,15 @@ pub enum LoadRefusal {
 }
 
 /// Opens session 1 of a machine, feeds it the load of so many changes with a seed, line by line,
-/// and reads the answers of its query to their end. No session of the machine is open before.
+/// and reads the answers of its query through a cursor, a thousand at a time, until it is told the
+/// end and no further. The session is open then and hasn't ended. No session of the machine is open
+/// before.
 ///
 /// # Errors
 ///
-/// `NoMem` where the machine is out of memory, `TooMany` where the answers are too many to read.
+/// `NoMem` where the machine is out of memory: nothing was done, or one of these lines was the last
+/// that came, with each before it answered. `TooMany` where the answers are too many to read. In each
+/// case no more is counted of listings than the lines that came may cost.
 pub fn run_load<M: Machine, L: Ledgers>(
     machine: &mut M,
     n: u32,
@@ -60,6 +64,9 @@ pub fn run_load<M: Machine, L: Ledgers>(
     ensures short { result ≡ Err TooMany → StopsShort n seed
         (M.state machine.old) (counts steps.old.listing steps.old.update steps.old.rows)
         (M.state machine.new) (counts steps.new.listing steps.new.update steps.new.rows) }
+    ensures memory { result ≡ Err NoMem → RunsOut n seed
+        (M.state machine.old) (counts steps.old.listing steps.old.update steps.old.rows)
+        (M.state machine.new) (counts steps.new.listing steps.new.update steps.new.rows) }
 {
     if machine.open_session(ID).is_err() {
         return Err(LoadRefusal::NoMem);
@@ -69,7 +76,7 @@ pub fn run_load<M: Machine, L: Ledgers>(
     list_answers(machine, steps)
 }
 
-/// Feeds the lines of a load, and runs each.
+/// Feeds the lines of a load, and runs each. Behind a line at which memory is wanting none comes.
 fn feed_load<M: Machine, L: Ledgers>(
     machine: &mut M,
     n: u32,
@@ -82,6 +89,9 @@ fn feed_load<M: Machine, L: Ledgers>(
         (M.state machine.new) (counts steps.new.listing steps.new.update steps.new.rows)) }
     ensures idle { OnOk result (IsIdle (M.state machine.new)) }
     ensures memory { IfErr result (λ refusal. refusal ≡ NoMem) }
+    ensures breaks { OnErr result (BreaksOff (load n seed)
+        (M.state machine.old) (counts steps.old.listing steps.old.update steps.old.rows)
+        (M.state machine.new) (counts steps.new.listing steps.new.update steps.new.rows)) }
 {
     let mut load = Load::new(n, seed);
     let mut line = [0; LINE_BYTES];
@@ -105,6 +115,9 @@ fn feed_line<M: Machine, L: Ledgers>(
         (M.state machine.new) (counts steps.new.listing steps.new.update steps.new.rows)) }
     ensures idle { OnOk result (IsIdle (M.state machine.new)) }
     ensures memory { IfErr result (λ refusal. refusal ≡ NoMem) }
+    ensures breaks { OnErr result (Feeds (line.now ∷ [])
+        (M.state machine.old) (counts steps.old.listing steps.old.update steps.old.rows)
+        (M.state machine.new) (counts steps.new.listing steps.new.update steps.new.rows)) }
 {
     run_line(machine, line, steps)?;
     if machine.pending(ID) == b"err 12 memory\n".as_slice() {
@@ -126,6 +139,9 @@ fn open_cursor<M: Machine, L: Ledgers>(
     ensures idle { OnOk result (IsIdle (M.state machine.new)) }
     ensures stands { OnOk result (Stands (M.state machine.new) [] false) }
     ensures memory { IfErr result (λ refusal. refusal ≡ NoMem) }
+    ensures breaks { OnErr result (Feeds (open_line ∷ [])
+        (M.state machine.old) (counts steps.old.listing steps.old.update steps.old.rows)
+        (M.state machine.new) (counts steps.new.listing steps.new.update steps.new.rows)) }
 {
     run_line(machine, b"open c q\n", steps)?;
     if machine.pending(ID) != b"ok open\n".as_slice() {
@@ -135,21 +151,25 @@ fn open_cursor<M: Machine, L: Ledgers>(
     Ok(())
 }
 
-/// Reads the cursor to its end.
+/// Reads the cursor to its end, and not behind it.
 fn list_answers<M: Machine, L: Ledgers>(
     machine: &mut M,
     steps: &mut Steps<L>,
 ) -> Result<Totals, LoadRefusal>
     requires idle { IsIdle (M.state machine.old) }
     requires stands { Stands (M.state machine.old) [] false }
-    ensures loads { OnOk result ((k : ℕ) × Loads (replicate k next_line)
+    ensures told { IfOk result (λ totals. (k : ℕ) × Loads (replicate k next_line)
         (M.state machine.old) (counts steps.old.listing steps.old.update steps.old.rows)
-        (M.state machine.new) (counts steps.new.listing steps.new.update steps.new.rows)) }
-    ensures told { IfOk result (IsTold (M.state machine.new)) }
+        (M.state machine.new) (counts steps.new.listing steps.new.update steps.new.rows)
+        × IsTold (M.state machine.new) totals k) }
+    ensures running { OnOk result (cause_of (M.state machine.new) 1 ≡ None) }
     ensures short { result ≡ Err TooMany → (k : ℕ) × (k ≡ MOST_READS) × Loads (replicate k next_line)
         (M.state machine.old) (counts steps.old.listing steps.old.update steps.old.rows)
         (M.state machine.new) (counts steps.new.listing steps.new.update steps.new.rows)
         × IsCut (M.state machine.new) (1000 * k) }
+    ensures breaks { result ≡ Err NoMem → BreaksReading []
+        (M.state machine.old) (counts steps.old.listing steps.old.update steps.old.rows)
+        (M.state machine.new) (counts steps.new.listing steps.new.update steps.new.rows) }
 {
     let mut reading = Reading::new();
     for _ in 0..MOST_READS {
@@ -172,14 +192,17 @@ fn read_more<M: Machine, L: Ledgers>(
 ) -> Result<Reading, LoadRefusal>
     requires idle { IsIdle (M.state machine.old) }
     requires going { reading.ended ≡ false }
-    requires reads { (most : ℕ) × IsRead (M.state machine.old) reading most }
+    requires reads { (reads : ℕ) × IsRead (M.state machine.old) reading reads }
     ensures loads { OnOk result (Loads (next_line ∷ [])
         (M.state machine.old) (counts steps.old.listing steps.old.update steps.old.rows)
         (M.state machine.new) (counts steps.new.listing steps.new.update steps.new.rows)) }
     ensures idle { OnOk result (IsIdle (M.state machine.new)) }
-    ensures read { IfOk result (λ after. (most : ℕ) → IsRead (M.state machine.old) reading most
-        → IsRead (M.state machine.new) after (most + 1000)) }
+    ensures read { IfOk result (λ after. (reads : ℕ) → IsRead (M.state machine.old) reading reads
+        → IsRead (M.state machine.new) after (reads + 1)) }
     ensures memory { IfErr result (λ refusal. refusal ≡ NoMem) }
+    ensures breaks { OnErr result (Feeds (next_line ∷ [])
+        (M.state machine.old) (counts steps.old.listing steps.old.update steps.old.rows)
+        (M.state machine.new) (counts steps.new.listing steps.new.update steps.new.rows)) }
 {
     run_line(machine, b"next c 1000\n", steps)?;
     let after = reading.read(machine.pending(ID));
@@ -187,18 +210,24 @@ fn read_more<M: Machine, L: Ledgers>(
     Ok(after)
 }
 
-/// Feeds a line and runs it. The session goes on behind it, or memory is wanting.
+/// Feeds a line and runs it. The session goes on behind it; or memory is wanting, as the line came
+/// or as it was to be run.
 fn run_line<M: Machine, L: Ledgers>(
     machine: &mut M,
     line: &[u8],
     steps: &mut Steps<L>,
 ) -> Result<(), LoadRefusal>
-    requires { IsIdle (M.state machine.old) }
+    requires idle { IsIdle (M.state machine.old) }
+    requires some { 0 < length line.now }
+    requires short { length line.now ≤ READ_BYTES }
     ensures runs { OnOk result (LineRuns line.now
         (M.state machine.old) (counts steps.old.listing steps.old.update steps.old.rows)
         (M.state machine.new) (counts steps.new.listing steps.new.update steps.new.rows)) }
     ensures open { OnOk result (IsOpen (M.state machine.new) 1) }
     ensures memory { IfErr result (λ refusal. refusal ≡ NoMem) }
+    ensures breaks { OnErr result (Feeds (line.now ∷ [])
+        (M.state machine.old) (counts steps.old.listing steps.old.update steps.old.rows)
+        (M.state machine.new) (counts steps.new.listing steps.new.update steps.new.rows)) }
 {
     let Fed::Held = machine.feed(ID, line) else {
         return Err(LoadRefusal::NoMem);

@@ -79,7 +79,7 @@ use Rattle.djq_lines.specs.Variables.{constants_of}
 use Rattle.djq_lines.specs.Hypergraph.{edges_of, head_of}
 use Rattle.djq_lines.specs.Rest.{IsNamedRest}
 use Rattle.djq_lines.specs.QueryFault.{whole_query_refusal}
-use Rattle.djq_hyper.specs.JoinTree.{IsFreeConnex}
+pub use Rattle.djq_hyper.specs.JoinTree.{IsFreeConnex}
 use Rattle.djq_hyper.specs.Refusing.{IsCyclic, IsNotConnex}
 use Rattle.djq_machine.specs.State.{Store}
 use Rattle.djq_machine.specs.Conditions.{first_of, Answers, OutOfMemoryWhere}
@@ -113,12 +113,13 @@ pub record FindsNoPlace (old texts known : List Bytes) : Type 0 where
   pub full : length known ≡ TEXTS
 
 -- A command that needs texts is refused late, at the limit of texts or out of memory: the first of
--- them have become known, and nothing else has changed.
+-- them have become known, never more than may be, and nothing else has changed.
 abbrev pub RefusedByTexts : Store → List Bytes → Store → Refusal → Type 0
 RefusedByTexts old texts new Limit =
     FindsNoPlace old.texts texts new.texts × (new ≡ record old { texts = new.texts })
 RefusedByTexts old texts new NoMemory =
-    LearnsFirst old.texts texts new.texts × (new ≡ record old { texts = new.texts })
+    LearnsFirst old.texts texts new.texts × (length new.texts ≤ TEXTS)
+    × (new ≡ record old { texts = new.texts })
 RefusedByTexts old texts new _ = ⊥
 
 -- `rel`

@@ -1,7 +1,7 @@
-ghost use Rattle.std.specs.Prelude.{◌≡◌, ◌<◌, IfOk, IfSome, Contains, length};
+ghost use Rattle.std.specs.Prelude.{◌≡◌, ◌<◌, true, false, IfOk, IfSome, Contains, length};
 ghost use Rattle.djq_io.specs.Faults.{Counted};
 ghost use Rattle.djq_io.specs.Hub.{no_ids, Turns};
-ghost use Rattle.djq_io.specs.HubFaults.{CountsInTurn};
+ghost use Rattle.djq_io.specs.HubFaults.{CountsListen, SameCounts, CountsInTurn};
 ghost use Rattle.djq_io.specs.Sessions.{faults_of};
 
 use crate::conn::{self, Conn, Found};
@@ -41,16 +41,23 @@ pub struct TcpHub<R: Net<Listener = net::TcpListener, Stream = net::TcpStream> +
 }
 
 impl<R: Net<Listener = net::TcpListener, Stream = net::TcpStream> + Drop> Model for TcpHub<R> {
+    ghost use Rattle.std.specs.Prelude.{is_some};
     ghost use Rattle.djq_net.specs.Tcp.{Shown};
 
     ghost Value = { Shown };
 
-    ghost view = { λ h. record { ids = h.sessions.ids; faults = h.faults; counts = h.sessions.counts } };
+    ghost view = { λ h. record {
+      listens = is_some h.listening;
+      ids = h.sessions.ids;
+      faults = h.faults;
+      counts = h.sessions.counts;
+    } };
 }
 
 impl<R: Net<Listener = net::TcpListener, Stream = net::TcpStream> + Drop> TcpHub<R> {
     /// A hub that doesn't listen yet, over the runtime. It takes the memory for all places.
     pub fn new(rt: R, alloc: Global) -> Result<Self, AllocError>
+        ensures listens { IfOk result (λ hub. hub.listens ≡ false) }
         ensures ids { IfOk result (λ hub. hub.ids ≡ no_ids) }
         ensures faults { IfOk result (λ hub. hub.faults ≡ 0) }
     {
@@ -71,7 +78,9 @@ impl<R: Net<Listener = net::TcpListener, Stream = net::TcpStream> + Drop> TcpHub
 
     /// The port at which it listens, which the system chose where the address says 0, or `None`
     /// where it doesn't listen.
-    pub fn port(&self) -> Option<u16> {
+    pub fn port(&self) -> Option<u16>
+        ensures { IfSome result (λ _. self.now.listens ≡ true) }
+    {
         match &self.listening {
             Some(listening) => listening.port().ok(),
             None => None,
@@ -79,7 +88,8 @@ impl<R: Net<Listener = net::TcpListener, Stream = net::TcpStream> + Drop> TcpHub
     }
 
     /// Opens a session where a connection has come and there is a place for it. One that can't be
-    /// accepted is left to the system: it may be gone, or the system may be out of descriptors.
+    /// accepted is left to the system: it may be gone, or the system may be out of descriptors. That
+    /// counts no fault, since a fault of the hub would end the serving of all others.
     fn accept(&mut self) -> Turn
         ensures ids { Turns result 0 self.old.ids self.new.ids }
         ensures faults { self.new.faults ≡ self.old.faults }
@@ -214,7 +224,12 @@ impl<R: Net<Listener = net::TcpListener, Stream = net::TcpStream> + Drop> Hub fo
 
     ghost session_faults = { λ h. faults_of h.counts };
 
-    fn listen(&mut self, addr: &str) -> Listened {
+    fn listen(&mut self, addr: &str) -> Listened
+        ensures listens { result ≡ Listened.Ready → self.new.listens ≡ true }
+        ensures ids { self.new.ids ≡ self.old.ids }
+        ensures faults { CountsListen result self.old.faults self.new.faults }
+        ensures sessions { SameCounts self.old.ids.open_ids (faults_of self.old.counts) (faults_of self.new.counts) }
+    {
         match Listening::at(&self.rt, addr) {
             Ok(listening) => {
                 self.listening = Some(listening);

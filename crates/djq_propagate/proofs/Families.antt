@@ -1,20 +1,19 @@
 -- Families of tables, and the equations that go on holding when a few tables change.
-use Rattle.std.proofs.Common.{◌≡◌, ◌≢◌, ℕ, zero, suc, ◌+◌, ◌*◌, ◌<◌, ◌≤◌, true, List, [], ◌∷◌, length, refl, ap, ap₂, subst, sym, ◌∙◌, arith, inl, inr, length-append}
-use Rattle.std.specs.Prelude.{slice_index_or}
+use Rattle.std.proofs.Common.{◌≡◌, ◌≢◌, ℕ, zero, suc, ◌+◌, ◌*◌, ◌<◌, ◌≤◌, true, List, [], length, refl, ap, ap₂, subst, sym, ◌∙◌, arith, inl, inr}
 use Rattle.std.proofs.lemmas.Bool.{cases_eq, cases_lt, eq-eqb}
 use Rattle.std.proofs.lemmas.List.{get_or_past}
 use Rattle.std.proofs.Math.Bool.{or-true}
 use Rattle.std.specs.Prelude.{◌==◌}
 use Rattle.djq_index.specs.Tuple.{pick}
 use Rattle.djq_index.specs.Entries.{Entry, supp, cnt, many}
-use Rattle.djq_index.specs.Table.{Table, IsTable, AreApart}
+use Rattle.djq_index.specs.Table.{Table, AreApart}
 use Rattle.djq_index.proofs.Groups.{cnt_same, many_even}
 use Rattle.djq_index.proofs.Apart.{cnt_once}
 use Rattle.djq_tree.specs.declared.node.Node.{Node}
 use Rattle.djq_tree.specs.declared.node.Node.TheVariants.{Leaf, Trim, Meet}
 use Rattle.djq_tree.specs.Tree.{Tree, IsTree, node_at, has_child}
 use Rattle.djq_tree.proofs.Climbing.{rising_of}
-use Rattle.djq_reduct.specs.Tables.{no_table, table_at, entries_at, key_at, width_at}
+use Rattle.djq_reduct.specs.Tables.{no_table, table_at, entries_at, key_at}
 use Rattle.djq_reduct.specs.Reducts.{IsReductOf, IsFamily, AreReduced}
 use Rattle.djq_reduct.proofs.Family.{apart_at, entries_past}
 use Rattle.djq_propagate.specs.Walks.{Changed, Ready, Began, Righted, IsUnder, Refused, Stayed}

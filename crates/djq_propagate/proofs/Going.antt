@@ -1,7 +1,7 @@
 -- What a walk meets on its way.
-use Rattle.std.proofs.Common.{◌≡◌, ◌≢◌, ℕ, zero, suc, ◌+◌, ◌<◌, ◌≤◌, Bool, true, false, List, [], ◌∷◌, ◌++◌, length, take, drop, Option, Some, None, refl, ap, ap₂, subst, sym, ◌∙◌, arith, inl, inr, ◌⊎◌}
+use Rattle.std.proofs.Common.{◌≡◌, ℕ, ◌+◌, ◌<◌, ◌≤◌, Bool, true, false, List, [], ◌∷◌, ◌++◌, length, take, drop, Option, Some, refl, ap, ap₂, subst, sym, ◌∙◌, arith, inl, inr}
 use Rattle.std.specs.Prelude.{nat_lt, ◌||◌, ◌==◌, Result, Ok, Err, OnErr, IfOk}
-use Rattle.std.proofs.lemmas.Bool.{cases_eq, cases_lt, cases_Bool, ltb-true, ltb-false, eqb-true, eq-eqb, ne_eqb, false≢true}
+use Rattle.std.proofs.lemmas.Bool.{cases_eq, cases_Bool, ltb-true, ltb-false, eqb-true, eq-eqb, ne_eqb, false≢true}
 use Rattle.djq_index.specs.declared.place.Place.{Place}
 use Rattle.djq_index.specs.Tuple.{same, pick}
 use Rattle.djq_index.specs.Entries.{Entry, supp, cnt, grp, marks, plain, head_at}
@@ -14,9 +14,9 @@ use Rattle.djq_tree.specs.declared.node.Node.TheVariants.{Leaf, Trim, Meet}
 use Rattle.djq_tree.specs.Tree.{Tree, IsTree, node_at, has_child, parent}
 use Rattle.djq_tree.proofs.Climbing.{parent_above, rising_of}
 use Rattle.djq_reduct.specs.Tables.{entries_at, key_at, width_at}
-use Rattle.djq_reduct.specs.Reducts.{IsFamily, AreReduced}
-use Rattle.djq_propagate.specs.Walks.{Changed, Ready, IsUnder, IsGrown, IsEmptied, Refused, SamePlain}
-use Rattle.djq_propagate.proofs.Families.{same_keys, below_up}
+use Rattle.djq_reduct.specs.Reducts.{IsFamily}
+use Rattle.djq_propagate.specs.Walks.{Changed, IsUnder, Refused, SamePlain}
+use Rattle.djq_propagate.proofs.Families.{same_keys}
 
 pub has_table : (t : Tree) (ts : List Table) (k : ℕ) → IsFamily t ts → k < length t.nodes → k < length ts
 has_table t ts k f h = let l = f.long in omega arith

@@ -11,3 +11,4 @@ pub mod Updating
 pub mod Measuring
 pub mod Rooms
 pub mod Marking
+pub mod Adding

@@ -1,23 +1,20 @@
 -- A node has lost a tuple: what its parent loses.
-use Rattle.std.proofs.Common.{◌≡◌, ◌≢◌, ℕ, zero, suc, ◌+◌, ◌-◌, ◌*◌, ◌<◌, ◌≤◌, Bool, true, false, cond, List, [], ◌∷◌, ◌++◌, length, take, drop, refl, ap, ap₂, subst, sym, ◌∙◌, arith, inl, inr}
-use Rattle.std.proofs.lemmas.Bool.{cases_eq, cases_lt, cases_Bool}
-use Rattle.djq_index.specs.declared.place.Place.{Place}
+use Rattle.std.proofs.Common.{◌≡◌, ◌≢◌, ℕ, ◌+◌, ◌-◌, ◌*◌, ◌<◌, ◌≤◌, Bool, true, false, cond, List, [], take, drop, refl, ap, ap₂, subst, sym, ◌∙◌, arith, inl, inr}
 use Rattle.djq_index.specs.Tuple.{same, pick, one}
 use Rattle.djq_index.specs.Entries.{Entry, supp, cnt, many, grp}
-use Rattle.djq_index.specs.Changes.{Inserted, Removed, Supported}
-use Rattle.djq_index.specs.Table.{Table, IsAt, AreSupported}
-use Rattle.djq_index.proofs.Tuples.{same_is, is_same, same_refl, same_cases, same_sym, one_le, one_same, one_other, one_true}
-use Rattle.djq_index.proofs.Apart.{cnt_none, supp_none, there}
+use Rattle.djq_index.specs.Changes.{Removed, Supported}
+use Rattle.djq_index.specs.Table.{Table}
+use Rattle.djq_index.proofs.Tuples.{is_same, same_cases, same_sym, one_same, one_other, one_true}
+use Rattle.djq_index.proofs.Apart.{supp_none}
 use Rattle.djq_index.proofs.Groups.{cnt_grp}
 use Rattle.djq_index.proofs.Changing.{removed_cnt, removed_supp, removed_many, supported_cnt, supported_supp}
-use Rattle.djq_tree.specs.declared.node.Node.{Node}
-use Rattle.djq_tree.specs.declared.node.Node.TheVariants.{Leaf, Trim, Meet}
-use Rattle.djq_tree.specs.Tree.{Tree, IsTree, IsMeet, node_at, has_child}
-use Rattle.djq_reduct.specs.Tables.{entries_at, key_at, width_at}
-use Rattle.djq_reduct.specs.Reducts.{IsReductOf, IsFamily, AreReduced}
+use Rattle.djq_tree.specs.declared.node.Node.TheVariants.{Trim, Meet}
+use Rattle.djq_tree.specs.Tree.{Tree, IsTree, IsMeet}
+use Rattle.djq_reduct.specs.Tables.{entries_at, key_at}
+use Rattle.djq_reduct.specs.Reducts.{IsReductOf, IsFamily}
 use Rattle.djq_reduct.proofs.Family.{trim_law, meet_law}
-use Rattle.djq_propagate.specs.Walks.{Changed, Ready, Died, Began, Losing, Righted, IsUnder, IsEmptied, IsFull}
-use Rattle.djq_propagate.proofs.Families.{once, apart_of, same_keys, lower_of, now_family, ready_up, above_same, righted, idle, below_up}
+use Rattle.djq_propagate.specs.Walks.{Changed, Died, Began, Righted, IsUnder, IsEmptied, IsFull}
+use Rattle.djq_propagate.proofs.Families.{once, apart_of, same_keys, lower_of, now_family, above_same, righted, idle, below_up}
 use Rattle.djq_propagate.proofs.Sides.{group_has, take_le, take_all, cond_one}
 use Rattle.djq_propagate.proofs.Gains.{law_of, same_up, keys_now}
 

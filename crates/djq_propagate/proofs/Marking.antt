@@ -1,11 +1,11 @@
 -- The marks that an update leaves along its path.
-use Rattle.std.proofs.Common.{◌≡◌, ◌≢◌, ℕ, zero, suc, ◌+◌, ◌*◌, ◌<◌, ◌≤◌, Bool, true, false, cond, List, [], ◌∷◌, length, refl, ap, ap₂, subst, sym, ◌∙◌, arith, inl, inr, ◌⊎◌, add-one}
+use Rattle.std.proofs.Common.{◌≡◌, ◌≢◌, ℕ, zero, suc, ◌+◌, ◌*◌, ◌<◌, ◌≤◌, Bool, true, false, cond, List, length, refl, ap, ap₂, subst, sym, ◌∙◌, arith, inl, inr}
 use Rattle.std.specs.Prelude.{◌==◌, ◌||◌}
 use Rattle.std.proofs.lemmas.Bool.{cases_eq, cases_lt, cases_Bool, false≢true, eq-eqb, ne_eqb, eqb-true}
-use Rattle.djq_index.specs.Tuple.{same, pick, one}
+use Rattle.djq_index.specs.Tuple.{pick, one}
 use Rattle.djq_index.specs.Entries.{Entry, supp, cnt, many, marks, plain}
 use Rattle.djq_index.specs.Table.{Table}
-use Rattle.djq_index.proofs.Tuples.{one_true, one_false, one_le}
+use Rattle.djq_index.proofs.Tuples.{one_true, one_false}
 use Rattle.djq_index.proofs.Counts.{cnt_split, many_split}
 use Rattle.djq_index.proofs.Groups.{many_sub, many_even}
 use Rattle.djq_index.proofs.Apart.{cnt_supp, supp_none}
@@ -14,9 +14,9 @@ use Rattle.djq_tree.specs.declared.node.Node.TheVariants.{Leaf, Trim, Meet}
 use Rattle.djq_tree.specs.Tree.{Tree, IsTree, node_at, has_child}
 use Rattle.djq_tree.proofs.Climbing.{rising_of}
 use Rattle.djq_reduct.specs.Tables.{entries_at, key_at}
-use Rattle.djq_reduct.specs.Reducts.{IsReductOf, IsFamily, AreReduced, IsReducts}
+use Rattle.djq_reduct.specs.Reducts.{IsReductOf, IsFamily, IsReducts}
 use Rattle.djq_reduct.proofs.Family.{trim_law, meet_law}
-use Rattle.djq_reduct.specs.Marks.{path_at, on_path, IsOff, IsBare, AreOnPath, agreeing, AgreeAt, ArePlainAt, AreMarks}
+use Rattle.djq_reduct.specs.Marks.{path_at, on_path, IsOff, IsBare, agreeing, AgreeAt, ArePlainAt}
 use Rattle.djq_propagate.specs.Walks.{SamePlain}
 use Rattle.djq_propagate.specs.Touches.{IsTouched, IsTouchedUp, gate, reach, IsCovered, CanWalk, IsWalked}
 use Rattle.djq_propagate.proofs.Families.{once, same_keys, tuples_same, reduced_same, trim_has, guard_has, side_has}

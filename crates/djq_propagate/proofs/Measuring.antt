@@ -1,25 +1,25 @@
 -- How much an update counts, by the sizes of leaves.
-use Rattle.std.proofs.Common.{◌≡◌, ◌≢◌, ℕ, zero, suc, ◌+◌, ◌*◌, ◌<◌, ◌≤◌, Bool, true, false, cond, List, [], ◌∷◌, ◌++◌, length, take, refl, ap, ap₂, subst, sym, ◌∙◌, arith, inl, inr, add-one, mul-le-mul_right, mul-le-mul_left}
+use Rattle.std.proofs.Common.{◌≡◌, ◌≢◌, ℕ, zero, suc, ◌+◌, ◌*◌, ◌<◌, ◌≤◌, Bool, true, false, cond, List, [], ◌∷◌, ◌++◌, length, take, refl, ap, subst, sym, ◌∙◌, arith, inl, inr, add-one, mul-le-mul_right, mul-le-mul_left}
 use Rattle.std.specs.Prelude.{slice_index_or, nat_lt, not, count_by}
 use Rattle.std.specs.List.{sum_by}
-use Rattle.std.proofs.lemmas.Bool.{cases_eq, cases_lt, cases_Bool, false≢true, lt-ltb, ltb-true, ltb-false}
+use Rattle.std.proofs.lemmas.Bool.{cases_eq, cases_lt, cases_Bool, lt-ltb, ltb-true}
 use Rattle.std.proofs.lemmas.List.{take_more}
 use Rattle.std.proofs.lemmas.List.Sums.{sum_by-append, sum_by-cons}
 use Rattle.std.proofs.Math.Seq.{take-length}
 use Rattle.djq_index.specs.Tuple.{same, pick, one}
-use Rattle.djq_index.specs.Entries.{Entry, supp, cnt, many}
+use Rattle.djq_index.specs.Entries.{Entry, cnt, many}
 use Rattle.djq_index.specs.Table.{Table, AreApart}
 use Rattle.djq_index.proofs.Tuples.{same_cases, is_same, one_true, one_false, one_other, one_same, one_le}
-use Rattle.djq_index.proofs.Counts.{many_cons, many_middle, many_length, cnt_cons}
+use Rattle.djq_index.proofs.Counts.{many_middle, cnt_cons}
 use Rattle.djq_index.proofs.Groups.{many_even, many_sub}
 use Rattle.djq_index.proofs.Apart.{cnt_supp}
 use Rattle.djq_tree.specs.declared.node.Node.{Node}
 use Rattle.djq_tree.specs.declared.node.Node.TheVariants.{Leaf, Trim, Meet}
-use Rattle.djq_tree.specs.Tree.{Tree, IsTree, node_at, has_child}
+use Rattle.djq_tree.specs.Tree.{Tree, IsTree, node_at}
 use Rattle.djq_tree.specs.Counts.{trims, others, is_trim}
 use Rattle.djq_tree.proofs.Counting.{not_trims_of}
 use Rattle.djq_reduct.specs.Tables.{no_table, table_at, entries_at, key_at}
-use Rattle.djq_reduct.specs.Reducts.{Reducts, IsReducts, IsReductOf, IsFamily}
+use Rattle.djq_reduct.specs.Reducts.{IsReducts, IsReductOf, IsFamily}
 use Rattle.djq_reduct.proofs.Family.{entries_past, trim_law, meet_law}
 use Rattle.djq_reduct.specs.Marks.{on_path, IsOff}
 use Rattle.djq_propagate.specs.Sizes.{size}

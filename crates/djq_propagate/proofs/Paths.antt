@@ -1,31 +1,25 @@
 -- The path from a leaf, and what isn't on it.
-use Rattle.std.proofs.Common.{◌≡◌, ◌≢◌, ℕ, zero, suc, ◌+◌, ◌*◌, ◌<◌, ◌≤◌, Bool, true, false, cond, List, [], ◌∷◌, length, ◌-◌, refl, ap, ap₂, subst, sym, ◌∙◌, arith, inl, inr, ◌⊎◌, add-one}
+use Rattle.std.proofs.Common.{◌≡◌, ◌≢◌, ℕ, zero, suc, ◌+◌, ◌*◌, ◌<◌, ◌≤◌, Bool, true, false, cond, List, length, refl, ap, ap₂, subst, sym, ◌∙◌, arith, inl, inr, ◌⊎◌, add-one}
 use Rattle.std.proofs.lemmas.Bool.{cases_eq, cases_lt, cases_Bool, false≢true}
-use Rattle.djq_index.specs.Tuple.{one, pick, same}
-use Rattle.djq_index.specs.Entries.{Entry, supp, cnt, many, marks, plain, unmarked}
-use Rattle.djq_index.specs.Changes.{Inserted, Removed}
+use Rattle.djq_index.specs.Tuple.{one, pick}
+use Rattle.djq_index.specs.Entries.{Entry, supp, cnt, many, marks, unmarked}
 use Rattle.djq_index.specs.Table.{Table}
 use Rattle.djq_index.proofs.Groups.{many_even}
-use Rattle.djq_index.proofs.Counts.{cnt_split}
-use Rattle.djq_index.proofs.Tuples.{one_true, one_false, one_same, one_le, true_from_one, is_same}
-use Rattle.djq_index.proofs.Changing.{inserted_cnt, inserted_supp, inserted_marks, removed_cnt, removed_supp}
-use Rattle.djq_index.proofs.Marks.{unmarked_supp, unmarked_cnt, unmarked_marks, length_unmarked}
+use Rattle.djq_index.proofs.Marks.{unmarked_supp, unmarked_marks, length_unmarked}
 use Rattle.djq_tree.specs.declared.node.Node.{Node}
 use Rattle.djq_tree.specs.declared.node.Node.TheVariants.{Leaf, Trim, Meet}
 use Rattle.djq_tree.specs.Tree.{Tree, IsTree, node_at, has_child}
 use Rattle.djq_tree.proofs.Climbing.{rising_of}
 use Rattle.djq_tree.proofs.Keying.{trim_child, guard_child, side_child, child_within}
 use Rattle.djq_reduct.specs.Tables.{entries_at, key_at}
-use Rattle.djq_reduct.specs.Reducts.{Reducts, IsReducts, IsReductOf, IsFamily, AreReduced, SameTables, SameLeaves}
-use Rattle.djq_reduct.proofs.Family.{entries_past, leaf_law, one_family}
-use Rattle.djq_reduct.specs.Marks.{path_at, on_path, IsOff, IsBare, AreOnPath, IsWithout}
+use Rattle.djq_reduct.specs.Reducts.{IsReductOf, IsFamily, AreReduced}
+use Rattle.djq_reduct.proofs.Family.{entries_past}
+use Rattle.djq_reduct.specs.Marks.{path_at, on_path, IsOff}
 use Rattle.djq_reduct.proofs.Paths.{reaches, free_below, off_below}
-use Rattle.djq_propagate.specs.Walks.{Changed, Ready, Lived, Died, Refused, Fewer, SamePlain}
+use Rattle.djq_propagate.specs.Walks.{Changed}
 use Rattle.djq_propagate.specs.Touches.{IsTouched, IsTouchedUp}
-use Rattle.djq_propagate.specs.Updates.{HasInserted, HasMarked, HasKept, HasDropped, HasTaken, HasCleared, steps}
-use Rattle.djq_propagate.proofs.Families.{once, apart_of, same_keys, tuples_same, reduced_same}
-use Rattle.djq_propagate.proofs.Sides.{cond_one}
-use Rattle.djq_propagate.proofs.Plains.{fewer_refl, fewer_trans, plain_trans}
+use Rattle.djq_propagate.specs.Updates.{HasCleared, steps}
+use Rattle.djq_propagate.proofs.Families.{same_keys, tuples_same}
 
 pub on_at : (nodes : List Node) (a k j : ℕ) → j ≡ path_at nodes a k → on_path nodes a k ≡ has_child (node_at nodes k) j
 unfolding on_path

@@ -1,7 +1,7 @@
 -- How much a refused update counts: for each table at most nine times what it has room for.
-use Rattle.std.proofs.Common.{◌≡◌, ◌≢◌, ℕ, zero, suc, ◌+◌, ◌*◌, ◌<◌, ◌≤◌, Bool, true, List, [], ◌∷◌, ◌++◌, length, take, drop, refl, ap, subst, sym, ◌∙◌, arith, inl, inr, mul-le-mul_right}
+use Rattle.std.proofs.Common.{◌≡◌, ℕ, zero, suc, ◌+◌, ◌*◌, ◌<◌, ◌≤◌, List, ◌∷◌, ◌++◌, length, take, drop, refl, ap, subst, sym, ◌∙◌, arith, inl, inr, mul-le-mul_right}
 use Rattle.std.proofs.lemmas.Bool.{cases_eq, cases_lt}
-use Rattle.djq_index.specs.Tuple.{same, pick, one}
+use Rattle.djq_index.specs.Tuple.{same, pick}
 use Rattle.djq_index.specs.Entries.{Entry, supp, cnt, grp}
 use Rattle.djq_index.specs.Changes.{Inserted}
 use Rattle.djq_index.specs.Table.{Table}
@@ -9,8 +9,7 @@ use Rattle.djq_index.proofs.Tuples.{same_cases, one_le, one_other}
 use Rattle.djq_index.proofs.Counts.{cnt_cons}
 use Rattle.djq_index.proofs.Apart.{cnt_supp}
 use Rattle.djq_index.proofs.Changing.{inserted_length}
-use Rattle.djq_tree.specs.declared.node.Node.{Node}
-use Rattle.djq_tree.specs.declared.node.Node.TheVariants.{Leaf, Trim, Meet}
+use Rattle.djq_tree.specs.declared.node.Node.TheVariants.{Trim, Meet}
 use Rattle.djq_tree.specs.Tree.{Tree, IsTree, node_at}
 use Rattle.djq_tree.proofs.Counting.{not_trims_of}
 use Rattle.djq_reduct.specs.Tables.{entries_at, key_at}
@@ -18,7 +17,7 @@ use Rattle.djq_reduct.specs.Reducts.{IsReducts, IsFamily, AreReduced}
 use Rattle.djq_reduct.proofs.Family.{entries_past, meet_law}
 use Rattle.djq_propagate.specs.Sizes.{size, AreAtMost}
 use Rattle.djq_propagate.specs.Updates.{HasAtMost, paths}
-use Rattle.djq_propagate.specs.Walks.{Changed, Refused, Stayed, Began, IsUnder, IsGrown}
+use Rattle.djq_propagate.specs.Walks.{Changed, Began, IsUnder, IsGrown}
 use Rattle.djq_propagate.proofs.Families.{once, apart_of, tuples_same, now_family}
 use Rattle.djq_propagate.proofs.Sides.{group_once, group_has, take_le, cut_new}
 use Rattle.djq_propagate.proofs.Gains.{law_of, same_up, meet_high, side_absent}
@@ -74,24 +73,24 @@ most_more old new n j u c i h room = record {
 }
 
 -- then there is room above: at a trim, at a guard's meet
-pub trim_fits : (t : Tree) (was now : List Table) (j k n : ℕ) (u : List ℕ) → Began t was now j → Inserted (key_at was j) (entries_at was j) (entries_at now j) u → IsUnder t k (Trim j) j → AreAtMost now n → length (entries_at now k) < n
+pub trim_fits : (t : Tree) (was now : List Table) (j k n : ℕ) (u : List ℕ) → Began t was now j → Inserted (key_at was j) (entries_at was j) (entries_at now j) u → IsUnder t k (Trim j) j → length (entries_at now j) ≤ n → length (entries_at now k) < n
 trim_fits t was now j k n u b i x h =
     omega (
       arith,
       ap (λ (es : List Entry). length es) (same_up t was now j k (Trim j) b x),
       trim_less t was j k b.ready.family (law_of t was now j k (Trim j) b x),
       inserted_length (key_at was j) (entries_at was j) (entries_at now j) u i,
-      h.each j,
+      h,
     )
 
-pub guard_fits : (t : Tree) (was now : List Table) (j s k n : ℕ) (u : List ℕ) → Began t was now j → Inserted (key_at was j) (entries_at was j) (entries_at now j) u → IsUnder t k (Meet j s) j → AreAtMost now n → length (entries_at now k) < n
+pub guard_fits : (t : Tree) (was now : List Table) (j s k n : ℕ) (u : List ℕ) → Began t was now j → Inserted (key_at was j) (entries_at was j) (entries_at now j) u → IsUnder t k (Meet j s) j → length (entries_at now j) ≤ n → length (entries_at now k) < n
 guard_fits t was now j s k n u b i x h =
     omega (
       arith,
       ap (λ (es : List Entry). length es) (same_up t was now j k (Meet j s) b x),
       meet_less t was j s k b.ready.family (law_of t was now j k (Meet j s) b x),
       inserted_length (key_at was j) (entries_at was j) (entries_at now j) u i,
-      h.each j,
+      h,
     )
 
 -- tables are no longer than those below them
@@ -107,7 +106,7 @@ over t ts n from f r high low (suc m) k less =
     ]
 
 -- at a side's meet, for the next one of the guard's group
-next_fits : (t : Tree) (was now mid : List Table) (g j k i : ℕ) (u : List ℕ) (e : Entry) → Began t was now j → Inserted (key_at was j) (entries_at was j) (entries_at now j) u → IsUnder t k (Meet g j) j
+pub next_fits : (t : Tree) (was now mid : List Table) (g j k i : ℕ) (u : List ℕ) (e : Entry) → Began t was now j → Inserted (key_at was j) (entries_at was j) (entries_at now j) u → IsUnder t k (Meet g j) j
     → IsGrown t now mid k (take i (grp (key_at now g) (entries_at now g) u)) → grp (key_at now g) (entries_at now g) u ≡ take i (grp (key_at now g) (entries_at now g) u) ++ e ∷ drop (i + 1) (grp (key_at now g) (entries_at now g) u)
     → length (entries_at mid k) + 1 ≤ length (entries_at now g)
 next_fits t was now mid g j k i u e b ins x grown cut = let l = length_less (e ∷ entries_at mid k) (entries_at now g) within in omega arith

@@ -1,26 +1,20 @@
 -- A group of a guard's tuples comes to its meet, or goes from it, one tuple after another.
-use Rattle.std.proofs.Common.{◌≡◌, ◌≢◌, ℕ, zero, suc, ◌+◌, ◌*◌, ◌<◌, ◌≤◌, Bool, true, false, cond, List, [], ◌∷◌, ◌++◌, length, take, drop, Option, Some, None, refl, ap, ap₂, subst, sym, ◌∙◌, arith, inl, inr}
-use Rattle.std.proofs.lemmas.Bool.{cases_eq, cases_lt}
+use Rattle.std.proofs.Common.{◌≡◌, ℕ, zero, suc, ◌+◌, ◌*◌, ◌<◌, ◌≤◌, Bool, true, false, cond, List, [], ◌∷◌, ◌++◌, length, take, drop, None, refl, ap, ◌∙◌, arith, inl, inr}
+use Rattle.std.proofs.lemmas.Bool.{cases_lt}
 use Rattle.std.proofs.lemmas.List.{take-append-drop}
 use Rattle.std.proofs.Math.ListN.{drop_of_length-le}
-use Rattle.djq_index.specs.declared.place.Place.{Place}
 use Rattle.djq_index.specs.Tuple.{same, pick, one}
-use Rattle.djq_index.specs.Entries.{Entry, supp, cnt, many, grp, head_at}
-use Rattle.djq_index.specs.Changes.{Inserted, Removed, Supported}
-use Rattle.djq_index.specs.Table.{Table, IsAt, AreApart}
-use Rattle.djq_index.proofs.Tuples.{same_is, is_same, same_refl, same_cases, same_sym, one_le, one_same, one_other, one_true}
+use Rattle.djq_index.specs.Entries.{Entry, supp, cnt, grp, head_at}
+use Rattle.djq_index.specs.Table.{Table, AreApart}
+use Rattle.djq_index.proofs.Tuples.{is_same, same_cases, one_same, one_other, one_true}
 use Rattle.djq_index.proofs.Counts.{many_length, length_grp, cnt-append, cnt_cons}
-use Rattle.djq_index.proofs.Apart.{cnt_once, cnt_none, supp_none}
+use Rattle.djq_index.proofs.Apart.{cnt_once, supp_none}
 use Rattle.djq_index.proofs.Groups.{cnt_grp}
 use Rattle.djq_index.proofs.Changing.{inserted_supp, removed_supp}
-use Rattle.djq_index.proofs.Walking.{WalkCut, walk_cut}
-use Rattle.djq_tree.specs.declared.node.Node.{Node}
-use Rattle.djq_tree.specs.declared.node.Node.TheVariants.{Leaf, Trim, Meet}
-use Rattle.djq_tree.specs.Tree.{Tree, IsTree, node_at, has_child}
+use Rattle.djq_tree.specs.Tree.{Tree}
 use Rattle.djq_reduct.specs.Tables.{entries_at, key_at}
-use Rattle.djq_reduct.specs.Reducts.{IsFamily, AreReduced}
 use Rattle.djq_propagate.specs.Walks.{Ready, Lived, Died, IsFull, IsGrown, IsEmptied}
-use Rattle.djq_propagate.proofs.Families.{once, apart_of, below_up}
+use Rattle.djq_propagate.proofs.Families.{apart_of, below_up}
 
 -- a group's tuples
 pub group_once : (ks : List ℕ) (es : List Entry) (w v : List ℕ) → AreApart es → cnt (grp ks es w) v ≤ 1

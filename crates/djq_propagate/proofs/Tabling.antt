@@ -1,18 +1,17 @@
 -- One table changes among many.
-use Rattle.std.proofs.Common.{◌≡◌, ◌≢◌, ℕ, zero, suc, ◌+◌, ◌<◌, ◌≤◌, List, [], ◌∷◌, length, refl, ap, subst, sym, ◌∙◌, arith, inl, inr}
+use Rattle.std.proofs.Common.{◌≡◌, ◌≢◌, ℕ, ◌+◌, ◌<◌, List, [], ◌∷◌, length, ap, subst, sym, ◌∙◌, arith, inl, inr}
 use Rattle.std.specs.Prelude.{slice_index_or, slice_set}
-use Rattle.std.proofs.lemmas.Bool.{cases_eq, cases_lt}
+use Rattle.std.proofs.lemmas.Bool.{cases_eq}
 use Rattle.std.specs.Prelude.{◌++◌}
 use Rattle.std.proofs.lemmas.List.{get_or_read, get_or-set_same, get_or-set_other, length-set}
 use Rattle.std.proofs.lemmas.List.Sums.{sum_by-set}
 use Rattle.djq_index.specs.declared.place.Place.{Place}
 use Rattle.std.specs.Prelude.{Result, Ok, Err, IfOk, OnErr}
 use Rattle.djq_index.specs.Entries.{Entry, bare, unmarked}
-use Rattle.djq_index.specs.Changes.{Inserted, Removed, Touched, Supported}
+use Rattle.djq_index.specs.Changes.{Inserted, Touched, Supported}
 use Rattle.djq_index.proofs.Apart.{supported_in, supported_out}
 use Rattle.djq_index.proofs.Changing.{inserted_supported}
 use Rattle.djq_index.specs.Table.{Table, IsTable, AreSupported, AreWide, IsAt}
-use Rattle.djq_tree.specs.Tree.{Tree}
 use Rattle.djq_reduct.specs.Tables.{no_table, table_at, entries_at, key_at, width_at}
 use Rattle.djq_reduct.specs.Reducts.{IsFamily}
 use Rattle.djq_propagate.specs.Sizes.{size}

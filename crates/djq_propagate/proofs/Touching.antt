@@ -1,33 +1,33 @@
 -- Touches, one after another.
-use Rattle.std.proofs.Common.{◌≡◌, ◌≢◌, ℕ, zero, suc, ◌+◌, ◌*◌, ◌<◌, ◌≤◌, Bool, true, false, cond, List, [], ◌∷◌, ◌++◌, length, take, drop, Option, Some, None, refl, ap, ap₂, subst, sym, ◌∙◌, arith, inl, inr}
+use Rattle.std.proofs.Common.{◌≡◌, ℕ, ◌+◌, ◌*◌, ◌<◌, ◌≤◌, Bool, true, false, cond, List, [], ◌∷◌, ◌++◌, length, take, drop, Some, None, refl, ap, ap₂, subst, sym, ◌∙◌, arith, inl, inr}
 use Rattle.std.specs.Prelude.{◌==◌}
-use Rattle.std.proofs.lemmas.Bool.{cases_eq, cases_lt, cases_Bool, false≢true, eq-eqb, ne_eqb}
+use Rattle.std.proofs.lemmas.Bool.{cases_eq, cases_lt, cases_Bool, eq-eqb, ne_eqb}
 use Rattle.std.proofs.lemmas.List.{take-append-drop, length-take, append-nil}
 use Rattle.std.proofs.Common.{length-append}
 use Rattle.std.proofs.Math.ListN.{drop_of_length-le}
 use Rattle.djq_index.specs.declared.place.Place.{Place}
 use Rattle.djq_index.specs.Tuple.{same, pick, one}
-use Rattle.djq_index.specs.Entries.{Entry, supp, cnt, many, grp, marks, plain, is_marked, head_at}
+use Rattle.djq_index.specs.Entries.{Entry, cnt, many, grp, marks, plain, is_marked, head_at}
 use Rattle.djq_index.specs.Changes.{Touched}
-use Rattle.djq_index.specs.Table.{Table, IsTable, IsAt, AreApart, AreLast}
-use Rattle.djq_index.proofs.Tuples.{same_is, is_same, same_refl, same_cases, same_sym, one_le, one_same, one_other, one_true, true_from_one}
-use Rattle.djq_index.proofs.Counts.{many_length, length_grp, cnt-append, cnt_cons, many-append, many_cons, cnt_split, cnt_length}
-use Rattle.djq_index.proofs.Apart.{cnt_once, apart_here, there}
+use Rattle.djq_index.specs.Table.{Table, IsAt, AreApart, AreLast}
+use Rattle.djq_index.proofs.Tuples.{same_is, same_refl, same_cases, same_sym, one_other, one_true, true_from_one}
+use Rattle.djq_index.proofs.Counts.{length_grp, cnt_cons, many-append, many_cons, cnt_split}
+use Rattle.djq_index.proofs.Apart.{there}
 use Rattle.djq_index.proofs.Groups.{cnt_grp}
-use Rattle.djq_index.proofs.Changing.{touched_cnt, touched_supp, touched_length, touched_marks}
-use Rattle.djq_index.proofs.Marks.{whole_group, part_group, marked_cnt, is_marked_here, is_marked_else, unmarked_marks}
+use Rattle.djq_index.proofs.Changing.{touched_supp, touched_length, touched_marks}
+use Rattle.djq_index.proofs.Marks.{whole_group, part_group, marked_cnt, is_marked_here, is_marked_else}
 use Rattle.djq_tree.specs.declared.node.Node.{Node}
 use Rattle.djq_tree.specs.declared.node.Node.TheVariants.{Leaf, Trim, Meet}
 use Rattle.djq_tree.specs.Tree.{Tree, IsTree, node_at, has_child}
 use Rattle.djq_tree.proofs.Climbing.{rising_of}
-use Rattle.djq_reduct.specs.Tables.{table_at, entries_at, key_at}
+use Rattle.djq_reduct.specs.Tables.{entries_at, key_at}
 use Rattle.djq_reduct.specs.Reducts.{IsFamily}
 use Rattle.djq_propagate.specs.Walks.{Changed, IsUnder}
-use Rattle.djq_index.proofs.Walking.{WalkCut, walk_cut}
+use Rattle.djq_index.proofs.Walking.{WalkCut}
 use Rattle.djq_index.proofs.Marks.{marks_yes, marks_no}
 use Rattle.djq_propagate.specs.Touches.{IsTouched, IsStep, gate, reach_one, reach, cost_one, cost}
-use Rattle.djq_propagate.proofs.Families.{once, apart_of, same_keys, tuples_same, guard_has}
-use Rattle.djq_propagate.proofs.Sides.{take_le, cut_cnt}
+use Rattle.djq_propagate.proofs.Families.{once, apart_of, tuples_same, guard_has}
+use Rattle.djq_propagate.proofs.Sides.{cut_cnt}
 use Rattle.djq_index.proofs.Tuples.{one_false}
 use Rattle.djq_index.proofs.Counts.{many_split}
 use Rattle.djq_propagate.proofs.Sides.{head_none}

@@ -1,28 +1,26 @@
 -- From the walks to the calls of an update.
-use Rattle.std.proofs.Common.{◌≡◌, ◌≢◌, ℕ, zero, suc, ◌+◌, ◌*◌, ◌<◌, ◌≤◌, Bool, true, false, cond, List, [], ◌∷◌, ◌++◌, length, Some, None, refl, ap, ap₂, subst, sym, ◌∙◌, arith, inl, inr}
+use Rattle.std.proofs.Common.{◌≡◌, ◌≢◌, ℕ, suc, ◌+◌, ◌<◌, true, false, List, [], ◌∷◌, length, Some, refl, ap, subst, sym, ◌∙◌, arith, inl, inr}
 use Rattle.std.proofs.lemmas.Bool.{cases_eq, cases_lt, cases_Bool, false≢true}
 use Rattle.djq_index.specs.declared.place.Place.{Place}
 use Rattle.djq_index.specs.Tuple.{one, same}
 use Rattle.djq_index.specs.Entries.{Entry, supp, cnt, marks, plain, head_at}
-use Rattle.djq_index.specs.Changes.{Inserted, Removed}
 use Rattle.djq_index.specs.Table.{Table, IsAt}
 use Rattle.djq_index.proofs.Counts.{cnt_split, cnt_length}
-use Rattle.djq_index.proofs.Tuples.{same_cases, one_true, one_other, one_same, one_le, true_from_one, is_same, same_is}
-use Rattle.djq_index.proofs.Changing.{inserted_cnt, inserted_supp, inserted_marks, removed_cnt, removed_supp, removed_length}
+use Rattle.djq_index.proofs.Tuples.{same_cases, one_true, one_other, one_same, is_same}
+use Rattle.djq_index.proofs.Changing.{inserted_cnt, inserted_supp, inserted_marks, removed_cnt, removed_supp}
 use Rattle.djq_tree.specs.declared.node.Node.{Node}
 use Rattle.djq_tree.specs.declared.node.Node.TheVariants.{Leaf}
-use Rattle.djq_tree.specs.Tree.{Tree, IsTree, node_at, has_child}
-use Rattle.djq_tree.proofs.Keying.{child_within}
-use Rattle.djq_reduct.specs.Tables.{entries_at, key_at, width_at}
-use Rattle.djq_reduct.specs.Reducts.{Reducts, IsReducts, IsReductOf, IsFamily, AreReduced, SameTables, SameLeaves}
+use Rattle.djq_tree.specs.Tree.{Tree, IsTree, node_at}
+use Rattle.djq_reduct.specs.Tables.{entries_at, key_at}
+use Rattle.djq_reduct.specs.Reducts.{Reducts, IsReducts, IsReductOf, IsFamily, AreReduced, SameTables}
 use Rattle.djq_reduct.proofs.Family.{leaf_law, one_family}
-use Rattle.djq_reduct.specs.Marks.{path_at, on_path, IsOff, IsBare, AreOnPath, IsWithout}
-use Rattle.djq_propagate.specs.Walks.{Changed, Ready, Lived, Died, Refused, Fewer, SamePlain, IsBelow}
+use Rattle.djq_reduct.specs.Marks.{on_path, IsOff, IsBare, AreOnPath, IsWithout}
+use Rattle.djq_propagate.specs.Walks.{Ready, Lived, Died, Refused, Fewer, SamePlain, IsBelow}
 use Rattle.djq_propagate.specs.Touches.{IsTouched, IsTouchedUp, CanWalk, IsWalked}
 use Rattle.djq_propagate.specs.Updates.{HasInserted, HasMarked, HasKept, HasDropped, HasTaken, HasCleared}
-use Rattle.djq_propagate.proofs.Families.{once, apart_of, same_keys, tuples_same, reduced_same}
-use Rattle.djq_propagate.proofs.Sides.{cond_one, head_none}
-use Rattle.djq_propagate.proofs.Plains.{fewer_refl, fewer_trans, plain_trans}
+use Rattle.djq_propagate.proofs.Families.{once, apart_of, tuples_same, reduced_same}
+use Rattle.djq_propagate.proofs.Sides.{cond_one}
+use Rattle.djq_propagate.proofs.Plains.{fewer_refl, fewer_trans}
 use Rattle.djq_propagate.proofs.Going.{mark_at}
 use Rattle.djq_index.proofs.Counts.{cnt_cons}
 use Rattle.djq_propagate.proofs.Paths.{inner_high, off_same, on_within, on_high}

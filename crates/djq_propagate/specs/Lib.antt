@@ -2,3 +2,4 @@ pub mod Sizes
 pub mod Walks
 pub mod Touches
 pub mod Updates
+pub mod Bounds

@@ -27,7 +27,9 @@ mod tables;
 mod touch;
 mod update;
 
-pub use update::{finish_insertion, finish_removal, insert_leaf, mark_removal, undo_insertion};
+pub use update::{
+    counts_add_up, finish_insertion, finish_removal, insert_leaf, mark_removal, undo_insertion,
+};
 
 #[cfg(test)]
 mod tests;

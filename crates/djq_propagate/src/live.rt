@@ -31,6 +31,7 @@ pub(crate) fn live<L: Ledger>(
     requires ready { Ready tree.now tables.old.items at }
     requires absent { cnt (entries_at tables.old.items at) tuple.now ≡ 0 }
     requires wide { length tuple.now ≡ width_at tables.old.items at }
+    requires few { length (entries_at tables.old.items at) < 4294967295 }
     ensures ok { IfOk result (λ _. Lived tree.now tables.old.items tables.new.items at tuple.now) }
     ensures refused { OnErr result (Refused tree.now tables.old.items tables.new.items at) }
     ensures plain { SamePlain tables.old.items tables.new.items }
@@ -99,11 +100,11 @@ fn rise_trim<L: Ledger>(
     ensures counted { IfOk result (λ _. tally.new + 4 * size tables.old.items ≤ tally.old + 2 + 4 * size tables.new.items) }
     ensures bounded { OnErr result ((n : ℕ) → AreAtMost tables.old.items n → tally.new + 9 * size tables.old.items ≤ tally.old + 7 + 9 * (n * length tree.now.nodes)) }
 {
+    is_small_at(tables, at);
     let part = part_of(tables, at, tuple);
     let cells = part.as_slice();
     match find_at(tables, up, cells, tally) {
         Some(place) => {
-            is_small_at(tables, at);
             raise_at(tables, up, place, tally);
             Ok(())
         }
@@ -131,6 +132,7 @@ fn rise_guard<L: Ledger>(
     ensures counted { IfOk result (λ _. tally.new + 4 * size tables.old.items ≤ tally.old + 2 + 4 * size tables.new.items) }
     ensures bounded { OnErr result ((n : ℕ) → AreAtMost tables.old.items n → tally.new + 9 * size tables.old.items ≤ tally.old + 7 + 9 * (n * length tree.now.nodes)) }
 {
+    is_small_at(tables, at);
     let part = part_of(tables, at, tuple);
     match find_at(tables, side, part.as_slice(), tally) {
         Some(_place) => live(tree, tables, up, tuple, tally),
@@ -157,6 +159,7 @@ fn rise_side<L: Ledger>(
     ensures counted { IfOk result (λ _. tally.new + 4 * size tables.old.items ≤ tally.old + 2 + 4 * size tables.new.items) }
     ensures bounded { OnErr result ((n : ℕ) → AreAtMost tables.old.items n → tally.new + 9 * size tables.old.items ≤ tally.old + 7 + 9 * (n * length tree.now.nodes)) }
 {
+    is_small_at(tables, guard);
     let count = len_at(tables, guard);
     let mut next = first_at(tables, guard, tuple, tally);
     for done in 0..count {

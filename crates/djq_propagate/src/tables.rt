@@ -155,6 +155,7 @@ pub(crate) fn insert_at<L: Ledger>(
     requires within { at < length tables.old.items }
     requires absent { cnt (entries_at tables.old.items at) tuple.now ≡ 0 }
     requires wide { length tuple.now ≡ width_at tables.old.items at }
+    requires few { length (entries_at tables.old.items at) < 4294967295 }
     ensures inserted { IfOk result (λ p. Inserted (key_at tables.old.items at) (entries_at tables.old.items at) (entries_at tables.new.items at) tuple.now) }
     ensures lies { IfOk result (λ p. IsAt (entries_at tables.new.items at) p tuple.now) }
     ensures refused { OnErr result (entries_at tables.new.items at ≡ entries_at tables.old.items at) }

@@ -48,6 +48,9 @@ fn put<L: Ledger>(
     if tuple.len() != reducts.tree().label(leaf).len() {
         return Ok(false);
     }
+    if reducts.table(leaf).len() >= u32::MAX as usize {
+        return Ok(false);
+    }
     match reducts.table(leaf).find(tuple, tally) {
         Some(_place) => Ok(false),
         None => {

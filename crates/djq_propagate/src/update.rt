@@ -1,13 +1,14 @@
 //! The calls of an update.
 
-ghost use Rattle.std.specs.Prelude.{◌≡◌, ℕ, ◌+◌, ◌*◌, ◌<◌, ◌≤◌, length, IfOk, OnErr};
+ghost use Rattle.std.specs.Prelude.{◌≡◌, ℕ, ◌<◌, ◌≤◌, List, length, IfOk, OnErr};
 ghost use Rattle.djq_index.specs.Entries.{cnt};
 ghost use Rattle.djq_tree.specs.Labels.{label_at};
 ghost use Rattle.djq_reduct.specs.Tables.{entries_at};
 ghost use Rattle.djq_reduct.specs.Reducts.{IsReducts, SameTables};
 ghost use Rattle.djq_reduct.specs.Reducts as spec;
 ghost use Rattle.djq_reduct.specs.Marks.{IsBare, AreOnPath, IsWithout};
-ghost use Rattle.djq_propagate.specs.Updates.{HasInserted, HasMarked, HasKept, HasDropped, HasAtMost, paths};
+ghost use Rattle.djq_propagate.specs.Updates.{HasInserted, HasMarked, HasKept, HasDropped, HasAtMost};
+ghost use Rattle.djq_propagate.specs.Bounds.{after_insert, after_refusal, after_mark, after_keep, after_drop, HasVariables, AddUp};
 
 use crate::live::live;
 use crate::path::{clear_path, take_marked, touch_path};
@@ -31,11 +32,12 @@ pub fn insert_leaf<L: Ledger>(
     requires leaf { leaf < reducts.old.tree.leaves }
     requires wide { length tuple.now ≡ length (label_at reducts.old.tree.labels leaf) }
     requires absent { cnt (entries_at reducts.old.tables leaf) tuple.now ≡ 0 }
+    requires few { length (entries_at reducts.old.tables leaf) < 4294967295 }
     requires bare { IsBare reducts.old.tables }
     ensures inserted { IfOk result (λ _. HasInserted reducts.old reducts.new leaf tuple.now) }
     ensures refused { OnErr result (HasKept reducts.old reducts.new) }
-    ensures counted { IfOk result (λ _. (n : ℕ) → HasAtMost reducts.new n → tally.new ≤ tally.old + 10 * (paths reducts.old.tree * n)) }
-    ensures bounded { OnErr result ((n : ℕ) → HasAtMost reducts.old n → length (entries_at reducts.old.tables leaf) < n → tally.new ≤ tally.old + 18 * (paths reducts.old.tree * n)) }
+    ensures counted { IfOk result (λ _. (n : ℕ) → HasAtMost reducts.new n → tally.new ≤ after_insert reducts.old.tree n tally.old) }
+    ensures bounded { OnErr result ((n : ℕ) → HasAtMost reducts.old n → length (entries_at reducts.old.tables leaf) < n → tally.new ≤ after_refusal reducts.old.tree n tally.old) }
 {
     let _tables = &reducts.tables;
     put(&reducts.tree, &mut reducts.tables, leaf, tuple, tally)
@@ -52,11 +54,12 @@ fn put<L: Ledger>(
     requires leaf { leaf < tree.now.leaves }
     requires wide { length tuple.now ≡ length (label_at tree.now.labels leaf) }
     requires absent { cnt (entries_at tables.old.items leaf) tuple.now ≡ 0 }
+    requires few { length (entries_at tables.old.items leaf) < 4294967295 }
     requires bare { IsBare tables.old.items }
     ensures inserted { IfOk result (λ _. HasInserted (record { tree = tree.now; tables = tables.old.items }) (record { tree = tree.now; tables = tables.new.items }) leaf tuple.now) }
     ensures refused { OnErr result (HasKept (record { tree = tree.now; tables = tables.old.items }) (record { tree = tree.now; tables = tables.new.items })) }
-    ensures counted { IfOk result (λ _. (n : ℕ) → HasAtMost (record { tree = tree.now; tables = tables.new.items }) n → tally.new ≤ tally.old + 10 * (paths tree.now * n)) }
-    ensures bounded { OnErr result ((n : ℕ) → HasAtMost (record { tree = tree.now; tables = tables.old.items }) n → length (entries_at tables.old.items leaf) < n → tally.new ≤ tally.old + 18 * (paths tree.now * n)) }
+    ensures counted { IfOk result (λ _. (n : ℕ) → HasAtMost (record { tree = tree.now; tables = tables.new.items }) n → tally.new ≤ after_insert tree.now n tally.old) }
+    ensures bounded { OnErr result ((n : ℕ) → HasAtMost (record { tree = tree.now; tables = tables.old.items }) n → length (entries_at tables.old.items leaf) < n → tally.new ≤ after_refusal tree.now n tally.old) }
 {
     live(tree, tables, leaf, tuple, tally)?;
     touch_path(tree, tables, leaf, false, tally);
@@ -75,7 +78,7 @@ pub fn mark_removal<L: Ledger>(
     requires there { 0 < cnt (entries_at reducts.old.tables leaf) tuple.now }
     requires bare { IsBare reducts.old.tables }
     ensures marked { HasMarked reducts.old reducts.new leaf tuple.now }
-    ensures counted { (n : ℕ) → HasAtMost reducts.old n → tally.new ≤ tally.old + 6 * (paths reducts.old.tree * n) }
+    ensures counted { (n : ℕ) → HasAtMost reducts.old n → tally.new ≤ after_mark reducts.old.tree n tally.old }
 {
     let _tables = &reducts.tables;
     mark(&reducts.tree, &mut reducts.tables, leaf, tuple, tally);
@@ -93,7 +96,7 @@ fn mark<L: Ledger>(
     requires there { 0 < cnt (entries_at tables.old.items leaf) tuple.now }
     requires bare { IsBare tables.old.items }
     ensures marked { HasMarked (record { tree = tree.now; tables = tables.old.items }) (record { tree = tree.now; tables = tables.new.items }) leaf tuple.now }
-    ensures counted { (n : ℕ) → HasAtMost (record { tree = tree.now; tables = tables.old.items }) n → tally.new ≤ tally.old + 6 * (paths tree.now * n) }
+    ensures counted { (n : ℕ) → HasAtMost (record { tree = tree.now; tables = tables.old.items }) n → tally.new ≤ after_mark tree.now n tally.old }
 {
     touch_tuple(tree, tables, leaf, tuple, tally);
     touch_path(tree, tables, leaf, true, tally);
@@ -104,7 +107,7 @@ pub fn finish_insertion<L: Ledger>(reducts: &mut Reducts, leaf: usize, tally: &m
     requires leaf { leaf < reducts.old.tree.leaves }
     requires path { AreOnPath reducts.old.tree reducts.old.tables leaf }
     ensures kept { HasKept reducts.old reducts.new }
-    ensures counted { (n : ℕ) → HasAtMost reducts.old n → tally.new ≤ tally.old + paths reducts.old.tree * (1 + n) }
+    ensures counted { (n : ℕ) → HasAtMost reducts.old n → tally.new ≤ after_keep reducts.old.tree n tally.old }
 {
     let _tables = &reducts.tables;
     keep(&reducts.tree, &mut reducts.tables, leaf, tally);
@@ -115,7 +118,7 @@ fn keep<L: Ledger>(tree: &Tree, tables: &mut Vec<Table>, leaf: usize, tally: &mu
     requires leaf { leaf < tree.now.leaves }
     requires path { AreOnPath tree.now tables.old.items leaf }
     ensures kept { HasKept (record { tree = tree.now; tables = tables.old.items }) (record { tree = tree.now; tables = tables.new.items }) }
-    ensures counted { (n : ℕ) → HasAtMost (record { tree = tree.now; tables = tables.old.items }) n → tally.new ≤ tally.old + paths tree.now * (1 + n) }
+    ensures counted { (n : ℕ) → HasAtMost (record { tree = tree.now; tables = tables.old.items }) n → tally.new ≤ after_keep tree.now n tally.old }
 {
     clear_path(tree, tables, leaf, tally);
 }
@@ -125,7 +128,7 @@ pub fn finish_removal<L: Ledger>(reducts: &mut Reducts, leaf: usize, tally: &mut
     requires leaf { leaf < reducts.old.tree.leaves }
     requires path { AreOnPath reducts.old.tree reducts.old.tables leaf }
     ensures dropped { HasDropped reducts.old reducts.new leaf }
-    ensures counted { (n : ℕ) → HasAtMost reducts.old n → tally.new ≤ tally.old + 1 + 5 * (paths reducts.old.tree * n) + paths reducts.old.tree * (1 + n) }
+    ensures counted { (n : ℕ) → HasAtMost reducts.old n → tally.new ≤ after_drop reducts.old.tree n tally.old }
 {
     let _tables = &reducts.tables;
     take_out(&reducts.tree, &mut reducts.tables, leaf, tally);
@@ -138,7 +141,7 @@ pub fn undo_insertion<L: Ledger>(reducts: &mut Reducts, leaf: usize, tally: &mut
     requires path { AreOnPath reducts.old.tree reducts.old.tables leaf }
     ensures dropped { HasDropped reducts.old reducts.new leaf }
     ensures back { (before : spec.Reducts) → IsReducts before → IsWithout reducts.old before leaf → SameTables before reducts.new }
-    ensures counted { (n : ℕ) → HasAtMost reducts.old n → tally.new ≤ tally.old + 1 + 5 * (paths reducts.old.tree * n) + paths reducts.old.tree * (1 + n) }
+    ensures counted { (n : ℕ) → HasAtMost reducts.old n → tally.new ≤ after_drop reducts.old.tree n tally.old }
 {
     let _tables = &reducts.tables;
     take_out(&reducts.tree, &mut reducts.tables, leaf, tally);
@@ -150,8 +153,18 @@ fn take_out<L: Ledger>(tree: &Tree, tables: &mut Vec<Table>, leaf: usize, tally:
     requires path { AreOnPath tree.now tables.old.items leaf }
     ensures dropped { HasDropped (record { tree = tree.now; tables = tables.old.items }) (record { tree = tree.now; tables = tables.new.items }) leaf }
     ensures back { (before : spec.Reducts) → IsReducts before → IsWithout (record { tree = tree.now; tables = tables.old.items }) before leaf → SameTables before (record { tree = tree.now; tables = tables.new.items }) }
-    ensures counted { (n : ℕ) → HasAtMost (record { tree = tree.now; tables = tables.old.items }) n → tally.new ≤ tally.old + 1 + 5 * (paths tree.now * n) + paths tree.now * (1 + n) }
+    ensures counted { (n : ℕ) → HasAtMost (record { tree = tree.now; tables = tables.old.items }) n → tally.new ≤ after_drop tree.now n tally.old }
 {
     take_marked(tree, tables, leaf, tally);
     clear_path(tree, tables, leaf, tally);
+}
+
+/// The law that the calls of an update of one leaf add up. With at most `n` tuples in each leaf, the one
+/// that comes or goes counted in, an insertion with its end, and a removal with its end, count at most 16
+/// times the leaves and the variables for each of the `n`; an insertion that is undone, or refused, at most
+/// twice that. It does nothing.
+pub fn counts_add_up(tree: &Tree)
+    ensures { (variables : List ℕ) (n : ℕ) → HasVariables tree.now variables → 0 < n → AddUp tree.now (length variables) n }
+{
+    tree.is_small();
 }

@@ -21,6 +21,7 @@ use Rattle.std.proofs.Common.{
   ◌∙◌,
   subst,
   arith,
+  length-append,
 }
 use Rattle.std.specs.Prelude.{map, slice_get, Some, None, Result, Ok, Err}
 use Rattle.std.specs.List.{AllByRecursion}
@@ -38,7 +39,7 @@ use Rattle.djq_model.specs.declared.relation.ColumnType.{ColumnType}
 use Rattle.djq_model.specs.declared.relation.Relation.{Relation}
 use Rattle.djq_model.specs.Data.{Bytes, Tuple, bytes_eq, relation_of, has_row, without_row}
 use Rattle.djq_model.specs.Typed.{fits}
-use Rattle.djq_lines.specs.declared.limits.TheConstants.{COLUMNS}
+use Rattle.djq_lines.specs.declared.limits.TheConstants.{COLUMNS, ROWS}
 use Rattle.djq_lines.specs.declared.answer.AddOutcome.{AddOutcome}
 use Rattle.djq_lines.specs.declared.answer.AddOutcome.TheVariants.{Added, Same}
 use Rattle.djq_lines.specs.declared.answer.DeleteOutcome.{DeleteOutcome}
@@ -306,18 +307,24 @@ module _ (texts : List Bytes) (ks : List Kept) (at : ℕ) (k : Kept) (u : List �
 -- and it stays sound
 
 sound_as : (texts : List Bytes) (j k : Kept) → k.types ≡ j.types → StaysTable j.table k.table →
-    IsSound texts j → Within texts j.types k.table.entries → IsSound texts k
-sound_as texts j k t st s w = record {
+    IsSound texts j → Within texts j.types k.table.entries → length k.table.entries ≤ ROWS →
+    IsSound texts k
+sound_as texts j k t st s w few = record {
   narrow = subst (λ (l : List ColumnType). length l ≤ COLUMNS) (sym t) s.narrow;
   key = st.key ∙ s.key;
   width = st.width ∙ s.width ∙ ap (λ (l : List ColumnType). length l) (sym t);
   table = st.is;
   within = subst (λ (l : List ColumnType). Within texts l k.table.entries) (sym t) w;
+  few = few;
 }
 
 same_within : (texts : List Bytes) (j k : Kept) → k.table.entries ≡ j.table.entries → IsSound texts
     j → Within texts j.types k.table.entries
 same_within texts j k e s = subst (Within texts j.types) (sym e) s.within
+
+same_few : (texts : List Bytes) (j k : Kept) → k.table.entries ≡ j.table.entries → IsSound texts j
+    → length k.table.entries ≤ ROWS
+same_few texts j k e s = subst (λ (es : List Entry). length es ≤ ROWS) (sym e) s.few
 
 pub added_sound : (texts : List Bytes) (j k : Kept) (u : List ℕ) (r : Result AddOutcome RowsRefusal)
     → k.types ≡ j.types → AreWithin texts j.types u → IsSound texts j → AddsTuple j.table u r
@@ -326,13 +333,18 @@ added_sound texts j k u (Ok Added) t h s a =
     let p = a.adds.2 in
     sound_as texts j k t a.stays s (subst (Within texts j.types) (sym p.is) (within_push texts
     j.types j.table.entries p.entry s.within (subst (AreWithin texts j.types) (sym p.tuple) h)))
+    (subst (λ (es : List Entry). length es ≤ ROWS) (sym p.is) (omega (
+      arith,
+      a.adds.1,
+      length-append j.table.entries (p.entry ∷ []),
+    )))
 added_sound texts j k u (Ok Same) t h s a = sound_as texts j k t a.stays s (same_within texts j k
-    a.adds.1 s)
+    a.adds.1 s) (same_few texts j k a.adds.1 s)
 added_sound texts j k u (Err NameTaken) t h s a = absurd a.adds
 added_sound texts j k u (Err Full) t h s a = sound_as texts j k t a.stays s (same_within texts j k
-    a.adds.2 s)
+    a.adds.2 s) (same_few texts j k a.adds.2 s)
 added_sound texts j k u (Err NoMem) t h s a = sound_as texts j k t a.stays s (same_within texts j k
-    a.adds.2 s)
+    a.adds.2 s) (same_few texts j k a.adds.2 s)
 
 pub deleted_sound : (texts : List Bytes) (j k : Kept) (u : List ℕ) (r : DeleteOutcome) → k.types ≡
     j.types → IsSound texts j → DeletesTuple j.table u r k.table → IsSound texts k
@@ -340,8 +352,14 @@ deleted_sound texts j k u Removed t s e =
     let p = e.deletes in
     sound_as texts j k t e.stays s (subst (Within texts j.types) (sym p.is) (within_out texts
     j.types p.front p.entry p.back (subst (Within texts j.types) p.was s.within)))
+    (subst (λ (es : List Entry). length es ≤ ROWS) (sym p.is) (omega (
+      arith,
+      subst (λ (es : List Entry). length es ≤ ROWS) p.was s.few,
+      length-append p.front (p.entry ∷ p.back),
+      length-append p.front p.back,
+    )))
 deleted_sound texts j k u Absent t s e = sound_as texts j k t e.stays s (same_within texts j k
-    e.deletes.1 s)
+    e.deletes.1 s) (same_few texts j k e.deletes.1 s)
 
 -- more texts change nothing
 
@@ -385,6 +403,7 @@ sound_grown old new k g s = record {
   table =
       s.table;
   within = tuples_grown old new k.types (tuples_of k.table.entries) g s.within;
+  few = s.few;
 }
 
 pub sounds_grown : (old new : List Bytes) (ks : List Kept) → Grown old new → AllByRecursion (IsSound
@@ -414,6 +433,10 @@ within_have texts ts (u ∷ us) d h = (
       h.1,
 )
 
+tuples_long : (es : List Entry) → length (tuples_of es) ≡ length es
+unfolding tuples_of
+tuples_long es = length-map es (λ (e : Entry). e.tuple)
+
 pub sound_kept : (texts : List Bytes) (k : Kept) → AllDifferent texts → IsSound texts k → IsKept
     texts (relation_in texts k)
 unfolding relation_in
@@ -425,6 +448,12 @@ sound_kept texts k d s = record {
   differ = rows_differ texts k.types k.table.entries d s.within s.table.apart;
   cells = All-from_recursion (HaveCells texts) (map (row_of texts k.types) (tuples_of
       k.table.entries)) (within_have texts k.types (tuples_of k.table.entries) d s.within);
+  few = omega (
+    arith,
+    s.few,
+    length-map (tuples_of k.table.entries) (row_of texts k.types),
+    tuples_long k.table.entries,
+  );
 }
 
 -- the cells of the rows are the tuples

@@ -56,7 +56,7 @@ use Rattle.djq_model.specs.declared.relation.Relation.{Relation}
 use Rattle.djq_model.specs.Data.{Bytes, Tuple, bytes_eq, relation_of, has_row}
 use Rattle.djq_model.specs.Typed.{is_of, fits}
 use Rattle.djq_model.specs.Known.{texts_of, texts_in, all_learned}
-use Rattle.djq_lines.specs.declared.limits.TheConstants.{COLUMNS, RELATIONS}
+use Rattle.djq_lines.specs.declared.limits.TheConstants.{COLUMNS, RELATIONS, ROWS}
 use Rattle.djq_lines.specs.declared.answer.AddOutcome.{AddOutcome}
 use Rattle.djq_lines.specs.declared.answer.DeleteOutcome.{DeleteOutcome}
 use Rattle.djq_dict.specs.declared.dict.TheConstants.{MOST_TEXTS}
@@ -347,6 +347,7 @@ pushed_parts p q name types h u texts few narrow =
       table = u.is_table;
       within = subst (λ (es : List Entry). AllByRecursion (AreWithin p.texts types) (tuples_of es))
           (sym (ap (λ (t : Table). t.entries) u.empty)) (no_within p.texts types);
+      few = subst (λ (t : Table). length t.entries ≤ ROWS) (sym u.empty) (omega arith);
     } in
     record {
       few = rw u.kept (omega (

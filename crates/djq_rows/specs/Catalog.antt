@@ -17,7 +17,7 @@ use Rattle.djq_model.specs.declared.relation.Relation.{Relation}
 use Rattle.djq_model.specs.Data.{Bytes, Tuple}
 use Rattle.djq_model.specs.Answer.{AreDifferent}
 use Rattle.djq_model.specs.Typed.{fits}
-use Rattle.djq_lines.specs.declared.limits.TheConstants.{COLUMNS, RELATIONS}
+use Rattle.djq_lines.specs.declared.limits.TheConstants.{COLUMNS, RELATIONS, ROWS}
 use Rattle.djq_dict.specs.declared.dict.TheConstants.{MOST_TEXTS}
 use Rattle.djq_rows.specs.Cells.{HaveCells, StandFor, AreCells}
 
@@ -52,12 +52,13 @@ abbrev pub with_rows_at : List Relation → ℕ → List Tuple → List Relation
 with_rows_at relations at rows =
     slice_set relations at (let r = relation_at relations at in record r { rows = rows })
 
--- the rows of a relation suit its columns, differ, and have cells
+-- the rows of a relation suit its columns, differ, have cells, and are within the limit
 pub record IsKept (texts : List Bytes) (r : Relation) : Type 0 where
   pub narrow : length r.types ≤ COLUMNS
   pub typed : All (λ row. fits r.types row ≡ true) r.rows
   pub differ : AreDifferent r.rows
   pub cells : All (HaveCells texts) r.rows
+  pub few : length r.rows ≤ ROWS
 
 -- what holds of every catalog
 pub record IsCatalog (c : Catalog) : Type 0 where

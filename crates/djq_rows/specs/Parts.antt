@@ -26,7 +26,7 @@ use Rattle.djq_model.specs.declared.relation.ColumnType.TheVariants.{
 }
 use Rattle.djq_model.specs.declared.relation.Relation.{Relation}
 use Rattle.djq_model.specs.Data.{Bytes, Tuple}
-use Rattle.djq_lines.specs.declared.limits.TheConstants.{COLUMNS, RELATIONS}
+use Rattle.djq_lines.specs.declared.limits.TheConstants.{COLUMNS, RELATIONS, ROWS}
 use Rattle.djq_dict.specs.Known.{AllDifferent}
 use Rattle.djq_index.specs.Entries.{Entry}
 use Rattle.djq_index.specs.Table.{Table, IsTable}
@@ -92,6 +92,7 @@ pub record IsSound (texts : List Bytes) (k : Kept) : Type 0 where
   pub width : k.table.width ≡ length k.types
   pub table : IsTable k.table
   pub within : AllByRecursion (AreWithin texts k.types) (tuples_of k.table.entries)
+  pub few : length k.table.entries ≤ ROWS
 
 -- what holds of a catalog's parts
 pub record IsParts (p : Parts) : Type 0 where

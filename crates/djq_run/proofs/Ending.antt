@@ -19,14 +19,14 @@ use Rattle.djq_laws.proofs.Queueing.{stepped_held, stepped_cause}
 use Rattle.djq_laws.proofs.Sending.{step_bytes}
 use Rattle.djq_laws.specs.Course.{Outside, Course, AwaitsInput}
 use Rattle.djq_laws.proofs.Moving.{Comes, is_held, out_of_memory, is_dropped, Ends, input_ends, had_ended}
-use Rattle.djq_laws.proofs.Courses.{course_begun, course_then, course_then_done}
+use Rattle.djq_laws.proofs.Courses.{course_then, course_then_done, course_then_failed}
 use Rattle.djq_run.specs.declared.status.Status.{Status}
 use Rattle.djq_run.specs.declared.status.Status.TheVariants.{Done, Usage, ReadFault, HubFault, TurnsUsed, NoMemory, Schedule, SessionEnded, WriteFault as StatusWriteFault}
 use Rattle.djq_run.specs.declared.session.Served.{Served}
 use Rattle.djq_run.specs.declared.session.Served.TheVariants.{AwaitsInput as Waiting, Ended, WriteFault}
 use Rattle.djq_run.specs.Ends.{Awaits, IsAtEnd, IsWellEnded, EndedBy, IsCutOff, Stands, ReadsCount, WritesCount, RunEnds}
-use Rattle.djq_run.proofs.Going.{PieceFed, awaits, by_opening}
-use Rattle.djq_run.specs.Parts.{Serves, WritesCount as ServedCount, GoesOn, ReadEnds, status_of}
+use Rattle.djq_run.proofs.Going.{PieceFed, awaits, by_opening, goes_begun}
+use Rattle.djq_run.specs.Parts.{GoesTo, Serves, WritesCount as ServedCount, GoesOn, ReadEnds, status_of, has_failed, failed_by}
 
 -- a session that awaits input is open, and has no end cause
 none_kept : (o : Option Session) → IsSomeAnd o AwaitsInput → cause_in o ≡ None
@@ -96,21 +96,38 @@ ends_done reading mid new ended cause held pending at_end =
     ended_by (IsWellEnded reading new) new Input (cause ∙ ended.cause) pending (at_end, ap (λ bytes. is_dry bytes) held ∙ ended.dry)
 
 -- the bytes fed along a course and one behind it
-pub fed_more : (o o' o'' : Outside) (old mid new : State) (c : Course old o o' mid) (d : Course mid o' o'' new)
-    → length (all_fed 1 (course_then o o' o'' old mid new c d).done) ≡ length (all_fed 1 c.done) + length (all_fed 1 d.done)
-fed_more o o' o'' old mid new c d =
-    ap (λ (done : List Did). length (all_fed 1 done)) (course_then_done o o' o'' old mid new c d)
+pub fed_more : (o o' o'' : Outside) (old mid new : State) (c : Course old o o' mid) (well : c.failed ≡ false)
+    (d : Course mid o' o'' new)
+    → length (all_fed 1 (course_then o o' o'' old mid new c well d).done) ≡ length (all_fed 1 c.done) + length
+    (all_fed 1 d.done)
+fed_more o o' o'' old mid new c well d =
+    ap (λ (done : List Did). length (all_fed 1 done)) (course_then_done o o' o'' old mid new c well d)
     ∙ ap length (flat_map-append (λ (x : Did). fed_by 1 x.event) c.done d.done) ∙ length-append (all_fed 1 c.done) (all_fed 1 d.done)
 
+-- a run ends by a write that failed as serving does
+served_failed : (served : Served) → has_failed served ≡ failed_by (status_of served)
+served_failed Waiting = refl
+served_failed (Ended Input) = refl
+served_failed (Ended Quit) = refl
+served_failed (Ended Stop) = refl
+served_failed (Ended Long) = refl
+served_failed (Ended Slow) = refl
+served_failed (Ended Memory) = refl
+served_failed WriteFault = refl
+
 -- What a piece comes to, whose lines were served.
-pub piece_ends : (served : Served) (o mid_o o' : Outside) (old mid new : State) (bytes : Bytes) → PieceFed o mid_o old mid bytes → Course mid mid_o o' new → Awaits old → Comes old mid 1 bytes
+pub piece_ends : (served : Served) (o mid_o o' : Outside) (old mid new : State) (bytes : Bytes)
+    → PieceFed o mid_o old mid bytes → GoesTo (has_failed served) mid mid_o o' new → Awaits old
+    → Comes old mid 1 bytes
     → Serves served mid new → 0 < length bytes → o'.read_faults ≡ o.read_faults → ServedCount served o.write_faults o'.write_faults → ReadEnds (status_of served) o o' old new
 piece_ends served o mid_o o' old mid new bytes piece c waits comes serves some reads writes =
-    let whole = course_then o mid_o o' old mid new piece.course c in
+    let whole = course_then o mid_o o' old mid new piece.course piece.well c.0 in
     record {
       course = whole;
+      failed = course_then_failed o mid_o o' old mid new piece.course piece.well c.0 ∙ c.1 ∙ served_failed served;
       goes_on = served_as served (all_fed 1 whole.done) o o' old mid new (awaits_running old waits) (piece_input old mid bytes comes) serves
-          (omega (arith, some, fed_more o mid_o o' old mid new piece.course c, ap length piece.fed)) reads writes;
+          (omega (arith, some, fed_more o mid_o o' old mid new piece.course piece.well c.0, ap length piece.fed))
+          reads writes;
     }
 
 -- What a status says, with more bytes fed before.
@@ -130,14 +147,18 @@ pub still_at_end : (reading reading' : Option Reading) → IsAtEnd reading → r
 still_at_end reading reading' h same = subst (λ (r : Option Reading). IsAtEnd r) (sym same) h
 
 -- The run so far, in which no fault was met, and a read that ends it.
-pub run_ends : (status : Status) (before mid_o now : Outside) (start mid state : State) (c : Course start before mid_o mid) (r : ReadEnds (Some status) mid_o now mid state)
+pub run_ends : (status : Status) (before mid_o now : Outside) (start mid state : State)
+    (c : Course start before mid_o mid) → c.failed ≡ false → (r : ReadEnds (Some status) mid_o now mid state)
     → mid_o.read_faults ≡ before.read_faults → mid_o.write_faults ≡ before.write_faults → RunEnds status before now start state
-run_ends status before mid_o now start mid state c r reads writes =
+run_ends status before mid_o now start mid state c well r reads writes =
     let d : Course mid mid_o now state = r.course in
     let g = r.goes_on in
     record {
-      course = course_then before mid_o now start mid state c d;
-      stands = inl (stands_more status (all_fed 1 d.done) (all_fed 1 (course_then before mid_o now start mid state c d).done) now.reading state (omega (arith, fed_more before mid_o now start mid state c d)) g.0);
+      course = course_then before mid_o now start mid state c well d;
+      failed = course_then_failed before mid_o now start mid state c well d ∙ r.failed;
+      stands = inl (stands_more status (all_fed 1 d.done) (all_fed 1
+          (course_then before mid_o now start mid state c well d).done) now.reading state
+          (omega (arith, fed_more before mid_o now start mid state c well d)) g.0);
       read_faults = subst (λ n. ReadsCount status n now.read_faults) reads g.1;
       write_faults = subst (λ n. WritesCount status n now.write_faults) writes g.2;
     }
@@ -163,24 +184,33 @@ opened_awaits old new none m there =
     awaits new there pending (stepped_cause old (opened 1) m.effect new h 1 ∙ parts.1) (ap (λ bytes. is_dry bytes) held)
 
 -- The run so far, and a read that gave a byte at least.
-pub so_far_more : (o o' o'' : Outside) (old mid new : State) (n : ℕ) (c : Course old o o' mid) → n ≤ length (all_fed 1 c.done) → (r : ReadEnds None o' o'' mid new)
-    → (d : Course old o o'' new) × (n + 1 ≤ length (all_fed 1 d.done))
-so_far_more o o' o'' old mid new n c far r =
-    (course_then o o' o'' old mid new c r.course, omega (arith, far, r.goes_on.1, fed_more o o' o'' old mid new c r.course))
+pub so_far_more : (o o' o'' : Outside) (old mid new : State) (n : ℕ) (c : Course old o o' mid)
+    (well : c.failed ≡ false) → n ≤ length (all_fed 1 c.done) → (r : ReadEnds None o' o'' mid new)
+    → (d : Course old o o'' new) × (d.failed ≡ false) × (n + 1 ≤ length (all_fed 1 d.done))
+so_far_more o o' o'' old mid new n c well far r = (
+  course_then o o' o'' old mid new c well r.course,
+  course_then_failed o o' o'' old mid new c well r.course ∙ r.failed,
+  omega (arith, far, r.goes_on.1, fed_more o o' o'' old mid new c well r.course),
+)
 
 -- All reads were made, and the session still awaits input.
-pub turns_used : (o o' : Outside) (old new : State) (c : Course old o o' new) → MOST_READS ≤ length (all_fed 1 c.done) → Awaits new → o'.read_faults ≡ o.read_faults → o'.write_faults ≡ o.write_faults
+pub turns_used : (o o' : Outside) (old new : State) (c : Course old o o' new) → c.failed ≡ false
+    → MOST_READS ≤ length (all_fed 1 c.done) → Awaits new → o'.read_faults ≡ o.read_faults
+    → o'.write_faults ≡ o.write_faults
     → RunEnds TurnsUsed o o' old new
-turns_used o o' old new c far waits reads writes = record { course = c; stands = inl (waits, far); read_faults = reads; write_faults = writes }
+turns_used o o' old new c well far waits reads writes = record {
+  course = c;
+  failed = well;
+  stands = inl (waits, far);
+  read_faults = reads;
+  write_faults = writes;
+}
 
 -- Out of memory before anything was done.
 pub not_begun : (o : Outside) (old new : State) → new ≡ old → RunEnds NoMemory o o old new
-not_begun o old new same = record {
-  course = subst (λ (st : State). Course old o o st) (sym same) (course_begun o old);
-  stands = inr (refl, same);
-  read_faults = refl;
-  write_faults = refl;
-}
+not_begun o old new same =
+    let none = subst (λ (st : State). GoesTo false old o o st) (sym same) (goes_begun o old) in
+    record { course = none.0; failed = none.1; stands = inr (refl, same); read_faults = refl; write_faults = refl }
 
 -- Out of memory as the session opens.
 pub not_opened : (o : Outside) (old new : State) (r : Result ⊤ OpenRefusal) → is_err r ≡ true → OpenGives old 1 r new → RunEnds NoMemory o o old new
@@ -189,6 +219,9 @@ not_opened o old new (Err Full) e h = not_begun o old new h.1
 not_opened o old new (Err NoMem) e h = not_begun o old new h.1
 
 -- The session is open, and awaits input.
-pub begun : (o : Outside) (old new : State) (r : Result ⊤ OpenRefusal) → is_err r ≡ false → OpenGives old 1 r new → old.sessions ≡ [] → Awaits new × ((c : Course old o o new) × (0 ≤ length (all_fed 1 c.done)))
-begun o old new (Ok u) e h none = (opened_awaits old new none h.0 h.1, (by_opening o old new none h.0, omega arith))
+pub begun : (o : Outside) (old new : State) (r : Result ⊤ OpenRefusal) → is_err r ≡ false → OpenGives old 1 r new
+    → old.sessions ≡ [] → Awaits new × ((c : Course old o o new) × (c.failed ≡ false)
+    × (0 ≤ length (all_fed 1 c.done)))
+begun o old new (Ok u) e h none = let g = by_opening o old new none h.0 in
+    (opened_awaits old new none h.0 h.1, (g.0, g.1, omega arith))
 begun o old new (Err r) e h none = absurd cc

@@ -1,3 +1,4 @@
 pub mod Going
 pub mod Parts
 pub mod Ending
+pub mod Breaking

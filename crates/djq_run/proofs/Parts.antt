@@ -1,8 +1,7 @@
 -- What the parts of a run leave of the session.
-use Rattle.std.specs.Prelude.{ℕ, [], ◌++◌, ◌≡◌, ◌<◌, true, false, Option, None, Some, IfSome, MatchOption, length, take}
+use Rattle.std.specs.Prelude.{ℕ, List, [], ◌≡◌, ◌<◌, ◌≤◌, false, Option, None, Some, IfSome, MatchOption, length, take}
 use Rattle.std.proofs.Common.{refl, sym, ap, ◌∙◌, subst, inl, inr, length-append, length-take, arith}
-use Rattle.std.proofs.lemmas.List.{take_all, nil_from_length}
-use Rattle.djq_model.specs.Data.{Bytes}
+use Rattle.djq_io.specs.declared.sink.Write.{Write}
 use Rattle.djq_lines.specs.declared.answer.EndCause.{EndCause}
 use Rattle.djq_lines.specs.declared.answer.EndCause.TheVariants.{Input, Quit, Stop, Long, Slow, Memory}
 use Rattle.djq_machine.specs.declared.machine.Stepped.TheVariants.{Ended}
@@ -12,51 +11,30 @@ use Rattle.djq_machine.specs.Step.{stepped}
 use Rattle.djq_machine.specs.Run.{pending_of}
 use Rattle.djq_machine.specs.Call.{IsOpen, MakesCounted, RanStep, EndedStepAs, StepGives, Counts, cause_of, held_of}
 use Rattle.djq_laws.specs.Moved.{EndsByRun}
-use Rattle.djq_laws.specs.Course.{Outside, Course}
-use Rattle.djq_laws.proofs.Courses.{course_begun}
-use Rattle.djq_laws.proofs.Moving.{Takes, took_facts, StepsLine, stepped_facts}
+use Rattle.djq_laws.specs.Course.{Outside}
+use Rattle.djq_laws.proofs.Moving.{Takes, StepsLine, stepped_facts}
 use Rattle.djq_laws.proofs.Cutting.{front_fewer}
-use Rattle.djq_run.specs.Parts.{TakesFirst, LeavesPending, with_sink}
-use Rattle.djq_run.proofs.Going.{by_line}
+use Rattle.djq_run.specs.Parts.{GoesTo, with_sink}
+use Rattle.djq_run.proofs.Going.{goes_begun, by_line}
 
--- nothing is behind a list that is the whole
-nothing_behind : (p q : Bytes) → p ≡ take (length p) p ++ q → q ≡ []
-nothing_behind p q e =
-    let whole : p ≡ p ++ q = e ∙ ap (λ r. r ++ q) (take_all (length p) p (omega arith)) in
-    nil_from_length q (omega (arith, ap length whole, length-append p q))
-
--- something is behind a part
-some_behind : (n : ℕ) (p q : Bytes) → n < length p → p ≡ take n p ++ q → 0 < length q
-some_behind n p q within e = omega (arith, ap length e, length-append (take n p) q, length-take n p)
-
--- what taking the first bytes leaves of the session
-pub record Taken (n : ℕ) (old new : State) : Type 0 where
-  pub is_open : IsOpen new 1
-  pub held : held_of new 1 ≡ held_of old 1
-  pub cause : cause_of new 1 ≡ cause_of old 1
-  pub pending : pending_of old 1 ≡ take n (pending_of old 1) ++ pending_of new 1
-
-pub taken : (n : ℕ) (old new : State) → IsOpen old 1 → TakesFirst n old new → Taken n old new
-taken n old new there (inl (none, same)) = record {
-  is_open = subst (λ st. IsOpen st 1) (sym same) there;
-  held = ap (λ st. held_of st 1) same;
-  cause = ap (λ st. cause_of st 1) same;
-  pending = let e : take n (pending_of old 1) ≡ [] = ap (λ m. take m (pending_of old 1)) none in
-      sym (ap (λ t. t ++ pending_of new 1) e ∙ ap (λ st. pending_of st 1) same);
-}
-taken n old new there (inr (some, m)) =
-    let t : Takes old new 1 (take n (pending_of old 1)) = took_facts old 1 (take n (pending_of old 1)) m.effect new m.step in
-    record { is_open = t.stays; held = t.held; cause = t.cause; pending = t.pending }
-
-pub all_taken : (n : ℕ) (old new : State) → Taken n old new → n ≡ length (pending_of old 1) → LeavesPending true (pending_of new 1)
-all_taken n old new t all = nothing_behind (pending_of old 1) (pending_of new 1) (t.pending ∙ ap (λ k. take k (pending_of old 1) ++ pending_of new 1) all)
-
-pub part_taken : (n : ℕ) (old new : State) → Taken n old new → n < length (pending_of old 1) → LeavesPending false (pending_of new 1)
-part_taken n old new t within = some_behind n (pending_of old 1) (pending_of new 1) within t.pending
+-- a write that took some bytes leaves fewer pending
+pub fewer_pending : (n : ℕ) (old new : State) → 1 ≤ n → n ≤ length (pending_of old 1)
+    → Takes old new 1 (take n (pending_of old 1)) → length (pending_of new 1) < length (pending_of old 1)
+fewer_pending n old new some within t =
+    omega (
+      arith,
+      some,
+      within,
+      ap length t.pending,
+      length-append (take n (pending_of old 1))
+          (pending_of new 1),
+      length-take n (pending_of old 1),
+    )
 
 -- A line that was blank or was run: the session stays open, its input hasn't ended, and fewer bytes are held.
 pub record LineRan (old new : State) (before now : Counts) : Type 0 where
-  pub course : (o : Outside) (taken : Option Bytes) (faults : ℕ) → Course old (with_sink o taken faults before) (with_sink o taken faults now) new
+  pub course : (o : Outside) (told : Option (List Write)) (faults : ℕ)
+      → GoesTo false old (with_sink o told faults before) (with_sink o told faults now) new
   pub is_open : IsOpen new 1
   pub input : cause_of new 1 ≡ Some Input → ⊥
   pub fewer : length (held_of new 1) < length (held_of old 1)
@@ -71,7 +49,7 @@ pub line_ran : (old new : State) (before now : Counts) → IsOpen old 1 → pend
 line_ran old new before now there pending (l, inl m) =
     let f : StepsLine old new 1 (blank l) = stepped_facts old 1 (blank l) m.effect new m.step in
     record {
-      course = λ o taken faults. by_line o taken faults old new (blank l) before now there pending m;
+      course = λ o told faults. by_line o told faults old new (blank l) before now there pending m;
       is_open = f.stays;
       input = none_input (cause_of new 1) f.cause;
       fewer = front_fewer (held_of old 1) l (held_of new 1) f.held;
@@ -79,7 +57,7 @@ line_ran old new before now there pending (l, inl m) =
 line_ran old new before now there pending (l, inr m) =
     let f : StepsLine old new 1 (run l) = stepped_facts old 1 (run l) m.effect new m.step in
     record {
-      course = λ o taken faults. by_line o taken faults old new (run l) before now there pending m;
+      course = λ o told faults. by_line o told faults old new (run l) before now there pending m;
       is_open = f.stays;
       input = run_input (cause_of new 1) f.cause;
       fewer = front_fewer (held_of old 1) l (held_of new 1) f.held;
@@ -87,7 +65,8 @@ line_ran old new before now there pending (l, inr m) =
 
 -- A step that ran no line: the session has ended by this cause, before it or by it.
 pub record LineEnded (c : EndCause) (old new : State) (before now : Counts) : Type 0 where
-  pub course : (o : Outside) (taken : Option Bytes) (faults : ℕ) → Course old (with_sink o taken faults before) (with_sink o taken faults now) new
+  pub course : (o : Outside) (told : Option (List Write)) (faults : ℕ)
+      → GoesTo false old (with_sink o told faults before) (with_sink o told faults now) new
   pub is_open : IsOpen new 1
   pub cause : cause_of new 1 ≡ Some c
   pub input : c ≡ Input → cause_of old 1 ≡ Some Input
@@ -97,7 +76,7 @@ ended_now : (c : EndCause) (old new : State) (before now : Counts) (outcome : Li
 ended_now c old new before now outcome there pending m cause no_input =
     let f : StepsLine old new 1 outcome = stepped_facts old 1 outcome m.effect new m.step in
     record {
-      course = λ o taken faults. by_line o taken faults old new outcome before now there pending m;
+      course = λ o told faults. by_line o told faults old new outcome before now there pending m;
       is_open = f.stays;
       cause = cause f;
       input = λ e. absurd (no_input e);
@@ -117,8 +96,10 @@ ended_before c old new before now None e there pending h = ended_by c old new be
 ended_before c old new before now (Some d) e there pending h =
     let same : cause_of old 1 ≡ Some c = e ∙ ap (λ k. Some k) h.0 in
     record {
-      course = λ o taken faults. subst (λ (st : State). Course old (with_sink o taken faults before) (with_sink o taken faults now) st) (sym h.1)
-          (subst (λ (k : Counts). Course old (with_sink o taken faults before) (with_sink o taken faults k) old) (sym h.2) (course_begun (with_sink o taken faults before) old));
+      course = λ o told faults. subst (λ (st : State). GoesTo false old (with_sink o told faults before)
+          (with_sink o told faults now) st) (sym h.1)
+          (subst (λ (k : Counts). GoesTo false old (with_sink o told faults before) (with_sink o told faults k) old)
+          (sym h.2) (goes_begun (with_sink o told faults before) old));
       is_open = subst (λ (st : State). IsOpen st 1) (sym h.1) there;
       cause = ap (λ (st : State). cause_of st 1) h.1 ∙ same;
       input = λ i. same ∙ ap (λ k. Some k) i;

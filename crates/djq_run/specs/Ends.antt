@@ -1,5 +1,5 @@
 -- How a run of one session, from a source to a sink, ends.
-use Rattle.std.specs.Prelude.{ℕ, [], ◌≡◌, ◌<◌, ◌≤◌, ◌⊎◌, true, Option, Some, IfSome, IsSomeAnd, length}
+use Rattle.std.specs.Prelude.{ℕ, [], ◌≡◌, ◌<◌, ◌≤◌, ◌⊎◌, Bool, true, false, Option, Some, IfSome, IsSomeAnd, length}
 use Rattle.djq_io.specs.Faults.{Counted}
 use Rattle.djq_io.specs.Source.{Reading}
 use Rattle.djq_model.specs.Data.{Bytes}
@@ -72,6 +72,11 @@ abbrev pub WritesCount : Status → ℕ → ℕ → Type 0
 WritesCount WriteFault before now = Counted before now
 WritesCount _ before now = now ≡ before
 
+-- whether a status says that a write failed
+abbrev pub is_write_fault : Status → Bool
+is_write_fault WriteFault = true
+is_write_fault _ = false
+
 -- Out of memory before anything was done: the session isn't open.
 abbrev pub NothingDone : Status → Outside → Outside → State → State → Type 0
 NothingDone NoMemory before now start state = (now ≡ before) × (state ≡ start)
@@ -81,6 +86,8 @@ NothingDone _ before now start state = ⊥
 -- which faults there were.
 pub record RunEnds (status : Status) (before now : Outside) (start state : State) : Type 0 where
   pub course : Course start before now state
+  -- a write failed under WriteFault alone, and nothing was done behind it
+  pub failed : course.failed ≡ is_write_fault status
   pub stands : Stands status (all_fed 1 course.done) now.reading state
       ⊎ NothingDone status before now start state
   pub read_faults : ReadsCount status before.read_faults now.read_faults

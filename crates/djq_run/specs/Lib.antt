@@ -1,3 +1,4 @@
 pub mod Number
 pub mod Ends
 pub mod Parts
+pub mod LastWrite

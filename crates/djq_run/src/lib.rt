@@ -8,12 +8,16 @@
 //!
 //! What this crate is not: it buffers nothing, allocates nothing, and knows no command.
 //!
+//! A write that failed is the last thing that a run does ([`failed_write_is_last`]).
+//!
 //! What surprises: it never reads ahead. A piece that was read is fed, run and answered before the
 //! next read, so a client that waits for a reply always gets it.
 #![tactic(auto)]
 
+mod laws;
 mod session;
 mod status;
 
+pub use laws::failed_write_is_last;
 pub use session::run_session;
 pub use status::Status;

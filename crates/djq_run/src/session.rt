@@ -1,13 +1,12 @@
-ghost use Rattle.std.specs.Prelude.{◌≡◌, ℕ, ◌<◌, ◌≤◌, [], length, take};
+ghost use Rattle.std.specs.Prelude.{◌≡◌, ℕ, ◌<◌, ◌≤◌, [], length};
 ghost use Rattle.djq_machine.specs.Call.{IsOpen, counts};
-ghost use Rattle.djq_machine.specs.Run.{pending_of};
 ghost use Rattle.djq_laws.specs.declared.limits.TheConstants.{READ_BYTES};
-ghost use Rattle.djq_laws.specs.Course.{Outside, outside, Course};
+ghost use Rattle.djq_laws.specs.Course.{Outside, outside};
 ghost use Rattle.djq_run.specs.Ends.{Awaits, RunEnds};
-ghost use Rattle.djq_run.specs.Parts.{Flushed, ReadEnds, Serves, TakesFirst, WritesCount, with_sink, status_of};
+ghost use Rattle.djq_run.specs.Parts.{Flushed, GoesTo, ReadEnds, Serves, WritesCount, has_failed, with_sink, status_of};
 
 use crate::status::Status;
-use djq_io::{Read, Sink, Source, Written, write_all};
+use djq_io::{Read, Sink, Source, Wrote};
 use djq_laws::limits::MOST_READS;
 use djq_lines::EndCause;
 use djq_machine::{Machine, Stepped};
@@ -47,7 +46,7 @@ impl Served {
 ///
 /// It reads at most as many bytes at a time as the buffer has. What was read is fed, each line that
 /// it completes is run, and what that queues is written, before the next read. Nothing is read once
-/// the session has ended. What a failed write took of the pending bytes is told to the machine too.
+/// the session has ended, and nothing is done behind a write that failed.
 pub fn run_session<M: Machine, S: Source, K: Sink, L: Ledgers>(
     machine: &mut M,
     source: &mut S,
@@ -59,9 +58,9 @@ pub fn run_session<M: Machine, S: Source, K: Sink, L: Ledgers>(
     requires most { length buffer.old ≤ READ_BYTES }
     requires alone { (M.state machine.old).sessions ≡ [] }
     ensures { RunEnds result
-        (outside (S.told source.old) (S.faults source.old) (K.taken sink.old) (K.faults sink.old)
+        (outside (S.told source.old) (S.faults source.old) (K.told sink.old) (K.faults sink.old)
         (counts steps.old.listing steps.old.update steps.old.rows))
-        (outside (S.told source.new) (S.faults source.new) (K.taken sink.new) (K.faults sink.new)
+        (outside (S.told source.new) (S.faults source.new) (K.told sink.new) (K.faults sink.new)
         (counts steps.new.listing steps.new.update steps.new.rows))
         (M.state machine.old) (M.state machine.new) }
 {
@@ -88,9 +87,9 @@ fn serve_read<M: Machine, S: Source, K: Sink, L: Ledgers>(
     requires most { length buffer.old ≤ READ_BYTES }
     requires awaits { Awaits (M.state machine.old) }
     ensures { ReadEnds result
-        (outside (S.told source.old) (S.faults source.old) (K.taken sink.old) (K.faults sink.old)
+        (outside (S.told source.old) (S.faults source.old) (K.told sink.old) (K.faults sink.old)
         (counts steps.old.listing steps.old.update steps.old.rows))
-        (outside (S.told source.new) (S.faults source.new) (K.taken sink.new) (K.faults sink.new)
+        (outside (S.told source.new) (S.faults source.new) (K.told sink.new) (K.faults sink.new)
         (counts steps.new.listing steps.new.update steps.new.rows))
         (M.state machine.old) (M.state machine.new) }
 {
@@ -119,10 +118,10 @@ fn serve_held<M: Machine, K: Sink, L: Ledgers>(
     steps: &mut Steps<L>,
 ) -> Served
     requires { IsOpen (M.state machine.old) 1 }
-    ensures course { (o : Outside) → Course (M.state machine.old)
-        (with_sink o (K.taken sink.old) (K.faults sink.old)
+    ensures course { (o : Outside) → GoesTo (has_failed result) (M.state machine.old)
+        (with_sink o (K.told sink.old) (K.faults sink.old)
         (counts steps.old.listing steps.old.update steps.old.rows))
-        (with_sink o (K.taken sink.new) (K.faults sink.new)
+        (with_sink o (K.told sink.new) (K.faults sink.new)
         (counts steps.new.listing steps.new.update steps.new.rows)) (M.state machine.new) }
     ensures serves { Serves result (M.state machine.old) (M.state machine.new) }
     ensures faults { WritesCount result (K.faults sink.old) (K.faults sink.new) }
@@ -142,33 +141,18 @@ fn serve_held<M: Machine, K: Sink, L: Ledgers>(
     Served::WriteFault
 }
 
-/// Writes what is pending for the session, and tells whether all of it was taken.
+/// Writes what is pending for the session, and tells whether all of it was taken. What a write took
+/// is told to the machine before the next one, and nothing is done behind one that failed.
 fn flush<M: Machine, K: Sink>(machine: &mut M, sink: &mut K) -> bool
     requires { IsOpen (M.state machine.old) 1 }
-    ensures { Flushed result (K.taken sink.old) (K.faults sink.old) (M.state machine.old)
-        (K.taken sink.new) (K.faults sink.new) (M.state machine.new) }
+    ensures { Flushed result (K.told sink.old) (K.faults sink.old) (M.state machine.old)
+        (K.told sink.new) (K.faults sink.new) (M.state machine.new) }
 {
-    let pending = machine.pending(ID);
-    let whole = pending.len();
-    match write_all(sink, pending) {
-        Written::All => {
-            take_first(machine, whole);
-            true
-        }
-        Written::Failed(count) => {
-            take_first(machine, count);
-            false
+    'writes: while !machine.pending(ID).is_empty() {
+        match sink.write(machine.pending(ID)) {
+            Wrote::Took(count) => machine.took(ID, count),
+            Wrote::Failed => return false,
         }
     }
-}
-
-/// Tells the machine that the first bytes that are pending were taken, where there are any.
-fn take_first<M: Machine>(machine: &mut M, count: usize)
-    requires open { IsOpen (M.state machine.old) 1 }
-    requires pending { count ≤ length (pending_of (M.state machine.old) 1) }
-    ensures { TakesFirst count (M.state machine.old) (M.state machine.new) }
-{
-    if 0 < count {
-        machine.took(ID, count);
-    }
+    true
 }

@@ -51,11 +51,16 @@ has_at past i t text begun within is h = record {
 }
 
 -- a piece was sent
-piece_sent : (told : List Told) (id : ℕ) (sent : Sent) (piece text text' : Bytes) (begun begun' : ℕ → Bytes) → HasSent told text begun
-    → text' ≡ text ++ ended_lines id (begun id) piece → ((s : ℕ) → begun' s ≡ cond (nat_eq id s) (begun_line (begun id) piece) (begun s)) → HasSent (told ++ Sending id sent piece ∷ []) text' begun'
-piece_sent told id sent piece text text' begun begun' h is_text is_begun = record {
-  lines = is_text ∙ ap₂ (λ (a b : Bytes). a ++ ended_lines id b piece) h.lines (h.rests id) ∙ sym (sent_more told (Sending id sent piece));
-  rests = λ s. is_begun s ∙ at_session s (nat_eq id s) refl ∙ sym (sent_begun s told (Sending id sent piece));
+piece_sent : (told : List Told) (id offered : ℕ) (sent : Sent) (piece text text' : Bytes) (begun begun' : ℕ → Bytes)
+    → HasSent told text begun
+    → text' ≡ text ++ ended_lines id (begun id) piece
+    → ((s : ℕ) → begun' s ≡ cond (nat_eq id s) (begun_line (begun id) piece) (begun s))
+    → HasSent (told ++ Sending id offered sent piece ∷ []) text' begun'
+piece_sent told id offered sent piece text text' begun begun' h is_text is_begun = record {
+  lines =
+      is_text ∙ ap₂ (λ (a b : Bytes). a ++ ended_lines id b piece) h.lines (h.rests id)
+      ∙ sym (sent_more told (Sending id offered sent piece));
+  rests = λ s. is_begun s ∙ at_session s (nat_eq id s) refl ∙ sym (sent_begun s told (Sending id offered sent piece));
 }
   where
     at_session : (s : ℕ) (t : Bool) → nat_eq id s ≡ t → cond t (begun_line (begun id) piece) (begun s) ≡ begun_line (begun_line [] (sent_to s told)) (cond t piece [])
@@ -69,14 +74,18 @@ none_sent told t text begun no_lines none h = record {
   rests = λ s. h.rests s ∙ ap (λ (bytes : Bytes). begun_line (begun_line [] (sent_to s told)) bytes) (sym (none s)) ∙ sym (sent_begun s told t);
 }
 
-pub sending_at : (past : List Told) (i : ℕ) (t : Told) (id : ℕ) (sent : Sent) (piece text text' : Bytes) (begun begun' : ℕ → Bytes) → i < length past → t ≡ get_or past i t → t ≡ Sending id sent piece
+pub sending_at : (past : List Told) (i : ℕ) (t : Told) (id offered : ℕ) (sent : Sent)
+    (piece text text' : Bytes) (begun begun' : ℕ → Bytes) → i < length past → t ≡ get_or past i t → t ≡ Sending id offered sent piece
     → HasSent (take i past) text begun → text' ≡ text ++ ended_lines id (begun id) piece → ((s : ℕ) → begun' s ≡ cond (nat_eq id s) (begun_line (begun id) piece) (begun s)) → HasSent (take (i + 1) past) text' begun'
-sending_at past i t id sent piece text text' begun begun' within is sends h is_text is_begun =
-    has_at past i t text' begun' within is (subst (λ (u : Told). HasSent (take i past ++ u ∷ []) text' begun') (sym sends) (piece_sent (take i past) id sent piece text text' begun begun' h is_text is_begun))
+sending_at past i t id offered sent piece text text' begun begun' within is sends h is_text is_begun =
+    has_at past i t text' begun' within is
+    (subst (λ (u : Told). HasSent (take i past ++ u ∷ []) text' begun') (sym sends)
+    (piece_sent (take i past) id offered sent piece text text' begun begun' h is_text is_begun))
 
-pub other_at : (past : List Told) (i : ℕ) (t : Told) (text : Bytes) (begun : ℕ → Bytes) → i < length past → t ≡ get_or past i t → ((id : ℕ) (sent : Sent) (piece : Bytes) → t ≡ Sending id sent piece → ⊥)
+pub other_at : (past : List Told) (i : ℕ) (t : Told) (text : Bytes) (begun : ℕ → Bytes) → i < length past
+    → t ≡ get_or past i t → ((id offered : ℕ) (sent : Sent) (piece : Bytes) → t ≡ Sending id offered sent piece → ⊥)
     → HasSent (take i past) text begun → HasSent (take (i + 1) past) text begun
 other_at past i (Listening addr answer) text begun within is other h = has_at past i (Listening addr answer) text begun within is (none_sent (take i past) (Listening addr answer) text begun refl (λ s. refl) h)
 other_at past i (Turning turn piece) text begun within is other h = has_at past i (Turning turn piece) text begun within is (none_sent (take i past) (Turning turn piece) text begun refl (λ s. refl) h)
-other_at past i (Sending id sent piece) text begun within is other h = absurd (other id sent piece refl)
+other_at past i (Sending id offered sent piece) text begun within is other h = absurd (other id offered sent piece refl)
 other_at past i (Closing id) text begun within is other h = has_at past i (Closing id) text begun within is (none_sent (take i past) (Closing id) text begun refl (λ s. refl) h)

@@ -23,9 +23,9 @@ begun_line begun [] = begun
 begun_line begun (b ∷ bytes) = if b == 10 then begun_line [] bytes
     else begun_line (begun ++ b ∷ []) bytes
 
--- the bytes that a call sends to a session
+-- the bytes that a call sends to a session: those that the hub took
 abbrev pub sent_by : ℕ → Told → Bytes
-sent_by s (Sending t sent piece) = if t == s then piece else []
+sent_by s (Sending t offered sent taken) = if t == s then taken else []
 sent_by s _ = []
 
 -- all bytes that are sent to a session
@@ -34,7 +34,7 @@ sent_to s told = flat_map (λ t. sent_by s t) told
 
 -- the lines that end in what a call sends, behind these calls
 abbrev pub ended_by : List Told → Told → Bytes
-ended_by earlier (Sending s sent piece) = ended_lines s (begun_line [] (sent_to s earlier)) piece
+ended_by earlier (Sending s offered sent taken) = ended_lines s (begun_line [] (sent_to s earlier)) taken
 ended_by earlier _ = []
 
 abbrev pub text_behind : List Told → List Told → Bytes

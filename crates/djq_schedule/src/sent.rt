@@ -8,7 +8,7 @@ use itoa::Buffer;
 use std::alloc::{AllocError, Global};
 use std::collections::HashMap;
 
-/// The lines that were sent by these calls of a hub, each behind its session's number and `< `, in
+/// The lines that these calls of a hub sent, by the bytes that it took, each behind its session's number and `< `, in
 /// the order in which their ends were sent.
 ///
 /// # Errors
@@ -20,8 +20,8 @@ pub fn sent_text(alloc: Global, past: &[Told]) -> Result<Vec<u8>, AllocError>
     let mut text = Vec::new(alloc);
     let mut begun = HashMap::new(alloc);
     for told in past {
-        if let Told::Sending(id, _, piece) = told {
-            add_piece(alloc, &mut text, &mut begun, *id, piece.as_slice())?;
+        if let Told::Sending(id, _, _, taken) = told {
+            add_piece(alloc, &mut text, &mut begun, *id, taken.as_slice())?;
         }
     }
     Ok(text)

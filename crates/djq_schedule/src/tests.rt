@@ -51,7 +51,7 @@ fn the_first_line_outside_the_grammar_is_told(rt: HostRuntime) -> Result<(), Fai
 /// Puts a send at the end of a hub's past.
 fn add_send(rt: &HostRuntime, past: &mut Vec<Told>, id: u64, bytes: &[u8]) -> Result<(), Fail> {
     let piece = Piece::copy_of(rt.alloc(), bytes)?;
-    past.push(Told::Sending(id, Sent::Took(bytes.len()), piece))?;
+    past.push(Told::Sending(id, bytes.len(), Sent::Took(bytes.len()), piece))?;
     Ok(())
 }
 

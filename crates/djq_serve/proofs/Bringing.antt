@@ -3,10 +3,11 @@ use Rattle.std.specs.Prelude.{ℕ, List, [], ◌∷◌, ◌≡◌, ◌+◌, ◌<
 use Rattle.std.proofs.Common.{refl, sym, ap, ◌∙◌, subst, inl, inr, length-take, arith}
 use Rattle.std.proofs.lemmas.Bool.{lt-ltb, le-ltb}
 use Rattle.std.proofs.lemmas.List.Sorted.{IsPermutation-refl}
-use Rattle.djq_io.specs.Hub.{Ids, Takes, taken_by}
+use Rattle.djq_io.specs.Hub.{Ids, Takes, without}
 use Rattle.djq_io.specs.declared.hub.Turn.TheVariants.{Opened, Bytes as Brought, Ended, Idle, Over as HubOver, Failed}
+use Rattle.djq_io.specs.declared.hub.Sent.{Sent}
 use Rattle.djq_io.specs.declared.hub.Told.{Told}
-use Rattle.djq_io.specs.declared.hub.Told.TheVariants.{Turning, Sending, Closing}
+use Rattle.djq_io.specs.declared.hub.Told.TheVariants.{Turning, Closing}
 use Rattle.djq_model.specs.declared.relation.Relation.{Relation}
 use Rattle.djq_model.specs.Data.{Bytes}
 use Rattle.djq_lines.specs.declared.limits.TheConstants.{SESSIONS}
@@ -21,7 +22,7 @@ use Rattle.djq_laws.specs.declared.limits.TheConstants.{READ_BYTES}
 use Rattle.djq_serve.specs.declared.served.Served.{Served}
 use Rattle.djq_serve.specs.declared.served.Served.TheVariants.{HubFault}
 use Rattle.djq_serve.specs.Told.{Shown, Tells, turns_in}
-use Rattle.djq_serve.specs.Server.{next_turn, no_turn, waiting, lines, flushing, closing, server, LetsIn, refusal_for}
+use Rattle.djq_serve.specs.Server.{next_turn, no_turn, waiting, lines, flushing, closing, server, offering, LetsIn, refusal_for}
 use Rattle.djq_serve.specs.Goes.{seen, Goes}
 use Rattle.djq_serve.specs.Kept.{Agrees, IsNew}
 use Rattle.djq_serve.specs.Parts.{Admits, Refuses, MayAnswer, TurnAnswers}
@@ -58,11 +59,17 @@ memory_text st few = ap (λ b. cond b end_memory end_full) (lt-ltb (length st.se
 refused : (st new : State) (hub hub' : Shown) (s : ℕ) (text : Bytes) → IsNew st hub.ids s → new ≡ st → refusal_for st ≡ text → Refuses hub s text hub' → Admits st hub s new hub'
 refused st new hub hub' s text n same is_text r = record {
   makes = not_let_in st new hub.ids s n same;
-  more = Sending s r.sent (taken_by r.sent text) ∷ Closing s ∷ [];
-  lets_in = subst (λ (t : Bytes). LetsIn s st (Sending s r.sent (taken_by r.sent t) ∷ Closing s ∷ []) new) is_text
+  more = offering s text r.sent ∷ Closing s ∷ [];
+  lets_in = subst (λ (t : Bytes). LetsIn s st (offering s t r.sent ∷ Closing s ∷ []) new) is_text
       (inr (λ there. not_open st s n.above (subst (λ (k : State). IsOpen k s) same there), r.sent, subst (λ (t : Bytes). Takes r.sent t) (sym is_text) r.takes, refl));
   told = r.told;
 }
+
+-- a line was offered, and the session closed
+pub refuses_by : (hub hub' : Shown) (s : ℕ) (sent : Sent) (piece text : Bytes) → piece ≡ text → Takes sent piece
+    → Tells hub hub' (offering s piece sent ∷ Closing s ∷ []) → hub'.ids ≡ without hub.ids s → Refuses hub s text hub'
+refuses_by hub hub' s sent piece text same takes told ids =
+    subst (λ (t : Bytes). Refuses hub s t hub') same (record { sent = sent; takes = takes; told = told; ids = ids })
 
 pub is_full : (st new : State) (hub hub' : Shown) (s : ℕ) → IsNew st hub.ids s → new ≡ st → SESSIONS ≤ length st.sessions → Refuses hub s end_full hub' → Admits st hub s new hub'
 is_full st new hub hub' s n same many r = refused st new hub hub' s end_full n same (full_text st many) r

@@ -1,5 +1,5 @@
 -- Each answer has its cause: what stands at each place of the server.
-use Rattle.std.specs.Prelude.{ℕ, List, [], ◌∷◌, ◌++◌, ◌≡◌, ◌||◌, Bool, true, false, cond, Option, None, Some}
+use Rattle.std.specs.Prelude.{ℕ, List, [], ◌∷◌, ◌++◌, ◌≡◌, ◌||◌, Bool, true, false, cond, Option, None, Some, take}
 use Rattle.std.proofs.Common.{refl, sym, ap, ap₂, ◌∙◌, subst, inl, inr, append-nil, append_assoc}
 use Rattle.std.proofs.lemmas.List.Folds.{list_any-append}
 use Rattle.djq_io.specs.declared.hub.Turn.{Turn}
@@ -129,7 +129,11 @@ record Quiet (st new : State) (told : List Told) : Type 0 where
   pub failed : has_failed told ≡ false
 
 sends_quiet : (sent : Sent) (s : ℕ) (st : State) (told : List Told) (done : List Did) (new : State) → SendsSome sent s st told done new → Quiet st new told
-sends_quiet (Took n) s st told done new (piece, some, len, is, happens) = record { stopped = kept_stop (took s piece) st new done tt happens; over = ap has_over is; failed = ap has_failed is }
+sends_quiet (Took n) s st told done new (some, within, is, happens) = record {
+  stopped = kept_stop (took s (take n (pending_of st s))) st new done tt happens;
+  over = ap has_over is;
+  failed = ap has_failed is;
+}
 sends_quiet Again s st told done new (is, stays) = record { stopped = kept_still st new done stays; over = ap has_over is; failed = ap has_failed is }
 sends_quiet Gone s st told done new (is, happens) = record { stopped = kept_stop (closed s (pending_of st s)) st new done tt happens; over = ap has_over is; failed = ap has_failed is }
 

@@ -1,6 +1,6 @@
 -- What holds of the server's moves: they are a run of the machine, their sends are its takes, and each
 -- answer has its cause.
-use Rattle.std.specs.Prelude.{ℕ, List, [], ◌∷◌, ◌++◌, ◌==◌, ◌≡◌, Bool, true, false, cond, Option, None, Some}
+use Rattle.std.specs.Prelude.{ℕ, List, [], ◌∷◌, ◌++◌, ◌==◌, ◌≡◌, Bool, true, false, cond, Option, None, Some, length, take}
 use Rattle.std.proofs.Common.{refl, sym, ap, ap₂, ◌∙◌, subst, inl, inr}
 use Rattle.std.proofs.lemmas.Grind.{flat_map-append}
 use Rattle.std.proofs.lemmas.List.Elements.{All-head, All-tail}
@@ -17,27 +17,34 @@ use Rattle.djq_machine.specs.LineStep.{LineOutcome}
 use Rattle.djq_machine.specs.Step.{Event, opened, fed, stepped, took, ended, closed, Step}
 use Rattle.djq_machine.specs.Run.{Did, Run, Walk, taken_by, all_taken, pending_of}
 use Rattle.djq_machine.specs.Call.{first_due}
+use Rattle.djq_laws.specs.Sent.{opened_by, all_opened}
 use Rattle.djq_laws.proofs.Courses.{walk_then}
 use Rattle.djq_laws.proofs.Finding.{some_and}
 use Rattle.djq_serve.specs.declared.served.Served.TheVariants.{TurnsUsed}
 use Rattle.djq_serve.specs.Told.{sent_by, sent_to}
-use Rattle.djq_serve.specs.Server.{Next, next_turn, Phase, waiting, lines, flushing, closing, Server, Move, all_told, all_done, Happens, Stays, LetsIn, Brings, may_run, SendsSome, Visits, after, first_open, Passes, LinesAt, FlushesAt, ServesAt, Serves}
+use Rattle.djq_serve.specs.Server.{Next, next_turn, Phase, waiting, lines, flushing, closing, Server, Move, all_told, all_done, Happens, Stays, LetsIn, Brings, may_run, SendsSome, Visits, after, first_open, refusal_for, Passes, LinesAt, FlushesAt, ServesAt, Serves}
 use Rattle.djq_serve.specs.Ends.{refuses, NeverRefused}
+use Rattle.djq_serve.proofs.Opening.{opens_at, opened_in}
 
 -- What a move does is seen in parts: the calls of the hub, the steps, the states. A fact of each kind of
 -- move is a fact of every move.
 pub record OfMove (P : State → List Told → List Did → State → Type 0) : Type 0 where
   pub quiet : (st : State) → P st [] [] st
   pub opens : (st new : State) (s : ℕ) (piece : Bytes) (e : Effect) → Step st (opened s) e new → P st (Turning (Opened s) piece ∷ []) (record { event = opened s; effect = e } ∷ []) new
-  pub refuses : (st new : State) (s : ℕ) (piece taken : Bytes) (sent : Sent) (e : Effect) → Step st (opened s) e new
-      → P st (Turning (Opened s) piece ∷ Sending s sent taken ∷ Closing s ∷ []) (record { event = opened s; effect = e } ∷ []) new
+  pub refuses : (st new : State) (s offered : ℕ) (piece taken : Bytes) (sent : Sent) (e : Effect)
+      → Step st (opened s) e new
+      → P st (Turning (Opened s) piece ∷ Sending s offered sent taken ∷ Closing s ∷ [])
+      (record { event = opened s; effect = e } ∷ []) new
   pub feeds : (st new : State) (s n : ℕ) (piece : Bytes) (e : Effect) → Step st (fed s piece) e new → P st (Turning (Brought s n) piece ∷ []) (record { event = fed s piece; effect = e } ∷ []) new
   pub ends : (st new : State) (s : ℕ) (piece : Bytes) (e : Effect) → Step st (ended s) e new → P st (Turning (Ended s) piece ∷ []) (record { event = ended s; effect = e } ∷ []) new
-  pub idles : (st : State) (turn : Turn) (piece : Bytes) → P st (Turning turn piece ∷ []) [] st
+  pub idles : (st : State) (turn : Turn) (piece : Bytes) → opens_at (Turning turn piece) ≡ []
+      → P st (Turning turn piece ∷ []) [] st
   pub runs : (st new : State) (s : ℕ) (outcome : LineOutcome) (e : Effect) → Step st (stepped s outcome) e new → P st [] (record { event = stepped s outcome; effect = e } ∷ []) new
-  pub takes : (st new : State) (s n : ℕ) (piece : Bytes) (e : Effect) → Step st (took s piece) e new → P st (Sending s (Took n) piece ∷ []) (record { event = took s piece; effect = e } ∷ []) new
-  pub blocked : (st : State) (s : ℕ) → P st (Sending s Again [] ∷ []) [] st
-  pub gone : (st new : State) (s : ℕ) (bytes : Bytes) (e : Effect) → Step st (closed s bytes) e new → P st (Sending s Gone [] ∷ Closing s ∷ []) (record { event = closed s bytes; effect = e } ∷ []) new
+  pub takes : (st new : State) (s offered n : ℕ) (piece : Bytes) (e : Effect) → Step st (took s piece) e new
+      → P st (Sending s offered (Took n) piece ∷ []) (record { event = took s piece; effect = e } ∷ []) new
+  pub blocked : (st : State) (s offered : ℕ) → P st (Sending s offered Again [] ∷ []) [] st
+  pub gone : (st new : State) (s offered : ℕ) (bytes : Bytes) (e : Effect) → Step st (closed s bytes) e new
+      → P st (Sending s offered Gone [] ∷ Closing s ∷ []) (record { event = closed s bytes; effect = e } ∷ []) new
   pub closes : (st new : State) (s : ℕ) (bytes : Bytes) (e : Effect) → Step st (closed s bytes) e new → P st (Closing s ∷ []) (record { event = closed s bytes; effect = e } ∷ []) new
 
 module _ (P : State → List Told → List Did → State → Type 0) (h : OfMove P) where
@@ -62,7 +69,7 @@ module _ (P : State → List Told → List Did → State → Type 0) (h : OfMove
       (by_step (opened s) st (Turning (Opened s) piece ∷ []) done new happens (h.opens st new s piece))
   let_in s piece st more done new happens (inr (out, sent, fits, is)) =
       told_as st new (Turning (Opened s) piece ∷ more) _ done (ap (λ (ts : List Told). Turning (Opened s) piece ∷ ts) is)
-      (by_step (opened s) st _ done new happens (h.refuses st new s piece _ sent))
+      (by_step (opened s) st _ done new happens (h.refuses st new s (length (refusal_for st)) piece _ sent))
 
   by_turn_of : (turn : Turn) (piece : Bytes) (st : State) (more : List Told) (done : List Did) (new : State) (next : Phase) → Brings turn piece st more done new next → P st (Turning turn piece ∷ more) done new
   by_turn_of (Opened s) piece st more done new next (happens, lets, phase) = let_in s piece st more done new happens lets
@@ -73,11 +80,16 @@ module _ (P : State → List Told → List Did → State → Type 0) (h : OfMove
       told_as st new (Turning (Ended s) piece ∷ more) (Turning (Ended s) piece ∷ []) done (ap (λ (ts : List Told). Turning (Ended s) piece ∷ ts) none)
       (by_step (ended s) st _ done new happens (h.ends st new s piece))
   by_turn_of Idle piece st more done new next (stays, none, phase) =
-      told_as st new (Turning Idle piece ∷ more) (Turning Idle piece ∷ []) done (ap (λ (ts : List Told). Turning Idle piece ∷ ts) none) (by_none st _ done new stays (h.idles st Idle piece))
+      told_as st new (Turning Idle piece ∷ more) (Turning Idle piece ∷ []) done
+      (ap (λ (ts : List Told). Turning Idle piece ∷ ts) none) (by_none st _ done new stays (h.idles st Idle piece refl))
   by_turn_of HubOver piece st more done new next (stays, none, phase) =
-      told_as st new (Turning HubOver piece ∷ more) (Turning HubOver piece ∷ []) done (ap (λ (ts : List Told). Turning HubOver piece ∷ ts) none) (by_none st _ done new stays (h.idles st HubOver piece))
+      told_as st new (Turning HubOver piece ∷ more) (Turning HubOver piece ∷ []) done
+      (ap (λ (ts : List Told). Turning HubOver piece ∷ ts) none)
+      (by_none st _ done new stays (h.idles st HubOver piece refl))
   by_turn_of Failed piece st more done new next (stays, none, phase) =
-      told_as st new (Turning Failed piece ∷ more) (Turning Failed piece ∷ []) done (ap (λ (ts : List Told). Turning Failed piece ∷ ts) none) (by_none st _ done new stays (h.idles st Failed piece))
+      told_as st new (Turning Failed piece ∷ more) (Turning Failed piece ∷ []) done
+      (ap (λ (ts : List Told). Turning Failed piece ∷ ts) none)
+      (by_none st _ done new stays (h.idles st Failed piece refl))
 
   by_lines : (s : ℕ) (st : State) (m : Move) (new : Server) (b : Bool) → LinesAt s st m new b → P st m.told m.done new.state
   by_lines s st m new true (none, (outcome, happens, phase)) =
@@ -85,9 +97,16 @@ module _ (P : State → List Told → List Did → State → Type 0) (h : OfMove
   by_lines s st m new false passes = by_passing st (flushing 0 next_turn) m new passes
 
   by_sending : (sent : Sent) (s : ℕ) (st : State) (told : List Told) (done : List Did) (new : State) → SendsSome sent s st told done new → P st told done new
-  by_sending (Took n) s st told done new (piece, some, len, is, happens) = told_as st new told _ done is (by_step (took s piece) st _ done new happens (h.takes st new s n piece))
-  by_sending Again s st told done new (is, stays) = told_as st new told _ done is (by_none st _ done new stays (h.blocked st s))
-  by_sending Gone s st told done new (is, happens) = told_as st new told _ done is (by_step (closed s (pending_of st s)) st _ done new happens (h.gone st new s (pending_of st s)))
+  by_sending (Took n) s st told done new (some, within, is, happens) =
+      let piece = take n (pending_of st s) in
+      told_as st new told _ done is
+      (by_step (took s piece) st _ done new happens (h.takes st new s (length (pending_of st s)) n piece))
+  by_sending Again s st told done new (is, stays) =
+      told_as st new told _ done is (by_none st _ done new stays (h.blocked st s (length (pending_of st s))))
+  by_sending Gone s st told done new (is, happens) =
+      told_as st new told _ done is
+      (by_step (closed s (pending_of st s)) st _ done new happens
+      (h.gone st new s (length (pending_of st s)) (pending_of st s)))
 
   by_visit : (s : ℕ) (st : State) (told : List Told) (done : List Did) (new : State) (to : ℕ) → Visits s st told done new to → P st told done new
   by_visit s st told done new to (inl (some, sent, sends, place)) = by_sending sent s st told done new sends
@@ -118,14 +137,14 @@ runs_by : OfMove MoveRuns
 runs_by = record {
   quiet = λ st. refl;
   opens = λ st new s piece e step. (new, step, refl);
-  refuses = λ st new s piece taken sent e step. (new, step, refl);
+  refuses = λ st new s offered piece taken sent e step. (new, step, refl);
   feeds = λ st new s n piece e step. (new, step, refl);
   ends = λ st new s piece e step. (new, step, refl);
-  idles = λ st turn piece. refl;
+  idles = λ st turn piece none. refl;
   runs = λ st new s outcome e step. (new, step, refl);
-  takes = λ st new s n piece e step. (new, step, refl);
-  blocked = λ st s. refl;
-  gone = λ st new s bytes e step. (new, step, refl);
+  takes = λ st new s offered n piece e step. (new, step, refl);
+  blocked = λ st s offered. refl;
+  gone = λ st new s offered bytes e step. (new, step, refl);
   closes = λ st new s bytes e step. (new, step, refl);
 }
 
@@ -150,14 +169,14 @@ sends_by : (s : ℕ) → OfMove (MoveSends s)
 sends_by s = record {
   quiet = λ st never. refl;
   opens = λ st new t piece e step never. refl;
-  refuses = λ st new t piece taken sent e step never. other_none [] taken (t == s) refl never;
+  refuses = λ st new t offered piece taken sent e step never. other_none [] taken (t == s) refl never;
   feeds = λ st new t n piece e step never. refl;
   ends = λ st new t piece e step never. refl;
-  idles = λ st turn piece never. refl;
+  idles = λ st turn piece none never. refl;
   runs = λ st new t outcome e step never. refl;
-  takes = λ st new t n piece e step never. refl;
-  blocked = λ st t never. none_either [] (t == s) refl;
-  gone = λ st new t bytes e step never. none_either [] (t == s) refl;
+  takes = λ st new t offered n piece e step never. refl;
+  blocked = λ st t offered never. none_either [] (t == s) refl;
+  gone = λ st new t offered bytes e step never. none_either [] (t == s) refl;
   closes = λ st new t bytes e step never. refl;
 }
 
@@ -168,3 +187,30 @@ serve_sends s old (m ∷ moves) new w never =
     ∙ ap₂ (λ (a b : Bytes). a ++ b) (of_move (MoveSends s) (sends_by s) old m w.0 w.1 (All-head (λ (k : Move). refuses s k.told ≡ false) m moves never))
     (serve_sends s w.0 moves new w.2 (All-tail (λ (k : Move). refuses s k.told ≡ false) m moves never))
     ∙ sym (flat_map-append (λ (d : Did). taken_by s d.event) m.done (all_done moves))
+
+-- A session opens in the machine exactly where one opens at the hub.
+abbrev MoveOpens : State → List Told → List Did → State → Type 0
+MoveOpens st told done new = all_opened done ≡ opened_in told
+
+opens_by : OfMove MoveOpens
+opens_by = record {
+  quiet = λ st. refl;
+  opens = λ st new s piece e step. refl;
+  refuses = λ st new s offered piece taken sent e step. refl;
+  feeds = λ st new s n piece e step. refl;
+  ends = λ st new s piece e step. refl;
+  idles = λ st turn piece none. ap (λ (is : List ℕ). is ++ []) (sym none);
+  runs = λ st new s outcome e step. refl;
+  takes = λ st new s offered n piece e step. refl;
+  blocked = λ st s offered. refl;
+  gone = λ st new s offered bytes e step. refl;
+  closes = λ st new s bytes e step. refl;
+}
+
+pub serve_opens : (old : Server) (moves : List Move) (new : Server) → Walk Serves old moves new
+    → all_opened (all_done moves) ≡ opened_in (all_told moves)
+serve_opens old [] new w = refl
+serve_opens old (m ∷ moves) new w =
+    flat_map-append (λ (d : Did). opened_by d.event) m.done (all_done moves)
+    ∙ ap₂ (λ (a b : List ℕ). a ++ b) (of_move MoveOpens opens_by old m w.0 w.1) (serve_opens w.0 moves new w.2)
+    ∙ sym (flat_map-append opens_at m.told (all_told moves))

@@ -9,6 +9,7 @@ pub mod Nearing
 pub mod Lining
 pub mod Bringing
 pub mod Ending
+pub mod Opening
 pub mod Lawful
 pub mod Causing
 pub mod Completing

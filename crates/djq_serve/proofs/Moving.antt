@@ -1,11 +1,11 @@
 -- Each move of the server, as its code makes it.
-use Rattle.std.specs.Prelude.{ℕ, List, [], ◌∷◌, ◌≡◌, ◌+◌, ◌<◌, Bool, true, false, Option, None, Some, IsSome, IsSomeAnd, length}
+use Rattle.std.specs.Prelude.{ℕ, List, [], ◌∷◌, ◌≡◌, ◌+◌, ◌<◌, ◌≤◌, Bool, true, false, Option, None, Some, IsSome, IsSomeAnd, length, take}
 use Rattle.std.proofs.Common.{refl, sym, subst, inl, inr, arith}
 use Rattle.std.proofs.lemmas.List.Sums.{sum_by-cons}
 use Rattle.djq_io.specs.declared.hub.Turn.{Turn}
 use Rattle.djq_io.specs.declared.hub.Sent.TheVariants.{Took, Again, Gone}
 use Rattle.djq_io.specs.declared.hub.Told.{Told}
-use Rattle.djq_io.specs.declared.hub.Told.TheVariants.{Turning, Sending, Closing}
+use Rattle.djq_io.specs.declared.hub.Told.TheVariants.{Turning, Closing}
 use Rattle.djq_model.specs.Data.{Bytes}
 use Rattle.djq_machine.specs.State.{State}
 use Rattle.djq_machine.specs.LineStep.{LineOutcome}
@@ -15,7 +15,7 @@ use Rattle.djq_machine.specs.Call.{Makes, MakesCounted, Counts, cause_of, first_
 use Rattle.djq_serve.specs.declared.served.Served.{Served}
 use Rattle.djq_serve.specs.declared.served.Served.TheVariants.{TurnsUsed}
 use Rattle.djq_serve.specs.Told.{Shown, Tells, turn_in, turns_in}
-use Rattle.djq_serve.specs.Server.{Next, next_turn, Phase, waiting, lines, flushing, closing, server, move, Happens, Brings, may_run, behind_front, after, first_open, LinesAt, FlushesAt}
+use Rattle.djq_serve.specs.Server.{Next, next_turn, Phase, waiting, lines, flushing, closing, server, move, offering, Happens, Brings, may_run, behind_front, after, first_open, LinesAt, FlushesAt}
 use Rattle.djq_serve.specs.Goes.{seen, Goes, GoesQuietly}
 use Rattle.djq_serve.proofs.Telling.{tells_none}
 use Rattle.djq_serve.proofs.Going.{goes_by, goes_quietly}
@@ -32,28 +32,35 @@ flush_over hub st from next none =
     goes_quietly hub hub (server st (flushing from next)) (server st (after st next)) m
     (subst (λ (o : Option ℕ). FlushesAt next st m (server st (after st next)) o) (sym none) (refl, refl)) (tells_none hub) refl
 
-pub visit_takes : (hub hub' : Shown) (st new : State) (from : ℕ) (next : Next) (s n : ℕ) (piece : Bytes) → first_due st from ≡ Some s → 0 < length (pending_of st s)
-    → 0 < length piece → n ≡ length piece → Makes st (took s piece) new → Tells hub hub' (Sending s (Took n) piece ∷ [])
+pub visit_takes : (hub hub' : Shown) (st new : State) (from : ℕ) (next : Next) (s n : ℕ) → first_due st from ≡ Some s
+    → 1 ≤ n → n ≤ length (pending_of st s) → Makes st (took s (take n (pending_of st s))) new
+    → Tells hub hub' (offering s (pending_of st s) (Took n) ∷ [])
     → GoesQuietly hub (server st (flushing from next)) hub' (server new (flushing s next))
-visit_takes hub hub' st new from next s n piece due some many len makes told =
-    let m = move (Sending s (Took n) piece ∷ []) (record { event = took s piece; effect = makes.effect } ∷ []) in
+visit_takes hub hub' st new from next s n due some within makes told =
+    let event = took s (take n (pending_of st s)) in
+    let m = move (offering s (pending_of st s) (Took n) ∷ []) (record { event = event; effect = makes.effect } ∷ []) in
     let b = server new (flushing s next) in
     goes_quietly hub hub' (server st (flushing from next)) b m
-    (subst (λ (o : Option ℕ). FlushesAt next st m b o) (sym due) (s, inl (some, Took n, (piece, many, len, refl, happens (took s piece) st new makes), refl), refl)) told refl
+    (subst (λ (o : Option ℕ). FlushesAt next st m b o) (sym due)
+    (s, inl (omega (arith, some, within), Took n, (some, within, refl, happens event st new makes), refl), refl))
+    told refl
 
-pub visit_blocked : (hub hub' : Shown) (st : State) (from : ℕ) (next : Next) (s : ℕ) → first_due st from ≡ Some s → 0 < length (pending_of st s) → Tells hub hub' (Sending s Again [] ∷ [])
+pub visit_blocked : (hub hub' : Shown) (st : State) (from : ℕ) (next : Next) (s : ℕ) → first_due st from ≡ Some s
+    → 0 < length (pending_of st s)
+    → Tells hub hub' (offering s (pending_of st s) Again ∷ [])
     → GoesQuietly hub (server st (flushing from next)) hub' (server st (flushing (s + 1) next))
 visit_blocked hub hub' st from next s due some told =
-    let m = move (Sending s Again [] ∷ []) [] in
+    let m = move (offering s (pending_of st s) Again ∷ []) [] in
     let b = server st (flushing (s + 1) next) in
     goes_quietly hub hub' (server st (flushing from next)) b m
     (subst (λ (o : Option ℕ). FlushesAt next st m b o) (sym due) (s + 1, inl (some, Again, (refl, (refl, refl)), refl), refl)) told refl
 
 pub visit_gone : (hub hub' : Shown) (st new : State) (from : ℕ) (next : Next) (s : ℕ) → first_due st from ≡ Some s → 0 < length (pending_of st s)
-    → Makes st (closed s (pending_of st s)) new → Tells hub hub' (Sending s Gone [] ∷ Closing s ∷ [])
+    → Makes st (closed s (pending_of st s)) new → Tells hub hub' (offering s (pending_of st s) Gone ∷ Closing s ∷ [])
     → GoesQuietly hub (server st (flushing from next)) hub' (server new (flushing (s + 1) next))
 visit_gone hub hub' st new from next s due some makes told =
-    let m = move (Sending s Gone [] ∷ Closing s ∷ []) (record { event = closed s (pending_of st s); effect = makes.effect } ∷ []) in
+    let d : Did = record { event = closed s (pending_of st s); effect = makes.effect } in
+    let m = move (offering s (pending_of st s) Gone ∷ Closing s ∷ []) (d ∷ []) in
     let b = server new (flushing (s + 1) next) in
     goes_quietly hub hub' (server st (flushing from next)) b m
     (subst (λ (o : Option ℕ). FlushesAt next st m b o) (sym due) (s + 1, inl (some, Gone, (refl, happens (closed s (pending_of st s)) st new makes), refl), refl)) told refl

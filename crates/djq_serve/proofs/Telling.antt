@@ -8,12 +8,13 @@ use Rattle.djq_io.specs.Script.{Script, WhereTold, Follows, Sends}
 use Rattle.djq_io.specs.declared.hub.Turn.{Turn}
 use Rattle.djq_io.specs.declared.hub.Sent.{Sent}
 use Rattle.djq_io.specs.declared.hub.Told.{Told}
-use Rattle.djq_io.specs.declared.hub.Told.TheVariants.{Turning, Sending, Closing}
+use Rattle.djq_io.specs.declared.hub.Told.TheVariants.{Turning, Closing}
 use Rattle.djq_model.specs.Data.{Bytes}
 use Rattle.djq_machine.specs.Run.{Walk}
 use Rattle.djq_laws.specs.declared.limits.TheConstants.{READ_BYTES}
 use Rattle.djq_laws.proofs.Courses.{walk_then}
-use Rattle.djq_serve.specs.Told.{Shown, shown, place, Answers, Tells}
+use Rattle.djq_serve.specs.Server.{offering}
+use Rattle.djq_serve.specs.Told.{Shown, shown, place, Answers, Shows, Tells}
 
 played_none : (script : Option Script) (ids : Ids) → WhereTold script script (λ a b. Walk Answers (place a ids) [] (place b ids))
 played_none None ids = tt
@@ -21,7 +22,7 @@ played_none (Some s) ids = refl
 
 -- no call
 pub tells_none : (hub : Shown) → Tells hub hub []
-tells_none hub = record { past = gains_none hub.past; played = played_none hub.script hub.ids }
+tells_none hub = record { past = gains_none hub.past; ids = refl; played = played_none hub.script hub.ids }
 
 played_more : (a b c : Option Script) (i j k : Ids) (told more : List Told)
     → WhereTold a b (λ x y. Walk Answers (place x i) told (place y j))
@@ -37,6 +38,7 @@ played_more (Some x) (Some y) (Some z) i j k told more h l =
 pub tells_more : (a b c : Shown) (told more : List Told) → Tells a b told → Tells b c more → Tells a c (told ++ more)
 tells_more a b c told more h l = record {
   past = gains_more a.past b.past c.past told more h.past l.past;
+  ids = walk_then Shows a.ids told b.ids more c.ids h.ids l.ids;
   played = played_more a.script b.script c.script a.ids b.ids c.ids told more h.played l.played;
 }
 
@@ -52,17 +54,21 @@ pub tells_turn : (past past' : Option (List Told)) (script script' : Option Scri
     → Tells (shown past script ids) (shown past' script' ids') (Turning turn (brought turn buf) ∷ [])
 tells_turn past past' script script' ids ids' turn buf room gains follows turns = record {
   past = gains;
+  ids = (ids', subst (λ (n : ℕ). Turns turn n ids ids') room turns, refl);
   played = where_as script script' (λ x y. Follows ids turn buf x y) (λ x y. Walk Answers (place x ids) (Turning turn (brought turn buf) ∷ []) (place y ids'))
       (λ x y f. (place y ids', (buf, room, refl, f, subst (λ (n : ℕ). Turns turn n ids ids') room turns), refl)) follows;
 }
 
 -- a send
-pub tells_send : (past past' : Option (List Told)) (script script' : Option Script) (ids ids' : Ids) (s : ℕ) (sent : Sent) (piece : Bytes)
-    → Gains past past' (Sending s sent piece ∷ []) → WhereTold script script' (λ x y. Sends s sent x y) → ids' ≡ ids
-    → Tells (shown past script ids) (shown past' script' ids') (Sending s sent piece ∷ [])
-tells_send past past' script script' ids ids' s sent piece gains sends same = record {
+pub tells_send : (past past' : Option (List Told)) (script script' : Option Script) (ids ids' : Ids) (s : ℕ)
+    (sent : Sent) (text : Bytes) → Gains past past' (offering s text sent ∷ []) → WhereTold script script'
+    (λ x y. Sends s (length text) sent x y)
+    → ids' ≡ ids → Tells (shown past script ids) (shown past' script' ids') (offering s text sent ∷ [])
+tells_send past past' script script' ids ids' s sent text gains sends same = record {
   past = gains;
-  played = where_as script script' (λ x y. Sends s sent x y) (λ x y. Walk Answers (place x ids) (Sending s sent piece ∷ []) (place y ids'))
+  ids = (ids', same, refl);
+  played = where_as script script' (λ x y. Sends s (length text) sent x y)
+      (λ x y. Walk Answers (place x ids) (offering s text sent ∷ []) (place y ids'))
       (λ x y f. (place y ids', (f, same), refl)) sends;
 }
 
@@ -72,6 +78,7 @@ pub tells_close : (past past' : Option (List Told)) (script script' : Option Scr
     → Tells (shown past script ids) (shown past' script' ids') (Closing s ∷ [])
 tells_close past past' script script' ids ids' s gains same without_it = record {
   past = gains;
+  ids = (ids', without_it, refl);
   played = where_as script script' (λ x y. y ≡ x) (λ x y. Walk Answers (place x ids) (Closing s ∷ []) (place y ids'))
       (λ x y f. (place y ids', (f, without_it), refl)) same;
 }

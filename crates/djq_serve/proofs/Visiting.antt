@@ -1,18 +1,19 @@
 -- A flush, from session to session.
 use Rattle.std.specs.Prelude.{ℕ, [], ◌∷◌, ◌≡◌, ◌≤◌, Bool, true, false, cond, None, Some, length, take}
-use Rattle.std.proofs.Common.{refl, sym, ap, subst, length-take, arith}
+use Rattle.std.proofs.Common.{refl, sym, ap, subst, arith}
+use Rattle.djq_io.specs.declared.hub.Sent.{Sent}
 use Rattle.djq_io.specs.declared.hub.Sent.TheVariants.{Took}
-use Rattle.djq_io.specs.declared.hub.Told.TheVariants.{Sending}
 use Rattle.djq_model.specs.Data.{Bytes}
 use Rattle.djq_machine.specs.State.{State}
 use Rattle.djq_machine.specs.Step.{took}
 use Rattle.djq_machine.specs.Run.{pending_of}
 use Rattle.djq_machine.specs.Call.{Makes, first_due}
 use Rattle.djq_serve.specs.Told.{Shown, Tells}
-use Rattle.djq_serve.specs.declared.served.Served.TheVariants.{Stopped}
-use Rattle.djq_serve.specs.Server.{Next, next_turn, waiting, flushing, closing, server, after}
+use Rattle.djq_serve.specs.declared.served.Served.TheVariants.{Stopped, Over}
+use Rattle.djq_serve.specs.Server.{Next, next_turn, no_turn, waiting, flushing, closing, server, offering, after}
 use Rattle.djq_serve.specs.Goes.{GoesQuietly}
 use Rattle.djq_serve.specs.Kept.{Agrees, Spares}
+use Rattle.djq_serve.specs.Parts.{Flushes}
 use Rattle.djq_serve.proofs.Going.{quietly_then, quietly_none}
 use Rattle.djq_serve.proofs.Settling.{spares_same, spares_then}
 use Rattle.djq_serve.proofs.Moving.{flush_over, visit_takes}
@@ -26,15 +27,20 @@ pub at_place : (x y : Shown) (old new : State) (from to place : ℕ) (next : Nex
     → GoesQuietly x (server old (flushing from next)) y (server new (flushing place next))
 at_place x y old new from to place next same goes = subst (λ (k : ℕ). GoesQuietly x (server old (flushing from next)) y (server new (flushing k next))) (sym same) goes
 
+-- all pending bytes were offered
+pub offers_all : (x y : Shown) (s : ℕ) (sent : Sent) (piece pending : Bytes) → piece ≡ pending
+    → Tells x y (offering s piece sent ∷ [])
+    → Tells x y (offering s pending sent ∷ [])
+offers_all x y s sent piece pending same told =
+    subst (λ (bytes : Bytes). Tells x y (offering s bytes sent ∷ [])) same told
+
 -- some of the pending bytes were taken
 pub takes_some : (x y : Shown) (old new : State) (s n : ℕ) (piece : Bytes) → piece ≡ pending_of old s → 1 ≤ n → n ≤ length piece
-    → Makes old (took s (take n (pending_of old s))) new → Tells x y (Sending s (Took n) (take n piece) ∷ [])
+    → Makes old (took s (take n (pending_of old s))) new → Tells x y (offering s piece (Took n) ∷ [])
     → (from : ℕ) (next : Next) → first_due old from ≡ Some s → GoesQuietly x (server old (flushing from next)) y (server new (flushing s next))
 takes_some x y old new s n piece is_piece some within makes told from next due =
-    let bytes = take n (pending_of old s) in
-    let told_bytes : Tells x y (Sending s (Took n) bytes ∷ []) = subst (λ (p : Bytes). Tells x y (Sending s (Took n) (take n p) ∷ [])) is_piece told in
-    let len : length bytes ≡ n = omega (arith, length-take n (pending_of old s), within, ap length is_piece) in
-    visit_takes x y old new from next s n bytes due (omega (arith, some, within, ap length is_piece)) (omega (arith, some, len)) (sym len) makes told_bytes
+    visit_takes x y old new from next s n due some (omega (arith, within, ap length is_piece)) makes
+    (offers_all x y s (Took n) piece (pending_of old s) is_piece told)
 
 -- What a flush keeps from its entry on.
 pub record Flushing (x y : Shown) (old now : State) (from : ℕ) : Type 0 where
@@ -60,17 +66,30 @@ flush_more x y z old now new from s to f due visited agrees spares = record {
 
 -- none is left
 pub flush_done : (x y : Shown) (old now : State) (from : ℕ) → Flushing x y old now from → first_due now from ≡ None
-    → (next : Next) → GoesQuietly x (server old (flushing 0 next)) y (server now (after now next))
-flush_done x y old now from f none next =
-    quietly_then x (server old (flushing 0 next)) y (server now (flushing from next)) y (server now (after now next)) (f.goes next) (flush_over y now from next none)
+    → Flushes x old y now
+flush_done x y old now from f none = record {
+  goes =
+      λ next. quietly_then x (server old (flushing 0 next)) y (server now (flushing from next)) y
+      (server now (after now next))
+      (f.goes next) (flush_over y now from next none);
+}
+
+-- behind a flush as the hub is over
+pub turn_flushed : (x y : Shown) (old now : State) → Flushes x old y now
+    → GoesQuietly x (server old (flushing 0 no_turn)) y (server now (closing Over))
+turn_flushed x y old now flushed = flushed.goes no_turn
 
 -- behind a flush at the end of a turn
-pub turn_stopped : (x y : Shown) (old now : State) → now.stopped ≡ true → ((next : Next) → GoesQuietly x (server old (flushing 0 next)) y (server now (after now next)))
+pub turn_stopped : (x y : Shown) (old now : State) → now.stopped ≡ true → Flushes x old y now
     → GoesQuietly x (server old (flushing 0 next_turn)) y (server now (closing Stopped))
 turn_stopped x y old now stopped flushed =
-    subst (λ (b : Bool). GoesQuietly x (server old (flushing 0 next_turn)) y (server now (cond b (closing Stopped) waiting))) stopped (flushed next_turn)
+    subst
+    (λ (b : Bool). GoesQuietly x (server old (flushing 0 next_turn)) y (server now (cond b (closing Stopped) waiting)))
+    stopped (flushed.goes next_turn)
 
-pub turn_done : (x y : Shown) (old now : State) → now.stopped ≡ false → ((next : Next) → GoesQuietly x (server old (flushing 0 next)) y (server now (after now next)))
+pub turn_done : (x y : Shown) (old now : State) → now.stopped ≡ false → Flushes x old y now
     → GoesQuietly x (server old (flushing 0 next_turn)) y (server now waiting)
 turn_done x y old now going flushed =
-    subst (λ (b : Bool). GoesQuietly x (server old (flushing 0 next_turn)) y (server now (cond b (closing Stopped) waiting))) going (flushed next_turn)
+    subst
+    (λ (b : Bool). GoesQuietly x (server old (flushing 0 next_turn)) y (server now (cond b (closing Stopped) waiting)))
+    going (flushed.goes next_turn)

@@ -1,5 +1,5 @@
 -- How serving ends.
-use Rattle.std.specs.Prelude.{ℕ, List, [], ◌∷◌, ◌++◌, ◌==◌, ◌≡◌, ◌≤◌, Bool, true, false, All}
+use Rattle.std.specs.Prelude.{ℕ, List, [], ◌∷◌, ◌++◌, ◌==◌, ◌≡◌, ◌<◌, ◌≤◌, Bool, true, false, All, AllPairs}
 use Rattle.djq_io.specs.Faults.{Counted}
 use Rattle.djq_io.specs.declared.hub.Turn.TheVariants.{Opened}
 use Rattle.djq_io.specs.declared.hub.Told.{Told}
@@ -10,7 +10,7 @@ use Rattle.djq_machine.specs.Call.{Counts, ids_of}
 use Rattle.djq_machine.specs.Gives.{CursorsGive}
 use Rattle.djq_laws.specs.Moved.{Spares}
 use Rattle.djq_laws.specs.Lines.{TakesInOrder}
-use Rattle.djq_laws.specs.Sent.{all_gone}
+use Rattle.djq_laws.specs.Sent.{all_dropped, all_opened}
 use Rattle.djq_serve.specs.declared.served.Served.{Served}
 use Rattle.djq_serve.specs.declared.served.Served.TheVariants.{Stopped, Over, TurnsUsed, HubFault}
 use Rattle.djq_serve.specs.Told.{Shown, sent_to, has_over, has_failed}
@@ -24,7 +24,7 @@ HasTaken _ turns taken = taken ≤ turns
 
 -- a session opens at the hub, and isn't let in: a line is sent to it behind its turn
 abbrev pub refuses : ℕ → List Told → Bool
-refuses s (Turning (Opened t) piece ∷ Sending u sent taken ∷ more) = t == s
+refuses s (Turning (Opened t) piece ∷ Sending u offered sent taken ∷ more) = t == s
 refuses s _ = false
 
 -- no move refuses this session
@@ -32,12 +32,12 @@ abbrev pub NeverRefused : ℕ → List Move → Type 0
 NeverRefused s moves = All (λ (m : Move). refuses s m.told ≡ false) moves
 
 -- What the hub took for a session that was let in is what was taken of its pending bytes. That,
--- what was dropped as it was closed, and what is pending still, is all that was queued to it, in
--- order.
+-- then what was dropped as it was closed, and then what is pending still, is all that was pending
+-- and was queued to it: so what was sent is a first part of that.
 pub record IsSent (old : State) (moves : List Move) (new : State) (s : ℕ) : Type 0 where
   pub sent : NeverRefused s moves → sent_to s (all_told moves) ≡ all_taken s (all_done moves)
-  pub gone : all_gone s (all_done moves) ++ pending_of new s ≡ pending_of old s ++ out s
-      (all_done moves)
+  pub whole : all_taken s (all_done moves) ++ (all_dropped s (all_done moves) ++ pending_of new s)
+      ≡ pending_of old s ++ out s (all_done moves)
 
 abbrev pub says_stopped : Served → Bool
 says_stopped Stopped = true
@@ -80,16 +80,19 @@ pub record Moments (start : State) (done : List Did) (state : State) : Type 0 wh
 
 -- **How serving ends.** The server went from its first turn to its answer, by moves of which the
 -- hub
--- tells. Its steps are a run of the machine. To each session was sent what is its. Each answer has
--- its cause, and every session is closed.
+-- tells. Its steps are a run of the machine, in which sessions open with rising ids, so that none
+-- opens twice. To each session was sent what is its. Each answer has its cause, and every session is
+-- closed, in the machine and at the hub.
 pub record ServeEnds (answer : Served) (turns : ℕ) (hub : Shown) (counted : Counts) (old : State)
     (hub' : Shown) (counted' : Counts) (new : State) : Type 0 where
   pub taken : ℕ
   pub goes : Goes (seen hub counted 0) (server old waiting) (seen hub' counted' taken)
       (server new (closing answer))
   pub run : Run old (all_done goes.moves) new
+  pub rising : AllPairs (λ s t. s < t) (all_opened (all_done goes.moves))
   pub moments : Moments old (all_done goes.moves) new
   pub sent : (s : ℕ) → IsSent old goes.moves new s
   pub caused : IsCaused answer (all_told goes.moves) new
   pub none_open : ids_of new ≡ []
+  pub none_at_hub : hub'.ids.open_ids ≡ []
   pub has_taken : HasTaken answer turns taken

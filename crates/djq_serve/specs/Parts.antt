@@ -1,10 +1,10 @@
 -- What the parts of the server promise.
 use Rattle.std.specs.Prelude.{ℕ, List, [], ◌∷◌, ◌≡◌, ◌⊎◌, true, false, Option, None, Some}
 use Rattle.djq_io.specs.Faults.{Counted}
-use Rattle.djq_io.specs.Hub.{Takes, taken_by, without}
+use Rattle.djq_io.specs.Hub.{Takes, without}
 use Rattle.djq_io.specs.declared.hub.Sent.{Sent}
 use Rattle.djq_io.specs.declared.hub.Told.{Told}
-use Rattle.djq_io.specs.declared.hub.Told.TheVariants.{Sending, Closing}
+use Rattle.djq_io.specs.declared.hub.Told.TheVariants.{Closing}
 use Rattle.djq_model.specs.Data.{Bytes}
 use Rattle.djq_machine.specs.State.{State}
 use Rattle.djq_machine.specs.Step.{opened}
@@ -12,8 +12,8 @@ use Rattle.djq_machine.specs.Call.{IsOpen, Makes, Counts}
 use Rattle.djq_serve.specs.declared.served.Served.{Served}
 use Rattle.djq_serve.specs.declared.served.Served.TheVariants.{Stopped, Over, TurnsUsed, HubFault}
 use Rattle.djq_serve.specs.Told.{Shown, Tells}
-use Rattle.djq_serve.specs.Server.{Phase, waiting, closing, server, LetsIn}
-use Rattle.djq_serve.specs.Goes.{seen, Goes}
+use Rattle.djq_serve.specs.Server.{Next, Phase, waiting, flushing, closing, server, after, offering, LetsIn}
+use Rattle.djq_serve.specs.Goes.{seen, Goes, GoesQuietly}
 use Rattle.djq_serve.specs.Kept.{AllSettled}
 use Rattle.djq_serve.specs.Ends.{HasTaken}
 
@@ -22,6 +22,11 @@ abbrev pub phase_of : Option Served → Phase
 phase_of None = waiting
 phase_of (Some answer) = closing answer
 
+-- A flush went from the first session on until nothing was due to any, whatever follows it.
+pub record Flushes (hub : Shown) (old : State) (hub' : Shown) (new : State) : Type 0 where
+  pub goes : (next : Next) → GoesQuietly hub (server old (flushing 0 next)) hub'
+      (server new (after new next))
+
 -- A session that opened at the hub is let in, or refused.
 pub record Admits (old : State) (hub : Shown) (s : ℕ) (new : State) (hub' : Shown) : Type 0 where
   pub makes : Makes old (opened s) new
@@ -29,11 +34,11 @@ pub record Admits (old : State) (hub : Shown) (s : ℕ) (new : State) (hub' : Sh
   pub lets_in : LetsIn s old more new
   pub told : Tells hub hub' more
 
--- One line was sent to a session, once, and it was closed.
+-- A line was offered to a session, whole and once, and it was closed.
 pub record Refuses (hub : Shown) (s : ℕ) (text : Bytes) (hub' : Shown) : Type 0 where
   pub sent : Sent
   pub takes : Takes sent text
-  pub told : Tells hub hub' (Sending s sent (taken_by sent text) ∷ Closing s ∷ [])
+  pub told : Tells hub hub' (offering s text sent ∷ Closing s ∷ [])
   pub ids : hub'.ids ≡ without hub.ids s
 
 -- A session is open, and no session said `stop`.

@@ -1,6 +1,6 @@
 -- What the server does: one thing after another, by the machine's state and where the server
 -- stands.
-use Rattle.std.specs.Prelude.{ℕ, List, [], ◌∷◌, ◌≡◌, ◌+◌, ◌<◌, ◌≤◌, ◌⊎◌, ◌&&◌, Bool, true, false, not, nat_lt, Option, None, Some, is_none, IsSome, IsSomeAnd, slice_get, length, if◌then◌else◌}
+use Rattle.std.specs.Prelude.{ℕ, List, [], ◌∷◌, ◌≡◌, ◌+◌, ◌<◌, ◌≤◌, ◌⊎◌, ◌&&◌, Bool, true, false, not, nat_lt, Option, None, Some, is_none, IsSome, IsSomeAnd, slice_get, length, take, if◌then◌else◌}
 use Rattle.std.specs.List.{flat_map}
 use Rattle.djq_io.specs.Hub.{Takes, taken_by}
 use Rattle.djq_io.specs.declared.hub.Turn.{Turn}
@@ -77,11 +77,16 @@ Stays old done new = (done ≡ []) × (new ≡ old)
 abbrev pub refusal_for : State → Bytes
 refusal_for st = if nat_lt (length st.sessions) SESSIONS then end_memory else end_full
 
--- A session is let in. Or it isn't: one line is sent to it, once, and it is closed at the hub.
+-- This text was offered to a session once, all of it, and the hub took of it what it took.
+abbrev pub offering : ℕ → Bytes → Sent → Told
+offering s text sent = Sending s (length text) sent (taken_by sent text)
+
+-- A session is let in. Or it isn't: one line is offered to it, whole and once, and it is closed at
+-- the hub.
 abbrev pub LetsIn : ℕ → State → List Told → State → Type 0
 LetsIn s old more new = (IsOpen new s × (more ≡ []))
     ⊎ ((IsOpen new s → ⊥) × (sent : Sent) × Takes sent (refusal_for old)
-    × (more ≡ Sending s sent (taken_by sent (refusal_for old)) ∷ Closing s ∷ []))
+    × (more ≡ offering s (refusal_for old) sent ∷ Closing s ∷ []))
 
 -- bytes that a turn brought: some, as many as were said, and no more than are read at a time
 abbrev pub IsPiece : ℕ → Bytes → Type 0
@@ -121,13 +126,15 @@ abbrev pub RunsOne : ℕ → State → List Did → State → Phase → Type 0
 RunsOne s old done new next = (outcome : LineOutcome) × Happens (stepped s outcome) old done new
     × (next ≡ behind_front s outcome)
 
--- What is sent of the pending bytes of a session: some of the first; none now; or none ever, and it
--- is closed.
+-- All pending bytes of a session are offered, and sent are: some of the first; none now; or none
+-- ever, and it is closed.
 abbrev pub SendsSome : Sent → ℕ → State → List Told → List Did → State → Type 0
-SendsSome (Took n) s old told done new = (piece : Bytes) × (0 < length piece) × (n ≡ length piece)
-    × (told ≡ Sending s (Took n) piece ∷ []) × Happens (took s piece) old done new
-SendsSome Again s old told done new = (told ≡ Sending s Again [] ∷ []) × Stays old done new
-SendsSome Gone s old told done new = (told ≡ Sending s Gone [] ∷ Closing s ∷ [])
+SendsSome (Took n) s old told done new = (1 ≤ n) × (n ≤ length (pending_of old s))
+    × (told ≡ offering s (pending_of old s) (Took n) ∷ [])
+    × Happens (took s (take n (pending_of old s))) old done new
+SendsSome Again s old told done new = (told ≡ offering s (pending_of old s) Again ∷ [])
+    × Stays old done new
+SendsSome Gone s old told done new = (told ≡ offering s (pending_of old s) Gone ∷ Closing s ∷ [])
     × Happens (closed s (pending_of old s)) old done new
 
 -- A session that has ended, and for which nothing is pending, is closed.

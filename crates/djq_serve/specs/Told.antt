@@ -35,20 +35,31 @@ abbrev pub Answers : Place → Told → Place → Type 0
 Answers old (Turning turn piece) new = (buf : Bytes) × (length buf ≡ READ_BYTES)
     × (piece ≡ brought turn buf) × Follows old.ids turn buf old.script new.script
     × Turns turn READ_BYTES old.ids new.ids
-Answers old (Sending s sent piece) new = Sends s sent old.script new.script × (new.ids ≡ old.ids)
+Answers old (Sending s offered sent taken) new = Sends s offered sent old.script new.script
+    × (new.ids ≡ old.ids)
 Answers old (Closing s) new = (new.script ≡ old.script) × (new.ids ≡ without old.ids s)
 Answers old (Listening addr answer) new = ⊥
 
+-- What a call does to the ids, which every hub shows: a turn opens a session with an id above that
+-- of every one before, and brings bytes or the end of input of one that runs; a close takes one out.
+abbrev pub Shows : Ids → Told → Ids → Type 0
+Shows old (Turning turn piece) new = Turns turn READ_BYTES old new
+Shows old (Sending s offered sent taken) new = new ≡ old
+Shows old (Closing s) new = new ≡ without old s
+Shows old (Listening addr answer) new = ⊥
+
 -- From one moment to a later one a hub was asked these calls, in order. Where it tells its past,
--- they are what that gained; where it tells its script, each was answered as that says.
+-- they are what that gained; each did to its ids what it says; and where the hub tells its script,
+-- each was answered as that says.
 pub record Tells (old new : Shown) (told : List Told) : Type 0 where
   pub past : Gains old.past new.past told
+  pub ids : Walk Shows old.ids told new.ids
   pub played : WhereTold old.script new.script
       (λ a b. Walk Answers (place a old.ids) told (place b new.ids))
 
--- the bytes that a call sends to a session
+-- the bytes that a call sends to a session: those that the hub took
 abbrev pub sent_by : ℕ → Told → Bytes
-sent_by s (Sending t sent piece) = if t == s then piece else []
+sent_by s (Sending t offered sent taken) = if t == s then taken else []
 sent_by s _ = []
 
 -- all bytes that are sent to a session

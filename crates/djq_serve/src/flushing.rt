@@ -4,9 +4,10 @@ ghost use Rattle.djq_machine.specs.Step.{closed};
 ghost use Rattle.djq_machine.specs.Run.{pending_of};
 ghost use Rattle.djq_machine.specs.Call.{IsOpen, Makes, first_due};
 ghost use Rattle.djq_serve.specs.Told.{shown, Tells};
-ghost use Rattle.djq_serve.specs.Server.{Next, flushing, server, after};
+ghost use Rattle.djq_serve.specs.Server.{Next, flushing, server};
 ghost use Rattle.djq_serve.specs.Goes.{GoesQuietly};
 ghost use Rattle.djq_serve.specs.Kept.{Agrees, Spares, ahead};
+ghost use Rattle.djq_serve.specs.Parts.{Flushes};
 
 use djq_io::{Hub, Sent};
 use djq_machine::Machine;
@@ -65,11 +66,9 @@ fn visit<M: Machine, H: Hub>(machine: &mut M, hub: &mut H, id: u64) -> u128
 /// Goes by rising id through the open sessions to which something is due.
 pub(crate) fn flush<M: Machine, H: Hub>(machine: &mut M, hub: &mut H)
     requires agrees { Agrees (M.state machine.old) (H.ids hub.old) }
-    ensures goes { (next : Next) → GoesQuietly
-        (shown (H.past hub.old) (H.script hub.old) (H.ids hub.old))
-        (server (M.state machine.old) (flushing 0 next))
-        (shown (H.past hub.new) (H.script hub.new) (H.ids hub.new))
-        (server (M.state machine.new) (after (M.state machine.new) next)) }
+    ensures flushes { Flushes (shown (H.past hub.old) (H.script hub.old) (H.ids hub.old))
+        (M.state machine.old) (shown (H.past hub.new) (H.script hub.new) (H.ids hub.new))
+        (M.state machine.new) }
     ensures agrees { Agrees (M.state machine.new) (H.ids hub.new) }
     ensures spares { Spares (M.state machine.old) (M.state machine.new) }
     ensures faults { H.faults hub.new ≡ H.faults hub.old }

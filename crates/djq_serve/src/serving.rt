@@ -80,6 +80,7 @@ fn close_all<M: Machine, H: Hub>(machine: &mut M, hub: &mut H)
         (server (M.state machine.old) (closing answer))
         (shown (H.past hub.new) (H.script hub.new) (H.ids hub.new))
         (server (M.state machine.new) (closing answer)) }
+    ensures agrees { Agrees (M.state machine.new) (H.ids hub.new) }
     ensures none { ids_of (M.state machine.new) ≡ [] }
     ensures faults { H.faults hub.new ≡ H.faults hub.old }
 {

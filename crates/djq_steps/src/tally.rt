@@ -3,6 +3,15 @@ ghost use Rattle.std.specs.Prelude.{◌≡◌, ◌+◌, ◌<◌};
 use std::marker::Model;
 use std::sync::ledger::{Blank, Book, Ledger, Share};
 
+/// What a look-up by key counts.
+const LOOKUP: u64 = 1;
+
+/// What a link that is followed counts.
+const LINK: u64 = 1;
+
+/// What a change of one entry counts.
+const EDIT: u64 = 1;
+
 /// A counter of the ledger `L`, seen as a number. It can't be cloned or taken down.
 #[derive(Drop)]
 pub struct Tally<L: Ledger> {
@@ -37,7 +46,7 @@ impl<L: Ledger> Tally<L> {
     pub fn lookup(&mut self)
         ensures { self.new ≡ self.old + 1 }
     {
-        self.book.add(&mut self.share, 1);
+        self.book.add(&mut self.share, LOOKUP);
     }
 
     /// Counts a link that is followed.
@@ -45,7 +54,7 @@ impl<L: Ledger> Tally<L> {
     pub fn link(&mut self)
         ensures { self.new ≡ self.old + 1 }
     {
-        self.book.add(&mut self.share, 1);
+        self.book.add(&mut self.share, LINK);
     }
 
     /// Counts a change of one entry.
@@ -53,6 +62,6 @@ impl<L: Ledger> Tally<L> {
     pub fn edit(&mut self)
         ensures { self.new ≡ self.old + 1 }
     {
-        self.book.add(&mut self.share, 1);
+        self.book.add(&mut self.share, EDIT);
     }
 }

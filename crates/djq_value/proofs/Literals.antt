@@ -174,6 +174,9 @@ behind_less bytes t behind e = let less = subst (IsShorter (length bytes)) e (to
 
 -- What reading a token as a literal says.
 
+pub short_text : (t : Bytes) → is_small_value (Text t) ≡ true → length t ≤ TEXT_BYTES
+short_text t h = leb-true (length t) TEXT_BYTES h
+
 pub literal_ok : (o : Option Value) (w : Value) → ReadsLiteral o (Ok w) → (o ≡ Some w) × (is_small_value w ≡ true)
 literal_ok None w h = absurd (cc)
 literal_ok (Some v) w h = (ap (λ u. Some u) (sym h.0), ap is_small_value h.0 ∙ h.1)
@@ -182,9 +185,10 @@ pub literal_range : (o : Option Value) → ReadsLiteral o (Err Range) → (v : V
 literal_range None h = absurd (cc)
 literal_range (Some v) h = (v, refl, h)
 
-pub literal_no_memory : (o : Option Value) → ReadsLiteral o (Err NoMem) → (v : Value) × (o ≡ Some v) × (is_small_value v ≡ true)
+pub literal_no_memory : (o : Option Value) → ReadsLiteral o (Err NoMem)
+    → (t : Bytes) × (o ≡ Some (Text t)) × (length t ≤ TEXT_BYTES)
 literal_no_memory None h = absurd (cc)
-literal_no_memory (Some v) h = (v, refl, h)
+literal_no_memory (Some v) h = (h.0, ap (λ u. Some u) h.1, short_text h.0 (sym (ap is_small_value h.1) ∙ h.2))
 
 pub long_text : (t : Bytes) → is_small_value (Text t) ≡ false → TEXT_BYTES < length t
 long_text t h = leb-false (length t) TEXT_BYTES h

@@ -1,5 +1,5 @@
 -- What the lexer's answers say of the tokens that are left.
-use Rattle.std.specs.Prelude.{◌≡◌, List, [], ◌∷◌, Option, None, Some, Bool, false, true}
+use Rattle.std.specs.Prelude.{◌≡◌, List, [], ◌∷◌, Option, None, Some, Bool, false, true, drop}
 use Rattle.std.specs.Borrow.{Bor}
 use Rattle.djq_model.specs.Data.{Bytes}
 use Rattle.djq_value.specs.Literal.{is_name}
@@ -32,9 +32,9 @@ abbrev pub first_word : List Lexeme → Option Bytes
 first_word [] = None
 first_word (t ∷ ts) = word_of t
 
--- The word in front is taken; none is given where no word is in front.
+-- The word in front is taken; none is given where no word is in front, and what is there in its place is passed over.
 abbrev pub TakesWord : List Lexeme → Option (Bor Bytes) → List Lexeme → Type 0
-TakesWord old None new = first_word old ≡ None
+TakesWord old None new = (first_word old ≡ None) × (new ≡ drop 1 old)
 TakesWord old (Some w) new = old ≡ word w.now ∷ new
 
 -- whether a name is in front
@@ -42,7 +42,7 @@ abbrev pub has_name_first : List Lexeme → Bool
 has_name_first (word w ∷ ts) = is_name w
 has_name_first _ = false
 
--- The name in front is taken; none is given where no name is in front.
+-- The name in front is taken; none is given where no name is in front, and what is there in its place is passed over.
 abbrev pub TakesName : List Lexeme → Option Bytes → List Lexeme → Type 0
-TakesName old None new = has_name_first old ≡ false
+TakesName old None new = (has_name_first old ≡ false) × (new ≡ drop 1 old)
 TakesName old (Some n) new = (old ≡ word n ∷ new) × (is_name n ≡ true)

@@ -23,13 +23,15 @@ literal_at bytes = literal_in (token_at bytes)
 abbrev pub IsFirst : Bytes → ℕ → Type 0
 IsFirst bytes at = (at ≤ length bytes) × (drop at bytes ≡ behind_spaces bytes)
 
--- What reading a literal answers, by the literal in front of the bytes.
+-- What reading a literal answers, by the literal in front of the bytes. Out of memory comes only for a text within its
+-- limit.
 abbrev pub ReadsValue : Bytes → Result (Value × ℕ) ValueRefusal → Type 0
 ReadsValue bytes (Ok p) = (literal_at bytes ≡ Some (p.0, drop p.1 bytes)) × (is_small_value p.0 ≡ true) × (p.1 ≤ length bytes)
 ReadsValue bytes (Err (Syntax at)) = (literal_at bytes ≡ None) × IsFirst bytes at
 ReadsValue bytes (Err (IntRange at)) = (i : ℤ) × (behind : Bytes) × (literal_at bytes ≡ Some (Int i, behind)) × (is_small i ≡ false) × IsFirst bytes at
 ReadsValue bytes (Err (TextLong at)) = (t : Bytes) × (behind : Bytes) × (literal_at bytes ≡ Some (Text t, behind)) × (TEXT_BYTES < length t) × IsFirst bytes at
-ReadsValue bytes (Err NoMem) = (v : Value) × (behind : Bytes) × (literal_at bytes ≡ Some (v, behind)) × (is_small_value v ≡ true)
+ReadsValue bytes (Err NoMem) = (t : Bytes) × (behind : Bytes) × (literal_at bytes ≡ Some (Text t, behind))
+    × (length t ≤ TEXT_BYTES)
 
 -- What is printed is read back, in front of what may follow a literal.
 abbrev pub IsReadBack : Type 0

@@ -31,6 +31,7 @@ pub enum LiteralRefusal {
 /// # Errors
 ///
 /// `Syntax` exactly where the token is no literal, `Range` exactly where it is one past its limit.
+/// `NoMem` comes only for a text within its limit: an integer takes no memory.
 pub fn read_literal(alloc: Global, token: &Token<'_>) -> Result<Value, LiteralRefusal>
     ensures { ReadsLiteral (literal_of (lexeme_of token.now)) result }
 {

@@ -38,7 +38,7 @@ pub enum ValueRefusal {
 /// # Errors
 ///
 /// `Syntax` exactly where no literal stands there, `IntRange` and `TextLong` exactly where one past
-/// its limit does.
+/// its limit does. `NoMem` comes only for a text within its limit: an integer takes no memory.
 pub fn read_value(alloc: Global, bytes: &[u8]) -> Result<(Value, usize), ValueRefusal>
     ensures { ReadsValue bytes.now result }
 {

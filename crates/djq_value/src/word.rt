@@ -66,7 +66,7 @@ fn may_follow(byte: u8) -> bool
     is_letter(byte) || (byte >= b'0' && byte <= b'9') || byte == b'_'
 }
 
-// The word in front, where one is there.
+// The word in front, where one is there. The token in front is passed over in any case.
 pub fn next_word<'a>(lexer: &mut Lexer<'a>) -> Option<&'a [u8]>
     ensures { TakesWord lexer.old result lexer.new }
 {
@@ -76,7 +76,7 @@ pub fn next_word<'a>(lexer: &mut Lexer<'a>) -> Option<&'a [u8]>
     }
 }
 
-// The name in front, where one is there.
+// The name in front, where one is there. The token in front is passed over in any case.
 pub fn next_name(lexer: &mut Lexer<'_>) -> Option<Name>
     ensures { TakesName lexer.old result lexer.new }
 {

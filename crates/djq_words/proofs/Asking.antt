@@ -1,7 +1,9 @@
 -- What words ask for, from what a parse of them found.
-use Rattle.std.specs.Prelude.{ℕ, List, [], ◌≡◌, ◌≢◌, true, Option, None, Some, IsSomeAnd, option_map, Ok, Err, codes, length, slice_index}
+use Rattle.std.specs.Prelude.{ℕ, zero, suc, List, [], ◌≡◌, ◌≢◌, ◌<◌, ◌^◌, true, Option, None, Some, IsSomeAnd, option_map, Ok, Err, codes, length, get_or, slice_index, decimal}
 use Rattle.std.proofs.Common.{refl, sym, ap, ◌∙◌, ap₂, subst, inl, inr, arith}
-use Rattle.std.specs.Str.Parse.{ParsesUnsigned}
+use Rattle.std.specs.Str.Parse.{ParsesUnsigned, IsNumeral, digits_value, without_leading_plus}
+use Rattle.std.proofs.lemmas.Fmt.{decimal_is_IsNumeral, decimal_digit, first_decimal}
+use Rattle.std.proofs.lemmas.Str.Parse.{without_leading_plus_none}
 use Rattle.std.specs.declared.num.ParseIntError.{ParseIntError}
 use Rattle.clap.specs.Words.{Text, Row, is_simple, is_simple_and_free, fault_of, kind_of, subcommand_of, HasKind, IsAmong, Kinds, first_of}
 use Rattle.clap.specs.declared.error.Error.{Error}
@@ -10,7 +12,7 @@ use Rattle.clap.proofs.OnLiterals.{clap_on_literals}
 use Rattle.djq_words.specs.declared.commands.Asked.{Asked}
 use Rattle.djq_words.specs.declared.commands.Asked.TheVariants.{Run, Serve, Replay, Gen}
 use Rattle.djq_words.specs.Commands.{djq_app}
-use Rattle.djq_words.specs.Asks.{TurnsAre, Spells, IsRead, IsAsked, AskedBy, ServeAsked, GenAsked, Answers}
+use Rattle.djq_words.specs.Asks.{Spells, ReadsAs, TurnsAre, IsGiven, IsRead, IsAsked, AskedBy, ServeAsked, GenAsked, Answers}
 
 pub simple : is_simple djq_app ≡ true
 unfolding clap_on_literals
@@ -66,28 +68,69 @@ no_addr rows none = none_asked rows (λ addr n given turns. absurd (none_some (s
     none_some : {A : Type 0} {x : A} → None ≡ Some x → ⊥
     none_some e = cc
 
-pub turns_spelled : (text : Text) (n : ℕ) (o : Option Text) → o ≡ Some text → ParsesUnsigned {E = ParseIntError} 64 10 text (Ok n) → TurnsAre o n
-turns_spelled text n o e h = subst (λ (k : Option Text). TurnsAre k n) (sym e) (h.0.0, h.0.1, h.1)
+pub turns_spelled : (text : Text) (n : ℕ) (o : Option Text) → o ≡ Some text → Spells 64 text n → TurnsAre o n
+turns_spelled text n o e h = subst (λ (k : Option Text). TurnsAre k n) (sym e) h
 
-pub turns_unspelled : (rows : List Row) (text : Text) (error : ParseIntError) → first_of (codes "turns") rows ≡ Some text → ParsesUnsigned {E = ParseIntError} 64 10 text (Err error) → ServeAsked rows None
-turns_unspelled rows text error given h =
-    none_asked rows (λ addr n is turns. let t = subst (λ (k : Option Text). TurnsAre k n) given turns in h (t.0, t.1))
+pub turns_unspelled : (rows : List Row) (text : Text) → first_of (codes "turns") rows ≡ Some text → ReadsAs text None
+    → ServeAsked rows None
+turns_unspelled rows text given h = none_asked rows (λ addr n is turns. h n
+    (subst (λ (k : Option Text). TurnsAre k n) given turns))
 
 -- what `gen` was given asks for nothing
-pub gen_asks_none : (rows : List Row) → ((n seed : ℕ) → Spells (first_of (codes "N") rows) n → Spells (first_of (codes "SEED") rows) seed → ⊥) → GenAsked rows None
+pub gen_asks_none : (rows : List Row) → ((n seed : ℕ) → IsGiven (first_of (codes "N") rows) n
+    → IsGiven (first_of (codes "SEED") rows) seed → ⊥) → GenAsked rows None
 gen_asks_none rows h Run asks = gen_not_run asks
 gen_asks_none rows h (Serve addr n) asks = serve_not_gen (sym asks.0)
 gen_asks_none rows h Replay asks = gen_not_replay asks
 gen_asks_none rows h (Gen n seed) asks = h n seed asks.1 asks.2
 
 pub none_read : (o : Option Text) → o ≡ None → IsRead o None
-none_read o e n h = subst (λ (k : Option Text). Spells k n) e h
+none_read o e n h = subst (λ (k : Option Text). IsGiven k n) e h
 
-pub number_read : (text : Text) (n : ℕ) (o : Option Text) → o ≡ Some text → ParsesUnsigned {E = ParseIntError} 32 10 text (Ok n) → IsRead o (Some n)
-number_read text n o e h = subst (λ (k : Option Text). Spells k n) (sym e) (h.0.0, h.0.1, h.1)
+pub number_read : (text : Text) (n : ℕ) (o : Option Text) → o ≡ Some text → Spells 64 text n → n < 2 ^ 32
+    → IsRead o (Some n)
+number_read text n o e h few = subst (λ (k : Option Text). IsGiven k n) (sym e) (few, h.1)
 
-pub number_unread : (text : Text) (error : ParseIntError) (o : Option Text) → o ≡ Some text → ParsesUnsigned {E = ParseIntError} 32 10 text (Err error) → IsRead o None
-number_unread text error o e h n spells = let t = subst (λ (k : Option Text). Spells k n) e spells in h (t.0, t.1)
+pub number_unread : (text : Text) (o : Option Text) → o ≡ Some text → ReadsAs text None → IsRead o None
+number_unread text o e h n given = let g = subst (λ (k : Option Text). IsGiven k n) e given in
+    h n (omega (arith, g.0), g.1)
+
+-- a text spells one number
+pub one_number : (text : Text) (m n : ℕ) → Spells 64 text m → Spells 64 text n → m ≡ n
+one_number text m n h k = sym (decimal_is_IsNumeral m h.0).1 ∙ ap (λ (t : Text). digits_value 10 t) (sym h.1 ∙ k.1)
+    ∙ (decimal_is_IsNumeral n k.0).1
+
+pub number_large : (text : Text) (n : ℕ) (o : Option Text) → o ≡ Some text → Spells 64 text n → (n < 2 ^ 32 → ⊥)
+    → IsRead o None
+number_large text n o e h large k given =
+    let g = subst (λ (i : Option Text). IsGiven i k) e given in
+    let same : k ≡ n = one_number text k n (omega (arith, g.0), g.1) h in
+    large (omega (arith, same, g.0))
+
+-- decimal digits have no sign before them
+unsigned : (n : ℕ) → n < 2 ^ 64 → without_leading_plus (decimal n) ≡ decimal n
+unsigned zero h = without_leading_plus_none (decimal 0) (λ e. let d =
+    ap (λ (t : Text). get_or t 0 0) (decimal_digit 0 (omega arith)) in absurd (omega (arith, d, e)))
+unsigned (suc n) h = without_leading_plus_none (decimal (suc n))
+    (λ e. let d = first_decimal (suc n) (omega arith) h in absurd (omega (arith, d, e)))
+
+-- What a text spells is what it is parsed as.
+numeral : (text : Text) (n : ℕ) → Spells 64 text n → IsNumeral 10 (without_leading_plus text)
+    × (digits_value 10 (without_leading_plus text) ≡ n)
+numeral text n h =
+    let same : without_leading_plus text ≡ decimal n = ap (λ (t : Text). without_leading_plus t) h.1 ∙ unsigned n h.0 in
+    subst (λ (t : Text). IsNumeral 10 t × (digits_value 10 t ≡ n)) (sym same) (decimal_is_IsNumeral n h.0)
+
+pub not_parsed : (text : Text) (error : ParseIntError) → ParsesUnsigned {E = ParseIntError} 64 10 text (Err error)
+    → ReadsAs text None
+not_parsed text error h n spells = let t = numeral text n spells in h (t.0, omega (arith, t.1, spells.0))
+
+pub not_spelled : (text : Text) (m : ℕ) → ParsesUnsigned {E = ParseIntError} 64 10 text (Ok m) → text ≢ decimal m
+    → ReadsAs text None
+not_spelled text m h other n spells =
+    let t = numeral text n spells in
+    let same : n ≡ m = sym t.1 ∙ sym h.1 in
+    absurd (other (spells.1 ∙ ap (λ k. decimal k) same))
 
 -- another name asks for nothing
 pub other_asked : (name : Text) (rows : List Row) → name ≢ codes "run" → name ≢ codes "serve" → name ≢ codes "replay" → name ≢ codes "gen" → AskedBy (Some (name, rows)) None

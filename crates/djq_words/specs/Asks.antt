@@ -1,28 +1,35 @@
 -- What the words of a command line ask for.
-use Rattle.std.specs.Prelude.{ℕ, List, [], ◌≡◌, ◌<◌, ◌^◌, Option, None, Some, IsSomeAnd, codes}
-use Rattle.std.specs.Str.Parse.{IsNumeral, digits_value, without_leading_plus}
+use Rattle.std.specs.Prelude.{ℕ, List, [], ◌≡◌, ◌<◌, ◌^◌, Option, None, Some, IsSomeAnd, codes, decimal}
 use Rattle.clap.specs.Words.{Text, Row, fault_of, first_of, subcommand_of}
 use Rattle.djq_words.specs.declared.commands.Asked.{Asked}
 use Rattle.djq_words.specs.declared.commands.Asked.TheVariants.{Run, Serve, Replay, Gen}
 use Rattle.djq_words.specs.declared.commands.TheConstants.{MOST_TURNS}
 use Rattle.djq_words.specs.Commands.{djq_app}
 
+-- A text spells a number below 2 to the power of so many bits: it is the number's decimal digits,
+-- with no sign and no leading zero.
+abbrev pub Spells : ℕ → Text → ℕ → Type 0
+Spells bits text n = (n < 2 ^ bits) × (text ≡ decimal n)
+
+-- A text is read as the number of 64 bits that it spells; or it spells none.
+abbrev pub ReadsAs : Text → Option ℕ → Type 0
+ReadsAs text (Some n) = Spells 64 text n
+ReadsAs text None = (n : ℕ) → Spells 64 text n → ⊥
+
 -- The number of turns: what the text spells, or the most where there is none.
 abbrev pub TurnsAre : Option Text → ℕ → Type 0
 TurnsAre None n = n ≡ MOST_TURNS
-TurnsAre (Some text) n = let digits = without_leading_plus text in
-    IsNumeral 10 digits × (digits_value 10 digits < 2 ^ 64) × (n ≡ digits_value 10 digits)
+TurnsAre (Some text) n = Spells 64 text n
 
--- a number of 32 bits that a text spells
-abbrev pub Spells : Option Text → ℕ → Type 0
-Spells None n = ⊥
-Spells (Some text) n = let digits = without_leading_plus text in
-    IsNumeral 10 digits × (digits_value 10 digits < 2 ^ 32) × (n ≡ digits_value 10 digits)
+-- the number of 32 bits that was given, by the text that spells it
+abbrev pub IsGiven : Option Text → ℕ → Type 0
+IsGiven None n = ⊥
+IsGiven (Some text) n = Spells 32 text n
 
--- A text is read as the number that it spells; or it spells none.
+-- What was given is read as its number; or it is none.
 abbrev pub IsRead : Option Text → Option ℕ → Type 0
-IsRead text (Some n) = Spells text n
-IsRead text None = (n : ℕ) → Spells text n → ⊥
+IsRead text (Some n) = IsGiven text n
+IsRead text None = (n : ℕ) → IsGiven text n → ⊥
 
 -- A subcommand, by its name and what it was given, asks for this.
 abbrev pub IsAsked : Text × List Row → Asked → Type 0
@@ -30,8 +37,8 @@ IsAsked c Run = c.0 ≡ codes "run"
 IsAsked c (Serve addr turns) = (c.0 ≡ codes "serve") × (first_of (codes "ADDR") c.1 ≡ Some addr.now)
     × TurnsAre (first_of (codes "turns") c.1) turns
 IsAsked c Replay = c.0 ≡ codes "replay"
-IsAsked c (Gen n seed) = (c.0 ≡ codes "gen") × Spells (first_of (codes "N") c.1) n
-    × Spells (first_of (codes "SEED") c.1) seed
+IsAsked c (Gen n seed) = (c.0 ≡ codes "gen") × IsGiven (first_of (codes "N") c.1) n
+    × IsGiven (first_of (codes "SEED") c.1) seed
 
 -- What is asked for, where something is.
 abbrev pub AskedBy : Option (Text × List Row) → Option Asked → Type 0

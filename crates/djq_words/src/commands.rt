@@ -2,11 +2,12 @@ ghost use Rattle.std.specs.Prelude.{◌≡◌, false, IfOk, map};
 ghost use Rattle.clap.specs.declared.builder.command.Command.TheViews.{out-Command as fields_of};
 ghost use Rattle.clap.specs.Words.{app_of, first_of, found_of, rows_of, subcommand_rows_of};
 ghost use Rattle.djq_words.specs.Commands.{serve_app, gen_app, djq_app};
-ghost use Rattle.djq_words.specs.Asks.{AskedBy, ServeAsked, GenAsked, IsRead, Answers};
+ghost use Rattle.djq_words.specs.Asks.{AskedBy, ServeAsked, GenAsked, ReadsAs, IsRead, Answers};
 
 use clap::builder::ValueParser;
 use clap::error::ErrorKind;
 use clap::{Arg, ArgMatches, Command};
+use itoa::Buffer;
 use std::alloc::{AllocError, Global};
 
 /// The most turns that `serve` may be asked for, and as many as it takes where it isn't.
@@ -76,7 +77,7 @@ fn djq_command<'a>(alloc: Global) -> Result<Command<'a>, AllocError>
 }
 
 /// What these words ask for, of which the first is the program's name, or `None` where they are no
-/// command.
+/// command. A number is its decimal digits, without a sign or a leading zero.
 ///
 /// # Errors
 ///
@@ -116,9 +117,9 @@ fn serve_asked<'a>(given: &ArgMatches<'a>) -> Option<Asked<'a>>
     let Some(text) = given.get_str("turns") else {
         return Some(Asked::Serve(addr, MOST_TURNS));
     };
-    match text.parse::<u64>() {
-        Ok(turns) => Some(Asked::Serve(addr, turns)),
-        Err(_) => None,
+    match number_in(text) {
+        Some(turns) => Some(Asked::Serve(addr, turns)),
+        None => None,
     }
 }
 
@@ -142,8 +143,27 @@ fn number_given<'a>(given: &ArgMatches<'a>, name: &str) -> Option<u32>
     let Some(text) = given.get_str(name) else {
         return None;
     };
-    match text.parse::<u32>() {
+    let Some(number) = number_in(text) else {
+        return None;
+    };
+    match u32::try_from(number) {
         Ok(number) => Some(number),
         Err(_) => None,
+    }
+}
+
+/// The number whose decimal digits the text is. `clap` takes a sign and leading zeros before them;
+/// these are no number here.
+fn number_in(text: &str) -> Option<u64>
+    ensures { ReadsAs text.now result }
+{
+    let Ok(number) = text.parse::<u64>() else {
+        return None;
+    };
+    let mut digits = Buffer::new();
+    if digits.format(number) == text {
+        Some(number)
+    } else {
+        None
     }
 }

@@ -41,6 +41,8 @@ fn other_words_are_no_command(rt: HostRuntime) -> Result<(), Fail> {
         &["djq", "run", "--help"],
         &["djq", "serve"],
         &["djq", "serve", "a:1", "--turns", "0"],
+        &["djq", "serve", "a:1", "--turns", "+7"],
+        &["djq", "serve", "a:1", "--turns", "01"],
         &["djq", "replay", "file"],
         &["djq", "gen"],
         &["djq", "gen", "5"],
@@ -48,6 +50,11 @@ fn other_words_are_no_command(rt: HostRuntime) -> Result<(), Fail> {
         &["djq", "gen", "1000001", "1"],
         &["djq", "gen", "5", "2147483648"],
         &["djq", "gen", "5", "1", "1"],
+        &["djq", "gen", "+5", "7"],
+        &["djq", "gen", "05", "7"],
+        &["djq", "gen", "5", "007"],
+        &["djq", "gen", "5", "00"],
+        &["djq", "gen", "5", "-0"],
     ];
     for words in lists {
         let asked = read_words(rt.alloc(), words)?;

@@ -23,8 +23,9 @@ impl<C: Copy, Q: Copy + PartialEq> Session<C, Q> {
         !self.output.is_empty() || self.cause.is_some()
     }
 
-    /// It takes no further commands, for a cause.
+    /// It takes no further commands, for a cause. A session that has ended keeps the cause that it has.
     pub fn end(&mut self, cause: EndCause)
+        requires { self.old.cause ≡ None }
         ensures { self.new ≡ record self.old { cause = Some cause } }
     {
         self.cause = Some(cause);
@@ -50,7 +51,8 @@ impl<C: Copy, Q: Copy + PartialEq> Session<C, Q> {
 
     /// It takes its leave, which is answered.
     pub fn end_bye(&mut self, cause: EndCause)
-        requires { REPLY_BYTES + LAST_LINE_BYTES ≤ self.old.room }
+        requires running { self.old.cause ≡ None }
+        requires room { REPLY_BYTES + LAST_LINE_BYTES ≤ self.old.room }
         ensures { EndsWith self.old self.new bye cause }
     {
         say_bye(&mut self.output);

@@ -1,5 +1,5 @@
-use Rattle.std.proofs.Common.{◌≡◌, ◌<◌, refl, sym, ◌∙◌, Option, ap, ap₂, ℕ, arith, []}
-use Rattle.djq_arena.specs.declared.chain.Ends.{Ends}
+use Rattle.std.proofs.Common.{refl, Option, ap, ap₂, ℕ, arith, List, length, []}
+use Rattle.djq_arena.specs.declared.chain.Pair.{Pair}
 use Rattle.djq_arena.proofs.Storing.{sound}
 use Rattle.djq_arena.proofs.Growing.{empty_store, empty_is}
 use Rattle.djq_arena.proofs.store.empty.Goals as goal
@@ -8,4 +8,4 @@ pub returns : goal.returns
 returns c =
     let s = empty_store _ 16 c.new.ensures.items c.new-2.ensures.items c.new-3.ensures.items c.in_ok-heads.ensures (omega arith)
     (ap₂ (λ (f l : Option ℕ). record { first = f; last = l }) c.none.ensures c.none-2.ensures) (ap₂ (λ (f l : Option ℕ). record { first = f; last = l }) c.none-3.ensures c.none-4.ensures) refl refl in
-    (sound _ [] [] s, refl, c.new.ensures.items, empty_is _ s)
+    (sound _ [] [] s, ap (λ (ls : List Pair). length ls) c.new.ensures.items, refl, c.new.ensures.items, empty_is _ s)

@@ -1,4 +1,4 @@
-use Rattle.std.proofs.Common.{◌≡◌, ◌<◌, refl, sym, ◌∙◌, subst, length, Option, ap, ap₂, ℕ, slice_set, slice_index_or, Some, None}
+use Rattle.std.proofs.Common.{◌<◌, refl, sym, ◌∙◌, subst, length, Option, ap, ap₂, ℕ, slice_set, slice_index_or, None}
 use Rattle.djq_arena.specs.Chains.{IsWithin, entered}
 use Rattle.djq_arena.proofs.Storing.{read_link}
 use Rattle.djq_arena.proofs.store.enlist.Goals as goal

@@ -1,7 +1,6 @@
-use Rattle.std.proofs.Common.{◌≡◌, ◌<◌, refl, sym, ◌∙◌, subst, length, Option, Some, None, ap, ℕ, rules}
+use Rattle.std.proofs.Common.{◌<◌, sym, subst, length, Option, ap, ℕ, rules}
 use Rattle.djq_arena.specs.declared.chain.Pair.{Pair}
-use Rattle.djq_arena.specs.Store.{class}
-use Rattle.djq_arena.proofs.Seeking.{Seeking, seeking, over, over_steps, Stop, stop, stop_within, found, further, class_inside}
+use Rattle.djq_arena.proofs.Seeking.{Seeking, seeking, over, over_steps, stop, stop_within, found, further, class_inside}
 use Rattle.djq_arena.proofs.store.find.Goals as goal
 
 pub loop-step-init : goal.loop-step-init

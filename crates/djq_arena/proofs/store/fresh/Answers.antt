@@ -1,7 +1,5 @@
-use Rattle.std.proofs.Common.{◌≡◌, ◌<◌, ◌+◌, ◌*◌, ◌≤◌, refl, sym, ◌∙◌, subst, length, Option, ap, ap₂, ℕ, List, arith, Result, Ok, Err, None, ◌++◌, ◌∷◌, []}
-use Rattle.std.specs.Result.{OnErr}
+use Rattle.std.proofs.Common.{◌≡◌, refl, ◌∙◌, length, ap, List, arith, ◌++◌, ◌∷◌, []}
 use Rattle.djq_arena.specs.declared.chain.Pair.{Pair}
-use Rattle.djq_arena.specs.Store.{IsPrepared}
 use Rattle.djq_arena.proofs.Filling.{extends_at, stays, on_err}
 use Rattle.djq_arena.proofs.store.fresh.Goals as goal
 

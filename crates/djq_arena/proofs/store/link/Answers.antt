@@ -1,9 +1,9 @@
-use Rattle.std.proofs.Common.{◌≡◌, refl, sym, ◌∙◌, subst, length, Option, ap, ap₂, ℕ, ◌+◌, List}
+use Rattle.std.proofs.Common.{refl, ◌∙◌, length, ap, ap₂, ℕ, ◌+◌, List}
 use Rattle.djq_arena.specs.declared.chain.Pair.{Pair}
 use Rattle.djq_arena.specs.declared.chain.Ends.{Ends}
-use Rattle.djq_arena.specs.Chains.{IsWithin, entered}
+use Rattle.djq_arena.specs.Chains.{entered}
 use Rattle.djq_arena.specs.Store.{class, cells_at, extended}
-use Rattle.djq_arena.proofs.Storing.{last_in_order, head_within, links, Relinks}
+use Rattle.djq_arena.proofs.Storing.{last_in_order, head_within, links}
 use Rattle.djq_arena.proofs.store.link.Goals as goal
 
 pub enlist-requires-clause-heads : goal.enlist-requires-clause-heads

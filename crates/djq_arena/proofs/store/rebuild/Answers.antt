@@ -1,7 +1,5 @@
-use Rattle.std.proofs.Common.{◌≡◌, ◌<◌, ◌+◌, ◌≤◌, refl, sym, ◌∙◌, subst, length, Option, Some, None, ap, ℕ, List, arith}
+use Rattle.std.proofs.Common.{refl, sym, ◌∙◌, subst, Option, ap, ℕ, arith}
 use Rattle.djq_arena.specs.declared.chain.Pair.{Pair}
-use Rattle.djq_arena.specs.declared.store.Store.{Store}
-use Rattle.djq_arena.specs.Chains.{pair_at}
 use Rattle.djq_arena.specs.Store.{live_of}
 use Rattle.djq_arena.proofs.Growing.{Rebuilding, rebuilding, slot_within, heads_within, rebuilt_more, rebuilt, not_over}
 use Rattle.djq_arena.proofs.store.rebuild.Goals as goal

@@ -1,4 +1,4 @@
-use Rattle.std.proofs.Common.{◌≡◌, refl, sym, ◌∙◌, subst, length, Option, ap, ℕ}
+use Rattle.std.proofs.Common.{refl}
 use Rattle.djq_arena.proofs.Storing.{last_in_free, releases}
 use Rattle.djq_arena.proofs.store.release.Goals as goal
 

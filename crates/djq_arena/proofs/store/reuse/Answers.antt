@@ -1,6 +1,6 @@
-use Rattle.std.proofs.Common.{◌≡◌, ◌<◌, ◌+◌, ◌*◌, ◌≤◌, refl, sym, ◌∙◌, subst, length, Option, ap, ap₂, ℕ, List, arith}
+use Rattle.std.proofs.Common.{refl, sym, ◌∙◌, subst, length, ap, arith}
 use Rattle.djq_arena.specs.declared.chain.Pair.{Pair}
-use Rattle.djq_arena.specs.Chains.{IsWithin, left, pair_at}
+use Rattle.djq_arena.specs.Chains.{IsWithin, left}
 use Rattle.djq_arena.specs.Store.{shrunk}
 use Rattle.djq_arena.proofs.Filling.{newest_free, newest_fits, reuses}
 use Rattle.djq_arena.proofs.store.reuse.Goals as goal

@@ -1,6 +1,6 @@
-use Rattle.std.proofs.Common.{◌≡◌, ◌<◌, refl, sym, ◌∙◌, subst, length, Option, ap, ℕ}
+use Rattle.std.proofs.Common.{◌<◌, refl, sym, ◌∙◌, subst, length, ap}
 use Rattle.djq_arena.specs.declared.chain.Pair.{Pair}
-use Rattle.djq_arena.specs.Chains.{IsWithin, left, pair_at}
+use Rattle.djq_arena.specs.Chains.{IsWithin, left}
 use Rattle.djq_arena.specs.Store.{shrunk, unheaded}
 use Rattle.djq_arena.proofs.Storing.{held_within, held_prev, held_next, held_in_bucket, unlinks}
 use Rattle.djq_arena.proofs.store.unlink.Goals as goal

@@ -1,12 +1,14 @@
-use Rattle.std.proofs.Common.{ℕ, List, arith, subst, sym}
+use Rattle.std.proofs.Common.{◌∙◌, ℕ, List, ap, arith, subst, sym}
+use Rattle.std.specs.Prelude.{◌&&◌}
 use Rattle.djq_model.specs.Data.{Bytes, without_row}
 use Rattle.djq_rows.specs.Catalog.{rows_at}
 use Rattle.djq_live.specs.Changes.{Went}
 use Rattle.djq_live.specs.Live.{IsKept}
+use Rattle.djq_engine.specs.Places.{is_reader, watched_at}
 use Rattle.djq_engine.specs.Reaching.{AllAt}
-use Rattle.djq_engine.specs.Tending.{AreShown, Costs, Tends, TellsAt}
+use Rattle.djq_engine.specs.Tending.{AreShown, Costs, Tends, TellsAt, Works}
 use Rattle.djq_engine.proofs.Carrying.{readers_kept}
-use Rattle.djq_engine.proofs.Tending.{counts_rows, shown_tended, tells_rows, tells_show}
+use Rattle.djq_engine.proofs.Tending.{counts_rows, shown_tended, tells_rows, tells_show, tends_quiet}
 use Rattle.djq_engine.proofs.Storing.{places_read, deleted_is, gone_once, can_go, drop_carries}
 use Rattle.djq_engine.proofs.change.drop_cells.Goals as goal
 
@@ -19,7 +21,8 @@ let_out-requires-clause-once g c =
     (c.delete_row.ensures.deletes c.requires.old.0 c.requires.old.1.stand) c.requires.old.1.there)
     c.deleted_went.ensures c.args.parts.now.queries.items c.args.parts.now.order c.args.parts.now.readers.items c.requires.whole c.as_slice-places.result.now
     (places_read c.args.parts.now.readers.items c.args.id.at c.index.result.now
-    c.as_slice-places.result.now (omega (arith, c.requires.there, c.requires.whole.long)) c.index.ensures c.as_slice-places.ensures)
+    c.as_slice-places.result.now (omega (arith, c.requires.there, c.requires.whole.long)) c.index.ensures
+    c.as_slice-places.ensures)
 
 pub let_out-requires-clause-can : goal.let_out-requires-clause-can
 let_out-requires-clause-can g c =
@@ -30,7 +33,8 @@ let_out-requires-clause-can g c =
     (c.delete_row.ensures.deletes c.requires.old.0 c.requires.old.1.stand) c.requires.old.1.there)
     c.deleted_went.ensures c.args.parts.now.queries.items c.args.parts.now.order c.args.parts.now.readers.items c.requires.whole c.as_slice-places.result.now
     (places_read c.args.parts.now.readers.items c.args.id.at c.index.result.now
-    c.as_slice-places.result.now (omega (arith, c.requires.there, c.requires.whole.long)) c.index.ensures c.as_slice-places.ensures)
+    c.as_slice-places.result.now (omega (arith, c.requires.there, c.requires.whole.long)) c.index.ensures
+    c.as_slice-places.ensures)
 
 pub returns-clause-drops : goal.returns-clause-drops
 returns-clause-drops g c row old = record {
@@ -58,10 +62,13 @@ returns-clause-tells g c row was =
     tells_rows (λ x y. Went x y c.args.id.at c.args.cells.now) old.catalog d old.queries.items old.order old.readers.items c.requires.whole c.args.id.at c.requires.there
     old.watchers.items c.as_slice-places.result.now
     (places_read old.readers.items c.args.id.at c.index.result.now
-    c.as_slice-places.result.now (omega (arith, c.requires.there, c.requires.whole.long)) c.index.ensures c.as_slice-places.ensures)
+    c.as_slice-places.result.now (omega (arith, c.requires.there, c.requires.whole.long)) c.index.ensures
+    c.as_slice-places.ensures)
     row (c.deleted_went.ensures old.catalog d c.args.id.at c.args.cells.now row c.laws-2.ensures c.requires.there was.stand c.delete_row.ensures.texts is)
     (without_row (rows_at old.catalog.relations c.args.id.at) row) is old.logs.items c.let_out.new.logs.items
-    (subst (λ (ws : List ℕ). Tends c.as_slice-places.result.now (TellsAt ws (λ x y. Went x y c.args.id.at c.args.cells.now)) old.queries.items old.logs.items c.let_out.new.logs.items) c.as_slice-watchers.ensures.value
+    (subst (λ (ws : List ℕ). Tends c.as_slice-places.result.now
+    (TellsAt ws (λ x y. Went x y c.args.id.at c.args.cells.now)) old.queries.items old.logs.items
+    c.let_out.new.logs.items) c.as_slice-watchers.ensures.value
     c.let_out.ensures.tells)
 
 pub returns-clause-counted : goal.returns-clause-counted
@@ -72,7 +79,8 @@ returns-clause-counted g c row was =
     counts_rows (λ x y. Went x y c.args.id.at c.args.cells.now) old.catalog d old.queries.items old.order old.readers.items c.requires.whole c.args.id.at c.requires.there
     old.watchers.items c.as_slice-places.result.now
     (places_read old.readers.items c.args.id.at c.index.result.now
-    c.as_slice-places.result.now (omega (arith, c.requires.there, c.requires.whole.long)) c.index.ensures c.as_slice-places.ensures)
+    c.as_slice-places.result.now (omega (arith, c.requires.there, c.requires.whole.long)) c.index.ensures
+    c.as_slice-places.ensures)
     row (c.deleted_went.ensures old.catalog d c.args.id.at c.args.cells.now row c.laws-2.ensures c.requires.there was.stand c.delete_row.ensures.texts is)
     (without_row (rows_at old.catalog.relations c.args.id.at) row) is c.args.steps.now.listing c.let_out.new.steps.listing
     (subst (λ (ws : List ℕ). Costs (λ x y. Went x y c.args.id.at c.args.cells.now) c.as_slice-places.result.now ws old.queries.items c.args.id.at c.args.steps.now.listing c.let_out.new.steps.listing) c.as_slice-watchers.ensures.value
@@ -93,3 +101,26 @@ returns-clause-shown g c =
     (readers_kept old.catalog old.queries.items old.order old.readers.items c.requires.whole c.args.id.at c.requires.there))
     (c.deleted_went.ensures old.catalog d c.args.id.at c.args.cells.now row c.laws-2.ensures c.requires.there was.stand c.delete_row.ensures.texts is) c.delete_row.ensures.texts
     (tells_show (λ x y. Went x y c.args.id.at c.args.cells.now) c.as_slice-watchers.result.now c.as_slice-places.result.now old.queries.items old.logs.items c.let_out.new.logs.items tells) c.requires.tended.shown)
+
+pub returns-clause-quiet : goal.returns-clause-quiet
+returns-clause-quiet g c i l there e =
+    let old = c.args.parts.now in
+    tends_quiet (λ x y. Went x y c.args.id.at c.args.cells.now) old.watchers.items c.as_slice-places.result.now
+    old.queries.items old.logs.items c.let_out.new.logs.items
+    (subst (λ (ws : List ℕ). Tends c.as_slice-places.result.now
+    (TellsAt ws (λ x y. Went x y c.args.id.at c.args.cells.now)) old.queries.items old.logs.items
+    c.let_out.new.logs.items) c.as_slice-watchers.ensures.value
+    c.let_out.ensures.tells) i l there
+    (ap (λ (ps : List ℕ). is_reader ps i && watched_at old.watchers.items i)
+    (places_read old.readers.items c.args.id.at c.index.result.now
+    c.as_slice-places.result.now (omega (arith, c.requires.there, c.requires.whole.long)) c.index.ensures
+    c.as_slice-places.ensures) ∙ e)
+
+pub returns-clause-updates : goal.returns-clause-updates
+returns-clause-updates g c =
+    let old = c.args.parts.now in
+    subst (λ (ps : List ℕ). Works ps old.queries.items c.args.id.at 1 c.args.steps.now.update
+    c.let_out.new.steps.update) (places_read old.readers.items c.args.id.at c.index.result.now
+    c.as_slice-places.result.now (omega (arith, c.requires.there, c.requires.whole.long)) c.index.ensures
+    c.as_slice-places.ensures)
+    c.let_out.ensures.updates

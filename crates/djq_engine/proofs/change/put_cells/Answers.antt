@@ -1,12 +1,14 @@
-use Rattle.std.proofs.Common.{◌∙◌, ◌++◌, ◌∷◌, [], ℕ, List, arith, subst, sym}
+use Rattle.std.proofs.Common.{◌∙◌, ◌++◌, ◌∷◌, [], ℕ, List, ap, arith, refl, subst, sym}
+use Rattle.std.specs.Prelude.{◌&&◌}
 use Rattle.djq_model.specs.Data.{Bytes}
 use Rattle.djq_rows.specs.Catalog.{rows_at}
 use Rattle.djq_live.specs.Changes.{Came}
 use Rattle.djq_live.specs.Live.{IsKept}
+use Rattle.djq_engine.specs.Places.{is_reader, watched_at}
 use Rattle.djq_engine.specs.Reaching.{AllAt}
-use Rattle.djq_engine.specs.Tending.{AreShown, Costs, Tends, TellsAt}
+use Rattle.djq_engine.specs.Tending.{AreShown, Costs, Shows, Tends, TellsAt, Works}
 use Rattle.djq_engine.proofs.Carrying.{readers_kept}
-use Rattle.djq_engine.proofs.Tending.{counts_rows, shown_tended, tells_rows}
+use Rattle.djq_engine.proofs.Tending.{counts_rows, shown_tended, tells_rows, tends_apart, tends_quiet}
 use Rattle.djq_engine.proofs.Storing.{
   added_is,
   came,
@@ -42,7 +44,8 @@ take_in-requires-clause-once g c =
     c.in-Ok._outcome (c.in-Ok.ensures.adds c.requires.new.0 c.requires.new.1.stand) c.requires.new.1.absent)
     c.args.parts.now.queries.items c.args.parts.now.order c.args.parts.now.readers.items c.requires.whole c.as_slice-places.result.now
     (places_read c.args.parts.now.readers.items c.args.id.at c.index.result.now
-    c.as_slice-places.result.now (omega (arith, c.requires.there, c.requires.whole.long)) c.index.ensures c.as_slice-places.ensures)
+    c.as_slice-places.result.now (omega (arith, c.requires.there, c.requires.whole.long)) c.index.ensures
+    c.as_slice-places.ensures)
 
 pub take_in-requires-clause-can : goal.take_in-requires-clause-can
 take_in-requires-clause-can g c =
@@ -52,7 +55,8 @@ take_in-requires-clause-can g c =
     c.in-Ok._outcome (c.in-Ok.ensures.adds c.requires.new.0 c.requires.new.1.stand) c.requires.new.1.absent)
     c.args.parts.now.queries.items c.args.parts.now.order c.args.parts.now.readers.items c.requires.whole c.as_slice-places.result.now
     (places_read c.args.parts.now.readers.items c.args.id.at c.index.result.now
-    c.as_slice-places.result.now (omega (arith, c.requires.there, c.requires.whole.long)) c.index.ensures c.as_slice-places.ensures)
+    c.as_slice-places.result.now (omega (arith, c.requires.there, c.requires.whole.long)) c.index.ensures
+    c.as_slice-places.ensures)
     c.added_came.ensures c.deleted_went.ensures
 
 pub returns-in-Ok-take_in-clause-ok : goal.returns-in-Ok-take_in-clause-ok
@@ -107,10 +111,13 @@ returns-in-Ok-take_in-clause-tells g c row new =
     tells_rows (λ x y. Came x y c.args.id.at c.args.cells.now) old.catalog d old.queries.items old.order old.readers.items c.requires.whole c.args.id.at c.requires.there
     old.watchers.items c.as_slice-places.result.now
     (places_read old.readers.items c.args.id.at c.index.result.now
-    c.as_slice-places.result.now (omega (arith, c.requires.there, c.requires.whole.long)) c.index.ensures c.as_slice-places.ensures)
+    c.as_slice-places.result.now (omega (arith, c.requires.there, c.requires.whole.long)) c.index.ensures
+    c.as_slice-places.ensures)
     row (came old.catalog d c.args.id.at c.requires.there c.args.cells.now row new c.laws.ensures c.laws-2.ensures c.add_row.ensures.texts is c.added_came.ensures)
     (rows_at old.catalog.relations c.args.id.at ++ row ∷ []) is old.logs.items c.take_in.new.logs.items
-    (subst (λ (ws : List ℕ). Tends c.as_slice-places.result.now (TellsAt ws (λ x y. Came x y c.args.id.at c.args.cells.now)) old.queries.items old.logs.items c.take_in.new.logs.items) c.as_slice-watchers.ensures.value
+    (subst (λ (ws : List ℕ). Tends c.as_slice-places.result.now
+    (TellsAt ws (λ x y. Came x y c.args.id.at c.args.cells.now)) old.queries.items old.logs.items
+    c.take_in.new.logs.items) c.as_slice-watchers.ensures.value
     c.in-Ok-take_in.ensures.tells)
 
 pub returns-in-Ok-take_in-clause-counted : goal.returns-in-Ok-take_in-clause-counted
@@ -122,7 +129,8 @@ returns-in-Ok-take_in-clause-counted g c row new =
     counts_rows (λ x y. Came x y c.args.id.at c.args.cells.now) old.catalog d old.queries.items old.order old.readers.items c.requires.whole c.args.id.at c.requires.there
     old.watchers.items c.as_slice-places.result.now
     (places_read old.readers.items c.args.id.at c.index.result.now
-    c.as_slice-places.result.now (omega (arith, c.requires.there, c.requires.whole.long)) c.index.ensures c.as_slice-places.ensures)
+    c.as_slice-places.result.now (omega (arith, c.requires.there, c.requires.whole.long)) c.index.ensures
+    c.as_slice-places.ensures)
     row (came old.catalog d c.args.id.at c.requires.there c.args.cells.now row new c.laws.ensures c.laws-2.ensures c.add_row.ensures.texts is c.added_came.ensures)
     (rows_at old.catalog.relations c.args.id.at ++ row ∷ []) is c.args.steps.now.listing c.take_in.new.steps.listing
     (subst (λ (ws : List ℕ). Costs (λ x y. Came x y c.args.id.at c.args.cells.now) c.as_slice-places.result.now ws old.queries.items c.args.id.at c.args.steps.now.listing c.take_in.new.steps.listing) c.as_slice-watchers.ensures.value
@@ -137,7 +145,8 @@ returns-in-Err-take_in-clause-counted g c row new =
     counts_rows (λ x y. Came x y c.args.id.at c.args.cells.now) old.catalog d old.queries.items old.order old.readers.items c.requires.whole c.args.id.at c.requires.there
     old.watchers.items c.as_slice-places.result.now
     (places_read old.readers.items c.args.id.at c.index.result.now
-    c.as_slice-places.result.now (omega (arith, c.requires.there, c.requires.whole.long)) c.index.ensures c.as_slice-places.ensures)
+    c.as_slice-places.result.now (omega (arith, c.requires.there, c.requires.whole.long)) c.index.ensures
+    c.as_slice-places.ensures)
     row (came old.catalog d c.args.id.at c.requires.there c.args.cells.now row new c.laws.ensures c.laws-2.ensures c.add_row.ensures.texts is c.added_came.ensures)
     (rows_at old.catalog.relations c.args.id.at ++ row ∷ []) is c.args.steps.now.listing c.take_in.new.steps.listing
     (subst (λ (ws : List ℕ). Costs (λ x y. Came x y c.args.id.at c.args.cells.now) c.as_slice-places.result.now ws old.queries.items c.args.id.at c.args.steps.now.listing c.take_in.new.steps.listing) c.as_slice-watchers.ensures.value
@@ -176,3 +185,50 @@ returns-in-Err-take_in-clause-shown g c =
     c.as_slice-places.result.now (omega (arith, c.requires.there, c.requires.whole.long)) c.index.ensures c.as_slice-places.ensures))
     (readers_kept old.catalog old.queries.items old.order old.readers.items c.requires.whole c.args.id.at c.requires.there))
     (came old.catalog d c.args.id.at c.requires.there c.args.cells.now row new c.laws.ensures c.laws-2.ensures c.add_row.ensures.texts is c.added_came.ensures) c.add_row.ensures.texts c.take_in.ensures.shows c.requires.tended.shown)
+
+pub returns-in-Err-clause-apart : goal.returns-in-Err-clause-apart
+returns-in-Err-clause-apart g c i l there e = refl
+
+pub returns-in-Ok-take_in-clause-quiet : goal.returns-in-Ok-take_in-clause-quiet
+returns-in-Ok-take_in-clause-quiet g c i l there e =
+    let old = c.args.parts.now in
+    tends_quiet (λ x y. Came x y c.args.id.at c.args.cells.now) old.watchers.items c.as_slice-places.result.now
+    old.queries.items old.logs.items c.take_in.new.logs.items
+    (subst (λ (ws : List ℕ). Tends c.as_slice-places.result.now
+    (TellsAt ws (λ x y. Came x y c.args.id.at c.args.cells.now)) old.queries.items old.logs.items
+    c.take_in.new.logs.items) c.as_slice-watchers.ensures.value
+    c.in-Ok-take_in.ensures.tells) i l there
+    (ap (λ (ps : List ℕ). is_reader ps i && watched_at old.watchers.items i)
+    (places_read old.readers.items c.args.id.at c.index.result.now
+    c.as_slice-places.result.now (omega (arith, c.requires.there, c.requires.whole.long)) c.index.ensures
+    c.as_slice-places.ensures) ∙ e)
+
+pub returns-in-Err-take_in-clause-apart : goal.returns-in-Err-take_in-clause-apart
+returns-in-Err-take_in-clause-apart g c i l there e =
+    let old = c.args.parts.now in
+    tends_apart (Shows (λ x y. Came x y c.args.id.at c.args.cells.now)) c.as_slice-places.result.now old.queries.items
+    old.logs.items c.take_in.new.logs.items c.take_in.ensures.shows i
+    (ap (λ (ps : List ℕ). is_reader ps i) (places_read old.readers.items c.args.id.at c.index.result.now
+    c.as_slice-places.result.now (omega (arith, c.requires.there, c.requires.whole.long)) c.index.ensures
+    c.as_slice-places.ensures) ∙ e)
+
+pub returns-in-Err-clause-refusal : goal.returns-in-Err-clause-refusal
+returns-in-Err-clause-refusal g c n few = omega arith
+
+pub returns-in-Ok-take_in-clause-updates : goal.returns-in-Ok-take_in-clause-updates
+returns-in-Ok-take_in-clause-updates g c =
+    let old = c.args.parts.now in
+    subst (λ (ps : List ℕ). Works ps old.queries.items c.args.id.at 1 c.args.steps.now.update
+    c.take_in.new.steps.update) (places_read old.readers.items c.args.id.at c.index.result.now
+    c.as_slice-places.result.now (omega (arith, c.requires.there, c.requires.whole.long)) c.index.ensures
+    c.as_slice-places.ensures)
+    c.in-Ok-take_in.ensures.updates
+
+pub returns-in-Err-take_in-clause-refusal : goal.returns-in-Err-take_in-clause-refusal
+returns-in-Err-take_in-clause-refusal g c =
+    let old = c.args.parts.now in
+    subst (λ (ps : List ℕ). Works ps old.queries.items c.args.id.at 3 c.args.steps.now.update
+    c.take_in.new.steps.update) (places_read old.readers.items c.args.id.at c.index.result.now
+    c.as_slice-places.result.now (omega (arith, c.requires.there, c.requires.whole.long)) c.index.ensures
+    c.as_slice-places.ensures)
+    c.in-Err-take_in.ensures.refusal

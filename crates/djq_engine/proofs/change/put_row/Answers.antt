@@ -30,7 +30,7 @@ intern_row-requires g c = omega (
 pub returns-in-Err-clause-err : goal.returns-in-Err-clause-err
 returns-in-Err-clause-err g c =
     lacks_of c.args.id.at c.args.row.now c.args.parts.now _ c.in-Err.refusal
-    c.in-Err.ensures.interns c.intern_row.ensures.relations refl
+    c.in-Err.ensures.interns c.intern_row.ensures.relations refl refl c.laws-in-Err.ensures.many
     (all_stay c.live_stays.ensures c.args.parts.now.catalog c.intern_row.new.self c.args.parts.now.queries.items c.args.parts.now.order c.args.parts.now.readers.items
     c.requires.whole
     (learned_rows c.texts_stay.ensures c.args.parts.now.catalog c.intern_row.new.self
@@ -66,7 +66,7 @@ returns-in-Ok-put_cells-clause-ok g c =
 pub returns-in-Err-put_cells-clause-err : goal.returns-in-Err-put_cells-clause-err
 returns-in-Err-put_cells-clause-err g c =
     waits_row c.args.id.at c.args.row.now c.args.parts.now c.put_cells.new.parts
-    c.intern_row.new.self c.intern_row.ensures.relations c.in-Ok.ensures.interns.0
+    c.intern_row.new.self c.intern_row.ensures.relations c.in-Ok.ensures.interns.0 c.laws-2.ensures.many
     (all_stay c.live_stays.ensures c.args.parts.now.catalog c.intern_row.new.self c.args.parts.now.queries.items c.args.parts.now.order c.args.parts.now.readers.items
     c.requires.whole
     (learned_rows c.texts_stay.ensures c.args.parts.now.catalog c.intern_row.new.self
@@ -116,3 +116,21 @@ returns-in-Err-put_cells-clause-counted g c =
     (c.put_cells.ensures.counted c.args.row.now (same_new old.catalog c.intern_row.new.self c.args.id.at c.as_slice.result.now c.args.row.now
     c.intern_row.ensures.relations c.requires.suits c.in-Ok.ensures.interns.1
     (c.as_slice.ensures ∙ c.in-Ok.ensures.interns.2) c.requires.absent c.requires.room))
+
+pub returns-in-Err-clause-apart : goal.returns-in-Err-clause-apart
+returns-in-Err-clause-apart g c i l there e = refl
+
+pub returns-in-Ok-put_cells-clause-quiet : goal.returns-in-Ok-put_cells-clause-quiet
+returns-in-Ok-put_cells-clause-quiet g c = c.in-Ok-put_cells.ensures.quiet
+
+pub returns-in-Err-put_cells-clause-apart : goal.returns-in-Err-put_cells-clause-apart
+returns-in-Err-put_cells-clause-apart g c = c.in-Err-put_cells.ensures.apart
+
+pub returns-in-Err-clause-refusal : goal.returns-in-Err-clause-refusal
+returns-in-Err-clause-refusal g c n few = omega arith
+
+pub returns-in-Ok-put_cells-clause-updates : goal.returns-in-Ok-put_cells-clause-updates
+returns-in-Ok-put_cells-clause-updates g c = c.in-Ok-put_cells.ensures.updates
+
+pub returns-in-Err-put_cells-clause-refusal : goal.returns-in-Err-put_cells-clause-refusal
+returns-in-Err-put_cells-clause-refusal g c = c.in-Err-put_cells.ensures.refusal

@@ -1,4 +1,4 @@
-use Rattle.std.proofs.Common.{◌∙◌, ap, sym, subst, arith, List, ℕ, ◌<◌, length}
+use Rattle.std.proofs.Common.{◌∙◌, ap, sym, subst, arith, ◌<◌, length}
 use Rattle.djq_engine.specs.Places.{left}
 use Rattle.djq_engine.specs.Sound.{AreOnce}
 use Rattle.djq_engine.proofs.Lists.{list_read, left_more, left_whole}

@@ -5,6 +5,7 @@ use Rattle.djq_live.specs.Updating.{CanDelete}
 use Rattle.djq_engine.specs.Reaching.{LetsOut}
 use Rattle.djq_engine.proofs.Reaching.{below_some, place_read, reach_read}
 use Rattle.djq_engine.proofs.Tending.{costs_one, tends_read}
+use Rattle.djq_engine.proofs.Working.{works_one}
 use Rattle.djq_engine.proofs.reach.let_at.Goals as goal
 
 pub returns-clause-reach : goal.returns-clause-reach
@@ -24,5 +25,16 @@ pub returns-clause-counted : goal.returns-clause-counted
 returns-clause-counted g c =
     costs_one (λ x d. Went x d c.args.relation.at c.args.cells.now) c.args.watchers.now c.args.relation.at c.args.queries.now.items c.args.at c.in-Some.query c.is_watched-wanted.result
     c.args.steps.now.listing c.let_one.new.steps.listing
-    (place_read c.args.queries.now.items c.args.at c.index_mut.result.now c.in-Some.query (below_some c.args.queries.now.items c.args.at (λ l. CanDelete l c.args.relation.at c.args.cells.now) c.requires.can) c.index_mut.ensures.value c.in-Some.is)
+    (place_read c.args.queries.now.items c.args.at c.index_mut.result.now c.in-Some.query
+    (below_some c.args.queries.now.items c.args.at (λ l. CanDelete l c.args.relation.at c.args.cells.now)
+    c.requires.can) c.index_mut.ensures.value c.in-Some.is)
     c.is_watched-wanted.ensures c.let_one.ensures.counted
+
+pub returns-clause-updates : goal.returns-clause-updates
+returns-clause-updates g c =
+    works_one c.args.queries.now.items c.args.relation.at 1 c.args.at c.in-Some.query c.args.steps.now.update
+    c.let_one.new.steps.update
+    (place_read c.args.queries.now.items c.args.at c.index_mut.result.now c.in-Some.query
+    (below_some c.args.queries.now.items c.args.at (λ l. CanDelete l c.args.relation.at c.args.cells.now)
+    c.requires.can) c.index_mut.ensures.value c.in-Some.is)
+    c.let_one.ensures.updates

@@ -5,12 +5,14 @@ use Rattle.djq_engine.specs.Reaching.{LetsOut}
 use Rattle.djq_engine.specs.Tending.{TellsAt}
 use Rattle.djq_engine.proofs.Reaching.{all_go, reach_next, reach_none, still}
 use Rattle.djq_engine.proofs.Tending.{costs_front, costs_none, costs_next, place_within, tends_next, tends_none}
+use Rattle.djq_engine.proofs.Working.{works_front, works_next, works_none}
 use Rattle.djq_engine.proofs.reach.let_out.Goals as goal
 
 pub loop-at-init : goal.loop-at-init
 loop-at-init g c = record {
   reach = reach_none (LetsOut c.args.relation.at c.args.cells.now) c.args.queries.now.items;
   tends = tends_none (TellsAt c.args.watchers.now (λ x d. Went x d c.args.relation.at c.args.cells.now)) c.args.queries.now.items c.args.logs.now.items;
+  works = works_none c.args.queries.now.items c.args.relation.at 1 c.args.steps.now.update;
   counted = costs_none (λ x d. Went x d c.args.relation.at c.args.cells.now) c.args.watchers.now c.args.relation.at c.args.queries.now.items c.args.steps.now.listing;
 }
 
@@ -43,10 +45,19 @@ loop-at-preserved g c = record {
   tends = tends_next (LetsOut c.args.relation.at c.args.cells.now) (TellsAt c.args.watchers.now (λ x d. Went x d c.args.relation.at c.args.cells.now)) c.args.places.now c.loop-at.at 0
       c.args.queries.now.items c.loop-at.queries.items c.args.logs.now.items c.loop-at.logs.items c.let_at.new.logs.items
       c.requires.once c.loop-at-test.true c.loop-at.invariant.reach c.loop-at.invariant.tends c.let_at.ensures.tells;
+  works = works_next (LetsOut c.args.relation.at c.args.cells.now) c.args.places.now c.loop-at.at 0
+      c.args.queries.now.items c.loop-at.queries.items c.args.relation.at 1 c.args.steps.now.update
+      c.loop-at.steps.update c.let_at.new.steps.update
+      c.requires.once c.loop-at-test.true c.loop-at.invariant.reach c.loop-at.invariant.works c.let_at.ensures.updates;
   counted = costs_next (λ x d. Went x d c.args.relation.at c.args.cells.now) c.args.watchers.now c.args.relation.at (LetsOut c.args.relation.at c.args.cells.now) c.args.places.now c.loop-at.at 0
       c.args.queries.now.items c.loop-at.queries.items c.args.steps.now.listing c.loop-at.steps.listing c.let_at.new.steps.listing
       c.requires.once c.loop-at-test.true c.loop-at.invariant.reach c.loop-at.invariant.counted c.let_at.ensures.counted;
 }
+
+pub returns-clause-updates : goal.returns-clause-updates
+returns-clause-updates g c =
+    works_front c.args.places.now c.loop-at.at c.args.queries.now.items c.args.relation.at 1 c.args.steps.now.update
+    c.loop-at.steps.update c.loop-at.invariant.works
 
 pub returns-clause-counted : goal.returns-clause-counted
 returns-clause-counted g c =

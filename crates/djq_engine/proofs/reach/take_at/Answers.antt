@@ -1,10 +1,11 @@
-use Rattle.std.proofs.Common.{List, sym, subst, Bool}
+use Rattle.std.proofs.Common.{subst, Bool}
 use Rattle.djq_live.specs.Changes.{Came}
 use Rattle.djq_live.specs.Updating.{CanAdd}
 use Rattle.djq_engine.specs.Reaching.{Remains, TakesIn}
 use Rattle.djq_engine.specs.Tending.{Shows, TellsAt, TellsWhere}
 use Rattle.djq_engine.proofs.Reaching.{below_some, place_read, reach_read}
 use Rattle.djq_engine.proofs.Tending.{costs_one, on_err, on_ok, shows_either, tends_read}
+use Rattle.djq_engine.proofs.Working.{works_one}
 use Rattle.djq_engine.proofs.reach.take_at.Goals as goal
 
 pub returns-clause-ok : goal.returns-clause-ok
@@ -38,3 +39,23 @@ returns-clause-counted g c =
     c.args.steps.now.listing c.take_one.new.steps.listing
     (place_read c.args.queries.now.items c.args.at c.index_mut.result.now c.in-Some.query (below_some c.args.queries.now.items c.args.at (λ l. CanAdd l c.args.relation.at c.args.cells.now) c.requires.can) c.index_mut.ensures.value c.in-Some.is)
     c.is_watched-wanted.ensures c.take_one.ensures.counted
+
+pub returns-clause-updates : goal.returns-clause-updates
+returns-clause-updates g c =
+    on_ok c.take_one.result
+    (λ h. works_one c.args.queries.now.items c.args.relation.at 1 c.args.at c.in-Some.query c.args.steps.now.update
+    c.take_one.new.steps.update
+    (place_read c.args.queries.now.items c.args.at c.index_mut.result.now c.in-Some.query
+    (below_some c.args.queries.now.items c.args.at (λ l. CanAdd l c.args.relation.at c.args.cells.now) c.requires.can)
+    c.index_mut.ensures.value c.in-Some.is) h)
+    c.take_one.ensures.updates
+
+pub returns-clause-refusal : goal.returns-clause-refusal
+returns-clause-refusal g c =
+    on_err c.take_one.result
+    (λ h. works_one c.args.queries.now.items c.args.relation.at 3 c.args.at c.in-Some.query c.args.steps.now.update
+    c.take_one.new.steps.update
+    (place_read c.args.queries.now.items c.args.at c.index_mut.result.now c.in-Some.query
+    (below_some c.args.queries.now.items c.args.at (λ l. CanAdd l c.args.relation.at c.args.cells.now) c.requires.can)
+    c.index_mut.ensures.value c.in-Some.is) h)
+    c.take_one.ensures.refusal

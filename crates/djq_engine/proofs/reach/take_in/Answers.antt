@@ -1,7 +1,7 @@
-use Rattle.std.proofs.Common.{◌∙◌, ◌+◌, arith, take, sym, subst}
+use Rattle.std.proofs.Common.{◌+◌, arith, take}
 use Rattle.djq_live.specs.Changes.{Came}
 use Rattle.djq_live.specs.Updating.{CanAdd}
-use Rattle.djq_engine.specs.Reaching.{Remains, TakesIn}
+use Rattle.djq_engine.specs.Reaching.{TakesIn}
 use Rattle.djq_engine.specs.Tending.{Shows, TellsAt}
 use Rattle.djq_engine.proofs.Reaching.{
   all_come,
@@ -22,12 +22,14 @@ use Rattle.djq_engine.proofs.Tending.{
   tends_next,
   tends_none,
 }
+use Rattle.djq_engine.proofs.Working.{works_back, works_front, works_next, works_none}
 use Rattle.djq_engine.proofs.reach.take_in.Goals as goal
 
 pub loop-at-init : goal.loop-at-init
 loop-at-init g c = record {
   reach = reach_none (TakesIn c.args.relation.at c.args.cells.now) c.args.queries.now.items;
   tends = tends_none (TellsAt c.args.watchers.now (λ x d. Came x d c.args.relation.at c.args.cells.now)) c.args.queries.now.items c.args.logs.now.items;
+  works = works_none c.args.queries.now.items c.args.relation.at 1 c.args.steps.now.update;
   counted = costs_none (λ x d. Came x d c.args.relation.at c.args.cells.now) c.args.watchers.now c.args.relation.at c.args.queries.now.items c.args.steps.now.listing;
 }
 
@@ -85,6 +87,19 @@ returns-in-Err-clause-counted g c =
     c.requires.once c.loop-at-test.true c.loop-at.invariant.reach c.loop-at.invariant.counted
     (λ x d row f ch kept deltas. let h = c.take_at.ensures.counted x d row f ch kept deltas in omega (arith, h, c.give_back.ensures.counted)))
 
+pub returns-in-Err-clause-refusal : goal.returns-in-Err-clause-refusal
+returns-in-Err-clause-refusal g c =
+    works_back c.args.relation.at c.args.cells.now c.args.places.now c.loop-at.at 0 c.args.queries.now.items
+    c.loop-at.queries.items c.take_at.new.queries.items
+    c.args.steps.now.update c.loop-at.steps.update c.take_at.new.steps.update c.give_back.new.steps.update
+    c.requires.once c.loop-at-test.true c.loop-at.invariant.reach c.in-Err.ensures.err c.loop-at.invariant.works
+    c.in-Err.ensures.refusal c.give_back.ensures.updates
+
+pub returns-clause-updates : goal.returns-clause-updates
+returns-clause-updates g c =
+    works_front c.args.places.now c.loop-at.at c.args.queries.now.items c.args.relation.at 1 c.args.steps.now.update
+    c.loop-at.steps.update c.loop-at.invariant.works
+
 pub returns-clause-shows : goal.returns-clause-shows
 returns-clause-shows g c =
     shows_front (λ x d. Came x d c.args.relation.at c.args.cells.now) c.args.places.now c.loop-at.at c.args.queries.now.items c.args.logs.now.items c.loop-at.logs.items
@@ -102,6 +117,10 @@ loop-at-preserved g c = record {
   tends = tends_next (TakesIn c.args.relation.at c.args.cells.now) (TellsAt c.args.watchers.now (λ x d. Came x d c.args.relation.at c.args.cells.now)) c.args.places.now c.loop-at.at 0
       c.args.queries.now.items c.loop-at.queries.items c.args.logs.now.items c.loop-at.logs.items c.take_at.new.logs.items
       c.requires.once c.loop-at-test.true c.loop-at.invariant.reach c.loop-at.invariant.tends c.in-Ok.ensures.tells;
+  works = works_next (TakesIn c.args.relation.at c.args.cells.now) c.args.places.now c.loop-at.at 0
+      c.args.queries.now.items c.loop-at.queries.items c.args.relation.at 1 c.args.steps.now.update
+      c.loop-at.steps.update c.take_at.new.steps.update
+      c.requires.once c.loop-at-test.true c.loop-at.invariant.reach c.loop-at.invariant.works c.in-Ok.ensures.updates;
   counted = costs_next (λ x d. Came x d c.args.relation.at c.args.cells.now) c.args.watchers.now c.args.relation.at (TakesIn c.args.relation.at c.args.cells.now) c.args.places.now c.loop-at.at 0
       c.args.queries.now.items c.loop-at.queries.items c.args.steps.now.listing c.loop-at.steps.listing c.take_at.new.steps.listing
       c.requires.once c.loop-at-test.true c.loop-at.invariant.reach c.loop-at.invariant.counted c.take_at.ensures.counted;

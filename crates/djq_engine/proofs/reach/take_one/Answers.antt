@@ -1,13 +1,21 @@
 use Rattle.djq_live.specs.Changes.{Came}
-use Rattle.djq_engine.proofs.Tending.{tells_where}
+use Rattle.djq_engine.proofs.Tending.{on_both, on_err, on_ok, tells_where}
 use Rattle.djq_engine.proofs.reach.take_one.Goals as goal
 
-pub returns-in-Ok-clause-taken : goal.returns-in-Ok-clause-taken
-returns-in-Ok-clause-taken g c = record { follows = c.in-Ok.ensures.added; same = c.add.ensures.same }
+pub returns-clause-taken : goal.returns-clause-taken
+returns-clause-taken g c = on_both c.add.result (λ h k. record { follows = h; same = c.add.ensures.same; grows = k })
+    c.add.ensures.added c.add.ensures.grows
 
-pub returns-in-Ok-clause-tells : goal.returns-in-Ok-clause-tells
-returns-in-Ok-clause-tells g c =
-    tells_where (λ x d. Came x d c.args.relation.at c.args.cells.now) c.args.wanted c.args.query.now c.args.log.now c.ready.new.log c.add.new.log c.ready.ensures c.in-Ok.ensures.log
+pub returns-clause-refused : goal.returns-clause-refused
+returns-clause-refused g c = on_err c.add.result (λ h. record { kept = h; same = c.add.ensures.same })
+    c.add.ensures.refused
 
-pub returns-in-Err-clause-refused : goal.returns-in-Err-clause-refused
-returns-in-Err-clause-refused g c = record { kept = c.in-Err.ensures.refused; same = c.add.ensures.same }
+pub returns-clause-tells : goal.returns-clause-tells
+returns-clause-tells g c =
+    on_ok c.add.result
+    (λ h. tells_where (λ x d. Came x d c.args.relation.at c.args.cells.now) c.args.wanted c.args.query.now
+    c.args.log.now c.ready.new.log c.add.new.log c.ready.ensures h)
+    c.add.ensures.log
+
+pub returns-clause-none : goal.returns-clause-none
+returns-clause-none g c = on_err c.add.result (λ h. h.lines) c.add.ensures.emptied

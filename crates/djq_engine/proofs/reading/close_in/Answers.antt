@@ -1,5 +1,5 @@
 use Rattle.std.proofs.Common.{◌∙◌, sym}
-use Rattle.djq_engine.specs.Whole.{kept_in, watches_in}
+use Rattle.djq_engine.specs.Whole.{watches_in}
 use Rattle.djq_engine.proofs.Cursors.{closes, readable, held_cursor}
 use Rattle.djq_engine.proofs.Keeping.{closed_kept}
 use Rattle.djq_engine.proofs.reading.close_in.Goals as goal

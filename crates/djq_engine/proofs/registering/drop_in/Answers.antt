@@ -1,8 +1,8 @@
-use Rattle.std.proofs.Common.{◌≡◌, ◌∙◌, ◌<◌, List, ap, refl, set, subst, sym, arith, false, length, length-set, ℕ}
+use Rattle.std.proofs.Common.{◌≡◌, ◌∙◌, List, ap, refl, set, subst, sym, arith, length, length-set, ℕ}
 use Rattle.std.specs.Prelude.{Option, None, IsSomeAnd, position, ⊤}
 use Rattle.djq_live.specs.Cursors.{are_vacant}
 use Rattle.djq_live.specs.Live.{Live}
-use Rattle.djq_engine.specs.Places.{is_query, place_at, watched_at, Watches}
+use Rattle.djq_engine.specs.Places.{is_query, place_at, watched_at}
 use Rattle.djq_engine.proofs.Enrolling.{lists_once}
 use Rattle.djq_engine.proofs.Naming.{first_query}
 use Rattle.djq_engine.proofs.Reaching.{place_below}

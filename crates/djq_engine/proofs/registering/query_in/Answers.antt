@@ -1,4 +1,4 @@
-use Rattle.std.proofs.Common.{◌∙◌, ap, refl, sym, subst, ℕ, ◌+◌, ◌*◌, ◌∷◌, ◌++◌, [], List}
+use Rattle.std.proofs.Common.{◌≤◌, length, ◌∙◌, ap, refl, sym, subst, ℕ, ◌+◌, ◌*◌, ◌∷◌, ◌++◌, [], List}
 use Rattle.djq_model.specs.declared.relation.Relation.{Relation}
 use Rattle.djq_model.specs.Known.{texts_in}
 use Rattle.djq_lines.specs.QueryFault.{query_fault}
@@ -7,11 +7,12 @@ use Rattle.djq_engine.proofs.Aging.{rested_held}
 use Rattle.djq_engine.proofs.Carrying.{sound_texts}
 use Rattle.djq_model.specs.declared.query.Query.{Query}
 use Rattle.djq_model.specs.Data.{query_of}
+use Rattle.djq_lines.specs.declared.limits.TheConstants.{TEXTS}
 use Rattle.djq_machine.specs.Store.{LearnsAll, LearnsFirst}
 use Rattle.djq_rows.specs.Catalog.{Catalog}
 use Rattle.djq_engine.specs.declared.parts.Parts.{Parts}
 use Rattle.djq_engine.specs.Kept.{Registered}
-use Rattle.djq_engine.specs.Places.{id_at, place_at, query_in, queries_in, registered_in}
+use Rattle.djq_engine.specs.Places.{id_at, query_in, queries_in, registered_in}
 use Rattle.djq_engine.specs.Tending.{AreShown}
 use Rattle.djq_engine.specs.Whole.{IsWhole}
 use Rattle.std.specs.Prelude.{is_some}
@@ -59,7 +60,9 @@ pub returns-in-Err-clause-registers : goal.returns-in-Err-clause-registers
 returns-in-Err-clause-registers g c =
     query_lacks c.args.parts.now.catalog c.intern_constants-known.new.catalog c.args.parts.now.queries.items c.args.parts.now.queries.items c.args.parts.now.order c.args.parts.now.order c.args.parts.now.seq c.args.parts.now.seq c.args.query (sym c.in_default.ensures)
     c.intern_constants-known.ensures.relations refl c.in-Ok.ensures.planned.connex
-    (all_first c.args.parts.now.catalog.texts (texts_in (constants_of c.args.query.atoms)) c.intern_constants-known.new.catalog.texts c.in-Ok-known.ensures.interns.0) refl
+    (all_first c.args.parts.now.catalog.texts (texts_in (constants_of c.args.query.atoms))
+    c.intern_constants-known.new.catalog.texts c.in-Ok-known.ensures.interns.0)
+    c.laws.ensures.many refl
 
 pub register-requires-clause-whole : goal.register-requires-clause-whole
 register-requires-clause-whole g c =
@@ -134,6 +137,7 @@ returns-in-Err-register-clause-registers g c =
     c.in-Ok.ensures.planned.connex
     (subst (λ (x : Catalog). LearnsFirst old.catalog.texts (texts_in (constants_of c.args.query.atoms)) x.texts) (sym r.catalog)
     (all_first old.catalog.texts (texts_in (constants_of c.args.query.atoms)) c.intern_constants-known.new.catalog.texts c.in-Ok-known.ensures.interns.0))
+    (subst (λ (x : Catalog). length x.texts ≤ TEXTS) (sym r.catalog) c.laws.ensures.many)
     (same_queries mid new whole r)
 
 pub returns-in-Err-register-clause-cursors : goal.returns-in-Err-register-clause-cursors

@@ -1,9 +1,6 @@
-use Rattle.std.proofs.Common.{◌≡◌, ◌≢◌, ◌∙◌, ◌<◌, refl, sym, ap, ap₂, arith, ℕ, ◌∷◌, ◌++◌, ◌-◌, List, [], length, length-set, set, inl, inr}
-use Rattle.std.specs.Prelude.{None, remove}
-use Rattle.std.proofs.lemmas.List.{get_or-set_same, get_or-set_other}
-use Rattle.djq_engine.specs.Places.{place_at, is_reader, readers_at, watchers_at, log_at, no_log}
+use Rattle.std.proofs.Common.{◌∙◌, refl, sym, ap, ap₂, ℕ, List, length}
+use Rattle.std.specs.Prelude.{remove}
 use Rattle.djq_engine.proofs.Enrolling.{lists_once, lists_without, joined_once, joined_left}
-use Rattle.djq_engine.proofs.Lists.{logs_cleared}
 use Rattle.djq_engine.proofs.Unseating.{remove_last, last_place}
 use Rattle.djq_engine.proofs.registering.register.Goals as goal
 

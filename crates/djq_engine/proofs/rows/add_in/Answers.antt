@@ -1,6 +1,6 @@
-use Rattle.std.proofs.Common.{◌+◌, ◌++◌, ◌∷◌, [], ◌∙◌, ap, arith, false, subst, sym, Bool, rules, ◌≡◌}
+use Rattle.std.proofs.Common.{ℕ, List, ◌+◌, ◌++◌, ◌∷◌, [], ◌∙◌, ap, arith, refl, subst, sym, rules, ◌≡◌}
 use Rattle.djq_model.specs.Data.{rows_of}
-use Rattle.std.specs.Prelude.{Err, IfErr, Option, Some}
+use Rattle.std.specs.Prelude.{IfErr, Option, Some}
 use Rattle.djq_lines.specs.declared.answer.Refusal.{Refusal}
 use Rattle.djq_machine.specs.Store.{add_refusal}
 use Rattle.djq_dict.specs.declared.refusal.InternRefusal.{InternRefusal}
@@ -8,7 +8,6 @@ use Rattle.djq_rows.specs.declared.relation_id.RelationId.{RelationId}
 use Rattle.djq_rows.specs.Catalog.{rows_at}
 use Rattle.djq_engine.specs.Judging.{JudgesAdd, bare}
 use Rattle.djq_engine.specs.Changing.{Idles, Lacks}
-use Rattle.djq_engine.specs.Watching.{TellsChange}
 use Rattle.djq_engine.specs.Whole.{kept_in}
 use Rattle.djq_engine.proofs.Adding.{
   add_done,
@@ -27,12 +26,24 @@ use Rattle.djq_engine.proofs.Reporting.{
   adds_done,
   adds_refused,
   alike_now,
+  discards_by,
+  have_logs,
+  readers_within,
+  told_full,
+  told_lacking,
+  told_put,
   registered_now,
   registered_still,
   tells_nothing,
   tended_now,
   tended_still,
 }
+use Rattle.djq_cursor.specs.Log.{Log}
+use Rattle.djq_engine.specs.Places.{readers_at}
+use Rattle.djq_engine.specs.Tending.{Empties, HaveLogs}
+use Rattle.djq_engine.proofs.Storing.{places_read}
+use Rattle.djq_engine.proofs.Tending.{empties_same, shown_same}
+use Rattle.djq_engine.proofs.Working.{counts_updates}
 use Rattle.djq_engine.proofs.rows.add_in.Goals as goal
 
 pub returns-in-Err-Full-clause-whole : goal.returns-in-Err-Full-clause-whole
@@ -48,25 +59,33 @@ returns-in-Err-Full-clause-adds g c =
 
 pub age_readers-requires-clause-once : goal.age_readers-requires-clause-once
 age_readers-requires-clause-once g c =
-    mid_once c.args.parts.now c.put_row.new.parts c.requires.whole c.in-Some.id.at (subst (λ (j : Option RelationId). JudgesAdd c.args.parts.now.catalog.relations c.args.name.now c.args.row.now c.args.parts.now.seq j) c.in-Some.is c.in_ok-judged.ensures.ok).relation.below
+    mid_once c.args.parts.now (record c.put_row.new.parts { logs = c.empty_logs.new.logs }) c.requires.whole
+    c.in-Some.id.at (subst (λ (j : Option RelationId). JudgesAdd c.args.parts.now.catalog.relations
+    c.args.name.now c.args.row.now c.args.parts.now.seq j) c.in-Some.is c.in_ok-judged.ensures.ok).relation.below
     (subst (λ (r : InternRefusal). Lacks c.in-Some.id.at c.args.row.now c.args.parts.now c.put_row.new.parts r) c.in-Err-NoMem.field-0-is c.in-Err-NoMem.ensures.err).carries c.put_row.ensures.rest.readers c.put_row.ensures.rest.order
     (names_kept c.args.parts.now.catalog c.put_row.new.parts.catalog (subst (λ (r : InternRefusal). Lacks c.in-Some.id.at c.args.row.now c.args.parts.now c.put_row.new.parts r) c.in-Err-NoMem.field-0-is c.in-Err-NoMem.ensures.err).relations)
 
 pub age_readers-requires-clause-there : goal.age_readers-requires-clause-there
 age_readers-requires-clause-there g c =
-    mid_there c.args.parts.now c.put_row.new.parts c.requires.whole c.in-Some.id.at (subst (λ (j : Option RelationId). JudgesAdd c.args.parts.now.catalog.relations c.args.name.now c.args.row.now c.args.parts.now.seq j) c.in-Some.is c.in_ok-judged.ensures.ok).relation.below
+    mid_there c.args.parts.now (record c.put_row.new.parts { logs = c.empty_logs.new.logs }) c.requires.whole
+    c.in-Some.id.at (subst (λ (j : Option RelationId). JudgesAdd c.args.parts.now.catalog.relations
+    c.args.name.now c.args.row.now c.args.parts.now.seq j) c.in-Some.is c.in_ok-judged.ensures.ok).relation.below
     (subst (λ (r : InternRefusal). Lacks c.in-Some.id.at c.args.row.now c.args.parts.now c.put_row.new.parts r) c.in-Err-NoMem.field-0-is c.in-Err-NoMem.ensures.err).carries c.put_row.ensures.rest.readers c.put_row.ensures.rest.order
     (names_kept c.args.parts.now.catalog c.put_row.new.parts.catalog (subst (λ (r : InternRefusal). Lacks c.in-Some.id.at c.args.row.now c.args.parts.now c.put_row.new.parts r) c.in-Err-NoMem.field-0-is c.in-Err-NoMem.ensures.err).relations)
 
 pub returns-in-Err-NoMem-clause-whole : goal.returns-in-Err-NoMem-clause-whole
 returns-in-Err-NoMem-clause-whole g c =
-    (aged c.args.parts.now c.put_row.new.parts c.requires.whole c.in-Some.id.at (subst (λ (j : Option RelationId). JudgesAdd c.args.parts.now.catalog.relations c.args.name.now c.args.row.now c.args.parts.now.seq j) c.in-Some.is c.in_ok-judged.ensures.ok).relation.below
+    (aged c.args.parts.now (record c.put_row.new.parts { logs = c.empty_logs.new.logs }) c.requires.whole
+    c.in-Some.id.at (subst (λ (j : Option RelationId). JudgesAdd c.args.parts.now.catalog.relations c.args.name.now
+    c.args.row.now c.args.parts.now.seq j) c.in-Some.is c.in_ok-judged.ensures.ok).relation.below
     (subst (λ (r : InternRefusal). Lacks c.in-Some.id.at c.args.row.now c.args.parts.now c.put_row.new.parts r) c.in-Err-NoMem.field-0-is c.in-Err-NoMem.ensures.err).carries c.put_row.ensures.rest.readers c.put_row.ensures.rest.order
     (names_kept c.args.parts.now.catalog c.put_row.new.parts.catalog (subst (λ (r : InternRefusal). Lacks c.in-Some.id.at c.args.row.now c.args.parts.now c.put_row.new.parts r) c.in-Err-NoMem.field-0-is c.in-Err-NoMem.ensures.err).relations) c.age_readers.new.parts c.args.name.now (subst (λ (j : Option RelationId). JudgesAdd c.args.parts.now.catalog.relations c.args.name.now c.args.row.now c.args.parts.now.seq j) c.in-Some.is c.in_ok-judged.ensures.ok).relation.named c.age_readers.ensures).whole
 
 pub returns-in-Err-NoMem-clause-outdates : goal.returns-in-Err-NoMem-clause-outdates
 returns-in-Err-NoMem-clause-outdates g c =
-    (aged c.args.parts.now c.put_row.new.parts c.requires.whole c.in-Some.id.at (subst (λ (j : Option RelationId). JudgesAdd c.args.parts.now.catalog.relations c.args.name.now c.args.row.now c.args.parts.now.seq j) c.in-Some.is c.in_ok-judged.ensures.ok).relation.below
+    (aged c.args.parts.now (record c.put_row.new.parts { logs = c.empty_logs.new.logs }) c.requires.whole
+    c.in-Some.id.at (subst (λ (j : Option RelationId). JudgesAdd c.args.parts.now.catalog.relations c.args.name.now
+    c.args.row.now c.args.parts.now.seq j) c.in-Some.is c.in_ok-judged.ensures.ok).relation.below
     (subst (λ (r : InternRefusal). Lacks c.in-Some.id.at c.args.row.now c.args.parts.now c.put_row.new.parts r) c.in-Err-NoMem.field-0-is c.in-Err-NoMem.ensures.err).carries c.put_row.ensures.rest.readers c.put_row.ensures.rest.order
     (names_kept c.args.parts.now.catalog c.put_row.new.parts.catalog (subst (λ (r : InternRefusal). Lacks c.in-Some.id.at c.args.row.now c.args.parts.now c.put_row.new.parts r) c.in-Err-NoMem.field-0-is c.in-Err-NoMem.ensures.err).relations) c.age_readers.new.parts c.args.name.now (subst (λ (j : Option RelationId). JudgesAdd c.args.parts.now.catalog.relations c.args.name.now c.args.row.now c.args.parts.now.seq j) c.in-Some.is c.in_ok-judged.ensures.ok).relation.named c.age_readers.ensures).cursors
 
@@ -106,7 +125,9 @@ pub returns-in-Err-NoMem-clause-adds : goal.returns-in-Err-NoMem-clause-adds
 returns-in-Err-NoMem-clause-adds g c =
     add_lacking c.args.parts.now c.args.name.now c.args.row.now c.in-Some.id.at (subst (λ (j : Option RelationId). JudgesAdd c.args.parts.now.catalog.relations c.args.name.now c.args.row.now c.args.parts.now.seq j) c.in-Some.is c.in_ok-judged.ensures.ok) c.put_row.new.parts c.age_readers.new.parts
     (subst (λ (r : InternRefusal). Lacks c.in-Some.id.at c.args.row.now c.args.parts.now c.put_row.new.parts r) c.in-Err-NoMem.field-0-is c.in-Err-NoMem.ensures.err) c.age_readers.ensures.catalog (c.age_readers.ensures.rest.seq ∙ c.put_row.ensures.rest.seq)
-    (aged c.args.parts.now c.put_row.new.parts c.requires.whole c.in-Some.id.at (subst (λ (j : Option RelationId). JudgesAdd c.args.parts.now.catalog.relations c.args.name.now c.args.row.now c.args.parts.now.seq j) c.in-Some.is c.in_ok-judged.ensures.ok).relation.below
+    (aged c.args.parts.now (record c.put_row.new.parts { logs = c.empty_logs.new.logs }) c.requires.whole
+    c.in-Some.id.at (subst (λ (j : Option RelationId). JudgesAdd c.args.parts.now.catalog.relations c.args.name.now
+    c.args.row.now c.args.parts.now.seq j) c.in-Some.is c.in_ok-judged.ensures.ok).relation.below
     (subst (λ (r : InternRefusal). Lacks c.in-Some.id.at c.args.row.now c.args.parts.now c.put_row.new.parts r) c.in-Err-NoMem.field-0-is c.in-Err-NoMem.ensures.err).carries c.put_row.ensures.rest.readers c.put_row.ensures.rest.order
     (names_kept c.args.parts.now.catalog c.put_row.new.parts.catalog (subst (λ (r : InternRefusal). Lacks c.in-Some.id.at c.args.row.now c.args.parts.now c.put_row.new.parts r) c.in-Err-NoMem.field-0-is c.in-Err-NoMem.ensures.err).relations) c.age_readers.new.parts c.args.name.now (subst (λ (j : Option RelationId). JudgesAdd c.args.parts.now.catalog.relations c.args.name.now c.args.row.now c.args.parts.now.seq j) c.in-Some.is c.in_ok-judged.ensures.ok).relation.named c.age_readers.ensures).queries
 
@@ -119,7 +140,9 @@ returns-in_err-judged-clause-tells g c =
 pub returns-in_default-clause-tells : goal.returns-in_default-clause-tells
 returns-in_default-clause-tells g c =
     let old = c.args.parts.now in
-    tells_nothing (kept_in old) (kept_in old) c.args.name.now (rows_of old.catalog.relations c.args.name.now ++ c.args.row.now ∷ []) c.args.steps.now.listing c.args.steps.now.listing (omega arith)
+    tells_nothing (kept_in old) (kept_in old) c.args.name.now
+    (rows_of old.catalog.relations c.args.name.now ++ c.args.row.now ∷ []) c.args.steps.now.listing
+    c.args.steps.now.listing (omega arith) (λ id h. refl)
 
 pub returns-in-Err-Full-clause-tended : goal.returns-in-Err-Full-clause-tended
 returns-in-Err-Full-clause-tended g c =
@@ -134,21 +157,58 @@ returns-in-Err-Full-clause-tells g c =
     let old = c.args.parts.now in
     tells_nothing (kept_in old) (kept_in c.put_row.new.parts) c.args.name.now (rows_of old.catalog.relations c.args.name.now ++ c.args.row.now ∷ []) c.args.steps.now.listing c.put_row.new.steps.listing
     (subst (λ (r : InternRefusal). Idles c.args.steps.now.listing c.put_row.new.steps.listing r) c.in-Err-Full.field-0-is c.in-Err-Full.ensures.idle)
+    (λ id h. told_full c.showable_stays.ensures c.texts_stay.ensures old c.put_row.new.parts c.args.row.now
+    (subst (λ (r : InternRefusal). Lacks c.in-Some.id.at c.args.row.now c.args.parts.now c.put_row.new.parts r)
+    c.in-Err-Full.field-0-is c.in-Err-Full.ensures.err) c.requires.tended id.at)
 
 pub returns-in-Err-NoMem-clause-tended : goal.returns-in-Err-NoMem-clause-tended
 returns-in-Err-NoMem-clause-tended g c =
-    tended_now c.args.parts.now c.put_row.new.parts c.age_readers.new.parts c.in-Some.id.at c.args.name.now (subst (λ (r : InternRefusal). Lacks c.in-Some.id.at c.args.row.now c.args.parts.now c.put_row.new.parts r) c.in-Err-NoMem.field-0-is c.in-Err-NoMem.ensures.err).carries
-    c.put_row.ensures.rest.watchers c.put_row.ensures.rest.order c.put_row.ensures.rest.long c.age_readers.ensures c.requires.tended c.put_row.ensures.shown
+    tended_now c.args.parts.now (record c.put_row.new.parts { logs = c.empty_logs.new.logs }) c.age_readers.new.parts
+    c.in-Some.id.at c.args.name.now (subst (λ (r : InternRefusal). Lacks c.in-Some.id.at c.args.row.now
+    c.args.parts.now c.put_row.new.parts r) c.in-Err-NoMem.field-0-is c.in-Err-NoMem.ensures.err).carries
+    c.put_row.ensures.rest.watchers c.put_row.ensures.rest.order (c.empty_logs.ensures.long
+    ∙ c.put_row.ensures.rest.long) c.age_readers.ensures c.requires.tended
+    (shown_same c.put_row.new.parts.catalog.texts c.args.parts.now.queries.items c.put_row.new.parts.logs.items
+    c.empty_logs.new.logs.items
+    (empties_same c.as_slice.result.now c.put_row.new.parts.logs.items c.empty_logs.new.logs.items
+    c.empty_logs.ensures) c.put_row.ensures.shown)
 
 pub returns-in-Err-NoMem-clause-watches : goal.returns-in-Err-NoMem-clause-watches
 returns-in-Err-NoMem-clause-watches g c =
-    registered_now c.args.parts.now c.put_row.new.parts c.age_readers.new.parts c.in-Some.id.at c.args.name.now (subst (λ (r : InternRefusal). Lacks c.in-Some.id.at c.args.row.now c.args.parts.now c.put_row.new.parts r) c.in-Err-NoMem.field-0-is c.in-Err-NoMem.ensures.err).carries
-    c.put_row.ensures.rest.watchers c.put_row.ensures.rest.order c.put_row.ensures.rest.long c.age_readers.ensures
+    registered_now c.args.parts.now (record c.put_row.new.parts { logs = c.empty_logs.new.logs })
+    c.age_readers.new.parts c.in-Some.id.at c.args.name.now
+    (subst (λ (r : InternRefusal). Lacks c.in-Some.id.at c.args.row.now c.args.parts.now c.put_row.new.parts r)
+    c.in-Err-NoMem.field-0-is c.in-Err-NoMem.ensures.err).carries
+    c.put_row.ensures.rest.watchers c.put_row.ensures.rest.order (c.empty_logs.ensures.long
+    ∙ c.put_row.ensures.rest.long) c.age_readers.ensures
 
 pub returns-in-Err-NoMem-clause-tells : goal.returns-in-Err-NoMem-clause-tells
 returns-in-Err-NoMem-clause-tells g c =
-    adds_refused c.args.parts.now c.requires.whole c.args.name.now c.args.row.now c.in-Some.id.at (subst (λ (j : Option RelationId). JudgesAdd c.args.parts.now.catalog.relations c.args.name.now c.args.row.now c.args.parts.now.seq j) c.in-Some.is c.in_ok-judged.ensures.ok).relation c.deltas_exist.ensures c.heads_are_bound.ensures c.names_tell.ensures c.laws.ensures.names
-    c.args.steps.now.listing c.put_row.new.steps.listing c.put_row.ensures.counted (kept_in c.age_readers.new.parts)
+    let old = c.args.parts.now in
+    let mid = c.put_row.new.parts in
+    let new = c.age_readers.new.parts in
+    let lacks = (subst (λ (r : InternRefusal). Lacks c.in-Some.id.at c.args.row.now c.args.parts.now
+    c.put_row.new.parts r) c.in-Err-NoMem.field-0-is c.in-Err-NoMem.ensures.err) in
+    let m = (subst (λ (j : Option RelationId). JudgesAdd c.args.parts.now.catalog.relations c.args.name.now
+    c.args.row.now c.args.parts.now.seq j) c.in-Some.is c.in_ok-judged.ensures.ok) in
+    let alike = alike_now old (record mid { logs = c.empty_logs.new.logs }) new c.in-Some.id.at c.args.name.now
+    lacks.carries
+    c.put_row.ensures.rest.watchers c.put_row.ensures.rest.order (c.empty_logs.ensures.long
+    ∙ c.put_row.ensures.rest.long) c.age_readers.ensures in
+    let places = places_read mid.readers.items c.in-Some.id.at c.index.result.now c.as_slice.result.now
+    (readers_within old mid c.requires.whole c.in-Some.id.at m.relation.below c.put_row.ensures.rest.readers)
+    c.index.ensures c.as_slice.ensures in
+    let empties = subst (λ (ps : List ℕ). Empties ps mid.logs.items c.empty_logs.new.logs.items) places
+    c.empty_logs.ensures in
+    adds_refused old c.requires.whole c.args.name.now c.args.row.now c.in-Some.id.at m.relation c.deltas_exist.ensures
+    c.heads_are_bound.ensures c.names_tell.ensures c.laws.ensures.names
+    c.args.steps.now.listing c.put_row.new.steps.listing c.put_row.ensures.counted new
+    (discards_by old mid new c.requires.whole c.in-Some.id.at m.relation.below c.put_row.ensures.rest.readers
+    c.in-Err-NoMem.ensures.apart
+    (subst (λ (ls : List Log). Empties (readers_at mid.readers.items c.in-Some.id.at) mid.logs.items ls)
+    (sym c.age_readers.ensures.logs) empties) alike)
+    (told_lacking c.showable_stays.ensures c.texts_stay.ensures old mid new c.in-Some.id.at c.args.row.now lacks
+    c.age_readers.ensures.catalog c.requires.tended alike)
 
 pub returns-clause-tended : goal.returns-clause-tended
 returns-clause-tended g c =
@@ -165,7 +225,74 @@ returns-clause-tells g c =
     adds_done c.args.parts.now c.requires.whole c.args.name.now c.args.row.now c.in-Some.id.at (subst (λ (j : Option RelationId). JudgesAdd c.args.parts.now.catalog.relations c.args.name.now c.args.row.now c.args.parts.now.seq j) c.in-Some.is c.in_ok-judged.ensures.ok).relation c.deltas_exist.ensures c.heads_are_bound.ensures c.names_tell.ensures c.laws.ensures.names
     c.args.steps.now.listing c.put_row.new.steps.listing
     (record c.put_row.new.parts { seq = c.put_row.new.parts.seq + 1; changed = c.in-Some.id.at }) c.age_readers-2.new.parts c.age_readers-2.ensures.logs c.age_readers-2.ensures.catalog
-    (alike_now c.args.parts.now (record c.put_row.new.parts { seq = c.put_row.new.parts.seq + 1; changed = c.in-Some.id.at }) c.age_readers-2.new.parts c.in-Some.id.at c.args.name.now c.in-Ok.ensures.ok.has.carries
+    (alike_now c.args.parts.now (record c.put_row.new.parts {
+      seq = c.put_row.new.parts.seq + 1;
+      changed = c.in-Some.id.at;
+    }) c.age_readers-2.new.parts c.in-Some.id.at c.args.name.now
+    c.in-Ok.ensures.ok.has.carries
     c.put_row.ensures.rest.watchers c.put_row.ensures.rest.order c.put_row.ensures.rest.long c.age_readers-2.ensures)
     (c.age_readers-2.ensures.rest.readers ∙ c.put_row.ensures.rest.readers) c.age_readers-2.ensures.rest.changed
+    c.in-Ok.ensures.quiet
+    (told_put c.showable_stays.ensures c.texts_stay.ensures c.args.parts.now c.put_row.new.parts
+    c.age_readers-2.new.parts c.in-Some.id.at c.args.row.now c.in-Ok.ensures.ok c.age_readers-2.ensures.catalog
+    c.requires.tended
+    (alike_now c.args.parts.now (record c.put_row.new.parts {
+      seq = c.put_row.new.parts.seq + 1;
+      changed = c.in-Some.id.at;
+    }) c.age_readers-2.new.parts c.in-Some.id.at c.args.name.now
+    c.in-Ok.ensures.ok.has.carries
+    c.put_row.ensures.rest.watchers c.put_row.ensures.rest.order c.put_row.ensures.rest.long c.age_readers-2.ensures))
     c.put_row.ensures.counted c.in-Ok.ensures.tells
+
+pub index-requires : goal.index-requires
+index-requires g c = omega (
+  arith,
+  readers_within c.args.parts.now c.put_row.new.parts c.requires.whole
+      c.in-Some.id.at (subst (λ (j : Option RelationId). JudgesAdd c.args.parts.now.catalog.relations c.args.name.now
+      c.args.row.now c.args.parts.now.seq j) c.in-Some.is c.in_ok-judged.ensures.ok).relation.below
+      c.put_row.ensures.rest.readers,
+  c.put_row.new.parts.readers.ok.0,
+)
+
+pub empty_logs-requires : goal.empty_logs-requires
+empty_logs-requires g c =
+    let old = c.args.parts.now in
+    let mid = c.put_row.new.parts in
+    subst (λ (ps : List ℕ). HaveLogs ps mid.logs.items)
+    (sym (places_read mid.readers.items c.in-Some.id.at c.index.result.now c.as_slice.result.now
+    (readers_within old mid c.requires.whole c.in-Some.id.at
+    (subst (λ (j : Option RelationId). JudgesAdd c.args.parts.now.catalog.relations c.args.name.now c.args.row.now
+    c.args.parts.now.seq j) c.in-Some.is c.in_ok-judged.ensures.ok).relation.below c.put_row.ensures.rest.readers)
+    c.index.ensures c.as_slice.ensures))
+    (have_logs old mid c.requires.whole c.in-Some.id.at
+    (subst (λ (j : Option RelationId). JudgesAdd c.args.parts.now.catalog.relations c.args.name.now c.args.row.now
+    c.args.parts.now.seq j) c.in-Some.is c.in_ok-judged.ensures.ok).relation.below c.requires.tended
+    c.put_row.ensures.rest)
+
+pub returns-in_err-judged-clause-updates : goal.returns-in_err-judged-clause-updates
+returns-in_err-judged-clause-updates g c = record { counted = λ n few. omega arith }
+
+pub returns-in_default-clause-updates : goal.returns-in_default-clause-updates
+returns-in_default-clause-updates g c = record { counted = λ n few. omega arith }
+
+pub returns-in-Err-Full-clause-updates : goal.returns-in-Err-Full-clause-updates
+returns-in-Err-Full-clause-updates g c =
+    let still = subst (λ (r : InternRefusal). Idles c.args.steps.now.update c.put_row.new.steps.update r)
+    c.in-Err-Full.field-0-is c.in-Err-Full.ensures.unmoved in
+    record { counted = λ n few. omega (arith, still) }
+
+pub returns-in-Err-NoMem-clause-updates : goal.returns-in-Err-NoMem-clause-updates
+returns-in-Err-NoMem-clause-updates g c =
+    let m = (subst (λ (j : Option RelationId). JudgesAdd c.args.parts.now.catalog.relations c.args.name.now
+    c.args.row.now c.args.parts.now.seq j) c.in-Some.is c.in_ok-judged.ensures.ok) in
+    counts_updates c.args.parts.now c.requires.whole c.in-Some.id.at m.relation.below c.args.name.now m.relation.named
+    c.leaves_are_small.ensures
+    3 c.args.steps.now.update c.put_row.new.steps.update c.in-Err-NoMem.ensures.refusal
+
+pub returns-clause-updates : goal.returns-clause-updates
+returns-clause-updates g c =
+    let m = (subst (λ (j : Option RelationId). JudgesAdd c.args.parts.now.catalog.relations c.args.name.now
+    c.args.row.now c.args.parts.now.seq j) c.in-Some.is c.in_ok-judged.ensures.ok) in
+    counts_updates c.args.parts.now c.requires.whole c.in-Some.id.at m.relation.below c.args.name.now m.relation.named
+    c.leaves_are_small.ensures
+    1 c.args.steps.now.update c.put_row.new.steps.update c.in-Ok.ensures.updates

@@ -1,5 +1,5 @@
-use Rattle.std.proofs.Common.{ℕ, List, ◌+◌, ◌∙◌, ap, arith, sym, subst, rules, ◌≡◌}
-use Rattle.std.specs.Prelude.{Err, Option}
+use Rattle.std.proofs.Common.{ℕ, List, ◌+◌, ◌∙◌, ap, arith, refl, sym, subst}
+use Rattle.std.specs.Prelude.{Option}
 use Rattle.djq_model.specs.Data.{rows_of, without_row}
 use Rattle.djq_engine.specs.Whole.{kept_in}
 use Rattle.djq_rows.specs.Catalog.{rows_at}
@@ -7,7 +7,8 @@ use Rattle.djq_engine.specs.declared.judge.Deletion.{Deletion}
 use Rattle.djq_engine.specs.Judging.{JudgesDelete}
 use Rattle.djq_engine.specs.Changing.{IsOld}
 use Rattle.djq_engine.proofs.Adding.{aged, delete_done, mid_once, mid_there, old_row, same_names}
-use Rattle.djq_engine.proofs.Reporting.{alike_now, delete_refused_tells, deletes_done, registered_now, tells_nothing, tended_now}
+use Rattle.djq_engine.proofs.Reporting.{alike_now, delete_refused_tells, deletes_done, registered_now, tells_nothing, tended_now, told_drop}
+use Rattle.djq_engine.proofs.Working.{counts_updates}
 use Rattle.djq_engine.proofs.rows.del_in.Goals as goal
 
 pub age_readers-requires-clause-once : goal.age_readers-requires-clause-once
@@ -70,18 +71,24 @@ returns-in_err-judged-clause-tells g c =
 pub returns-in_default-clause-tells : goal.returns-in_default-clause-tells
 returns-in_default-clause-tells g c =
     let old = c.args.parts.now in
-    tells_nothing (kept_in old) (kept_in old) c.args.name.now (without_row (rows_of old.catalog.relations c.args.name.now) c.args.row.now) c.args.steps.now.listing c.args.steps.now.listing (omega arith)
+    tells_nothing (kept_in old) (kept_in old) c.args.name.now
+    (without_row (rows_of old.catalog.relations c.args.name.now) c.args.row.now) c.args.steps.now.listing
+    c.args.steps.now.listing (omega arith) (λ id h. refl)
 
 pub returns-clause-tended : goal.returns-clause-tended
 returns-clause-tended g c =
     tended_now c.args.parts.now (record c.drop_cells.new.parts { seq = c.drop_cells.new.parts.seq + 1; changed = c.in-Some.found.relation.at }) c.age_readers.new.parts c.in-Some.found.relation.at c.args.name.now (c.drop_cells.ensures.drops c.args.row.now (subst (λ (cells : List ℕ). IsOld c.args.parts.now.catalog c.in-Some.found.relation.at cells c.args.row.now) (sym c.as_slice.ensures)
-    (old_row c.args.parts.now c.args.name.now c.args.row.now c.in-Some.found (subst (λ (j : Option Deletion). JudgesDelete c.args.parts.now.catalog c.args.name.now c.args.row.now c.args.parts.now.seq j) c.in-Some.is c.in_ok-judged.ensures.ok)))).has.carries
+    (old_row c.args.parts.now c.args.name.now c.args.row.now c.in-Some.found
+    (subst (λ (j : Option Deletion). JudgesDelete c.args.parts.now.catalog c.args.name.now c.args.row.now
+    c.args.parts.now.seq j) c.in-Some.is c.in_ok-judged.ensures.ok)))).has.carries
     c.drop_cells.ensures.rest.watchers c.drop_cells.ensures.rest.order c.drop_cells.ensures.rest.long c.age_readers.ensures c.requires.tended c.drop_cells.ensures.shown
 
 pub returns-clause-watches : goal.returns-clause-watches
 returns-clause-watches g c =
     registered_now c.args.parts.now (record c.drop_cells.new.parts { seq = c.drop_cells.new.parts.seq + 1; changed = c.in-Some.found.relation.at }) c.age_readers.new.parts c.in-Some.found.relation.at c.args.name.now (c.drop_cells.ensures.drops c.args.row.now (subst (λ (cells : List ℕ). IsOld c.args.parts.now.catalog c.in-Some.found.relation.at cells c.args.row.now) (sym c.as_slice.ensures)
-    (old_row c.args.parts.now c.args.name.now c.args.row.now c.in-Some.found (subst (λ (j : Option Deletion). JudgesDelete c.args.parts.now.catalog c.args.name.now c.args.row.now c.args.parts.now.seq j) c.in-Some.is c.in_ok-judged.ensures.ok)))).has.carries
+    (old_row c.args.parts.now c.args.name.now c.args.row.now c.in-Some.found
+    (subst (λ (j : Option Deletion). JudgesDelete c.args.parts.now.catalog c.args.name.now c.args.row.now
+    c.args.parts.now.seq j) c.in-Some.is c.in_ok-judged.ensures.ok)))).has.carries
     c.drop_cells.ensures.rest.watchers c.drop_cells.ensures.rest.order c.drop_cells.ensures.rest.long c.age_readers.ensures
 
 pub returns-clause-tells : goal.returns-clause-tells
@@ -89,10 +96,52 @@ returns-clause-tells g c =
     deletes_done c.args.parts.now c.requires.whole c.args.name.now c.args.row.now c.in-Some.found.relation.at (subst (λ (j : Option Deletion). JudgesDelete c.args.parts.now.catalog c.args.name.now c.args.row.now c.args.parts.now.seq j) c.in-Some.is c.in_ok-judged.ensures.ok).relation c.deltas_exist.ensures c.heads_are_bound.ensures c.names_tell.ensures c.laws.ensures.names
     c.args.steps.now.listing c.drop_cells.new.steps.listing
     (record c.drop_cells.new.parts { seq = c.drop_cells.new.parts.seq + 1; changed = c.in-Some.found.relation.at }) c.age_readers.new.parts c.age_readers.ensures.logs c.age_readers.ensures.catalog
-    (alike_now c.args.parts.now (record c.drop_cells.new.parts { seq = c.drop_cells.new.parts.seq + 1; changed = c.in-Some.found.relation.at }) c.age_readers.new.parts c.in-Some.found.relation.at c.args.name.now (c.drop_cells.ensures.drops c.args.row.now (subst (λ (cells : List ℕ). IsOld c.args.parts.now.catalog c.in-Some.found.relation.at cells c.args.row.now) (sym c.as_slice.ensures)
-    (old_row c.args.parts.now c.args.name.now c.args.row.now c.in-Some.found (subst (λ (j : Option Deletion). JudgesDelete c.args.parts.now.catalog c.args.name.now c.args.row.now c.args.parts.now.seq j) c.in-Some.is c.in_ok-judged.ensures.ok)))).has.carries
+    (alike_now c.args.parts.now (record c.drop_cells.new.parts {
+      seq = c.drop_cells.new.parts.seq + 1;
+      changed = c.in-Some.found.relation.at;
+    }) c.age_readers.new.parts c.in-Some.found.relation.at c.args.name.now
+    (c.drop_cells.ensures.drops c.args.row.now (subst
+    (λ (cells : List ℕ). IsOld c.args.parts.now.catalog c.in-Some.found.relation.at cells c.args.row.now)
+    (sym c.as_slice.ensures)
+    (old_row c.args.parts.now c.args.name.now c.args.row.now c.in-Some.found
+    (subst (λ (j : Option Deletion). JudgesDelete c.args.parts.now.catalog c.args.name.now c.args.row.now
+    c.args.parts.now.seq j) c.in-Some.is c.in_ok-judged.ensures.ok)))).has.carries
     c.drop_cells.ensures.rest.watchers c.drop_cells.ensures.rest.order c.drop_cells.ensures.rest.long c.age_readers.ensures)
     (c.age_readers.ensures.rest.readers ∙ c.drop_cells.ensures.rest.readers) c.age_readers.ensures.rest.changed
+    c.drop_cells.ensures.quiet
+    (told_drop c.showable_stays.ensures c.args.parts.now c.drop_cells.new.parts c.age_readers.new.parts
+    c.in-Some.found.relation.at c.args.row.now (c.drop_cells.ensures.drops c.args.row.now
+    (subst (λ (cells : List ℕ). IsOld c.args.parts.now.catalog c.in-Some.found.relation.at cells c.args.row.now)
+    (sym c.as_slice.ensures)
+    (old_row c.args.parts.now c.args.name.now c.args.row.now c.in-Some.found
+    (subst (λ (j : Option Deletion). JudgesDelete c.args.parts.now.catalog c.args.name.now c.args.row.now
+    c.args.parts.now.seq j) c.in-Some.is c.in_ok-judged.ensures.ok)))) c.age_readers.ensures.catalog c.requires.tended
+    (alike_now c.args.parts.now (record c.drop_cells.new.parts {
+      seq = c.drop_cells.new.parts.seq + 1;
+      changed = c.in-Some.found.relation.at;
+    }) c.age_readers.new.parts c.in-Some.found.relation.at c.args.name.now
+    (c.drop_cells.ensures.drops c.args.row.now (subst
+    (λ (cells : List ℕ). IsOld c.args.parts.now.catalog c.in-Some.found.relation.at cells c.args.row.now)
+    (sym c.as_slice.ensures)
+    (old_row c.args.parts.now c.args.name.now c.args.row.now c.in-Some.found
+    (subst (λ (j : Option Deletion). JudgesDelete c.args.parts.now.catalog c.args.name.now c.args.row.now
+    c.args.parts.now.seq j) c.in-Some.is c.in_ok-judged.ensures.ok)))).has.carries
+    c.drop_cells.ensures.rest.watchers c.drop_cells.ensures.rest.order c.drop_cells.ensures.rest.long
+    c.age_readers.ensures))
     (c.drop_cells.ensures.counted c.args.row.now (subst (λ (cells : List ℕ). IsOld c.args.parts.now.catalog c.in-Some.found.relation.at cells c.args.row.now) (sym c.as_slice.ensures)
     (old_row c.args.parts.now c.args.name.now c.args.row.now c.in-Some.found (subst (λ (j : Option Deletion). JudgesDelete c.args.parts.now.catalog c.args.name.now c.args.row.now c.args.parts.now.seq j) c.in-Some.is c.in_ok-judged.ensures.ok)))) (c.drop_cells.ensures.tells c.args.row.now (subst (λ (cells : List ℕ). IsOld c.args.parts.now.catalog c.in-Some.found.relation.at cells c.args.row.now) (sym c.as_slice.ensures)
     (old_row c.args.parts.now c.args.name.now c.args.row.now c.in-Some.found (subst (λ (j : Option Deletion). JudgesDelete c.args.parts.now.catalog c.args.name.now c.args.row.now c.args.parts.now.seq j) c.in-Some.is c.in_ok-judged.ensures.ok))))
+
+pub returns-in_err-judged-clause-updates : goal.returns-in_err-judged-clause-updates
+returns-in_err-judged-clause-updates g c = record { counted = λ n few. omega arith }
+
+pub returns-in_default-clause-updates : goal.returns-in_default-clause-updates
+returns-in_default-clause-updates g c = record { counted = λ n few. omega arith }
+
+pub returns-clause-updates : goal.returns-clause-updates
+returns-clause-updates g c =
+    let m = (subst (λ (j : Option Deletion). JudgesDelete c.args.parts.now.catalog c.args.name.now c.args.row.now
+    c.args.parts.now.seq j) c.in-Some.is c.in_ok-judged.ensures.ok) in
+    counts_updates c.args.parts.now c.requires.whole c.in-Some.found.relation.at m.relation.below c.args.name.now
+    m.relation.named c.leaves_are_small.ensures
+    1 c.args.steps.now.update c.drop_cells.new.steps.update c.drop_cells.ensures.updates

@@ -1,4 +1,4 @@
-use Rattle.std.proofs.Common.{◌≡◌, ◌<◌, ◌∙◌, ap, subst, length, slice_get, slice_index_or, sym, Some, arith, ℕ, List, []}
+use Rattle.std.proofs.Common.{◌<◌, ◌∙◌, ap, length, slice_index_or, sym, Some, arith, ℕ, List, []}
 use Rattle.std.proofs.lemmas.List.{length-map, get_or_default}
 use Rattle.std.proofs.lemmas.Option.{slice_get-map, slice_get-get_or}
 use Rattle.std.specs.Prelude.{option_map}

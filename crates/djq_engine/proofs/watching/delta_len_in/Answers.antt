@@ -1,4 +1,4 @@
-use Rattle.std.proofs.Common.{◌≡◌, ◌<◌, ◌∙◌, ap, arith, length, sym, List}
+use Rattle.std.proofs.Common.{◌<◌, ◌∙◌, ap, arith, length, sym, List}
 use Rattle.djq_cursor.specs.declared.log.Line.{Line}
 use Rattle.djq_cursor.specs.Log.{Log}
 use Rattle.djq_engine.proofs.Attending.{below_queries, long_lines, long_lost, query_kept_there}

@@ -1,6 +1,5 @@
-use Rattle.std.proofs.Common.{◌≡◌, ◌<◌, ◌∙◌, ap, arith, length, sym, subst, List, ℕ}
-use Rattle.std.specs.Prelude.{Option, Some, slice_get}
-use Rattle.djq_cursor.specs.declared.log.Line.{Line}
+use Rattle.std.proofs.Common.{◌<◌, ◌∙◌, ap, arith, length, sym, subst}
+use Rattle.std.specs.Prelude.{slice_get}
 use Rattle.djq_cursor.specs.Log.{Log}
 use Rattle.djq_live.specs.Live.{IsShowable}
 use Rattle.djq_engine.proofs.Attending.{all_got, below_queries, line_is, line_there, query_kept_there, there_not_none}

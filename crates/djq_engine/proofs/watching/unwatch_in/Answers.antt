@@ -1,8 +1,5 @@
-use Rattle.std.proofs.Common.{◌≡◌, ◌<◌, ◌+◌, ◌-◌, ◌∙◌, ap, arith, ℕ, length}
+use Rattle.std.proofs.Common.{◌<◌, ◌-◌, ◌∙◌, ap, arith, ℕ, length}
 use Rattle.std.proofs.lemmas.List.{get_or_default}
-use Rattle.djq_lines.specs.declared.limits.TheConstants.{SESSIONS}
-use Rattle.djq_engine.specs.Kept.{Registered}
-use Rattle.djq_engine.specs.Places.{watchers_at}
 use Rattle.djq_engine.proofs.Attending.{below_queries, has_query, has_that, watched_more}
 use Rattle.djq_engine.proofs.watching.unwatch_in.Goals as goal
 

@@ -1,4 +1,4 @@
-use Rattle.std.proofs.Common.{refl, sym, subst}
+use Rattle.std.proofs.Common.{◌<◌, refl, sym, subst, ℕ}
 use Rattle.djq_index.specs.declared.place.Place.{Place}
 use Rattle.djq_index.specs.declared.raw.Raw.{Raw}
 use Rattle.djq_index.specs.Table.{IsAt}
@@ -13,7 +13,11 @@ use Rattle.djq_index.proofs.Inserting.{
   refused_entries,
   on_err_of,
 }
+use Rattle.djq_index.proofs.Bounding.{entries_length}
 use Rattle.djq_index.proofs.raw.insert_bare.Goals as goal
+
+pub lay-requires-clause-few : goal.lay-requires-clause-few
+lay-requires-clause-few c = subst (λ (n : ℕ). n < 4294967295) (entries_length c.args.raw.now) c.requires.few
 
 pub returns-in_err-slot-clause-raw : goal.returns-in_err-slot-clause-raw
 returns-in_err-slot-clause-raw c =

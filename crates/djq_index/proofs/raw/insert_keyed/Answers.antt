@@ -1,4 +1,4 @@
-use Rattle.std.proofs.Common.{[], refl, sym, ◌∙◌, subst, ℕ, List}
+use Rattle.std.proofs.Common.{◌<◌, [], refl, sym, ◌∙◌, subst, ℕ, List, arith}
 use Rattle.std.proofs.lemmas.List.{append-nil}
 use Rattle.djq_index.specs.declared.place.Place.{Place}
 use Rattle.djq_index.specs.declared.raw.Raw.{Raw}
@@ -22,7 +22,15 @@ use Rattle.djq_index.proofs.Inserting.{
   refused_entries,
   on_err_of,
 }
+use Rattle.djq_index.proofs.Bounding.{entries_length}
+use Rattle.djq_index.proofs.Heading.{few_heads}
 use Rattle.djq_index.proofs.raw.insert_keyed.Goals as goal
+
+pub lay_linked-requires-clause-few : goal.lay_linked-requires-clause-few
+lay_linked-requires-clause-few c = subst (λ (n : ℕ). n < 4294967295) (entries_length c.args.raw.now) c.requires.few
+
+pub seat-requires-clause-few : goal.seat-requires-clause-few
+seat-requires-clause-few c = omega (arith, few_heads c.args.raw.now c.requires.heads, c.requires.few)
 
 pub returns-in_err-slot-clause-raw : goal.returns-in_err-slot-clause-raw
 returns-in_err-slot-clause-raw c =

@@ -1,5 +1,5 @@
 use Rattle.std.proofs.Common.{sym, ◌∙◌}
-use Rattle.djq_live.proofs.Taking.{absent_row, end_taken, start_taken, step_taken, wide_row}
+use Rattle.djq_live.proofs.Taking.{absent_row, end_taken, few_row, start_taken, step_taken, wide_row}
 use Rattle.djq_live.proofs.fill.fill_leaf.Goals as goal
 
 pub rows-init : goal.rows-init
@@ -18,6 +18,12 @@ insert_row-requires-clause-columns g c =
 pub insert_row-requires-clause-absent : goal.insert_row-requires-clause-absent
 insert_row-requires-clause-absent g c =
     absent_row c.args.catalog.now c.args.relation c.args.pattern.now c.args.leaf
+    c.in-Some.row.now c.rows.walk c.next.new.self c.args.reducts.now c.rows.reducts
+    c.laws.ensures c.requires.suits.there c.rows.invariant c.in-Some.ensures.tells
+
+pub insert_row-requires-clause-few : goal.insert_row-requires-clause-few
+insert_row-requires-clause-few g c =
+    few_row c.args.catalog.now c.args.relation c.args.pattern.now c.args.leaf
     c.in-Some.row.now c.rows.walk c.next.new.self c.args.reducts.now c.rows.reducts
     c.laws.ensures c.requires.suits.there c.rows.invariant c.in-Some.ensures.tells
 

@@ -21,6 +21,7 @@ use Rattle.djq_live.proofs.Passing.{
   lists_refused,
   kept_more,
   lacks_stay,
+  few_stay,
   wide_stays,
 }
 use Rattle.djq_live.proofs.Sizing.{
@@ -90,6 +91,21 @@ add_to_leaf-requires-clause-absent g c =
     c.index-patterns-leaf.result c.args.reducts.now c.leaves.reducts
     (lacks_stay c.args.cells.now c.index-patterns-leaf.result) c.leaves-test.true
     c.requires.absent c.leaves.invariant.changed
+    (got c.args.atoms.now c.leaves.leaf c.index-atoms-leaf.result c.leaves-test.true
+    c.index-atoms-leaf.is)
+    (got c.args.patterns.now c.leaves.leaf c.index-patterns-leaf.result (subst (λ (n : ℕ).
+    c.leaves.leaf < n) (sym c.requires.leaves.patterns) c.leaves-test.true)
+    c.index-patterns-leaf.is)
+    (on_as c.index-atoms-leaf.result _ c.args.relation c.index-atoms-leaf.is c.if-atoms-leaf.false)
+
+pub add_to_leaf-requires-clause-few : goal.add_to_leaf-requires-clause-few
+add_to_leaf-requires-clause-few g c =
+    leaves_stay (λ p old new. Gains p c.args.cells.now old new)
+    (λ p es. length es < 4294967295) c.args.relation c.args.atoms.now c.args.patterns.now
+    c.leaves.leaf (length c.args.atoms.now) c.index-atoms-leaf.result
+    c.index-patterns-leaf.result c.args.reducts.now c.leaves.reducts
+    (few_stay c.index-patterns-leaf.result) c.leaves-test.true
+    c.requires.few c.leaves.invariant.changed
     (got c.args.atoms.now c.leaves.leaf c.index-atoms-leaf.result c.leaves-test.true
     c.index-atoms-leaf.is)
     (got c.args.patterns.now c.leaves.leaf c.index-patterns-leaf.result (subst (λ (n : ℕ).

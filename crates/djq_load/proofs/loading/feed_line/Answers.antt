@@ -1,6 +1,6 @@
 use Rattle.djq_machine.specs.Run.{pending_of}
 use Rattle.djq_load.proofs.Served.{apart}
-use Rattle.djq_load.proofs.Idle.{line_loads, line_idle}
+use Rattle.djq_load.proofs.Idle.{some_byte, line_loads, line_idle, line_feeds}
 use Rattle.djq_load.proofs.loading.feed_line.Goals as goal
 
 pub returns-clause-loads : goal.returns-clause-loads
@@ -10,3 +10,6 @@ returns-clause-loads g c =
 
 pub returns-clause-idle : goal.returns-clause-idle
 returns-clause-idle g c = line_idle _ _ _ _ _ _ c.requires.idle c.requires.one c.in_ok-run_line.ensures.runs c.take_reply.ensures
+
+pub returns-then-eq-clause-breaks : goal.returns-then-eq-clause-breaks
+returns-then-eq-clause-breaks g c = line_feeds _ _ _ _ _ c.requires.idle (some_byte _ c.requires.one) c.requires.short c.in_ok-run_line.ensures.runs

@@ -1,4 +1,4 @@
-use Rattle.std.proofs.Common.{◌≡◌, ◌*◌, false, replicate}
+use Rattle.std.proofs.Common.{◌≡◌, false, replicate}
 use Rattle.djq_machine.specs.Call.{counts}
 use Rattle.djq_load.specs.Lines.{Loads, IsIdle}
 use Rattle.djq_load.specs.Totals.{IsRead, next_line}
@@ -13,5 +13,5 @@ invariant-loop g l =
       loads : Loads (replicate l.counter next_line) (state l.fn.machine) (counts l.fn.steps.listing l.fn.steps.update l.fn.steps.rows)
           (state l.machine) (counts l.steps.listing l.steps.update l.steps.rows);
       going : l.reading.ended ≡ false;
-      read : IsRead (state l.machine) l.reading (1000 * l.counter);
+      read : IsRead (state l.machine) l.reading l.counter;
     }

@@ -1,5 +1,5 @@
 use Rattle.std.proofs.Common.{refl, sym, ◌∙◌, rules, arith}
-use Rattle.djq_load.proofs.Idle.{line_loads, line_idle}
+use Rattle.djq_load.proofs.Idle.{line_loads, line_idle, line_feeds}
 use Rattle.djq_load.proofs.Cursors.{open_stands}
 use Rattle.djq_load.proofs.Served.{opened}
 use Rattle.djq_load.proofs.loading.open_cursor.Goals as goal
@@ -13,3 +13,6 @@ returns-clause-idle g c = line_idle _ _ _ _ _ _ c.requires refl c.in_ok-run_line
 
 pub returns-clause-stands : goal.returns-clause-stands
 returns-clause-stands g c = open_stands _ _ _ _ _ c.requires c.in_ok-run_line.ensures.runs (sym c.pending.ensures ∙ search rules) c.take_reply.ensures
+
+pub returns-then-ne-clause-breaks : goal.returns-then-ne-clause-breaks
+returns-then-ne-clause-breaks g c = line_feeds _ _ _ _ _ c.requires (omega arith) (omega arith) c.in_ok-run_line.ensures.runs

@@ -1,14 +1,10 @@
-use Rattle.std.proofs.Common.{◌≡◌, ℕ, ◌+◌, ◌-◌, ◌*◌, ◌<◌, ◌≤◌, true, false, List, [], ◌∷◌, ◌++◌, length, take, drop, Some, None, refl, ap, subst, sym, ◌∙◌, arith}
-use Rattle.djq_index.specs.Tuple.{pick}
-use Rattle.djq_index.specs.Entries.{Entry, supp, cnt, grp, head_at}
-use Rattle.djq_index.specs.Changes.{Inserted, Removed, Supported}
-use Rattle.djq_index.specs.Table.{IsAt, IsLive}
-use Rattle.djq_index.proofs.Changing.{inserted_length, removed_length, supported_length}
-use Rattle.djq_tree.specs.declared.node.Node.TheVariants.{Leaf, Trim, Meet}
-use Rattle.djq_tree.specs.Tree.{parent}
-use Rattle.djq_reduct.specs.Tables.{entries_at, key_at, width_at}
-use Rattle.djq_propagate.specs.Sizes.{size}
-use Rattle.djq_propagate.specs.Walks.{Ready, Died, IsEmptied}
+use Rattle.std.proofs.Common.{◌≡◌, ℕ, ◌+◌, ◌-◌, ◌<◌, List, length, take, drop, ap, subst, sym, ◌∙◌, arith}
+use Rattle.djq_index.specs.Entries.{supp, cnt, grp}
+use Rattle.djq_index.specs.Changes.{Removed}
+use Rattle.djq_index.proofs.Changing.{removed_length, supported_length}
+use Rattle.djq_tree.specs.declared.node.Node.TheVariants.{Trim, Meet}
+use Rattle.djq_reduct.specs.Tables.{entries_at, key_at}
+use Rattle.djq_propagate.specs.Walks.{Died, IsEmptied}
 use Rattle.djq_propagate.proofs.Families.{apart_of, lower_of, now_family, ready_up, topmost}
 use Rattle.djq_propagate.proofs.Plains.{fewer_refl, fewer_trans, removed_fewer, lowered_fewer}
 use Rattle.djq_propagate.proofs.Sides.{group_once, head_none, drop_group, present, emptied_none, emptied_ready, emptied_more, emptied_all, still_there}

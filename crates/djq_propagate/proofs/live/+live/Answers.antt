@@ -1,21 +1,18 @@
-use Rattle.std.proofs.Common.{◌≡◌, ℕ, ◌+◌, ◌-◌, ◌*◌, ◌<◌, ◌≤◌, true, false, List, [], ◌∷◌, ◌++◌, length, take, drop, Some, None, refl, ap, subst, sym, ◌∙◌, arith}
-use Rattle.djq_index.specs.Tuple.{pick}
-use Rattle.djq_index.specs.Entries.{Entry, supp, cnt, grp, head_at}
-use Rattle.djq_index.specs.Changes.{Inserted, Removed, Supported}
-use Rattle.djq_index.specs.Table.{IsAt, IsLive}
-use Rattle.djq_index.proofs.Changing.{inserted_length, removed_length, supported_length}
-use Rattle.djq_tree.specs.declared.node.Node.TheVariants.{Leaf, Trim, Meet}
-use Rattle.djq_tree.specs.Tree.{parent}
-use Rattle.djq_reduct.specs.Tables.{entries_at, key_at, width_at}
+use Rattle.std.proofs.Common.{◌≡◌, ℕ, ◌+◌, ◌*◌, ◌<◌, ◌≤◌, List, length, take, drop, ap, subst, sym, ◌∙◌, arith}
+use Rattle.djq_index.specs.Entries.{Entry, supp, cnt, grp}
+use Rattle.djq_index.specs.Table.{IsAt}
+use Rattle.djq_index.proofs.Changing.{inserted_length, supported_length}
+use Rattle.djq_tree.specs.declared.node.Node.TheVariants.{Trim, Meet}
+use Rattle.djq_reduct.specs.Tables.{entries_at, key_at}
 use Rattle.djq_propagate.specs.Sizes.{size, AreAtMost}
 use Rattle.std.proofs.Common.{rules}
-use Rattle.djq_propagate.specs.Walks.{Ready, Lived, Refused, Righted, Stayed, IsGrown, IsFull}
-use Rattle.djq_propagate.proofs.Families.{apart_of, lower_of, now_family, ready_up, topmost, stayed}
+use Rattle.djq_propagate.specs.Walks.{Lived, Refused, Righted, Stayed, IsFull}
+use Rattle.djq_propagate.proofs.Families.{lower_of, now_family, ready_up, topmost, stayed}
 use Rattle.djq_propagate.proofs.Plains.{plain_refl, plain_trans, inserted_same, raised_same, removed_fewer, back_same}
-use Rattle.djq_propagate.proofs.Sides.{group_once, head_none, drop_group, grown_none, grown_ready, grown_more}
+use Rattle.djq_propagate.proofs.Sides.{head_none, drop_group, grown_none, grown_ready, grown_more}
 use Rattle.djq_propagate.proofs.Gains.{width_narrow, trim_few, trim_wide, trim_raised, trim_lived, trim_room, guard_few, guard_wide, guard_absent, guard_lived, guard_idle, side_absent, side_righted, side_full, refused_ready, same_group, side_stayed, refused_here, lived_here}
 use Rattle.djq_propagate.proofs.Going.{has_table, wide_now, under_leaf, under_trim, under_guard, under_side, guard_under, cut_of, cut_at, as_live, moved_at, group_still, on_err, ok_map, err_map, refused_none, plain_none}
-use Rattle.djq_propagate.proofs.Rooms.{room_size, most_more, trim_fits, guard_fits, side_fits, side_bounded}
+use Rattle.djq_propagate.proofs.Rooms.{room_size, most_more, trim_fits, guard_fits, next_fits, side_fits, side_bounded}
 use Rattle.djq_propagate.proofs.live.+live.Goals as goal
 
 pub live-insert_at-requires-clause-within : goal.live-insert_at-requires-clause-within
@@ -29,6 +26,10 @@ live-insert_at-requires-clause-absent g t c =
 pub live-insert_at-requires-clause-wide : goal.live-insert_at-requires-clause-wide
 live-insert_at-requires-clause-wide g t c =
     c.requires.wide
+
+pub live-insert_at-requires-clause-few : goal.live-insert_at-requires-clause-few
+live-insert_at-requires-clause-few g t c =
+    c.requires.few
 
 pub live-returns-in_err-place-clause-ok : goal.live-returns-in_err-place-clause-ok
 live-returns-in_err-place-clause-ok g t c =
@@ -211,6 +212,10 @@ pub rise-returns-else-guard-at-clause-bounded : goal.rise-returns-else-guard-at-
 rise-returns-else-guard-at-clause-bounded g t c =
     c.rise_side.ensures.bounded
 
+pub rise_guard-is_small_at-requires : goal.rise_guard-is_small_at-requires
+rise_guard-is_small_at-requires g t c =
+    has_table c.args.tree.now c.args.tables.now.items c.args.at (now_family c.args.tree.now c.requires.gaining.was c.args.tables.now.items c.args.at c.requires.gaining.began) c.requires.gaining.began.ready.within
+
 pub rise_guard-part_of-part-requires-clause-within : goal.rise_guard-part_of-part-requires-clause-within
 rise_guard-part_of-part-requires-clause-within g t c =
     has_table c.args.tree.now c.args.tables.now.items c.args.at (now_family c.args.tree.now c.requires.gaining.was c.args.tables.now.items c.args.at c.requires.gaining.began) c.requires.gaining.began.ready.within
@@ -239,7 +244,7 @@ rise_guard-live-requires g t c κs hκ =
     let low = lower_of c.args.tree.now c.args.up (Meet c.args.at c.args.side) c.args.at c.requires.gaining.began.ready.family.is_tree c.requires.under in
     let within = c.requires.under.within in
     let d = c.decreases in
-    (omega arith, (hκ, (ready_up c.args.tree.now c.requires.gaining.was c.args.tables.now.items c.args.at c.args.up (Meet c.args.at c.args.side) c.requires.gaining.began c.requires.under, (guard_absent c.args.tree.now c.requires.gaining.was c.args.tables.now.items c.args.at c.args.side c.args.up c.args.tuple.now c.requires.gaining.began c.requires.gaining.gains c.requires.under, c.requires.wide ∙ sym (guard_wide c.args.tree.now c.args.tables.now.items c.args.at c.args.side c.args.up (now_family c.args.tree.now c.requires.gaining.was c.args.tables.now.items c.args.at c.requires.gaining.began) c.requires.gaining.began.ready.within c.requires.under)))))
+    (omega arith, (hκ, (ready_up c.args.tree.now c.requires.gaining.was c.args.tables.now.items c.args.at c.args.up (Meet c.args.at c.args.side) c.requires.gaining.began c.requires.under, (guard_absent c.args.tree.now c.requires.gaining.was c.args.tables.now.items c.args.at c.args.side c.args.up c.args.tuple.now c.requires.gaining.began c.requires.gaining.gains c.requires.under, (c.requires.wide ∙ sym (guard_wide c.args.tree.now c.args.tables.now.items c.args.at c.args.side c.args.up (now_family c.args.tree.now c.requires.gaining.was c.args.tables.now.items c.args.at c.requires.gaining.began) c.requires.gaining.began.ready.within c.requires.under), guard_fits c.args.tree.now c.requires.gaining.was c.args.tables.now.items c.args.at c.args.side c.args.up 4294967295 c.args.tuple.now c.requires.gaining.began c.requires.gaining.gains c.requires.under c.is_small_at.ensures)))))
 
 pub rise_guard-returns-in-Some-clause-ok : goal.rise_guard-returns-in-Some-clause-ok
 rise_guard-returns-in-Some-clause-ok g t c =
@@ -261,7 +266,7 @@ pub rise_guard-returns-in-Some-clause-bounded : goal.rise_guard-returns-in-Some-
 rise_guard-returns-in-Some-clause-bounded g t c =
     err_map c.live.result ((n : ℕ) → AreAtMost c.args.tables.now.items n → length (entries_at c.args.tables.now.items c.args.up) < n → c.live.new.tally + 9 * size c.args.tables.now.items ≤ c.find_at.new.tally + 9 * (n * length c.args.tree.now.nodes))
     ((n : ℕ) → AreAtMost c.args.tables.now.items n → c.live.new.tally + 9 * size c.args.tables.now.items ≤ c.args.tally.now + 7 + 9 * (n * length c.args.tree.now.nodes))
-    (λ h n few. omega (arith, c.find_at.ensures.counted, h n few (guard_fits c.args.tree.now c.requires.gaining.was c.args.tables.now.items c.args.at c.args.side c.args.up n c.args.tuple.now c.requires.gaining.began c.requires.gaining.gains c.requires.under few))) c.live.ensures.bounded
+    (λ h n few. omega (arith, c.find_at.ensures.counted, h n few (guard_fits c.args.tree.now c.requires.gaining.was c.args.tables.now.items c.args.at c.args.side c.args.up n c.args.tuple.now c.requires.gaining.began c.requires.gaining.gains c.requires.under (few.each c.args.at)))) c.live.ensures.bounded
 
 pub rise_guard-returns-in-None-clause-ok : goal.rise_guard-returns-in-None-clause-ok
 rise_guard-returns-in-None-clause-ok g t c =
@@ -312,7 +317,7 @@ rise_trim-live-requires g t c κs hκ =
     let low = lower_of c.args.tree.now c.args.up (Trim c.args.at) c.args.at c.requires.gaining.began.ready.family.is_tree c.requires.under in
     let within = c.requires.under.within in
     let d = c.decreases in
-    (omega arith, (hκ, (ready_up c.args.tree.now c.requires.gaining.was c.args.tables.now.items c.args.at c.args.up (Trim c.args.at) c.requires.gaining.began c.requires.under, (c.in-None.ensures.found, trim_wide c.args.tree.now c.args.tables.now.items c.args.at c.args.up c.args.tuple.now c.as_slice-cells.result.now (now_family c.args.tree.now c.requires.gaining.was c.args.tables.now.items c.args.at c.requires.gaining.began) c.requires.gaining.began.ready.within c.requires.under (c.as_slice-cells.ensures ∙ c.part_of-part.ensures)))))
+    (omega arith, (hκ, (ready_up c.args.tree.now c.requires.gaining.was c.args.tables.now.items c.args.at c.args.up (Trim c.args.at) c.requires.gaining.began c.requires.under, (c.in-None.ensures.found, (trim_wide c.args.tree.now c.args.tables.now.items c.args.at c.args.up c.args.tuple.now c.as_slice-cells.result.now (now_family c.args.tree.now c.requires.gaining.was c.args.tables.now.items c.args.at c.requires.gaining.began) c.requires.gaining.began.ready.within c.requires.under (c.as_slice-cells.ensures ∙ c.part_of-part.ensures), trim_fits c.args.tree.now c.requires.gaining.was c.args.tables.now.items c.args.at c.args.up 4294967295 c.args.tuple.now c.requires.gaining.began c.requires.gaining.gains c.requires.under c.is_small_at.ensures)))))
 
 pub rise_trim-returns-in-Some-clause-ok : goal.rise_trim-returns-in-Some-clause-ok
 rise_trim-returns-in-Some-clause-ok g t c =
@@ -346,7 +351,14 @@ pub rise_trim-returns-in-None-clause-bounded : goal.rise_trim-returns-in-None-cl
 rise_trim-returns-in-None-clause-bounded g t c =
     err_map c.live.result ((n : ℕ) → AreAtMost c.args.tables.now.items n → length (entries_at c.args.tables.now.items c.args.up) < n → c.live.new.tally + 9 * size c.args.tables.now.items ≤ c.find_at.new.tally + 9 * (n * length c.args.tree.now.nodes))
     ((n : ℕ) → AreAtMost c.args.tables.now.items n → c.live.new.tally + 9 * size c.args.tables.now.items ≤ c.args.tally.now + 7 + 9 * (n * length c.args.tree.now.nodes))
-    (λ h n few. omega (arith, c.find_at.ensures.counted, h n few (trim_fits c.args.tree.now c.requires.gaining.was c.args.tables.now.items c.args.at c.args.up n c.args.tuple.now c.requires.gaining.began c.requires.gaining.gains c.requires.under few))) c.live.ensures.bounded
+    (λ h n few. omega (arith, c.find_at.ensures.counted, h n few (trim_fits c.args.tree.now c.requires.gaining.was c.args.tables.now.items c.args.at c.args.up n c.args.tuple.now c.requires.gaining.began c.requires.gaining.gains c.requires.under (few.each c.args.at)))) c.live.ensures.bounded
+
+pub rise_side-is_small_at-requires : goal.rise_side-is_small_at-requires
+rise_side-is_small_at-requires g t c =
+    let m = c.requires.gaining.began.ready.family.is_tree.meet c.args.up c.args.guard c.args.at c.requires.under.node in
+    let mg = m.guard_lower in
+    let within = c.requires.under.within in
+    has_table c.args.tree.now c.args.tables.now.items c.args.guard (now_family c.args.tree.now c.requires.gaining.was c.args.tables.now.items c.args.at c.requires.gaining.began) (omega arith)
 
 pub rise_side-len_at-count-requires : goal.rise_side-len_at-count-requires
 rise_side-len_at-count-requires g t c =
@@ -401,7 +413,10 @@ rise_side-live-requires g t c κs hκ =
           grown_ready c.args.tree.now c.args.tables.now.items c.loop-done.tables.items c.args.up (take c.loop-done.done (grp (key_at c.args.tables.now.items c.args.guard) (entries_at c.args.tables.now.items c.args.guard) c.args.tuple.now)) c.requires.under.within c.loop-done.invariant.grown,
           (
             subst (λ (w : List ℕ). cnt (entries_at c.loop-done.tables.items c.args.up) w ≡ 0) (sym (c.as_slice.ensures ∙ c.tuple_at-part.ensures.tuple k.entry.tuple (moved_at (entries_at c.args.tables.now.items c.args.guard) (entries_at c.loop-done.tables.items c.args.guard) c.in-Some.place k.entry.tuple (c.loop-done.invariant.grown.low c.args.guard (c.requires.gaining.began.ready.family.is_tree.meet c.args.up c.args.guard c.args.at c.requires.under.node).guard_lower) (cut_at (key_at c.args.tables.now.items c.args.guard) (entries_at c.args.tables.now.items c.args.guard) c.args.tuple.now c.loop-done.done c.in-Some.place k)))) (side_absent c.args.tree.now c.requires.gaining.was c.args.tables.now.items c.loop-done.tables.items c.args.guard c.args.at c.args.up c.loop-done.done c.args.tuple.now k.entry c.requires.gaining.began c.requires.gaining.gains c.requires.under c.loop-done.invariant.grown k.is),
-            ap (λ (w : List ℕ). length w) c.as_slice.ensures ∙ c.tuple_at-part.ensures.wide ∙ sym (guard_wide c.args.tree.now c.loop-done.tables.items c.args.guard c.args.at c.args.up c.loop-done.invariant.grown.family (omega arith) (guard_under c.args.tree.now c.args.up c.args.guard c.args.at c.args.at c.requires.under)),
+            (
+              ap (λ (w : List ℕ). length w) c.as_slice.ensures ∙ c.tuple_at-part.ensures.wide ∙ sym (guard_wide c.args.tree.now c.loop-done.tables.items c.args.guard c.args.at c.args.up c.loop-done.invariant.grown.family (omega arith) (guard_under c.args.tree.now c.args.up c.args.guard c.args.at c.args.at c.requires.under)),
+              omega (arith, next_fits c.args.tree.now c.requires.gaining.was c.args.tables.now.items c.loop-done.tables.items c.args.guard c.args.at c.args.up c.loop-done.done c.args.tuple.now k.entry c.requires.gaining.began c.requires.gaining.gains c.requires.under c.loop-done.invariant.grown k.is, c.is_small_at.ensures),
+            ),
           ),
         ),
       ),

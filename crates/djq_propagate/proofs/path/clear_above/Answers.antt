@@ -1,20 +1,11 @@
-use Rattle.std.proofs.Common.{◌≡◌, ℕ, ◌+◌, ◌*◌, ◌<◌, ◌≤◌, Bool, true, false, cond, List, [], length, refl, ap, subst, sym, ◌∙◌, arith}
+use Rattle.std.proofs.Common.{◌≡◌, ℕ, ◌+◌, ◌*◌, Bool, cond, refl, ap, sym, ◌∙◌, arith}
 use Rattle.std.proofs.lemmas.Bool.{false≢true}
 use Rattle.djq_index.specs.Tuple.{one}
-use Rattle.djq_index.specs.Entries.{Entry, cnt, marks}
-use Rattle.djq_index.proofs.Changing.{removed_length}
-use Rattle.djq_index.proofs.Tuples.{one_true, one_false}
+use Rattle.djq_index.proofs.Tuples.{one_true}
 use Rattle.djq_tree.specs.Tree.{node_at, has_child}
 use Rattle.djq_reduct.specs.Tables.{entries_at}
-use Rattle.djq_propagate.specs.Sizes.{size}
-use Rattle.djq_propagate.specs.Touches.{IsTouched, IsTouchedUp, IsWalked, reach}
-use Rattle.djq_propagate.specs.Updates.{HasCleared, HasTaken, steps}
-use Rattle.djq_propagate.proofs.Sides.{head_none}
-use Rattle.djq_propagate.proofs.Going.{has_table, as_live}
+use Rattle.djq_propagate.proofs.Going.{has_table}
 use Rattle.djq_propagate.proofs.Touching.{marks_length}
-use Rattle.djq_propagate.proofs.Paths.{path_next, up_none, up_more, steps_none, steps_more, steps_count, cleared_leaf, cleared_more}
-use Rattle.djq_propagate.proofs.Marking.{walk_none, walk_more}
-use Rattle.djq_propagate.proofs.Updating.{both, leaf_within, ready_leaf, taking_none, taking_more, taking_done, no_mark, no_entry, first_mark}
 use Rattle.djq_propagate.proofs.path.clear_above.Goals as goal
 
 pub node-requires : goal.node-requires

@@ -1,11 +1,7 @@
-use Rattle.std.proofs.Common.{◌≡◌, ℕ, ◌+◌, ◌*◌, ◌<◌, ◌≤◌, length}
-use Rattle.djq_tree.specs.Tree.{node_at}
+use Rattle.std.proofs.Common.{◌≡◌, ℕ, ◌+◌, ◌*◌, ◌≤◌, length}
 use Rattle.djq_reduct.specs.Tables.{entries_at}
 use Rattle.djq_reduct.specs.Marks.{path_at}
-use Rattle.djq_propagate.specs.Sizes.{size}
-use Rattle.djq_propagate.specs.Touches.{IsTouchedUp, IsWalked}
 use Rattle.djq_propagate.specs.Updates.{HasCleared, steps}
-use Rattle.djq_propagate.proofs.Updating.{IsTaking}
 use Rattle.djq_propagate.proofs.path.clear_path.Given as goal
 
 abbrev pub invariant-loop-up : goal.invariant-loop-up

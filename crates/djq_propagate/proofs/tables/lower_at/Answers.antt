@@ -1,13 +1,9 @@
-use Rattle.std.proofs.Common.{◌≡◌, ℕ, ◌<◌, ◌≤◌, ◌-◌, ◌+◌, List, ◌++◌, ◌∷◌, length, IfOk, OnErr, MatchOption, subst, sym, ap, ◌∙◌, arith}
-use Rattle.std.specs.Prelude.{slice_set, nat_lt}
-use Rattle.djq_index.specs.Tuple.{pick}
-use Rattle.djq_index.specs.Entries.{Entry, supp, cnt, many, grp, marks, is_marked, unmarked, head_at}
-use Rattle.djq_index.specs.Table.{Table, IsTable, IsAt, IsLive, IsUnmarked, IsRaisable, IsLowerable, AreSupported, AreColumns, AreWide}
-use Rattle.djq_index.specs.Changes.{Inserted, Removed, Touched, Supported}
-use Rattle.djq_index.proofs.Changing.{removed_supported}
-use Rattle.djq_reduct.specs.Tables.{table_at, entries_at, key_at, width_at}
-use Rattle.djq_propagate.specs.Walks.{Changed, IsShared}
-use Rattle.djq_propagate.proofs.Tabling.{read_table, entries_of, key_of, width_of, back, onto, onto_key, changed_into, insert_supported, supports_supported, touched_supported, unmarked_supported, wide_at}
+use Rattle.std.proofs.Common.{ℕ, ◌-◌, List, arith}
+use Rattle.djq_index.specs.Entries.{Entry, supp}
+use Rattle.djq_index.specs.Table.{IsAt}
+use Rattle.djq_index.specs.Changes.{Supported}
+use Rattle.djq_propagate.specs.Walks.{IsShared}
+use Rattle.djq_propagate.proofs.Tabling.{back, onto, changed_into, supports_supported}
 use Rattle.djq_propagate.proofs.tables.lower_at.Goals as goal
 
 pub lower-requires : goal.lower-requires

@@ -1,13 +1,7 @@
-use Rattle.std.proofs.Common.{◌≡◌, ℕ, ◌<◌, ◌≤◌, ◌-◌, ◌+◌, List, ◌++◌, ◌∷◌, length, IfOk, OnErr, MatchOption, subst, sym, ap, ◌∙◌, arith}
-use Rattle.std.specs.Prelude.{slice_set, nat_lt}
-use Rattle.djq_index.specs.Tuple.{pick}
-use Rattle.djq_index.specs.Entries.{Entry, supp, cnt, many, grp, marks, is_marked, unmarked, head_at}
-use Rattle.djq_index.specs.Table.{Table, IsTable, IsAt, IsLive, IsUnmarked, IsRaisable, IsLowerable, AreSupported, AreColumns, AreWide}
-use Rattle.djq_index.specs.Changes.{Inserted, Removed, Touched, Supported}
-use Rattle.djq_index.proofs.Changing.{removed_supported}
-use Rattle.djq_reduct.specs.Tables.{table_at, entries_at, key_at, width_at}
-use Rattle.djq_propagate.specs.Walks.{Changed, IsShared}
-use Rattle.djq_propagate.proofs.Tabling.{read_table, entries_of, key_of, width_of, back, onto, onto_key, changed_into, insert_supported, supports_supported, touched_supported, unmarked_supported, wide_at}
+use Rattle.std.proofs.Common.{List, subst, sym, ap, ◌∙◌}
+use Rattle.djq_index.specs.Entries.{Entry, marks}
+use Rattle.djq_index.specs.Table.{IsLive}
+use Rattle.djq_propagate.proofs.Tabling.{entries_of}
 use Rattle.djq_propagate.proofs.tables.next_marked_at.Goals as goal
 
 pub next_marked-requires : goal.next_marked-requires

@@ -1,4 +1,4 @@
-use Rattle.std.proofs.Common.{ℕ, ◌<◌, List, subst}
+use Rattle.std.proofs.Common.{◌<◌, List, subst}
 use Rattle.djq_index.specs.Entries.{Entry, cnt}
 use Rattle.djq_index.proofs.Apart.{there}
 use Rattle.djq_propagate.proofs.tests.take.Goals as goal

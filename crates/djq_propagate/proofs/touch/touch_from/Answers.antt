@@ -1,17 +1,11 @@
-use Rattle.std.proofs.Common.{◌≡◌, ℕ, ◌+◌, ◌-◌, ◌*◌, ◌<◌, ◌≤◌, Bool, true, false, List, [], ◌∷◌, ◌++◌, length, take, drop, Some, None, refl, ap, subst, sym, ◌∙◌, arith}
-use Rattle.djq_index.specs.Tuple.{same, one, pick}
-use Rattle.djq_index.specs.Entries.{Entry, supp, cnt, many, grp, marks, plain, is_marked, head_at}
-use Rattle.djq_index.specs.Table.{IsAt, IsLive}
-use Rattle.djq_index.proofs.Counts.{length_grp}
-use Rattle.djq_tree.specs.declared.node.Node.TheVariants.{Leaf, Trim, Meet}
+use Rattle.std.proofs.Common.{sym, ◌∙◌, arith}
+use Rattle.djq_index.specs.Tuple.{same, one}
+use Rattle.djq_index.specs.Entries.{cnt, grp}
+use Rattle.djq_tree.specs.declared.node.Node.TheVariants.{Trim}
 use Rattle.djq_tree.specs.Tree.{node_at}
-use Rattle.djq_reduct.specs.Tables.{entries_at, key_at, width_at}
-use Rattle.djq_propagate.specs.Touches.{IsTouched, IsStep, gate, reach_one, reach, cost_one, cost}
-use Rattle.djq_propagate.proofs.Families.{apart_of, same_keys}
-use Rattle.djq_propagate.proofs.Sides.{head_none, drop_group, take_all, cut_cnt}
-use Rattle.djq_propagate.proofs.Gains.{width_narrow, trim_few}
-use Rattle.djq_propagate.proofs.Going.{has_table, cut_of, cut_at, as_live, moved_at, group_still}
-use Rattle.djq_propagate.proofs.Touching.{touched_none, touched_one, one_absent, one_marked, touched_as, touched_more, gate_open, gate_none, first_is, gate_first, reach_yes, reach_no, reach_leaf, reach_trim, reach_guard, reach_side, cost_trim, cost_guard, cost_side, reach_still, cost_still, reach_more, reach_nothing, cost_none, cost_more, cost_le, cost_bound, take_zero, take_whole, cut_length, cut_mark, drop_marks, step_trim, step_lower, guard_lower, kids_still}
+use Rattle.djq_reduct.specs.Tables.{entries_at, key_at}
+use Rattle.djq_propagate.specs.Touches.{reach_one}
+use Rattle.djq_propagate.proofs.Touching.{touched_none, touched_as, reach_leaf, reach_trim, reach_guard, reach_side, cost_trim, cost_guard, cost_side, step_trim, step_lower, guard_lower}
 use Rattle.djq_propagate.proofs.touch.touch_from.Goals as goal
 
 pub node-requires : goal.node-requires

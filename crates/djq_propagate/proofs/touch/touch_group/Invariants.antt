@@ -1,8 +1,7 @@
-use Rattle.std.proofs.Common.{◌≡◌, ℕ, ◌+◌, ◌*◌, ◌≤◌, length, take, drop}
-use Rattle.djq_index.specs.Entries.{cnt, grp, marks, head_at}
-use Rattle.djq_tree.specs.Tree.{node_at}
+use Rattle.std.proofs.Common.{◌≡◌, ◌+◌, ◌*◌, ◌≤◌, length, take, drop}
+use Rattle.djq_index.specs.Entries.{cnt, grp, head_at}
 use Rattle.djq_reduct.specs.Tables.{entries_at, key_at}
-use Rattle.djq_propagate.specs.Touches.{IsTouched, reach, cost}
+use Rattle.djq_propagate.specs.Touches.{IsTouched}
 use Rattle.djq_propagate.proofs.touch.touch_group.Given as goal
 
 abbrev pub invariant-loop-done : goal.invariant-loop-done

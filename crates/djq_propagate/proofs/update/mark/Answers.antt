@@ -1,15 +1,6 @@
-use Rattle.std.proofs.Common.{◌≡◌, ℕ, ◌+◌, ◌*◌, ◌<◌, ◌≤◌, List, length, refl, ap, subst, sym, ◌∙◌, arith, rules}
-use Rattle.djq_index.specs.Table.{Table}
-use Rattle.djq_tree.specs.Labels.{label_at}
-use Rattle.djq_reduct.specs.Tables.{entries_at}
-use Rattle.djq_reduct.specs.Reducts as spec
-use Rattle.djq_reduct.specs.Reducts.{IsReducts}
-use Rattle.djq_reduct.specs.Marks.{IsBare, AreOnPath, IsWithout}
-use Rattle.djq_propagate.specs.Updates.{HasInserted, HasMarked, HasKept, HasDropped}
 use Rattle.djq_index.specs.Tuple.{one, same}
-use Rattle.djq_propagate.proofs.Going.{on_err}
-use Rattle.djq_propagate.proofs.Measuring.{put_counted, mark_counted, keep_counted, take_counted}
-use Rattle.djq_propagate.proofs.Updating.{both, leaf_within, ready_leaf, reducts_lived, refused_kept, inserted_all, can_insert, can_remove, marked_all, kept_all, dropped_all, undone}
+use Rattle.djq_propagate.proofs.Measuring.{mark_counted}
+use Rattle.djq_propagate.proofs.Updating.{leaf_within, can_remove, marked_all}
 use Rattle.djq_propagate.proofs.update.mark.Goals as goal
 
 pub touch_tuple-requires-clause-family : goal.touch_tuple-requires-clause-family

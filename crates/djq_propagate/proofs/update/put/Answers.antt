@@ -1,15 +1,9 @@
-use Rattle.std.proofs.Common.{◌≡◌, ℕ, ◌+◌, ◌*◌, ◌<◌, ◌≤◌, List, length, refl, ap, subst, sym, ◌∙◌, arith, rules}
-use Rattle.djq_index.specs.Table.{Table}
-use Rattle.djq_tree.specs.Labels.{label_at}
+use Rattle.std.proofs.Common.{ℕ, ◌+◌, ◌*◌, ◌<◌, ◌≤◌, length, sym, ◌∙◌, rules}
 use Rattle.djq_reduct.specs.Tables.{entries_at}
-use Rattle.djq_reduct.specs.Reducts as spec
-use Rattle.djq_reduct.specs.Reducts.{IsReducts}
-use Rattle.djq_reduct.specs.Marks.{IsBare, AreOnPath, IsWithout}
-use Rattle.djq_propagate.specs.Updates.{HasInserted, HasMarked, HasKept, HasDropped}
-use Rattle.djq_index.specs.Tuple.{one, same}
+use Rattle.djq_propagate.specs.Updates.{HasKept}
 use Rattle.djq_propagate.proofs.Going.{on_err}
-use Rattle.djq_propagate.proofs.Measuring.{put_counted, mark_counted, keep_counted, take_counted}
-use Rattle.djq_propagate.proofs.Updating.{both, leaf_within, ready_leaf, reducts_lived, refused_kept, inserted_all, can_insert, can_remove, marked_all, kept_all, dropped_all, undone}
+use Rattle.djq_propagate.proofs.Measuring.{put_counted}
+use Rattle.djq_propagate.proofs.Updating.{both, leaf_within, ready_leaf, refused_kept, inserted_all, can_insert}
 use Rattle.djq_propagate.proofs.Rooms.{put_bounded}
 use Rattle.djq_propagate.specs.Updates.{HasAtMost, paths}
 use Rattle.djq_propagate.proofs.update.put.Goals as goal
@@ -21,6 +15,10 @@ live-requires-clause-ready g c =
 pub live-requires-clause-absent : goal.live-requires-clause-absent
 live-requires-clause-absent g c =
     c.requires.absent
+
+pub live-requires-clause-few : goal.live-requires-clause-few
+live-requires-clause-few g c =
+    c.requires.few
 
 pub live-requires-clause-wide : goal.live-requires-clause-wide
 live-requires-clause-wide g c =

@@ -1,29 +1,52 @@
-use Rattle.std.proofs.Common.{length, ap, arith}
-use Rattle.djq_run.proofs.Going.{by_taking_all, by_taking_part}
-use Rattle.djq_run.proofs.Parts.{taken, all_taken, part_taken}
+use Rattle.std.proofs.Common.{rules, ◌≤◌, ◌∙◌, length, take, refl, ap, arith}
+use Rattle.djq_machine.specs.Run.{pending_of}
+use Rattle.djq_laws.specs.Moved.{Takes}
+use Rattle.djq_laws.proofs.Moving.{took_facts}
+use Rattle.djq_run.proofs.Going.{goes_begun, goes_then, by_write, by_fault}
+use Rattle.djq_run.proofs.Parts.{fewer_pending}
 use Rattle.djq_run.proofs.session.flush.Goals as goal
 
-pub returns-in-All : goal.returns-in-All
-returns-in-All g c =
-    let t = taken _ _ _ c.requires c.take_first.ensures in
+-- nothing was written yet
+pub writes-init : goal.writes-init
+writes-init g c = record { is_open = c.requires; course = λ o. goes_begun _ _; held = refl; cause = refl; same = refl }
+
+-- a write that took some bytes
+pub writes-smaller : goal.writes-smaller
+writes-smaller g c =
+    let state = g.M.Machine.state in
+    let same = c.pending-in-writes.ensures in
+    let takes = c.in-Took.ensures.takes in
+    let within : c.in-Took.count ≤ length (pending_of (state c.writes.machine) 1) =
+    omega (arith, takes.1, ap length same) in
+    fewer_pending c.in-Took.count (state c.writes.machine) (state c.took.new.self) takes.0 within
+    (took_facts _ 1 _ c.took.ensures.effect _ c.took.ensures.step)
+
+pub writes-preserved : goal.writes-preserved
+writes-preserved g c =
+    let state = g.M.Machine.state in
+    let same = c.pending-in-writes.ensures in
+    let takes = c.in-Took.ensures.takes in
+    let t : Takes (state c.writes.machine) (state c.took.new.self) 1
+    (take c.in-Took.count (pending_of (state c.writes.machine) 1)) =
+    took_facts _ 1 _ c.took.ensures.effect _ c.took.ensures.step in
     record {
-      course = λ o. by_taking_all o _ _ _ _ _ _ _ c.pending-pending.ensures c.take_first.ensures c.in-All.ensures.written;
-      is_open = t.is_open;
-      held = t.held;
-      cause = t.cause;
-      pending = all_taken _ _ _ t (ap length c.pending-pending.ensures);
-      faults = c.in-All.ensures.faults;
+      is_open = t.stays;
+      course = λ o. goes_then _ _ _ _ _ _ _ (c.writes.invariant.course o)
+          (by_write o _ _ _ _ c.in-Took.count _ _ _ same takes.0 takes.1 c.in-Took.ensures.told c.took.ensures);
+      held = t.held ∙ c.writes.invariant.held;
+      cause = t.cause ∙ c.writes.invariant.cause;
+      same = c.in-Took.ensures.faults ∙ c.writes.invariant.same;
     }
 
+-- a write that failed
 pub returns-in-Failed : goal.returns-in-Failed
 returns-in-Failed g c =
-    let t = taken _ _ _ c.requires c.take_first-in-Failed.ensures in
-    let written = c.in-Failed.ensures.written in
     record {
-      course = λ o. by_taking_part o _ _ _ _ _ _ _ _ c.pending-pending.ensures written.0 c.take_first-in-Failed.ensures written.1;
-      is_open = t.is_open;
-      held = t.held;
-      cause = t.cause;
-      pending = part_taken _ _ _ t (omega (arith, written.0, ap length c.pending-pending.ensures));
-      faults = c.in-Failed.ensures.faults;
+      course = λ o. goes_then _ _ _ _ _ _ _ (c.writes.invariant.course o)
+          (by_fault o _ _ _ _ _ _ c.pending-in-writes.ensures c.in-Failed.ensures.told);
+      is_open = c.writes.invariant.is_open;
+      held = c.writes.invariant.held;
+      cause = c.writes.invariant.cause;
+      pending = search rules;
+      faults = search rules;
     }

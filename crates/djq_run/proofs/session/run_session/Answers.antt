@@ -11,14 +11,16 @@ returns-then-is_err g c = not_opened _ _ _ c.open_session.result (sym c.if-is_er
 -- It is, and nothing was read.
 pub loop-init : goal.loop-init
 loop-init g c =
-    let entry = outside (g.S.Source.told c.args.source.now) (g.S.Source.faults c.args.source.now) (g.K.Sink.taken c.args.sink.now) (g.K.Sink.faults c.args.sink.now)
+    let entry = outside (g.S.Source.told c.args.source.now) (g.S.Source.faults c.args.source.now)
+    (g.K.Sink.told c.args.sink.now) (g.K.Sink.faults c.args.sink.now)
     (counts c.args.steps.now.listing c.args.steps.now.update c.args.steps.now.rows) in
     let b = begun entry _ _ c.open_session.result (sym c.if-is_err.ensures.value) c.open_session.ensures c.requires.alone in
     record { awaits = b.0; so_far = b.1; reads = refl; writes = refl; room = refl }
 
 -- The run so far, and a read that ends it.
 pub returns-in-Some : goal.returns-in-Some
-returns-in-Some g c = run_ends c.in-Some.status _ _ _ _ _ _ c.loop.invariant.so_far.0 c.in-Some.ensures c.loop.invariant.reads c.loop.invariant.writes
+returns-in-Some g c = run_ends c.in-Some.status _ _ _ _ _ _ c.loop.invariant.so_far.0 c.loop.invariant.so_far.1
+    c.in-Some.ensures c.loop.invariant.reads c.loop.invariant.writes
 
 -- The run so far, and a read that gave a byte at least.
 pub loop-preserved : goal.loop-preserved
@@ -26,7 +28,8 @@ loop-preserved g c =
     let read = c.in_default.ensures in
     record {
       awaits = read.goes_on.0;
-      so_far = so_far_more _ _ _ _ _ _ c.loop.counter c.loop.invariant.so_far.0 c.loop.invariant.so_far.1 read;
+      so_far = so_far_more _ _ _ _ _ _ c.loop.counter c.loop.invariant.so_far.0 c.loop.invariant.so_far.1
+          c.loop.invariant.so_far.2 read;
       reads = read.goes_on.2 ∙ c.loop.invariant.reads;
       writes = read.goes_on.3 ∙ c.loop.invariant.writes;
       room = c.serve_read.auto.buffer ∙ c.loop.invariant.room;
@@ -34,4 +37,6 @@ loop-preserved g c =
 
 -- Every read was made.
 pub returns : goal.returns
-returns g c = turns_used _ _ _ _ c.loop.invariant.so_far.0 (omega (arith, c.loop.invariant.so_far.1, c.loop-test.false)) c.loop.invariant.awaits c.loop.invariant.reads c.loop.invariant.writes
+returns g c = turns_used _ _ _ _ c.loop.invariant.so_far.0 c.loop.invariant.so_far.1
+    (omega (arith, c.loop.invariant.so_far.2, c.loop-test.false)) c.loop.invariant.awaits c.loop.invariant.reads
+    c.loop.invariant.writes

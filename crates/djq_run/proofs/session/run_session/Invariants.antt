@@ -1,4 +1,4 @@
-use Rattle.std.proofs.Common.{◌≡◌, ◌≤◌, length}
+use Rattle.std.proofs.Common.{◌≡◌, ◌≤◌, false, length}
 use Rattle.djq_machine.specs.Run.{all_fed}
 use Rattle.djq_machine.specs.Call.{counts}
 use Rattle.djq_laws.specs.Course.{outside, Course}
@@ -11,13 +11,16 @@ invariant-loop g l =
     let state = g.M.Machine.state in
     let told = g.S.Source.told in
     let reads = g.S.Source.faults in
-    let taken = g.K.Sink.taken in
+    let wrote = g.K.Sink.told in
     let writes = g.K.Sink.faults in
-    let entry = outside (told l.fn.source) (reads l.fn.source) (taken l.fn.sink) (writes l.fn.sink) (counts l.fn.steps.listing l.fn.steps.update l.fn.steps.rows) in
-    let now = outside (told l.source) (reads l.source) (taken l.sink) (writes l.sink) (counts l.steps.listing l.steps.update l.steps.rows) in
+    let entry = outside (told l.fn.source) (reads l.fn.source) (wrote l.fn.sink) (writes l.fn.sink)
+    (counts l.fn.steps.listing l.fn.steps.update l.fn.steps.rows) in
+    let now = outside (told l.source) (reads l.source) (wrote l.sink) (writes l.sink)
+    (counts l.steps.listing l.steps.update l.steps.rows) in
     record {
       awaits : Awaits (state l.machine);
-      so_far : (course : Course (state l.fn.machine) entry now (state l.machine)) × (l.counter ≤ length (all_fed 1 course.done));
+      so_far : (course : Course (state l.fn.machine) entry now (state l.machine)) × (course.failed ≡ false)
+          × (l.counter ≤ length (all_fed 1 course.done));
       reads : reads l.source ≡ reads l.fn.source;
       writes : writes l.sink ≡ writes l.fn.sink;
       room : length l.buffer ≡ length l.fn.buffer;

@@ -1,12 +1,15 @@
-use Rattle.std.proofs.Common.{◌∙◌, sym, ap, subst, length, arith}
+use Rattle.std.proofs.Common.{◌∙◌, false, refl, sym, ap, subst, length, arith}
 use Rattle.djq_lines.specs.declared.answer.EndCause.TheVariants.{Input}
 use Rattle.djq_machine.specs.State.{State}
 use Rattle.djq_machine.specs.Call.{Counts, counts}
-use Rattle.djq_laws.specs.Course.{Course}
-use Rattle.djq_laws.proofs.Courses.{course_then}
-use Rattle.djq_run.specs.Parts.{with_sink}
+use Rattle.djq_run.specs.Parts.{GoesTo, with_sink}
+use Rattle.djq_run.proofs.Going.{goes_begun, goes_then}
 use Rattle.djq_run.proofs.Parts.{line_ran, line_ended, one_cause}
 use Rattle.djq_run.proofs.session.serve_held.Goals as goal
+
+-- Nothing was done yet.
+pub lines-init : goal.lines-init
+lines-init g c = record { is_open = c.requires; course = λ o. goes_begun _ _; input = λ e. e; same = refl }
 
 -- A line that was run leaves fewer bytes.
 pub lines-smaller : goal.lines-smaller
@@ -28,8 +31,8 @@ lines-preserved g c =
     let line = line_ran (state c.flush.new.machine) (state c.step.new.self) before now flushed.is_open flushed.pending c.in-Ran.ensures in
     record {
       is_open = line.is_open;
-      course = λ o. course_then _ _ _ _ _ _ (c.lines.invariant.course o)
-          (course_then _ _ _ _ _ _ (flushed.course (record o { counted = before })) (line.course o _ _));
+      course = λ o. goes_then _ _ _ _ _ _ _ (c.lines.invariant.course o)
+          (goes_then _ _ _ _ _ _ _ (flushed.course (record o { counted = before })) (line.course o _ _));
       input = λ e. absurd (line.input e);
       same = flushed.faults ∙ c.lines.invariant.same;
     }
@@ -38,15 +41,19 @@ lines-preserved g c =
 pub returns-in-Dry-clause-course : goal.returns-in-Dry-clause-course
 returns-in-Dry-clause-course g c o =
     let state = g.M.Machine.state in
-    let taken = g.K.Sink.taken in
+    let told = g.K.Sink.told in
     let faults = g.K.Sink.faults in
     let before = counts c.lines.steps.listing c.lines.steps.update c.lines.steps.rows in
-    let entry = with_sink o (taken c.args.sink.now) (faults c.args.sink.now) (counts c.args.steps.now.listing c.args.steps.now.update c.args.steps.now.rows) in
+    let entry = with_sink o (told c.args.sink.now) (faults c.args.sink.now)
+    (counts c.args.steps.now.listing c.args.steps.now.update c.args.steps.now.rows) in
     let flushed = c.lines-test.ensures in
     let dry = c.in-Dry.ensures in
-    subst (λ (st : State). Course (state c.args.machine.now) entry (with_sink o (taken c.flush.new.sink) (faults c.flush.new.sink) (counts c.step.new.steps.listing c.step.new.steps.update c.step.new.steps.rows)) st) (sym dry.0)
-    (subst (λ (k : Counts). Course (state c.args.machine.now) entry (with_sink o (taken c.flush.new.sink) (faults c.flush.new.sink) k) (state c.flush.new.machine)) (sym dry.1)
-    (course_then _ _ _ _ _ _ (c.lines.invariant.course o) (flushed.course (record o { counted = before }))))
+    subst (λ (st : State). GoesTo false (state c.args.machine.now) entry
+    (with_sink o (told c.flush.new.sink) (faults c.flush.new.sink)
+    (counts c.step.new.steps.listing c.step.new.steps.update c.step.new.steps.rows)) st) (sym dry.0)
+    (subst (λ (k : Counts). GoesTo false (state c.args.machine.now) entry
+    (with_sink o (told c.flush.new.sink) (faults c.flush.new.sink) k) (state c.flush.new.machine)) (sym dry.1)
+    (goes_then _ _ _ _ _ _ _ (c.lines.invariant.course o) (flushed.course (record o { counted = before }))))
 
 pub flush-requires-in-Ended : goal.flush-requires-in-Ended
 flush-requires-in-Ended g c =
@@ -65,9 +72,9 @@ returns-then-flush-clause-course g c o =
     let now = counts c.step.new.steps.listing c.step.new.steps.update c.step.new.steps.rows in
     let flushed = c.lines-test.ensures in
     let line = line_ended c.in-Ended.cause (state c.flush.new.machine) (state c.step.new.self) before now flushed.is_open flushed.pending c.in-Ended.ensures in
-    course_then _ _ _ _ _ _ (c.lines.invariant.course o)
-    (course_then _ _ _ _ _ _ (flushed.course (record o { counted = before }))
-    (course_then _ _ _ _ _ _ (line.course o _ _) (c.flush-in-Ended.ensures.course (record o { counted = now }))))
+    goes_then _ _ _ _ _ _ _ (c.lines.invariant.course o)
+    (goes_then _ _ _ _ _ _ _ (flushed.course (record o { counted = before }))
+    (goes_then _ _ _ _ _ _ _ (line.course o _ _) (c.if-flush.ensures.course (record o { counted = now }))))
 
 pub returns-in-Ended-clause-course : goal.returns-in-Ended-clause-course
 returns-in-Ended-clause-course g c o =
@@ -76,9 +83,9 @@ returns-in-Ended-clause-course g c o =
     let now = counts c.step.new.steps.listing c.step.new.steps.update c.step.new.steps.rows in
     let flushed = c.lines-test.ensures in
     let line = line_ended c.in-Ended.cause (state c.flush.new.machine) (state c.step.new.self) before now flushed.is_open flushed.pending c.in-Ended.ensures in
-    course_then _ _ _ _ _ _ (c.lines.invariant.course o)
-    (course_then _ _ _ _ _ _ (flushed.course (record o { counted = before }))
-    (course_then _ _ _ _ _ _ (line.course o _ _) (c.flush-in-Ended.ensures.course (record o { counted = now }))))
+    goes_then _ _ _ _ _ _ _ (c.lines.invariant.course o)
+    (goes_then _ _ _ _ _ _ _ (flushed.course (record o { counted = before }))
+    (goes_then _ _ _ _ _ _ _ (line.course o _ _) (c.if-flush.ensures.course (record o { counted = now }))))
 
 pub returns-then-flush-clause-serves : goal.returns-then-flush-clause-serves
 returns-then-flush-clause-serves g c =
@@ -103,4 +110,4 @@ returns-in-Ended-clause-serves g c =
 pub returns-clause-course : goal.returns-clause-course
 returns-clause-course g c o =
     let before = counts c.lines.steps.listing c.lines.steps.update c.lines.steps.rows in
-    course_then _ _ _ _ _ _ (c.lines.invariant.course o) (c.flush.ensures.course (record o { counted = before }))
+    goes_then _ _ _ _ _ _ _ (c.lines.invariant.course o) (c.lines-test.ensures.course (record o { counted = before }))

@@ -1,21 +1,23 @@
-use Rattle.std.proofs.Common.{◌≡◌, Some, length}
+use Rattle.std.proofs.Common.{◌≡◌, false, Some, length}
 use Rattle.djq_lines.specs.declared.answer.EndCause.TheVariants.{Input}
 use Rattle.djq_machine.specs.Call.{IsOpen, counts, cause_of, held_of}
-use Rattle.djq_laws.specs.Course.{Outside, Course}
-use Rattle.djq_run.specs.Parts.{with_sink}
+use Rattle.djq_laws.specs.Course.{Outside}
+use Rattle.djq_run.specs.Parts.{GoesTo, with_sink}
 use Rattle.djq_run.proofs.session.serve_held.Given as goal
 
 -- The run went on from the entry, no line ended the input, and no write failed.
 abbrev pub invariant-lines : goal.invariant-lines
 invariant-lines g l =
     let state = g.M.Machine.state in
-    let taken = g.K.Sink.taken in
+    let told = g.K.Sink.told in
     let faults = g.K.Sink.faults in
     record {
       is_open : IsOpen (state l.machine) 1;
-      course : (o : Outside) → Course (state l.fn.machine)
-          (with_sink o (taken l.fn.sink) (faults l.fn.sink) (counts l.fn.steps.listing l.fn.steps.update l.fn.steps.rows))
-          (with_sink o (taken l.sink) (faults l.sink) (counts l.steps.listing l.steps.update l.steps.rows)) (state l.machine);
+      course : (o : Outside) → GoesTo false (state l.fn.machine)
+          (with_sink o (told l.fn.sink) (faults l.fn.sink)
+          (counts l.fn.steps.listing l.fn.steps.update l.fn.steps.rows))
+          (with_sink o (told l.sink) (faults l.sink) (counts l.steps.listing l.steps.update l.steps.rows))
+          (state l.machine);
       input : cause_of (state l.machine) 1 ≡ Some Input → cause_of (state l.fn.machine) 1 ≡ Some Input;
       same : faults l.sink ≡ faults l.fn.sink;
     }

@@ -1,13 +1,12 @@
-use Rattle.std.proofs.Common.{◌<◌, ◌≤◌, length, take, refl, sym, subst, length-take, arith}
+use Rattle.std.proofs.Common.{◌<◌, ◌≤◌, true, false, length, take, refl, sym, subst, length-take, arith}
 use Rattle.std.specs.Prelude.{Option}
 use Rattle.djq_machine.specs.Call.{counts}
 use Rattle.djq_laws.specs.declared.limits.TheConstants.{READ_BYTES}
 use Rattle.djq_laws.specs.Course.{outside}
 use Rattle.djq_laws.proofs.Moving.{fed_facts, ended_facts}
-use Rattle.djq_laws.proofs.Courses.{course_then}
 use Rattle.djq_run.specs.declared.status.Status.{Status}
 use Rattle.djq_run.specs.Parts.{ReadEnds}
-use Rattle.djq_run.proofs.Going.{by_piece, by_end, by_failure}
+use Rattle.djq_run.proofs.Going.{by_piece, by_end, by_failure, goes_then}
 use Rattle.djq_run.proofs.Ending.{piece_open, piece_ends, end_open, input_ended, ends_done, still_at_end}
 use Rattle.djq_run.proofs.session.serve_read.Goals as goal
 
@@ -23,22 +22,26 @@ returns-in-Got g c =
     let state = g.M.Machine.state in
     let told = g.S.Source.told in
     let rf = g.S.Source.faults in
-    let taken = g.K.Sink.taken in
+    let wrote = g.K.Sink.told in
     let wf = g.K.Sink.faults in
     let old = state c.args.machine.now in
     let mid = state c.feed.new.self in
     let new = state c.serve_held.new.machine in
     let before = counts c.args.steps.now.listing c.args.steps.now.update c.args.steps.now.rows in
     let now = counts c.serve_held.new.steps.listing c.serve_held.new.steps.update c.serve_held.new.steps.rows in
-    let o = outside (told c.args.source.now) (rf c.args.source.now) (taken c.args.sink.now) (wf c.args.sink.now) before in
-    let mid_o = outside (told c.read.new.self) (rf c.read.new.self) (taken c.args.sink.now) (wf c.args.sink.now) before in
-    let o' = outside (told c.read.new.self) (rf c.read.new.self) (taken c.serve_held.new.sink) (wf c.serve_held.new.sink) now in
+    let o = outside (told c.args.source.now) (rf c.args.source.now) (wrote c.args.sink.now)
+    (wf c.args.sink.now) before in
+    let mid_o = outside (told c.read.new.self) (rf c.read.new.self) (wrote c.args.sink.now)
+    (wf c.args.sink.now) before in
+    let o' = outside (told c.read.new.self) (rf c.read.new.self) (wrote c.serve_held.new.sink)
+    (wf c.serve_held.new.sink) now in
     let reads = c.in-Got.ensures.reads in
     let bytes = take c.in-Got.count c.read.new.buf in
     let some : 0 < length bytes = omega (arith, length-take c.in-Got.count c.read.new.buf, reads.0, reads.1) in
     let few : length bytes ≤ READ_BYTES = omega (arith, length-take c.in-Got.count c.read.new.buf, reads.1, c.read.auto.buf, c.requires.most) in
     let m = c.feed.ensures.makes in
-    let piece = by_piece (told c.args.source.now) (told c.read.new.self) (rf c.args.source.now) (rf c.read.new.self) (taken c.args.sink.now) (wf c.args.sink.now) before old mid bytes c.requires.awaits some few reads.2 m in
+    let piece = by_piece (told c.args.source.now) (told c.read.new.self) (rf c.args.source.now) (rf c.read.new.self)
+    (wrote c.args.sink.now) (wf c.args.sink.now) before old mid bytes c.requires.awaits some few reads.2 m in
     subst (λ (s : Option Status). ReadEnds s o o' old new) (sym c.status.ensures)
     (piece_ends c.serve_held.result o mid_o o' old mid new bytes piece (c.serve_held.ensures.course mid_o) c.requires.awaits (fed_facts old 1 bytes m.effect mid m.step)
     c.serve_held.ensures.serves some c.in-Got.ensures.faults c.serve_held.ensures.faults)
@@ -49,22 +52,28 @@ returns-then-flush g c =
     let state = g.M.Machine.state in
     let told = g.S.Source.told in
     let rf = g.S.Source.faults in
-    let taken = g.K.Sink.taken in
+    let wrote = g.K.Sink.told in
     let wf = g.K.Sink.faults in
     let old = state c.args.machine.now in
     let mid = state c.end_session.new.self in
     let new = state c.flush.new.machine in
     let counted = counts c.args.steps.now.listing c.args.steps.now.update c.args.steps.now.rows in
-    let o = outside (told c.args.source.now) (rf c.args.source.now) (taken c.args.sink.now) (wf c.args.sink.now) counted in
-    let mid_o = outside (told c.read.new.self) (rf c.read.new.self) (taken c.args.sink.now) (wf c.args.sink.now) counted in
-    let o' = outside (told c.read.new.self) (rf c.read.new.self) (taken c.flush.new.sink) (wf c.flush.new.sink) counted in
+    let o = outside (told c.args.source.now) (rf c.args.source.now) (wrote c.args.sink.now)
+    (wf c.args.sink.now) counted in
+    let mid_o = outside (told c.read.new.self) (rf c.read.new.self) (wrote c.args.sink.now)
+    (wf c.args.sink.now) counted in
+    let o' = outside (told c.read.new.self) (rf c.read.new.self) (wrote c.flush.new.sink)
+    (wf c.flush.new.sink) counted in
     let reads = c.in-End.ensures.reads in
     let m = c.end_session.ensures in
     let at_end = still_at_end (told c.args.source.now) (told c.read.new.self) reads.0 reads.1 in
     let flushed = c.if-flush.ensures in
-    let first = by_end (told c.args.source.now) (told c.read.new.self) (rf c.args.source.now) (rf c.read.new.self) (taken c.args.sink.now) (wf c.args.sink.now) counted old mid reads.1 c.requires.awaits m in
+    let first = by_end (told c.args.source.now) (told c.read.new.self) (rf c.args.source.now) (rf c.read.new.self)
+    (wrote c.args.sink.now) (wf c.args.sink.now) counted old mid reads.1 c.requires.awaits m in
+    let whole = goes_then o mid_o o' old mid new false first (flushed.course mid_o) in
     record {
-      course = course_then o mid_o o' old mid new first (flushed.course mid_o);
+      course = whole.0;
+      failed = whole.1;
       goes_on = (
         ends_done (told c.read.new.self) mid new (input_ended old mid c.requires.awaits (ended_facts old 1 m.effect mid m.step)) flushed.cause flushed.held flushed.pending at_end,
         c.in-End.ensures.faults,
@@ -77,22 +86,28 @@ returns-else-flush g c =
     let state = g.M.Machine.state in
     let told = g.S.Source.told in
     let rf = g.S.Source.faults in
-    let taken = g.K.Sink.taken in
+    let wrote = g.K.Sink.told in
     let wf = g.K.Sink.faults in
     let old = state c.args.machine.now in
     let mid = state c.end_session.new.self in
     let new = state c.flush.new.machine in
     let counted = counts c.args.steps.now.listing c.args.steps.now.update c.args.steps.now.rows in
-    let o = outside (told c.args.source.now) (rf c.args.source.now) (taken c.args.sink.now) (wf c.args.sink.now) counted in
-    let mid_o = outside (told c.read.new.self) (rf c.read.new.self) (taken c.args.sink.now) (wf c.args.sink.now) counted in
-    let o' = outside (told c.read.new.self) (rf c.read.new.self) (taken c.flush.new.sink) (wf c.flush.new.sink) counted in
+    let o = outside (told c.args.source.now) (rf c.args.source.now) (wrote c.args.sink.now)
+    (wf c.args.sink.now) counted in
+    let mid_o = outside (told c.read.new.self) (rf c.read.new.self) (wrote c.args.sink.now)
+    (wf c.args.sink.now) counted in
+    let o' = outside (told c.read.new.self) (rf c.read.new.self) (wrote c.flush.new.sink)
+    (wf c.flush.new.sink) counted in
     let reads = c.in-End.ensures.reads in
     let m = c.end_session.ensures in
     let at_end = still_at_end (told c.args.source.now) (told c.read.new.self) reads.0 reads.1 in
     let flushed = c.if-flush.ensures in
-    let first = by_end (told c.args.source.now) (told c.read.new.self) (rf c.args.source.now) (rf c.read.new.self) (taken c.args.sink.now) (wf c.args.sink.now) counted old mid reads.1 c.requires.awaits m in
+    let first = by_end (told c.args.source.now) (told c.read.new.self) (rf c.args.source.now) (rf c.read.new.self)
+    (wrote c.args.sink.now) (wf c.args.sink.now) counted old mid reads.1 c.requires.awaits m in
+    let whole = goes_then o mid_o o' old mid new true first (flushed.course mid_o) in
     record {
-      course = course_then o mid_o o' old mid new first (flushed.course mid_o);
+      course = whole.0;
+      failed = whole.1;
       goes_on = (record { some = flushed.pending; at_end = λ e. at_end }, c.in-End.ensures.faults, flushed.faults);
     }
 
@@ -101,10 +116,9 @@ pub returns-in-Failed : goal.returns-in-Failed
 returns-in-Failed g c =
     let told = g.S.Source.told in
     let rf = g.S.Source.faults in
-    let taken = g.K.Sink.taken c.args.sink.now in
+    let wrote = g.K.Sink.told c.args.sink.now in
     let wf = g.K.Sink.faults c.args.sink.now in
     let counted = counts c.args.steps.now.listing c.args.steps.now.update c.args.steps.now.rows in
-    record {
-      course = by_failure (told c.args.source.now) (told c.read.new.self) (rf c.args.source.now) (rf c.read.new.self) taken wf counted (g.M.Machine.state c.args.machine.now) c.in-Failed.ensures.reads;
-      goes_on = (c.requires.awaits, c.in-Failed.ensures.faults, refl);
-    }
+    let none = by_failure (told c.args.source.now) (told c.read.new.self) (rf c.args.source.now)
+    (rf c.read.new.self) wrote wf counted (g.M.Machine.state c.args.machine.now) c.in-Failed.ensures.reads in
+    record { course = none.0; failed = none.1; goes_on = (c.requires.awaits, c.in-Failed.ensures.faults, refl) }

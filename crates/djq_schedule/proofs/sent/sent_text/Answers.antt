@@ -7,8 +7,12 @@ use Rattle.djq_schedule.proofs.sent.sent_text.Goals.{in-Sending+in_ok-add_piece,
 pub loop-told-preserved : goal.loop-told-preserved
 loop-told-preserved c = elim c.match-told.branch [
   | in-Sending+in_ok-add_piece w ↦ rw w.text-is (rw w.begun-is (record {
-    sent = sending_at c.args.past.now c.loop-told.told-index c.told-item.result w.in-Sending.id w.in-Sending.field-1 w.as_slice.result.now _ _ _ _ c.loop-told-test.true c.told-item.is
-        (w.in-Sending.is ∙ ap (λ (bytes : List ℕ). Sending w.in-Sending.id w.in-Sending.field-1 bytes) (sym w.as_slice.ensures))
+    sent =
+        sending_at c.args.past.now c.loop-told.told-index c.told-item.result w.in-Sending.id w.in-Sending.field-1
+        w.in-Sending.field-2 w.as_slice.result.now _ _ _ _ c.loop-told-test.true c.told-item.is
+        (w.in-Sending.is
+        ∙ ap (λ (bytes : List ℕ). Sending w.in-Sending.id w.in-Sending.field-1 w.in-Sending.field-2 bytes)
+        (sym w.as_slice.ensures))
         c.loop-told.invariant.sent w.in_ok-add_piece.ensures.text w.in_ok-add_piece.ensures.begun;
   }))
   | in_default w ↦ rw w.text-is (rw w.begun-is (record {

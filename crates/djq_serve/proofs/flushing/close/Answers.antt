@@ -1,3 +1,4 @@
+use Rattle.std.proofs.Common.{rules}
 use Rattle.djq_serve.proofs.Agreeing.{open_at_hub, agrees_closed}
 use Rattle.djq_serve.proofs.Settling.{closed_ids}
 use Rattle.djq_serve.proofs.flushing.close.Goals as goal
@@ -5,9 +6,10 @@ use Rattle.djq_serve.proofs.flushing.close.Goals as goal
 pub close-requires : goal.close-requires
 close-requires g c = record { is_open = open_at_hub (g.M.Machine.state c.args.machine.now) (g.H.Hub.ids c.args.hub.now) c.args.id c.requires.agrees c.requires.open }
 
+-- The hub has closed it, and so has the machine.
 pub returns-clause-agrees : goal.returns-clause-agrees
 returns-clause-agrees g c =
     let st = g.M.Machine.state in
     let ids = g.H.Hub.ids in
-    agrees_closed (st c.args.machine.now) (st c.close_session.new.self) (ids c.args.hub.now) (ids c.close.new.self) c.args.id
-    (closed_ids _ c.args.id _ _ c.close_session.ensures) c.close.ensures.ids c.requires.agrees
+    agrees_closed (st c.args.machine.now) (st c.close_session.new.self) (ids c.args.hub.now) (ids _) c.args.id
+    (closed_ids _ c.args.id _ _ c.close_session.ensures) (search rules) c.requires.agrees

@@ -21,8 +21,9 @@ visits-preserved g c =
       faults = c.visit-from.ensures.faults ∙ c.visits.invariant.faults;
     }
 
-pub returns-clause-goes : goal.returns-clause-goes
-returns-clause-goes g c next =
+pub returns-clause-flushes : goal.returns-clause-flushes
+returns-clause-flushes g c =
     let state = g.M.Machine.state in
     let none : c.due.result ≡ None = search rules in
-    flush_done _ _ (state c.args.machine.now) (state c.visits.machine) c.visits.from c.visits.invariant.flushing (sym c.due.ensures ∙ none) next
+    flush_done _ _ (state c.args.machine.now) (state c.visits.machine) c.visits.from c.visits.invariant.flushing
+    (sym c.due.ensures ∙ none)

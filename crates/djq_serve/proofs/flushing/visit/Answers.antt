@@ -6,7 +6,7 @@ use Rattle.djq_serve.proofs.Telling.{tells_send, tells_more}
 use Rattle.djq_serve.proofs.Agreeing.{agrees_same, due_ended, open_at_hub}
 use Rattle.djq_serve.proofs.Settling.{took_spares, closed_spares}
 use Rattle.djq_serve.proofs.Moving.{visit_blocked, visit_gone, visit_closes}
-use Rattle.djq_serve.proofs.Visiting.{empty, at_place, takes_some}
+use Rattle.djq_serve.proofs.Visiting.{empty, at_place, offers_all, takes_some}
 use Rattle.djq_serve.proofs.Nearing.{took_nearer, closed_nearer}
 use Rattle.djq_serve.proofs.flushing.visit.Goals as goal
 
@@ -72,7 +72,9 @@ returns-in-Again-clause-goes g c from next due =
     let same : c.from-behind.result ≡ c.args.id = search rules in
     let some : 0 < length c.pending-pending.result.now = search rules in
     at_place _ _ old old from (c.args.id + 1) (c.from-behind.result + 1) next (ap (λ (n : ℕ). n + 1) same)
-    (visit_blocked _ _ old from next c.args.id due (omega (arith, some, ap length c.pending-pending.ensures)) (tells_send _ _ _ _ _ _ c.args.id _ _ sent.past sent.script sent.ids))
+    (visit_blocked _ _ old from next c.args.id due (omega (arith, some, ap length c.pending-pending.ensures))
+    (offers_all _ _ c.args.id _ _ _ c.pending-pending.ensures
+    (tells_send _ _ _ _ _ _ c.args.id _ _ sent.past sent.script sent.ids)))
 
 -- The session is gone, and is closed.
 
@@ -86,7 +88,10 @@ returns-in-Gone-clause-goes g c from next due =
     let some : 0 < length c.pending-pending.result.now = search rules in
     at_place _ _ old new from (c.args.id + 1) (c.from-behind.result + 1) next (ap (λ (n : ℕ). n + 1) same)
     (visit_gone _ _ old new from next c.args.id due (omega (arith, some, ap length c.pending-pending.ensures)) c.close-in-Gone.ensures.makes
-    (tells_more _ _ _ _ _ (tells_send _ _ _ _ _ _ c.args.id _ _ sent.past sent.script sent.ids) c.close-in-Gone.ensures.told))
+    (tells_more _ _ _ _ _
+    (offers_all _ _ c.args.id _ _ _ c.pending-pending.ensures
+    (tells_send _ _ _ _ _ _ c.args.id _ _ sent.past sent.script sent.ids))
+    c.close-in-Gone.ensures.told))
 
 pub returns-in-Gone-clause-nearer : goal.returns-in-Gone-clause-nearer
 returns-in-Gone-clause-nearer g c =

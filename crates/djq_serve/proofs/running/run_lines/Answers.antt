@@ -27,7 +27,8 @@ lines-preserved g c =
     let state = g.M.Machine.state in
     record {
       lining = line_then _ _ _ _ _ _ (state c.args.machine.now) (state c.lines.machine) (state c.step.new.self) (state c.flush.new.machine) c.args.id
-          c.lines.invariant.lining c.lines-test.ensures c.in-Ran.ensures c.flush.ensures.goes c.flush.ensures.agrees c.flush.ensures.spares;
+          c.lines.invariant.lining c.lines-test.ensures c.in-Ran.ensures c.flush.ensures.flushes.goes
+          c.flush.ensures.agrees c.flush.ensures.spares;
       faults = c.flush.ensures.faults ∙ c.lines.invariant.faults;
     }
 

@@ -13,4 +13,5 @@ pub returns-clause-ends : goal.returns-clause-ends
 returns-clause-ends g c =
     let state = g.M.Machine.state in
     serve_ends _ c.args.turns _ _ _ _ _ (state c.args.machine.now) (state c.take_turns-served.new.machine) (state c.close_all.new.machine) c.requires.going
-    c.take_turns-served.ensures.took c.close_all.ensures.goes c.close_all.ensures.none
+    c.requires.none c.take_turns-served.ensures.took c.close_all.ensures.goes c.close_all.ensures.none
+    c.close_all.ensures.agrees

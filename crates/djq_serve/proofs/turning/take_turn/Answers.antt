@@ -1,14 +1,14 @@
-use Rattle.std.proofs.Common.{◌+◌, refl}
+use Rattle.std.proofs.Common.{◌+◌, refl, rules}
 use Rattle.djq_machine.specs.Call.{counts}
 use Rattle.djq_machine.specs.Step.{fed, ended}
 use Rattle.djq_laws.proofs.Rising.{step_ids}
 use Rattle.djq_io.specs.declared.hub.Turn.TheVariants.{Opened, Bytes, Ended, Idle, Over, Failed}
-use Rattle.djq_serve.specs.Server.{no_turn}
 use Rattle.djq_serve.proofs.Telling.{tells_turn}
 use Rattle.djq_serve.proofs.Going.{goes_then}
 use Rattle.djq_serve.proofs.Agreeing.{is_new, running_open, agrees_same, agrees_ended}
 use Rattle.djq_serve.proofs.Settling.{fed_settled, ended_settled, opened_settled}
 use Rattle.djq_serve.proofs.Bringing.{turn_opens, turn_feeds, turn_ends, turn_idles, turn_over, turn_fails, at_room}
+use Rattle.djq_serve.proofs.Visiting.{turn_flushed}
 use Rattle.djq_serve.proofs.turning.take_turn.Goals as goal
 
 pub open-requires : goal.open-requires
@@ -105,7 +105,7 @@ returns-in-Over-clause-goes g c turns =
     goes_then _ _ _ _ _ _
     (turn_over _ _ counted turns (state c.args.machine.now)
     (tells_turn _ _ _ _ _ _ Over c.turn.new.buf (at_room _ _ c.turn.auto.buf c.requires.room) brought.past brought.script brought.ids))
-    (c.flush.ensures.goes no_turn counted (turns + 1))
+    (turn_flushed _ _ (state c.args.machine.now) _ (search rules) counted (turns + 1))
 
 pub returns-in-Failed-clause-goes : goal.returns-in-Failed-clause-goes
 returns-in-Failed-clause-goes g c turns =

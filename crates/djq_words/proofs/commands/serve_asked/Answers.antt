@@ -19,15 +19,17 @@ returns-in_default c =
     let none : first_of (codes "turns") (rows_of f) ≡ None = sym (first_value-rows f (codes "turns")) ∙ sym c.get_str-2.ensures ∙ ap (λ (o : Option (Bor (List ℕ))). option_map (λ s. s.now) o) c.in_default.is in
     (refl, given, subst (λ (o : Option Text). TurnsAre o 9223372036854775807) (sym none) refl)
 
-pub returns-in-Ok : goal.returns-in-Ok
-returns-in-Ok c =
+pub returns-in-Some-number_in : goal.returns-in-Some-number_in
+returns-in-Some-number_in c =
     let f = found_of c.args.given.now in
     let given = sym (first_value-rows f (codes "ADDR")) ∙ sym c.get_str.ensures ∙ ap (λ (o : Option (Bor (List ℕ))). option_map (λ s. s.now) o) c.in_ok-addr.was in
     let spelled = sym (first_value-rows f (codes "turns")) ∙ sym c.get_str-2.ensures ∙ ap (λ (o : Option (Bor (List ℕ))). option_map (λ s. s.now) o) c.in-Some.is in
-    (refl, given, turns_spelled c.in-Some.text.now c.in-Ok.turns (first_of (codes "turns") (rows_of f)) spelled c.in-Ok.ensures.value.0)
+    let text = c.in-Some.text.now in
+    let turns = turns_spelled text _ (first_of (codes "turns") (rows_of f)) spelled c.in-Some-number_in.ensures in
+    (refl, given, turns)
 
-pub returns-in-Err : goal.returns-in-Err
-returns-in-Err c =
+pub returns-in-None : goal.returns-in-None
+returns-in-None c =
     let f = found_of c.args.given.now in
     let spelled = sym (first_value-rows f (codes "turns")) ∙ sym c.get_str-2.ensures ∙ ap (λ (o : Option (Bor (List ℕ))). option_map (λ s. s.now) o) c.in-Some.is in
-    turns_unspelled (rows_of f) c.in-Some.text.now c.in-Err.field-0 spelled c.in-Err.ensures.value.0
+    turns_unspelled (rows_of f) c.in-Some.text.now spelled c.in-None.ensures

@@ -4,4 +4,4 @@ use Rattle.djq_arena.proofs.Accounts.{rows_law}
 use Rattle.djq_arena.proofs.arena.Arena.laws.Goals as goal
 
 pub returns : goal.returns
-returns c = subst AreRows c.self.view_is (rows_law c.self.inside.store c.self.invariant)
+returns c = subst AreRows c.self.view_is (rows_law c.self.inside.store c.self.invariant.0)

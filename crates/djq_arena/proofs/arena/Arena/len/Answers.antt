@@ -1,7 +1,7 @@
-use Rattle.std.proofs.Common.{◌≡◌, ◌∙◌, ap, length}
+use Rattle.std.proofs.Common.{◌∙◌, ap, length}
 use Rattle.djq_arena.specs.Rows.{Rows}
 use Rattle.djq_arena.proofs.Accounts.{row_count}
 use Rattle.djq_arena.proofs.arena.Arena.len.Goals as goal
 
 pub returns : goal.returns
-returns c = row_count c.self.inside.store c.self.invariant ∙ ap (λ (v : Rows). length v.rows) c.self.view_is
+returns c = row_count c.self.inside.store c.self.invariant.0 ∙ ap (λ (v : Rows). length v.rows) c.self.view_is

@@ -1,4 +1,4 @@
-use Rattle.std.proofs.Common.{rules, arith, ◌≡◌, ◌<◌, ◌≤◌, ◌∷◌, [], ap, ◌∙◌, inl, inr, min, length, drop, take, sym, subst}
+use Rattle.std.proofs.Common.{rules, arith, ◌≡◌, ◌<◌, ◌≤◌, ap, ◌∙◌, inl, inr, min, length, take, sym, subst}
 use Rattle.djq_io.specs.Hub.{IsRunning}
 use Rattle.djq_io.specs.MemHub.{Recorded}
 use Rattle.djq_io.proofs.Following.{cuts_piece, gives_piece_whole, some_byte, holds_by}

@@ -1,4 +1,4 @@
-use Rattle.std.proofs.Common.{rules, ◌≡◌, ◌∷◌, [], ap}
+use Rattle.std.proofs.Common.{rules, ◌≡◌, ◌∷◌, [], length, ap}
 use Rattle.djq_io.specs.Sink.{Gains}
 use Rattle.djq_io.specs.Hub.{taken_by}
 use Rattle.djq_io.specs.Script.{Sends}
@@ -13,9 +13,11 @@ returns-clause-script c =
     let old = c.args.self.now in
     let sent = c.if-count_down.sent in
     let exact : sent ≡ send_of old c.args.id c.args.piece.now = search rules in
-    let gains : Gains old.past c.push_made.new.self (Sending c.args.id sent (taken_by sent c.args.piece.now) ∷ []) = search rules in
+    let told = Sending c.args.id (length c.args.piece.now) sent (taken_by sent c.args.piece.now) in
+    let gains : Gains old.past c.push_made.new.self (told ∷ []) = search rules in
     let script = ap (λ (h : Recorded). h.script) c.self.view_is in
-    where_told (Sends c.args.id sent) old.script c.self.inside.script.script old.past c.push_made.new.self _ gains (rw script (sends_by old c.args.id c.args.piece.now sent exact))
+    where_told (Sends c.args.id (length c.args.piece.now) sent) old.script c.self.inside.script.script old.past
+    c.push_made.new.self _ gains (rw script (sends_by old c.args.id c.args.piece.now sent exact))
 
 -- A session that is gone has met a fault.
 pub returns-clause-sessions : goal.returns-clause-sessions

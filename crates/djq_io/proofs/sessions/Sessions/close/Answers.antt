@@ -1,4 +1,4 @@
-use Rattle.std.proofs.Common.{rules, arith, ap, ap₂, sym, subst, not, nat_eq, filter, length}
+use Rattle.std.proofs.Common.{rules, arith, ap, ap₂, sym, subst, not, nat_eq, length}
 use Rattle.std.proofs.lemmas.Fn.{filter_same}
 use Rattle.std.specs.Prelude.{Contains}
 use Rattle.djq_io.specs.Sessions.{Places}

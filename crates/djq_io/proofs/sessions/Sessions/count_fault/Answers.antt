@@ -1,8 +1,8 @@
-use Rattle.std.proofs.Common.{rules, arith, ap, ap₂, sym, ◌∙◌, ◌≡◌, ◌++◌, length, take, drop, map, false, subst, refl}
+use Rattle.std.proofs.Common.{rules, arith, ap, sym, ◌∙◌, ◌≡◌, ◌++◌, length, take, drop, map, false, subst}
 use Rattle.std.specs.Prelude.{Contains}
 use Rattle.std.proofs.lemmas.Grind.{common_steps}
 use Rattle.djq_io.specs.Sessions.{Places}
-use Rattle.djq_io.specs.SessionsInside.{after_fault, open_in, ended_in, counts_in}
+use Rattle.djq_io.specs.SessionsInside.{after_fault}
 use Rattle.djq_io.proofs.Mapping.{mapped_more}
 use Rattle.djq_io.proofs.FaultsOf.{bounded_after_fault, fault_counts, fault_spares, fault_keeps_ids}
 use Rattle.djq_io.proofs.sessions.Sessions.count_fault.Goals as goal

@@ -1,4 +1,4 @@
-use Rattle.std.proofs.Common.{ap, sym, ◌∙◌, ◌&&◌, rules, tests, nat_eq}
+use Rattle.std.proofs.Common.{ap, sym, ◌&&◌, rules, tests, nat_eq}
 use Rattle.std.proofs.lemmas.Iterator.{YieldsList-from_slice}
 use Rattle.std.proofs.lemmas.Iterator.Search.{any_from_yields_List}
 use Rattle.djq_io.specs.Sessions.{Places}

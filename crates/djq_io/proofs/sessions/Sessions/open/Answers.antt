@@ -1,9 +1,6 @@
-use Rattle.std.proofs.Common.{rules, arith, ◌≡◌, ◌∷◌, [], ◌++◌, ap, sym, false}
+use Rattle.std.proofs.Common.{rules, arith, ◌≡◌, ◌∷◌, [], ◌++◌, sym, false}
 use Rattle.std.proofs.lemmas.Grind.{common_steps}
 use Rattle.djq_io.specs.declared.sessions.Session.{Session}
-use Rattle.djq_io.specs.Sessions.{Places, faults_of}
-use Rattle.djq_io.specs.HubFaults.{SameCounts}
-use Rattle.djq_io.specs.SessionsInside.{open_in, counts_in}
 use Rattle.djq_io.proofs.FaultsOf.{faults_after_push}
 use Rattle.djq_io.proofs.sessions.Sessions.open.Goals as goal
 

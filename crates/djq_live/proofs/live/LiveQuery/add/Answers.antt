@@ -1,6 +1,7 @@
 use Rattle.std.proofs.Common.{ℕ, ◌<◌, length, sym, subst, ◌∙◌, arith}
 use Rattle.djq_live.specs.Changes.{Came, Gains}
 use Rattle.djq_live.specs.Live.{Live}
+use Rattle.djq_live.specs.Stepping.{GrowsByOne}
 use Rattle.djq_live.specs.Updating.{CountsDelta}
 use Rattle.djq_live.proofs.Below.{below_at}
 use Rattle.djq_live.proofs.Costing.{counts_all, counts_back}
@@ -9,8 +10,10 @@ use Rattle.djq_live.proofs.Living.{
   can_add,
   add_leaves,
   add_lacks,
+  add_few,
   follows_came,
   given_back,
+  tables_back,
   same_query,
   logs_came,
   counts_came,
@@ -41,6 +44,20 @@ add_to_leaves-done-requires-clause-absent g c =
       cursors = c.self.inside.cursors;
     } in
     add_lacks l c.args.relation.at
+    c.args.cells.now c.atoms-atoms.result.now c.as_slice-patterns.result.now c.atoms-atoms.ensures
+    c.as_slice-patterns.ensures.value
+    (can_add l c.args.self.now c.args.relation.at c.args.cells.now c.self.view_is c.requires)
+
+pub add_to_leaves-done-requires-clause-few : goal.add_to_leaves-done-requires-clause-few
+add_to_leaves-done-requires-clause-few g c =
+    let l : Live = record {
+      query = c.self.inside.query;
+      numbered = c.self.inside.numbered;
+      patterns = c.self.inside.patterns.items;
+      reducts = c.self.inside.reducts;
+      cursors = c.self.inside.cursors;
+    } in
+    add_few l c.args.relation.at
     c.args.cells.now c.atoms-atoms.result.now c.as_slice-patterns.result.now c.atoms-atoms.ensures
     c.as_slice-patterns.ensures.value
     (can_add l c.args.self.now c.args.relation.at c.args.cells.now c.self.view_is c.requires)
@@ -173,6 +190,23 @@ returns-clause-refused g c =
     (can_add l c.args.self.now c.args.relation.at c.args.cells.now c.self.view_is c.requires)
     c.add_to_leaves-done.ensures.gained c.give_from_leaves.ensures.lost
 
+pub returns-clause-tables : goal.returns-clause-tables
+returns-clause-tables g c =
+    let l : Live = record {
+      query = c.self.inside.query;
+      numbered = c.self.inside.numbered;
+      patterns = c.self.inside.patterns.items;
+      reducts = c.self.inside.reducts;
+      cursors = c.self.inside.cursors;
+    } in
+    tables_back l c.args.self.now c.add_to_leaves-done.new.reducts
+    c.give_from_leaves.new.reducts c.args.relation.at
+    c.args.cells.now c.atoms-atoms.result.now c.as_slice-patterns.result.now
+    c.add_to_leaves-done.result c.self.view_is
+    c.atoms-atoms.ensures c.as_slice-patterns.ensures.value
+    (can_add l c.args.self.now c.args.relation.at c.args.cells.now c.self.view_is c.requires)
+    c.add_to_leaves-done.ensures.gained c.give_from_leaves.ensures.lost
+
 pub returns-clause-same : goal.returns-clause-same
 returns-clause-same g c =
     let l : Live = record {
@@ -240,3 +274,8 @@ returns-clause-refusal g c =
     c.atoms-atoms.ensures (can.before, can.kept) c.add_to_leaves-done.ensures.gained.tree
     c.add_to_leaves-done.ensures.grows (c.add_to_leaves-done.ensures.left stopped)
     (c.add_to_leaves-done.ensures.refusal stopped) c.give_from_leaves.ensures.updates
+
+pub returns-then-done-atoms-clause-grows : goal.returns-then-done-atoms-clause-grows
+returns-then-done-atoms-clause-grows g c =
+    subst (λ (x : Live). GrowsByOne x.reducts c.add_to_leaves-done.new.reducts) c.self.view_is
+    c.add_to_leaves-done.ensures.grows

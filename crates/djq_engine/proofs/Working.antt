@@ -1,0 +1,275 @@
+-- How much updates of the queries in places count, one after another.
+use Rattle.std.proofs.Common.{ℕ, List, [], ◌∷◌, ◌++◌, ◌+◌, ◌*◌, ◌≡◌, ◌<◌, ◌≤◌, Bool, true, false, refl, sym, ap, ◌∙◌, subst, length, get_or, take, arith, mul-le-mul_left}
+use Rattle.std.specs.Prelude.{◌==◌, ◌||◌, Option, None, Some, IsSomeAnd, is_some, cond, Contains, filter, map, sum_by}
+use Rattle.std.proofs.lemmas.Bool.{eqb-true, eq-eqb, false≢true}
+use Rattle.std.proofs.lemmas.List.{take_more}
+use Rattle.std.proofs.lemmas.List.Sums.{sum_by-cons, sum_by-append, sum_by-take-le, sum_by_more}
+use Rattle.std.proofs.lemmas.Nat.{mul-le}
+use Rattle.djq_model.specs.Data.{Bytes, bytes_eq}
+use Rattle.djq_machine.specs.Stale.{reads}
+use Rattle.djq_propagate.specs.Updates.{HasAtMost}
+use Rattle.djq_query.specs.Numbered.{Numbered}
+use Rattle.djq_rows.specs.Catalog.{relation_at}
+use Rattle.djq_live.specs.Live.{Live}
+use Rattle.djq_live.specs.Updating.{CountsUpdate, LeavesAreSmall, atoms_over, update_bound}
+use Rattle.djq_live.proofs.Sizing.{all_grown}
+use Rattle.djq_engine.specs.declared.parts.Parts.{Parts}
+use Rattle.djq_engine.specs.Kept.{Registered, registered_at, readers_of}
+use Rattle.djq_engine.specs.Places.{place_at, is_live, is_reader, readers_at, query_in, id_at, registered_as}
+use Rattle.djq_engine.specs.Sound.{AreOnce}
+use Rattle.djq_engine.specs.Reaching.{DoneAt, Reach, AllAt, TakesIn, Remains}
+use Rattle.djq_engine.specs.Tending.{Works, work_of, work_at}
+use Rattle.djq_engine.specs.Changing.{WorksRows}
+use Rattle.djq_engine.specs.Watching.{AreFew, CountsUpdates, bound_in, update_steps}
+use Rattle.djq_engine.specs.Whole.{kept_in, IsWhole}
+use Rattle.djq_engine.proofs.Listing.{apart, reader_more, or_true}
+use Rattle.djq_engine.proofs.Carrying.{reader_is, reader_reads}
+use Rattle.djq_engine.proofs.Enlisted.{readers_are, registered_is}
+use Rattle.djq_engine.proofs.Naming.{There, live_there}
+use Rattle.djq_engine.proofs.Reaching.{once_at, only, reader_there}
+use Rattle.djq_engine.proofs.Reporting.{atoms_of, both_true}
+use Rattle.djq_engine.proofs.Tending.{reader_front, unreached}
+
+-- ---- sums over places
+
+here : (x : ℕ) (xs : List ℕ) → is_reader (x ∷ xs) x ≡ true
+here x xs = ap (λ b. b || is_reader xs x) (eq-eqb x x refl)
+
+behind : (x : ℕ) (xs : List ℕ) (i : ℕ) → is_reader xs i ≡ true → is_reader (x ∷ xs) i ≡ true
+behind x xs i h = step (x == i)
+  where
+    step : (b : Bool) → (b || is_reader xs i) ≡ true
+    step true = refl
+    step false = h
+
+sums_le : {A : Type 0} (f : ℕ → ℕ) (g : A → ℕ) (h : ℕ → A) (xs : List ℕ)
+    → ((i : ℕ) → is_reader xs i ≡ true → f i ≤ g (h i)) → sum_by f xs ≤ sum_by g (map h xs)
+sums_le f g h [] k = omega arith
+sums_le f g h (x ∷ xs) k =
+    let rest = sums_le f g h xs (λ i e. k i (behind x xs i e)) in
+    omega (arith, k x (here x xs), rest, sum_by-cons f x xs, sum_by-cons g (h x) (map h xs))
+
+sums_twice : (f g : ℕ → ℕ) (xs : List ℕ) → ((i : ℕ) → is_reader xs i ≡ true → f i ≤ 2 * g i)
+    → sum_by f xs ≤ 2 * sum_by g xs
+sums_twice f g [] k = omega arith
+sums_twice f g (x ∷ xs) k =
+    let rest = sums_twice f g xs (λ i e. k i (behind x xs i e)) in
+    omega (arith, k x (here x xs), rest, sum_by-cons f x xs, sum_by-cons g x xs)
+
+-- ---- places one after another
+
+pub works_none : (gs : List (Option Live)) (at times x : ℕ) → Works [] gs at times x x
+works_none gs at times x n few = omega arith
+
+pub works_one : (gs : List (Option Live)) (at times i : ℕ) (l : Live) (x y : ℕ)
+    → place_at gs i ≡ Some l → CountsUpdate times l at x y → Works (i ∷ []) gs at times x y
+works_one gs at times i l x y there h n few =
+    let k : HasAtMost l.reducts n =
+    subst (λ (o : Option Live). IsSomeAnd o (λ m. HasAtMost m.reducts n)) there
+    (few i (only i i ∙ eq-eqb i i refl)) in
+    let single : sum_by (work_at gs at n) (i ∷ []) ≡ work_at gs at n i =
+    omega (arith, sum_by-cons (work_at gs at n) i []) in
+    subst (λ (w : ℕ). y ≤ x + times * w) (sym (single ∙ ap (work_of at n) there)) (h n k)
+
+add_up : (t s w x y z : ℕ) → y ≤ x + t * s → z ≤ y + t * w → z ≤ x + t * (s + w)
+add_up t s w x y z first second =
+    let product : t * (s + w) ≡ t * s + t * w = omega arith in
+    omega (arith, first, second, product)
+
+works_more : (done : List ℕ) (i : ℕ) (gs hs : List (Option Live)) (at times x y z : ℕ)
+    → place_at hs i ≡ place_at gs i → Works done gs at times x y → Works (i ∷ []) hs at times y z
+    → Works (done ++ i ∷ []) gs at times x z
+works_more done i gs hs at times x y z same a b n few =
+    let first = a n (λ j e. few j (reader_more done i j ∙ ap (λ t. t || (i == j)) e)) in
+    let at_end : is_reader (done ++ i ∷ []) i ≡ true =
+    reader_more done i i ∙ ap (λ t. is_reader done i || t) (eq-eqb i i refl)
+    ∙ or_true (is_reader done i) in
+    let second = b n (λ j e.
+    subst (λ (k : ℕ). IsSomeAnd (place_at hs k) (λ l. HasAtMost l.reducts n))
+    (eqb-true i j (sym (only i j) ∙ e))
+    (subst (λ (o : Option Live). IsSomeAnd o (λ l. HasAtMost l.reducts n)) (sym same)
+    (few i at_end))) in
+    let one : sum_by (work_at hs at n) (i ∷ []) ≡ work_at gs at n i =
+    omega (arith, sum_by-cons (work_at hs at n) i [], ap (work_of at n) same) in
+    let all : sum_by (work_at gs at n) (done ++ i ∷ [])
+    ≡ sum_by (work_at gs at n) done + work_at gs at n i =
+    omega (
+      arith,
+      sum_by-append (work_at gs at n) done (i ∷ []),
+      sum_by-cons (work_at gs at n) i [],
+    ) in
+    subst (λ (w : ℕ). z ≤ x + times * w) (sym all)
+    (add_up times (sum_by (work_at gs at n) done) (work_at gs at n i) x y z first
+    (subst (λ (w : ℕ). z ≤ y + times * w) one second))
+
+pub works_next : (R : Live → Live → Type 0) (places : List ℕ) (k d : ℕ)
+    (gs hs : List (Option Live)) (at times x y z : ℕ) → AreOnce places → k < length places
+    → Reach (take k places) R gs hs → Works (take k places) gs at times x y
+    → Works (get_or places k d ∷ []) hs at times y z → Works (take (k + 1) places) gs at times x z
+works_next R places k d gs hs at times x y z o low r a b =
+    subst (λ (ps : List ℕ). Works ps gs at times x z) (sym (take_more places k d low))
+    (works_more (take k places) (get_or places k d) gs hs at times x y z
+    (unreached R places k d gs hs o low r) a b)
+
+-- the front of the places counts no more than all
+pub works_front : (places : List ℕ) (k : ℕ) (gs : List (Option Live)) (at times x y : ℕ)
+    → Works (take k places) gs at times x y → Works places gs at times x y
+works_front places k gs at times x y h n few =
+    let part = h n (λ j e. few j (reader_front places k j e)) in
+    let product = mul-le-mul_left times (sum_by-take-le (work_at gs at n) places k) in
+    omega (arith, part, product)
+
+-- ---- rows that are given back
+
+double : (a q r : ℕ) → q ≤ 2 * r → a * q ≤ 2 * (a * r)
+double a q r h =
+    let e = mul-le-mul_left a h in
+    let f : a * (2 * r) ≡ 2 * (a * r) = omega arith in
+    omega arith
+
+-- a leaf has one tuple more, so it counts at most twice as much
+twice : (p n : ℕ) → 16 * (p * (n + 1 + 1)) ≤ 2 * (16 * (p * (n + 1)))
+twice p n =
+    let a : p * (n + 1) ≡ p * n + p = omega arith in
+    let b : p * (n + 1 + 1) ≡ p * n + 2 * p = omega arith in
+    omega arith
+
+taken_work : (at : ℕ) (cells : List ℕ) (n : ℕ) (p q : Option Live)
+    → DoneAt (TakesIn at cells) true p q → IsSomeAnd p (λ l. HasAtMost l.reducts n)
+    → IsSomeAnd q (λ l. HasAtMost l.reducts (n + 1)) × (work_of at (n + 1) q ≤ 2 * work_of at n p)
+taken_work at cells n None None t h = absurd h
+taken_work at cells n None (Some m) t h = absurd h
+taken_work at cells n (Some l) None t h = absurd t
+taken_work at cells n (Some l) (Some m) t h = (
+  all_grown l.reducts m.reducts n t.same.tree t.grows h,
+  subst (λ (x : Numbered). length (filter (λ a. a.relation == at) x.atoms)
+      * (16 * ((length x.atoms + length x.variables) * (n + 1 + 1)))
+      ≤ 2 * (atoms_over l at * update_bound l n)) (sym t.same.numbered)
+      (double (atoms_over l at) (update_bound l (n + 1)) (update_bound l n)
+      (twice (length (l.numbered).atoms + length (l.numbered).variables) n)),
+)
+
+pub works_back : (at : ℕ) (cells places : List ℕ) (k d : ℕ) (old now mid : List (Option Live))
+    (x y z u : ℕ) → AreOnce places → k < length places
+    → Reach (take k places) (TakesIn at cells) old now
+    → Reach (get_or places k d ∷ []) Remains now mid → Works (take k places) old at 1 x y
+    → Works (get_or places k d ∷ []) now at 3 y z → Works (take k places) mid at 1 z u
+    → Works places old at 3 x u
+works_back at cells places k d old now mid x y z u o low took last first second third n few =
+    let same = unreached (TakesIn at cells) places k d old now o low took in
+    let a = first n (λ j e. few j (reader_front places k j e)) in
+    let b = second n (λ j e.
+    subst (λ (i : ℕ). IsSomeAnd (place_at now i) (λ l. HasAtMost l.reducts n))
+    (eqb-true (get_or places k d) j (sym (only (get_or places k d) j) ∙ e))
+    (subst (λ (q : Option Live). IsSomeAnd q (λ l. HasAtMost l.reducts n)) (sym same)
+    (few (get_or places k d) (reader_there places k d low)))) in
+    let c = third (n + 1) (λ j e. (grown j e).0) in
+    let front = sums_twice (work_at mid at (n + 1)) (work_at old at n) (take k places)
+    (λ j e. (grown j e).1) in
+    let one : sum_by (work_at now at n) (get_or places k d ∷ [])
+    ≡ work_at old at n (get_or places k d) =
+    omega (
+      arith,
+      sum_by-cons (work_at now at n) (get_or places k d) [],
+      ap (work_of at n) same,
+    ) in
+    let more = sum_by_more (work_at old at n) places k d low in
+    let all = sum_by-take-le (work_at old at n) places (k + 1) in
+    omega (arith, a, b, c, front, one, more, all)
+  where
+    grown : (j : ℕ) → is_reader (take k places) j ≡ true
+        → IsSomeAnd (place_at mid j) (λ l. HasAtMost l.reducts (n + 1))
+        × (work_at mid at (n + 1) j ≤ 2 * work_at old at n j)
+    grown j e =
+        let other : (get_or places k d == j) ≡ false = apart (get_or places k d) j (λ s.
+        false≢true
+        (sym (once_at places k d o low) ∙ ap (is_reader (take k places)) s ∙ e)) in
+        let middle : place_at mid j ≡ place_at now j =
+        subst (λ (b : Bool). DoneAt Remains b (place_at now j) (place_at mid j))
+        (only (get_or places k d) j ∙ other) (last.each j) in
+        subst (λ (q : Option Live). IsSomeAnd q (λ l. HasAtMost l.reducts (n + 1))
+        × (work_of at (n + 1) q ≤ 2 * work_at old at n j)) (sym middle)
+        (taken_work at cells n (place_at old j) (place_at now j)
+        (subst (λ (b : Bool). DoneAt (TakesIn at cells) b (place_at old j) (place_at now j)) e
+        (took.each j)) (few j (reader_front places k j e)))
+
+-- ---- as contracts see it
+
+module _ (old : Parts) (s : IsWhole old) (at : ℕ) (low : at < length (old.catalog).relations)
+    (name : Bytes) (named : (relation_at (old.catalog).relations at).name ≡ name)
+    (law : LeavesAreSmall) where
+  reads_there : (i : ℕ) → is_reader (readers_at old.readers.items at) i ≡ true
+      → There old.queries.items i
+  reads_there i e =
+      live_there old.queries.items i
+      (both_true (is_live old.queries.items i) _
+      (sym (reader_is old.catalog old.queries.items old.order old.readers.items s at low i) ∙ e)).0
+
+  reads_name : (i : ℕ) → is_reader (readers_at old.readers.items at) i ≡ true
+      → reads (query_in (place_at old.queries.items i)) name ≡ true
+  reads_name i e =
+      let t = reads_there i e in
+      ap (λ (o : Option Live). reads (query_in o) name) t.is
+      ∙ ap (reads t.query.query) (sym named)
+      ∙ sym (reader_reads old.catalog old.queries.items old.order old.readers.items s at low i
+      t.query t.is)
+      ∙ e
+
+  registered_here : (i : ℕ) → is_reader (readers_at old.readers.items at) i ≡ true
+      → registered_at (kept_in old).registered (id_at i)
+      ≡ Some (registered_as old.queries.items old.watchers.items i)
+  registered_here i e =
+      registered_is old.catalog old.queries.items old.order old.readers.items old.watchers.items s
+      (id_at i)
+      ∙ ap (λ b. cond b (Some (registered_as old.queries.items old.watchers.items i)) None)
+      (ap is_some (reads_there i e).is)
+
+  small : (n : ℕ) → AreFew (kept_in old) name n
+      → AllAt (readers_at old.readers.items at) old.queries.items (λ l. HasAtMost l.reducts n)
+  small n few i e =
+      let t = reads_there i e in
+      subst (λ (o : Option Live). IsSomeAnd o (λ l. HasAtMost l.reducts n)) (sym t.is)
+      (law old.catalog t.query n (s.live i t.query t.is).kept (record {
+        each = λ a has.
+            few (id_at i) (registered_as old.queries.items old.watchers.items i)
+            (registered_here i e) (reads_name i e) a
+            (subst (λ (o : Option Live). Contains (query_in o).atoms a) (sym t.is) has);
+      }))
+
+  steps_of : (n i : ℕ) → is_reader (readers_at old.readers.items at) i ≡ true
+      → work_at old.queries.items at n i
+      ≤ update_steps (kept_in old) name n (registered_as old.queries.items old.watchers.items i)
+  steps_of n i e =
+      let t = reads_there i e in
+      let l = t.query in
+      let kept = (s.live i l t.is).kept in
+      let fewer : atoms_over l at
+      ≤ length (filter (λ a. bytes_eq a.relation name) (l.query).atoms) =
+      subst (λ (x : Bytes). atoms_over l at
+      ≤ length (filter (λ a. bytes_eq a.relation x) (l.query).atoms)) named
+      (atoms_of old.catalog at (l.numbered).variables (l.query).atoms (l.numbered).atoms
+      kept.over.asked.atoms) in
+      subst (λ (o : Option Live). work_of at n o
+      ≤ length (filter (λ a. bytes_eq a.relation name) (query_in o).atoms) * bound_in n o)
+      (sym t.is)
+      (mul-le (atoms_over l at) (update_bound l n)
+      (length (filter (λ a. bytes_eq a.relation name) (l.query).atoms)) (update_bound l n) fewer
+      (omega arith))
+
+  pub counts_updates : (times before now : ℕ) → WorksRows at times old before now
+      → CountsUpdates times (kept_in old) name before now
+  counts_updates times before now works = record {
+    counted = λ n few.
+        let a = works n (small n few) in
+        let b = sums_le (work_at old.queries.items at n) (update_steps (kept_in old) name n)
+        (registered_as old.queries.items old.watchers.items) (readers_at old.readers.items at)
+        (steps_of n) in
+        let same = ap (readers_of (kept_in old).registered) (sym named)
+        ∙ readers_are old.catalog old.queries.items old.order old.readers.items
+        old.watchers.items s at low in
+        let c = mul-le-mul_left times
+        (subst (λ (rs : List Registered). sum_by (work_at old.queries.items at n)
+        (readers_at old.readers.items at) ≤ sum_by (update_steps (kept_in old) name n) rs)
+        (sym same) b) in
+        omega (arith, a, c);
+  }

@@ -1,0 +1,28 @@
+use Rattle.std.proofs.Common.{arith}
+use Rattle.djq_engine.proofs.Attending.{below_queries, query_kept_there, there_not_none}
+use Rattle.djq_engine.proofs.Reaching.{place_read}
+use Rattle.djq_engine.proofs.Telling.{lends}
+use Rattle.djq_engine.proofs.asking.live_in.Goals as goal
+
+pub index-requires : goal.index-requires
+index-requires c =
+    let p = c.args.parts.now in
+    omega (
+      arith,
+      below_queries p c.requires.whole c.args.id
+          (query_kept_there p c.requires.whole c.args.id c.requires.registered),
+    )
+
+pub unreachable-requires : goal.unreachable-requires
+unreachable-requires c =
+    let p = c.args.parts.now in
+    there_not_none p.queries.items c.args.id.at (query_kept_there p c.requires.whole c.args.id c.requires.registered)
+    c.index.result.now c.index.ensures c.in-None.is
+
+pub returns : goal.returns
+returns c =
+    let p = c.args.parts.now in
+    let t = query_kept_there p c.requires.whole c.args.id c.requires.registered in
+    let there = place_read p.queries.items c.args.id.at c.index.result.now c.in-Some.live
+    (below_queries p c.requires.whole c.args.id t) c.index.ensures c.in-Some.is in
+    lends p c.requires.whole c.args.id c.in-Some.live there c.answers_are_shown.ensures

@@ -1,0 +1,680 @@
+-- Each state that the machine comes to is sound.
+use Rattle.std.specs.Prelude.{ℕ, List, [], ◌∷◌, ◌==◌, ◌≡◌, ◌≢◌, ◌<◌, ◌≤◌, ◌+◌, ◌++◌, ◌⊎◌, Bool, true, false, not, cond, length, filter, Option, None, Some, is_some, is_none, nat_le, IsSome, IsSomeAnd, MatchOption, option_map, Result, Ok, Err, map, All, ⊤}
+use Rattle.std.specs.List.{list_any, slice_index_or}
+use Rattle.std.proofs.Common.{refl, sym, ap, ◌∙◌, subst, inl, inr, arith}
+use Rattle.std.proofs.lemmas.List.{length-map, length-append}
+use Rattle.std.proofs.lemmas.List.Elements.{All-nil, All-push, All-weaker, All-filter}
+use Rattle.djq_model.specs.declared.query.Query.{Query}
+use Rattle.djq_model.specs.Data.{Bytes, Tuple, bytes_eq, drop_first, query_of}
+use Rattle.djq_lines.specs.Conditions.{first_of, Answers, OutOfMemoryWhere}
+use Rattle.djq_lines.specs.declared.limits.TheConstants.{CURSORS, SESSIONS}
+use Rattle.djq_lines.specs.declared.answer.EndCause.{EndCause}
+use Rattle.djq_lines.specs.declared.answer.EndCause.TheVariants.{Input, Memory}
+use Rattle.djq_lines.specs.declared.answer.Refusal.{Refusal}
+use Rattle.djq_lines.specs.declared.answer.Refusal.TheVariants.{NoQuery, NoCursor, InUse, Limit}
+use Rattle.djq_lines.specs.declared.command.Command.{Command}
+use Rattle.djq_lines.specs.declared.command.Command.TheVariants.{
+  Rel,
+  Add,
+  Del,
+  Query as Register,
+  Drop,
+  Open,
+  Next,
+  Close,
+  Has,
+  Watch,
+  Unwatch,
+  Explain,
+  Quit,
+  Stop,
+}
+use Rattle.djq_lines.specs.Grammar.{Reading, refused, says as says_command, reading_of}
+use Rattle.djq_lines.specs.Reply.{end_memory}
+use Rattle.djq_lines.specs.Hypergraph.{edges_of, head_of}
+use Rattle.djq_machine.specs.Store.{IsFreeConnex}
+use Rattle.djq_machine.specs.State.{
+  Store,
+  State,
+  Session,
+  Cursor,
+  Position,
+  open_at,
+  stale,
+  fresh,
+  opening,
+  session_of,
+  with_session,
+  cursor_of,
+  with_position,
+  ended_by,
+}
+use Rattle.djq_machine.specs.Store.{RegistersQuery, DropsQuery, drop_refusal}
+use Rattle.djq_machine.specs.Stale.{
+  outdated,
+  outdater_of,
+  outdated_cursor,
+  outdated_sessions,
+  by_relation,
+  add_outdates,
+  delete_outdates,
+  changed,
+}
+use Rattle.djq_machine.specs.Watch.{is_watching, Telling, ChangeStep}
+use Rattle.djq_machine.specs.Effect.{Effect, nothing, EndsWith, RefusedStep, queue, queue_all}
+use Rattle.djq_machine.specs.Command.{
+  uses,
+  open_refusal,
+  with_cursor,
+  OpensTo,
+  watch_refusal,
+  BecomesWhere,
+  with_watch,
+  without_watch,
+  NextStepAt,
+  CloseStep,
+  CommandStep,
+  QueryStep,
+  QueryCutStep,
+  ExplainStep,
+  TellsLines,
+  explain_lines,
+}
+use Rattle.djq_machine.specs.LineStep.{LineOutcome, long, blank, slow, no_room, run, ReadStep, FrontStep, behind_line}
+use Rattle.djq_machine.specs.Step.{
+  Event,
+  opened,
+  fed,
+  stepped,
+  took,
+  ended,
+  closed,
+  FedStep,
+  TookStep,
+  EndedStep,
+  Acts,
+  with_relations,
+  Step,
+}
+use Rattle.djq_machine.specs.Run.{Did}
+use Rattle.djq_machine.proofs.Walks.{walk_keeps}
+use Rattle.djq_laws.specs.Sound.{
+  AreApart,
+  IsSoundStore,
+  IsSoundRelation,
+  GaveOnce,
+  IsSoundCursor,
+  IsSoundSession,
+  IsSoundState,
+  RunsKeepSound,
+  StatesAreSound,
+}
+use Rattle.djq_laws.proofs.Finding.{some_and}
+use Rattle.djq_laws.proofs.Told.{change_keeps}
+use Rattle.djq_laws.proofs.Queueing.{session_changed}
+use Rattle.djq_laws.proofs.Changing.{all_changed, all_dropped, all_mapped}
+use Rattle.djq_laws.proofs.Answering.{none_or, none_pass}
+use Rattle.djq_laws.proofs.Rising.{step_rises, acts_ids, queued_ids}
+use Rattle.djq_laws.proofs.Giving.{done_of, found_in_front, dropped_query, unused_of, opens_on, none_second}
+use Rattle.djq_laws.proofs.Apart.{
+  nothing_apart,
+  pairs_push,
+  pairs_dropped,
+  other_name,
+  names_push,
+  names_changed,
+  names_dropped,
+  names_mapped,
+}
+use Rattle.djq_laws.proofs.Storing.{
+  none_found,
+  related_store,
+  related_queries,
+  added_store,
+  added_queries,
+  deleted_store,
+  deleted_queries,
+  registered_store,
+  registered_queries,
+  dropped_store,
+  moved_store,
+}
+
+abbrev IsNamed : Cursor → Bytes
+IsNamed c = c.name
+
+-- Sessions.
+ended_session : (qs : List Query) (cause : EndCause) (x : Session) → IsSoundSession qs (ended_by cause x)
+ended_session qs cause x = record {
+  cursors = All-nil (IsSoundCursor qs);
+  names = nothing_apart (λ a b. a ≢ b);
+  registered = All-nil (λ w. IsSome (query_of qs w));
+  once = nothing_apart (λ a b. a ≢ b);
+  ended = λ h. (refl, refl);
+}
+
+-- a session that goes on
+going : (x : Session) → x.cause ≡ None → {P : Type 0} → IsSome x.cause → P
+going x none h = absurd (cc (none, h))
+
+-- A query that is registered is so for each name.
+some_kept : (qs ps : List Query) (name : Bytes) (o : Option Query) → query_of qs name ≡ o
+    → ((q : Query) → query_of qs name ≡ Some q → query_of ps name ≡ Some q)
+    → IsSome (query_of qs name) → IsSome (query_of ps name)
+some_kept qs ps name None e keeps h = absurd (cc (e, h))
+some_kept qs ps name (Some q) e keeps h = ap is_some (keeps q e)
+
+queries_kept : (qs ps : List Query) (x : Session)
+    → ((name : Bytes) → IsSome (query_of qs name) → IsSome (query_of ps name)) → IsSoundSession qs x
+    → IsSoundSession ps x
+queries_kept qs ps x keeps g = record {
+  cursors = All-weaker (IsSoundCursor qs) (IsSoundCursor ps)
+      (λ c k. record { registered = keeps c.query k.registered; once = k.once }) x.cursors g.cursors;
+  names = g.names;
+  registered = All-weaker (λ w. IsSome (query_of qs w)) (λ w. IsSome (query_of ps w)) (λ w k. keeps w k) x.watches
+      g.registered;
+  once = g.once;
+  ended = g.ended;
+}
+
+in_front : (qs : List Query) (q : Query) (name : Bytes) → IsSome (query_of qs name)
+    → IsSome (query_of (qs ++ q ∷ []) name)
+in_front qs q name h = some_kept qs (qs ++ q ∷ []) name (query_of qs name) refl (λ f e. found_in_front qs q name f e) h
+
+-- The store and the sessions.
+abbrev pub AreKept : State → Type 0
+AreKept st = IsSoundStore st.store × All (IsSoundSession st.store.queries) st.sessions
+
+same_kept : (old new : State) → new ≡ old → AreKept old → AreKept new
+same_kept old new e k = subst AreKept (sym e) k
+
+session_kept : (old new : State) (s : ℕ) (f : Session → Session) → new ≡ with_session old s f
+    → ((x : Session) → session_of old s ≡ Some x → IsSoundSession old.store.queries x
+    → IsSoundSession old.store.queries (f x))
+    → AreKept old → AreKept new
+session_kept old new s f after keeps k =
+    subst AreKept (sym after) (
+      k.0,
+      all_changed (IsSoundSession old.store.queries) (λ (x : Session). x.id == s) f
+          old.sessions k.1 keeps,
+    )
+
+ends_kept : (old : State) (s : ℕ) (cause : EndCause) (new : State) → new ≡ with_session old s (ended_by cause)
+    → AreKept old → AreKept new
+ends_kept old s cause new after k = session_kept old new s (ended_by cause) after
+    (λ x found g. ended_session old.store.queries cause x) k
+
+-- a change of the session that says a command
+session_runs : (old new : State) (s : ℕ) (x : Session) (f : Session → Session) → session_of old s ≡ Some x
+    → new ≡ with_session old s f
+    → (IsSoundSession old.store.queries x → IsSoundSession old.store.queries (f x)) → AreKept old → AreKept new
+session_runs old new s x f found after keeps k =
+    session_kept old new s f after
+    (λ y here g. let same : x ≡ y = same_found (session_of old s) x y found here in
+    subst (λ (z : Session). IsSoundSession old.store.queries (f z)) same
+    (keeps (subst (λ (z : Session). IsSoundSession old.store.queries z) (sym same) g))) k
+  where
+    same_found : (o : Option Session) (y z : Session) → o ≡ Some y → o ≡ Some z → y ≡ z
+    same_found o y z e f = cc
+
+-- a change of one that leaves what is said of it
+others_stay : (old new : State) (s : ℕ) (f : Session → Session) → ((x : Session) → (f x).cursors ≡ x.cursors)
+    → ((x : Session) → (f x).watches ≡ x.watches)
+    → ((x : Session) → (f x).cause ≡ x.cause) → new ≡ with_session old s f → AreKept old → AreKept new
+others_stay old new s f cursors watches cause after k =
+    session_kept old new s f after (λ x found g. let qs = old.store.queries in record {
+      cursors = subst (λ (cs : List Cursor). All (IsSoundCursor qs) cs) (sym (cursors x)) g.cursors;
+      names = subst (λ (cs : List Cursor). AreApart (map IsNamed cs)) (sym (cursors x)) g.names;
+      registered = subst (λ (ws : List Bytes). All (λ w. IsSome (query_of qs w)) ws) (sym (watches x)) g.registered;
+      once = subst AreApart (sym (watches x)) g.once;
+      ended = λ h. let both = g.ended (subst (λ (o : Option EndCause). IsSome o) (cause x) h) in
+          (cursors x ∙ both.0, watches x ∙ both.1);
+    }) k
+
+-- another store, with the same queries
+store_kept : (old : State) (store : Store) (new : State) → store.queries ≡ old.store.queries → IsSoundStore store
+    → new ≡ record old { store = store } → AreKept old → AreKept new
+store_kept old store new same sound after k =
+    subst AreKept (sym after) (sound, subst (λ (qs : List Query). All (IsSoundSession qs) old.sessions) (sym same) k.1)
+
+-- Cursors that become stale.
+once_outdated : (o : Option Bytes) (n : ℕ) (p : Position) → GaveOnce p → GaveOnce (outdated o n p)
+once_outdated None n p h = h
+once_outdated (Some relation) n (open_at given finished) h = tt
+once_outdated (Some relation) n (stale r m) h = tt
+
+outdated_sound : (qs : List Query) (outdater : Query → Option Bytes) (n : ℕ) (x : Session) → IsSoundSession qs x
+    → IsSoundSession qs (record x { cursors = map (outdated_cursor qs outdater n) x.cursors })
+outdated_sound qs outdater n x g = record {
+  cursors = all_mapped (IsSoundCursor qs) (IsSoundCursor qs) (outdated_cursor qs outdater n)
+      (λ c k. record {
+        registered = k.registered;
+        once = once_outdated (outdater_of qs outdater c.query) n c.position
+            k.once;
+      }) x.cursors g.cursors;
+  names = names_mapped IsNamed (outdated_cursor qs outdater n) (λ c. refl) x.cursors g.names;
+  registered = g.registered;
+  once = g.once;
+  ended = λ h. let both = g.ended h in (
+    ap (λ (cs : List Cursor). map (outdated_cursor qs outdater n) cs) both.0,
+    both.1,
+  );
+}
+
+changed_kept : (old : State) (name : Bytes) (outdates : Bool) (store : Store) → store.queries ≡ old.store.queries
+    → IsSoundStore store → AreKept old → AreKept (changed old name outdates store)
+changed_kept old name false store same sound k = store_kept old store (record old { store = store }) same sound refl k
+changed_kept old name true store same sound k =
+    let qs = old.store.queries in
+    let kept : All (IsSoundSession qs) (outdated_sessions qs (by_relation name) store.seq old.sessions) =
+    all_mapped (IsSoundSession qs) (IsSoundSession qs)
+    (λ (x : Session). record x { cursors = map (outdated_cursor qs (by_relation name) store.seq) x.cursors })
+    (λ x g. outdated_sound qs (by_relation name) store.seq x g) old.sessions k.1 in (
+      sound,
+      subst (λ (ps : List Query). All (IsSoundSession ps)
+          (outdated_sessions qs (by_relation name) store.seq old.sessions)) (sym same) kept,
+    )
+
+change_kept : (old : State) (s : ℕ) (name : Bytes) (rows : List Tuple) (outdates accepted : Bool) (store : Store)
+    (reply : Bytes) (e : Effect) (new : State)
+    → ChangeStep old s name rows outdates accepted store reply e new → AreKept (changed old name outdates store)
+    → AreKept new
+change_kept old s name rows outdates accepted store reply e new h k =
+    subst AreKept (sym h.state)
+    (change_keeps (λ (m : Telling). AreKept m.state) (λ m t text there g. g)
+    (λ m t text cause may there g. ends_kept m.state t cause (with_session m.state t (ended_by cause)) refl g)
+    old s name rows outdates accepted store reply e new h k)
+
+-- The commands.
+register_kept : (old : State) (q : Query) (r : Result _ Refusal) (store : Store) (new : State)
+    → RegistersQuery old.store q r store → new ≡ record old { store = store } → AreKept old → AreKept new
+register_kept old q r store new h after k = by (registered_queries old.store q r store h)
+  where
+    by : (store.queries ≡ old.store.queries ++ q ∷ []) ⊎ (store.queries ≡ old.store.queries) → AreKept new
+    by (inr same) = store_kept old store new same (registered_store old.store q r store h k.0) after k
+    by (inl more) =
+        let kept : All (IsSoundSession store.queries) old.sessions =
+        subst (λ (qs : List Query). All (IsSoundSession qs) old.sessions) (sym more)
+        (All-weaker (IsSoundSession old.store.queries) (IsSoundSession (old.store.queries ++ q ∷ []))
+        (λ x g. queries_kept old.store.queries (old.store.queries ++ q ∷ []) x
+        (λ name there. in_front old.store.queries q name there) g) old.sessions k.1) in
+        subst AreKept (sym after) (registered_store old.store q r store h k.0, kept)
+
+query_kept : (old : State) (s : ℕ) (q : Query) (e : Effect) (new : State)
+    → QueryStep old s q e new ⊎ QueryCutStep old s q e new → AreKept old → AreKept new
+query_kept old s q e new (inl h) k = register_kept old q h.result h.store new h.done h.state k
+query_kept old s q e new (inr h) k =
+    let mid : State = record old { store = h.store } in
+    ends_kept mid s Memory new h.ends.1 (register_kept old q h.result h.store mid h.done refl k)
+
+-- A query that no session uses is dropped.
+not_used : (qs : List Query) (q : Bytes) (x : Session) → uses q x ≡ false → IsSoundSession qs x
+    → IsSoundSession (drop_first (λ p. bytes_eq p.name q) qs) x
+not_used qs q x unused g =
+    let ps = drop_first (λ (p : Query). bytes_eq p.name q) qs in
+    let none = none_or (list_any (λ (c : Cursor). bytes_eq c.query q) x.cursors) (is_watching q x) unused in
+    let apart = none_pass (λ (c : Cursor). bytes_eq c.query q) x.cursors none.0 in
+    let unwatched = none_pass (λ w. bytes_eq w q) x.watches none.1 in record {
+      cursors = λ j e within. let c = slice_index_or x.cursors j e in let k = g.cursors j e within in record {
+        registered = subst (λ (o : Option Query). IsSome o) (sym (dropped_query qs q c.query (apart j e within)))
+            k.registered;
+        once = k.once;
+      };
+      names = g.names;
+      registered = λ j e within. subst (λ (o : Option Query). IsSome o)
+          (sym (dropped_query qs q (slice_index_or x.watches j e) (unwatched j e within))) (g.registered j e within);
+      once = g.once;
+      ended = g.ended;
+    }
+
+drop_kept : (old : State) (q : Bytes) (r : Result ⊤ Refusal) (store : Store) (new : State)
+    → DropsQuery old.store (list_any (uses q) old.sessions) q r store → new ≡ record old { store = store } → AreKept old
+    → AreKept new
+drop_kept old q (Ok u) store new h after k =
+    let used = list_any (uses q) old.sessions in
+    let D = λ (_ : ⊤). store ≡ record old.store { queries = drop_first (λ p. bytes_eq p.name q) old.store.queries } in
+    let e = done_of (drop_refusal old.store used q) u D (OutOfMemoryWhere ⊥) h.answer in
+    let none = none_pass (uses q) old.sessions (unused_of (is_none (query_of old.store.queries q)) used NoQuery InUse u
+    D (OutOfMemoryWhere ⊥) h.answer) in
+    let kept : All (IsSoundSession store.queries) old.sessions =
+    subst (λ (st : Store). All (IsSoundSession st.queries) old.sessions) (sym e)
+    (λ i d lt. not_used old.store.queries q (slice_index_or old.sessions i d) (none i d lt) (k.1 i d lt)) in
+    subst AreKept (sym after) (dropped_store old.store used q (Ok u) store h k.0, kept)
+drop_kept old q (Err r) store new h after k = same_kept old new
+    (after ∙ ap (λ (st : Store). record old { store = st }) h.stays) k
+
+-- a registered query
+is_registered : (o : Option Query) → is_none o ≡ false → IsSome o
+is_registered None e = absurd cc
+is_registered (Some q) e = refl
+
+pub none_first : (a : Bool) (r : Refusal) (o : Option Refusal) → cond a (Some r) o ≡ None → a ≡ false
+none_first true r o h = absurd cc
+none_first false r o h = refl
+
+open_kept : (old : State) (s : ℕ) (x : Session) (c q : Bytes) (r : Result ⊤ Refusal) (new : State)
+    → session_of old s ≡ Some x → x.cause ≡ None
+    → Answers (open_refusal old.store x.cursors c q) r (λ _. ⊤) (OutOfMemoryWhere ⊤) → OpensTo old s c q new r
+    → AreKept old → AreKept new
+open_kept old s x c q (Ok u) new found runs answer after k =
+    let more : Cursor = record { name = c; query = q; position = open_at [] false } in
+    let rest = first_of ((nat_le CURSORS (length x.cursors), Limit) ∷ []) in
+    let fine = opens_on (open_refusal old.store x.cursors c q) u (OutOfMemoryWhere ⊤) answer in
+    let unnamed = none_found (cursor_of x.cursors c)
+    (none_first (is_some (cursor_of x.cursors c)) _
+    (cond (is_none (query_of old.store.queries q)) (Some NoQuery) rest) fine) in
+    let there = none_second (is_some (cursor_of x.cursors c)) (is_none (query_of old.store.queries q)) _ NoQuery rest
+    fine in
+    session_runs old new s x (with_cursor c q) found after (λ g. record {
+      cursors = All-push (IsSoundCursor old.store.queries) x.cursors more g.cursors
+          (record {
+            registered = is_registered (query_of old.store.queries q) there;
+            once = nothing_apart
+                (λ a b. a ≡ b → ⊥);
+          });
+      names = names_push IsNamed x.cursors more g.names unnamed;
+      registered = g.registered;
+      once = g.once;
+      ended = λ h. going x runs h;
+    }) k
+open_kept old s x c q (Err r) new found runs answer after k = same_kept old new after k
+
+next_at_kept : (old : State) (s : ℕ) (x : Session) (c : Bytes) (q : Query) (count : ℕ) (p : Position) (e : Effect)
+    (new : State)
+    → session_of old s ≡ Some x → x.cause ≡ None → NextStepAt old s c q count p e new → AreKept old → AreKept new
+next_at_kept old s x c q count (stale r n) e new found runs h k = same_kept old new h.1 k
+next_at_kept old s x c q count (open_at given finished) e new found runs (inr h) k = ends_kept old s Memory new h.state
+    k
+next_at_kept old s x c q count (open_at given finished) e new found runs (inl h) k =
+    let position = open_at (given ++ h.told) h.end in
+    session_runs old new s x (λ y. record y { cursors = with_position y.cursors c position }) found h.state
+    (λ g. record {
+      cursors = all_changed (IsSoundCursor old.store.queries) (λ (z : Cursor). bytes_eq z.name c)
+          (λ (z : Cursor). record z { position = position }) x.cursors g.cursors
+          (λ z at was. record { registered = was.registered; once = h.tells.different });
+      names = names_changed IsNamed (λ (z : Cursor). bytes_eq z.name c)
+          (λ (z : Cursor). record z { position = position }) (λ z. refl) x.cursors g.names;
+      registered = g.registered;
+      once = g.once;
+      ended = λ ends. going x runs ends;
+    }) k
+
+next_kept : (old : State) (s : ℕ) (x : Session) (c : Bytes) (count : ℕ) (o : Option Cursor) (e : Effect) (new : State)
+    → session_of old s ≡ Some x → x.cause ≡ None
+    → MatchOption o (RefusedStep old s NoCursor e new)
+    (λ z. IsSomeAnd (query_of old.store.queries z.query) (λ q. NextStepAt old s c q count z.position e new))
+    → AreKept old → AreKept new
+next_kept old s x c count None e new found runs h k = same_kept old new h.1 k
+next_kept old s x c count (Some z) e new found runs h k =
+    let f = some_and (query_of old.store.queries z.query) (λ q. NextStepAt old s c q count z.position e new) h in
+    next_at_kept old s x c f.0 count z.position e new found runs f.2 k
+
+close_kept : (old : State) (s : ℕ) (x : Session) (c : Bytes) (o : Option Cursor) (e : Effect) (new : State)
+    → session_of old s ≡ Some x → x.cause ≡ None
+    → MatchOption o (RefusedStep old s NoCursor e new) (λ z. CloseStep old s c e new) → AreKept old → AreKept new
+close_kept old s x c None e new found runs h k = same_kept old new h.1 k
+close_kept old s x c (Some z) e new found runs h k =
+    session_runs old new s x (λ y. record y { cursors = drop_first (λ d. bytes_eq d.name c) y.cursors }) found h.1
+    (λ g. record {
+      cursors = all_dropped (IsSoundCursor old.store.queries) (λ (d : Cursor). bytes_eq d.name c) x.cursors g.cursors;
+      names = names_dropped IsNamed (λ n. bytes_eq n c) x.cursors g.names;
+      registered = g.registered;
+      once = g.once;
+      ended = λ ends. going x runs ends;
+    }) k
+
+-- watches
+none_watched : (q : Bytes) (ws : List Bytes) → list_any (λ w. bytes_eq w q) ws ≡ false → All (λ w. w ≢ q) ws
+none_watched q ws e = All-weaker (λ w. bytes_eq w q ≡ false) (λ w. w ≢ q) (λ w k. other_name w q k) ws
+    (none_pass (λ w. bytes_eq w q) ws e)
+
+watched : (qs : List Query) (q : Bytes) (ws : List Bytes) (b : Bool) → list_any (λ w. bytes_eq w q) ws ≡ b
+    → IsSome (query_of qs q)
+    → All (λ w. IsSome (query_of qs w)) ws → AreApart ws
+    → All (λ w. IsSome (query_of qs w)) (cond b ws (ws ++ q ∷ [])) × AreApart (cond b ws (ws ++ q ∷ []))
+watched qs q ws true e there all once = (all, once)
+watched qs q ws false e there all once = (
+  All-push (λ w. IsSome (query_of qs w)) ws q all there,
+  pairs_push
+      (λ a b. a ≢ b) ws q once (none_watched q ws e),
+)
+
+watch_kept : (old : State) (s : ℕ) (x : Session) (q : Bytes) (r : Result ⊤ Refusal) (new : State)
+    → session_of old s ≡ Some x → x.cause ≡ None
+    → Answers (watch_refusal old.store q) r (λ _. ⊤) (OutOfMemoryWhere (is_watching q x ≡ false))
+    → BecomesWhere old s (with_watch q) new r → AreKept old → AreKept new
+watch_kept old s x q (Ok u) new found runs answer after k =
+    let fine = opens_on (watch_refusal old.store q) u (OutOfMemoryWhere (is_watching q x ≡ false)) answer in
+    let there = is_registered (query_of old.store.queries q)
+    (none_first (is_none (query_of old.store.queries q)) NoQuery None fine) in
+    session_runs old new s x (with_watch q) found after (λ g.
+    let both = watched old.store.queries q x.watches (is_watching q x) refl there g.registered g.once in record {
+      cursors = g.cursors;
+      names = g.names;
+      registered = both.0;
+      once = both.1;
+      ended = λ ends. going x runs ends;
+    }) k
+watch_kept old s x q (Err r) new found runs answer after k = same_kept old new after k
+
+unwatch_kept : (old : State) (s : ℕ) (x : Session) (q : Bytes) (r : Result ⊤ Refusal) (new : State)
+    → session_of old s ≡ Some x → x.cause ≡ None
+    → BecomesWhere old s (without_watch q) new r → AreKept old → AreKept new
+unwatch_kept old s x q (Ok u) new found runs after k =
+    session_runs old new s x (without_watch q) found after (λ g. record {
+      cursors = g.cursors;
+      names = g.names;
+      registered = all_dropped (λ w. IsSome (query_of old.store.queries w)) (λ w. bytes_eq w q) x.watches g.registered;
+      once = pairs_dropped (λ a b. a ≢ b) (λ w. bytes_eq w q) x.watches g.once;
+      ended = λ ends. going x runs ends;
+    }) k
+unwatch_kept old s x q (Err r) new found runs after k = same_kept old new after k
+
+lines_kept : (old : State) (s : ℕ) (lines : List Bytes) (e : Effect) (new : State) → TellsLines old s lines e new
+    → AreKept old → AreKept new
+lines_kept old s lines e new (inl h) k = same_kept old new h.1 k
+lines_kept old s lines e new (inr (told, lacking, rest, parts, ends)) k = ends_kept old s Memory new ends.1 k
+
+explain_kept : (old : State) (s : ℕ) (o : Option Query) (e : Effect) (new : State)
+    → MatchOption o (RefusedStep old s NoQuery e new) (λ q. ExplainStep old s q e new) → AreKept old → AreKept new
+explain_kept old s None e new h k = same_kept old new h.1 k
+explain_kept old s (Some q) e new h k = lines_kept old s (explain_lines q h.tree) e new h.tells k
+
+command_kept : (old : State) (s : ℕ) (x : Session) (c : Command) (e : Effect) (new : State) → session_of old s ≡ Some x
+    → x.cause ≡ None → CommandStep old s x c e new → AreKept old → AreKept new
+command_kept old s x (Rel name types) e new found runs h k =
+    store_kept old h.store new (related_queries old.store name types h.result h.store h.done)
+    (related_store old.store name types h.result h.store h.done k.0) h.state k
+command_kept old s x (Add name row) e new found runs h k =
+    change_kept old s name _ _ _ h.store _ e new h.change
+    (changed_kept old name (add_outdates h.result) h.store (added_queries old.store name row h.result h.store h.done)
+    (added_store old.store name row h.result h.store h.done k.0) k)
+command_kept old s x (Del name row) e new found runs h k =
+    change_kept old s name _ _ _ h.store _ e new h.change
+    (changed_kept old name (delete_outdates h.result) h.store
+    (deleted_queries old.store name row h.result h.store h.done)
+    (deleted_store old.store name row h.result h.store h.done k.0) k)
+command_kept old s x (Register q) e new found runs h k = query_kept old s q e new h k
+command_kept old s x (Open c q) e new found runs h k = open_kept old s x c q h.result new found runs h.answer h.state k
+command_kept old s x (Next c count) e new found runs h k = next_kept old s x c count (cursor_of x.cursors c) e new found
+    runs h k
+command_kept old s x (Close c) e new found runs h k = close_kept old s x c (cursor_of x.cursors c) e new found runs h k
+command_kept old s x Quit e new found runs h k = ends_kept old s _ new h.1 k
+command_kept old s x Stop e new found runs h k = ends_kept (record old { stopped = true }) s _ new h.1 k
+command_kept old s x (Drop q) e new found runs h k = drop_kept old q h.result h.store new h.done h.state k
+command_kept old s x (Has q row) e new found runs h k = same_kept old new h.state k
+command_kept old s x (Watch q) e new found runs h k = watch_kept old s x q h.result new found runs h.answer h.state k
+command_kept old s x (Unwatch q) e new found runs h k = unwatch_kept old s x q h.result new found runs h.state k
+command_kept old s x (Explain q) e new found runs h k = explain_kept old s (query_of old.store.queries q) e new h k
+
+-- The front of a session's bytes.
+read_kept : (old : State) (s : ℕ) (x : Session) (r : Reading) (e : Effect) (new : State) → session_of old s ≡ Some x
+    → x.cause ≡ None → ReadStep old s x r e new → AreKept old → AreKept new
+read_kept old s x (refused r) e new found runs h k = same_kept old new h.1 k
+read_kept old s x (says_command c) e new found runs (true, h) k = command_kept old s x c e new found runs h k
+read_kept old s x (says_command c) e new found runs (false, h) k = same_kept old new h.1.1 k
+
+pub without_line_kept : (old : State) (s : ℕ) (rest : Bytes) → AreKept old
+    → AreKept (with_session old s (behind_line rest))
+without_line_kept old s rest k = others_stay old (with_session old s (behind_line rest)) s (behind_line rest)
+    (λ x. refl) (λ x. refl) (λ x. refl) refl k
+
+front_kept : (old : State) (s : ℕ) (x : Session) (outcome : LineOutcome) (e : Effect) (new : State)
+    → session_of old s ≡ Some x → x.cause ≡ None → FrontStep old s x outcome e new → AreKept old → AreKept new
+front_kept old s x long e new found runs h k = ends_kept old s _ new h.1.1 k
+front_kept old s x (blank l) e new found runs h k = same_kept (with_session old s (behind_line h.1.rest)) new h.1.then.1
+    (without_line_kept old s h.1.rest k)
+front_kept old s x (slow l) e new found runs h k = ends_kept (with_session old s (behind_line h.2.rest)) s _ new
+    h.2.then.1 (without_line_kept old s h.2.rest k)
+front_kept old s x (no_room l) e new found runs h k = ends_kept (with_session old s (behind_line h.2.rest)) s _ new
+    h.2.then.1 (without_line_kept old s h.2.rest k)
+front_kept old s x (run l) e new found runs h k =
+    let rest = h.2.rest in
+    let here : session_of (with_session old s (behind_line rest)) s ≡ Some (behind_line rest x) =
+    session_changed old s (behind_line rest) (λ y. refl) ∙ ap (λ o. option_map (behind_line rest) o) found in
+    read_kept (with_session old s (behind_line rest)) s (behind_line rest x) (reading_of l) e new here runs h.2.then
+    (without_line_kept old s rest k)
+
+-- The events.
+fresh_sound : (qs : List Query) (s : ℕ) → IsSoundSession qs (fresh s)
+fresh_sound qs s = record {
+  cursors = All-nil (IsSoundCursor qs);
+  names = nothing_apart (λ a b. a ≢ b);
+  registered = All-nil (λ w. IsSome (query_of qs w));
+  once = nothing_apart (λ a b. a ≢ b);
+  ended = λ h. (refl, refl);
+}
+
+opened_kept : (old mid : State) (s : ℕ)
+    → ((length old.sessions < SESSIONS) × (mid ≡ record old { sessions = old.sessions ++ fresh s ∷ [] })) ⊎ (mid ≡ old)
+    → AreKept old → AreKept mid
+opened_kept old mid s (inl h) k =
+    subst AreKept (sym h.1) (
+      k.0,
+      All-push (IsSoundSession old.store.queries) old.sessions (fresh s) k.1
+          (fresh_sound old.store.queries s),
+    )
+opened_kept old mid s (inr h) k = same_kept old mid h k
+
+fed_kept : (old : State) (s : ℕ) (bytes : Bytes) (e : Effect) (mid : State) (c : Option EndCause)
+    → MatchOption c
+    (((e ≡ nothing) × (mid ≡ with_session old s (λ y. record y { held = y.held ++ bytes }))) ⊎ EndsWith end_memory
+    Memory old s e mid)
+    (λ _. (e ≡ nothing) × (mid ≡ old))
+    → AreKept old → AreKept mid
+fed_kept old s bytes e mid None (inl h) k = others_stay old mid s (λ y. record y { held = y.held ++ bytes }) (λ x. refl)
+    (λ x. refl) (λ x. refl) h.1 k
+fed_kept old s bytes e mid None (inr h) k = ends_kept old s Memory mid h.1 k
+fed_kept old s bytes e mid (Some c) h k = same_kept old mid h.1 k
+
+input_kept : (old mid : State) (s : ℕ) (P Q R : Type 0) (c : Option EndCause)
+    → MatchOption c (P × Q × (mid ≡ with_session old s (ended_by Input))) (λ _. R × (mid ≡ old)) → AreKept old
+    → AreKept mid
+input_kept old mid s P Q R None h k = ends_kept old s Input mid h.2 k
+input_kept old mid s P Q R (Some c) h k = same_kept old mid h.1 k
+
+acts_kept : (old : State) (event : Event) (e : Effect) (mid : State) → Acts old event e mid → AreKept old → AreKept mid
+acts_kept old (opened s) e mid h k = opened_kept old mid s h.2 k
+acts_kept old (fed s bytes) e mid h k =
+    let f = some_and (session_of old s) (λ x. FedStep old s bytes x e mid) h in
+    fed_kept old s bytes e mid (f.0).cause f.2 k
+acts_kept old (stepped s outcome) e mid h k =
+    let f = some_and (session_of old s) (λ x. (x.cause ≡ None) × FrontStep old s x outcome e mid) h in
+    front_kept old s f.0 outcome e mid f.1 f.2.0 f.2.1 k
+acts_kept old (took s bytes) e mid h k =
+    let f = some_and (session_of old s) (λ x. TookStep old s bytes x e mid) h in
+    others_stay old mid s (λ y. record y { pending = f.2.1.0 }) (λ x. refl) (λ x. refl) (λ x. refl) f.2.1.2 k
+acts_kept old (ended s) e mid h k =
+    let f = some_and (session_of old s) (λ x. EndedStep old s x e mid) h in
+    input_kept old mid s _ _ _ (f.0).cause f.2 k
+acts_kept old (closed s bytes) e mid h k =
+    subst AreKept (sym h.2) (
+      k.0,
+      All-filter (λ (x : Session). not (x.id == s)) (IsSoundSession old.store.queries)
+          old.sessions k.1,
+    )
+
+queued_kept : (st : State) (qs : List (ℕ × Bytes)) → AreKept st → AreKept (queue_all st qs)
+queued_kept st [] k = k
+queued_kept st (q ∷ qs) k =
+    queued_kept (queue st q) qs (others_stay st (queue st q) q.0 (λ x. record x { pending = x.pending ++ q.1 })
+    (λ x. refl) (λ x. refl) (λ x. refl) refl k)
+
+-- How many sessions are open.
+counted : (st : State) → length (map (λ (x : Session). x.id) st.sessions) ≡ length st.sessions
+counted st = length-map st.sessions (λ (x : Session). x.id)
+
+few_kept : (old mid : State) → map (λ (x : Session). x.id) mid.sessions ≡ map (λ (x : Session). x.id) old.sessions
+    → length old.sessions ≤ SESSIONS → length mid.sessions ≤ SESSIONS
+few_kept old mid e few = omega (arith, counted mid, counted old, ap length e, few)
+
+few_opened : (old mid : State) (s : ℕ)
+    → ((length old.sessions < SESSIONS) × (mid ≡ record old { sessions = old.sessions ++ fresh s ∷ [] })) ⊎ (mid ≡ old)
+    → length old.sessions ≤ SESSIONS → length mid.sessions ≤ SESSIONS
+few_opened old mid s (inl h) few =
+    let long : length mid.sessions ≡ length old.sessions + 1 = ap (λ (st : State). length st.sessions) h.1
+    ∙ length-append old.sessions (fresh s ∷ []) in
+    omega (arith, long, h.0)
+few_opened old mid s (inr h) few = subst (λ (st : State). length st.sessions ≤ SESSIONS) (sym h) few
+
+filter_less : {A : Type 0} (p : A → Bool) (xs : List A) → length (filter p xs) ≤ length xs
+filter_less p [] = omega arith
+filter_less p (x ∷ xs) = by (p x) (filter_less p xs)
+  where
+    by : (b : Bool) → length (filter p xs) ≤ length xs
+        → length (cond b (x ∷ filter p xs) (filter p xs)) ≤ length (x ∷ xs)
+    by true h = omega (arith, h)
+    by false h = omega (arith, h)
+
+acts_few : (old : State) (event : Event) (e : Effect) (mid : State) → Acts old event e mid
+    → length old.sessions ≤ SESSIONS → length mid.sessions ≤ SESSIONS
+acts_few old (opened s) e mid h few = few_opened old mid s h.2 few
+acts_few old (fed s bytes) e mid h few = few_kept old mid (acts_ids old (fed s bytes) e mid h) few
+acts_few old (stepped s outcome) e mid h few = few_kept old mid (acts_ids old (stepped s outcome) e mid h) few
+acts_few old (took s bytes) e mid h few = few_kept old mid (acts_ids old (took s bytes) e mid h) few
+acts_few old (ended s) e mid h few = few_kept old mid (acts_ids old (ended s) e mid h) few
+acts_few old (closed s bytes) e mid h few =
+    let less = filter_less (λ (x : Session). not (x.id == s)) old.sessions in
+    subst (λ (st : State). length st.sessions ≤ SESSIONS) (sym h.2) (omega (arith, less, few))
+
+-- A step of the machine keeps states sound.
+pub step_sound : (old : State) (event : Event) (e : Effect) (new : State) → Step old event e new → IsSoundState old
+    → IsSoundState new
+step_sound old event e new h g =
+    let mid = h.mid in
+    let acted = acts_kept old event e mid h.acts (g.store, g.sessions) in
+    let moved : AreKept (with_relations mid h.relations) = (
+      moved_store mid.store h.relations h.reordered acted.0,
+      acted.1,
+    ) in
+    let kept : AreKept new = subst AreKept (sym h.queued)
+    (queued_kept (with_relations mid h.relations) e.queued moved) in record {
+      store = kept.0;
+      sessions = kept.1;
+      rising = step_rises old event e new h g.rising;
+      few = few_kept (with_relations mid h.relations) new
+          (ap (λ (st : State). map (λ (x : Session). x.id) st.sessions) h.queued ∙ queued_ids
+          (with_relations mid h.relations) e.queued) (acts_few old event e mid h.acts g.few);
+    }
+
+pub runs_keep_sound : RunsKeepSound
+runs_keep_sound old done new w g = walk_keeps (λ (o : State) (d : Did) (n : State). Step o d.event d.effect n)
+    IsSoundState (λ o d n h. step_sound o d.event d.effect n h) old done new w g
+
+pub opening_sound : IsSoundState opening
+opening_sound = record {
+  store = record {
+    relations = nothing_apart (λ a b. a ≢ b);
+    rows = All-nil IsSoundRelation;
+    texts = nothing_apart (λ a b. a ≢ b);
+    few = omega arith;
+    queries = nothing_apart (λ a b. a ≢ b);
+    connex = All-nil (λ (q : Query). IsFreeConnex (edges_of q) (head_of q));
+  };
+  sessions = All-nil (IsSoundSession []);
+  rising = nothing_apart (λ s t. s < t);
+  few = omega arith;
+}
+
+pub states_are_sound : StatesAreSound
+states_are_sound done new w = runs_keep_sound opening done new w opening_sound

@@ -1,0 +1,5 @@
+use Rattle.djq_laws.proofs.Dropping.{sent_in_order}
+use Rattle.djq_laws.proofs.sent_in_order.Goals as goal
+
+pub returns : goal.returns
+returns c = sent_in_order

@@ -1,0 +1,67 @@
+-- What holds of every state that the machine comes to.
+use Rattle.std.specs.Prelude.{List, [], ◌≡◌, ◌≢◌, ◌≤◌, true, IsSome, length, map, All, AllPairs}
+use Rattle.djq_model.specs.declared.relation.Relation.{Relation}
+use Rattle.djq_model.specs.declared.query.Query.{Query}
+use Rattle.djq_model.specs.Data.{Bytes, query_of}
+use Rattle.djq_model.specs.Answer.{AreDifferent}
+use Rattle.djq_model.specs.Typed.{fits}
+use Rattle.djq_lines.specs.declared.limits.TheConstants.{SESSIONS, TEXTS}
+use Rattle.djq_lines.specs.Hypergraph.{edges_of, head_of}
+use Rattle.djq_machine.specs.Store.{IsFreeConnex}
+use Rattle.djq_machine.specs.State.{Store, State, Session, Cursor, Position, open_at, stale, opening}
+use Rattle.djq_machine.specs.Run.{Did, Run}
+use Rattle.djq_laws.specs.Rising.{AreRising}
+
+-- No two of these names, or texts, are equal.
+abbrev pub AreApart : List Bytes → Type 0
+AreApart names = AllPairs (λ a b. a ≢ b) names
+
+-- The rows of a relation are of its columns' types, and none stands twice.
+pub record IsSoundRelation (r : Relation) : Type 0 where
+  pub typed : All (λ row. fits r.types row ≡ true) r.rows
+  pub once : AreDifferent r.rows
+
+-- Relations have names of their own, and queries, each of which is free-connex; and each known text
+-- is known once, and no more are than may be.
+pub record IsSoundStore (st : Store) : Type 0 where
+  pub relations : AreApart (map (λ r. r.name) st.relations)
+  pub rows : All IsSoundRelation st.relations
+  pub texts : AreApart st.texts
+  pub few : length st.texts ≤ TEXTS
+  pub queries : AreApart (map (λ q. q.name) st.queries)
+  pub connex : All (λ q. IsFreeConnex (edges_of q) (head_of q)) st.queries
+
+-- An open cursor has given no answer twice.
+abbrev pub GaveOnce : Position → Type 0
+GaveOnce (open_at given finished) = AreDifferent given
+GaveOnce (stale r n) = Unit {0}
+
+-- A cursor, stale or not, is over a registered query.
+pub record IsSoundCursor (queries : List Query) (c : Cursor) : Type 0 where
+  pub registered : IsSome (query_of queries c.query)
+  pub once : GaveOnce c.position
+
+-- A session's cursors have names of their own, and what it watches are registered queries, each
+-- once. A session that has ended has no cursors and no watches.
+pub record IsSoundSession (queries : List Query) (x : Session) : Type 0 where
+  pub cursors : All (IsSoundCursor queries) x.cursors
+  pub names : AreApart (map (λ c. c.name) x.cursors)
+  pub registered : All (λ w. IsSome (query_of queries w)) x.watches
+  pub once : AreApart x.watches
+  pub ended : IsSome x.cause → (x.cursors ≡ []) × (x.watches ≡ [])
+
+-- The store and each session are sound, and no more sessions are open than may be, by rising id.
+pub record IsSoundState (st : State) : Type 0 where
+  pub store : IsSoundStore st.store
+  pub sessions : All (IsSoundSession st.store.queries) st.sessions
+  pub rising : AreRising st
+  pub few : length st.sessions ≤ SESSIONS
+
+-- Every run from a sound state comes to one.
+abbrev pub RunsKeepSound : Type 0
+RunsKeepSound = (old : State) (done : List Did) (new : State) → Run old done new → IsSoundState old
+    → IsSoundState new
+
+-- Each state that a run comes to from the state in which nothing has happened is sound.
+abbrev pub StatesAreSound : Type 0
+StatesAreSound = (done : List Did) (new : State) → Run opening done new → IsSoundState new

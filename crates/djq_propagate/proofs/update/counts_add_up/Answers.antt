@@ -1,0 +1,5 @@
+use Rattle.djq_propagate.proofs.Adding.{adds_up}
+use Rattle.djq_propagate.proofs.update.counts_add_up.Goals as goal
+
+pub returns : goal.returns
+returns c = λ variables n all some. adds_up c.args.tree.now c.is_small.ensures variables n all some

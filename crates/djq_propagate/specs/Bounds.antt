@@ -1,0 +1,42 @@
+-- What the calls of an update of one leaf count at most, and how that adds up. Each function gives the most
+-- that a count x has become after the call, where no leaf has more than n tuples, the one that comes or goes
+-- counted in.
+use Rattle.std.specs.Prelude.{◌≡◌, ℕ, ◌+◌, ◌*◌, ◌<◌, ◌≤◌, true, List}
+use Rattle.djq_hyper.specs.Hypergraph.{member, degree}
+use Rattle.djq_tree.specs.Tree.{Tree, leaf_labels}
+use Rattle.djq_propagate.specs.Updates.{paths}
+
+-- a tuple comes to a leaf, with what it brings
+abbrev pub after_insert : Tree → ℕ → ℕ → ℕ
+after_insert t n x = x + 10 * (paths t * n)
+
+-- one comes, there is no memory for what it brings, and it is taken back
+abbrev pub after_refusal : Tree → ℕ → ℕ → ℕ
+after_refusal t n x = x + 18 * (paths t * n)
+
+-- a tuple that is to go is marked, and what goes with it
+abbrev pub after_mark : Tree → ℕ → ℕ → ℕ
+after_mark t n x = x + 6 * (paths t * n)
+
+-- an insertion ends: its marks are cleared
+abbrev pub after_keep : Tree → ℕ → ℕ → ℕ
+after_keep t n x = x + paths t * (1 + n)
+
+-- a removal ends, or an insertion is undone: the marked tuples go
+abbrev pub after_drop : Tree → ℕ → ℕ → ℕ
+after_drop t n x = x + 1 + 5 * (paths t * n) + paths t * (1 + n)
+
+-- the bound of an update of one of m leaves over v variables: 16 (m + v) n
+abbrev pub update_bound : ℕ → ℕ → ℕ → ℕ
+update_bound m v n = 16 * ((m + v) * n)
+
+-- each variable of a leaf is in the list
+abbrev pub HasVariables : Tree → List ℕ → Type 0
+HasVariables t V = (x : ℕ) → 0 < degree x (leaf_labels t) → member x V ≡ true
+
+-- the calls of an update count the bound at most, and twice the bound where it is taken back
+pub record AddUp (t : Tree) (v n : ℕ) : Type 0 where
+  pub inserted : (x : ℕ) → after_keep t n (after_insert t n x) ≤ x + update_bound t.leaves v n
+  pub removed : (x : ℕ) → after_drop t n (after_mark t n x) ≤ x + update_bound t.leaves v n
+  pub undone : (x : ℕ) → after_drop t n (after_insert t n x) ≤ x + 2 * update_bound t.leaves v n
+  pub refused : (x : ℕ) → after_refusal t n x ≤ x + 2 * update_bound t.leaves v n

@@ -1,0 +1,245 @@
+#!/usr/bin/env python3
+"""Holds the pages against what they speak of: paths, names, sessions, the table of crates, the kit's line.
+
+    tests/docs.py PATH_TO_DJQ
+
+It needs Python's standard library alone. One line is printed for each place that doesn't hold, and last
+`N passed, N failed`; the status is 0 where none failed.
+
+A block of a page that begins with ```lines is a session, and the ```replies behind it what is answered. In a block
+```session each line has its reply beside it, at least two spaces away, and further replies stand alone below, also behind
+spaces. In both, answers (`= ..`) that stand together come in any order.
+"""
+
+import glob
+import os
+import re
+import subprocess
+import sys
+
+ROOT = os.path.abspath(os.path.join(os.path.dirname(os.path.abspath(__file__)), ".."))
+
+# names of other programs, of the system and of mathematics that pages put between backticks
+ELSEWHERE = {
+    "nc", "sqlite", "valgrind", "callgrind", "gcc", "epoll", "stunnel", "openssl", "git", "pip", "python3", "redis", "netcat",
+    "MemoryMax", "cert", "CAfile", "ulimit", "SIGTERM", "SIGINT", "SIGPIPE", "EMFILE", "LD_PRELOAD", "stdin", "stdout", "stderr", "NAME",
+}
+
+passed, failed = 0, 0
+
+
+def check(holds, *words):
+    global passed, failed
+    if holds:
+        passed += 1
+    else:
+        failed += 1
+        print(*words)
+
+
+def pages():
+    for pattern in ("*.md", "docs/*.md", "bench/*.md", "clients/**/*.md"):
+        yield from sorted(glob.glob(os.path.join(ROOT, pattern), recursive=True))
+
+
+def read(path):
+    with open(path, encoding="utf-8") as file:
+        return file.read()
+
+
+def blocks(page):
+    """The fenced blocks of a page: the word behind the fence, and the lines."""
+    kind, lines = None, []
+    for line in page.split("\n"):
+        if line.startswith("```"):
+            if kind is None:
+                kind, lines = line[3:].strip(), []
+            else:
+                yield kind, lines
+                kind = None
+        elif kind is not None:
+            lines.append(line)
+
+
+def prose(page):
+    """The lines of a page outside its fenced blocks."""
+    inside = False
+    for line in page.split("\n"):
+        if line.startswith("```"):
+            inside = not inside
+        elif not inside:
+            yield line
+
+
+# Paths
+
+
+PATH = re.compile(r"^[A-Za-z0-9_.\-]*(/[A-Za-z0-9_.\-]+)*/?$")
+ENDING = re.compile(r"\.(md|rt|antt|py|txt|svg|json|edit|sh|c)$")
+
+
+def is_path(word):
+    if {"FILE", "FUNCTION", "NAME"} & set(word.split("/")):
+        return False  # stands for any
+    return bool(PATH.match(word)) and ("/" in word or ENDING.search(word)) and not word.startswith(("/", "."))
+
+
+def there(path):
+    return os.path.exists(path) or os.path.basename(os.path.dirname(path)) == "out"
+
+
+def find(word, page, line, last):
+    """Where a path of a page leads to: from the root, the crates, the page, the path that was named before it, the crate that
+    the line names, or, where it names none, any crate."""
+    bases = [ROOT, os.path.join(ROOT, "crates"), os.path.dirname(page)]
+    named = re.findall(r"\bdjq(?:_[a-z_]+)?\b", line)
+    bases += [os.path.join(ROOT, "crates", name) for name in named] or glob.glob(os.path.join(ROOT, "crates", "*"))
+    while last and last.startswith(ROOT) and last != ROOT:
+        bases.append(last)
+        last = os.path.dirname(last)
+    for base in bases:
+        if there(os.path.join(base, word)):
+            return os.path.join(base, word)
+    # the name of a file that many crates have
+    anywhere = [] if named or "/" in word else glob.glob(os.path.join(ROOT, "crates", "*", "proofs", "**", word), recursive=True)
+    return anywhere[0] if anywhere else None
+
+
+def paths():
+    for page in pages():
+        name = os.path.relpath(page, ROOT)
+        for number, line in enumerate(prose(read(page)), 1):
+            for target in re.findall(r"\]\(([^)#]+?)(?:#[^)]*)?\)", line):
+                if "://" not in target:
+                    check(there(os.path.join(os.path.dirname(page), target)), f"{name}: no file {target}")
+            last = None
+            for word in re.findall(r"`([^` ]+)`", line):
+                if is_path(word):
+                    found = find(word, page, line, last)
+                    check(found is not None, f"{name}: no file {word}")
+                    last = found or last
+
+
+# Names
+
+
+def known_words():
+    words = set(ELSEWHERE)
+    for pattern in ("crates/**/*.rt", "crates/**/*.antt", "**/*.py", "crates/*/must-fail/*.edit"):
+        for path in glob.glob(os.path.join(ROOT, pattern), recursive=True):
+            if "/out/" not in path:
+                words.update(re.findall(r"[A-Za-z_][A-Za-z0-9_]*", read(path)))
+                words.add(os.path.splitext(os.path.basename(path))[0])
+    words.update(re.findall(r"[a-z_0-9]+", read(os.path.join(ROOT, "crates.txt"))))
+    return words
+
+
+def names():
+    known = known_words()
+    for page in pages():
+        name = os.path.relpath(page, ROOT)
+        for line in prose(read(page)):
+            for word in re.findall(r"`([A-Za-z_][A-Za-z0-9_]*(?:(?:::|\.)[A-Za-z_][A-Za-z0-9_]*)*)(?:\(\))?`", line):
+                if is_path(word):
+                    continue
+                missing = [part for part in re.split(r"::|\.", word) if part not in known]
+                check(not missing, f"{name}: nothing is named {', '.join(missing)} (`{word}`)")
+
+
+# Sessions
+
+
+def sessions(page):
+    """The sessions that a page shows: the lines, and the replies."""
+    lines = None
+    for kind, rows in blocks(page):
+        if kind == "lines":
+            lines = rows
+        elif kind == "replies":
+            yield lines, rows
+            lines = None
+        elif kind == "session":
+            said, answered = [], []
+            for row in rows:
+                parts = re.split(r"\s{2,}", row.strip(), maxsplit=1) if not row.startswith(" ") else ["", row.strip()]
+                said += [parts[0]] if parts[0] else []
+                answered += parts[1:]
+            yield said, answered
+
+
+def in_any_order(replies):
+    """The replies, the answers that stand together in order."""
+    ordered, run = [], []
+    for reply in replies + [None]:
+        if reply is not None and reply.startswith("= "):
+            run.append(reply)
+        else:
+            ordered += sorted(run) + ([reply] if reply is not None else [])
+            run = []
+    return ordered
+
+
+def shown_sessions(program):
+    for page in pages():
+        for said, answered in sessions(read(page)):
+            text = "".join(line + "\n" for line in said).encode()
+            done = subprocess.run([program, "run"], input=text, capture_output=True, timeout=60)
+            got = done.stdout.decode().splitlines()
+            check(in_any_order(got) == in_any_order(answered), f"{os.path.relpath(page, ROOT)}: a session isn't answered as shown:\n  "
+                  + "\n  ".join(f"{a!r} is shown, {b!r} came" for a, b in zip(in_any_order(answered), in_any_order(got)) if a != b))
+
+
+# The crates, the kit, the size of the front page
+
+
+def crates():
+    below = {}
+    for line in read(os.path.join(ROOT, "crates.txt")).splitlines():
+        line = line.split("#")[0]
+        if ":" in line:
+            name, needs = line.split(":")
+            below[name.split()[0]] = needs.split()
+    page = read(os.path.join(ROOT, "docs", "ARCHITECTURE.md"))
+    listed = {}
+    for row in re.findall(r"^\| (djq\w*) \| [^|]+ \|([^|]*)\|$", page, re.MULTILINE):
+        check(row[0] not in listed, f"docs/ARCHITECTURE.md: {row[0]} stands twice")
+        listed[row[0]] = row[1]
+    check(sorted(listed) == sorted(below), "docs/ARCHITECTURE.md and crates.txt differ:", sorted(set(listed) ^ set(below)))
+    for name, needs in listed.items():
+        for need in re.findall(r"[a-z_]+", re.sub(r"\(.*?\)|and those below( it)?|and", "", needs)):
+            check("djq_" + need in below.get(name, []), f"docs/ARCHITECTURE.md: {name} doesn't stand on {need}")
+    proved = read(os.path.join(ROOT, "docs", "PROVED.md"))
+    for name in below:
+        check(re.search(rf"^\| {name} \|", proved, re.MULTILINE), f"docs/PROVED.md doesn't speak of {name}")
+    done = subprocess.run([sys.executable, os.path.join(ROOT, "docs", "pictures.py"), "--check"], capture_output=True, text=True)
+    check(done.returncode == 0, done.stdout.strip() or done.stderr.strip())
+
+
+def kit():
+    line = subprocess.run(["rt", "version"], capture_output=True, text=True).stdout.strip()
+    check(line and line in read(os.path.join(ROOT, "README.md")), f"README.md doesn't name the kit's line: {line}")
+
+
+def front_page():
+    size = os.path.getsize(os.path.join(ROOT, "README.md"))
+    check(size <= 8192, f"README.md has {size} bytes, and 8192 at most are wanted")
+    for row in re.findall(r"^\|.*\|$", read(os.path.join(ROOT, "docs", "PROVED.md")), re.MULTILINE):
+        for cell in row.strip("|").split("|"):
+            check(len(cell.split()) <= 40, f"docs/PROVED.md: a cell of {len(cell.split())} words: {cell.strip()[:60]} ..")
+
+
+def main():
+    if len(sys.argv) != 2:
+        raise SystemExit(__doc__)
+    paths()
+    names()
+    shown_sessions(os.path.abspath(sys.argv[1]))
+    crates()
+    kit()
+    front_page()
+    print(f"{passed} passed, {failed} failed")
+    return 1 if failed else 0
+
+
+if __name__ == "__main__":
+    sys.exit(main())

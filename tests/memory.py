@@ -1,0 +1,468 @@
+#!/usr/bin/env python3
+"""Each growth of memory refused: the built program under an allocator that refuses, and under a limit of its memory.
+
+    tests/memory.py PATH_TO_DJQ
+
+tests/refuse.c is compiled with gcc and preloaded. Each session below is run with the Nth growth refused alone, and
+with every growth from the Nth on refused, N from 1 up to a run that meets none. Each time tests/model.py follows what
+was written: the replies are those of the session up to `end memory`, an `err 12` stands only where it may, and what
+comes behind it is what the page says of a refusal. One line is printed for each test that fails, and last
+`N passed, N failed`; the status is 0 where none failed. Python's standard library and gcc are all it needs.
+"""
+
+import os
+import resource
+import struct
+import subprocess
+import sys
+import tempfile
+import traceback
+
+sys.dont_write_bytecode = True
+import model  # noqa: E402
+
+PATIENCE = 60
+
+# a run of one session never asks for so many growths
+MOST_GROWTHS = 5000
+
+TESTS = []
+
+
+def test(function):
+    TESTS.append(function)
+    return function
+
+
+def lines(text):
+    return b"".join(line.strip() + b"\n" for line in text.strip().split(b"\n"))
+
+
+def expect(got, want, what=""):
+    if got != want:
+        raise AssertionError(f"{what}: got {got!r}, want {want!r}")
+
+
+# ---------------------------------------------------------------- sessions
+
+ONE_RELATION = lines(b"""
+rel r int int
+add r 1 2
+add r 3 4
+add r 1 2
+del r 3 4
+query q(x,y) <- r(x,y)
+open c q
+next c 2
+next c 2
+close c
+open c q
+add r 1
+add r 1 "a"
+add t 1
+open c q
+next c 1
+add r 5 6
+next c 1
+open d q
+next d 9
+del r 9 9
+next d 9
+del r 5 6
+next d 9
+next c 9
+close c
+close d
+drop q
+query q(y) <- r(_,y)
+open c q
+next c 9
+""")
+
+JOINS = lines(b"""
+rel r int int
+rel s int
+rel t int int
+query q() <- r(x,y), s(y)
+query p(x,y,z) <- r(x,y), t(y,z), s(y)
+query w(x,z) <- r(x,y), t(y,z)
+query v(x,y,z) <- r(x,y), t(y,z), t(z,x)
+explain q
+explain p
+add r 1 2
+add s 2
+add t 2 5
+add t 2 6
+open c q
+open d p
+next c 5
+next d 1
+next d 5
+has q
+has p 1 2 5
+has p 1 2 7
+del s 2
+next c 5
+next d 5
+close c
+open c q
+next c 5
+add s 2
+add r 3 2
+close d
+open d p
+next d 9
+""")
+
+WATCHES = lines(b"""
+rel r int int
+query q(x) <- r(x,y)
+watch q
+add r 1 10
+add r 1 11
+add r 1 12
+open c q
+next c 9
+del r 1 10
+del r 1 11
+del r 1 12
+rel s int
+query p(x,y) <- r(x,_), s(y)
+watch p
+watch p
+add s 1
+add r 1 1
+add r 2 1
+add s 2
+add s 3
+del r 1 1
+unwatch q
+drop q
+del r 2 1
+unwatch p
+""")
+
+SELF_JOINS = lines(b"""
+rel r int int
+query q(x,y,z) <- r(x,y), r(y,z)
+watch q
+add r 1 1
+add r 1 2
+del r 1 1
+add r 2 1
+add r 2 2
+add r 2 3
+query p(x,y) <- r(x,y), r(y,y), r(x,_)
+watch p
+add r 3 3
+add r 2 2
+del r 2 2
+add r 2 2
+open c q
+open d p
+next c 3
+next d 50
+del r 3 3
+next c 50
+""")
+
+CONSTANTS_AND_TEXTS = lines(b"""
+rel r int int int
+add r 1 1 3
+add r 1 2 3
+add r 2 2 4
+add r 5 5 3
+query q(x) <- r(x,x,3)
+open c q
+next c 9
+del r 1 2 3
+next c 9
+rel n int
+rel t text text
+add n -9223372036854775808
+add n 9223372036854775807
+add n 9223372036854775808
+add n -007
+add t "LONG" ""
+add t "LONGa" "a"
+add t 5 5
+add t "b\\"\\\\\\n" "b"
+query p(x) <- t(x,_), t(_,"b")
+query w(x,y) <- t("new",x), t("other",y), t(x,y)
+watch p
+has p "b\\"\\\\\\n"
+has p "z"
+add t "c" "b"
+del t "b\\"\\\\\\n" "b"
+del t "unknown" "b"
+add t "new" "d"
+add t "other" "e"
+add t "d" "e"
+open e w
+next e 5
+""").replace(b"LONG", b"a" * 255)
+
+REFUSALS = lines(b"""
+rel r int text
+rel r int
+rel k int int int int int int int int int
+rel
+add z 1
+add r 1
+add r 1 2
+query q(x) <- z(x)
+query q(x) <- r(x)
+query q(x) <- r("a",x)
+query q(x) <- r(x,x)
+query q(x,x) <- r(x,_)
+query q(z) <- r(x,_)
+query q(3) <- r(x,_)
+open c q
+next c 1
+query q(x) <- r(x,_)
+open c q
+open c q
+drop q
+has q
+has q "a"
+close c
+drop q
+""") + b"".join(b"rel r%d int\n" % at for at in range(4)) \
+    + b"query q(x) <- r0(x)" + b", r0(x)" * 16 + b"\n" + b"query q(x) <- r0(x)" + b", r0(x)" * 15 + b"\n" \
+    + b"".join(b"query q%d(x) <- r1(x)\n" % at for at in range(6)) \
+    + b"".join(b"open c%d q\n" % at for at in range(17)) \
+    + b"add r0 1\nadd r1 1\nnext c0 1\nnext c15 1\n"
+
+LONG_REPLIES = b"rel r int int\nquery q(x,y) <- r(x,y)\nwatch q\n" \
+    + b"".join(b"add r %d %d\n" % (at, at + 1000000000) for at in range(60)) \
+    + b"unwatch q\nopen c q\nnext c 10\nnext c 1000\nnext c 1\n" \
+    + b"query p(x) <- r(x,_), r(_,y)\nwatch p\nadd r 0 0\n" \
+    + b"query w(" + b",".join(b"v%d" % at for at in range(16)) + b") <- " \
+    + b", ".join(b"r(v%d,v%d)" % (at, (at + 1) % 16) for at in range(16)) + b"\nexplain q\n"
+
+
+SCHEDULE = lines(b"""
+open 1
+open 2
+open 5
+say 1 rel r int int
+say 1 rel s int
+say 2 query q(x,y) <- r(x,y), s(y)
+say 2 query p(x) <- r(x,_), r(_,x)
+say 2 watch q
+say 5 watch q
+say 5 watch p
+say 1 add r 1 2
+say 1 add s 2
+part 1 add r
+say 2 open c q
+part 5 open
+say 2 next c 1
+say 1  2 1
+say 5  c p
+say 5 next c 9
+say 1 add r 2 2
+say 5 next c 9
+say 2 explain q
+say 2 drop p
+open 6
+say 6 has q 2 2
+say 6 quit
+end 5
+say 1 drop p
+say 1 del r 2 2
+say 1 del s 2
+say 2 unwatch q
+say 1 drop q
+say 2 close c
+part 2 x
+end 2
+say 1 query q(x) <- r(x,_)
+open 7
+say 7 open c q
+say 7 next c 100
+say 1 stop
+""")
+
+# ---------------------------------------------------------------- an allocator that refuses
+
+class Refusing:
+    """The allocator, compiled, and the file in which it counts."""
+
+    def __enter__(self):
+        self.folder = tempfile.TemporaryDirectory()
+        self.library = os.path.join(self.folder.name, "refuse.so")
+        self.counts = os.path.join(self.folder.name, "counts")
+        source = os.path.join(os.path.dirname(os.path.abspath(__file__)), "refuse.c")
+        subprocess.run(["gcc", "-shared", "-fPIC", "-O1", "-Wall", "-Werror", "-o", self.library, source], check=True)
+        return self
+
+    def __exit__(self, *_):
+        self.folder.cleanup()
+
+    def run(self, words, text, first, many=False):
+        """What is written, the status, and how many growths were met and how many refused."""
+        with open(self.counts, "wb") as file:
+            file.write(bytes(16))
+        told = dict(os.environ, LD_PRELOAD=self.library, REFUSE_FROM=str(first), REFUSE_COUNT=self.counts)
+        if many:
+            told["REFUSE_MANY"] = "1"
+        done = subprocess.run([PROGRAM, *words], input=text, capture_output=True, env=told, timeout=PATIENCE)
+        with open(self.counts, "rb") as file:
+            met, refused = struct.unpack("QQ", file.read())
+        expect(done.stderr, b"", f"standard error where growth {first} is refused")
+        return done.stdout, done.returncode, met, refused
+
+
+def gen_is_followed(text, output, status, memory=False):
+    summary = model.summary_of_load(300, 3)
+    if (output, status) != (summary, 0) and (not memory or (output, status) != (b"", 6)):
+        raise model.Difference(f"written {output!r}, status {status}")
+
+
+FOLLOWS = {"run": model.follow_run, "replay": model.follow_replay, "gen": gen_is_followed}
+
+
+def each_growth_refused(name, text, words=("run",)):
+    follow = FOLLOWS[words[0]]
+    with Refusing() as refusing:
+        output, status, met, _ = refusing.run(words, text, 0)
+        follow(text, output, status)
+        expect(met > 10, True, f"{name}: the program asks the allocator, {met} growths")
+        for many in (False, True):
+            first, total = 1, 0
+            while True:
+                output, status, _, refused = refusing.run(words, text, first, many)
+                if refused == 0:
+                    break
+                try:
+                    follow(text, output, status, memory=True)
+                    wants = output.count(b"err 12 memory\n") + output.count(b"end memory\n")
+                    if words[0] == "run" and wants > refused:
+                        raise model.Difference(f"memory wanted {wants} times, refused {refused} times")
+                except model.Difference as difference:
+                    which = "each growth from" if many else "growth"
+                    raise AssertionError(f"{name}, {which} {first} refused: {difference}\n{output[-600:]!r}") from None
+                first, total = first + 1, total + refused
+                expect(first < MOST_GROWTHS, True, "a run that meets no refusal")
+            expect(first > 10, True, f"{name}: refusals")
+            print(f"{name}: {first - 1} growths refused one by one" if not many
+                  else f"{name}: {total} growths refused in {first - 1} runs")
+
+
+@test
+def one_relation_with_refusals_and_stale_cursors():
+    each_growth_refused("one relation", ONE_RELATION)
+
+
+@test
+def joins_listed_asked_and_explained():
+    each_growth_refused("joins", JOINS)
+
+
+@test
+def watches_with_deltas():
+    each_growth_refused("watches", WATCHES)
+
+
+@test
+def self_joins_that_are_watched():
+    each_growth_refused("self-joins", SELF_JOINS)
+
+
+@test
+def constants_and_texts():
+    each_growth_refused("constants and texts", CONSTANTS_AND_TEXTS)
+
+
+@test
+def refusals_and_limits():
+    each_growth_refused("refusals and limits", REFUSALS)
+
+
+@test
+def long_replies_and_deltas():
+    each_growth_refused("long replies", LONG_REPLIES)
+
+
+@test
+def a_schedule_of_several_sessions():
+    each_growth_refused("a schedule", SCHEDULE, ("replay",))
+
+
+@test
+def a_generated_load():
+    each_growth_refused("a load", b"", ("gen", "300", "3"))
+
+
+# ---------------------------------------------------------------- a limit of memory
+
+MILLION = 1000000
+
+
+def run_within(memory, text):
+    """What `run` writes where its address space has a limit, and its status."""
+    limit = lambda: resource.setrlimit(resource.RLIMIT_AS, (memory, memory))
+    done = subprocess.run([PROGRAM, "run"], input=text, capture_output=True, preexec_fn=limit, timeout=PATIENCE * 3)
+    expect(done.stderr, b"", "standard error")
+    return done.stdout, done.returncode
+
+
+def changed(rows, word, row, seq, reply):
+    """The rows and the number of changes after a change that was answered; an `add` may be refused for memory."""
+    if word == b"add" and reply == b"err 12 memory":
+        return seq
+    there = row in rows
+    if there == (word == b"add"):
+        expect(reply, b"ok %s %d" % (b"same" if there else b"absent", seq), row)
+        return seq
+    expect(reply, b"ok %s %d" % (b"removed" if there else b"added", seq + 1), row)
+    rows.symmetric_difference_update({row})
+    return seq + 1
+
+
+@test
+def exactly_the_accepted_rows_are_listed_where_memory_ends():
+    row = lambda at: b"%d %d" % (at, at * 7 % MILLION)
+    changes = [(b"add", row(at)) for at in range(MILLION)]
+    # rows go where no memory is left, and others come in their place
+    changes += [(b"del", row(at)) for at in range(2000)] + [(b"add", row(at)) for at in range(1000, MILLION, 500)]
+    # a reply of ten answers takes no memory, so all of them can be listed where none is left
+    text = b"rel r int int\nquery q(x,y) <- r(x,y)\nopen c q\nnext c 10\n" \
+        + b"".join(b"%s r %s\n" % change for change in changes) \
+        + b"next c 1\nclose c\nopen c q\n" + b"next c 10\n" * (MILLION // 10 + 1)
+    output, status = run_within(60 << 20, text)
+    expect(status, 0, output[-200:])
+    replies = output.split(b"\n")
+    expect(replies[:4], [b"ok", b"ok query 5", b"ok open", b"end"])
+    rows, seq = set(), 0
+    for (word, said), reply in zip(changes, replies[4:]):
+        seq = changed(rows, word, said, seq, reply)
+    refused = replies[4:4 + MILLION].count(b"err 12 memory")
+    expect(1000 < refused < MILLION - 1000, True, f"{refused} of {MILLION} rows are refused")
+    rest = replies[4 + len(changes):]
+    expect(rest[:3], [b"stale c r 1", b"ok", b"ok open"])
+    listed = [reply[2:] for reply in rest[3:] if reply.startswith(b"= ")]
+    expect(len(listed), len(rows), "how many rows are listed")
+    expect(set(listed) == rows, True, "exactly the accepted rows are listed")
+    expect({reply for reply in rest[3:] if not reply.startswith(b"= ")}, {b"more", b"end", b""}, "other replies")
+    print(f"{refused} of {MILLION} rows are refused in 60 MiB, and {len(rows)} are listed in the end")
+
+
+def main():
+    failed = 0
+    for function in TESTS:
+        try:
+            function()
+        except Exception:
+            failed += 1
+            print(f"{function.__name__}: {traceback.format_exc(limit=-1)}")
+    print(f"{len(TESTS) - failed} passed, {failed} failed")
+    return 1 if failed else 0
+
+
+if __name__ == "__main__":
+    if len(sys.argv) != 2:
+        raise SystemExit(__doc__)
+    PROGRAM = os.path.abspath(sys.argv[1])
+    sys.exit(main())

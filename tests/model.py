@@ -1,0 +1,920 @@
+"""A plain model of the join query server, written from the protocol page alone.
+
+Relations are sets of rows, a query's answers are computed anew from all rows, a query is admitted by the definition of
+free-connex, and what several sessions are sent is followed line by line. Where the order of lines is free, the model
+takes the program's: so it doesn't foretell an output, it follows one, and raises `Difference` at the first line that
+isn't allowed.
+"""
+
+import re
+
+LINE_BYTES = 4096
+SCHEDULE_LINE_BYTES = 8192
+PENDING_BYTES = 1 << 20
+TEXT_BYTES = 255
+MOST_SESSIONS = 64
+MOST_COLUMNS, MOST_RELATIONS, MOST_QUERIES, MOST_CURSORS = 8, 256, 256, 16
+MOST_ATOMS, MOST_VARIABLES, MOST_HEAD = 16, 64, 16
+MOST_ANSWERS = 1000
+
+SYNTAX, TAKEN, NO_RELATION, NO_QUERY = b"err 1 syntax", b"err 2 taken", b"err 3 no relation", b"err 4 no query"
+NO_CURSOR, ARITY, TYPE, UNBOUND = b"err 5 no cursor", b"err 6 arity", b"err 7 type", b"err 8 head unbound"
+REPEATED, VARIABLE_TYPE, LIMIT = b"err 9 head repeated", b"err 10 variable type", b"err 11 limit"
+MEMORY, CUT, IN_USE = b"err 12 memory", b"err 13 cut", b"err 14 in use"
+END_MEMORY = b"end memory"
+
+# bytes of a reply that are kept before its line is run
+KEPT_BYTES = 256
+
+
+class Difference(Exception):
+    """What was written isn't what is allowed."""
+
+
+class Syntax(Exception):
+    """A line is in no form of the grammar."""
+
+
+class OutOfMemory(Difference):
+    """A session was sent `end memory` where that is allowed."""
+
+
+# ---------------------------------------------------------------- lines
+
+TOKEN = re.compile(
+    rb"(?P<spaces> +)|(?P<name>[a-z][a-z0-9_]*)|(?P<hole>_)|(?P<integer>-?[0-9]+)"
+    rb'|(?P<text>"(?:[^"\\\n]|\\["\\n])*")|(?P<sign>\(|\)|,|<-)',
+    re.DOTALL,
+)
+ESCAPE = re.compile(rb"\\(.)")
+UNESCAPED = {b'"': b'"', b"\\": b"\\", b"n": b"\n"}
+
+
+def tokens_of(line):
+    """The tokens of a line: kind and value, None being the value of a literal that is past its limit."""
+    try:
+        line.decode("utf-8")
+    except UnicodeDecodeError:
+        raise Syntax from None
+    tokens, at, apart = [], 0, True
+    while at < len(line):
+        found = TOKEN.match(line, at)
+        if not found:
+            raise Syntax
+        kind, text, at = found.lastgroup, found[0], found.end()
+        if kind == "spaces":
+            apart = True
+            continue
+        if kind != "sign" and not apart:
+            raise Syntax
+        if kind == "name" and len(text) > 32:
+            raise Syntax
+        apart = kind == "sign"
+        tokens.append((kind, value_of(kind, text), text))
+    return tokens
+
+
+def value_of(kind, text):
+    if kind == "integer":
+        # more than 30 digits without leading zeros are past any limit
+        digits = text.lstrip(b"-").lstrip(b"0")
+        value = int(text) if len(digits) <= 30 else 1 << 99
+        return value if -(1 << 63) <= value < 1 << 63 else None
+    if kind == "text":
+        value = ESCAPE.sub(lambda escape: UNESCAPED[escape[1]], text[1:-1])
+        return value if len(value) <= TEXT_BYTES else None
+    return text
+
+
+def printed(value):
+    if isinstance(value, int):
+        return b"%d" % value
+    return b'"' + value.replace(b"\\", b"\\\\").replace(b'"', b'\\"').replace(b"\n", b"\\n") + b'"'
+
+
+class Reader:
+    """The tokens of a line, from left to right."""
+
+    def __init__(self, tokens):
+        self.tokens, self.at = tokens, 0
+
+    def take(self, *kinds):
+        if self.at == len(self.tokens) or self.tokens[self.at][0] not in kinds:
+            raise Syntax
+        self.at += 1
+        return self.tokens[self.at - 1]
+
+    def name(self):
+        return self.take("name")[1]
+
+    def sign(self, sign):
+        if self.take("sign")[1] != sign:
+            raise Syntax
+
+    def sees(self, sign):
+        return self.at < len(self.tokens) and self.tokens[self.at][:2] == ("sign", sign)
+
+    def rest(self):
+        return self.at < len(self.tokens)
+
+    def literals(self):
+        values = []
+        while self.rest():
+            values.append(self.take("integer", "text")[1])
+        return values
+
+    def listed(self, item):
+        """Items in brackets, with a comma between them."""
+        self.sign(b"(")
+        items = []
+        if not self.sees(b")"):
+            items.append(item())
+            while self.sees(b","):
+                self.sign(b",")
+                items.append(item())
+        self.sign(b")")
+        return items
+
+    def query(self):
+        name, head = self.name(), self.listed(self.name)
+        self.sign(b"<-")
+        atoms = [self.atom()]
+        while self.rest():
+            self.sign(b",")
+            atoms.append(self.atom())
+        return name, head, atoms
+
+    def atom(self):
+        return self.name(), self.listed(lambda: self.take("name", "hole", "integer", "text")[:2])
+
+
+def command_of(line):
+    """The command of a line that isn't blank: its word and what stands behind it."""
+    reader = Reader(tokens_of(line))
+    word = reader.name()
+    if word == b"rel":
+        name, types = reader.name(), []
+        while reader.rest() or not types:
+            types.append(reader.name())
+            if types[-1] not in (b"int", b"text"):
+                raise Syntax
+        said = (name, types)
+    elif word in (b"add", b"del", b"has"):
+        said = (reader.name(), reader.literals())
+        if word != b"has" and not said[1]:
+            raise Syntax
+    elif word == b"query":
+        said = reader.query()
+    elif word == b"open":
+        said = (reader.name(), reader.name())
+    elif word == b"next":
+        name, (_, count, text) = reader.name(), reader.take("integer")
+        if text.startswith(b"-") or count is None or not 1 <= count <= MOST_ANSWERS:
+            raise Syntax
+        said = (name, count)
+    elif word in (b"drop", b"close", b"watch", b"unwatch", b"explain"):
+        said = (reader.name(),)
+    elif word in (b"quit", b"stop"):
+        said = ()
+    else:
+        raise Syntax
+    if reader.rest():
+        raise Syntax
+    return word, said
+
+
+# ---------------------------------------------------------------- edges and trees
+
+def reduced(edges):
+    """What is left of a list of edges where no vertex lies in one edge alone, and no edge within another one."""
+    edges = [set(edge) for edge in edges]
+    while True:
+        for at, edge in enumerate(edges):
+            others = edges[:at] + edges[at + 1:]
+            alone = edge - set().union(*others)
+            if alone:
+                edge -= alone
+                break
+            if any(edge <= other for other in others):
+                del edges[at]
+                break
+        else:
+            return [edge for edge in edges if edge]
+
+
+class Node:
+    def __init__(self, words, label):
+        self.words, self.label = words, label
+
+
+class Tree:
+    """The nodes by which a query is kept; `stuck` where no step leads on."""
+
+    def __init__(self, leaves, head):
+        self.nodes = [Node(None, frozenset(leaf)) for leaf in leaves]
+        self.current = list(range(len(leaves)))
+        self.stuck = False
+        kept = frozenset(head)
+        self.go_on(lambda: any(self.nodes[node].label - kept for node in self.current), kept)
+        self.out = set(self.current)
+        first = len(self.nodes)
+        if not self.stuck:
+            self.go_on(lambda: len(self.current) > 1 or self.nodes[self.current[0]].label, frozenset())
+        self.out |= set(range(first, len(self.nodes)))
+
+    def go_on(self, needed, kept):
+        while not self.stuck and needed():
+            self.stuck = not (self.trim(kept) or self.meet_equal() or self.meet_within())
+
+    def trim(self, kept):
+        for node in self.current:
+            label = self.nodes[node].label
+            others = (self.nodes[other].label for other in self.current if other != node)
+            alone = label.difference(kept, *others)
+            if alone:
+                self.make(b"trim %d" % node, label - alone, node)
+                return True
+        return False
+
+    def meet_equal(self):
+        for at, guard in enumerate(self.current):
+            for side in self.current[at + 1:]:
+                if self.nodes[guard].label == self.nodes[side].label:
+                    self.meet(guard, side)
+                    return True
+        return False
+
+    def meet_within(self):
+        for side in self.current:
+            for guard in self.current:
+                if self.nodes[side].label < self.nodes[guard].label:
+                    self.meet(guard, side)
+                    return True
+        return False
+
+    def meet(self, guard, side):
+        self.make(b"meet %d %d" % (guard, side), self.nodes[guard].label, guard, side)
+
+    def make(self, words, label, *children):
+        self.current = [node for node in self.current if node not in children] + [len(self.nodes)]
+        self.nodes.append(Node(words, label))
+
+
+# ---------------------------------------------------------------- queries
+
+class Query:
+    """A query of the grammar over known relations; its variables are numbered as they come."""
+
+    def __init__(self, name, head, atoms):
+        self.name, self.variables, self.types = name, [], {}
+        numbers, self.atoms = {}, []
+        for relation, terms in atoms:
+            places = []
+            for kind, value in terms:
+                if kind in ("integer", "text"):
+                    places.append((None, value))
+                    continue
+                if kind == "hole" or value not in numbers:
+                    self.variables.append(value)
+                    number = len(self.variables) - 1
+                    if kind == "name":
+                        numbers[value] = number
+                else:
+                    number = numbers[value]
+                places.append((number, None))
+            self.atoms.append((relation, places))
+        self.head_names, self.numbers = head, numbers
+        self.reads = {relation for relation, _ in atoms}
+
+    def edges(self):
+        return [{number for number, _ in places if number is not None} for _, places in self.atoms]
+
+    def settle(self, relations):
+        """To be called once the query is admitted."""
+        self.head = [self.numbers[name] for name in self.head_names]
+        for relation, places in self.atoms:
+            for (number, _), kind in zip(places, relations[relation].types):
+                self.types[number] = kind
+        self.head_types = [self.types[number] for number in self.head]
+        self.version, self.known = None, None
+
+    def answers(self, relations):
+        """The answers over the present rows, each in the order of the head."""
+        version = tuple(relations[relation].version for relation in self.reads)
+        if version != self.version:
+            self.version, self.known = version, self.computed(relations)
+        return self.known
+
+    def computed(self, relations):
+        bound, parts = [], {()}
+        for at, (relation, places) in enumerate(self.atoms):
+            needed = set(self.head).union(*self.edges()[at + 1:])
+            fresh = list(dict.fromkeys(number for number, _ in places if number not in (None, *bound)))
+            shared = [number for number in bound if any(number == place for place, _ in places)]
+            matched = {}
+            for row in relations[relation].rows:
+                values = assigned(places, row)
+                if values is not None:
+                    key = tuple(values[number] for number in shared)
+                    matched.setdefault(key, set()).add(tuple(values[number] for number in fresh if number in needed))
+            where = [bound.index(number) for number in shared]
+            keep = [place for place, number in enumerate(bound) if number in needed]
+            grown = set()
+            for part in parts:
+                kept = tuple([part[place] for place in keep])
+                for more in matched.get(tuple([part[place] for place in where]), ()):
+                    grown.add(kept + more)
+            parts = grown
+            bound = [bound[place] for place in keep] + [number for number in fresh if number in needed]
+        order = [bound.index(number) for number in self.head]
+        return {tuple(part[place] for place in order) for part in parts}
+
+    def by_definition(self, relations, domain):
+        """The answers by the definition: of all assignments, those under which each atom's row is there."""
+        answers = set()
+
+        def grow(values):
+            if len(values) < len(self.variables):
+                for value in domain:
+                    grow(values + [value])
+                return
+            for relation, places in self.atoms:
+                row = tuple(value if number is None else values[number] for number, value in places)
+                if row not in relations[relation].rows:
+                    return
+            answers.add(tuple(values[number] for number in self.head))
+
+        grow([])
+        return answers
+
+    def label(self, numbers):
+        return b",".join(self.variables[number] for number in sorted(numbers)) or b"-"
+
+    def explained(self):
+        tree = Tree(self.edges(), self.head)
+        for at, node in enumerate(tree.nodes):
+            words = node.words or b"leaf " + self.atoms[at][0]
+            yield b"n %d %s %s" % (at, words, self.label(node.label)) + (b" out" if at in tree.out else b"")
+
+    def rest(self, edges):
+        return b" ".join(self.label(edge) for edge in sorted(map(sorted, edges)))
+
+
+def assigned(places, row):
+    """The values of an atom's variables by a row, or None where the row doesn't fit it."""
+    values = {}
+    for (number, constant), value in zip(places, row):
+        if number is None:
+            if constant != value:
+                return None
+        elif values.setdefault(number, value) != value:
+            return None
+    return values
+
+
+class Relation:
+    def __init__(self, types):
+        self.types, self.rows, self.version = types, set(), 0
+
+    def refuse(self, values):
+        """The refusal of the values of a row, or None."""
+        if len(values) != len(self.types):
+            return ARITY
+        return TYPE if mistyped(values, self.types) else None
+
+
+def mistyped(values, types):
+    return any(isinstance(value, int) != (kind == b"int") for value, kind in zip(values, types))
+
+
+# ---------------------------------------------------------------- sessions
+
+class Doubt:
+    """Whether an `add` that was refused for memory had been read first, which shows only in what it made stale."""
+
+    def __init__(self, stale):
+        self.stale, self.read = stale, None
+
+
+class Cursor:
+    def __init__(self, query):
+        self.query, self.left, self.stale, self.doubts = query, None, None, []
+
+
+class Session:
+    """One session, and the lines that it was sent as the program wrote them."""
+
+    def __init__(self, number, lines=(), places=()):
+        self.number, self.lines, self.places, self.at = number, lines, places, 0
+        self.held, self.cause = b"", None
+        self.cursors, self.watches = {}, set()
+        self.pending, self.pending_bytes, self.blocked = 0, 0, False
+        self.memory, self.begun, self.may_stop = False, 0, False
+
+    def begin(self, word):
+        """A command begins. By want of memory an `explain` may stop behind a whole line, and so may deltas."""
+        self.begun, self.may_stop = self.at, word in (b"explain", b"add", b"del")
+
+    def queued(self, line):
+        self.at += 1
+        self.pending += 1
+        self.pending_bytes += len(line) + 1
+
+    def seen(self):
+        """The next line, or None where the session takes nothing and is never sent it."""
+        if self.at < len(self.lines):
+            line = self.lines[self.at]
+            if self.memory and line == END_MEMORY and (self.at == self.begun or self.may_stop):
+                raise OutOfMemory
+            return line
+        if not self.blocked:
+            raise Difference(f"session {self.number}: a line is missing")
+        return None
+
+    def say(self, line):
+        seen = self.seen()
+        if seen is not None and seen != line:
+            raise Difference(f"session {self.number}: written {seen[:300]!r}, allowed {line[:300]!r}")
+        self.queued(line)
+
+    def refused(self):
+        """Whether the command is answered `err 12`, at a place where it may be."""
+        if self.memory and self.seen() == MEMORY:
+            self.queued(MEMORY)
+            return True
+        return False
+
+    def say_one_of(self, lines):
+        """Takes one line out of a set."""
+        seen = self.seen()
+        if seen is None:
+            seen = min(lines)
+        if seen not in lines:
+            some = b" | ".join(sorted(lines)[:5])
+            raise Difference(f"session {self.number}: written {seen[:300]!r}, allowed one of {some[:300]!r}")
+        lines.remove(seen)
+        self.queued(seen)
+
+    def falls(self, sent):
+        """Whether `end memory` comes next, right behind so many lines sent to all."""
+        return self.memory and self.at < len(self.lines) and self.lines[self.at] == END_MEMORY \
+            and self.places[self.at] == sent
+
+    def fall(self):
+        self.queued(END_MEMORY)
+        self.end("memory")
+
+    def end(self, cause, line=None):
+        if line is not None:
+            self.say(line)
+        self.cause = cause
+        self.cursors, self.watches = {}, set()
+
+
+class Machine:
+    """All sessions over one database."""
+
+    def __init__(self):
+        self.relations, self.queries, self.seq, self.stopped = {}, {}, 0, False
+        self.sessions, self.sent = {}, []
+        self.commands = 0
+
+    # ------------------------------------------------ bytes
+
+    def feed(self, session, piece):
+        """Runs the lines that a piece of a session completes. After each `flush` is called by who serves."""
+        if session.cause is None:
+            session.held += piece
+        at = 0
+        while session.cause is None and not self.stopped:
+            end = session.held.find(b"\n", at)
+            if end < 0:
+                break
+            line = session.held[at:end]
+            if line.endswith(b"\r"):
+                line = line[:-1]
+            if len(line) > LINE_BYTES:
+                session.end("long", b"end long")
+                break
+            at = end + 1
+            self.line(session, line)
+            yield
+        session.held = session.held[at:]
+        if session.cause is None and not self.stopped:
+            rest = session.held
+            if len(rest) > LINE_BYTES + 1 or len(rest) == LINE_BYTES + 1 and not rest.endswith(b"\r"):
+                session.end("long", b"end long")
+
+    def finish(self, session):
+        if session.cause is None:
+            session.end("input", CUT if session.held else None)
+
+    def line(self, session, line):
+        if not line.strip(b" "):
+            return
+        if session.pending_bytes > PENDING_BYTES:
+            session.end("slow", b"end slow")
+            return
+        self.commands += 1
+        try:
+            session.begin(b"")
+            word, said = command_of(line)
+            session.begin(word)
+            getattr(self, word.decode())(session, *said)
+        except Syntax:
+            self.syntax(session)
+        except OutOfMemory:
+            session.fall()
+
+    def syntax(self, session):
+        try:
+            session.say(SYNTAX)
+        except OutOfMemory:
+            session.fall()
+
+    # ------------------------------------------------ commands
+
+    def rel(self, session, name, types):
+        if session.refused():
+            return
+        if name in self.relations:
+            session.say(TAKEN)
+        elif len(types) > MOST_COLUMNS or len(self.relations) >= MOST_RELATIONS:
+            session.say(LIMIT)
+        else:
+            self.relations[name] = Relation(types)
+            session.say(b"ok")
+
+    def change(self, session, name, values, comes):
+        if None in values:
+            return session.say(TYPE)
+        if session.refused():
+            return self.doubt(name, values, comes)
+        if name not in self.relations:
+            return session.say(NO_RELATION)
+        relation, row = self.relations[name], tuple(values)
+        refusal = relation.refuse(values)
+        if refusal:
+            return session.say(refusal)
+        if (row in relation.rows) == comes:
+            return session.say(b"ok %s %d" % (b"same" if comes else b"absent", self.seq))
+        reading = [query for query in self.queries.values() if name in query.reads]
+        watched = [query for query in reading if self.watchers(query)]
+        before = [query.answers(self.relations) for query in watched]
+        relation.rows.symmetric_difference_update({row})
+        relation.version += 1
+        self.seq += 1
+        for other in self.sessions.values():
+            for cursor in other.cursors.values():
+                if cursor.query in reading and cursor.stale is None:
+                    cursor.stale = b"%s %d" % (name, self.seq)
+        for query, answers in zip(watched, before):
+            self.tell(query, answers, query.answers(self.relations))
+        if session.cause is None:
+            session.say(b"ok %s %d" % (b"added" if comes else b"removed", self.seq))
+
+    def doubt(self, name, values, comes):
+        """A row was refused for memory. Where that was behind reading its line, the relation's cursors are stale."""
+        relation = self.relations.get(name)
+        if not comes or relation is None or relation.refuse(values) or tuple(values) in relation.rows:
+            return
+        doubt = Doubt(b"%s %d" % (name, self.seq))
+        for other in self.sessions.values():
+            for cursor in other.cursors.values():
+                if name in cursor.query.reads and cursor.stale is None:
+                    cursor.doubts.append(doubt)
+
+    def add(self, session, name, values):
+        self.change(session, name, values, True)
+
+    def watchers(self, query):
+        return [other for _, other in sorted(self.sessions.items()) if query.name in other.watches]
+
+    def tell(self, query, before, after):
+        lines = {answered(b"+ " + query.name, answer) for answer in after - before}
+        lines |= {answered(b"- " + query.name, answer) for answer in before - after}
+        for other in self.watchers(query):
+            if other.pending_bytes > PENDING_BYTES:
+                other.end("slow", b"end slow")
+                continue
+            try:
+                self.tell_one(other, query.name, set(lines))
+            except OutOfMemory:
+                other.fall()
+
+    def tell_one(self, other, name, left):
+        other.may_stop = True
+        while left:
+            other.say_one_of(left)
+        other.say(b"at %s %d" % (name, self.seq))
+
+    def query(self, session, name, head, atoms):
+        if any(kind in ("integer", "text") and value is None for _, terms in atoms for kind, value in terms):
+            return session.say(TYPE)
+        if session.refused():
+            return
+        if name in self.queries:
+            return session.say(TAKEN)
+        query = Query(name, head, atoms)
+        refusal = self.refuse(query)
+        if refusal is None:
+            query.settle(self.relations)
+            self.queries[name] = query
+        session.say(refusal or b"ok query %d" % (2 * len(head) + 1))
+
+    def refuse(self, query):
+        """The refusal of a query whose name is free, or None."""
+        if any(relation not in self.relations for relation, _ in query.atoms):
+            return NO_RELATION
+        typed = [list(zip(places, self.relations[relation].types)) for relation, places in query.atoms]
+        if any(len(places) != len(self.relations[relation].types) for relation, places in query.atoms):
+            return ARITY
+        if any(place is None and isinstance(value, int) != (kind == b"int")
+               for terms in typed for (place, value), kind in terms):
+            return TYPE
+        types = {(place, kind) for terms in typed for (place, _), kind in terms if place is not None}
+        if len(types) > len({place for place, _ in types}):
+            return VARIABLE_TYPE
+        if len(set(query.head_names)) < len(query.head_names):
+            return REPEATED
+        if any(name not in query.numbers for name in query.head_names):
+            return UNBOUND
+        sizes = (len(query.atoms), len(query.variables), len(query.head_names))
+        if any(size > most for size, most in zip(sizes, (MOST_ATOMS, MOST_VARIABLES, MOST_HEAD))):
+            return LIMIT
+        if len(self.queries) >= MOST_QUERIES:
+            return LIMIT
+        return self.not_admitted(query)
+
+    def not_admitted(self, query):
+        edges, head = query.edges(), {query.numbers[name] for name in query.head_names}
+        cyclic, not_connex = reduced(edges), reduced([head] + edges)
+        tree = Tree(edges, head)
+        assert tree.stuck == bool(cyclic or not_connex), "the model's tree disagrees with the definition"
+        if cyclic:
+            return b"no cyclic " + query.rest(cyclic)
+        return b"no connex " + query.rest(not_connex) if not_connex else None
+
+    def drop(self, session, name):
+        if name not in self.queries:
+            return session.say(NO_QUERY)
+        query = self.queries[name]
+        held = any(cursor.query is query for other in self.sessions.values() for cursor in other.cursors.values())
+        if held or self.watchers(query):
+            return session.say(IN_USE)
+        del self.queries[name]
+        session.say(b"ok")
+
+    def open(self, session, name, query):
+        if name in session.cursors:
+            session.say(TAKEN)
+        elif query not in self.queries:
+            session.say(NO_QUERY)
+        elif len(session.cursors) >= MOST_CURSORS:
+            session.say(LIMIT)
+        elif not session.refused():
+            session.cursors[name] = Cursor(self.queries[query])
+            session.say(b"ok open")
+
+    def next(self, session, name, count):
+        if name not in session.cursors:
+            return session.say(NO_CURSOR)
+        cursor = session.cursors[name]
+        stale = self.staleness(session, name, cursor)
+        if stale:
+            return session.say(b"stale %s %s" % (name, stale))
+        if cursor.left is None:
+            cursor.left = {answered(b"=", answer) for answer in cursor.query.answers(self.relations)}
+        if session.memory:
+            longest = sorted(map(len, cursor.left), reverse=True)[:count]
+            session.may_stop = sum(longest) + len(longest) + len(b"more\n") > KEPT_BYTES
+        for _ in range(min(count, len(cursor.left))):
+            session.say_one_of(cursor.left)
+        session.say(b"more" if cursor.left else b"end")
+
+    def staleness(self, session, name, cursor):
+        """The first change that made a cursor stale, or None. What was in doubt shows in the reply."""
+        for doubt in cursor.doubts:
+            if doubt.read is None:
+                doubt.read = session.seen() == b"stale %s %s" % (name, doubt.stale)
+            if doubt.read:
+                return doubt.stale
+        return cursor.stale
+
+    def close(self, session, name):
+        session.say(b"ok" if session.cursors.pop(name, None) else NO_CURSOR)
+
+    def has(self, session, name, values):
+        if None in values:
+            return session.say(TYPE)
+        if session.refused():
+            return
+        if name not in self.queries:
+            return session.say(NO_QUERY)
+        query = self.queries[name]
+        if len(values) != len(query.head):
+            return session.say(ARITY)
+        if mistyped(values, query.head_types):
+            return session.say(TYPE)
+        session.say(b"yes" if tuple(values) in query.answers(self.relations) else b"no")
+
+    def watch(self, session, name):
+        if name not in self.queries:
+            return session.say(NO_QUERY)
+        if session.refused():
+            return
+        session.watches.add(name)
+        session.say(b"ok watch %d" % self.seq)
+
+    def unwatch(self, session, name):
+        if name not in self.queries:
+            return session.say(NO_QUERY)
+        session.watches.discard(name)
+        session.say(b"ok")
+
+    def explain(self, session, name):
+        if name not in self.queries:
+            return session.say(NO_QUERY)
+        for line in self.queries[name].explained():
+            session.say(line)
+        session.say(b"end")
+
+    def quit(self, session):
+        session.end("quit", b"bye")
+
+    def stop(self, session):
+        session.end("stop", b"bye")
+        self.stopped = True
+
+    # ------------------------------------------------ what is sent
+
+    def flush(self):
+        """What a flush sends: sessions in rising number, each all that is pending unless it takes nothing."""
+        for number, session in sorted(self.sessions.items()):
+            if session.blocked and session.pending:
+                continue
+            self.sent.extend([number] * session.pending)
+            session.pending = session.pending_bytes = 0
+            if session.cause is not None:
+                del self.sessions[number]
+
+
+setattr(Machine, "del", lambda self, session, name, values: self.change(session, name, values, False))
+
+
+def answered(sign, answer):
+    return b" ".join([sign, *map(printed, answer)])
+
+
+def lines_of(output):
+    lines = output.split(b"\n")
+    if lines.pop() != b"":
+        raise Difference("the last line has no LF")
+    return lines
+
+
+def follow_run(text, output, status, memory=False):
+    """Checks what `run` wrote for an input, and answers how many commands were run.
+
+    With `memory` want of memory is allowed at each of its places."""
+    lines, machine = lines_of(output), Machine()
+    if memory and (lines, status) == ([], 6):
+        return 0
+    session = Session(1, lines)
+    session.memory = memory
+    machine.sessions[1] = session
+    for _ in machine.feed(session, text):
+        session.pending = session.pending_bytes = 0
+    # where memory ends as bytes come, no line is there to be answered
+    if memory and session.cause is None and lines[session.at:] == [END_MEMORY]:
+        session.fall()
+    machine.finish(session)
+    if session.at < len(lines):
+        raise Difference(f"{len(lines) - session.at} lines too many, the first is {lines[session.at][:300]!r}")
+    wanted = {"long": 8, "slow": 8, "memory": 6}.get(session.cause, 0)
+    if status != wanted:
+        raise Difference(f"the status is {status}, allowed {wanted}")
+    return machine.commands
+
+
+# ---------------------------------------------------------------- schedules
+
+SCHEDULED = re.compile(rb"(open|again|free|end|say|part) ([1-9][0-9]{0,6})(?: (.*))?", re.DOTALL)
+
+
+def turns_of(schedule):
+    """The turns of a schedule: word, number and text; or the number of the first line outside its grammar."""
+    lines = schedule.split(b"\n")
+    if lines[-1] == b"":
+        lines.pop()
+    turns, ended, last = [], {}, 0
+    for at, line in enumerate(lines, 1):
+        found = SCHEDULED.fullmatch(line)
+        if not found or len(line) > SCHEDULE_LINE_BYTES or int(found[2]) > 1000000:
+            return at
+        word, number, text = found[1], int(found[2]), found[3]
+        if word in (b"open", b"again", b"free", b"end") and text is not None:
+            return at
+        if word == b"open":
+            fits, last = number > last, max(number, last)
+            ended[number] = False
+        elif word == b"free":
+            fits = number in ended
+        else:
+            fits = ended.get(number) is False
+        if not fits:
+            return at
+        if word == b"end":
+            ended[number] = True
+        turns.append((word, number, text or b""))
+    return turns
+
+
+def follow_replay(schedule, output, status, memory=False):
+    """Checks what `replay` wrote for a schedule, and answers how many commands were run.
+
+    With `memory` want of memory is allowed at each of its places. Then no session may be blocked or watch what it
+    changes, and a `say` ends no blank line: else what was written doesn't tell where memory ended."""
+    if memory and (output, status) == (b"", 6):
+        return 0
+    turns = turns_of(schedule)
+    if isinstance(turns, int):
+        if (output, status) != (b"schedule %d\n" % turns, 7):
+            raise Difference(f"written {output[:300]!r}, status {status}, allowed schedule {turns}, status 7")
+        return 0
+    written, told = [], {}
+    for line in lines_of(output):
+        number, mark, line = line.partition(b"< ")
+        if not mark or not number.isdigit():
+            raise Difference(f"a line of no session: {number[:300]!r}")
+        written.append(int(number))
+        told.setdefault(int(number), []).append((line, len(written) - 1))
+    machine, served = Machine(), {}
+    for word, number, text in turns:
+        if word == b"open":
+            served[number] = Session(number, *zip(*told.get(number, [])))
+            served[number].memory = memory
+        turn(machine, served[number], word, text)
+        machine.flush()
+        if machine.stopped:
+            break
+    if machine.sent != written:
+        at = next((at for at, pair in enumerate(zip(machine.sent, written)) if pair[0] != pair[1]),
+                  min(len(written), len(machine.sent)))
+        raise Difference(f"line {at + 1} written: of session {written[at:at + 1]}, allowed {machine.sent[at:at + 1]}")
+    if status != 0:
+        raise Difference(f"the status is {status}")
+    return machine.commands
+
+
+def turn(machine, session, word, text):
+    """One turn of a schedule, without the flush at its end."""
+    sent = len(machine.sent)
+    if word == b"open":
+        if len(machine.sessions) >= MOST_SESSIONS:
+            session.say(b"end full")
+            machine.sent.append(session.number)
+        elif session.falls(sent):
+            session.fall()
+            machine.sent.append(session.number)
+        else:
+            machine.sessions[session.number] = session
+    elif word in (b"again", b"free"):
+        session.blocked = word == b"again"
+    elif session.number not in machine.sessions:
+        pass
+    elif word == b"end":
+        machine.finish(session)
+    elif word == b"part" and session.falls(sent):
+        session.fall()
+    else:
+        for _ in machine.feed(session, text + (b"\n" if word == b"say" else b"")):
+            machine.flush()
+
+
+# ---------------------------------------------------------------- generated loads
+
+def summary_of_load(count, seed):
+    """What `gen` writes for a number of changes and a seed: the load is a list of random changes of two relations."""
+    state, rows, changes = seed, {b"r": set(), b"s": set()}, 0
+
+    def draw():
+        nonlocal state
+        state = (state * 1103515245 + 12345) % (1 << 31)
+        return state >> 16
+
+    values = min(32768, 2 + count // 16)
+    for _ in range(count):
+        choice, first, second = draw(), draw(), draw()
+        relation = rows[b"s" if choice % 2 else b"r"]
+        removed = choice // 2 % 4 == 0
+        row = (first % values, second % values)
+        if (row in relation) == removed:
+            relation ^= {row}
+            changes += 1
+    seconds = {}
+    for y, z in rows[b"s"]:
+        seconds.setdefault(y, []).append(z)
+    answers = [(x, y, z) for x, y in rows[b"r"] for z in seconds.get(y, ())]
+    numbers = (len(rows[b"r"]), len(rows[b"s"]), changes, len(answers), sum(map(sum, answers)) % (1 << 64))
+    return b"rows %d %d\nchanges %d\nanswers %d\nsum %d\n" % numbers

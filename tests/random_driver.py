@@ -1,0 +1,502 @@
+#!/usr/bin/env python3
+"""Random input for the built program, each reply checked against a plain model.
+
+    tests/random_driver.py PATH_TO_DJQ [--seconds S] [--seed N] [--commands N]
+
+Streams of commands over few names and few values are given to `run`, among them lines that are near the grammar and
+lines of random bytes, and the end cut anywhere; schedules of several sessions are given to `replay`, and numbers to
+`gen`. What is written is followed by tests/model.py, which computes all answers anew by brute force. A stream that the
+model doesn't follow is made as short as it will go, and printed with its seed.
+
+It goes on for S seconds, 30 by default; where N commands are asked for, until so many were run. The same seed gives
+the same streams, and without one the time gives it. It needs Python's standard library alone. The last line is
+`N passed, N failed`, counted in streams; the status is 0 where none failed.
+"""
+
+import argparse
+import os
+import random
+import re
+import subprocess
+import sys
+import time
+
+sys.dont_write_bytecode = True
+import model  # noqa: E402
+
+# the most seconds that one stream may take
+PATIENCE = 60
+
+# after so many failed streams the driver ends
+ENOUGH = 5
+
+RELATIONS = [b"r", b"s", b"t", b"u", b"k", b"int"]
+QUERIES = [b"q", b"p", b"w", b"r", b"query", b"q_1", b"zz", b"f", b"g", b"h"]
+CURSORS = [b"c", b"d", b"e", b"q", b"next"] + [b"c%d" % at for at in range(15)]
+VARIABLES = [b"x", b"y", b"z", b"v", b"w", b"a", b"b", b"r"]
+TEXTS = [b'""', b'"a"', b'"b\\"\\\\\\n"', b'"\xc3\xa9 _"', b'"' + b"l" * 255 + b'"']
+EXTREMES = [b"-9223372036854775808", b"9223372036854775807", b"-0", b"007", b"-1"]
+PAST_LIMITS = [b"9223372036854775808", b"-9223372036854775809", b"9" * 40, b'"' + b"l" * 256 + b'"']
+PIECE = re.compile(rb'"(?:[^"\\]|\\.)*"|[a-z0-9_]+|<-| +|.', re.DOTALL)
+
+
+# ---------------------------------------------------------------- streams
+
+class World:
+    """What the authors of one stream named, and how much they vary."""
+
+    def __init__(self, chance):
+        self.values = chance.choice([2, 2, 3, 3, 4]) if chance.random() < 0.95 else 30
+        # the fewer values there are, the more variables a query may have before its answers are too many
+        self.variables = VARIABLES[:{2: 8, 3: 5, 4: 4, 30: 3}[self.values]]
+        self.texts = chance.random() < 0.4
+        self.removals = chance.choice([0.2, 0.5, 0.8])
+        self.changes = chance.choice([10, 40, 80]) if self.values < 30 else 300
+        # how many lines of a hundred are near the grammar, and not in it
+        self.near = chance.choice([2, 5, 5, 5, 40])
+        self.relations, self.heads = {}, {}
+
+
+class Author:
+    """Writes commands that are mostly in place: it keeps in mind what was named."""
+
+    def __init__(self, chance, world=None):
+        self.chance, self.world = chance, world or World(chance)
+        self.relations, self.heads, self.cursors, self.planned = self.world.relations, self.world.heads, {}, []
+        self.kinds = [self.rel] + [self.row] * self.world.changes + [self.query] * 14 + [self.open] * 6
+        self.kinds += [self.listing] * 8 + [self.next] * 12 + [self.close] * 6 + [self.has] * 7 + [self.watch] * 6
+        self.kinds += [self.explain] * 2 + [self.drop] * 8
+
+    def one(self, known, names):
+        """Mostly a name that was given, at times any name."""
+        if known and self.chance.random() < 0.93:
+            return self.chance.choice(list(known))
+        return self.chance.choice(names)
+
+    def free(self, known, names):
+        """Mostly a name that wasn't given yet."""
+        free = [name for name in names if name not in known]
+        return self.chance.choice(free if free and self.chance.random() < 0.9 else names)
+
+    def value(self, kind):
+        odd = self.chance.random()
+        if odd < 0.003:
+            return self.chance.choice(PAST_LIMITS)
+        if odd < 0.01:
+            kind = b"text" if kind == b"int" else b"int"
+        if kind == b"text" and self.world.values == 30:
+            return b'"t%d"' % self.chance.randrange(30)
+        if kind == b"text":
+            return self.chance.choice(TEXTS[:self.world.values + 1])
+        return self.chance.choice(EXTREMES) if odd > 0.97 else b"%d" % self.chance.randrange(self.world.values)
+
+    def values_for(self, kinds):
+        kinds = list(kinds)
+        if self.chance.random() < 0.01:
+            kinds = kinds[:-1] if self.chance.random() < 0.5 else kinds + [b"int"]
+        return b"".join(b" " + self.value(kind) for kind in kinds)
+
+    def rel(self):
+        name = self.chance.choice(RELATIONS)
+        columns = self.chance.choice([1, 1, 2, 2, 2, 2, 2, 3, 3, 4]) if self.world.values < 30 else 2
+        if self.chance.random() < 0.03:
+            columns = self.chance.choice([8, 9, 12])
+        kinds = [b"text" if self.world.texts and self.chance.random() < 0.4 else b"int" for _ in range(columns)]
+        if columns <= model.MOST_COLUMNS:
+            self.relations.setdefault(name, kinds)
+        return b"rel %s %s" % (name, b" ".join(kinds))
+
+    def row(self):
+        name = self.one(self.relations, RELATIONS)
+        word = b"del" if self.chance.random() < self.world.removals else b"add"
+        return word + b" " + name + self.values_for(self.relations.get(name, [b"int"]))
+
+    def query(self):
+        if self.chance.random() < 0.02:
+            return self.large_query()
+        name = self.free(self.heads, QUERIES)
+        pool = self.chance.sample(self.world.variables, self.chance.randrange(1, len(self.world.variables) + 1))
+        atoms, types = [], {}
+        # a ring is likelier where few variables stand in several atoms, with no constants and holes
+        self.tight = self.chance.random() < 0.4
+        for _ in range(self.chance.choice([3, 4, 5] if self.tight else [1, 2, 2, 3, 3, 3, 4, 5, 6])):
+            relation = self.one(self.relations, RELATIONS)
+            kinds = list(self.relations.get(relation, [b"int"]))
+            if self.chance.random() < 0.01:
+                kinds.append(b"int")
+            atoms.append((relation, [self.term(kind, pool, types) for kind in kinds]))
+        named = [term for term in dict.fromkeys(term for _, terms in atoms for term in terms) if term in types]
+        head = self.head(named)
+        edges = [{term for term in terms if term in types} for _, terms in atoms]
+        if name not in self.heads and not model.reduced(edges) and not model.reduced([set(head)] + edges):
+            self.heads[name] = [types.get(term, b"int") for term in head]
+        return self.said_query(name, head, atoms)
+
+    def term(self, kind, pool, types):
+        odd = self.chance.random()
+        if odd < 0.1 and not self.tight:
+            return self.value(kind)
+        if odd < 0.2 and not self.tight:
+            return b"_"
+        fitting = [variable for variable in pool if types.get(variable, kind) == kind or odd > 0.99]
+        if not fitting:
+            return b"_"
+        variable = self.chance.choice(fitting)
+        types.setdefault(variable, kind)
+        return variable
+
+    def head(self, named):
+        if self.chance.random() < 0.4:
+            head = list(named)
+        else:
+            head = self.chance.sample(named, self.chance.randrange(len(named) + 1))
+        self.chance.shuffle(head)
+        if self.chance.random() < 0.02:
+            head.append(self.chance.choice(VARIABLES))
+        return head
+
+    def said_query(self, name, head, atoms):
+        body = b", ".join(b"%s(%s)" % (relation, b",".join(terms)) for relation, terms in atoms)
+        return b"query %s(%s) <- %s" % (name, b",".join(head), body)
+
+    def large_query(self):
+        """A query at the limits of atoms, of variables and of head variables, or past them."""
+        relation = self.one(self.relations, RELATIONS)
+        width = len(self.relations.get(relation, [b"int"]))
+        count = self.chance.choice([15, 16, 17, 22])
+        if self.chance.random() < 0.5:
+            atoms = [(relation, [b"_"] * width)] * count
+            return self.said_query(self.chance.choice(QUERIES), [], atoms)
+        first = [b"v%d" % at for at in range(width)]
+        atoms = [(relation, first)] * (count - 6) + [(relation, [b"w%d" % at] * width) for at in range(count // 4)]
+        head = first if self.chance.random() < 0.8 else [b"v%d" % at for at in range(17)]
+        return self.said_query(self.chance.choice(QUERIES), head, atoms)
+
+    def open(self):
+        cursor, query = self.free(self.cursors, CURSORS), self.one(self.heads, QUERIES)
+        self.cursors.setdefault(cursor, query)
+        return b"open %s %s" % (cursor, query)
+
+    def listing(self):
+        """A cursor that is opened and read in one go, in a few pieces."""
+        cursor, query = self.free(self.cursors, CURSORS), self.one(self.heads, QUERIES)
+        count = self.chance.choice([b"1", b"2", b"5", b"20"])
+        self.planned = [b"close " + cursor] + [b"next %s %s" % (cursor, count)] * self.chance.randrange(1, 8)
+        return b"open %s %s" % (cursor, query)
+
+    def next(self):
+        count = self.chance.choice([1, 1, 1, 2, 3, 7, 1000, self.chance.randrange(0, 1002)])
+        return b"next %s %d" % (self.one(self.cursors, CURSORS), count)
+
+    def close(self):
+        name = self.one(self.cursors, CURSORS)
+        self.cursors.pop(name, None)
+        return b"close " + name
+
+    def has(self):
+        name = self.one(self.heads, QUERIES)
+        return b"has " + name + self.values_for(self.heads.get(name, [b"int"]))
+
+    def watch(self):
+        return self.chance.choice([b"watch ", b"watch ", b"unwatch "]) + self.one(self.heads, QUERIES)
+
+    def explain(self):
+        return b"explain " + self.one(self.heads, QUERIES)
+
+    def drop(self):
+        name = self.one(self.heads, QUERIES)
+        if self.chance.random() < 0.5:
+            self.planned = [b"drop " + name, b"unwatch " + name]
+        self.heads.pop(name, None)
+        return b"drop " + name
+
+    def line(self):
+        odd = self.chance.random() * 100
+        if odd < 1:
+            return random_bytes(self.chance)
+        line = self.planned.pop() if self.planned else self.chance.choice(self.kinds)()
+        if odd < self.world.near:
+            return mutated(self.chance, line)
+        if odd > 98:
+            return spaced(self.chance, line)
+        return b" " * self.chance.randrange(4) if odd > 97 else line
+
+    def lines(self, count):
+        return [self.rel() for _ in range(self.chance.randrange(2, 7))] + [self.line() for _ in range(count)]
+
+
+def random_bytes(chance):
+    few = chance.choice([b'rq(),<- _"\\01ab', bytes(range(256)), b"\xc3\xa9\xe2\x82\xac\xf0\x9f\xff\xed\xa0 \"a"])
+    length = chance.choice([1, 2, 5, 20, 60])
+    return bytes(chance.choice(few) for _ in range(length)).replace(b"\n", b"")
+
+
+def mutated(chance, line):
+    """A line near another one: a token or a byte is taken out, told twice, put elsewhere, or is another one."""
+    pieces = PIECE.findall(line)
+    at = chance.randrange(len(pieces))
+    kind = chance.randrange(7)
+    if kind == 0:
+        del pieces[at]
+    elif kind == 1:
+        pieces.insert(at, pieces[at])
+    elif kind == 2:
+        other = chance.randrange(len(pieces))
+        pieces[at], pieces[other] = pieces[other], pieces[at]
+    elif kind == 3:
+        pieces[at] = chance.choice([b"_", b"(", b")", b",", b"<-", b"<", b"x", b"-1", b'"a"', b'"', b"\t", b"", b"Q"])
+    elif kind == 4:
+        pieces.insert(at, chance.choice(PAST_LIMITS + [b"n" * 32, b"n" * 33, b"\r", b"\xff", b'"\\t"', b"--1", b"01"]))
+    else:
+        line = bytearray(line)
+        place = chance.randrange(len(line))
+        line[place:place + (kind == 5)] = bytes([chance.randrange(256)])
+        return bytes(line).replace(b"\n", b"")
+    return b"".join(pieces)
+
+
+def spaced(chance, line):
+    """The same line with more spaces or fewer, or with CR behind it."""
+    if chance.random() < 0.2:
+        return line + b"\r" * chance.choice([1, 1, 2])
+    pieces = [b" " * chance.randrange(1, 4) if piece.startswith(b" ") else piece for piece in PIECE.findall(line)]
+    pieces = [b" " + piece + b" " if piece in (b"(", b")", b",", b"<-") else piece for piece in pieces]
+    return b" " * chance.randrange(3) + b"".join(pieces) + b" " * chance.randrange(3)
+
+
+def run_stream(chance, count):
+    """Lines for `run`, and the bytes that are left behind the last LF."""
+    author = Author(chance)
+    lines = author.lines(count)
+    if chance.random() < 0.05:
+        lines.insert(chance.randrange(len(lines)), chance.choice([b"quit", b"stop"]))
+    if chance.random() < 0.2:
+        # a line that is just not too long, or too long, near the end
+        wanted = model.LINE_BYTES + chance.choice([-1, 0, 0, 1, 2])
+        line = author.line()
+        lines.append((line + b" " * wanted)[:wanted] + chance.choice([b"", b"\r"]))
+        lines += [author.line() for _ in range(5)]
+    ended = [line + b"\n" for line in lines]
+    if chance.random() < 0.5:
+        last = ended.pop()
+        ended.append(last[:chance.randrange(len(last) + 1)])
+    return ended
+
+
+def replay_stream(chance, count):
+    """A schedule of several sessions, whose lines may come in parts, and which at times take nothing."""
+    world = World(chance)
+    authors, held, schedule = {}, {}, []
+    ended, last, most = [], 0, chance.choice([1, 2, 3, 3, 5, 8, 70])
+    while len(schedule) < count:
+        odd, alive = chance.random(), list(authors)
+        if not alive or len(alive) < most and odd < 0.2:
+            last += chance.choice([1, 1, 1, 5])
+            authors[last], held[last] = Author(chance, world), []
+            held[last] = [authors[last].rel() for _ in range(chance.randrange(4))]
+            schedule.append(b"open %d" % last)
+        elif odd < 0.02:
+            schedule.append(b"%s %d" % (chance.choice([b"again", b"free"]), chance.choice(alive)))
+        elif odd < 0.03 and len(alive) + len(ended) > 1:
+            schedule.append(b"free %d" % chance.choice(alive + ended))
+        elif odd < 0.035:
+            number = chance.choice(alive)
+            del authors[number]
+            ended.append(number)
+            schedule.append(b"end %d" % number)
+        else:
+            number = chance.choice(alive)
+            schedule.append(said(chance, held[number], number, authors[number]))
+    if chance.random() < 0.5:
+        schedule += [b"%s %d" % (word, number) for number in authors for word in (b"free", b"end")]
+    if chance.random() < 0.05:
+        spoilt(chance, schedule)
+    return [line + b"\n" for line in schedule]
+
+
+def flood_stream(chance):
+    """Long answers to sessions that take nothing for a while, or at once: some find too much pending."""
+    wide = b" ".join([b'"' + chance.choice([b"a", b"b"]) * 255 + b'"'] * 4)
+    start = [b"rel t text text text text", b"rel r int", b"add t " + wide,
+             b"query f(a,b,c,d,x,y,z) <- t(a,b,c,d), r(x), r(y), r(z)", b"query p(x) <- r(x), t(_,_,_,_)"]
+    if chance.random() < 0.3:
+        # one session, whose own deltas are too long
+        start += [b"query w(a) <- t(a,_,_,_)", b"watch f", b"watch w", b"del t " + wide]
+        lines = start + [b"add r %d" % at for at in range(chance.randrange(8, 13))] + [b"add t " + wide, b"has p 1"]
+        return "run", [line + b"\n" for line in lines]
+    start += [b"add r %d" % at for at in range(chance.randrange(9))]
+    schedule = [b"open %d" % number for number in (1, 2, 3)] + [b"say 1 " + line for line in start]
+    for _ in range(chance.randrange(20, 90)):
+        number = chance.randrange(1, 4)
+        line = chance.choice([b"add r %d", b"add r %d", b"add r %d", b"del r %d", b"has p %d"]) % chance.randrange(10)
+        if chance.random() < 0.3:
+            line = chance.choice([b"watch f", b"watch p", b"unwatch f", b"open c f", b"close c"] + [b"next c 1000"] * 2)
+        schedule.append(b"say %d %s" % (number, line))
+        if chance.random() < 0.1:
+            schedule.append(chance.choice([b"again %d", b"again %d", b"free %d"]) % chance.randrange(1, 4))
+    if chance.random() < 0.7:
+        schedule += [b"free 1", b"free 2", b"free 3"]
+    return "replay", [line + b"\n" for line in schedule]
+
+
+def said(chance, held, number, author):
+    """A session says what it still holds of an earlier line, or a line, whole or its first part alone."""
+    line = held.pop() if held else author.line()
+    if chance.random() < 0.002:
+        line = chance.choice([b"quit", b"stop", b"quit"])
+    if len(line) > 1 and chance.random() < 0.15:
+        at = chance.randrange(len(line))
+        held.append(line[at:])
+        return b"part %d %s" % (number, line[:at])
+    return b"say %d %s" % (number, line)
+
+
+def spoilt(chance, schedule):
+    """A schedule with one line that is likely outside its grammar."""
+    at = chance.randrange(len(schedule))
+    schedule[at] = chance.choice([
+        b"", b"open 0", b"open 01", b"open 1000001", b"open 1 ", b"say 999999 x", b"end", b"say", b"Say 1 x",
+        b" say 1 x", b"again 1 x", b"open  1", b"part 1 " + b"x" * 8200, b"say 1" + b" " * 8188,
+        schedule[at] + b" ", b"open 1",
+    ])
+
+
+# ---------------------------------------------------------------- one stream
+
+def follow_load(numbers, output, status):
+    count, seed = map(int, numbers.split())
+    wanted = model.summary_of_load(count, seed)
+    if (output, status) != (wanted, 0):
+        raise model.Difference(f"written {output[:300]!r}, status {status}, allowed {wanted!r}")
+    return count
+
+
+FOLLOWS = {"run": model.follow_run, "replay": model.follow_replay, "gen": follow_load}
+
+
+def followed(program, word, text):
+    """How many commands the model followed; a `Difference` where it couldn't."""
+    try:
+        words = text.split() if word == "gen" else []
+        done = subprocess.run([program, word, *words], input=text, capture_output=True, timeout=PATIENCE)
+    except subprocess.TimeoutExpired:
+        raise model.Difference("no end in time") from None
+    if done.stderr != b"" or done.returncode < 0:
+        raise model.Difference(f"status {done.returncode}, standard error {done.stderr[:300]!r}")
+    return FOLLOWS[word](text, done.stdout, done.returncode)
+
+
+def differs(program, word, pieces):
+    try:
+        followed(program, word, b"".join(pieces))
+    except model.Difference as difference:
+        return difference
+    return None
+
+
+def shrunk(program, word, lines, seconds=60):
+    """As few lines, and then as few tokens, as still differ."""
+    until = time.monotonic() + seconds
+    fails = lambda pieces: time.monotonic() < until and differs(program, word, pieces) is not None
+    lines = fewer(lines, fails)
+    for at in range(len(lines)):
+        def with_line(pieces, at=at):
+            return fails(lines[:at] + [b"".join(pieces) + b"\n"] + lines[at + 1:])
+        pieces = PIECE.findall(lines[at].rstrip(b"\n"))
+        if with_line(pieces):
+            lines[at] = b"".join(fewer(pieces, with_line)) + b"\n"
+    return lines
+
+
+def fewer(pieces, fails):
+    """Takes out runs of pieces, long ones first, as long as what is left still fails."""
+    size = len(pieces) // 2
+    while size > 0:
+        at = 0
+        while at < len(pieces):
+            rest = pieces[:at] + pieces[at + size:]
+            if fails(rest):
+                pieces = rest
+            else:
+                at += size
+        size //= 2
+    return pieces
+
+
+def check_model(chance):
+    """The model's answers are those of the definition, over all assignments, on small cases."""
+    for _ in range(100):
+        author = Author(chance)
+        author.world.values, author.world.texts, author.world.variables = 2, False, VARIABLES[:4]
+        machine = model.Machine()
+        session = model.Session(1, [])
+        session.blocked = True
+        machine.sessions[1] = session
+        text = b"".join(line + b"\n" for line in author.lines(40))
+        for _ in machine.feed(session, text):
+            pass
+        for query in machine.queries.values():
+            if len(query.variables) <= 6:
+                domain = {value for relation in machine.relations.values() for row in relation.rows for value in row}
+                wanted = query.by_definition(machine.relations, sorted(domain, key=repr)[:5])
+                got = query.computed(machine.relations)
+                if len(domain) <= 5 and got != wanted:
+                    raise SystemExit("the model is wrong: " + repr(query.atoms))
+
+
+# ---------------------------------------------------------------- the driver
+
+def words_of():
+    parser = argparse.ArgumentParser(description="Random input for the built program, checked against a plain model.")
+    parser.add_argument("program")
+    parser.add_argument("--seconds", type=float, default=30)
+    parser.add_argument("--seed", type=int, default=None)
+    parser.add_argument("--commands", type=int, default=None)
+    return parser.parse_args()
+
+
+def stream_of(seed):
+    chance = random.Random(seed)
+    odd = chance.random()
+    if odd < 0.01:
+        return "gen", [b"%d %d" % (chance.randrange(1, 5000), chance.randrange(1 << 31))]
+    if odd < 0.02:
+        return flood_stream(chance)
+    if chance.random() < 0.3:
+        return "replay", replay_stream(chance, chance.choice([20, 200, 1000]))
+    return "run", run_stream(chance, chance.choice([20, 300, 3000, 3000]))
+
+
+def report(program, seed, word, lines, difference):
+    print(f"seed {seed}, `{word}`: {difference}", flush=True)
+    short = shrunk(program, word, lines)
+    print(f"{len(short)} lines that differ ({differs(program, word, short)}):")
+    for line in short:
+        print("    " + repr(line), flush=True)
+
+
+def main():
+    words = words_of()
+    program = os.path.abspath(words.program)
+    if not os.access(program, os.X_OK):
+        raise SystemExit("no program at " + words.program)
+    first = words.seed if words.seed is not None else int(time.time())
+    until = time.monotonic() + words.seconds
+    check_model(random.Random(first))
+    passed = failed = commands = 0
+    while failed < ENOUGH and (commands < words.commands if words.commands else time.monotonic() < until):
+        seed = first + passed + failed
+        word, lines = stream_of(seed)
+        try:
+            commands += followed(program, word, b"".join(lines))
+            passed += 1
+        except model.Difference as difference:
+            failed += 1
+            report(program, seed, word, lines, difference)
+    print(f"{commands} commands from seed {first} on")
+    print(f"{passed} passed, {failed} failed")
+    return 1 if failed else 0
+
+
+if __name__ == "__main__":
+    sys.exit(main())
