@@ -89,7 +89,7 @@ def test_the_same_script(program):
 
 def test_the_same_methods(program):
     """What one has, the other has too, and with the same parameters."""
-    left_out = {"fileno", "lives", "table", "next_change"}
+    left_out = {"fileno", "live", "lives", "table"}
     for name, method in inspect.getmembers(djq.Connection, inspect.isfunction):
         if name.startswith("_") or name in left_out:
             continue

@@ -175,9 +175,9 @@ class Connection:
         """All answers of one moment, also while rows change. Raises `Overtaken` after so many seconds without it."""
         return (await _list_whole(self, query, within)).answers
 
-    def live(self, query: str, **settings: object) -> Live:
-        """The query's answers, kept up to date, over a connection of its own. For `settings` see `Live`."""
-        return Live(self.host, self.port, query, timeout=self.timeout, **settings)
+    def live(self, query: str, within: float = WITHIN, reconnect: bool = False) -> Live:
+        """The query's answers, kept up to date, over a connection of its own. For the settings see `Live`."""
+        return Live(self.host, self.port, query, self.timeout, within, reconnect)
 
     # Many at once, and changes
 
@@ -294,7 +294,7 @@ class Connection:
         """Sends lines in one write, and reads their replies once all are there. None where that took too long."""
         async with self._order:
             await self._settle()
-            pending = [self._say(line, read) for line, read in lines]
+            pending: list[Pending] = [self._say(line, read) for line, read in lines]
             self._protocol.hold()
             try:
                 self._flush()

@@ -11,7 +11,7 @@ from typing import Callable
 
 from ..errors import Disconnected, Ended, Error, Refused
 from ..listing import WITHIN, list_whole
-from ..protocol import MOST_ANSWERS, read_page, spell
+from ..protocol import MOST_ANSWERS, Page, read_page, spell
 from .advice import advice
 from .files import BadFile, Load, read_rows, write_answers
 from .names import Names, find_columns
@@ -113,7 +113,7 @@ class Shell:
         if isinstance(told, Delta):
             self._tell_change(told)
         elif told.lost is not None:
-            self._lose(told)
+            self._lose(told.lost, told.line)
         else:
             error = told.refused(self.names.columns)
             if error is not None:
@@ -123,12 +123,12 @@ class Shell:
             self._tell_reply(told)
             self.done = self.done or told.reply[-1] == "bye"
 
-    def _lose(self, told: Said) -> None:
+    def _lose(self, error: Error, line: str) -> None:
         if self.done:  # what stands behind `quit` isn't run
             return
         if self.lost is None or not self.raw:
-            self.fail(told.lost, told.line)
-        self.lost = told.lost
+            self.fail(error, line)
+        self.lost = error
 
     def fail(self, error: Exception, line: str = "") -> None:
         """Tells what went wrong with a line that had no reply."""
@@ -137,7 +137,7 @@ class Shell:
             self._complain(self.lines, error)
             return
         if isinstance(error, Refused) and error.line:
-            self._tell_refusal(error, error.line)
+            self._tell_refusal(error.words, error, error.line)
         else:
             self.screen.line(str(error), "error")
             self._advise(error, line)
@@ -174,7 +174,7 @@ class Shell:
             self.screen.line(told.reply[0])
 
     def _tell_page(self, told: Said) -> None:
-        page = read_page(told.reply)
+        page = read_page(told.reply) or Page([], True)
         cursor = told.line.split()[1]
         if page.answers:
             query = self.names.cursors.get(cursor, "")
@@ -188,10 +188,9 @@ class Shell:
             self._write("\n".join(told.reply))
             self._complain(told.number, error)
             return
-        self._tell_refusal(error, told.line)
+        self._tell_refusal(told.reply[0], error, told.line)
 
-    def _tell_refusal(self, error: Error, line: str) -> None:
-        words = getattr(error, "words", str(error))
+    def _tell_refusal(self, words: str, error: Error, line: str) -> None:
         why = getattr(error, "why", "")
         self.screen.line(f"{words}: {why}" if why else words, "error")
         self._advise(error, line)
@@ -218,7 +217,7 @@ class Shell:
     def _own(self, line: str) -> None:
         words = shlex.split(line.replace("\\", "\\\\", 1))
         name, given = words[0], words[1:]
-        commands = {
+        commands: dict[str, Callable[..., None]] = {
             "\\show": self._show, "\\explain": self._explain, "\\load": self._load, "\\dump": self._dump,
             "\\columns": self._columns, "\\names": self._names, "\\timing": self._timing, "\\?": self._help,
             "\\q": self._quit,

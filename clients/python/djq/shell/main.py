@@ -23,10 +23,10 @@ refused, 2 where the connection was lost or there was none.
 def main(words: Sequence[str] | None = None) -> int:
     """Runs the shell, and gives its status."""
     given = _parser().parse_args(words)
+    ends = contextlib.ExitStack()
     try:
-        with contextlib.ExitStack() as ends:
-            host, port = _address(given, ends)
-            return _run(given, host, port)
+        host, port = _address(given, ends)
+        return _run(given, host, port)
     except (Error, local.NoProgram) as error:
         print(f"djq-shell: {error}", file=sys.stderr)
         return 2
@@ -35,6 +35,8 @@ def main(words: Sequence[str] | None = None) -> int:
         return 2
     except KeyboardInterrupt:
         return 130
+    finally:
+        ends.close()
 
 
 def _parser() -> argparse.ArgumentParser:
@@ -67,7 +69,7 @@ def _run(given: argparse.Namespace, host: str, port: int) -> int:
     screen = Screen(colours=typed and fancy and sys.stdout.isatty() and "NO_COLOR" not in os.environ)
     shell = Shell(screen, lambda: Session(host, port, given.timeout), raw=not typed)
     if not typed:
-        sys.stdout.reconfigure(encoding="utf-8", errors="surrogateescape")  # type: ignore[union-attr]
+        sys.stdout.reconfigure(encoding="utf-8", errors="surrogateescape")  # type: ignore[attr-defined]
         return pipe.run(shell, sys.stdin.fileno(), given.stop)
     own = " of its own, whose rows are gone as the shell ends" if given.local else ""
     screen.line(f"djq at {host}:{port}, a server{own}; \\? for help, \\q to end", "quiet")

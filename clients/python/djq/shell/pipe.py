@@ -18,12 +18,14 @@ def run(shell: Shell, source: int, stop: bool) -> int:
     Replies come in the order of the lines. With `stop` nothing is run behind the first line that is refused.
     """
     lines = _Lines(source)
-    most = 1 if stop else MOST_DUE
+    most = 1
     while not (shell.done or shell.lost or (stop and shell.refused)):
         line = lines.next() if shell.session.due < most else None
         if line is not None:
             shell.lines += 1
             _run(shell, line)
+            # a page may be as long as a session may leave unread, so nothing is sent behind one that wasn't read
+            most = 1 if stop or line.lstrip(" ").startswith("next") else MOST_DUE
         elif lines.ended and shell.session.due == 0:
             break
         else:

@@ -11,6 +11,7 @@ from typing import Sequence
 from ..protocol import Answer, Change, Value, spell
 
 try:
+    from rich import box
     from rich.console import Console
     from rich.table import Table
     from rich.text import Text
@@ -42,6 +43,15 @@ def width(text: str) -> int:
     return sum(0 if unicodedata.combining(c) else 2 if unicodedata.east_asian_width(c) in "WF" else 1 for c in text)
 
 
+def _rich_table(heads: Sequence[str], cells: list[list[str]], right: list[bool]) -> Table:
+    table = Table(box=box.SIMPLE_HEAD, pad_edge=False)
+    for head, is_right in zip(heads, right):
+        table.add_column(Text(head), justify="right" if is_right else "left", overflow="fold")
+    for row in cells:
+        table.add_row(*map(Text, row))
+    return table
+
+
 def _padded(text: str, places: int, right: bool) -> str:
     space = " " * (places - width(text))
     return space + text if right else text + space
@@ -55,45 +65,42 @@ class Screen:
 
     def line(self, text: str, style: str = "") -> None:
         """One line, or several, as they are."""
+        self._lines([(line, style) for line in text.split("\n")])
+
+    def _lines(self, lines: Sequence[tuple[str, str]]) -> None:
+        """Writes lines in one piece, each with its style, so that a prompt is drawn behind the last."""
         if self._console is not None:
-            self._console.print(Text("\n".join(map(safe, text.split("\n"))), style=STYLES.get(style, "")))
+            styled = [Text(safe(line), style=STYLES.get(style, "")) for line, style in lines]
+            self._console.print(Text("\n").join(styled))
         else:
-            print("\n".join(map(safe, text.split("\n"))), flush=True)
+            print("\n".join(safe(line) for line, _ in lines), flush=True)
 
     def table(self, heads: Sequence[str], rows: Sequence[Answer]) -> None:
         """Answers, a column for each value."""
         right = [bool(rows) and isinstance(rows[0][at], int) for at in range(len(heads))]
         cells = [[cell(value) for value in row] for row in rows]
         if self._console is not None:
-            self._rich_table(heads, cells, right)
+            self._console.print(_rich_table(heads, cells, right), soft_wrap=False)
             return
         places = [max(map(width, column)) for column in zip(heads, *cells)]
         for row in [heads, ["-" * place for place in places], *cells]:
             print("  ".join(_padded(*given) for given in zip(row, places, right)).rstrip())
         sys.stdout.flush()
 
-    def _rich_table(self, heads: Sequence[str], cells: list[list[str]], right: list[bool]) -> None:
-        from rich import box
-
-        table = Table(box=box.SIMPLE_HEAD, pad_edge=False)
-        for head, is_right in zip(heads, right):
-            table.add_column(Text(head), justify="right" if is_right else "left", overflow="fold")
-        for row in cells:
-            table.add_row(*map(Text, row))
-        self._console.print(table, soft_wrap=False)
-
     def change(self, query: str, change: Change) -> None:
         """What a change brought to the answers of a query."""
         signed = [("-", "went", answer) for answer in sorted(change.went)]
         signed += [("+", "came", answer) for answer in sorted(change.came)]
-        for sign, style, answer in signed[:MOST_DRAWN]:
-            self.line(f"{sign} {query}  {'  '.join(map(cell, answer))}".rstrip(), style)
+        lines = [
+            (f"{sign} {query}  {'  '.join(map(cell, answer))}".rstrip(), style)
+            for sign, style, answer in signed[:MOST_DRAWN]
+        ]
         rest = signed[MOST_DRAWN:]
         if rest:
             came = sum(sign == "+" for sign, _, _ in rest)
-            self.line(f"  {query}: and {came} more that came, {len(rest) - came} that went", "quiet")
+            lines.append((f"  {query}: {came} more came, and {len(rest) - came} more went", "quiet"))
         if signed:
-            self.line(f"  {query} at change {change.seq}", "quiet")
+            self._lines([*lines, (f"  {query} at change {change.seq}", "quiet")])
 
     def progress(self, what: str, total: int) -> Progress:
         """Tells how far something is that takes a while."""

@@ -105,7 +105,7 @@ class _Prompt:
         self._shell = shell
         self._loop: asyncio.AbstractEventLoop | None = None
         self._watched = -1  # the descriptor that the loop waits for
-        self._session = PromptSession(
+        self._session: PromptSession[str] = PromptSession(
             history=_history(),
             completer=Names(shell),
             complete_while_typing=False,
@@ -178,7 +178,7 @@ class Names(Completer):
     def get_completions(self, document: Document, complete_event: CompleteEvent) -> Iterator[Completion]:
         """What the word before the cursor may become."""
         before = document.current_line_before_cursor.lstrip()
-        begun = re.search(r'[^\s(),"]*\Z', before)[0]
+        begun = re.split(r'[\s(),"]', before)[-1]
         for word in sorted(self._words(before[: len(before) - len(begun)], begun)):
             if word.startswith(begun):
                 yield Completion(word, -len(begun))
