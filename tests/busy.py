@@ -161,8 +161,8 @@ def test_live_reconnects(program):
 # Calls that are interrupted
 
 
-class Interrupted(Exception):
-    """Raised by a clock, whatever is being done."""
+class Interrupted(TimeoutError):
+    """Raised by a clock, whatever is being done. It is an OSError, as those of sockets are."""
 
 
 def interrupted(seconds, call):

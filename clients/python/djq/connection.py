@@ -11,7 +11,7 @@ from typing import TYPE_CHECKING, Callable, Iterable, Iterator, Sequence, TypeVa
 
 from . import protocol
 from .errors import Disconnected, Error, NoCursor, NotWatched, Refused, SomeRefused
-from .listing import WITHIN, list_whole
+from .listing import WITHIN, Late, list_whole
 from .protocol import FIRST_REFUSALS, MOST_ANSWERS, Answer, Change, Page, Pending, Protocol, Rows, Update, Value
 from .protocol import checked, column_type, fitting, spell, spell_line
 
@@ -227,7 +227,9 @@ class Connection:
                 return None
             self._move(left)
             left = None if until is None else until - time.monotonic()
-        return waiting.popleft()[1]
+        change = waiting[0][1]
+        del waiting[0]  # no call, which might be interrupted between the change's leaving the queue and its return
+        return change
 
     # Inside
 
@@ -267,14 +269,14 @@ class Connection:
             self._lose(Disconnected(f"nothing came in {timeout:g} s"))
 
     def _turn(self, lines: Sequence[tuple[str, Callable[[list[str]], object]]], until: float) -> list[Pending]:
-        """Sends lines in one write, and reads their replies once all are there. Raises `TimeoutError`."""
+        """Sends lines in one write, and reads their replies once all are there. Raises `Late`."""
         self._settle()
         pending = [self._say(line, read) for line, read in lines]
         self._whole(self._protocol.hold)
         while self._protocol.ended is None and self._protocol.kept() < len(pending):
             left = until - time.monotonic()
             if left <= 0:
-                raise TimeoutError
+                raise Late
             if self.timeout is None or left < self.timeout:
                 self._move(left, hold=True)
             else:
@@ -349,6 +351,8 @@ class Connection:
         except BlockingIOError:
             pass
         except OSError as error:
+            if error.errno is None:  # not of the system, but of what interrupts this
+                raise
             self._read_rest()
             own.lose(Disconnected(str(error)))
         if own.ended is not None:
@@ -368,8 +372,9 @@ class Connection:
         try:
             while self._protocol.ended is None:
                 self._receive(hold=False)
-        except OSError:
-            pass
+        except OSError as error:
+            if error.errno is None:
+                raise
 
 
 def connect(host: str = "127.0.0.1", port: int = 7007, timeout: float | None = None) -> Connection:

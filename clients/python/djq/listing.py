@@ -5,6 +5,7 @@ most 8,192 bytes at once. So a cursor is opened and asked for many pages in one 
 it is all there: who parses as it comes is slower than the server, which ends a session that doesn't read. Where that
 wasn't all, a further turn asks for more; where a change came between, it begins again with as many pages as it had
 asked for.
+
 That one write comes in one read is likely and no promise. Nothing rests on it: a cursor that isn't stale at its end has
 listed the answers of one moment, however the bytes were cut.
 """
@@ -27,6 +28,10 @@ GROWTH = 4  # by which each further turn asks for more
 WITHIN = 60.0  # seconds in which a listing has to come to its end
 LONGEST_PAUSE = 0.5  # seconds between two tries that ask for all that one turn can list
 CURSOR = "l"  # a name that no other cursor of a connection has
+
+
+class Late(Exception):
+    """The replies of a turn haven't come in time."""
 
 
 class Listing:
@@ -90,5 +95,5 @@ def list_whole(connection: Connection, query: str, within: float, most: int = MO
 def _comes_to_its_end(listing: Listing, pages: int) -> bool:
     try:
         return listing.run(pages)
-    except TimeoutError:
+    except Late:
         return False

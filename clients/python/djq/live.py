@@ -233,6 +233,8 @@ class Lives:
         until = time.monotonic() + self._within
         while True:
             try:
+                if not self._whole or self._connection._protocol.ended is not None:
+                    self._restart(until)
                 self._start(live)
                 return
             except Ended as error:
@@ -241,7 +243,6 @@ class Lives:
             except Error:
                 self._unwatch(live.query)
                 raise
-            self._restart(until)
 
     def _start(self, live: Live) -> None:
         """Watches and lists a query. What changed before the listing's last line is in it; what changed after isn't."""
