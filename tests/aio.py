@@ -18,7 +18,9 @@ from serving import SECONDS, Server, churn, djq
 import djq.aio
 
 TYPES = {"r": (int, int), "s": (int, str), "t": (str,)}
-QUERIES = ["q(x,y,z) <- r(x,y), s(y,z)", "p(z) <- t(z)", "bad(x,z) <- r(x,y), s(y,z)", "ring(x) <- r(x,y), r(y,x), r(x,x)"]
+QUERIES = [
+    "q(x,y,z) <- r(x,y), s(y,z)", "p(z) <- t(z)", "bad(x,z) <- r(x,y), s(y,z)", "ring(x) <- r(x,y), r(y,x), r(x,x)",
+]  # fmt: skip
 
 TEXTS = ["a", 'b"', "c\\", "d\n", "ü"]
 

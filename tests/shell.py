@@ -3,10 +3,10 @@
 
     tests/shell.py PATH_TO_DJQ [NAME ..]
 
-As a filter it needs Python's standard library alone. Tests of the terminal need pexpect, prompt_toolkit and rich, in
-this Python or in /usr/bin/python3, and those of the package setuptools and venv: what isn't there is named, and its tests
-are skipped. One line is printed for each test that fails, and last `N passed, N failed, N skipped`; the status is 0
-where none failed.
+As a filter it needs Python's standard library alone. Tests of the terminal need pexpect, prompt_toolkit and rich,
+in this Python or in /usr/bin/python3, that of the package setuptools, wheel and pip, and that of its types mypy: what
+isn't there is named, and its tests are skipped. One line is printed for each test that fails or is skipped, and last
+`N passed, N failed, N skipped`; the status is 0 where none failed.
 """
 
 import contextlib
@@ -134,7 +134,7 @@ def a_filter_writes_what_the_program_does(program):
     written, told, status = filtered(SESSION, program=program)
     expect(written, done.stdout.decode())
     expect(status, 1)
-    refusals = [number for number, line in enumerate(written.splitlines(), 1) if line.startswith(("err", "no c", "stale"))]
+    refusals = [line for line in written.splitlines() if line.startswith(("err", "no c", "stale"))]
     expect(len(told.splitlines()), len(refusals), told)
     assert told.startswith("djq-shell: line 2: err 2 taken"), told
     assert "djq-shell: line 7: err 6 arity: 1 values were given, and r has 2 columns" in told, told
@@ -201,8 +201,8 @@ def many_lines_go_through_a_filter(program):
 def a_reader_that_goes_away_ends_a_filter(program):
     with Server(program) as server, server.connect() as client:
         client.relation("r", int)
-        words = [*SHELL, f"127.0.0.1:{server.port}"]
-        shell = subprocess.Popen(words, stdin=subprocess.PIPE, stdout=subprocess.PIPE, stderr=subprocess.PIPE, env=ENVIRONMENT)
+        pipes = {name: subprocess.PIPE for name in ("stdin", "stdout", "stderr")}
+        shell = subprocess.Popen([*SHELL, f"127.0.0.1:{server.port}"], **pipes, env=ENVIRONMENT)
         shell.stdout.close()
         with contextlib.suppress(BrokenPipeError):
             shell.stdin.write(numbered(20000).encode())
@@ -312,7 +312,9 @@ def pasted_lines_are_cut_where_commands_end(program):
 # Files
 
 
-NASTY = ["", " ", "a,b", 'q"q', "two\nlines", "cr\rin", "crlf\r\n", "\ufeffbom", "ü 你", "'", "\\", "x" * 255, "7", "\x1b[2J"]
+NASTY = [
+    "", " ", "a,b", 'q"q', "two\nlines", "cr\rin", "crlf\r\n", "\ufeffbom", "ü 你", "'", "\\", "x" * 255, "7", "\x1b[2J",
+]  # fmt: skip
 
 
 @contextlib.contextmanager
@@ -333,7 +335,8 @@ def a_dump_is_loaded_as_it_was(program):
         client.load("r", rows)
         for further in ("", " header"):
             path = os.path.join(directory, f"rows{len(further)}.csv")
-            written, told, status = filtered(f"\\dump q {path}{further}\n\\load {path} s{further}\n", server=server)
+            lines = f"\\dump q {path}{further}\n\\load {path} s{further}\n"
+            written, told, status = filtered(lines, server=server)
             expect((told, status), ("", 0), written)
             expect(client.snapshot("p"), rows)
             for row in rows:
@@ -344,12 +347,13 @@ def a_dump_is_loaded_as_it_was(program):
         client.add("r", 0, "more", 0)
         written, told, status = filtered(f"\\dump q {path} over\n", server=server)
         expect(status, 0)
-        assert len(open(path).read()) > 0 and open(path).read() != before
+        assert "more" in open(path).read() and "more" not in before
         expect(sorted(os.listdir(directory)), ["rows0.csv", "rows7.csv"])
-        for bad in (f"\\dump none {path} over", f"\\dump q {directory}/no/such.csv"):
-            written, told, status = filtered(bad + "\n", server=server)
-            assert status == 1 and "Traceback" not in told, told
-        assert open(path).read() != before
+        after = open(path).read()
+        lines = f"\\dump none {path} over\n\\dump q {directory}/no/such.csv\n"
+        written, told, status = filtered(lines, server=server)
+        expect((written, status, len(told.splitlines())), ("", 1, 2), told)
+        expect(open(path).read(), after)
 
 
 @test()
@@ -357,29 +361,36 @@ def a_bad_line_is_told_and_nothing_is_sent(program):
     with served(program) as (server, client, directory):
         client.relation("r", int, str)
         client.query("q(x,y) <- r(x,y)")
-        path = os.path.join(directory, "rows.csv")
         good = "".join(f"{number},text\n" for number in range(3000))
-        for bad, why in (
+        bad = (
             (b"x,y", "line 3001: value 1 is no int: 'x'"), (b"1", "line 3001: 1 values, and r has 2 columns: int text"),
             (b"1,2,3", "line 3001: 3 values"), (b"9223372036854775808,a", "line 3001: value 1 is past 64 bits"),
             (b"1," + b"x" * 256, "line 3001: value 2 is a text of 256 bytes"), (b"1_0,a", "value 1 is no int"),
             (b"1,\xff", "line 3001: value 2 isn't UTF-8"), (b'"1\n2",a', "line 3001: value 1 is no int"),
-            (b'1,"open', "unexpected end of data"), ("٣,a".encode(), "value 1 is no int"), (b" 1,a", "value 1 is no int"),
-        ):  # fmt: skip
-            with open(path, "wb") as file:
-                file.write(good.encode() + bad + b"\n5,five\n" * (bad != b'1,"open'))
-            written, told, status = filtered(f"\\load {path} r\n", server=server)
-            assert (written, status) == ("", 1) and why in told and len(told.splitlines()) == 1, (bad, written, told)
-        with open(path, "w") as file:
+            (b'1,"open', "unexpected end of data"), ("٣,a".encode(), "value 1 is no int"), (b" 1,a", "is no int"),
+        )  # fmt: skip
+        lines = []
+        for number, (row, _) in enumerate(bad):
+            lines.append(f"\\load {directory}/{number}.csv r")
+            with open(f"{directory}/{number}.csv", "wb") as file:
+                file.write(good.encode() + row + b"\n5,five\n" * (row != b'1,"open'))
+        with open(f"{directory}/named.csv", "w") as file:
             file.write("number,name\n" + good)
-        assert "write header behind the relation" in filtered(f"\\load {path} r\n", server=server)[1]
+        whys = [why for _, why in bad]
+        whys += ["write header behind the relation", "there is no relation none", "no such file"]
+        whys += ["it is written \\load FILE.csv RELATION [header]", "behind the relation comes header, or nothing"]
+        named = f"{directory}/named.csv"
+        lines += [f"\\load {named} r", f"\\load {named} none", f"\\load {directory} r", f"\\load {named}"]
+        lines += [f"\\load {named} r heder"]
+        written, told, status = filtered("\n".join(lines), server=server)
+        expect((written, status, len(told.splitlines())), ("", 1, len(whys)), told)
+        for number, (why, line) in enumerate(zip(whys, told.splitlines()), 1):
+            assert why in line and line.startswith(f"djq-shell: line {number}: "), (why, line)
         expect(client.snapshot("q"), set())
-        for line in (f"\\load {path} none", f"\\load {directory} r", f"\\load {path}", f"\\load {path} r heder"):
-            written, told, status = filtered(line + "\n", server=server)
-            assert (written, status) == ("", 1) and "Traceback" not in told, (line, told)
-        written, told, status = filtered(f"\\load {path} r header\n\\load {path} r header\n", server=server)
-        expect(("3,000 rows came to r" in written, "0 rows came to r, 3,000 were there already" in written, status),
-               (True, True, 0), written + told)  # fmt: skip
+        written, told, status = filtered(f"\\load {named} r header\n" * 2, server=server)
+        first, second = written.splitlines()
+        assert first.startswith("3,000 rows came to r") and status == 0, written + told
+        assert second.startswith("0 rows came to r, 3,000 were there already"), written
         expect(len(client.snapshot("q")), 3000)
 
 
@@ -422,7 +433,7 @@ def a_load_that_is_refused_is_taken_back(program):
         assert status == 1 and "err 12 memory" in told and "rows that had come were taken out again" in told, told
         expect(client.snapshot("q"), {(1,), (1500,), (90000,)})
         written, told, status = filtered(f"\\load {path} r\n", server=Refusing(server, 1700, hang_up=True))
-        assert status in (1, 2) and "the connection was lost after" in told and "load the file again" in told, told
+        assert status in (1, 2) and "the connection was lost: the " in told and "load the file again" in told, told
         expect(filtered(f"\\load {path} r\n", server=server)[2], 0)
         expect(client.snapshot("q"), {(number,) for number in range(3000)} | {(90000,)})
 
@@ -545,7 +556,7 @@ def refusals_say_what_to_do(program):
             ('add s "a" 1', "err 7 type", "s has the columns int text"),
             ("query q(x,w) <- r(x,_)", "err 8 head unbound", "no atom has w"),
             ("query q(x,x) <- r(x,_)", "err 9 head repeated", "name x once"),
-            ("query q(x) <- s(x,x)", "err 10 variable type", "x stands in column 1 of s, of ints, and in column 2 of s"),
+            ("query q(x) <- s(x,x)", "err 10 variable type", "x stands in column 1 of s, of ints, and in column 2"),
             ("rel w int int int int int int int int int", "err 11 limit", "a relation has at most 8 columns"),
         ):
             if advice.endswith("q_has"):
@@ -597,7 +608,8 @@ def lines_are_pasted_completed_and_remembered(program):
     with tempfile.TemporaryDirectory() as directory:
         history = os.path.join(directory, "history")
         with Terminal("--local", "--program", program, history=history) as shell:
-            pasted = "rel readings int int\nrel names int text\nquery joined(x,y,z) <-\n  readings(x,y),\n  names(x,z)\nwatch joined"
+            pasted = "rel readings int int\nrel names int text\nquery joined(x,y,z) <-\n  readings(x,y),\n  names(x,z)"
+            pasted += "\nwatch joined"
             behind = len(shell.text())
             shell.types(f"\x1b[200~{pasted}\x1b[201~\r")
             shell.waits("ok watch 0", behind)
@@ -673,7 +685,10 @@ def a_session_that_is_lost_is_begun_anew(program):
 
 @test("pexpect")
 def a_terminal_without_packages_serves(program):
-    with Server(program) as server, server.connect() as other, Terminal(f"127.0.0.1:{server.port}", plain=True) as shell:
+    with (
+        Server(program) as server, server.connect() as other,
+        Terminal(f"127.0.0.1:{server.port}", plain=True) as shell,
+    ):  # fmt: skip
         assert "it is better with prompt_toolkit and rich" in shell.text()
         shell.runs("rel r int text", "ok")
         shell.runs("query q(x,y) <- r(x,y)", "ok query 5")
@@ -705,7 +720,7 @@ def a_server_beside_it_is_found_and_ends_with_it(program):
 # The package
 
 
-@test("setuptools", "venv", "pip")
+@test("setuptools", "wheel", "venv", "pip")
 def the_package_is_installed_without_a_network(program):
     with tempfile.TemporaryDirectory() as directory:
         source, made = os.path.join(directory, "source"), os.path.join(directory, "made")
@@ -720,7 +735,7 @@ def the_package_is_installed_without_a_network(program):
         words = ["-m", "pip", "install", "--no-index", "--no-build-isolation", "--no-deps", "--quiet", source]
         done = run(python, *words)
         assert done.returncode == 0, done.stdout + done.stderr
-        asked = "import djq, djq.aio, djq.shell, os; print(djq.__file__); print(os.listdir(os.path.dirname(djq.__file__)))"
+        asked = "import djq, djq.aio, djq.shell, os; print(djq.__file__, os.listdir(os.path.dirname(djq.__file__)))"
         done = run(python, "-c", asked)
         assert done.stdout.startswith(made) and "py.typed" in done.stdout, done.stdout + done.stderr
         shell = os.path.join(made, "bin", "djq-shell")
@@ -731,9 +746,9 @@ def the_package_is_installed_without_a_network(program):
 
 @test("mypy")
 def a_checker_accepts_the_types(program):
-    words = [sys.executable, "-m", "mypy", "--no-error-summary", "--ignore-missing-imports", os.path.join(CLIENT, "djq")]
+    words = [sys.executable, "-m", "mypy", "--no-error-summary", "--ignore-missing-imports", "djq", "--cache-dir"]
     with tempfile.TemporaryDirectory() as cache:
-        done = subprocess.run([*words, "--cache-dir", cache], capture_output=True, text=True, cwd=CLIENT)
+        done = subprocess.run([*words, cache], capture_output=True, text=True, cwd=CLIENT)
     expect((done.stdout, done.returncode), ("", 0))
 
 

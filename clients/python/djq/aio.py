@@ -503,9 +503,9 @@ async def _comes_to_its_end(connection: Connection, query: str, within: float, m
 class Live:
     """The answers of one query, as `answers`, and the number of the last change that is in them, as `seq`.
 
-    Where the server ended the session or the connection was lost it starts anew, and what was missed comes as one change
-    with `restarted`. With `reconnect` it tries again, with growing pauses, as long as the server isn't there or doesn't
-    know the query. `within` is how many seconds a listing may take.
+    Where the server ended the session or the connection was lost it starts anew, and what was missed comes as one
+    change with `restarted`. With `reconnect` it tries again, with growing pauses, as long as the server isn't there or
+    doesn't know the query. `within` is how many seconds a listing may take.
     """
 
     def __init__(

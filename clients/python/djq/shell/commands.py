@@ -5,6 +5,7 @@ from __future__ import annotations
 import inspect
 import os
 import shlex
+import signal
 import sys
 import time
 from typing import Callable
@@ -42,11 +43,33 @@ quit, stop                        ends this session; ends the whole server
 \\?                                this page
 \\q                                ends the shell"""
 
+AGAIN = "; load the file again: rows that are there are left as they are"
 SHOWN = 50  # answers that \show draws where it isn't told how many
 
 
 class Usage(Exception):
     """A command of the shell that it doesn't understand."""
+
+
+class Interrupts:
+    """Keeps Ctrl-C until it is asked for, so that it comes between the moves of bytes; a second one comes at once."""
+
+    def __enter__(self) -> Interrupts:
+        self._noted = False
+        self._before = signal.signal(signal.SIGINT, self._note)
+        return self
+
+    def __exit__(self, *_: object) -> None:
+        signal.signal(signal.SIGINT, self._before)
+
+    def check(self) -> None:
+        """Raises `KeyboardInterrupt` where there was one."""
+        if self._noted:
+            raise KeyboardInterrupt
+
+    def _note(self, *_: object) -> None:
+        self.check()
+        self._noted = True
 
 
 class Shell:
@@ -292,8 +315,9 @@ class Shell:
             raise BadFile(f"{path} is there already; to replace it: \\dump {query} {path} over")
         listing = list_whole(self.session.connection, query, WITHIN)
         answers = sorted(listing.answers)
-        heads = self.names.head(query, len(answers[0]) if answers else 0) if "header" in further else None
-        write_answers(path, answers, heads)
+        known = self.names.queries.get(query)
+        width = len(answers[0]) if answers else len(known.head) if known else 0
+        write_answers(path, answers, self.names.head(query, width) if "header" in further else [])
         self.screen.line(f"{len(answers):,} answers written to {path}")
 
     def _load(self, path: str, relation: str, *further: str) -> None:
@@ -302,26 +326,49 @@ class Shell:
         kinds, header = self._kinds(relation), bool(further)
         if not os.path.isfile(path):
             raise BadFile(f"{path}: no such file")
+        stamp = _stamp(path)
         total = sum(1 for _ in read_rows(path, relation, kinds, header))
         progress = self.screen.progress(relation, total)
-        load = Load(self.session, relation)
-        try:
-            came = load.run(read_rows(path, relation, kinds, header), progress.at)
-        except BaseException as error:
-            progress.end()
-            self._undo(load, path, relation, header, error)
-            raise
-        took = progress.end()
+
+        def at(done: int) -> None:
+            progress.at(done)
+            interrupts.check()
+
+        with Interrupts() as interrupts:
+            try:
+                came = self._load_whole(path, relation, header, stamp, at)
+            finally:
+                took = progress.end()
         speed = f", {total / took:,.0f} rows a second" if total >= 1000 else ""
         there = f", {total - came:,} were there already" if came < total else ""
         self.screen.line(f"{came:,} rows came to {relation}{there}{speed}")
 
-    def _undo(self, load: Load, path: str, relation: str, header: bool, error: BaseException) -> None:
-        """Takes out what a load had put in, where that can be done."""
-        if self.session.ended is not None:
-            raise BadFile(
-                f"{error}\nthe connection was lost after {sum(load.came):,} rows had come, which stay in {relation};"
-                " load the file again: rows that are there are left as they are"
-            ) from error
-        taken = load.undo(read_rows(path, relation, self._kinds(relation), header), lambda done: None)
-        raise BadFile(f"{str(error) or 'interrupted'}\nthe {taken:,} rows that had come were taken out again") from error
+    def _load_whole(
+        self, path: str, relation: str, header: bool, stamp: object, progress: Callable[[int], None]
+    ) -> int:
+        """Sends a file's rows, and gives how many came. Where that goes wrong it is taken back as far as it can."""
+        load = Load(self.session, relation)
+        try:
+            return load.run(read_rows(path, relation, self._kinds(relation), header), progress)
+        except BaseException as error:
+            told = str(error) or "interrupted"
+            if self.session.ended is not None or _stamp(path) != stamp:
+                why = "the connection was lost" if self.session.ended is not None else f"{path} was changed"
+                became = f"{why}: the {sum(load.came):,} rows that came stay in {relation}{AGAIN}"
+            else:
+                became = self._undo(load, path, relation, header)
+            raise BadFile(f"{told}\n{became}") from error
+
+    def _undo(self, load: Load, path: str, relation: str, header: bool) -> str:
+        """Takes out what a load had put in, and tells how that went."""
+        try:
+            taken = load.undo(read_rows(path, relation, self._kinds(relation), header), lambda done: None)
+        except (Error, KeyboardInterrupt):
+            return f"it couldn't be taken back whole: some of its rows stay in {relation}{AGAIN}"
+        return f"the {taken:,} rows that had come were taken out again"
+
+
+def _stamp(path: str) -> tuple[int, int, int]:
+    """What is another where a file was changed."""
+    found = os.stat(path)
+    return found.st_ino, found.st_size, found.st_mtime_ns

@@ -160,7 +160,7 @@ class Load:
             raise SomeRefused(len(self.came), sum(adds.refused for adds in refused), refused[0].first[:1])
 
 
-def write_answers(path: str, answers: Sequence[Answer], heads: Sequence[str] | None) -> None:
+def write_answers(path: str, answers: Sequence[Answer], heads: Sequence[str]) -> None:
     """Writes answers, and before them the names of their columns. The file is whole at once, or as it was."""
     directory = os.path.dirname(os.path.abspath(path))
     try:
@@ -171,7 +171,7 @@ def write_answers(path: str, answers: Sequence[Answer], heads: Sequence[str] | N
         with open(descriptor, "w", encoding="utf-8", newline="") as file:
             # each text in quotes: else one with a CR in it would end its row
             writer = csv.writer(file, quoting=csv.QUOTE_NONNUMERIC, lineterminator="\n")
-            if heads is not None:
+            if heads:
                 writer.writerow(heads)
             writer.writerows(answers)
         mask = os.umask(0)

@@ -27,7 +27,7 @@ def find_program() -> str:
                 break
     found = shutil.which("djq")
     if found is None:
-        raise NoProgram(f"no {BUILT} is here: build it, (cd crates/djq && rt run -- run < stdin), or give --program PATH")
+        raise NoProgram(f"no {BUILT} is here: build it, (cd crates/djq && rt build), or give --program PATH")
     return found
 
 

@@ -65,8 +65,8 @@ def _address(given: argparse.Namespace, ends: contextlib.ExitStack) -> tuple[str
 
 
 def _run(given: argparse.Namespace, host: str, port: int) -> int:
-    typed, fancy = sys.stdin.isatty(), not given.plain
-    screen = Screen(colours=typed and fancy and sys.stdout.isatty() and "NO_COLOR" not in os.environ)
+    typed, fancy = sys.stdin.isatty(), sys.stdout.isatty() and not given.plain
+    screen = Screen(colours=typed and fancy and "NO_COLOR" not in os.environ)
     shell = Shell(screen, lambda: Session(host, port, given.timeout), raw=not typed)
     if not typed:
         sys.stdout.reconfigure(encoding="utf-8", errors="surrogateescape")  # type: ignore[attr-defined]

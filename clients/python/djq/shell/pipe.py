@@ -48,13 +48,13 @@ def _run(shell: Shell, line: str) -> None:
 def _move(shell: Shell, lines: _Lines, more: bool) -> None:
     """Waits until lines come, where more are wanted, or bytes of the server, and takes them."""
     sys.stdout.flush()
-    waiting = select.poll()
-    waiting.register(shell.session.connection.fileno(), select.POLLIN | (select.POLLOUT if shell.session.sending else 0))
+    session, waiting = shell.session, select.poll()
+    waiting.register(session.connection.fileno(), select.POLLIN | (select.POLLOUT if session.sending else 0))
     if more and not lines.ended:
         waiting.register(lines.source, select.POLLIN)
     if any(descriptor == lines.source for descriptor, _ in waiting.poll()):
         lines.read()
-    shell.session.move()
+    session.move()
 
 
 def _status(shell: Shell, lines: _Lines) -> int:

@@ -1,8 +1,8 @@
 """A query's text read, whether it is admitted, and how one that isn't becomes one that is.
 
-Edges are the sets of variables of atoms. Variables that lie in one edge only and edges that lie within another are taken
-away as long as there are any: what stays, if anything, is a ring. A query is admitted where nothing stays, neither
-without the head as an edge nor with it.
+Edges are the sets of variables of atoms. Variables that lie in one edge only and edges that lie within another are
+taken away as long as there are any: what stays, if anything, is a ring. A query is admitted where nothing stays,
+neither without the head as an edge nor with it.
 """
 
 from __future__ import annotations
@@ -191,8 +191,8 @@ def _without_an_atom(query: Query) -> Cure | None:
         found = with_longer_head(replace(query, head=head, atoms=others))
         if found is not None:
             apart = Query(_new_name(query, f"{query.name}_has"), tuple(sorted(atom.variables)), (atom,))
-            what = f"leave {atom} out, and ask it apart for each answer: has {apart.name} {' '.join(apart.head).upper()}"
-            return Cure(what, (found, apart))
+            asked = f"has {apart.name} {' '.join(apart.head).upper()}"
+            return Cure(f"leave {atom} out, and ask it apart for each answer: {asked}", (found, apart))
     return None
 
 

@@ -19,7 +19,7 @@ except ImportError:  # drawn without it then
     Console = None  # type: ignore[assignment,misc]
 
 MOST_DRAWN = 40  # answers of one change that are drawn
-STYLES = {"came": "green", "went": "red", "error": "bold red", "advice": "cyan", "quiet": "bright_black", "head": "bold"}
+STYLES = {"came": "green", "went": "red", "error": "bold red", "advice": "cyan", "quiet": "bright_black"}
 
 # what would move the cursor, colour what follows or turn its direction, were it written as it is
 _UNSAFE = re.compile("[\x00-\x1f\x7f-\x9f\u200b-\u200f\u2028-\u202e\u2060-\u206f\ufeff\ud800-\udfff]")
