@@ -136,7 +136,7 @@ class Shell:
         if isinstance(told, Delta):
             self._tell_change(told)
         elif told.lost is not None:
-            self._lose(told.lost, told.line)
+            self._lose(told.lost, told)
         else:
             error = told.refused(self.names.columns)
             if error is not None:
@@ -146,11 +146,14 @@ class Shell:
             self._tell_reply(told)
             self.done = self.done or told.reply[-1] == "bye"
 
-    def _lose(self, error: Error, line: str) -> None:
+    def _lose(self, error: Error, told: Said) -> None:
+        """Tells why a line is without its reply; as a filter of the first such line alone."""
         if self.done:  # what stands behind `quit` isn't run
             return
-        if self.lost is None or not self.raw:
-            self.fail(error, line)
+        if not self.raw:
+            self.fail(error, told.line)
+        elif self.lost is None:
+            self._complain(told.number, error)
         self.lost = error
 
     def fail(self, error: Exception, line: str = "") -> None:

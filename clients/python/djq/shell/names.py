@@ -64,9 +64,10 @@ class Names:
         return [str(place + 1) for place in range(width)]
 
     def new_session(self) -> None:
-        """Cursors and watches are a session's own."""
+        """Cursors and watches are a session's own, and the server may be another one."""
         self.cursors.clear()
         self.watched.clear()
+        self.columns.clear()
 
 
 def find_columns(names: Names, session: Session, relation: str) -> tuple[str, ...] | None:
