@@ -21,6 +21,9 @@ import threading
 import time
 import traceback
 
+sys.dont_write_bytecode = True
+from reasons import fits  # noqa: E402
+
 PATIENCE = 20
 
 TESTS = []
@@ -116,7 +119,7 @@ TABLE = [
 
 def run(text, words=("run",)):
     done = subprocess.run([PROGRAM, *words], input=text, capture_output=True, timeout=PATIENCE * 3)
-    expect(done.stderr, b"", "standard error")
+    expect(fits(done.returncode, done.stderr), True, done.stderr)
     return done.stdout, done.returncode
 
 
@@ -138,7 +141,7 @@ def run_in_single_bytes(text):
     except BrokenPipeError:
         pass
     output, errors = program.communicate(timeout=PATIENCE)
-    expect(errors, b"", "standard error")
+    expect(fits(program.returncode, errors), True, errors)
     return output, program.returncode
 
 
@@ -250,7 +253,9 @@ def each_write_fails_in_turn():
         program.stdout.close()
         program.stdin.write(b"".join(line for line, _ in TALK[count:]))
         program.stdin.close()
-        expect((program.wait(PATIENCE), program.stderr.read()), (3, b""), f"write {count + 1} fails")
+        expect(program.wait(PATIENCE), 3, f"write {count + 1} fails")
+        errors = program.stderr.read()
+        expect(fits(3, errors), True, errors)
         program.stderr.close()
 
 
@@ -262,7 +267,7 @@ def the_usage_line_and_the_bad_schedule_and_the_summary_are_not_taken():
         os.close(far)
         done = subprocess.run([PROGRAM, *words], input=text, stdout=near, stderr=subprocess.PIPE, timeout=PATIENCE)
         os.close(near)
-        expect((done.returncode, done.stderr), (3, b""), words)
+        expect((done.returncode, fits(3, done.stderr)), (3, True), words)
     # nothing is written, so nothing fails
     far, near = os.pipe()
     os.close(far)

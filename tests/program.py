@@ -18,6 +18,9 @@ import sys
 import time
 import traceback
 
+sys.dont_write_bytecode = True
+from reasons import fits  # noqa: E402
+
 # the most seconds that a reply or an end is waited for
 PATIENCE = 20
 
@@ -68,9 +71,9 @@ def expect(got, want, what=""):
 
 
 def run(text, words=("run",)):
-    """What the program writes for an input, and its status."""
+    """What the program writes for an input, and its status. On standard error it says why it ended so."""
     done = subprocess.run([PROGRAM, *words], input=text, capture_output=True, timeout=PATIENCE * 3)
-    expect(done.stderr, b"", "standard error")
+    expect(fits(done.returncode, done.stderr), True, done.stderr)
     return done.stdout, done.returncode
 
 
@@ -645,6 +648,37 @@ def turns_are_used():
 def an_address_that_is_none_is_a_fault_of_the_hub():
     for address in ["nowhere", "127.0.0.1", "127.0.0.1:99999"]:
         expect(run(b"", ("serve", address)), (b"", 4), address)
+
+
+@test
+def where_it_listens_is_said():
+    words = [PROGRAM, "serve", "127.0.0.1:0"]
+    program = subprocess.Popen(words, stdin=subprocess.DEVNULL, stdout=subprocess.PIPE, stderr=subprocess.PIPE)
+    try:
+        line = program.stderr.readline()
+        expect(line.startswith(b"djq: listening on 127.0.0.1:"), True, line)
+        client = Client(socket.create_connection(("127.0.0.1", int(line.rpartition(b":")[2])), PATIENCE))
+        client.ask(b"stop", b"bye")
+        client.close()
+        expect((program.wait(PATIENCE), program.stdout.read(), program.stderr.read()), (0, b"", b""))
+    finally:
+        program.kill()
+        program.wait()
+        program.stdout.close()
+        program.stderr.close()
+
+
+@test
+def a_request_of_http_is_closed_before_a_line_is_run():
+    with Serving() as serving:
+        for request in [b"POST / HTTP/1.1\r\nHost: 127.0.0.1\r\n\r\nstop\n", b"GET /\nstop\n"]:
+            web = serving.client()
+            web.say(request)
+            expect(web.to_the_end(), b"", request)
+        client = serving.client()
+        client.ask(b"GET", b"err 1 syntax")
+        client.ask(b"stop", b"bye")
+        expect(serving.end(), (b"", 0))
 
 
 @test

@@ -23,6 +23,7 @@ import time
 
 sys.dont_write_bytecode = True
 import model  # noqa: E402
+from reasons import fits  # noqa: E402
 
 # the most seconds that one stream may take
 PATIENCE = 60
@@ -381,7 +382,7 @@ def followed(program, word, text):
         done = subprocess.run([program, word, *words], input=text, capture_output=True, timeout=PATIENCE)
     except subprocess.TimeoutExpired:
         raise model.Difference("no end in time") from None
-    if done.stderr != b"" or done.returncode < 0:
+    if not fits(done.returncode, done.stderr):
         raise model.Difference(f"status {done.returncode}, standard error {done.stderr[:300]!r}")
     return FOLLOWS[word](text, done.stdout, done.returncode)
 

@@ -31,7 +31,27 @@ use std::{env, io};
 
 fn main(rt: HostRuntime) -> ExitCode {
     let status = start::<Brand>(&rt, Blanks::new(&rt)).unwrap_or(Status::NoMemory);
+    say_why(&rt, status);
     ExitCode::from(status.number())
+}
+
+/// Says on standard error why the program ends so. What failed at the hub it has said itself.
+fn say_why(rt: &HostRuntime, status: Status) {
+    let reason = match status {
+        Status::Done | Status::HubFault => return,
+        Status::Schedule(line) => {
+            let _ = eprintln!(rt; "djq: line {line} of the schedule is outside its grammar");
+            return;
+        }
+        Status::Usage => "these words are no command",
+        Status::ReadFault => "the standard input can't be read",
+        Status::WriteFault => "the standard output can't be written",
+        Status::TurnsUsed => "all turns were taken",
+        Status::NoMemory => "out of memory",
+        Status::SessionEnded =>
+            "the session was ended: a line was too long, or too much was pending",
+    };
+    let _ = eprintln!(rt; "djq: {reason}");
 }
 
 /// Runs the program on standard input and output, by the words of its command line.

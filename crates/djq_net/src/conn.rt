@@ -15,7 +15,21 @@ pub(crate) struct Conn {
     pub stream: TcpStream,
     /// Whether it may have bytes. A read that finds none says no, and the system says yes again.
     pub ready: bool,
+    /// Whether bytes of it were read already.
+    pub heard: bool,
 }
+
+/// How requests of HTTP begin that a browser sends for a page of whatever origin. No line of the protocol
+/// begins so.
+const REQUESTS: [&[u8]; 7] = [
+    b"GET /",
+    b"POST /",
+    b"HEAD /",
+    b"PUT /",
+    b"PATCH /",
+    b"DELETE /",
+    b"OPTIONS ",
+];
 
 /// What a read of a connection found.
 #[derive(Clone, Copy, Debug, PartialEq, Eq)]
@@ -31,13 +45,20 @@ pub(crate) enum Found {
 const MOST_READ_AWAY: u32 = 64;
 
 impl Conn {
-    /// Reads what the client sent.
+    /// Reads what the client sent. One that begins with a request of HTTP has ended: a web page can send such
+    /// a request to any port of its reader's machine, with lines of the protocol in it.
     pub(crate) fn read(&mut self, buf: &mut [u8]) -> Found
         ensures { FitsIn result (length buf.new) }
     {
         match self.stream.read(buf) {
             Ok(0) => Found::End,
-            Ok(n) => Found::Bytes(n),
+            Ok(n) => {
+                if !self.heard && is_request(&buf[..n]) {
+                    return Found::End;
+                }
+                self.heard = true;
+                Found::Bytes(n)
+            }
             Err(error) => match error.kind() {
                 ErrorKind::WouldBlock => {
                     self.ready = false;
@@ -76,6 +97,11 @@ impl Conn {
             }
         }
     }
+}
+
+/// Whether bytes begin as a request of HTTP does.
+fn is_request(bytes: &[u8]) -> bool {
+    REQUESTS.iter().any(|start| bytes.starts_with(start))
 }
 
 /// Notes what the system tells of the connection with this id.

@@ -1,7 +1,7 @@
 use mio::net::{TcpListener, TcpStream};
 use mio::{Events, Interest, Poll, Token};
 use std::io;
-use std::net::{self, Net};
+use std::net::{self, Net, SocketAddr};
 use std::time::Duration;
 
 /// A socket that accepts connections, and what waits for it and for the connections.
@@ -29,9 +29,9 @@ impl Listening {
         Ok(Listening { socket, poll })
     }
 
-    /// The port that the system gave.
-    pub fn port(&self) -> io::Result<u16> {
-        Ok(self.socket.local_addr()?.port())
+    /// The address at which it listens, with the port that the system gave.
+    pub fn address(&self) -> io::Result<SocketAddr> {
+        self.socket.local_addr()
     }
 
     /// The next connection, whose events come under this token.

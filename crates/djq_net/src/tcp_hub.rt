@@ -9,7 +9,7 @@ use crate::listening::{LISTENER, Listening};
 use djq_io::{Hub, Listened, Sent, Sessions, Turn};
 use mio::{Events, Token};
 use std::alloc::{AllocError, Global};
-use std::io::{self, ErrorKind};
+use std::io::{self, Eprint, ErrorKind};
 use std::marker::Model;
 use std::net::{self, Net};
 
@@ -22,10 +22,11 @@ const LONGEST_WAIT: u64 = 250;
 
 /// A hub over TCP. It tells no bytes, and shows the ids of its sessions and its counts of faults.
 ///
-/// Each call is a few lines over the system's. A turn waits at most a quarter of a second, and then
+/// Each call is a few lines over the system's. On standard error it says where it listens, or why it can't, and
+/// once that connections can't be accepted. A turn waits at most a quarter of a second, and then
 /// nothing came. After the id 18446744073709551615 no connection is accepted any more.
 #[derive(Drop)]
-pub struct TcpHub<R: Net<Listener = net::TcpListener, Stream = net::TcpStream> + Drop> {
+pub struct TcpHub<R: Net<Listener = net::TcpListener, Stream = net::TcpStream> + Eprint + Drop> {
     rt: R,
     listening: Option<Listening>,
     events: Events,
@@ -37,10 +38,13 @@ pub struct TcpHub<R: Net<Listener = net::TcpListener, Stream = net::TcpStream> +
     knocks: bool,
     /// Whether the last turn had something without asking the system, which may have more to tell.
     busy: bool,
+    /// Whether it was said that no connection can be accepted, and none has been since.
+    turned_away: bool,
     faults: u64,
 }
 
-impl<R: Net<Listener = net::TcpListener, Stream = net::TcpStream> + Drop> Model for TcpHub<R> {
+impl<R: Net<Listener = net::TcpListener, Stream = net::TcpStream> + Eprint + Drop> Model
+    for TcpHub<R> {
     ghost use Rattle.std.specs.Prelude.{is_some};
     ghost use Rattle.djq_net.specs.Tcp.{Shown};
 
@@ -54,7 +58,7 @@ impl<R: Net<Listener = net::TcpListener, Stream = net::TcpStream> + Drop> Model 
     } };
 }
 
-impl<R: Net<Listener = net::TcpListener, Stream = net::TcpStream> + Drop> TcpHub<R> {
+impl<R: Net<Listener = net::TcpListener, Stream = net::TcpStream> + Eprint + Drop> TcpHub<R> {
     /// A hub that doesn't listen yet, over the runtime. It takes the memory for all places.
     pub fn new(rt: R, alloc: Global) -> Result<Self, AllocError>
         ensures listens { IfOk result (λ hub. hub.listens ≡ false) }
@@ -72,6 +76,7 @@ impl<R: Net<Listener = net::TcpListener, Stream = net::TcpStream> + Drop> TcpHub
             at: 0,
             knocks: false,
             busy: false,
+            turned_away: false,
             faults: 0,
         })
     }
@@ -82,7 +87,7 @@ impl<R: Net<Listener = net::TcpListener, Stream = net::TcpStream> + Drop> TcpHub
         ensures { IfSome result (λ _. self.now.listens ≡ true) }
     {
         match &self.listening {
-            Some(listening) => listening.port().ok(),
+            Some(listening) => listening.address().ok().map(|address| address.port()),
             None => None,
         }
     }
@@ -112,16 +117,21 @@ impl<R: Net<Listener = net::TcpListener, Stream = net::TcpStream> + Drop> TcpHub
                     id,
                     stream,
                     ready: true,
+                    heard: false,
                 };
                 if self.conns.push(conn).is_err() {
                     return Turn::Idle;
                 }
                 self.sessions.open(id);
+                self.turned_away = false;
                 Turn::Opened(id)
             }
             Err(error) => {
                 if error.kind() == ErrorKind::WouldBlock {
                     self.knocks = false;
+                } else if !self.turned_away {
+                    self.turned_away = true;
+                    let _ = eprintln!(self.rt; "djq: a connection can't be accepted: {error}");
                 }
                 Turn::Idle
             }
@@ -180,12 +190,13 @@ impl<R: Net<Listener = net::TcpListener, Stream = net::TcpStream> + Drop> TcpHub
         Turn::Idle
     }
 
-    /// Counts a fault of the hub itself, and answers so.
-    fn fail(&mut self) -> Turn
+    /// Counts a fault of the hub itself, says it, and answers so.
+    fn fail(&mut self, error: io::Error) -> Turn
         ensures failed { result ≡ Turn.Failed }
         ensures shown { self.new ≡ record self.old { faults = self.new.faults } }
         ensures counted { Counted self.old.faults self.new.faults }
     {
+        let _ = eprintln!(self.rt; "djq: the listener failed: {error}");
         self.faults = self.faults.saturating_add(1);
         Turn::Failed
     }
@@ -210,7 +221,8 @@ impl<R: Net<Listener = net::TcpListener, Stream = net::TcpStream> + Drop> TcpHub
     }
 }
 
-impl<R: Net<Listener = net::TcpListener, Stream = net::TcpStream> + Drop> Hub for TcpHub<R> {
+impl<R: Net<Listener = net::TcpListener, Stream = net::TcpStream> + Eprint + Drop> Hub
+    for TcpHub<R> {
     ghost use Rattle.std.specs.Prelude.{None};
     ghost use Rattle.djq_io.specs.Sessions.{faults_of};
 
@@ -232,11 +244,15 @@ impl<R: Net<Listener = net::TcpListener, Stream = net::TcpStream> + Drop> Hub fo
     {
         match Listening::at(&self.rt, addr) {
             Ok(listening) => {
+                if let Ok(address) = listening.address() {
+                    let _ = eprintln!(self.rt; "djq: listening on {address}");
+                }
                 self.listening = Some(listening);
                 self.knocks = true;
                 Listened::Ready
             }
-            Err(_) => {
+            Err(error) => {
+                let _ = eprintln!(self.rt; "djq: can't listen on {addr}: {error}");
                 self.faults = self.faults.saturating_add(1);
                 Listened::Failed
             }
@@ -245,8 +261,10 @@ impl<R: Net<Listener = net::TcpListener, Stream = net::TcpStream> + Drop> Hub fo
 
     fn turn(&mut self, buf: &mut [u8]) -> Turn {
         // A client that always has bytes doesn't keep the others from being heard.
-        if self.busy && self.wait(0).is_err() {
-            return self.fail();
+        if self.busy {
+            if let Err(error) = self.wait(0) {
+                return self.fail(error);
+            }
         }
         match self.go_round(buf) {
             Turn::Idle => self.busy = false,
@@ -258,8 +276,8 @@ impl<R: Net<Listener = net::TcpListener, Stream = net::TcpStream> + Drop> Hub fo
         if self.listening.is_none() {
             return Turn::Over;
         }
-        if self.wait(LONGEST_WAIT).is_err() {
-            return self.fail();
+        if let Err(error) = self.wait(LONGEST_WAIT) {
+            return self.fail(error);
         }
         self.go_round(buf)
     }

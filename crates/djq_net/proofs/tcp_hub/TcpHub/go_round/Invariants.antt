@@ -1,4 +1,4 @@
-use Rattle.std.proofs.Common.{◌≡◌, ◌<◌, length}
+use Rattle.std.proofs.Common.{◌≡◌}
 use Rattle.djq_net.proofs.tcp_hub.TcpHub.go_round.Given as goal
 
 -- Nothing is shown of places that have nothing.

@@ -1,4 +1,4 @@
-use Rattle.std.proofs.Common.{rules, ap, subst, ◌∙◌}
+use Rattle.std.proofs.Common.{rules, ap, subst}
 use Rattle.djq_io.specs.Hub.{IsRunning}
 use Rattle.djq_io.proofs.Following.{holds_by}
 use Rattle.djq_net.specs.Tcp.{Shown}
