@@ -166,18 +166,19 @@ class Interrupted(TimeoutError):
 
 
 def interrupted(seconds, call):
-    """Makes a call that is interrupted after so many seconds, if it takes as long."""
+    """Makes a call that is interrupted after so many seconds, if it takes as long. The clock rings again: what is raised
+    as something is finalized, Python tells and drops."""
 
     def ring(*_):
         raise Interrupted
 
     before = signal.signal(signal.SIGALRM, ring)
     try:
-        signal.setitimer(signal.ITIMER_REAL, seconds)
+        signal.setitimer(signal.ITIMER_REAL, seconds, 5)
         call()
         signal.setitimer(signal.ITIMER_REAL, 0)
     except Interrupted:
-        pass
+        signal.setitimer(signal.ITIMER_REAL, 0)
     signal.signal(signal.SIGALRM, before)
 
 

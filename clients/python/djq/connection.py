@@ -42,10 +42,14 @@ class Connection:
         try:
             self._socket = socket.create_connection((host, port), timeout)
         except OSError as error:
+            if not _of_system(error):
+                raise
             raise Disconnected(str(error)) from error
-        self._socket.setsockopt(socket.IPPROTO_TCP, socket.TCP_NODELAY, 1)
-        _keep_alive(self._socket)
-        self._socket.setblocking(False)
+        try:
+            _prepare(self._socket)
+        except BaseException:
+            self._socket.close()
+            raise
         self._selector = getattr(selectors, "PollSelector", selectors.SelectSelector)()
         self._selector.register(self._socket, selectors.EVENT_READ)
         self._interest = selectors.EVENT_READ
@@ -351,7 +355,7 @@ class Connection:
         except BlockingIOError:
             pass
         except OSError as error:
-            if error.errno is None:  # not of the system, but of what interrupts this
+            if not _of_system(error):
                 raise
             self._read_rest()
             own.lose(Disconnected(str(error)))
@@ -373,7 +377,7 @@ class Connection:
             while self._protocol.ended is None:
                 self._receive(hold=False)
         except OSError as error:
-            if error.errno is None:
+            if not _of_system(error):
                 raise
 
 
@@ -382,8 +386,15 @@ def connect(host: str = "127.0.0.1", port: int = 7007, timeout: float | None = N
     return Connection(host, port, timeout)
 
 
-def _keep_alive(own: socket.socket) -> None:
-    """Has the system find out that the other machine is gone, where it can."""
+def _of_system(error: OSError) -> bool:
+    """Whether the system or the socket raised this, and not a signal's handler: `TimeoutError` is an OSError too."""
+    return error.errno is not None or error.args == ("timed out",)
+
+
+def _prepare(own: socket.socket) -> None:
+    """A socket that never waits, and by which the system finds out that the other machine is gone, where it can."""
+    own.setblocking(False)
+    own.setsockopt(socket.IPPROTO_TCP, socket.TCP_NODELAY, 1)
     own.setsockopt(socket.SOL_SOCKET, socket.SO_KEEPALIVE, 1)
     for option, value in KEEPALIVE:
         if hasattr(socket, option):
