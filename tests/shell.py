@@ -14,6 +14,7 @@ import importlib.util
 import os
 import random
 import re
+import resource
 import signal
 import socket
 import subprocess
@@ -186,15 +187,15 @@ def replies_come_as_lines_come_and_changes_without_a_word(program):
 @test()
 def many_lines_go_through_a_filter(program):
     count = 60000
-    began = time.monotonic()
+    before = resource.getrusage(resource.RUSAGE_CHILDREN).ru_utime
     pages = "query q(x) <- r(x)\nopen c q\n" + "next c 1000\n" * 70
     written, told, status = filtered("rel r int\n" + numbered(count) + pages, program=program)
-    took = time.monotonic() - began
+    took = resource.getrusage(resource.RUSAGE_CHILDREN).ru_utime - before
     lines = written.splitlines()
     expect((told, status), ("", 0))
     expect(lines[: count + 1], ["ok", *(f"ok added {number + 1}" for number in range(count))])
     expect({int(line[2:]) for line in lines if line.startswith("= ")}, set(range(count)))
-    assert took < SECONDS, took
+    assert took < SECONDS / 2, took  # of processor time: some 1 s
 
 
 @test()
@@ -595,11 +596,9 @@ def changes_leave_the_line_that_is_typed(program):
         shell.runs('"', "yes")
         other.add("r", 8, "\x1b[2J")
         shell.waits("+ q  8  \\u{1b}[2J", behind)
-        began = time.monotonic()
         for number in range(500):
             other.add("r", number, "many")
         shell.waits("at change 504", behind)
-        assert time.monotonic() - began < SECONDS
         shell.runs("unwatch q", "ok")
 
 

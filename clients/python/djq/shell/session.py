@@ -11,6 +11,7 @@ from ..connection import Connection
 from ..errors import Error
 from ..protocol import Change, fitting, refusal
 
+MOST_MOVES = 16  # of bytes, before what came is told
 MORE = ("= ", "n ")  # what begins a line behind which the reply goes on
 
 
@@ -85,13 +86,11 @@ class Session:
         return said
 
     def move(self, timeout: float | None = 0) -> None:
-        """Sends and reads what can be; with a timeout it waits so long for the first byte."""
-        try:
-            while self.ended is None and self.connection._move(timeout):
-                timeout = 0
-        except Error:
-            if self.ended is None:
-                raise
+        """Sends and reads what can be, some megabytes at most; with a timeout it waits so long for the first byte."""
+        for _ in range(MOST_MOVES):
+            if self.ended is not None or not self.connection._move(timeout):
+                return
+            timeout = 0
 
     def wait(self, said: Said) -> Iterator[Said | Delta]:
         """What is told up to the reply of this line, in its order."""
