@@ -7,7 +7,7 @@ import socket
 import time
 from collections import deque
 from types import TracebackType
-from typing import TYPE_CHECKING, Callable, Iterable, Iterator, Sequence, TypeVar
+from typing import TYPE_CHECKING, Any, Callable, Iterable, Iterator, Sequence, TypeVar
 
 from . import protocol
 from .errors import Disconnected, Error, NoCursor, NotWatched, Refused, SomeRefused
@@ -153,13 +153,13 @@ class Connection:
 
     # Answers that are kept up to date
 
-    def live(self, query: str, **settings: object) -> Live:
+    def live(self, query: str, **settings: Any) -> Live:
         """The query's answers, kept up to date, over a connection of its own. For `settings` see `Lives`."""
         from .live import Lives
 
         return Lives(self.host, self.port, timeout=self.timeout, **settings).only(query)
 
-    def lives(self, *queries: str, **settings: object) -> Lives:
+    def lives(self, *queries: str, **settings: Any) -> Lives:
         """The answers of several queries, kept up to date over one further connection. For `settings` see `Lives`."""
         from .live import Lives
 

@@ -9,6 +9,10 @@ LONGEST_SHOWN = 160  # characters of a line that an error's text shows
 class Error(Exception):
     """Whatever goes wrong between a client and the server."""
 
+    def about(self, line: str) -> Error:
+        """The same, of a command that is without its reply."""
+        return self
+
 
 class Disconnected(Error):
     """The connection was lost, or was closed. Where something interrupted it, `__cause__` is that."""

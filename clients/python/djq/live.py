@@ -126,8 +126,8 @@ class Lives:
                 return live
         live = Live(self, checked(query))
         self._begin(live)
-        answers, seq = live._anew
-        live._restarted(answers, seq)
+        if live._anew is not None:
+            live._restarted(*live._anew)
         self._lives.append(live)
         return live
 
@@ -195,7 +195,7 @@ class Lives:
         for live in lives:
             if live._anew is not None:
                 return live, live._restarted(*live._anew)
-        waiting = {live: self._connection._protocol.changes.get(live.query) for live in lives}
+        waiting = {live: self._connection._protocol.changes.get(live.query) or deque() for live in lives}
         first = min((live for live in lives if waiting[live]), key=lambda live: waiting[live][0][0], default=None)
         if first is None:
             return None

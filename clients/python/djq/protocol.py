@@ -63,7 +63,7 @@ def column_type(kind: type | str) -> str:
     """The word for a column's type, which is given as `int`, `str`, or that word."""
     if kind not in (int, str, "int", "text"):
         raise TypeError(f"neither int nor str: {kind!r}")
-    return {int: "int", str: "text"}.get(kind, kind)
+    return "int" if kind in (int, "int") else "text"
 
 
 def read_values(text: str) -> Answer:

@@ -1,0 +1,177 @@
+"""What to do after a refusal."""
+
+from __future__ import annotations
+
+import difflib
+import re
+from typing import Callable
+
+from ..errors import NotFreeConnex, Refused, Stale
+from ..protocol import MOST_ANSWERS
+from .names import Names
+from .queries import Query, cures, read_query, ring
+
+FORMS = {
+    "rel": "rel NAME int text ..              a relation with 1 to 8 columns",
+    "add": 'add NAME 1 "a text" ..            puts a row in',
+    "del": 'del NAME 1 "a text" ..            takes a row out',
+    "query": "query NAME(x,y) <- REL(x,z), REL(z,y,3)",
+    "drop": "drop QUERY",
+    "open": "open CURSOR QUERY                 then: next CURSOR 20",
+    "next": f"next CURSOR COUNT                 1 to {MOST_ANSWERS} answers",
+    "close": "close CURSOR",
+    "has": 'has QUERY 1 "a text" ..           whether that is an answer',
+    "watch": "watch QUERY",
+    "unwatch": "unwatch QUERY",
+    "explain": "explain QUERY",
+    "quit": "quit",
+    "stop": "stop",
+}
+
+LIMITS = {
+    "rel": "a relation has at most 8 columns, and a server 256 relations",
+    "add": "a relation has at most 4,294,967,295 rows, and a server as many texts",
+    "query": "a query has at most 16 atoms, 64 variables with each _ counted, and 16 variables in its head; a server"
+    " has 256 queries: drop one that nobody needs",
+    "open": "a session has at most 16 cursors: close one",
+}
+
+Columns = Callable[[str], "tuple[str, ...] | None"]
+
+
+def advice(error: Exception, line: str, names: Names, columns: Columns) -> list[str]:
+    """What to do next, a line each. `columns` finds a relation's columns."""
+    words = line.split()
+    command, name = words[0], words[1] if len(words) > 1 else ""
+    if isinstance(error, NotFreeConnex):
+        return _of_ring(error, line)
+    if isinstance(error, Stale):
+        cursor, query = name, names.cursors.get(name, "QUERY")
+        return [f"rows changed since it was opened: close {cursor}, then open {cursor} {query}",
+                f"\\show {query} and \\dump list the answers of one moment, also while rows change"]  # fmt: skip
+    if not isinstance(error, Refused):
+        return []
+    if error.number == 1:
+        return _of_syntax(line, command)
+    if error.number in (2, 3, 4, 5, 14):
+        return _of_names(error.number, command, line, names)
+    if error.number in (6, 7):
+        return _of_values(command, name, line, columns)
+    if error.number in (8, 9, 10):
+        return _of_head(error.number, line, columns)
+    if error.number == 11:
+        return [LIMITS.get(command, "a limit is reached")]
+    if error.number == 12:
+        return ["the server has no memory left: delete rows, drop queries, or give its machine more"]
+    return []
+
+
+def _of_ring(error: NotFreeConnex, line: str) -> list[str]:
+    query = read_query(line.strip()[len("query") :])
+    rest = " - ".join(",".join(edge) for edge in error.edges)
+    if query is None:
+        return [f"a ring stays: {rest}"]
+    edges = [frozenset(edge) for edge in error.edges]
+    if ring([atom.variables for atom in query.atoms]):
+        told = [f"these variables stand in a ring that no atom fills: {rest}"]
+    else:
+        left_out = sorted({v for edge in edges for v in edge} - set(query.head))
+        told = [f"the head leaves out {', '.join(left_out)}, by which its own variables hang together: {rest}"]
+    found = cures(query)
+    for at, cure in enumerate(found):
+        front = "" if len(found) == 1 else "either " if at == 0 else "or "
+        told.append(f"{front}{cure.what}:")
+        told += [f"    query {admitted}" for admitted in cure.queries]
+    return told
+
+
+def _of_syntax(line: str, command: str) -> list[str]:
+    if command not in FORMS:
+        close = difflib.get_close_matches(command.lower(), FORMS, 1)
+        meant = f"did you mean {close[0]}? " if close else ""
+        return [f"there is no command {command}: {meant}\\? lists them all"]
+    told = [FORMS[command].strip()]
+    bare = re.sub(r'"(?:[^"\\]|\\.)*"', '""', line)  # without what texts say
+    rules = (
+        ("'" in bare, 'a text stands in double quotes: "a text"'),
+        (bare.count('"') % 2 == 1, 'a text is without its closing quote; a quote within one is \\"'),
+        (re.search("[A-Z]", bare), "names are of small letters, digits and _, and begin with a letter"),
+        ("\t" in bare, "a tab isn't a space"),
+        (bare.rstrip().endswith(";"), "no semicolon stands at the end"),
+        (re.search(r"\d\.\d", bare), "there are no fractions: an int of the smallest unit, or a text"),
+        (command == "query" and "<-" not in bare, "behind the head comes <-, and then the atoms"),
+        (command == "next", f"the count is from 1 to {MOST_ANSWERS}"),
+        (re.search(r"[<>=!]", bare.replace("<-", "")), "there is no comparing: compare where the answers are read"),
+    )
+    return told + [rule for holds, rule in rules if holds]
+
+
+def _of_names(number: int, command: str, line: str, names: Names) -> list[str]:
+    wanted = re.split(r"[ (]+", line.strip())
+    name = wanted[2] if command == "open" and number == 4 and len(wanted) > 2 else wanted[1] if len(wanted) > 1 else ""
+    if number == 2:
+        if command == "query":
+            return [f"drop {name} first, or take another name"]
+        if command == "open":
+            return [f"close {name} first, or take another name"]
+        return ["its rows are as they were: use it as it is, or take another name"]
+    if number == 14:
+        mine = [cursor for cursor, query in names.cursors.items() if query == name]
+        own = [f"close {cursor}" for cursor in mine] + ([f"unwatch {name}"] if name in names.watched else [])
+        return [", ".join(own) + " first" if own else "another session has a cursor or a watch on it"]
+    if number == 3:
+        if command == "query":
+            query = read_query(line.strip()[len("query") :])
+            missing = [atom.relation for atom in query.atoms if atom.relation not in names.relations] if query else []
+            name = missing[0] if missing else ""
+        return _near(name, sorted(names.relations), f"make it: rel {name or 'NAME'} int text ..")
+    if number == 4:
+        return _near(name, sorted(names.queries), f"register it: query {name}(x,y) <- REL(x,y)")
+    return _near(name, sorted(names.cursors), f"open one: open {name} QUERY")
+
+
+def _near(name: str, known: list[str], otherwise: str) -> list[str]:
+    close = difflib.get_close_matches(name, known, 1)
+    return ([f"did you mean {close[0]}?"] if close and close[0] != name else []) + [otherwise]
+
+
+def _of_values(command: str, name: str, line: str, columns: Columns) -> list[str]:
+    if command in ("add", "del"):
+        kinds = columns(name)
+        return [f"{name} has the columns {' '.join(kinds)}"] if kinds else []
+    if command == "query":
+        query = read_query(line.strip()[len("query") :])
+        told = []
+        for relation in dict.fromkeys(atom.relation for atom in query.atoms) if query else []:
+            kinds = columns(relation)
+            if kinds:
+                told.append(f"{relation} has the columns {' '.join(kinds)}")
+        return told
+    return [f"{command} {name} takes a value for each variable of the query's head, in its order"]
+
+
+def _of_head(number: int, line: str, columns: Columns) -> list[str]:
+    query = read_query(line.strip()[len("query") :])
+    if query is None:
+        return []
+    if number == 9:
+        twice = sorted({v for v in query.head if query.head.count(v) > 1})
+        return [f"name {', '.join(twice)} once in the head"]
+    if number == 8:
+        bound = {v for atom in query.atoms for v in atom.variables}
+        unbound = [v for v in query.head if v not in bound]
+        return [f"no atom has {', '.join(unbound)}: put it into one, or leave it out of the head"]
+    return _of_types(query, columns)
+
+
+def _of_types(query: Query, columns: Columns) -> list[str]:
+    places: dict[str, dict[str, str]] = {}
+    for atom in query.atoms:
+        for at, (term, kind) in enumerate(zip(atom.terms, columns(atom.relation) or ())):
+            if term in atom.variables:
+                places.setdefault(term, {}).setdefault(kind, f"column {at + 1} of {atom.relation}")
+    return [
+        f"{variable} stands in {of['int']}, of ints, and in {of['text']}, of texts: use two names"
+        for variable, of in places.items()
+        if len(of) == 2
+    ]

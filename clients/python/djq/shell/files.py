@@ -1,0 +1,185 @@
+"""Rows from CSV files, and answers into them.
+
+A file is read twice: first each row is looked at, so that nothing is sent of a file with a row that doesn't fit; then
+the rows are sent. Where the server refuses one even so, or where it is interrupted, the rows that it had put in are
+taken out again.
+"""
+
+from __future__ import annotations
+
+import contextlib
+import csv
+import os
+import re
+import tempfile
+from typing import Callable, Iterator, Sequence
+
+from ..errors import Error, SomeRefused
+from ..protocol import MOST_LINE, MOST_TEXT, Answer, Rows, Value, spell
+from .session import Session
+
+ROWS_AT_ONCE = 500  # that are made lines of before they are sent
+MOST_DUE = 2000  # replies that are left due while more is sent
+_INTEGER = re.compile("-?[0-9]+")
+
+csv.field_size_limit(1 << 20)
+
+
+class BadFile(Exception):
+    """A file that can't be loaded or written, and why."""
+
+
+def read_rows(path: str, relation: str, kinds: Sequence[str], header: bool) -> Iterator[list[Value]]:
+    """The rows of a file, which fit a relation with these columns. Raises `BadFile` at the first that doesn't."""
+    try:
+        with open(path, encoding="utf-8-sig", errors="surrogateescape", newline="") as file:
+            reader = csv.reader(file, strict=True)
+            before, first = 0, True
+            for cells in reader:
+                line, before = before + 1, reader.line_num
+                if not cells or (first and header):
+                    first = first and not cells
+                    continue
+                try:
+                    yield _row(cells, relation, kinds)
+                except ValueError as error:
+                    hint = _is_header(cells, kinds) if first else ""
+                    raise BadFile(f"{path}, line {line}: {error}{hint}") from error
+                first = False
+    except csv.Error as error:
+        raise BadFile(f"{path}, line {reader.line_num}: {error}") from error
+    except OSError as error:
+        raise BadFile(f"{path}: {error.strerror}") from error
+
+
+def _row(cells: list[str], relation: str, kinds: Sequence[str]) -> list[Value]:
+    """A row of these cells. Raises `ValueError`."""
+    if len(cells) != len(kinds):
+        raise ValueError(f"{len(cells)} values, and {relation} has {len(kinds)} columns: {' '.join(kinds)}")
+    row = [_value(at, text, kind) for at, (text, kind) in enumerate(zip(cells, kinds), 1)]
+    if "text" in kinds and len(" ".join(["add", relation, *map(spell, row)]).encode()) > MOST_LINE:
+        raise ValueError(f"the row takes more than the {MOST_LINE} bytes of a line")
+    return row
+
+
+def _value(at: int, text: str, kind: str) -> Value:
+    shown = text if len(text) <= 40 else text[:40] + " .."
+    if kind == "int":
+        if _INTEGER.fullmatch(text) is None:
+            raise ValueError(f"value {at} is no int: {shown!r}")
+        if len(text) > MOST_LINE or not -(2**63) <= int(text) < 2**63:
+            raise ValueError(f"value {at} is past 64 bits: {shown}")
+        return int(text)
+    try:
+        size = len(text.encode())
+    except UnicodeError:
+        raise ValueError(f"value {at} isn't UTF-8") from None
+    if size > MOST_TEXT:
+        raise ValueError(f"value {at} is a text of {size} bytes, and {MOST_TEXT} are the most: {shown!r}")
+    return text
+
+
+def _is_header(cells: list[str], kinds: Sequence[str]) -> str:
+    """What to say where the first row that doesn't fit looks like the names of columns."""
+    names = len(cells) == len(kinds) and not any(_INTEGER.fullmatch(text) for text in cells)
+    return "; where it names the columns, write header behind the relation" if names else ""
+
+
+class _Adds(Rows):
+    """Rows that were sent together, and for each whether it wasn't there before."""
+
+    def __init__(self, lines: list[str], columns: dict[str, tuple[str, ...]], came: bytearray) -> None:
+        super().__init__(lines, columns)
+        self._came = came
+
+    def take(self, lines: list[str], at: int) -> int:
+        end = super().take(lines, at)
+        self._came += bytes(lines[place].startswith("ok added") for place in range(at, end))
+        return end
+
+
+class Load:
+    """A file on its way into a relation: of each row that was answered, whether it came."""
+
+    def __init__(self, session: Session, relation: str) -> None:
+        self.came = bytearray()
+        self._session, self._relation = session, relation
+        self._open: list[_Adds] = []
+
+    def run(self, rows: Iterator[list[Value]], progress: Callable[[int], None]) -> int:
+        """Sends the rows, and gives how many weren't there before. Raises `SomeRefused` at a refusal."""
+        lines: list[str] = []
+        for row in rows:
+            lines.append(f"add {self._relation} " + " ".join(map(spell, row)))
+            if len(lines) == ROWS_AT_ONCE:
+                self._send(lines, progress)
+                lines = []
+        self._send(lines, progress)
+        self._settle(0, progress)
+        return sum(self.came)
+
+    def undo(self, rows: Iterator[list[Value]], progress: Callable[[int], None]) -> int:
+        """Takes out what came, and gives how many rows that were."""
+        with contextlib.suppress(SomeRefused):
+            self._settle(0, lambda done: None)
+        lines: list[str] = []
+        taken = 0
+        for came, row in zip(bytes(self.came), rows):
+            if came:
+                lines.append(f"del {self._relation} " + " ".join(map(spell, row)))
+            if len(lines) == ROWS_AT_ONCE:
+                taken += len(lines)
+                self._send(lines, progress)
+                lines = []
+        self._send(lines, progress)
+        self._settle(0, progress)
+        return taken + len(lines)
+
+    def _send(self, lines: list[str], progress: Callable[[int], None]) -> None:
+        if not lines:
+            return
+        own = self._session.connection
+        own._check()
+        adds = _Adds(lines, {}, self.came if lines[0].startswith("add") else bytearray())
+        own._whole(own._protocol._queue, adds, ("\n".join(lines) + "\n").encode(), len(lines))
+        self._open.append(adds)
+        own._move(0)
+        self._settle(MOST_DUE, progress)
+
+    def _settle(self, due: int, progress: Callable[[int], None]) -> None:
+        """Waits until no more replies than this are due. Raises what was refused."""
+        own = self._session.connection
+        while own._protocol.ended is None and own._protocol.due > due:
+            own._await(own.timeout)
+            progress(len(self.came))
+        refused = [adds for adds in self._open if adds.refused]
+        self._open = [adds for adds in self._open if not adds.done and not adds.refused]
+        if own._protocol.ended is not None:
+            raise own._protocol.ended
+        if refused:
+            raise SomeRefused(len(self.came), sum(adds.refused for adds in refused), refused[0].first[:1])
+
+
+def write_answers(path: str, answers: Sequence[Answer], heads: Sequence[str]) -> None:
+    """Writes answers, and before them the names of their columns. The file is whole at once, or as it was."""
+    directory = os.path.dirname(os.path.abspath(path))
+    try:
+        descriptor, beside = tempfile.mkstemp(prefix=".djq-", suffix=".csv", dir=directory)
+    except OSError as error:
+        raise BadFile(f"{path}: {error.strerror}") from error
+    try:
+        with open(descriptor, "w", encoding="utf-8", newline="") as file:
+            # each text in quotes: else one with a CR in it would end its row
+            writer = csv.writer(file, quoting=csv.QUOTE_NONNUMERIC, lineterminator="\n")
+            if heads:
+                writer.writerow(heads)
+            writer.writerows(answers)
+        mask = os.umask(0)
+        os.umask(mask)
+        os.chmod(beside, 0o666 & ~mask)
+        os.replace(beside, path)
+    except OSError as error:
+        raise BadFile(f"{path}: {error.strerror}") from error
+    finally:
+        with contextlib.suppress(OSError):
+            os.unlink(beside)

@@ -1,0 +1,102 @@
+"""What a session has seen of the server's relations and queries, and its own cursors and watches."""
+
+from __future__ import annotations
+
+import re
+from typing import TYPE_CHECKING
+
+from .queries import Query, read_query
+
+if TYPE_CHECKING:
+    from .session import Session
+
+MOST_COLUMNS = 8
+PROBE = "djq_shell_asks_for_columns"
+
+
+class Names:
+    """Names that were seen, by the lines that the server accepted."""
+
+    def __init__(self) -> None:
+        self.columns: dict[str, tuple[str, ...]] = {}  # of relations
+        self.relations: set[str] = set()
+        self.queries: dict[str, Query | None] = {}
+        self.cursors: dict[str, str] = {}  # each cursor's query
+        self.watched: set[str] = set()
+
+    def saw(self, line: str) -> None:
+        """Takes what a line tells that the server accepted."""
+        words = line.split()
+        command, name = words[0], words[1] if len(words) > 1 else ""
+        if command == "rel":
+            self.columns[name] = tuple(words[2:])
+            self.relations.add(name)
+        elif command == "query":
+            query = read_query(line.strip()[len("query") :])
+            if query is not None:
+                self.queries[query.name] = query
+                self.relations.update(atom.relation for atom in query.atoms)
+        elif command in ("add", "del"):
+            self.relations.add(name)
+        else:
+            self._saw_of_query(command, name, words[2] if len(words) > 2 else "")
+
+    def _saw_of_query(self, command: str, name: str, further: str) -> None:
+        if command == "open":
+            self.cursors[name] = further
+            self.queries.setdefault(further, None)
+        elif command == "close":
+            self.cursors.pop(name, None)
+        elif command == "drop":
+            self.queries.pop(name, None)
+        elif command in ("watch", "has", "explain"):
+            self.queries.setdefault(name, None)
+            if command == "watch":
+                self.watched.add(name)
+        elif command == "unwatch":
+            self.watched.discard(name)
+
+    def head(self, query: str, width: int) -> list[str]:
+        """The names of a query's columns, as far as they are known, else their numbers."""
+        known = self.queries.get(query)
+        if known is not None and len(known.head) == width:
+            return list(known.head)
+        return [str(place + 1) for place in range(width)]
+
+    def new_session(self) -> None:
+        """Cursors and watches are a session's own, and the server may be another one."""
+        self.cursors.clear()
+        self.watched.clear()
+        self.columns.clear()
+
+
+def find_columns(names: Names, session: Session, relation: str) -> tuple[str, ...] | None:
+    """The types of a relation's columns; none where there is no such relation.
+
+    The server has no command that tells them. So it is asked for queries that it refuses in any case, since their head
+    names a variable twice: what it finds fault with before that tells how many columns there are and of which types.
+    Nothing is registered.
+    """
+    if re.fullmatch("[a-z][a-z0-9_]{0,31}", relation) is None:
+        return None
+    if relation not in names.columns:
+        columns = _ask_for_columns(session, relation)
+        if columns is None:
+            return None
+        names.columns[relation] = columns
+        names.relations.add(relation)
+    return names.columns[relation]
+
+
+def _ask_for_columns(session: Session, relation: str) -> tuple[str, ...] | None:
+    def refused_by(terms: list[list[str]]) -> list[str]:
+        lines = [f"query {PROBE}(x,x) <- {relation}({','.join(row)})" for row in terms]
+        return [said.reply[0].split()[1] if said.reply else "" for said in session.ask(*lines)]
+
+    by_width = refused_by([["_"] * width for width in range(1, MOST_COLUMNS + 1)])
+    if "9" not in by_width:
+        return None
+    width = by_width.index("9") + 1
+    # a constant of 0 in one column: refused by its type where that is a column of texts
+    by_place = refused_by([["0" if at == place else "_" for at in range(width)] for place in range(width)])
+    return tuple("text" if number == "7" else "int" for number in by_place)

@@ -1,0 +1,277 @@
+"""Tests of the client for asyncio beside the one that blocks, on the same script, and of what only it does.
+
+    python3 tests/aio.py PROGRAM
+
+Ends with a line `N passed, N failed`; a failure is exit status 1.
+"""
+
+import asyncio
+import inspect
+import os
+import random
+import sys
+import time
+import traceback
+
+from serving import SECONDS, Server, churn, djq
+
+import djq.aio
+
+TYPES = {"r": (int, int), "s": (int, str), "t": (str,)}
+QUERIES = [
+    "q(x,y,z) <- r(x,y), s(y,z)", "p(z) <- t(z)", "bad(x,z) <- r(x,y), s(y,z)", "ring(x) <- r(x,y), r(y,x), r(x,x)",
+]  # fmt: skip
+
+TEXTS = ["a", 'b"', "c\\", "d\n", "ü"]
+
+
+def random_commands(count, seed):
+    """Method names and what they are given: some are refused, and many change nothing."""
+    chance = random.Random(seed)
+    for name, types in TYPES.items():
+        yield "relation", (name, *types)
+    for text in QUERIES:
+        yield "query", (text,)
+    for _ in range(count):
+        relation = chance.choice("rrsst")
+        row = [chance.randrange(6) if kind is int else chance.choice(TEXTS) for kind in TYPES[relation]]
+        if chance.random() < 0.05:
+            row = chance.choice([row + [1], row[:-1], [2**63, *row[1:]], ["text", *row[1:]]])
+        yield chance.choice(["add", "add", "delete"]), (relation, *row)
+        if chance.random() < 0.2:
+            yield chance.choice([("has", ("q", 1, 2, "a")), ("has", ("p", "ü")), ("snapshot", ("q",)), ("has", ("z",))])
+        if chance.random() < 0.1:
+            yield chance.choice([("snapshot", ("p",)), ("explain", ("q",)), ("watch", ("q",)), ("unwatch", ("p",))])
+        if chance.random() < 0.02:
+            yield chance.choice([("drop", ("q",)), ("relation", ("r", int)), ("ping", ()), ("add", ("No", 1))])
+
+
+def plain(result):
+    return (type(result).__name__, str(result)) if isinstance(result, Exception) else result
+
+
+def one_after_another(server, commands):
+    """What the client that blocks is told."""
+    told = []
+    with server.connect() as client:
+        for name, given in commands:
+            try:
+                told.append(getattr(client, name)(*given))
+            except djq.Error as error:
+                told.append(plain(error))
+        rest = [change for change in client.changes("q", 0.2)]
+    return told, rest
+
+
+async def awaited(server, commands):
+    """What the client for asyncio is told."""
+    told = []
+    async with djq.aio.connect("127.0.0.1", server.port, SECONDS) as client:
+        for name, given in commands:
+            try:
+                told.append(await getattr(client, name)(*given))
+            except djq.Error as error:
+                told.append(plain(error))
+        rest = [change async for change in client.changes("q", 0.2)]
+    return told, rest
+
+
+def test_the_same_script(program):
+    """Both are told the same, values, errors and changes, on servers of their own."""
+    for seed in range(3):
+        commands = [*random_commands(400, seed), ("query", (QUERIES[0],)), ("watch", ("q",))]
+        commands += [("add", ("r", 77, 1)), ("delete", ("s", 1, "a")), ("add", ("s", 1, "a"))]
+        with Server(program) as one, Server(program) as two:
+            blocking = one_after_another(one, commands)
+            waiting = asyncio.run(awaited(two, commands))
+        for command, here, there in zip(commands, blocking[0], waiting[0]):
+            assert here == there, (command, here, there)
+        assert blocking[1] == waiting[1] and len(blocking[1]) > 2, (blocking[1], waiting[1])
+
+
+def test_the_same_methods(program):
+    """What one has, the other has too, and with the same parameters."""
+    left_out = {"fileno", "live", "lives", "table"}
+    for name, method in inspect.getmembers(djq.Connection, inspect.isfunction):
+        if name.startswith("_") or name in left_out:
+            continue
+        other = getattr(djq.aio.Connection, name)
+        own = [word for word in inspect.signature(method).parameters if word != "progress"]
+        assert own == list(inspect.signature(other).parameters), name
+
+
+async def pipelines(server):
+    async with djq.aio.connect("127.0.0.1", server.port, SECONDS) as client:
+        await client.relation("many", int)
+        await client.query("all(x) <- many(x)")
+        async with client.pipeline() as many:
+            replies = [await many.add("many", number // 2) for number in range(10000)]
+        assert sum(reply.result().changed for reply in replies) == 5000
+        assert await client.load("many", ([number] for number in range(6000))) == 1000
+        try:
+            async with client.pipeline() as many:
+                await many.add("many", 1)
+                await many.add("many", "one")
+                await many.add("nothing", 1)
+            raise AssertionError("not raised")
+        except djq.SomeRefused as error:
+            assert (error.sent, error.refused) == (3, 2)
+        async with client.pipeline(raises=False) as many:
+            refused = await many.add("many", "one")
+        assert "err 7" in str(refused._error)
+        assert len({answer async for answer in client.answers("all", 7)}) == 6000
+        async with client.cursor("all") as cursor:
+            first = await cursor.next(10)
+            rest = [answer async for answer in cursor]
+            assert len(first.answers) == 10 and len({*first.answers, *rest}) == 6000
+            await client.add("many", -1)
+            try:
+                await cursor.next()
+                raise AssertionError("not raised")
+            except djq.Stale as error:
+                assert error.relation == "many"
+
+
+def test_pipelines_and_cursors(program):
+    with Server(program) as server:
+        asyncio.run(pipelines(server))
+
+
+async def tasks(server):
+    """Many tasks over one connection: each gets its own replies, and a cancelled one takes nobody else's."""
+    async with djq.aio.connect("127.0.0.1", server.port, SECONDS) as client:
+        await client.relation("a", int)
+        await client.query("every(x) <- a(x)")
+
+        async def one(number):
+            if number % 7 == 0:
+                assert len(await client.snapshot("every")) <= 500
+            update = await client.add("a", number)
+            assert update.changed and await client.has("every", number)
+            return update.seq
+
+        running = [asyncio.create_task(one(number)) for number in range(500)]
+        await asyncio.sleep(0.002)
+        for task in running[::3]:
+            task.cancel()
+        done = await asyncio.gather(*running, return_exceptions=True)
+        seqs = [seq for seq in done if isinstance(seq, int)]
+        assert len(set(seqs)) == len(seqs) >= 333, len(seqs)
+        for failed in done:
+            assert isinstance(failed, (int, asyncio.CancelledError)), failed
+        assert {number for (number,) in await client.snapshot("every")} >= {n for n in range(500) if n % 3}
+
+
+def test_tasks_share_a_connection(program):
+    with Server(program) as server:
+        asyncio.run(tasks(server))
+
+
+def test_a_live_set_starts_while_rows_change(program):
+    with Server(program) as server, server.connect() as client:
+        for relation in ("a", "b", "c"):
+            client.relation(relation, int, int)
+        client.query("q(g,x,y,k) <- a(g,x), b(g,y), c(g,k)")
+        client.load("a", [(0, n) for n in range(55)] + [(7, 1)])
+        client.load("b", [(0, n) for n in range(55)])
+        client.load("c", [(0, 1), (7, 1)])
+
+        async def follow():
+            async with client_of(server).live("q") as live:
+                with churn(server, 500, "add b 7 1", "del b 7 1"):
+                    async with client_of(server).live("q") as beside:
+                        seqs = [(await beside.next(SECONDS)).seq for _ in range(300)]
+                        assert seqs == list(range(seqs[0], seqs[0] + 300))
+                for one in (live, beside):
+                    assert len(one.answers) - 3025 in (0, 1)
+                async for _ in live.changes(0.3):
+                    pass
+                return live.answers
+
+        assert asyncio.run(follow()) == client.snapshot("q")
+
+
+def client_of(server):
+    return djq.aio.connect("127.0.0.1", server.port, SECONDS)
+
+
+def test_a_live_set_comes_back(program):
+    """The server is killed and another listens on the port: what differs is told as one change."""
+
+    async def follow():
+        with Server(program) as first:
+            with first.connect() as client:
+                client.relation("r", int)
+                client.query("q(x) <- r(x)")
+                client.load("r", [(1,), (2,)])
+            live = client_of(first).live("q", reconnect=True)
+            async with live:
+                assert live.answers == {(1,), (2,)}
+                first.process.kill()
+                first.process.wait()
+                waiting = asyncio.create_task(live.next())
+                await asyncio.sleep(0.2)
+                with Server(program, first.port) as second:
+                    await asyncio.sleep(0.2)
+                    with second.connect() as client:
+                        client.relation("r", int)
+                        client.load("r", [(2,), (3,)])
+                        client.query("q(x) <- r(x)")
+                        change = await asyncio.wait_for(waiting, SECONDS)
+                        assert change.restarted, change
+                        assert live.answers - {(2,), (3,)} == set() and (1,) not in live.answers
+                        assert (change.came - {(3,)}, change.went) == (frozenset(), frozenset({(1,)}))
+                        client.add("r", 4)
+                        async for change in live.changes(0.5):
+                            pass
+                        assert live.answers == {(2,), (3,), (4,)}
+
+    asyncio.run(follow())
+
+
+async def silent():
+    """A server that is stopped gives no reply: the timeout says so, and closes the connection."""
+    server = await asyncio.start_server(lambda reader, writer: None, "127.0.0.1", 0)
+    port = server.sockets[0].getsockname()[1]
+    began = time.monotonic()
+    async with djq.aio.connect("127.0.0.1", port, 0.3) as client:
+        try:
+            await client.add("r", 1)
+            raise AssertionError("not raised")
+        except djq.Unanswered as error:
+            assert error.line == "add r 1"
+        assert time.monotonic() - began < 5
+    server.close()
+    try:
+        await djq.aio.connect("127.0.0.1", port, 1)
+        raise AssertionError("not raised")
+    except djq.Disconnected:
+        pass
+
+
+def test_a_reply_that_doesnt_come(program):
+    asyncio.run(silent())
+
+
+TESTS = [
+    test_the_same_script, test_the_same_methods, test_pipelines_and_cursors, test_tasks_share_a_connection,
+    test_a_live_set_starts_while_rows_change, test_a_live_set_comes_back, test_a_reply_that_doesnt_come,
+]  # fmt: skip
+
+
+def main():
+    program = os.path.abspath(sys.argv[1])
+    failed = 0
+    for test in TESTS:
+        try:
+            test(program)
+        except Exception:
+            failed += 1
+            print(f"{test.__name__} failed")
+            traceback.print_exc()
+    print(f"{len(TESTS) - failed} passed, {failed} failed")
+    sys.exit(1 if failed else 0)
+
+
+if __name__ == "__main__":
+    main()
