@@ -501,6 +501,7 @@ def a_browser_shows_what_comes_and_goes(program, browser):
         wait_until(lambda: browser.rows() == [["", "1", "one"]])
         client.add("r", 2, "two")
         wait_until(lambda: browser.rows()[-1] == ["new", "2", "two"])
+        time.sleep(5)
         wait_until(lambda: browser.rows()[-1] == ["", "2", "two"])  # the mark goes by itself
         assert browser.run("return document.querySelector('.chart path.line1').getAttribute('d')").startswith("M")
         expect(browser.complaints(), [])
