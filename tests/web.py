@@ -7,8 +7,8 @@ Chromium where it is there.
 
 It needs Python's standard library; the tests in Chromium also the Debian packages chromium, chromium-driver and
 python3-selenium, and are skipped by name without them. A line is printed for each test that fails or is skipped, and
-last `N passed, N failed`, with `, N skipped`; the status is 0 where none failed. The second form takes a picture of the
-demo's page after it has moved for a while.
+last `N passed, N failed`, with `, N skipped`; the status is 0 where none failed. With TIMES=1 in the environment it
+tells how long each took. The second form takes a picture of the demo's page after it has moved for a while.
 """
 
 import contextlib
@@ -501,6 +501,7 @@ def a_browser_shows_what_comes_and_goes(program, browser):
         wait_until(lambda: browser.rows() == [["", "1", "one"]])
         client.add("r", 2, "two")
         wait_until(lambda: browser.rows()[-1] == ["new", "2", "two"])
+        time.sleep(5)
         wait_until(lambda: browser.rows()[-1] == ["", "2", "two"])  # the mark goes by itself
         assert browser.run("return document.querySelector('.chart path.line1').getAttribute('d')").startswith("M")
         expect(browser.complaints(), [])
@@ -580,27 +581,25 @@ def has_browser():
 def main(program, names):
     passed = failed = skipped = 0
     chosen = [function for function in TESTS + BROWSER_TESTS if not names or function.__name__ in names]
-    browser = None
-    for function in chosen:
-        begun = time.monotonic()
-        if function in BROWSER_TESTS and not has_browser():
-            skipped += 1
-            print(f"{function.__name__}: skipped, needs chromium, chromium-driver and python3-selenium")
-            continue
-        try:
-            if function in BROWSER_TESTS:
-                browser = browser or Browser()
-                function(program, browser)
-            else:
-                function(program)
-            passed += 1
-            if os.environ.get("TIMES"):
-                print(f"{function.__name__}: {time.monotonic() - begun:.1f} s", flush=True)
-        except Exception:
-            failed += 1
-            print(f"{function.__name__}: {traceback.format_exc(limit=-2)}")
-    if browser is not None:
-        browser.driver.quit()
+    with contextlib.ExitStack() as stack:
+        browser = None
+        for function in chosen:
+            begun = time.monotonic()
+            if function in BROWSER_TESTS and not has_browser():
+                skipped += 1
+                print(f"{function.__name__}: skipped, needs chromium, chromium-driver and python3-selenium")
+                continue
+            try:
+                if function in BROWSER_TESTS and browser is None:
+                    browser = Browser()
+                    stack.callback(browser.driver.quit)
+                function(program, *([browser] if function in BROWSER_TESTS else []))
+                passed += 1
+                if os.environ.get("TIMES"):
+                    print(f"{function.__name__}: {time.monotonic() - begun:.1f} s", flush=True)
+            except Exception:
+                failed += 1
+                print(f"{function.__name__}: {traceback.format_exc(limit=-2)}")
     print(f"{passed} passed, {failed} failed" + (f", {skipped} skipped" if skipped else ""))
     return 1 if failed or not chosen else 0
 
