@@ -27,7 +27,8 @@ def find_program() -> str:
                 break
     found = shutil.which("djq")
     if found is None:
-        raise NoProgram(f"no {BUILT} is here: build it, (cd crates/djq && rt build), or give --program PATH")
+        build = "(cd crates/djq && rt run -- run < stdin)"
+        raise NoProgram(f"no {BUILT} is here: build it, {build}, or give --program PATH")
     return found
 
 
