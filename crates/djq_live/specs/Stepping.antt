@@ -134,17 +134,17 @@ pub record GrowsByOne (r s : Reducts) : Type 0 where
   pub each : (j : ℕ) → j < r.tree.leaves
       → length (entries_at s.tables j) ≤ length (entries_at r.tables j) + 1
 
--- what an update of a leaf counts at most, where no leaf has more than n tuples before it
-abbrev pub leaf_bound : Tree → ℕ → ℕ
-leaf_bound t n = 16 * (paths t * (n + 1))
+-- b bounds what an update of one leaf counts, where no leaf has more than n tuples before it.
+abbrev pub BoundsLeaf : Tree → ℕ → ℕ → Type 0
+BoundsLeaf t n b = 16 * (paths t * (n + 1)) ≤ b
 
--- A tuple that came into the leaf j counts so many times the bound at most.
+-- A tuple that came into the leaf j counts so many times such a bound at most.
 abbrev pub CountsLeaf : Reducts → ℕ → ℕ → ℕ → ℕ → Type 0
-CountsLeaf r j times before now = (n : ℕ) → HasRoom r j n
-    → now ≤ before + times * leaf_bound r.tree n
+CountsLeaf r j times before now = (n b : ℕ) → HasRoom r j n → BoundsLeaf r.tree n b
+    → now ≤ before + times * b
 
--- Updates count so many times the bound at most, where no leaf has more than n tuples before all
+-- Updates count so many times such a bound at most, where no leaf has more than n tuples before all
 -- of them.
 abbrev pub CountsLeaves : Reducts → ℕ → ℕ → ℕ → Type 0
-CountsLeaves r times before now = (n : ℕ) → HasAtMost r n
-    → now ≤ before + times * leaf_bound r.tree n
+CountsLeaves r times before now = (n b : ℕ) → HasAtMost r n → BoundsLeaf r.tree n b
+    → now ≤ before + times * b
