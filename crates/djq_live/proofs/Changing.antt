@@ -30,7 +30,7 @@ use Rattle.djq_reduct.specs.Tables.{entries_at}
 use Rattle.djq_reduct.specs.Reducts.{Reducts}
 use Rattle.djq_query.specs.declared.numbered.NumberedAtom.{NumberedAtom}
 use Rattle.djq_query.specs.Numbered.{Numbered}
-use Rattle.djq_query.specs.Pattern.{Shape, filled}
+use Rattle.djq_query.specs.Pattern.{Shape}
 use Rattle.djq_rows.specs.Cells.{cells_of, HaveCells}
 use Rattle.djq_rows.specs.Catalog.{Catalog, IsCatalog, no_relation, relation_at, rows_at}
 use Rattle.djq_rows.proofs.Lawful.{differ as cells_differ}
@@ -47,6 +47,7 @@ use Rattle.djq_live.specs.Changes.{
   OverGains,
   OverLoses,
 }
+use Rattle.djq_live.proofs.Giving.{gives_once, gives_same, one_as}
 use Rattle.djq_live.proofs.Rows.{all_in}
 use Rattle.djq_live.proofs.Members.{in_left, in_last, in_pushed, in_without, still_in}
 use Rattle.djq_live.proofs.Later.{asked_later, atom_at, pattern_later, cells_later}
@@ -89,16 +90,19 @@ same_rows : (c d : Catalog) (at : ℕ) (p : Shape) (es fs : List Entry) → IsCa
     → at < length c.relations → rows_at d.relations at ≡ rows_at c.relations at → Keeps es fs
     → Holds c at p es → Holds d at p fs
 same_rows c d at p es fs h l low e keeps holds = record {
-  exact = λ u wide. (
+  exact = λ u. (
     λ there.
-        let is = (holds.exact u wide).0 (subst (λ (n : ℕ). 0 < n) (keeps u) there) in
-        row_on c d at (filled u p.slots) h l low is
-        (subst (λ (rows : List Tuple). Contains rows is.row) (sym e) is.there),
-    λ is.
+        one_as (AreRowOf c at) (AreRowOf d at) p u
+        (λ cells is. row_on c d at cells h l low is
+        (subst (λ (rows : List Tuple). Contains rows is.row) (sym e) is.there))
+        ((holds.exact u).0 (subst (λ (n : ℕ). 0 < n) (keeps u) there)),
+    λ one.
         subst (λ (n : ℕ). 0 < n) (sym (keeps u))
-        ((holds.exact u wide).1
-        (row_back c d at (filled u p.slots) h l low is
-        (subst (λ (rows : List Tuple). Contains rows is.row) e is.there))),
+        ((holds.exact u).1
+        (one_as (AreRowOf d at) (AreRowOf c at) p u
+        (λ cells is. row_back c d at cells h l low is
+        (subst (λ (rows : List Tuple). Contains rows is.row) e is.there))
+        one)),
   );
 }
 
@@ -106,30 +110,41 @@ came_rows : (c d : Catalog) (at : ℕ) (cells : List ℕ) (row : Tuple) (p : Sha
     (es fs : List Entry) → IsCatalog c → at < length c.relations → Came c d at cells row
     → Gains p cells es fs → Holds c at p es → Holds d at p fs
 came_rows c d at cells row p es fs h low came gains holds = record {
-  exact = λ u wide. (
+  exact = λ u. (
     λ there.
-        elim ((gains u wide).0 there) [
+        elim ((gains u).0 there) [
           | inl before ↦
-              let is = (holds.exact u wide).0 before in
-              row_on c d at (filled u p.slots) h came.later low is
+              one_as (AreRowOf c at) (AreRowOf d at) p u
+              (λ x is. row_on c d at x h came.later low is
               (subst (λ (rows : List Tuple). Contains rows is.row) (sym came.rows)
-              (in_left is.row (rows_at c.relations at) (row ∷ []) is.there))
-          | inr new ↦ record {
-            row = row;
-            there = subst (λ (rows : List Tuple). Contains rows row) (sym came.rows)
-                (in_last row (rows_at c.relations at));
-            are = new ∙ came.stand.are;
+              (in_left is.row (rows_at c.relations at) (row ∷ []) is.there)))
+              ((holds.exact u).0 before)
+          | inr gives ↦ record {
+            cells = cells;
+            row = record {
+              row = row;
+              there = subst (λ (rows : List Tuple). Contains rows row) (sym came.rows)
+                  (in_last row (rows_at c.relations at));
+              are = came.stand.are;
+            };
+            gives = gives;
           }
         ],
-    λ is.
-        (gains u wide).1
+    λ one.
+        let is = one.row in
+        (gains u).1
         (elim (in_pushed row is.row (rows_at c.relations at)
         (subst (λ (rows : List Tuple). Contains rows is.row) came.rows is.there)) [
           | inl before ↦ inl
-              ((holds.exact u wide).1 (row_back c d at
-              (filled u p.slots) h came.later low is before))
+              ((holds.exact u).1 (record {
+                cells = one.cells;
+                row = row_back c d at one.cells h came.later low is before;
+                gives = one.gives;
+              }))
           | inr new ↦ inr
+              (gives_same p u one.cells cells
               (is.are ∙ ap (λ (r : Tuple). cells_of d.texts r) (sym new) ∙ sym came.stand.are)
+              one.gives)
         ]),
   );
 }
@@ -149,28 +164,41 @@ went_rows : (c d : Catalog) (at : ℕ) (cells : List ℕ) (row : Tuple) (p : Sha
 went_rows c d at cells row p es fs h low went loses holds =
     let later : at < length d.relations = (let long = went.later.long in omega arith) in
     record {
-      exact = λ u wide. (
+      exact = λ u. (
         λ there.
-            let both = (loses u wide).0 there in
-            let is = (holds.exact u wide).0 both.0 in
-            row_on c d at (filled u p.slots) h went.later low is
-            (subst (λ (rows : List Tuple). Contains rows is.row) (sym went.rows)
-            (still_in (rows_at c.relations at) row is.row is.there
-            (λ (same : row ≡ is.row). both.1
-            (is.are ∙ ap (λ (r : Tuple). cells_of c.texts r) (sym same)
-            ∙ sym (cells_later c d row went.later
-            (have_cells c at row h low
-            (subst (λ (r : Tuple). Contains (rows_at c.relations at) r) (sym same) is.there)))
-            ∙ sym went.stand.are)))),
-        λ is.
+            let both = (loses u).0 there in
+            let one = (holds.exact u).0 both.0 in
+            let is = one.row in
+            record {
+              cells = one.cells;
+              row = row_on c d at one.cells h went.later low is
+                  (subst (λ (rows : List Tuple). Contains rows is.row) (sym went.rows)
+                  (still_in (rows_at c.relations at) row is.row is.there
+                  (λ (same : row ≡ is.row). both.1
+                  (gives_same p u one.cells cells
+                  (is.are ∙ ap (λ (r : Tuple). cells_of c.texts r) (sym same)
+                  ∙ sym (cells_later c d row went.later
+                  (have_cells c at row h low
+                  (subst (λ (r : Tuple). Contains (rows_at c.relations at) r) (sym same)
+                  is.there)))
+                  ∙ sym went.stand.are)
+                  one.gives))));
+              gives = one.gives;
+            },
+        λ one.
+            let is = one.row in
             let left = in_without (rows_at c.relations at) row is.row
             (h.kept at no_relation low).differ
             (subst (λ (rows : List Tuple). Contains rows is.row) went.rows is.there) in
-            (loses u wide).1 (
-              (holds.exact u wide).1 (row_back c d at
-                  (filled u p.slots) h went.later low is left.0),
-              λ same. left.1
-                  (other_cells c d at cells row is.row went later is.there (sym is.are ∙ same)),
+            (loses u).1 (
+              (holds.exact u).1 (record {
+                cells = one.cells;
+                row = row_back c d at one.cells h went.later low is left.0;
+                gives = one.gives;
+              }),
+              λ gives. left.1
+                  (other_cells c d at cells row is.row went later is.there
+                  (sym is.are ∙ gives_once p u one.cells cells one.gives gives)),
             ),
       );
     }

@@ -38,21 +38,22 @@ use Rattle.djq_reduct.specs.Answers.{IsAnswerOf}
 use Rattle.djq_query.specs.declared.numbered.Variable.{Variable}
 use Rattle.djq_query.specs.declared.numbered.NumberedAtom.{NumberedAtom}
 use Rattle.djq_query.specs.Numbered.{Numbered, labels}
-use Rattle.djq_query.specs.Pattern.{Shape, filled}
+use Rattle.djq_query.specs.Pattern.{Shape}
 use Rattle.djq_rows.specs.Cells.{cell_of, StandsFor, IsCell}
 use Rattle.djq_rows.specs.Parts.{value_of}
 use Rattle.djq_rows.specs.Catalog.{Catalog, rows_at}
 use Rattle.djq_rows.proofs.Encoding.{value_back}
 use Rattle.djq_live.specs.Asked.{IsAsked, column_of}
-use Rattle.djq_live.specs.Cells.{AreRowOf}
-use Rattle.djq_live.specs.Leaves.{IsOver}
+use Rattle.djq_live.specs.Cells.{AreRowOf, cell_under}
+use Rattle.djq_live.specs.Leaves.{GivesOne, IsOver}
 use Rattle.djq_live.specs.Changes.{IsLater, Came, Gains}
 use Rattle.djq_live.specs.Shown.{value_at, shown}
 use Rattle.djq_live.specs.Stepping.{ChangesBelow}
 use Rattle.djq_live.proofs.Columns.{cell_there, row_same, member_here, member_on}
 use Rattle.djq_live.proofs.Filling.{assigned_of}
 use Rattle.djq_live.proofs.Tabling.{IsIn}
-use Rattle.djq_live.proofs.Binding.{pattern_row}
+use Rattle.djq_live.proofs.Giving.{one_as, one_is}
+use Rattle.djq_live.proofs.Binding.{pattern_gives}
 use Rattle.djq_live.proofs.Terms.{value_by, value_by_is}
 use Rattle.djq_live.proofs.Atoms.{AreSatisfied, satisfies_all, cell_at}
 use Rattle.djq_live.proofs.Heads.{InAtom, has_at, in_atom}
@@ -101,15 +102,16 @@ row_in : (c d : Catalog) (q : Query) (n : Numbered) (ps : List Shape) (r s : Red
     (cells : List ℕ) (row : Tuple) (k j : ℕ) (m : NumberedAtom) (p : Shape) (u : List ℕ)
     → IsOver c q n ps r → Came c d at cells row
     → ChangesBelow (λ x old new. Gains x cells old new) at n.atoms ps k r s
-    → slice_get n.atoms j ≡ Some m → slice_get ps j ≡ Some p → length u ≡ p.width
-    → 0 < cnt (entries_at s.tables j) u → AreRowOf d m.relation (filled u p.slots)
-row_in c d q n ps r s at cells row k j m p u h came change e f wide there =
+    → slice_get n.atoms j ≡ Some m → slice_get ps j ≡ Some p → 0 < cnt (entries_at s.tables j) u
+    → GivesOne (AreRowOf d m.relation) p u
+row_in c d q n ps r s at cells row k j m p u h came change e f there =
     let low = (atom_at c n.variables q.atoms n.atoms j m h.asked.atoms e).is.below in
-    let before : 0 < cnt (entries_at r.tables j) u → AreRowOf d m.relation (filled u p.slots) =
+    let before : 0 < cnt (entries_at r.tables j) u → GivesOne (AreRowOf d m.relation) p u =
     (λ some.
-    let is = ((h.leaves j m p e f).holds.exact u wide).0 some in
-    row_on c d m.relation (filled u p.slots) h.asked.catalog came.later low is
-    (still_row c d at cells row m.relation is.row came low is.there)) in
+    one_as (AreRowOf c m.relation) (AreRowOf d m.relation) p u
+    (λ x is. row_on c d m.relation x h.asked.catalog came.later low is
+    (still_row c d at cells row m.relation is.row came low is.there))
+    (((h.leaves j m p e f).holds.exact u).0 some)) in
     elim (cases_eq m.relation at) [
       | inr off ↦ before (let same = change.others j m e (λ l. off) u in omega arith)
       | inl on ↦
@@ -117,16 +119,19 @@ row_in c d q n ps r s at cells row k j m p u h came change e f wide there =
             | inr high ↦ before
                 (let same = change.others j m e (λ l. absurd (omega arith)) u in omega arith)
             | inl lower ↦
-                elim ((change.over j m p lower e f on u wide).0 there) [
+                elim ((change.over j m p lower e f on u).0 there) [
                   | inl some ↦ before some
-                  | inr is ↦
-                      subst (λ (i : ℕ). AreRowOf d i (filled u p.slots)) (sym on)
-                      (record {
-                        row = row;
-                        there = subst (λ (rows : List Tuple). Contains rows row) (sym came.rows)
-                            (in_last row (rows_at c.relations at));
-                        are = is ∙ came.stand.are;
-                      })
+                  | inr gives ↦ record {
+                    cells = cells;
+                    row = subst (λ (i : ℕ). AreRowOf d i cells) (sym on)
+                        (record {
+                          row = row;
+                          there = subst (λ (rows : List Tuple). Contains rows row) (sym came.rows)
+                              (in_last row (rows_at c.relations at));
+                          are = came.stand.are;
+                        });
+                    gives = gives;
+                  }
                 ]
           ]
     ]
@@ -150,10 +155,9 @@ some_part c d q n ps r s at cells row k h came change = record {
       let x = atom_at c n.variables q.atoms n.atoms j m h.asked.atoms e in
       let pattern = pattern_later c d n.variables l x.atom m p.element came.later x.is leaf.pattern
       in
-      subst (λ (u : List ℕ). AreRowOf d m.relation u)
-      (pattern_row d l m p.element a pattern)
-      (row_in c d q n ps r s at cells row k j m p.element (map a l) h came change e p.is
-      (length-map l a ∙ sym leaf.pattern.width) there);
+      one_is (AreRowOf d m.relation) p.element (map a l) (map (cell_under d.texts a) m.terms)
+      (pattern_gives d l m p.element a pattern)
+      (row_in c d q n ps r s at cells row k j m p.element (map a l) h came change e p.is there);
   stands = λ x m. in_atom c q n ps r x h m;
 }
 

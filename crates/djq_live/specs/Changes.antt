@@ -24,7 +24,7 @@ use Rattle.djq_reduct.specs.Tables.{entries_at}
 use Rattle.djq_reduct.specs.Reducts.{Reducts, IsReducts}
 use Rattle.djq_query.specs.declared.numbered.NumberedAtom.{NumberedAtom}
 use Rattle.djq_query.specs.Numbered.{Numbered}
-use Rattle.djq_query.specs.Pattern.{Shape, filled}
+use Rattle.djq_query.specs.Pattern.{Shape, Gives}
 use Rattle.djq_rows.specs.Cells.{cells_of}
 use Rattle.djq_rows.specs.Catalog.{
   Catalog,
@@ -34,7 +34,7 @@ use Rattle.djq_rows.specs.Catalog.{
   rows_at,
   with_rows_at,
 }
-use Rattle.djq_live.specs.Leaves.{Holds, IsOver}
+use Rattle.djq_live.specs.Leaves.{GivesOne, Holds, IsOver}
 
 -- A later catalog: the relations are there with their names and types, and further relations and
 -- texts may be.
@@ -72,12 +72,11 @@ pub record Went (c d : Catalog) (at : ℕ) (cells : List ℕ) (row : Tuple) : Ty
 -- the entries gained the tuples that put into the atom give these cells, of which there is one at
 -- most; or they lost them
 abbrev pub Gains : Shape → List ℕ → List Entry → List Entry → Type 0
-Gains p cells old new = (u : List ℕ) → length u ≡ p.width
-    → (0 < cnt new u) ↔ ((0 < cnt old u) ⊎ (filled u p.slots ≡ cells))
+Gains p cells old new = (u : List ℕ) → (0 < cnt new u) ↔ ((0 < cnt old u) ⊎ Gives p u cells)
 
 abbrev pub Loses : Shape → List ℕ → List Entry → List Entry → Type 0
-Loses p cells old new = (u : List ℕ) → length u ≡ p.width
-    → (0 < cnt new u) ↔ ((0 < cnt old u) × (filled u p.slots ≢ cells))
+Loses p cells old new = (u : List ℕ)
+    → (0 < cnt new u) ↔ ((0 < cnt old u) × (Gives p u cells → ⊥))
 
 -- the entries hold the same tuples
 abbrev pub Keeps : List Entry → List Entry → Type 0
@@ -126,8 +125,7 @@ DeletedWent = (c d : Catalog) (at : ℕ) (cells : List ℕ) (row : Tuple) → Is
 
 -- a leaf's entries hold exactly the tuples that put into the atom give one of these rows of cells
 abbrev pub HoldsThese : List (List ℕ) → Shape → List Entry → Type 0
-HoldsThese rows p es = (u : List ℕ) → length u ≡ p.width
-    → (0 < cnt es u) ↔ Contains rows (filled u p.slots)
+HoldsThese rows p es = (u : List ℕ) → (0 < cnt es u) ↔ GivesOne (Contains rows) p u
 
 -- A leaf is filled row by row: without tuples it holds those of no rows, a row more makes it gain
 -- the row's tuples, and with all rows of a relation it holds what it should.

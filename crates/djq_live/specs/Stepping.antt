@@ -33,15 +33,15 @@ use Rattle.djq_cursor.specs.Listing.{IsListing}
 use Rattle.djq_cursor.specs.declared.log.Line.{Line}
 use Rattle.djq_cursor.specs.Log.{Log}
 use Rattle.djq_query.specs.declared.numbered.NumberedAtom.{NumberedAtom}
-use Rattle.djq_query.specs.Pattern.{Shape, filled}
+use Rattle.djq_query.specs.Pattern.{Shape, Gives}
 use Rattle.djq_live.specs.Changes.{Keeps}
 
 -- no entry's tuple gives these cells, put into the atom; or each tuple that gives them is there
 abbrev pub Lacks : List ℕ → Shape → List Entry → Type 0
-Lacks cells p es = (u : List ℕ) → length u ≡ p.width → filled u p.slots ≡ cells → cnt es u ≡ 0
+Lacks cells p es = (u : List ℕ) → Gives p u cells → cnt es u ≡ 0
 
 abbrev pub Has : List ℕ → Shape → List Entry → Type 0
-Has cells p es = (u : List ℕ) → length u ≡ p.width → filled u p.slots ≡ cells → 0 < cnt es u
+Has cells p es = (u : List ℕ) → Gives p u cells → 0 < cnt es u
 
 -- One leaf changed so, each other one holds what it held, and no update is unfinished.
 pub record ChangesAt (Changes : Shape → List Entry → List Entry → Type 0) (p : Shape) (j : ℕ)

@@ -135,15 +135,8 @@ returns-in_default-clause-listed g c =
 
 pub leaves-preserved : goal.leaves-preserved
 leaves-preserved g c =
-    let wide = wide_stays c.args.reducts.now c.leaves.reducts c.leaves.leaf
-    c.index-patterns-leaf.result c.leaves.invariant.changed.tree
-    (c.requires.leaves.wide c.leaves.leaf c.index-patterns-leaf.result
-    (got c.args.patterns.now c.leaves.leaf c.index-patterns-leaf.result (subst (λ (n : ℕ).
-    c.leaves.leaf < n) (sym c.requires.leaves.patterns) c.leaves-test.true)
-    c.index-patterns-leaf.is)) in
     let more = gains_more c.args.cells.now c.index-patterns-leaf.result c.leaves.leaf
-    c.leaves.reducts c.add_to_leaf.new.reducts c.leaves.invariant.changed.sound wide
-    c.in-Ok.ensures.gained in
+    c.leaves.reducts c.add_to_leaf.new.reducts c.in-Ok.ensures.gained in
     record {
       changed = below_step (λ p old new. Gains p c.args.cells.now old new) c.args.relation
           c.args.atoms.now c.args.patterns.now c.leaves.leaf c.index-atoms-leaf.result
