@@ -29,7 +29,7 @@ use Rattle.djq_reduct.specs.Marks.{IsBare}
 use Rattle.djq_propagate.specs.Updates.{HasKept}
 use Rattle.djq_query.specs.declared.numbered.NumberedAtom.{NumberedAtom}
 use Rattle.djq_query.specs.Pattern.{Shape}
-use Rattle.djq_live.specs.Changes.{Gains, Loses, Keeps}
+use Rattle.djq_live.specs.Changes.{GainsAll, Loses, Keeps}
 use Rattle.djq_live.specs.Stepping.{HasMore, ChangesAt, ChangesBelow, HoldBelow}
 
 -- what holds the same before and after may stand in a change's place
@@ -37,8 +37,8 @@ abbrev pub IsStable : (Shape → List Entry → List Entry → Type 0) → Type 
 IsStable Changes = (p : Shape) (ds es fs gs : List Entry) → Keeps ds es → Changes p es fs
     → Keeps fs gs → Changes p ds gs
 
-pub gains_stable : (cells : List ℕ) → IsStable (λ p old new. Gains p cells old new)
-gains_stable cells p ds es fs gs early g late = λ u.
+pub gains_stable : (rows : List (List ℕ)) → IsStable (λ p old new. GainsAll p rows old new)
+gains_stable rows p ds es fs gs early g late = λ u.
     let a = early u in
     let b = late u in (
       λ there.
@@ -181,9 +181,9 @@ leaves_stay Changes Holds at atoms ps k n m p r s stays low holds h e f on =
 
 -- ---- more and more tuples, and fewer and fewer
 
-pub gains_more : (cells : List ℕ) (p : Shape) (k : ℕ) (s t : Reducts)
-    → ChangesAt (λ q es fs. Gains q cells es fs) p k s t → HasMore s t
-gains_more cells p k s t step = record {
+pub gains_more : (rows : List (List ℕ)) (p : Shape) (k : ℕ) (s t : Reducts)
+    → ChangesAt (λ q es fs. GainsAll q rows es fs) p k s t → HasMore s t
+gains_more rows p k s t step = record {
   tree = step.tree;
   more = λ j u low there.
       elim (cases_eq j k) [

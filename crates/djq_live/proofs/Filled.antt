@@ -22,33 +22,40 @@ use Rattle.std.proofs.Common.{
 }
 use Rattle.std.specs.Prelude.{Contains, slice_index_or}
 use Rattle.std.proofs.lemmas.List.{get_or-map, length-map}
+use Rattle.std.proofs.lemmas.List.Elements.{
+  Contains-append_cases,
+  Contains-append_left,
+  Contains-append_right,
+}
 use Rattle.djq_model.specs.Data.{Tuple}
 use Rattle.djq_rows.specs.Cells.{cells_of}
 use Rattle.djq_rows.specs.Catalog.{Catalog, rows_at}
 use Rattle.djq_live.specs.Cells.{AreRowOf}
 use Rattle.djq_live.specs.Changes.{LeafIsEmpty, LeafGains, LeafIsFilled}
-use Rattle.djq_live.proofs.Giving.{gives_same, one_as}
-use Rattle.djq_live.proofs.Members.{in_none, in_left, in_last, in_pushed}
+use Rattle.djq_live.proofs.Giving.{one_as}
+use Rattle.djq_live.proofs.Members.{in_none}
 
 pub leaf_empty : LeafIsEmpty
 leaf_empty p es none u =
     (λ there. absurd (let z = none u in omega arith), λ one. absurd (in_none one.cells one.row))
 
 pub leaf_gains : LeafGains
-leaf_gains rows cells p old new holds gains u = (
+leaf_gains rows more p old new holds gains u = (
   λ there.
       elim ((gains u).0 there) [
         | inl before ↦
-            one_as (Contains rows) (Contains (rows ++ cells ∷ [])) p u
-            (λ x is. in_left x rows (cells ∷ []) is) ((holds u).0 before)
-        | inr gives ↦ record { cells = cells; row = in_last cells rows; gives = gives }
+            one_as (Contains rows) (Contains (rows ++ more)) p u
+            (λ x is. Contains-append_left rows more x is) ((holds u).0 before)
+        | inr one ↦
+            one_as (Contains more) (Contains (rows ++ more)) p u
+            (λ x is. Contains-append_right rows more x is) one
       ],
   λ one.
       (gains u).1
-      (elim (in_pushed cells one.cells rows one.row) [
+      (elim (Contains-append_cases rows more one.cells one.row) [
         | inl before ↦ inl
             ((holds u).1 (record { cells = one.cells; row = before; gives = one.gives }))
-        | inr same ↦ inr (gives_same p u one.cells cells (sym same) one.gives)
+        | inr late ↦ inr (record { cells = one.cells; row = late; gives = one.gives })
       ]),
 )
 

@@ -42,6 +42,7 @@ use Rattle.djq_cursor.specs.Log.{Log}
 use Rattle.djq_query.specs.Pattern.{Shape, Gives}
 use Rattle.djq_live.specs.Changes.{Gains, Loses}
 use Rattle.djq_live.specs.Stepping.{ChangesAt, ListsWhere}
+use Rattle.djq_live.proofs.Giving.{one_of, only_one}
 use Rattle.djq_live.proofs.Gaining.{gained_none, gained_same, listing_as, same_more}
 use Rattle.djq_live.proofs.Telling.{tells_none, tells_both, counts_none, counts_both}
 
@@ -72,14 +73,14 @@ inserted_gains cells u p j old mid new only came kept = record {
       let m = came.marked v in (
         λ there.
             elim (same_cases u v) [
-              | inl is ↦ inr ((only v).0 (ap (λ (w : List ℕ). Some w) is))
+              | inl is ↦ inr (one_of p v cells ((only v).0 (ap (λ (w : List ℕ). Some w) is)))
               | inr other ↦ inl (let o = one_other u v other in omega arith)
             ],
         λ either.
             elim either [
               | inl before ↦ omega arith
               | inr e ↦
-                  let is = same_Some u v ((only v).1 e) in
+                  let is = same_Some u v ((only v).1 (only_one p v cells e)) in
                   let o = one_true (same u v) (is_same u v is) in
                   omega arith
             ],
@@ -101,7 +102,7 @@ unmatched_gains cells p j r only sound bare = record {
     λ either.
         elim either [
           | inl before ↦ before
-          | inr e ↦ absurd (none-some v ((only v).1 e))
+          | inr e ↦ absurd (none-some v ((only v).1 (only_one p v cells e)))
         ],
   );
   others = λ i low apart v. refl;

@@ -149,7 +149,7 @@ pub add_leaves : (l : Live) (at : ℕ) (cells : List ℕ) (atoms : List Numbered
 add_leaves l at cells atoms ps e f can =
     inside (λ a p. AreLeaves at cells a p l.reducts) atoms (l.numbered).atoms ps l.patterns e f
     (leaves_of can.before can.after l.query l.numbered l.patterns l.reducts at cells can.row
-    can.kept.over can.came.later can.came.stand)
+    can.kept.over can.came.later can.came.stand.0)
 
 pub add_lacks : (l : Live) (at : ℕ) (cells : List ℕ) (atoms : List NumberedAtom)
     (ps : List Shape) → atoms ≡ (l.numbered).atoms → ps ≡ l.patterns → CanAdd l at cells
@@ -211,7 +211,7 @@ pub follows_came : (l self : Live) (s : Reducts) (at : ℕ) (cells : List ℕ)
     → ChangesBelow (λ p old new. Gains p cells old new) at atoms ps (length atoms) l.reducts s
     → Follows (λ c d. Came c d at cells) self (record l { reducts = s })
 follows_came l self s at cells atoms ps e a p change = λ c d row h came.
-    added_kept c d l s at cells row (subst (λ (x : Live). IsKept c x) (sym e) h) came
+    added_kept c d l s at (cells ∷ []) (row ∷ []) (subst (λ (x : Live). IsKept c x) (sym e) h) came
     (outside (λ x y. ChangesBelow (λ q old new. Gains q cells old new) at x y (length x) l.reducts
     s)
     atoms (l.numbered).atoms ps l.patterns a p change)
@@ -318,7 +318,7 @@ gains_log l s at cells us c d row more change listing h came =
     let q = l.query in
     let n = l.numbered in
     let r = l.reducts in
-    let over = (added_kept c d l s at cells row h came change).over in
+    let over = (added_kept c d l s at (cells ∷ []) (row ∷ []) h came change).over in
     subst (λ (cs : List Change). IsDeltaOf l c d cs) (sym (lines_came d.texts l us))
     (came_delta (IsAnswer c.relations q) (IsAnswer d.relations q) s r (values_of d.texts l) us
     change.sound h.over.reducts more
@@ -362,7 +362,7 @@ came_logged true l s at cells h calls log new x y more change k = record {
   tells = λ whole c d row kept came. gains_log l s at cells k.answers c d row more change
       k.listing kept came;
   shown = λ whole c d row kept came. new_lines d l s k.answers
-      (added_kept c d l s at cells row kept came change) change.tree
+      (added_kept c d l s at (cells ∷ []) (row ∷ []) kept came change) change.tree
       (λ i u low. (k.listing.all i u low).is);
   stays = k.tells.stays;
 }
@@ -412,7 +412,7 @@ came_counted true l s at cells k log new x y more change lists = λ c d row chan
     change.sound h.over.reducts more
     (shows_as (IsAnswer d.relations q) d.texts n r s change.tree
     (shows_part d q n s
-    (some_part c d q n l.patterns r s at cells row k h.over came change)))
+    (some_part c d q n l.patterns r s at (cells ∷ []) (row ∷ []) k h.over came change)))
     (all_later c d q n l.patterns r h.over came.later) lists.listing
     (λ t is none. (is, none)) delta)
     (part_few (λ (a : NumberedAtom). a.relation == at) n.atoms k)

@@ -22,6 +22,7 @@ use Rattle.std.proofs.Common.{
 use Rattle.std.specs.Prelude.{Some, Contains, slice_get, slice_index}
 use Rattle.std.proofs.lemmas.Bool.{cases_eq, cases_lt}
 use Rattle.std.proofs.lemmas.List.{length-map}
+use Rattle.std.proofs.lemmas.List.Elements.{Contains-append_left}
 use Rattle.std.proofs.lemmas.Option.{slice_get_within}
 use Rattle.djq_hyper.specs.Hypergraph.{member}
 use Rattle.djq_model.specs.declared.value.Value.{Value}
@@ -46,7 +47,7 @@ use Rattle.djq_rows.proofs.Encoding.{value_back}
 use Rattle.djq_live.specs.Asked.{IsAsked, column_of}
 use Rattle.djq_live.specs.Cells.{AreRowOf, cell_under}
 use Rattle.djq_live.specs.Leaves.{GivesOne, IsOver}
-use Rattle.djq_live.specs.Changes.{IsLater, Came, Gains}
+use Rattle.djq_live.specs.Changes.{IsLater, CameAll, GainsAll}
 use Rattle.djq_live.specs.Shown.{value_at, shown}
 use Rattle.djq_live.specs.Stepping.{ChangesBelow}
 use Rattle.djq_live.proofs.Columns.{cell_there, row_same, member_here, member_on}
@@ -57,9 +58,8 @@ use Rattle.djq_live.proofs.Binding.{pattern_gives}
 use Rattle.djq_live.proofs.Terms.{value_by, value_by_is}
 use Rattle.djq_live.proofs.Atoms.{AreSatisfied, satisfies_all, cell_at}
 use Rattle.djq_live.proofs.Heads.{InAtom, has_at, in_atom}
-use Rattle.djq_live.proofs.Members.{in_left, in_last}
 use Rattle.djq_live.proofs.Later.{asked_later, atom_at, pattern_later, has_later, cell_later}
-use Rattle.djq_live.proofs.Changing.{row_on}
+use Rattle.djq_live.proofs.Changing.{row_on, row_new}
 use Rattle.djq_live.proofs.Showing.{satisfied, row_value, heads_same, value_stands, maps_at}
 
 -- What is in all leaves satisfies all atoms. So it is of the query's reducts, and of those that
@@ -84,33 +84,33 @@ whole_part c q n ps r h = record {
 
 -- ---- a row that came into some leaves
 
-still_row : (c d : Catalog) (at : ℕ) (cells : List ℕ) (row : Tuple) (k : ℕ) (x : Tuple)
-    → Came c d at cells row → k < length c.relations → Contains (rows_at c.relations k) x
-    → Contains (rows_at d.relations k) x
-still_row c d at cells row k x came low there =
+still_row : (c d : Catalog) (at : ℕ) (cells : List (List ℕ)) (new : List Tuple) (k : ℕ)
+    (x : Tuple) → CameAll c d at cells new → k < length c.relations
+    → Contains (rows_at c.relations k) x → Contains (rows_at d.relations k) x
+still_row c d at cells new k x came low there =
     elim (cases_eq k at) [
       | inl here ↦
           let at_place = subst (λ (i : ℕ). Contains (rows_at c.relations i) x) here there in
           subst (λ (i : ℕ). Contains (rows_at d.relations i) x) (sym here)
           (subst (λ (rows : List Tuple). Contains rows x) (sym came.rows)
-          (in_left x (rows_at c.relations at) (row ∷ []) at_place))
+          (Contains-append_left (rows_at c.relations at) new x at_place))
       | inr apart ↦ subst (λ (rows : List Tuple). Contains rows x) (sym (came.others k low apart))
           there
     ]
 
 row_in : (c d : Catalog) (q : Query) (n : Numbered) (ps : List Shape) (r s : Reducts) (at : ℕ)
-    (cells : List ℕ) (row : Tuple) (k j : ℕ) (m : NumberedAtom) (p : Shape) (u : List ℕ)
-    → IsOver c q n ps r → Came c d at cells row
-    → ChangesBelow (λ x old new. Gains x cells old new) at n.atoms ps k r s
+    (cells : List (List ℕ)) (new : List Tuple) (k j : ℕ) (m : NumberedAtom) (p : Shape)
+    (u : List ℕ) → IsOver c q n ps r → CameAll c d at cells new
+    → ChangesBelow (λ x before after. GainsAll x cells before after) at n.atoms ps k r s
     → slice_get n.atoms j ≡ Some m → slice_get ps j ≡ Some p → 0 < cnt (entries_at s.tables j) u
     → GivesOne (AreRowOf d m.relation) p u
-row_in c d q n ps r s at cells row k j m p u h came change e f there =
+row_in c d q n ps r s at cells new k j m p u h came change e f there =
     let low = (atom_at c n.variables q.atoms n.atoms j m h.asked.atoms e).is.below in
     let before : 0 < cnt (entries_at r.tables j) u → GivesOne (AreRowOf d m.relation) p u =
     (λ some.
     one_as (AreRowOf c m.relation) (AreRowOf d m.relation) p u
     (λ x is. row_on c d m.relation x h.asked.catalog came.later low is
-    (still_row c d at cells row m.relation is.row came low is.there))
+    (still_row c d at cells new m.relation is.row came low is.there))
     (((h.leaves j m p e f).holds.exact u).0 some)) in
     elim (cases_eq m.relation at) [
       | inr off ↦ before (let same = change.others j m e (λ l. off) u in omega arith)
@@ -121,25 +121,21 @@ row_in c d q n ps r s at cells row k j m p u h came change e f there =
             | inl lower ↦
                 elim ((change.over j m p lower e f on u).0 there) [
                   | inl some ↦ before some
-                  | inr gives ↦ record {
-                    cells = cells;
-                    row = subst (λ (i : ℕ). AreRowOf d i cells) (sym on)
-                        (record {
-                          row = row;
-                          there = subst (λ (rows : List Tuple). Contains rows row) (sym came.rows)
-                              (in_last row (rows_at c.relations at));
-                          are = came.stand.are;
-                        });
-                    gives = gives;
-                  }
+                  | inr one ↦
+                      one_as (Contains cells) (AreRowOf d m.relation) p u
+                      (λ x is. subst (λ (i : ℕ). AreRowOf d i x) (sym on)
+                      (row_new c d at cells new x came is))
+                      one
                 ]
           ]
     ]
 
 pub some_part : (c d : Catalog) (q : Query) (n : Numbered) (ps : List Shape) (r s : Reducts)
-    (at : ℕ) (cells : List ℕ) (row : Tuple) (k : ℕ) → IsOver c q n ps r → Came c d at cells row
-    → ChangesBelow (λ x old new. Gains x cells old new) at n.atoms ps k r s → IsPart d q n s
-some_part c d q n ps r s at cells row k h came change = record {
+    (at : ℕ) (cells : List (List ℕ)) (new : List Tuple) (k : ℕ) → IsOver c q n ps r
+    → CameAll c d at cells new
+    → ChangesBelow (λ x before after. GainsAll x cells before after) at n.atoms ps k r s
+    → IsPart d q n s
+some_part c d q n ps r s at cells new k h came change = record {
   asked = asked_later c d q n came.later h.asked;
   sound = change.sound;
   head = λ x. ap (λ (t : Tree). member x t.head) change.tree ∙ h.head x;
@@ -157,7 +153,7 @@ some_part c d q n ps r s at cells row k h came change = record {
       in
       one_is (AreRowOf d m.relation) p.element (map a l) (map (cell_under d.texts a) m.terms)
       (pattern_gives d l m p.element a pattern)
-      (row_in c d q n ps r s at cells row k j m p.element (map a l) h came change e p.is there);
+      (row_in c d q n ps r s at cells new k j m p.element (map a l) h came change e p.is there);
   stands = λ x m. in_atom c q n ps r x h m;
 }
 

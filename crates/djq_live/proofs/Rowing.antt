@@ -46,7 +46,7 @@ use Rattle.djq_rows.specs.Catalog.{Catalog, StandForRow, no_relation, relation_a
 use Rattle.djq_rows.proofs.Lawful.{differ as cells_differ}
 use Rattle.djq_live.specs.Asked.{AreSuited}
 use Rattle.djq_live.specs.Leaves.{AreCellsOf, IsLeafOf, IsOver}
-use Rattle.djq_live.specs.Changes.{IsLater, Came, Went, Gains, Loses, LeavesChange}
+use Rattle.djq_live.specs.Changes.{IsLater, Came, CameAll, Went, Gains, GainsAll, Loses, LeavesChange}
 use Rattle.djq_live.specs.Live.{Live, IsKept}
 use Rattle.djq_live.specs.Stepping.{Lacks, Has, ChangesBelow, AreLeaves, HoldBelow}
 use Rattle.djq_live.proofs.Heads.{has_at}
@@ -55,7 +55,7 @@ use Rattle.djq_live.proofs.Later.{asked_later, atom_at, cells_later}
 use Rattle.djq_live.proofs.Changing.{over_gains, over_loses}
 use Rattle.djq_live.proofs.Listings.{last_differs}
 use Rattle.djq_live.proofs.Members.{in_left}
-use Rattle.djq_live.proofs.Giving.{gives_once}
+use Rattle.djq_live.proofs.Giving.{gives_once, one_of, only_one}
 use Rattle.djq_query.specs.declared.pattern.Slot.{Slot}
 
 -- ---- lengths
@@ -160,9 +160,9 @@ none_there c d q n ps r at cells row k h came = record {
             let have = row_cells d n.variables b.atom m at_row.row came.later.catalog b.is
             new_there in
             let same : row ≡ at_row.row =
-            cells_differ d.texts (relation_at d.relations at).types row at_row.row came.stand.of of
-            came.stand.have have
-            (sym came.stand.are ∙ gives_once p u cells one.cells gives one.gives ∙ at_row.are
+            cells_differ d.texts (relation_at d.relations at).types row at_row.row came.stand.0.of of
+            came.stand.0.have have
+            (sym came.stand.0.are ∙ gives_once p u cells one.cells gives one.gives ∙ at_row.are
             ∙ sym (cells_later c d at_row.row came.later have_old)) in
             let kept = came.later.catalog.kept at no_relation
             (let low = a.is.below in let long = came.later.long in omega arith) in
@@ -200,7 +200,7 @@ pub put_there : (cells : List ℕ) (at : ℕ) (atoms : List NumberedAtom) (ps : 
     (r s : Reducts) → ChangesBelow (λ p old new. Gains p cells old new) at atoms ps k r s
     → HoldBelow (λ p es. Has cells p es) at atoms ps k s
 put_there cells at atoms ps k r s h = record {
-  each = λ j m p low e f on u gives. (h.over j m p low e f on u).1 (inr gives);
+  each = λ j m p low e f on u gives. (h.over j m p low e f on u).1 (inr (one_of p u cells gives));
 }
 
 -- ---- the query after the change
@@ -220,15 +220,15 @@ tree_named : (l : Live) (s : Reducts) → s.tree ≡ (l.reducts).tree
     → IsTreeOf (edges_of l.query) (head_of l.query) s.tree
 tree_named l s e h = subst (λ (t : Tree). IsTreeOf (edges_of l.query) (head_of l.query) t) (sym e) h
 
-pub added_kept : (c d : Catalog) (l : Live) (s : Reducts) (at : ℕ) (cells : List ℕ) (row : Tuple)
-    → IsKept c l → Came c d at cells row
-    → ChangesBelow (λ p old new. Gains p cells old new) at (l.numbered).atoms l.patterns
-    (length (l.numbered).atoms) l.reducts s
+pub added_kept : (c d : Catalog) (l : Live) (s : Reducts) (at : ℕ) (cells : List (List ℕ))
+    (new : List Tuple) → IsKept c l → CameAll c d at cells new
+    → ChangesBelow (λ p before after. GainsAll p cells before after) at (l.numbered).atoms
+    l.patterns (length (l.numbered).atoms) l.reducts s
     → IsKept d (record l { reducts = s })
-added_kept c d l s at cells row h came change = record {
-  over = over_gains c d l.query l.numbered l.patterns l.reducts s at cells row h.over came
-      (leaves_change (λ p old new. Gains p cells old new) at l.numbered l.patterns l.reducts s
-      change);
+added_kept c d l s at cells new h came change = record {
+  over = over_gains c d l.query l.numbered l.patterns l.reducts s at cells new h.over came
+      (leaves_change (λ p before after. GainsAll p cells before after) at l.numbered l.patterns
+      l.reducts s change);
   named = tree_named l s change.tree h.named;
   bare = change.bare;
 }
@@ -255,7 +255,10 @@ back_again : (cells : List ℕ) (p : Shape) (es fs gs : List Entry) (u : List �
 back_again cells p es fs gs u lacks gains loses = (
   λ there.
       let k = (loses u).0 there in
-      elim ((gains u).0 k.0) [ inl before ↦ before | inr gives ↦ absurd (k.1 gives) ],
+      elim ((gains u).0 k.0) [
+        | inl before ↦ before
+        | inr one ↦ absurd (k.1 (only_one p u cells one))
+      ],
   λ there. (loses u).1
       ((gains u).1 (inl there), λ gives. let none = lacks u gives in omega arith),
 )

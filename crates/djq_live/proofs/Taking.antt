@@ -30,7 +30,7 @@ use Rattle.djq_live.specs.Leaves.{Holds}
 use Rattle.djq_live.specs.Stepping.{Lacks}
 use Rattle.djq_live.specs.Building.{AreFilled, HasTaken, IsFilled, TakesRow, cells_at}
 use Rattle.djq_live.proofs.Terms.{both}
-use Rattle.djq_live.proofs.Giving.{one_is}
+use Rattle.djq_live.proofs.Giving.{one_is, one_of, only_one}
 use Rattle.djq_live.proofs.Filled.{leaf_empty, leaf_gains, leaf_filled}
 use Rattle.djq_live.proofs.Leafing.{IsOnly}
 use Rattle.djq_live.proofs.Sizing.{inserted_grows}
@@ -65,13 +65,13 @@ took_row p leaf cells u old mid new i k exact = record {
   gains = λ v.
       let count = came_count old mid new leaf u v i k in (
         λ there. elim (same_cases u v) [
-          | inl is ↦ inr ((exact v).0 (ap (λ (w : List ℕ). Some w) is))
+          | inl is ↦ inr (one_of p v cells ((exact v).0 (ap (λ (w : List ℕ). Some w) is)))
           | inr isnt ↦ inl (let none = one_isnt u v isnt in omega arith)
         ],
         λ h. elim h [
           | inl before ↦ omega arith
           | inr gives ↦
-              let is : u ≡ v = same_Some u v ((exact v).1 gives) in
+              let is : u ≡ v = same_Some u v ((exact v).1 (only_one p v cells gives)) in
               let some : one (same u v) ≡ 1 =
               ap (λ (w : List ℕ). one (same u w)) (sym is) ∙ one_itself u in
               omega arith
@@ -144,7 +144,7 @@ step_taken c at p leaf row before left old mid new h next takes = record {
   done = h.done ++ row ∷ [];
   parts = h.parts ∙ ap (λ (l : List (List ℕ)). h.done ++ l) next
       ∙ sym (append_assoc h.done (row ∷ []) left);
-  holds = leaf_gains h.done row p (entries_at mid.tables leaf) (entries_at new.tables leaf)
+  holds = leaf_gains h.done (row ∷ []) p (entries_at mid.tables leaf) (entries_at new.tables leaf)
       h.holds takes.gains;
   few = (let a = takes.grows in let b = h.few in let d = length-append h.done (row ∷ []) in
       omega arith);
