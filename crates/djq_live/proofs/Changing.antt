@@ -37,7 +37,14 @@ use Rattle.djq_query.specs.declared.numbered.NumberedAtom.{NumberedAtom}
 use Rattle.djq_query.specs.Numbered.{Numbered}
 use Rattle.djq_query.specs.Pattern.{Shape}
 use Rattle.djq_rows.specs.Cells.{cells_of, HaveCells}
-use Rattle.djq_rows.specs.Catalog.{Catalog, IsCatalog, no_relation, relation_at, rows_at}
+use Rattle.djq_rows.specs.Catalog.{
+  Catalog,
+  IsCatalog,
+  StandForRow,
+  no_relation,
+  relation_at,
+  rows_at,
+}
 use Rattle.djq_rows.proofs.Lawful.{differ as cells_differ}
 use Rattle.djq_live.specs.Cells.{AreRowOf}
 use Rattle.djq_live.specs.Leaves.{Holds, IsLeafOf, IsOver}
@@ -112,23 +119,27 @@ same_rows c d at p es fs h l low e keeps holds = record {
   );
 }
 
--- the row that cells stand for, where rows came
-record StandsIn (d : Catalog) (new : List Tuple) (cells : List ℕ) : Type 0 where
-  row : Tuple
-  there : Contains new row
-  are : cells ≡ cells_of d.texts row
+-- the row that cells stand for, among rows
+pub record StandsIn (d : Catalog) (at : ℕ) (new : List Tuple) (cells : List ℕ) : Type 0 where
+  pub row : Tuple
+  pub there : Contains new row
+  pub stand : StandForRow d at cells row
 
-stands_in : (d : Catalog) (at : ℕ) (cells : List (List ℕ)) (new : List Tuple) (x : List ℕ)
-    → StandForRows d at cells new → Contains cells x → StandsIn d new x
+pub stands_in : (d : Catalog) (at : ℕ) (cells : List (List ℕ)) (new : List Tuple) (x : List ℕ)
+    → StandForRows d at cells new → Contains cells x → StandsIn d at new x
 stands_in d at [] [] x h is = absurd (in_none x is)
 stands_in d at [] (row ∷ new) x h is = absurd h
 stands_in d at (k ∷ cells) [] x h is = absurd h
 stands_in d at (k ∷ cells) (row ∷ new) x h is =
     elim (in_cons k x cells is) [
-      | inl here ↦ record { row = row; there = in_first row new; are = sym here ∙ h.0.are }
+      | inl here ↦ record {
+        row = row;
+        there = in_first row new;
+        stand = subst (λ (y : List ℕ). StandForRow d at y row) here h.0;
+      }
       | inr there ↦
           let s = stands_in d at cells new x h.1 there in
-          record { row = s.row; there = in_rest row s.row new s.there; are = s.are }
+          record { row = s.row; there = in_rest row s.row new s.there; stand = s.stand }
     ]
 
 cells_in : (d : Catalog) (at : ℕ) (cells : List (List ℕ)) (new : List Tuple) (x : Tuple)
@@ -153,7 +164,7 @@ row_new c d at cells new x came is =
       row = s.row;
       there = subst (λ (rows : List Tuple). Contains rows s.row) (sym came.rows)
           (Contains-append_right (rows_at c.relations at) new s.row s.there);
-      are = s.are;
+      are = s.stand.are;
     }
 
 came_rows : (c d : Catalog) (at : ℕ) (cells : List (List ℕ)) (new : List Tuple) (p : Shape)

@@ -46,14 +46,14 @@ use Rattle.djq_rows.specs.Catalog.{Catalog, StandForRow, no_relation, relation_a
 use Rattle.djq_rows.proofs.Lawful.{differ as cells_differ}
 use Rattle.djq_live.specs.Asked.{AreSuited}
 use Rattle.djq_live.specs.Leaves.{AreCellsOf, IsLeafOf, IsOver}
-use Rattle.djq_live.specs.Changes.{IsLater, Came, CameAll, Went, Gains, GainsAll, Loses, LeavesChange}
+use Rattle.djq_live.specs.Changes.{IsLater, CameAll, Went, Gains, GainsAll, Loses, LeavesChange}
 use Rattle.djq_live.specs.Live.{Live, IsKept}
-use Rattle.djq_live.specs.Stepping.{Lacks, Has, ChangesBelow, AreLeaves, HoldBelow}
+use Rattle.djq_live.specs.Stepping.{Lacks, LacksAll, Has, ChangesBelow, AreLeaves, HoldBelow}
 use Rattle.djq_live.proofs.Heads.{has_at}
 use Rattle.djq_live.proofs.Rows.{row_fits, row_cells}
 use Rattle.djq_live.proofs.Later.{asked_later, atom_at, cells_later}
-use Rattle.djq_live.proofs.Changing.{over_gains, over_loses}
-use Rattle.djq_live.proofs.Listings.{last_differs}
+use Rattle.djq_live.proofs.Changing.{stands_in, over_gains, over_loses}
+use Rattle.djq_live.proofs.Listings.{late_differs}
 use Rattle.djq_live.proofs.Members.{in_left}
 use Rattle.djq_live.proofs.Giving.{gives_once, one_of, only_one}
 use Rattle.djq_query.specs.declared.pattern.Slot.{Slot}
@@ -133,10 +133,10 @@ leaves_as at cells atoms ps r s e h = record {
 -- ---- a row that came wasn't there, and one that went was
 
 pub none_there : (c d : Catalog) (q : Query) (n : Numbered) (ps : List Shape) (r : Reducts)
-    (at : ℕ) (cells : List ℕ) (row : Tuple) (k : ℕ) → IsOver c q n ps r → Came c d at cells row
-    → HoldBelow (λ p es. Lacks cells p es) at n.atoms ps k r
-none_there c d q n ps r at cells row k h came = record {
-  each = λ j m p low e f on u gives.
+    (at : ℕ) (cells : List (List ℕ)) (new : List Tuple) (k : ℕ) → IsOver c q n ps r
+    → CameAll c d at cells new → HoldBelow (λ p es. LacksAll cells p es) at n.atoms ps k r
+none_there c d q n ps r at cells new k h came = record {
+  each = λ j m p low e f on u given.
       elim (cases_lt 0 (cnt (entries_at r.tables j) u)) [
         | inr none ↦ omega arith
         | inl some ↦
@@ -145,13 +145,14 @@ none_there c d q n ps r at cells row k h came = record {
             (asked_later c d q n came.later h.asked).atoms e in
             let one = ((h.leaves j m p e f).holds.exact u).0 some in
             let at_row = one.row in
+            let s = stands_in d at cells new given.cells came.stand given.row in
             let old : Contains (rows_at c.relations at) at_row.row =
             subst (λ (i : ℕ). Contains (rows_at c.relations i) at_row.row) on at_row.there in
-            let new : Contains (rows_at d.relations at) at_row.row =
+            let still : Contains (rows_at d.relations at) at_row.row =
             subst (λ (rows : List Tuple). Contains rows at_row.row) (sym came.rows)
-            (in_left at_row.row (rows_at c.relations at) (row ∷ []) old) in
+            (in_left at_row.row (rows_at c.relations at) new old) in
             let new_there : Contains (rows_at d.relations m.relation) at_row.row =
-            subst (λ (i : ℕ). Contains (rows_at d.relations i) at_row.row) (sym on) new in
+            subst (λ (i : ℕ). Contains (rows_at d.relations i) at_row.row) (sym on) still in
             let of = subst
             (λ (i : ℕ). fits (relation_at d.relations i).types at_row.row ≡ true) on
             (row_fits d n.variables b.atom m at_row.row came.later.catalog b.is new_there) in
@@ -159,17 +160,18 @@ none_there c d q n ps r at cells row k h came = record {
             at_row.there in
             let have = row_cells d n.variables b.atom m at_row.row came.later.catalog b.is
             new_there in
-            let same : row ≡ at_row.row =
-            cells_differ d.texts (relation_at d.relations at).types row at_row.row came.stand.0.of of
-            came.stand.0.have have
-            (sym came.stand.0.are ∙ gives_once p u cells one.cells gives one.gives ∙ at_row.are
+            let same : s.row ≡ at_row.row =
+            cells_differ d.texts (relation_at d.relations at).types s.row at_row.row s.stand.of of
+            s.stand.have have
+            (sym s.stand.are ∙ gives_once p u given.cells one.cells given.gives one.gives
+            ∙ at_row.are
             ∙ sym (cells_later c d at_row.row came.later have_old)) in
             let kept = came.later.catalog.kept at no_relation
             (let low = a.is.below in let long = came.later.long in omega arith) in
             absurd
-            (last_differs row (rows_at c.relations at)
+            (late_differs s.row (rows_at c.relations at) new
             (subst (λ (rows : List Tuple). AreDifferent rows) came.rows kept.differ)
-            (subst (λ (x : Tuple). Contains (rows_at c.relations at) x) (sym same) old))
+            (subst (λ (x : Tuple). Contains (rows_at c.relations at) x) (sym same) old) s.there)
       ];
 }
 

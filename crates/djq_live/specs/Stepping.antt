@@ -19,6 +19,7 @@ use Rattle.std.specs.Prelude.{
   take,
   filter,
   Some,
+  Contains,
   slice_get,
 }
 use Rattle.djq_machine.specs.Store.{most_steps}
@@ -34,9 +35,14 @@ use Rattle.djq_cursor.specs.declared.log.Line.{Line}
 use Rattle.djq_cursor.specs.Log.{Log}
 use Rattle.djq_query.specs.declared.numbered.NumberedAtom.{NumberedAtom}
 use Rattle.djq_query.specs.Pattern.{Shape, Gives}
+use Rattle.djq_live.specs.Leaves.{GivesOne}
 use Rattle.djq_live.specs.Changes.{Keeps}
 
--- no entry's tuple gives these cells, put into the atom; or each tuple that gives them is there
+-- no entry's tuple gives one of these rows of cells, put into the atom
+abbrev pub LacksAll : List (List ℕ) → Shape → List Entry → Type 0
+LacksAll rows p es = (u : List ℕ) → GivesOne (Contains rows) p u → cnt es u ≡ 0
+
+-- no entry's tuple gives these cells; or each tuple that gives them is there
 abbrev pub Lacks : List ℕ → Shape → List Entry → Type 0
 Lacks cells p es = (u : List ℕ) → Gives p u cells → cnt es u ≡ 0
 
