@@ -24,7 +24,7 @@ use Rattle.std.proofs.Common.{
 use Rattle.std.specs.Prelude.{All, AllPairs, Contains, slice_index_or}
 use Rattle.std.proofs.lemmas.List.Elements.{All-append, Contains-append_right, Contains-get_or}
 use Rattle.std.proofs.lemmas.List.Kept.{AllPairs-cons}
-use Rattle.djq_live.proofs.Members.{in_first, in_rest, in_last, in_cons, in_none}
+use Rattle.djq_live.proofs.Members.{in_first, in_rest, in_cons, in_none}
 
 -- no two of a list are equal
 abbrev pub Different : {A : Type 0} → List A → Type 0

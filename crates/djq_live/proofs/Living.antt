@@ -1,5 +1,5 @@
 -- What an update of the leaves makes of a registered query.
-use Rattle.std.proofs.Common.{◌≡◌, ℕ, ◌+◌, ◌*◌, ◌<◌, ◌≤◌, ◌++◌, Bool, true, false, List, [], ◌∷◌, length, map, refl, ap, sym, subst, ◌∙◌, inl, inr, arith, length-append}
+use Rattle.std.proofs.Common.{◌≡◌, ℕ, ◌+◌, ◌*◌, ◌<◌, ◌≤◌, Bool, true, false, List, [], ◌∷◌, length, map, refl, ap, sym, subst, ◌∙◌, inl, inr, arith, length-append}
 use Rattle.std.specs.Prelude.{◌==◌, Contains, Option, Some, slice_get}
 use Rattle.std.proofs.lemmas.Bool.{cases_lt, false≢true, or_cases, eqb-true}
 use Rattle.std.proofs.lemmas.List.{get_or_past, length-map}
@@ -15,7 +15,6 @@ use Rattle.djq_lines.specs.declared.answer.Sign.TheVariants.{Came as HasCome, We
 use Rattle.djq_machine.specs.Delta.{Change}
 use Rattle.djq_machine.specs.Store.{most_steps}
 use Rattle.djq_tree.specs.Tree.{Tree}
-use Rattle.djq_reduct.specs.Tables.{entries_at}
 use Rattle.djq_reduct.specs.Reducts.{Reducts, SameTables}
 use Rattle.djq_cursor.specs.Listing.{IsListing}
 use Rattle.djq_cursor.specs.Changed.{IsGained}

@@ -21,7 +21,6 @@ use Rattle.std.proofs.Common.{
 }
 use Rattle.std.specs.Prelude.{Some, Contains, slice_get, slice_index}
 use Rattle.std.proofs.lemmas.Bool.{cases_eq, cases_lt}
-use Rattle.std.proofs.lemmas.List.{length-map}
 use Rattle.std.proofs.lemmas.List.Elements.{Contains-append_left}
 use Rattle.std.proofs.lemmas.Option.{slice_get_within}
 use Rattle.djq_hyper.specs.Hypergraph.{member}

@@ -75,7 +75,6 @@ abbrev pub Came : Catalog → Catalog → ℕ → List ℕ → Tuple → Type 0
 Came c d at cells row = CameAll c d at (cells ∷ []) (row ∷ [])
 
 -- a row with these cells went out of the relation at a place
--- it went out of it
 pub record Went (c d : Catalog) (at : ℕ) (cells : List ℕ) (row : Tuple) : Type 0 where
   pub later : IsLater c d
   pub stand : StandForRow d at cells row

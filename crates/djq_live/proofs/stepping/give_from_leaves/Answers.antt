@@ -10,16 +10,7 @@ use Rattle.djq_live.proofs.Below.{
   leaves_stay,
 }
 use Rattle.djq_live.proofs.Gaining.{more_both}
-use Rattle.djq_live.proofs.Passing.{
-  got,
-  on_as,
-  off_as,
-  below_end,
-  counts_over,
-  counts_past,
-  has_stay,
-  wide_stays,
-}
+use Rattle.djq_live.proofs.Passing.{got, on_as, off_as, below_end, counts_over, counts_past, has_stay}
 use Rattle.djq_live.proofs.Sizing.{counts_as, counts_fewer}
 use Rattle.djq_live.proofs.stepping.give_from_leaves.Goals as goal
 
