@@ -14,7 +14,8 @@ use Rattle.djq_lines.specs.declared.command.Command.TheVariants.{Rel, Add, Del, 
 use Rattle.djq_lines.specs.Grammar.{Reading, refused, says as says_command}
 use Rattle.djq_lines.specs.Reply.{line, answer_line, refusal_line, ok_reply, query_reply, has_reply, watch_reply, stale_line, text_of, listing_lines, bye, end_memory}
 use Rattle.djq_machine.specs.State.{Store, State, Session, Cursor, Position, open_at, stale, session_of, with_session, cursor_of, with_position, ended_by}
-use Rattle.djq_machine.specs.Stale.{by_relation, outdated_sessions, outdated_cursor}
+use Rattle.djq_machine.specs.Stale.{outdated_cursor}
+use Rattle.djq_machine.specs.Changes.{RowsChange, RowsOutcome, tried, changed}
 use Rattle.djq_machine.specs.Watch.{Telling, ChangeStep}
 use Rattle.djq_machine.specs.Store.{has_steps}
 use Rattle.djq_machine.specs.Effect.{Effect, nothing, says, EndsWith, RefusedStep}
@@ -175,11 +176,11 @@ Runs = KeepsAlike EndsByRun
 store_keeps : (old : State) (s : ℕ) (text : Bytes) (store : Store) (e : Effect) (new : State) → e ≡ says s text → new ≡ record old { store = store } → Runs old s e new
 store_keeps old s text store e new said after = (alike_same EndsByRun old.sessions new.sessions (ap (λ (st : State). st.sessions) after), alone_text s text 0 e said)
 
-outdated_alike : (queries : List Query) (outdater : Query → Option Bytes) (n : ℕ) (b : Bool) (xs : List Session) → Alike EndsByRun xs (cond b (outdated_sessions queries outdater n xs) xs)
-outdated_alike queries outdater n true xs =
-    alike_map EndsByRun (λ (x : Session). record x { cursors = map (outdated_cursor queries outdater n) x.cursors }) xs
-    (keeps_cause EndsByRun (λ (x : Session). record x { cursors = map (outdated_cursor queries outdater n) x.cursors }) (λ x. refl) (λ x. refl) (λ x. refl) (λ x. refl))
-outdated_alike queries outdater n false xs = alike_refl EndsByRun xs
+changed_alike : (old : State) (o : Option RowsChange) (store : Store) → Alike EndsByRun old.sessions (changed old o store).sessions
+changed_alike old None store = alike_refl EndsByRun old.sessions
+changed_alike old (Some change) store =
+    let f = λ (x : Session). record x { cursors = map (outdated_cursor old.store.queries change.outdater store.seq) x.cursors } in
+    alike_map EndsByRun f old.sessions (keeps_cause EndsByRun f (λ x. refl) (λ x. refl) (λ x. refl) (λ x. refl))
 
 -- The sessions stay alike as a change is told, and what is queued is queued to those that are open.
 record IsTelling (xs : List Session) (m : Telling) : Type 0 where
@@ -202,15 +203,15 @@ part_more xs m s text st there same h = record {
     by_test t false e (inl o) = inl (keeps_open t o)
     by_test t false e (inr none) = inr (flat_map-append (λ (q : ℕ × Bytes). cond (q.0 == t) q.1 []) m.queued ((s, text) ∷ []) ∙ ap₂ (λ (a b : Bytes). a ++ b) none (rw e refl))
 
-change_alike : (old : State) (s : ℕ) (name : Bytes) (rows : List Tuple) (outdates accepted : Bool) (store : Store) (reply : Bytes) (e : Effect) (new : State)
-    → ChangeStep old s name rows outdates accepted store reply e new → Runs old s e new
-change_alike old s name rows outdates accepted store reply e new h =
+change_alike : (old : State) (s : ℕ) (outcome : RowsOutcome) (store : Store) (reply : Bytes) (e : Effect) (new : State)
+    → ChangeStep old s outcome store reply e new → Runs old s e new
+change_alike old s outcome store reply e new h =
     let k = change_keeps (IsTelling old.sessions)
     (λ m t text there p. part_more old.sessions m t text m.state there (alike_refl EndsByRun m.state.sessions) p)
     (λ m t text cause may there p. part_more old.sessions m t text (with_session m.state t (ended_by cause)) there
     (alike_change EndsByRun (λ (x : Session). x.id == t) (ended_by cause) m.state.sessions (keeps_ended EndsByRun cause may)) p)
-    old s name rows outdates accepted store reply e new h
-    (record { alike = outdated_alike old.store.queries (by_relation name) store.seq outdates old.sessions; there = λ t. inr refl }) in (
+    old s outcome store reply e new h
+    (record { alike = changed_alike old (tried outcome) store; there = λ t. inr refl }) in (
       subst (λ (st : State). Alike EndsByRun old.sessions st.sessions) (sym h.state) k.alike,
       record { others = λ t ne. as_new t (k.there t) },
     )
@@ -271,8 +272,8 @@ explain_found old s (Some q) e new h = lines_keep old s (explain_lines q h.tree)
 
 command_keeps : (old : State) (s : ℕ) (x : Session) (c : Command) (e : Effect) (new : State) → CommandStep old s x c e new → Runs old s e new
 command_keeps old s x (Rel name types) e new h = store_keeps old s (ok_reply (codes "ok") h.result) h.store e new h.effect h.state
-command_keeps old s x (Add name row) e new h = change_alike old s name _ _ _ h.store _ e new h.change
-command_keeps old s x (Del name row) e new h = change_alike old s name _ _ _ h.store _ e new h.change
+command_keeps old s x (Add name row) e new h = change_alike old s _ h.store _ e new h.change
+command_keeps old s x (Del name row) e new h = change_alike old s _ h.store _ e new h.change
 command_keeps old s x (Register q) e new h = query_keeps old s q e new h
 command_keeps old s x (Open c q) e new h = open_keeps old s c q (ok_reply (codes "ok open") h.result) e new h.result h.effect h.state
 command_keeps old s x (Next c count) e new h = next_found old s c count (cursor_of x.cursors c) e new h

@@ -12,6 +12,8 @@ use Rattle.djq_model.specs.Data.{Bytes, Tuple, bytes_eq, relation_of, rows_of, r
 use Rattle.djq_model.specs.Answer.{IsAnswer}
 use Rattle.djq_model.specs.Equality.{bytes_eq-decides}
 use Rattle.djq_machine.specs.Store.{with_rows}
+use Rattle.djq_machine.specs.Stale.{reads}
+use Rattle.djq_machine.specs.Changes.{RowsChange, change_of}
 use Rattle.djq_machine.specs.Step.{SameRelations}
 use Rattle.djq_machine.specs.Gives.{Gives}
 use Rattle.djq_laws.proofs.Finding.{find_other}
@@ -117,3 +119,15 @@ unread_same rs name rows q h =
     same_within rs (with_rows rs name rows) q
     (λ k d lt row c. subst (λ (r : List Tuple). Contains r row) (sym (rows_apart rs name rows _ (apart k d lt))) c)
     (λ k d lt row c. subst (λ (r : List Tuple). Contains r row) (rows_apart rs name rows _ (apart k d lt)) c)
+
+-- A change outdates each query whose answers it may change.
+abbrev pub Spares : List Relation → RowsChange → Type 0
+Spares rs change = (q : Query) → change.outdater q ≡ None → SameAnswers rs change.after q
+
+-- So does a change of one relation.
+pub one_spares : (rs : List Relation) (name : Bytes) (rows : List Tuple) → Spares rs (change_of rs name rows)
+one_spares rs name rows q h = unread_same rs name rows q (unread (reads q name) h)
+  where
+    unread : (b : Bool) → cond b (Some name) None ≡ None → b ≡ false
+    unread true k = absurd cc
+    unread false k = refl

@@ -98,7 +98,8 @@ use Rattle.djq_machine.specs.State.{
   with_position,
   ended_by,
 }
-use Rattle.djq_machine.specs.Stale.{outdated, outdater_of, outdated_cursor, by_relation, changed}
+use Rattle.djq_machine.specs.Stale.{outdated, outdater_of, outdated_cursor}
+use Rattle.djq_machine.specs.Changes.{RowsChange, RowsOutcome, tried, changed}
 use Rattle.djq_machine.specs.Watch.{Telling, ChangeStep}
 use Rattle.djq_machine.specs.Effect.{Effect, nothing, says, EndsWith, RefusedStep, queue, queue_all}
 use Rattle.djq_machine.specs.Command.{
@@ -370,26 +371,25 @@ module _ (s : ℕ) (c : Bytes) where
     outdated_session None given finished h = h
     outdated_session (Some x) given finished h = outdated_cursors x.cursors given finished h
 
-  back_changed : (old : State) (name : Bytes) (outdates : Bool) (store : Store)
-      → Back old (changed old name outdates store)
-  back_changed old name false store given finished at = at
-  back_changed old name true store given finished at =
-      outdated_session old.store.queries (by_relation name) store.seq (session_of old s) given finished
+  back_changed : (old : State) (o : Option RowsChange) (store : Store) → Back old (changed old o store)
+  back_changed old None store given finished at = at
+  back_changed old (Some change) store given finished at =
+      outdated_session old.store.queries change.outdater store.seq (session_of old s) given finished
       (ap (λ o. position_in o c) (sym (find_mapped (λ (x : Session). x.id == s)
       (λ (x : Session). record x {
-        cursors = map (outdated_cursor old.store.queries (by_relation name) store.seq)
+        cursors = map (outdated_cursor old.store.queries change.outdater store.seq)
             x.cursors;
       }) (λ x. refl) old.sessions)) ∙ at)
 
-  back_change : (old : State) (t : ℕ) (name : Bytes) (rows : List Tuple) (outdates accepted : Bool) (store : Store)
+  back_change : (old : State) (t : ℕ) (outcome : RowsOutcome) (store : Store)
       (reply : Bytes) (e : Effect) (new : State)
-      → ChangeStep old t name rows outdates accepted store reply e new → Back old new
-  back_change old t name rows outdates accepted store reply e new h =
+      → ChangeStep old t outcome store reply e new → Back old new
+  back_change old t outcome store reply e new h =
       subst (λ (st : State). Back old st) (sym h.state)
       (change_keeps (λ (m : Telling). Back old m.state) (λ m i text there k. k)
       (λ m i text cause may there k. back_then old m.state (with_session m.state i (ended_by cause)) k
       (back_ends m.state (with_session m.state i (ended_by cause)) i cause refl))
-      old t name rows outdates accepted store reply e new h (back_changed old name outdates store))
+      old t outcome store reply e new h (back_changed old (tried outcome) store))
 
   -- the commands
   back_open : (old : State) (t : ℕ) (d q : Bytes) (r : Result ⊤ Refusal) (new : State)
@@ -479,8 +479,8 @@ module _ (s : ℕ) (c : Bytes) where
   back_command : (old : State) (t : ℕ) (x : Session) (k : Command) (e : Effect) (new : State) → AreKept old
       → ((t == s) ≡ true → is_of k ≡ false) → CommandStep old t x k e new → Back old new
   back_command old t x (Rel name types) e new kept apart h = back_store old h.store new h.state
-  back_command old t x (Add name row) e new kept apart h = back_change old t name _ _ _ h.store _ e new h.change
-  back_command old t x (Del name row) e new kept apart h = back_change old t name _ _ _ h.store _ e new h.change
+  back_command old t x (Add name row) e new kept apart h = back_change old t _ h.store _ e new h.change
+  back_command old t x (Del name row) e new kept apart h = back_change old t _ h.store _ e new h.change
   back_command old t x (Register q) e new kept apart h = back_query old t q e new h
   back_command old t x (Open d q) e new kept apart h = back_open old t d q h.result new apart h.state
   back_command old t x (Next d count) e new kept apart h = back_next old t d count (cursor_of x.cursors d) e new apart h

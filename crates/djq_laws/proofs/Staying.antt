@@ -26,7 +26,7 @@ use Rattle.djq_lines.specs.Reply.{end_memory}
 use Rattle.djq_machine.specs.State.{Store, State, Session, Cursor, Position, open_at, stale, fresh, session_of, with_session, cursor_of, ended_by}
 use Rattle.djq_machine.specs.Conditions.{OutOfMemoryWhere}
 use Rattle.djq_machine.specs.Store.{RefusedLate, RegistersAs, MakesRelation, AddsRow, AddsAs, DeletesRow, DeletesAs, RegistersQuery, DropsQuery, rel_refusal, add_refusal, delete_refusal, query_refusal, drop_refusal}
-use Rattle.djq_machine.specs.Stale.{changed}
+use Rattle.djq_machine.specs.Changes.{RowsChange, RowsOutcome, tried, changed}
 use Rattle.djq_machine.specs.Watch.{is_watching, Telling, ChangeStep}
 use Rattle.djq_machine.specs.Effect.{Effect, nothing, EndsWith, RefusedStep}
 use Rattle.djq_machine.specs.Command.{uses, OpensTo, BecomesWhere, with_cursor, with_watch, without_watch, NextStepAt, CloseStep, CommandStep, QueryStep, QueryCutStep, ExplainStep, TellsLines, explain_lines}
@@ -117,16 +117,16 @@ module _ (q : Query) (s : ℕ) (old : State) (registered : query_of old.store.qu
   same_queries : (store : Store) → store.queries ≡ old.store.queries → query_of store.queries q.name ≡ Some q
   same_queries store e = ap (λ qs. query_of qs q.name) e ∙ registered
 
-  begins : (name : Bytes) (b : Bool) (store : Store) → Watches q.name (session_of (changed old name b store) s)
-  begins name true store = watches_changed q.name old name store s watches
-  begins name false store = watches
+  begins : (o : Option RowsChange) (store : Store) → Watches q.name (session_of (changed old o store) s)
+  begins None store = watches
+  begins (Some change) store = watches_changed q.name old change store s watches
 
-  by_change : (t : ℕ) (name : Bytes) (rows : List Tuple) (outdates accepted : Bool) (store : Store) (reply : Bytes) (e : Effect) (new : State)
-      → ChangeStep old t name rows outdates accepted store reply e new → store.queries ≡ old.store.queries → Stays q s new
-  by_change t name rows outdates accepted store reply e new h same = record {
-    registered = same_queries new.store (ap (λ (st : Store). st.queries) (change_store old t name rows outdates accepted store reply e new h) ∙ same);
+  by_change : (t : ℕ) (outcome : RowsOutcome) (store : Store) (reply : Bytes) (e : Effect) (new : State)
+      → ChangeStep old t outcome store reply e new → store.queries ≡ old.store.queries → Stays q s new
+  by_change t outcome store reply e new h same = record {
+    registered = same_queries new.store (ap (λ (st : Store). st.queries) (change_store old t outcome store reply e new h) ∙ same);
     goes = subst (λ (st : State). Goes q.name st s) (sym h.state)
-        (change_keeps (λ (m : Telling). Goes q.name m.state s) (λ m i text there k. k) ends old t name rows outdates accepted store reply e new h (inl (begins name outdates store)));
+        (change_keeps (λ (m : Telling). Goes q.name m.state s) (λ m i text there k. k) ends old t outcome store reply e new h (inl (begins (tried outcome) store)));
   }
     where
       ends : (m : Telling) (i : ℕ) (text : Bytes) (cause : EndCause) → EndsByRun cause → IsOpen m.state i → Goes q.name m.state s → Goes q.name (with_session m.state i (ended_by cause)) s
@@ -243,8 +243,8 @@ module _ (q : Query) (s : ℕ) (old : State) (registered : query_of old.store.qu
   by_command : (t : ℕ) (x : Session) (c : Command) (e : Effect) (new : State) → IsOpen old t → ((t == s) ≡ true → says_command c ≡ says_command (Unwatch q.name) → ⊥)
       → CommandStep old t x c e new → Stays q s new
   by_command t x (Rel name types) e new there not_it h = by_store h.store new (same_queries h.store (relation_queries name types h.result h.store h.done)) h.state
-  by_command t x (Add name row) e new there not_it h = by_change t name _ _ _ h.store _ e new h.change (add_queries name row h.result h.store h.done)
-  by_command t x (Del name row) e new there not_it h = by_change t name _ _ _ h.store _ e new h.change (delete_queries name row h.result h.store h.done)
+  by_command t x (Add name row) e new there not_it h = by_change t _ h.store _ e new h.change (add_queries name row h.result h.store h.done)
+  by_command t x (Del name row) e new there not_it h = by_change t _ h.store _ e new h.change (delete_queries name row h.result h.store h.done)
   by_command t x (Register p) e new there not_it h = by_register t p e new there h
   by_command t x (Open c p) e new there not_it h = by_opening t c p h.result new h.state
   by_command t x (Next c count) e new there not_it h = by_next_found t c count (cursor_of x.cursors c) e new there h

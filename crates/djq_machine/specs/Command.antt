@@ -33,7 +33,7 @@ use Rattle.std.specs.Prelude.{
 }
 use Rattle.std.specs.List.{list_any}
 use Rattle.djq_model.specs.declared.query.Query.{Query}
-use Rattle.djq_model.specs.Data.{Bytes, Tuple, bytes_eq, drop_first, rows_of, without_row, query_of}
+use Rattle.djq_model.specs.Data.{Bytes, Tuple, bytes_eq, drop_first, query_of}
 use Rattle.djq_model.specs.Answer.{IsAnswer, AreDifferent}
 use Rattle.djq_lines.specs.declared.limits.TheConstants.{CURSORS, REPLY_BYTES}
 use Rattle.djq_lines.specs.declared.answer.Refusal.{Refusal}
@@ -110,7 +110,7 @@ use Rattle.djq_machine.specs.Store.{
   IsLeft,
   most_steps,
 }
-use Rattle.djq_machine.specs.Stale.{add_outdates, add_accepted, delete_outdates}
+use Rattle.djq_machine.specs.Changes.{row_in, row_out, add_outcome, delete_outcome}
 use Rattle.djq_machine.specs.Watch.{is_watching, ChangeStep}
 use Rattle.djq_machine.specs.Effect.{Effect, says, EndsWith, RefusedStep}
 
@@ -129,8 +129,8 @@ pub record AddStep (old : State) (s : ℕ) (name : Bytes) (row : Tuple) (e : Eff
   pub result : Result AddOutcome Refusal
   pub store : Store
   pub done : AddsRow old.store name row result store
-  pub change : ChangeStep old s name (rows_of old.store.relations name ++ row ∷ [])
-      (add_outdates result) (add_accepted result) store (add_reply result store.seq) e new
+  pub change : ChangeStep old s (add_outcome (row_in old.store.relations name row) result) store
+      (add_reply result store.seq) e new
 
 -- `del`: a row goes out, likewise.
 pub record DeleteStep (old : State) (s : ℕ) (name : Bytes) (row : Tuple) (e : Effect)
@@ -138,8 +138,8 @@ pub record DeleteStep (old : State) (s : ℕ) (name : Bytes) (row : Tuple) (e : 
   pub result : Result DeleteOutcome Refusal
   pub store : Store
   pub done : DeletesRow old.store name row result store
-  pub change : ChangeStep old s name (without_row (rows_of old.store.relations name) row)
-      (delete_outdates result) (delete_outdates result) store (delete_reply result store.seq) e new
+  pub change : ChangeStep old s (delete_outcome (row_out old.store.relations name row) result) store
+      (delete_reply result store.seq) e new
 
 -- `query`: a query is registered, or a rest shows why it isn't.
 pub record QueryStep (old : State) (s : ℕ) (q : Query) (e : Effect) (new : State) : Type 0 where
