@@ -18,7 +18,8 @@ use Rattle.djq_machine.specs.Stale.{outdated_cursor}
 use Rattle.djq_machine.specs.Changes.{RowsChange, RowsOutcome, tried, changed}
 use Rattle.djq_machine.specs.Watch.{Telling, ChangeStep}
 use Rattle.djq_machine.specs.Store.{has_steps}
-use Rattle.djq_machine.specs.Effect.{Effect, nothing, says, EndsWith, RefusedStep}
+use Rattle.djq_machine.specs.Keeping.{Keeping, no_line, kept_where, is_registration}
+use Rattle.djq_machine.specs.Effect.{Effect, nothing, says, answers, EndsWith, RefusedStep}
 use Rattle.djq_machine.specs.Command.{OpensTo, BecomesWhere, with_watch, without_watch, with_cursor, NextStepAt, CloseStep, CommandStep, QueryStep, QueryCutStep, ExplainStep, TellsLines, explain_lines}
 use Rattle.djq_machine.specs.LineStep.{ReadStep}
 use Rattle.djq_machine.specs.Run.{to_session, pending_in}
@@ -34,8 +35,8 @@ pub record ToOpen (s : ℕ) (e : Effect) (mid : State) : Type 0 where
 pub alone_nothing : {mid : State} (s : ℕ) (e : Effect) → e ≡ nothing → ToOpen s e mid
 alone_nothing s e h = record { others = λ t ne. inr (ap (λ (d : Effect). to_session t d.queued) h) }
 
-pub alone_text : {mid : State} (s : ℕ) (text : Bytes) (cost : ℕ) (e : Effect) → e ≡ record { queued = (s, text) ∷ []; cost = cost } → ToOpen s e mid
-alone_text s text cost e h = record { others = λ t ne. inr (ap (λ (d : Effect). to_session t d.queued) h ∙ rw ne refl) }
+pub alone_text : {mid : State} (s : ℕ) (text : Bytes) (cost : ℕ) (kept : Keeping) (e : Effect) → e ≡ record { queued = (s, text) ∷ []; cost = cost; kept = kept } → ToOpen s e mid
+alone_text s text cost kept e h = record { others = λ t ne. inr (ap (λ (d : Effect). to_session t d.queued) h ∙ rw ne refl) }
 
 -- The end cause stays, or is one of these.
 module _ (May : EndCause → Type 0) where
@@ -161,20 +162,20 @@ module _ (May : EndCause → Type 0) where
   nothing_keeps old s e new none after = (alike_state old new after, alone_nothing s e none)
 
   pub says_keeps : (old : State) (s : ℕ) (text : Bytes) (f : Session → Session) (e : Effect) (new : State) → Keeps f → e ≡ says s text → new ≡ with_session old s f → KeepsAlike old s e new
-  says_keeps old s text f e new k said after = (alike_with old new s f k after, alone_text s text 0 e said)
+  says_keeps old s text f e new k said after = (alike_with old new s f k after, alone_text s text 0 no_line e said)
 
   pub ends_keeps : (old : State) (s : ℕ) (text : Bytes) (cause : EndCause) (e : Effect) (new : State) → May cause → EndsWith text cause old s e new → KeepsAlike old s e new
   ends_keeps old s text cause e new may h = says_keeps old s text (ended_by cause) e new (keeps_ended cause may) h.0 h.1
 
   pub stays_keeps : (old : State) (s : ℕ) (text : Bytes) (e : Effect) (new : State) → e ≡ says s text → new ≡ old → KeepsAlike old s e new
-  stays_keeps old s text e new said after = (alike_state old new after, alone_text s text 0 e said)
+  stays_keeps old s text e new said after = (alike_state old new after, alone_text s text 0 no_line e said)
 
 -- A line that is read keeps the sessions alike, but for the causes by which a line ends its session.
 abbrev Runs : State → ℕ → Effect → State → Type 0
 Runs = KeepsAlike EndsByRun
 
-store_keeps : (old : State) (s : ℕ) (text : Bytes) (store : Store) (e : Effect) (new : State) → e ≡ says s text → new ≡ record old { store = store } → Runs old s e new
-store_keeps old s text store e new said after = (alike_same EndsByRun old.sessions new.sessions (ap (λ (st : State). st.sessions) after), alone_text s text 0 e said)
+store_keeps : (old : State) (s : ℕ) (text : Bytes) (test : Bool) (store : Store) (e : Effect) (new : State) → e ≡ answers s text test → new ≡ record old { store = store } → Runs old s e new
+store_keeps old s text test store e new said after = (alike_same EndsByRun old.sessions new.sessions (ap (λ (st : State). st.sessions) after), alone_text s text 0 (kept_where test) e said)
 
 changed_alike : (old : State) (o : Option RowsChange) (store : Store) → Alike EndsByRun old.sessions (changed old o store).sessions
 changed_alike old None store = alike_refl EndsByRun old.sessions
@@ -218,14 +219,14 @@ change_alike old s outcome store reply e new h =
   where
     as_new : (t : ℕ) → IsOpen h.last.state t ⊎ (to_session t h.last.queued ≡ []) → IsOpen new t ⊎ (to_session t e.queued ≡ [])
     as_new t (inl o) = inl (subst (λ (st : State). IsOpen st t) (sym h.state) o)
-    as_new t (inr none) = inr (ap (λ (d : Effect). to_session t d.queued) h.effect ∙ none)
+    as_new t (inr none) = inr (ap (λ (qs : List (ℕ × Bytes)). to_session t qs) h.queued ∙ none)
 
 next_keeps : (old : State) (s : ℕ) (c : Bytes) (q : Query) (count : ℕ) (p : Position) (e : Effect) (new : State) → NextStepAt old s c q count p e new → Runs old s e new
 next_keeps old s c q count (open_at given ended) e new (inl h) =
     let moved = λ (x : Session). record x { cursors = with_position x.cursors c (open_at (given ++ h.told) h.end) } in
-    (alike_with EndsByRun old new s moved (keeps_cause EndsByRun moved (λ x. refl) (λ x. refl) (λ x. refl) (λ x. refl)) h.state, alone_text s (text_of (listing_lines h.told h.end)) _ e h.effect)
+    (alike_with EndsByRun old new s moved (keeps_cause EndsByRun moved (λ x. refl) (λ x. refl) (λ x. refl) (λ x. refl)) h.state, alone_text s (text_of (listing_lines h.told h.end)) _ _ e h.effect)
 next_keeps old s c q count (open_at given ended) e new (inr h) =
-    (alike_with EndsByRun old new s (ended_by Memory) (keeps_ended EndsByRun Memory tt) h.state, alone_text s (text_of (map answer_line h.told) ++ end_memory) _ e h.effect)
+    (alike_with EndsByRun old new s (ended_by Memory) (keeps_ended EndsByRun Memory tt) h.state, alone_text s (text_of (map answer_line h.told) ++ end_memory) _ _ e h.effect)
 next_keeps old s c q count (stale relation n) e new h = stays_keeps EndsByRun old s (stale_line c relation n) e new h.0 h.1
 
 next_found : (old : State) (s : ℕ) (c : Bytes) (count : ℕ) (o : Option Cursor) (e : Effect) (new : State)
@@ -254,9 +255,11 @@ becomes_keeps old s text f e new (Err r) k said h = stays_keeps EndsByRun old s 
 query_keeps : (old : State) (s : ℕ) (q : Query) (e : Effect) (new : State)
     → QueryStep old s q e new ⊎ QueryCutStep old s q e new → Runs old s e new
 query_keeps old s q e new (inl h) =
-    store_keeps old s (query_reply h.result) h.store e new h.effect h.state
-query_keeps old s q e new (inr h) =
-    ends_keeps EndsByRun (record old { store = h.store }) s end_memory Memory e new tt h.ends
+    store_keeps old s (query_reply h.result) _ h.store e new h.effect h.state
+query_keeps old s q e new (inr h) = (
+  alike_with EndsByRun (record old { store = h.store }) new s (ended_by Memory) (keeps_ended EndsByRun Memory tt) h.ends.1,
+  alone_text s end_memory 0 (kept_where (is_registration h.result)) e h.ends.0,
+)
 
 lines_keep : (old : State) (s : ℕ) (lines : List Bytes) (e : Effect) (new : State)
     → TellsLines old s lines e new → Runs old s e new
@@ -271,7 +274,7 @@ explain_found old s None e new h = stays_keeps EndsByRun old s (refusal_line NoQ
 explain_found old s (Some q) e new h = lines_keep old s (explain_lines q h.tree) e new h.tells
 
 command_keeps : (old : State) (s : ℕ) (x : Session) (c : Command) (e : Effect) (new : State) → CommandStep old s x c e new → Runs old s e new
-command_keeps old s x (Rel name types) e new h = store_keeps old s (ok_reply (codes "ok") h.result) h.store e new h.effect h.state
+command_keeps old s x (Rel name types) e new h = store_keeps old s (ok_reply (codes "ok") h.result) _ h.store e new h.effect h.state
 command_keeps old s x (Add name row) e new h = change_alike old s _ h.store _ e new h.change
 command_keeps old s x (Del name row) e new h = change_alike old s _ h.store _ e new h.change
 command_keeps old s x (Register q) e new h = query_keeps old s q e new h
@@ -280,8 +283,8 @@ command_keeps old s x (Next c count) e new h = next_found old s c count (cursor_
 command_keeps old s x (Close c) e new h = close_found old s c (cursor_of x.cursors c) e new h
 command_keeps old s x Quit e new h = ends_keeps EndsByRun old s bye SaidQuit e new tt h
 command_keeps old s x Stop e new h = ends_keeps EndsByRun (record old { stopped = true }) s bye SaidStop e new tt h
-command_keeps old s x (Drop q) e new h = store_keeps old s (ok_reply (codes "ok") h.result) h.store e new h.effect h.state
-command_keeps old s x (Has q row) e new h = (alike_state EndsByRun old new h.state, alone_text s (has_reply h.result) (has_steps (query_of old.store.queries q)) e h.effect)
+command_keeps old s x (Drop q) e new h = store_keeps old s (ok_reply (codes "ok") h.result) _ h.store e new h.effect h.state
+command_keeps old s x (Has q row) e new h = (alike_state EndsByRun old new h.state, alone_text s (has_reply h.result) (has_steps (query_of old.store.queries q)) no_line e h.effect)
 command_keeps old s x (Watch q) e new h = becomes_keeps old s (watch_reply h.result old.store.seq) (with_watch q) e new h.result (keeps_cause EndsByRun (with_watch q) (λ x. refl) (λ x. refl) (λ x. refl) (λ x. refl)) h.effect h.state
 command_keeps old s x (Unwatch q) e new h = becomes_keeps old s (ok_reply (codes "ok") h.result) (without_watch q) e new h.result (keeps_cause EndsByRun (without_watch q) (λ x. refl) (λ x. refl) (λ x. refl) (λ x. refl)) h.effect h.state
 command_keeps old s x (Explain q) e new h = explain_found old s (query_of old.store.queries q) e new h

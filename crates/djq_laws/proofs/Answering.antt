@@ -13,7 +13,7 @@ use Rattle.djq_model.specs.Answer.{IsAnswer}
 use Rattle.djq_model.specs.Equality.{bytes_eq-decides}
 use Rattle.djq_machine.specs.Store.{with_rows}
 use Rattle.djq_machine.specs.Stale.{reads}
-use Rattle.djq_machine.specs.Changes.{RowsChange, change_of}
+use Rattle.djq_machine.specs.Changes.{RowsChange, new_rows}
 use Rattle.djq_machine.specs.Step.{SameRelations}
 use Rattle.djq_machine.specs.Gives.{Gives}
 use Rattle.djq_laws.proofs.Finding.{find_other}
@@ -65,11 +65,11 @@ first_step : (n : Bytes) (r : Relation) (o p : Option Relation) (b : Bool) → r
 first_step n r o p true h = refl
 first_step n r o p false h = h
 
-pub new_rows : (rs : List Relation) (name : Bytes) (types : List ColumnType) (n : Bytes)
+pub rows_of_new : (rs : List Relation) (name : Bytes) (types : List ColumnType) (n : Bytes)
     → rows_of (rs ++ record { name = name; types = types; rows = [] } ∷ []) n ≡ rows_of rs n
-new_rows [] name types n = new_step n name types (bytes_eq name n)
-new_rows (r ∷ rs) name types n =
-    first_step n r (relation_of (rs ++ record { name = name; types = types; rows = [] } ∷ []) n) (relation_of rs n) (bytes_eq r.name n) (new_rows rs name types n)
+rows_of_new [] name types n = new_step n name types (bytes_eq name n)
+rows_of_new (r ∷ rs) name types n =
+    first_step n r (relation_of (rs ++ record { name = name; types = types; rows = [] } ∷ []) n) (relation_of rs n) (bytes_eq r.name n) (rows_of_new rs name types n)
 
 rows_same : (rs rs' : List Relation) (q : Query) → ((n : Bytes) → rows_of rs' n ≡ rows_of rs n) → SameAnswers rs rs' q
 rows_same rs rs' q e = same_within rs rs' q
@@ -78,7 +78,7 @@ rows_same rs rs' q e = same_within rs rs' q
 
 pub new_relation_same : (rs : List Relation) (name : Bytes) (types : List ColumnType) (q : Query)
     → SameAnswers rs (rs ++ record { name = name; types = types; rows = [] } ∷ []) q
-new_relation_same rs name types q = rows_same rs (rs ++ record { name = name; types = types; rows = [] } ∷ []) q (new_rows rs name types)
+new_relation_same rs name types q = rows_same rs (rs ++ record { name = name; types = types; rows = [] } ∷ []) q (rows_of_new rs name types)
 
 -- The same relations with their rows in another order.
 order_step : (n : Bytes) (r s : Relation) (o p : Option Relation) (b : Bool) → bytes_eq r.name n ≡ b → s.name ≡ r.name → IsPermutation r.rows s.rows
@@ -125,7 +125,7 @@ abbrev pub Spares : List Relation → RowsChange → Type 0
 Spares rs change = (q : Query) → change.outdater q ≡ None → SameAnswers rs change.after q
 
 -- So does a change of one relation.
-pub one_spares : (rs : List Relation) (name : Bytes) (rows : List Tuple) → Spares rs (change_of rs name rows)
+pub one_spares : (rs : List Relation) (name : Bytes) (rows : List Tuple) → Spares rs (new_rows rs name rows)
 one_spares rs name rows q h = unread_same rs name rows q (unread (reads q name) h)
   where
     unread : (b : Bool) → cond b (Some name) None ≡ None → b ≡ false

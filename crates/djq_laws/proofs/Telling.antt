@@ -187,5 +187,5 @@ change_is_told q s old t change store reply e new h reading registered w running
     }
   where
     queued : (part : Bytes) → Contains h.last.queued (s, part) ⊎ IsOver h.last.state s → Contains e.queued (s, part)
-    queued part (inl c) = subst (λ (k : Effect). Contains k.queued (s, part)) (sym h.effect) c
+    queued part (inl c) = subst (λ (qs : List (ℕ × Bytes)). Contains qs (s, part)) (sym h.queued) c
     queued part (inr over) = absurd (over (ap (λ (st : State). cause_of st s) (sym h.state) ∙ running))

@@ -22,20 +22,24 @@ pub record RowsChange : Type 0 where
   -- whether it changes the rows of a relation of this name
   pub touches : Bytes → Bool
 
--- the change by which one relation has other rows
-abbrev pub change_of : List Relation → Bytes → List Tuple → RowsChange
-change_of relations name rows = record {
-  after = with_rows relations name rows;
+-- the change of one relation, with the relations behind it
+abbrev pub one_change : Bytes → List Relation → RowsChange
+one_change name after = record {
+  after = after;
   outdater = by_relation name;
   touches = λ relation. bytes_eq relation name;
 }
 
+-- the change by which one relation has other rows
+abbrev pub new_rows : List Relation → Bytes → List Tuple → RowsChange
+new_rows relations name rows = one_change name (with_rows relations name rows)
+
 -- the change by which a row comes, and that by which one goes
 abbrev pub row_in : List Relation → Bytes → Tuple → RowsChange
-row_in relations name row = change_of relations name (rows_of relations name ++ row ∷ [])
+row_in relations name row = new_rows relations name (rows_of relations name ++ row ∷ [])
 
 abbrev pub row_out : List Relation → Bytes → Tuple → RowsChange
-row_out relations name row = change_of relations name (without_row (rows_of relations name) row)
+row_out relations name row = new_rows relations name (without_row (rows_of relations name) row)
 
 -- What comes of a command that may change rows.
 pub data RowsOutcome : Type 0 where

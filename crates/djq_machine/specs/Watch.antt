@@ -118,6 +118,6 @@ pub record ChangeStep (old : State) (s : ℕ) (outcome : RowsOutcome) (store : S
       (if is_accepted outcome then deltas else []) told
   pub last : Telling
   pub replies : RepliesLast s reply told last
-  pub effect : e
-      ≡ record { queued = last.queued; cost = deltas_steps (tried outcome) deltas }
+  pub queued : e.queued ≡ last.queued
+  pub cost : e.cost ≡ deltas_steps (tried outcome) deltas
   pub state : new ≡ last.state
