@@ -1,0 +1,6 @@
+mod Rows
+mod Knowing
+mod Sameness
+mod Respecting
+mod Keeping
+mod Running

@@ -1,0 +1,13 @@
+//! Laws on the lines that a run of the join machine keeps: loaded, they give what the run left.
+//!
+//! Each function here is empty: its contract is the law.
+#![tactic(auto)]
+
+ghost use Rattle.djq_kept.specs.Kept.{KeptLinesLoad};
+
+/// The lines that a run kept, loaded into a store that follows the one it began with, are refused
+/// nowhere, and give a store that follows the one it left: the same rows in some order, the same
+/// queries and number of changes.
+pub fn kept_lines_load()
+    ensures { KeptLinesLoad }
+{}
