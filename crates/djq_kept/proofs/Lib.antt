@@ -4,3 +4,4 @@ mod Sameness
 mod Respecting
 mod Keeping
 mod Running
+mod Reloading

@@ -63,7 +63,7 @@ pub record LineRespects (b : Store) (l : Bytes) (to : Store) : Type 0 where
   pub can : (n : Store) × LoadStep b l ran n × Follows to n
   pub each : (how : Loaded) (n : Store) → LoadStep b l how n → ((how ≡ ran) × Follows to n) ⊎ (how ≡ no_memory)
 
-line_respects : (b : Store) (l : Bytes) (c : Command) (mid : Store) (rs : List Relation) → reading_of l ≡ says_command c → SameRelations mid.relations rs
+pub line_respects : (b : Store) (l : Bytes) (c : Command) (mid : Store) (rs : List Relation) → reading_of l ≡ says_command c → SameRelations mid.relations rs
     → Respects b c mid → LineRespects b l (record mid { relations = rs })
 line_respects b l c mid rs e same r = record {
   can = (
@@ -174,7 +174,7 @@ cons_rest : (x y : Bytes) (xs ys : List Bytes) → x ∷ xs ≡ y ∷ ys → xs 
 cons_rest x y xs ys e = cc
 
 -- a line more
-one_line : (from : Store) (l : Bytes) (rest : List Bytes) (mid to : Store) → LineRespects from l mid → ((b : Store) → Follows mid b → LoadsTo b rest to)
+pub one_line : (from : Store) (l : Bytes) (rest : List Bytes) (mid to : Store) → LineRespects from l mid → ((b : Store) → Follows mid b → LoadsTo b rest to)
     → LoadsTo from (l ∷ rest) to
 one_line from l rest mid to r more =
     let c = r.can in
