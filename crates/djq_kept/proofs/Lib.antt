@@ -5,3 +5,4 @@ mod Respecting
 mod Keeping
 mod Running
 mod Reloading
+mod Lines

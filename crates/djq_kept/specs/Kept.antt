@@ -1,7 +1,8 @@
 -- The lines that a run kept, loaded, give what the run left.
-use Rattle.std.specs.Prelude.{List, ◌∷◌, ◌++◌, ◌≡◌, true}
+use Rattle.std.specs.Prelude.{List, ◌∷◌, ◌++◌, ◌≡◌, ◌≤◌, true, length, All}
 use Rattle.djq_model.specs.Data.{Bytes}
 use Rattle.djq_model.specs.Known.{knows}
+use Rattle.djq_lines.specs.declared.limits.TheConstants.{LINE_BYTES}
 use Rattle.djq_machine.specs.State.{Store, State, opening}
 use Rattle.djq_machine.specs.Step.{SameRelations}
 use Rattle.djq_machine.specs.Run.{Did, Run, Group, groups_of, lines_in}
@@ -64,3 +65,13 @@ StopsReload = (found : List Bytes) (old : State) → Loads opening.store found o
     → (done : List Did) (new : State) → Run old done new
     → (whole later : List Group) → groups_of done ≡ whole ++ later
     → (at : StoodAt old done new whole) × LoadsTo opening.store (found ++ lines_in whole) at.mid.store
+
+-- a line as a session may say it
+abbrev pub IsLine : Bytes → Type 0
+IsLine l = (1 ≤ length l) × (length l ≤ LINE_BYTES)
+
+-- A group that a run keeps has a line at least, and each of its lines has a byte at least and no
+-- more than a line may have.
+abbrev pub KeptAreLines : Type 0
+KeptAreLines = (old : State) (done : List Did) (new : State) → Run old done new
+    → All (λ group. (1 ≤ length group) × All IsLine group) (groups_of done)

@@ -3,7 +3,7 @@
 //! Each function here is empty: its contract is the law.
 #![tactic(auto)]
 
-ghost use Rattle.djq_kept.specs.Kept.{KeptLinesLoad, RunsReload, StopsReload};
+ghost use Rattle.djq_kept.specs.Kept.{KeptAreLines, KeptLinesLoad, RunsReload, StopsReload};
 
 /// The lines that a run kept, loaded into a store that follows the one it began with, are refused
 /// nowhere, and give a store that follows the one it left: the same rows in some order, the same
@@ -22,4 +22,10 @@ pub fn runs_reload()
 /// give what it had where it had kept just these.
 pub fn stops_reload()
     ensures { StopsReload }
+{}
+
+/// A group that a run keeps has a line at least, and each of its lines has a byte at least and no
+/// more than a line may have.
+pub fn kept_are_lines()
+    ensures { KeptAreLines }
 {}
