@@ -15,7 +15,6 @@ pub mod Courses
 pub mod Heading
 pub mod Stopping
 pub mod Containing
-pub mod Deciding
 pub mod Adding
 pub mod Telling
 pub mod Watching

@@ -134,6 +134,7 @@ use Rattle.djq_machine.specs.Step.{
   Step,
 }
 use Rattle.djq_machine.specs.Run.{Did, Run, to_session}
+use Rattle.djq_deltas.proofs.Lists.{nothing_there, first_or_later, mapped_there, pairs_head, pairs_tail}
 use Rattle.djq_laws.specs.Sound.{AreApart, IsSoundSession, IsSoundState}
 use Rattle.djq_laws.specs.Listed.{
   ListedIsTold,
@@ -155,9 +156,7 @@ use Rattle.djq_laws.proofs.Told.{change_keeps}
 use Rattle.djq_laws.proofs.Queueing.{session_changed, session_other}
 use Rattle.djq_laws.proofs.Changing.{all_found}
 use Rattle.djq_laws.proofs.Touching.{says_to, said}
-use Rattle.djq_laws.proofs.Adding.{pairs_head, pairs_tail}
 use Rattle.djq_machine.specs.Gives.{PositionGives, CursorsGive}
-use Rattle.djq_laws.proofs.Containing.{nothing_there, first_or_later, mapped_there}
 use Rattle.djq_laws.proofs.Live.{listed}
 use Rattle.djq_laws.proofs.Giving.{opens_on, runs_give}
 use Rattle.djq_laws.proofs.Storing.{none_found}

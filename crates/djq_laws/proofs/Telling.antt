@@ -20,11 +20,12 @@ use Rattle.djq_machine.specs.Run.{Walk, to_session}
 use Rattle.djq_machine.specs.Call.{IsOpen, cause_of, cause_in}
 use Rattle.djq_machine.specs.Watch.{is_watching, affected, Delta, Telling, says_more, ends_more, watching, watcher_of, TellsWatcher, TellsSession, TellsDelta, ChangeStep}
 use Rattle.djq_machine.proofs.Walks.{walk_keeps}
+use Rattle.djq_deltas.proofs.Lists.{nothing_there, first_or_later, first_there, kept_there, mapped_there}
 use Rattle.djq_laws.proofs.Finding.{some_and, and_some}
 use Rattle.djq_laws.proofs.Queueing.{gaining, session_changed, session_other, queued_all}
 use Rattle.djq_laws.specs.Moved.{EndsByRun}
 use Rattle.djq_laws.proofs.Told.{beginning, session_keeps, delta_keeps, last_keeps}
-use Rattle.djq_laws.proofs.Containing.{nothing_there, first_or_later, first_there, kept_there, found_there, found_passes, any_there, mapped_there, mapped_from}
+use Rattle.djq_laws.proofs.Containing.{found_there, found_passes, any_there, mapped_from}
 
 -- What each thing of a walk keeps, and one thing brings about, there is behind the walk.
 walk_meets : {D L : Type 0} (May : D → L → D → Type 0) (P Q : D → Type 0) (l : L)

@@ -12,10 +12,10 @@ use Rattle.djq_model.specs.Answer.{IsAnswer, IsListing}
 use Rattle.djq_machine.specs.State.{Store, State}
 use Rattle.djq_machine.specs.Step.{Event}
 use Rattle.djq_machine.specs.Run.{Did, to_session, out}
+use Rattle.djq_deltas.proofs.Lists.{nothing_there, first_or_later, kept_there, mapped_there}
 use Rattle.djq_laws.specs.Added.{added_up}
 use Rattle.djq_laws.specs.Watched.{WatchesAlong, event_changes, number_by, numbers_along, parts_for, parts_to, AreAmong, Told, told_text, IsTold, WatchersHaveAnswers}
 use Rattle.djq_laws.proofs.Answering.{SameAnswers}
-use Rattle.djq_laws.proofs.Containing.{nothing_there, first_or_later, kept_there, mapped_there}
 use Rattle.djq_laws.proofs.Adding.{deltas_add_up}
 use Rattle.djq_laws.proofs.Watching.{StepTells, is_quiet, is_told, step_tells}
 
