@@ -2,6 +2,7 @@ pub mod Finding
 pub mod Queueing
 mod Told
 pub mod Changing
+pub mod Forms
 pub mod Alike
 pub mod Touching
 pub mod Moving

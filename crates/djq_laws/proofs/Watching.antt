@@ -1,20 +1,16 @@
 -- What a step tells a session that watches a query: how its answers changed, where it changes the rows of a relation that the query reads.
-use Rattle.std.specs.Prelude.{ℕ, List, [], ◌∷◌, ◌==◌, ◌≡◌, ◌<◌, ◌+◌, ◌++◌, ◌⊎◌, Bool, true, false, length, Option, None, Some, IsSomeAnd, MatchOption, option_map, Result, Ok, Err, ⊤}
+use Rattle.std.specs.Prelude.{ℕ, List, [], ◌∷◌, ◌==◌, ◌≡◌, ◌<◌, ◌+◌, ◌++◌, ◌⊎◌, Bool, true, false, length, Option, None, Some, MatchOption, option_map, Result, Ok, Err}
 use Rattle.std.proofs.Common.{refl, sym, ap, ◌∙◌, subst, inl, inr}
 use Rattle.std.proofs.lemmas.Bool.{eqb-true}
 use Rattle.std.proofs.lemmas.List.Elements.{All-weaker}
 use Rattle.djq_model.specs.declared.relation.Relation.{Relation}
-use Rattle.djq_model.specs.declared.relation.ColumnType.{ColumnType}
 use Rattle.djq_model.specs.declared.query.Query.{Query}
 use Rattle.djq_model.specs.Data.{Bytes, Tuple, rows_of, without_row, query_of}
 use Rattle.djq_model.specs.Answer.{IsAnswer}
 use Rattle.djq_model.specs.Known.{texts_in, all_learned}
-use Rattle.djq_lines.specs.declared.rest.QueryOutcome.{QueryOutcome}
-use Rattle.djq_lines.specs.declared.rest.QueryOutcome.TheVariants.{Registered, Cyclic, NotConnex}
 use Rattle.djq_lines.specs.declared.answer.EndCause.{EndCause}
 use Rattle.djq_lines.specs.declared.answer.EndCause.TheVariants.{Input, Memory}
 use Rattle.djq_lines.specs.declared.answer.Refusal.{Refusal}
-use Rattle.djq_lines.specs.declared.answer.Refusal.TheVariants.{NoQuery, NoCursor}
 use Rattle.djq_lines.specs.declared.answer.Sign.{Sign}
 use Rattle.djq_lines.specs.declared.answer.Sign.TheVariants.{Came, Went}
 use Rattle.djq_lines.specs.declared.answer.AddOutcome.{AddOutcome}
@@ -22,33 +18,67 @@ use Rattle.djq_lines.specs.declared.answer.AddOutcome.TheVariants.{Added, Same}
 use Rattle.djq_lines.specs.declared.answer.DeleteOutcome.{DeleteOutcome}
 use Rattle.djq_lines.specs.declared.answer.DeleteOutcome.TheVariants.{Removed, Absent}
 use Rattle.djq_lines.specs.declared.command.Command.{Command}
-use Rattle.djq_lines.specs.declared.command.Command.TheVariants.{Rel, Add, Del, Query as Register, Drop, Open, Next, Close, Has, Watch, Unwatch, Explain, Quit, Stop}
+use Rattle.djq_lines.specs.declared.command.Command.TheVariants.{Add, Del}
 use Rattle.djq_lines.specs.declared.limits.TheConstants.{SESSIONS}
 use Rattle.djq_lines.specs.Grammar.{Reading, refused, says as says_command, reading_of}
 use Rattle.djq_lines.specs.Reply.{end_memory}
-use Rattle.djq_machine.specs.State.{Store, State, Session, Cursor, Position, open_at, stale, fresh, session_of, with_session, cursor_of, ended_by}
+use Rattle.djq_machine.specs.State.{Store, State, Session, fresh, session_of, with_session, ended_by}
 use Rattle.djq_machine.specs.Conditions.{OutOfMemoryWhere}
 use Rattle.djq_machine.specs.Delta.{Change, HasChanged}
-use Rattle.djq_machine.specs.Store.{RefusedLate, RegistersAs, MakesRelation, AddsRow, AddsAs, DeletesRow, DeletesAs, RegistersQuery, DropsQuery, with_rows, rel_refusal, add_refusal, delete_refusal, query_refusal, drop_refusal}
+use Rattle.djq_machine.specs.Store.{AddsRow, AddsAs, DeletesRow, DeletesAs, with_rows, add_refusal, delete_refusal}
 use Rattle.djq_machine.specs.Stale.{reads, add_outdates, add_accepted, delete_outdates}
 use Rattle.djq_machine.specs.Watch.{is_watching, Telling, ChangeStep}
-use Rattle.djq_machine.specs.Effect.{Effect, nothing, EndsWith, RefusedStep, queue_all, queue}
-use Rattle.djq_machine.specs.Command.{OpensTo, BecomesWhere, with_cursor, with_watch, without_watch, NextStepAt, CloseStep, CommandStep, QueryStep, QueryCutStep, ExplainStep, TellsLines, explain_lines}
+use Rattle.djq_machine.specs.Effect.{Effect, nothing, EndsWith, queue_all, queue}
+use Rattle.djq_machine.specs.Command.{CommandStep}
 use Rattle.djq_machine.specs.LineStep.{LineOutcome, long, blank, slow, no_room, run, ReadStep, FrontStep, behind_line}
 use Rattle.djq_machine.specs.Step.{Event, opened, fed, stepped, took, ended, closed, FedStep, TookStep, EndedStep, Acts, with_relations, Step}
 use Rattle.djq_machine.specs.Call.{cause_of, cause_in}
 use Rattle.djq_laws.specs.Watched.{IsWatcher, line_changes, event_changes}
+use Rattle.djq_laws.specs.Form.{
+  form_of,
+  Form,
+  asking,
+  storing,
+  turning,
+  changing,
+  ending,
+  Turn,
+  Replied,
+  is_whole,
+  is_cut,
+  Stored,
+  keeps_store,
+  learns_texts,
+  makes_relation,
+  registers_query,
+  drops_query,
+  in_use,
+  DoesTurn,
+  is_turned,
+  is_refused,
+  Does,
+}
 use Rattle.djq_laws.proofs.Finding.{some_and, and_some}
+use Rattle.djq_laws.proofs.Forms.{done_of, add_refused, turned_one, command_does}
 use Rattle.djq_laws.proofs.Told.{change_keeps}
 use Rattle.djq_laws.proofs.Queueing.{session_changed, session_other, stepped_cause}
 use Rattle.djq_laws.proofs.Answering.{SameAnswers, new_relation_same, reordered_same, unread_same}
-use Rattle.djq_laws.proofs.Giving.{same_itself, done_of, add_refused, query_late, refused_store}
+use Rattle.djq_laws.proofs.Giving.{same_itself}
 use Rattle.djq_laws.proofs.Telling.{Watches, IsTheDelta, change_is_told}
 
 -- Either the answers stay, and no change was accepted but of other relations; or one was, and its delta is told.
 pub data StepTells (q : Query) (s : ℕ) (old new : Store) (queued : List (ℕ × Bytes)) (changes : Bool) : Type 0 where
   is_quiet : SameAnswers old.relations new.relations q → (new.seq ≡ old.seq) ⊎ ((new.seq ≡ old.seq + 1) × (changes ≡ false)) → StepTells q s old new queued changes
   is_told : IsTheDelta q s old.relations new.relations new.seq queued → new.seq ≡ old.seq + 1 → changes ≡ true → StepTells q s old new queued changes
+
+replied_store : (s : ℕ) (mid new : State) → Replied s mid new → new.store ≡ mid.store
+replied_store s mid new (is_whole after) = ap (λ (st : State). st.store) after
+replied_store s mid new (is_cut after) = ap (λ (st : State). st.store) after
+
+-- whether a command of a form is of rows
+abbrev is_of_rows : Form → Bool
+is_of_rows (changing c) = true
+is_of_rows _ = false
 
 -- nothing of it changes
 module _ (q : Query) (s : ℕ) (queued : List (ℕ × Bytes)) (changes : Bool) where
@@ -64,75 +94,41 @@ module _ (q : Query) (s : ℕ) (queued : List (ℕ × Bytes)) (changes : Bool) w
   one_session : (old new : State) (t : ℕ) (f : Session → Session) → new ≡ with_session old t f → StepTells q s old.store new.store queued changes
   one_session old new t f e = same_store old new (ap (λ (st : State). st.store) e)
 
-  of_store : (old : State) (store : Store) (new : State) → new ≡ record old { store = store } → StepTells q s old.store store queued changes → StepTells q s old.store new.store queued changes
-  of_store old store new after h = subst (λ (st : Store). StepTells q s old.store st queued changes) (sym (ap (λ (st : State). st.store) after)) h
-
   texts_stay : (old new : Store) → new ≡ record old { texts = new.texts } → StepTells q s old new queued changes
   texts_stay old new e = stays old new (ap (λ (st : Store). st.relations) e) (ap (λ (st : Store). st.seq) e)
 
-  relation_stays : (old : Store) (name : Bytes) (types : List ColumnType) (r : Result ⊤ Refusal) (new : Store) → MakesRelation old name types r new → StepTells q s old new queued changes
-  relation_stays old name types (Ok u) new h =
-      let e = done_of (rel_refusal old name types) u (λ _. new ≡ record old { relations = old.relations ++ record { name = name; types = types; rows = [] } ∷ [] }) (OutOfMemoryWhere ⊤) h.answer in
+  -- what a command of the store makes of it
+  stored_stays : (used : Bytes → Bool) (old new : Store) → Stored used old new → StepTells q s old new queued changes
+  stored_stays used old new (keeps_store e) =
+      stays old new (ap (λ (st : Store). st.relations) e) (ap (λ (st : Store). st.seq) e)
+  stored_stays used old new (learns_texts texts few e) =
+      stays old new (ap (λ (st : Store). st.relations) e) (ap (λ (st : Store). st.seq) e)
+  stored_stays used old new (makes_relation name types none e) =
       is_quiet
       (subst (λ (rs : List Relation). SameAnswers old.relations rs q) (sym (ap (λ (st : Store). st.relations) e)) (new_relation_same old.relations name types q))
       (inl (ap (λ (st : Store). st.seq) e))
-  relation_stays old name types (Err r) new h = stays old new (ap (λ (st : Store). st.relations) h.stays) (ap (λ (st : Store). st.seq) h.stays)
-
-  query_stays : (old : Store) (p : Query) (r : Result QueryOutcome Refusal) (new : Store) → RegistersQuery old p r new → StepTells q s old new queued changes
-  query_stays old p (Ok (Registered most)) new h =
-      let d = done_of (query_refusal old p) (Registered most) (RegistersAs old p new) (RefusedLate old p new) h.answer in
-      stays old new (ap (λ (st : Store). st.relations) d.3) (ap (λ (st : Store). st.seq) d.3)
-  query_stays old p (Ok (Cyclic rest)) new h =
-      let d = done_of (query_refusal old p) (Cyclic rest) (RegistersAs old p new) (RefusedLate old p new) h.answer in
-      stays old new (ap (λ (st : Store). st.relations) d.1) (ap (λ (st : Store). st.seq) d.1)
-  query_stays old p (Ok (NotConnex rest)) new h =
-      let d = done_of (query_refusal old p) (NotConnex rest) (RegistersAs old p new) (RefusedLate old p new) h.answer in
-      stays old new (ap (λ (st : Store). st.relations) d.1) (ap (λ (st : Store). st.seq) d.1)
-  query_stays old p (Err r) new h =
-      texts_stay old new (refused_store (query_refusal old p) r (RegistersAs old p new) (RefusedLate old p new) old new h.answer h.stays (query_late old p r new))
-
-  register_stays : (old : State) (t : ℕ) (p : Query) (e : Effect) (new : State) → QueryStep old t p e new ⊎ QueryCutStep old t p e new → StepTells q s old.store new.store queued changes
-  register_stays old t p e new (inl h) = of_store old h.store new h.state (query_stays old.store p h.result h.store h.done)
-  register_stays old t p e new (inr h) =
-      subst (λ (st : Store). StepTells q s old.store st queued changes) (sym (ap (λ (st : State). st.store) h.ends.1)) (query_stays old.store p h.result h.store h.done)
-
-  drop_stays : (old : Store) (used : Bool) (name : Bytes) (r : Result ⊤ Refusal) (new : Store) → DropsQuery old used name r new → StepTells q s old new queued changes
-  drop_stays old used name (Ok u) new h =
-      let e = done_of (drop_refusal old used name) u _ (OutOfMemoryWhere ⊥) h.answer in
+  stored_stays used old new (registers_query p none connex few e) =
       stays old new (ap (λ (st : Store). st.relations) e) (ap (λ (st : Store). st.seq) e)
-  drop_stays old used name (Err r) new h = stays old new (ap (λ (st : Store). st.relations) h.stays) (ap (λ (st : Store). st.seq) h.stays)
+  stored_stays used old new (drops_query name unused e) =
+      stays old new (ap (λ (st : Store). st.relations) e) (ap (λ (st : Store). st.seq) e)
 
-  opens_stay : (old : State) (t : ℕ) (c p : Bytes) (r : Result ⊤ Refusal) (new : State) → OpensTo old t c p new r → StepTells q s old.store new.store queued changes
-  opens_stay old t c p (Ok u) new h = one_session old new t (with_cursor c p) h
-  opens_stay old t c p (Err r) new h = same_state old new h
+  turn_stays : (old : State) (t : ℕ) (x : Session) (turn : Turn) (new : State) → DoesTurn old t x turn new
+      → StepTells q s old.store new.store queued changes
+  turn_stays old t x turn new (is_turned h) =
+      let one = turned_one old t x turn new h in one_session old new t one.change one.state
+  turn_stays old t x turn new (is_refused r) = same_store old new (replied_store t old new r)
 
-  becomes_stays : (old : State) (t : ℕ) (f : Session → Session) (r : Result ⊤ Refusal) (new : State) → BecomesWhere old t f new r → StepTells q s old.store new.store queued changes
-  becomes_stays old t f (Ok u) new h = one_session old new t f h
-  becomes_stays old t f (Err r) new h = same_state old new h
-
-  next_stays : (old : State) (t : ℕ) (c : Bytes) (p : Query) (count : ℕ) (at : Position) (e : Effect) (new : State) → NextStepAt old t c p count at e new → StepTells q s old.store new.store queued changes
-  next_stays old t c p count (open_at given end) e new (inl h) = one_session old new t _ h.state
-  next_stays old t c p count (open_at given end) e new (inr h) = one_session old new t _ h.state
-  next_stays old t c p count (stale relation n) e new h = same_state old new h.1
-
-  next_found : (old : State) (t : ℕ) (c : Bytes) (count : ℕ) (o : Option Cursor) (e : Effect) (new : State)
-      → MatchOption o (RefusedStep old t NoCursor e new) (λ k. IsSomeAnd (query_of old.store.queries k.query) (λ p. NextStepAt old t c p count k.position e new)) → StepTells q s old.store new.store queued changes
-  next_found old t c count None e new h = same_state old new h.1
-  next_found old t c count (Some k) e new h =
-      let f = some_and (query_of old.store.queries k.query) (λ p. NextStepAt old t c p count k.position e new) h in
-      next_stays old t c f.0 count k.position e new f.2
-
-  close_found : (old : State) (t : ℕ) (c : Bytes) (o : Option Cursor) (e : Effect) (new : State) → MatchOption o (RefusedStep old t NoCursor e new) (λ k. CloseStep old t c e new) → StepTells q s old.store new.store queued changes
-  close_found old t c None e new h = same_state old new h.1
-  close_found old t c (Some k) e new h = one_session old new t _ h.1
-
-  lines_stay : (old : State) (t : ℕ) (lines : List Bytes) (e : Effect) (new : State) → TellsLines old t lines e new → StepTells q s old.store new.store queued changes
-  lines_stay old t lines e new (inl h) = same_state old new h.1
-  lines_stay old t lines e new (inr (told, lacking, rest, parts, ends)) = one_session old new t _ ends.1
-
-  explain_stays : (old : State) (t : ℕ) (o : Option Query) (e : Effect) (new : State) → MatchOption o (RefusedStep old t NoQuery e new) (λ p. ExplainStep old t p e new) → StepTells q s old.store new.store queued changes
-  explain_stays old t None e new h = same_state old new h.1
-  explain_stays old t (Some p) e new h = lines_stay old t (explain_lines p h.tree) e new h.tells
+  -- A command that isn't of rows.
+  form_stays : (f : Form) (old : State) (t : ℕ) (x : Session) (e : Effect) (new : State) → is_of_rows f ≡ false
+      → Does f old t x e new → StepTells q s old.store new.store queued changes
+  form_stays asking old t x e new apart h = same_store old new (replied_store t old new h.1)
+  form_stays storing old t x e new apart h =
+      subst (λ (st : Store). StepTells q s old.store st queued changes)
+      (sym (replied_store t (record old { store = h.1.store }) new h.1.replied))
+      (stored_stays (in_use old) old.store h.1.store h.1.stored)
+  form_stays (turning turn) old t x e new apart h = turn_stays old t x turn new h.1
+  form_stays (changing c) old t x e new apart h = absurd cc
+  form_stays ending old t x e new apart h = same_store old new (ap (λ (st : State). st.store) h.1.state)
 
 -- The store behind a change is the one that the change left.
 pub change_store : (old : State) (t : ℕ) (name : Bytes) (rows : List Tuple) (outdates accepted : Bool) (store : Store) (reply : Bytes) (e : Effect) (new : State)
@@ -183,24 +179,14 @@ module _ (q : Query) (s : ℕ) (old : State) (registered : query_of old.store.qu
       stays q s e.queued (reads q name) old.store store (ap (λ (st : Store). st.relations) h.stays) (ap (λ (st : Store). st.seq) h.stays)
 
   command_tells : (t : ℕ) (x : Session) (c : Command) (e : Effect) (new : State) → cause_of new s ≡ None → CommandStep old t x c e new → StepTells q s old.store new.store e.queued (line_changes q (says_command c))
-  command_tells t x (Rel name types) e new running h = of_store q s e.queued false old h.store new h.state (relation_stays q s e.queued false old.store name types h.result h.store h.done)
   command_tells t x (Add name row) e new running h =
       subst (λ (st : Store). StepTells q s old.store st e.queued (reads q name)) (sym (change_store old t name _ _ _ h.store _ e new h.change))
       (add_tells t name row h.result h.store _ e new running h.done h.change)
   command_tells t x (Del name row) e new running h =
       subst (λ (st : Store). StepTells q s old.store st e.queued (reads q name)) (sym (change_store old t name _ _ _ h.store _ e new h.change))
       (delete_tells t name row h.result h.store _ e new running h.done h.change)
-  command_tells t x (Register p) e new running h = register_stays q s e.queued false old t p e new h
-  command_tells t x (Open c p) e new running h = opens_stay q s e.queued false old t c p h.result new h.state
-  command_tells t x (Next c count) e new running h = next_found q s e.queued false old t c count (cursor_of x.cursors c) e new h
-  command_tells t x (Close c) e new running h = close_found q s e.queued false old t c (cursor_of x.cursors c) e new h
-  command_tells t x Quit e new running h = one_session q s e.queued false old new t _ h.1
-  command_tells t x Stop e new running h = same_store q s e.queued false old new (ap (λ (st : State). st.store) h.1)
-  command_tells t x (Drop p) e new running h = of_store q s e.queued false old h.store new h.state (drop_stays q s e.queued false old.store _ p h.result h.store h.done)
-  command_tells t x (Has p row) e new running h = same_state q s e.queued false old new h.state
-  command_tells t x (Watch p) e new running h = becomes_stays q s e.queued false old t (with_watch p) h.result new h.state
-  command_tells t x (Unwatch p) e new running h = becomes_stays q s e.queued false old t (without_watch p) h.result new h.state
-  command_tells t x (Explain p) e new running h = explain_stays q s e.queued false old t (query_of old.store.queries p) e new h
+  command_tells t x c e new running h =
+      form_stays q s e.queued false (form_of c) old t x e new refl (command_does old t x c e new h)
 
   read_tells : (t : ℕ) (x : Session) (r : Reading) (e : Effect) (new : State) → cause_of new s ≡ None → ReadStep old t x r e new → StepTells q s old.store new.store e.queued (line_changes q r)
   read_tells t x (refused r) e new running h = same_state q s e.queued false old new h.1
