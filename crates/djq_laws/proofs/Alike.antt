@@ -11,8 +11,10 @@ use Rattle.djq_lines.specs.declared.answer.Refusal.TheVariants.{NoMemory}
 use Rattle.djq_lines.specs.Grammar.{Reading, refused, says as says_command}
 use Rattle.djq_lines.specs.Reply.{refusal_line}
 use Rattle.djq_machine.specs.State.{Store, State, Session, session_of, with_session, ended_by}
-use Rattle.djq_machine.specs.Stale.{by_relation, outdated_sessions, outdated_cursor}
+use Rattle.djq_machine.specs.Stale.{outdated_cursor}
+use Rattle.djq_machine.specs.Changes.{RowsChange, RowsOutcome, tried, changed}
 use Rattle.djq_machine.specs.Watch.{Telling, ChangeStep}
+use Rattle.djq_machine.specs.Keeping.{Keeping, no_line}
 use Rattle.djq_machine.specs.Effect.{Effect, nothing, says, EndsWith}
 use Rattle.djq_machine.specs.LineStep.{ReadStep}
 use Rattle.djq_machine.specs.Run.{to_session, pending_in}
@@ -50,11 +52,11 @@ pub record ToOpen (s : ℕ) (e : Effect) (mid : State) : Type 0 where
 pub alone_nothing : {mid : State} (s : ℕ) (e : Effect) → e ≡ nothing → ToOpen s e mid
 alone_nothing s e h = record { others = λ t ne. inr (ap (λ (d : Effect). to_session t d.queued) h) }
 
-pub alone_text : {mid : State} (s : ℕ) (text : Bytes) (cost : ℕ) (e : Effect) → e ≡ record { queued = (s, text) ∷ []; cost = cost } → ToOpen s e mid
-alone_text s text cost e h = record { others = λ t ne. inr (ap (λ (d : Effect). to_session t d.queued) h ∙ rw ne refl) }
+pub alone_text : {mid : State} (s : ℕ) (text : Bytes) (cost : ℕ) (kept : Keeping) (e : Effect) → e ≡ record { queued = (s, text) ∷ []; cost = cost; kept = kept } → ToOpen s e mid
+alone_text s text cost kept e h = record { others = λ t ne. inr (ap (λ (d : Effect). to_session t d.queued) h ∙ rw ne refl) }
 
 alone : {mid : State} (s : ℕ) (e : Effect) → SaysAlone s e → ToOpen s e mid
-alone s e h = alone_text s h.text h.cost e h.effect
+alone s e h = alone_text s h.text h.cost h.kept e h.effect
 
 -- The end cause stays, or is one of these.
 module _ (May : EndCause → Type 0) where
@@ -180,23 +182,23 @@ module _ (May : EndCause → Type 0) where
   nothing_keeps old s e new none after = (alike_state old new after, alone_nothing s e none)
 
   pub says_keeps : (old : State) (s : ℕ) (text : Bytes) (f : Session → Session) (e : Effect) (new : State) → Keeps f → e ≡ says s text → new ≡ with_session old s f → KeepsAlike old s e new
-  says_keeps old s text f e new k said after = (alike_with old new s f k after, alone_text s text 0 e said)
+  says_keeps old s text f e new k said after = (alike_with old new s f k after, alone_text s text 0 no_line e said)
 
   pub ends_keeps : (old : State) (s : ℕ) (text : Bytes) (cause : EndCause) (e : Effect) (new : State) → May cause → EndsWith text cause old s e new → KeepsAlike old s e new
   ends_keeps old s text cause e new may h = says_keeps old s text (ended_by cause) e new (keeps_ended cause may) h.0 h.1
 
   pub stays_keeps : (old : State) (s : ℕ) (text : Bytes) (e : Effect) (new : State) → e ≡ says s text → new ≡ old → KeepsAlike old s e new
-  stays_keeps old s text e new said after = (alike_state old new after, alone_text s text 0 e said)
+  stays_keeps old s text e new said after = (alike_state old new after, alone_text s text 0 no_line e said)
 
 -- A line that is read keeps the sessions alike, but for the causes by which a line ends its session.
 abbrev Runs : State → ℕ → Effect → State → Type 0
 Runs = KeepsAlike EndsByRun
 
-outdated_alike : (queries : List Query) (outdater : Query → Option Bytes) (n : ℕ) (b : Bool) (xs : List Session) → Alike EndsByRun xs (cond b (outdated_sessions queries outdater n xs) xs)
-outdated_alike queries outdater n true xs =
-    alike_map EndsByRun (λ (x : Session). record x { cursors = map (outdated_cursor queries outdater n) x.cursors }) xs
-    (keeps_cause EndsByRun (λ (x : Session). record x { cursors = map (outdated_cursor queries outdater n) x.cursors }) (λ x. refl) (λ x. refl) (λ x. refl) (λ x. refl))
-outdated_alike queries outdater n false xs = alike_refl EndsByRun xs
+changed_alike : (old : State) (o : Option RowsChange) (store : Store) → Alike EndsByRun old.sessions (changed old o store).sessions
+changed_alike old None store = alike_refl EndsByRun old.sessions
+changed_alike old (Some change) store =
+    let f = λ (x : Session). record x { cursors = map (outdated_cursor old.store.queries change.outdater store.seq) x.cursors } in
+    alike_map EndsByRun f old.sessions (keeps_cause EndsByRun f (λ x. refl) (λ x. refl) (λ x. refl) (λ x. refl))
 
 -- The sessions stay alike as a change is told, and what is queued is queued to those that are open.
 record IsTelling (xs : List Session) (m : Telling) : Type 0 where
@@ -219,22 +221,22 @@ part_more xs m s text st there same h = record {
     by_test t false e (inl o) = inl (keeps_open t o)
     by_test t false e (inr none) = inr (flat_map-append (λ (q : ℕ × Bytes). cond (q.0 == t) q.1 []) m.queued ((s, text) ∷ []) ∙ ap₂ (λ (a b : Bytes). a ++ b) none (rw e refl))
 
-change_alike : (old : State) (s : ℕ) (name : Bytes) (rows : List Tuple) (outdates accepted : Bool) (store : Store) (reply : Bytes) (e : Effect) (new : State)
-    → ChangeStep old s name rows outdates accepted store reply e new → Runs old s e new
-change_alike old s name rows outdates accepted store reply e new h =
+change_alike : (old : State) (s : ℕ) (outcome : RowsOutcome) (store : Store) (reply : Bytes) (e : Effect) (new : State)
+    → ChangeStep old s outcome store reply e new → Runs old s e new
+change_alike old s outcome store reply e new h =
     let k = change_keeps (IsTelling old.sessions)
     (λ m t text there p. part_more old.sessions m t text m.state there (alike_refl EndsByRun m.state.sessions) p)
     (λ m t text cause may there p. part_more old.sessions m t text (with_session m.state t (ended_by cause)) there
     (alike_change EndsByRun (λ (x : Session). x.id == t) (ended_by cause) m.state.sessions (keeps_ended EndsByRun cause may)) p)
-    old s name rows outdates accepted store reply e new h
-    (record { alike = outdated_alike old.store.queries (by_relation name) store.seq outdates old.sessions; there = λ t. inr refl }) in (
+    old s outcome store reply e new h
+    (record { alike = changed_alike old (tried outcome) store; there = λ t. inr refl }) in (
       subst (λ (st : State). Alike EndsByRun old.sessions st.sessions) (sym h.state) k.alike,
       record { others = λ t ne. as_new t (k.there t) },
     )
   where
     as_new : (t : ℕ) → IsOpen h.last.state t ⊎ (to_session t h.last.queued ≡ []) → IsOpen new t ⊎ (to_session t e.queued ≡ [])
     as_new t (inl o) = inl (subst (λ (st : State). IsOpen st t) (sym h.state) o)
-    as_new t (inr none) = inr (ap (λ (d : Effect). to_session t d.queued) h.effect ∙ none)
+    as_new t (inr none) = inr (ap (λ (qs : List (ℕ × Bytes)). to_session t qs) h.queued ∙ none)
 
 replied_alike : (s : ℕ) (mid new : State) → Replied s mid new → Alike EndsByRun mid.sessions new.sessions
 replied_alike s mid new (is_whole after) = alike_state EndsByRun mid new after
@@ -249,17 +251,17 @@ turned_alike old s x t new (is_turned h) =
     alike_with EndsByRun old new s one.change
     (keeps_cause EndsByRun one.change one.id one.pending one.held one.cause) one.state
 
-changed_alike : (old : State) (s : ℕ) (c : RowChange) (e : Effect) (new : State) → Changed old s c e new
+rows_alike : (old : State) (s : ℕ) (c : RowChange) (e : Effect) (new : State) → Changed old s c e new
     → Runs old s e new
-changed_alike old s (row_comes name row) e new h = change_alike old s name _ _ _ h.store _ e new h.change
-changed_alike old s (row_goes name row) e new h = change_alike old s name _ _ _ h.store _ e new h.change
+rows_alike old s (row_comes name row) e new h = change_alike old s _ h.store _ e new h.change
+rows_alike old s (row_goes name row) e new h = change_alike old s _ h.store _ e new h.change
 
 form_keeps : (f : Form) (old : State) (s : ℕ) (x : Session) (e : Effect) (new : State) → Does f old s x e new
     → Runs old s e new
 form_keeps asking old s x e new h = (replied_alike s old new h.1, alone s e h.0)
 form_keeps storing old s x e new h = (replied_alike s (record old { store = h.1.store }) new h.1.replied, alone s e h.0)
 form_keeps (turning t) old s x e new h = (turned_alike old s x t new h.1, alone s e h.0)
-form_keeps (changing c) old s x e new h = changed_alike old s c e new h
+form_keeps (changing c) old s x e new h = rows_alike old s c e new h
 form_keeps ending old s x e new h = (
   alike_with EndsByRun (record old { stopped = h.1.stopped }) new s (ended_by h.1.cause)
       (keeps_ended EndsByRun h.1.cause h.1.may) h.1.state,

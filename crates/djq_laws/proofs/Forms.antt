@@ -53,7 +53,8 @@ use Rattle.djq_lines.specs.Reply.{
   end_memory,
 }
 use Rattle.djq_machine.specs.State.{Store, State, Session, Cursor, Position, open_at, stale, with_session, cursor_of, with_position}
-use Rattle.djq_machine.specs.Effect.{Effect, says, RefusedStep}
+use Rattle.djq_machine.specs.Keeping.{Keeping, no_line, kept_where, is_registration}
+use Rattle.djq_machine.specs.Effect.{Effect, says, answers, RefusedStep}
 use Rattle.djq_machine.specs.Store.{
   RefusedByTexts,
   RefusedLate,
@@ -147,12 +148,15 @@ some_found (Some a) e = refl
 
 -- ---- what is said
 
-text_alone : (s : ℕ) (text : Bytes) (cost : ℕ) (e : Effect) → e ≡ record { queued = (s, text) ∷ []; cost = cost }
-    → SaysAlone s e
-text_alone s text cost e h = record { text = text; cost = cost; effect = h }
+text_alone : (s : ℕ) (text : Bytes) (cost : ℕ) (kept : Keeping) (e : Effect)
+    → e ≡ record { queued = (s, text) ∷ []; cost = cost; kept = kept } → SaysAlone s e
+text_alone s text cost kept e h = record { text = text; cost = cost; kept = kept; effect = h }
 
 says_alone : (s : ℕ) (text : Bytes) (e : Effect) → e ≡ says s text → SaysAlone s e
-says_alone s text e h = text_alone s text 0 e h
+says_alone s text e h = text_alone s text 0 no_line e h
+
+answers_alone : (s : ℕ) (text : Bytes) (test : Bool) (e : Effect) → e ≡ answers s text test → SaysAlone s e
+answers_alone s text test e h = text_alone s text 0 (kept_where test) e h
 
 -- ---- the store
 
@@ -240,20 +244,21 @@ add_refused old name row r new h = by (add_refusal old name row) h.answer h.stay
 
 -- ---- commands of the store
 
-stored_whole : (old : State) (s : ℕ) (text : Bytes) (store : Store) (e : Effect) (new : State) → e ≡ says s text
+stored_whole : (old : State) (s : ℕ) (text : Bytes) (test : Bool) (store : Store) (e : Effect) (new : State)
+    → e ≡ answers s text test
     → Stored (in_use old) old.store store → new ≡ record old { store = store } → SaysAlone s e × DoesStore old s new
-stored_whole old s text store e new said stored after = (
-  says_alone s text e said,
+stored_whole old s text test store e new said stored after = (
+  answers_alone s text test e said,
   record { store = store; stored = stored; replied = is_whole after },
 )
 
 query_does : (old : State) (s : ℕ) (q : Query) (e : Effect) (new : State)
     → QueryStep old s q e new ⊎ QueryCutStep old s q e new → SaysAlone s e × DoesStore old s new
 query_does old s q e new (inl h) =
-    stored_whole old s (query_reply h.result) h.store e new h.effect
+    stored_whole old s (query_reply h.result) _ h.store e new h.effect
     (query_stored (in_use old) old.store h.store q h.result h.done) h.state
 query_does old s q e new (inr h) = (
-  says_alone s end_memory e h.ends.0,
+  answers_alone s end_memory (is_registration h.result) e h.ends.0,
   record {
     store = h.store;
     stored = query_stored (in_use old) old.store h.store q h.result h.done;
@@ -309,7 +314,7 @@ next_at_does old s x c k q count (stale relation n) e new is over stands h = (
   is_refused (is_whole h.1),
 )
 next_at_does old s x c k q count (open_at given finished) e new is over stands (inl h) = (
-  text_alone s (text_of (listing_lines h.told h.end)) _ e h.effect,
+  text_alone s (text_of (listing_lines h.told h.end)) _ _ e h.effect,
   is_turned (record {
     cursor = k;
     is = is;
@@ -326,7 +331,7 @@ next_at_does old s x c k q count (open_at given finished) e new is over stands (
   }),
 )
 next_at_does old s x c k q count (open_at given finished) e new is over stands (inr h) = (
-  text_alone s (text_of (map answer_line h.told) ++ end_memory) _ e h.effect,
+  text_alone s (text_of (map answer_line h.told) ++ end_memory) _ _ e h.effect,
   is_refused (is_cut h.state),
 )
 
@@ -421,11 +426,11 @@ turned_one old s x (stops_watching q) new h = record {
 pub command_does : (old : State) (s : ℕ) (x : Session) (c : Command) (e : Effect) (new : State)
     → CommandStep old s x c e new → Does (form_of c) old s x e new
 command_does old s x (Rel name types) e new h =
-    stored_whole old s (ok_reply (codes "ok") h.result) h.store e new h.effect
+    stored_whole old s (ok_reply (codes "ok") h.result) _ h.store e new h.effect
     (rel_stored (in_use old) old.store h.store name types h.result h.done) h.state
 command_does old s x (Register q) e new h = query_does old s q e new h
 command_does old s x (Drop q) e new h =
-    stored_whole old s (ok_reply (codes "ok") h.result) h.store e new h.effect
+    stored_whole old s (ok_reply (codes "ok") h.result) _ h.store e new h.effect
     (drop_stored (in_use old) old.store h.store q h.result h.done) h.state
 command_does old s x (Add name row) e new h = h
 command_does old s x (Del name row) e new h = h
@@ -444,7 +449,7 @@ command_does old s x (Unwatch q) e new h = (
   unwatch_does old s x q h.result new h.state,
 )
 command_does old s x (Has q row) e new h = (
-  text_alone s (has_reply h.result) (has_steps (query_of old.store.queries q)) e h.effect,
+  text_alone s (has_reply h.result) (has_steps (query_of old.store.queries q)) no_line e h.effect,
   is_whole h.state,
 )
 command_does old s x (Explain q) e new h = explain_does old s (query_of old.store.queries q) e new h

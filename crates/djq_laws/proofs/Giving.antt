@@ -22,7 +22,8 @@ use Rattle.djq_lines.specs.Reply.{end_memory}
 use Rattle.djq_machine.specs.State.{Store, State, Session, Cursor, Position, open_at, stale, fresh, session_of, with_session, cursor_of, with_position, ended_by}
 use Rattle.djq_machine.specs.Conditions.{OutOfMemoryWhere}
 use Rattle.djq_machine.specs.Store.{AddsRow, AddsAs, DeletesRow, DeletesAs, TellsAnswers, with_rows, add_refusal, delete_refusal}
-use Rattle.djq_machine.specs.Stale.{reads, outdated, outdater_of, outdated_cursor, outdated_sessions, by_relation, add_outdates, delete_outdates, changed}
+use Rattle.djq_machine.specs.Stale.{outdated, outdater_of, outdated_cursor, outdated_sessions}
+use Rattle.djq_machine.specs.Changes.{RowsChange, RowsOutcome, row_in, row_out, add_outcome, delete_outcome, tried, changed}
 use Rattle.djq_machine.specs.Watch.{Telling, ChangeStep}
 use Rattle.djq_machine.specs.Effect.{Effect, nothing, EndsWith, queue_all, queue}
 use Rattle.djq_machine.specs.Command.{uses, with_cursor, with_watch, without_watch}
@@ -73,7 +74,7 @@ use Rattle.djq_laws.specs.Form.{
 }
 use Rattle.djq_laws.proofs.Forms.{done_of, add_refused, command_does}
 use Rattle.djq_laws.proofs.Changing.{all_changed, all_found, all_dropped, all_mapped}
-use Rattle.djq_laws.proofs.Answering.{SameAnswers, gives_kept, new_relation_same, reordered_same, unread_same, apart_from, none_or, none_pass}
+use Rattle.djq_laws.proofs.Answering.{SameAnswers, gives_kept, new_relation_same, reordered_same, Spares, one_spares, apart_from, none_or, none_pass}
 
 -- a cursor gives what it should, over these relations and queries
 abbrev pub CursorGives : List Relation → List Query → Cursor → Type 0
@@ -138,14 +139,6 @@ outdated_give rs rs' qs outdater n xs same h =
     (λ x g. all_mapped (CursorGives rs qs) (CursorGives rs' qs) (outdated_cursor qs outdater n)
     (λ c k. position_outdated rs rs' (query_of qs c.query) c.position outdater n (outdater_of qs outdater c.query) refl same k) x.cursors g) xs h
 
--- a query that a change of a relation doesn't outdate doesn't read it
-unread : (name : Bytes) (q : Query) → by_relation name q ≡ None → reads q name ≡ false
-unread name q h = at_read (reads q name) h
-  where
-    at_read : (b : Bool) → cond b (Some name) None ≡ None → b ≡ false
-    at_read true k = absurd cc
-    at_read false k = refl
-
 pub same_itself : (rs : List Relation) (q : Query) → SameAnswers rs rs q
 same_itself rs q = record { there = λ t h. h; back = λ t h. h }
 
@@ -161,44 +154,45 @@ same_gives old new e h = subst CursorsGive (sym e) h
 
 -- The commands.
 -- a change that outdates, or none
-changed_gives : (old : State) (name : Bytes) (rows : List Tuple) (texts : List Bytes) (store : Store) (new : State)
-    → store ≡ record old.store { relations = with_rows old.store.relations name rows; texts = texts; seq = old.store.seq + 1 }
-    → new ≡ changed old name true store → CursorsGive old → CursorsGive new
-changed_gives old name rows texts store new e after g =
-    subst CursorsGive (sym (after ∙ ap (λ (st : Store). changed old name true st) e))
-    (outdated_give old.store.relations (with_rows old.store.relations name rows) old.store.queries (by_relation name) (old.store.seq + 1) old.sessions
-    (λ q apart. unread_same old.store.relations name rows q (unread name q apart)) g)
+changed_gives : (old : State) (change : RowsChange) (texts : List Bytes) (store : Store) (new : State) → Spares old.store.relations change
+    → store ≡ record old.store { relations = change.after; texts = texts; seq = old.store.seq + 1 }
+    → new ≡ changed old (Some change) store → CursorsGive old → CursorsGive new
+changed_gives old change texts store new spares e after g =
+    subst CursorsGive (sym (after ∙ ap (λ (st : Store). changed old (Some change) st) e))
+    (outdated_give old.store.relations change.after old.store.queries change.outdater (old.store.seq + 1) old.sessions spares g)
 
-unchanged_gives : (old : State) (name : Bytes) (store : Store) (new : State) → store ≡ old.store → new ≡ changed old name false store → CursorsGive old → CursorsGive new
-unchanged_gives old name store new e after g = same_gives old new (after ∙ ap (λ (st : Store). record old { store = st }) e) g
+unchanged_gives : (old : State) (store : Store) (new : State) → store ≡ old.store → new ≡ changed old None store → CursorsGive old → CursorsGive new
+unchanged_gives old store new e after g = same_gives old new (after ∙ ap (λ (st : Store). record old { store = st }) e) g
 
 -- texts that become known are nothing to cursors
 texts_give : (old : State) (store : Store) (new : State) → store ≡ record old.store { texts = store.texts } → new ≡ record old { store = store } → CursorsGive old → CursorsGive new
 texts_give old store new e after g = subst CursorsGive (sym (after ∙ ap (λ (st : Store). record old { store = st }) e)) g
 
-out_of_memory_gives : (old : State) (name : Bytes) (store : Store) (new : State) → store ≡ record old.store { texts = store.texts } → new ≡ changed old name true store → CursorsGive old → CursorsGive new
-out_of_memory_gives old name store new e after g =
-    subst CursorsGive (sym (after ∙ ap (λ (st : Store). changed old name true st) e))
-    (outdated_give old.store.relations old.store.relations old.store.queries (by_relation name) old.store.seq old.sessions (λ q apart. same_itself old.store.relations q) g)
+out_of_memory_gives : (old : State) (change : RowsChange) (store : Store) (new : State) → store ≡ record old.store { texts = store.texts } → new ≡ changed old (Some change) store → CursorsGive old → CursorsGive new
+out_of_memory_gives old change store new e after g =
+    subst CursorsGive (sym (after ∙ ap (λ (st : Store). changed old (Some change) st) e))
+    (outdated_give old.store.relations old.store.relations old.store.queries change.outdater old.store.seq old.sessions (λ q apart. same_itself old.store.relations q) g)
 
-add_gives : (old : State) (name : Bytes) (row : Tuple) (r : Result AddOutcome Refusal) (store : Store) (new : State) → AddsRow old.store name row r store → new ≡ changed old name (add_outdates r) store → CursorsGive old → CursorsGive new
+add_gives : (old : State) (name : Bytes) (row : Tuple) (r : Result AddOutcome Refusal) (store : Store) (new : State) → AddsRow old.store name row r store → new ≡ changed old (tried (add_outcome (row_in old.store.relations name row) r)) store → CursorsGive old → CursorsGive new
 add_gives old name row (Ok Added) store new h after g =
     let d = done_of (add_refusal old.store name row) Added (AddsAs old.store name row store) _ h.answer in
-    changed_gives old name (rows_of old.store.relations name ++ row ∷ []) (all_learned old.store.texts (texts_in row)) store new d.2 after g
+    changed_gives old (row_in old.store.relations name row) (all_learned old.store.texts (texts_in row)) store new
+    (one_spares old.store.relations name (rows_of old.store.relations name ++ row ∷ [])) d.2 after g
 add_gives old name row (Ok Same) store new h after g =
     let d = done_of (add_refusal old.store name row) Same (AddsAs old.store name row store) _ h.answer in
-    unchanged_gives old name store new d.1 after g
-add_gives old name row (Err NoMemory) store new h after g = out_of_memory_gives old name store new (add_refused old.store name row NoMemory store h) after g
+    unchanged_gives old store new d.1 after g
+add_gives old name row (Err NoMemory) store new h after g = out_of_memory_gives old (row_in old.store.relations name row) store new (add_refused old.store name row NoMemory store h) after g
 add_gives old name row (Err r) store new h after g = texts_give old store new (add_refused old.store name row r store h) after g
 
-delete_gives : (old : State) (name : Bytes) (row : Tuple) (r : Result DeleteOutcome Refusal) (store : Store) (new : State) → DeletesRow old.store name row r store → new ≡ changed old name (delete_outdates r) store → CursorsGive old → CursorsGive new
+delete_gives : (old : State) (name : Bytes) (row : Tuple) (r : Result DeleteOutcome Refusal) (store : Store) (new : State) → DeletesRow old.store name row r store → new ≡ changed old (tried (delete_outcome (row_out old.store.relations name row) r)) store → CursorsGive old → CursorsGive new
 delete_gives old name row (Ok Removed) store new h after g =
     let d = done_of (delete_refusal old.store name row) Removed (DeletesAs old.store name row store) (OutOfMemoryWhere ⊥) h.answer in
-    changed_gives old name (without_row (rows_of old.store.relations name) row) old.store.texts store new d.1 after g
+    changed_gives old (row_out old.store.relations name row) old.store.texts store new
+    (one_spares old.store.relations name (without_row (rows_of old.store.relations name) row)) d.1 after g
 delete_gives old name row (Ok Absent) store new h after g =
     let d = done_of (delete_refusal old.store name row) Absent (DeletesAs old.store name row store) (OutOfMemoryWhere ⊥) h.answer in
-    unchanged_gives old name store new d.1 after g
-delete_gives old name row (Err r) store new h after g = unchanged_gives old name store new h.stays after g
+    unchanged_gives old store new d.1 after g
+delete_gives old name row (Err r) store new h after g = unchanged_gives old store new h.stays after g
 
 -- A query that no session uses is no cursor's.
 pub dropped_query : (qs : List Query) (name other : Bytes) → bytes_eq other name ≡ false → query_of (drop_first (λ p. bytes_eq p.name name) qs) other ≡ query_of qs other
@@ -324,19 +318,23 @@ replied_gives s mid new (is_whole after) g = same_gives mid new after g
 replied_gives s mid new (is_cut after) g = ends_gives mid s Memory new after g
 
 -- What a change tells ends sessions, and changes no cursor of the others.
-change_gives : (old : State) (s : ℕ) (name : Bytes) (rows : List Tuple) (outdates accepted : Bool) (store : Store) (reply : Bytes) (e : Effect) (new : State)
-    → ChangeStep old s name rows outdates accepted store reply e new → CursorsGive (changed old name outdates store) → CursorsGive new
-change_gives old s name rows outdates accepted store reply e new h g =
+change_gives : (old : State) (s : ℕ) (outcome : RowsOutcome) (store : Store) (reply : Bytes) (e : Effect) (new : State)
+    → ChangeStep old s outcome store reply e new → CursorsGive (changed old (tried outcome) store) → CursorsGive new
+change_gives old s outcome store reply e new h g =
     subst CursorsGive (sym h.state)
     (change_keeps (λ (m : Telling). CursorsGive m.state) (λ m t text there k. k) (λ m t text cause may there k. ends_gives m.state t cause (with_session m.state t (ended_by cause)) refl k)
-    old s name rows outdates accepted store reply e new h g)
+    old s outcome store reply e new h g)
 
 changed_rows_give : (old : State) (s : ℕ) (c : RowChange) (e : Effect) (new : State) → Changed old s c e new
     → CursorsGive old → CursorsGive new
 changed_rows_give old s (row_comes name row) e new h g =
-    change_gives old s name _ _ _ h.store _ e new h.change (add_gives old name row h.result h.store (changed old name (add_outdates h.result) h.store) h.done refl g)
+    change_gives old s _ h.store _ e new h.change
+    (add_gives old name row h.result h.store
+    (changed old (tried (add_outcome (row_in old.store.relations name row) h.result)) h.store) h.done refl g)
 changed_rows_give old s (row_goes name row) e new h g =
-    change_gives old s name _ _ _ h.store _ e new h.change (delete_gives old name row h.result h.store (changed old name (delete_outdates h.result) h.store) h.done refl g)
+    change_gives old s _ h.store _ e new h.change
+    (delete_gives old name row h.result h.store
+    (changed old (tried (delete_outcome (row_out old.store.relations name row) h.result)) h.store) h.done refl g)
 
 turn_gives : (old : State) (s : ℕ) (x : Session) (t : Turn) (new : State) → session_of old s ≡ Some x
     → DoesTurn old s x t new → CursorsGive old → CursorsGive new

@@ -83,7 +83,8 @@ use Rattle.djq_machine.specs.State.{
   with_position,
   ended_by,
 }
-use Rattle.djq_machine.specs.Stale.{outdated, outdater_of, outdated_cursor, by_relation, changed}
+use Rattle.djq_machine.specs.Stale.{outdated, outdater_of, outdated_cursor}
+use Rattle.djq_machine.specs.Changes.{RowsChange, RowsOutcome, tried, changed}
 use Rattle.djq_machine.specs.Watch.{Telling, ChangeStep}
 use Rattle.djq_machine.specs.Effect.{Effect, nothing, says, EndsWith, RefusedStep, queue, queue_all}
 use Rattle.djq_machine.specs.Command.{open_refusal, with_cursor, OpensTo, with_watch, without_watch, NextStepAt, CommandStep}
@@ -367,26 +368,25 @@ module _ (s : ℕ) (c : Bytes) where
     outdated_session None given finished h = h
     outdated_session (Some x) given finished h = outdated_cursors x.cursors given finished h
 
-  back_changed : (old : State) (name : Bytes) (outdates : Bool) (store : Store)
-      → Back old (changed old name outdates store)
-  back_changed old name false store given finished at = at
-  back_changed old name true store given finished at =
-      outdated_session old.store.queries (by_relation name) store.seq (session_of old s) given finished
+  back_changed : (old : State) (o : Option RowsChange) (store : Store) → Back old (changed old o store)
+  back_changed old None store given finished at = at
+  back_changed old (Some change) store given finished at =
+      outdated_session old.store.queries change.outdater store.seq (session_of old s) given finished
       (ap (λ o. position_in o c) (sym (find_mapped (λ (x : Session). x.id == s)
       (λ (x : Session). record x {
-        cursors = map (outdated_cursor old.store.queries (by_relation name) store.seq)
+        cursors = map (outdated_cursor old.store.queries change.outdater store.seq)
             x.cursors;
       }) (λ x. refl) old.sessions)) ∙ at)
 
-  back_change : (old : State) (t : ℕ) (name : Bytes) (rows : List Tuple) (outdates accepted : Bool) (store : Store)
+  back_change : (old : State) (t : ℕ) (outcome : RowsOutcome) (store : Store)
       (reply : Bytes) (e : Effect) (new : State)
-      → ChangeStep old t name rows outdates accepted store reply e new → Back old new
-  back_change old t name rows outdates accepted store reply e new h =
+      → ChangeStep old t outcome store reply e new → Back old new
+  back_change old t outcome store reply e new h =
       subst (λ (st : State). Back old st) (sym h.state)
       (change_keeps (λ (m : Telling). Back old m.state) (λ m i text there k. k)
       (λ m i text cause may there k. back_then old m.state (with_session m.state i (ended_by cause)) k
       (back_ends m.state (with_session m.state i (ended_by cause)) i cause refl))
-      old t name rows outdates accepted store reply e new h (back_changed old name outdates store))
+      old t outcome store reply e new h (back_changed old (tried outcome) store))
 
   -- what a turn makes of a session
   back_opens : (old : State) (t : ℕ) (d q : Bytes) (new : State) → ((t == s) ≡ true → bytes_eq d c ≡ false)
@@ -448,8 +448,8 @@ module _ (s : ℕ) (c : Bytes) where
   back_turn old t x turn new kept apart (is_refused r) = back_replied t old new r
 
   back_rows : (old : State) (t : ℕ) (k : RowChange) (e : Effect) (new : State) → Changed old t k e new → Back old new
-  back_rows old t (row_comes name row) e new h = back_change old t name _ _ _ h.store _ e new h.change
-  back_rows old t (row_goes name row) e new h = back_change old t name _ _ _ h.store _ e new h.change
+  back_rows old t (row_comes name row) e new h = back_change old t _ h.store _ e new h.change
+  back_rows old t (row_goes name row) e new h = back_change old t _ h.store _ e new h.change
 
   -- the commands
   back_form : (f : Form) (old : State) (t : ℕ) (x : Session) (e : Effect) (new : State) → AreKept old

@@ -14,16 +14,8 @@ use Rattle.djq_lines.specs.Reply.{end_memory}
 use Rattle.djq_lines.specs.Hypergraph.{edges_of, head_of}
 use Rattle.djq_machine.specs.Store.{IsFreeConnex}
 use Rattle.djq_machine.specs.State.{Store, State, Session, Cursor, Position, open_at, stale, fresh, opening, session_of, with_session, with_position, ended_by}
-use Rattle.djq_machine.specs.Stale.{
-  outdated,
-  outdater_of,
-  outdated_cursor,
-  outdated_sessions,
-  by_relation,
-  add_outdates,
-  delete_outdates,
-  changed,
-}
+use Rattle.djq_machine.specs.Stale.{outdated, outdater_of, outdated_cursor, outdated_sessions}
+use Rattle.djq_machine.specs.Changes.{RowsChange, RowsOutcome, row_in, row_out, add_outcome, delete_outcome, tried, changed}
 use Rattle.djq_machine.specs.Watch.{is_watching, Telling, ChangeStep}
 use Rattle.djq_machine.specs.Effect.{Effect, nothing, EndsWith, queue, queue_all}
 use Rattle.djq_machine.specs.Command.{uses, with_cursor, with_watch, without_watch}
@@ -239,29 +231,29 @@ outdated_sound qs outdater n x g = record {
   );
 }
 
-changed_kept : (old : State) (name : Bytes) (outdates : Bool) (store : Store) → store.queries ≡ old.store.queries
-    → IsSoundStore store → AreKept old → AreKept (changed old name outdates store)
-changed_kept old name false store same sound k = store_kept old store (record old { store = store }) same sound refl k
-changed_kept old name true store same sound k =
+changed_kept : (old : State) (o : Option RowsChange) (store : Store) → store.queries ≡ old.store.queries
+    → IsSoundStore store → AreKept old → AreKept (changed old o store)
+changed_kept old None store same sound k = store_kept old store (record old { store = store }) same sound refl k
+changed_kept old (Some change) store same sound k =
     let qs = old.store.queries in
-    let kept : All (IsSoundSession qs) (outdated_sessions qs (by_relation name) store.seq old.sessions) =
+    let kept : All (IsSoundSession qs) (outdated_sessions qs change.outdater store.seq old.sessions) =
     all_mapped (IsSoundSession qs) (IsSoundSession qs)
-    (λ (x : Session). record x { cursors = map (outdated_cursor qs (by_relation name) store.seq) x.cursors })
-    (λ x g. outdated_sound qs (by_relation name) store.seq x g) old.sessions k.1 in (
+    (λ (x : Session). record x { cursors = map (outdated_cursor qs change.outdater store.seq) x.cursors })
+    (λ x g. outdated_sound qs change.outdater store.seq x g) old.sessions k.1 in (
       sound,
       subst (λ (ps : List Query). All (IsSoundSession ps)
-          (outdated_sessions qs (by_relation name) store.seq old.sessions)) (sym same) kept,
+          (outdated_sessions qs change.outdater store.seq old.sessions)) (sym same) kept,
     )
 
-change_kept : (old : State) (s : ℕ) (name : Bytes) (rows : List Tuple) (outdates accepted : Bool) (store : Store)
+change_kept : (old : State) (s : ℕ) (outcome : RowsOutcome) (store : Store)
     (reply : Bytes) (e : Effect) (new : State)
-    → ChangeStep old s name rows outdates accepted store reply e new → AreKept (changed old name outdates store)
+    → ChangeStep old s outcome store reply e new → AreKept (changed old (tried outcome) store)
     → AreKept new
-change_kept old s name rows outdates accepted store reply e new h k =
+change_kept old s outcome store reply e new h k =
     subst AreKept (sym h.state)
     (change_keeps (λ (m : Telling). AreKept m.state) (λ m t text there g. g)
     (λ m t text cause may there g. ends_kept m.state t cause (with_session m.state t (ended_by cause)) refl g)
-    old s name rows outdates accepted store reply e new h k)
+    old s outcome store reply e new h k)
 
 -- A query that no session uses is dropped.
 not_used : (qs : List Query) (q : Bytes) (x : Session) → uses q x ≡ false → IsSoundSession qs x
@@ -389,12 +381,13 @@ turn_kept old s x t new found runs (is_refused r) k = replied_kept s old new r k
 rows_kept : (old : State) (s : ℕ) (c : RowChange) (e : Effect) (new : State) → Changed old s c e new → AreKept old
     → AreKept new
 rows_kept old s (row_comes name row) e new h k =
-    change_kept old s name _ _ _ h.store _ e new h.change
-    (changed_kept old name (add_outdates h.result) h.store (added_queries old.store name row h.result h.store h.done)
+    change_kept old s _ h.store _ e new h.change
+    (changed_kept old (tried (add_outcome (row_in old.store.relations name row) h.result)) h.store
+    (added_queries old.store name row h.result h.store h.done)
     (added_store old.store name row h.result h.store h.done k.0) k)
 rows_kept old s (row_goes name row) e new h k =
-    change_kept old s name _ _ _ h.store _ e new h.change
-    (changed_kept old name (delete_outdates h.result) h.store
+    change_kept old s _ h.store _ e new h.change
+    (changed_kept old (tried (delete_outcome (row_out old.store.relations name row) h.result)) h.store
     (deleted_queries old.store name row h.result h.store h.done)
     (deleted_store old.store name row h.result h.store h.done k.0) k)
 

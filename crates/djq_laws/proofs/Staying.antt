@@ -22,7 +22,7 @@ use Rattle.djq_lines.specs.Reply.{end_memory}
 use Rattle.djq_machine.specs.State.{Store, State, Session, Cursor, fresh, session_of, with_session, ended_by}
 use Rattle.djq_machine.specs.Conditions.{OutOfMemoryWhere}
 use Rattle.djq_machine.specs.Store.{AddsRow, AddsAs, DeletesRow, DeletesAs, add_refusal, delete_refusal}
-use Rattle.djq_machine.specs.Stale.{changed}
+use Rattle.djq_machine.specs.Changes.{RowsChange, RowsOutcome, tried, changed}
 use Rattle.djq_machine.specs.Watch.{is_watching, Telling, ChangeStep}
 use Rattle.djq_machine.specs.Effect.{Effect, nothing, EndsWith}
 use Rattle.djq_machine.specs.Command.{uses, with_cursor, with_watch, without_watch, CommandStep}
@@ -147,16 +147,16 @@ module _ (q : Query) (s : ℕ) (old : State) (registered : query_of old.store.qu
   same_queries : (store : Store) → store.queries ≡ old.store.queries → query_of store.queries q.name ≡ Some q
   same_queries store e = ap (λ qs. query_of qs q.name) e ∙ registered
 
-  begins : (name : Bytes) (b : Bool) (store : Store) → Watches q.name (session_of (changed old name b store) s)
-  begins name true store = watches_changed q.name old name store s watches
-  begins name false store = watches
+  begins : (o : Option RowsChange) (store : Store) → Watches q.name (session_of (changed old o store) s)
+  begins None store = watches
+  begins (Some change) store = watches_changed q.name old change store s watches
 
-  by_change : (t : ℕ) (name : Bytes) (rows : List Tuple) (outdates accepted : Bool) (store : Store) (reply : Bytes) (e : Effect) (new : State)
-      → ChangeStep old t name rows outdates accepted store reply e new → store.queries ≡ old.store.queries → Stays q s new
-  by_change t name rows outdates accepted store reply e new h same = record {
-    registered = same_queries new.store (ap (λ (st : Store). st.queries) (change_store old t name rows outdates accepted store reply e new h) ∙ same);
+  by_change : (t : ℕ) (outcome : RowsOutcome) (store : Store) (reply : Bytes) (e : Effect) (new : State)
+      → ChangeStep old t outcome store reply e new → store.queries ≡ old.store.queries → Stays q s new
+  by_change t outcome store reply e new h same = record {
+    registered = same_queries new.store (ap (λ (st : Store). st.queries) (change_store old t outcome store reply e new h) ∙ same);
     goes = subst (λ (st : State). Goes q.name st s) (sym h.state)
-        (change_keeps (λ (m : Telling). Goes q.name m.state s) (λ m i text there k. k) ends old t name rows outdates accepted store reply e new h (inl (begins name outdates store)));
+        (change_keeps (λ (m : Telling). Goes q.name m.state s) (λ m i text there k. k) ends old t outcome store reply e new h (inl (begins (tried outcome) store)));
   }
     where
       ends : (m : Telling) (i : ℕ) (text : Bytes) (cause : EndCause) → EndsByRun cause → IsOpen m.state i → Goes q.name m.state s → Goes q.name (with_session m.state i (ended_by cause)) s
@@ -233,9 +233,9 @@ module _ (q : Query) (s : ℕ) (old : State) (registered : query_of old.store.qu
 
   by_rows : (t : ℕ) (c : RowChange) (e : Effect) (new : State) → Changed old t c e new → Stays q s new
   by_rows t (row_comes name row) e new h =
-      by_change t name _ _ _ h.store _ e new h.change (add_queries name row h.result h.store h.done)
+      by_change t _ h.store _ e new h.change (add_queries name row h.result h.store h.done)
   by_rows t (row_goes name row) e new h =
-      by_change t name _ _ _ h.store _ e new h.change (delete_queries name row h.result h.store h.done)
+      by_change t _ h.store _ e new h.change (delete_queries name row h.result h.store h.done)
 
 by_storing : (q : Query) (s : ℕ) (old : State) → query_of old.store.queries q.name ≡ Some q
     → Watches q.name (session_of old s)

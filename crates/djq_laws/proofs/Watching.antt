@@ -1,5 +1,5 @@
 -- What a step tells a session that watches a query: how its answers changed, where it changes the rows of a relation that the query reads.
-use Rattle.std.specs.Prelude.{ℕ, List, [], ◌∷◌, ◌==◌, ◌≡◌, ◌<◌, ◌+◌, ◌++◌, ◌⊎◌, Bool, true, false, length, Option, None, Some, MatchOption, option_map, Result, Ok, Err}
+use Rattle.std.specs.Prelude.{ℕ, List, [], ◌∷◌, ◌==◌, ◌≡◌, ◌<◌, ◌+◌, ◌++◌, ◌⊎◌, Bool, true, false, length, Option, None, Some, is_some, IsSomeAnd, MatchOption, option_map, Result, Ok, Err}
 use Rattle.std.proofs.Common.{refl, sym, ap, ◌∙◌, subst, inl, inr}
 use Rattle.std.proofs.lemmas.Bool.{eqb-true}
 use Rattle.std.proofs.lemmas.List.Elements.{All-weaker}
@@ -26,14 +26,15 @@ use Rattle.djq_machine.specs.State.{Store, State, Session, fresh, session_of, wi
 use Rattle.djq_machine.specs.Conditions.{OutOfMemoryWhere}
 use Rattle.djq_machine.specs.Delta.{Change, HasChanged}
 use Rattle.djq_machine.specs.Store.{AddsRow, AddsAs, DeletesRow, DeletesAs, with_rows, add_refusal, delete_refusal}
-use Rattle.djq_machine.specs.Stale.{reads, add_outdates, add_accepted, delete_outdates}
+use Rattle.djq_machine.specs.Stale.{by_relation}
+use Rattle.djq_machine.specs.Changes.{RowsChange, RowsOutcome, accepted, is_outdated, row_in, row_out, add_outcome, delete_outcome}
 use Rattle.djq_machine.specs.Watch.{is_watching, Telling, ChangeStep}
 use Rattle.djq_machine.specs.Effect.{Effect, nothing, EndsWith, queue_all, queue}
 use Rattle.djq_machine.specs.Command.{CommandStep}
 use Rattle.djq_machine.specs.LineStep.{LineOutcome, long, blank, slow, no_room, run, ReadStep, FrontStep, behind_line}
 use Rattle.djq_machine.specs.Step.{Event, opened, fed, stepped, took, ended, closed, FedStep, TookStep, EndedStep, Acts, with_relations, Step}
 use Rattle.djq_machine.specs.Call.{cause_of, cause_in}
-use Rattle.djq_laws.specs.Watched.{IsWatcher, line_changes, event_changes}
+use Rattle.djq_laws.specs.Watched.{IsWatcher, line_outdater, event_changes}
 use Rattle.djq_laws.specs.Form.{
   form_of,
   Form,
@@ -62,7 +63,7 @@ use Rattle.djq_laws.proofs.Finding.{some_and, and_some}
 use Rattle.djq_laws.proofs.Forms.{done_of, add_refused, turned_one, command_does}
 use Rattle.djq_laws.proofs.Told.{change_keeps}
 use Rattle.djq_laws.proofs.Queueing.{session_changed, session_other, stepped_cause}
-use Rattle.djq_laws.proofs.Answering.{SameAnswers, new_relation_same, reordered_same, unread_same}
+use Rattle.djq_laws.proofs.Answering.{SameAnswers, new_relation_same, reordered_same, Spares, one_spares}
 use Rattle.djq_laws.proofs.Giving.{same_itself}
 use Rattle.djq_laws.proofs.Telling.{Watches, IsTheDelta, change_is_told}
 
@@ -131,67 +132,69 @@ module _ (q : Query) (s : ℕ) (queued : List (ℕ × Bytes)) (changes : Bool) w
   form_stays ending old t x e new apart h = same_store old new (ap (λ (st : State). st.store) h.1.state)
 
 -- The store behind a change is the one that the change left.
-pub change_store : (old : State) (t : ℕ) (name : Bytes) (rows : List Tuple) (outdates accepted : Bool) (store : Store) (reply : Bytes) (e : Effect) (new : State)
-    → ChangeStep old t name rows outdates accepted store reply e new → new.store ≡ store
-change_store old t name rows outdates accepted store reply e new h =
+pub change_store : (old : State) (t : ℕ) (outcome : RowsOutcome) (store : Store) (reply : Bytes) (e : Effect) (new : State)
+    → ChangeStep old t outcome store reply e new → new.store ≡ store
+change_store old t outcome store reply e new h =
     ap (λ (st : State). st.store) h.state
-    ∙ change_keeps (λ (m : Telling). m.state.store ≡ store) (λ m i text there k. k) (λ m i text cause may there k. k) old t name rows outdates accepted store reply e new h refl
+    ∙ change_keeps (λ (m : Telling). m.state.store ≡ store) (λ m i text there k. k) (λ m i text cause may there k. k) old t outcome store reply e new h refl
 
 -- of one that goes on and watches
 module _ (q : Query) (s : ℕ) (old : State) (registered : query_of old.store.queries q.name ≡ Some q) (watches : Watches q.name (session_of old s)) where
-  accepted_tells : (t : ℕ) (name : Bytes) (rows : List Tuple) (texts : List Bytes) (store : Store) (reply : Bytes) (e : Effect) (new : State) → cause_of new s ≡ None
-      → store ≡ record old.store { relations = with_rows old.store.relations name rows; texts = texts; seq = old.store.seq + 1 }
-      → ChangeStep old t name rows true true store reply e new → StepTells q s old.store store e.queued (reads q name)
-  accepted_tells t name rows texts store reply e new running after h = step (reads q name) refl
+  accepted_tells : (t : ℕ) (change : RowsChange) (texts : List Bytes) (store : Store) (reply : Bytes) (e : Effect) (new : State) → cause_of new s ≡ None
+      → Spares old.store.relations change → store ≡ record old.store { relations = change.after; texts = texts; seq = old.store.seq + 1 }
+      → ChangeStep old t (accepted change) store reply e new → StepTells q s old.store store e.queued (is_outdated change q)
+  accepted_tells t change texts store reply e new running spares after h = step (change.outdater q) refl
     where
-      relations : store.relations ≡ with_rows old.store.relations name rows
+      relations : store.relations ≡ change.after
       relations = ap (λ (st : Store). st.relations) after
 
-      step : (b : Bool) → reads q name ≡ b → StepTells q s old.store store e.queued b
-      step true k =
+      step : (o : Option Bytes) → change.outdater q ≡ o → StepTells q s old.store store e.queued (is_some o)
+      step (Some relation) k =
           is_told (subst (λ (rs : List Relation). IsTheDelta q s old.store.relations rs store.seq e.queued) (sym relations)
-          (change_is_told q s old t name rows store reply e new h k registered watches running)) (ap (λ (st : Store). st.seq) after) refl
-      step false k =
-          is_quiet (subst (λ (rs : List Relation). SameAnswers old.store.relations rs q) (sym relations) (unread_same old.store.relations name rows q k))
+          (change_is_told q s old t change store reply e new h (ap is_some k) registered watches running)) (ap (λ (st : Store). st.seq) after) refl
+      step None k =
+          is_quiet (subst (λ (rs : List Relation). SameAnswers old.store.relations rs q) (sym relations) (spares q k))
           (inr (ap (λ (st : Store). st.seq) after, refl))
 
   add_tells : (t : ℕ) (name : Bytes) (row : Tuple) (r : Result AddOutcome Refusal) (store : Store) (reply : Bytes) (e : Effect) (new : State) → cause_of new s ≡ None
-      → AddsRow old.store name row r store → ChangeStep old t name (rows_of old.store.relations name ++ row ∷ []) (add_outdates r) (add_accepted r) store reply e new
-      → StepTells q s old.store store e.queued (reads q name)
+      → AddsRow old.store name row r store → ChangeStep old t (add_outcome (row_in old.store.relations name row) r) store reply e new
+      → StepTells q s old.store store e.queued (is_some (by_relation name q))
   add_tells t name row (Ok Added) store reply e new running h c =
       let d = done_of (add_refusal old.store name row) Added (AddsAs old.store name row store) _ h.answer in
-      accepted_tells t name (rows_of old.store.relations name ++ row ∷ []) (all_learned old.store.texts (texts_in row)) store reply e new running d.2 c
+      accepted_tells t (row_in old.store.relations name row) (all_learned old.store.texts (texts_in row)) store reply e new running
+      (one_spares old.store.relations name (rows_of old.store.relations name ++ row ∷ [])) d.2 c
   add_tells t name row (Ok Same) store reply e new running h c =
       let d = done_of (add_refusal old.store name row) Same (AddsAs old.store name row store) _ h.answer in
-      stays q s e.queued (reads q name) old.store store (ap (λ (st : Store). st.relations) d.1) (ap (λ (st : Store). st.seq) d.1)
-  add_tells t name row (Err r) store reply e new running h c = texts_stay q s e.queued (reads q name) old.store store (add_refused old.store name row r store h)
+      stays q s e.queued (is_some (by_relation name q)) old.store store (ap (λ (st : Store). st.relations) d.1) (ap (λ (st : Store). st.seq) d.1)
+  add_tells t name row (Err r) store reply e new running h c = texts_stay q s e.queued (is_some (by_relation name q)) old.store store (add_refused old.store name row r store h)
 
   delete_tells : (t : ℕ) (name : Bytes) (row : Tuple) (r : Result DeleteOutcome Refusal) (store : Store) (reply : Bytes) (e : Effect) (new : State) → cause_of new s ≡ None
-      → DeletesRow old.store name row r store → ChangeStep old t name (without_row (rows_of old.store.relations name) row) (delete_outdates r) (delete_outdates r) store reply e new
-      → StepTells q s old.store store e.queued (reads q name)
+      → DeletesRow old.store name row r store → ChangeStep old t (delete_outcome (row_out old.store.relations name row) r) store reply e new
+      → StepTells q s old.store store e.queued (is_some (by_relation name q))
   delete_tells t name row (Ok Removed) store reply e new running h c =
       let d = done_of (delete_refusal old.store name row) Removed (DeletesAs old.store name row store) (OutOfMemoryWhere ⊥) h.answer in
-      accepted_tells t name (without_row (rows_of old.store.relations name) row) old.store.texts store reply e new running d.1 c
+      accepted_tells t (row_out old.store.relations name row) old.store.texts store reply e new running
+      (one_spares old.store.relations name (without_row (rows_of old.store.relations name) row)) d.1 c
   delete_tells t name row (Ok Absent) store reply e new running h c =
       let d = done_of (delete_refusal old.store name row) Absent (DeletesAs old.store name row store) (OutOfMemoryWhere ⊥) h.answer in
-      stays q s e.queued (reads q name) old.store store (ap (λ (st : Store). st.relations) d.1) (ap (λ (st : Store). st.seq) d.1)
+      stays q s e.queued (is_some (by_relation name q)) old.store store (ap (λ (st : Store). st.relations) d.1) (ap (λ (st : Store). st.seq) d.1)
   delete_tells t name row (Err r) store reply e new running h c =
-      stays q s e.queued (reads q name) old.store store (ap (λ (st : Store). st.relations) h.stays) (ap (λ (st : Store). st.seq) h.stays)
+      stays q s e.queued (is_some (by_relation name q)) old.store store (ap (λ (st : Store). st.relations) h.stays) (ap (λ (st : Store). st.seq) h.stays)
 
-  command_tells : (t : ℕ) (x : Session) (c : Command) (e : Effect) (new : State) → cause_of new s ≡ None → CommandStep old t x c e new → StepTells q s old.store new.store e.queued (line_changes q (says_command c))
+  command_tells : (t : ℕ) (x : Session) (c : Command) (e : Effect) (new : State) → cause_of new s ≡ None → CommandStep old t x c e new → StepTells q s old.store new.store e.queued (is_some (line_outdater old t (says_command c) q))
   command_tells t x (Add name row) e new running h =
-      subst (λ (st : Store). StepTells q s old.store st e.queued (reads q name)) (sym (change_store old t name _ _ _ h.store _ e new h.change))
+      subst (λ (st : Store). StepTells q s old.store st e.queued (is_some (by_relation name q))) (sym (change_store old t _ h.store _ e new h.change))
       (add_tells t name row h.result h.store _ e new running h.done h.change)
   command_tells t x (Del name row) e new running h =
-      subst (λ (st : Store). StepTells q s old.store st e.queued (reads q name)) (sym (change_store old t name _ _ _ h.store _ e new h.change))
+      subst (λ (st : Store). StepTells q s old.store st e.queued (is_some (by_relation name q))) (sym (change_store old t _ h.store _ e new h.change))
       (delete_tells t name row h.result h.store _ e new running h.done h.change)
   command_tells t x c e new running h =
       form_stays q s e.queued false (form_of c) old t x e new refl (command_does old t x c e new h)
 
-  read_tells : (t : ℕ) (x : Session) (r : Reading) (e : Effect) (new : State) → cause_of new s ≡ None → ReadStep old t x r e new → StepTells q s old.store new.store e.queued (line_changes q r)
+  read_tells : (t : ℕ) (x : Session) (r : Reading) (e : Effect) (new : State) → cause_of new s ≡ None → ReadStep old t x r e new → StepTells q s old.store new.store e.queued (is_some (line_outdater old t r q))
   read_tells t x (refused r) e new running h = same_state q s e.queued false old new h.1
   read_tells t x (says_command c) e new running (true, h) = command_tells t x c e new running h
-  read_tells t x (says_command c) e new running (false, h) = same_state q s e.queued (line_changes q (says_command c)) old new h.1.1
+  read_tells t x (says_command c) e new running (false, h) = same_state q s e.queued (is_some (line_outdater old t (says_command c) q)) old new h.1.1
 
 -- a line that is taken changes no watches
 line_watches : (q : Bytes) (old : State) (t : ℕ) (rest : Bytes) (s : ℕ) (b : Bool) → (t == s) ≡ b → Watches q (session_of old s) → Watches q (session_of (with_session old t (behind_line rest)) s)
@@ -204,15 +207,23 @@ line_watches q old t rest s true e w =
 line_watches q old t rest s false e w =
     subst (λ (o : Option Session). Watches q o) (sym (session_other old t s (behind_line rest) (λ x. refl) e)) w
 
+-- what a line is to change hangs on the line alone
+line_alike : (q : Query) (t : ℕ) (a b : State) (r : Reading) → line_outdater a t r q ≡ line_outdater b t r q
+line_alike q t a b (says_command (Add name row)) = refl
+line_alike q t a b (says_command (Del name row)) = refl
+line_alike q t a b _ = refl
+
 front_tells : (q : Query) (s : ℕ) (old : State) → query_of old.store.queries q.name ≡ Some q → Watches q.name (session_of old s)
-    → (t : ℕ) (x : Session) (outcome : LineOutcome) (e : Effect) (new : State) → cause_of new s ≡ None → FrontStep old t x outcome e new → StepTells q s old.store new.store e.queued (event_changes q (stepped t outcome))
+    → (t : ℕ) (x : Session) (outcome : LineOutcome) (e : Effect) (new : State) → cause_of new s ≡ None → FrontStep old t x outcome e new → StepTells q s old.store new.store e.queued (event_changes q old (stepped t outcome))
 front_tells q s old registered watches t x long e new running h = one_session q s e.queued false old new t _ h.1.1
 front_tells q s old registered watches t x (blank l) e new running h = one_session q s e.queued false old new t _ h.1.then.1
 front_tells q s old registered watches t x (slow l) e new running h = same_store q s e.queued false old new (ap (λ (st : State). st.store) h.2.then.1)
 front_tells q s old registered watches t x (no_room l) e new running h = same_store q s e.queued false old new (ap (λ (st : State). st.store) h.2.then.1)
 front_tells q s old registered watches t x (run l) e new running h =
-    read_tells q s (with_session old t (behind_line h.2.rest)) registered (line_watches q.name old t h.2.rest s (t == s) refl watches)
-    t (behind_line h.2.rest x) (reading_of l) e new running h.2.then
+    let taken = with_session old t (behind_line h.2.rest) in
+    subst (λ (o : Option Bytes). StepTells q s old.store new.store e.queued (is_some o)) (line_alike q t taken old (reading_of l))
+    (read_tells q s taken registered (line_watches q.name old t h.2.rest s (t == s) refl watches)
+    t (behind_line h.2.rest x) (reading_of l) e new running h.2.then)
 
 -- the events
 fed_stays : (q : Query) (s : ℕ) (old : State) (t : ℕ) (bytes : Bytes) (e : Effect) (mid : State) (c : Option EndCause)
@@ -235,7 +246,7 @@ opened_stays q s old t e mid (inl h) = same_store q s e.queued false old mid (ap
 opened_stays q s old t e mid (inr h) = same_state q s e.queued false old mid h
 
 acts_tell : (q : Query) (s : ℕ) (old : State) → query_of old.store.queries q.name ≡ Some q → Watches q.name (session_of old s)
-    → (event : Event) (e : Effect) (mid : State) → cause_of mid s ≡ None → Acts old event e mid → StepTells q s old.store mid.store e.queued (event_changes q event)
+    → (event : Event) (e : Effect) (mid : State) → cause_of mid s ≡ None → Acts old event e mid → StepTells q s old.store mid.store e.queued (event_changes q old event)
 acts_tell q s old registered watches (opened t) e mid running h = opened_stays q s old t e mid h.2
 acts_tell q s old registered watches (fed t bytes) e mid running h =
     let f = some_and (session_of old t) (λ x. FedStep old t bytes x e mid) h in
@@ -285,7 +296,7 @@ queued_store st [] = refl
 queued_store st (p ∷ ps) = queued_store (queue st p) ps
 
 pub step_tells : (q : Query) (s : ℕ) (old : State) (event : Event) (e : Effect) (new : State) → Step old event e new → IsWatcher q s old → IsWatcher q s new
-    → StepTells q s old.store new.store e.queued (event_changes q event)
+    → StepTells q s old.store new.store e.queued (event_changes q old event)
 step_tells q s old event e new h before behind =
     let f = some_and (session_of old s) (λ x. (x.cause ≡ None) × (is_watching q.name x ≡ true)) before.watches in
     let g = some_and (session_of new s) (λ x. (x.cause ≡ None) × (is_watching q.name x ≡ true)) behind.watches in
@@ -294,5 +305,5 @@ step_tells q s old event e new h before behind =
     let mid = h.mid in
     let acted = acts_tell q s old before.registered watches event e mid running h.acts in
     let now : new.store ≡ record mid.store { relations = h.relations } = ap (λ (st : State). st.store) h.queued ∙ queued_store (with_relations mid h.relations) e.queued in
-    subst (λ (st : Store). StepTells q s old.store st e.queued (event_changes q event)) (sym now)
-    (reordered_tells q s old.store mid.store h.relations e.queued (event_changes q event) (reordered_same mid.store.relations h.relations q h.reordered) acted)
+    subst (λ (st : Store). StepTells q s old.store st e.queued (event_changes q old event)) (sym now)
+    (reordered_tells q s old.store mid.store h.relations e.queued (event_changes q old event) (reordered_same mid.store.relations h.relations q h.reordered) acted)

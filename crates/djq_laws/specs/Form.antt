@@ -43,6 +43,7 @@ use Rattle.djq_lines.specs.declared.command.Command.TheVariants.{
 use Rattle.djq_lines.specs.Hypergraph.{edges_of, head_of}
 use Rattle.djq_lines.specs.Variables.{constants_of}
 use Rattle.djq_machine.specs.State.{Store, Session, Cursor, open_at, State, with_session, cursor_of, with_position, ended_by}
+use Rattle.djq_machine.specs.Keeping.{Keeping}
 use Rattle.djq_machine.specs.Effect.{Effect}
 use Rattle.djq_machine.specs.Store.{IsFreeConnex, TellsAnswers}
 use Rattle.djq_machine.specs.Command.{
@@ -104,7 +105,8 @@ form_of Stop = ending
 pub record SaysAlone (s : ℕ) (e : Effect) : Type 0 where
   pub text : Bytes
   pub cost : ℕ
-  pub effect : e ≡ record { queued = (s, text) ∷ []; cost = cost }
+  pub kept : Keeping
+  pub effect : e ≡ record { queued = (s, text) ∷ []; cost = cost; kept = kept }
 
 -- A state stays as a reply is told; or the session ends, out of memory, in the midst of its reply.
 pub data Replied (s : ℕ) (mid new : State) : Type 0 where
