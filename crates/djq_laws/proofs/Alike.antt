@@ -1,10 +1,9 @@
 -- What a line does to the sessions: each keeps its id, its bytes, and its end cause unless the line ends it.
 use Rattle.std.specs.Prelude.{ℕ, List, [], ◌∷◌, ◌==◌, ◌≡◌, ◌++◌, ◌⊎◌, Bool, true, false, cond, Option, None, Some, IsSome, IsSomeAnd, find, map}
 use Rattle.std.proofs.Common.{refl, sym, ap, ap₂, ◌∙◌, subst, inl, inr}
-use Rattle.djq_model.specs.declared.query.Query.{Query}
 use Rattle.std.proofs.lemmas.Bool.{eqb-true}
 use Rattle.std.proofs.lemmas.Grind.{flat_map-append}
-use Rattle.djq_model.specs.Data.{Bytes, Tuple, change_first}
+use Rattle.djq_model.specs.Data.{Bytes, change_first}
 use Rattle.djq_lines.specs.declared.answer.EndCause.{EndCause}
 use Rattle.djq_lines.specs.declared.answer.EndCause.TheVariants.{Memory}
 use Rattle.djq_lines.specs.declared.answer.Refusal.TheVariants.{NoMemory}
@@ -20,29 +19,9 @@ use Rattle.djq_machine.specs.LineStep.{ReadStep}
 use Rattle.djq_machine.specs.Run.{to_session, pending_in}
 use Rattle.djq_machine.specs.Call.{IsOpen, cause_in, held_in}
 use Rattle.djq_laws.specs.Moved.{EndsByRun}
-use Rattle.djq_laws.specs.Form.{
-  form_of,
-  Form,
-  asking,
-  storing,
-  turning,
-  changing,
-  ending,
-  Turn,
-  RowChange,
-  row_comes,
-  row_goes,
-  SaysAlone,
-  Replied,
-  is_whole,
-  is_cut,
-  Changed,
-  DoesTurn,
-  is_turned,
-  is_refused,
-  Does,
-}
+use Rattle.djq_laws.specs.Form.{form_of, Form, asking, storing, turning, changing, ending, Turn, SaysAlone, Replied, is_whole, is_cut, DoesTurn, is_turned, is_refused, Does}
 use Rattle.djq_laws.proofs.Forms.{turned_one, command_does}
+use Rattle.djq_laws.proofs.Rows.{rows_do}
 use Rattle.djq_laws.proofs.Told.{change_keeps}
 
 -- What is queued to another session is queued to one that is open.
@@ -251,17 +230,13 @@ turned_alike old s x t new (is_turned h) =
     alike_with EndsByRun old new s one.change
     (keeps_cause EndsByRun one.change one.id one.pending one.held one.cause) one.state
 
-rows_alike : (old : State) (s : ℕ) (c : RowChange) (e : Effect) (new : State) → Changed old s c e new
-    → Runs old s e new
-rows_alike old s (row_comes name row) e new h = change_alike old s _ h.store _ e new h.change
-rows_alike old s (row_goes name row) e new h = change_alike old s _ h.store _ e new h.change
-
 form_keeps : (f : Form) (old : State) (s : ℕ) (x : Session) (e : Effect) (new : State) → Does f old s x e new
     → Runs old s e new
 form_keeps asking old s x e new h = (replied_alike s old new h.1, alone s e h.0)
 form_keeps storing old s x e new h = (replied_alike s (record old { store = h.1.store }) new h.1.replied, alone s e h.0)
 form_keeps (turning t) old s x e new h = (turned_alike old s x t new h.1, alone s e h.0)
-form_keeps (changing c) old s x e new h = rows_alike old s c e new h
+form_keeps (changing c) old s x e new h =
+    let d = rows_do old s c e new h in change_alike old s d.outcome d.store d.reply e new d.change
 form_keeps ending old s x e new h = (
   alike_with EndsByRun (record old { stopped = h.1.stopped }) new s (ended_by h.1.cause)
       (keeps_ended EndsByRun h.1.cause h.1.may) h.1.state,

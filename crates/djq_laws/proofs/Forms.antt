@@ -1,14 +1,44 @@
 -- Each command does what its form says.
-use Rattle.std.specs.Prelude.{ℕ, List, [], ◌∷◌, ◌≡◌, ◌⊎◌, ◌++◌, Bool, true, false, cond, length, nat_le, nat_lt, Option, None, Some, is_some, is_none, IsSome, IsSomeAnd, MatchOption, codes, map, Result, Ok, Err, ⊤}
+use Rattle.std.specs.Prelude.{
+  ℕ,
+  List,
+  [],
+  ◌∷◌,
+  ◌≡◌,
+  ◌≤◌,
+  ◌⊎◌,
+  ◌++◌,
+  Bool,
+  true,
+  false,
+  cond,
+  length,
+  nat_le,
+  nat_lt,
+  Option,
+  None,
+  Some,
+  is_some,
+  is_none,
+  IsSome,
+  IsSomeAnd,
+  MatchOption,
+  codes,
+  map,
+  Result,
+  Ok,
+  Err,
+  ⊤,
+}
 use Rattle.std.proofs.Common.{refl, sym, ap, ◌∙◌, subst, inl, inr, arith}
 use Rattle.djq_model.specs.declared.relation.ColumnType.{ColumnType}
 use Rattle.djq_model.specs.declared.query.Query.{Query}
-use Rattle.djq_model.specs.Data.{Bytes, Tuple, bytes_eq, drop_first, relation_of, rows_of, has_row, query_of}
+use Rattle.djq_model.specs.Data.{Bytes, bytes_eq, drop_first, relation_of, query_of}
 use Rattle.djq_model.specs.Known.{texts_in}
 use Rattle.djq_lines.specs.Conditions.{first_of, Answers, OutOfMemoryWhere}
 use Rattle.djq_lines.specs.QueryFault.{query_faults}
 use Rattle.djq_lines.specs.Variables.{constants_of}
-use Rattle.djq_lines.specs.declared.limits.TheConstants.{COLUMNS, RELATIONS, QUERIES, CURSORS}
+use Rattle.djq_lines.specs.declared.limits.TheConstants.{COLUMNS, RELATIONS, QUERIES, CURSORS, TEXTS}
 use Rattle.djq_lines.specs.declared.rest.QueryOutcome.{QueryOutcome}
 use Rattle.djq_lines.specs.declared.rest.QueryOutcome.TheVariants.{Registered, Cyclic, NotConnex}
 use Rattle.djq_lines.specs.declared.answer.EndCause.TheVariants.{Quit as SaidQuit, Stop as SaidStop}
@@ -55,21 +85,7 @@ use Rattle.djq_lines.specs.Reply.{
 use Rattle.djq_machine.specs.State.{Store, State, Session, Cursor, Position, open_at, stale, with_session, cursor_of, with_position}
 use Rattle.djq_machine.specs.Keeping.{Keeping, no_line, kept_where, is_registration}
 use Rattle.djq_machine.specs.Effect.{Effect, says, answers, RefusedStep}
-use Rattle.djq_machine.specs.Store.{
-  RefusedByTexts,
-  RefusedLate,
-  RegistersAs,
-  MakesRelation,
-  AddsRow,
-  AddsAs,
-  RegistersQuery,
-  DropsQuery,
-  rel_refusal,
-  add_refusal,
-  query_refusal,
-  drop_refusal,
-  has_steps,
-}
+use Rattle.djq_machine.specs.Store.{RefusedByTexts, RefusedLate, RegistersAs, MakesRelation, RegistersQuery, DropsQuery, rel_refusal, query_refusal, drop_refusal, has_steps}
 use Rattle.djq_machine.specs.Command.{
   open_refusal,
   OpensTo,
@@ -100,7 +116,7 @@ use Rattle.djq_laws.specs.Form.{
   is_whole,
   is_cut,
   Stored,
-  keeps_store,
+  LearnsTexts,
   learns_texts,
   makes_relation,
   registers_query,
@@ -160,29 +176,35 @@ answers_alone s text test e h = text_alone s text 0 (kept_where test) e h
 
 -- ---- the store
 
-same_texts : (old new : Store) → new ≡ old → new ≡ record old { texts = new.texts }
-same_texts old new e = subst (λ (st : Store). st ≡ record old { texts = st.texts }) (sym e) refl
+pub stays_learned : (old new : Store) → new ≡ old → LearnsTexts old new
+stays_learned old new e =
+    record { texts = []; few = λ few. subst (λ (st : Store). length st.texts ≤ TEXTS) (sym e) few; store = e }
 
 -- A late refusal changes no more than which texts are known.
-refused_texts : (old : Store) (texts : List Bytes) (new : Store) (r : Refusal) → RefusedByTexts old texts new r
-    → new ≡ record old { texts = new.texts }
-refused_texts old texts new Limit h = h.1
-refused_texts old texts new NoMemory h = h.2
-refused_texts old texts new _ h = absurd h
+pub late_learned : (old : Store) (texts : List Bytes) (new : Store) (r : Refusal) → RefusedByTexts old texts new r
+    → LearnsTexts old new
+late_learned old texts new Limit h = record {
+  texts = (h.0).first;
+  few = λ few. let full = h.0.full in omega (arith, full);
+  store = h.1 ∙ ap (λ ts. record old { texts = ts }) h.0.learned;
+}
+late_learned old texts new NoMemory h = record {
+  texts = (h.0).first;
+  few = λ few. h.1;
+  store = h.2 ∙ ap (λ ts. record old { texts = ts }) h.0.learned;
+}
+late_learned old texts new _ h = absurd h
+
+-- what a refusal makes of the store: nothing by a condition, and what a late one does
+pub refused_learned : {A : Type 0} (o : Option Refusal) (r : Refusal) (D : A → Type 0) (L : Refusal → Type 0)
+    (old new : Store)
+    → Answers o (Err r) D L → (is_some o ≡ true → new ≡ old) → (L r → LearnsTexts old new) → LearnsTexts old new
+refused_learned None r D L old new h stays late = late h
+refused_learned (Some t) r D L old new h stays late = stays_learned old new (stays refl)
 
 module _ (used : Bytes → Bool) (old new : Store) where
-  pub late_stored : (texts : List Bytes) (r : Refusal) → RefusedByTexts old texts new r → Stored used old new
-  late_stored texts Limit h =
-      learns_texts (h.0).first (let full = h.0.full in omega (arith, full))
-      (h.1 ∙ ap (λ ts. record old { texts = ts }) h.0.learned)
-  late_stored texts NoMemory h = learns_texts (h.0).first h.1 (h.2 ∙ ap (λ ts. record old { texts = ts }) h.0.learned)
-  late_stored texts _ h = absurd h
-
-  -- what a refusal makes of it: nothing by a condition, and what a late one does
-  pub refused_stored : {A : Type 0} (o : Option Refusal) (r : Refusal) (D : A → Type 0) (L : Refusal → Type 0)
-      → Answers o (Err r) D L → (is_some o ≡ true → new ≡ old) → (L r → Stored used old new) → Stored used old new
-  refused_stored None r D L h stays late = late h
-  refused_stored (Some t) r D L h stays late = keeps_store (stays refl)
+  keeps_store : new ≡ old → Stored used old new
+  keeps_store e = learns_texts (stays_learned old new e)
 
   rel_stored : (name : Bytes) (types : List ColumnType) (r : Result ⊤ Refusal) → MakesRelation old name types r new
       → Stored used old new
@@ -205,12 +227,13 @@ module _ (used : Bytes → Bool) (old new : Store) where
       keeps_store (done_of (query_refusal old q) (NotConnex rest) (RegistersAs old q new) (RefusedLate old q new)
       h.answer).1
   query_stored q (Err r) h =
-      refused_stored (query_refusal old q) r (RegistersAs old q new) (RefusedLate old q new) h.answer h.stays
-      (λ late. by late)
+      learns_texts
+      (refused_learned (query_refusal old q) r (RegistersAs old q new) (RefusedLate old q new) old new h.answer
+      h.stays (λ late. by late))
     where
-      by : RefusedLate old q new r → Stored used old new
-      by (inl k) = late_stored (texts_in (constants_of q.atoms)) r k.1
-      by (inr k) = keeps_store k.1
+      by : RefusedLate old q new r → LearnsTexts old new
+      by (inl k) = late_learned old (texts_in (constants_of q.atoms)) new r k.1
+      by (inr k) = stays_learned old new k.1
   query_stored q (Ok (Registered most)) h =
       let none = none_holds (query_refusal old q) (Registered most) (RegistersAs old q new) (RefusedLate old q new)
       h.answer in
@@ -229,18 +252,6 @@ module _ (used : Bytes → Bool) (old new : Store) where
       let none = none_holds (drop_refusal old (used name) name) u D (OutOfMemoryWhere ⊥) h.answer in
       drops_query name (none_second (is_none (query_of old.queries name)) (used name) NoQuery InUse None none)
       (done_of (drop_refusal old (used name) name) u D (OutOfMemoryWhere ⊥) h.answer)
-
--- A row that isn't added changes no more than which texts are known.
-pub add_refused : (old : Store) (name : Bytes) (row : Tuple) (r : Refusal) (new : Store)
-    → AddsRow old name row (Err r) new → new ≡ record old { texts = new.texts }
-add_refused old name row r new h = by (add_refusal old name row) h.answer h.stays
-  where
-    by : (o : Option Refusal)
-        → Answers o (Err r) (AddsAs old name row new)
-        (λ t. (has_row (rows_of old.relations name) row ≡ false) × RefusedByTexts old (texts_in row) new t)
-        → (is_some o ≡ true → new ≡ old) → new ≡ record old { texts = new.texts }
-    by None late stays = refused_texts old (texts_in row) new r late.1
-    by (Some t) late stays = same_texts old new (stays refl)
 
 -- ---- commands of the store
 

@@ -1,29 +1,21 @@
 -- What open cursors have given, along any run: different answers of their queries over the present rows, and all of them where the end was told.
-use Rattle.std.specs.Prelude.{ℕ, List, [], ◌∷◌, ◌==◌, ◌≡◌, ◌<◌, ◌+◌, ◌++◌, ◌⊎◌, Bool, true, false, not, cond, length, Option, None, Some, IsSome, MatchOption, option_map, Result, Ok, Err, map, All}
+use Rattle.std.specs.Prelude.{ℕ, List, [], ◌∷◌, ◌==◌, ◌≡◌, ◌<◌, ◌+◌, ◌++◌, ◌⊎◌, Bool, true, false, not, cond, length, Option, None, Some, IsSome, MatchOption, option_map, map, All}
 use Rattle.std.specs.List.{list_any, slice_index_or}
 use Rattle.std.proofs.Common.{refl, sym, ap, ◌∙◌, subst, inl, inr, arith}
 use Rattle.std.proofs.lemmas.List.Elements.{All-nil, All-append, All-push, All-weaker, All-filter}
 use Rattle.djq_model.specs.declared.relation.Relation.{Relation}
 use Rattle.djq_model.specs.declared.query.Query.{Query}
-use Rattle.djq_model.specs.Data.{Bytes, Tuple, bytes_eq, drop_first, rows_of, without_row, query_of}
+use Rattle.djq_model.specs.Data.{Bytes, Tuple, bytes_eq, drop_first, query_of}
 use Rattle.djq_model.specs.Answer.{IsAnswer}
-use Rattle.djq_model.specs.Known.{texts_in, all_learned}
 use Rattle.djq_lines.specs.declared.answer.EndCause.{EndCause}
 use Rattle.djq_lines.specs.declared.answer.EndCause.TheVariants.{Input, Memory}
-use Rattle.djq_lines.specs.declared.answer.Refusal.{Refusal}
-use Rattle.djq_lines.specs.declared.answer.Refusal.TheVariants.{NoMemory}
-use Rattle.djq_lines.specs.declared.answer.AddOutcome.{AddOutcome}
-use Rattle.djq_lines.specs.declared.answer.AddOutcome.TheVariants.{Added, Same}
-use Rattle.djq_lines.specs.declared.answer.DeleteOutcome.{DeleteOutcome}
-use Rattle.djq_lines.specs.declared.answer.DeleteOutcome.TheVariants.{Removed, Absent}
 use Rattle.djq_lines.specs.declared.limits.TheConstants.{SESSIONS}
 use Rattle.djq_lines.specs.Grammar.{Reading, refused, says as says_command, reading_of}
 use Rattle.djq_lines.specs.Reply.{end_memory}
 use Rattle.djq_machine.specs.State.{Store, State, Session, Cursor, Position, open_at, stale, fresh, session_of, with_session, cursor_of, with_position, ended_by}
-use Rattle.djq_machine.specs.Conditions.{OutOfMemoryWhere}
-use Rattle.djq_machine.specs.Store.{AddsRow, AddsAs, DeletesRow, DeletesAs, TellsAnswers, with_rows, add_refusal, delete_refusal}
+use Rattle.djq_machine.specs.Store.{TellsAnswers}
 use Rattle.djq_machine.specs.Stale.{outdated, outdater_of, outdated_cursor, outdated_sessions}
-use Rattle.djq_machine.specs.Changes.{RowsChange, RowsOutcome, row_in, row_out, add_outcome, delete_outcome, tried, changed}
+use Rattle.djq_machine.specs.Changes.{RowsOutcome, accepted, out_of_memory, unchanged, tried, changed}
 use Rattle.djq_machine.specs.Watch.{Telling, ChangeStep}
 use Rattle.djq_machine.specs.Effect.{Effect, nothing, EndsWith, queue_all, queue}
 use Rattle.djq_machine.specs.Command.{uses, with_cursor, with_watch, without_watch}
@@ -36,45 +28,11 @@ use Rattle.djq_laws.proofs.Finding.{some_and, find_dropped}
 use Rattle.djq_laws.proofs.Told.{change_keeps}
 use Rattle.djq_laws.proofs.Queueing.{session_changed}
 use Rattle.djq_laws.specs.Given.{RunsGive}
-use Rattle.djq_laws.specs.Form.{
-  form_of,
-  Form,
-  asking,
-  storing,
-  turning,
-  changing,
-  ending,
-  Turn,
-  opens_cursor,
-  moves_cursor,
-  closes_cursor,
-  starts_watching,
-  stops_watching,
-  RowChange,
-  row_comes,
-  row_goes,
-  Replied,
-  is_whole,
-  is_cut,
-  Stored,
-  keeps_store,
-  learns_texts,
-  makes_relation,
-  registers_query,
-  drops_query,
-  in_use,
-  MovesCursor,
-  without_cursor,
-  Turned,
-  Changed,
-  DoesTurn,
-  is_turned,
-  is_refused,
-  Does,
-}
-use Rattle.djq_laws.proofs.Forms.{done_of, add_refused, command_does}
+use Rattle.djq_laws.specs.Form.{form_of, Form, asking, storing, turning, changing, ending, Turn, opens_cursor, moves_cursor, closes_cursor, starts_watching, stops_watching, Replied, is_whole, is_cut, Stored, learns_texts, makes_relation, registers_query, drops_query, in_use, MovesCursor, without_cursor, Turned, DoesTurn, is_turned, is_refused, Does}
+use Rattle.djq_laws.proofs.Forms.{command_does}
+use Rattle.djq_laws.proofs.Rows.{RowsMade, outdater_by, rows_do}
 use Rattle.djq_laws.proofs.Changing.{all_changed, all_found, all_dropped, all_mapped}
-use Rattle.djq_laws.proofs.Answering.{SameAnswers, gives_kept, new_relation_same, reordered_same, Spares, one_spares, apart_from, none_or, none_pass}
+use Rattle.djq_laws.proofs.Answering.{SameAnswers, gives_kept, new_relation_same, reordered_same, apart_from, none_or, none_pass}
 
 -- a cursor gives what it should, over these relations and queries
 abbrev pub CursorGives : List Relation → List Query → Cursor → Type 0
@@ -153,46 +111,19 @@ same_gives : (old new : State) → new ≡ old → CursorsGive old → CursorsGi
 same_gives old new e h = subst CursorsGive (sym e) h
 
 -- The commands.
--- a change that outdates, or none
-changed_gives : (old : State) (change : RowsChange) (texts : List Bytes) (store : Store) (new : State) → Spares old.store.relations change
-    → store ≡ record old.store { relations = change.after; texts = texts; seq = old.store.seq + 1 }
-    → new ≡ changed old (Some change) store → CursorsGive old → CursorsGive new
-changed_gives old change texts store new spares e after g =
-    subst CursorsGive (sym (after ∙ ap (λ (st : Store). changed old (Some change) st) e))
-    (outdated_give old.store.relations change.after old.store.queries change.outdater (old.store.seq + 1) old.sessions spares g)
-
-unchanged_gives : (old : State) (store : Store) (new : State) → store ≡ old.store → new ≡ changed old None store → CursorsGive old → CursorsGive new
-unchanged_gives old store new e after g = same_gives old new (after ∙ ap (λ (st : Store). record old { store = st }) e) g
-
--- texts that become known are nothing to cursors
-texts_give : (old : State) (store : Store) (new : State) → store ≡ record old.store { texts = store.texts } → new ≡ record old { store = store } → CursorsGive old → CursorsGive new
-texts_give old store new e after g = subst CursorsGive (sym (after ∙ ap (λ (st : Store). record old { store = st }) e)) g
-
-out_of_memory_gives : (old : State) (change : RowsChange) (store : Store) (new : State) → store ≡ record old.store { texts = store.texts } → new ≡ changed old (Some change) store → CursorsGive old → CursorsGive new
-out_of_memory_gives old change store new e after g =
-    subst CursorsGive (sym (after ∙ ap (λ (st : Store). changed old (Some change) st) e))
-    (outdated_give old.store.relations old.store.relations old.store.queries change.outdater old.store.seq old.sessions (λ q apart. same_itself old.store.relations q) g)
-
-add_gives : (old : State) (name : Bytes) (row : Tuple) (r : Result AddOutcome Refusal) (store : Store) (new : State) → AddsRow old.store name row r store → new ≡ changed old (tried (add_outcome (row_in old.store.relations name row) r)) store → CursorsGive old → CursorsGive new
-add_gives old name row (Ok Added) store new h after g =
-    let d = done_of (add_refusal old.store name row) Added (AddsAs old.store name row store) _ h.answer in
-    changed_gives old (row_in old.store.relations name row) (all_learned old.store.texts (texts_in row)) store new
-    (one_spares old.store.relations name (rows_of old.store.relations name ++ row ∷ [])) d.2 after g
-add_gives old name row (Ok Same) store new h after g =
-    let d = done_of (add_refusal old.store name row) Same (AddsAs old.store name row store) _ h.answer in
-    unchanged_gives old store new d.1 after g
-add_gives old name row (Err NoMemory) store new h after g = out_of_memory_gives old (row_in old.store.relations name row) store new (add_refused old.store name row NoMemory store h) after g
-add_gives old name row (Err r) store new h after g = texts_give old store new (add_refused old.store name row r store h) after g
-
-delete_gives : (old : State) (name : Bytes) (row : Tuple) (r : Result DeleteOutcome Refusal) (store : Store) (new : State) → DeletesRow old.store name row r store → new ≡ changed old (tried (delete_outcome (row_out old.store.relations name row) r)) store → CursorsGive old → CursorsGive new
-delete_gives old name row (Ok Removed) store new h after g =
-    let d = done_of (delete_refusal old.store name row) Removed (DeletesAs old.store name row store) (OutOfMemoryWhere ⊥) h.answer in
-    changed_gives old (row_out old.store.relations name row) old.store.texts store new
-    (one_spares old.store.relations name (without_row (rows_of old.store.relations name) row)) d.1 after g
-delete_gives old name row (Ok Absent) store new h after g =
-    let d = done_of (delete_refusal old.store name row) Absent (DeletesAs old.store name row store) (OutOfMemoryWhere ⊥) h.answer in
-    unchanged_gives old store new d.1 after g
-delete_gives old name row (Err r) store new h after g = unchanged_gives old store new h.stays after g
+-- What a command of rows makes of it, behind which cursors are stale or not.
+made_gives : (outdater : Query → Option Bytes) (old : State) (o : RowsOutcome) (store : Store)
+    → RowsMade outdater old.store o store → CursorsGive old → CursorsGive (changed old (tried o) store)
+made_gives outdater old (accepted change) store h g =
+    subst (λ (st : Store). CursorsGive (changed old (Some change) st)) (sym h.store)
+    (outdated_give old.store.relations change.after old.store.queries change.outdater (old.store.seq + 1) old.sessions
+    h.spares g)
+made_gives outdater old (out_of_memory change) store h g =
+    let rs = old.store.relations in
+    subst (λ (st : Store). CursorsGive (changed old (Some change) st)) (sym h.store)
+    (outdated_give rs rs old.store.queries change.outdater old.store.seq old.sessions (λ q apart. same_itself rs q) g)
+made_gives outdater old unchanged store h g =
+    subst (λ (st : Store). CursorsGive (record old { store = st })) (sym h.store) g
 
 -- A query that no session uses is no cursor's.
 pub dropped_query : (qs : List Query) (name other : Bytes) → bytes_eq other name ≡ false → query_of (drop_first (λ p. bytes_eq p.name name) qs) other ≡ query_of qs other
@@ -210,11 +141,8 @@ dropped_give rs qs q xs none h = λ k d lt.
 -- What a command of the store makes of it.
 stored_gives : (old : State) (store : Store) → Stored (in_use old) old.store store → CursorsGive old
     → CursorsGive (record old { store = store })
-stored_gives old store (keeps_store e) g =
-    same_gives old (record old { store = store }) (ap (λ (st : Store). record old { store = st }) e) g
-stored_gives old store (learns_texts texts few e) g =
-    texts_give old store (record old { store = store })
-    (e ∙ ap (λ (ts : List Bytes). record old.store { texts = ts }) (sym (ap (λ (st : Store). st.texts) e))) refl g
+stored_gives old store (learns_texts h) g =
+    subst (λ (st : Store). CursorsGive (record old { store = st })) (sym h.store) g
 stored_gives old store (makes_relation name types none e) g =
     subst (λ (st : Store). CursorsGive (record old { store = st })) (sym e)
     (relations_give old.store.relations
@@ -325,17 +253,6 @@ change_gives old s outcome store reply e new h g =
     (change_keeps (λ (m : Telling). CursorsGive m.state) (λ m t text there k. k) (λ m t text cause may there k. ends_gives m.state t cause (with_session m.state t (ended_by cause)) refl k)
     old s outcome store reply e new h g)
 
-changed_rows_give : (old : State) (s : ℕ) (c : RowChange) (e : Effect) (new : State) → Changed old s c e new
-    → CursorsGive old → CursorsGive new
-changed_rows_give old s (row_comes name row) e new h g =
-    change_gives old s _ h.store _ e new h.change
-    (add_gives old name row h.result h.store
-    (changed old (tried (add_outcome (row_in old.store.relations name row) h.result)) h.store) h.done refl g)
-changed_rows_give old s (row_goes name row) e new h g =
-    change_gives old s _ h.store _ e new h.change
-    (delete_gives old name row h.result h.store
-    (changed old (tried (delete_outcome (row_out old.store.relations name row) h.result)) h.store) h.done refl g)
-
 turn_gives : (old : State) (s : ℕ) (x : Session) (t : Turn) (new : State) → session_of old s ≡ Some x
     → DoesTurn old s x t new → CursorsGive old → CursorsGive new
 turn_gives old s x t new found (is_turned h) g = turned_gives old s x t new found h g
@@ -347,7 +264,10 @@ form_gives asking old s x e new found h g = replied_gives s old new h.1 g
 form_gives storing old s x e new found h g =
     replied_gives s (record old { store = h.1.store }) new h.1.replied (stored_gives old h.1.store h.1.stored g)
 form_gives (turning t) old s x e new found h g = turn_gives old s x t new found h.1 g
-form_gives (changing c) old s x e new found h g = changed_rows_give old s c e new h g
+form_gives (changing c) old s x e new found h g =
+    let d = rows_do old s c e new h in
+    change_gives old s d.outcome d.store d.reply e new d.change
+    (made_gives (outdater_by c) old d.outcome d.store d.made g)
 form_gives ending old s x e new found h g =
     ends_gives (record old { stopped = h.1.stopped }) s h.1.cause new h.1.state g
 

@@ -3,6 +3,7 @@ pub mod Queueing
 mod Told
 pub mod Changing
 pub mod Forms
+pub mod Rows
 pub mod Alike
 pub mod Touching
 pub mod Moving

@@ -122,35 +122,7 @@ use Rattle.djq_laws.specs.Listed.{
   position_of,
   GivenIsTold,
 }
-use Rattle.djq_laws.specs.Form.{
-  form_of,
-  Form,
-  asking,
-  storing,
-  turning,
-  changing,
-  ending,
-  Turn,
-  opens_cursor,
-  moves_cursor,
-  closes_cursor,
-  starts_watching,
-  stops_watching,
-  RowChange,
-  row_comes,
-  row_goes,
-  Replied,
-  is_whole,
-  is_cut,
-  MovesCursor,
-  without_cursor,
-  Turned,
-  Changed,
-  DoesTurn,
-  is_turned,
-  is_refused,
-  Does,
-}
+use Rattle.djq_laws.specs.Form.{form_of, Form, asking, storing, turning, changing, ending, Turn, opens_cursor, moves_cursor, closes_cursor, starts_watching, stops_watching, Replied, is_whole, is_cut, MovesCursor, without_cursor, Turned, DoesTurn, is_turned, is_refused, Does}
 use Rattle.djq_laws.proofs.Finding.{some_and, find_changed, find_other, find_dropped}
 use Rattle.djq_laws.proofs.Told.{change_keeps}
 use Rattle.djq_laws.proofs.Queueing.{session_changed, session_other}
@@ -159,6 +131,7 @@ use Rattle.djq_laws.proofs.Touching.{says_to, said}
 use Rattle.djq_machine.specs.Gives.{PositionGives, CursorsGive}
 use Rattle.djq_laws.proofs.Live.{listed}
 use Rattle.djq_laws.proofs.Forms.{none_holds, none_found, none_first, next_does, command_does}
+use Rattle.djq_laws.proofs.Rows.{rows_do}
 use Rattle.djq_laws.proofs.Giving.{runs_give}
 use Rattle.djq_laws.proofs.Sounding.{
   states_are_sound,
@@ -447,10 +420,6 @@ module _ (s : ℕ) (c : Bytes) where
   back_turn old t x turn new kept apart (is_turned h) = back_turned old t x turn new kept apart h
   back_turn old t x turn new kept apart (is_refused r) = back_replied t old new r
 
-  back_rows : (old : State) (t : ℕ) (k : RowChange) (e : Effect) (new : State) → Changed old t k e new → Back old new
-  back_rows old t (row_comes name row) e new h = back_change old t _ h.store _ e new h.change
-  back_rows old t (row_goes name row) e new h = back_change old t _ h.store _ e new h.change
-
   -- the commands
   back_form : (f : Form) (old : State) (t : ℕ) (x : Session) (e : Effect) (new : State) → AreKept old
       → ((t == s) ≡ true → is_of f ≡ false) → Does f old t x e new → Back old new
@@ -459,7 +428,8 @@ module _ (s : ℕ) (c : Bytes) where
       back_then old (record old { store = h.1.store }) new (λ given finished at. at)
       (back_replied t (record old { store = h.1.store }) new h.1.replied)
   back_form (turning turn) old t x e new kept apart h = back_turn old t x turn new kept apart h.1
-  back_form (changing k) old t x e new kept apart h = back_rows old t k e new h
+  back_form (changing k) old t x e new kept apart h =
+      let d = rows_do old t k e new h in back_change old t d.outcome d.store d.reply e new d.change
   back_form ending old t x e new kept apart h =
       let mid : State = record old { stopped = h.1.stopped } in
       back_then old mid new (λ given finished at. at) (back_ends mid new t h.1.cause h.1.state)

@@ -5,7 +5,7 @@ use Rattle.std.proofs.Common.{refl, sym, ap, ◌∙◌, subst, inl, inr, arith}
 use Rattle.std.proofs.lemmas.List.{length-map, length-append}
 use Rattle.std.proofs.lemmas.List.Elements.{All-nil, All-push, All-weaker, All-filter}
 use Rattle.djq_model.specs.declared.query.Query.{Query}
-use Rattle.djq_model.specs.Data.{Bytes, Tuple, bytes_eq, drop_first, query_of}
+use Rattle.djq_model.specs.Data.{Bytes, bytes_eq, drop_first, query_of}
 use Rattle.djq_lines.specs.declared.limits.TheConstants.{SESSIONS}
 use Rattle.djq_lines.specs.declared.answer.EndCause.{EndCause}
 use Rattle.djq_lines.specs.declared.answer.EndCause.TheVariants.{Input, Memory}
@@ -15,7 +15,7 @@ use Rattle.djq_lines.specs.Hypergraph.{edges_of, head_of}
 use Rattle.djq_machine.specs.Store.{IsFreeConnex}
 use Rattle.djq_machine.specs.State.{Store, State, Session, Cursor, Position, open_at, stale, fresh, opening, session_of, with_session, with_position, ended_by}
 use Rattle.djq_machine.specs.Stale.{outdated, outdater_of, outdated_cursor, outdated_sessions}
-use Rattle.djq_machine.specs.Changes.{RowsChange, RowsOutcome, row_in, row_out, add_outcome, delete_outcome, tried, changed}
+use Rattle.djq_machine.specs.Changes.{RowsChange, RowsOutcome, tried, changed}
 use Rattle.djq_machine.specs.Watch.{is_watching, Telling, ChangeStep}
 use Rattle.djq_machine.specs.Effect.{Effect, nothing, EndsWith, queue, queue_all}
 use Rattle.djq_machine.specs.Command.{uses, with_cursor, with_watch, without_watch}
@@ -48,43 +48,10 @@ use Rattle.djq_laws.specs.Sound.{
   RunsKeepSound,
   StatesAreSound,
 }
-use Rattle.djq_laws.specs.Form.{
-  form_of,
-  Form,
-  asking,
-  storing,
-  turning,
-  changing,
-  ending,
-  Turn,
-  opens_cursor,
-  moves_cursor,
-  closes_cursor,
-  starts_watching,
-  stops_watching,
-  RowChange,
-  row_comes,
-  row_goes,
-  Replied,
-  is_whole,
-  is_cut,
-  Stored,
-  keeps_store,
-  learns_texts,
-  makes_relation,
-  registers_query,
-  drops_query,
-  in_use,
-  without_cursor,
-  Turned,
-  Changed,
-  DoesTurn,
-  is_turned,
-  is_refused,
-  Does,
-}
+use Rattle.djq_laws.specs.Form.{form_of, Form, asking, storing, turning, changing, ending, Turn, opens_cursor, moves_cursor, closes_cursor, starts_watching, stops_watching, Replied, is_whole, is_cut, Stored, learns_texts, makes_relation, registers_query, drops_query, in_use, without_cursor, Turned, DoesTurn, is_turned, is_refused, Does}
 use Rattle.djq_laws.proofs.Finding.{some_and}
 use Rattle.djq_laws.proofs.Forms.{command_does}
+use Rattle.djq_laws.proofs.Rows.{outdater_by, rows_do, made_queries}
 use Rattle.djq_laws.proofs.Told.{change_keeps}
 use Rattle.djq_laws.proofs.Queueing.{session_changed}
 use Rattle.djq_laws.proofs.Changing.{all_changed, all_dropped, all_mapped}
@@ -101,14 +68,7 @@ use Rattle.djq_laws.proofs.Apart.{
   names_dropped,
   names_mapped,
 }
-use Rattle.djq_laws.proofs.Storing.{
-  stored_sound,
-  added_store,
-  added_queries,
-  deleted_store,
-  deleted_queries,
-  moved_store,
-}
+use Rattle.djq_laws.proofs.Storing.{stored_sound, made_sound, moved_store}
 
 abbrev IsNamed : Cursor → Bytes
 IsNamed c = c.name
@@ -287,8 +247,7 @@ stored_kept old store h k = (
     same e = subst (λ (qs : List Query). All (IsSoundSession qs) old.sessions) (sym e) k.1
 
     by : Stored (in_use old) old.store store → All (IsSoundSession store.queries) old.sessions
-    by (keeps_store e) = same (ap (λ (st : Store). st.queries) e)
-    by (learns_texts texts few e) = same (ap (λ (st : Store). st.queries) e)
+    by (learns_texts h) = same (ap (λ (st : Store). st.queries) h.store)
     by (makes_relation name types none e) = same (ap (λ (st : Store). st.queries) e)
     by (registers_query q none connex few e) =
         subst (λ (st : Store). All (IsSoundSession st.queries) old.sessions) (sym e)
@@ -378,26 +337,17 @@ turn_kept : (old : State) (s : ℕ) (x : Session) (t : Turn) (new : State) → s
 turn_kept old s x t new found runs (is_turned h) k = turned_kept old s x t new found runs h k
 turn_kept old s x t new found runs (is_refused r) k = replied_kept s old new r k
 
-rows_kept : (old : State) (s : ℕ) (c : RowChange) (e : Effect) (new : State) → Changed old s c e new → AreKept old
-    → AreKept new
-rows_kept old s (row_comes name row) e new h k =
-    change_kept old s _ h.store _ e new h.change
-    (changed_kept old (tried (add_outcome (row_in old.store.relations name row) h.result)) h.store
-    (added_queries old.store name row h.result h.store h.done)
-    (added_store old.store name row h.result h.store h.done k.0) k)
-rows_kept old s (row_goes name row) e new h k =
-    change_kept old s _ h.store _ e new h.change
-    (changed_kept old (tried (delete_outcome (row_out old.store.relations name row) h.result)) h.store
-    (deleted_queries old.store name row h.result h.store h.done)
-    (deleted_store old.store name row h.result h.store h.done k.0) k)
-
 form_kept : (f : Form) (old : State) (s : ℕ) (x : Session) (e : Effect) (new : State) → session_of old s ≡ Some x
     → x.cause ≡ None → Does f old s x e new → AreKept old → AreKept new
 form_kept asking old s x e new found runs h k = replied_kept s old new h.1 k
 form_kept storing old s x e new found runs h k =
     replied_kept s (record old { store = h.1.store }) new h.1.replied (stored_kept old h.1.store h.1.stored k)
 form_kept (turning t) old s x e new found runs h k = turn_kept old s x t new found runs h.1 k
-form_kept (changing c) old s x e new found runs h k = rows_kept old s c e new h k
+form_kept (changing c) old s x e new found runs h k =
+    let d = rows_do old s c e new h in
+    change_kept old s d.outcome d.store d.reply e new d.change
+    (changed_kept old (tried d.outcome) d.store (made_queries (outdater_by c) old.store d.outcome d.store d.made)
+    (made_sound (outdater_by c) old.store d.outcome d.store d.made k.0) k)
 form_kept ending old s x e new found runs h k =
     ends_kept (record old { stopped = h.1.stopped }) s h.1.cause new h.1.state k
 

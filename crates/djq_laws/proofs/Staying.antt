@@ -1,27 +1,20 @@
 -- A session that watches a registered query does so as long as it goes on and doesn't unwatch it.
-use Rattle.std.specs.Prelude.{ℕ, List, [], ◌∷◌, ◌==◌, ◌≡◌, ◌<◌, ◌++◌, ◌⊎◌, ◌||◌, Bool, true, false, cond, length, Option, None, Some, MatchOption, option_map, find, Result, Ok, Err, All}
+use Rattle.std.specs.Prelude.{ℕ, List, [], ◌∷◌, ◌==◌, ◌≡◌, ◌<◌, ◌++◌, ◌⊎◌, ◌||◌, Bool, true, false, cond, length, Option, None, Some, MatchOption, option_map, find, All}
 use Rattle.std.specs.List.{list_any}
 use Rattle.std.proofs.Common.{refl, sym, ap, ◌∙◌, subst, inl, inr}
 use Rattle.std.proofs.lemmas.Bool.{eqb-true}
 use Rattle.std.proofs.lemmas.List.Elements.{All-head, All-tail}
 use Rattle.djq_model.specs.declared.query.Query.{Query}
-use Rattle.djq_model.specs.Data.{Bytes, Tuple, bytes_eq, drop_first, query_of}
+use Rattle.djq_model.specs.Data.{Bytes, bytes_eq, drop_first, query_of}
 use Rattle.djq_model.specs.Equality.{bytes_eq-decides}
 use Rattle.djq_lines.specs.declared.answer.EndCause.{EndCause}
 use Rattle.djq_lines.specs.declared.answer.EndCause.TheVariants.{Input, Long, Slow, Memory}
-use Rattle.djq_lines.specs.declared.answer.Refusal.{Refusal}
-use Rattle.djq_lines.specs.declared.answer.AddOutcome.{AddOutcome}
-use Rattle.djq_lines.specs.declared.answer.AddOutcome.TheVariants.{Added, Same}
-use Rattle.djq_lines.specs.declared.answer.DeleteOutcome.{DeleteOutcome}
-use Rattle.djq_lines.specs.declared.answer.DeleteOutcome.TheVariants.{Removed, Absent}
 use Rattle.djq_lines.specs.declared.command.Command.{Command}
 use Rattle.djq_lines.specs.declared.command.Command.TheVariants.{Unwatch}
 use Rattle.djq_lines.specs.declared.limits.TheConstants.{SESSIONS}
 use Rattle.djq_lines.specs.Grammar.{Reading, refused, says as says_command, reading_of}
 use Rattle.djq_lines.specs.Reply.{end_memory}
 use Rattle.djq_machine.specs.State.{Store, State, Session, Cursor, fresh, session_of, with_session, ended_by}
-use Rattle.djq_machine.specs.Conditions.{OutOfMemoryWhere}
-use Rattle.djq_machine.specs.Store.{AddsRow, AddsAs, DeletesRow, DeletesAs, add_refusal, delete_refusal}
 use Rattle.djq_machine.specs.Changes.{RowsChange, RowsOutcome, tried, changed}
 use Rattle.djq_machine.specs.Watch.{is_watching, Telling, ChangeStep}
 use Rattle.djq_machine.specs.Effect.{Effect, nothing, EndsWith}
@@ -33,44 +26,10 @@ use Rattle.djq_machine.specs.Call.{IsOpen, cause_of, cause_in}
 use Rattle.djq_laws.specs.Moved.{EndsByRun, Spares, Comes, is_held, out_of_memory, is_dropped, Ends, input_ends, had_ended}
 use Rattle.djq_laws.specs.Watched.{IsWatcher, WatchesAlong}
 use Rattle.djq_laws.specs.Staying.{GoesOn, KeepsWatch, WatchersStay}
-use Rattle.djq_laws.specs.Form.{
-  form_of,
-  Form,
-  asking,
-  storing,
-  turning,
-  changing,
-  ending,
-  Turn,
-  opens_cursor,
-  moves_cursor,
-  closes_cursor,
-  starts_watching,
-  stops_watching,
-  RowChange,
-  row_comes,
-  row_goes,
-  Replied,
-  is_whole,
-  is_cut,
-  Stored,
-  keeps_store,
-  learns_texts,
-  makes_relation,
-  registers_query,
-  drops_query,
-  in_use,
-  without_cursor,
-  Turned,
-  Changed,
-  DoesStore,
-  DoesTurn,
-  is_turned,
-  is_refused,
-  Does,
-}
+use Rattle.djq_laws.specs.Form.{form_of, Form, asking, storing, turning, changing, ending, Turn, opens_cursor, moves_cursor, closes_cursor, starts_watching, stops_watching, RowChange, Replied, is_whole, is_cut, Stored, learns_texts, makes_relation, registers_query, drops_query, in_use, without_cursor, Turned, Changed, DoesStore, DoesTurn, is_turned, is_refused, Does}
 use Rattle.djq_laws.proofs.Finding.{some_and, and_some}
-use Rattle.djq_laws.proofs.Forms.{done_of, add_refused, command_does}
+use Rattle.djq_laws.proofs.Forms.{command_does}
+use Rattle.djq_laws.proofs.Rows.{outdater_by, rows_do, made_queries}
 use Rattle.djq_laws.proofs.Told.{change_keeps}
 use Rattle.djq_laws.proofs.Queueing.{gaining, session_changed, session_other, stepped as stepped_session, stepped_cause}
 use Rattle.djq_laws.proofs.Giving.{found_in_front, dropped_query}
@@ -163,16 +122,6 @@ module _ (q : Query) (s : ℕ) (old : State) (registered : query_of old.store.qu
       ends m i text cause may there (inl w) = watches_still q.name m.state i cause s (i == s) refl there w
       ends m i text cause may there (inr over) = inr (over_stays m.state i cause s (i == s) refl there over)
 
-  add_queries : (name : Bytes) (row : Tuple) (r : Result AddOutcome Refusal) (store : Store) → AddsRow old.store name row r store → store.queries ≡ old.store.queries
-  add_queries name row (Ok Added) store h = let d = done_of (add_refusal old.store name row) Added (AddsAs old.store name row store) _ h.answer in ap (λ (st : Store). st.queries) d.2
-  add_queries name row (Ok Same) store h = let d = done_of (add_refusal old.store name row) Same (AddsAs old.store name row store) _ h.answer in ap (λ (st : Store). st.queries) d.1
-  add_queries name row (Err r) store h = ap (λ (st : Store). st.queries) (add_refused old.store name row r store h)
-
-  delete_queries : (name : Bytes) (row : Tuple) (r : Result DeleteOutcome Refusal) (store : Store) → DeletesRow old.store name row r store → store.queries ≡ old.store.queries
-  delete_queries name row (Ok Removed) store h = let d = done_of (delete_refusal old.store name row) Removed (DeletesAs old.store name row store) (OutOfMemoryWhere ⊥) h.answer in ap (λ (st : Store). st.queries) d.1
-  delete_queries name row (Ok Absent) store h = let d = done_of (delete_refusal old.store name row) Absent (DeletesAs old.store name row store) (OutOfMemoryWhere ⊥) h.answer in ap (λ (st : Store). st.queries) d.1
-  delete_queries name row (Err r) store h = ap (λ (st : Store). st.queries) h.stays
-
   -- what a command of the store makes of it: a query that is watched isn't dropped
   used : in_use old q.name ≡ true
   used =
@@ -185,8 +134,7 @@ module _ (q : Query) (s : ℕ) (old : State) (registered : query_of old.store.qu
       or_true false b k = k
 
   still_registered : (store : Store) → Stored (in_use old) old.store store → query_of store.queries q.name ≡ Some q
-  still_registered store (keeps_store e) = same_queries store (ap (λ (st : Store). st.queries) e)
-  still_registered store (learns_texts texts few e) = same_queries store (ap (λ (st : Store). st.queries) e)
+  still_registered store (learns_texts h) = same_queries store (ap (λ (st : Store). st.queries) h.store)
   still_registered store (makes_relation name types none e) = same_queries store (ap (λ (st : Store). st.queries) e)
   still_registered store (registers_query p none connex few e) =
       ap (λ (st : Store). query_of st.queries q.name) e ∙ found_in_front old.store.queries p q.name q registered
@@ -232,10 +180,10 @@ module _ (q : Query) (s : ℕ) (old : State) (registered : query_of old.store.qu
   by_turning t x turn new there not_it (is_refused r) = by_reply t new there r
 
   by_rows : (t : ℕ) (c : RowChange) (e : Effect) (new : State) → Changed old t c e new → Stays q s new
-  by_rows t (row_comes name row) e new h =
-      by_change t _ h.store _ e new h.change (add_queries name row h.result h.store h.done)
-  by_rows t (row_goes name row) e new h =
-      by_change t _ h.store _ e new h.change (delete_queries name row h.result h.store h.done)
+  by_rows t c e new h =
+      let d = rows_do old t c e new h in
+      by_change t d.outcome d.store d.reply e new d.change
+      (made_queries (outdater_by c) old.store d.outcome d.store d.made)
 
 by_storing : (q : Query) (s : ℕ) (old : State) → query_of old.store.queries q.name ≡ Some q
     → Watches q.name (session_of old s)

@@ -1,6 +1,6 @@
 -- What each part of a change keeps, the whole change keeps.
 use Rattle.std.specs.List.{list_any}
-use Rattle.std.specs.Prelude.{ℕ, List, [], ◌==◌, ◌≡◌, ◌⊎◌, Bool, true, cond, Option, None, Some, IsSome, MatchOption, option_map}
+use Rattle.std.specs.Prelude.{ℕ, [], ◌==◌, ◌≡◌, ◌⊎◌, true, cond, Option, None, Some, IsSome, MatchOption, option_map}
 use Rattle.std.proofs.Common.{refl, sym, subst, inl, inr}
 use Rattle.djq_model.specs.Data.{Bytes}
 use Rattle.djq_lines.specs.declared.answer.EndCause.{EndCause}

@@ -1,33 +1,25 @@
 -- What a step tells a session that watches a query: how its answers changed, where it changes the rows of a relation that the query reads.
-use Rattle.std.specs.Prelude.{ℕ, List, [], ◌∷◌, ◌==◌, ◌≡◌, ◌<◌, ◌+◌, ◌++◌, ◌⊎◌, Bool, true, false, length, Option, None, Some, is_some, IsSomeAnd, MatchOption, option_map, Result, Ok, Err}
+use Rattle.std.specs.Prelude.{ℕ, List, [], ◌∷◌, ◌==◌, ◌≡◌, ◌<◌, ◌+◌, ◌++◌, ◌⊎◌, Bool, true, false, length, Option, None, Some, is_some, MatchOption, option_map}
 use Rattle.std.proofs.Common.{refl, sym, ap, ◌∙◌, subst, inl, inr}
 use Rattle.std.proofs.lemmas.Bool.{eqb-true}
 use Rattle.std.proofs.lemmas.List.Elements.{All-weaker}
 use Rattle.djq_model.specs.declared.relation.Relation.{Relation}
 use Rattle.djq_model.specs.declared.query.Query.{Query}
-use Rattle.djq_model.specs.Data.{Bytes, Tuple, rows_of, without_row, query_of}
+use Rattle.djq_model.specs.Data.{Bytes, Tuple, query_of}
 use Rattle.djq_model.specs.Answer.{IsAnswer}
-use Rattle.djq_model.specs.Known.{texts_in, all_learned}
+use Rattle.djq_model.specs.Known.{all_learned}
 use Rattle.djq_lines.specs.declared.answer.EndCause.{EndCause}
 use Rattle.djq_lines.specs.declared.answer.EndCause.TheVariants.{Input, Memory}
-use Rattle.djq_lines.specs.declared.answer.Refusal.{Refusal}
 use Rattle.djq_lines.specs.declared.answer.Sign.{Sign}
 use Rattle.djq_lines.specs.declared.answer.Sign.TheVariants.{Came, Went}
-use Rattle.djq_lines.specs.declared.answer.AddOutcome.{AddOutcome}
-use Rattle.djq_lines.specs.declared.answer.AddOutcome.TheVariants.{Added, Same}
-use Rattle.djq_lines.specs.declared.answer.DeleteOutcome.{DeleteOutcome}
-use Rattle.djq_lines.specs.declared.answer.DeleteOutcome.TheVariants.{Removed, Absent}
 use Rattle.djq_lines.specs.declared.command.Command.{Command}
 use Rattle.djq_lines.specs.declared.command.Command.TheVariants.{Add, Del}
 use Rattle.djq_lines.specs.declared.limits.TheConstants.{SESSIONS}
 use Rattle.djq_lines.specs.Grammar.{Reading, refused, says as says_command, reading_of}
 use Rattle.djq_lines.specs.Reply.{end_memory}
 use Rattle.djq_machine.specs.State.{Store, State, Session, fresh, session_of, with_session, ended_by}
-use Rattle.djq_machine.specs.Conditions.{OutOfMemoryWhere}
 use Rattle.djq_machine.specs.Delta.{Change, HasChanged}
-use Rattle.djq_machine.specs.Store.{AddsRow, AddsAs, DeletesRow, DeletesAs, with_rows, add_refusal, delete_refusal}
-use Rattle.djq_machine.specs.Stale.{by_relation}
-use Rattle.djq_machine.specs.Changes.{RowsChange, RowsOutcome, accepted, is_outdated, row_in, row_out, add_outcome, delete_outcome}
+use Rattle.djq_machine.specs.Changes.{RowsChange, RowsOutcome, accepted, out_of_memory, unchanged, is_outdated}
 use Rattle.djq_machine.specs.Watch.{is_watching, Telling, ChangeStep}
 use Rattle.djq_machine.specs.Effect.{Effect, nothing, EndsWith, queue_all, queue}
 use Rattle.djq_machine.specs.Command.{CommandStep}
@@ -48,7 +40,7 @@ use Rattle.djq_laws.specs.Form.{
   is_whole,
   is_cut,
   Stored,
-  keeps_store,
+  LearnsTexts,
   learns_texts,
   makes_relation,
   registers_query,
@@ -60,10 +52,11 @@ use Rattle.djq_laws.specs.Form.{
   Does,
 }
 use Rattle.djq_laws.proofs.Finding.{some_and, and_some}
-use Rattle.djq_laws.proofs.Forms.{done_of, add_refused, turned_one, command_does}
+use Rattle.djq_laws.proofs.Forms.{turned_one, command_does}
+use Rattle.djq_laws.proofs.Rows.{RowsMade, outdater_by, rows_do}
 use Rattle.djq_laws.proofs.Told.{change_keeps}
 use Rattle.djq_laws.proofs.Queueing.{session_changed, session_other, stepped_cause}
-use Rattle.djq_laws.proofs.Answering.{SameAnswers, new_relation_same, reordered_same, Spares, one_spares}
+use Rattle.djq_laws.proofs.Answering.{SameAnswers, new_relation_same, reordered_same, Spares}
 use Rattle.djq_laws.proofs.Giving.{same_itself}
 use Rattle.djq_laws.proofs.Telling.{Watches, IsTheDelta, change_is_told}
 
@@ -76,10 +69,16 @@ replied_store : (s : ℕ) (mid new : State) → Replied s mid new → new.store 
 replied_store s mid new (is_whole after) = ap (λ (st : State). st.store) after
 replied_store s mid new (is_cut after) = ap (λ (st : State). st.store) after
 
--- whether a command of a form is of rows
-abbrev is_of_rows : Form → Bool
-is_of_rows (changing c) = true
-is_of_rows _ = false
+-- the relation whose change by a command of a form outdates a query
+abbrev form_outdater : Form → Query → Option Bytes
+form_outdater (changing c) q = outdater_by c q
+form_outdater _ q = None
+
+outdated_alike : (old : State) (t : ℕ) (c : Command) (q : Query)
+    → form_outdater (form_of c) q ≡ line_outdater old t (says_command c) q
+outdated_alike old t (Add name row) q = refl
+outdated_alike old t (Del name row) q = refl
+outdated_alike old t c q = refl
 
 -- nothing of it changes
 module _ (q : Query) (s : ℕ) (queued : List (ℕ × Bytes)) (changes : Bool) where
@@ -98,12 +97,13 @@ module _ (q : Query) (s : ℕ) (queued : List (ℕ × Bytes)) (changes : Bool) w
   texts_stay : (old new : Store) → new ≡ record old { texts = new.texts } → StepTells q s old new queued changes
   texts_stay old new e = stays old new (ap (λ (st : Store). st.relations) e) (ap (λ (st : Store). st.seq) e)
 
+  learned_stays : (old new : Store) → LearnsTexts old new → StepTells q s old new queued changes
+  learned_stays old new h =
+      stays old new (ap (λ (st : Store). st.relations) h.store) (ap (λ (st : Store). st.seq) h.store)
+
   -- what a command of the store makes of it
   stored_stays : (used : Bytes → Bool) (old new : Store) → Stored used old new → StepTells q s old new queued changes
-  stored_stays used old new (keeps_store e) =
-      stays old new (ap (λ (st : Store). st.relations) e) (ap (λ (st : Store). st.seq) e)
-  stored_stays used old new (learns_texts texts few e) =
-      stays old new (ap (λ (st : Store). st.relations) e) (ap (λ (st : Store). st.seq) e)
+  stored_stays used old new (learns_texts h) = learned_stays old new h
   stored_stays used old new (makes_relation name types none e) =
       is_quiet
       (subst (λ (rs : List Relation). SameAnswers old.relations rs q) (sym (ap (λ (st : Store). st.relations) e)) (new_relation_same old.relations name types q))
@@ -118,18 +118,6 @@ module _ (q : Query) (s : ℕ) (queued : List (ℕ × Bytes)) (changes : Bool) w
   turn_stays old t x turn new (is_turned h) =
       let one = turned_one old t x turn new h in one_session old new t one.change one.state
   turn_stays old t x turn new (is_refused r) = same_store old new (replied_store t old new r)
-
-  -- A command that isn't of rows.
-  form_stays : (f : Form) (old : State) (t : ℕ) (x : Session) (e : Effect) (new : State) → is_of_rows f ≡ false
-      → Does f old t x e new → StepTells q s old.store new.store queued changes
-  form_stays asking old t x e new apart h = same_store old new (replied_store t old new h.1)
-  form_stays storing old t x e new apart h =
-      subst (λ (st : Store). StepTells q s old.store st queued changes)
-      (sym (replied_store t (record old { store = h.1.store }) new h.1.replied))
-      (stored_stays (in_use old) old.store h.1.store h.1.stored)
-  form_stays (turning turn) old t x e new apart h = turn_stays old t x turn new h.1
-  form_stays (changing c) old t x e new apart h = absurd cc
-  form_stays ending old t x e new apart h = same_store old new (ap (λ (st : State). st.store) h.1.state)
 
 -- The store behind a change is the one that the change left.
 pub change_store : (old : State) (t : ℕ) (outcome : RowsOutcome) (store : Store) (reply : Bytes) (e : Effect) (new : State)
@@ -156,40 +144,38 @@ module _ (q : Query) (s : ℕ) (old : State) (registered : query_of old.store.qu
           is_quiet (subst (λ (rs : List Relation). SameAnswers old.store.relations rs q) (sym relations) (spares q k))
           (inr (ap (λ (st : Store). st.seq) after, refl))
 
-  add_tells : (t : ℕ) (name : Bytes) (row : Tuple) (r : Result AddOutcome Refusal) (store : Store) (reply : Bytes) (e : Effect) (new : State) → cause_of new s ≡ None
-      → AddsRow old.store name row r store → ChangeStep old t (add_outcome (row_in old.store.relations name row) r) store reply e new
-      → StepTells q s old.store store e.queued (is_some (by_relation name q))
-  add_tells t name row (Ok Added) store reply e new running h c =
-      let d = done_of (add_refusal old.store name row) Added (AddsAs old.store name row store) _ h.answer in
-      accepted_tells t (row_in old.store.relations name row) (all_learned old.store.texts (texts_in row)) store reply e new running
-      (one_spares old.store.relations name (rows_of old.store.relations name ++ row ∷ [])) d.2 c
-  add_tells t name row (Ok Same) store reply e new running h c =
-      let d = done_of (add_refusal old.store name row) Same (AddsAs old.store name row store) _ h.answer in
-      stays q s e.queued (is_some (by_relation name q)) old.store store (ap (λ (st : Store). st.relations) d.1) (ap (λ (st : Store). st.seq) d.1)
-  add_tells t name row (Err r) store reply e new running h c = texts_stay q s e.queued (is_some (by_relation name q)) old.store store (add_refused old.store name row r store h)
+  made_tells : (outdater : Query → Option Bytes) (t : ℕ) (o : RowsOutcome) (store : Store) (reply : Bytes) (e : Effect)
+      (new : State)
+      → cause_of new s ≡ None → RowsMade outdater old.store o store → ChangeStep old t o store reply e new
+      → StepTells q s old.store store e.queued (is_some (outdater q))
+  made_tells outdater t (accepted change) store reply e new running m h =
+      subst (λ (o : Option Bytes). StepTells q s old.store store e.queued (is_some o)) (m.outdates q)
+      (accepted_tells t change (all_learned old.store.texts m.texts) store reply e new running m.spares m.store h)
+  made_tells outdater t (out_of_memory change) store reply e new running m h =
+      learned_stays q s e.queued (is_some (outdater q)) old.store store m
+  made_tells outdater t unchanged store reply e new running m h =
+      learned_stays q s e.queued (is_some (outdater q)) old.store store m
 
-  delete_tells : (t : ℕ) (name : Bytes) (row : Tuple) (r : Result DeleteOutcome Refusal) (store : Store) (reply : Bytes) (e : Effect) (new : State) → cause_of new s ≡ None
-      → DeletesRow old.store name row r store → ChangeStep old t (delete_outcome (row_out old.store.relations name row) r) store reply e new
-      → StepTells q s old.store store e.queued (is_some (by_relation name q))
-  delete_tells t name row (Ok Removed) store reply e new running h c =
-      let d = done_of (delete_refusal old.store name row) Removed (DeletesAs old.store name row store) (OutOfMemoryWhere ⊥) h.answer in
-      accepted_tells t (row_out old.store.relations name row) old.store.texts store reply e new running
-      (one_spares old.store.relations name (without_row (rows_of old.store.relations name) row)) d.1 c
-  delete_tells t name row (Ok Absent) store reply e new running h c =
-      let d = done_of (delete_refusal old.store name row) Absent (DeletesAs old.store name row store) (OutOfMemoryWhere ⊥) h.answer in
-      stays q s e.queued (is_some (by_relation name q)) old.store store (ap (λ (st : Store). st.relations) d.1) (ap (λ (st : Store). st.seq) d.1)
-  delete_tells t name row (Err r) store reply e new running h c =
-      stays q s e.queued (is_some (by_relation name q)) old.store store (ap (λ (st : Store). st.relations) h.stays) (ap (λ (st : Store). st.seq) h.stays)
+  form_tells : (f : Form) (t : ℕ) (x : Session) (e : Effect) (new : State) → cause_of new s ≡ None
+      → Does f old t x e new → StepTells q s old.store new.store e.queued (is_some (form_outdater f q))
+  form_tells asking t x e new running h = same_store q s e.queued false old new (replied_store t old new h.1)
+  form_tells storing t x e new running h =
+      subst (λ (st : Store). StepTells q s old.store st e.queued false)
+      (sym (replied_store t (record old { store = h.1.store }) new h.1.replied))
+      (stored_stays q s e.queued false (in_use old) old.store h.1.store h.1.stored)
+  form_tells (turning turn) t x e new running h = turn_stays q s e.queued false old t x turn new h.1
+  form_tells (changing c) t x e new running h =
+      let d = rows_do old t c e new h in
+      subst (λ (st : Store). StepTells q s old.store st e.queued (is_some (outdater_by c q)))
+      (sym (change_store old t d.outcome d.store d.reply e new d.change))
+      (made_tells (outdater_by c) t d.outcome d.store d.reply e new running d.made d.change)
+  form_tells ending t x e new running h =
+      same_store q s e.queued false old new (ap (λ (st : State). st.store) h.1.state)
 
   command_tells : (t : ℕ) (x : Session) (c : Command) (e : Effect) (new : State) → cause_of new s ≡ None → CommandStep old t x c e new → StepTells q s old.store new.store e.queued (is_some (line_outdater old t (says_command c) q))
-  command_tells t x (Add name row) e new running h =
-      subst (λ (st : Store). StepTells q s old.store st e.queued (is_some (by_relation name q))) (sym (change_store old t _ h.store _ e new h.change))
-      (add_tells t name row h.result h.store _ e new running h.done h.change)
-  command_tells t x (Del name row) e new running h =
-      subst (λ (st : Store). StepTells q s old.store st e.queued (is_some (by_relation name q))) (sym (change_store old t _ h.store _ e new h.change))
-      (delete_tells t name row h.result h.store _ e new running h.done h.change)
   command_tells t x c e new running h =
-      form_stays q s e.queued false (form_of c) old t x e new refl (command_does old t x c e new h)
+      subst (λ (o : Option Bytes). StepTells q s old.store new.store e.queued (is_some o)) (outdated_alike old t c q)
+      (form_tells (form_of c) t x e new running (command_does old t x c e new h))
 
   read_tells : (t : ℕ) (x : Session) (r : Reading) (e : Effect) (new : State) → cause_of new s ≡ None → ReadStep old t x r e new → StepTells q s old.store new.store e.queued (is_some (line_outdater old t r q))
   read_tells t x (refused r) e new running h = same_state q s e.queued false old new h.1

@@ -113,13 +113,16 @@ pub data Replied (s : ℕ) (mid new : State) : Type 0 where
   is_whole : new ≡ mid → Replied s mid new
   is_cut : new ≡ with_session mid s (ended_by Memory) → Replied s mid new
 
+-- Texts become known, or none does, and nothing else changes; no more are known than may be.
+pub record LearnsTexts (old new : Store) : Type 0 where
+  pub texts : List Bytes
+  pub few : length old.texts ≤ TEXTS → length new.texts ≤ TEXTS
+  pub store : new ≡ record old { texts = all_learned old.texts texts }
+
 -- What a command of the store makes of it, where some queries are in use.
 pub data Stored (used : Bytes → Bool) (old new : Store) : Type 0 where
-  -- nothing
-  keeps_store : new ≡ old → Stored used old new
-  -- texts become known
-  learns_texts : (texts : List Bytes) → length new.texts ≤ TEXTS
-      → new ≡ record old { texts = all_learned old.texts texts } → Stored used old new
+  -- no more than that texts become known
+  learns_texts : LearnsTexts old new → Stored used old new
   -- a relation of a new name is made, without rows
   makes_relation : (name : Bytes) → (types : List ColumnType) → relation_of old.relations name ≡ None
       → new ≡ record old {
