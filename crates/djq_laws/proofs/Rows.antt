@@ -70,7 +70,7 @@ use Rattle.djq_machine.specs.Changes.{
 }
 use Rattle.djq_machine.specs.Watch.{ChangeStep}
 use Rattle.djq_laws.specs.Sound.{AreApart, IsSoundRelation}
-use Rattle.djq_laws.specs.Form.{RowChange, row_comes, row_goes, LearnsTexts, Changed}
+use Rattle.djq_laws.specs.Form.{RowCommand, row_comes, row_goes, LearnsTexts, Changed}
 use Rattle.djq_laws.proofs.Changing.{all_changed, all_dropped}
 use Rattle.djq_laws.proofs.Answering.{Spares, one_spares}
 use Rattle.djq_laws.proofs.Apart.{names_changed, rows_more, rows_less, without_dropped}
@@ -199,11 +199,11 @@ pub record DoesRows (old : State) (s : ℕ) (outdater : Query → Option Bytes) 
   pub change : ChangeStep old s outcome store reply e new
 
 -- the relation whose change by such a command outdates a query
-abbrev pub outdater_by : RowChange → Query → Option Bytes
+abbrev pub outdater_by : RowCommand → Query → Option Bytes
 outdater_by (row_comes name row) = by_relation name
 outdater_by (row_goes name row) = by_relation name
 
-pub rows_do : (old : State) (s : ℕ) (c : RowChange) (e : Effect) (new : State) → Changed old s c e new
+pub rows_do : (old : State) (s : ℕ) (c : RowCommand) (e : Effect) (new : State) → Changed old s c e new
     → DoesRows old s (outdater_by c) e new
 rows_do old s (row_comes name row) e new h = record {
   outcome = add_outcome (row_in old.store.relations name row) h.result;

@@ -26,7 +26,7 @@ use Rattle.djq_machine.specs.Call.{IsOpen, cause_of, cause_in}
 use Rattle.djq_laws.specs.Moved.{EndsByRun, Spares, Comes, is_held, out_of_memory, is_dropped, Ends, input_ends, had_ended}
 use Rattle.djq_laws.specs.Watched.{IsWatcher, WatchesAlong}
 use Rattle.djq_laws.specs.Staying.{GoesOn, KeepsWatch, WatchersStay}
-use Rattle.djq_laws.specs.Form.{form_of, Form, asking, storing, turning, changing, ending, Turn, opens_cursor, moves_cursor, closes_cursor, starts_watching, stops_watching, RowChange, Replied, is_whole, is_cut, Stored, learns_texts, makes_relation, registers_query, drops_query, in_use, without_cursor, Turned, Changed, DoesStore, DoesTurn, is_turned, is_refused, Does}
+use Rattle.djq_laws.specs.Form.{form_of, Form, asking, storing, turning, changing, ending, Turn, opens_cursor, moves_cursor, closes_cursor, starts_watching, stops_watching, RowCommand, Replied, is_whole, is_cut, Stored, learns_texts, makes_relation, registers_query, drops_query, in_use, without_cursor, Turned, Changed, DoesStore, DoesTurn, is_turned, is_refused, Does}
 use Rattle.djq_laws.proofs.Finding.{some_and, and_some}
 use Rattle.djq_laws.proofs.Forms.{command_does}
 use Rattle.djq_laws.proofs.Rows.{outdater_by, rows_do, made_queries}
@@ -179,7 +179,7 @@ module _ (q : Query) (s : ℕ) (old : State) (registered : query_of old.store.qu
   by_turning t x turn new there not_it (is_turned h) = by_turn t x turn new not_it h
   by_turning t x turn new there not_it (is_refused r) = by_reply t new there r
 
-  by_rows : (t : ℕ) (c : RowChange) (e : Effect) (new : State) → Changed old t c e new → Stays q s new
+  by_rows : (t : ℕ) (c : RowCommand) (e : Effect) (new : State) → Changed old t c e new → Stays q s new
   by_rows t c e new h =
       let d = rows_do old t c e new h in
       by_change t d.outcome d.store d.reply e new d.change

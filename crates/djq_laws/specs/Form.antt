@@ -69,12 +69,12 @@ pub data Turn : Type 0 where
   -- it is watched no more
   stops_watching : Bytes → Turn
 
--- What a command may make of the rows of a relation.
-pub data RowChange : Type 0 where
+-- What a command of rows may bring.
+pub data RowCommand : Type 0 where
   -- a row comes
-  row_comes : Bytes → Tuple → RowChange
+  row_comes : Bytes → Tuple → RowCommand
   -- a row goes
-  row_goes : Bytes → Tuple → RowChange
+  row_goes : Bytes → Tuple → RowCommand
 
 -- A command asks; or it is of the store, of the session that says it, or of rows; or it ends the
 -- session.
@@ -82,7 +82,7 @@ pub data Form : Type 0 where
   asking : Form
   storing : Form
   turning : Turn → Form
-  changing : RowChange → Form
+  changing : RowCommand → Form
   ending : Form
 
 abbrev pub form_of : Command → Form
@@ -175,7 +175,7 @@ Turned old s x (starts_watching q) new =
 Turned old s x (stops_watching q) new = new ≡ with_session old s (without_watch q)
 
 -- What a command of rows makes of a state.
-abbrev pub Changed : State → ℕ → RowChange → Effect → State → Type 0
+abbrev pub Changed : State → ℕ → RowCommand → Effect → State → Type 0
 Changed old s (row_comes name row) e new = AddStep old s name row e new
 Changed old s (row_goes name row) e new = DeleteStep old s name row e new
 
