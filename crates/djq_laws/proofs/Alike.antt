@@ -14,7 +14,7 @@ use Rattle.djq_machine.specs.Stale.{outdated_cursor}
 use Rattle.djq_machine.specs.Changes.{RowsChange, RowsOutcome, tried, changed}
 use Rattle.djq_machine.specs.Watch.{Telling, ChangeStep}
 use Rattle.djq_machine.specs.Keeping.{Keeping, no_line}
-use Rattle.djq_machine.specs.Effect.{Effect, nothing, says, EndsWith}
+use Rattle.djq_machine.specs.Effect.{Effect, nothing, says}
 use Rattle.djq_machine.specs.LineStep.{ReadStep}
 use Rattle.djq_machine.specs.Run.{to_session, pending_in}
 use Rattle.djq_machine.specs.Call.{IsOpen, cause_in, held_in}
@@ -156,15 +156,6 @@ module _ (May : EndCause → Type 0) where
   -- The sessions stay alike, and what is said to another session is said to one that is open.
   abbrev pub KeepsAlike : State → ℕ → Effect → State → Type 0
   KeepsAlike old s e new = Alike old.sessions new.sessions × ToOpen s e new
-
-  pub nothing_keeps : (old : State) (s : ℕ) (e : Effect) (new : State) → e ≡ nothing → new ≡ old → KeepsAlike old s e new
-  nothing_keeps old s e new none after = (alike_state old new after, alone_nothing s e none)
-
-  pub says_keeps : (old : State) (s : ℕ) (text : Bytes) (f : Session → Session) (e : Effect) (new : State) → Keeps f → e ≡ says s text → new ≡ with_session old s f → KeepsAlike old s e new
-  says_keeps old s text f e new k said after = (alike_with old new s f k after, alone_text s text 0 no_line e said)
-
-  pub ends_keeps : (old : State) (s : ℕ) (text : Bytes) (cause : EndCause) (e : Effect) (new : State) → May cause → EndsWith text cause old s e new → KeepsAlike old s e new
-  ends_keeps old s text cause e new may h = says_keeps old s text (ended_by cause) e new (keeps_ended cause may) h.0 h.1
 
   pub stays_keeps : (old : State) (s : ℕ) (text : Bytes) (e : Effect) (new : State) → e ≡ says s text → new ≡ old → KeepsAlike old s e new
   stays_keeps old s text e new said after = (alike_state old new after, alone_text s text 0 no_line e said)

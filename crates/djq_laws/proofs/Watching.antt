@@ -94,9 +94,6 @@ module _ (q : Query) (s : ℕ) (queued : List (ℕ × Bytes)) (changes : Bool) w
   one_session : (old new : State) (t : ℕ) (f : Session → Session) → new ≡ with_session old t f → StepTells q s old.store new.store queued changes
   one_session old new t f e = same_store old new (ap (λ (st : State). st.store) e)
 
-  texts_stay : (old new : Store) → new ≡ record old { texts = new.texts } → StepTells q s old new queued changes
-  texts_stay old new e = stays old new (ap (λ (st : Store). st.relations) e) (ap (λ (st : Store). st.seq) e)
-
   learned_stays : (old new : Store) → LearnsTexts old new → StepTells q s old new queued changes
   learned_stays old new h =
       stays old new (ap (λ (st : Store). st.relations) h.store) (ap (λ (st : Store). st.seq) h.store)
