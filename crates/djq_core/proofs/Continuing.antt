@@ -8,6 +8,7 @@ use Rattle.djq_lines.specs.declared.answer.Refusal.TheVariants.{NoCursor}
 use Rattle.djq_lines.specs.declared.answer.EndCause.TheVariants.{Memory}
 use Rattle.djq_lines.specs.declared.command.Command.TheVariants.{Next}
 use Rattle.djq_lines.specs.Reply.{refusal_line, stale_line, answer_line, listing_lines, text_of, end_memory}
+use Rattle.djq_machine.specs.Keeping.{no_line}
 use Rattle.djq_machine.specs.State.{Session, State, Cursor, Position, open_at, stale, with_session, with_position, ended_by}
 use Rattle.djq_machine.specs.Store.{most_steps}
 use Rattle.djq_machine.specs.Effect.{Effect, RefusedStep}
@@ -37,6 +38,7 @@ pub counting : (M : State → ℕ → Session → Effect → State → Type 0) (
 counting M stops old before new after was now le p = record {
   text = p.text;
   cost = p.cost;
+  kept = p.kept;
   pending = p.pending;
   does = p.does;
   sound = p.sound;
@@ -159,6 +161,7 @@ does_whole old new before after c n h q given ended count was now f held known a
     record {
       text = Some text;
       cost = (length w.told + 1) * most_steps (length q.head);
+      kept = no_line;
       pending = ap (λ (d : Talk). d.pending) w.queued;
       does = λ front back s stopped sound.
           let a = parts old front s before back sound in

@@ -9,6 +9,7 @@ use Rattle.djq_lines.specs.declared.answer.EndCause.TheVariants.{Memory}
 use Rattle.djq_lines.specs.declared.rest.QueryOutcome.{QueryOutcome}
 use Rattle.djq_lines.specs.declared.command.Command.TheVariants.{Query as Register, Explain}
 use Rattle.djq_lines.specs.Reply.{line, refusal_line, query_reply, text_of, end_memory}
+use Rattle.djq_machine.specs.Keeping.{Keeping, no_line, kept_where, is_registration}
 use Rattle.djq_machine.specs.State.{Store, Session, State, with_session, ended_by}
 use Rattle.djq_machine.specs.Store.{RegistersQuery}
 use Rattle.djq_machine.specs.Conditions.{first_of, Answers, OutOfMemoryWhere}
@@ -23,7 +24,7 @@ use Rattle.djq_core.specs.declared.open.OpenSession.{OpenSession}
 use Rattle.djq_core.specs.Views.{Talk, session_in, state_in}
 use Rattle.djq_core.specs.Sound.{ids_of, all_ids, AreHeld, AreApart, HasCount, StaysCounted, IsOwn, IsSound, IsReady}
 use Rattle.djq_core.specs.Ends.{GivesUp, CutsOff}
-use Rattle.djq_core.specs.Performs.{among, to_one, behind, unqueued, Performs, Executes}
+use Rattle.djq_core.specs.Performs.{among, to_one, to_keep, behind, unqueued, Performs, Executes}
 use Rattle.djq_core.proofs.Ids.{agree_same, agree_held, agree_open}
 use Rattle.djq_core.proofs.Around.{parts, whole}
 use Rattle.djq_core.proofs.GivingUp.{ends_among}
@@ -31,11 +32,11 @@ use Rattle.djq_core.proofs.Replying.{around_same, refused}
 use Rattle.djq_core.proofs.Watching.{recount, stays_same, stays_on}
 
 -- Something is done, the cursors stay as they are, and the session is cut off.
-pub cut_off_after : (M : State → ℕ → Session → Effect → State → Type 0) (old mid new : Kept) (before between after : Talk) (was now : ℕ)
+pub cut_off_after : (M : State → ℕ → Session → Effect → State → Type 0) (old mid new : Kept) (before between after : Talk) (was now : ℕ) (kept : Keeping)
     → SameCursors old.cursors mid.cursors → StaysCounted old.registered before.watches mid.registered before.watches → between ≡ record before { room = between.room } → CutsOff mid between new after → now ≡ was
-    → ((st : State) (s : ℕ) (x : Session) → st.store ≡ old.store → M st s x (to_one s (Some end_memory) 0) (with_session (record st { store = mid.store }) s (ended_by Memory)))
+    → ((st : State) (s : ℕ) (x : Session) → st.store ≡ old.store → M st s x (to_keep s (Some end_memory) 0 kept) (with_session (record st { store = mid.store }) s (ended_by Memory)))
     → Performs M false old before new after was now
-cut_off_after M old mid new before between after was now same stays roomy cut counted does =
+cut_off_after M old mid new before between after was now kept same stays roomy cut counted does =
     let cut' : CutsOff mid (record before { room = between.room }) new after = subst (λ (d : Talk). CutsOff mid d new after) roomy cut in
     let g = cut'.gives_up in
     let up : GivesUp mid before new (record before { cursors = []; watches = [] }) = record { store = g.store; gone = g.gone; others = g.others; session = refl; counted = g.counted } in
@@ -45,6 +46,7 @@ cut_off_after M old mid new before between after was now same stays roomy cut co
     record {
       text = Some end_memory;
       cost = 0;
+      kept = kept;
       pending = ap (λ (d : Talk). d.pending) left;
       does = λ front back s stopped sound.
           let xs = among front s before back in
@@ -52,8 +54,8 @@ cut_off_after M old mid new before between after was now same stays roomy cut co
           let step = (ends_among mid new before Memory stopped after.room before.pending up front back s (around front back s sound)).0 in
           let seen : state_in mid stopped xs ≡ record st { store = mid.store }
           = ap (λ (ys : List Session). record { store = mid.store; stopped = stopped; sessions = ys }) (agree_open old.cursors mid.cursors xs (agree_same old.cursors mid.cursors (all_ids xs) same)) in
-          subst (λ (d : Talk). M st s (session_in old.cursors s before) (to_one s (Some end_memory) 0) (state_in new stopped (among front s (unqueued before d) back))) (sym left)
-          (subst (λ (w : State). M st s (session_in old.cursors s before) (to_one s (Some end_memory) 0) w) (sym (step ∙ ap (λ (w : State). with_session w s (ended_by Memory)) seen))
+          subst (λ (d : Talk). M st s (session_in old.cursors s before) (to_keep s (Some end_memory) 0 kept) (state_in new stopped (among front s (unqueued before d) back))) (sym left)
+          (subst (λ (w : State). M st s (session_in old.cursors s before) (to_keep s (Some end_memory) 0 kept) w) (sym (step ∙ ap (λ (w : State). with_session w s (ended_by Memory)) seen))
           (does st s (session_in old.cursors s before) refl));
       sound = λ front back s sound.
           subst (λ (d : Talk). IsSound new (among front s d back)) (sym left)
@@ -81,7 +83,7 @@ pub does_query_cut : (old mid new : Kept) (before between after : Talk) (q : Que
     → now ≡ was → IsReady old before → RegistersQuery old.store q result mid.store → SameCursors old.cursors mid.cursors → StaysCounted old.registered before.watches mid.registered before.watches → Lacks before between (query_reply result) → CutsOff mid between new after
     → Executes (Register q) false old before new after was now
 does_query_cut old mid new before between after q result was now counted ready registers same stays lacks cut =
-    cut_off_after _ old mid new before between after was now same stays lacks.same cut counted (λ st s x e. inr (record {
+    cut_off_after _ old mid new before between after was now (kept_where (is_registration result)) same stays lacks.same cut counted (λ st s x e. inr (record {
       result = result;
       store = mid.store;
       done = subst (λ store. RegistersQuery store q result mid.store) (sym e) registers;
@@ -108,7 +110,7 @@ cut_explained : (k : Kept) (new : Kept) (before between after : Talk) (name : By
     → IsSomeAnd (query_of (k.store).queries name) HasTree → Executes (Explain name) false k before new after 0 0
 cut_explained k new before between after name roomy cut tree =
     let q = there_is HasTree (query_of (k.store).queries name) tree in
-    cut_off_after _ k k new before between after 0 0 (λ id. refl) (stays_same k.registered k.registered before.watches before.watches refl refl) roomy cut refl (λ st s x e.
+    cut_off_after _ k k new before between after 0 0 no_line (λ id. refl) (stays_same k.registered k.registered before.watches before.watches refl refl) roomy cut refl (λ st s x e.
     let new' = with_session (record st { store = k.store }) s (ended_by Memory) in
     let same : with_session st s (ended_by Memory) ≡ new' = ap (λ (w : Store). with_session (record st { store = w }) s (ended_by Memory)) e in
     let first = first_line _ (line (codes "end")) in

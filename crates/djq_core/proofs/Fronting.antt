@@ -7,6 +7,7 @@ use Rattle.djq_lines.specs.declared.answer.EndCause.{EndCause}
 use Rattle.djq_lines.specs.declared.answer.EndCause.TheVariants.{Long, Slow, Memory}
 use Rattle.djq_lines.specs.Line.{too_long, dry, a_line, front_of, is_blank}
 use Rattle.djq_lines.specs.Reply.{end_long, end_slow, end_memory}
+use Rattle.djq_machine.specs.Keeping.{no_line}
 use Rattle.djq_machine.specs.declared.machine.Stepped.TheVariants.{Ran, Dry, Ended}
 use Rattle.djq_machine.specs.State.{Session, State}
 use Rattle.djq_machine.specs.Effect.{Effect, EndsWith}
@@ -27,6 +28,7 @@ pub is_too_long : (old new : Kept) (before after : Talk) (was : ℕ) → front_o
 is_too_long old new before after was f p = record {
   text = p.text;
   cost = p.cost;
+  kept = p.kept;
   pending = p.pending;
   does = λ front back s stopped sound. (f, p.does front back s stopped sound);
   sound = p.sound;
@@ -35,7 +37,7 @@ is_too_long old new before after was f p = record {
 
 -- the counts of what lists nothing
 uncounted : (M : State → ℕ → Session → Effect → State → Type 0) (old : Kept) (before : Talk) (new : Kept) (after : Talk) (was : ℕ) → Performs M false old before new after 0 0 → Performs M false old before new after was was
-uncounted M old before new after was p = record { text = p.text; cost = p.cost; pending = p.pending; does = p.does; sound = p.sound; counted = omega arith }
+uncounted M old before new after was p = record { text = p.text; cost = p.cost; kept = p.kept; pending = p.pending; does = p.does; sound = p.sound; counted = omega arith }
 
 -- a line that isn't run since too much is pending
 pub is_slow : (old new : Kept) (before mid after : Talk) (l rest : Bytes) (was : ℕ) → front_of before.held ≡ a_line l rest → mid ≡ record before { held = rest } → is_blank l ≡ false → PENDING_BYTES < length before.pending
@@ -57,6 +59,7 @@ pub is_dropped : (k : Kept) (before after : Talk) (l rest : Bytes) (was : ℕ) �
 is_dropped k before after l rest was f e said = record {
   text = None;
   cost = 0;
+  kept = no_line;
   pending = ap (λ (d : Talk). d.pending) e;
   does = λ front back s stopped sound. (
     said,

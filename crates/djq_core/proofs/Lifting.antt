@@ -17,7 +17,7 @@ use Rattle.djq_engine.specs.Kept.{Kept}
 use Rattle.djq_core.specs.declared.open.OpenSession.{OpenSession}
 use Rattle.djq_core.specs.Views.{Talk, session_in, state_in}
 use Rattle.djq_core.specs.Sound.{IsSound}
-use Rattle.djq_core.specs.Performs.{among, to_one, behind, unqueued, Performs}
+use Rattle.djq_core.specs.Performs.{among, to_one, to_keep, behind, unqueued, Performs}
 use Rattle.djq_core.specs.Stepping.{Fronts, EndsBefore, Unchanged, StepsTo}
 use Rattle.djq_core.proofs.Around.{parts, found, becomes}
 use Rattle.djq_core.proofs.Replying.{around_bytes}
@@ -40,10 +40,10 @@ queued k stopped front s before after back (Some text) cost sound e =
 pub makes_step : (M : State → ℕ → Session → Effect → State → Type 0) (event : Event) (stops : Bool) (old : Kept) (before : Talk) (new : Kept) (after : Talk) (was now : ℕ) (front back : List OpenSession) (s : ℕ) (stopped : Bool)
     → (p : Performs M stops old before new after was now) → IsSound old (among front s before back)
     → ((e : Effect) (st' : State) → M (state_in old stopped (among front s before back)) s (session_in old.cursors s before) e st' → Acts (state_in old stopped (among front s before back)) event e st')
-    → Step (state_in old stopped (among front s before back)) event (to_one s p.text p.cost) (state_in new (stops || stopped) (among front s after back))
+    → Step (state_in old stopped (among front s before back)) event (to_keep s p.text p.cost p.kept) (state_in new (stops || stopped) (among front s after back))
 makes_step M event stops old before new after was now front back s stopped p sound acts = record {
   mid = state_in new (stops || stopped) (among front s (unqueued before after) back);
-  acts = acts (to_one s p.text p.cost) (state_in new (stops || stopped) (among front s (unqueued before after) back)) (p.does front back s stopped sound);
+  acts = acts (to_keep s p.text p.cost p.kept) (state_in new (stops || stopped) (among front s (unqueued before after) back)) (p.does front back s stopped sound);
   relations = (new.store).relations;
   reordered = same_relations (new.store).relations;
   queued = queued new (stops || stopped) front s before after back p.text p.cost (p.sound front back s sound) p.pending;
@@ -65,12 +65,12 @@ fronts : (o : LineOutcome) (stops : Bool) (old : Kept) (before : Talk) (new : Ke
     → Fronts o stops old before new after was.listing now.listing → IsSound old (among front s before back)
     → MakesCounted (state_in old stopped (among front s before back)) (stepped s o) (state_in new (stops || stopped) (among front s after back)) was now
 fronts o stops old before new after was now front back s stopped c p sound = record {
-  effect = to_one s p.text p.cost;
+  effect = to_keep s p.text p.cost p.kept;
   step = makes_step _ (stepped s o) stops old before new after was.listing now.listing front back s stopped p sound (λ e st' m. at_session old stopped front s before back _ sound (c, m));
   listing = subst (λ (e : ℕ). now.listing ≤ was.listing + e) (sym (cost_is p.text)) p.counted;
 }
   where
-    cost_is : (t : Option Bytes) → (to_one s t p.cost).cost ≡ p.cost
+    cost_is : (t : Option Bytes) → (to_keep s t p.cost p.kept).cost ≡ p.cost
     cost_is None = refl
     cost_is (Some t) = refl
 

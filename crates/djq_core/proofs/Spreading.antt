@@ -15,7 +15,7 @@ use Rattle.djq_machine.specs.Watch.{Delta, Telling, is_watching, watching, watch
 use Rattle.djq_engine.specs.Kept.{Kept}
 use Rattle.djq_core.specs.declared.open.OpenSession.{OpenSession}
 use Rattle.djq_core.specs.Views.{Talk, session_in, open_in, state_in}
-use Rattle.djq_core.specs.Performs.{among, to_one, unqueued, Performs}
+use Rattle.djq_core.specs.Performs.{among, to_keep, unqueued, Performs}
 use Rattle.djq_core.specs.Sound.{IsSound, IsOwn, times_in, watchers_in, is_among_watches, all_ids, ids_of as ids_of_cursors}
 use Rattle.djq_core.specs.Telling.{KeepsTold, HearsDelta, WatchesOn, KeepsUntold, ToldSoFar, GoesOnTelling}
 use Rattle.djq_core.proofs.Around.{parts, found, ids_are}
@@ -81,7 +81,7 @@ pub told_reaches : (q : Bytes) (whole : Bool) (text : Bytes) (old : Kept) (befor
 told_reaches q whole text old before new after front s back p sound w d n same fits stopped start m so =
     let x = session_in old.cursors s before in
     let did = p.does front back s stopped sound in
-    let b = bridged d n s m (state_in old stopped (among front s before back)) (state_in new stopped (among front s (unqueued before after) back)) x (to_one s p.text p.cost) whole text (sym so.seen)
+    let b = bridged d n s m (state_in old stopped (among front s before back)) (state_in new stopped (among front s (unqueued before after) back)) x (to_keep s p.text p.cost p.kept) whole text (sym so.seen)
     (found old stopped front s before back (parts old front s before back sound)) (sees d q true x same w) fits did in (
       b.telling,
       b.tells,

@@ -16,7 +16,7 @@ use Rattle.djq_engine.specs.Kept.{Kept}
 use Rattle.djq_core.specs.declared.open.OpenSession.{OpenSession}
 use Rattle.djq_core.specs.Views.{Talk, session_in, state_in}
 use Rattle.djq_core.specs.Sound.{IsSound}
-use Rattle.djq_core.specs.Performs.{among, to_one, unqueued, Performs, Executes}
+use Rattle.djq_core.specs.Performs.{among, to_one, to_keep, unqueued, Performs, Executes}
 use Rattle.djq_core.specs.Stepping.{Fronts}
 use Rattle.djq_core.proofs.Around.{parts, whole, becomes, looks}
 use Rattle.djq_core.proofs.Replying.{refused, around_bytes}
@@ -38,9 +38,10 @@ with_room M stops old before mid new after was now e p =
     record {
       text = q.text;
       cost = q.cost;
+      kept = q.kept;
       pending = q.pending;
       does = λ front back s stopped sound.
-          subst (λ (st : State). M st s (session_in old.cursors s before) (to_one s q.text q.cost) (state_in new (stops || stopped) (among front s (unqueued before after) back)))
+          subst (λ (st : State). M st s (session_in old.cursors s before) (to_keep s q.text q.cost q.kept) (state_in new (stops || stopped) (among front s (unqueued before after) back)))
           (looks old stopped front s before (record before { room = mid.room }) back refl)
           (q.does front back s stopped (sound_bytes old front s before before.held before.pending mid.room back sound));
       sound = λ front back s sound. q.sound front back s (sound_bytes old front s before before.held before.pending mid.room back sound);
@@ -57,13 +58,14 @@ taking P M stops old before mid l rest new after was now f e wrap p =
     record {
       text = q.text;
       cost = q.cost;
+      kept = q.kept;
       pending = q.pending;
       does = λ front back s stopped sound.
-          wrap (state_in old stopped (among front s before back)) (state_in new (stops || stopped) (among front s (unqueued before after) back)) s (session_in old.cursors s before) (to_one s q.text q.cost) refl refl
+          wrap (state_in old stopped (among front s before back)) (state_in new (stops || stopped) (among front s (unqueued before after) back)) s (session_in old.cursors s before) (to_keep s q.text q.cost q.kept) refl refl
           (record {
             rest = rest;
             front = f;
-            then = subst (λ (st : State). P st s (session_in old.cursors s (record before { held = rest })) (to_one s q.text q.cost) (state_in new (stops || stopped) (among front s (unqueued before after) back)))
+            then = subst (λ (st : State). P st s (session_in old.cursors s (record before { held = rest })) (to_keep s q.text q.cost q.kept) (state_in new (stops || stopped) (among front s (unqueued before after) back)))
                 (becomes old stopped front s before (record before { held = rest }) back (behind_line rest) (parts old front s before back sound) refl)
                 (q.does front back s stopped (sound_bytes old front s before rest before.pending before.room back sound));
           });
@@ -84,9 +86,10 @@ pub reads_command : (stops : Bool) (old : Kept) (before : Talk) (l : Bytes) (com
 reads_command stops old before l command new after was now r p = record {
   text = p.text;
   cost = p.cost;
+  kept = p.kept;
   pending = p.pending;
   does = λ front back s stopped sound.
-      subst (λ (r : Reading). ReadStep (state_in old stopped (among front s before back)) s (session_in old.cursors s before) r (to_one s p.text p.cost) (state_in new (stops || stopped) (among front s (unqueued before after) back)))
+      subst (λ (r : Reading). ReadStep (state_in old stopped (among front s before back)) s (session_in old.cursors s before) r (to_keep s p.text p.cost p.kept) (state_in new (stops || stopped) (among front s (unqueued before after) back)))
       (sym r) (true, p.does front back s stopped sound);
   sound = p.sound;
   counted = p.counted;

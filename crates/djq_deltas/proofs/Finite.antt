@@ -11,15 +11,15 @@ use Rattle.djq_lines.specs.declared.answer.Sign.TheVariants.{Came, Went}
 use Rattle.djq_machine.specs.Delta.{Change, HasChanged, IsDelta}
 use Rattle.djq_deltas.specs.Finite.{AnswersAreFinite, DeltasExist}
 use Rattle.djq_deltas.proofs.Lists.{nothing_there, first_or_later, first_there, later_there, row_found, row_there, kept_hold, kept_there, pairs_join, hold_each, once, once_hold, once_there, once_differ}
-use Rattle.djq_deltas.proofs.Naive.{all_tried, all_hold, all_there}
+use Rattle.djq_deltas.proofs.Naive.{listed, all_hold, all_there}
 
 pub answers_are_finite : AnswersAreFinite
 answers_are_finite relations q bound = (
-  once (all_tried relations q),
+  once (listed relations q),
   record {
-    different = once_differ (all_tried relations q);
-    answers = once_hold (IsAnswer relations q) (all_tried relations q) (all_hold relations q);
-    complete = λ t h. once_there (all_tried relations q) t (all_there relations q bound t h);
+    different = once_differ (listed relations q);
+    answers = once_hold (IsAnswer relations q) (listed relations q) (all_hold relations q);
+    complete = λ t h. once_there (listed relations q) t (all_there relations q bound t h);
   },
 )
 

@@ -4,10 +4,12 @@ use Rattle.std.proofs.Common.{ℕ, zero, suc, List, [], ◌∷◌, ◌++◌, ◌
 use Rattle.std.specs.Prelude.{◌==◌, ◌&&◌, ◌||◌, not, Option, None, Some, is_some, IsSome, IsSomeAnd, option_map, find, map, filter, cond, position, AllPairs}
 use Rattle.std.proofs.lemmas.Bool.{eqb-true, eq-eqb, false≢true}
 use Rattle.std.proofs.lemmas.List.{map-append}
+use Rattle.djq_model.specs.declared.relation.Relation.{Relation}
 use Rattle.djq_model.specs.declared.query.Query.{Query}
 use Rattle.djq_model.specs.Data.{Bytes, bytes_eq}
 use Rattle.djq_model.specs.Equality.{bytes_eq-decides}
-use Rattle.djq_machine.specs.Stale.{reads}
+use Rattle.djq_machine.specs.Stale.{reads, by_relation}
+use Rattle.djq_machine.specs.Changes.{one_change}
 use Rattle.djq_rows.specs.Catalog.{Catalog, relation_at}
 use Rattle.djq_live.specs.Live.{Live}
 use Rattle.djq_engine.specs.declared.cursor.QueryId.{QueryId}
@@ -73,6 +75,14 @@ map_mapped g f [] = refl
 map_mapped g f (x ∷ xs) = ap (λ l. g (f x) ∷ l) (map_mapped g f xs)
 
 -- ---- what an id stands for
+
+-- A change of one relation outdates the queries that read it.
+pub outdated_reads : (name : Bytes) (q : Query) → is_some (by_relation name q) ≡ reads q name
+outdated_reads name q = step (reads q name)
+  where
+    step : (b : Bool) → is_some (cond b (Some name) None) ≡ b
+    step true = refl
+    step false = refl
 
 module _ (c : Catalog) (gs : List (Option Live)) (order : List ℕ) (readers : List (List ℕ)) (ws : List ℕ) (s : IsSound c gs order readers) where
   found_is : (id : QueryId) (xs : List ℕ) → registered_at (registered_in gs ws xs) id ≡ cond (is_reader xs id.at) (Some (registered_as gs ws id.at)) None
@@ -173,11 +183,13 @@ module _ (c : Catalog) (gs : List (Option Live)) (order : List ℕ) (readers : L
       let t = order_there c gs order readers s i e in
       ap (λ (o : Option Live). reads (query_in o) name) t.is ∙ sym (ap (reads_place name) t.is)
 
-  pub readers_are : (at : ℕ) → at < length c.relations → readers_of (registered_in gs ws order) (relation_at c.relations at).name ≡ registered_in gs ws (readers_at readers at)
-  readers_are at low =
-      filter_mapped (λ r. reads r.query (relation_at c.relations at).name) (registered_as gs ws) order
-      ∙ ap (registered_in gs ws) (filter_members (λ i. reads (query_in (place_at gs i)) (relation_at c.relations at).name) (λ i. reads_place (relation_at c.relations at).name (place_at gs i)) order
-      (reads_as (relation_at c.relations at).name) ∙ sym (s.reading at low))
+  pub readers_are : (at : ℕ) → at < length c.relations → (after : List Relation)
+      → readers_of (registered_in gs ws order) (one_change (relation_at c.relations at).name after) ≡ registered_in gs ws (readers_at readers at)
+  readers_are at low after =
+      let name = (relation_at c.relations at).name in
+      filter_mapped (λ r. is_some (by_relation name r.query)) (registered_as gs ws) order
+      ∙ ap (registered_in gs ws) (filter_members (λ i. is_some (by_relation name (query_in (place_at gs i)))) (λ i. reads_place name (place_at gs i)) order
+      (λ i e. outdated_reads name (query_in (place_at gs i)) ∙ reads_as name i e) ∙ sym (s.reading at low))
 
   filter_both : {A : Type 0} (p q : A → Bool) (xs : List A) → filter (λ x. p x && q x) xs ≡ filter q (filter p xs)
   filter_both p q [] = refl
@@ -188,11 +200,11 @@ module _ (c : Catalog) (gs : List (Option Live)) (order : List ℕ) (readers : L
       step true e = ap (λ l. cond (q x) (x ∷ l) l) e
       step false e = e
 
-  pub affected_are : (at : ℕ) → at < length c.relations
-      → affected_of (registered_in gs ws order) (relation_at c.relations at).name ≡ registered_in gs ws (filter (watched_at ws) (readers_at readers at))
-  affected_are at low =
-      filter_both (λ r. reads r.query (relation_at c.relations at).name) is_watched (registered_in gs ws order)
-      ∙ ap (filter is_watched) (readers_are at low)
+  pub affected_are : (at : ℕ) → at < length c.relations → (after : List Relation)
+      → affected_of (registered_in gs ws order) (one_change (relation_at c.relations at).name after) ≡ registered_in gs ws (filter (watched_at ws) (readers_at readers at))
+  affected_are at low after =
+      filter_both (λ r. is_some (by_relation (relation_at c.relations at).name r.query)) is_watched (registered_in gs ws order)
+      ∙ ap (filter is_watched) (readers_are at low after)
       ∙ filter_mapped is_watched (registered_as gs ws) (readers_at readers at)
 
 -- ---- other watchers

@@ -6,7 +6,9 @@ use Rattle.std.proofs.lemmas.List.{take_more}
 use Rattle.std.proofs.lemmas.List.Sums.{sum_by-cons, sum_by-append, sum_by-take-le, sum_by_more}
 use Rattle.std.proofs.lemmas.Nat.{mul-le}
 use Rattle.djq_model.specs.Data.{Bytes, bytes_eq}
-use Rattle.djq_machine.specs.Stale.{reads}
+use Rattle.djq_model.specs.declared.relation.Relation.{Relation}
+use Rattle.djq_machine.specs.Stale.{reads, by_relation}
+use Rattle.djq_machine.specs.Changes.{one_change}
 use Rattle.djq_propagate.specs.Updates.{HasAtMost}
 use Rattle.djq_query.specs.Numbered.{Numbered}
 use Rattle.djq_rows.specs.Catalog.{relation_at}
@@ -24,7 +26,7 @@ use Rattle.djq_engine.specs.Watching.{AreFew, CountsUpdates, bound_in, update_st
 use Rattle.djq_engine.specs.Whole.{kept_in, IsWhole}
 use Rattle.djq_engine.proofs.Listing.{apart, reader_more, or_true}
 use Rattle.djq_engine.proofs.Carrying.{reader_is, reader_reads}
-use Rattle.djq_engine.proofs.Enlisted.{readers_are, registered_is}
+use Rattle.djq_engine.proofs.Enlisted.{outdated_reads, readers_are, registered_is}
 use Rattle.djq_engine.proofs.Naming.{There, live_there}
 use Rattle.djq_engine.proofs.Reaching.{once_at, only, reader_there}
 use Rattle.djq_engine.proofs.Reporting.{atoms_of, both_true}
@@ -197,7 +199,7 @@ works_back at cells places k d old now mid x y z u o low took last first second 
 
 module _ (old : Parts) (s : IsWhole old) (at : ℕ) (low : at < length (old.catalog).relations)
     (name : Bytes) (named : (relation_at (old.catalog).relations at).name ≡ name)
-    (law : LeavesAreSmall) where
+    (after : List Relation) (law : LeavesAreSmall) where
   reads_there : (i : ℕ) → is_reader (readers_at old.readers.items at) i ≡ true
       → There old.queries.items i
   reads_there i e =
@@ -206,10 +208,11 @@ module _ (old : Parts) (s : IsWhole old) (at : ℕ) (low : at < length (old.cata
       (sym (reader_is old.catalog old.queries.items old.order old.readers.items s at low i) ∙ e)).0
 
   reads_name : (i : ℕ) → is_reader (readers_at old.readers.items at) i ≡ true
-      → reads (query_in (place_at old.queries.items i)) name ≡ true
+      → is_some (by_relation name (query_in (place_at old.queries.items i))) ≡ true
   reads_name i e =
       let t = reads_there i e in
-      ap (λ (o : Option Live). reads (query_in o) name) t.is
+      outdated_reads name (query_in (place_at old.queries.items i))
+      ∙ ap (λ (o : Option Live). reads (query_in o) name) t.is
       ∙ ap (reads t.query.query) (sym named)
       ∙ sym (reader_reads old.catalog old.queries.items old.order old.readers.items s at low i
       t.query t.is)
@@ -224,7 +227,7 @@ module _ (old : Parts) (s : IsWhole old) (at : ℕ) (low : at < length (old.cata
       ∙ ap (λ b. cond b (Some (registered_as old.queries.items old.watchers.items i)) None)
       (ap is_some (reads_there i e).is)
 
-  small : (n : ℕ) → AreFew (kept_in old) name n
+  small : (n : ℕ) → AreFew (kept_in old) (one_change name after) n
       → AllAt (readers_at old.readers.items at) old.queries.items (λ l. HasAtMost l.reducts n)
   small n few i e =
       let t = reads_there i e in
@@ -238,7 +241,7 @@ module _ (old : Parts) (s : IsWhole old) (at : ℕ) (low : at < length (old.cata
 
   steps_of : (n i : ℕ) → is_reader (readers_at old.readers.items at) i ≡ true
       → work_at old.queries.items at n i
-      ≤ update_steps (kept_in old) name n (registered_as old.queries.items old.watchers.items i)
+      ≤ update_steps (kept_in old) (one_change name after) n (registered_as old.queries.items old.watchers.items i)
   steps_of n i e =
       let t = reads_there i e in
       let l = t.query in
@@ -257,19 +260,19 @@ module _ (old : Parts) (s : IsWhole old) (at : ℕ) (low : at < length (old.cata
       (omega arith))
 
   pub counts_updates : (times before now : ℕ) → WorksRows at times old before now
-      → CountsUpdates times (kept_in old) name before now
+      → CountsUpdates times (kept_in old) (one_change name after) before now
   counts_updates times before now works = record {
     counted = λ n few.
         let a = works n (small n few) in
-        let b = sums_le (work_at old.queries.items at n) (update_steps (kept_in old) name n)
+        let b = sums_le (work_at old.queries.items at n) (update_steps (kept_in old) (one_change name after) n)
         (registered_as old.queries.items old.watchers.items) (readers_at old.readers.items at)
         (steps_of n) in
-        let same = ap (readers_of (kept_in old).registered) (sym named)
+        let same = ap (λ (x : Bytes). readers_of (kept_in old).registered (one_change x after)) (sym named)
         ∙ readers_are old.catalog old.queries.items old.order old.readers.items
-        old.watchers.items s at low in
+        old.watchers.items s at low after in
         let c = mul-le-mul_left times
         (subst (λ (rs : List Registered). sum_by (work_at old.queries.items at n)
-        (readers_at old.readers.items at) ≤ sum_by (update_steps (kept_in old) name n) rs)
+        (readers_at old.readers.items at) ≤ sum_by (update_steps (kept_in old) (one_change name after) n) rs)
         (sym same) b) in
         omega (arith, a, c);
   }

@@ -12,7 +12,8 @@ use Rattle.djq_tree.specs.Explaining.{explain_of}
 use Rattle.djq_machine.specs.State.{Store, Position, open_at, stale}
 use Rattle.djq_machine.specs.Conditions.{first_of, Answers, OutOfMemoryWhere}
 use Rattle.djq_machine.specs.Store.{DropsQuery, IsLeft, AreAll, most_steps}
-use Rattle.djq_machine.specs.Stale.{reads, outdated, outdater_of, by_relation}
+use Rattle.djq_machine.specs.Stale.{outdated, outdater_of}
+use Rattle.djq_machine.specs.Changes.{RowsChange, is_outdated}
 use Rattle.djq_machine.specs.Delta.{Change}
 use Rattle.djq_reduct.specs.Answers.{IsAnswerOf}
 use Rattle.djq_live.specs.declared.listing.Next.{Next}
@@ -65,13 +66,13 @@ IsRegistered k id = IsSome (registered_at k.registered id)
 abbrev pub is_watched : Registered → Bool
 is_watched r = nat_lt 0 r.watchers
 
--- the queries that read a relation
-abbrev pub readers_of : List Registered → Bytes → List Registered
-readers_of rs relation = filter (λ r. reads r.query relation) rs
+-- the queries that a change outdates: those that read a relation that it changes
+abbrev pub readers_of : List Registered → RowsChange → List Registered
+readers_of rs change = filter (λ r. is_outdated change r.query) rs
 
--- the queries that read a relation and are watched
-abbrev pub affected_of : List Registered → Bytes → List Registered
-affected_of rs relation = filter (λ r. reads r.query relation && is_watched r) rs
+-- those of them that are watched
+abbrev pub affected_of : List Registered → RowsChange → List Registered
+affected_of rs change = filter (λ r. is_outdated change r.query && is_watched r) rs
 
 -- the queries, of which one has other watchers
 abbrev pub with_watchers : QueryId → (ℕ → ℕ) → List Registered → List Registered
@@ -99,17 +100,22 @@ abbrev pub OthersStay : List Held → CursorId → List Held → Type 0
 OthersStay old id new = (other : CursorId) → same_id other id ≡ false
     → held_at new other ≡ held_at old other
 
--- a cursor after a change of a relation of this number
-abbrev pub outdated_held : List Query → Bytes → ℕ → Held → Held
-outdated_held queries relation n h = record h {
-  position = outdated (outdater_of queries (by_relation relation) h.query) n h.position;
+-- a cursor after a change of this number
+abbrev pub outdated_held : List Query → (Query → Option Bytes) → ℕ → Held → Held
+outdated_held queries outdater n h = record h {
+  position = outdated (outdater_of queries outdater h.query) n h.position;
 }
 
--- The cursors after a command on a relation, which outdates or doesn't.
-abbrev pub Outdates : Kept → Bytes → Bool → Kept → Type 0
-Outdates old relation outdates new = (id : CursorId) → held_at new.cursors id ≡ held_at
-    (if outdates then map (outdated_held old.store.queries relation (new.store).seq) old.cursors
-    else old.cursors) id
+-- the cursors behind a change of this number that was made or tried, where there was one
+abbrev pub cursors_behind : Kept → Option RowsChange → ℕ → List Held
+cursors_behind old None n = old.cursors
+cursors_behind old (Some change) n =
+    map (outdated_held old.store.queries change.outdater n) old.cursors
+
+-- The cursors are as they are behind it.
+abbrev pub Outdates : Kept → Option RowsChange → Kept → Type 0
+Outdates old o new =
+    (id : CursorId) → held_at new.cursors id ≡ held_at (cursors_behind old o (new.store).seq) id
 
 -- A new cursor stands in front of the answers of its query.
 pub record OpensCursor (old : Kept) (query : Bytes) (id : CursorId) (new : Kept) : Type 0 where

@@ -4,7 +4,7 @@ ghost use Rattle.djq_lines.specs.declared.limits.TheConstants.{SESSIONS};
 ghost use Rattle.djq_machine.specs.State.{opening};
 ghost use Rattle.djq_machine.specs.Store.{MakesRelation, AddsRow, DeletesRow, RegistersQuery};
 ghost use Rattle.djq_machine.specs.Store.{TellsWhether, has_steps};
-ghost use Rattle.djq_machine.specs.Stale.{add_outdates, add_accepted, delete_outdates};
+ghost use Rattle.djq_machine.specs.Changes.{row_in, row_out, add_outcome, delete_outcome, tried};
 ghost use Rattle.djq_engine.specs.Kept.{SameCursors, Outdates, DropGives, OpenGives, NextGives};
 ghost use Rattle.djq_engine.specs.Kept.{MoreGives, ClosesCursor, IsHeld, IsFresh, IsThere};
 ghost use Rattle.djq_engine.specs.Kept.{AnswerIs, ExplainGives};
@@ -234,13 +234,15 @@ impl Engine {
         steps: &mut Steps<L>,
     ) -> Result<AddOutcome, Refusal>
         ensures adds { AddsRow self.old.store name.now row.now result self.new.store }
-        ensures outdates { Outdates self.old name.now (add_outdates result) self.new }
+        ensures outdates { Outdates self.old
+            (tried (add_outcome (row_in self.old.store.relations name.now row.now) result))
+            self.new }
         ensures watches { self.new.registered ≡ self.old.registered }
-        ensures tells { TellsChange self.old name.now
-            (rows_of self.old.store.relations name.now ++ row.now ∷ [])
-            (add_outdates result) (add_accepted result) self.new
+        ensures tells { TellsChange self.old
+            (add_outcome (row_in self.old.store.relations name.now row.now) result) self.new
             steps.old.listing steps.new.listing }
-        ensures updates { CountsUpdates (add_times result) self.old name.now
+        ensures updates { CountsUpdates (add_times result) self.old
+            (row_in self.old.store.relations name.now row.now)
             steps.old.update steps.new.update }
     {
         add_in(&mut self.parts, name, row, steps)
@@ -261,13 +263,15 @@ impl Engine {
         steps: &mut Steps<L>,
     ) -> Result<DeleteOutcome, Refusal>
         ensures deletes { DeletesRow self.old.store name.now row.now result self.new.store }
-        ensures outdates { Outdates self.old name.now (delete_outdates result) self.new }
+        ensures outdates { Outdates self.old
+            (tried (delete_outcome (row_out self.old.store.relations name.now row.now) result))
+            self.new }
         ensures watches { self.new.registered ≡ self.old.registered }
-        ensures tells { TellsChange self.old name.now
-            (without_row (rows_of self.old.store.relations name.now) row.now)
-            (delete_outdates result) (delete_outdates result) self.new
+        ensures tells { TellsChange self.old
+            (delete_outcome (row_out self.old.store.relations name.now row.now) result) self.new
             steps.old.listing steps.new.listing }
-        ensures updates { CountsUpdates (delete_times result) self.old name.now
+        ensures updates { CountsUpdates (delete_times result) self.old
+            (row_out self.old.store.relations name.now row.now)
             steps.old.update steps.new.update }
     {
         del_in(&mut self.parts, name, row, steps)

@@ -12,6 +12,8 @@ use Rattle.djq_model.specs.Data.{Bytes, Tuple, bytes_eq, relation_of, rows_of, r
 use Rattle.djq_model.specs.Answer.{IsAnswer}
 use Rattle.djq_model.specs.Equality.{bytes_eq-decides}
 use Rattle.djq_machine.specs.Store.{with_rows}
+use Rattle.djq_machine.specs.Stale.{reads}
+use Rattle.djq_machine.specs.Changes.{RowsChange, new_rows}
 use Rattle.djq_machine.specs.Step.{SameRelations}
 use Rattle.djq_machine.specs.Gives.{Gives}
 use Rattle.djq_laws.proofs.Finding.{find_other}
@@ -63,11 +65,11 @@ first_step : (n : Bytes) (r : Relation) (o p : Option Relation) (b : Bool) → r
 first_step n r o p true h = refl
 first_step n r o p false h = h
 
-pub new_rows : (rs : List Relation) (name : Bytes) (types : List ColumnType) (n : Bytes)
+pub rows_of_new : (rs : List Relation) (name : Bytes) (types : List ColumnType) (n : Bytes)
     → rows_of (rs ++ record { name = name; types = types; rows = [] } ∷ []) n ≡ rows_of rs n
-new_rows [] name types n = new_step n name types (bytes_eq name n)
-new_rows (r ∷ rs) name types n =
-    first_step n r (relation_of (rs ++ record { name = name; types = types; rows = [] } ∷ []) n) (relation_of rs n) (bytes_eq r.name n) (new_rows rs name types n)
+rows_of_new [] name types n = new_step n name types (bytes_eq name n)
+rows_of_new (r ∷ rs) name types n =
+    first_step n r (relation_of (rs ++ record { name = name; types = types; rows = [] } ∷ []) n) (relation_of rs n) (bytes_eq r.name n) (rows_of_new rs name types n)
 
 rows_same : (rs rs' : List Relation) (q : Query) → ((n : Bytes) → rows_of rs' n ≡ rows_of rs n) → SameAnswers rs rs' q
 rows_same rs rs' q e = same_within rs rs' q
@@ -76,7 +78,7 @@ rows_same rs rs' q e = same_within rs rs' q
 
 pub new_relation_same : (rs : List Relation) (name : Bytes) (types : List ColumnType) (q : Query)
     → SameAnswers rs (rs ++ record { name = name; types = types; rows = [] } ∷ []) q
-new_relation_same rs name types q = rows_same rs (rs ++ record { name = name; types = types; rows = [] } ∷ []) q (new_rows rs name types)
+new_relation_same rs name types q = rows_same rs (rs ++ record { name = name; types = types; rows = [] } ∷ []) q (rows_of_new rs name types)
 
 -- The same relations with their rows in another order.
 order_step : (n : Bytes) (r s : Relation) (o p : Option Relation) (b : Bool) → bytes_eq r.name n ≡ b → s.name ≡ r.name → IsPermutation r.rows s.rows
@@ -117,3 +119,15 @@ unread_same rs name rows q h =
     same_within rs (with_rows rs name rows) q
     (λ k d lt row c. subst (λ (r : List Tuple). Contains r row) (sym (rows_apart rs name rows _ (apart k d lt))) c)
     (λ k d lt row c. subst (λ (r : List Tuple). Contains r row) (rows_apart rs name rows _ (apart k d lt)) c)
+
+-- A change outdates each query whose answers it may change.
+abbrev pub Spares : List Relation → RowsChange → Type 0
+Spares rs change = (q : Query) → change.outdater q ≡ None → SameAnswers rs change.after q
+
+-- So does a change of one relation.
+pub one_spares : (rs : List Relation) (name : Bytes) (rows : List Tuple) → Spares rs (new_rows rs name rows)
+one_spares rs name rows q h = unread_same rs name rows q (unread (reads q name) h)
+  where
+    unread : (b : Bool) → cond b (Some name) None ≡ None → b ≡ false
+    unread true k = absurd cc
+    unread false k = refl

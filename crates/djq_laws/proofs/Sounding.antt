@@ -1,85 +1,24 @@
 -- Each state that the machine comes to is sound.
-use Rattle.std.specs.Prelude.{ℕ, List, [], ◌∷◌, ◌==◌, ◌≡◌, ◌≢◌, ◌<◌, ◌≤◌, ◌+◌, ◌++◌, ◌⊎◌, Bool, true, false, not, cond, length, filter, Option, None, Some, is_some, is_none, nat_le, IsSome, IsSomeAnd, MatchOption, option_map, Result, Ok, Err, map, All, ⊤}
+use Rattle.std.specs.Prelude.{ℕ, List, [], ◌∷◌, ◌==◌, ◌≡◌, ◌≢◌, ◌<◌, ◌≤◌, ◌+◌, ◌++◌, ◌⊎◌, Bool, true, false, not, cond, length, filter, Option, None, Some, is_some, IsSome, MatchOption, option_map, map, All}
 use Rattle.std.specs.List.{list_any, slice_index_or}
 use Rattle.std.proofs.Common.{refl, sym, ap, ◌∙◌, subst, inl, inr, arith}
 use Rattle.std.proofs.lemmas.List.{length-map, length-append}
 use Rattle.std.proofs.lemmas.List.Elements.{All-nil, All-push, All-weaker, All-filter}
 use Rattle.djq_model.specs.declared.query.Query.{Query}
-use Rattle.djq_model.specs.Data.{Bytes, Tuple, bytes_eq, drop_first, query_of}
-use Rattle.djq_lines.specs.Conditions.{first_of, Answers, OutOfMemoryWhere}
-use Rattle.djq_lines.specs.declared.limits.TheConstants.{CURSORS, SESSIONS}
+use Rattle.djq_model.specs.Data.{Bytes, bytes_eq, drop_first, query_of}
+use Rattle.djq_lines.specs.declared.limits.TheConstants.{SESSIONS}
 use Rattle.djq_lines.specs.declared.answer.EndCause.{EndCause}
 use Rattle.djq_lines.specs.declared.answer.EndCause.TheVariants.{Input, Memory}
-use Rattle.djq_lines.specs.declared.answer.Refusal.{Refusal}
-use Rattle.djq_lines.specs.declared.answer.Refusal.TheVariants.{NoQuery, NoCursor, InUse, Limit}
-use Rattle.djq_lines.specs.declared.command.Command.{Command}
-use Rattle.djq_lines.specs.declared.command.Command.TheVariants.{
-  Rel,
-  Add,
-  Del,
-  Query as Register,
-  Drop,
-  Open,
-  Next,
-  Close,
-  Has,
-  Watch,
-  Unwatch,
-  Explain,
-  Quit,
-  Stop,
-}
 use Rattle.djq_lines.specs.Grammar.{Reading, refused, says as says_command, reading_of}
 use Rattle.djq_lines.specs.Reply.{end_memory}
 use Rattle.djq_lines.specs.Hypergraph.{edges_of, head_of}
 use Rattle.djq_machine.specs.Store.{IsFreeConnex}
-use Rattle.djq_machine.specs.State.{
-  Store,
-  State,
-  Session,
-  Cursor,
-  Position,
-  open_at,
-  stale,
-  fresh,
-  opening,
-  session_of,
-  with_session,
-  cursor_of,
-  with_position,
-  ended_by,
-}
-use Rattle.djq_machine.specs.Store.{RegistersQuery, DropsQuery, drop_refusal}
-use Rattle.djq_machine.specs.Stale.{
-  outdated,
-  outdater_of,
-  outdated_cursor,
-  outdated_sessions,
-  by_relation,
-  add_outdates,
-  delete_outdates,
-  changed,
-}
+use Rattle.djq_machine.specs.State.{Store, State, Session, Cursor, Position, open_at, stale, fresh, opening, session_of, with_session, with_position, ended_by}
+use Rattle.djq_machine.specs.Stale.{outdated, outdater_of, outdated_cursor, outdated_sessions}
+use Rattle.djq_machine.specs.Changes.{RowsChange, RowsOutcome, tried, changed}
 use Rattle.djq_machine.specs.Watch.{is_watching, Telling, ChangeStep}
-use Rattle.djq_machine.specs.Effect.{Effect, nothing, EndsWith, RefusedStep, queue, queue_all}
-use Rattle.djq_machine.specs.Command.{
-  uses,
-  open_refusal,
-  with_cursor,
-  OpensTo,
-  watch_refusal,
-  BecomesWhere,
-  with_watch,
-  without_watch,
-  NextStepAt,
-  CloseStep,
-  CommandStep,
-  QueryStep,
-  QueryCutStep,
-  ExplainStep,
-  TellsLines,
-  explain_lines,
-}
+use Rattle.djq_machine.specs.Effect.{Effect, nothing, EndsWith, queue, queue_all}
+use Rattle.djq_machine.specs.Command.{uses, with_cursor, with_watch, without_watch}
 use Rattle.djq_machine.specs.LineStep.{LineOutcome, long, blank, slow, no_room, run, ReadStep, FrontStep, behind_line}
 use Rattle.djq_machine.specs.Step.{
   Event,
@@ -109,13 +48,16 @@ use Rattle.djq_laws.specs.Sound.{
   RunsKeepSound,
   StatesAreSound,
 }
+use Rattle.djq_laws.specs.Form.{form_of, Form, asking, storing, turning, changing, ending, Turn, opens_cursor, moves_cursor, closes_cursor, starts_watching, stops_watching, Replied, is_whole, is_cut, Stored, learns_texts, makes_relation, registers_query, drops_query, in_use, without_cursor, Turned, DoesTurn, is_turned, is_refused, Does}
 use Rattle.djq_laws.proofs.Finding.{some_and}
+use Rattle.djq_laws.proofs.Forms.{command_does}
+use Rattle.djq_laws.proofs.Rows.{outdater_by, rows_do, made_queries}
 use Rattle.djq_laws.proofs.Told.{change_keeps}
 use Rattle.djq_laws.proofs.Queueing.{session_changed}
 use Rattle.djq_laws.proofs.Changing.{all_changed, all_dropped, all_mapped}
 use Rattle.djq_laws.proofs.Answering.{none_or, none_pass}
 use Rattle.djq_laws.proofs.Rising.{step_rises, acts_ids, queued_ids}
-use Rattle.djq_laws.proofs.Giving.{done_of, found_in_front, dropped_query, unused_of, opens_on, none_second}
+use Rattle.djq_laws.proofs.Giving.{found_in_front, dropped_query}
 use Rattle.djq_laws.proofs.Apart.{
   nothing_apart,
   pairs_push,
@@ -126,19 +68,7 @@ use Rattle.djq_laws.proofs.Apart.{
   names_dropped,
   names_mapped,
 }
-use Rattle.djq_laws.proofs.Storing.{
-  none_found,
-  related_store,
-  related_queries,
-  added_store,
-  added_queries,
-  deleted_store,
-  deleted_queries,
-  registered_store,
-  registered_queries,
-  dropped_store,
-  moved_store,
-}
+use Rattle.djq_laws.proofs.Storing.{stored_sound, made_sound, moved_store}
 
 abbrev IsNamed : Cursor → Bytes
 IsNamed c = c.name
@@ -261,51 +191,29 @@ outdated_sound qs outdater n x g = record {
   );
 }
 
-changed_kept : (old : State) (name : Bytes) (outdates : Bool) (store : Store) → store.queries ≡ old.store.queries
-    → IsSoundStore store → AreKept old → AreKept (changed old name outdates store)
-changed_kept old name false store same sound k = store_kept old store (record old { store = store }) same sound refl k
-changed_kept old name true store same sound k =
+changed_kept : (old : State) (o : Option RowsChange) (store : Store) → store.queries ≡ old.store.queries
+    → IsSoundStore store → AreKept old → AreKept (changed old o store)
+changed_kept old None store same sound k = store_kept old store (record old { store = store }) same sound refl k
+changed_kept old (Some change) store same sound k =
     let qs = old.store.queries in
-    let kept : All (IsSoundSession qs) (outdated_sessions qs (by_relation name) store.seq old.sessions) =
+    let kept : All (IsSoundSession qs) (outdated_sessions qs change.outdater store.seq old.sessions) =
     all_mapped (IsSoundSession qs) (IsSoundSession qs)
-    (λ (x : Session). record x { cursors = map (outdated_cursor qs (by_relation name) store.seq) x.cursors })
-    (λ x g. outdated_sound qs (by_relation name) store.seq x g) old.sessions k.1 in (
+    (λ (x : Session). record x { cursors = map (outdated_cursor qs change.outdater store.seq) x.cursors })
+    (λ x g. outdated_sound qs change.outdater store.seq x g) old.sessions k.1 in (
       sound,
       subst (λ (ps : List Query). All (IsSoundSession ps)
-          (outdated_sessions qs (by_relation name) store.seq old.sessions)) (sym same) kept,
+          (outdated_sessions qs change.outdater store.seq old.sessions)) (sym same) kept,
     )
 
-change_kept : (old : State) (s : ℕ) (name : Bytes) (rows : List Tuple) (outdates accepted : Bool) (store : Store)
+change_kept : (old : State) (s : ℕ) (outcome : RowsOutcome) (store : Store)
     (reply : Bytes) (e : Effect) (new : State)
-    → ChangeStep old s name rows outdates accepted store reply e new → AreKept (changed old name outdates store)
+    → ChangeStep old s outcome store reply e new → AreKept (changed old (tried outcome) store)
     → AreKept new
-change_kept old s name rows outdates accepted store reply e new h k =
+change_kept old s outcome store reply e new h k =
     subst AreKept (sym h.state)
     (change_keeps (λ (m : Telling). AreKept m.state) (λ m t text there g. g)
     (λ m t text cause may there g. ends_kept m.state t cause (with_session m.state t (ended_by cause)) refl g)
-    old s name rows outdates accepted store reply e new h k)
-
--- The commands.
-register_kept : (old : State) (q : Query) (r : Result _ Refusal) (store : Store) (new : State)
-    → RegistersQuery old.store q r store → new ≡ record old { store = store } → AreKept old → AreKept new
-register_kept old q r store new h after k = by (registered_queries old.store q r store h)
-  where
-    by : (store.queries ≡ old.store.queries ++ q ∷ []) ⊎ (store.queries ≡ old.store.queries) → AreKept new
-    by (inr same) = store_kept old store new same (registered_store old.store q r store h k.0) after k
-    by (inl more) =
-        let kept : All (IsSoundSession store.queries) old.sessions =
-        subst (λ (qs : List Query). All (IsSoundSession qs) old.sessions) (sym more)
-        (All-weaker (IsSoundSession old.store.queries) (IsSoundSession (old.store.queries ++ q ∷ []))
-        (λ x g. queries_kept old.store.queries (old.store.queries ++ q ∷ []) x
-        (λ name there. in_front old.store.queries q name there) g) old.sessions k.1) in
-        subst AreKept (sym after) (registered_store old.store q r store h k.0, kept)
-
-query_kept : (old : State) (s : ℕ) (q : Query) (e : Effect) (new : State)
-    → QueryStep old s q e new ⊎ QueryCutStep old s q e new → AreKept old → AreKept new
-query_kept old s q e new (inl h) k = register_kept old q h.result h.store new h.done h.state k
-query_kept old s q e new (inr h) k =
-    let mid : State = record old { store = h.store } in
-    ends_kept mid s Memory new h.ends.1 (register_kept old q h.result h.store mid h.done refl k)
+    old s outcome store reply e new h k)
 
 -- A query that no session uses is dropped.
 not_used : (qs : List Query) (q : Bytes) (x : Session) → uses q x ≡ false → IsSoundSession qs x
@@ -327,101 +235,29 @@ not_used qs q x unused g =
       ended = g.ended;
     }
 
-drop_kept : (old : State) (q : Bytes) (r : Result ⊤ Refusal) (store : Store) (new : State)
-    → DropsQuery old.store (list_any (uses q) old.sessions) q r store → new ≡ record old { store = store } → AreKept old
-    → AreKept new
-drop_kept old q (Ok u) store new h after k =
-    let used = list_any (uses q) old.sessions in
-    let D = λ (_ : ⊤). store ≡ record old.store { queries = drop_first (λ p. bytes_eq p.name q) old.store.queries } in
-    let e = done_of (drop_refusal old.store used q) u D (OutOfMemoryWhere ⊥) h.answer in
-    let none = none_pass (uses q) old.sessions (unused_of (is_none (query_of old.store.queries q)) used NoQuery InUse u
-    D (OutOfMemoryWhere ⊥) h.answer) in
-    let kept : All (IsSoundSession store.queries) old.sessions =
-    subst (λ (st : Store). All (IsSoundSession st.queries) old.sessions) (sym e)
-    (λ i d lt. not_used old.store.queries q (slice_index_or old.sessions i d) (none i d lt) (k.1 i d lt)) in
-    subst AreKept (sym after) (dropped_store old.store used q (Ok u) store h k.0, kept)
-drop_kept old q (Err r) store new h after k = same_kept old new
-    (after ∙ ap (λ (st : Store). record old { store = st }) h.stays) k
+-- What a command of the store makes of it.
+stored_kept : (old : State) (store : Store) → Stored (in_use old) old.store store → AreKept old
+    → AreKept (record old { store = store })
+stored_kept old store h k = (
+  stored_sound (in_use old) old.store store h k.0,
+  by h,
+)
+  where
+    same : store.queries ≡ old.store.queries → All (IsSoundSession store.queries) old.sessions
+    same e = subst (λ (qs : List Query). All (IsSoundSession qs) old.sessions) (sym e) k.1
 
--- a registered query
-is_registered : (o : Option Query) → is_none o ≡ false → IsSome o
-is_registered None e = absurd cc
-is_registered (Some q) e = refl
-
-pub none_first : (a : Bool) (r : Refusal) (o : Option Refusal) → cond a (Some r) o ≡ None → a ≡ false
-none_first true r o h = absurd cc
-none_first false r o h = refl
-
-open_kept : (old : State) (s : ℕ) (x : Session) (c q : Bytes) (r : Result ⊤ Refusal) (new : State)
-    → session_of old s ≡ Some x → x.cause ≡ None
-    → Answers (open_refusal old.store x.cursors c q) r (λ _. ⊤) (OutOfMemoryWhere ⊤) → OpensTo old s c q new r
-    → AreKept old → AreKept new
-open_kept old s x c q (Ok u) new found runs answer after k =
-    let more : Cursor = record { name = c; query = q; position = open_at [] false } in
-    let rest = first_of ((nat_le CURSORS (length x.cursors), Limit) ∷ []) in
-    let fine = opens_on (open_refusal old.store x.cursors c q) u (OutOfMemoryWhere ⊤) answer in
-    let unnamed = none_found (cursor_of x.cursors c)
-    (none_first (is_some (cursor_of x.cursors c)) _
-    (cond (is_none (query_of old.store.queries q)) (Some NoQuery) rest) fine) in
-    let there = none_second (is_some (cursor_of x.cursors c)) (is_none (query_of old.store.queries q)) _ NoQuery rest
-    fine in
-    session_runs old new s x (with_cursor c q) found after (λ g. record {
-      cursors = All-push (IsSoundCursor old.store.queries) x.cursors more g.cursors
-          (record {
-            registered = is_registered (query_of old.store.queries q) there;
-            once = nothing_apart
-                (λ a b. a ≡ b → ⊥);
-          });
-      names = names_push IsNamed x.cursors more g.names unnamed;
-      registered = g.registered;
-      once = g.once;
-      ended = λ h. going x runs h;
-    }) k
-open_kept old s x c q (Err r) new found runs answer after k = same_kept old new after k
-
-next_at_kept : (old : State) (s : ℕ) (x : Session) (c : Bytes) (q : Query) (count : ℕ) (p : Position) (e : Effect)
-    (new : State)
-    → session_of old s ≡ Some x → x.cause ≡ None → NextStepAt old s c q count p e new → AreKept old → AreKept new
-next_at_kept old s x c q count (stale r n) e new found runs h k = same_kept old new h.1 k
-next_at_kept old s x c q count (open_at given finished) e new found runs (inr h) k = ends_kept old s Memory new h.state
-    k
-next_at_kept old s x c q count (open_at given finished) e new found runs (inl h) k =
-    let position = open_at (given ++ h.told) h.end in
-    session_runs old new s x (λ y. record y { cursors = with_position y.cursors c position }) found h.state
-    (λ g. record {
-      cursors = all_changed (IsSoundCursor old.store.queries) (λ (z : Cursor). bytes_eq z.name c)
-          (λ (z : Cursor). record z { position = position }) x.cursors g.cursors
-          (λ z at was. record { registered = was.registered; once = h.tells.different });
-      names = names_changed IsNamed (λ (z : Cursor). bytes_eq z.name c)
-          (λ (z : Cursor). record z { position = position }) (λ z. refl) x.cursors g.names;
-      registered = g.registered;
-      once = g.once;
-      ended = λ ends. going x runs ends;
-    }) k
-
-next_kept : (old : State) (s : ℕ) (x : Session) (c : Bytes) (count : ℕ) (o : Option Cursor) (e : Effect) (new : State)
-    → session_of old s ≡ Some x → x.cause ≡ None
-    → MatchOption o (RefusedStep old s NoCursor e new)
-    (λ z. IsSomeAnd (query_of old.store.queries z.query) (λ q. NextStepAt old s c q count z.position e new))
-    → AreKept old → AreKept new
-next_kept old s x c count None e new found runs h k = same_kept old new h.1 k
-next_kept old s x c count (Some z) e new found runs h k =
-    let f = some_and (query_of old.store.queries z.query) (λ q. NextStepAt old s c q count z.position e new) h in
-    next_at_kept old s x c f.0 count z.position e new found runs f.2 k
-
-close_kept : (old : State) (s : ℕ) (x : Session) (c : Bytes) (o : Option Cursor) (e : Effect) (new : State)
-    → session_of old s ≡ Some x → x.cause ≡ None
-    → MatchOption o (RefusedStep old s NoCursor e new) (λ z. CloseStep old s c e new) → AreKept old → AreKept new
-close_kept old s x c None e new found runs h k = same_kept old new h.1 k
-close_kept old s x c (Some z) e new found runs h k =
-    session_runs old new s x (λ y. record y { cursors = drop_first (λ d. bytes_eq d.name c) y.cursors }) found h.1
-    (λ g. record {
-      cursors = all_dropped (IsSoundCursor old.store.queries) (λ (d : Cursor). bytes_eq d.name c) x.cursors g.cursors;
-      names = names_dropped IsNamed (λ n. bytes_eq n c) x.cursors g.names;
-      registered = g.registered;
-      once = g.once;
-      ended = λ ends. going x runs ends;
-    }) k
+    by : Stored (in_use old) old.store store → All (IsSoundSession store.queries) old.sessions
+    by (learns_texts h) = same (ap (λ (st : Store). st.queries) h.store)
+    by (makes_relation name types none e) = same (ap (λ (st : Store). st.queries) e)
+    by (registers_query q none connex few e) =
+        subst (λ (st : Store). All (IsSoundSession st.queries) old.sessions) (sym e)
+        (All-weaker (IsSoundSession old.store.queries) (IsSoundSession (old.store.queries ++ q ∷ []))
+        (λ x g. queries_kept old.store.queries (old.store.queries ++ q ∷ []) x
+        (λ name there. in_front old.store.queries q name there) g) old.sessions k.1)
+    by (drops_query q unused e) =
+        let none = none_pass (uses q) old.sessions unused in
+        subst (λ (st : Store). All (IsSoundSession st.queries) old.sessions) (sym e)
+        (λ i d lt. not_used old.store.queries q (slice_index_or old.sessions i d) (none i d lt) (k.1 i d lt))
 
 -- watches
 none_watched : (q : Bytes) (ws : List Bytes) → list_any (λ w. bytes_eq w q) ws ≡ false → All (λ w. w ≢ q) ws
@@ -439,79 +275,88 @@ watched qs q ws false e there all once = (
       (λ a b. a ≢ b) ws q once (none_watched q ws e),
 )
 
-watch_kept : (old : State) (s : ℕ) (x : Session) (q : Bytes) (r : Result ⊤ Refusal) (new : State)
-    → session_of old s ≡ Some x → x.cause ≡ None
-    → Answers (watch_refusal old.store q) r (λ _. ⊤) (OutOfMemoryWhere (is_watching q x ≡ false))
-    → BecomesWhere old s (with_watch q) new r → AreKept old → AreKept new
-watch_kept old s x q (Ok u) new found runs answer after k =
-    let fine = opens_on (watch_refusal old.store q) u (OutOfMemoryWhere (is_watching q x ≡ false)) answer in
-    let there = is_registered (query_of old.store.queries q)
-    (none_first (is_none (query_of old.store.queries q)) NoQuery None fine) in
-    session_runs old new s x (with_watch q) found after (λ g.
-    let both = watched old.store.queries q x.watches (is_watching q x) refl there g.registered g.once in record {
+-- What a turn makes of a session.
+turned_kept : (old : State) (s : ℕ) (x : Session) (t : Turn) (new : State) → session_of old s ≡ Some x
+    → x.cause ≡ None → Turned old s x t new → AreKept old → AreKept new
+turned_kept old s x (opens_cursor c q) new found runs h k =
+    let more : Cursor = record { name = c; query = q; position = open_at [] false } in
+    session_runs old new s x (with_cursor c q) found h.2 (λ g. record {
+      cursors = All-push (IsSoundCursor old.store.queries) x.cursors more g.cursors
+          (record { registered = h.1; once = nothing_apart (λ a b. a ≡ b → ⊥) });
+      names = names_push IsNamed x.cursors more g.names h.0;
+      registered = g.registered;
+      once = g.once;
+      ended = λ h. going x runs h;
+    }) k
+turned_kept old s x (moves_cursor c) new found runs h k =
+    let position = open_at (h.given ++ h.told) h.end in
+    session_runs old new s x (λ y. record y { cursors = with_position y.cursors c position }) found h.state
+    (λ g. record {
+      cursors = all_changed (IsSoundCursor old.store.queries) (λ (z : Cursor). bytes_eq z.name c)
+          (λ (z : Cursor). record z { position = position }) x.cursors g.cursors
+          (λ z at was. record { registered = was.registered; once = h.tells.different });
+      names = names_changed IsNamed (λ (z : Cursor). bytes_eq z.name c)
+          (λ (z : Cursor). record z { position = position }) (λ z. refl) x.cursors g.names;
+      registered = g.registered;
+      once = g.once;
+      ended = λ ends. going x runs ends;
+    }) k
+turned_kept old s x (closes_cursor c) new found runs h k =
+    session_runs old new s x (without_cursor c) found h
+    (λ g. record {
+      cursors = all_dropped (IsSoundCursor old.store.queries) (λ (d : Cursor). bytes_eq d.name c) x.cursors g.cursors;
+      names = names_dropped IsNamed (λ n. bytes_eq n c) x.cursors g.names;
+      registered = g.registered;
+      once = g.once;
+      ended = λ ends. going x runs ends;
+    }) k
+turned_kept old s x (starts_watching q) new found runs h k =
+    session_runs old new s x (with_watch q) found h.1 (λ g.
+    let both = watched old.store.queries q x.watches (is_watching q x) refl h.0 g.registered g.once in record {
       cursors = g.cursors;
       names = g.names;
       registered = both.0;
       once = both.1;
       ended = λ ends. going x runs ends;
     }) k
-watch_kept old s x q (Err r) new found runs answer after k = same_kept old new after k
-
-unwatch_kept : (old : State) (s : ℕ) (x : Session) (q : Bytes) (r : Result ⊤ Refusal) (new : State)
-    → session_of old s ≡ Some x → x.cause ≡ None
-    → BecomesWhere old s (without_watch q) new r → AreKept old → AreKept new
-unwatch_kept old s x q (Ok u) new found runs after k =
-    session_runs old new s x (without_watch q) found after (λ g. record {
+turned_kept old s x (stops_watching q) new found runs h k =
+    session_runs old new s x (without_watch q) found h (λ g. record {
       cursors = g.cursors;
       names = g.names;
       registered = all_dropped (λ w. IsSome (query_of old.store.queries w)) (λ w. bytes_eq w q) x.watches g.registered;
       once = pairs_dropped (λ a b. a ≢ b) (λ w. bytes_eq w q) x.watches g.once;
       ended = λ ends. going x runs ends;
     }) k
-unwatch_kept old s x q (Err r) new found runs after k = same_kept old new after k
 
-lines_kept : (old : State) (s : ℕ) (lines : List Bytes) (e : Effect) (new : State) → TellsLines old s lines e new
-    → AreKept old → AreKept new
-lines_kept old s lines e new (inl h) k = same_kept old new h.1 k
-lines_kept old s lines e new (inr (told, lacking, rest, parts, ends)) k = ends_kept old s Memory new ends.1 k
+replied_kept : (s : ℕ) (mid new : State) → Replied s mid new → AreKept mid → AreKept new
+replied_kept s mid new (is_whole after) k = same_kept mid new after k
+replied_kept s mid new (is_cut after) k = ends_kept mid s Memory new after k
 
-explain_kept : (old : State) (s : ℕ) (o : Option Query) (e : Effect) (new : State)
-    → MatchOption o (RefusedStep old s NoQuery e new) (λ q. ExplainStep old s q e new) → AreKept old → AreKept new
-explain_kept old s None e new h k = same_kept old new h.1 k
-explain_kept old s (Some q) e new h k = lines_kept old s (explain_lines q h.tree) e new h.tells k
+turn_kept : (old : State) (s : ℕ) (x : Session) (t : Turn) (new : State) → session_of old s ≡ Some x
+    → x.cause ≡ None → DoesTurn old s x t new → AreKept old → AreKept new
+turn_kept old s x t new found runs (is_turned h) k = turned_kept old s x t new found runs h k
+turn_kept old s x t new found runs (is_refused r) k = replied_kept s old new r k
 
-command_kept : (old : State) (s : ℕ) (x : Session) (c : Command) (e : Effect) (new : State) → session_of old s ≡ Some x
-    → x.cause ≡ None → CommandStep old s x c e new → AreKept old → AreKept new
-command_kept old s x (Rel name types) e new found runs h k =
-    store_kept old h.store new (related_queries old.store name types h.result h.store h.done)
-    (related_store old.store name types h.result h.store h.done k.0) h.state k
-command_kept old s x (Add name row) e new found runs h k =
-    change_kept old s name _ _ _ h.store _ e new h.change
-    (changed_kept old name (add_outdates h.result) h.store (added_queries old.store name row h.result h.store h.done)
-    (added_store old.store name row h.result h.store h.done k.0) k)
-command_kept old s x (Del name row) e new found runs h k =
-    change_kept old s name _ _ _ h.store _ e new h.change
-    (changed_kept old name (delete_outdates h.result) h.store
-    (deleted_queries old.store name row h.result h.store h.done)
-    (deleted_store old.store name row h.result h.store h.done k.0) k)
-command_kept old s x (Register q) e new found runs h k = query_kept old s q e new h k
-command_kept old s x (Open c q) e new found runs h k = open_kept old s x c q h.result new found runs h.answer h.state k
-command_kept old s x (Next c count) e new found runs h k = next_kept old s x c count (cursor_of x.cursors c) e new found
-    runs h k
-command_kept old s x (Close c) e new found runs h k = close_kept old s x c (cursor_of x.cursors c) e new found runs h k
-command_kept old s x Quit e new found runs h k = ends_kept old s _ new h.1 k
-command_kept old s x Stop e new found runs h k = ends_kept (record old { stopped = true }) s _ new h.1 k
-command_kept old s x (Drop q) e new found runs h k = drop_kept old q h.result h.store new h.done h.state k
-command_kept old s x (Has q row) e new found runs h k = same_kept old new h.state k
-command_kept old s x (Watch q) e new found runs h k = watch_kept old s x q h.result new found runs h.answer h.state k
-command_kept old s x (Unwatch q) e new found runs h k = unwatch_kept old s x q h.result new found runs h.state k
-command_kept old s x (Explain q) e new found runs h k = explain_kept old s (query_of old.store.queries q) e new h k
+form_kept : (f : Form) (old : State) (s : ℕ) (x : Session) (e : Effect) (new : State) → session_of old s ≡ Some x
+    → x.cause ≡ None → Does f old s x e new → AreKept old → AreKept new
+form_kept asking old s x e new found runs h k = replied_kept s old new h.1 k
+form_kept storing old s x e new found runs h k =
+    replied_kept s (record old { store = h.1.store }) new h.1.replied (stored_kept old h.1.store h.1.stored k)
+form_kept (turning t) old s x e new found runs h k = turn_kept old s x t new found runs h.1 k
+form_kept (changing c) old s x e new found runs h k =
+    let d = rows_do old s c e new h in
+    change_kept old s d.outcome d.store d.reply e new d.change
+    (changed_kept old (tried d.outcome) d.store (made_queries (outdater_by c) old.store d.outcome d.store d.made)
+    (made_sound (outdater_by c) old.store d.outcome d.store d.made k.0) k)
+form_kept ending old s x e new found runs h k =
+    ends_kept (record old { stopped = h.1.stopped }) s h.1.cause new h.1.state k
 
 -- The front of a session's bytes.
 read_kept : (old : State) (s : ℕ) (x : Session) (r : Reading) (e : Effect) (new : State) → session_of old s ≡ Some x
     → x.cause ≡ None → ReadStep old s x r e new → AreKept old → AreKept new
 read_kept old s x (refused r) e new found runs h k = same_kept old new h.1 k
-read_kept old s x (says_command c) e new found runs (true, h) k = command_kept old s x c e new found runs h k
+read_kept old s x (says_command c) e new found runs (true, h) k = form_kept (form_of c) old s x e new
+    found runs (command_does old s x c e new h) k
 read_kept old s x (says_command c) e new found runs (false, h) k = same_kept old new h.1.1 k
 
 pub without_line_kept : (old : State) (s : ℕ) (rest : Bytes) → AreKept old

@@ -6,7 +6,7 @@ use Rattle.std.proofs.lemmas.Bool.{eqb-true}
 use Rattle.std.proofs.lemmas.List.Elements.{All-contains, Contains-append_left, Contains-append_right}
 use Rattle.djq_model.specs.declared.relation.Relation.{Relation}
 use Rattle.djq_model.specs.declared.query.Query.{Query}
-use Rattle.djq_model.specs.Data.{Bytes, Tuple, bytes_eq, query_of}
+use Rattle.djq_model.specs.Data.{Bytes, bytes_eq, query_of}
 use Rattle.djq_model.specs.Answer.{IsAnswer}
 use Rattle.djq_lines.specs.declared.answer.EndCause.{EndCause}
 use Rattle.djq_lines.specs.declared.answer.EndCause.TheVariants.{Slow, Memory}
@@ -14,17 +14,18 @@ use Rattle.djq_lines.specs.Reply.{text_of}
 use Rattle.djq_machine.specs.State.{Store, State, Session, session_of, with_session, ended_by, ids_of}
 use Rattle.djq_machine.specs.Effect.{Effect}
 use Rattle.djq_machine.specs.Delta.{Change, IsDelta, delta_lines}
-use Rattle.djq_machine.specs.Stale.{reads, by_relation, outdated_cursor, changed}
-use Rattle.djq_machine.specs.Store.{with_rows}
+use Rattle.djq_machine.specs.Stale.{outdated_cursor}
+use Rattle.djq_machine.specs.Changes.{RowsChange, accepted, is_outdated, changed}
 use Rattle.djq_machine.specs.Run.{Walk, to_session}
 use Rattle.djq_machine.specs.Call.{IsOpen, cause_of, cause_in}
 use Rattle.djq_machine.specs.Watch.{is_watching, affected, Delta, Telling, says_more, ends_more, watching, watcher_of, TellsWatcher, TellsSession, TellsDelta, ChangeStep}
 use Rattle.djq_machine.proofs.Walks.{walk_keeps}
+use Rattle.djq_deltas.proofs.Lists.{nothing_there, first_or_later, first_there, kept_there, mapped_there}
 use Rattle.djq_laws.proofs.Finding.{some_and, and_some}
 use Rattle.djq_laws.proofs.Queueing.{gaining, session_changed, session_other, queued_all}
 use Rattle.djq_laws.specs.Moved.{EndsByRun}
 use Rattle.djq_laws.proofs.Told.{beginning, session_keeps, delta_keeps, last_keeps}
-use Rattle.djq_laws.proofs.Containing.{nothing_there, first_or_later, first_there, kept_there, found_there, found_passes, any_there, mapped_there, mapped_from}
+use Rattle.djq_laws.proofs.Containing.{found_there, found_passes, any_there, mapped_from}
 
 -- What each thing of a walk keeps, and one thing brings about, there is behind the walk.
 walk_meets : {D L : Type 0} (May : D → L → D → Type 0) (P Q : D → Type 0) (l : L)
@@ -81,11 +82,11 @@ find_mapped p f keeps (x ∷ xs) = step (p x) (keeps x) (find_mapped p f keeps x
     step true e h = rw e refl
     step false e h = rw e h
 
-pub watches_changed : (q : Bytes) (old : State) (relation : Bytes) (store : Store) (s : ℕ) → Watches q (session_of old s) → Watches q (session_of (changed old relation true store) s)
-watches_changed q old relation store s w =
-    let f = λ (x : Session). record x { cursors = map (outdated_cursor old.store.queries (by_relation relation) store.seq) x.cursors } in
+pub watches_changed : (q : Bytes) (old : State) (change : RowsChange) (store : Store) (s : ℕ) → Watches q (session_of old s) → Watches q (session_of (changed old (Some change) store) s)
+watches_changed q old change store s w =
+    let f = λ (x : Session). record x { cursors = map (outdated_cursor old.store.queries change.outdater store.seq) x.cursors } in
     let g = some_and (session_of old s) (λ x. is_watching q x ≡ true) w in
-    and_some (session_of (changed old relation true store) s) (λ x. is_watching q x ≡ true) (f g.0)
+    and_some (session_of (changed old (Some change) store) s) (λ x. is_watching q x ≡ true) (f g.0)
     (find_mapped (λ (x : Session). x.id == s) f (λ x. refl) old.sessions ∙ ap (λ o. option_map f o) g.1) g.2
 
 module _ (q : Query) (s : ℕ) (part : Bytes) where
@@ -145,17 +146,17 @@ module _ (q : Query) (s : ℕ) (part : Bytes) where
       (λ from t to k p. session_keeps Has has_says has_ends d n from t to (watcher_of from d.query.name t) refl k p)
       (λ from to k p. session_has d n same is from to k p) m (ids_of m.state) new h (watcher_listed m w) (inl w)
 
-  change_has : (old : State) (t : ℕ) (relation : Bytes) (rows : List Tuple) (store : Store) (reply : Bytes) (e : Effect) (new : State)
-      (h : ChangeStep old t relation rows true true store reply e new) (d : Delta) → Contains h.deltas d → d.query ≡ q → text_of (delta_lines d.query.name d.changes store.seq) ≡ part
+  change_has : (old : State) (t : ℕ) (change : RowsChange) (store : Store) (reply : Bytes) (e : Effect) (new : State)
+      (h : ChangeStep old t (accepted change) store reply e new) (d : Delta) → Contains h.deltas d → d.query ≡ q → text_of (delta_lines d.query.name d.changes store.seq) ≡ part
       → Watches q.name (session_of old s) → Has h.last
-  change_has old t relation rows store reply e new h d c same is w =
-      last_keeps Has has_says has_ends old t relation rows true true store reply e new h
+  change_has old t change store reply e new h d c same is w =
+      last_keeps Has has_says has_ends old t (accepted change) store reply e new h
       (walk_meets (TellsDelta store.seq) Waits Has d
       (λ from k to m p. delta_keeps Waits waits_says waits_ends store.seq from k to m p)
       (λ from k to m p. delta_keeps Has has_says has_ends store.seq from k to m p)
-      (λ from to m p. delta_has d store.seq same is from to m p) (beginning old relation true store) h.deltas h.told h.tells c (inl (watches_changed q.name old relation store s w)))
+      (λ from to m p. delta_has d store.seq same is from to m p) (beginning old (accepted change) store) h.deltas h.told h.tells c (inl (watches_changed q.name old change store s w)))
 
--- How an accepted change of a relation that a query reads changed its answers is told a session that watches it, where that hasn't ended behind the change.
+-- How an accepted change that outdates a query changed its answers is told a session that watches it, where that hasn't ended behind the change.
 pub record IsTheDelta (q : Query) (s : ℕ) (before after : List Relation) (n : ℕ) (queued : List (ℕ × Bytes)) : Type 0 where
   pub changes : List Change
   pub delta : IsDelta (IsAnswer before q) (IsAnswer after q) changes
@@ -166,27 +167,26 @@ both_true true true h k = refl
 both_true true false h k = absurd cc
 both_true false b h k = absurd cc
 
-pub change_is_told : (q : Query) (s : ℕ) (old : State) (t : ℕ) (relation : Bytes) (rows : List Tuple) (store : Store) (reply : Bytes) (e : Effect) (new : State)
-    → ChangeStep old t relation rows true true store reply e new → reads q relation ≡ true
+pub change_is_told : (q : Query) (s : ℕ) (old : State) (t : ℕ) (change : RowsChange) (store : Store) (reply : Bytes) (e : Effect) (new : State)
+    → ChangeStep old t (accepted change) store reply e new → is_outdated change q ≡ true
     → query_of old.store.queries q.name ≡ Some q → Watches q.name (session_of old s) → cause_of new s ≡ None
-    → IsTheDelta q s old.store.relations (with_rows old.store.relations relation rows) store.seq e.queued
-change_is_told q s old t relation rows store reply e new h reading registered w running =
+    → IsTheDelta q s old.store.relations change.after store.seq e.queued
+change_is_told q s old t change store reply e new h reading registered w running =
     let f = some_and (session_of old s) (λ x. is_watching q.name x ≡ true) w in
     let watched : list_any (is_watching q.name) old.sessions ≡ true = any_there (is_watching q.name) old.sessions f.0 (found_there (λ (x : Session). x.id == s) old.sessions f.0 f.1) f.2 in
-    let among : Contains (affected old relation) q =
-    kept_there (λ (p : Query). reads p relation && list_any (is_watching p.name) old.sessions) old.store.queries q
-    (both_true (reads q relation) (list_any (is_watching q.name) old.sessions) reading watched) (found_there (λ (p : Query). bytes_eq p.name q.name) old.store.queries q registered) in
+    let among : Contains (affected old change) q =
+    kept_there (λ (p : Query). is_outdated change p && list_any (is_watching p.name) old.sessions) old.store.queries q
+    (both_true (is_outdated change q) (list_any (is_watching q.name) old.sessions) reading watched) (found_there (λ (p : Query). bytes_eq p.name q.name) old.store.queries q registered) in
     let d = mapped_from (λ (k : Delta). k.query) h.deltas q (subst (λ (qs : List Query). Contains qs q) (sym h.listed.of_queries) among) in
     let part = text_of (delta_lines q.name (d.0).changes store.seq) in
-    let last = change_has q s part old t relation rows store reply e new h d.0 d.1 d.2 (ap (λ (p : Query). text_of (delta_lines p.name (d.0).changes store.seq)) d.2) w in
-    let after = with_rows old.store.relations relation rows in
+    let last = change_has q s part old t change store reply e new h d.0 d.1 d.2 (ap (λ (p : Query). text_of (delta_lines p.name (d.0).changes store.seq)) d.2) w in
     record {
       changes = (d.0).changes;
-      delta = subst (λ (p : Query). IsDelta (IsAnswer old.store.relations p) (IsAnswer after p) (d.0).changes) d.2
-          (All-contains (λ (k : Delta). IsDelta (IsAnswer old.store.relations k.query) (IsAnswer after k.query) k.changes) h.deltas d.0 h.listed.are_deltas d.1);
+      delta = subst (λ (p : Query). IsDelta (IsAnswer old.store.relations p) (IsAnswer change.after p) (d.0).changes) d.2
+          (All-contains (λ (k : Delta). IsDelta (IsAnswer old.store.relations k.query) (IsAnswer change.after k.query) k.changes) h.deltas d.0 h.listed.are_deltas d.1);
       told = queued part last;
     }
   where
     queued : (part : Bytes) → Contains h.last.queued (s, part) ⊎ IsOver h.last.state s → Contains e.queued (s, part)
-    queued part (inl c) = subst (λ (k : Effect). Contains k.queued (s, part)) (sym h.effect) c
+    queued part (inl c) = subst (λ (qs : List (ℕ × Bytes)). Contains qs (s, part)) (sym h.queued) c
     queued part (inr over) = absurd (over (ap (λ (st : State). cause_of st s) (sym h.state) ∙ running))

@@ -1,5 +1,5 @@
 -- What a session is told that watches a query all along a run.
-use Rattle.std.specs.Prelude.{ℕ, List, [], ◌∷◌, ◌==◌, ◌≡◌, ◌<◌, ◌++◌, ◌&&◌, Bool, true, false, not, None, Some, IsSomeAnd, if◌then◌else◌, filter, map, AllPairs}
+use Rattle.std.specs.Prelude.{ℕ, List, [], ◌∷◌, ◌==◌, ◌≡◌, ◌<◌, ◌++◌, ◌&&◌, Bool, true, false, not, Option, None, Some, is_some, IsSomeAnd, if◌then◌else◌, filter, map, AllPairs}
 use Rattle.std.specs.List.{flat_map}
 use Rattle.djq_model.specs.declared.query.Query.{Query}
 use Rattle.djq_model.specs.Data.{Bytes, Tuple, query_of}
@@ -7,8 +7,8 @@ use Rattle.djq_model.specs.Answer.{IsAnswer, IsListing}
 use Rattle.djq_lines.specs.declared.command.Command.TheVariants.{Add, Del}
 use Rattle.djq_lines.specs.Grammar.{Reading, says as says_command, reading_of}
 use Rattle.djq_lines.specs.Reply.{text_of}
-use Rattle.djq_machine.specs.State.{Store, State, session_of}
-use Rattle.djq_machine.specs.Stale.{reads}
+use Rattle.djq_machine.specs.State.{State, session_of}
+use Rattle.djq_machine.specs.Stale.{by_relation}
 use Rattle.djq_machine.specs.Delta.{Change, delta_lines}
 use Rattle.djq_machine.specs.Watch.{is_watching}
 use Rattle.djq_machine.specs.LineStep.{run}
@@ -31,27 +31,27 @@ pub record WatchesStep (q : Query) (s : ℕ) (old : State) (d : Did) (new : Stat
 abbrev pub WatchesAlong : Query → ℕ → State → List Did → State → Type 0
 WatchesAlong q s = Walk (WatchesStep q s)
 
--- whether a line is to change the rows of a relation that a query reads
-abbrev pub line_changes : Query → Reading → Bool
-line_changes q (says_command (Add name row)) = reads q name
-line_changes q (says_command (Del name row)) = reads q name
-line_changes q _ = false
+-- the relation whose change by a line of a session outdates a query, where the line is to change one
+abbrev pub line_outdater : State → ℕ → Reading → Query → Option Bytes
+line_outdater old t (says_command (Add name row)) q = by_relation name q
+line_outdater old t (says_command (Del name row)) q = by_relation name q
+line_outdater old t _ q = None
 
--- whether an event runs such a line
-abbrev pub event_changes : Query → Event → Bool
-event_changes q (stepped t (run l)) = line_changes q (reading_of l)
-event_changes q _ = false
+-- whether an event runs a line that is to change rows of a relation that a query reads
+abbrev pub event_changes : Query → State → Event → Bool
+event_changes q old (stepped t (run l)) = is_some (line_outdater old t (reading_of l) q)
+event_changes q old _ = false
 
 -- the number of an accepted change by such an event
-abbrev pub number_by : Query → Store → Event → Store → List ℕ
-number_by q old event new =
-    if not (new.seq == old.seq) && event_changes q event then new.seq ∷ [] else []
+abbrev pub number_by : Query → State → Event → State → List ℕ
+number_by q old event new = if not (new.store.seq == old.store.seq) && event_changes q old event
+    then new.store.seq ∷ [] else []
 
 -- the numbers of all of a run
 abbrev pub numbers_along : (q : Query) (s : ℕ) (old : State) (done : List Did) (new : State) → WatchesAlong q s old done new → List ℕ
 numbers_along q s old [] new walk = []
 numbers_along q s old (d ∷ done) new walk =
-    number_by q old.store d.event walk.0.store ++ numbers_along q s walk.0 done new walk.2
+    number_by q old d.event walk.0 ++ numbers_along q s walk.0 done new walk.2
 
 -- the parts for a session, of those that are queued
 abbrev pub parts_for : ℕ → List (ℕ × Bytes) → List Bytes

@@ -7,6 +7,9 @@
 //! `specs/Course.antt` says what the program may make of a run under the words `run`, and what its
 //! source, its sink and its counters show of it. It is the one reason that this crate stands on
 //! djq_io.
+//! `specs/Form.antt` says what each command may change, by its form: the proofs of the laws over
+//! commands go by the five forms. That a tuple is an answer of a query or isn't is a law of
+//! djq_deltas, on which `deltas_add_up` rests.
 #![tactic(auto)]
 
 pub mod limits;

@@ -33,7 +33,7 @@ use Rattle.std.specs.Prelude.{
 }
 use Rattle.std.specs.List.{list_any}
 use Rattle.djq_model.specs.declared.query.Query.{Query}
-use Rattle.djq_model.specs.Data.{Bytes, Tuple, bytes_eq, drop_first, rows_of, without_row, query_of}
+use Rattle.djq_model.specs.Data.{Bytes, Tuple, bytes_eq, drop_first, query_of}
 use Rattle.djq_model.specs.Answer.{IsAnswer, AreDifferent}
 use Rattle.djq_lines.specs.declared.limits.TheConstants.{CURSORS, REPLY_BYTES}
 use Rattle.djq_lines.specs.declared.answer.Refusal.{Refusal}
@@ -110,9 +110,10 @@ use Rattle.djq_machine.specs.Store.{
   IsLeft,
   most_steps,
 }
-use Rattle.djq_machine.specs.Stale.{add_outdates, add_accepted, delete_outdates}
+use Rattle.djq_machine.specs.Changes.{row_in, row_out, add_outcome, delete_outcome}
 use Rattle.djq_machine.specs.Watch.{is_watching, ChangeStep}
-use Rattle.djq_machine.specs.Effect.{Effect, says, EndsWith, RefusedStep}
+use Rattle.djq_machine.specs.Keeping.{no_line, kept_where, is_done, is_removal, is_registration}
+use Rattle.djq_machine.specs.Effect.{Effect, says, answers, EndsWith, EndsAnswering, RefusedStep}
 
 -- `rel`: a relation is made.
 pub record RelStep (old : State) (s : ℕ) (makes : Store → Result ⊤ Refusal → Store → Type 0)
@@ -120,7 +121,7 @@ pub record RelStep (old : State) (s : ℕ) (makes : Store → Result ⊤ Refusal
   pub result : Result ⊤ Refusal
   pub store : Store
   pub done : makes old.store result store
-  pub effect : e ≡ says s (ok_reply (codes "ok") result)
+  pub effect : e ≡ answers s (ok_reply (codes "ok") result) (is_done result)
   pub state : new ≡ record old { store = store }
 
 -- `add`: a row goes in, and that is told those who watch.
@@ -129,8 +130,9 @@ pub record AddStep (old : State) (s : ℕ) (name : Bytes) (row : Tuple) (e : Eff
   pub result : Result AddOutcome Refusal
   pub store : Store
   pub done : AddsRow old.store name row result store
-  pub change : ChangeStep old s name (rows_of old.store.relations name ++ row ∷ [])
-      (add_outdates result) (add_accepted result) store (add_reply result store.seq) e new
+  pub change : ChangeStep old s (add_outcome (row_in old.store.relations name row) result) store
+      (add_reply result store.seq) e new
+  pub kept : e.kept ≡ kept_where (is_done result)
 
 -- `del`: a row goes out, likewise.
 pub record DeleteStep (old : State) (s : ℕ) (name : Bytes) (row : Tuple) (e : Effect)
@@ -138,15 +140,16 @@ pub record DeleteStep (old : State) (s : ℕ) (name : Bytes) (row : Tuple) (e : 
   pub result : Result DeleteOutcome Refusal
   pub store : Store
   pub done : DeletesRow old.store name row result store
-  pub change : ChangeStep old s name (without_row (rows_of old.store.relations name) row)
-      (delete_outdates result) (delete_outdates result) store (delete_reply result store.seq) e new
+  pub change : ChangeStep old s (delete_outcome (row_out old.store.relations name row) result) store
+      (delete_reply result store.seq) e new
+  pub kept : e.kept ≡ kept_where (is_removal result)
 
 -- `query`: a query is registered, or a rest shows why it isn't.
 pub record QueryStep (old : State) (s : ℕ) (q : Query) (e : Effect) (new : State) : Type 0 where
   pub result : Result QueryOutcome Refusal
   pub store : Store
   pub done : RegistersQuery old.store q result store
-  pub effect : e ≡ says s (query_reply result)
+  pub effect : e ≡ answers s (query_reply result) (is_registration result)
   pub state : new ≡ record old { store = store }
 
 -- Out of memory in a reply to `query` above the bytes that were kept for it, which tells a rest:
@@ -156,7 +159,8 @@ pub record QueryCutStep (old : State) (s : ℕ) (q : Query) (e : Effect) (new : 
   pub store : Store
   pub done : RegistersQuery old.store q result store
   pub above : REPLY_BYTES < length (query_reply result)
-  pub ends : EndsWith end_memory Memory (record old { store = store }) s e new
+  pub ends : EndsAnswering end_memory Memory (is_registration result) (record old { store = store }) s
+      e new
 
 -- whether a session uses a query: a cursor of it, stale or not, is over the query, or it watches
 -- the query
@@ -168,7 +172,7 @@ pub record DropStep (old : State) (s : ℕ) (q : Bytes) (e : Effect) (new : Stat
   pub result : Result ⊤ Refusal
   pub store : Store
   pub done : DropsQuery old.store (list_any (uses q) old.sessions) q result store
-  pub effect : e ≡ says s (ok_reply (codes "ok") result)
+  pub effect : e ≡ answers s (ok_reply (codes "ok") result) (is_done result)
   pub state : new ≡ record old { store = store }
 
 -- `has`: whether a tuple is an answer of a query.
@@ -179,6 +183,7 @@ pub record HasStep (old : State) (s : ℕ) (q : Bytes) (t : Tuple) (e : Effect)
   pub effect : e ≡ record {
     queued = (s, has_reply result) ∷ [];
     cost = has_steps (query_of old.store.queries q);
+    kept = no_line;
   }
   pub state : new ≡ old
 
@@ -217,6 +222,7 @@ pub record NextStep (old : State) (s : ℕ) (c : Bytes) (q : Query) (given : Lis
   pub effect : e ≡ record {
     queued = (s, text_of (listing_lines told end)) ∷ [];
     cost = (length told + 1) * most_steps (length q.head);
+    kept = no_line;
   }
   pub state : new ≡ with_session old s
       (λ x. record x { cursors = with_position x.cursors c (open_at (given ++ told) end) })
@@ -243,6 +249,7 @@ pub record NextCutStep (old : State) (s : ℕ) (q : Query) (given : List Tuple) 
   pub effect : e ≡ record {
     queued = (s, text_of (map answer_line told) ++ end_memory) ∷ [];
     cost = (length told + 1) * most_steps (length q.head);
+    kept = no_line;
   }
   pub state : new ≡ with_session old s (ended_by Memory)
 

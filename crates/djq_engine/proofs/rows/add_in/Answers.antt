@@ -140,8 +140,7 @@ returns-in_err-judged-clause-tells g c =
 pub returns-in_default-clause-tells : goal.returns-in_default-clause-tells
 returns-in_default-clause-tells g c =
     let old = c.args.parts.now in
-    tells_nothing (kept_in old) (kept_in old) c.args.name.now
-    (rows_of old.catalog.relations c.args.name.now ++ c.args.row.now ∷ []) c.args.steps.now.listing
+    tells_nothing (kept_in old) (kept_in old) c.args.steps.now.listing
     c.args.steps.now.listing (omega arith) (λ id h. refl)
 
 pub returns-in-Err-Full-clause-tended : goal.returns-in-Err-Full-clause-tended
@@ -155,7 +154,7 @@ returns-in-Err-Full-clause-watches g c =
 pub returns-in-Err-Full-clause-tells : goal.returns-in-Err-Full-clause-tells
 returns-in-Err-Full-clause-tells g c =
     let old = c.args.parts.now in
-    tells_nothing (kept_in old) (kept_in c.put_row.new.parts) c.args.name.now (rows_of old.catalog.relations c.args.name.now ++ c.args.row.now ∷ []) c.args.steps.now.listing c.put_row.new.steps.listing
+    tells_nothing (kept_in old) (kept_in c.put_row.new.parts) c.args.steps.now.listing c.put_row.new.steps.listing
     (subst (λ (r : InternRefusal). Idles c.args.steps.now.listing c.put_row.new.steps.listing r) c.in-Err-Full.field-0-is c.in-Err-Full.ensures.idle)
     (λ id h. told_full c.showable_stays.ensures c.texts_stay.ensures old c.put_row.new.parts c.args.row.now
     (subst (λ (r : InternRefusal). Lacks c.in-Some.id.at c.args.row.now c.args.parts.now c.put_row.new.parts r)
@@ -286,7 +285,7 @@ returns-in-Err-NoMem-clause-updates g c =
     let m = (subst (λ (j : Option RelationId). JudgesAdd c.args.parts.now.catalog.relations c.args.name.now
     c.args.row.now c.args.parts.now.seq j) c.in-Some.is c.in_ok-judged.ensures.ok) in
     counts_updates c.args.parts.now c.requires.whole c.in-Some.id.at m.relation.below c.args.name.now m.relation.named
-    c.leaves_are_small.ensures
+    _ c.leaves_are_small.ensures
     3 c.args.steps.now.update c.put_row.new.steps.update c.in-Err-NoMem.ensures.refusal
 
 pub returns-clause-updates : goal.returns-clause-updates
@@ -294,5 +293,5 @@ returns-clause-updates g c =
     let m = (subst (λ (j : Option RelationId). JudgesAdd c.args.parts.now.catalog.relations c.args.name.now
     c.args.row.now c.args.parts.now.seq j) c.in-Some.is c.in_ok-judged.ensures.ok) in
     counts_updates c.args.parts.now c.requires.whole c.in-Some.id.at m.relation.below c.args.name.now m.relation.named
-    c.leaves_are_small.ensures
+    _ c.leaves_are_small.ensures
     1 c.args.steps.now.update c.put_row.new.steps.update c.in-Ok.ensures.updates

@@ -5,18 +5,14 @@ use Rattle.std.proofs.lemmas.List.Elements.{All-nil, All-cons, All-head, All-tai
 use Rattle.djq_model.specs.declared.value.Value.{Value}
 use Rattle.djq_model.specs.declared.value.Value.TheVariants.{Int}
 use Rattle.djq_model.specs.declared.relation.Relation.{Relation}
-use Rattle.djq_model.specs.declared.query.Query.{Query}
 use Rattle.djq_model.specs.declared.query.Atom.{Atom}
 use Rattle.djq_model.specs.declared.query.Term.{Term}
 use Rattle.djq_model.specs.declared.query.Term.TheVariants.{Variable, Hole, Constant}
 use Rattle.djq_model.specs.Data.{Bytes, Tuple, bytes_eq, value_eq, rows_of}
-use Rattle.djq_model.specs.Answer.{Assignment, StandForAll, Satisfies, IsAnswer}
+use Rattle.djq_model.specs.Answer.{Assignment, StandForAll, Satisfies}
 use Rattle.djq_model.specs.Equality.{bytes_eq-decides, value_eq-decides}
-use Rattle.djq_laws.proofs.Containing.{nothing_there, first_or_later, first_there, later_there}
-
--- It holds or it doesn't.
-abbrev pub Decided : Type 0 → Type 0
-Decided A = A ⊎ (A → ⊥)
+use Rattle.djq_deltas.specs.Decided.{Decided, AnswersAreDecided}
+use Rattle.djq_deltas.proofs.Lists.{nothing_there, first_or_later, first_there, later_there}
 
 decided_as : {A B : Type 0} → (A → B) → (B → A) → Decided A → Decided B
 decided_as to back (inl a) = inl (to a)
@@ -146,8 +142,8 @@ atoms_decided relations (a ∷ more) bs =
     record { assignment = s.assignment; holds = s.holds; rest = ((first.row, first.is_there, first.stands), All-tail (Satisfies relations s.assignment) a more s.rest) })
     (rows_decided (λ f. All (Satisfies relations f) more) (λ cs. atoms_decided relations more cs) a.terms (rows_of relations a.relation) bs)
 
-pub answer_decided : (relations : List Relation) (q : Query) (t : Tuple) → Decided (IsAnswer relations q t)
-answer_decided relations q t =
+pub answers_are_decided : AnswersAreDecided
+answers_are_decided relations q t =
     decided_as (λ s. record { assignment = s.assignment; satisfies = s.rest.1; on_head = s.rest.0 })
     (λ h. record { assignment = h.assignment; holds = tt; rest = (h.on_head, h.satisfies) })
     (head_decided (λ f. All (Satisfies relations f) q.atoms) (λ bs. atoms_decided relations q.atoms bs) q.head t [])
