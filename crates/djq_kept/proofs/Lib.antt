@@ -1,0 +1,8 @@
+mod Rows
+mod Knowing
+mod Sameness
+mod Respecting
+mod Keeping
+mod Running
+mod Reloading
+mod Lines
