@@ -1,10 +1,9 @@
 -- How much an update of a registered query counts, measured by its atoms and variables.
-use Rattle.std.proofs.Common.{◌≡◌, ℕ, ◌+◌, ◌*◌, ◌<◌, ◌≤◌, true, List, [], ◌∷◌, length, sym, subst, inl, inr, arith, mul-le-mul_left, mul-le-mul_right}
+use Rattle.std.proofs.Common.{◌≡◌, ℕ, ◌+◌, ◌*◌, ◌<◌, ◌≤◌, true, List, [], ◌∷◌, length, sym, subst, inl, inr, arith, mul-le-mul_right}
 use Rattle.std.specs.Prelude.{◌==◌, None, Some}
 use Rattle.std.specs.List.{list_any}
 use Rattle.std.proofs.lemmas.Bool.{eqb-true, false≢true, or_cases}
 use Rattle.std.proofs.lemmas.List.{length-map}
-use Rattle.std.proofs.lemmas.Nat.{mul-le}
 use Rattle.std.proofs.lemmas.Option.{slice_get_within}
 use Rattle.djq_hyper.specs.Hypergraph.{numbers_below}
 use Rattle.djq_model.specs.declared.query.Query.{Query}
@@ -30,7 +29,7 @@ use Rattle.djq_rows.specs.Catalog.{Catalog}
 use Rattle.djq_live.specs.Asked.{IsAsked}
 use Rattle.djq_live.specs.Leaves.{IsOver}
 use Rattle.djq_live.specs.Live.{Live, IsKept, IsKeptSomewhere}
-use Rattle.djq_live.specs.Stepping.{GrowsByOne, CountsLeaves, atoms_below, leaf_bound}
+use Rattle.djq_live.specs.Stepping.{GrowsByOne, CountsLeaves, BoundsLeaf, atoms_below}
 use Rattle.djq_live.specs.Updating.{CountsUpdate, atoms_over, update_bound}
 use Rattle.djq_live.proofs.Heads.{InAtom, leaf_with, leaf_atom}
 use Rattle.djq_live.proofs.Later.{atom_at}
@@ -86,9 +85,9 @@ few_paths c q n ps r h =
     let leaves = h.long in
     omega arith
 
-leaf_within : (c : Catalog) (l : Live) (n : ℕ) → IsKept c l
-    → leaf_bound (l.reducts).tree n ≤ update_bound l n
-leaf_within c l n h =
+update_bounds : (c : Catalog) (l : Live) (n : ℕ) → IsKept c l
+    → BoundsLeaf (l.reducts).tree n (update_bound l n)
+update_bounds c l n h =
     let few = few_paths c l.query l.numbered l.patterns l.reducts h.over in
     let product = mul-le-mul_right (n + 1) few in
     omega arith
@@ -101,9 +100,9 @@ below_over l at atoms k e =
     subst (λ (a : List NumberedAtom). atoms_below at a k ≤ atoms_over l at) (sym e)
     (part_few (λ (a : NumberedAtom). a.relation == at) (l.numbered).atoms k)
 
-sum_all : (j o b u x y : ℕ) → j ≤ o → b ≤ u → y ≤ x + j * b → y ≤ x + 1 * (o * u)
-sum_all j o b u x y few within first =
-    let product = mul-le j b o u few within in
+sum_all : (j o u x y : ℕ) → j ≤ o → y ≤ x + j * u → y ≤ x + 1 * (o * u)
+sum_all j o u x y few first =
+    let product = mul-le-mul_right u few in
     omega arith
 
 pub counts_all : (l self : Live) (at : ℕ) (atoms : List NumberedAtom) (k x y : ℕ) → l ≡ self
@@ -111,28 +110,27 @@ pub counts_all : (l self : Live) (at : ℕ) (atoms : List NumberedAtom) (k x y :
     → CountsLeaves l.reducts (atoms_below at atoms k) x y → CountsUpdate 1 self at x y
 counts_all l self at atoms k x y e a kept counts =
     subst (λ (z : Live). CountsUpdate 1 z at x y) e
-    (λ n few. sum_all (atoms_below at atoms k) (atoms_over l at) (leaf_bound (l.reducts).tree n)
-    (update_bound l n) x y (below_over l at atoms k a) (leaf_within kept.0 l n kept.1)
-    (counts n few))
+    (λ n few. sum_all (atoms_below at atoms k) (atoms_over l at) (update_bound l n) x y
+    (below_over l at atoms k a)
+    (counts n (update_bound l n) few (update_bounds kept.0 l n kept.1)))
 
 -- giving back counts at most twice what taking in does, since a leaf has one tuple more
-twice_bound : (t : Tree) (n : ℕ) → leaf_bound t (n + 1) ≤ 2 * leaf_bound t n
-twice_bound t n = twice (paths t) n
+twice_bounds : (t : Tree) (n b : ℕ) → BoundsLeaf t n b → BoundsLeaf t (n + 1) (2 * b)
+twice_bounds t n b h = twice (paths t) n h
   where
-    twice : (p m : ℕ) → 16 * (p * (m + 1 + 1)) ≤ 2 * (16 * (p * (m + 1)))
-    twice p m =
+    twice : (p m : ℕ) → 16 * (p * (m + 1)) ≤ b → 16 * (p * (m + 1 + 1)) ≤ 2 * b
+    twice p m bounds =
         let a : p * (m + 1) ≡ p * m + p = omega arith in
-        let b : p * (m + 1 + 1) ≡ p * m + 2 * p = omega arith in
+        let d : p * (m + 1 + 1) ≡ p * m + 2 * p = omega arith in
         omega arith
 
-sum_back : (j o b d u x y z : ℕ) → j + 1 ≤ o → b ≤ u → d ≤ 2 * b → y ≤ x + (j + 3) * b
-    → z ≤ y + j * d → z ≤ x + 3 * (o * u)
-sum_back j o b d u x y z few within twice first second =
-    let a = mul-le-mul_left j twice in
-    let p = mul-le (j + 1) b o u few within in
-    let e : (j + 3) * b ≡ j * b + 3 * b = omega arith in
-    let f : j * (2 * b) ≡ 2 * (j * b) = omega arith in
-    let g : (j + 1) * b ≡ j * b + b = omega arith in
+sum_back : (j o u x y z : ℕ) → j + 1 ≤ o → y ≤ x + (j + 3) * u → z ≤ y + j * (2 * u)
+    → z ≤ x + 3 * (o * u)
+sum_back j o u x y z few first second =
+    let p = mul-le-mul_right u few in
+    let e : (j + 3) * u ≡ j * u + 3 * u = omega arith in
+    let f : j * (2 * u) ≡ 2 * (j * u) = omega arith in
+    let g : (j + 1) * u ≡ j * u + u = omega arith in
     omega arith
 
 pub counts_back : (l self : Live) (s : Reducts) (at : ℕ) (atoms : List NumberedAtom)
@@ -144,10 +142,11 @@ pub counts_back : (l self : Live) (s : Reducts) (at : ℕ) (atoms : List Numbere
 counts_back l self s at atoms k x y z e a kept tree grows more first second =
     subst (λ (v : Live). CountsUpdate 3 v at x z) e
     (λ n few.
-    let j = atoms_below at atoms k in
+    let u = update_bound l n in
+    let bounds = update_bounds kept.0 l n kept.1 in
     let over = below_over l at atoms (length atoms) a in
-    sum_back j (atoms_over l at) (leaf_bound (l.reducts).tree n)
-    (leaf_bound (l.reducts).tree (n + 1)) (update_bound l n) x y z (omega arith)
-    (leaf_within kept.0 l n kept.1) (twice_bound (l.reducts).tree n) (first n few)
-    (subst (λ (t : Tree). z ≤ y + j * leaf_bound t (n + 1)) tree
-    (second (n + 1) (all_grown l.reducts s n tree grows few))))
+    sum_back (atoms_below at atoms k) (atoms_over l at) u x y z (omega arith)
+    (first n u few bounds)
+    (second (n + 1) (2 * u) (all_grown l.reducts s n tree grows few)
+    (subst (λ (t : Tree). BoundsLeaf t (n + 1) (2 * u)) (sym tree)
+    (twice_bounds (l.reducts).tree n u bounds))))

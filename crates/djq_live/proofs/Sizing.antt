@@ -24,8 +24,8 @@ use Rattle.djq_live.specs.Stepping.{
   GrowsByOne,
   CountsLeaf,
   CountsLeaves,
+  BoundsLeaf,
   atoms_below,
-  leaf_bound,
 }
 use Rattle.djq_live.proofs.Passing.{counts_over, part_few}
 
@@ -76,16 +76,16 @@ inserted_grows j u old mid new came kept = record {
 
 -- ---- what it counts
 
-sum_inserted : (p n x y z : ℕ) → y ≤ x + 10 * (p * (n + 1)) → z ≤ y + p * (1 + (n + 1))
-    → z ≤ x + 1 * (16 * (p * (n + 1)))
-sum_inserted p n x y z first second =
+sum_inserted : (p n b x y z : ℕ) → 16 * (p * (n + 1)) ≤ b → y ≤ x + 10 * (p * (n + 1))
+    → z ≤ y + p * (1 + (n + 1)) → z ≤ x + 1 * b
+sum_inserted p n b x y z bounds first second =
     let a : p * (n + 1) ≡ p * n + p = omega arith in
     let b : p * (1 + (n + 1)) ≡ p * n + 2 * p = omega arith in
     omega arith
 
-sum_removed : (p n x y z : ℕ) → 0 < p → y ≤ x + 6 * (p * n)
-    → z ≤ y + 1 + 5 * (p * n) + p * (1 + n) → z ≤ x + 1 * (16 * (p * (n + 1)))
-sum_removed p n x y z some first second =
+sum_removed : (p n b x y z : ℕ) → 0 < p → 16 * (p * (n + 1)) ≤ b → y ≤ x + 6 * (p * n)
+    → z ≤ y + 1 + 5 * (p * n) + p * (1 + n) → z ≤ x + 1 * b
+sum_removed p n b x y z some bounds first second =
     let a : p * (n + 1) ≡ p * n + p = omega arith in
     let b : p * (1 + n) ≡ p * n + p = omega arith in
     omega arith
@@ -111,9 +111,9 @@ pub insertion_counts : (j : ℕ) (u : List ℕ) (old mid : Reducts) (x y z : ℕ
     → HasInserted old mid j u
     → ((n : ℕ) → HasAtMost mid n → y ≤ x + 10 * (paths old.tree * n))
     → ((n : ℕ) → HasAtMost mid n → z ≤ y + paths mid.tree * (1 + n)) → CountsLeaf old j 1 x z
-insertion_counts j u old mid x y z came first second = λ n room.
+insertion_counts j u old mid x y z came first second = λ n b room bounds.
     let few = room_after j u n old mid came room in
-    sum_inserted (paths old.tree) n x y z (first (n + 1) few)
+    sum_inserted (paths old.tree) n b x y z bounds (first (n + 1) few)
     (subst (λ (t : Tree). z ≤ y + paths t * (1 + (n + 1))) (sym came.without.tree)
     (second (n + 1) few))
 
@@ -126,7 +126,7 @@ pub removal_counts : (j : ℕ) (u : List ℕ) (old mid : Reducts) (x y z : ℕ) 
     → ((n : ℕ) → HasAtMost mid n
     → z ≤ y + 1 + 5 * (paths mid.tree * n) + paths mid.tree * (1 + n))
     → CountsLeaves old 1 x z
-removal_counts j u old mid x y z sound marked first second = λ n few.
+removal_counts j u old mid x y z sound marked first second = λ n b few bounds.
     let still : HasAtMost mid n = record {
       each = λ i low.
           let a = few.each i (subst (λ (t : Tree). i < t.leaves) marked.tree low) in
@@ -134,7 +134,7 @@ removal_counts j u old mid x y z sound marked first second = λ n few.
           (marked.tables.tuples i) in
           omega arith;
     } in
-    sum_removed (paths old.tree) n x y z (some_path old sound) (first n few)
+    sum_removed (paths old.tree) n b x y z (some_path old sound) bounds (first n few)
     (subst (λ (t : Tree). z ≤ y + 1 + 5 * (paths t * n) + paths t * (1 + n)) marked.tree
     (second n still))
 
@@ -149,9 +149,9 @@ sum_next j k b x y z e first second =
     subst (λ (i : ℕ). z ≤ x + i * b) e
     (let a : (j + 1) * b ≡ j * b + b = omega arith in omega arith)
 
-bound_as : (r s : Reducts) (n c y z : ℕ) → s.tree ≡ r.tree → z ≤ y + c * leaf_bound s.tree n
-    → z ≤ y + c * leaf_bound r.tree n
-bound_as r s n c y z e h = subst (λ (t : Tree). z ≤ y + c * leaf_bound t n) e h
+bounds_as : (r s : Reducts) (n b : ℕ) → s.tree ≡ r.tree → BoundsLeaf r.tree n b
+    → BoundsLeaf s.tree n b
+bounds_as r s n b e h = subst (λ (t : Tree). BoundsLeaf t n b) (sym e) h
 
 -- with fewer tuples there are at most as many
 fewer_stay : (small big : Reducts) (n : ℕ) → IsReducts small → HasMore small big
@@ -174,9 +174,9 @@ fewer_stay small big n h more few = record {
 
 pub counts_fewer : (r s : Reducts) (j k x y z : ℕ) → IsReducts s → HasMore s r → j + 1 ≡ k
     → CountsLeaves r j x y → CountsLeaves s 1 y z → CountsLeaves r k x z
-counts_fewer r s j k x y z h more e first second = λ n few.
-    sum_next j k (leaf_bound r.tree n) x y z e (first n few)
-    (bound_as r s n 1 y z (sym more.tree) (second n (fewer_stay s r n h more few)))
+counts_fewer r s j k x y z h more e first second = λ n b few bounds.
+    sum_next j k b x y z e (first n b few bounds)
+    (second n b (fewer_stay s r n h more few) (bounds_as r s n b (sym more.tree) bounds))
 
 pub all_grown : (r s : Reducts) (n : ℕ) → s.tree ≡ r.tree → GrowsByOne r s → HasAtMost r n
     → HasAtMost s (n + 1)
@@ -233,10 +233,10 @@ pub counts_next : (Changes : Shape → List Entry → List Entry → Type 0) (at
     (i j x y z : ℕ) → slice_get atoms k ≡ Some m → k < r.tree.leaves
     → ChangesBelow Changes at atoms ps k r s → GrowsByOne r s → i + 1 ≡ j
     → CountsLeaves r i x y → CountsLeaf s k 1 y z → CountsLeaves r j x z
-counts_next Changes at atoms ps k m r s i j x y z e low h grows one first second = λ n few.
-    sum_next i j (leaf_bound r.tree n) x y z one (first n few)
-    (bound_as r s n 1 y z h.tree
-    (second n (room_for Changes at atoms ps k m r s n e low h grows few)))
+counts_next Changes at atoms ps k m r s i j x y z e low h grows one first second = λ n b few bounds.
+    sum_next i j b x y z one (first n b few bounds)
+    (second n b (room_for Changes at atoms ps k m r s n e low h grows few)
+    (bounds_as r s n b h.tree bounds))
 
 -- ---- a leaf that is refused
 
@@ -259,10 +259,10 @@ pub counts_last : (Changes : Shape → List Entry → List Entry → Type 0) (at
     (i x y z : ℕ) → slice_get atoms k ≡ Some m → k < r.tree.leaves
     → ChangesBelow Changes at atoms ps k r s → GrowsByOne r s → CountsLeaves r i x y
     → CountsLeaf s k 3 y z → CountsLeaves r (i + 3) x z
-counts_last Changes at atoms ps k m r s i x y z e low h grows first second = λ n few.
-    sum_last i (leaf_bound r.tree n) x y z (first n few)
-    (bound_as r s n 3 y z h.tree
-    (second n (room_for Changes at atoms ps k m r s n e low h grows few)))
+counts_last Changes at atoms ps k m r s i x y z e low h grows first second = λ n b few bounds.
+    sum_last i b x y z (first n b few bounds)
+    (second n b (room_for Changes at atoms ps k m r s n e low h grows few)
+    (bounds_as r s n b h.tree bounds))
 
 -- the leaf that is refused is one more over the relation
 pub one_more : (at : ℕ) (atoms : List NumberedAtom) (k : ℕ) (m : NumberedAtom)

@@ -158,8 +158,8 @@ unchanged Changes c at l none live = record {
 pub came_lives : CamePasses
 came_lives c d at cells row l came low none live =
     kept_so c d l came.later live
-    (over_gains c d l.query l.numbered l.patterns l.reducts l.reducts at cells row live.kept.over
-    came (unchanged (λ p old new. Gains p cells old new) c at l none live))
+    (over_gains c d l.query l.numbered l.patterns l.reducts l.reducts at (cells ∷ []) (row ∷ [])
+    live.kept.over came (unchanged (λ p old new. Gains p cells old new) c at l none live))
 
 pub went_lives : WentPasses
 went_lives c d at cells row l went low none live =
