@@ -1,6 +1,29 @@
 //! Laws on the lines that a run of the join machine keeps: loaded, they give what the run left.
 //!
-//! Each function here is empty: its contract is the law.
+//! Each function here is empty: its contract is the law, and its proof says nothing of code. A run
+//! keeps the lines of `rel`, `add` and `drop` that weren't refused, of `del` where a row went, and
+//! of `query` where it was registered (djq_machine, `specs/Keeping.antt`).
+//!
+//! ```text
+//! rel r int       kept          loaded into an empty store, the four kept lines give
+//! add r 7         kept          r with the row (8), no query, and 3 changes, as the
+//! add r 8         kept          run left it
+//! del r 9
+//! has q 7
+//! del r 7         kept
+//! ```
+//!
+//! What this crate is not: it writes no lines and reads none. It says what whoever writes them down
+//! and loads them at the next start may rest on.
+//!
+//! What surprises: what is kept is the line as it came, and loading it runs it anew. A store that
+//! is loaded *follows* the one that was left: rows may stand in another order, and texts that no
+//! row or query of it has may be unknown. Cursors, watches and sessions aren't kept. No kept line
+//! is refused as it is loaded, though memory may be wanting.
+//!
+//! Inside, `specs/Loading.antt` says what loading a line does to a store, and `specs/Kept.antt` the
+//! laws: [`kept_lines_load`] from any store that follows the first, [`runs_reload`] from lines that
+//! were there before, and [`stops_reload`] where a stop left the first groups of lines, whole.
 #![tactic(auto)]
 
 ghost use Rattle.djq_kept.specs.Kept.{KeptAreLines, KeptLinesLoad, RunsReload, StopsReload};
