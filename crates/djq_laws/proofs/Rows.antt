@@ -31,7 +31,7 @@ use Rattle.std.proofs.Common.{refl, sym, ap, subst}
 use Rattle.std.proofs.lemmas.List.Elements.{All-push}
 use Rattle.djq_model.specs.declared.relation.Relation.{Relation}
 use Rattle.djq_model.specs.declared.query.Query.{Query}
-use Rattle.djq_model.specs.Data.{Bytes, Tuple, bytes_eq, tuple_eq, relation_of, rows_in, rows_of, has_row, without_row}
+use Rattle.djq_model.specs.Data.{Bytes, Tuple, bytes_eq, tuple_eq, relation_of, tuples_in, rows_in, rows_of, has_row, without_row}
 use Rattle.djq_model.specs.Answer.{AreDifferent}
 use Rattle.djq_model.specs.Known.{texts_in, all_learned}
 use Rattle.djq_model.specs.Typed.{fits}
@@ -108,7 +108,7 @@ rows_there rs name rows h keeps =
     (λ (x : Relation). record x { rows = rows }) rs h (λ x found k. keeps x found k)
 
 -- the rows of the relation that is found
-rows_found : (P : Tuple → Type 0) (o : Option Relation) (x : Relation) → o ≡ Some x → All P x.rows → All P (rows_in o)
+rows_found : (P : Tuple → Type 0) (o : Option Relation) (x : Relation) → o ≡ Some x → All P (tuples_in x) → All P (rows_in o)
 rows_found P o x found h = subst (λ (p : Option Relation). All P (rows_in p)) (sym found) h
 
 -- a row that isn't refused fits

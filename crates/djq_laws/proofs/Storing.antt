@@ -5,7 +5,7 @@ use Rattle.std.proofs.lemmas.List.Sorted.{All-permutation}
 use Rattle.std.proofs.lemmas.List.Elements.{All-nil, All-cons, All-head, All-tail, All-push}
 use Rattle.djq_model.specs.declared.relation.Relation.{Relation}
 use Rattle.djq_model.specs.declared.query.Query.{Query}
-use Rattle.djq_model.specs.Data.{Bytes, bytes_eq}
+use Rattle.djq_model.specs.Data.{Bytes, tuples_in, bytes_eq}
 use Rattle.djq_model.specs.Known.{texts_in}
 use Rattle.djq_model.specs.Typed.{fits}
 use Rattle.djq_lines.specs.Hypergraph.{edges_of, head_of}
@@ -99,7 +99,7 @@ moved_rows [] [] h s = s
 moved_rows (r ∷ rs) (m ∷ ms) h s =
     let k = All-head IsSoundRelation r rs s in
     All-cons IsSoundRelation m ms (record {
-      typed = subst (λ types. All (λ t. fits types t ≡ true) m.rows) (sym h.1)
+      typed = subst (λ types. All (λ t. fits types t ≡ true) (tuples_in m)) (sym h.1)
           (All-permutation (λ t. fits r.types t ≡ true) r.rows m.rows h.2 k.typed);
       once = rows_moved r.rows m.rows h.2 k.once;
     }) (moved_rows rs ms h.3 (All-tail IsSoundRelation r rs s))

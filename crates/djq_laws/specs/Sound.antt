@@ -2,7 +2,7 @@
 use Rattle.std.specs.Prelude.{List, [], ◌≡◌, ◌≢◌, ◌≤◌, true, IsSome, length, map, All, AllPairs}
 use Rattle.djq_model.specs.declared.relation.Relation.{Relation}
 use Rattle.djq_model.specs.declared.query.Query.{Query}
-use Rattle.djq_model.specs.Data.{Bytes, query_of}
+use Rattle.djq_model.specs.Data.{Bytes, tuples_in, query_of}
 use Rattle.djq_model.specs.Answer.{AreDifferent}
 use Rattle.djq_model.specs.Typed.{fits}
 use Rattle.djq_lines.specs.declared.limits.TheConstants.{SESSIONS, TEXTS}
@@ -18,8 +18,8 @@ AreApart names = AllPairs (λ a b. a ≢ b) names
 
 -- The rows of a relation are of its columns' types, and none stands twice.
 pub record IsSoundRelation (r : Relation) : Type 0 where
-  pub typed : All (λ row. fits r.types row ≡ true) r.rows
-  pub once : AreDifferent r.rows
+  pub typed : All (λ row. fits r.types row ≡ true) (tuples_in r)
+  pub once : AreDifferent (tuples_in r)
 
 -- Relations have names of their own, and queries, each of which is free-connex; and each known text
 -- is known once, and no more are than may be.

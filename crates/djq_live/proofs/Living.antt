@@ -7,7 +7,7 @@ use Rattle.std.proofs.lemmas.List.Kept.{AllPairs-from_increasing}
 use Rattle.std.proofs.lemmas.Nat.{mul-le}
 use Rattle.djq_hyper.specs.Hypergraph.{member}
 use Rattle.djq_model.specs.declared.query.Query.{Query}
-use Rattle.djq_model.specs.Data.{Bytes, Tuple}
+use Rattle.djq_model.specs.Data.{Bytes, Tuple, tuples_in}
 use Rattle.djq_model.specs.declared.relation.Relation.{Relation}
 use Rattle.djq_model.specs.Answer.{IsAnswer}
 use Rattle.djq_lines.specs.Variables.{Label}
@@ -170,7 +170,7 @@ rows_few c at h =
     elim (cases_lt at (length c.relations)) [
       | inl low ↦ (h.kept at no_relation low).few
       | inr past ↦
-          (let e = ap (λ (r : Relation). length r.rows)
+          (let e = ap (λ (r : Relation). length (tuples_in r))
           (get_or_past c.relations at no_relation (omega arith)) in
           omega arith)
     ]

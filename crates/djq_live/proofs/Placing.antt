@@ -21,7 +21,7 @@ use Rattle.std.proofs.lemmas.Bool.{cases_eq}
 use Rattle.std.proofs.lemmas.List.{append-nil, length-set, get_or-set_same, get_or-set_other}
 use Rattle.djq_model.specs.declared.relation.ColumnType.{ColumnType}
 use Rattle.djq_model.specs.declared.relation.Relation.{Relation}
-use Rattle.djq_model.specs.Data.{Bytes, Tuple, without_row}
+use Rattle.djq_model.specs.Data.{Bytes, Tuple, tuples_in, without_row}
 use Rattle.djq_rows.specs.Cells.{StandFor}
 use Rattle.djq_rows.specs.Catalog.{
   Catalog,
@@ -92,14 +92,14 @@ rows_here : (c d : Catalog) (at : ℕ) (rows : List Tuple) → at < length c.rel
     → d.relations ≡ with_rows_at c.relations at rows → rows_at d.relations at ≡ rows
 rows_here c d at rows low e =
     ap (λ (l : List Relation). rows_at l at) e
-    ∙ ap (λ (r : Relation). r.rows) (here c.relations at rows low)
+    ∙ ap tuples_in (here c.relations at rows low)
 
 rows_elsewhere : (c d : Catalog) (at k : ℕ) (rows : List Tuple) → k ≢ at
     → d.relations ≡ with_rows_at c.relations at rows
     → rows_at d.relations k ≡ rows_at c.relations k
 rows_elsewhere c d at k rows other e =
     ap (λ (l : List Relation). rows_at l k) e
-    ∙ ap (λ (r : Relation). r.rows) (elsewhere c.relations at k rows other)
+    ∙ ap tuples_in (elsewhere c.relations at k rows other)
 
 all_stand : (c d : Catalog) (at : ℕ) (cells : List (List ℕ)) (new : List Tuple) → IsLater c d
     → at < length c.relations → d.texts ≡ c.texts → StandForRows c at cells new

@@ -55,9 +55,14 @@ drop_first p (x ∷ xs) = if p x then xs else x ∷ drop_first p xs
 abbrev pub relation_of : List Relation → Bytes → Option Relation
 relation_of relations name = find (λ r. bytes_eq r.name name) relations
 
+-- the relation's rows, each once
+abbrev pub tuples_in : Relation → List Tuple
+tuples_in r = r.rows
+
+-- the rows of the relation that was found; none where none was
 abbrev pub rows_in : Option Relation → List Tuple
 rows_in None = []
-rows_in (Some r) = r.rows
+rows_in (Some r) = tuples_in r
 
 -- its rows; none where there is no such relation
 abbrev pub rows_of : List Relation → Bytes → List Tuple
