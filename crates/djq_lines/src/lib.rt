@@ -6,7 +6,7 @@
 //! or prints: djq_proto does, and is proved against these definitions.
 #![tactic(auto)]
 
-pub use answer::{AddOutcome, DeleteOutcome, EndCause, EndLine, Refusal, Sign};
+pub use answer::{AddOutcome, DeleteOutcome, EndCause, EndLine, Refusal, Shape, Sign};
 pub use command::Command;
 pub use keyword::Keyword;
 pub use rest::{NamedRest, QueryOutcome};
