@@ -1,5 +1,6 @@
 pub mod Members
 pub mod Owning
+pub mod Flatness
 pub mod Words
 pub mod Bags
 pub mod Counting
