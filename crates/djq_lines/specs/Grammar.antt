@@ -6,7 +6,8 @@
 --           | "open" name name                | "next" name count
 --           | "close" name                    | "has" name *literal
 --           | "watch" name                    | "unwatch" name
---           | "explain" name                  | "quit" | "stop"
+--           | "explain" name                  | "shape" name
+--           | "quit"                          | "stop"
 --     query = name "(" [name *("," name)] ")" "<-" atom *("," atom)
 --     atom  = name "(" [term *("," term)] ")"
 --     term  = name | "_" | literal
@@ -64,6 +65,7 @@ use Rattle.djq_lines.specs.declared.keyword.Keyword.TheVariants.{
   Watch as WatchWord,
   Unwatch as UnwatchWord,
   Explain as ExplainWord,
+  Shape as ShapeWord,
   Quit as QuitWord,
   Stop as StopWord,
 }
@@ -81,6 +83,7 @@ use Rattle.djq_lines.specs.declared.command.Command.TheVariants.{
   Watch,
   Unwatch,
   Explain,
+  Shape,
   Quit,
   Stop,
 }
@@ -240,9 +243,10 @@ keyword_of w =
     else (if bytes_eq w (codes "watch") then Some WatchWord
     else (if bytes_eq w (codes "unwatch") then Some UnwatchWord
     else (if bytes_eq w (codes "explain") then Some ExplainWord
+    else (if bytes_eq w (codes "shape") then Some ShapeWord
     else (if bytes_eq w (codes "quit") then Some QuitWord
     else (if bytes_eq w (codes "stop") then Some StopWord
-    else None)))))))))))))
+    else None))))))))))))))
 
 -- the command that stands behind a keyword
 abbrev pub command_behind : Keyword → List Token → Option Command
@@ -258,6 +262,7 @@ command_behind HasWord ts = option_map (λ p. Has p.0 p.1) (named_any literal_of
 command_behind WatchWord ts = option_map (λ q. Watch q) (one_name ts)
 command_behind UnwatchWord ts = option_map (λ q. Unwatch q) (one_name ts)
 command_behind ExplainWord ts = option_map (λ q. Explain q) (one_name ts)
+command_behind ShapeWord ts = option_map (λ q. Shape q) (one_name ts)
 command_behind QuitWord ts = nothing Quit ts
 command_behind StopWord ts = nothing Stop ts
 

@@ -47,6 +47,15 @@ pub enum DeleteOutcome {
     Absent,
 }
 
+/// How what an update costs grows with the rows, as a query alone tells.
+#[derive(Clone, Copy, Debug, PartialEq, Eq)]
+pub enum Shape {
+    /// It has a bound that knows no rows.
+    Flat,
+    /// No such bound is promised: the bound grows in proportion to the rows.
+    Linear,
+}
+
 /// Which line ends a session against its will.
 #[derive(Clone, Copy, Debug, PartialEq, Eq)]
 pub enum EndLine {

@@ -75,6 +75,11 @@ pub enum Command {
         /// The query.
         query: Name,
     },
+    /// `shape QUERY`: whether what an update costs stays constant as rows come.
+    Shape {
+        /// The query.
+        query: Name,
+    },
     /// `quit`: the session ends.
     Quit,
     /// `stop`: the whole server ends.

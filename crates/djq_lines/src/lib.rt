@@ -22,7 +22,7 @@
 //! first: `specs/Grammar.antt` and `specs/Reply.antt`, a case for each form.
 #![tactic(auto)]
 
-pub use answer::{AddOutcome, DeleteOutcome, EndCause, EndLine, Refusal, Sign};
+pub use answer::{AddOutcome, DeleteOutcome, EndCause, EndLine, Refusal, Shape, Sign};
 pub use command::Command;
 pub use keyword::Keyword;
 pub use rest::{NamedRest, QueryOutcome};
