@@ -65,7 +65,7 @@ use Rattle.djq_lines.specs.declared.answer.Refusal.TheVariants.{
 }
 use Rattle.djq_lines.specs.declared.command.Command.{Command}
 use Rattle.djq_lines.specs.declared.command.Command.TheVariants.{Open, Next}
-use Rattle.djq_lines.specs.Grammar.{Reading, refused, says as says_command, reading_of, takes_memory_to_read}
+use Rattle.djq_lines.specs.Grammar.{Reading, outside, past_limit, says as says_command, reading_of, takes_memory_to_read}
 use Rattle.djq_lines.specs.Reply.{line, refusal_line, ok_reply, text_of, listing_lines, end_memory}
 use Rattle.djq_machine.specs.State.{
   Store,
@@ -576,23 +576,26 @@ module _ (s : ℕ) (c : Bytes) where
   unread_told (Next d count) replies reply takes = absurd cc
   unread_told k replies reply takes = refl
 
-  read_told : (old : State) (x : Session) (r : Reading) (e : Effect) (new : State) (replies : List Bytes)
-      → session_of old s ≡ Some x → AreKept old → ReadStep old s x r e new
+  read_told : (old : State) (x : Session) (l : Bytes) (r : Reading) (e : Effect) (new : State) (replies : List Bytes)
+      → session_of old s ≡ Some x → AreKept old → ReadStep old s x l r e new
       → Tell old replies → Tell new (replies_behind c replies r (to_session s e.queued))
-  read_told old x (refused r) e new replies found kept h tell = tell_back old new replies (back_same old new h.1) tell
-  read_told old x (says_command k) e new replies found kept (true, h) tell = command_told old x k e new replies found
+  read_told old x l outside e new replies found kept h tell = tell_back old new replies (back_same old new h.1) tell
+  read_told old x l (past_limit k) e new replies found kept h tell = tell_back old new replies
+      (back_same old new h.1) tell
+  read_told old x l (says_command k) e new replies found kept (true, h) tell = command_told old x k e new replies found
       kept h tell
-  read_told old x (says_command k) e new replies found kept (false, h) tell =
+  read_told old x l (says_command k) e new replies found kept (false, h) tell =
       subst (λ rs. Tell new rs) (sym (unread_told k replies (to_session s e.queued) h.0))
       (tell_back old new replies (back_same old new h.1.1) tell)
 
   -- a line of another session
-  back_read : (old : State) (t : ℕ) (x : Session) (r : Reading) (e : Effect) (new : State) → (t == s) ≡ false
-      → AreKept old → ReadStep old t x r e new → Back old new
-  back_read old t x (refused r) e new ne kept h = back_same old new h.1
-  back_read old t x (says_command k) e new ne kept (true, h) = back_command old t x k e new kept
+  back_read : (old : State) (t : ℕ) (x : Session) (l : Bytes) (r : Reading) (e : Effect) (new : State)
+      → (t == s) ≡ false → AreKept old → ReadStep old t x l r e new → Back old new
+  back_read old t x l outside e new ne kept h = back_same old new h.1
+  back_read old t x l (past_limit k) e new ne kept h = back_same old new h.1
+  back_read old t x l (says_command k) e new ne kept (true, h) = back_command old t x k e new kept
       (λ same. absurd (cc (same, ne))) h
-  back_read old t x (says_command k) e new ne kept (false, h) = back_same old new h.1.1
+  back_read old t x l (says_command k) e new ne kept (false, h) = back_same old new h.1.1
 
   back_line : (old : State) (t : ℕ) (rest : Bytes) → Back old (with_session old t (behind_line rest))
   back_line old t rest = back_kept old (with_session old t (behind_line rest)) t (behind_line rest) (λ x. refl)
@@ -620,8 +623,8 @@ module _ (s : ℕ) (c : Bytes) where
   front_told old t x (run l) e mid replies false same found kept h tell =
       let rest = h.2.rest in
       let between = with_session old t (behind_line rest) in
-      let back = back_read between t (behind_line rest x) (reading_of l) e mid same (without_line_kept old t rest kept)
-      h.2.then in
+      let back = back_read between t (behind_line rest x) l (reading_of l) e mid same
+      (without_line_kept old t rest kept) h.2.then in
       subst (λ k. Tell mid (cond k (replies_behind c replies (reading_of l) (to_session s e.queued)) replies))
       (sym same)
       (tell_back old mid replies (back_then old between mid (back_line old t rest) back) tell)
@@ -632,12 +635,12 @@ module _ (s : ℕ) (c : Bytes) where
       let here : session_of between s ≡ Some (behind_line rest x) =
       session_changed old s (behind_line rest) (λ y. refl) ∙ ap (λ o. option_map (behind_line rest) o)
       (subst (λ i. session_of old i ≡ Some x) at found) in
-      let read : ReadStep between s (behind_line rest x) (reading_of l) e mid =
-      subst (λ i. ReadStep (with_session old i (behind_line rest)) i (behind_line rest x) (reading_of l) e mid) at
+      let read : ReadStep between s (behind_line rest x) l (reading_of l) e mid =
+      subst (λ i. ReadStep (with_session old i (behind_line rest)) i (behind_line rest x) l (reading_of l) e mid) at
       h.2.then in
       subst (λ k. Tell mid (cond k (replies_behind c replies (reading_of l) (to_session s e.queued)) replies))
       (sym same)
-      (read_told between (behind_line rest x) (reading_of l) e mid replies here (without_line_kept old s rest kept) read
+      (read_told between (behind_line rest x) l (reading_of l) e mid replies here (without_line_kept old s rest kept) read
       (tell_back old between replies (back_line old s rest) tell))
 
   opened_cursors : (o : Option Session) (t : ℕ) (given : List Tuple) (finished : Bool) (b : Bool)

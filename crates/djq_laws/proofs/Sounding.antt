@@ -9,7 +9,7 @@ use Rattle.djq_model.specs.Data.{Bytes, bytes_eq, drop_first, query_of}
 use Rattle.djq_lines.specs.declared.limits.TheConstants.{SESSIONS}
 use Rattle.djq_lines.specs.declared.answer.EndCause.{EndCause}
 use Rattle.djq_lines.specs.declared.answer.EndCause.TheVariants.{Input, Memory}
-use Rattle.djq_lines.specs.Grammar.{Reading, refused, says as says_command, reading_of}
+use Rattle.djq_lines.specs.Grammar.{Reading, outside, past_limit, says as says_command, reading_of}
 use Rattle.djq_lines.specs.Reply.{end_memory}
 use Rattle.djq_lines.specs.Hypergraph.{edges_of, head_of}
 use Rattle.djq_machine.specs.Store.{IsFreeConnex}
@@ -352,12 +352,13 @@ form_kept ending old s x e new found runs h k =
     ends_kept (record old { stopped = h.1.stopped }) s h.1.cause new h.1.state k
 
 -- The front of a session's bytes.
-read_kept : (old : State) (s : ℕ) (x : Session) (r : Reading) (e : Effect) (new : State) → session_of old s ≡ Some x
-    → x.cause ≡ None → ReadStep old s x r e new → AreKept old → AreKept new
-read_kept old s x (refused r) e new found runs h k = same_kept old new h.1 k
-read_kept old s x (says_command c) e new found runs (true, h) k = form_kept (form_of c) old s x e new
+read_kept : (old : State) (s : ℕ) (x : Session) (l : Bytes) (r : Reading) (e : Effect) (new : State) → session_of old s ≡ Some x
+    → x.cause ≡ None → ReadStep old s x l r e new → AreKept old → AreKept new
+read_kept old s x l outside e new found runs h k = same_kept old new h.1 k
+read_kept old s x l (past_limit c) e new found runs h k = same_kept old new h.1 k
+read_kept old s x l (says_command c) e new found runs (true, h) k = form_kept (form_of c) old s x e new
     found runs (command_does old s x c e new h) k
-read_kept old s x (says_command c) e new found runs (false, h) k = same_kept old new h.1.1 k
+read_kept old s x l (says_command c) e new found runs (false, h) k = same_kept old new h.1.1 k
 
 pub without_line_kept : (old : State) (s : ℕ) (rest : Bytes) → AreKept old
     → AreKept (with_session old s (behind_line rest))
@@ -377,7 +378,7 @@ front_kept old s x (run l) e new found runs h k =
     let rest = h.2.rest in
     let here : session_of (with_session old s (behind_line rest)) s ≡ Some (behind_line rest x) =
     session_changed old s (behind_line rest) (λ y. refl) ∙ ap (λ o. option_map (behind_line rest) o) found in
-    read_kept (with_session old s (behind_line rest)) s (behind_line rest x) (reading_of l) e new here runs h.2.then
+    read_kept (with_session old s (behind_line rest)) s (behind_line rest x) l (reading_of l) e new here runs h.2.then
     (without_line_kept old s rest k)
 
 -- The events.
