@@ -76,7 +76,6 @@ use Rattle.djq_machine.specs.State.{
   open_at,
   stale,
   fresh,
-  opening,
   session_of,
   with_session,
   cursor_of,
@@ -106,7 +105,7 @@ use Rattle.djq_machine.specs.Step.{
 }
 use Rattle.djq_machine.specs.Run.{Did, Run, to_session}
 use Rattle.djq_deltas.proofs.Lists.{nothing_there, first_or_later, mapped_there, pairs_head, pairs_tail}
-use Rattle.djq_laws.specs.Sound.{AreApart, IsSoundSession, IsSoundState}
+use Rattle.djq_laws.specs.Sound.{AreApart, IsSoundSession, IsSoundState, IsStart}
 use Rattle.djq_laws.specs.Listed.{
   ListedIsTold,
   is_opened,
@@ -137,7 +136,7 @@ use Rattle.djq_laws.proofs.Sounding.{
   states_are_sound,
   AreKept,
   step_sound,
-  opening_sound,
+  start_sound,
   without_line_kept,
 }
 
@@ -781,8 +780,14 @@ module _ (s : ℕ) (c : Bytes) where
       (step_told old d.event d.effect mid replies w.1 sound tell)
 
 pub given_is_told : GivenIsTold
-given_is_told s c done new w given finished at = along_told s c opening done new [] w opening_sound
-    (λ g f here. absurd cc) given finished at
+given_is_told start h s c done new w given finished at = along_told s c start done new [] w (start_sound start h)
+    (λ g f here. absurd (no_cursor g f here)) given finished at
+  where
+    no_cursor : (g : List Tuple) (f : Bool) → position_of start s c ≡ Some (open_at g f) → ⊥
+    no_cursor g f here =
+        let found : position_of (record start { sessions = [] }) s c ≡ Some (open_at g f) =
+        subst (λ (xs : List Session). position_of (record start { sessions = xs }) s c ≡ Some (open_at g f)) h.none here in
+        cc found
 
 -- where names are apart, a cursor is found by its own
 by_its_name : (ks : List Cursor) (k : Cursor) → AreApart (map (λ (z : Cursor). z.name) ks) → Contains ks k
@@ -804,20 +809,22 @@ by_its_name (z ∷ ks) k apart h =
         (same_name z.name k.name is))
     by (inr c) false is more = more c
 
-nothing_given : CursorsGive opening
-nothing_given = All-nil (λ (x : Session). All (λ (k : Cursor). PositionGives [] (query_of [] k.query) k.position)
-    x.cursors)
+-- where no session is open, no cursor has given anything
+pub nothing_given : (start : State) → IsStart start → CursorsGive start
+nothing_given start h = subst (λ (xs : List Session). CursorsGive (record start { sessions = xs })) (sym h.none)
+    (All-nil (λ (x : Session). All (λ (k : Cursor). PositionGives start.store.relations
+    (query_of start.store.queries k.query) k.position) x.cursors))
 
 pub listed_is_told : ListedIsTold
-listed_is_told q s given done new w h =
-    let sound = states_are_sound done new w in
+listed_is_told start begins q s given done new w h =
+    let sound = states_are_sound start begins done new w in
     let session = all_found (IsSoundSession new.store.queries) (λ (x : Session). x.id == s) new.sessions h.session
     sound.sessions h.is_session in
     let found = by_its_name (h.session).cursors h.cursor session.names h.is_cursor in
     let at : position_of new s (h.cursor).name ≡ Some (open_at given true) =
     ap (λ o. position_in o (h.cursor).name) h.is_session ∙ ap (λ o. option_map (λ (k : Cursor). k.position) o) found
     ∙ ap (λ p. Some p) h.is_finished in (
-      given_is_told s (h.cursor).name done new w given true at,
+      given_is_told start begins s (h.cursor).name done new w given true at,
       listed q s new given
-          (runs_give opening done new w nothing_given) h,
+          (runs_give start done new w (nothing_given start begins)) h,
     )
