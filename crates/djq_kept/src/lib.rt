@@ -3,7 +3,13 @@
 //! Each function here is empty: its contract is the law.
 #![tactic(auto)]
 
-ghost use Rattle.djq_kept.specs.Kept.{KeptAreLines, KeptLinesLoad, RunsReload, StopsReload};
+ghost use Rattle.djq_kept.specs.Kept.{FoundIsStart, KeptAreLines, KeptLinesLoad, RunsReload, StopsReload};
+
+/// What lines, found at a start, give is a state to start from: relations, queries and known texts
+/// are without repeats, rows are of their columns' types, and queries free-connex.
+pub fn found_is_start()
+    ensures { FoundIsStart }
+{}
 
 /// The lines that a run kept, loaded into a store that follows the one it began with, are refused
 /// nowhere, and give a store that follows the one it left: the same rows in some order, the same
