@@ -265,8 +265,8 @@ change_gives change old mid new before after front s back ys stopped was now c s
     = becomes old stopped front s before after back (behind_line c.rest) (parts old front s before back sound) seen in
     let sound' : IsSound old (among front s after back) = subst (λ (d : Talk). IsSound old (among front s d back)) (sym c.taken) (sound_bytes old front s before c.rest before.pending after.room back sound) in
     let r = composed old mid new stopped (among front s after back) ys s (behind_line c.rest x) change was.listing now.listing sound' c.command c.changes t in
-    let read : ReadStep (with_session st s (behind_line c.rest)) s (behind_line c.rest x) (reading_of c.line) r.effect r.last
-    = subst (λ (g : Reading). ReadStep (with_session st s (behind_line c.rest)) s (behind_line c.rest x) g r.effect r.last) (sym c.reads)
+    let read : ReadStep (with_session st s (behind_line c.rest)) s (behind_line c.rest x) c.line (reading_of c.line) r.effect r.last
+    = subst (λ (g : Reading). ReadStep (with_session st s (behind_line c.rest)) s (behind_line c.rest x) c.line g r.effect r.last) (sym c.reads)
     (true, subst (λ (w : State). CommandStep w s (behind_line c.rest x) c.command r.effect r.last) moved r.does) in (
       c.line,
       inr (record {

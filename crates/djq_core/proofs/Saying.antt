@@ -14,7 +14,7 @@ use Rattle.djq_lines.specs.declared.command.Command.TheVariants.{Rel, Add, Del, 
 use Rattle.djq_lines.specs.declared.keyword.Keyword.{Keyword}
 use Rattle.djq_lines.specs.declared.keyword.Keyword.TheVariants.{Rel as RelWord, Add as AddWord, Del as DelWord, Query as QueryWord, Drop as DropWord, Open as OpenWord, Next as NextWord, Close as CloseWord, Has as HasWord, Watch as WatchWord, Unwatch as UnwatchWord, Explain as ExplainWord, Quit as QuitWord, Stop as StopWord}
 use Rattle.djq_lines.specs.Reply.{refusal_line}
-use Rattle.djq_lines.specs.Grammar.{Reading, refused, says, reading_in, reading_of, command_of, command_in, command_with, command_behind, is_in_range, takes_memory_to_read, is_count, count_of, keyword_of, nothing, type_of, named_some, named_any, query_in, query_of, body_in, atoms_in, atoms_within, atom_in, behind_atom, in_front, list_in, name_of, one_name, two_names, name_and_count}
+use Rattle.djq_lines.specs.Grammar.{outside, past_limit, says, reading_in, reading_of, command_of, command_in, command_with, command_behind, is_in_range, takes_memory_to_read, is_count, count_of, keyword_of, nothing, type_of, named_some, named_any, query_in, query_of, body_in, atoms_in, atoms_within, atom_in, behind_atom, in_front, list_in, name_of, one_name, two_names, name_and_count}
 use Rattle.djq_proto.specs.declared.refusal.LineRefusal.{LineRefusal}
 use Rattle.djq_proto.specs.declared.refusal.LineRefusal.TheVariants.{Syntax as Outside, Range, NoMem}
 use Rattle.djq_proto.specs.Reading.{Gives, Reads}
@@ -27,7 +27,7 @@ use Rattle.djq_core.specs.Stepping.{IsRunnable, refused_as}
 use Rattle.djq_core.proofs.Taking.{reads_refused, reads_nothing}
 
 -- what a command in range gives
-read_by : (in_range : Bool) (c : Command) → in_range ≡ true → cond in_range (says c) (refused WrongType) ≡ says c
+read_by : (in_range : Bool) (c : Command) → in_range ≡ true → cond in_range (says c) (past_limit c) ≡ says c
 read_by true c e = refl
 read_by false c e = absurd (cc)
 
@@ -38,13 +38,13 @@ in_says (Some a) c g = read_by (is_in_range a) a g.0.1 ∙ ap (λ (x : Command).
 pub reads_as : (line : Bytes) (c : Command) → Reads line (Ok c) → reading_of line ≡ says c
 reads_as line c g = in_says (command_of line) c g
 
-in_outside : (o : Option Command) → Gives o (Err Outside) → reading_in o ≡ refused Syntax
+in_outside : (o : Option Command) → Gives o (Err Outside) → reading_in o ≡ outside
 in_outside None g = refl
 in_outside (Some a) g = absurd g.0
 
-in_range_past : (o : Option Command) → Gives o (Err Range) → reading_in o ≡ refused WrongType
+in_range_past : (o : Option Command) → Gives o (Err Range) → (c : Command) × (reading_in o ≡ past_limit c)
 in_range_past None g = absurd (cc (g.0))
-in_range_past (Some a) g = ap (λ (b : Bool). cond b (says a) (refused WrongType)) g.0
+in_range_past (Some a) g = (a, ap (λ (b : Bool). cond b (says a) (past_limit a)) g.0)
 
 in_memory : (o : Option Command) → Gives o (Err NoMem) → (c : Command) × (reading_in o ≡ says c) × (takes_memory_to_read c ≡ true)
 in_memory None g = absurd (cc (g.0))
@@ -52,9 +52,10 @@ in_memory (Some a) g = (a, read_by (is_in_range a) a g.0, g.1)
 
 -- a line that gives no command
 pub reads_err : (k : Kept) (before after : Talk) (line : Bytes) (r : LineRefusal) (was : ℕ) → Reads line (Err r) → Replies before after (refusal_line (refused_as r))
-    → Performs (λ st s x e st'. ReadStep st s x (reading_of line) e st') false k before k after was was
-reads_err k before after line Outside was g reply = reads_refused k before after line Syntax was (in_outside (command_of line) g) reply
-reads_err k before after line Range was g reply = reads_refused k before after line WrongType was (in_range_past (command_of line) g) reply
+    → Performs (λ st s x e st'. ReadStep st s x line (reading_of line) e st') false k before k after was was
+reads_err k before after line Outside was g reply = reads_refused k before after line outside Syntax was (in_outside (command_of line) g) (λ st s x e st' h. h) reply
+reads_err k before after line Range was g reply =
+    let past = in_range_past (command_of line) g in reads_refused k before after line (past_limit past.0) WrongType was past.1 (λ st s x e st' h. h) reply
 reads_err k before after line NoMem was g reply = let m = in_memory (command_of line) g in reads_nothing k before after line m.0 was m.1 m.2 reply
 
 -- A count that a line says is one at least.

@@ -23,7 +23,7 @@ use Rattle.djq_machine.specs.Keeping.{Keeping, no_line, the_line, kept_where, is
 use Rattle.djq_machine.specs.Effect.{Effect, RefusedStep}
 use Rattle.djq_machine.specs.Command.{OpensTo, BecomesWhere, NextStepAt, CloseStep, ExplainStep, TellsLines, explain_lines, CommandStep}
 use Rattle.djq_laws.proofs.Finding.{some_and}
-use Rattle.djq_laws.proofs.Giving.{done_of}
+use Rattle.djq_laws.proofs.Forms.{done_of}
 use Rattle.djq_laws.proofs.Watching.{change_store}
 use Rattle.djq_kept.specs.Kept.{AreKnown, Follows}
 use Rattle.djq_kept.proofs.Knowing.{known_refl, first_known, full_known}

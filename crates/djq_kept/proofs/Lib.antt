@@ -6,3 +6,4 @@ mod Keeping
 mod Running
 mod Reloading
 mod Lines
+mod Starting

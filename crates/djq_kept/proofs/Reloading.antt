@@ -9,7 +9,7 @@ use Rattle.djq_lines.specs.declared.answer.DeleteOutcome.TheVariants.{Removed, A
 use Rattle.djq_lines.specs.declared.rest.QueryOutcome.TheVariants.{Registered, Cyclic, NotConnex}
 use Rattle.djq_lines.specs.declared.command.Command.{Command}
 use Rattle.djq_lines.specs.declared.command.Command.TheVariants.{Rel, Add, Del, Query as Register, Drop, Open, Next, Close, Has, Watch, Unwatch, Explain, Quit, Stop}
-use Rattle.djq_lines.specs.Grammar.{Reading, refused as refused_line, says as says_command, reading_of}
+use Rattle.djq_lines.specs.Grammar.{Reading, outside, past_limit, says as says_command, reading_of}
 use Rattle.djq_machine.specs.State.{Store, State, opening}
 use Rattle.djq_machine.specs.Keeping.{Keeping, no_line, the_line}
 use Rattle.djq_machine.specs.LineStep.{run}
@@ -55,7 +55,8 @@ line_loaded : (a : Store) (l : Bytes) (to : Store) → LoadStep a l ran to → (
 line_loaded a l to step b f = by (reading_of l) refl step.loads
   where
     by : (r : Reading) → reading_of l ≡ r → ReadingLoads a r ran step.mid → LineRespects b l to
-    by (refused_line x) is h = let e = h.0 in absurd (cc (e))
+    by outside is h = let e = h.0 in absurd (cc (e))
+    by (past_limit c) is h = let e = h.0 in absurd (cc (e))
     by (says_command c) is (inl h) =
         subst (λ (st : Store). LineRespects b l st) (sym step.after)
         (line_respects b l c step.mid step.relations is step.reordered (command_loaded a step.mid c h b f))

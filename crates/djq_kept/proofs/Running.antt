@@ -6,7 +6,7 @@ use Rattle.djq_model.specs.Data.{Bytes}
 use Rattle.djq_lines.specs.declared.answer.EndCause.{EndCause}
 use Rattle.djq_lines.specs.declared.answer.EndCause.TheVariants.{Memory, Input}
 use Rattle.djq_lines.specs.declared.command.Command.{Command}
-use Rattle.djq_lines.specs.Grammar.{Reading, refused as refused_line, says as says_command, reading_of}
+use Rattle.djq_lines.specs.Grammar.{Reading, outside, past_limit, says as says_command, reading_of}
 use Rattle.djq_lines.specs.Reply.{end_memory}
 use Rattle.djq_machine.specs.State.{Store, State, Session, fresh, session_of, with_session, ended_by}
 use Rattle.djq_machine.specs.Effect.{Effect, nothing, EndsWith}
@@ -106,8 +106,10 @@ grows : (old mid : State) → mid.store ≡ old.store → Grows old.store mid.st
 grows old mid e = grows_same old.store mid.store e
 
 read_keeps : (old : State) (s : ℕ) (l rest : Bytes) (y : Session) (e : Effect) (mid : State) (r : Reading) → reading_of l ≡ r
-    → ReadStep (with_session old s (behind_line rest)) s y r e mid → ActKeeps old (stepped s (run l)) e mid
-read_keeps old s l rest y e mid (refused_line x) is h =
+    → ReadStep (with_session old s (behind_line rest)) s y l r e mid → ActKeeps old (stepped s (run l)) e mid
+read_keeps old s l rest y e mid outside is h =
+    act_none (ap (λ (f : Effect). group_of (stepped s (run l)) f.kept) h.0) (grows old mid (ap (λ (st : State). st.store) h.1))
+read_keeps old s l rest y e mid (past_limit c) is h =
     act_none (ap (λ (f : Effect). group_of (stepped s (run l)) f.kept) h.0) (grows old mid (ap (λ (st : State). st.store) h.1))
 read_keeps old s l rest y e mid (says_command c) is (false, h) =
     act_none (ap (λ (f : Effect). group_of (stepped s (run l)) f.kept) h.1.0) (grows old mid (ap (λ (st : State). st.store) h.1.1))

@@ -1,12 +1,12 @@
 -- The lines that a run kept, loaded, give what the run left.
-use Rattle.std.specs.Prelude.{List, ◌∷◌, ◌++◌, ◌≡◌, ◌≤◌, true, length, All}
+use Rattle.std.specs.Prelude.{List, [], ◌∷◌, ◌++◌, ◌≡◌, ◌≤◌, true, false, length, All}
 use Rattle.djq_model.specs.Data.{Bytes}
 use Rattle.djq_model.specs.Known.{knows}
 use Rattle.djq_lines.specs.declared.limits.TheConstants.{LINE_BYTES}
 use Rattle.djq_machine.specs.State.{Store, State, opening}
 use Rattle.djq_machine.specs.Step.{SameRelations}
 use Rattle.djq_machine.specs.Run.{Did, Run, Group, groups_of, lines_in}
-use Rattle.djq_laws.specs.Sound.{AreApart}
+use Rattle.djq_laws.specs.Sound.{AreApart, IsStart}
 use Rattle.djq_kept.specs.Loading.{refused, LoadStep, Loads}
 
 -- Two stores have the same relations, each with its rows in any order, the same queries and number
@@ -34,6 +34,11 @@ pub record LoadsTo (from : Store) (lines : List Bytes) (to : Store) : Type 0 whe
   pub none_refused : (front : List Bytes) (line : Bytes) (behind : List Bytes)
       → lines ≡ front ++ line ∷ behind → (mid : Store) → Loads from front mid → (new : Store)
       → LoadStep mid line refused new → ⊥
+
+-- What lines, found at a start, give is a state to start from, where no session is open yet.
+abbrev pub FoundIsStart : Type 0
+FoundIsStart = (found : List Bytes) (st : State) → Loads opening.store found st.store
+    → st.sessions ≡ [] → st.stopped ≡ false → IsStart st
 
 -- The lines that a run kept, loaded into a store that follows the one it began with, give a store
 -- that follows the one it left.

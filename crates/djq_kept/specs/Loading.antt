@@ -9,7 +9,7 @@ use Rattle.djq_lines.specs.declared.answer.DeleteOutcome.{DeleteOutcome}
 use Rattle.djq_lines.specs.declared.rest.QueryOutcome.{QueryOutcome}
 use Rattle.djq_lines.specs.declared.command.Command.{Command}
 use Rattle.djq_lines.specs.declared.command.Command.TheVariants.{Rel, Add, Del, Query as Register, Drop}
-use Rattle.djq_lines.specs.Grammar.{Reading, refused as refused_line, says as says_command, reading_of, takes_memory_to_read}
+use Rattle.djq_lines.specs.Grammar.{Reading, outside, past_limit, says as says_command, reading_of, takes_memory_to_read}
 use Rattle.djq_machine.specs.State.{Store}
 use Rattle.djq_machine.specs.Store.{MakesRelation, AddsRow, DeletesRow, RegistersQuery, DropsQuery}
 use Rattle.djq_machine.specs.Keeping.{is_done, is_removal, is_registration}
@@ -51,7 +51,8 @@ CommandLoads old _ how new = (how ≡ refused) × (new ≡ old)
 
 -- What a line that is read does, as in a run; memory may lack as it is read.
 abbrev pub ReadingLoads : Store → Reading → Loaded → Store → Type 0
-ReadingLoads old (refused_line r) how new = (how ≡ refused) × (new ≡ old)
+ReadingLoads old outside how new = (how ≡ refused) × (new ≡ old)
+ReadingLoads old (past_limit c) how new = (how ≡ refused) × (new ≡ old)
 ReadingLoads old (says_command c) how new = CommandLoads old c how new
     ⊎ ((takes_memory_to_read c ≡ true) × (how ≡ no_memory) × (new ≡ old))
 

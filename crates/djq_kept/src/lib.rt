@@ -26,7 +26,13 @@
 //! were there before, and [`stops_reload`] where a stop left the first groups of lines, whole.
 #![tactic(auto)]
 
-ghost use Rattle.djq_kept.specs.Kept.{KeptAreLines, KeptLinesLoad, RunsReload, StopsReload};
+ghost use Rattle.djq_kept.specs.Kept.{FoundIsStart, KeptAreLines, KeptLinesLoad, RunsReload, StopsReload};
+
+/// What lines, found at a start, give is a state to start from: relations, queries and known texts
+/// are without repeats, rows are of their columns' types, and queries free-connex.
+pub fn found_is_start()
+    ensures { FoundIsStart }
+{}
 
 /// The lines that a run kept, loaded into a store that follows the one it began with, are refused
 /// nowhere, and give a store that follows the one it left: the same rows in some order, the same

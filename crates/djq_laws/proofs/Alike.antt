@@ -6,8 +6,8 @@ use Rattle.std.proofs.lemmas.Grind.{flat_map-append}
 use Rattle.djq_model.specs.Data.{Bytes, change_first}
 use Rattle.djq_lines.specs.declared.answer.EndCause.{EndCause}
 use Rattle.djq_lines.specs.declared.answer.EndCause.TheVariants.{Memory}
-use Rattle.djq_lines.specs.declared.answer.Refusal.TheVariants.{NoMemory}
-use Rattle.djq_lines.specs.Grammar.{Reading, refused, says as says_command}
+use Rattle.djq_lines.specs.declared.answer.Refusal.TheVariants.{Syntax, WrongType, NoMemory}
+use Rattle.djq_lines.specs.Grammar.{Reading, outside, past_limit, says as says_command}
 use Rattle.djq_lines.specs.Reply.{refusal_line}
 use Rattle.djq_machine.specs.State.{Store, State, Session, session_of, with_session, ended_by}
 use Rattle.djq_machine.specs.Stale.{outdated_cursor}
@@ -234,8 +234,9 @@ form_keeps ending old s x e new h = (
   alone s e h.0,
 )
 
-pub read_keeps : (old : State) (s : ℕ) (x : Session) (r : Reading) (e : Effect) (new : State) → ReadStep old s x r e new → Runs old s e new
-read_keeps old s x (refused r) e new h = stays_keeps EndsByRun old s (refusal_line r) e new h.0 h.1
-read_keeps old s x (says_command c) e new (true, h) =
+pub read_keeps : (old : State) (s : ℕ) (x : Session) (l : Bytes) (r : Reading) (e : Effect) (new : State) → ReadStep old s x l r e new → Runs old s e new
+read_keeps old s x l outside e new h = stays_keeps EndsByRun old s (refusal_line Syntax) e new h.0 h.1
+read_keeps old s x l (past_limit c) e new h = stays_keeps EndsByRun old s (refusal_line WrongType) e new h.0 h.1
+read_keeps old s x l (says_command c) e new (true, h) =
     form_keeps (form_of c) old s x e new (command_does old s x c e new h)
-read_keeps old s x (says_command c) e new (false, h) = stays_keeps EndsByRun old s (refusal_line NoMemory) e new h.1.0 h.1.1
+read_keeps old s x l (says_command c) e new (false, h) = stays_keeps EndsByRun old s (refusal_line NoMemory) e new h.1.0 h.1.1

@@ -206,7 +206,7 @@ module _ (used : Bytes → Bool) (old new : Store) where
   keeps_store : new ≡ old → Stored used old new
   keeps_store e = learns_texts (stays_learned old new e)
 
-  rel_stored : (name : Bytes) (types : List ColumnType) (r : Result ⊤ Refusal) → MakesRelation old name types r new
+  pub rel_stored : (name : Bytes) (types : List ColumnType) (r : Result ⊤ Refusal) → MakesRelation old name types r new
       → Stored used old new
   rel_stored name types (Err r) h = keeps_store h.stays
   rel_stored name types (Ok u) h =
@@ -219,7 +219,7 @@ module _ (used : Bytes → Bool) (old new : Store) where
       (first_of ((nat_lt COLUMNS (length types), Limit) ∷ (nat_le RELATIONS (length old.relations), Limit) ∷ [])) none))
       (done_of (rel_refusal old name types) u _ (OutOfMemoryWhere ⊤) h.answer)
 
-  query_stored : (q : Query) (r : Result QueryOutcome Refusal) → RegistersQuery old q r new → Stored used old new
+  pub query_stored : (q : Query) (r : Result QueryOutcome Refusal) → RegistersQuery old q r new → Stored used old new
   query_stored q (Ok (Cyclic rest)) h =
       keeps_store (done_of (query_refusal old q) (Cyclic rest) (RegistersAs old q new) (RefusedLate old q new)
       h.answer).1
@@ -245,7 +245,7 @@ module _ (used : Bytes → Bool) (old new : Store) where
       (first_of (query_faults old.relations q ++ (nat_le QUERIES (length old.queries), Limit) ∷ [])) none))
       d.0 d.2 d.3
 
-  drop_stored : (name : Bytes) (r : Result ⊤ Refusal) → DropsQuery old (used name) name r new → Stored used old new
+  pub drop_stored : (name : Bytes) (r : Result ⊤ Refusal) → DropsQuery old (used name) name r new → Stored used old new
   drop_stored name (Err r) h = keeps_store h.stays
   drop_stored name (Ok u) h =
       let D = λ (_ : ⊤). new ≡ record old { queries = drop_first (λ q. bytes_eq q.name name) old.queries } in

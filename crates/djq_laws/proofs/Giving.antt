@@ -10,7 +10,7 @@ use Rattle.djq_model.specs.Answer.{IsAnswer}
 use Rattle.djq_lines.specs.declared.answer.EndCause.{EndCause}
 use Rattle.djq_lines.specs.declared.answer.EndCause.TheVariants.{Input, Memory}
 use Rattle.djq_lines.specs.declared.limits.TheConstants.{SESSIONS}
-use Rattle.djq_lines.specs.Grammar.{Reading, refused, says as says_command, reading_of}
+use Rattle.djq_lines.specs.Grammar.{Reading, outside, past_limit, says as says_command, reading_of}
 use Rattle.djq_lines.specs.Reply.{end_memory}
 use Rattle.djq_machine.specs.State.{Store, State, Session, Cursor, Position, open_at, stale, fresh, session_of, with_session, cursor_of, with_position, ended_by}
 use Rattle.djq_machine.specs.Store.{TellsAnswers}
@@ -272,11 +272,12 @@ form_gives ending old s x e new found h g =
     ends_gives (record old { stopped = h.1.stopped }) s h.1.cause new h.1.state g
 
 -- The front of a session's bytes.
-read_gives : (old : State) (s : ℕ) (x : Session) (r : Reading) (e : Effect) (new : State) → session_of old s ≡ Some x → ReadStep old s x r e new → CursorsGive old → CursorsGive new
-read_gives old s x (refused r) e new found h g = same_gives old new h.1 g
-read_gives old s x (says_command c) e new found (true, h) g =
+read_gives : (old : State) (s : ℕ) (x : Session) (l : Bytes) (r : Reading) (e : Effect) (new : State) → session_of old s ≡ Some x → ReadStep old s x l r e new → CursorsGive old → CursorsGive new
+read_gives old s x l outside e new found h g = same_gives old new h.1 g
+read_gives old s x l (past_limit c) e new found h g = same_gives old new h.1 g
+read_gives old s x l (says_command c) e new found (true, h) g =
     form_gives (form_of c) old s x e new found (command_does old s x c e new h) g
-read_gives old s x (says_command c) e new found (false, h) g = same_gives old new h.1.1 g
+read_gives old s x l (says_command c) e new found (false, h) g = same_gives old new h.1.1 g
 
 without_line_gives : (old : State) (s : ℕ) (rest : Bytes) → CursorsGive old → CursorsGive (with_session old s (behind_line rest))
 without_line_gives old s rest g = cursors_stay old (with_session old s (behind_line rest)) s (behind_line rest) (λ x. refl) refl g
@@ -290,7 +291,7 @@ front_gives old s x (run l) e new found h g =
     let rest = h.2.rest in
     let here : session_of (with_session old s (behind_line rest)) s ≡ Some (behind_line rest x) =
     session_changed old s (behind_line rest) (λ y. refl) ∙ ap (λ o. option_map (behind_line rest) o) found in
-    read_gives (with_session old s (behind_line rest)) s (behind_line rest x) (reading_of l) e new here h.2.then (without_line_gives old s rest g)
+    read_gives (with_session old s (behind_line rest)) s (behind_line rest x) l (reading_of l) e new here h.2.then (without_line_gives old s rest g)
 
 -- The events.
 opened_gives : (old mid : State) (s : ℕ) → ((length old.sessions < SESSIONS) × (mid ≡ record old { sessions = old.sessions ++ fresh s ∷ [] })) ⊎ (mid ≡ old) → CursorsGive old → CursorsGive mid

@@ -65,7 +65,7 @@ use Rattle.djq_lines.specs.declared.answer.Refusal.TheVariants.{
 }
 use Rattle.djq_lines.specs.declared.command.Command.{Command}
 use Rattle.djq_lines.specs.declared.command.Command.TheVariants.{Open, Next}
-use Rattle.djq_lines.specs.Grammar.{Reading, refused, says as says_command, reading_of, takes_memory_to_read}
+use Rattle.djq_lines.specs.Grammar.{Reading, outside, past_limit, says as says_command, reading_of, takes_memory_to_read}
 use Rattle.djq_lines.specs.Reply.{line, refusal_line, ok_reply, text_of, listing_lines, end_memory}
 use Rattle.djq_machine.specs.State.{
   Store,
@@ -76,7 +76,6 @@ use Rattle.djq_machine.specs.State.{
   open_at,
   stale,
   fresh,
-  opening,
   session_of,
   with_session,
   cursor_of,
@@ -106,7 +105,7 @@ use Rattle.djq_machine.specs.Step.{
 }
 use Rattle.djq_machine.specs.Run.{Did, Run, to_session}
 use Rattle.djq_deltas.proofs.Lists.{nothing_there, first_or_later, mapped_there, pairs_head, pairs_tail}
-use Rattle.djq_laws.specs.Sound.{AreApart, IsSoundSession, IsSoundState}
+use Rattle.djq_laws.specs.Sound.{AreApart, IsSoundSession, IsSoundState, IsStart}
 use Rattle.djq_laws.specs.Listed.{
   ListedIsTold,
   is_opened,
@@ -137,7 +136,7 @@ use Rattle.djq_laws.proofs.Sounding.{
   states_are_sound,
   AreKept,
   step_sound,
-  opening_sound,
+  start_sound,
   without_line_kept,
 }
 
@@ -576,23 +575,26 @@ module _ (s : ℕ) (c : Bytes) where
   unread_told (Next d count) replies reply takes = absurd cc
   unread_told k replies reply takes = refl
 
-  read_told : (old : State) (x : Session) (r : Reading) (e : Effect) (new : State) (replies : List Bytes)
-      → session_of old s ≡ Some x → AreKept old → ReadStep old s x r e new
+  read_told : (old : State) (x : Session) (l : Bytes) (r : Reading) (e : Effect) (new : State) (replies : List Bytes)
+      → session_of old s ≡ Some x → AreKept old → ReadStep old s x l r e new
       → Tell old replies → Tell new (replies_behind c replies r (to_session s e.queued))
-  read_told old x (refused r) e new replies found kept h tell = tell_back old new replies (back_same old new h.1) tell
-  read_told old x (says_command k) e new replies found kept (true, h) tell = command_told old x k e new replies found
+  read_told old x l outside e new replies found kept h tell = tell_back old new replies (back_same old new h.1) tell
+  read_told old x l (past_limit k) e new replies found kept h tell = tell_back old new replies
+      (back_same old new h.1) tell
+  read_told old x l (says_command k) e new replies found kept (true, h) tell = command_told old x k e new replies found
       kept h tell
-  read_told old x (says_command k) e new replies found kept (false, h) tell =
+  read_told old x l (says_command k) e new replies found kept (false, h) tell =
       subst (λ rs. Tell new rs) (sym (unread_told k replies (to_session s e.queued) h.0))
       (tell_back old new replies (back_same old new h.1.1) tell)
 
   -- a line of another session
-  back_read : (old : State) (t : ℕ) (x : Session) (r : Reading) (e : Effect) (new : State) → (t == s) ≡ false
-      → AreKept old → ReadStep old t x r e new → Back old new
-  back_read old t x (refused r) e new ne kept h = back_same old new h.1
-  back_read old t x (says_command k) e new ne kept (true, h) = back_command old t x k e new kept
+  back_read : (old : State) (t : ℕ) (x : Session) (l : Bytes) (r : Reading) (e : Effect) (new : State)
+      → (t == s) ≡ false → AreKept old → ReadStep old t x l r e new → Back old new
+  back_read old t x l outside e new ne kept h = back_same old new h.1
+  back_read old t x l (past_limit k) e new ne kept h = back_same old new h.1
+  back_read old t x l (says_command k) e new ne kept (true, h) = back_command old t x k e new kept
       (λ same. absurd (cc (same, ne))) h
-  back_read old t x (says_command k) e new ne kept (false, h) = back_same old new h.1.1
+  back_read old t x l (says_command k) e new ne kept (false, h) = back_same old new h.1.1
 
   back_line : (old : State) (t : ℕ) (rest : Bytes) → Back old (with_session old t (behind_line rest))
   back_line old t rest = back_kept old (with_session old t (behind_line rest)) t (behind_line rest) (λ x. refl)
@@ -620,8 +622,8 @@ module _ (s : ℕ) (c : Bytes) where
   front_told old t x (run l) e mid replies false same found kept h tell =
       let rest = h.2.rest in
       let between = with_session old t (behind_line rest) in
-      let back = back_read between t (behind_line rest x) (reading_of l) e mid same (without_line_kept old t rest kept)
-      h.2.then in
+      let back = back_read between t (behind_line rest x) l (reading_of l) e mid same
+      (without_line_kept old t rest kept) h.2.then in
       subst (λ k. Tell mid (cond k (replies_behind c replies (reading_of l) (to_session s e.queued)) replies))
       (sym same)
       (tell_back old mid replies (back_then old between mid (back_line old t rest) back) tell)
@@ -632,12 +634,12 @@ module _ (s : ℕ) (c : Bytes) where
       let here : session_of between s ≡ Some (behind_line rest x) =
       session_changed old s (behind_line rest) (λ y. refl) ∙ ap (λ o. option_map (behind_line rest) o)
       (subst (λ i. session_of old i ≡ Some x) at found) in
-      let read : ReadStep between s (behind_line rest x) (reading_of l) e mid =
-      subst (λ i. ReadStep (with_session old i (behind_line rest)) i (behind_line rest x) (reading_of l) e mid) at
+      let read : ReadStep between s (behind_line rest x) l (reading_of l) e mid =
+      subst (λ i. ReadStep (with_session old i (behind_line rest)) i (behind_line rest x) l (reading_of l) e mid) at
       h.2.then in
       subst (λ k. Tell mid (cond k (replies_behind c replies (reading_of l) (to_session s e.queued)) replies))
       (sym same)
-      (read_told between (behind_line rest x) (reading_of l) e mid replies here (without_line_kept old s rest kept) read
+      (read_told between (behind_line rest x) l (reading_of l) e mid replies here (without_line_kept old s rest kept) read
       (tell_back old between replies (back_line old s rest) tell))
 
   opened_cursors : (o : Option Session) (t : ℕ) (given : List Tuple) (finished : Bool) (b : Bool)
@@ -778,8 +780,14 @@ module _ (s : ℕ) (c : Bytes) where
       (step_told old d.event d.effect mid replies w.1 sound tell)
 
 pub given_is_told : GivenIsTold
-given_is_told s c done new w given finished at = along_told s c opening done new [] w opening_sound
-    (λ g f here. absurd cc) given finished at
+given_is_told start h s c done new w given finished at = along_told s c start done new [] w (start_sound start h)
+    (λ g f here. absurd (no_cursor g f here)) given finished at
+  where
+    no_cursor : (g : List Tuple) (f : Bool) → position_of start s c ≡ Some (open_at g f) → ⊥
+    no_cursor g f here =
+        let found : position_of (record start { sessions = [] }) s c ≡ Some (open_at g f) =
+        subst (λ (xs : List Session). position_of (record start { sessions = xs }) s c ≡ Some (open_at g f)) h.none here in
+        cc found
 
 -- where names are apart, a cursor is found by its own
 by_its_name : (ks : List Cursor) (k : Cursor) → AreApart (map (λ (z : Cursor). z.name) ks) → Contains ks k
@@ -801,20 +809,22 @@ by_its_name (z ∷ ks) k apart h =
         (same_name z.name k.name is))
     by (inr c) false is more = more c
 
-nothing_given : CursorsGive opening
-nothing_given = All-nil (λ (x : Session). All (λ (k : Cursor). PositionGives [] (query_of [] k.query) k.position)
-    x.cursors)
+-- where no session is open, no cursor has given anything
+pub nothing_given : (start : State) → IsStart start → CursorsGive start
+nothing_given start h = subst (λ (xs : List Session). CursorsGive (record start { sessions = xs })) (sym h.none)
+    (All-nil (λ (x : Session). All (λ (k : Cursor). PositionGives start.store.relations
+    (query_of start.store.queries k.query) k.position) x.cursors))
 
 pub listed_is_told : ListedIsTold
-listed_is_told q s given done new w h =
-    let sound = states_are_sound done new w in
+listed_is_told start begins q s given done new w h =
+    let sound = states_are_sound start begins done new w in
     let session = all_found (IsSoundSession new.store.queries) (λ (x : Session). x.id == s) new.sessions h.session
     sound.sessions h.is_session in
     let found = by_its_name (h.session).cursors h.cursor session.names h.is_cursor in
     let at : position_of new s (h.cursor).name ≡ Some (open_at given true) =
     ap (λ o. position_in o (h.cursor).name) h.is_session ∙ ap (λ o. option_map (λ (k : Cursor). k.position) o) found
     ∙ ap (λ p. Some p) h.is_finished in (
-      given_is_told s (h.cursor).name done new w given true at,
+      given_is_told start begins s (h.cursor).name done new w given true at,
       listed q s new given
-          (runs_give opening done new w nothing_given) h,
+          (runs_give start done new w (nothing_given start begins)) h,
     )

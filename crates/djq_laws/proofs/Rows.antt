@@ -138,7 +138,7 @@ not_added old name row r new h =
     h.stays (λ late. late_learned old (texts_in row) new r late.1)
 
 -- `add`
-added : (old : Store) (name : Bytes) (row : Tuple) (r : Result AddOutcome Refusal) (new : Store)
+pub added : (old : Store) (name : Bytes) (row : Tuple) (r : Result AddOutcome Refusal) (new : Store)
     → AddsRow old name row r new
     → RowsMade (by_relation name) old (add_outcome (row_in old.relations name row) r) new
 added old name row (Ok Added) new h =
@@ -165,7 +165,7 @@ added old name row (Err NoMemory) new h = not_added old name row NoMemory new h
 added old name row (Err r) new h = not_added old name row r new h
 
 -- `del`
-deleted : (old : Store) (name : Bytes) (row : Tuple) (r : Result DeleteOutcome Refusal) (new : Store)
+pub deleted : (old : Store) (name : Bytes) (row : Tuple) (r : Result DeleteOutcome Refusal) (new : Store)
     → DeletesRow old name row r new
     → RowsMade (by_relation name) old (delete_outcome (row_out old.relations name row) r) new
 deleted old name row (Ok Removed) new h =

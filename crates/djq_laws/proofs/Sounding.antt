@@ -1,5 +1,5 @@
 -- Each state that the machine comes to is sound.
-use Rattle.std.specs.Prelude.{ℕ, List, [], ◌∷◌, ◌==◌, ◌≡◌, ◌≢◌, ◌<◌, ◌≤◌, ◌+◌, ◌++◌, ◌⊎◌, Bool, true, false, not, cond, length, filter, Option, None, Some, is_some, IsSome, MatchOption, option_map, map, All}
+use Rattle.std.specs.Prelude.{ℕ, List, [], ◌∷◌, ◌==◌, ◌≡◌, ◌≢◌, ◌<◌, ◌≤◌, ◌+◌, ◌++◌, ◌⊎◌, Bool, true, false, not, cond, length, filter, Option, None, Some, is_some, IsSome, MatchOption, option_map, map, All, AllPairs}
 use Rattle.std.specs.List.{list_any, slice_index_or}
 use Rattle.std.proofs.Common.{refl, sym, ap, ◌∙◌, subst, inl, inr, arith}
 use Rattle.std.proofs.lemmas.List.{length-map, length-append}
@@ -9,11 +9,11 @@ use Rattle.djq_model.specs.Data.{Bytes, bytes_eq, drop_first, query_of}
 use Rattle.djq_lines.specs.declared.limits.TheConstants.{SESSIONS}
 use Rattle.djq_lines.specs.declared.answer.EndCause.{EndCause}
 use Rattle.djq_lines.specs.declared.answer.EndCause.TheVariants.{Input, Memory}
-use Rattle.djq_lines.specs.Grammar.{Reading, refused, says as says_command, reading_of}
+use Rattle.djq_lines.specs.Grammar.{Reading, outside, past_limit, says as says_command, reading_of}
 use Rattle.djq_lines.specs.Reply.{end_memory}
 use Rattle.djq_lines.specs.Hypergraph.{edges_of, head_of}
 use Rattle.djq_machine.specs.Store.{IsFreeConnex}
-use Rattle.djq_machine.specs.State.{Store, State, Session, Cursor, Position, open_at, stale, fresh, opening, session_of, with_session, with_position, ended_by}
+use Rattle.djq_machine.specs.State.{Store, State, Session, Cursor, Position, open_at, stale, fresh, session_of, with_session, with_position, ended_by}
 use Rattle.djq_machine.specs.Stale.{outdated, outdater_of, outdated_cursor, outdated_sessions}
 use Rattle.djq_machine.specs.Changes.{RowsChange, RowsOutcome, tried, changed}
 use Rattle.djq_machine.specs.Watch.{is_watching, Telling, ChangeStep}
@@ -45,7 +45,9 @@ use Rattle.djq_laws.specs.Sound.{
   IsSoundCursor,
   IsSoundSession,
   IsSoundState,
+  IsStart,
   RunsKeepSound,
+  OpeningIsStart,
   StatesAreSound,
 }
 use Rattle.djq_laws.specs.Form.{form_of, Form, asking, storing, turning, changing, ending, Turn, opens_cursor, moves_cursor, closes_cursor, starts_watching, stops_watching, Replied, is_whole, is_cut, Stored, learns_texts, makes_relation, registers_query, drops_query, in_use, without_cursor, Turned, DoesTurn, is_turned, is_refused, Does}
@@ -352,12 +354,13 @@ form_kept ending old s x e new found runs h k =
     ends_kept (record old { stopped = h.1.stopped }) s h.1.cause new h.1.state k
 
 -- The front of a session's bytes.
-read_kept : (old : State) (s : ℕ) (x : Session) (r : Reading) (e : Effect) (new : State) → session_of old s ≡ Some x
-    → x.cause ≡ None → ReadStep old s x r e new → AreKept old → AreKept new
-read_kept old s x (refused r) e new found runs h k = same_kept old new h.1 k
-read_kept old s x (says_command c) e new found runs (true, h) k = form_kept (form_of c) old s x e new
+read_kept : (old : State) (s : ℕ) (x : Session) (l : Bytes) (r : Reading) (e : Effect) (new : State) → session_of old s ≡ Some x
+    → x.cause ≡ None → ReadStep old s x l r e new → AreKept old → AreKept new
+read_kept old s x l outside e new found runs h k = same_kept old new h.1 k
+read_kept old s x l (past_limit c) e new found runs h k = same_kept old new h.1 k
+read_kept old s x l (says_command c) e new found runs (true, h) k = form_kept (form_of c) old s x e new
     found runs (command_does old s x c e new h) k
-read_kept old s x (says_command c) e new found runs (false, h) k = same_kept old new h.1.1 k
+read_kept old s x l (says_command c) e new found runs (false, h) k = same_kept old new h.1.1 k
 
 pub without_line_kept : (old : State) (s : ℕ) (rest : Bytes) → AreKept old
     → AreKept (with_session old s (behind_line rest))
@@ -377,7 +380,7 @@ front_kept old s x (run l) e new found runs h k =
     let rest = h.2.rest in
     let here : session_of (with_session old s (behind_line rest)) s ≡ Some (behind_line rest x) =
     session_changed old s (behind_line rest) (λ y. refl) ∙ ap (λ o. option_map (behind_line rest) o) found in
-    read_kept (with_session old s (behind_line rest)) s (behind_line rest x) (reading_of l) e new here runs h.2.then
+    read_kept (with_session old s (behind_line rest)) s (behind_line rest x) l (reading_of l) e new here runs h.2.then
     (without_line_kept old s rest k)
 
 -- The events.
@@ -506,8 +509,8 @@ pub runs_keep_sound : RunsKeepSound
 runs_keep_sound old done new w g = walk_keeps (λ (o : State) (d : Did) (n : State). Step o d.event d.effect n)
     IsSoundState (λ o d n h. step_sound o d.event d.effect n h) old done new w g
 
-pub opening_sound : IsSoundState opening
-opening_sound = record {
+pub opening_is_start : OpeningIsStart
+opening_is_start = record {
   store = record {
     relations = nothing_apart (λ a b. a ≢ b);
     rows = All-nil IsSoundRelation;
@@ -516,10 +519,20 @@ opening_sound = record {
     queries = nothing_apart (λ a b. a ≢ b);
     connex = All-nil (λ (q : Query). IsFreeConnex (edges_of q) (head_of q));
   };
-  sessions = All-nil (IsSoundSession []);
-  rising = nothing_apart (λ s t. s < t);
-  few = omega arith;
+  none = refl;
+  going = refl;
+}
+
+-- where no session is open, the store alone is to be sound
+pub start_sound : (start : State) → IsStart start → IsSoundState start
+start_sound start h = record {
+  store = h.store;
+  sessions = subst (λ (xs : List Session). All (IsSoundSession start.store.queries) xs) (sym h.none)
+      (All-nil (IsSoundSession start.store.queries));
+  rising = subst (λ (xs : List Session). AllPairs (λ s t. s < t) (map (λ (x : Session). x.id) xs)) (sym h.none)
+      (nothing_apart (λ s t. s < t));
+  few = subst (λ (xs : List Session). length xs ≤ SESSIONS) (sym h.none) (omega arith);
 }
 
 pub states_are_sound : StatesAreSound
-states_are_sound done new w = runs_keep_sound opening done new w opening_sound
+states_are_sound start h done new w = runs_keep_sound start done new w (start_sound start h)

@@ -12,7 +12,7 @@ use Rattle.djq_lines.specs.declared.answer.EndCause.TheVariants.{Input, Long, Sl
 use Rattle.djq_lines.specs.declared.command.Command.{Command}
 use Rattle.djq_lines.specs.declared.command.Command.TheVariants.{Unwatch}
 use Rattle.djq_lines.specs.declared.limits.TheConstants.{SESSIONS}
-use Rattle.djq_lines.specs.Grammar.{Reading, refused, says as says_command, reading_of}
+use Rattle.djq_lines.specs.Grammar.{Reading, outside, past_limit, says as says_command, reading_of}
 use Rattle.djq_lines.specs.Reply.{end_memory}
 use Rattle.djq_machine.specs.State.{Store, State, Session, Cursor, fresh, session_of, with_session, ended_by}
 use Rattle.djq_machine.specs.Changes.{RowsChange, RowsOutcome, tried, changed}
@@ -217,11 +217,12 @@ module _ (q : Query) (s : ℕ) (old : State) (registered : query_of old.store.qu
       by_form (form_of c) t x e new there
       (λ here same. not_it here (ap (λ k. says_command k) (is_unwatch c q.name same))) (command_does old t x c e new h)
 
-  by_reading : (t : ℕ) (x : Session) (r : Reading) (e : Effect) (new : State) → IsOpen old t → ((t == s) ≡ true → r ≡ says_command (Unwatch q.name) → ⊥)
-      → ReadStep old t x r e new → Stays q s new
-  by_reading t x (refused r) e new there not_it h = by_none q s old registered watches new h.1
-  by_reading t x (says_command c) e new there not_it (true, h) = by_command t x c e new there not_it h
-  by_reading t x (says_command c) e new there not_it (false, h) = by_none q s old registered watches new h.1.1
+  by_reading : (t : ℕ) (x : Session) (l : Bytes) (r : Reading) (e : Effect) (new : State) → IsOpen old t → ((t == s) ≡ true → r ≡ says_command (Unwatch q.name) → ⊥)
+      → ReadStep old t x l r e new → Stays q s new
+  by_reading t x l outside e new there not_it h = by_none q s old registered watches new h.1
+  by_reading t x l (past_limit c) e new there not_it h = by_none q s old registered watches new h.1
+  by_reading t x l (says_command c) e new there not_it (true, h) = by_command t x c e new there not_it h
+  by_reading t x l (says_command c) e new there not_it (false, h) = by_none q s old registered watches new h.1.1
 
 -- The front of a session's bytes.
 open_behind : (old : State) (t : ℕ) (rest : Bytes) (x : Session) → session_of old t ≡ Some x → IsOpen (with_session old t (behind_line rest)) t
@@ -242,7 +243,7 @@ by_front q s old registered watches t x (no_room l) e new found keeps h = ends_b
 by_front q s old registered watches t x (run l) e new found keeps h =
     by_reading q s (with_session old t (behind_line h.2.rest)) registered
     (watches_with q.name old t (behind_line h.2.rest) s (t == s) refl (λ y. refl) (λ b y k. k) watches)
-    t (behind_line h.2.rest x) (reading_of l) e new (open_behind old t h.2.rest x found) keeps h.2.then
+    t (behind_line h.2.rest x) l (reading_of l) e new (open_behind old t h.2.rest x found) keeps h.2.then
 
 -- The events.
 find_front : (p : Session → Bool) (xs : List Session) (y x : Session) → find p xs ≡ Some x → find p (xs ++ y ∷ []) ≡ Some x

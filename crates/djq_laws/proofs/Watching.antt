@@ -15,7 +15,7 @@ use Rattle.djq_lines.specs.declared.answer.Sign.TheVariants.{Came, Went}
 use Rattle.djq_lines.specs.declared.command.Command.{Command}
 use Rattle.djq_lines.specs.declared.command.Command.TheVariants.{Add, Del}
 use Rattle.djq_lines.specs.declared.limits.TheConstants.{SESSIONS}
-use Rattle.djq_lines.specs.Grammar.{Reading, refused, says as says_command, reading_of}
+use Rattle.djq_lines.specs.Grammar.{Reading, outside, past_limit, says as says_command, reading_of}
 use Rattle.djq_lines.specs.Reply.{end_memory}
 use Rattle.djq_machine.specs.State.{Store, State, Session, fresh, session_of, with_session, ended_by}
 use Rattle.djq_machine.specs.Delta.{Change, HasChanged}
@@ -174,10 +174,11 @@ module _ (q : Query) (s : ℕ) (old : State) (registered : query_of old.store.qu
       subst (λ (o : Option Bytes). StepTells q s old.store new.store e.queued (is_some o)) (outdated_alike old t c q)
       (form_tells (form_of c) t x e new running (command_does old t x c e new h))
 
-  read_tells : (t : ℕ) (x : Session) (r : Reading) (e : Effect) (new : State) → cause_of new s ≡ None → ReadStep old t x r e new → StepTells q s old.store new.store e.queued (is_some (line_outdater old t r q))
-  read_tells t x (refused r) e new running h = same_state q s e.queued false old new h.1
-  read_tells t x (says_command c) e new running (true, h) = command_tells t x c e new running h
-  read_tells t x (says_command c) e new running (false, h) = same_state q s e.queued (is_some (line_outdater old t (says_command c) q)) old new h.1.1
+  read_tells : (t : ℕ) (x : Session) (l : Bytes) (r : Reading) (e : Effect) (new : State) → cause_of new s ≡ None → ReadStep old t x l r e new → StepTells q s old.store new.store e.queued (is_some (line_outdater old t r q))
+  read_tells t x l outside e new running h = same_state q s e.queued false old new h.1
+  read_tells t x l (past_limit c) e new running h = same_state q s e.queued false old new h.1
+  read_tells t x l (says_command c) e new running (true, h) = command_tells t x c e new running h
+  read_tells t x l (says_command c) e new running (false, h) = same_state q s e.queued (is_some (line_outdater old t (says_command c) q)) old new h.1.1
 
 -- a line that is taken changes no watches
 line_watches : (q : Bytes) (old : State) (t : ℕ) (rest : Bytes) (s : ℕ) (b : Bool) → (t == s) ≡ b → Watches q (session_of old s) → Watches q (session_of (with_session old t (behind_line rest)) s)
@@ -206,7 +207,7 @@ front_tells q s old registered watches t x (run l) e new running h =
     let taken = with_session old t (behind_line h.2.rest) in
     subst (λ (o : Option Bytes). StepTells q s old.store new.store e.queued (is_some o)) (line_alike q t taken old (reading_of l))
     (read_tells q s taken registered (line_watches q.name old t h.2.rest s (t == s) refl watches)
-    t (behind_line h.2.rest x) (reading_of l) e new running h.2.then)
+    t (behind_line h.2.rest x) l (reading_of l) e new running h.2.then)
 
 -- the events
 fed_stays : (q : Query) (s : ℕ) (old : State) (t : ℕ) (bytes : Bytes) (e : Effect) (mid : State) (c : Option EndCause)

@@ -1,5 +1,5 @@
 -- What holds of every state that the machine comes to.
-use Rattle.std.specs.Prelude.{List, [], ◌≡◌, ◌≢◌, ◌≤◌, true, IsSome, length, map, All, AllPairs}
+use Rattle.std.specs.Prelude.{List, [], ◌≡◌, ◌≢◌, ◌≤◌, true, false, IsSome, length, map, All, AllPairs}
 use Rattle.djq_model.specs.declared.relation.Relation.{Relation}
 use Rattle.djq_model.specs.declared.query.Query.{Query}
 use Rattle.djq_model.specs.Data.{Bytes, tuples_in, query_of}
@@ -62,6 +62,18 @@ abbrev pub RunsKeepSound : Type 0
 RunsKeepSound = (old : State) (done : List Did) (new : State) → Run old done new → IsSoundState old
     → IsSoundState new
 
--- Each state that a run comes to from the state in which nothing has happened is sound.
+-- A state to start from: what is kept of the data is sound, no session is open, so that nothing is
+-- queued, and none has said `stop`.
+pub record IsStart (st : State) : Type 0 where
+  pub store : IsSoundStore st.store
+  pub none : st.sessions ≡ []
+  pub going : st.stopped ≡ false
+
+-- The state in which nothing has happened is one.
+abbrev pub OpeningIsStart : Type 0
+OpeningIsStart = IsStart opening
+
+-- Each state that a run comes to from a state to start from is sound.
 abbrev pub StatesAreSound : Type 0
-StatesAreSound = (done : List Did) (new : State) → Run opening done new → IsSoundState new
+StatesAreSound = (start : State) → IsStart start → (done : List Did) (new : State)
+    → Run start done new → IsSoundState new

@@ -37,7 +37,7 @@ ghost use Rattle.djq_laws.specs.Added.{DeltasAddUp};
 ghost use Rattle.djq_laws.specs.Watched.{WatchersHaveAnswers};
 ghost use Rattle.djq_laws.specs.Staying.{WatchersStay};
 ghost use Rattle.djq_laws.specs.Live.{ListingsStayLive};
-ghost use Rattle.djq_laws.specs.Sound.{RunsKeepSound, StatesAreSound};
+ghost use Rattle.djq_laws.specs.Sound.{RunsKeepSound, OpeningIsStart, StatesAreSound};
 ghost use Rattle.djq_laws.specs.Listed.{GivenIsTold, ListedIsTold};
 
 /// A session that is open stays so in every step that doesn't close it.
@@ -69,13 +69,15 @@ pub fn line_is_taken()
     ensures { LineIsTaken }
 {}
 
-/// Each state that a run comes to from the opening state is sound: relations, queries, known texts,
-/// the rows of a relation and the answers that an open cursor has given are without repeats; rows
-/// are of their columns' types, and queries free-connex; cursors and watches are of registered
+/// Each state that a run comes to from a state to start from is sound: relations, queries, known
+/// texts, the rows of a relation and the answers that an open cursor has given are without repeats;
+/// rows are of their columns' types, and queries free-connex; cursors and watches are of registered
 /// queries; a session that has ended has none of them; and texts and sessions are within their
-/// limits, sessions by rising id. Every run keeps it so.
+/// limits, sessions by rising id. Every run keeps it so. The state in which nothing has happened is
+/// one to start from.
 pub fn states_are_sound()
     ensures kept { RunsKeepSound }
+    ensures opening { OpeningIsStart }
     ensures reached { StatesAreSound }
 {}
 

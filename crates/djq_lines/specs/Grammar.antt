@@ -49,8 +49,6 @@ use Rattle.djq_model.specs.Data.{Bytes, bytes_eq}
 use Rattle.djq_value.specs.Token.{Token, word, open_paren, close_paren, comma, arrow, tokens}
 use Rattle.djq_value.specs.Literal.{is_name, is_small_value, literal_of, natural_of}
 use Rattle.djq_lines.specs.declared.limits.TheConstants.{NEXT_COUNT}
-use Rattle.djq_lines.specs.declared.answer.Refusal.{Refusal}
-use Rattle.djq_lines.specs.declared.answer.Refusal.TheVariants.{Syntax, WrongType}
 use Rattle.djq_lines.specs.declared.keyword.Keyword.{Keyword}
 use Rattle.djq_lines.specs.declared.keyword.Keyword.TheVariants.{
   Rel as RelWord,
@@ -306,15 +304,18 @@ takes_memory_to_read (Has q row) = true
 takes_memory_to_read (Register q) = true
 takes_memory_to_read _ = false
 
--- What a line says: why it isn't run, whatever the state is; or a command whose literals are within
--- their limits.
+-- What a line says.
 pub data Reading : Type 0 where
-  refused : Refusal → Reading
+  -- nothing, as it is outside the grammar
+  outside : Reading
+  -- a command of which a literal is past its limit
+  past_limit : Command → Reading
+  -- a command whose literals are within their limits
   says : Command → Reading
 
 abbrev pub reading_in : Option Command → Reading
-reading_in None = refused Syntax
-reading_in (Some c) = if is_in_range c then says c else refused WrongType
+reading_in None = outside
+reading_in (Some c) = if is_in_range c then says c else past_limit c
 
 abbrev pub reading_of : Bytes → Reading
 reading_of line = reading_in (command_of line)
