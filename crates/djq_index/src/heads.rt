@@ -1,4 +1,4 @@
-ghost use Rattle.std.specs.Prelude.{◌≡◌, ◌≢◌, ℕ, ◌+◌, ◌<◌, ◌≤◌, List, [], ◌∷◌, ◌++◌, length, slice_set, slice_index, IfOk, OnErr, Some, None};
+ghost use Rattle.std.specs.Prelude.{◌≡◌, ◌≢◌, ℕ, ◌+◌, ◌<◌, ◌≤◌, List, [], ◌∷◌, ◌++◌, length, slice_set, slice_index, vec_capacity, IfOk, OnErr, Some, None};
 ghost use Rattle.djq_arena.specs.Chains.{pair_at, entered, left, IsWithin};
 ghost use Rattle.djq_arena.specs.Store.{extended, shrunk};
 ghost use Rattle.djq_arena.specs.Rows.{Row, AreRows, IsHeld, IsFull};
@@ -77,11 +77,13 @@ fn cell_at(tuple: &[u64], column: usize) -> u64
 /// Writes the cells of a tuple's key into a buffer.
 pub fn project(cells: &mut Vec<u64>, key: &[usize], tuple: &[u64]) -> Result<(), AllocError>
     requires { AreColumns (length tuple.now) key.now }
-    ensures { IfOk result (λ _. cells.new.items ≡ pick key.now tuple.now) }
+    ensures picked { IfOk result (λ _. cells.new.items ≡ pick key.now tuple.now) }
+    ensures full { OnErr result (vec_capacity cells.old < length key.now) }
 {
     cells.clear();
+    cells.reserve(key.len())?;
     for column in key {
-        cells.push(cell_at(tuple, *column))?;
+        cells.push_reserved(cell_at(tuple, *column));
     }
     Ok(())
 }

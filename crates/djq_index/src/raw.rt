@@ -5,7 +5,7 @@ ghost use Rattle.djq_index.specs.Tuple.{pick};
 ghost use Rattle.djq_index.specs.Entries.{Entry, supp, cnt, grp, marks, is_marked, unmarked, head_at, last_at};
 ghost use Rattle.djq_index.specs.Table.{IsAt, IsLive, IsUnmarked, IsRaisable, IsLowerable, AreColumns};
 ghost use Rattle.djq_index.specs.Changes.{Inserted, Removed, Touched, Supported};
-ghost use Rattle.djq_index.specs.Raw.{IsRaw, IsBare, AreHeads, IsNoted, IsMarked, entries_of, slots_at, place_of, note_at, ends_at, IsSeat, IsSettled, passed, entries_in, AreTrailing, without_mark};
+ghost use Rattle.djq_index.specs.Raw.{IsRaw, IsBare, AreHeads, IsNoted, IsMarked, entries_of, slots_at, place_of, note_at, ends_at, IsSeat, IsSettled, passed, entries_in, AreTrailing, without_mark, HasNoRoom, HasNoRoomForHead};
 ghost use Rattle.djq_arena.specs.Store.{ends_of, beside};
 
 use crate::heads::{found, join, part, project, prune};
@@ -228,6 +228,7 @@ fn seat(
     ensures seated { IfOk result (λ head. IsSeat keys.old.rows keys.new.rows ends.old.items ends.new.items head (pick key.now tuple.now)) }
     ensures refused { OnErr result (keys.new.rows ≡ keys.old.rows) }
     ensures refused_ends { OnErr result ((k : ℕ) → ends_at ends.new.items k ≡ ends_at ends.old.items k) }
+    ensures full { OnErr result (IsFull keys.old ⊎ vec_capacity cells.old < length key.now) }
 {
     project(cells, key, tuple)?;
     match keys.find(cells.as_slice()) {
@@ -337,6 +338,7 @@ fn insert_keyed(raw: &mut Raw, tuple: &[u64]) -> Result<Place, AllocError>
     ensures inserted { IfOk result (λ p. Inserted raw.old.key.items (entries_of raw.old) (entries_of raw.new) tuple.now) }
     ensures at { IfOk result (λ p. IsAt (entries_of raw.new) p tuple.now) }
     ensures refused { OnErr result (entries_of raw.new ≡ entries_of raw.old) }
+    ensures full { OnErr result (IsFull raw.old.rows ⊎ HasNoRoomForHead raw.old) }
     ensures kind { raw.new.kind ≡ raw.old.kind }
     ensures key { raw.new.key.items ≡ raw.old.key.items }
     ensures width { raw.new.rows.width ≡ raw.old.rows.width }
@@ -370,6 +372,7 @@ fn insert_bare(raw: &mut Raw, tuple: &[u64]) -> Result<Place, AllocError>
     ensures inserted { IfOk result (λ p. Inserted raw.old.key.items (entries_of raw.old) (entries_of raw.new) tuple.now) }
     ensures at { IfOk result (λ p. IsAt (entries_of raw.new) p tuple.now) }
     ensures refused { OnErr result (entries_of raw.new ≡ entries_of raw.old) }
+    ensures full { OnErr result (IsFull raw.old.rows) }
     ensures kind { raw.new.kind ≡ raw.old.kind }
     ensures key { raw.new.key.items ≡ raw.old.key.items }
     ensures width { raw.new.rows.width ≡ raw.old.rows.width }
@@ -389,6 +392,7 @@ pub fn insert_in(raw: &mut Raw, tuple: &[u64]) -> Result<Place, AllocError>
     ensures inserted { IfOk result (λ p. Inserted raw.old.key.items (entries_of raw.old) (entries_of raw.new) tuple.now) }
     ensures at { IfOk result (λ p. IsAt (entries_of raw.new) p tuple.now) }
     ensures refused { OnErr result (entries_of raw.new ≡ entries_of raw.old) }
+    ensures full { OnErr result (HasNoRoom raw.old) }
     ensures key { raw.new.key.items ≡ raw.old.key.items }
     ensures width { raw.new.rows.width ≡ raw.old.rows.width }
 {
