@@ -36,7 +36,7 @@ use Rattle.djq_machine.specs.Store.{
   drop_refusal,
   DropsQuery,
 }
-use Rattle.djq_laws.proofs.Giving.{done_of}
+use Rattle.djq_laws.proofs.Forms.{done_of}
 use Rattle.djq_laws.proofs.Apart.{texts_apart}
 use Rattle.djq_kept.specs.Loading.{Loaded, ran, no_memory, refused_by, CommandLoads}
 use Rattle.djq_kept.specs.Kept.{Follows}
