@@ -9,7 +9,7 @@ use Rattle.djq_model.specs.declared.query.Query.{Query}
 use Rattle.djq_model.specs.declared.relation.Relation.{Relation}
 use Rattle.djq_model.specs.Data.{Bytes, Tuple, bytes_eq}
 use Rattle.djq_lines.specs.declared.command.Command.{Command}
-use Rattle.djq_lines.specs.declared.command.Command.TheVariants.{Rel, Add, Del, Query as Register, Drop, Open, Next, Close, Has, Watch, Unwatch, Explain, Quit, Stop}
+use Rattle.djq_lines.specs.declared.command.Command.TheVariants.{Rel, Add, Del, Query as Register, Drop, Open, Next, Close, Has, Watch, Unwatch, Explain, Shape, Quit, Stop}
 use Rattle.djq_lines.specs.declared.answer.Refusal.{Refusal}
 use Rattle.djq_lines.specs.declared.answer.Refusal.TheVariants.{NoMemory}
 use Rattle.djq_lines.specs.declared.answer.AddOutcome.{AddOutcome}
@@ -249,6 +249,7 @@ composed old mid new stopped xs ys s y change was now sound (Has q row) a t = ab
 composed old mid new stopped xs ys s y change was now sound (Watch q) a t = absurd a
 composed old mid new stopped xs ys s y change was now sound (Unwatch q) a t = absurd a
 composed old mid new stopped xs ys s y change was now sound (Explain q) a t = absurd a
+composed old mid new stopped xs ys s y change was now sound (Shape q) a t = absurd a
 composed old mid new stopped xs ys s y change was now sound Quit a t = absurd a
 composed old mid new stopped xs ys s y change was now sound Stop a t = absurd a
 

@@ -14,13 +14,14 @@ use Rattle.djq_model.specs.declared.relation.ColumnType.{ColumnType}
 use Rattle.djq_lines.specs.declared.answer.Refusal.{Refusal}
 use Rattle.djq_lines.specs.declared.answer.AddOutcome.{AddOutcome}
 use Rattle.djq_lines.specs.declared.answer.DeleteOutcome.{DeleteOutcome}
+use Rattle.djq_lines.specs.declared.answer.Shape.{Shape}
 use Rattle.djq_lines.specs.declared.rest.QueryOutcome.{QueryOutcome}
-use Rattle.djq_lines.specs.declared.command.Command.TheVariants.{Rel, Add, Del, Query as Register, Has, Drop}
-use Rattle.djq_lines.specs.Reply.{ok_reply, add_reply, delete_reply, query_reply, has_reply}
+use Rattle.djq_lines.specs.declared.command.Command.TheVariants.{Rel, Add, Del, Query as Register, Has, Shape as AskShape, Drop}
+use Rattle.djq_lines.specs.Reply.{ok_reply, add_reply, delete_reply, query_reply, has_reply, shape_reply}
 use Rattle.djq_lines.specs.declared.answer.Refusal.TheVariants.{NoQuery, InUse}
 use Rattle.djq_machine.specs.Conditions.{first_of, Answers, OutOfMemoryWhere}
 use Rattle.djq_machine.specs.State.{Store, Session, State, Cursor, session_of}
-use Rattle.djq_machine.specs.Store.{MakesRelation, AddsRow, DeletesRow, RegistersQuery, TellsWhether, has_steps, DropsQuery}
+use Rattle.djq_machine.specs.Store.{MakesRelation, AddsRow, DeletesRow, RegistersQuery, TellsWhether, has_steps, TellsShape, DropsQuery}
 use Rattle.djq_machine.specs.Watch.{affected}
 use Rattle.djq_machine.specs.Effect.{Effect}
 use Rattle.djq_session.specs.Dialog.{Replies}
@@ -165,6 +166,15 @@ does_has k before after q t result was now tells counted r =
       effect = ap (λ store. to_one s (Some (has_reply result)) (has_steps (query_of store.queries q))) (sym e);
       state = ap (λ store. record st { store = store }) (sym e);
     })
+
+pub does_shape : (k : Kept) (before after : Talk) (q : Bytes) (result : Result Shape Refusal)
+    → TellsShape k.store q result → Replies before after (shape_reply result) → Executes (AskShape q) false k before k after 0 0
+does_shape k before after q result tells r = refused _ k before after (shape_reply result) r (λ st s x e f. record {
+  result = result;
+  tells = subst (λ store. TellsShape store q result) (sym e) tells;
+  effect = refl;
+  state = refl;
+})
 
 -- `drop`
 

@@ -10,9 +10,9 @@ use Rattle.djq_value.specs.Token.{Token, word, text, open_paren, close_paren, co
 use Rattle.djq_value.specs.Literal.{is_name, natural_of, literal_of}
 use Rattle.djq_lines.specs.declared.answer.Refusal.TheVariants.{WrongType, Syntax}
 use Rattle.djq_lines.specs.declared.command.Command.{Command}
-use Rattle.djq_lines.specs.declared.command.Command.TheVariants.{Rel, Add, Del, Query as Register, Drop, Open, Next, Close, Has, Watch, Unwatch, Explain, Quit, Stop}
+use Rattle.djq_lines.specs.declared.command.Command.TheVariants.{Rel, Add, Del, Query as Register, Drop, Open, Next, Close, Has, Watch, Unwatch, Explain, Shape, Quit, Stop}
 use Rattle.djq_lines.specs.declared.keyword.Keyword.{Keyword}
-use Rattle.djq_lines.specs.declared.keyword.Keyword.TheVariants.{Rel as RelWord, Add as AddWord, Del as DelWord, Query as QueryWord, Drop as DropWord, Open as OpenWord, Next as NextWord, Close as CloseWord, Has as HasWord, Watch as WatchWord, Unwatch as UnwatchWord, Explain as ExplainWord, Quit as QuitWord, Stop as StopWord}
+use Rattle.djq_lines.specs.declared.keyword.Keyword.TheVariants.{Rel as RelWord, Add as AddWord, Del as DelWord, Query as QueryWord, Drop as DropWord, Open as OpenWord, Next as NextWord, Close as CloseWord, Has as HasWord, Watch as WatchWord, Unwatch as UnwatchWord, Explain as ExplainWord, Shape as ShapeWord, Quit as QuitWord, Stop as StopWord}
 use Rattle.djq_lines.specs.Reply.{refusal_line}
 use Rattle.djq_lines.specs.Grammar.{outside, past_limit, says, reading_in, reading_of, command_of, command_in, command_with, command_behind, is_in_range, takes_memory_to_read, is_count, count_of, keyword_of, nothing, type_of, named_some, named_any, query_in, query_of, body_in, atoms_in, atoms_within, atom_in, behind_atom, in_front, list_in, name_of, one_name, two_names, name_and_count}
 use Rattle.djq_proto.specs.declared.refusal.LineRefusal.{LineRefusal}
@@ -120,6 +120,7 @@ counted ts HasWord c n e = made_of (λ p. Has p.0 p.1) (named_any literal_of ts)
 counted ts WatchWord c n e = made_of (λ q. Watch q) (one_name ts) (Next c n) (1 ≤ n) (λ a f g. absurd (cc)) e
 counted ts UnwatchWord c n e = made_of (λ q. Unwatch q) (one_name ts) (Next c n) (1 ≤ n) (λ a f g. absurd (cc)) e
 counted ts ExplainWord c n e = made_of (λ q. Explain q) (one_name ts) (Next c n) (1 ≤ n) (λ a f g. absurd (cc)) e
+counted ts ShapeWord c n e = made_of (λ q. Shape q) (one_name ts) (Next c n) (1 ≤ n) (λ a f g. absurd (cc)) e
 counted ts QuitWord c n e = no_count Quit ts (Next c n) (1 ≤ n) (λ g. absurd (cc)) e
 counted ts StopWord c n e = no_count Stop ts (Next c n) (1 ≤ n) (λ g. absurd (cc)) e
 
@@ -222,6 +223,7 @@ atoms_behind HasWord ts command e = made_of (λ p. Has p.0 p.1) (named_any liter
 atoms_behind WatchWord ts command e = made_of (λ q. Watch q) (one_name ts) command (HasAtom command) (λ a f g. subst HasAtom g tt) e
 atoms_behind UnwatchWord ts command e = made_of (λ q. Unwatch q) (one_name ts) command (HasAtom command) (λ a f g. subst HasAtom g tt) e
 atoms_behind ExplainWord ts command e = made_of (λ q. Explain q) (one_name ts) command (HasAtom command) (λ a f g. subst HasAtom g tt) e
+atoms_behind ShapeWord ts command e = made_of (λ q. Shape q) (one_name ts) command (HasAtom command) (λ a f g. subst HasAtom g tt) e
 atoms_behind QuitWord ts command e = no_count Quit ts command (HasAtom command) (λ g. subst HasAtom g tt) e
 atoms_behind StopWord ts command e = no_count Stop ts command (HasAtom command) (λ g. subst HasAtom g tt) e
 
@@ -260,6 +262,7 @@ run_as line (Has q row) e = tt
 run_as line (Watch q) e = tt
 run_as line (Unwatch q) e = tt
 run_as line (Explain q) e = tt
+run_as line (Shape q) e = tt
 run_as line Quit e = tt
 run_as line Stop e = tt
 

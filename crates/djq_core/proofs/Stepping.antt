@@ -4,7 +4,7 @@ use Rattle.std.specs.Prelude.{All, IsSome, IsSomeAnd, slice_get}
 use Rattle.std.proofs.lemmas.List.Elements.{All-map}
 use Rattle.djq_model.specs.Data.{Bytes, Tuple, rows_of, without_row}
 use Rattle.djq_lines.specs.declared.command.Command.{Command}
-use Rattle.djq_lines.specs.declared.command.Command.TheVariants.{Rel, Add, Del, Query as Register, Drop, Open, Next, Close, Has, Watch, Unwatch, Explain, Quit, Stop}
+use Rattle.djq_lines.specs.declared.command.Command.TheVariants.{Rel, Add, Del, Query as Register, Drop, Open, Next, Close, Has, Watch, Unwatch, Explain, Shape, Quit, Stop}
 use Rattle.djq_machine.specs.declared.machine.Stepped.{Stepped}
 use Rattle.djq_machine.specs.declared.machine.Stepped.TheVariants.{Ran, Dry, Ended}
 use Rattle.djq_machine.specs.Call.{Counts}
@@ -44,6 +44,7 @@ outdated_by (Has q row) old change new was now a = absurd a
 outdated_by (Watch q) old change new was now a = absurd a
 outdated_by (Unwatch q) old change new was now a = absurd a
 outdated_by (Explain q) old change new was now a = absurd a
+outdated_by (Shape q) old change new was now a = absurd a
 outdated_by Quit old change new was now a = absurd a
 outdated_by Stop old change new was now a = absurd a
 
@@ -89,6 +90,7 @@ registered_by (Has q row) old change new was now a held = absurd a
 registered_by (Watch q) old change new was now a held = absurd a
 registered_by (Unwatch q) old change new was now a held = absurd a
 registered_by (Explain q) old change new was now a held = absurd a
+registered_by (Shape q) old change new was now a held = absurd a
 registered_by Quit old change new was now a held = absurd a
 registered_by Stop old change new was now a held = absurd a
 

@@ -3,7 +3,7 @@ ghost use Rattle.std.specs.Prelude.{◌≡◌, ◌<◌, false, true, length};
 ghost use Rattle.djq_lines.specs.declared.command.Command.TheVariants.{Rel};
 ghost use Rattle.djq_lines.specs.declared.command.Command.TheVariants.{Query as Register, Drop, Open};
 ghost use Rattle.djq_lines.specs.declared.command.Command.TheVariants.{Close, Has, Quit, Stop};
-ghost use Rattle.djq_lines.specs.declared.command.Command.TheVariants.{Explain};
+ghost use Rattle.djq_lines.specs.declared.command.Command.TheVariants.{Explain, Shape};
 ghost use Rattle.djq_core.specs.Opens.{Opens};
 ghost use Rattle.djq_core.specs.Performs.{Executes};
 ghost use Rattle.djq_core.specs.Changing.{Adds, Deletes};
@@ -188,6 +188,15 @@ pub(crate) fn run_explain(engine: &mut Engine, session: &mut Session<CursorId, N
             _ => session.refuse(refusal),
         },
     }
+}
+
+/// `shape`: what bounds an update of a query.
+pub(crate) fn run_shape(engine: &Engine, session: &mut Session<CursorId, Name>, query: &Name)
+    requires { IsReady engine.now session.old }
+    ensures { Executes (Shape query.now) false engine.now session.old engine.now session.new 0 0 }
+{
+    let outcome = engine.shape(query);
+    session.answer_shape(outcome);
 }
 
 /// `quit`: the session ends.

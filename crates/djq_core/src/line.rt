@@ -9,7 +9,7 @@ ghost use Rattle.djq_core.specs.Stepping.{IsRunnable, LeavesTo, LineLeaves, Obey
 use crate::change::Left;
 use crate::commands::{
     run_add, run_close, run_del, run_drop, run_explain, run_has, run_open, run_query, run_quit,
-    run_rel, run_stop,
+    run_rel, run_shape, run_stop,
 };
 use crate::ending::end_by;
 use crate::listing::run_next;
@@ -81,6 +81,10 @@ fn obey<L: Ledgers>(
         }
         Command::Explain { query } => {
             run_explain(engine, session, &query);
+            Left::Nothing
+        }
+        Command::Shape { query } => {
+            run_shape(engine, session, &query);
             Left::Nothing
         }
         Command::Quit => {

@@ -8,10 +8,11 @@ use Rattle.djq_model.specs.Typed.{fits}
 use Rattle.djq_model.specs.Answer.{IsAnswer}
 use Rattle.djq_lines.specs.declared.answer.Refusal.{Refusal}
 use Rattle.djq_lines.specs.declared.answer.Refusal.TheVariants.{NoQuery, Arity, WrongType, NoMemory}
+use Rattle.djq_lines.specs.declared.answer.Shape.{Shape}
 use Rattle.djq_lines.specs.Hypergraph.{variable_names}
 use Rattle.djq_tree.specs.Explaining.{explain_of}
 use Rattle.djq_machine.specs.Conditions.{first_of}
-use Rattle.djq_machine.specs.Store.{TellsWhether, Tells, has_refusal, has_steps, answer_types, misfit}
+use Rattle.djq_machine.specs.Store.{TellsWhether, Tells, has_refusal, has_steps, answer_types, misfit, TellsShape, IsShapeOf}
 use Rattle.djq_rows.specs.Catalog.{Catalog}
 use Rattle.djq_live.specs.declared.cursors.Progress.{Progress}
 use Rattle.djq_live.specs.Cursors.{slot_at}
@@ -75,20 +76,23 @@ module _ (c : Catalog) (gs : List (Option Live)) (order : List ℕ) (readers : L
     pub steps_are : has_steps (query_of (queries_in gs order) name) ≡ length l.query.atoms
     steps_are = ap has_steps found
 
-  -- `explain`
+  -- `explain` and `shape`
+
+  missing : None ≡ position (is_query name) gs → first_of ((is_none (query_of (queries_in gs order) name), NoQuery) ∷ []) ≡ Some NoQuery
+  missing e = ap (λ (o : Option Query). first_of ((is_none o, NoQuery) ∷ [])) (no_query_of c gs order readers s name e)
 
   pub explain_none : None ≡ position (is_query name) gs → ExplainGives (store_of c gs order seq) name (Err NoQuery)
-  explain_none e = record {
-    answer = answers_refused (first_of ((is_none (query_of (queries_in gs order) name), NoQuery) ∷ [])) NoQuery _ _
-        (ap (λ (o : Option Query). first_of ((is_none o, NoQuery) ∷ [])) (no_query_of c gs order readers s name e));
-  }
+  explain_none e = record { answer = answers_refused (first_of ((is_none (query_of (queries_in gs order) name), NoQuery) ∷ [])) NoQuery _ _ (missing e) }
+
+  pub shape_none : None ≡ position (is_query name) gs → TellsShape (store_of c gs order seq) name (Err NoQuery)
+  shape_none e = record { answer = answers_refused (first_of ((is_none (query_of (queries_in gs order) name), NoQuery) ∷ [])) NoQuery _ _ (missing e) }
 
   module _ (at : ℕ) (n : Named gs name at) (l : Live) (there : place_at gs at ≡ Some l) where
     passes : first_of ((is_none (query_of (queries_in gs order) name), NoQuery) ∷ []) ≡ None
     passes = ap (λ (o : Option Query). first_of ((is_none o, NoQuery) ∷ [])) (found at n l there)
 
-    pub explain_kept : IsKeptSomewhere l
-    explain_kept = (c, (s.live at l there).kept)
+    pub query_kept : IsKeptSomewhere l
+    query_kept = (c, (s.live at l there).kept)
 
     pub explain_lacks : ExplainGives (store_of c gs order seq) name (Err NoMemory)
     explain_lacks = record {
@@ -105,6 +109,13 @@ module _ (c : Catalog) (gs : List (Option Live)) (order : List ℕ) (readers : L
           (λ lines. IsSomeAnd (query_of (queries_in gs order) name) (λ q. Explains q lines)) _ passes
           (subst (λ (o : Option Query). IsSomeAnd o (λ q. Explains q lines)) (sym (found at n l there))
           (record { tree = l.reducts.tree; named = (s.live at l there).kept.named; are = e }));
+    }
+
+    pub shape_done : (shape : Shape) → IsShapeOf l.query shape → TellsShape (store_of c gs order seq) name (Ok shape)
+    shape_done shape is = record {
+      answer = answers_done (first_of ((is_none (query_of (queries_in gs order) name), NoQuery) ∷ [])) shape
+          (λ shape. IsSomeAnd (query_of (queries_in gs order) name) (λ q. IsShapeOf q shape)) _ passes
+          (subst (λ (o : Option Query). IsSomeAnd o (λ q. IsShapeOf q shape)) (sym (found at n l there)) is);
     }
 
 -- an answer that is there is one of the query that is read

@@ -3,7 +3,7 @@ ghost use Rattle.djq_model.specs.Data.{bytes_eq, query_of, rows_of, without_row}
 ghost use Rattle.djq_lines.specs.declared.limits.TheConstants.{SESSIONS};
 ghost use Rattle.djq_machine.specs.State.{opening};
 ghost use Rattle.djq_machine.specs.Store.{MakesRelation, AddsRow, DeletesRow, RegistersQuery};
-ghost use Rattle.djq_machine.specs.Store.{TellsWhether, has_steps};
+ghost use Rattle.djq_machine.specs.Store.{TellsShape, TellsWhether, has_steps};
 ghost use Rattle.djq_machine.specs.Changes.{row_in, row_out, add_outcome, delete_outcome, tried};
 ghost use Rattle.djq_engine.specs.Kept.{SameCursors, Outdates, DropGives, OpenGives, NextGives};
 ghost use Rattle.djq_engine.specs.Kept.{MoreGives, ClosesCursor, IsHeld, IsFresh, IsThere};
@@ -14,7 +14,7 @@ ghost use Rattle.djq_engine.specs.Lending.{LendsQuery};
 ghost use Rattle.djq_engine.specs.Watching.{TellsChange, Enrols};
 ghost use Rattle.djq_engine.specs.Watching.{CountsUpdates, add_times, delete_times};
 
-use crate::asking::{answer_in, explain_in, has_in, live_in};
+use crate::asking::{answer_in, explain_in, has_in, live_in, shape_in};
 use crate::cursor::{CursorId, QueryId};
 use crate::lent::LentAnswer;
 use crate::parts::Parts;
@@ -25,7 +25,7 @@ use crate::watching::{
     affected_count_in, affected_in, delta_len_in, delta_line_in, laws_in, query_id_in,
     query_name_in, unwatch_in, watch_in, watchers_in,
 };
-use djq_lines::{AddOutcome, DeleteOutcome, QueryOutcome, Refusal, Sign};
+use djq_lines::{AddOutcome, DeleteOutcome, QueryOutcome, Refusal, Shape, Sign};
 use djq_live::{LiveQuery, Next};
 use djq_model::{Name, NoMem, Query, Sequence, Types, Value};
 use djq_reduct::Answer;
@@ -392,5 +392,17 @@ impl Engine {
         ensures { ExplainGives self.now.store query.now result }
     {
         explain_in(&self.parts, query)
+    }
+
+    /// What bounds an update of a query: `Flat` exactly where the query is flat, and then it is the
+    /// same whatever the rows.
+    ///
+    /// # Errors
+    ///
+    /// `NoQuery` where none has the name. It takes no memory.
+    pub fn shape(&self, query: &Name) -> Result<Shape, Refusal>
+        ensures { TellsShape self.now.store query.now result }
+    {
+        shape_in(&self.parts, query)
     }
 }

@@ -14,7 +14,7 @@ use Rattle.djq_lines.specs.declared.answer.DeleteOutcome.TheVariants.{Removed, A
 use Rattle.djq_lines.specs.declared.rest.QueryOutcome.{QueryOutcome}
 use Rattle.djq_lines.specs.declared.rest.QueryOutcome.TheVariants.{Registered, Cyclic, NotConnex}
 use Rattle.djq_lines.specs.declared.command.Command.{Command}
-use Rattle.djq_lines.specs.declared.command.Command.TheVariants.{Rel, Add, Del, Query as Register, Drop, Open, Next, Close, Has, Watch, Unwatch, Explain, Quit, Stop}
+use Rattle.djq_lines.specs.declared.command.Command.TheVariants.{Rel, Add, Del, Query as Register, Drop, Open, Next, Close, Has, Watch, Unwatch, Explain, Shape, Quit, Stop}
 use Rattle.djq_lines.specs.Variables.{constants_of}
 use Rattle.djq_machine.specs.Conditions.{Answers, OutOfMemoryWhere}
 use Rattle.djq_machine.specs.State.{Store, State, Session, Cursor, Position, open_at, stale, cursor_of}
@@ -169,3 +169,4 @@ command_keeps old s x (Has q row) e new h = quiet old s (Has q row) e new (ap (�
 command_keeps old s x (Watch q) e new h = becomes_quiet old s (Watch q) e new _ h.result (ap (λ (f : Effect). f.kept) h.effect) h.state
 command_keeps old s x (Unwatch q) e new h = becomes_quiet old s (Unwatch q) e new _ h.result (ap (λ (f : Effect). f.kept) h.effect) h.state
 command_keeps old s x (Explain q) e new h = explain_found old s (Explain q) e new (query_of old.store.queries q) h
+command_keeps old s x (Shape q) e new h = quiet old s (Shape q) e new (ap (λ (f : Effect). f.kept) h.effect) (ap (λ (st : State). st.store) h.state)

@@ -8,7 +8,7 @@ use Rattle.djq_lines.specs.declared.answer.AddOutcome.TheVariants.{Added, Same}
 use Rattle.djq_lines.specs.declared.answer.DeleteOutcome.TheVariants.{Removed, Absent}
 use Rattle.djq_lines.specs.declared.rest.QueryOutcome.TheVariants.{Registered, Cyclic, NotConnex}
 use Rattle.djq_lines.specs.declared.command.Command.{Command}
-use Rattle.djq_lines.specs.declared.command.Command.TheVariants.{Rel, Add, Del, Query as Register, Drop, Open, Next, Close, Has, Watch, Unwatch, Explain, Quit, Stop}
+use Rattle.djq_lines.specs.declared.command.Command.TheVariants.{Rel, Add, Del, Query as Register, Drop, Open, Next, Close, Has, Watch, Unwatch, Explain, Shape, Quit, Stop}
 use Rattle.djq_lines.specs.Grammar.{Reading, outside, past_limit, says as says_command, reading_of}
 use Rattle.djq_machine.specs.State.{Store, State, opening}
 use Rattle.djq_machine.specs.Keeping.{Keeping, no_line, the_line}
@@ -48,6 +48,7 @@ command_loaded a to (Has q row) h b f = let e = h.0 in absurd (cc (e))
 command_loaded a to (Watch q) h b f = let e = h.0 in absurd (cc (e))
 command_loaded a to (Unwatch q) h b f = let e = h.0 in absurd (cc (e))
 command_loaded a to (Explain q) h b f = let e = h.0 in absurd (cc (e))
+command_loaded a to (Shape q) h b f = let e = h.0 in absurd (cc (e))
 command_loaded a to Quit h b f = let e = h.0 in absurd (cc (e))
 command_loaded a to Stop h b f = let e = h.0 in absurd (cc (e))
 

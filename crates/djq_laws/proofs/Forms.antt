@@ -65,6 +65,7 @@ use Rattle.djq_lines.specs.declared.command.Command.TheVariants.{
   Watch,
   Unwatch,
   Explain,
+  Shape,
   Quit,
   Stop,
 }
@@ -75,6 +76,7 @@ use Rattle.djq_lines.specs.Reply.{
   ok_reply,
   query_reply,
   has_reply,
+  shape_reply,
   watch_reply,
   stale_line,
   text_of,
@@ -464,6 +466,7 @@ command_does old s x (Has q row) e new h = (
   is_whole h.state,
 )
 command_does old s x (Explain q) e new h = explain_does old s (query_of old.store.queries q) e new h
+command_does old s x (Shape q) e new h = (says_alone s (shape_reply h.result) e h.effect, is_whole h.state)
 command_does old s x Quit e new h = (
   says_alone s bye e h.0,
   record { cause = SaidQuit; may = tt; stopped = old.stopped; state = h.1 },

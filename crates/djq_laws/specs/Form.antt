@@ -37,6 +37,7 @@ use Rattle.djq_lines.specs.declared.command.Command.TheVariants.{
   Watch,
   Unwatch,
   Explain,
+  Shape,
   Quit,
   Stop,
 }
@@ -98,6 +99,7 @@ form_of (Watch q) = turning (starts_watching q)
 form_of (Unwatch q) = turning (stops_watching q)
 form_of (Has q row) = asking
 form_of (Explain q) = asking
+form_of (Shape q) = asking
 form_of Quit = ending
 form_of Stop = ending
 

@@ -47,12 +47,12 @@ pub enum DeleteOutcome {
     Absent,
 }
 
-/// How what an update costs grows with the rows, as a query alone tells.
+/// What bounds an update of a query, as the query alone tells.
 #[derive(Clone, Copy, Debug, PartialEq, Eq)]
 pub enum Shape {
-    /// It has a bound that knows no rows.
+    /// A bound that knows no rows.
     Flat,
-    /// No such bound is promised: the bound grows in proportion to the rows.
+    /// One in proportion to the rows, and none that knows no rows is promised.
     Linear,
 }
 

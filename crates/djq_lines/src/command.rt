@@ -75,7 +75,7 @@ pub enum Command {
         /// The query.
         query: Name,
     },
-    /// `shape QUERY`: whether what an update costs stays constant as rows come.
+    /// `shape QUERY`: whether an update's cost has a bound that knows no rows.
     Shape {
         /// The query.
         query: Name,

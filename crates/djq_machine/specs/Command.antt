@@ -41,6 +41,7 @@ use Rattle.djq_lines.specs.declared.answer.Refusal.TheVariants.{Taken, NoQuery, 
 use Rattle.djq_lines.specs.declared.rest.QueryOutcome.{QueryOutcome}
 use Rattle.djq_lines.specs.declared.answer.AddOutcome.{AddOutcome}
 use Rattle.djq_lines.specs.declared.answer.DeleteOutcome.{DeleteOutcome}
+use Rattle.djq_lines.specs.declared.answer.Shape.{Shape}
 use Rattle.djq_lines.specs.declared.answer.EndCause.TheVariants.{
   Quit as SaidQuit,
   Stop as SaidStop,
@@ -60,6 +61,7 @@ use Rattle.djq_lines.specs.declared.command.Command.TheVariants.{
   Watch,
   Unwatch,
   Explain,
+  Shape as AskShape,
   Quit,
   Stop,
 }
@@ -75,6 +77,7 @@ use Rattle.djq_lines.specs.Reply.{
   delete_reply,
   query_reply,
   has_reply,
+  shape_reply,
   watch_reply,
   bye,
   end_memory,
@@ -106,6 +109,7 @@ use Rattle.djq_machine.specs.Store.{
   DropsQuery,
   TellsWhether,
   has_steps,
+  TellsShape,
   TellsAnswers,
   IsLeft,
   most_steps,
@@ -320,6 +324,13 @@ pub record ExplainStep (old : State) (s : ℕ) (q : Query) (e : Effect) (new : S
   pub named : IsTreeOf (edges_of q) (head_of q) tree
   pub tells : TellsLines old s (explain_lines q tree) e new
 
+-- `shape`: whether what an update costs stays constant as rows come.
+pub record ShapeStep (old : State) (s : ℕ) (q : Bytes) (e : Effect) (new : State) : Type 0 where
+  pub result : Result Shape Refusal
+  pub tells : TellsShape old.store q result
+  pub effect : e ≡ says s (shape_reply result)
+  pub state : new ≡ old
+
 -- A command of a session is done, or refused by the first condition that holds.
 abbrev pub CommandStep : State → ℕ → Session → Command → Effect → State → Type 0
 CommandStep old s x (Rel name types) e new = RelStep old s (λ st. MakesRelation st name types) e new
@@ -343,3 +354,4 @@ CommandStep old s x (Unwatch q) e new = UnwatchStep old s q e new
 CommandStep old s x (Explain q) e new = MatchOption (query_of old.store.queries q)
     (RefusedStep old s NoQuery e new)
     (λ k. ExplainStep old s k e new)
+CommandStep old s x (AskShape q) e new = ShapeStep old s q e new

@@ -72,6 +72,8 @@ use Rattle.djq_lines.specs.declared.answer.AddOutcome.{AddOutcome}
 use Rattle.djq_lines.specs.declared.answer.AddOutcome.TheVariants.{Added, Same}
 use Rattle.djq_lines.specs.declared.answer.DeleteOutcome.{DeleteOutcome}
 use Rattle.djq_lines.specs.declared.answer.DeleteOutcome.TheVariants.{Removed, Absent}
+use Rattle.djq_lines.specs.declared.answer.Shape.{Shape}
+use Rattle.djq_lines.specs.declared.answer.Shape.TheVariants.{Flat, Linear}
 use Rattle.djq_lines.specs.declared.rest.QueryOutcome.{QueryOutcome}
 use Rattle.djq_lines.specs.declared.rest.QueryOutcome.TheVariants.{Registered, Cyclic, NotConnex}
 pub use Rattle.djq_lines.specs.Columns.{types_of}
@@ -81,6 +83,7 @@ use Rattle.djq_lines.specs.Rest.{IsNamedRest}
 use Rattle.djq_lines.specs.QueryFault.{whole_query_refusal}
 pub use Rattle.djq_hyper.specs.JoinTree.{IsFreeConnex}
 use Rattle.djq_hyper.specs.Refusing.{IsCyclic, IsNotConnex}
+use Rattle.djq_hyper.specs.Flat.{IsFlat}
 use Rattle.djq_machine.specs.State.{Store}
 use Rattle.djq_machine.specs.Conditions.{first_of, Answers, OutOfMemoryWhere}
 
@@ -308,6 +311,19 @@ pub record TellsWhether (st : Store) (name : Bytes) (t : Tuple)
 abbrev pub has_steps : Option Query → ℕ
 has_steps None = 0
 has_steps (Some q) = length q.atoms
+
+-- `shape`
+
+-- What is told of a query's updates: that they are flat, exactly where the query is.
+abbrev pub IsShapeOf : Query → Shape → Type 0
+IsShapeOf q Flat = IsFlat (edges_of q) (head_of q)
+IsShapeOf q Linear = IsFlat (edges_of q) (head_of q) → ⊥
+
+-- The shape of a registered query is told. It takes no memory.
+pub record TellsShape (st : Store) (name : Bytes) (result : Result Shape Refusal) : Type 0 where
+  pub answer : Answers (first_of ((is_none (query_of st.queries name), NoQuery) ∷ [])) result
+      (λ shape. IsSomeAnd (query_of st.queries name) (λ q. IsShapeOf q shape))
+      (OutOfMemoryWhere ⊥)
 
 -- `next`
 

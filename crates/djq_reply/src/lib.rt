@@ -31,8 +31,8 @@ pub use ending::{end_bytes, say_cut, say_end};
 pub use growing::{put_answer, put_at, put_change, put_explained, put_last};
 pub use registered::put_registered;
 pub use short::{
-    say_added, say_bye, say_deleted, say_done, say_has, say_opened, say_refused, say_stale,
-    say_watched,
+    say_added, say_bye, say_deleted, say_done, say_has, say_opened, say_refused, say_shape,
+    say_stale, say_watched,
 };
 
 mod ending;
