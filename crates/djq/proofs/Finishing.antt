@@ -15,7 +15,7 @@ listed relations None given h = absurd h
 listed relations (Some q) given h = h.listing refl
 
 pub finished_cursors : FinishedCursors
-finished_cursors status before now serves mid passed x is_session c is_cursor given e =
+finished_cursors start status before now serves mid passed x is_session c is_cursor given e =
     let st = mid.store in
     let of_session = All-contains (λ (y : Session). All (λ (k : Cursor). PositionGives st.relations (query_of st.queries k.query) k.position) y.cursors) mid.sessions x ((serves.headline).cursors mid passed) is_session in
     let of_cursor = All-contains (λ (k : Cursor). PositionGives st.relations (query_of st.queries k.query) k.position) x.cursors c of_session is_cursor in

@@ -39,7 +39,7 @@ use Rattle.djq_core.specs.declared.change.Outcome.TheVariants.{Added, Deleted}
 use Rattle.djq_core.specs.Views.{Talk, session_in, open_in, state_in}
 use Rattle.djq_core.specs.Sound.{ids_of, all_ids, AreHeld, IsSound, is_among_watches, times_in, watchers_in}
 use Rattle.djq_core.specs.Performs.{among}
-use Rattle.djq_core.specs.Changing.{Changed, Adds, Deletes, IsChange, LeavesChange, is_accepted, reply_of}
+use Rattle.djq_core.specs.Changing.{Changed, Adds, Deletes, IsChange, LeavesChange, is_accepted, reply_of, is_kept}
 use Rattle.djq_core.specs.Telling.{AreAffected, TellsAll}
 use Rattle.djq_core.proofs.Ids.{agree_same, agree_held, agree_open, outdated_find, outdated_all_held, outdated_open}
 use Rattle.djq_core.proofs.Around.{Around, parts, whole, becomes, looks}
@@ -218,27 +218,42 @@ delete_made change (Ok Absent) = refl
 delete_made change (Err r) = refl
 
 -- What a command on a row does, once its line was taken.
-pub record Composed (old : Kept) (stopped : Bool) (xs : List OpenSession) (s : ℕ) (y : Session) (command : Command) (new : Kept) (ys : List OpenSession) (was now : ℕ) : Type 0 where
+pub record Composed (old : Kept) (stopped : Bool) (xs : List OpenSession) (s : ℕ) (y : Session) (command : Command) (kept : Bool) (new : Kept) (ys : List OpenSession) (was now : ℕ) : Type 0 where
   pub effect : Effect
   pub last : State
   pub does : CommandStep (state_in old stopped xs) s y command effect last
   pub queued : queue_all last effect.queued ≡ state_in new stopped ys
   pub counted : now ≤ was + effect.cost
+  pub keeps : effect.kept ≡ kept_where kept
 
 composed : (old mid new : Kept) (stopped : Bool) (xs ys : List OpenSession) (s : ℕ) (y : Session) (change : Change) (was now : ℕ) → IsSound old xs → (command : Command) → IsChange command old change mid was now
-    → TellsAll (is_accepted change.outcome) (reply_of change.outcome (mid.store).seq) mid s xs new ys → Composed old stopped xs s y command new ys was now
+    → TellsAll (is_accepted change.outcome) (reply_of change.outcome (mid.store).seq) mid s xs new ys → Composed old stopped xs s y command (is_kept change.outcome) new ys was now
 composed old mid new stopped xs ys s y change was now sound (Add name row) a t =
     let change = row_in (old.store).relations name row in
     let told = subst (λ (c : Change). TellsAll (is_accepted c.outcome) (reply_of c.outcome (mid.store).seq) mid s xs new ys) a.is t in
     let r = change_step old mid new stopped xs ys s (add_outcome change a.result) (add_reply a.result (mid.store).seq) (kept_where (is_done a.result)) was now a.changed sound
     (subst (λ (b : Bool). TellsAll b (add_reply a.result (mid.store).seq) mid s xs new ys) (add_made change a.result) told) in
-    record { effect = r.0; last = r.1; does = record { result = a.result; store = mid.store; done = a.done; change = r.2.0; kept = r.2.1 }; queued = r.3; counted = r.4 }
+    record {
+      effect = r.0;
+      last = r.1;
+      does = record { result = a.result; store = mid.store; done = a.done; change = r.2.0; kept = r.2.1 };
+      queued = r.3;
+      counted = r.4;
+      keeps = r.2.1 ∙ ap (λ (c : Change). kept_where (is_kept c.outcome)) (sym a.is);
+    }
 composed old mid new stopped xs ys s y change was now sound (Del name row) a t =
     let change = row_out (old.store).relations name row in
     let told = subst (λ (c : Change). TellsAll (is_accepted c.outcome) (reply_of c.outcome (mid.store).seq) mid s xs new ys) a.is t in
     let r = change_step old mid new stopped xs ys s (delete_outcome change a.result) (delete_reply a.result (mid.store).seq) (kept_where (is_removal a.result)) was now a.changed sound
     (subst (λ (b : Bool). TellsAll b (delete_reply a.result (mid.store).seq) mid s xs new ys) (delete_made change a.result) told) in
-    record { effect = r.0; last = r.1; does = record { result = a.result; store = mid.store; done = a.done; change = r.2.0; kept = r.2.1 }; queued = r.3; counted = r.4 }
+    record {
+      effect = r.0;
+      last = r.1;
+      does = record { result = a.result; store = mid.store; done = a.done; change = r.2.0; kept = r.2.1 };
+      queued = r.3;
+      counted = r.4;
+      keeps = r.2.1 ∙ ap (λ (c : Change). kept_where (is_kept c.outcome)) (sym a.is);
+    }
 composed old mid new stopped xs ys s y change was now sound (Rel name types) a t = absurd a
 composed old mid new stopped xs ys s y change was now sound (Register q) a t = absurd a
 composed old mid new stopped xs ys s y change was now sound (Drop q) a t = absurd a
@@ -257,7 +272,7 @@ composed old mid new stopped xs ys s y change was now sound Stop a t = absurd a
 pub change_gives : (change : Change) (old mid new : Kept) (before after : Talk) (front : List OpenSession) (s : ℕ) (back ys : List OpenSession) (stopped : Bool) (was now : Counts)
     → LeavesChange change old before mid after was.listing now.listing → IsSound old (among front s before back)
     → TellsAll (is_accepted change.outcome) (reply_of change.outcome (mid.store).seq) mid s (among front s after back) new ys
-    → StepGives (state_in old stopped (among front s before back)) s Ran (state_in new stopped ys) was now
+    → StepGives (state_in old stopped (among front s before back)) s (Ran (is_kept change.outcome)) (state_in new stopped ys) was now
 change_gives change old mid new before after front s back ys stopped was now c sound t =
     let st = state_in old stopped (among front s before back) in
     let x = session_in old.cursors s before in
@@ -269,17 +284,20 @@ change_gives change old mid new before after front s back ys stopped was now c s
     let read : ReadStep (with_session st s (behind_line c.rest)) s (behind_line c.rest x) c.line (reading_of c.line) r.effect r.last
     = subst (λ (g : Reading). ReadStep (with_session st s (behind_line c.rest)) s (behind_line c.rest x) c.line g r.effect r.last) (sym c.reads)
     (true, subst (λ (w : State). CommandStep w s (behind_line c.rest x) c.command r.effect r.last) moved r.does) in (
-      c.line,
-      inr (record {
-        effect = r.effect;
-        step = record {
-          mid = r.last;
-          acts = at_session old stopped front s before back (λ z. (z.cause ≡ None) × FrontStep st s z (run c.line) r.effect r.last) sound
-              (c.running, (c.said, c.few, record { rest = c.rest; front = c.front; then = read }));
-          relations = ((r.last).store).relations;
-          reordered = same_relations ((r.last).store).relations;
-          queued = sym r.queued;
-        };
-        listing = r.counted;
-      }),
+      (
+        c.line,
+        inr (record {
+          effect = r.effect;
+          step = record {
+            mid = r.last;
+            acts = at_session old stopped front s before back (λ z. (z.cause ≡ None) × FrontStep st s z (run c.line) r.effect r.last) sound
+                (c.running, (c.said, c.few, record { rest = c.rest; front = c.front; then = read }));
+            relations = ((r.last).store).relations;
+            reordered = same_relations ((r.last).store).relations;
+            queued = sym r.queued;
+          };
+          listing = r.counted;
+        }),
+      ),
+      r.keeps,
     )

@@ -24,7 +24,7 @@ use Rattle.djq_core.specs.declared.open.OpenSession.{OpenSession}
 use Rattle.djq_core.specs.Views.{Talk, session_in, state_in}
 use Rattle.djq_core.specs.Sound.{ids_of, all_ids, AreHeld, AreApart, HasCount, StaysCounted, IsOwn, IsSound, IsReady}
 use Rattle.djq_core.specs.Ends.{GivesUp, CutsOff}
-use Rattle.djq_core.specs.Performs.{among, to_one, to_keep, behind, unqueued, Performs, Executes}
+use Rattle.djq_core.specs.Performs.{among, to_one, to_keep, behind, unqueued, Performs, Executes, ExecutesKeeping}
 use Rattle.djq_core.proofs.Ids.{agree_same, agree_held, agree_open}
 use Rattle.djq_core.proofs.Around.{parts, whole}
 use Rattle.djq_core.proofs.GivingUp.{ends_among}
@@ -81,15 +81,18 @@ own_still old mid before between same stays roomy own =
 -- the reply to `query` is cut
 pub does_query_cut : (old mid new : Kept) (before between after : Talk) (q : Query) (result : Result QueryOutcome Refusal) (was now : ℕ)
     → now ≡ was → IsReady old before → RegistersQuery old.store q result mid.store → SameCursors old.cursors mid.cursors → StaysCounted old.registered before.watches mid.registered before.watches → Lacks before between (query_reply result) → CutsOff mid between new after
-    → Executes (Register q) false old before new after was now
+    → ExecutesKeeping (Register q) (is_registration result) false old before new after was now
 does_query_cut old mid new before between after q result was now counted ready registers same stays lacks cut =
-    cut_off_after _ old mid new before between after was now (kept_where (is_registration result)) same stays lacks.same cut counted (λ st s x e. inr (record {
-      result = result;
-      store = mid.store;
-      done = subst (λ store. RegistersQuery store q result mid.store) (sym e) registers;
-      above = omega (arith, ready.room, lacks.lacks);
-      ends = (refl, refl);
-    }))
+    cut_off_after _ old mid new before between after was now (kept_where (is_registration result)) same stays lacks.same cut counted (λ st s x e. (
+      inr (record {
+        result = result;
+        store = mid.store;
+        done = subst (λ store. RegistersQuery store q result mid.store) (sym e) registers;
+        above = omega (arith, ready.room, lacks.lacks);
+        ends = (refl, refl);
+      }),
+      refl,
+    ))
 
 -- `explain`, where the query is there
 explain_at : (o : Option Query) (k : Query) (st st' : State) (s : ℕ) (e : Effect) → o ≡ Some k → ExplainStep st s k e st' → MatchOption o (RefusedStep st s NoQuery e st') (λ q. ExplainStep st s q e st')

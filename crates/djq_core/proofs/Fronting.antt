@@ -18,7 +18,7 @@ use Rattle.djq_engine.specs.Kept.{Kept}
 use Rattle.djq_core.specs.Views.{Talk, state_in}
 use Rattle.djq_core.specs.Sound.{IsSound}
 use Rattle.djq_core.specs.Performs.{among, unqueued, Performs}
-use Rattle.djq_core.specs.Stepping.{Fronts, EndsBefore, Unchanged, StepsTo}
+use Rattle.djq_core.specs.Stepping.{Fronts, FrontsKeeping, EndsBefore, Unchanged, StepsTo}
 use Rattle.djq_core.proofs.Around.{parts, becomes}
 use Rattle.djq_core.proofs.Taking.{taking, with_room, sound_bytes}
 
@@ -55,19 +55,22 @@ is_unheard old new before kept mid after l rest was f r e said few p =
     (λ st st' s x eff h q t. (said, subst (λ (bs : Bytes). length bs ≤ PENDING_BYTES) (sym (q ∙ ap (λ (d : Talk). d.pending) r)) few, t)) (uncounted _ old mid new after was p))
 
 -- a blank line
-pub is_dropped : (k : Kept) (before after : Talk) (l rest : Bytes) (was : ℕ) → front_of before.held ≡ a_line l rest → after ≡ record before { held = rest } → is_blank l ≡ true → Fronts (blank l) false k before k after was was
+pub is_dropped : (k : Kept) (before after : Talk) (l rest : Bytes) (was : ℕ) → front_of before.held ≡ a_line l rest → after ≡ record before { held = rest } → is_blank l ≡ true → FrontsKeeping (blank l) false false k before k after was was
 is_dropped k before after l rest was f e said = record {
   text = None;
   cost = 0;
   kept = no_line;
   pending = ap (λ (d : Talk). d.pending) e;
   does = λ front back s stopped sound. (
-    said,
-    record {
-      rest = rest;
-      front = f;
-      then = (refl, ap (λ (d : Talk). state_in k stopped (among front s (unqueued before d) back)) e ∙ becomes k stopped front s before (record before { held = rest }) back (behind_line rest) (parts k front s before back sound) refl);
-    },
+    (
+      said,
+      record {
+        rest = rest;
+        front = f;
+        then = (refl, ap (λ (d : Talk). state_in k stopped (among front s (unqueued before d) back)) e ∙ becomes k stopped front s before (record before { held = rest }) back (behind_line rest) (parts k front s before back sound) refl);
+      },
+    ),
+    refl,
   );
   sound = λ front back s sound. subst (λ (d : Talk). IsSound k (among front s d back)) (sym e) (sound_bytes k front s before rest before.pending before.room back sound);
   counted = omega arith;
@@ -75,11 +78,11 @@ is_dropped k before after l rest was f e said = record {
 
 -- What a step answers.
 
-pub ran_blank : (k : Kept) (before after : Talk) (l : Bytes) (was : Counts) → before.cause ≡ None → Fronts (blank l) false k before k after was.listing was.listing → StepsTo Ran false k before k after was was
+pub ran_blank : (k : Kept) (before after : Talk) (l : Bytes) (was : Counts) → before.cause ≡ None → FrontsKeeping (blank l) false false k before k after was.listing was.listing → StepsTo (Ran false) false k before k after was was
 ran_blank k before after l was c f = (c, (l, inl f))
 
-pub ran_line : (stops : Bool) (old : Kept) (before : Talk) (new : Kept) (after : Talk) (l : Bytes) (was now : Counts) → before.cause ≡ None → Fronts (run l) stops old before new after was.listing now.listing → StepsTo Ran stops old before new after was now
-ran_line stops old before new after l was now c f = (c, (l, inr f))
+pub ran_line : (kept stops : Bool) (old : Kept) (before : Talk) (new : Kept) (after : Talk) (l : Bytes) (was now : Counts) → before.cause ≡ None → FrontsKeeping (run l) kept stops old before new after was.listing now.listing → StepsTo (Ran kept) stops old before new after was now
+ran_line kept stops old before new after l was now c f = (c, (l, inr f))
 
 pub ended_before : (cause : EndCause) (old : Kept) (before : Talk) (new : Kept) (after : Talk) (was : Counts) → before.cause ≡ None → EndsBefore cause false old before new after was was → StepsTo (Ended cause) false old before new after was was
 ended_before cause old before new after was c f = subst (λ (o : Option EndCause). MatchOption o (EndsBefore cause false old before new after was was) (λ d. (d ≡ cause) × Unchanged false old before new after was was)) (sym c) f

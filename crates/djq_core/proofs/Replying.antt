@@ -1,6 +1,6 @@
 -- Commands that leave the session's cursors as they are.
 use Rattle.std.proofs.Common.{ℕ, zero, suc, ◌+◌, ◌<◌, ◌≤◌, ◌≡◌, ◌++◌, Bool, true, false, List, [], ◌∷◌, map, Option, None, Some, Result, Ok, Err, codes, refl, sym, ap, ◌∙◌, subst, arith, ◌||◌, ◌⊎◌, inl, inr, ap₂, option_map}
-use Rattle.std.specs.Prelude.{⊤, ◌==◌, if◌then◌else◌, find, IsSome, IsSomeAnd, IfSome, is_none, nat_lt}
+use Rattle.std.specs.Prelude.{⊤, ◌==◌, if◌then◌else◌, find, IsSome, IsSomeAnd, IfSome, is_none, is_ok, nat_lt}
 use Rattle.djq_model.specs.Data.{Bytes, Tuple, query_of, bytes_eq, drop_first}
 use Rattle.std.specs.List.{list_any}
 use Rattle.std.proofs.lemmas.Bool.{ltb-true, lt-ltb}
@@ -29,7 +29,7 @@ use Rattle.djq_engine.specs.Kept.{Kept, Held, held_at, SameCursors, same_id, Use
 use Rattle.djq_core.specs.declared.open.OpenSession.{OpenSession}
 use Rattle.djq_core.specs.Views.{Talk, session_in, open_in, state_in, query_in, cursor_in}
 use Rattle.djq_core.specs.Sound.{ids_of, all_ids, AreHeld, AreCounted, StaysCounted, IsSound, is_among, watchers_in, times_in, is_among_watches}
-use Rattle.djq_core.specs.Performs.{among, to_one, to_keep, unqueued, Performs, Executes}
+use Rattle.djq_core.specs.Performs.{among, to_one, to_keep, unqueued, Performs, Executes, ExecutesKeeping}
 use Rattle.djq_core.proofs.Ids.{agree_same, agree_held, agree_open, owned_still, among_either, held_split, same_id_same, or_true}
 use Rattle.djq_core.proofs.Around.{Around, parts, whole, open_are, found}
 use Rattle.djq_core.proofs.Watching.{recount, stays_same, counted_same, none_watching, unwatched, found_there, same_name, stays_dropped}
@@ -131,30 +131,41 @@ pub refused : (M : State → ℕ → Session → Effect → State → Type 0) (k
     → Replies before after text → ((st : State) (s : ℕ) (x : Session) → st.store ≡ k.store → x ≡ session_in k.cursors s before → M st s x (to_one s (Some text) 0) st) → Performs M false k before k after 0 0
 refused M k before after text r does = replied M k k before after text r (λ id. refl) (stays_same k.registered k.registered before.watches before.watches refl refl) (λ st s x e f. subst (λ (st' : State). M st s x (to_one s (Some text) 0) st') (ap (λ store. record st { store = store }) e) (does st s x e f))
 
+-- what is done is answered by no refusal
+pub ok_done : {A : Type 0} (r : Result A Refusal) → is_ok r ≡ is_done r
+ok_done (Ok a) = refl
+ok_done (Err e) = refl
+
 pub does_rel : (old new : Kept) (before after : Talk) (name : Bytes) (types : List ColumnType) (result : Result ⊤ Refusal)
     → MakesRelation old.store name types result new.store → SameCursors old.cursors new.cursors → new.registered ≡ old.registered → Replies before after (ok_reply (codes "ok") result)
-    → Executes (Rel name types) false old before new after 0 0
+    → ExecutesKeeping (Rel name types) (is_done result) false old before new after 0 0
 does_rel old new before after name types result makes same still r =
     replied_costing _ old new before after (ok_reply (codes "ok") result) 0 0 0 (kept_where (is_done result)) r same
-    (stays_same old.registered new.registered before.watches before.watches still refl) (omega arith) (λ st s x e f. record {
-      result = result;
-      store = new.store;
-      done = subst (λ store. MakesRelation store name types result new.store) (sym e) makes;
-      effect = refl;
-      state = refl;
-    })
+    (stays_same old.registered new.registered before.watches before.watches still refl) (omega arith) (λ st s x e f. (
+      record {
+        result = result;
+        store = new.store;
+        done = subst (λ store. MakesRelation store name types result new.store) (sym e) makes;
+        effect = refl;
+        state = refl;
+      },
+      refl,
+    ))
 
 pub does_query : (old new : Kept) (before after : Talk) (q : Query) (result : Result QueryOutcome Refusal) (was now : ℕ)
     → now ≡ was → RegistersQuery old.store q result new.store → SameCursors old.cursors new.cursors → StaysCounted old.registered before.watches new.registered before.watches → Replies before after (query_reply result)
-    → Executes (Register q) false old before new after was now
+    → ExecutesKeeping (Register q) (is_registration result) false old before new after was now
 does_query old new before after q result was now counted registers same stays r =
-    replied_costing _ old new before after (query_reply result) 0 was now (kept_where (is_registration result)) r same stays (omega (arith, counted)) (λ st s x e f. inl (record {
-      result = result;
-      store = new.store;
-      done = subst (λ store. RegistersQuery store q result new.store) (sym e) registers;
-      effect = refl;
-      state = refl;
-    }))
+    replied_costing _ old new before after (query_reply result) 0 was now (kept_where (is_registration result)) r same stays (omega (arith, counted)) (λ st s x e f. (
+      inl (record {
+        result = result;
+        store = new.store;
+        done = subst (λ store. RegistersQuery store q result new.store) (sym e) registers;
+        effect = refl;
+        state = refl;
+      }),
+      refl,
+    ))
 
 pub does_has : (k : Kept) (before after : Talk) (q : Bytes) (t : Tuple) (result : Result Bool Refusal) (was now : ℕ)
     → TellsWhether k.store q t result → now ≤ was + has_steps (query_of k.store.queries q) → Replies before after (has_reply result)
@@ -299,12 +310,15 @@ drop_stays old new before q (Ok d) g =
 drop_stays old new before q (Err e) g = stays_same old.registered new.registered before.watches before.watches g.registered refl
 
 pub does_drop : (old new : Kept) (before after : Talk) (q : Bytes) (result : Result ⊤ Refusal)
-    → DropGives old q result new → Replies before after (ok_reply (codes "ok") result) → Executes (Drop q) false old before new after 0 0
+    → DropGives old q result new → Replies before after (ok_reply (codes "ok") result) → ExecutesKeeping (Drop q) (is_done result) false old before new after 0 0
 does_drop old new before after q result d r =
-    replied_among _ old new before after (ok_reply (codes "ok") result) 0 0 0 (kept_where (is_done result)) r d.cursors (drop_stays old new before q result d) (omega arith) (λ front back s stopped sound. record {
-      result = result;
-      store = new.store;
-      done = subst (λ (used : Bool). DropsQuery old.store used q result new.store) (use_is old q d.used (among front s before back) sound d.is_used) d.store;
-      effect = refl;
-      state = refl;
-    })
+    replied_among _ old new before after (ok_reply (codes "ok") result) 0 0 0 (kept_where (is_done result)) r d.cursors (drop_stays old new before q result d) (omega arith) (λ front back s stopped sound. (
+      record {
+        result = result;
+        store = new.store;
+        done = subst (λ (used : Bool). DropsQuery old.store used q result new.store) (use_is old q d.used (among front s before back) sound d.is_used) d.store;
+        effect = refl;
+        state = refl;
+      },
+      refl,
+    ))

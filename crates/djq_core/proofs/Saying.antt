@@ -18,6 +18,7 @@ use Rattle.djq_lines.specs.Grammar.{outside, past_limit, says, reading_in, readi
 use Rattle.djq_proto.specs.declared.refusal.LineRefusal.{LineRefusal}
 use Rattle.djq_proto.specs.declared.refusal.LineRefusal.TheVariants.{Syntax as Outside, Range, NoMem}
 use Rattle.djq_proto.specs.Reading.{Gives, Reads}
+use Rattle.djq_machine.specs.Keeping.{kept_where}
 use Rattle.djq_machine.specs.LineStep.{ReadStep}
 use Rattle.djq_session.specs.Dialog.{Replies}
 use Rattle.djq_engine.specs.Kept.{Kept}
@@ -52,7 +53,7 @@ in_memory (Some a) g = (a, read_by (is_in_range a) a g.0, g.1)
 
 -- a line that gives no command
 pub reads_err : (k : Kept) (before after : Talk) (line : Bytes) (r : LineRefusal) (was : ℕ) → Reads line (Err r) → Replies before after (refusal_line (refused_as r))
-    → Performs (λ st s x e st'. ReadStep st s x line (reading_of line) e st') false k before k after was was
+    → Performs (λ st s x e st'. ReadStep st s x line (reading_of line) e st' × (e.kept ≡ kept_where false)) false k before k after was was
 reads_err k before after line Outside was g reply = reads_refused k before after line outside Syntax was (in_outside (command_of line) g) (λ st s x e st' h. h) reply
 reads_err k before after line Range was g reply =
     let past = in_range_past (command_of line) g in reads_refused k before after line (past_limit past.0) WrongType was past.1 (λ st s x e st' h. h) reply

@@ -18,14 +18,14 @@ use Rattle.djq_core.specs.declared.change.Left.TheVariants.{Telling}
 use Rattle.djq_core.specs.Views.{Talk}
 use Rattle.djq_core.specs.Sound.{IsSound}
 use Rattle.djq_core.specs.Performs.{among}
-use Rattle.djq_core.specs.Changing.{Changed, IsChange, LeavesChange, is_accepted}
+use Rattle.djq_core.specs.Changing.{Changed, IsChange, LeavesChange, is_accepted, is_kept}
 use Rattle.djq_core.specs.Stepping.{LeavesTo}
 use Rattle.djq_core.proofs.Composing.{sound_changed, add_made, delete_made, readers_by, affected_logs}
 
 -- Only a line that was run leaves one.
 pub telling_ran : (stepped : Stepped) (change : Change) (old : Kept) (before : Talk) (new : Kept) (after : Talk) (was now : Counts)
-    → LeavesTo stepped (Telling change) old before new after was now → (stepped ≡ Ran) × LeavesChange change old before new after was.listing now.listing
-telling_ran Ran change old before new after was now l = (refl, l)
+    → LeavesTo stepped (Telling change) old before new after was now → (stepped ≡ Ran (is_kept change.outcome)) × LeavesChange change old before new after was.listing now.listing
+telling_ran (Ran kept) change old before new after was now l = (ap (λ (b : Bool). Ran b) l.0, l.1)
 telling_ran Dry change old before new after was now l = absurd l
 telling_ran (Ended c) change old before new after was now l = absurd l
 

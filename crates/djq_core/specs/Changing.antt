@@ -13,6 +13,7 @@ use Rattle.djq_lines.specs.declared.command.Command.TheVariants.{Add, Del}
 use Rattle.djq_lines.specs.Line.{a_line, front_of, is_blank}
 use Rattle.djq_lines.specs.Grammar.{says, reading_of}
 use Rattle.djq_lines.specs.Reply.{add_reply, delete_reply}
+use Rattle.djq_machine.specs.Keeping.{is_done, is_removal}
 use Rattle.djq_machine.specs.Store.{AddsRow, DeletesRow}
 use Rattle.djq_machine.specs.Changes.{RowsOutcome, row_in, row_out, add_outcome, delete_outcome, tried}
 use Rattle.djq_engine.specs.Kept.{Kept, Outdates, same_query}
@@ -30,6 +31,11 @@ is_accepted (Added (Err r)) = false
 is_accepted (Deleted (Ok Removed)) = true
 is_accepted (Deleted (Ok Absent)) = false
 is_accepted (Deleted (Err r)) = false
+
+-- whether its line is kept
+abbrev pub is_kept : Outcome → Bool
+is_kept (Added result) = is_done result
+is_kept (Deleted result) = is_removal result
 
 -- its reply, at a number of changes
 abbrev pub reply_of : Outcome → ℕ → Bytes

@@ -3,7 +3,7 @@ use Rattle.std.specs.Prelude.{ℕ, List, [], ◌∷◌, ◌≡◌, ◌+◌, ◌+
 use Rattle.djq_model.specs.Data.{Bytes}
 use Rattle.djq_lines.specs.declared.command.Command.{Command}
 use Rattle.djq_machine.specs.State.{Session, State}
-use Rattle.djq_machine.specs.Keeping.{Keeping, no_line}
+use Rattle.djq_machine.specs.Keeping.{Keeping, no_line, kept_where}
 use Rattle.djq_machine.specs.Effect.{Effect}
 use Rattle.djq_machine.specs.Command.{CommandStep}
 use Rattle.djq_engine.specs.Kept.{Kept}
@@ -49,6 +49,11 @@ pub record Performs (Machine : State → ℕ → Session → Effect → State �
       (state_in new (stops || stopped) (among front s (unqueued before after) back))
   pub sound : (front back : List OpenSession) (s : ℕ) → IsSound old (among front s before back) → IsSound new (among front s after back)
   pub counted : now ≤ was + cost
+
+-- A command is done, and its line is kept where this holds.
+abbrev pub ExecutesKeeping : Command → Bool → Bool → Kept → Talk → Kept → Talk → ℕ → ℕ → Type 0
+ExecutesKeeping command kept stops old before new after was now =
+    Performs (λ st s x e st'. CommandStep st s x command e st' × (e.kept ≡ kept_where kept)) stops old before new after was now
 
 -- A command is done.
 abbrev pub Executes : Command → Bool → Kept → Talk → Kept → Talk → ℕ → ℕ → Type 0
