@@ -42,7 +42,7 @@ use Rattle.djq_cursor.specs.Log.{Log}
 use Rattle.djq_engine.specs.Places.{readers_at}
 use Rattle.djq_engine.specs.Tending.{Empties, HaveLogs}
 use Rattle.djq_engine.proofs.Storing.{places_read}
-use Rattle.djq_engine.proofs.Tending.{empties_same, shown_same}
+use Rattle.djq_engine.proofs.Tending.{shown_emptied}
 use Rattle.djq_engine.proofs.Working.{counts_updates}
 use Rattle.djq_engine.proofs.rows.add_in.Goals as goal
 
@@ -167,10 +167,8 @@ returns-in-Err-NoMem-clause-tended g c =
     c.args.parts.now c.put_row.new.parts r) c.in-Err-NoMem.field-0-is c.in-Err-NoMem.ensures.err).carries
     c.put_row.ensures.rest.watchers c.put_row.ensures.rest.order (c.empty_logs.ensures.long
     ∙ c.put_row.ensures.rest.long) c.age_readers.ensures c.requires.tended
-    (shown_same c.put_row.new.parts.catalog.texts c.args.parts.now.queries.items c.put_row.new.parts.logs.items
-    c.empty_logs.new.logs.items
-    (empties_same c.as_slice.result.now c.put_row.new.parts.logs.items c.empty_logs.new.logs.items
-    c.empty_logs.ensures) c.put_row.ensures.shown)
+    (shown_emptied c.put_row.new.parts.catalog.texts c.args.parts.now.queries.items c.as_slice.result.now
+    c.put_row.new.parts.logs.items c.empty_logs.new.logs.items c.empty_logs.ensures c.put_row.ensures.shown)
 
 pub returns-in-Err-NoMem-clause-watches : goal.returns-in-Err-NoMem-clause-watches
 returns-in-Err-NoMem-clause-watches g c =
