@@ -25,7 +25,8 @@ pub(crate) fn run_rel(
     name: Name,
     types: Types,
 )
-    requires { IsReady engine.old session.old }
+    requires ready { IsReady engine.old session.old }
+    requires some { 0 < length types }
     ensures { Executes (Rel name types) false engine.old session.old engine.new session.new 0 0 }
 {
     let outcome = engine.rel(name, types);
