@@ -50,14 +50,19 @@ reaches unchanged r = false
 abbrev pub queries_affected : Kept → RowsChange → List Query
 queries_affected k change = map (λ r. r.query) (affected_of k.registered change)
 
+-- A change that was accepted affects the queries that it outdates. Else the affected are as before.
+abbrev pub Affects : RowsOutcome → Kept → Kept → Type 0
+Affects (accepted change) old new = new.affected ≡ map (λ r. r.id) (readers_of old.registered change)
+Affects (out_of_memory change) old new = new.affected ≡ old.affected
+Affects unchanged old new = new.affected ≡ old.affected
+
 -- What a change of rows, made or tried, makes known of the watched queries that it outdates.
 pub record TellsChange (old : Kept) (outcome : RowsOutcome) (new : Kept) (before now : ℕ) : Type 0
   where
     pub deltas : List Delta
     pub listed : ListsDeltas (old.store).relations (queries_affected old) (tried outcome) deltas
     pub counted : now ≤ before + deltas_steps (tried outcome) deltas
-    pub affected : IfAccepted outcome
-        (λ change. new.affected ≡ map (λ r. r.id) (readers_of old.registered change))
+    pub affected : Affects outcome old new
     pub logs : IfAccepted outcome
         (λ change. LogsTell new (affected_of old.registered change) deltas)
     -- where memory was refused, the logs of the queries that it would outdate tell of nothing

@@ -64,6 +64,8 @@ impl Engine {
         ensures store { IfOk result (λ e. e.store ≡ opening.store) }
         ensures cursors { IfOk result (λ e. e.cursors ≡ []) }
         ensures registered { IfOk result (λ e. e.registered ≡ []) }
+        ensures affected { IfOk result (λ e. e.affected ≡ []) }
+        ensures told { IfOk result (λ e. e.told ≡ []) }
     {
         match Catalog::new(alloc) {
             Ok(catalog) => Ok(Engine {
