@@ -68,8 +68,8 @@ giving_goes_on old before k d e k' id g p o =
       gone = (record { name = p.0; cursor = id } ∷ g.gone.0, g.gone.1 ∙ ap (λ (ns : List (NamedCursor CursorId)). ns ++ g.gone.0) p.1 ∙ append_assoc e.cursors (record { name = p.0; cursor = id } ∷ []) g.gone.0);
       lost = λ c a. step c (same_id id c) refl a;
       registered = o.registered ∙ g.registered;
-      affected = o.affected ∙ g.affected;
-      told = o.told ∙ g.told;
+      affected = o.tellings.affected ∙ g.affected;
+      told = o.tellings.told ∙ g.told;
     }
   where
     -- the one that is popped is gone, and so are those before it

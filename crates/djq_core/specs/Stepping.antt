@@ -4,7 +4,7 @@ use Rattle.djq_model.specs.Data.{Bytes}
 use Rattle.djq_lines.specs.declared.answer.EndCause.{EndCause}
 use Rattle.djq_lines.specs.declared.answer.EndCause.TheVariants.{Long, Slow, Memory}
 use Rattle.djq_lines.specs.declared.command.Command.{Command}
-use Rattle.djq_lines.specs.declared.command.Command.TheVariants.{Query as Register, Next}
+use Rattle.djq_lines.specs.declared.command.Command.TheVariants.{Rel, Query as Register, Next}
 use Rattle.djq_lines.specs.declared.answer.Refusal.{Refusal}
 use Rattle.djq_lines.specs.declared.answer.Refusal.TheVariants.{Syntax, WrongType, NoMemory}
 use Rattle.djq_proto.specs.declared.refusal.LineRefusal.{LineRefusal}
@@ -23,8 +23,10 @@ use Rattle.djq_core.specs.declared.change.Left.TheVariants.{Nothing, Stopping, T
 use Rattle.djq_core.specs.Performs.{Performs, ExecutesKeeping}
 use Rattle.djq_core.specs.Changing.{IsChange, LeavesChange, is_kept}
 
--- As a line says a command: its query has an atom at least, and it asks for an answer at least.
+-- As a line says a command: its relation has a column at least, its query an atom, and it asks for
+-- an answer at least.
 abbrev pub IsRunnable : Command → Type 0
+IsRunnable (Rel n cs) = 0 < length cs
 IsRunnable (Register q) = 0 < length q.atoms
 IsRunnable (Next c count) = 1 ≤ count
 IsRunnable _ = ⊤

@@ -26,7 +26,8 @@ pub(crate) fn run_rel(
     name: Name,
     types: Types,
 ) -> bool
-    requires { IsReady engine.old session.old }
+    requires ready { IsReady engine.old session.old }
+    requires some { 0 < length types }
     ensures { ExecutesKeeping (Rel name types) result false
         engine.old session.old engine.new session.new 0 0 }
 {

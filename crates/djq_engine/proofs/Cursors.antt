@@ -122,6 +122,11 @@ module _ (c : Catalog) (gs : List (Option Live)) (order : List ℕ) (readers : L
                 others = moved_others c gs order readers s id h.query m h.there same (Some t.progress) cs t.moved sets;
                 store = moved_store c gs order readers s id h.query m h.there same seq;
                 registered = moved_registered c gs order readers s id h.query m h.there same w.watchers;
+                tellings = record {
+                  affected = refl;
+                  told = told_set c.texts gs w.logs id.query.at (Some m)
+                      (λ log. ap (λ (x : Live). told_of c.texts (Some x) log) t.moved ∙ ap (λ (o : Option Live). told_of c.texts o log) (sym h.there));
+                };
               }),
         )
 
@@ -212,9 +217,11 @@ module _ (c : Catalog) (gs : List (Option Live)) (order : List ℕ) (readers : L
               others = moved_others c gs order readers s id h.query v.new h.there same None cs d.closes sets;
               store = moved_store c gs order readers s id h.query v.new h.there same seq;
               registered = moved_registered c gs order readers s id h.query v.new h.there same w.watchers;
-              affected = refl;
-              told = told_set c.texts gs w.logs id.query.at (Some v.new)
-                  (λ log. ap (λ (x : Live). told_of c.texts (Some x) log) d.closes ∙ ap (λ (o : Option Live). told_of c.texts o log) (sym h.there));
+              tellings = record {
+                affected = refl;
+                told = told_set c.texts gs w.logs id.query.at (Some v.new)
+                    (λ log. ap (λ (x : Live). told_of c.texts (Some x) log) d.closes ∙ ap (λ (o : Option Live). told_of c.texts o log) (sym h.there));
+              };
             }),
       )
 
@@ -259,6 +266,11 @@ module _ (c : Catalog) (gs : List (Option Live)) (order : List ℕ) (readers : L
               others = moved_others c gs order readers s id l v.new n.there same (Some (Open o.cursor false)) cs o.others o.sets;
               store = moved_store c gs order readers s id l v.new n.there same seq;
               registered = moved_registered c gs order readers s id l v.new n.there same w.watchers;
+              tellings = record {
+                affected = refl;
+                told = told_set c.texts gs w.logs id.query.at (Some v.new)
+                    (λ log. ap (λ (x : Live). told_of c.texts (Some x) log) o.others ∙ ap (λ (p : Option Live). told_of c.texts p log) (sym n.there));
+              };
             }),
       )
 

@@ -1,6 +1,6 @@
 -- What the machine says of a query that is to be registered, or dropped.
 use Rattle.std.proofs.Common.{ℕ, zero, suc, List, [], ◌∷◌, ◌++◌, ◌≡◌, ◌<◌, ◌≤◌, ◌⊎◌, inl, inr, Bool, true, false, refl, sym, ap, ap₂, ◌∙◌, subst, length, set, arith, append-nil}
-use Rattle.std.specs.Prelude.{Option, None, Some, is_some, is_none, IsSomeAnd, IfSome, option_map, count_by, Result, Ok, Err, position, cond, nat_le, ⊤}
+use Rattle.std.specs.Prelude.{Option, None, Some, is_some, is_none, IsSomeAnd, IfSome, option_map, count_by, Result, Ok, Err, position, cond, nat_le, slice_index_or, ⊤}
 use Rattle.std.proofs.lemmas.Bool.{eq-eqb, eqb-true, cases_lt, le-leb, lt-leb, false≢true}
 use Rattle.std.proofs.lemmas.List.{length-map, get_or-set_other}
 use Rattle.djq_model.specs.declared.relation.Relation.{Relation}
@@ -30,18 +30,19 @@ use Rattle.djq_live.specs.Live.{Live, IsLive, ShowableStays}
 use Rattle.djq_live.specs.Staying.{StaysOver, LiveStays}
 use Rattle.djq_engine.specs.declared.cursor.CursorId.{CursorId}
 use Rattle.djq_engine.specs.declared.parts.Parts.{Parts}
-use Rattle.djq_engine.specs.Kept.{Held, Registered as Enlisted, registered_of, is_watched, held_at, SameCursors, DropGives}
-use Rattle.djq_engine.specs.Places.{place_at, query_in, queries_in, store_of, kept_of, held_as, held_from, held_of, is_query, left, watched_at, registered_as, registered_in, Watches}
+use Rattle.djq_engine.specs.Kept.{Held, Registered as Enlisted, registered_of, is_watched, held_at, SameCursors, DropGives, TellsOf}
+use Rattle.djq_engine.specs.Places.{place_at, query_in, queries_in, store_of, kept_of, held_as, held_from, held_of, is_query, left, watched_at, id_at, registered_as, registered_in, told_from, Watches}
 use Rattle.djq_engine.specs.Sound.{IsSound}
 use Rattle.djq_engine.specs.Tending.{AreShown}
 use Rattle.djq_engine.proofs.Tending.{shown_more}
-use Rattle.djq_engine.specs.Placing.{LeavesAll}
+use Rattle.djq_engine.specs.Placing.{LeavesAll, SameLogs}
 use Rattle.djq_engine.specs.Registering.{Registers, SameParts}
-use Rattle.djq_engine.specs.Whole.{kept_in, IsWhole}
+use Rattle.djq_engine.specs.Whole.{kept_in, watches_in, IsWhole}
 use Rattle.djq_engine.proofs.Conditions.{answers_refused, answers_done, front_refuses, front_passes, first_false}
 use Rattle.djq_engine.proofs.Enrolling.{registered_sound, registered_cursors, registered_queries, dropped_sound, dropped_cursors, dropped_queries, by_name, all_empty, sound_same, queries_same, cursors_same}
 use Rattle.djq_engine.proofs.Enlisted.{name_found, name_unknown, delisted}
 use Rattle.djq_engine.proofs.Holding.{held_is}
+use Rattle.djq_engine.proofs.Lasting.{tells_of, told_then, told_gone, told_left, other_place}
 use Rattle.djq_engine.proofs.Naming.{Named, query_found, query_named, no_query_of, unnamed}
 use Rattle.djq_engine.proofs.Storing.{learned_rows, all_stay}
 use Rattle.djq_model.specs.Equality.{bytes_eq-decides}
@@ -128,6 +129,14 @@ mid_shown law texts old new cs result k gs logs h =
     let t = constants_learned old cs result new k in
     let m = texts old t.0 in
     shown_more law old m.0 new (t.1 ∙ m.1) gs logs h
+
+-- and so does what is told
+pub mid_told : ShowableStays → TextsStay → (old now : List Bytes) (cs : Tuple) (result : Result ⊤ InternRefusal) → InternsConstants old cs result now → (gs hs : List (Option Live)) (logs new : List Log)
+    → AreShown old gs logs → SameLogs gs logs new → (i : ℕ) → place_at hs i ≡ place_at gs i → slice_index_or (told_from now hs new) i None ≡ slice_index_or (told_from old gs logs) i None
+mid_told law texts old now cs result k gs hs logs new shown same =
+    let t = constants_learned old cs result now k in
+    let m = texts old t.0 in
+    told_then law old m.0 now (t.1 ∙ m.1) gs hs logs new shown same
 
 pub all_first : (old cs new : List Bytes) → LearnsAll old cs new → LearnsFirst old cs new
 all_first old cs new h = record { first = cs; rest = []; parts = sym (append-nil cs); learned = h.0 }
@@ -247,6 +256,7 @@ module _ (old : Parts) (s : IsWhole old) (name : Bytes) where
     };
     cursors = λ id. refl;
     registered = refl;
+    tellings = record { affected = refl; told = refl };
   }
 
   module _ (at : ℕ) (n : Named old.queries.items name at) where
@@ -269,6 +279,7 @@ module _ (old : Parts) (s : IsWhole old) (name : Bytes) where
       };
       cursors = λ id. refl;
       registered = refl;
+      tellings = record { affected = refl; told = refl };
     }
 
     enlisted_as : registered_of (kept_in old).registered name ≡ Some (registered_as old.queries.items old.watchers.items at)
@@ -284,6 +295,7 @@ module _ (old : Parts) (s : IsWhole old) (name : Bytes) where
       };
       cursors = λ id. refl;
       registered = refl;
+      tellings = record { affected = refl; told = refl };
     }
 
     unused : are_vacant n.query.cursors ≡ true → (id : CursorId) (h : Held) → held_at (kept_in old).cursors id ≡ Some h → h.query ≡ name → ⊥
@@ -294,10 +306,11 @@ module _ (old : Parts) (s : IsWhole old) (name : Bytes) where
         false≢true (sym (ap (λ (x : Live). is_some (slot_at x.cursors id.cursor)) same
         ∙ ap is_some (all_empty n.query.cursors (eqb-true (count_by is_some n.query.cursors) 0 e) id.cursor)) ∙ o.3)
 
-    pub drop_done : (hs : List (Option Live)) (order' : List ℕ) (readers' : List (List ℕ)) (w : Watches) → hs ≡ set old.queries.items at None → order' ≡ left at old.order → LeavesAll at old.readers.items readers'
-        → are_vacant n.query.cursors ≡ true → watched_at old.watchers.items at ≡ false → w.watchers ≡ old.watchers.items
-        → IsSound old.catalog hs order' readers' × DropGives (kept_in old) name (Ok tt) (kept_of old.catalog hs order' old.seq w)
-    drop_done hs order' readers' w is places leaves e unwatched same = (
+    pub drop_done : (hs : List (Option Live)) (order' : List ℕ) (readers' : List (List ℕ)) (x : Log) → hs ≡ set old.queries.items at None → order' ≡ left at old.order → LeavesAll at old.readers.items readers'
+        → are_vacant n.query.cursors ≡ true → watched_at old.watchers.items at ≡ false
+        → IsSound old.catalog hs order' readers'
+        × DropGives (kept_in old) name (Ok tt) (kept_of old.catalog hs order' old.seq (record { readers = readers'; watchers = old.watchers.items; logs = set old.logs.items at x; changed = old.changed }))
+    drop_done hs order' readers' x is places leaves e unwatched = (
       dropped_sound old.catalog old.queries.items hs old.order order' old.readers.items readers' s at n.query n.there is places leaves,
       record {
         used = false;
@@ -311,11 +324,21 @@ module _ (old : Parts) (s : IsWhole old) (name : Bytes) where
         };
         cursors = dropped_cursors old.catalog old.queries.items hs old.order order' old.readers.items readers' s at n.query n.there is places leaves e;
         registered =
-            ap₂ (λ (ws os : List ℕ). registered_in hs ws os) same places
+            ap (registered_in hs old.watchers.items) places
             ∙ delisted old.queries.items hs old.watchers.items old.order at name
             (λ i d. ap (λ (xs : List (Option Live)). place_at xs i) is ∙ get_or-set_other old.queries.items at i None None d)
             (λ j m. ap (λ (x : Bytes). bytes_eq (query_in (place_at old.queries.items j)).name x) (sym n.called)
             ∙ by_name old.catalog old.queries.items hs old.order order' old.readers.items readers' s at n.query n.there is places leaves j m);
+        tellings =
+            let texts = (old.catalog).texts in
+            let v : Watches = record { readers = readers'; watchers = old.watchers.items; logs = set old.logs.items at x; changed = old.changed } in
+            subst (λ (o : Option Enlisted). IsSomeAnd o (λ r. TellsOf (kept_in old) r.id None (kept_of old.catalog hs order' old.seq v))) (sym enlisted_as)
+            (tells_of old.catalog old.catalog old.queries.items hs old.order order' old.seq old.seq (watches_in old) v s
+            (dropped_sound old.catalog old.queries.items hs old.order order' old.readers.items readers' s at n.query n.there is places leaves)
+            refl refl (id_at at) None
+            (ap (λ (xs : List (Option Live)). slice_index_or (told_from texts xs v.logs) at None) is ∙ told_gone texts old.queries.items old.logs.items at n.query n.there x)
+            (λ other d. ap (λ (xs : List (Option Live)). slice_index_or (told_from texts xs v.logs) other.at None) is
+            ∙ told_left texts old.queries.items old.logs.items at x other.at (other_place other (id_at at) d)));
       },
     )
 

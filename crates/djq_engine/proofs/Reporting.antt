@@ -327,16 +327,20 @@ told_drop law old mid new at row p same t alike =
     told_stay law old new [] (ap (λ (x : Catalog). x.texts) same ∙ p.texts ∙ sym (append-nil (old.catalog).texts)) t
     alike
 
+-- the same relation changed last
+pub affected_same : (old new : Parts) → new.readers.items ≡ old.readers.items → new.changed ≡ old.changed → (kept_in new).affected ≡ (kept_in old).affected
+affected_same old new readers changed = ap₂ (λ (rs : List (List ℕ)) (k : ℕ). map id_at (readers_at rs k)) readers changed
+
 -- nothing is told
-pub tells_nothing : (old new : Kept) (before now : ℕ) → now ≤ before
+pub tells_nothing : (old new : Kept) (before now : ℕ) → now ≤ before → new.affected ≡ old.affected
     → ((id : QueryId) → IsSomeAnd (registered_at old.registered id) (λ r. reaches unchanged r ≡ false)
     → told_at new id ≡ told_at old id)
     → TellsChange old unchanged new before now
-tells_nothing old new before now h stays = record {
+tells_nothing old new before now h affected stays = record {
   deltas = [];
   listed = refl;
   counted = omega (arith, h);
-  affected = tt;
+  affected = affected;
   logs = tt;
   discards = tt;
   stays = stays;
@@ -364,9 +368,9 @@ module _ (old : Parts) (s : IsWhole old) (at : ℕ) (low : at < length (old.cata
       ∙ sym (outdated_reads name (query_in (place_at old.queries.items i)))
 
   -- where memory was refused
-  pub tells_refused : (new : Parts) → Discards old at new → ToldStay old new
+  pub tells_refused : (new : Parts) → (kept_in new).affected ≡ (kept_in old).affected → Discards old at new → ToldStay old new
       → TellsChange (kept_in old) (out_of_memory one) (kept_in new) before now
-  tells_refused new empty told =
+  tells_refused new affected empty told =
       let c = old.catalog in
       let after = with_rows_at c.relations at rows in
       let f = some_changes c old.queries.items old.order old.readers.items s at low old.watchers.items name named after have in
@@ -380,7 +384,7 @@ module _ (old : Parts) (s : IsWhole old) (at : ℕ) (low : at < length (old.cata
             (deltas_with c old.queries.items old.order old.readers.items s at low old.watchers.items name named after f)) after_is
             (listed_with c old.queries.items old.order old.readers.items s at low old.watchers.items name named after f (λ i l r w there. some_are c old.queries.items old.order old.readers.items s at low old.watchers.items name named after have i l there));
         counted = omega (arith, total, steps);
-        affected = tt;
+        affected = affected;
         logs = tt;
         discards = λ id h.
             let r = registered_has c old.queries.items old.order old.readers.items old.watchers.items s id
@@ -475,13 +479,13 @@ module _ (old : Parts) (s : IsWhole old) (name : Bytes) (row : Tuple) (at : ℕ)
   rows_are = rows_found (old.catalog).relations name row old.seq at m
 
   pub adds_refused : CountsRows at (rows_at (old.catalog).relations at ++ row ∷ []) old before now → (new : Parts)
-      → Discards old at new → ToldStay old new
+      → (kept_in new).affected ≡ (kept_in old).affected → Discards old at new → ToldStay old new
       → TellsChange (kept_in old) (out_of_memory (row_in (old.catalog).relations name row)) (kept_in new) before now
-  adds_refused counts new empty told =
+  adds_refused counts new affected empty told =
       subst (λ (rows : List Tuple). TellsChange (kept_in old) (out_of_memory (new_rows (old.catalog).relations name
       (rows ++ row ∷ []))) (kept_in new) before now) (sym rows_are)
       (tells_refused old s at m.below name m.named (rows_at (old.catalog).relations at ++ row ∷ []) law differ
-      (have (rows_at (old.catalog).relations at ++ row ∷ [])) before now counts new empty told)
+      (have (rows_at (old.catalog).relations at ++ row ∷ [])) before now counts new affected empty told)
 
   module _ (mid new : Parts) (logs : new.logs.items ≡ mid.logs.items) (catalog : new.catalog ≡ mid.catalog)
       (alike : AreAlike old.queries.items new.queries.items) (readers : new.readers.items ≡ old.readers.items)
@@ -537,7 +541,7 @@ add_err_tells : (old : Parts) (name : Bytes) (row : Tuple) (r : Refusal) → add
 add_err_tells old name row r h n =
     subst (λ (o : RowsOutcome). TellsChange (kept_in old) o (kept_in old) n n)
     (sym (refused_quietly (row_in (old.catalog).relations name row) (old.catalog).relations name row old.seq r h))
-    (tells_nothing (kept_in old) (kept_in old) n n (omega arith) (λ id k. refl))
+    (tells_nothing (kept_in old) (kept_in old) n n (omega arith) refl (λ id k. refl))
 
 pub add_refused_tells : (old : Parts) (name : Bytes) (row : Tuple) (result : Result AddOutcome Refusal) → IsErr result
     → IfErr result (λ r. add_refusal (bare (old.catalog).relations old.seq) name row ≡ Some r) → (n : ℕ) → TellsAdd old name row result n
@@ -547,4 +551,4 @@ add_refused_tells old name row (Err r) e h n = add_err_tells old name row r h n
 pub delete_refused_tells : (old : Parts) (name : Bytes) (row : Tuple) (result : Result DeleteOutcome Refusal) → IsErr result → (n : ℕ)
     → TellsChange (kept_in old) (delete_outcome (row_out (old.catalog).relations name row) result) (kept_in old) n n
 delete_refused_tells old name row (Ok x) e n = absurd (false≢true e)
-delete_refused_tells old name row (Err r) e n = tells_nothing (kept_in old) (kept_in old) n n (omega arith) (λ id k. refl)
+delete_refused_tells old name row (Err r) e n = tells_nothing (kept_in old) (kept_in old) n n (omega arith) refl (λ id k. refl)

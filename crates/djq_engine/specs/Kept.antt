@@ -12,7 +12,7 @@ use Rattle.djq_tree.specs.Explaining.{explain_of}
 use Rattle.djq_machine.specs.State.{Store, Position, open_at, stale}
 use Rattle.djq_machine.specs.Conditions.{first_of, Answers, OutOfMemoryWhere}
 use Rattle.djq_machine.specs.Store.{DropsQuery, IsLeft, AreAll, most_steps}
-use Rattle.djq_machine.specs.Stale.{outdated, outdater_of}
+use Rattle.djq_machine.specs.Stale.{reads, outdated, outdater_of}
 use Rattle.djq_machine.specs.Changes.{RowsChange, is_outdated}
 use Rattle.djq_machine.specs.Delta.{Change}
 use Rattle.djq_reduct.specs.Answers.{IsAnswerOf}
@@ -117,6 +117,27 @@ abbrev pub Outdates : Kept → Option RowsChange → Kept → Type 0
 Outdates old o new =
     (id : CursorId) → held_at new.cursors id ≡ held_at (cursors_behind old o (new.store).seq) id
 
+-- What the last change told, and whom it affected, is as before.
+pub record SameTellings (old new : Kept) : Type 0 where
+  pub affected : new.affected ≡ old.affected
+  pub told : new.told ≡ old.told
+
+-- The affected queries are those that read this relation, in order of registration; or none is.
+abbrev pub AffectedAre : Option Bytes → Kept → Type 0
+AffectedAre None k = k.affected ≡ []
+AffectedAre (Some relation) k =
+    k.affected ≡ map (λ r. r.id) (filter (λ r. reads r.query relation) k.registered)
+
+-- This is told of one query, and of the others what was told before. The affected queries are those
+-- that read the relation of the last change, as before.
+pub record TellsOf (old : Kept) (id : QueryId) (told : Option (List Change)) (new : Kept) : Type 0
+  where
+    pub here : told_at new id ≡ told
+    pub others : (other : QueryId) → same_query other id ≡ false → told_at new other ≡ told_at old other
+    pub relation : Option Bytes
+    pub before : AffectedAre relation old
+    pub after : AffectedAre relation new
+
 -- A new cursor stands in front of the answers of its query.
 pub record OpensCursor (old : Kept) (query : Bytes) (id : CursorId) (new : Kept) : Type 0 where
   pub fresh : held_at old.cursors id ≡ None
@@ -125,6 +146,7 @@ pub record OpensCursor (old : Kept) (query : Bytes) (id : CursorId) (new : Kept)
   pub others : OthersStay old.cursors id new.cursors
   pub store : new.store ≡ old.store
   pub registered : new.registered ≡ old.registered
+  pub tellings : SameTellings old new
 
 -- What `open` answers.
 pub record OpenGives (old : Kept) (query : Bytes) (result : Result CursorId Refusal) (new : Kept) :
@@ -139,6 +161,7 @@ pub record MovesCursor (old : Kept) (h : Held) (position : Position) (new : Kept
   pub others : OthersStay old.cursors h.id new.cursors
   pub store : new.store ≡ old.store
   pub registered : new.registered ≡ old.registered
+  pub tellings : SameTellings old new
 
 -- what holds of the query over which a cursor of this id is
 abbrev pub AtQuery : Kept → CursorId → (Live → Type 0) → Type 0
@@ -213,8 +236,7 @@ pub record ClosesCursor (old : Kept) (id : CursorId) (new : Kept) : Type 0 where
   pub others : OthersStay old.cursors id new.cursors
   pub store : new.store ≡ old.store
   pub registered : new.registered ≡ old.registered
-  pub affected : new.affected ≡ old.affected
-  pub told : new.told ≡ old.told
+  pub tellings : SameTellings old new
 
 -- Whether a query is in use: a cursor that is held, stale or not, is over it, or a session watches
 -- it.
@@ -232,6 +254,12 @@ DropsRegistered old query (Ok done) new =
     new ≡ filter (λ r. not (bytes_eq r.query.name query)) old
 DropsRegistered old query (Err r) new = new ≡ old
 
+-- Of a query that was dropped nothing is told any more; else nothing has changed of what is told.
+abbrev pub DropsTelling : Kept → Bytes → Result ⊤ Refusal → Kept → Type 0
+DropsTelling old query (Ok done) new =
+    IsSomeAnd (registered_of old.registered query) (λ r. TellsOf old r.id None new)
+DropsTelling old query (Err r) new = SameTellings old new
+
 -- A query that isn't in use is registered no more, and all cursors are as before.
 pub record DropGives (old : Kept) (query : Bytes) (result : Result ⊤ Refusal) (new : Kept) :
     Type 0 where
@@ -240,6 +268,7 @@ pub record DropGives (old : Kept) (query : Bytes) (result : Result ⊤ Refusal) 
   pub store : DropsQuery old.store used query result new.store
   pub cursors : SameCursors old.cursors new.cursors
   pub registered : DropsRegistered old.registered query result new.registered
+  pub tellings : DropsTelling old query result new
 
 -- The lines explain the tree that the choice rule names.
 pub record Explains (q : Query) (lines : List ℕ) : Type 0 where

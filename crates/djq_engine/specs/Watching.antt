@@ -1,8 +1,9 @@
 -- What an engine says of the queries that sessions watch.
-use Rattle.std.specs.Prelude.{ℕ, List, [], ◌∷◌, ◌++◌, ◌≡◌, ◌≤◌, ◌+◌, ◌*◌, ◌⊎◌, ◌&&◌, ◌||◌, Bool, true, false, not, Option, None, Some, IsSomeAnd, Result, Ok, Err, if◌then◌else◌, Contains, filter, length, map, slice_index_or, sum_by, ⊤}
+use Rattle.std.specs.Prelude.{ℕ, List, [], ◌∷◌, ◌++◌, ◌≡◌, ◌≤◌, ◌+◌, ◌*◌, ◌⊎◌, ◌&&◌, ◌||◌, Bool, true, false, not, Option, None, Some, IsSomeAnd, Result, Ok, Err, if◌then◌else◌, Contains, filter, length, map, sum_by, ⊤}
 use Rattle.djq_model.specs.declared.query.Query.{Query}
 use Rattle.djq_model.specs.declared.query.Atom.{Atom}
 use Rattle.djq_model.specs.Data.{rows_of}
+use Rattle.djq_lines.specs.Variables.{variables_of}
 use Rattle.djq_lines.specs.declared.answer.AddOutcome.{AddOutcome}
 use Rattle.djq_lines.specs.declared.answer.AddOutcome.TheVariants.{Added, Same}
 use Rattle.djq_lines.specs.declared.answer.DeleteOutcome.{DeleteOutcome}
@@ -13,10 +14,8 @@ use Rattle.djq_lines.specs.declared.rest.QueryOutcome.{QueryOutcome}
 use Rattle.djq_lines.specs.declared.rest.QueryOutcome.TheVariants.{Registered as HasRegistered}
 use Rattle.djq_machine.specs.Changes.{RowsChange, RowsOutcome, accepted, out_of_memory, unchanged, tried, is_outdated}
 use Rattle.djq_machine.specs.Watch.{Delta, ListsDeltas, deltas_steps}
-use Rattle.djq_live.specs.Live.{Live}
-use Rattle.djq_live.specs.Updating.{update_bound}
 use Rattle.djq_engine.specs.declared.cursor.QueryId.{QueryId}
-use Rattle.djq_engine.specs.Kept.{Kept, Registered, registered_at, is_watched, readers_of, affected_of, told_at}
+use Rattle.djq_engine.specs.Kept.{Kept, Registered, registered_at, registered_of, TellsOf, is_watched, readers_of, affected_of, told_at}
 
 -- The log of a query tells a delta, or was lost.
 abbrev pub LogTells : Kept → Registered → Delta → Type 0
@@ -51,14 +50,19 @@ reaches unchanged r = false
 abbrev pub queries_affected : Kept → RowsChange → List Query
 queries_affected k change = map (λ r. r.query) (affected_of k.registered change)
 
+-- A change that was accepted affects the queries that it outdates. Else the affected are as before.
+abbrev pub Affects : RowsOutcome → Kept → Kept → Type 0
+Affects (accepted change) old new = new.affected ≡ map (λ r. r.id) (readers_of old.registered change)
+Affects (out_of_memory change) old new = new.affected ≡ old.affected
+Affects unchanged old new = new.affected ≡ old.affected
+
 -- What a change of rows, made or tried, makes known of the watched queries that it outdates.
 pub record TellsChange (old : Kept) (outcome : RowsOutcome) (new : Kept) (before now : ℕ) : Type 0
   where
     pub deltas : List Delta
     pub listed : ListsDeltas (old.store).relations (queries_affected old) (tried outcome) deltas
     pub counted : now ≤ before + deltas_steps (tried outcome) deltas
-    pub affected : IfAccepted outcome
-        (λ change. new.affected ≡ map (λ r. r.id) (readers_of old.registered change))
+    pub affected : Affects outcome old new
     pub logs : IfAccepted outcome
         (λ change. LogsTell new (affected_of old.registered change) deltas)
     -- where memory was refused, the logs of the queries that it would outdate tell of nothing
@@ -76,15 +80,18 @@ Enrols old q (Ok (HasRegistered most)) new =
     × (new ≡ old ++ record { id = id; query = q; watchers = 0 } ∷ [])
 Enrols old q _ new = new ≡ old
 
+-- Of a query that was registered no change is told yet. Else what is told of each is as before.
+abbrev pub EnrolsTelling : Kept → Query → Result QueryOutcome Refusal → Kept → Type 0
+EnrolsTelling old q (Ok (HasRegistered most)) new =
+    IsSomeAnd (registered_of new.registered q.name) (λ r. TellsOf old r.id (Some []) new)
+EnrolsTelling old q _ new =
+    (new.affected ≡ old.affected) × ((id : QueryId) → told_at new id ≡ told_at old id)
+
 -- What an update of a query counts at most, where no leaf has more than n tuples before it: for each
 -- atom over a relation that changes 16(m + v)(n + 1), with m atoms and v variables, holes counted in.
-abbrev pub bound_in : ℕ → Option Live → ℕ
-bound_in n None = 0
-bound_in n (Some l) = update_bound l n
-
-abbrev pub update_steps : Kept → RowsChange → ℕ → Registered → ℕ
-update_steps k change n r = length (filter (λ a. change.touches a.relation) r.query.atoms)
-    * bound_in n (slice_index_or k.places r.id.at None)
+abbrev pub update_steps : RowsChange → ℕ → Query → ℕ
+update_steps change n q = length (filter (λ a. change.touches a.relation) q.atoms)
+    * (16 * ((length q.atoms + length (variables_of q.atoms)) * (n + 1)))
 
 -- No relation has more than n rows that is read by a query that a change outdates.
 abbrev pub AreFew : Kept → RowsChange → ℕ → Type 0
@@ -96,7 +103,7 @@ AreFew k change n = (id : QueryId) (r : Registered) → registered_at k.register
 pub record CountsUpdates (times : ℕ) (old : Kept) (change : RowsChange) (before now : ℕ) : Type 0
   where
     pub counted : (n : ℕ) → AreFew old change n → now ≤ before + times
-        * sum_by (update_steps old change n) (readers_of old.registered change)
+        * sum_by (λ r. update_steps change n r.query) (readers_of old.registered change)
 
 -- how often: where memory is refused, rows that were taken in are given back
 abbrev pub add_times : Result AddOutcome Refusal → ℕ

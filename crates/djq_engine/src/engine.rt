@@ -5,13 +5,13 @@ ghost use Rattle.djq_machine.specs.State.{opening};
 ghost use Rattle.djq_machine.specs.Store.{MakesRelation, AddsRow, DeletesRow, RegistersQuery};
 ghost use Rattle.djq_machine.specs.Store.{TellsShape, TellsWhether, has_steps};
 ghost use Rattle.djq_machine.specs.Changes.{row_in, row_out, add_outcome, delete_outcome, tried};
-ghost use Rattle.djq_engine.specs.Kept.{SameCursors, Outdates, DropGives, OpenGives, NextGives};
+ghost use Rattle.djq_engine.specs.Kept.{SameCursors, SameTellings, Outdates, DropGives, OpenGives, NextGives};
 ghost use Rattle.djq_engine.specs.Kept.{MoreGives, ClosesCursor, IsHeld, IsFresh, IsThere};
 ghost use Rattle.djq_engine.specs.Kept.{AnswerIs, ExplainGives};
 ghost use Rattle.djq_engine.specs.Kept.{registered_of, registered_at, same_query, IsRegistered};
 ghost use Rattle.djq_engine.specs.Kept.{with_watchers, told_at};
 ghost use Rattle.djq_engine.specs.Lending.{LendsQuery};
-ghost use Rattle.djq_engine.specs.Watching.{TellsChange, Enrols};
+ghost use Rattle.djq_engine.specs.Watching.{TellsChange, Enrols, EnrolsTelling};
 ghost use Rattle.djq_engine.specs.Watching.{CountsUpdates, add_times, delete_times};
 
 use crate::asking::{answer_in, explain_in, has_in, live_in, shape_in};
@@ -64,6 +64,8 @@ impl Engine {
         ensures store { IfOk result (λ e. e.store ≡ opening.store) }
         ensures cursors { IfOk result (λ e. e.cursors ≡ []) }
         ensures registered { IfOk result (λ e. e.registered ≡ []) }
+        ensures affected { IfOk result (λ e. e.affected ≡ []) }
+        ensures told { IfOk result (λ e. e.told ≡ []) }
     {
         match Catalog::new(alloc) {
             Ok(catalog) => Ok(Engine {
@@ -199,7 +201,7 @@ impl Engine {
         delta_line_in(&self.parts, id, nth)
     }
 
-    /// Makes a relation without rows.
+    /// Makes a relation without rows, of one column at least.
     ///
     /// # Errors
     ///
@@ -207,9 +209,11 @@ impl Engine {
     /// columns and at [`RELATIONS`](djq_lines::limits::RELATIONS) relations; `NoMemory` out of
     /// memory. Nothing has changed.
     pub fn rel(&mut self, name: Name, types: Types) -> Result<(), Refusal>
+        requires { 0 < length types }
         ensures makes { MakesRelation self.old.store name types result self.new.store }
         ensures cursors { SameCursors self.old.cursors self.new.cursors }
         ensures registered { self.new.registered ≡ self.old.registered }
+        ensures tellings { SameTellings self.old self.new }
     {
         rel_in(&mut self.parts, name, types)
     }
@@ -295,6 +299,7 @@ impl Engine {
         ensures registers { RegistersQuery self.old.store query result self.new.store }
         ensures cursors { SameCursors self.old.cursors self.new.cursors }
         ensures enrols { Enrols self.old.registered query result self.new.registered }
+        ensures tellings { EnrolsTelling self.old query result self.new }
         ensures counted { steps.new.listing ≡ steps.old.listing }
     {
         query_in(&mut self.parts, query, steps)

@@ -3,7 +3,7 @@ ghost use Rattle.std.specs.Prelude.{◌≡◌, ◌<◌, [], ◌∷◌, ◌++◌,
 ghost use Rattle.djq_model.specs.Data.{rows_of, without_row};
 ghost use Rattle.djq_machine.specs.Store.{MakesRelation, AddsRow, DeletesRow};
 ghost use Rattle.djq_machine.specs.Changes.{row_in, row_out, add_outcome, delete_outcome, tried};
-ghost use Rattle.djq_engine.specs.Kept.{Outdates, SameCursors};
+ghost use Rattle.djq_engine.specs.Kept.{Outdates, SameCursors, SameTellings};
 ghost use Rattle.djq_engine.specs.Places.{readers_at};
 ghost use Rattle.djq_engine.specs.Sound.{AreOnce};
 ghost use Rattle.djq_engine.specs.Reaching.{AllAt};
@@ -134,12 +134,14 @@ pub fn del_in<L: Ledgers>(
 pub fn rel_in(parts: &mut Parts, name: Name, types: Types) -> Result<(), Refusal>
     requires whole { IsWhole parts.old }
     requires tended { IsTended parts.old }
+    requires some { 0 < length types }
     ensures whole { IsWhole parts.new }
     ensures tended { IsTended parts.new }
     ensures makes { MakesRelation (kept_in parts.old).store name types result
         (kept_in parts.new).store }
     ensures cursors { SameCursors (kept_in parts.old).cursors (kept_in parts.new).cursors }
     ensures registered { (kept_in parts.new).registered ≡ (kept_in parts.old).registered }
+    ensures tellings { SameTellings (kept_in parts.old) (kept_in parts.new) }
 {
     live_stays();
     if parts.catalog.id(&name).is_some() {

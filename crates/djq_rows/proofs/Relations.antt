@@ -310,6 +310,7 @@ sound_as : (texts : List Bytes) (j k : Kept) → k.types ≡ j.types → StaysTa
     IsSound texts j → Within texts j.types k.table.entries → length k.table.entries ≤ ROWS →
     IsSound texts k
 sound_as texts j k t st s w few = record {
+  some = subst (λ (l : List ColumnType). 0 < length l) (sym t) s.some;
   narrow = subst (λ (l : List ColumnType). length l ≤ COLUMNS) (sym t) s.narrow;
   key = st.key ∙ s.key;
   width = st.width ∙ s.width ∙ ap (λ (l : List ColumnType). length l) (sym t);
@@ -397,6 +398,7 @@ relations_grown old new (k ∷ ks) g h = ap (λ (r : Relation). r ∷ relations_
 
 sound_grown : (old new : List Bytes) (k : Kept) → Grown old new → IsSound old k → IsSound new k
 sound_grown old new k g s = record {
+  some = s.some;
   narrow = s.narrow;
   key = s.key;
   width = s.width;
@@ -441,6 +443,7 @@ pub sound_kept : (texts : List Bytes) (k : Kept) → AllDifferent texts → IsSo
     texts (relation_in texts k)
 unfolding relation_in
 sound_kept texts k d s = record {
+  some = s.some;
   narrow = s.narrow;
   typed = All-from_recursion (λ (row : Tuple). fits k.types row ≡ true) (map (row_of texts k.types)
       (tuples_of k.table.entries)) (within_typed texts k.types (tuples_of k.table.entries) d

@@ -3,6 +3,7 @@ use Rattle.std.specs.Prelude.{
   ◌≡◌,
   ◌≢◌,
   ℕ,
+  ◌<◌,
   ◌≤◌,
   true,
   List,
@@ -52,8 +53,10 @@ abbrev pub with_rows_at : List Relation → ℕ → List Tuple → List Relation
 with_rows_at relations at rows =
     slice_set relations at (let r = relation_at relations at in record r { rows = rows })
 
--- the rows of a relation suit its columns, differ, have cells, and are within the limit
+-- A relation has a column at least. Its rows suit its columns, differ, have cells, and are within
+-- the limit.
 pub record IsKept (texts : List Bytes) (r : Relation) : Type 0 where
+  pub some : 0 < length r.types
   pub narrow : length r.types ≤ COLUMNS
   pub typed : All (λ row. fits r.types row ≡ true) (tuples_in r)
   pub differ : AreDifferent (tuples_in r)

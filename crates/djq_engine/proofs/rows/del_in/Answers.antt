@@ -72,7 +72,7 @@ pub returns-in_default-clause-tells : goal.returns-in_default-clause-tells
 returns-in_default-clause-tells g c =
     let old = c.args.parts.now in
     tells_nothing (kept_in old) (kept_in old) c.args.steps.now.listing
-    c.args.steps.now.listing (omega arith) (λ id h. refl)
+    c.args.steps.now.listing (omega arith) refl (λ id h. refl)
 
 pub returns-clause-tended : goal.returns-clause-tended
 returns-clause-tended g c =
