@@ -1,12 +1,11 @@
 -- When what is registered has the same answers over other relations.
-use Rattle.std.specs.Prelude.{ℕ, List, [], ◌∷◌, ◌≡◌, ◌<◌, ◌++◌, ◌||◌, Bool, true, false, cond, Option, None, Some, length, All, Contains, IsPermutation}
+use Rattle.std.specs.Prelude.{List, [], ◌∷◌, ◌≡◌, ◌++◌, ◌||◌, Bool, true, false, cond, Option, None, Some, All, Contains, IsPermutation}
 use Rattle.std.specs.List.{list_any, slice_index_or}
 use Rattle.std.proofs.Common.{refl, sym, ap, ◌∙◌, subst}
 use Rattle.std.proofs.lemmas.List.Elements.{All-nil, All-cons, Contains-get_or}
 use Rattle.std.proofs.lemmas.List.Sorted.{Contains-permutation, IsPermutation-sym, IsPermutation-refl}
 use Rattle.djq_model.specs.declared.relation.Relation.{Relation}
 use Rattle.djq_model.specs.declared.relation.ColumnType.{ColumnType}
-use Rattle.djq_model.specs.declared.query.Atom.{Atom}
 use Rattle.djq_model.specs.Data.{Bytes, Tuple, bytes_eq, relation_of, rows_of, rows_in}
 use Rattle.djq_model.specs.Listed.{Listed, a_query, AnswersOf}
 use Rattle.djq_model.specs.Equality.{bytes_eq-decides}
@@ -15,7 +14,7 @@ use Rattle.djq_machine.specs.Stale.{listed_reads}
 use Rattle.djq_machine.specs.Changes.{RowsChange, new_rows}
 use Rattle.djq_machine.specs.Step.{SameRelations}
 use Rattle.djq_machine.specs.Gives.{Gives}
-use Rattle.djq_laws.proofs.Containing.{any_there}
+use Rattle.djq_machine.proofs.Reading.{reads_atom}
 use Rattle.djq_laws.proofs.Finding.{find_other}
 
 pub apart_from : (r name n : Bytes) (b : Bool) → bytes_eq r n ≡ b → bytes_eq n name ≡ false → bytes_eq r name ≡ true → b ≡ false
@@ -29,22 +28,14 @@ apart_from r name n true e ne same =
 abbrev pub RowsWithin : List Relation → List Relation → Listed → Type 0
 RowsWithin rs rs' q = (n : Bytes) → listed_reads q n ≡ true → (row : Tuple) → Contains (rows_of rs n) row → Contains (rows_of rs' n) row
 
--- a query reads the relation of each of its atoms
-reads_atom : (atoms : List Atom) (k : ℕ) (d : Atom) → k < length atoms
-    → list_any (λ (a : Atom). bytes_eq a.relation (slice_index_or atoms k d).relation) atoms ≡ true
-reads_atom atoms k d lt =
-    let it = slice_index_or atoms k d in
-    any_there (λ (a : Atom). bytes_eq a.relation it.relation) atoms it (Contains-get_or atoms k d lt)
-    ((bytes_eq-decides it.relation it.relation).1 refl)
-
 answer_within : (rs rs' : List Relation) (q : Listed) (t : Tuple) → RowsWithin rs rs' q → AnswersOf rs q t → AnswersOf rs' q t
 answer_within rs rs' (a_query q) t within h = record {
   assignment = h.assignment;
-  satisfies = λ k d lt. let s = h.satisfies k d lt in record {
-    row = s.row;
-    is_there = within (slice_index_or q.atoms k d).relation (reads_atom q.atoms k d lt) s.row s.is_there;
-    stands = s.stands;
-  };
+  satisfies = λ k d lt.
+      let s = h.satisfies k d lt in
+      let a = slice_index_or q.atoms k d in
+      let read = reads_atom q a (Contains-get_or q.atoms k d lt) in
+      record { row = s.row; is_there = within a.relation read s.row s.is_there; stands = s.stands };
   on_head = h.on_head;
 }
 
