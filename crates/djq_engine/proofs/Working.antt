@@ -1,14 +1,15 @@
 -- How much updates of the queries in places count, one after another.
 use Rattle.std.proofs.Common.{ℕ, List, [], ◌∷◌, ◌++◌, ◌+◌, ◌*◌, ◌≡◌, ◌<◌, ◌≤◌, Bool, true, false, refl, sym, ap, ◌∙◌, subst, length, get_or, take, arith, mul-le-mul_left}
-use Rattle.std.specs.Prelude.{◌==◌, ◌||◌, Option, None, Some, IsSomeAnd, is_some, cond, Contains, filter, map, sum_by}
+use Rattle.std.specs.Prelude.{◌==◌, ◌||◌, Option, None, Some, IsSomeAnd, is_some, cond, filter, map, sum_by}
 use Rattle.std.proofs.lemmas.Bool.{eqb-true, eq-eqb, false≢true}
 use Rattle.std.proofs.lemmas.List.{take_more}
 use Rattle.std.proofs.lemmas.List.Sums.{sum_by-cons, sum_by-append, sum_by-take-le, sum_by_more}
 use Rattle.std.proofs.lemmas.Nat.{mul-le}
 use Rattle.djq_model.specs.Data.{Bytes, bytes_eq}
 use Rattle.djq_model.specs.declared.relation.Relation.{Relation}
-use Rattle.djq_machine.specs.Stale.{reads, by_relation}
+use Rattle.djq_machine.specs.Stale.{reads, listed_reads, by_relation}
 use Rattle.djq_machine.specs.Changes.{one_change}
+use Rattle.djq_machine.proofs.Reading.{reads_atom}
 use Rattle.djq_propagate.specs.Updates.{HasAtMost}
 use Rattle.djq_query.specs.Numbered.{Numbered}
 use Rattle.djq_rows.specs.Catalog.{relation_at}
@@ -22,7 +23,7 @@ use Rattle.djq_engine.specs.Sound.{AreOnce}
 use Rattle.djq_engine.specs.Reaching.{DoneAt, Reach, AllAt, TakesIn, Remains}
 use Rattle.djq_engine.specs.Tending.{Works, work_of, work_at}
 use Rattle.djq_engine.specs.Changing.{WorksRows}
-use Rattle.djq_engine.specs.Watching.{AreFew, CountsUpdates, bound_in, update_steps}
+use Rattle.djq_engine.specs.Watching.{AreFew, CountsUpdates, bound_in, touched_atoms, update_steps}
 use Rattle.djq_engine.specs.Whole.{kept_in, IsWhole}
 use Rattle.djq_engine.proofs.Listing.{apart, reader_more, or_true}
 use Rattle.djq_engine.proofs.Carrying.{reader_is, reader_reads}
@@ -212,7 +213,7 @@ module _ (old : Parts) (s : IsWhole old) (at : ℕ) (low : at < length (old.cata
   reads_name i e =
       let t = reads_there i e in
       outdated_reads name (query_in (place_at old.queries.items i))
-      ∙ ap (λ (o : Option Live). reads (query_in o) name) t.is
+      ∙ ap (λ (o : Option Live). listed_reads (query_in o) name) t.is
       ∙ ap (reads t.query.query) (sym named)
       ∙ sym (reader_reads old.catalog old.queries.items old.order old.readers.items s at low i
       t.query t.is)
@@ -235,8 +236,9 @@ module _ (old : Parts) (s : IsWhole old) (at : ℕ) (low : at < length (old.cata
       (law old.catalog t.query n (s.live i t.query t.is).kept (record {
         each = λ a has.
             few (id_at i) (registered_as old.queries.items old.watchers.items i)
-            (registered_here i e) (reads_name i e) a
-            (subst (λ (o : Option Live). Contains (query_in o).atoms a) (sym t.is) has);
+            (registered_here i e) (reads_name i e) a.relation
+            (subst (λ (o : Option Live). listed_reads (query_in o) a.relation ≡ true) (sym t.is)
+            (reads_atom t.query.query a has));
       }))
 
   steps_of : (n i : ℕ) → is_reader (readers_at old.readers.items at) i ≡ true
@@ -253,7 +255,7 @@ module _ (old : Parts) (s : IsWhole old) (at : ℕ) (low : at < length (old.cata
       (atoms_of old.catalog at (l.numbered).variables (l.query).atoms (l.numbered).atoms
       kept.over.asked.atoms) in
       subst (λ (o : Option Live). work_of at n o
-      ≤ length (filter (λ a. bytes_eq a.relation name) (query_in o).atoms) * bound_in n o)
+      ≤ touched_atoms (one_change name after) (query_in o) * bound_in n o)
       (sym t.is)
       (mul-le (atoms_over l at) (update_bound l n)
       (length (filter (λ a. bytes_eq a.relation name) (l.query).atoms)) (update_bound l n) fewer

@@ -1,8 +1,8 @@
 -- What an engine says of the queries that sessions watch.
-use Rattle.std.specs.Prelude.{ℕ, List, [], ◌∷◌, ◌++◌, ◌≡◌, ◌≤◌, ◌+◌, ◌*◌, ◌⊎◌, ◌&&◌, ◌||◌, Bool, true, false, not, Option, None, Some, IsSomeAnd, Result, Ok, Err, if◌then◌else◌, Contains, filter, length, map, slice_index_or, sum_by, ⊤}
+use Rattle.std.specs.Prelude.{ℕ, List, [], ◌∷◌, ◌++◌, ◌≡◌, ◌≤◌, ◌+◌, ◌*◌, ◌⊎◌, ◌&&◌, ◌||◌, Bool, true, false, not, Option, None, Some, IsSomeAnd, Result, Ok, Err, if◌then◌else◌, filter, length, map, slice_index_or, sum_by, ⊤}
 use Rattle.djq_model.specs.declared.query.Query.{Query}
-use Rattle.djq_model.specs.declared.query.Atom.{Atom}
-use Rattle.djq_model.specs.Data.{rows_of}
+use Rattle.djq_model.specs.Data.{Bytes, rows_of}
+use Rattle.djq_model.specs.Listed.{Listed, a_query}
 use Rattle.djq_lines.specs.declared.answer.AddOutcome.{AddOutcome}
 use Rattle.djq_lines.specs.declared.answer.AddOutcome.TheVariants.{Added, Same}
 use Rattle.djq_lines.specs.declared.answer.DeleteOutcome.{DeleteOutcome}
@@ -11,6 +11,7 @@ use Rattle.djq_lines.specs.declared.answer.Refusal.{Refusal}
 use Rattle.djq_lines.specs.declared.answer.Refusal.TheVariants.{NoMemory}
 use Rattle.djq_lines.specs.declared.rest.QueryOutcome.{QueryOutcome}
 use Rattle.djq_lines.specs.declared.rest.QueryOutcome.TheVariants.{Registered as HasRegistered}
+use Rattle.djq_machine.specs.Stale.{listed_reads}
 use Rattle.djq_machine.specs.Changes.{RowsChange, RowsOutcome, accepted, out_of_memory, unchanged, tried, is_outdated}
 use Rattle.djq_machine.specs.Watch.{Delta, ListsDeltas, deltas_steps}
 use Rattle.djq_live.specs.Live.{Live}
@@ -48,7 +49,7 @@ reaches (out_of_memory change) r = is_outdated change r.query
 reaches unchanged r = false
 
 -- the watched queries that a change outdates
-abbrev pub queries_affected : Kept → RowsChange → List Query
+abbrev pub queries_affected : Kept → RowsChange → List Listed
 queries_affected k change = map (λ r. r.query) (affected_of k.registered change)
 
 -- What a change of rows, made or tried, makes known of the watched queries that it outdates.
@@ -73,7 +74,7 @@ pub record TellsChange (old : Kept) (outcome : RowsOutcome) (new : Kept) (before
 abbrev pub Enrols : List Registered → Query → Result QueryOutcome Refusal → List Registered → Type 0
 Enrols old q (Ok (HasRegistered most)) new =
     (id : QueryId) × (registered_at old id ≡ None)
-    × (new ≡ old ++ record { id = id; query = q; watchers = 0 } ∷ [])
+    × (new ≡ old ++ record { id = id; query = a_query q; watchers = 0 } ∷ [])
 Enrols old q _ new = new ≡ old
 
 -- What an update of a query counts at most, where no leaf has more than n tuples before it: for each
@@ -82,15 +83,18 @@ abbrev pub bound_in : ℕ → Option Live → ℕ
 bound_in n None = 0
 bound_in n (Some l) = update_bound l n
 
+abbrev pub touched_atoms : RowsChange → Listed → ℕ
+touched_atoms change (a_query q) = length (filter (λ a. change.touches a.relation) q.atoms)
+
 abbrev pub update_steps : Kept → RowsChange → ℕ → Registered → ℕ
-update_steps k change n r = length (filter (λ a. change.touches a.relation) r.query.atoms)
-    * bound_in n (slice_index_or k.places r.id.at None)
+update_steps k change n r =
+    touched_atoms change r.query * bound_in n (slice_index_or k.places r.id.at None)
 
 -- No relation has more than n rows that is read by a query that a change outdates.
 abbrev pub AreFew : Kept → RowsChange → ℕ → Type 0
 AreFew k change n = (id : QueryId) (r : Registered) → registered_at k.registered id ≡ Some r
-    → is_outdated change r.query ≡ true → (a : Atom) → Contains r.query.atoms a
-    → length (rows_of (k.store).relations a.relation) ≤ n
+    → is_outdated change r.query ≡ true → (relation : Bytes) → listed_reads r.query relation ≡ true
+    → length (rows_of (k.store).relations relation) ≤ n
 
 -- A change counts so many times at most what the updates of the queries do that it outdates.
 pub record CountsUpdates (times : ℕ) (old : Kept) (change : RowsChange) (before now : ℕ) : Type 0

@@ -48,7 +48,8 @@ number_by q old event new = if not (new.store.seq == old.store.seq) && event_cha
     then new.store.seq ∷ [] else []
 
 -- the numbers of all of a run
-abbrev pub numbers_along : (q : Listed) (s : ℕ) (old : State) (done : List Did) (new : State) → WatchesAlong q s old done new → List ℕ
+abbrev pub numbers_along : (q : Listed) (s : ℕ) (old : State) (done : List Did) (new : State)
+    → WatchesAlong q s old done new → List ℕ
 numbers_along q s old [] new walk = []
 numbers_along q s old (d ∷ done) new walk =
     number_by q old d.event walk.0 ++ numbers_along q s walk.0 done new walk.2
@@ -84,7 +85,8 @@ all_added_up ts (t ∷ more) = all_added_up (added_up ts t.changes) more
 -- Along a run in which a session watches a query it is told a delta for each accepted change of a
 -- relation that the query reads, by rising number: their lines are parts of all that is queued to
 -- it. They add up from any listing of the answers at the start to a listing of those at the end.
-pub record IsTold (q : Listed) (s : ℕ) (old : State) (done : List Did) (new : State) (walk : WatchesAlong q s old done new) : Type 0 where
+pub record IsTold (q : Listed) (s : ℕ) (old : State) (done : List Did) (new : State)
+    (walk : WatchesAlong q s old done new) : Type 0 where
   pub told : List Told
   pub whole : flat_map (λ part. part) (parts_to s done) ≡ out s done
   pub among : AreAmong (map (told_text (listed_name q)) told) (parts_to s done)
@@ -95,4 +97,5 @@ pub record IsTold (q : Listed) (s : ℕ) (old : State) (done : List Did) (new : 
 
 -- So it is from any state on, whatever the other sessions do.
 abbrev pub WatchersHaveAnswers : Type 0
-WatchersHaveAnswers = (q : Listed) (s : ℕ) (old : State) (done : List Did) (new : State) (walk : WatchesAlong q s old done new) → IsTold q s old done new walk
+WatchersHaveAnswers = (q : Listed) (s : ℕ) (old : State) (done : List Did) (new : State)
+    (walk : WatchesAlong q s old done new) → IsTold q s old done new walk
