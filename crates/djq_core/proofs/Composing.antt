@@ -5,9 +5,9 @@ use Rattle.std.specs.List.{list_any}
 use Rattle.std.proofs.lemmas.Bool.{lt-ltb}
 use Rattle.std.proofs.lemmas.List.Elements.{All-filter}
 use Rattle.djq_deltas.proofs.Lists.{hold_each, first_there, later_there}
-use Rattle.djq_model.specs.declared.query.Query.{Query}
 use Rattle.djq_model.specs.declared.relation.Relation.{Relation}
 use Rattle.djq_model.specs.Data.{Bytes, Tuple, bytes_eq}
+use Rattle.djq_model.specs.Listed.{Listed, listed_name}
 use Rattle.djq_lines.specs.declared.command.Command.{Command}
 use Rattle.djq_lines.specs.declared.command.Command.TheVariants.{Rel, Add, Del, Query as Register, Drop, Open, Next, Close, Has, Watch, Unwatch, Explain, Shape, Quit, Stop}
 use Rattle.djq_lines.specs.declared.answer.Refusal.{Refusal}
@@ -104,20 +104,20 @@ watch_seen hs q (x ∷ xs) = step (is_among_watches (x.session).watches q) (watc
         none n = omega arith
 
 -- the queries that a change affects are those that it outdates and that are watched
-affects : (rs : List Registered) (sessions : List Session) (change : RowsChange) → All (λ (r : Registered). list_any (is_watching r.query.name) sessions ≡ is_watched r) rs
-    → map (λ (r : Registered). r.query) (affected_of rs change) ≡ filter (λ (q : Query). is_outdated change q && list_any (is_watching q.name) sessions) (map (λ (r : Registered). r.query) rs)
+affects : (rs : List Registered) (sessions : List Session) (change : RowsChange) → All (λ (r : Registered). list_any (is_watching (listed_name r.query)) sessions ≡ is_watched r) rs
+    → map (λ (r : Registered). r.query) (affected_of rs change) ≡ filter (λ (q : Listed). is_outdated change q && list_any (is_watching (listed_name q)) sessions) (map (λ (r : Registered). r.query) rs)
 affects [] sessions change h = refl
 affects (r ∷ rs) sessions change h =
     let more = affects rs sessions change (λ k d lt. h (suc k) d (omega (arith, lt))) in
-    let here : (is_outdated change r.query && list_any (is_watching r.query.name) sessions) ≡ (is_outdated change r.query && is_watched r) = ap (λ (b : Bool). is_outdated change r.query && b) (h 0 r (omega arith)) in
-    step (is_outdated change r.query && is_watched r) (is_outdated change r.query && list_any (is_watching r.query.name) sessions) here more
+    let here : (is_outdated change r.query && list_any (is_watching (listed_name r.query)) sessions) ≡ (is_outdated change r.query && is_watched r) = ap (λ (b : Bool). is_outdated change r.query && b) (h 0 r (omega arith)) in
+    step (is_outdated change r.query && is_watched r) (is_outdated change r.query && list_any (is_watching (listed_name r.query)) sessions) here more
   where
     step : (b c : Bool) → c ≡ b
-        → map (λ (x : Registered). x.query) (affected_of rs change) ≡ filter (λ (q : Query). is_outdated change q && list_any (is_watching q.name) sessions) (map (λ (x : Registered). x.query) rs)
+        → map (λ (x : Registered). x.query) (affected_of rs change) ≡ filter (λ (q : Listed). is_outdated change q && list_any (is_watching (listed_name q)) sessions) (map (λ (x : Registered). x.query) rs)
         → map (λ (x : Registered). x.query) (cond b (r ∷ affected_of rs change) (affected_of rs change))
-        ≡ cond c (r.query ∷ filter (λ (q : Query). is_outdated change q && list_any (is_watching q.name) sessions) (map (λ (x : Registered). x.query) rs))
-        (filter (λ (q : Query). is_outdated change q && list_any (is_watching q.name) sessions) (map (λ (x : Registered). x.query) rs))
-    step true true e m = ap (λ (qs : List Query). r.query ∷ qs) m
+        ≡ cond c (r.query ∷ filter (λ (q : Listed). is_outdated change q && list_any (is_watching (listed_name q)) sessions) (map (λ (x : Registered). x.query) rs))
+        (filter (λ (q : Listed). is_outdated change q && list_any (is_watching (listed_name q)) sessions) (map (λ (x : Registered). x.query) rs))
+    step true true e m = ap (λ (qs : List Listed). r.query ∷ qs) m
     step false false e m = m
     step true false e m = absurd (cc (e))
     step false true e m = absurd (cc (e))
@@ -126,9 +126,9 @@ affected_is : (k : Kept) (stopped : Bool) (xs : List OpenSession) (change : Rows
     → map (λ (r : Registered). r.query) (affected_of k.registered change) ≡ affected (state_in k stopped xs) change
 affected_is k stopped xs change sound queries =
     affects k.registered (map (open_in k.cursors) xs) change
-    (hold_each (λ (r : Registered). list_any (is_watching r.query.name) (map (open_in k.cursors) xs) ≡ is_watched r) k.registered
-    (λ r c. watch_seen k.cursors r.query.name xs ∙ ap (λ (n : ℕ). nat_lt 0 n) (sym (sound.counted.counted r c))))
-    ∙ ap (λ (qs : List Query). filter (λ (q : Query). is_outdated change q && list_any (is_watching q.name) (map (open_in k.cursors) xs)) qs) queries
+    (hold_each (λ (r : Registered). list_any (is_watching (listed_name r.query)) (map (open_in k.cursors) xs) ≡ is_watched r) k.registered
+    (λ r c. watch_seen k.cursors (listed_name r.query) xs ∙ ap (λ (n : ℕ). nat_lt 0 n) (sym (sound.counted.counted r c))))
+    ∙ ap (λ (qs : List Listed). filter (λ (q : Listed). is_outdated change q && list_any (is_watching (listed_name q)) (map (open_in k.cursors) xs)) qs) queries
 
 filter_twice : {A : Type 0} (p q : A → Bool) (xs : List A) → filter q (filter p xs) ≡ filter (λ x. p x && q x) xs
 filter_twice p q [] = refl
@@ -172,7 +172,7 @@ listed_as : (old : Kept) (stopped : Bool) (xs : List OpenSession) (o : Option Ro
     → ListsDeltas (old.store).relations (queries_affected old) o ds → ListsDeltas (old.store).relations (affected (state_in old stopped xs)) o ds
 listed_as old stopped xs None ds sound queries h = h
 listed_as old stopped xs (Some change) ds sound queries h =
-    subst (λ (qs : List Query). AreDeltas (old.store).relations change.after qs ds) (affected_is old stopped xs change sound queries) h
+    subst (λ (qs : List Listed). AreDeltas (old.store).relations change.after qs ds) (affected_is old stopped xs change sound queries) h
 
 -- what the machine says of a change, once its line was taken
 change_step : (old mid new : Kept) (stopped : Bool) (xs ys : List OpenSession) (s : ℕ) (outcome : RowsOutcome) (reply : Bytes) (kept : Keeping) (was now : ℕ)

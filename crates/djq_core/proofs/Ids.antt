@@ -3,7 +3,7 @@ use Rattle.std.proofs.Common.{ℕ, ◌≡◌, ◌++◌, ◌&&◌, Bool, true, fa
 use Rattle.std.specs.Prelude.{⊤, IsSome}
 use Rattle.std.proofs.lemmas.Bool.{eqb-true, eq-eqb}
 use Rattle.djq_model.specs.Data.{Bytes}
-use Rattle.djq_model.specs.declared.query.Query.{Query}
+use Rattle.djq_model.specs.Listed.{Listed}
 use Rattle.djq_session.specs.declared.named.NamedCursor.{NamedCursor}
 use Rattle.djq_engine.specs.declared.cursor.CursorId.{CursorId}
 use Rattle.djq_engine.specs.Kept.{Held, held_at, same_id, SameCursors, OthersStay, outdated_held}
@@ -214,10 +214,10 @@ owned_without old new xs ys zs gone others h c i = step (apart_or c ys)
 -- A change of rows.
 
 -- each cursor is as the change leaves it
-abbrev pub Outdated : List Query → (Query → Option Bytes) → ℕ → List Held → List Held → Type 0
+abbrev pub Outdated : List Listed → (Listed → Option Bytes) → ℕ → List Held → List Held → Type 0
 Outdated queries outdater n old new = (c : CursorId) → held_at new c ≡ option_map (outdated_held queries outdater n) (held_at old c)
 
-pub outdated_find : (queries : List Query) (outdater : Query → Option Bytes) (n : ℕ) (hs : List Held) (c : CursorId)
+pub outdated_find : (queries : List Listed) (outdater : Listed → Option Bytes) (n : ℕ) (hs : List Held) (c : CursorId)
     → held_at (map (outdated_held queries outdater n) hs) c ≡ option_map (outdated_held queries outdater n) (held_at hs c)
 outdated_find queries outdater n [] c = refl
 outdated_find queries outdater n (h ∷ hs) c = step (same_id h.id c) (outdated_find queries outdater n hs c)
@@ -227,12 +227,12 @@ outdated_find queries outdater n (h ∷ hs) c = step (same_id h.id c) (outdated_
     step true r = refl
     step false r = r
 
-still_apart : (queries : List Query) (outdater : Query → Option Bytes) (n : ℕ) (o : Option Bytes) (p : Position) → GivesApart p → GivesApart (outdated o n p)
+still_apart : (queries : List Listed) (outdater : Listed → Option Bytes) (n : ℕ) (o : Option Bytes) (p : Position) → GivesApart p → GivesApart (outdated o n p)
 still_apart queries outdater n None p g = g
 still_apart queries outdater n (Some r) (open_at given ended) g = tt
 still_apart queries outdater n (Some r) (stale s m) g = tt
 
-pub outdated_all_held : (queries : List Query) (outdater : Query → Option Bytes) (n : ℕ) (old new : List Held) (cs : List CursorId) → Outdated queries outdater n old new → AreHeld old cs → AreHeld new cs
+pub outdated_all_held : (queries : List Listed) (outdater : Listed → Option Bytes) (n : ℕ) (old new : List Held) (cs : List CursorId) → Outdated queries outdater n old new → AreHeld old cs → AreHeld new cs
 outdated_all_held queries outdater n old new [] out h = tt
 outdated_all_held queries outdater n old new (c ∷ cs) out h = (
   (
@@ -247,13 +247,13 @@ stale_stays : (o : Option Bytes) (n : ℕ) → stale [] 0 ≡ outdated o n (stal
 stale_stays None n = refl
 stale_stays (Some r) n = refl
 
-outdated_one : (queries : List Query) (outdater : Query → Option Bytes) (n : ℕ) (name : Bytes) (o : Option Held)
+outdated_one : (queries : List Listed) (outdater : Listed → Option Bytes) (n : ℕ) (name : Bytes) (o : Option Held)
     → record { name = name; query = query_in (option_map (outdated_held queries outdater n) o); position = position_in (option_map (outdated_held queries outdater n) o) }
     ≡ outdated_cursor queries outdater n (record { name = name; query = query_in o; position = position_in o })
 outdated_one queries outdater n name None = ap (λ (p : Position). record { name = name; query = []; position = p }) (stale_stays (outdater_of queries outdater []) n)
 outdated_one queries outdater n name (Some h) = refl
 
-pub outdated_names : (queries : List Query) (outdater : Query → Option Bytes) (n : ℕ) (old new : List Held) (names : List (NamedCursor CursorId)) → Outdated queries outdater n old new
+pub outdated_names : (queries : List Listed) (outdater : Listed → Option Bytes) (n : ℕ) (old new : List Held) (names : List (NamedCursor CursorId)) → Outdated queries outdater n old new
     → map (cursor_in new) names ≡ map (outdated_cursor queries outdater n) (map (cursor_in old) names)
 outdated_names queries outdater n old new [] out = refl
 outdated_names queries outdater n old new (x ∷ names) out =
@@ -262,7 +262,7 @@ outdated_names queries outdater n old new (x ∷ names) out =
     = ap (λ (o : Option Held). record { name = x.name; query = query_in o; position = position_in o }) (out x.cursor) in
     let here : cursor_in new x ≡ outdated_cursor queries outdater n (cursor_in old x) = moved ∙ outdated_one queries outdater n x.name (held_at old x.cursor) in cc
 
-pub outdated_open : (queries : List Query) (outdater : Query → Option Bytes) (n : ℕ) (old new : List Held) (xs : List OpenSession) → Outdated queries outdater n old new
+pub outdated_open : (queries : List Listed) (outdater : Listed → Option Bytes) (n : ℕ) (old new : List Held) (xs : List OpenSession) → Outdated queries outdater n old new
     → map (open_in new) xs ≡ outdated_sessions queries outdater n (map (open_in old) xs)
 outdated_open queries outdater n old new [] out = refl
 outdated_open queries outdater n old new (x ∷ xs) out =

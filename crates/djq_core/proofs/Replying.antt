@@ -1,7 +1,8 @@
 -- Commands that leave the session's cursors as they are.
 use Rattle.std.proofs.Common.{ℕ, zero, suc, ◌+◌, ◌<◌, ◌≤◌, ◌≡◌, ◌++◌, Bool, true, false, List, [], ◌∷◌, map, Option, None, Some, Result, Ok, Err, codes, refl, sym, ap, ◌∙◌, subst, arith, ◌||◌, ◌⊎◌, inl, inr, ap₂, option_map}
 use Rattle.std.specs.Prelude.{⊤, ◌==◌, if◌then◌else◌, find, IsSome, IsSomeAnd, IfSome, is_none, is_ok, nat_lt}
-use Rattle.djq_model.specs.Data.{Bytes, Tuple, query_of, bytes_eq, drop_first}
+use Rattle.djq_model.specs.Data.{Bytes, Tuple, bytes_eq, drop_first}
+use Rattle.djq_model.specs.Listed.{Listed, listed_name, listed_of}
 use Rattle.std.specs.List.{list_any}
 use Rattle.std.proofs.lemmas.Bool.{ltb-true, lt-ltb}
 use Rattle.djq_model.specs.Equality.{bytes_eq-decides}
@@ -168,13 +169,13 @@ does_query old new before after q result was now counted registers same stays r 
     ))
 
 pub does_has : (k : Kept) (before after : Talk) (q : Bytes) (t : Tuple) (result : Result Bool Refusal) (was now : ℕ)
-    → TellsWhether k.store q t result → now ≤ was + has_steps (query_of k.store.queries q) → Replies before after (has_reply result)
+    → TellsWhether k.store q t result → now ≤ was + has_steps (listed_of k.store.queries q) → Replies before after (has_reply result)
     → Executes (Has q t) false k before k after was now
 does_has k before after q t result was now tells counted r =
-    replied_costing _ k k before after (has_reply result) (has_steps (query_of k.store.queries q)) was now no_line r (λ id. refl) (stays_same k.registered k.registered before.watches before.watches refl refl) counted (λ st s x e f. record {
+    replied_costing _ k k before after (has_reply result) (has_steps (listed_of k.store.queries q)) was now no_line r (λ id. refl) (stays_same k.registered k.registered before.watches before.watches refl refl) counted (λ st s x e f. record {
       result = result;
       tells = subst (λ store. TellsWhether store q t result) (sym e) tells;
-      effect = ap (λ store. to_one s (Some (has_reply result)) (has_steps (query_of store.queries q))) (sym e);
+      effect = ap (λ store. to_one s (Some (has_reply result)) (has_steps (listed_of store.queries q))) (sym e);
       state = ap (λ store. record st { store = store }) (sym e);
     })
 
@@ -257,7 +258,7 @@ sessions_watch hs q (x ∷ xs) some = step (is_among_watches (x.session).watches
 watched_by : (rs : List Registered) (xs : List OpenSession) (q : Bytes) → AreCounted rs xs → (r : Registered) → registered_of rs q ≡ Some r → r.watchers ≡ watchers_in xs q
 watched_by rs xs q counted r f =
     let there = found_there rs q r f in
-    counted.counted r there.0 ∙ ap (watchers_in xs) (same_name r.query.name q there.1)
+    counted.counted r there.0 ∙ ap (watchers_in xs) (same_name (listed_name r.query) q there.1)
 
 is_watched_some : (r : Registered) → is_watched r ≡ true → 0 < r.watchers
 is_watched_some r h = ltb-true 0 r.watchers h
@@ -292,7 +293,7 @@ use_is k q false xs sound u = sym (sessions_unused k.cursors q xs sound.cursors_
 -- what is dropped was in no use
 dropped_unused : (st st' : Store) (used : Bool) (q : Bytes) (d : ⊤) → DropsQuery st used q (Ok d) st' → used ≡ false
 dropped_unused st st' used q d drops =
-    step used (is_none (query_of st.queries q)) (λ x. st' ≡ record st { queries = drop_first (λ (p : Query). bytes_eq p.name q) st.queries }) (OutOfMemoryWhere ⊥) drops.answer
+    step used (is_none (listed_of st.queries q)) (λ x. st' ≡ record st { queries = drop_first (λ (p : Listed). bytes_eq (listed_name p) q) st.queries }) (OutOfMemoryWhere ⊥) drops.answer
   where
     step : (u b : Bool) (Done : ⊤ → Type 0) (Late : Refusal → Type 0) → Answers (first_of ((b, NoQuery) ∷ (u, InUse) ∷ [])) (Ok d) Done Late → u ≡ false
     step false b D L h = refl

@@ -1,15 +1,17 @@
--- Whether a tuple is an answer of a query is decided: one of finitely many choices of rows shows it, or none does.
+-- Whether a tuple is an answer is decided: of a query, one of finitely many choices of rows shows it, or none does.
 use Rattle.std.specs.Prelude.{List, [], ◌∷◌, ◌≡◌, ◌⊎◌, Bool, true, false, cond, pos, map, All, Contains}
 use Rattle.std.proofs.Common.{refl, sym, ap, ap₂, ◌∙◌, inl, inr}
 use Rattle.std.proofs.lemmas.List.Elements.{All-nil, All-cons, All-head, All-tail}
 use Rattle.djq_model.specs.declared.value.Value.{Value}
 use Rattle.djq_model.specs.declared.value.Value.TheVariants.{Int}
 use Rattle.djq_model.specs.declared.relation.Relation.{Relation}
+use Rattle.djq_model.specs.declared.query.Query.{Query}
 use Rattle.djq_model.specs.declared.query.Atom.{Atom}
 use Rattle.djq_model.specs.declared.query.Term.{Term}
 use Rattle.djq_model.specs.declared.query.Term.TheVariants.{Variable, Hole, Constant}
 use Rattle.djq_model.specs.Data.{Bytes, Tuple, bytes_eq, value_eq, rows_of}
-use Rattle.djq_model.specs.Answer.{Assignment, StandForAll, Satisfies}
+use Rattle.djq_model.specs.Answer.{Assignment, StandForAll, Satisfies, IsAnswer}
+use Rattle.djq_model.specs.Listed.{a_query}
 use Rattle.djq_model.specs.Equality.{bytes_eq-decides, value_eq-decides}
 use Rattle.djq_deltas.specs.Decided.{Decided, AnswersAreDecided}
 use Rattle.djq_deltas.proofs.Lists.{nothing_there, first_or_later, first_there, later_there}
@@ -142,8 +144,11 @@ atoms_decided relations (a ∷ more) bs =
     record { assignment = s.assignment; holds = s.holds; rest = ((first.row, first.is_there, first.stands), All-tail (Satisfies relations s.assignment) a more s.rest) })
     (rows_decided (λ f. All (Satisfies relations f) more) (λ cs. atoms_decided relations more cs) a.terms (rows_of relations a.relation) bs)
 
-pub answers_are_decided : AnswersAreDecided
-answers_are_decided relations q t =
+pub query_decided : (relations : List Relation) (q : Query) (t : Tuple) → Decided (IsAnswer relations q t)
+query_decided relations q t =
     decided_as (λ s. record { assignment = s.assignment; satisfies = s.rest.1; on_head = s.rest.0 })
     (λ h. record { assignment = h.assignment; holds = tt; rest = (h.on_head, h.satisfies) })
     (head_decided (λ f. All (Satisfies relations f) q.atoms) (λ bs. atoms_decided relations q.atoms bs) q.head t [])
+
+pub answers_are_decided : AnswersAreDecided
+answers_are_decided relations (a_query q) t = query_decided relations q t

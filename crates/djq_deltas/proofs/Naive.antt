@@ -13,7 +13,7 @@ use Rattle.djq_model.specs.Answer.{Assignment, StandsFor, StandForAll, Satisfies
 use Rattle.djq_deltas.specs.Decided.{Decided}
 use Rattle.djq_deltas.specs.Finite.{IsBound}
 use Rattle.djq_deltas.proofs.Lists.{nothing_there, first_or_later, first_there, later_there, kept_hold, kept_there, mapped_there}
-use Rattle.djq_deltas.proofs.Deciding.{answers_are_decided}
+use Rattle.djq_deltas.proofs.Deciding.{query_decided}
 
 -- The values that the relations of atoms have.
 abbrev values_in : List Tuple → List Value
@@ -100,7 +100,7 @@ is_held (inr never) h = absurd (never h)
 
 module _ (relations : List Relation) (q : Query) where
   abbrev is_answer : Tuple → Bool
-  is_answer t = holds (answers_are_decided relations q t)
+  is_answer t = holds (query_decided relations q t)
 
   abbrev candidates : List Tuple
   candidates = tuples (values relations q.atoms) q.head
@@ -110,11 +110,11 @@ module _ (relations : List Relation) (q : Query) where
 
   pub all_hold : All (IsAnswer relations q) listed
   all_hold = kept_hold (λ (t : Tuple). Unit {0}) (IsAnswer relations q) is_answer candidates
-      (λ t e u. it_holds (answers_are_decided relations q t) e) (λ k d lt. tt)
+      (λ t e u. it_holds (query_decided relations q t) e) (λ k d lt. tt)
 
   pub all_there : IsBound q → (t : Tuple) → IsAnswer relations q t → Contains listed t
   all_there bound t h =
-      kept_there is_answer candidates t (is_held (answers_are_decided relations q t) h)
+      kept_there is_answer candidates t (is_held (query_decided relations q t) h)
       (subst (λ (u : Tuple). Contains candidates u) (sym h.on_head)
       (tuples_there (values relations q.atoms) h.assignment q.head
       (λ x k. let m = bound x k in its_value relations h.assignment q.atoms m.0 x h.satisfies m.1 m.2)))

@@ -1,15 +1,14 @@
--- Whether a tuple is an answer of a query is decided.
+-- Whether a tuple is an answer is decided.
 use Rattle.std.specs.Prelude.{List, ◌⊎◌}
 use Rattle.djq_model.specs.declared.relation.Relation.{Relation}
-use Rattle.djq_model.specs.declared.query.Query.{Query}
 use Rattle.djq_model.specs.Data.{Tuple}
-use Rattle.djq_model.specs.Answer.{IsAnswer}
+use Rattle.djq_model.specs.Listed.{Listed, AnswersOf}
 
 -- It holds or it doesn't.
 abbrev pub Decided : Type 0 → Type 0
 Decided A = A ⊎ (A → ⊥)
 
--- A tuple is an answer of a query, bound or not, or it isn't.
+-- A tuple is an answer of what is registered, bound or not, or it isn't.
 abbrev pub AnswersAreDecided : Type 0
-AnswersAreDecided = (relations : List Relation) (q : Query) (t : Tuple)
-    → Decided (IsAnswer relations q t)
+AnswersAreDecided = (relations : List Relation) (q : Listed) (t : Tuple)
+    → Decided (AnswersOf relations q t)

@@ -29,12 +29,13 @@
 ghost use Rattle.djq_deltas.specs.Decided.{AnswersAreDecided};
 ghost use Rattle.djq_deltas.specs.Finite.{AnswersAreFinite, DeltasExist};
 
-/// A tuple is an answer of a query over some relations, or it isn't.
+/// A tuple is an answer of what is registered over some relations, or it isn't.
 pub fn answers_are_decided()
     ensures { AnswersAreDecided }
 {}
 
-/// A query has finitely many answers, where each variable of its head stands in its body.
+/// What is registered has finitely many answers: a query, where each variable of its head stands in
+/// its body.
 pub fn answers_are_finite()
     ensures { AnswersAreFinite }
 {}

@@ -3,8 +3,8 @@ use Rattle.std.proofs.Common.{ℕ, zero, List, [], ◌∷◌, ◌++◌, ◌+◌,
 use Rattle.std.specs.Prelude.{Option, None, Some, is_some, Ok, Err, AllPairs, map, ⊤}
 use Rattle.std.proofs.lemmas.Bool.{false≢true}
 use Rattle.djq_model.specs.declared.relation.Relation.{Relation}
-use Rattle.djq_model.specs.declared.query.Query.{Query}
 use Rattle.djq_model.specs.Data.{Bytes, Tuple, bytes_eq, change_first, rows_of, has_row, without_row}
+use Rattle.djq_model.specs.Listed.{Listed}
 use Rattle.djq_model.specs.Known.{texts_in, all_learned}
 use Rattle.djq_lines.specs.declared.limits.TheConstants.{TEXTS}
 use Rattle.djq_lines.specs.declared.answer.Refusal.{Refusal}
@@ -38,7 +38,7 @@ store_as : (c d : Catalog) (gs hs : List (Option Live)) (order places : List ℕ
     → store_of d hs places n ≡ record { relations = relations; texts = texts; queries = queries_in gs order; seq = seq }
 store_as c d gs hs order places seq n relations texts e f g h =
     ap₂ (λ (rs : List Relation) (ts : List Bytes). (let s : Store = record { relations = rs; texts = ts; queries = queries_in hs places; seq = n } in s)) e f
-    ∙ ap₂ (λ (qs : List Query) (m : ℕ). (let s : Store = record { relations = relations; texts = texts; queries = qs; seq = m } in s)) g h
+    ∙ ap₂ (λ (qs : List Listed) (m : ℕ). (let s : Store = record { relations = relations; texts = texts; queries = qs; seq = m } in s)) g h
 
 pub same_names : (c d : Catalog) (at : ℕ) (rows : List Tuple) → at < length c.relations → d.relations ≡ with_rows_at c.relations at rows → SameNames c d
 same_names c d at rows low e = record {

@@ -4,6 +4,7 @@ use Rattle.std.proofs.Common.{ℕ, zero, suc, List, [], ◌∷◌, ◌≡◌, �
 use Rattle.std.specs.Prelude.{Option, None, Some, IsSomeAnd, is_some, option_map, map, cond, ⊤}
 use Rattle.djq_model.specs.declared.query.Query.{Query}
 use Rattle.djq_model.specs.Data.{Bytes}
+use Rattle.djq_model.specs.Listed.{Listed, a_query}
 use Rattle.djq_machine.specs.State.{Position, stale}
 use Rattle.djq_machine.specs.Stale.{reads, outdated, outdater_of, by_relation}
 use Rattle.djq_rows.specs.Catalog.{Catalog, relation_at}
@@ -89,7 +90,7 @@ module _ (c d : Catalog) (gs ks : List (Option Live)) (order : List ℕ) (reader
       by_place true (Some l) (Some m) t = h l m t.query
 
   same_query : (i : ℕ) → query_in (place_at ks i) ≡ query_in (place_at gs i)
-  same_query = same_field query_in (λ l m e. e)
+  same_query = same_field query_in (λ l m e. ap a_query e)
 
   same_live : (i : ℕ) → is_live ks i ≡ is_live gs i
   same_live = same_field is_some (λ l m e. refl)
@@ -108,9 +109,12 @@ module _ (c d : Catalog) (gs ks : List (Option Live)) (order : List ℕ) (reader
   was : (i : ℕ) (m : Live) → place_at ks i ≡ Some m → (l : Live) × (place_at gs i ≡ Some l) × (m.query ≡ l.query)
   was i m e = by_place (place_at gs i) refl (sym (same_live i) ∙ ap is_some e) (sym (same_query i) ∙ ap query_in e)
     where
-      by_place : (o : Option Live) → place_at gs i ≡ o → is_some (place_at gs i) ≡ true → query_in (place_at gs i) ≡ m.query → (l : Live) × (place_at gs i ≡ Some l) × (m.query ≡ l.query)
+      same_listed : (x y : Query) → a_query x ≡ a_query y → x ≡ y
+      same_listed x y e = cc
+
+      by_place : (o : Option Live) → place_at gs i ≡ o → is_some (place_at gs i) ≡ true → query_in (place_at gs i) ≡ a_query m.query → (l : Live) × (place_at gs i ≡ Some l) × (m.query ≡ l.query)
       by_place None g h q = let none : is_some (place_at gs i) ≡ false = ap is_some g in absurd cc
-      by_place (Some l) g h q = (l, g, sym q ∙ ap query_in g)
+      by_place (Some l) g h q = (l, g, same_listed m.query l.query (sym q ∙ ap query_in g))
 
   pub turned_sound : IsSound d ks order readers
   turned_sound = record {
@@ -139,7 +143,7 @@ module _ (c d : Catalog) (gs ks : List (Option Live)) (order : List ℕ) (reader
       ap (λ o. outdater_by o) (query_kept c gs order readers s i l e)
       ∙ ap (λ x. cond x (Some (relation_at c.relations at).name) None) (sym (reader_reads c gs order readers s at low i l e) ∙ f)
     where
-      outdater_by : Option Query → Option Bytes
+      outdater_by : Option Listed → Option Bytes
       outdater_by None = None
       outdater_by (Some q) = by_relation (relation_at c.relations at).name q
 

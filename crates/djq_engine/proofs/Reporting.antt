@@ -17,9 +17,10 @@ use Rattle.djq_lines.specs.declared.answer.AddOutcome.{AddOutcome}
 use Rattle.djq_lines.specs.declared.answer.DeleteOutcome.{DeleteOutcome}
 use Rattle.djq_machine.specs.Changes.{RowsChange, RowsOutcome, accepted, out_of_memory, unchanged, one_change, new_rows, row_in, row_out, add_outcome, delete_outcome, is_outdated}
 use Rattle.djq_model.specs.Answer.{IsAnswer}
+use Rattle.djq_model.specs.Listed.{a_query, AnswersOf}
 use Rattle.djq_model.specs.Equality.{bytes_eq-decides}
 use Rattle.djq_machine.specs.Delta.{Change, IsDelta}
-use Rattle.djq_machine.specs.Stale.{reads}
+use Rattle.djq_machine.specs.Stale.{reads, listed_reads}
 use Rattle.djq_machine.specs.Store.{most_steps, with_rows, add_refusal}
 use Rattle.djq_machine.specs.Watch.{Delta, AreDeltas, delta_steps}
 use Rattle.djq_query.specs.declared.numbered.NumberedAtom.{NumberedAtom}
@@ -74,7 +75,7 @@ atoms_of c at variables (a ∷ atoms) (m ∷ ms) h = step (m.relation == at) ref
     step false e false f k = k
 
 pub bound_steps : (c : Catalog) (at : ℕ) (l : Live) (changes : List Change) (after : List Relation) → IsKept c l
-    → delta_bound l at changes ≤ delta_steps (one_change (relation_at c.relations at).name after) (record { query = l.query; changes = changes })
+    → delta_bound l at changes ≤ delta_steps (one_change (relation_at c.relations at).name after) (record { query = a_query l.query; changes = changes })
 bound_steps c at l changes after k =
     let fewer : atoms_over l at ≤ length (filter (λ a. bytes_eq a.relation (relation_at c.relations at).name) l.query.atoms) = atoms_of c at l.numbered.variables l.query.atoms l.numbered.atoms k.over.asked.atoms in
     mul-le (length changes + atoms_over l at) (most_steps (length l.query.head)) (length changes + length (filter (λ a. bytes_eq a.relation (relation_at c.relations at).name) l.query.atoms)) (most_steps (length l.query.head)) (omega (arith, fewer)) (omega arith)
@@ -121,10 +122,10 @@ module _ (c : Catalog) (gs : List (Option Live)) (order : List ℕ) (readers : L
         map_mapped (λ (d : Delta). d.query) (delta_at f) watched
         ∙ sym (map_mapped (λ (r : Registered). r.query) (registered_as gs ws) watched)
         ∙ ap (map (λ (r : Registered). r.query)) (sym (ap (λ (x : Bytes). affected_of (registered_in gs ws order) (one_change x after)) (sym named) ∙ affected_are c gs order readers ws s at low after));
-    are_deltas = all_made (λ d. IsDelta (IsAnswer c.relations d.query) (IsAnswer after d.query) d.changes) (delta_at f) watched (λ i e.
+    are_deltas = all_made (λ d. IsDelta (AnswersOf c.relations d.query) (AnswersOf after d.query) d.changes) (delta_at f) watched (λ i e.
         let b = both_true (is_reader (readers_at readers at) i) (watched_at ws i) (sym (reader_filter (watched_at ws) (readers_at readers at) i) ∙ e) in
         let t = reader_there i b.0 in
-        subst (λ (o : Option Live). IsDelta (IsAnswer c.relations (query_in o)) (IsAnswer after (query_in o)) (f i)) (sym t.is) (h i t.query b.0 b.1 t.is));
+        subst (λ (o : Option Live). IsDelta (AnswersOf c.relations (query_in o)) (AnswersOf after (query_in o)) (f i)) (sym t.is) (h i t.query b.0 b.1 t.is));
   }
 
   pub steps_with : (f : ℕ → List Change) → sum_by (cost_at ws gs at f) (readers_at readers at) ≤ sum_by (delta_steps (one_change name after)) (deltas_with f)
@@ -364,7 +365,7 @@ module _ (old : Parts) (s : IsWhole old) (at : ℕ) (low : at < length (old.cata
   reads_are i t =
       reader_reads old.catalog old.queries.items old.order old.readers.items s at low i t.query t.is
       ∙ ap (reads t.query.query) named
-      ∙ ap (λ (o : Option Live). reads (query_in o) name) (sym t.is)
+      ∙ ap (λ (o : Option Live). listed_reads (query_in o) name) (sym t.is)
       ∙ sym (outdated_reads name (query_in (place_at old.queries.items i)))
 
   -- where memory was refused
@@ -473,7 +474,7 @@ module _ (old : Parts) (s : IsWhole old) (name : Bytes) (row : Tuple) (at : ℕ)
     (differ : AllPairs (λ r s. r.name ≢ s.name) (old.catalog).relations) (before now : ℕ) where
   have : (rows : List Tuple) (i : ℕ) (l : Live) → place_at old.queries.items i ≡ Some l → (changes : List Change)
       × IsDelta (IsAnswer (old.catalog).relations l.query) (IsAnswer (with_rows_at (old.catalog).relations at rows) l.query) changes
-  have rows i l there = exist (old.catalog).relations (with_rows_at (old.catalog).relations at rows) l.query (bound old.catalog l (s.live i l there).kept)
+  have rows i l there = exist (old.catalog).relations (with_rows_at (old.catalog).relations at rows) (a_query l.query) (bound old.catalog l (s.live i l there).kept)
 
   rows_are : rows_of (old.catalog).relations name ≡ rows_at (old.catalog).relations at
   rows_are = rows_found (old.catalog).relations name row old.seq at m

@@ -10,8 +10,9 @@ use Rattle.djq_model.specs.declared.relation.Relation.{Relation}
 use Rattle.djq_model.specs.declared.query.Query.{Query}
 use Rattle.djq_model.specs.declared.query.Atom.{Atom}
 use Rattle.djq_lines.specs.Variables.{Label, variables_of}
-use Rattle.djq_machine.specs.Stale.{reads, by_relation}
+use Rattle.djq_machine.specs.Stale.{reads, listed_reads, by_relation}
 use Rattle.djq_machine.specs.Changes.{one_change}
+use Rattle.djq_machine.proofs.Reading.{reads_atom}
 use Rattle.djq_propagate.specs.Updates.{HasAtMost}
 use Rattle.djq_query.specs.declared.numbered.Variable.{Variable}
 use Rattle.djq_query.specs.declared.numbered.NumberedAtom.{NumberedAtom}
@@ -240,7 +241,7 @@ module _ (old : Parts) (s : IsWhole old) (at : ℕ) (low : at < length (old.cata
   reads_name i e =
       let t = reads_there i e in
       outdated_reads name (query_in (place_at old.queries.items i))
-      ∙ ap (λ (o : Option Live). reads (query_in o) name) t.is
+      ∙ ap (λ (o : Option Live). listed_reads (query_in o) name) t.is
       ∙ ap (reads t.query.query) (sym named)
       ∙ sym (reader_reads old.catalog old.queries.items old.order old.readers.items s at low i
       t.query t.is)
@@ -263,8 +264,9 @@ module _ (old : Parts) (s : IsWhole old) (at : ℕ) (low : at < length (old.cata
       (law old.catalog t.query n (s.live i t.query t.is).kept (record {
         each = λ a has.
             few (id_at i) (registered_as old.queries.items old.watchers.items i)
-            (registered_here i e) (reads_name i e) a
-            (subst (λ (o : Option Live). Contains (query_in o).atoms a) (sym t.is) has);
+            (registered_here i e) (reads_name i e) a.relation
+            (subst (λ (o : Option Live). listed_reads (query_in o) a.relation ≡ true) (sym t.is)
+            (reads_atom t.query.query a has));
       }))
 
   steps_of : (n i : ℕ) → is_reader (readers_at old.readers.items at) i ≡ true

@@ -2,7 +2,8 @@
 use Rattle.std.specs.Prelude.{ℕ, List, [], ◌∷◌, ◌++◌, ◌≡◌, ◌≤◌, ◌+◌, ◌*◌, ◌⊎◌, ◌&&◌, ◌||◌, Bool, true, false, not, Option, None, Some, IsSomeAnd, Result, Ok, Err, if◌then◌else◌, Contains, filter, length, map, sum_by, ⊤}
 use Rattle.djq_model.specs.declared.query.Query.{Query}
 use Rattle.djq_model.specs.declared.query.Atom.{Atom}
-use Rattle.djq_model.specs.Data.{rows_of}
+use Rattle.djq_model.specs.Data.{Bytes, rows_of}
+use Rattle.djq_model.specs.Listed.{Listed, a_query}
 use Rattle.djq_lines.specs.Variables.{variables_of}
 use Rattle.djq_lines.specs.declared.answer.AddOutcome.{AddOutcome}
 use Rattle.djq_lines.specs.declared.answer.AddOutcome.TheVariants.{Added, Same}
@@ -12,6 +13,7 @@ use Rattle.djq_lines.specs.declared.answer.Refusal.{Refusal}
 use Rattle.djq_lines.specs.declared.answer.Refusal.TheVariants.{NoMemory}
 use Rattle.djq_lines.specs.declared.rest.QueryOutcome.{QueryOutcome}
 use Rattle.djq_lines.specs.declared.rest.QueryOutcome.TheVariants.{Registered as HasRegistered}
+use Rattle.djq_machine.specs.Stale.{listed_reads}
 use Rattle.djq_machine.specs.Changes.{RowsChange, RowsOutcome, accepted, out_of_memory, unchanged, tried, is_outdated}
 use Rattle.djq_machine.specs.Watch.{Delta, ListsDeltas, deltas_steps}
 use Rattle.djq_engine.specs.declared.cursor.QueryId.{QueryId}
@@ -47,7 +49,7 @@ reaches (out_of_memory change) r = is_outdated change r.query
 reaches unchanged r = false
 
 -- the watched queries that a change outdates
-abbrev pub queries_affected : Kept → RowsChange → List Query
+abbrev pub queries_affected : Kept → RowsChange → List Listed
 queries_affected k change = map (λ r. r.query) (affected_of k.registered change)
 
 -- A change that was accepted affects the queries that it outdates. Else the affected are as before.
@@ -77,7 +79,7 @@ pub record TellsChange (old : Kept) (outcome : RowsOutcome) (new : Kept) (before
 abbrev pub Enrols : List Registered → Query → Result QueryOutcome Refusal → List Registered → Type 0
 Enrols old q (Ok (HasRegistered most)) new =
     (id : QueryId) × (registered_at old id ≡ None)
-    × (new ≡ old ++ record { id = id; query = q; watchers = 0 } ∷ [])
+    × (new ≡ old ++ record { id = id; query = a_query q; watchers = 0 } ∷ [])
 Enrols old q _ new = new ≡ old
 
 -- Of a query that was registered no change is told yet. Else what is told of each is as before.
@@ -89,15 +91,15 @@ EnrolsTelling old q _ new =
 
 -- What an update of a query counts at most, where no leaf has more than n tuples before it: for each
 -- atom over a relation that changes 16(m + v)(n + 1), with m atoms and v variables, holes counted in.
-abbrev pub update_steps : RowsChange → ℕ → Query → ℕ
-update_steps change n q = length (filter (λ a. change.touches a.relation) q.atoms)
+abbrev pub update_steps : RowsChange → ℕ → Listed → ℕ
+update_steps change n (a_query q) = length (filter (λ a. change.touches a.relation) q.atoms)
     * (16 * ((length q.atoms + length (variables_of q.atoms)) * (n + 1)))
 
 -- No relation has more than n rows that is read by a query that a change outdates.
 abbrev pub AreFew : Kept → RowsChange → ℕ → Type 0
 AreFew k change n = (id : QueryId) (r : Registered) → registered_at k.registered id ≡ Some r
-    → is_outdated change r.query ≡ true → (a : Atom) → Contains r.query.atoms a
-    → length (rows_of (k.store).relations a.relation) ≤ n
+    → is_outdated change r.query ≡ true → (relation : Bytes) → listed_reads r.query relation ≡ true
+    → length (rows_of (k.store).relations relation) ≤ n
 
 -- A change counts so many times at most what the updates of the queries do that it outdates.
 pub record CountsUpdates (times : ℕ) (old : Kept) (change : RowsChange) (before now : ℕ) : Type 0

@@ -1,6 +1,6 @@
 //! What is asked of registered queries without changing them.
 ghost use Rattle.std.specs.Prelude.{◌≡◌, ◌+◌, ◌≤◌};
-ghost use Rattle.djq_model.specs.Data.{query_of};
+ghost use Rattle.djq_model.specs.Listed.{listed_of};
 ghost use Rattle.djq_machine.specs.Store.{TellsShape, TellsWhether, has_steps};
 ghost use Rattle.djq_engine.specs.Kept.{ExplainGives, IsRegistered, IsThere, AnswerIs};
 ghost use Rattle.djq_engine.specs.Lending.{LendsQuery};
@@ -40,7 +40,7 @@ pub fn has_in<L: Ledgers>(
     requires { IsWhole parts.now }
     ensures tells { TellsWhether (kept_in parts.now).store query.now tuple.now result }
     ensures counted { listing.new ≤ listing.old
-        + has_steps (query_of (kept_in parts.now).store.queries query.now) }
+        + has_steps (listed_of (kept_in parts.now).store.queries query.now) }
 {
     let Some(at) = find_query(parts.queries.as_slice(), query) else {
         return Err(Refusal::NoQuery);

@@ -1,5 +1,6 @@
 ghost use Rattle.std.specs.Prelude.{◌≡◌, ◌≤◌, ◌+◌, ◌-◌, ◌<◌, ◌∷◌, ◌++◌, false, [], length, map, option_map, slice_get, IfOk, IsSomeAnd, AllPairs};
-ghost use Rattle.djq_model.specs.Data.{bytes_eq, query_of, rows_of, without_row};
+ghost use Rattle.djq_model.specs.Data.{bytes_eq, rows_of, without_row};
+ghost use Rattle.djq_model.specs.Listed.{listed_name, listed_of};
 ghost use Rattle.djq_lines.specs.declared.limits.TheConstants.{SESSIONS};
 ghost use Rattle.djq_machine.specs.State.{opening};
 ghost use Rattle.djq_machine.specs.Store.{MakesRelation, AddsRow, DeletesRow, RegistersQuery};
@@ -112,7 +113,7 @@ impl Engine {
     /// The name of a registered query.
     pub fn query_name(&self, id: QueryId) -> Name
         requires { IsRegistered self.now id }
-        ensures { IsSomeAnd (registered_at self.now.registered id) (λ r. result ≡ r.query.name) }
+        ensures { IsSomeAnd (registered_at self.now.registered id) (λ r. result ≡ listed_name r.query) }
     {
         query_name_in(&self.parts, id)
     }
@@ -130,7 +131,7 @@ impl Engine {
     pub fn laws(&self)
         ensures queries { map (λ r. r.query) self.now.registered ≡ self.now.store.queries }
         ensures apart { AllPairs (λ r s. same_query r.id s.id ≡ false) self.now.registered }
-        ensures named { AllPairs (λ r s. bytes_eq r.query.name s.query.name ≡ false)
+        ensures named { AllPairs (λ r s. bytes_eq (listed_name r.query) (listed_name s.query) ≡ false)
             self.now.registered }
     {
         laws_in(&self.parts);
@@ -367,7 +368,7 @@ impl Engine {
     ) -> Result<bool, Refusal>
         ensures tells { TellsWhether self.now.store query.now tuple.now result }
         ensures counted { listing.new ≤ listing.old
-            + has_steps (query_of self.now.store.queries query.now) }
+            + has_steps (listed_of self.now.store.queries query.now) }
     {
         has_in(&self.parts, query, tuple, listing)
     }

@@ -3,7 +3,8 @@ use Rattle.std.proofs.Common.{ℕ, List, ◌≡◌, inl, inr, Bool, true, refl, 
 use Rattle.std.specs.Prelude.{Option, None, Some, is_some, IsSomeAnd, MatchOption, Result, Ok, Err, ⊤}
 use Rattle.djq_model.specs.declared.relation.ColumnType.{ColumnType}
 use Rattle.djq_model.specs.declared.query.Query.{Query}
-use Rattle.djq_model.specs.Data.{Bytes, Tuple, query_of}
+use Rattle.djq_model.specs.Data.{Bytes, Tuple}
+use Rattle.djq_model.specs.Listed.{Listed, a_query, listed_of}
 use Rattle.djq_model.specs.Known.{texts_in}
 use Rattle.djq_lines.specs.declared.answer.Refusal.{Refusal}
 use Rattle.djq_lines.specs.declared.answer.Refusal.TheVariants.{NoQuery, NoCursor, Limit, NoMemory}
@@ -21,7 +22,7 @@ use Rattle.djq_machine.specs.State.{Store, State, Session, Cursor, Position, ope
 use Rattle.djq_machine.specs.Store.{RefusedByTexts, MakesRelation, add_refusal, AddsAs, AddsRow, delete_refusal, DeletesAs, DeletesRow, query_refusal, RegistersAs, RefusedLate, RegistersQuery, DropsQuery}
 use Rattle.djq_machine.specs.Keeping.{Keeping, no_line, the_line, kept_where, is_done, is_removal, is_registration}
 use Rattle.djq_machine.specs.Effect.{Effect, RefusedStep}
-use Rattle.djq_machine.specs.Command.{OpensTo, BecomesWhere, NextStepAt, CloseStep, ExplainStep, TellsLines, explain_lines, CommandStep}
+use Rattle.djq_machine.specs.Command.{OpensTo, BecomesWhere, NextStepAt, CloseStep, ExplainStepOf, TellsLines, explain_lines, CommandStep}
 use Rattle.djq_laws.proofs.Finding.{some_and}
 use Rattle.djq_laws.proofs.Forms.{done_of}
 use Rattle.djq_laws.proofs.Watching.{change_store}
@@ -119,16 +120,16 @@ module _ (old : State) (s : ℕ) (c : Command) (e : Effect) (new : State) where
   becomes_quiet f (Ok u) k h = quiet k (ap (λ (st : State). st.store) h)
   becomes_quiet f (Err r) k h = quiet k (ap (λ (st : State). st.store) h)
 
-  next_quiet : (d : Bytes) (q : Query) (count : ℕ) (p : Position) → NextStepAt old s d q count p e new → Done
+  next_quiet : (d : Bytes) (q : Listed) (count : ℕ) (p : Position) → NextStepAt old s d q count p e new → Done
   next_quiet d q count (open_at given ended) (inl h) = quiet (ap (λ (f : Effect). f.kept) h.effect) (ap (λ (st : State). st.store) h.state)
   next_quiet d q count (open_at given ended) (inr h) = quiet (ap (λ (f : Effect). f.kept) h.effect) (ap (λ (st : State). st.store) h.state)
   next_quiet d q count (stale relation n) h = quiet (ap (λ (f : Effect). f.kept) h.0) (ap (λ (st : State). st.store) h.1)
 
   next_found : (d : Bytes) (count : ℕ) (o : Option Cursor)
-      → MatchOption o (RefusedStep old s NoCursor e new) (λ k. IsSomeAnd (query_of old.store.queries k.query) (λ q. NextStepAt old s d q count k.position e new)) → Done
+      → MatchOption o (RefusedStep old s NoCursor e new) (λ k. IsSomeAnd (listed_of old.store.queries k.query) (λ q. NextStepAt old s d q count k.position e new)) → Done
   next_found d count None h = refused_quiet NoCursor h
   next_found d count (Some k) h =
-      let f = some_and (query_of old.store.queries k.query) (λ q. NextStepAt old s d q count k.position e new) h in
+      let f = some_and (listed_of old.store.queries k.query) (λ q. NextStepAt old s d q count k.position e new) h in
       next_quiet d f.0 count k.position f.2
 
   close_found : (d : Bytes) (o : Option Cursor) → MatchOption o (RefusedStep old s NoCursor e new) (λ k. CloseStep old s d e new) → Done
@@ -139,9 +140,9 @@ module _ (old : State) (s : ℕ) (c : Command) (e : Effect) (new : State) where
   lines_quiet lines (inl h) = quiet (ap (λ (f : Effect). f.kept) h.0) (ap (λ (st : State). st.store) h.1)
   lines_quiet lines (inr (told, lacking, rest, parts, ends)) = quiet (ap (λ (f : Effect). f.kept) ends.0) (ap (λ (st : State). st.store) ends.1)
 
-  explain_found : (o : Option Query) → MatchOption o (RefusedStep old s NoQuery e new) (λ q. ExplainStep old s q e new) → Done
+  explain_found : (o : Option Listed) → MatchOption o (RefusedStep old s NoQuery e new) (λ q. ExplainStepOf old s q e new) → Done
   explain_found None h = refused_quiet NoQuery h
-  explain_found (Some q) h = lines_quiet (explain_lines q h.tree) h.tells
+  explain_found (Some (a_query q)) h = lines_quiet (explain_lines q h.tree) h.tells
 
 -- the store behind a command
 store_is : (old : State) (c : Command) (k : Keeping) (store : Store) (new : State) → new.store ≡ store → Keeps old.store c k store → Keeps old.store c k new.store
@@ -168,5 +169,5 @@ command_keeps old s x (Drop q) e new h =
 command_keeps old s x (Has q row) e new h = quiet old s (Has q row) e new (ap (λ (f : Effect). f.kept) h.effect) (ap (λ (st : State). st.store) h.state)
 command_keeps old s x (Watch q) e new h = becomes_quiet old s (Watch q) e new _ h.result (ap (λ (f : Effect). f.kept) h.effect) h.state
 command_keeps old s x (Unwatch q) e new h = becomes_quiet old s (Unwatch q) e new _ h.result (ap (λ (f : Effect). f.kept) h.effect) h.state
-command_keeps old s x (Explain q) e new h = explain_found old s (Explain q) e new (query_of old.store.queries q) h
+command_keeps old s x (Explain q) e new h = explain_found old s (Explain q) e new (listed_of old.store.queries q) h
 command_keeps old s x (Shape q) e new h = quiet old s (Shape q) e new (ap (λ (f : Effect). f.kept) h.effect) (ap (λ (st : State). st.store) h.state)

@@ -5,7 +5,8 @@ use Rattle.std.proofs.lemmas.Bool.{false≢true}
 use Rattle.std.proofs.lemmas.List.Sorted.{IsPermutation-append_left}
 use Rattle.djq_model.specs.declared.relation.ColumnType.{ColumnType}
 use Rattle.djq_model.specs.declared.query.Query.{Query}
-use Rattle.djq_model.specs.Data.{Bytes, Tuple, bytes_eq, drop_first, rows_of, query_of, has_row, without_row}
+use Rattle.djq_model.specs.Data.{Bytes, Tuple, bytes_eq, drop_first, rows_of, has_row, without_row}
+use Rattle.djq_model.specs.Listed.{Listed, a_query, listed_name, listed_of}
 use Rattle.djq_model.specs.Known.{texts_in, all_learned}
 use Rattle.djq_lines.specs.declared.limits.TheConstants.{TEXTS}
 use Rattle.djq_lines.specs.declared.answer.Refusal.{Refusal}
@@ -275,7 +276,7 @@ module _ (a b : Store) (f : Follows a b) where
   -- `query`
   module _ (q : Query) (most : ℕ) (to : Store) (m : RegistersQuery a q (Ok (Registered most)) to) where
     abbrev listed : Store → Store
-    listed st = record st { texts = all_learned st.texts (texts_in (constants_of q.atoms)); queries = st.queries ++ q ∷ [] }
+    listed st = record st { texts = all_learned st.texts (texts_in (constants_of q.atoms)); queries = st.queries ++ a_query q ∷ [] }
 
     listed_as : RegistersAs a q to (Registered most)
     listed_as = done_of (query_refusal a q) (Registered most) (RegistersAs a q to) (RefusedLate a q to) m.answer
@@ -290,7 +291,7 @@ module _ (a b : Store) (f : Follows a b) where
     listed_follows = subst (λ (st : Store). Follows st (listed b)) (sym listed_as.3) (record {
       same = record {
         relations = f.same.relations;
-        queries = ap (λ (qs : List Query). qs ++ q ∷ []) f.same.queries;
+        queries = ap (λ (qs : List Listed). qs ++ a_query q ∷ []) f.same.queries;
         seq = f.same.seq;
       };
       among = among_all b.texts a.texts (texts_in (constants_of q.atoms)) f.among;
@@ -334,15 +335,15 @@ module _ (a b : Store) (f : Follows a b) where
   -- `drop`
   module _ (used : Bool) (q : Bytes) (u : ⊤) (to : Store) (m : DropsQuery a used q (Ok u) to) where
     abbrev dropped : Store → Store
-    dropped st = record st { queries = drop_first (λ (p : Query). bytes_eq p.name q) st.queries }
+    dropped st = record st { queries = drop_first (λ (p : Listed). bytes_eq (listed_name p) q) st.queries }
 
     dropped_is : to ≡ dropped a
     dropped_is = done_of (drop_refusal a used q) u (λ _. to ≡ dropped a) (OutOfMemoryWhere ⊥) m.answer
 
     dropped_free : drop_refusal b false q ≡ None
     dropped_free =
-        ap (λ (qs : List Query). first_of ((is_none (query_of qs q), NoQuery) ∷ (false, InUse) ∷ [])) f.same.queries
-        ∙ unused (is_none (query_of a.queries q)) used (none_of (drop_refusal a used q) u (λ _. to ≡ dropped a) (OutOfMemoryWhere ⊥) m.answer)
+        ap (λ (qs : List Listed). first_of ((is_none (listed_of qs q), NoQuery) ∷ (false, InUse) ∷ [])) f.same.queries
+        ∙ unused (is_none (listed_of a.queries q)) used (none_of (drop_refusal a used q) u (λ _. to ≡ dropped a) (OutOfMemoryWhere ⊥) m.answer)
       where
         unused : (x y : Bool) → cond x (Some NoQuery) (cond y (Some InUse) None) ≡ None → cond x (Some NoQuery) (cond false (Some InUse) None) ≡ None
         unused true y h = absurd (cc (h))
@@ -352,7 +353,7 @@ module _ (a b : Store) (f : Follows a b) where
     dropped_follows = subst (λ (st : Store). Follows st (dropped b)) (sym dropped_is) (record {
       same = record {
         relations = f.same.relations;
-        queries = ap (λ (qs : List Query). drop_first (λ (p : Query). bytes_eq p.name q) qs) f.same.queries;
+        queries = ap (λ (qs : List Listed). drop_first (λ (p : Listed). bytes_eq (listed_name p) q) qs) f.same.queries;
         seq = f.same.seq;
       };
       among = f.among;

@@ -8,7 +8,8 @@ use Rattle.djq_model.specs.declared.relation.ColumnType.{ColumnType}
 use Rattle.djq_model.specs.declared.query.Query.{Query}
 use Rattle.djq_model.specs.declared.query.Atom.{Atom}
 use Rattle.djq_model.specs.declared.query.Term.{Term}
-use Rattle.djq_model.specs.Data.{Bytes, Tuple, bytes_eq, relation_of, rows_of, rows_in, query_of, has_row}
+use Rattle.djq_model.specs.Data.{Bytes, Tuple, bytes_eq, relation_of, rows_of, rows_in, has_row}
+use Rattle.djq_model.specs.Listed.{Listed, listed_of}
 use Rattle.djq_model.specs.Typed.{fits}
 use Rattle.djq_lines.specs.declared.limits.TheConstants.{COLUMNS, RELATIONS, ROWS, LAST_SEQ, QUERIES}
 use Rattle.djq_lines.specs.declared.answer.Refusal.{Refusal}
@@ -205,9 +206,9 @@ module _ (us bs : List Relation) (h : SameRelations us bs) where
   clash_same q = any_place_same (λ t c. any_place (is_clash t c) bs q.atoms) (λ t c. any_place (is_clash t c) us q.atoms) q.atoms
       (λ t c. any_place_same (is_clash t c) (is_clash t c) q.atoms (λ u d. refl))
 
-abbrev query_by : List Query → Bool → Bool → Bool → Bool → Query → Option Refusal
+abbrev query_by : List Listed → Bool → Bool → Bool → Bool → Query → Option Refusal
 query_by queries unknown arity misfits clash q = first_of (
-    (is_some (query_of queries q.name), Taken)
+    (is_some (listed_of queries q.name), Taken)
     ∷ (unknown, NoRelation)
     ∷ (arity, Arity)
     ∷ (misfits, WrongType)
@@ -222,7 +223,7 @@ pub query_same : (a b : Store) (q : Query) → IsSameStore a b → query_refusal
 query_same a b q h =
     let us = a.relations in
     let bs = b.relations in
-    ap (λ (qs : List Query). query_by qs (reads_unknown bs q) (has_wrong_arity bs q) (has_misfit bs q) (has_clash bs q) q) h.queries
+    ap (λ (qs : List Listed). query_by qs (reads_unknown bs q) (has_wrong_arity bs q) (has_misfit bs q) (has_clash bs q) q) h.queries
     ∙ ap (λ (x : Bool). query_by a.queries x (has_wrong_arity bs q) (has_misfit bs q) (has_clash bs q) q) (unknown_same us bs h.relations q)
     ∙ ap (λ (x : Bool). query_by a.queries (reads_unknown us q) x (has_misfit bs q) (has_clash bs q) q) (arity_same us bs h.relations q)
     ∙ ap (λ (x : Bool). query_by a.queries (reads_unknown us q) (has_wrong_arity us q) x (has_clash bs q) q) (misfit_same us bs h.relations q)

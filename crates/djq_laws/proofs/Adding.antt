@@ -4,7 +4,8 @@ use Rattle.std.proofs.Common.{refl, ap, ◌∙◌, subst, inl, inr}
 use Rattle.std.proofs.lemmas.List.Elements.{All-nil, All-cons, All-head, All-tail, All-append, All-contains, Contains-append_left, Contains-append_right}
 use Rattle.std.proofs.lemmas.List.Kept.{AllPairs-filter, AllPairs-cons}
 use Rattle.djq_model.specs.Data.{Tuple, has_row}
-use Rattle.djq_model.specs.Answer.{IsAnswer, IsListing}
+use Rattle.djq_model.specs.Answer.{IsListing}
+use Rattle.djq_model.specs.Listed.{AnswersOf}
 use Rattle.djq_lines.specs.declared.answer.Sign.{Sign}
 use Rattle.djq_lines.specs.declared.answer.Sign.TheVariants.{Came, Went}
 use Rattle.djq_machine.specs.Delta.{Change, HasChanged, IsDelta}
@@ -122,4 +123,4 @@ module _ (Before After : Tuple → Type 0) (ts : List Tuple) (changes : List Cha
   }
 
 pub deltas_add_up : DeltasAddUp
-deltas_add_up before after q ts changes listing delta = adds_up (IsAnswer before q) (IsAnswer after q) ts changes (answers_are_decided after q) listing delta
+deltas_add_up before after q ts changes listing delta = adds_up (AnswersOf before q) (AnswersOf after q) ts changes (answers_are_decided after q) listing delta

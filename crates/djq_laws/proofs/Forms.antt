@@ -33,7 +33,8 @@ use Rattle.std.specs.Prelude.{
 use Rattle.std.proofs.Common.{refl, sym, ap, ◌∙◌, subst, inl, inr, arith}
 use Rattle.djq_model.specs.declared.relation.ColumnType.{ColumnType}
 use Rattle.djq_model.specs.declared.query.Query.{Query}
-use Rattle.djq_model.specs.Data.{Bytes, bytes_eq, drop_first, relation_of, query_of}
+use Rattle.djq_model.specs.Data.{Bytes, bytes_eq, drop_first, relation_of}
+use Rattle.djq_model.specs.Listed.{Listed, a_query, listed_name, listed_of}
 use Rattle.djq_model.specs.Known.{texts_in}
 use Rattle.djq_lines.specs.Conditions.{first_of, Answers, OutOfMemoryWhere}
 use Rattle.djq_lines.specs.QueryFault.{query_faults}
@@ -101,7 +102,7 @@ use Rattle.djq_machine.specs.Command.{
   CommandStep,
   QueryStep,
   QueryCutStep,
-  ExplainStep,
+  ExplainStepOf,
   TellsLines,
   explain_lines,
 }
@@ -121,7 +122,7 @@ use Rattle.djq_laws.specs.Form.{
   LearnsTexts,
   learns_texts,
   makes_relation,
-  registers_query,
+  registers,
   drops_query,
   in_use,
   without_cursor,
@@ -241,18 +242,18 @@ module _ (used : Bytes → Bool) (old new : Store) where
       h.answer in
       let d = done_of (query_refusal old q) (Registered most) (RegistersAs old q new) (RefusedLate old q new) h.answer
       in
-      registers_query q
-      (none_found (query_of old.queries q.name)
-      (none_first (is_some (query_of old.queries q.name)) Taken
+      registers (a_query q)
+      (none_found (listed_of old.queries q.name)
+      (none_first (is_some (listed_of old.queries q.name)) Taken
       (first_of (query_faults old.relations q ++ (nat_le QUERIES (length old.queries), Limit) ∷ [])) none))
-      d.0 d.2 d.3
+      d.0 (λ _. d.2) d.3
 
   pub drop_stored : (name : Bytes) (r : Result ⊤ Refusal) → DropsQuery old (used name) name r new → Stored used old new
   drop_stored name (Err r) h = keeps_store h.stays
   drop_stored name (Ok u) h =
-      let D = λ (_ : ⊤). new ≡ record old { queries = drop_first (λ q. bytes_eq q.name name) old.queries } in
+      let D = λ (_ : ⊤). new ≡ record old { queries = drop_first (λ q. bytes_eq (listed_name q) name) old.queries } in
       let none = none_holds (drop_refusal old (used name) name) u D (OutOfMemoryWhere ⊥) h.answer in
-      drops_query name (none_second (is_none (query_of old.queries name)) (used name) NoQuery InUse None none)
+      drops_query name (none_second (is_none (listed_of old.queries name)) (used name) NoQuery InUse None none)
       (done_of (drop_refusal old (used name) name) u D (OutOfMemoryWhere ⊥) h.answer)
 
 -- ---- commands of the store
@@ -293,11 +294,11 @@ lines_replied old s lines e new (inr (told, lacking, rest, parts, ends)) = (
   is_cut ends.1,
 )
 
-explain_does : (old : State) (s : ℕ) (o : Option Query) (e : Effect) (new : State)
-    → MatchOption o (RefusedStep old s NoQuery e new) (λ q. ExplainStep old s q e new)
+explain_does : (old : State) (s : ℕ) (o : Option Listed) (e : Effect) (new : State)
+    → MatchOption o (RefusedStep old s NoQuery e new) (λ q. ExplainStepOf old s q e new)
     → SaysAlone s e × Replied s old new
 explain_does old s None e new h = refused_replied old s NoQuery e new h
-explain_does old s (Some q) e new h = lines_replied old s (explain_lines q h.tree) e new h.tells
+explain_does old s (Some (a_query q)) e new h = lines_replied old s (explain_lines q h.tree) e new h.tells
 
 -- ---- commands of the session
 
@@ -311,16 +312,16 @@ open_does old s x c q (Ok u) new answer after =
     is_turned (
       none_found (cursor_of x.cursors c)
           (none_first (is_some (cursor_of x.cursors c)) Taken
-          (cond (is_none (query_of old.store.queries q)) (Some NoQuery) rest) none),
-      some_found (query_of old.store.queries q)
-          (none_second (is_some (cursor_of x.cursors c)) (is_none (query_of old.store.queries q)) Taken NoQuery rest
+          (cond (is_none (listed_of old.store.queries q)) (Some NoQuery) rest) none),
+      some_found (listed_of old.store.queries q)
+          (none_second (is_some (cursor_of x.cursors c)) (is_none (listed_of old.store.queries q)) Taken NoQuery rest
           none),
       after,
     )
 
-next_at_does : (old : State) (s : ℕ) (x : Session) (c : Bytes) (k : Cursor) (q : Query) (count : ℕ) (p : Position)
+next_at_does : (old : State) (s : ℕ) (x : Session) (c : Bytes) (k : Cursor) (q : Listed) (count : ℕ) (p : Position)
     (e : Effect) (new : State)
-    → cursor_of x.cursors c ≡ Some k → query_of old.store.queries k.query ≡ Some q → k.position ≡ p
+    → cursor_of x.cursors c ≡ Some k → listed_of old.store.queries k.query ≡ Some q → k.position ≡ p
     → NextStepAt old s c q count p e new → SaysAlone s e × DoesTurn old s x (moves_cursor c) new
 next_at_does old s x c k q count (stale relation n) e new is over stands h = (
   says_alone s (stale_line c relation n) e h.0,
@@ -352,11 +353,11 @@ pub next_does : (old : State) (s : ℕ) (x : Session) (c : Bytes) (count : ℕ) 
     (new : State)
     → cursor_of x.cursors c ≡ o
     → MatchOption o (RefusedStep old s NoCursor e new)
-    (λ k. IsSomeAnd (query_of old.store.queries k.query) (λ q. NextStepAt old s c q count k.position e new))
+    (λ k. IsSomeAnd (listed_of old.store.queries k.query) (λ q. NextStepAt old s c q count k.position e new))
     → SaysAlone s e × DoesTurn old s x (moves_cursor c) new
 next_does old s x c count None e new is h = (says_alone s (refusal_line NoCursor) e h.0, is_refused (is_whole h.1))
 next_does old s x c count (Some k) e new is h =
-    let f = some_and (query_of old.store.queries k.query) (λ q. NextStepAt old s c q count k.position e new) h in
+    let f = some_and (listed_of old.store.queries k.query) (λ q. NextStepAt old s c q count k.position e new) h in
     next_at_does old s x c k f.0 count k.position e new is f.1 refl f.2
 
 close_does : (old : State) (s : ℕ) (x : Session) (c : Bytes) (o : Option Cursor) (e : Effect) (new : State)
@@ -373,7 +374,7 @@ watch_does old s x q L (Err r) new answer after = is_refused (is_whole after)
 watch_does old s x q L (Ok u) new answer after =
     let none = none_holds (watch_refusal old.store q) u (λ _. ⊤) L answer in
     is_turned (
-      some_found (query_of old.store.queries q) (none_first (is_none (query_of old.store.queries q)) NoQuery None none),
+      some_found (listed_of old.store.queries q) (none_first (is_none (listed_of old.store.queries q)) NoQuery None none),
       after,
     )
 
@@ -462,10 +463,10 @@ command_does old s x (Unwatch q) e new h = (
   unwatch_does old s x q h.result new h.state,
 )
 command_does old s x (Has q row) e new h = (
-  text_alone s (has_reply h.result) (has_steps (query_of old.store.queries q)) no_line e h.effect,
+  text_alone s (has_reply h.result) (has_steps (listed_of old.store.queries q)) no_line e h.effect,
   is_whole h.state,
 )
-command_does old s x (Explain q) e new h = explain_does old s (query_of old.store.queries q) e new h
+command_does old s x (Explain q) e new h = explain_does old s (listed_of old.store.queries q) e new h
 command_does old s x (Shape q) e new h = (says_alone s (shape_reply h.result) e h.effect, is_whole h.state)
 command_does old s x Quit e new h = (
   says_alone s bye e h.0,

@@ -4,9 +4,8 @@ use Rattle.std.specs.List.{list_any, slice_index_or}
 use Rattle.std.proofs.Common.{refl, sym, ap, ◌∙◌, subst, inl, inr, arith}
 use Rattle.std.proofs.lemmas.List.Elements.{All-nil, All-append, All-push, All-weaker, All-filter}
 use Rattle.djq_model.specs.declared.relation.Relation.{Relation}
-use Rattle.djq_model.specs.declared.query.Query.{Query}
-use Rattle.djq_model.specs.Data.{Bytes, Tuple, bytes_eq, drop_first, query_of}
-use Rattle.djq_model.specs.Answer.{IsAnswer}
+use Rattle.djq_model.specs.Data.{Bytes, Tuple, bytes_eq, drop_first}
+use Rattle.djq_model.specs.Listed.{Listed, listed_name, AnswersOf, listed_of}
 use Rattle.djq_lines.specs.declared.answer.EndCause.{EndCause}
 use Rattle.djq_lines.specs.declared.answer.EndCause.TheVariants.{Input, Memory}
 use Rattle.djq_lines.specs.declared.limits.TheConstants.{SESSIONS}
@@ -28,76 +27,76 @@ use Rattle.djq_laws.proofs.Finding.{some_and, find_dropped}
 use Rattle.djq_laws.proofs.Told.{change_keeps}
 use Rattle.djq_laws.proofs.Queueing.{session_changed}
 use Rattle.djq_laws.specs.Given.{RunsGive}
-use Rattle.djq_laws.specs.Form.{form_of, Form, asking, storing, turning, changing, ending, Turn, opens_cursor, moves_cursor, closes_cursor, starts_watching, stops_watching, Replied, is_whole, is_cut, Stored, learns_texts, makes_relation, registers_query, drops_query, in_use, MovesCursor, without_cursor, Turned, DoesTurn, is_turned, is_refused, Does}
+use Rattle.djq_laws.specs.Form.{form_of, Form, asking, storing, turning, changing, ending, Turn, opens_cursor, moves_cursor, closes_cursor, starts_watching, stops_watching, Replied, is_whole, is_cut, Stored, learns_texts, makes_relation, registers, drops_query, in_use, MovesCursor, without_cursor, Turned, DoesTurn, is_turned, is_refused, Does}
 use Rattle.djq_laws.proofs.Forms.{command_does}
 use Rattle.djq_laws.proofs.Rows.{RowsMade, outdater_by, rows_do}
 use Rattle.djq_laws.proofs.Changing.{all_changed, all_found, all_dropped, all_mapped}
 use Rattle.djq_laws.proofs.Answering.{SameAnswers, gives_kept, new_relation_same, reordered_same, apart_from, none_or, none_pass}
 
 -- a cursor gives what it should, over these relations and queries
-abbrev pub CursorGives : List Relation → List Query → Cursor → Type 0
-CursorGives rs qs c = PositionGives rs (query_of qs c.query) c.position
+abbrev pub CursorGives : List Relation → List Listed → Cursor → Type 0
+CursorGives rs qs c = PositionGives rs (listed_of qs c.query) c.position
 
-abbrev pub SessionGives : List Relation → List Query → Session → Type 0
+abbrev pub SessionGives : List Relation → List Listed → Session → Type 0
 SessionGives rs qs x = All (CursorGives rs qs) x.cursors
 
-abbrev pub SessionsGive : List Relation → List Query → List Session → Type 0
+abbrev pub SessionsGive : List Relation → List Listed → List Session → Type 0
 SessionsGive rs qs xs = All (SessionGives rs qs) xs
 
 -- A position gives over other relations where the queries have the same answers.
-position_kept : (rs rs' : List Relation) (o : Option Query) (p : Position) → ((q : Query) → SameAnswers rs rs' q) → PositionGives rs o p → PositionGives rs' o p
+position_kept : (rs rs' : List Relation) (o : Option Listed) (p : Position) → ((q : Listed) → SameAnswers rs rs' q) → PositionGives rs o p → PositionGives rs' o p
 position_kept rs rs' None (open_at given finished) same h = h
 position_kept rs rs' (Some q) (open_at given finished) same h = gives_kept rs rs' q given finished (same q) h
 position_kept rs rs' o (stale r n) same h = tt
 
-relations_give : (rs rs' : List Relation) (qs : List Query) (xs : List Session) → ((q : Query) → SameAnswers rs rs' q) → SessionsGive rs qs xs → SessionsGive rs' qs xs
+relations_give : (rs rs' : List Relation) (qs : List Listed) (xs : List Session) → ((q : Listed) → SameAnswers rs rs' q) → SessionsGive rs qs xs → SessionsGive rs' qs xs
 relations_give rs rs' qs xs same h =
     All-weaker (SessionGives rs qs) (SessionGives rs' qs)
-    (λ x g. All-weaker (CursorGives rs qs) (CursorGives rs' qs) (λ c k. position_kept rs rs' (query_of qs c.query) c.position same k) x.cursors g) xs h
+    (λ x g. All-weaker (CursorGives rs qs) (CursorGives rs' qs) (λ c k. position_kept rs rs' (listed_of qs c.query) c.position same k) x.cursors g) xs h
 
 -- A query that is registered changes no name's meaning.
-position_registered : (rs : List Relation) (o p : Option Query) (position : Position) → ((q : Query) → o ≡ Some q → p ≡ Some q) → PositionGives rs o position → PositionGives rs p position
+position_registered : (rs : List Relation) (o p : Option Listed) (position : Position) → ((q : Listed) → o ≡ Some q → p ≡ Some q) → PositionGives rs o position → PositionGives rs p position
 position_registered rs None p (open_at given finished) same h = absurd h
 position_registered rs (Some q) p (open_at given finished) same h = let e = same q refl in rw e h
 position_registered rs o p (stale r n) same h = tt
 
-pub found_in_front : (qs : List Query) (q : Query) (name : Bytes) (found : Query) → query_of qs name ≡ Some found → query_of (qs ++ q ∷ []) name ≡ Some found
+pub found_in_front : (qs : List Listed) (q : Listed) (name : Bytes) (found : Listed) → listed_of qs name ≡ Some found → listed_of (qs ++ q ∷ []) name ≡ Some found
 found_in_front [] q name found e = absurd cc
-found_in_front (r ∷ qs) q name found e = at_first (bytes_eq r.name name) e (λ k. found_in_front qs q name found k)
+found_in_front (r ∷ qs) q name found e = at_first (bytes_eq (listed_name r) name) e (λ k. found_in_front qs q name found k)
   where
-    at_first : (b : Bool) → cond b (Some r) (query_of qs name) ≡ Some found → (query_of qs name ≡ Some found → query_of (qs ++ q ∷ []) name ≡ Some found)
-        → cond b (Some r) (query_of (qs ++ q ∷ []) name) ≡ Some found
+    at_first : (b : Bool) → cond b (Some r) (listed_of qs name) ≡ Some found → (listed_of qs name ≡ Some found → listed_of (qs ++ q ∷ []) name ≡ Some found)
+        → cond b (Some r) (listed_of (qs ++ q ∷ []) name) ≡ Some found
     at_first true k rest = k
     at_first false k rest = rest k
 
-registered_give : (rs : List Relation) (qs : List Query) (q : Query) (xs : List Session) → SessionsGive rs qs xs → SessionsGive rs (qs ++ q ∷ []) xs
+registered_give : (rs : List Relation) (qs : List Listed) (q : Listed) (xs : List Session) → SessionsGive rs qs xs → SessionsGive rs (qs ++ q ∷ []) xs
 registered_give rs qs q xs h =
     All-weaker (SessionGives rs qs) (SessionGives rs (qs ++ q ∷ []))
     (λ x g. All-weaker (CursorGives rs qs) (CursorGives rs (qs ++ q ∷ []))
-    (λ c k. position_registered rs (query_of qs c.query) (query_of (qs ++ q ∷ []) c.query) c.position (λ f e. found_in_front qs q c.query f e) k) x.cursors g) xs h
+    (λ c k. position_registered rs (listed_of qs c.query) (listed_of (qs ++ q ∷ []) c.query) c.position (λ f e. found_in_front qs q c.query f e) k) x.cursors g) xs h
 
 -- the relation that outdates a query, where there is the query
-abbrev outdater_at : (Query → Option Bytes) → Option Query → Option Bytes
+abbrev outdater_at : (Listed → Option Bytes) → Option Listed → Option Bytes
 outdater_at outdater None = None
 outdater_at outdater (Some q) = outdater q
 
 -- After a change the cursors over what it outdates are stale, and the other queries have the same answers.
-position_outdated : (rs rs' : List Relation) (o : Option Query) (p : Position) (outdater : Query → Option Bytes) (n : ℕ) (b : Option Bytes) → outdater_at outdater o ≡ b
-    → ((q : Query) → outdater q ≡ None → SameAnswers rs rs' q) → PositionGives rs o p → PositionGives rs' o (outdated b n p)
+position_outdated : (rs rs' : List Relation) (o : Option Listed) (p : Position) (outdater : Listed → Option Bytes) (n : ℕ) (b : Option Bytes) → outdater_at outdater o ≡ b
+    → ((q : Listed) → outdater q ≡ None → SameAnswers rs rs' q) → PositionGives rs o p → PositionGives rs' o (outdated b n p)
 position_outdated rs rs' o (stale r m) outdater n None e same h = tt
 position_outdated rs rs' o (stale r m) outdater n (Some relation) e same h = tt
 position_outdated rs rs' o (open_at given finished) outdater n (Some relation) e same h = tt
 position_outdated rs rs' None (open_at given finished) outdater n None e same h = h
 position_outdated rs rs' (Some q) (open_at given finished) outdater n None e same h = gives_kept rs rs' q given finished (same q e) h
 
-outdated_give : (rs rs' : List Relation) (qs : List Query) (outdater : Query → Option Bytes) (n : ℕ) (xs : List Session)
-    → ((q : Query) → outdater q ≡ None → SameAnswers rs rs' q) → SessionsGive rs qs xs → SessionsGive rs' qs (outdated_sessions qs outdater n xs)
+outdated_give : (rs rs' : List Relation) (qs : List Listed) (outdater : Listed → Option Bytes) (n : ℕ) (xs : List Session)
+    → ((q : Listed) → outdater q ≡ None → SameAnswers rs rs' q) → SessionsGive rs qs xs → SessionsGive rs' qs (outdated_sessions qs outdater n xs)
 outdated_give rs rs' qs outdater n xs same h =
     all_mapped (SessionGives rs qs) (SessionGives rs' qs) (λ (x : Session). record x { cursors = map (outdated_cursor qs outdater n) x.cursors })
     (λ x g. all_mapped (CursorGives rs qs) (CursorGives rs' qs) (outdated_cursor qs outdater n)
-    (λ c k. position_outdated rs rs' (query_of qs c.query) c.position outdater n (outdater_of qs outdater c.query) refl same k) x.cursors g) xs h
+    (λ c k. position_outdated rs rs' (listed_of qs c.query) c.position outdater n (outdater_of qs outdater c.query) refl same k) x.cursors g) xs h
 
-pub same_itself : (rs : List Relation) (q : Query) → SameAnswers rs rs q
+pub same_itself : (rs : List Relation) (q : Listed) → SameAnswers rs rs q
 same_itself rs q = record { there = λ t h. h; back = λ t h. h }
 
 -- A session that is changed, where the change keeps what its cursors give.
@@ -112,7 +111,7 @@ same_gives old new e h = subst CursorsGive (sym e) h
 
 -- The commands.
 -- What a command of rows makes of it, behind which cursors are stale or not.
-made_gives : (outdater : Query → Option Bytes) (old : State) (o : RowsOutcome) (store : Store)
+made_gives : (outdater : Listed → Option Bytes) (old : State) (o : RowsOutcome) (store : Store)
     → RowsMade outdater old.store o store → CursorsGive old → CursorsGive (changed old (tried o) store)
 made_gives outdater old (accepted change) store h g =
     subst (λ (st : Store). CursorsGive (changed old (Some change) st)) (sym h.store)
@@ -126,17 +125,17 @@ made_gives outdater old unchanged store h g =
     subst (λ (st : Store). CursorsGive (record old { store = st })) (sym h.store) g
 
 -- A query that no session uses is no cursor's.
-pub dropped_query : (qs : List Query) (name other : Bytes) → bytes_eq other name ≡ false → query_of (drop_first (λ p. bytes_eq p.name name) qs) other ≡ query_of qs other
+pub dropped_query : (qs : List Listed) (name other : Bytes) → bytes_eq other name ≡ false → listed_of (drop_first (λ p. bytes_eq (listed_name p) name) qs) other ≡ listed_of qs other
 dropped_query qs name other ne =
-    find_dropped (λ (p : Query). bytes_eq p.name name) (λ (p : Query). bytes_eq p.name other) (λ p e. apart_from p.name name other (bytes_eq p.name other) refl ne e) qs
+    find_dropped (λ (p : Listed). bytes_eq (listed_name p) name) (λ (p : Listed). bytes_eq (listed_name p) other) (λ p e. apart_from (listed_name p) name other (bytes_eq (listed_name p) other) refl ne e) qs
 
-dropped_give : (rs : List Relation) (qs : List Query) (q : Bytes) (xs : List Session) → list_any (uses q) xs ≡ false → SessionsGive rs qs xs → SessionsGive rs (drop_first (λ p. bytes_eq p.name q) qs) xs
+dropped_give : (rs : List Relation) (qs : List Listed) (q : Bytes) (xs : List Session) → list_any (uses q) xs ≡ false → SessionsGive rs qs xs → SessionsGive rs (drop_first (λ p. bytes_eq (listed_name p) q) qs) xs
 dropped_give rs qs q xs none h = λ k d lt.
     let x = slice_index_or xs k d in
     let unused = (none_or (list_any (λ (c : Cursor). bytes_eq c.query q) x.cursors) (list_any (λ w. bytes_eq w q) x.watches) (none_pass (uses q) xs none k d lt)).0 in
     λ j e within.
     let c = slice_index_or x.cursors j e in
-    subst (λ (o : Option Query). PositionGives rs o c.position) (sym (dropped_query qs q c.query (none_pass (λ (z : Cursor). bytes_eq z.query q) x.cursors unused j e within))) (h k d lt j e within)
+    subst (λ (o : Option Listed). PositionGives rs o c.position) (sym (dropped_query qs q c.query (none_pass (λ (z : Cursor). bytes_eq z.query q) x.cursors unused j e within))) (h k d lt j e within)
 
 -- What a command of the store makes of it.
 stored_gives : (old : State) (store : Store) → Stored (in_use old) old.store store → CursorsGive old
@@ -148,7 +147,7 @@ stored_gives old store (makes_relation name types none e) g =
     (relations_give old.store.relations
     (old.store.relations ++ record { name = name; types = types; rows = [] } ∷ []) old.store.queries old.sessions
     (new_relation_same old.store.relations name types) g)
-stored_gives old store (registers_query q none connex few e) g =
+stored_gives old store (registers q none connex few e) g =
     subst (λ (st : Store). CursorsGive (record old { store = st })) (sym e)
     (registered_give old.store.relations old.store.queries q old.sessions g)
 stored_gives old store (drops_query q unused e) g =
@@ -156,11 +155,11 @@ stored_gives old store (drops_query q unused e) g =
     (dropped_give old.store.relations old.store.queries q old.sessions unused g)
 
 -- A cursor that opens has given nothing.
-nothing_given : (rs : List Relation) (o : Option Query) → IsSome o → PositionGives rs o (open_at [] false)
+nothing_given : (rs : List Relation) (o : Option Listed) → IsSome o → PositionGives rs o (open_at [] false)
 nothing_given rs None h = absurd cc
 nothing_given rs (Some q) h = record {
   different = λ i j d lt in_range. absurd (omega arith);
-  answers = All-nil (IsAnswer rs q);
+  answers = All-nil (AnswersOf rs q);
   listing = λ e. absurd cc;
 }
 
@@ -180,11 +179,11 @@ ends_gives old s cause new after g =
     session_gives old new s (ended_by cause) after (λ x found k. All-nil (CursorGives old.store.relations old.store.queries)) g
 
 -- the cursor that is read, in the session that reads it
-moved_gives : (rs : List Relation) (qs : List Query) (cursors : List Cursor) (c : Bytes) (k : Cursor) (position : Position) → cursor_of cursors c ≡ Some k
-    → PositionGives rs (query_of qs k.query) position → All (CursorGives rs qs) cursors → All (CursorGives rs qs) (with_position cursors c position)
+moved_gives : (rs : List Relation) (qs : List Listed) (cursors : List Cursor) (c : Bytes) (k : Cursor) (position : Position) → cursor_of cursors c ≡ Some k
+    → PositionGives rs (listed_of qs k.query) position → All (CursorGives rs qs) cursors → All (CursorGives rs qs) (with_position cursors c position)
 moved_gives rs qs cursors c k position found gives h =
     all_changed (CursorGives rs qs) (λ (z : Cursor). bytes_eq z.name c) (λ (z : Cursor). record z { position = position }) cursors h
-    (λ z at old. let e : k ≡ z = same_found (cursor_of cursors c) k z found at in subst (λ (y : Cursor). PositionGives rs (query_of qs y.query) position) e gives)
+    (λ z at old. let e : k ≡ z = same_found (cursor_of cursors c) k z found at in subst (λ (y : Cursor). PositionGives rs (listed_of qs y.query) position) e gives)
   where
     same_found : (o : Option Cursor) (y z : Cursor) → o ≡ Some y → o ≡ Some z → y ≡ z
     same_found o y z e f = cc
@@ -205,13 +204,13 @@ moves_give old s x c new at h g =
     (λ (y : Session). y.id == s) old.sessions x g at in
     let gave = all_found (CursorGives old.store.relations old.store.queries)
     (λ (z : Cursor). bytes_eq z.name c) x.cursors h.cursor session h.is in
-    let before : Gives (IsAnswer old.store.relations h.query) h.given h.finished =
-    held (query_of old.store.queries (h.cursor).query) (h.cursor).position h.over h.stands gave in
-    let after = told_gives (IsAnswer old.store.relations h.query) h.given h.finished h.count h.told h.end before
+    let before : Gives (AnswersOf old.store.relations h.query) h.given h.finished =
+    held (listed_of old.store.queries (h.cursor).query) (h.cursor).position h.over h.stands gave in
+    let after = told_gives (AnswersOf old.store.relations h.query) h.given h.finished h.count h.told h.end before
     h.tells in
     let position = open_at (h.given ++ h.told) h.end in
-    let now : PositionGives old.store.relations (query_of old.store.queries (h.cursor).query) position =
-    subst (λ (o : Option Query). PositionGives old.store.relations o position) (sym h.over) after in
+    let now : PositionGives old.store.relations (listed_of old.store.queries (h.cursor).query) position =
+    subst (λ (o : Option Listed). PositionGives old.store.relations o position) (sym h.over) after in
     session_gives old new s (λ y. record y { cursors = with_position y.cursors c position }) h.state
     (λ y here cursors. let same : x ≡ y = same_found (session_of old s) x y at here in
     moved_gives old.store.relations old.store.queries y.cursors c h.cursor position
@@ -220,12 +219,12 @@ moves_give old s x c new at h g =
     same_found : (o : Option Session) (y z : Session) → o ≡ Some y → o ≡ Some z → y ≡ z
     same_found o y z e f = cc
 
-    held : (o : Option Query) (p : Position) → o ≡ Some h.query → p ≡ open_at h.given h.finished
+    held : (o : Option Listed) (p : Position) → o ≡ Some h.query → p ≡ open_at h.given h.finished
         → PositionGives old.store.relations o p
-        → Gives (IsAnswer old.store.relations h.query) h.given h.finished
+        → Gives (AnswersOf old.store.relations h.query) h.given h.finished
     held o p over stands k =
         subst (λ (r : Position). PositionGives old.store.relations (Some h.query) r) stands
-        (subst (λ (r : Option Query). PositionGives old.store.relations r p) over k)
+        (subst (λ (r : Option Listed). PositionGives old.store.relations r p) over k)
 
 turned_gives : (old : State) (s : ℕ) (x : Session) (t : Turn) (new : State) → session_of old s ≡ Some x
     → Turned old s x t new → CursorsGive old → CursorsGive new
@@ -233,7 +232,7 @@ turned_gives old s x (opens_cursor c q) new at h g =
     session_gives old new s (with_cursor c q) h.2
     (λ y found k. All-push (CursorGives old.store.relations old.store.queries) y.cursors
     (record { name = c; query = q; position = open_at [] false }) k
-    (nothing_given old.store.relations (query_of old.store.queries q) h.1)) g
+    (nothing_given old.store.relations (listed_of old.store.queries q) h.1)) g
 turned_gives old s x (moves_cursor c) new at h g = moves_give old s x c new at h g
 turned_gives old s x (closes_cursor c) new at h g =
     session_gives old new s (without_cursor c) h

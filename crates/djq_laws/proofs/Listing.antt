@@ -40,8 +40,8 @@ use Rattle.std.proofs.lemmas.Bool.{eqb-true, eq-eqb}
 use Rattle.std.proofs.lemmas.List.{map-append}
 use Rattle.std.proofs.lemmas.Grind.{flat_map-append}
 use Rattle.std.proofs.lemmas.List.Elements.{All-nil, All-head, All-tail, All-contains}
-use Rattle.djq_model.specs.declared.query.Query.{Query}
-use Rattle.djq_model.specs.Data.{Bytes, Tuple, bytes_eq, drop_first, query_of}
+use Rattle.djq_model.specs.Data.{Bytes, Tuple, bytes_eq, drop_first}
+use Rattle.djq_model.specs.Listed.{Listed, listed_of}
 use Rattle.djq_model.specs.Equality.{bytes_eq-decides}
 use Rattle.djq_lines.specs.Conditions.{Answers, OutOfMemoryWhere}
 use Rattle.djq_lines.specs.declared.limits.TheConstants.{SESSIONS}
@@ -317,7 +317,7 @@ module _ (s : ℕ) (c : Bytes) where
       (λ e x is. cursors_same x.cursors (f x).cursors (ap (λ ks. cursor_of ks c) (same x)))
 
   -- a change of rows
-  module _ (qs : List Query) (outdater : Query → Option Bytes) (n : ℕ) where
+  module _ (qs : List Listed) (outdater : Listed → Option Bytes) (n : ℕ) where
     outdated_found : (o : Option Cursor) (given : List Tuple) (finished : Bool)
         → option_map (λ (k : Cursor). k.position) (option_map (outdated_cursor qs outdater n) o) ≡ Some
         (open_at given finished)
@@ -517,7 +517,7 @@ module _ (s : ℕ) (c : Bytes) where
       (subst (λ ts. TellGiven (replies ++ text ∷ []) ts end) gs more)
 
   -- the reply to `next`, where the cursor stands
-  next_at_told : (old : State) (x : Session) (d : Bytes) (k : Cursor) (q : Query) (count : ℕ) (p : Position)
+  next_at_told : (old : State) (x : Session) (d : Bytes) (k : Cursor) (q : Listed) (count : ℕ) (p : Position)
       (e : Effect) (new : State) (replies : List Bytes) → session_of old s ≡ Some x
       → cursor_of x.cursors d ≡ Some k → k.position ≡ p → d ≡ c → NextStepAt old s d q count p e new → Tell old replies
       → Tell new (replies ++ to_session s e.queued ∷ [])
@@ -543,7 +543,7 @@ module _ (s : ℕ) (c : Bytes) where
       (replies : List Bytes) (b : Bool) → bytes_eq d c ≡ b → session_of old s ≡ Some x
       → AreKept old → cursor_of x.cursors d ≡ o
       → MatchOption o (RefusedStep old s NoCursor e new)
-      (λ k. IsSomeAnd (query_of old.store.queries k.query) (λ q. NextStepAt old s d q count k.position e new))
+      (λ k. IsSomeAnd (listed_of old.store.queries k.query) (λ q. NextStepAt old s d q count k.position e new))
       → Tell old replies → Tell new (cond b (replies ++ to_session s e.queued ∷ []) replies)
   next_told old x d count o e new replies false same found kept is h tell given finished at = tell_back old new replies
       (back_turn old s x (moves_cursor d) new kept (λ k. same) (next_does old s x d count o e new is h).1) tell given
@@ -554,7 +554,7 @@ module _ (s : ℕ) (c : Bytes) where
       (λ w. option_map (λ (z : Cursor). z.position) w) none in
       absurd (cc (before, at))
   next_told old x d count (Some k) e new replies true same found kept is h tell given finished at =
-      let f = some_and (query_of old.store.queries k.query) (λ q. NextStepAt old s d q count k.position e new) h in
+      let f = some_and (listed_of old.store.queries k.query) (λ q. NextStepAt old s d q count k.position e new) h in
       next_at_told old x d k f.0 count k.position e new replies found is refl (same_name d c same) f.2 tell given
       finished at
 
@@ -813,7 +813,7 @@ by_its_name (z ∷ ks) k apart h =
 pub nothing_given : (start : State) → IsStart start → CursorsGive start
 nothing_given start h = subst (λ (xs : List Session). CursorsGive (record start { sessions = xs })) (sym h.none)
     (All-nil (λ (x : Session). All (λ (k : Cursor). PositionGives start.store.relations
-    (query_of start.store.queries k.query) k.position) x.cursors))
+    (listed_of start.store.queries k.query) k.position) x.cursors))
 
 pub listed_is_told : ListedIsTold
 listed_is_told start begins q s given done new w h =

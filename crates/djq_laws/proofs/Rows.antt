@@ -30,9 +30,9 @@ use Rattle.std.specs.Prelude.{
 use Rattle.std.proofs.Common.{refl, sym, ap, subst}
 use Rattle.std.proofs.lemmas.List.Elements.{All-push}
 use Rattle.djq_model.specs.declared.relation.Relation.{Relation}
-use Rattle.djq_model.specs.declared.query.Query.{Query}
 use Rattle.djq_model.specs.Data.{Bytes, Tuple, bytes_eq, tuple_eq, relation_of, tuples_in, rows_in, rows_of, has_row, without_row}
 use Rattle.djq_model.specs.Answer.{AreDifferent}
+use Rattle.djq_model.specs.Listed.{Listed}
 use Rattle.djq_model.specs.Known.{texts_in, all_learned}
 use Rattle.djq_model.specs.Typed.{fits}
 use Rattle.djq_lines.specs.Columns.{types_of}
@@ -78,9 +78,9 @@ use Rattle.djq_laws.proofs.Forms.{done_of, none_holds, stays_learned, late_learn
 
 -- A change of rows is made of a store, which outdates these queries: it is counted, and texts become
 -- known.
-pub record MakesChange (outdater : Query → Option Bytes) (old : Store) (change : RowsChange)
+pub record MakesChange (outdater : Listed → Option Bytes) (old : Store) (change : RowsChange)
     (new : Store) : Type 0 where
-  pub outdates : (q : Query) → change.outdater q ≡ outdater q
+  pub outdates : (q : Listed) → change.outdater q ≡ outdater q
   pub spares : Spares old.relations change
   pub names : AreApart (map (λ (x : Relation). x.name) old.relations)
       → AreApart (map (λ (x : Relation). x.name) change.after)
@@ -94,7 +94,7 @@ pub record MakesChange (outdater : Query → Option Bytes) (old : Store) (change
   }
 
 -- What a command of rows makes of a store.
-abbrev pub RowsMade : (Query → Option Bytes) → Store → RowsOutcome → Store → Type 0
+abbrev pub RowsMade : (Listed → Option Bytes) → Store → RowsOutcome → Store → Type 0
 RowsMade outdater old (accepted change) new = MakesChange outdater old change new
 RowsMade outdater old (out_of_memory change) new = LearnsTexts old new
 RowsMade outdater old unchanged new = LearnsTexts old new
@@ -191,7 +191,7 @@ deleted old name row (Ok Absent) new h =
 deleted old name row (Err r) new h = stays_learned old new h.stays
 
 -- A command of rows is done on the store, and its change told.
-pub record DoesRows (old : State) (s : ℕ) (outdater : Query → Option Bytes) (e : Effect) (new : State) : Type 0 where
+pub record DoesRows (old : State) (s : ℕ) (outdater : Listed → Option Bytes) (e : Effect) (new : State) : Type 0 where
   pub outcome : RowsOutcome
   pub store : Store
   pub reply : Bytes
@@ -199,7 +199,7 @@ pub record DoesRows (old : State) (s : ℕ) (outdater : Query → Option Bytes) 
   pub change : ChangeStep old s outcome store reply e new
 
 -- the relation whose change by such a command outdates a query
-abbrev pub outdater_by : RowCommand → Query → Option Bytes
+abbrev pub outdater_by : RowCommand → Listed → Option Bytes
 outdater_by (row_comes name row) = by_relation name
 outdater_by (row_goes name row) = by_relation name
 
@@ -221,7 +221,7 @@ rows_do old s (row_goes name row) e new h = record {
 }
 
 -- Queries stay.
-pub made_queries : (outdater : Query → Option Bytes) (old : Store) (o : RowsOutcome) (new : Store)
+pub made_queries : (outdater : Listed → Option Bytes) (old : Store) (o : RowsOutcome) (new : Store)
     → RowsMade outdater old o new → new.queries ≡ old.queries
 made_queries outdater old (accepted change) new h = ap (λ (st : Store). st.queries) h.store
 made_queries outdater old (out_of_memory change) new h = ap (λ (st : Store). st.queries) h.store

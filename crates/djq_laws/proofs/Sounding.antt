@@ -4,15 +4,13 @@ use Rattle.std.specs.List.{list_any, slice_index_or}
 use Rattle.std.proofs.Common.{refl, sym, ap, ◌∙◌, subst, inl, inr, arith}
 use Rattle.std.proofs.lemmas.List.{length-map, length-append}
 use Rattle.std.proofs.lemmas.List.Elements.{All-nil, All-push, All-weaker, All-filter}
-use Rattle.djq_model.specs.declared.query.Query.{Query}
-use Rattle.djq_model.specs.Data.{Bytes, bytes_eq, drop_first, query_of}
+use Rattle.djq_model.specs.Data.{Bytes, bytes_eq, drop_first}
+use Rattle.djq_model.specs.Listed.{Listed, listed_name, listed_of}
 use Rattle.djq_lines.specs.declared.limits.TheConstants.{SESSIONS}
 use Rattle.djq_lines.specs.declared.answer.EndCause.{EndCause}
 use Rattle.djq_lines.specs.declared.answer.EndCause.TheVariants.{Input, Memory}
 use Rattle.djq_lines.specs.Grammar.{Reading, outside, past_limit, says as says_command, reading_of}
 use Rattle.djq_lines.specs.Reply.{end_memory}
-use Rattle.djq_lines.specs.Hypergraph.{edges_of, head_of}
-use Rattle.djq_machine.specs.Store.{IsFreeConnex}
 use Rattle.djq_machine.specs.State.{Store, State, Session, Cursor, Position, open_at, stale, fresh, session_of, with_session, with_position, ended_by}
 use Rattle.djq_machine.specs.Stale.{outdated, outdater_of, outdated_cursor, outdated_sessions}
 use Rattle.djq_machine.specs.Changes.{RowsChange, RowsOutcome, tried, changed}
@@ -38,6 +36,7 @@ use Rattle.djq_machine.specs.Step.{
 use Rattle.djq_machine.specs.Run.{Did}
 use Rattle.djq_machine.proofs.Walks.{walk_keeps}
 use Rattle.djq_laws.specs.Sound.{
+  IsConnex,
   AreApart,
   IsSoundStore,
   IsSoundRelation,
@@ -50,7 +49,7 @@ use Rattle.djq_laws.specs.Sound.{
   OpeningIsStart,
   StatesAreSound,
 }
-use Rattle.djq_laws.specs.Form.{form_of, Form, asking, storing, turning, changing, ending, Turn, opens_cursor, moves_cursor, closes_cursor, starts_watching, stops_watching, Replied, is_whole, is_cut, Stored, learns_texts, makes_relation, registers_query, drops_query, in_use, without_cursor, Turned, DoesTurn, is_turned, is_refused, Does}
+use Rattle.djq_laws.specs.Form.{form_of, Form, asking, storing, turning, changing, ending, Turn, opens_cursor, moves_cursor, closes_cursor, starts_watching, stops_watching, Replied, is_whole, is_cut, Stored, learns_texts, makes_relation, registers, drops_query, in_use, without_cursor, Turned, DoesTurn, is_turned, is_refused, Does}
 use Rattle.djq_laws.proofs.Finding.{some_and}
 use Rattle.djq_laws.proofs.Forms.{command_does}
 use Rattle.djq_laws.proofs.Rows.{outdater_by, rows_do, made_queries}
@@ -76,11 +75,11 @@ abbrev IsNamed : Cursor → Bytes
 IsNamed c = c.name
 
 -- Sessions.
-ended_session : (qs : List Query) (cause : EndCause) (x : Session) → IsSoundSession qs (ended_by cause x)
+ended_session : (qs : List Listed) (cause : EndCause) (x : Session) → IsSoundSession qs (ended_by cause x)
 ended_session qs cause x = record {
   cursors = All-nil (IsSoundCursor qs);
   names = nothing_apart (λ a b. a ≢ b);
-  registered = All-nil (λ w. IsSome (query_of qs w));
+  registered = All-nil (λ w. IsSome (listed_of qs w));
   once = nothing_apart (λ a b. a ≢ b);
   ended = λ h. (refl, refl);
 }
@@ -90,28 +89,28 @@ going : (x : Session) → x.cause ≡ None → {P : Type 0} → IsSome x.cause �
 going x none h = absurd (cc (none, h))
 
 -- A query that is registered is so for each name.
-some_kept : (qs ps : List Query) (name : Bytes) (o : Option Query) → query_of qs name ≡ o
-    → ((q : Query) → query_of qs name ≡ Some q → query_of ps name ≡ Some q)
-    → IsSome (query_of qs name) → IsSome (query_of ps name)
+some_kept : (qs ps : List Listed) (name : Bytes) (o : Option Listed) → listed_of qs name ≡ o
+    → ((q : Listed) → listed_of qs name ≡ Some q → listed_of ps name ≡ Some q)
+    → IsSome (listed_of qs name) → IsSome (listed_of ps name)
 some_kept qs ps name None e keeps h = absurd (cc (e, h))
 some_kept qs ps name (Some q) e keeps h = ap is_some (keeps q e)
 
-queries_kept : (qs ps : List Query) (x : Session)
-    → ((name : Bytes) → IsSome (query_of qs name) → IsSome (query_of ps name)) → IsSoundSession qs x
+queries_kept : (qs ps : List Listed) (x : Session)
+    → ((name : Bytes) → IsSome (listed_of qs name) → IsSome (listed_of ps name)) → IsSoundSession qs x
     → IsSoundSession ps x
 queries_kept qs ps x keeps g = record {
   cursors = All-weaker (IsSoundCursor qs) (IsSoundCursor ps)
       (λ c k. record { registered = keeps c.query k.registered; once = k.once }) x.cursors g.cursors;
   names = g.names;
-  registered = All-weaker (λ w. IsSome (query_of qs w)) (λ w. IsSome (query_of ps w)) (λ w k. keeps w k) x.watches
+  registered = All-weaker (λ w. IsSome (listed_of qs w)) (λ w. IsSome (listed_of ps w)) (λ w k. keeps w k) x.watches
       g.registered;
   once = g.once;
   ended = g.ended;
 }
 
-in_front : (qs : List Query) (q : Query) (name : Bytes) → IsSome (query_of qs name)
-    → IsSome (query_of (qs ++ q ∷ []) name)
-in_front qs q name h = some_kept qs (qs ++ q ∷ []) name (query_of qs name) refl (λ f e. found_in_front qs q name f e) h
+in_front : (qs : List Listed) (q : Listed) (name : Bytes) → IsSome (listed_of qs name)
+    → IsSome (listed_of (qs ++ q ∷ []) name)
+in_front qs q name h = some_kept qs (qs ++ q ∷ []) name (listed_of qs name) refl (λ f e. found_in_front qs q name f e) h
 
 -- The store and the sessions.
 abbrev pub AreKept : State → Type 0
@@ -157,7 +156,7 @@ others_stay old new s f cursors watches cause after k =
     session_kept old new s f after (λ x found g. let qs = old.store.queries in record {
       cursors = subst (λ (cs : List Cursor). All (IsSoundCursor qs) cs) (sym (cursors x)) g.cursors;
       names = subst (λ (cs : List Cursor). AreApart (map IsNamed cs)) (sym (cursors x)) g.names;
-      registered = subst (λ (ws : List Bytes). All (λ w. IsSome (query_of qs w)) ws) (sym (watches x)) g.registered;
+      registered = subst (λ (ws : List Bytes). All (λ w. IsSome (listed_of qs w)) ws) (sym (watches x)) g.registered;
       once = subst AreApart (sym (watches x)) g.once;
       ended = λ h. let both = g.ended (subst (λ (o : Option EndCause). IsSome o) (cause x) h) in
           (cursors x ∙ both.0, watches x ∙ both.1);
@@ -167,7 +166,7 @@ others_stay old new s f cursors watches cause after k =
 store_kept : (old : State) (store : Store) (new : State) → store.queries ≡ old.store.queries → IsSoundStore store
     → new ≡ record old { store = store } → AreKept old → AreKept new
 store_kept old store new same sound after k =
-    subst AreKept (sym after) (sound, subst (λ (qs : List Query). All (IsSoundSession qs) old.sessions) (sym same) k.1)
+    subst AreKept (sym after) (sound, subst (λ (qs : List Listed). All (IsSoundSession qs) old.sessions) (sym same) k.1)
 
 -- Cursors that become stale.
 once_outdated : (o : Option Bytes) (n : ℕ) (p : Position) → GaveOnce p → GaveOnce (outdated o n p)
@@ -175,7 +174,7 @@ once_outdated None n p h = h
 once_outdated (Some relation) n (open_at given finished) h = tt
 once_outdated (Some relation) n (stale r m) h = tt
 
-outdated_sound : (qs : List Query) (outdater : Query → Option Bytes) (n : ℕ) (x : Session) → IsSoundSession qs x
+outdated_sound : (qs : List Listed) (outdater : Listed → Option Bytes) (n : ℕ) (x : Session) → IsSoundSession qs x
     → IsSoundSession qs (record x { cursors = map (outdated_cursor qs outdater n) x.cursors })
 outdated_sound qs outdater n x g = record {
   cursors = all_mapped (IsSoundCursor qs) (IsSoundCursor qs) (outdated_cursor qs outdater n)
@@ -203,7 +202,7 @@ changed_kept old (Some change) store same sound k =
     (λ (x : Session). record x { cursors = map (outdated_cursor qs change.outdater store.seq) x.cursors })
     (λ x g. outdated_sound qs change.outdater store.seq x g) old.sessions k.1 in (
       sound,
-      subst (λ (ps : List Query). All (IsSoundSession ps)
+      subst (λ (ps : List Listed). All (IsSoundSession ps)
           (outdated_sessions qs change.outdater store.seq old.sessions)) (sym same) kept,
     )
 
@@ -218,20 +217,20 @@ change_kept old s outcome store reply e new h k =
     old s outcome store reply e new h k)
 
 -- A query that no session uses is dropped.
-not_used : (qs : List Query) (q : Bytes) (x : Session) → uses q x ≡ false → IsSoundSession qs x
-    → IsSoundSession (drop_first (λ p. bytes_eq p.name q) qs) x
+not_used : (qs : List Listed) (q : Bytes) (x : Session) → uses q x ≡ false → IsSoundSession qs x
+    → IsSoundSession (drop_first (λ p. bytes_eq (listed_name p) q) qs) x
 not_used qs q x unused g =
-    let ps = drop_first (λ (p : Query). bytes_eq p.name q) qs in
+    let ps = drop_first (λ (p : Listed). bytes_eq (listed_name p) q) qs in
     let none = none_or (list_any (λ (c : Cursor). bytes_eq c.query q) x.cursors) (is_watching q x) unused in
     let apart = none_pass (λ (c : Cursor). bytes_eq c.query q) x.cursors none.0 in
     let unwatched = none_pass (λ w. bytes_eq w q) x.watches none.1 in record {
       cursors = λ j e within. let c = slice_index_or x.cursors j e in let k = g.cursors j e within in record {
-        registered = subst (λ (o : Option Query). IsSome o) (sym (dropped_query qs q c.query (apart j e within)))
+        registered = subst (λ (o : Option Listed). IsSome o) (sym (dropped_query qs q c.query (apart j e within)))
             k.registered;
         once = k.once;
       };
       names = g.names;
-      registered = λ j e within. subst (λ (o : Option Query). IsSome o)
+      registered = λ j e within. subst (λ (o : Option Listed). IsSome o)
           (sym (dropped_query qs q (slice_index_or x.watches j e) (unwatched j e within))) (g.registered j e within);
       once = g.once;
       ended = g.ended;
@@ -246,12 +245,12 @@ stored_kept old store h k = (
 )
   where
     same : store.queries ≡ old.store.queries → All (IsSoundSession store.queries) old.sessions
-    same e = subst (λ (qs : List Query). All (IsSoundSession qs) old.sessions) (sym e) k.1
+    same e = subst (λ (qs : List Listed). All (IsSoundSession qs) old.sessions) (sym e) k.1
 
     by : Stored (in_use old) old.store store → All (IsSoundSession store.queries) old.sessions
     by (learns_texts h) = same (ap (λ (st : Store). st.queries) h.store)
     by (makes_relation name types none e) = same (ap (λ (st : Store). st.queries) e)
-    by (registers_query q none connex few e) =
+    by (registers q none connex few e) =
         subst (λ (st : Store). All (IsSoundSession st.queries) old.sessions) (sym e)
         (All-weaker (IsSoundSession old.store.queries) (IsSoundSession (old.store.queries ++ q ∷ []))
         (λ x g. queries_kept old.store.queries (old.store.queries ++ q ∷ []) x
@@ -266,13 +265,13 @@ none_watched : (q : Bytes) (ws : List Bytes) → list_any (λ w. bytes_eq w q) w
 none_watched q ws e = All-weaker (λ w. bytes_eq w q ≡ false) (λ w. w ≢ q) (λ w k. other_name w q k) ws
     (none_pass (λ w. bytes_eq w q) ws e)
 
-watched : (qs : List Query) (q : Bytes) (ws : List Bytes) (b : Bool) → list_any (λ w. bytes_eq w q) ws ≡ b
-    → IsSome (query_of qs q)
-    → All (λ w. IsSome (query_of qs w)) ws → AreApart ws
-    → All (λ w. IsSome (query_of qs w)) (cond b ws (ws ++ q ∷ [])) × AreApart (cond b ws (ws ++ q ∷ []))
+watched : (qs : List Listed) (q : Bytes) (ws : List Bytes) (b : Bool) → list_any (λ w. bytes_eq w q) ws ≡ b
+    → IsSome (listed_of qs q)
+    → All (λ w. IsSome (listed_of qs w)) ws → AreApart ws
+    → All (λ w. IsSome (listed_of qs w)) (cond b ws (ws ++ q ∷ [])) × AreApart (cond b ws (ws ++ q ∷ []))
 watched qs q ws true e there all once = (all, once)
 watched qs q ws false e there all once = (
-  All-push (λ w. IsSome (query_of qs w)) ws q all there,
+  All-push (λ w. IsSome (listed_of qs w)) ws q all there,
   pairs_push
       (λ a b. a ≢ b) ws q once (none_watched q ws e),
 )
@@ -325,7 +324,7 @@ turned_kept old s x (stops_watching q) new found runs h k =
     session_runs old new s x (without_watch q) found h (λ g. record {
       cursors = g.cursors;
       names = g.names;
-      registered = all_dropped (λ w. IsSome (query_of old.store.queries w)) (λ w. bytes_eq w q) x.watches g.registered;
+      registered = all_dropped (λ w. IsSome (listed_of old.store.queries w)) (λ w. bytes_eq w q) x.watches g.registered;
       once = pairs_dropped (λ a b. a ≢ b) (λ w. bytes_eq w q) x.watches g.once;
       ended = λ ends. going x runs ends;
     }) k
@@ -384,11 +383,11 @@ front_kept old s x (run l) e new found runs h k =
     (without_line_kept old s rest k)
 
 -- The events.
-fresh_sound : (qs : List Query) (s : ℕ) → IsSoundSession qs (fresh s)
+fresh_sound : (qs : List Listed) (s : ℕ) → IsSoundSession qs (fresh s)
 fresh_sound qs s = record {
   cursors = All-nil (IsSoundCursor qs);
   names = nothing_apart (λ a b. a ≢ b);
-  registered = All-nil (λ w. IsSome (query_of qs w));
+  registered = All-nil (λ w. IsSome (listed_of qs w));
   once = nothing_apart (λ a b. a ≢ b);
   ended = λ h. (refl, refl);
 }
@@ -517,7 +516,7 @@ opening_is_start = record {
     texts = nothing_apart (λ a b. a ≢ b);
     few = omega arith;
     queries = nothing_apart (λ a b. a ≢ b);
-    connex = All-nil (λ (q : Query). IsFreeConnex (edges_of q) (head_of q));
+    connex = All-nil IsConnex;
   };
   none = refl;
   going = refl;

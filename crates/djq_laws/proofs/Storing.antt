@@ -4,24 +4,21 @@ use Rattle.std.proofs.Common.{refl, sym, ap, ◌∙◌, subst}
 use Rattle.std.proofs.lemmas.List.Sorted.{All-permutation}
 use Rattle.std.proofs.lemmas.List.Elements.{All-nil, All-cons, All-head, All-tail, All-push}
 use Rattle.djq_model.specs.declared.relation.Relation.{Relation}
-use Rattle.djq_model.specs.declared.query.Query.{Query}
 use Rattle.djq_model.specs.Data.{Bytes, tuples_in, bytes_eq}
-use Rattle.djq_model.specs.Known.{texts_in}
+use Rattle.djq_model.specs.Listed.{Listed, listed_name}
 use Rattle.djq_model.specs.Typed.{fits}
-use Rattle.djq_lines.specs.Hypergraph.{edges_of, head_of}
-use Rattle.djq_machine.specs.Store.{IsFreeConnex}
-use Rattle.djq_lines.specs.Variables.{constants_of}
 use Rattle.djq_lines.specs.declared.limits.TheConstants.{TEXTS}
 use Rattle.djq_machine.specs.State.{Store}
 use Rattle.djq_machine.specs.Changes.{RowsOutcome, accepted, out_of_memory, unchanged}
 use Rattle.djq_machine.specs.Step.{SameRelations}
-use Rattle.djq_laws.specs.Sound.{AreApart, IsSoundRelation, IsSoundStore}
+use Rattle.djq_laws.specs.Sound.{AreApart, IsSoundRelation, IsConnex, IsSoundStore}
 use Rattle.djq_laws.specs.Form.{
   Stored,
   LearnsTexts,
   learns_texts,
+  listed_texts,
   makes_relation,
-  registers_query,
+  registers,
   drops_query,
 }
 use Rattle.djq_laws.proofs.Changing.{all_dropped}
@@ -53,26 +50,26 @@ stored_sound used old new (makes_relation name types none e) s =
       queries = s.queries;
       connex = s.connex;
     })
-stored_sound used old new (registers_query q none connex few e) s = subst IsSoundStore (sym e) (record {
+stored_sound used old new (registers q none connex few e) s = subst IsSoundStore (sym e) (record {
   relations = s.relations;
   rows = s.rows;
-  texts = texts_apart old.texts (texts_in (constants_of q.atoms)) s.texts;
-  few = subst (λ (st : Store). length st.texts ≤ TEXTS) e few;
-  queries = names_push (λ (x : Query). x.name) old.queries q s.queries none;
-  connex = All-push (λ (x : Query). IsFreeConnex (edges_of x) (head_of x)) old.queries q s.connex connex;
+  texts = texts_apart old.texts (listed_texts q) s.texts;
+  few = subst (λ (st : Store). length st.texts ≤ TEXTS) e (few s.few);
+  queries = names_push listed_name old.queries q s.queries none;
+  connex = All-push IsConnex old.queries q s.connex connex;
 })
 stored_sound used old new (drops_query name unused e) s = subst IsSoundStore (sym e) (record {
   relations = s.relations;
   rows = s.rows;
   texts = s.texts;
   few = s.few;
-  queries = names_dropped (λ (x : Query). x.name) (λ n. bytes_eq n name) old.queries s.queries;
-  connex = all_dropped (λ (x : Query). IsFreeConnex (edges_of x) (head_of x)) (λ (x : Query). bytes_eq x.name name)
+  queries = names_dropped listed_name (λ n. bytes_eq n name) old.queries s.queries;
+  connex = all_dropped IsConnex (λ (x : Listed). bytes_eq (listed_name x) name)
       old.queries s.connex;
 })
 
 -- What a command of rows makes of it.
-pub made_sound : (outdater : Query → Option Bytes) (old : Store) (o : RowsOutcome) (new : Store)
+pub made_sound : (outdater : Listed → Option Bytes) (old : Store) (o : RowsOutcome) (new : Store)
     → RowsMade outdater old o new → IsSoundStore old → IsSoundStore new
 made_sound outdater old (accepted change) new h s = subst IsSoundStore (sym h.store) (record {
   relations = h.names s.relations;

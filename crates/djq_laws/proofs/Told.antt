@@ -3,6 +3,7 @@ use Rattle.std.specs.List.{list_any}
 use Rattle.std.specs.Prelude.{ℕ, [], ◌==◌, ◌≡◌, ◌⊎◌, true, cond, Option, None, Some, IsSome, MatchOption, option_map}
 use Rattle.std.proofs.Common.{refl, sym, subst, inl, inr}
 use Rattle.djq_model.specs.Data.{Bytes}
+use Rattle.djq_model.specs.Listed.{listed_name}
 use Rattle.djq_lines.specs.declared.answer.EndCause.{EndCause}
 use Rattle.djq_lines.specs.declared.answer.EndCause.TheVariants.{Slow, Memory}
 use Rattle.djq_lines.specs.Reply.{end_slow, end_memory}
@@ -42,14 +43,14 @@ module _ (P : Telling → Type 0) (says : (m : Telling) (s : ℕ) (text : Bytes)
   watcher_keeps d n s pending m new there (inr (inl h)) p = subst P (sym h.1) (says m s _ there p)
   watcher_keeps d n s pending m new there (inr (inr h)) p = subst P (sym h.4) (ends m s _ Memory tt there p)
 
-  pub session_keeps : (d : Delta) (n : ℕ) (m : Telling) (s : ℕ) (new : Telling) (o : Option Session) → watcher_of m d.query.name s ≡ o
+  pub session_keeps : (d : Delta) (n : ℕ) (m : Telling) (s : ℕ) (new : Telling) (o : Option Session) → watcher_of m (listed_name d.query) s ≡ o
       → MatchOption o (new ≡ m) (λ x. TellsWatcher d n s x.pending m new) → P m → P new
   session_keeps d n m s new None e h p = subst P (sym h) p
-  session_keeps d n m s new (Some x) e h p = watcher_keeps d n s x.pending m new (watcher_open m d.query.name s x e) h p
+  session_keeps d n m s new (Some x) e h p = watcher_keeps d n s x.pending m new (watcher_open m (listed_name d.query) s x e) h p
 
   pub delta_keeps : (n : ℕ) (m : Telling) (d : Delta) (new : Telling) → TellsDelta n m d new → P m → P new
   delta_keeps n m d new h p =
-      walk_keeps (TellsSession d n) P (λ from s to k q. session_keeps d n from s to (watcher_of from d.query.name s) refl k q) m (ids_of m.state) new h p
+      walk_keeps (TellsSession d n) P (λ from s to k q. session_keeps d n from s to (watcher_of from (listed_name d.query) s) refl k q) m (ids_of m.state) new h p
 
   reply_keeps : (s : ℕ) (reply : Bytes) (m new : Telling) (c : Option EndCause) → IsOpen m.state s
       → MatchOption c ((new ≡ says_more s reply m) ⊎ ((list_any (λ part. part.0 == s) m.queued ≡ true) × (new ≡ ends_more s end_memory Memory m))) (λ c. new ≡ m)

@@ -6,9 +6,9 @@ use Rattle.std.proofs.lemmas.Bool.{eq-eqb, ne_eqb}
 use Rattle.std.proofs.lemmas.Grind.{flat_map-append}
 use Rattle.std.proofs.lemmas.List.Elements.{All-nil, All-cons, All-append, All-weaker}
 use Rattle.std.proofs.lemmas.List.Kept.{AllPairs-cons}
-use Rattle.djq_model.specs.declared.query.Query.{Query}
 use Rattle.djq_model.specs.Data.{Bytes, Tuple}
-use Rattle.djq_model.specs.Answer.{IsAnswer, IsListing}
+use Rattle.djq_model.specs.Answer.{IsListing}
+use Rattle.djq_model.specs.Listed.{Listed, listed_name, AnswersOf}
 use Rattle.djq_machine.specs.State.{Store, State}
 use Rattle.djq_machine.specs.Step.{Event}
 use Rattle.djq_machine.specs.Run.{Did, to_session, out}
@@ -61,7 +61,7 @@ parts_out s (d ∷ done) =
     ∙ ap₂ (λ (xs ys : Bytes). xs ++ ys) (parts_whole s d.effect.queued) (parts_out s done)
 
 -- Numbers of changes.
-number_none : (q : Query) (old : State) (event : Event) (new : State) → (new.store.seq ≡ old.store.seq) ⊎ ((new.store.seq ≡ old.store.seq + 1) × (event_changes q old event ≡ false)) → number_by q old event new ≡ []
+number_none : (q : Listed) (old : State) (event : Event) (new : State) → (new.store.seq ≡ old.store.seq) ⊎ ((new.store.seq ≡ old.store.seq + 1) × (event_changes q old event ≡ false)) → number_by q old event new ≡ []
 number_none q old event new (inl e) = let same = eq-eqb new.store.seq old.store.seq e in rw same refl
 number_none q old event new (inr h) = step (not (new.store.seq == old.store.seq)) (event_changes q old event) h.1
   where
@@ -70,7 +70,7 @@ number_none q old event new (inr h) = step (not (new.store.seq == old.store.seq)
     step true false e = refl
     step false b e = refl
 
-number_one : (q : Query) (old : State) (event : Event) (new : State) → new.store.seq ≡ old.store.seq + 1 → event_changes q old event ≡ true → number_by q old event new ≡ new.store.seq ∷ []
+number_one : (q : Listed) (old : State) (event : Event) (new : State) → new.store.seq ≡ old.store.seq + 1 → event_changes q old event ≡ true → number_by q old event new ≡ new.store.seq ∷ []
 number_one q old event new e k =
     let apart : (new.store.seq == old.store.seq) ≡ false = ne_eqb new.store.seq old.store.seq (λ same. omega (arith, e, same)) in
     rw (apart, k) refl
@@ -79,7 +79,7 @@ number_above : (old new : Store) (b : Bool) → old.seq < new.seq → All (λ n.
 number_above old new true lt = All-cons (λ n. old.seq < n) new.seq [] lt (All-nil (λ n. old.seq < n))
 number_above old new false lt = All-nil (λ n. old.seq < n)
 
-numbers_step : (q : Query) (s : ℕ) (old : State) (event : Event) (new : State) (queued : List (ℕ × Bytes)) → StepTells q s old.store new.store queued (event_changes q old event)
+numbers_step : (q : Listed) (s : ℕ) (old : State) (event : Event) (new : State) (queued : List (ℕ × Bytes)) → StepTells q s old.store new.store queued (event_changes q old event)
     → (old.store.seq ≤ new.store.seq) × All (λ n. old.store.seq < n) (number_by q old event new)
 numbers_step q s old event new queued (is_quiet same seq) = (at_most seq, subst (λ (ns : List ℕ). All (λ n. old.store.seq < n) ns) (sym (number_none q old event new seq)) (All-nil (λ n. old.store.seq < n)))
   where
@@ -89,7 +89,7 @@ numbers_step q s old event new queued (is_quiet same seq) = (at_most seq, subst 
 numbers_step q s old event new queued (is_told delta seq counts) =
     (omega (arith, seq), number_above old.store new.store (not (new.store.seq == old.store.seq) && event_changes q old event) (omega (arith, seq)))
 
-numbers_above : (q : Query) (s : ℕ) (old : State) (done : List Did) (new : State) (walk : WatchesAlong q s old done new) → All (λ n. old.store.seq < n) (numbers_along q s old done new walk)
+numbers_above : (q : Listed) (s : ℕ) (old : State) (done : List Did) (new : State) (walk : WatchesAlong q s old done new) → All (λ n. old.store.seq < n) (numbers_along q s old done new walk)
 numbers_above q s old [] new walk = All-nil (λ n. old.store.seq < n)
 numbers_above q s old (d ∷ done) new walk =
     let mid = walk.0 in
@@ -99,20 +99,20 @@ numbers_above q s old (d ∷ done) new walk =
     (All-weaker (λ n. mid.store.seq < n) (λ n. old.store.seq < n) (λ n lt. omega (arith, lt, k.0)) (numbers_along q s mid done new walk.2) (numbers_above q s mid done new walk.2))
 
 -- A listing stays one where the answers do.
-listing_stays : (old new : Store) (q : Query) (ts : List Tuple) → SameAnswers old.relations new.relations q → IsListing (IsAnswer old.relations q) ts → IsListing (IsAnswer new.relations q) ts
+listing_stays : (old new : Store) (q : Listed) (ts : List Tuple) → SameAnswers old.relations new.relations q → IsListing (AnswersOf old.relations q) ts → IsListing (AnswersOf new.relations q) ts
 listing_stays old new q ts same h = record {
   different = h.different;
-  answers = All-weaker (IsAnswer old.relations q) (IsAnswer new.relations q) same.there ts h.answers;
+  answers = All-weaker (AnswersOf old.relations q) (AnswersOf new.relations q) same.there ts h.answers;
   complete = λ t a. h.complete t (same.back t a);
 }
 
 -- one step more in front
-told_more : (q : Query) (s : ℕ) (old : State) (d : Did) (done : List Did) (new : State) (walk : WatchesAlong q s old (d ∷ done) new)
+told_more : (q : Listed) (s : ℕ) (old : State) (d : Did) (done : List Did) (new : State) (walk : WatchesAlong q s old (d ∷ done) new)
     → StepTells q s old.store walk.0.store d.effect.queued (event_changes q old d.event) → IsTold q s walk.0 done new walk.2 → IsTold q s old (d ∷ done) new walk
 told_more q s old d done new walk (is_quiet same seq) h = record {
   told = h.told;
   whole = parts_out s (d ∷ done);
-  among = among_later (map (told_text q.name) h.told) (parts_for s d.effect.queued) (parts_to s done) h.among;
+  among = among_later (map (told_text (listed_name q)) h.told) (parts_for s d.effect.queued) (parts_to s done) h.among;
   numbers = h.numbers ∙ ap (λ ns. ns ++ numbers_along q s walk.0 done new walk.2) (sym (number_none q old d.event walk.0 seq));
   rising = h.rising;
   adds_up = λ ts l. h.adds_up ts (listing_stays old.store walk.0.store q ts same l);
@@ -125,8 +125,8 @@ told_more q s old d done new walk (is_told delta seq counts) h =
     record {
       told = first ∷ h.told;
       whole = parts_out s (d ∷ done);
-      among = among_first (told_text q.name first) (map (told_text q.name) h.told) (parts_for s d.effect.queued) (parts_to s done)
-          (part_there s d.effect.queued (told_text q.name first) delta.told) h.among;
+      among = among_first (told_text (listed_name q) first) (map (told_text (listed_name q)) h.told) (parts_for s d.effect.queued) (parts_to s done)
+          (part_there s d.effect.queued (told_text (listed_name q) first) delta.told) h.among;
       numbers = ap (λ ns. mid.store.seq ∷ ns) h.numbers ∙ ap (λ ns. ns ++ numbers_along q s mid done new walk.2) (sym (number_one q old d.event mid seq counts));
       rising = AllPairs-cons (λ m n. m < n) mid.store.seq (map (λ (t : Told). t.number) h.told) above h.rising;
       adds_up = λ ts l. h.adds_up (added_up ts delta.changes) (deltas_add_up old.store.relations mid.store.relations q ts delta.changes l delta.delta);
@@ -139,7 +139,7 @@ watchers_have_answers q s old [] new walk = record {
   among = tt;
   numbers = refl;
   rising = λ i j d lt within. absurd (omega arith);
-  adds_up = λ ts l. subst (λ (st : State). IsListing (IsAnswer st.store.relations q) ts) (sym walk) l;
+  adds_up = λ ts l. subst (λ (st : State). IsListing (AnswersOf st.store.relations q) ts) (sym walk) l;
 }
 watchers_have_answers q s old (d ∷ done) new walk =
     let h = walk.1 in

@@ -4,9 +4,8 @@ use Rattle.std.proofs.Common.{refl, sym, ap, ◌∙◌, subst, inl, inr}
 use Rattle.std.proofs.lemmas.Bool.{eqb-true}
 use Rattle.std.proofs.lemmas.List.Elements.{All-weaker}
 use Rattle.djq_model.specs.declared.relation.Relation.{Relation}
-use Rattle.djq_model.specs.declared.query.Query.{Query}
-use Rattle.djq_model.specs.Data.{Bytes, Tuple, query_of}
-use Rattle.djq_model.specs.Answer.{IsAnswer}
+use Rattle.djq_model.specs.Data.{Bytes, Tuple}
+use Rattle.djq_model.specs.Listed.{Listed, listed_name, AnswersOf, listed_of}
 use Rattle.djq_model.specs.Known.{all_learned}
 use Rattle.djq_lines.specs.declared.answer.EndCause.{EndCause}
 use Rattle.djq_lines.specs.declared.answer.EndCause.TheVariants.{Input, Memory}
@@ -43,7 +42,7 @@ use Rattle.djq_laws.specs.Form.{
   LearnsTexts,
   learns_texts,
   makes_relation,
-  registers_query,
+  registers,
   drops_query,
   in_use,
   DoesTurn,
@@ -61,7 +60,7 @@ use Rattle.djq_laws.proofs.Giving.{same_itself}
 use Rattle.djq_laws.proofs.Telling.{Watches, IsTheDelta, change_is_told}
 
 -- Either the answers stay, and no change was accepted but of other relations; or one was, and its delta is told.
-pub data StepTells (q : Query) (s : ℕ) (old new : Store) (queued : List (ℕ × Bytes)) (changes : Bool) : Type 0 where
+pub data StepTells (q : Listed) (s : ℕ) (old new : Store) (queued : List (ℕ × Bytes)) (changes : Bool) : Type 0 where
   is_quiet : SameAnswers old.relations new.relations q → (new.seq ≡ old.seq) ⊎ ((new.seq ≡ old.seq + 1) × (changes ≡ false)) → StepTells q s old new queued changes
   is_told : IsTheDelta q s old.relations new.relations new.seq queued → new.seq ≡ old.seq + 1 → changes ≡ true → StepTells q s old new queued changes
 
@@ -70,18 +69,18 @@ replied_store s mid new (is_whole after) = ap (λ (st : State). st.store) after
 replied_store s mid new (is_cut after) = ap (λ (st : State). st.store) after
 
 -- the relation whose change by a command of a form outdates a query
-abbrev form_outdater : Form → Query → Option Bytes
+abbrev form_outdater : Form → Listed → Option Bytes
 form_outdater (changing c) q = outdater_by c q
 form_outdater _ q = None
 
-outdated_alike : (old : State) (t : ℕ) (c : Command) (q : Query)
+outdated_alike : (old : State) (t : ℕ) (c : Command) (q : Listed)
     → form_outdater (form_of c) q ≡ line_outdater old t (says_command c) q
 outdated_alike old t (Add name row) q = refl
 outdated_alike old t (Del name row) q = refl
 outdated_alike old t c q = refl
 
 -- nothing of it changes
-module _ (q : Query) (s : ℕ) (queued : List (ℕ × Bytes)) (changes : Bool) where
+module _ (q : Listed) (s : ℕ) (queued : List (ℕ × Bytes)) (changes : Bool) where
   stays : (old new : Store) → new.relations ≡ old.relations → new.seq ≡ old.seq → StepTells q s old new queued changes
   stays old new relations seq = is_quiet (subst (λ (rs : List Relation). SameAnswers old.relations rs q) (sym relations) (same_itself old.relations q)) (inl seq)
 
@@ -105,7 +104,7 @@ module _ (q : Query) (s : ℕ) (queued : List (ℕ × Bytes)) (changes : Bool) w
       is_quiet
       (subst (λ (rs : List Relation). SameAnswers old.relations rs q) (sym (ap (λ (st : Store). st.relations) e)) (new_relation_same old.relations name types q))
       (inl (ap (λ (st : Store). st.seq) e))
-  stored_stays used old new (registers_query p none connex few e) =
+  stored_stays used old new (registers p none connex few e) =
       stays old new (ap (λ (st : Store). st.relations) e) (ap (λ (st : Store). st.seq) e)
   stored_stays used old new (drops_query name unused e) =
       stays old new (ap (λ (st : Store). st.relations) e) (ap (λ (st : Store). st.seq) e)
@@ -124,7 +123,7 @@ change_store old t outcome store reply e new h =
     ∙ change_keeps (λ (m : Telling). m.state.store ≡ store) (λ m i text there k. k) (λ m i text cause may there k. k) old t outcome store reply e new h refl
 
 -- of one that goes on and watches
-module _ (q : Query) (s : ℕ) (old : State) (registered : query_of old.store.queries q.name ≡ Some q) (watches : Watches q.name (session_of old s)) where
+module _ (q : Listed) (s : ℕ) (old : State) (registered : listed_of old.store.queries (listed_name q) ≡ Some q) (watches : Watches (listed_name q) (session_of old s)) where
   accepted_tells : (t : ℕ) (change : RowsChange) (texts : List Bytes) (store : Store) (reply : Bytes) (e : Effect) (new : State) → cause_of new s ≡ None
       → Spares old.store.relations change → store ≡ record old.store { relations = change.after; texts = texts; seq = old.store.seq + 1 }
       → ChangeStep old t (accepted change) store reply e new → StepTells q s old.store store e.queued (is_outdated change q)
@@ -141,7 +140,7 @@ module _ (q : Query) (s : ℕ) (old : State) (registered : query_of old.store.qu
           is_quiet (subst (λ (rs : List Relation). SameAnswers old.store.relations rs q) (sym relations) (spares q k))
           (inr (ap (λ (st : Store). st.seq) after, refl))
 
-  made_tells : (outdater : Query → Option Bytes) (t : ℕ) (o : RowsOutcome) (store : Store) (reply : Bytes) (e : Effect)
+  made_tells : (outdater : Listed → Option Bytes) (t : ℕ) (o : RowsOutcome) (store : Store) (reply : Bytes) (e : Effect)
       (new : State)
       → cause_of new s ≡ None → RowsMade outdater old.store o store → ChangeStep old t o store reply e new
       → StepTells q s old.store store e.queued (is_some (outdater q))
@@ -192,12 +191,12 @@ line_watches q old t rest s false e w =
     subst (λ (o : Option Session). Watches q o) (sym (session_other old t s (behind_line rest) (λ x. refl) e)) w
 
 -- what a line is to change hangs on the line alone
-line_alike : (q : Query) (t : ℕ) (a b : State) (r : Reading) → line_outdater a t r q ≡ line_outdater b t r q
+line_alike : (q : Listed) (t : ℕ) (a b : State) (r : Reading) → line_outdater a t r q ≡ line_outdater b t r q
 line_alike q t a b (says_command (Add name row)) = refl
 line_alike q t a b (says_command (Del name row)) = refl
 line_alike q t a b _ = refl
 
-front_tells : (q : Query) (s : ℕ) (old : State) → query_of old.store.queries q.name ≡ Some q → Watches q.name (session_of old s)
+front_tells : (q : Listed) (s : ℕ) (old : State) → listed_of old.store.queries (listed_name q) ≡ Some q → Watches (listed_name q) (session_of old s)
     → (t : ℕ) (x : Session) (outcome : LineOutcome) (e : Effect) (new : State) → cause_of new s ≡ None → FrontStep old t x outcome e new → StepTells q s old.store new.store e.queued (event_changes q old (stepped t outcome))
 front_tells q s old registered watches t x long e new running h = one_session q s e.queued false old new t _ h.1.1
 front_tells q s old registered watches t x (blank l) e new running h = one_session q s e.queued false old new t _ h.1.then.1
@@ -206,11 +205,11 @@ front_tells q s old registered watches t x (no_room l) e new running h = same_st
 front_tells q s old registered watches t x (run l) e new running h =
     let taken = with_session old t (behind_line h.2.rest) in
     subst (λ (o : Option Bytes). StepTells q s old.store new.store e.queued (is_some o)) (line_alike q t taken old (reading_of l))
-    (read_tells q s taken registered (line_watches q.name old t h.2.rest s (t == s) refl watches)
+    (read_tells q s taken registered (line_watches (listed_name q) old t h.2.rest s (t == s) refl watches)
     t (behind_line h.2.rest x) l (reading_of l) e new running h.2.then)
 
 -- the events
-fed_stays : (q : Query) (s : ℕ) (old : State) (t : ℕ) (bytes : Bytes) (e : Effect) (mid : State) (c : Option EndCause)
+fed_stays : (q : Listed) (s : ℕ) (old : State) (t : ℕ) (bytes : Bytes) (e : Effect) (mid : State) (c : Option EndCause)
     → MatchOption c
     (((e ≡ nothing) × (mid ≡ with_session old t (λ y. record y { held = y.held ++ bytes }))) ⊎ EndsWith end_memory Memory old t e mid)
     (λ _. (e ≡ nothing) × (mid ≡ old))
@@ -219,17 +218,17 @@ fed_stays q s old t bytes e mid None (inl h) = one_session q s e.queued false ol
 fed_stays q s old t bytes e mid None (inr h) = one_session q s e.queued false old mid t _ h.1
 fed_stays q s old t bytes e mid (Some c) h = same_state q s e.queued false old mid h.1
 
-input_stays : (q : Query) (s : ℕ) (old : State) (t : ℕ) (e : Effect) (mid : State) (P Q R : Type 0) (c : Option EndCause)
+input_stays : (q : Listed) (s : ℕ) (old : State) (t : ℕ) (e : Effect) (mid : State) (P Q R : Type 0) (c : Option EndCause)
     → MatchOption c (P × Q × (mid ≡ with_session old t (ended_by Input))) (λ _. R × (mid ≡ old)) → StepTells q s old.store mid.store e.queued false
 input_stays q s old t e mid P Q R None h = one_session q s e.queued false old mid t _ h.2
 input_stays q s old t e mid P Q R (Some c) h = same_state q s e.queued false old mid h.1
 
-opened_stays : (q : Query) (s : ℕ) (old : State) (t : ℕ) (e : Effect) (mid : State) → ((length old.sessions < SESSIONS) × (mid ≡ record old { sessions = old.sessions ++ fresh t ∷ [] })) ⊎ (mid ≡ old)
+opened_stays : (q : Listed) (s : ℕ) (old : State) (t : ℕ) (e : Effect) (mid : State) → ((length old.sessions < SESSIONS) × (mid ≡ record old { sessions = old.sessions ++ fresh t ∷ [] })) ⊎ (mid ≡ old)
     → StepTells q s old.store mid.store e.queued false
 opened_stays q s old t e mid (inl h) = same_store q s e.queued false old mid (ap (λ (st : State). st.store) h.1)
 opened_stays q s old t e mid (inr h) = same_state q s e.queued false old mid h
 
-acts_tell : (q : Query) (s : ℕ) (old : State) → query_of old.store.queries q.name ≡ Some q → Watches q.name (session_of old s)
+acts_tell : (q : Listed) (s : ℕ) (old : State) → listed_of old.store.queries (listed_name q) ≡ Some q → Watches (listed_name q) (session_of old s)
     → (event : Event) (e : Effect) (mid : State) → cause_of mid s ≡ None → Acts old event e mid → StepTells q s old.store mid.store e.queued (event_changes q old event)
 acts_tell q s old registered watches (opened t) e mid running h = opened_stays q s old t e mid h.2
 acts_tell q s old registered watches (fed t bytes) e mid running h =
@@ -247,30 +246,30 @@ acts_tell q s old registered watches (ended t) e mid running h =
 acts_tell q s old registered watches (closed t bytes) e mid running h = same_store q s e.queued false old mid (ap (λ (st : State). st.store) h.2)
 
 -- rows in another order
-same_then : (rs rs' rs'' : List Relation) (q : Query) → SameAnswers rs rs' q → SameAnswers rs' rs'' q → SameAnswers rs rs'' q
+same_then : (rs rs' rs'' : List Relation) (q : Listed) → SameAnswers rs rs' q → SameAnswers rs' rs'' q → SameAnswers rs rs'' q
 same_then rs rs' rs'' q h k = record { there = λ t a. k.there t (h.there t a); back = λ t a. h.back t (k.back t a) }
 
-changed_to : (before rs rs' : List Relation) (q : Query) → SameAnswers rs rs' q → (sign : Sign) (t : Tuple) → HasChanged (IsAnswer before q) (IsAnswer rs q) sign t → HasChanged (IsAnswer before q) (IsAnswer rs' q) sign t
+changed_to : (before rs rs' : List Relation) (q : Listed) → SameAnswers rs rs' q → (sign : Sign) (t : Tuple) → HasChanged (AnswersOf before q) (AnswersOf rs q) sign t → HasChanged (AnswersOf before q) (AnswersOf rs' q) sign t
 changed_to before rs rs' q same Came t h = (same.there t h.0, h.1)
 changed_to before rs rs' q same Went t h = (h.0, λ a. h.1 (same.back t a))
 
-changed_back : (before rs rs' : List Relation) (q : Query) → SameAnswers rs rs' q → (sign : Sign) (t : Tuple) → HasChanged (IsAnswer before q) (IsAnswer rs' q) sign t → HasChanged (IsAnswer before q) (IsAnswer rs q) sign t
+changed_back : (before rs rs' : List Relation) (q : Listed) → SameAnswers rs rs' q → (sign : Sign) (t : Tuple) → HasChanged (AnswersOf before q) (AnswersOf rs' q) sign t → HasChanged (AnswersOf before q) (AnswersOf rs q) sign t
 changed_back before rs rs' q same Came t h = (same.back t h.0, h.1)
 changed_back before rs rs' q same Went t h = (h.0, λ a. h.1 (same.there t a))
 
-delta_to : (before rs rs' : List Relation) (q : Query) (n : ℕ) (s : ℕ) (queued : List (ℕ × Bytes)) → SameAnswers rs rs' q → IsTheDelta q s before rs n queued → IsTheDelta q s before rs' n queued
+delta_to : (before rs rs' : List Relation) (q : Listed) (n : ℕ) (s : ℕ) (queued : List (ℕ × Bytes)) → SameAnswers rs rs' q → IsTheDelta q s before rs n queued → IsTheDelta q s before rs' n queued
 delta_to before rs rs' q n s queued same h = record {
   changes = h.changes;
   delta = record {
     different = h.delta.different;
-    changed = All-weaker (λ (c : Change). HasChanged (IsAnswer before q) (IsAnswer rs q) c.sign c.answer) (λ (c : Change). HasChanged (IsAnswer before q) (IsAnswer rs' q) c.sign c.answer)
+    changed = All-weaker (λ (c : Change). HasChanged (AnswersOf before q) (AnswersOf rs q) c.sign c.answer) (λ (c : Change). HasChanged (AnswersOf before q) (AnswersOf rs' q) c.sign c.answer)
         (λ c k. changed_to before rs rs' q same c.sign c.answer k) h.changes h.delta.changed;
     complete = λ sign t k. h.delta.complete sign t (changed_back before rs rs' q same sign t k);
   };
   told = h.told;
 }
 
-reordered_tells : (q : Query) (s : ℕ) (old mid : Store) (rs : List Relation) (queued : List (ℕ × Bytes)) (changes : Bool) → SameAnswers mid.relations rs q
+reordered_tells : (q : Listed) (s : ℕ) (old mid : Store) (rs : List Relation) (queued : List (ℕ × Bytes)) (changes : Bool) → SameAnswers mid.relations rs q
     → StepTells q s old mid queued changes → StepTells q s old (record mid { relations = rs }) queued changes
 reordered_tells q s old mid rs queued changes same (is_quiet answers seq) = is_quiet (same_then old.relations mid.relations rs q answers same) seq
 reordered_tells q s old mid rs queued changes same (is_told delta seq counts) = is_told (delta_to old.relations mid.relations rs q mid.seq s queued same delta) seq counts
@@ -279,12 +278,12 @@ pub queued_store : (st : State) (qs : List (ℕ × Bytes)) → (queue_all st qs)
 queued_store st [] = refl
 queued_store st (p ∷ ps) = queued_store (queue st p) ps
 
-pub step_tells : (q : Query) (s : ℕ) (old : State) (event : Event) (e : Effect) (new : State) → Step old event e new → IsWatcher q s old → IsWatcher q s new
+pub step_tells : (q : Listed) (s : ℕ) (old : State) (event : Event) (e : Effect) (new : State) → Step old event e new → IsWatcher q s old → IsWatcher q s new
     → StepTells q s old.store new.store e.queued (event_changes q old event)
 step_tells q s old event e new h before behind =
-    let f = some_and (session_of old s) (λ x. (x.cause ≡ None) × (is_watching q.name x ≡ true)) before.watches in
-    let g = some_and (session_of new s) (λ x. (x.cause ≡ None) × (is_watching q.name x ≡ true)) behind.watches in
-    let watches = and_some (session_of old s) (λ x. is_watching q.name x ≡ true) f.0 f.1 f.2.1 in
+    let f = some_and (session_of old s) (λ x. (x.cause ≡ None) × (is_watching (listed_name q) x ≡ true)) before.watches in
+    let g = some_and (session_of new s) (λ x. (x.cause ≡ None) × (is_watching (listed_name q) x ≡ true)) behind.watches in
+    let watches = and_some (session_of old s) (λ x. is_watching (listed_name q) x ≡ true) f.0 f.1 f.2.1 in
     let running : cause_of h.mid s ≡ None = sym (stepped_cause old event e new h s) ∙ ap cause_in g.1 ∙ g.2.0 in
     let mid = h.mid in
     let acted = acts_tell q s old before.registered watches event e mid running h.acts in

@@ -16,9 +16,8 @@ use Rattle.std.specs.Prelude.{
 }
 use Rattle.std.specs.List.{list_any}
 use Rattle.djq_model.specs.declared.relation.ColumnType.{ColumnType}
-use Rattle.djq_model.specs.declared.query.Query.{Query}
-use Rattle.djq_model.specs.Data.{Bytes, Tuple, bytes_eq, drop_first, relation_of, query_of}
-use Rattle.djq_model.specs.Answer.{IsAnswer}
+use Rattle.djq_model.specs.Data.{Bytes, Tuple, bytes_eq, drop_first, relation_of}
+use Rattle.djq_model.specs.Listed.{Listed, a_query, listed_name, AnswersOf, listed_of}
 use Rattle.djq_model.specs.Known.{all_learned, texts_in}
 use Rattle.djq_lines.specs.declared.limits.TheConstants.{TEXTS}
 use Rattle.djq_lines.specs.declared.answer.EndCause.{EndCause}
@@ -41,12 +40,11 @@ use Rattle.djq_lines.specs.declared.command.Command.TheVariants.{
   Quit,
   Stop,
 }
-use Rattle.djq_lines.specs.Hypergraph.{edges_of, head_of}
 use Rattle.djq_lines.specs.Variables.{constants_of}
 use Rattle.djq_machine.specs.State.{Store, Session, Cursor, open_at, State, with_session, cursor_of, with_position, ended_by}
 use Rattle.djq_machine.specs.Keeping.{Keeping}
 use Rattle.djq_machine.specs.Effect.{Effect}
-use Rattle.djq_machine.specs.Store.{IsFreeConnex, TellsAnswers}
+use Rattle.djq_machine.specs.Store.{TellsAnswers}
 use Rattle.djq_machine.specs.Command.{
   uses,
   with_cursor,
@@ -56,6 +54,7 @@ use Rattle.djq_machine.specs.Command.{
   DeleteStep,
 }
 use Rattle.djq_laws.specs.Moved.{EndsByRun}
+use Rattle.djq_laws.specs.Sound.{IsConnex}
 
 -- What a command may make of the session that says it.
 pub data Turn : Type 0 where
@@ -121,6 +120,10 @@ pub record LearnsTexts (old new : Store) : Type 0 where
   pub few : length old.texts ≤ TEXTS → length new.texts ≤ TEXTS
   pub store : new ≡ record old { texts = all_learned old.texts texts }
 
+-- the texts of what is registered: those of a query's constants
+abbrev pub listed_texts : Listed → List Bytes
+listed_texts (a_query q) = texts_in (constants_of q.atoms)
+
 -- What a command of the store makes of it, where some queries are in use.
 pub data Stored (used : Bytes → Bool) (old new : Store) : Type 0 where
   -- no more than that texts become known
@@ -130,16 +133,16 @@ pub data Stored (used : Bytes → Bool) (old new : Store) : Type 0 where
       → new ≡ record old {
         relations = old.relations ++ record { name = name; types = types; rows = [] } ∷ [];
       } → Stored used old new
-  -- a free-connex query of a new name is registered, and its texts become known
-  registers_query : (q : Query) → query_of old.queries q.name ≡ None
-      → IsFreeConnex (edges_of q) (head_of q) → length new.texts ≤ TEXTS
+  -- what is free-connex and of a new name is registered, and its texts become known
+  registers : (q : Listed) → listed_of old.queries (listed_name q) ≡ None → IsConnex q
+      → (length old.texts ≤ TEXTS → length new.texts ≤ TEXTS)
       → new ≡ record old {
-        texts = all_learned old.texts (texts_in (constants_of q.atoms));
+        texts = all_learned old.texts (listed_texts q);
         queries = old.queries ++ q ∷ [];
       } → Stored used old new
   -- a query that isn't in use is registered no more
   drops_query : (name : Bytes) → used name ≡ false
-      → new ≡ record old { queries = drop_first (λ q. bytes_eq q.name name) old.queries }
+      → new ≡ record old { queries = drop_first (λ q. bytes_eq (listed_name q) name) old.queries }
       → Stored used old new
 
 -- whether a session uses a query of a name
@@ -150,15 +153,15 @@ in_use st q = list_any (uses q) st.sessions
 pub record MovesCursor (old : State) (s : ℕ) (x : Session) (c : Bytes) (new : State) : Type 0 where
   pub cursor : Cursor
   pub is : cursor_of x.cursors c ≡ Some cursor
-  pub query : Query
-  pub over : query_of old.store.queries cursor.query ≡ Some query
+  pub query : Listed
+  pub over : listed_of old.store.queries cursor.query ≡ Some query
   pub given : List Tuple
   pub finished : Bool
   pub stands : cursor.position ≡ open_at given finished
   pub count : ℕ
   pub told : List Tuple
   pub end : Bool
-  pub tells : TellsAnswers (IsAnswer old.store.relations query) given count told end
+  pub tells : TellsAnswers (AnswersOf old.store.relations query) given count told end
   pub state : new ≡ with_session old s
       (λ y. record y { cursors = with_position y.cursors c (open_at (given ++ told) end) })
 
@@ -169,11 +172,11 @@ without_cursor c x = record x { cursors = drop_first (λ k. bytes_eq k.name c) x
 -- What a turn makes of a session.
 abbrev pub Turned : State → ℕ → Session → Turn → State → Type 0
 Turned old s x (opens_cursor c q) new = (cursor_of x.cursors c ≡ None)
-    × IsSome (query_of old.store.queries q) × (new ≡ with_session old s (with_cursor c q))
+    × IsSome (listed_of old.store.queries q) × (new ≡ with_session old s (with_cursor c q))
 Turned old s x (moves_cursor c) new = MovesCursor old s x c new
 Turned old s x (closes_cursor c) new = new ≡ with_session old s (without_cursor c)
 Turned old s x (starts_watching q) new =
-    IsSome (query_of old.store.queries q) × (new ≡ with_session old s (with_watch q))
+    IsSome (listed_of old.store.queries q) × (new ≡ with_session old s (with_watch q))
 Turned old s x (stops_watching q) new = new ≡ with_session old s (without_watch q)
 
 -- What a command of rows makes of a state.

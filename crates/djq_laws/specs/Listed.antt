@@ -21,8 +21,8 @@ use Rattle.std.specs.Prelude.{
 }
 use Rattle.std.specs.List.{flat_map}
 use Rattle.djq_model.specs.Data.{Bytes, Tuple, bytes_eq}
-use Rattle.djq_model.specs.declared.query.Query.{Query}
-use Rattle.djq_model.specs.Answer.{IsAnswer, IsListing}
+use Rattle.djq_model.specs.Answer.{IsListing}
+use Rattle.djq_model.specs.Listed.{Listed, AnswersOf}
 use Rattle.djq_lines.specs.declared.command.Command.TheVariants.{Open, Next}
 use Rattle.djq_lines.specs.Grammar.{Reading, says as says_command, reading_of}
 use Rattle.djq_lines.specs.Reply.{line, text_of, listing_lines}
@@ -103,7 +103,7 @@ GivenIsTold = (start : State) → IsStart start → (s : ℕ) (c : Bytes) (done 
 -- A session that has listed a query was told the listing, since it opened the cursor: each answer
 -- over the present rows, once, and the end.
 abbrev pub ListedIsTold : Type 0
-ListedIsTold = (start : State) → IsStart start → (q : Query) (s : ℕ) (given : List Tuple)
+ListedIsTold = (start : State) → IsStart start → (q : Listed) (s : ℕ) (given : List Tuple)
     (done : List Did) (new : State) → Run start done new → (h : HasListed q s new given)
     → TellGiven (replies_since s (h.cursor).name [] done) given true
-    × IsListing (IsAnswer new.store.relations q) given
+    × IsListing (AnswersOf new.store.relations q) given

@@ -1,9 +1,9 @@
 -- What holds of every state that the machine comes to.
 use Rattle.std.specs.Prelude.{List, [], ◌≡◌, ◌≢◌, ◌≤◌, true, false, IsSome, length, map, All, AllPairs}
 use Rattle.djq_model.specs.declared.relation.Relation.{Relation}
-use Rattle.djq_model.specs.declared.query.Query.{Query}
-use Rattle.djq_model.specs.Data.{Bytes, tuples_in, query_of}
+use Rattle.djq_model.specs.Data.{Bytes, tuples_in}
 use Rattle.djq_model.specs.Answer.{AreDifferent}
+use Rattle.djq_model.specs.Listed.{Listed, a_query, listed_name, listed_of}
 use Rattle.djq_model.specs.Typed.{fits}
 use Rattle.djq_lines.specs.declared.limits.TheConstants.{SESSIONS, TEXTS}
 use Rattle.djq_lines.specs.Hypergraph.{edges_of, head_of}
@@ -21,6 +21,10 @@ pub record IsSoundRelation (r : Relation) : Type 0 where
   pub typed : All (λ row. fits r.types row ≡ true) (tuples_in r)
   pub once : AreDifferent (tuples_in r)
 
+-- What is registered is free-connex.
+abbrev pub IsConnex : Listed → Type 0
+IsConnex (a_query q) = IsFreeConnex (edges_of q) (head_of q)
+
 -- Relations have names of their own, and queries, each of which is free-connex; and each known text
 -- is known once, and no more are than may be.
 pub record IsSoundStore (st : Store) : Type 0 where
@@ -28,8 +32,8 @@ pub record IsSoundStore (st : Store) : Type 0 where
   pub rows : All IsSoundRelation st.relations
   pub texts : AreApart st.texts
   pub few : length st.texts ≤ TEXTS
-  pub queries : AreApart (map (λ q. q.name) st.queries)
-  pub connex : All (λ q. IsFreeConnex (edges_of q) (head_of q)) st.queries
+  pub queries : AreApart (map listed_name st.queries)
+  pub connex : All IsConnex st.queries
 
 -- An open cursor has given no answer twice.
 abbrev pub GaveOnce : Position → Type 0
@@ -37,16 +41,16 @@ GaveOnce (open_at given finished) = AreDifferent given
 GaveOnce (stale r n) = Unit {0}
 
 -- A cursor, stale or not, is over a registered query.
-pub record IsSoundCursor (queries : List Query) (c : Cursor) : Type 0 where
-  pub registered : IsSome (query_of queries c.query)
+pub record IsSoundCursor (queries : List Listed) (c : Cursor) : Type 0 where
+  pub registered : IsSome (listed_of queries c.query)
   pub once : GaveOnce c.position
 
 -- A session's cursors have names of their own, and what it watches are registered queries, each
 -- once. A session that has ended has no cursors and no watches.
-pub record IsSoundSession (queries : List Query) (x : Session) : Type 0 where
+pub record IsSoundSession (queries : List Listed) (x : Session) : Type 0 where
   pub cursors : All (IsSoundCursor queries) x.cursors
   pub names : AreApart (map (λ c. c.name) x.cursors)
-  pub registered : All (λ w. IsSome (query_of queries w)) x.watches
+  pub registered : All (λ w. IsSome (listed_of queries w)) x.watches
   pub once : AreApart x.watches
   pub ended : IsSome x.cause → (x.cursors ≡ []) × (x.watches ≡ [])
 

@@ -1,4 +1,5 @@
 ghost use Rattle.std.specs.Prelude.{◌≡◌};
+ghost use Rattle.djq_model.specs.Listed.{a_query};
 ghost use Rattle.djq_machine.specs.Store.{IsShapeOf};
 ghost use Rattle.djq_live.specs.Live.{IsKeptSomewhere};
 
@@ -48,7 +49,7 @@ impl LiveQuery {
     /// its leaf.
     pub fn shape(&self) -> Shape
         requires { IsKeptSomewhere self.now }
-        ensures { IsShapeOf self.now.query result }
+        ensures { IsShapeOf (a_query self.now.query) result }
     {
         let tree = self.reducts.tree();
         if is_flat(tree.leaf_labels(), &tree.head()) {

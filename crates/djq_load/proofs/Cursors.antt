@@ -6,9 +6,8 @@ use Rattle.std.proofs.Common.{refl, sym, ap, ◌∙◌, subst, inl, inr, arith, 
 use Rattle.std.proofs.lemmas.Bool.{and_parts, leb-true}
 use Rattle.std.proofs.lemmas.Str.{IsUtf8-from_ascii, is_utf8-from_IsUtf8}
 use Rattle.std.proofs.lemmas.Str.Ascii.{IsAscii-nil, IsAscii-cons}
-use Rattle.djq_model.specs.declared.query.Query.{Query}
-use Rattle.djq_model.specs.Data.{Bytes, Tuple, bytes_eq, query_of}
-use Rattle.djq_model.specs.Answer.{IsAnswer}
+use Rattle.djq_model.specs.Data.{Bytes, Tuple, bytes_eq}
+use Rattle.djq_model.specs.Listed.{Listed, AnswersOf, listed_of}
 use Rattle.djq_lines.specs.declared.answer.EndCause.{EndCause}
 use Rattle.djq_lines.specs.declared.answer.EndCause.TheVariants.{Memory}
 use Rattle.djq_lines.specs.declared.answer.Refusal.{Refusal}
@@ -193,17 +192,17 @@ record NextTold (given : List Tuple) (st : State) (y : Session) (e : Effect) (m 
   cursors : session.cursors ≡ with_position y.cursors (codes "c") (open_at (given ++ told) end)
   pending : session.pending ≡ y.pending
 
-next_told : (given : List Tuple) (st : State) (y : Session) (q : Query) (e : Effect) (m : State) → session_of st 1 ≡ Some y → query_of st.store.queries (codes "q") ≡ Some q → cause_of m 1 ≡ None
+next_told : (given : List Tuple) (st : State) (y : Session) (q : Listed) (e : Effect) (m : State) → session_of st 1 ≡ Some y → listed_of st.store.queries (codes "q") ≡ Some q → cause_of m 1 ≡ None
     → NextStep st 1 (codes "c") q given 1000 e m ⊎ NextCutStep st 1 q given 1000 e m → NextTold given st y e m
 next_told given st y q e m found registered running (inl h) = record {
   told = h.told;
   end = h.end;
   few = (h.tells).at_most;
   full = (h.tells).all_asked;
-  some = λ left ends. some_told (IsAnswer st.store.relations q) given h.told
-      (subst (λ (o : Option Query). IsSomeAnd o (λ p. (t : Tuple) × IsLeft (IsAnswer st.store.relations p) given t)) registered left) ((h.tells).none_left ends);
+  some = λ left ends. some_told (AnswersOf st.store.relations q) given h.told
+      (subst (λ (o : Option Listed). IsSomeAnd o (λ p. (t : Tuple) × IsLeft (AnswersOf st.store.relations p) given t)) registered left) ((h.tells).none_left ends);
   left = λ goes. subst (λ (store : Store). HasLeft store (given ++ h.told)) (sym (ap (λ (s : State). s.store) h.state))
-      (subst (λ (o : Option Query). IsSomeAnd o (λ p. (t : Tuple) × IsLeft (IsAnswer st.store.relations p) (given ++ h.told) t)) (sym registered) ((h.tells).some_left goes));
+      (subst (λ (o : Option Listed). IsSomeAnd o (λ p. (t : Tuple) × IsLeft (AnswersOf st.store.relations p) (given ++ h.told) t)) (sym registered) ((h.tells).some_left goes));
   queued = ap (λ (d : Effect). to_session 1 d.queued) h.effect ∙ says_to 1 (text_of (listing_lines h.told h.end));
   session = record y { cursors = with_position y.cursors (codes "c") (open_at (given ++ h.told) h.end) };
   found = changed_to st m y (λ x. record x { cursors = with_position x.cursors (codes "c") (open_at (given ++ h.told) h.end) }) (λ x. refl) found h.state;
@@ -215,9 +214,9 @@ next_told given st y q e m found registered running (inr h) = absurd (none_some 
 next_at : (given : List Tuple) (ended : Bool) (st : State) (y : Session) (e : Effect) (m : State) → session_of st 1 ≡ Some y → cursor_of y.cursors (codes "c") ≡ Some (cursor_at given ended) → cause_of m 1 ≡ None
     → ReadStep st 1 y (codes "next c 1000") (says_command (Next (codes "c") 1000)) e m → NextTold given st y e m
 next_at given ended st y e m found stands running (true, h) =
-    let at : IsSomeAnd (query_of st.store.queries (codes "q")) (λ q. NextStepAt st 1 (codes "c") q 1000 (open_at given ended) e m) =
-    subst (λ (o : Option Cursor). MatchOption o (RefusedStep st 1 NoCursor e m) (λ k. IsSomeAnd (query_of st.store.queries k.query) (λ q. NextStepAt st 1 (codes "c") q 1000 k.position e m))) stands h in
-    let q = some_and (query_of st.store.queries (codes "q")) (λ q. NextStepAt st 1 (codes "c") q 1000 (open_at given ended) e m) at in
+    let at : IsSomeAnd (listed_of st.store.queries (codes "q")) (λ q. NextStepAt st 1 (codes "c") q 1000 (open_at given ended) e m) =
+    subst (λ (o : Option Cursor). MatchOption o (RefusedStep st 1 NoCursor e m) (λ k. IsSomeAnd (listed_of st.store.queries k.query) (λ q. NextStepAt st 1 (codes "c") q 1000 k.position e m))) stands h in
+    let q = some_and (listed_of st.store.queries (codes "q")) (λ q. NextStepAt st 1 (codes "c") q 1000 (open_at given ended) e m) at in
     next_told given st y q.0 e m found q.1 running q.2
 next_at given ended st y e m found stands running (false, h) = absurd (not_true h.0)
   where

@@ -1,8 +1,8 @@
 -- What a change of rows is, and what comes of a command that may make one.
 use Rattle.std.specs.Prelude.{ℕ, List, [], ◌∷◌, ◌++◌, Bool, true, false, Option, None, Some, is_some, Result, Ok, Err}
 use Rattle.djq_model.specs.declared.relation.Relation.{Relation}
-use Rattle.djq_model.specs.declared.query.Query.{Query}
 use Rattle.djq_model.specs.Data.{Bytes, Tuple, bytes_eq, rows_of, without_row}
+use Rattle.djq_model.specs.Listed.{Listed}
 use Rattle.djq_lines.specs.declared.answer.Refusal.{Refusal}
 use Rattle.djq_lines.specs.declared.answer.Refusal.TheVariants.{NoMemory}
 use Rattle.djq_lines.specs.declared.answer.AddOutcome.{AddOutcome}
@@ -18,7 +18,7 @@ pub record RowsChange : Type 0 where
   -- the relations behind it
   pub after : List Relation
   -- the relation whose change outdates a query, where one does
-  pub outdater : Query → Option Bytes
+  pub outdater : Listed → Option Bytes
   -- whether it changes the rows of a relation of this name
   pub touches : Bytes → Bool
 
@@ -76,7 +76,7 @@ tried (out_of_memory change) = Some change
 tried unchanged = None
 
 -- whether a change outdates a query
-abbrev pub is_outdated : RowsChange → Query → Bool
+abbrev pub is_outdated : RowsChange → Listed → Bool
 is_outdated change q = is_some (change.outdater q)
 
 -- the sessions behind a change of this number that was made or tried, where there was one

@@ -33,8 +33,9 @@ use Rattle.std.specs.Prelude.{
 }
 use Rattle.std.specs.List.{list_any}
 use Rattle.djq_model.specs.declared.query.Query.{Query}
-use Rattle.djq_model.specs.Data.{Bytes, Tuple, bytes_eq, drop_first, query_of}
-use Rattle.djq_model.specs.Answer.{IsAnswer, AreDifferent}
+use Rattle.djq_model.specs.Data.{Bytes, Tuple, bytes_eq, drop_first}
+use Rattle.djq_model.specs.Answer.{AreDifferent}
+use Rattle.djq_model.specs.Listed.{Listed, a_query, AnswersOf, listed_of}
 use Rattle.djq_lines.specs.declared.limits.TheConstants.{CURSORS, REPLY_BYTES}
 use Rattle.djq_lines.specs.declared.answer.Refusal.{Refusal}
 use Rattle.djq_lines.specs.declared.answer.Refusal.TheVariants.{Taken, NoQuery, NoCursor, Limit}
@@ -112,7 +113,7 @@ use Rattle.djq_machine.specs.Store.{
   TellsShape,
   TellsAnswers,
   IsLeft,
-  most_steps,
+  answer_steps,
 }
 use Rattle.djq_machine.specs.Changes.{row_in, row_out, add_outcome, delete_outcome}
 use Rattle.djq_machine.specs.Watch.{is_watching, ChangeStep}
@@ -186,7 +187,7 @@ pub record HasStep (old : State) (s : ℕ) (q : Bytes) (t : Tuple) (e : Effect)
   pub tells : TellsWhether old.store q t result
   pub effect : e ≡ record {
     queued = (s, has_reply result) ∷ [];
-    cost = has_steps (query_of old.store.queries q);
+    cost = has_steps (listed_of old.store.queries q);
     kept = no_line;
   }
   pub state : new ≡ old
@@ -194,7 +195,7 @@ pub record HasStep (old : State) (s : ℕ) (q : Bytes) (t : Tuple) (e : Effect)
 abbrev pub open_refusal : Store → List Cursor → Bytes → Bytes → Option Refusal
 open_refusal st cursors c q = first_of (
     (is_some (cursor_of cursors c), Taken)
-    ∷ (is_none (query_of st.queries q), NoQuery)
+    ∷ (is_none (listed_of st.queries q), NoQuery)
     ∷ (nat_le CURSORS (length cursors), Limit)
     ∷ [])
 
@@ -218,14 +219,14 @@ pub record OpenStep (old : State) (s : ℕ) (x : Session) (c q : Bytes) (e : Eff
   pub state : OpensTo old s c q new result
 
 -- `next` is told whole: a line an answer, and the last line.
-pub record NextStep (old : State) (s : ℕ) (c : Bytes) (q : Query) (given : List Tuple) (count : ℕ)
+pub record NextStep (old : State) (s : ℕ) (c : Bytes) (q : Listed) (given : List Tuple) (count : ℕ)
     (e : Effect) (new : State) : Type 0 where
   pub told : List Tuple
   pub end : Bool
-  pub tells : TellsAnswers (IsAnswer old.store.relations q) given count told end
+  pub tells : TellsAnswers (AnswersOf old.store.relations q) given count told end
   pub effect : e ≡ record {
     queued = (s, text_of (listing_lines told end)) ∷ [];
-    cost = (length told + 1) * most_steps (length q.head);
+    cost = (length told + 1) * answer_steps q;
     kept = no_line;
   }
   pub state : new ≡ with_session old s
@@ -241,24 +242,24 @@ IsNextLine Answer given count told l =
 -- Out of memory in a reply to `next` above the bytes that were kept for it: its first lines are
 -- told, each whole, and the session ends. It costs no more than the lines told and the one that
 -- found no memory.
-pub record NextCutStep (old : State) (s : ℕ) (q : Query) (given : List Tuple) (count : ℕ)
+pub record NextCutStep (old : State) (s : ℕ) (q : Listed) (given : List Tuple) (count : ℕ)
     (e : Effect) (new : State) : Type 0 where
   pub told : List Tuple
-  pub answers : All (IsAnswer old.store.relations q) told
+  pub answers : All (AnswersOf old.store.relations q) told
   pub different : AreDifferent (given ++ told)
   pub at_most : length told ≤ count
   pub lacking : Bytes
-  pub lacks : IsNextLine (IsAnswer old.store.relations q) given count told lacking
+  pub lacks : IsNextLine (AnswersOf old.store.relations q) given count told lacking
   pub above : REPLY_BYTES < length (text_of (map answer_line told ++ lacking ∷ []))
   pub effect : e ≡ record {
     queued = (s, text_of (map answer_line told) ++ end_memory) ∷ [];
-    cost = (length told + 1) * most_steps (length q.head);
+    cost = (length told + 1) * answer_steps q;
     kept = no_line;
   }
   pub state : new ≡ with_session old s (ended_by Memory)
 
 -- `next`, by where its cursor stands
-abbrev pub NextStepAt : State → ℕ → Bytes → Query → ℕ → Position → Effect → State → Type 0
+abbrev pub NextStepAt : State → ℕ → Bytes → Listed → ℕ → Position → Effect → State → Type 0
 NextStepAt old s c q count (open_at given ended) e new =
     NextStep old s c q given count e new ⊎ NextCutStep old s q given count e new
 NextStepAt old s c q count (stale relation n) e new =
@@ -271,7 +272,7 @@ CloseStep old s c e new = (e ≡ says s (line (codes "ok")))
     (λ x. record x { cursors = drop_first (λ k. bytes_eq k.name c) x.cursors }))
 
 abbrev pub watch_refusal : Store → Bytes → Option Refusal
-watch_refusal st q = first_of ((is_none (query_of st.queries q), NoQuery) ∷ [])
+watch_refusal st q = first_of ((is_none (listed_of st.queries q), NoQuery) ∷ [])
 
 -- a session that watches a query, once
 abbrev pub with_watch : Bytes → Session → Session
@@ -318,7 +319,7 @@ TellsLines old s lines e new =
     × (lines ≡ told ++ lacking ∷ rest)
     × EndsWith (text_of told ++ end_memory) Memory old s e new)
 
--- `explain`: the tree that the choice rule names is told.
+-- The tree of a query that the choice rule names is told.
 pub record ExplainStep (old : State) (s : ℕ) (q : Query) (e : Effect) (new : State) : Type 0 where
   pub tree : Tree
   pub named : IsTreeOf (edges_of q) (head_of q) tree
@@ -331,6 +332,10 @@ pub record ShapeStep (old : State) (s : ℕ) (q : Bytes) (e : Effect) (new : Sta
   pub effect : e ≡ says s (shape_reply result)
   pub state : new ≡ old
 
+-- `explain`, by what is registered: a query is explained by its tree.
+abbrev pub ExplainStepOf : State → ℕ → Listed → Effect → State → Type 0
+ExplainStepOf old s (a_query q) e new = ExplainStep old s q e new
+
 -- A command of a session is done, or refused by the first condition that holds.
 abbrev pub CommandStep : State → ℕ → Session → Command → Effect → State → Type 0
 CommandStep old s x (Rel name types) e new = RelStep old s (λ st. MakesRelation st name types) e new
@@ -340,7 +345,7 @@ CommandStep old s x (Register q) e new = QueryStep old s q e new ⊎ QueryCutSte
 CommandStep old s x (Open c q) e new = OpenStep old s x c q e new
 CommandStep old s x (Next c count) e new = MatchOption (cursor_of x.cursors c)
     (RefusedStep old s NoCursor e new)
-    (λ k. IsSomeAnd (query_of old.store.queries k.query)
+    (λ k. IsSomeAnd (listed_of old.store.queries k.query)
     (λ q. NextStepAt old s c q count k.position e new))
 CommandStep old s x (Close c) e new = MatchOption (cursor_of x.cursors c)
     (RefusedStep old s NoCursor e new)
@@ -351,7 +356,7 @@ CommandStep old s x (Drop q) e new = DropStep old s q e new
 CommandStep old s x (Has q row) e new = HasStep old s q row e new
 CommandStep old s x (Watch q) e new = WatchStep old s x q e new
 CommandStep old s x (Unwatch q) e new = UnwatchStep old s q e new
-CommandStep old s x (Explain q) e new = MatchOption (query_of old.store.queries q)
+CommandStep old s x (Explain q) e new = MatchOption (listed_of old.store.queries q)
     (RefusedStep old s NoQuery e new)
-    (λ k. ExplainStep old s k e new)
+    (λ k. ExplainStepOf old s k e new)
 CommandStep old s x (AskShape q) e new = ShapeStep old s q e new

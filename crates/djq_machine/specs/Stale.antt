@@ -2,12 +2,17 @@
 use Rattle.std.specs.Prelude.{ℕ, List, Bool, Option, None, Some, if◌then◌else◌, map}
 use Rattle.std.specs.List.{list_any}
 use Rattle.djq_model.specs.declared.query.Query.{Query}
-use Rattle.djq_model.specs.Data.{Bytes, bytes_eq, query_of}
+use Rattle.djq_model.specs.Data.{Bytes, bytes_eq}
+use Rattle.djq_model.specs.Listed.{Listed, a_query, listed_of}
 use Rattle.djq_machine.specs.State.{Position, open_at, stale, Cursor, Session}
 
 -- whether a query reads a relation
 abbrev pub reads : Query → Bytes → Bool
 reads q relation = list_any (λ a. bytes_eq a.relation relation) q.atoms
+
+-- whether what is registered does
+abbrev pub listed_reads : Listed → Bytes → Bool
+listed_reads (a_query q) relation = reads q relation
 
 -- An open cursor that a relation outdates becomes stale by its change; a stale one keeps the change that made it so.
 abbrev pub outdated : Option Bytes → ℕ → Position → Position
@@ -16,21 +21,21 @@ outdated (Some relation) n (open_at given ended) = stale relation n
 outdated (Some relation) n (stale r m) = stale r m
 
 -- the relation that outdates the answers of a query of this name, where one does
-abbrev pub outdater_of : List Query → (Query → Option Bytes) → Bytes → Option Bytes
-outdater_of queries outdater name = outdater_in (query_of queries name)
+abbrev pub outdater_of : List Listed → (Listed → Option Bytes) → Bytes → Option Bytes
+outdater_of queries outdater name = outdater_in (listed_of queries name)
   where
-    outdater_in : Option Query → Option Bytes
+    outdater_in : Option Listed → Option Bytes
     outdater_in None = None
     outdater_in (Some q) = outdater q
 
 -- a cursor after a change of this number
-abbrev pub outdated_cursor : List Query → (Query → Option Bytes) → ℕ → Cursor → Cursor
+abbrev pub outdated_cursor : List Listed → (Listed → Option Bytes) → ℕ → Cursor → Cursor
 outdated_cursor queries outdater n c = record c { position = outdated (outdater_of queries outdater c.query) n c.position }
 
 -- the sessions after a change of this number
-abbrev pub outdated_sessions : List Query → (Query → Option Bytes) → ℕ → List Session → List Session
+abbrev pub outdated_sessions : List Listed → (Listed → Option Bytes) → ℕ → List Session → List Session
 outdated_sessions queries outdater n xs = map (λ (x : Session). record x { cursors = map (outdated_cursor queries outdater n) x.cursors }) xs
 
 -- A change of one relation outdates the queries that read it.
-abbrev pub by_relation : Bytes → Query → Option Bytes
-by_relation relation q = if reads q relation then Some relation else None
+abbrev pub by_relation : Bytes → Listed → Option Bytes
+by_relation relation q = if listed_reads q relation then Some relation else None

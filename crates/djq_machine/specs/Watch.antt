@@ -2,9 +2,8 @@
 use Rattle.std.specs.Prelude.{ℕ, List, [], ◌∷◌, ◌==◌, ◌≡◌, ◌+◌, ◌*◌, ◌++◌, ◌<◌, ◌≤◌, ◌⊎◌, ◌&&◌, Bool, true, Option, None, Some, IsSomeAnd, MatchOption, if◌then◌else◌, length, map, filter, sum_by, All}
 use Rattle.std.specs.List.{list_any}
 use Rattle.djq_model.specs.declared.relation.Relation.{Relation}
-use Rattle.djq_model.specs.declared.query.Query.{Query}
 use Rattle.djq_model.specs.Data.{Bytes, bytes_eq}
-use Rattle.djq_model.specs.Answer.{IsAnswer}
+use Rattle.djq_model.specs.Listed.{Listed, a_query, listed_name, AnswersOf}
 use Rattle.djq_lines.specs.declared.limits.TheConstants.{PENDING_BYTES}
 use Rattle.djq_lines.specs.declared.answer.EndCause.{EndCause}
 use Rattle.djq_lines.specs.declared.answer.EndCause.TheVariants.{Slow, Memory}
@@ -21,34 +20,37 @@ abbrev pub is_watching : Bytes → Session → Bool
 is_watching q x = list_any (λ w. bytes_eq w q) x.watches
 
 -- the queries that a change outdates and that a session watches, in order of registration
-abbrev pub affected : State → RowsChange → List Query
+abbrev pub affected : State → RowsChange → List Listed
 affected st change =
-    filter (λ q. is_outdated change q && list_any (is_watching q.name) st.sessions) st.store.queries
+    filter (λ q. is_outdated change q && list_any (is_watching (listed_name q)) st.sessions) st.store.queries
 
 -- a query, and how its answers changed
 pub record Delta : Type 0 where
-  pub query : Query
+  pub query : Listed
   pub changes : List Change
 
 -- The deltas of these queries, in order, as one list of relations becomes another.
-pub record AreDeltas (before after : List Relation) (queries : List Query) (deltas : List Delta) : Type 0 where
+pub record AreDeltas (before after : List Relation) (queries : List Listed) (deltas : List Delta) : Type 0 where
   pub of_queries : map (λ d. d.query) deltas ≡ queries
-  pub are_deltas : All (λ d. IsDelta (IsAnswer before d.query) (IsAnswer after d.query) d.changes)
+  pub are_deltas : All (λ d. IsDelta (AnswersOf before d.query) (AnswersOf after d.query) d.changes)
       deltas
 
 -- The deltas of the queries that a change affects, made or only tried; none where there was none.
-abbrev pub ListsDeltas : List Relation → (RowsChange → List Query) → Option RowsChange → List Delta
+abbrev pub ListsDeltas : List Relation → (RowsChange → List Listed) → Option RowsChange → List Delta
     → Type 0
 ListsDeltas before affected None deltas = deltas ≡ []
 ListsDeltas before affected (Some change) deltas =
     AreDeltas before change.after (affected change) deltas
 
--- the most lookups and links that listing a delta takes: as many as an answer for each that came or
--- went, and for each atom over a relation that changed
+-- the most lookups and links that listing this many answers that came or went takes: as many as an
+-- answer for each of them, and for each atom over a relation that changed
+abbrev pub changes_steps : RowsChange → Listed → ℕ → ℕ
+changes_steps change (a_query q) count =
+    (count + length (filter (λ a. change.touches a.relation) q.atoms)) * most_steps (length q.head)
+
+-- the most that listing a delta takes
 abbrev pub delta_steps : RowsChange → Delta → ℕ
-delta_steps change d =
-    (length d.changes + length (filter (λ a. change.touches a.relation) d.query.atoms))
-    * most_steps (length d.query.head)
+delta_steps change d = changes_steps change d.query (length d.changes)
 
 -- the most that listing all of them takes
 abbrev pub deltas_steps : Option RowsChange → List Delta → ℕ
@@ -83,15 +85,15 @@ abbrev pub TellsWatcher : Delta → ℕ → ℕ → Bytes → Telling → Tellin
 TellsWatcher d n s pending m new =
     ((PENDING_BYTES < length pending) × (new ≡ ends_more s end_slow Slow m))
     ⊎ ((length pending ≤ PENDING_BYTES)
-    × (new ≡ says_more s (text_of (delta_lines d.query.name d.changes n)) m))
+    × (new ≡ says_more s (text_of (delta_lines (listed_name d.query) d.changes n)) m))
     ⊎ ((length pending ≤ PENDING_BYTES)
     × (told : List Change) × (rest : List Change) × (d.changes ≡ told ++ rest)
-    × (new ≡ ends_more s (text_of (change_lines d.query.name told) ++ end_memory) Memory m))
+    × (new ≡ ends_more s (text_of (change_lines (listed_name d.query) told) ++ end_memory) Memory m))
 
 -- A session is told a delta where it watches the query.
 abbrev pub TellsSession : Delta → ℕ → Telling → ℕ → Telling → Type 0
 TellsSession d n m s new =
-    MatchOption (watcher_of m d.query.name s) (new ≡ m) (λ x. TellsWatcher d n s x.pending m new)
+    MatchOption (watcher_of m (listed_name d.query) s) (new ≡ m) (λ x. TellsWatcher d n s x.pending m new)
 
 -- The sessions are told a delta, in rising id.
 abbrev pub TellsDelta : ℕ → Telling → Delta → Telling → Type 0

@@ -6,7 +6,6 @@ use Rattle.std.specs.Cmp.Lexicographic.{pointwise}
 use Rattle.djq_model.specs.declared.value.Value.{Value}
 use Rattle.djq_model.specs.declared.value.Value.TheVariants.{Int, Text}
 use Rattle.djq_model.specs.declared.relation.Relation.{Relation}
-use Rattle.djq_model.specs.declared.query.Query.{Query}
 
 -- a text or a name
 abbrev pub Bytes : Type 0
@@ -67,10 +66,6 @@ rows_in (Some r) = tuples_in r
 -- its rows; none where there is no such relation
 abbrev pub rows_of : List Relation → Bytes → List Tuple
 rows_of relations name = rows_in (relation_of relations name)
-
--- the query of a name
-abbrev pub query_of : List Query → Bytes → Option Query
-query_of queries name = find (λ q. bytes_eq q.name name) queries
 
 -- the cell of a row at a column
 abbrev pub cell_at : Tuple → ℕ → Value

@@ -6,7 +6,7 @@ use Rattle.djq_lines.specs.Variables.{constants_of}
 use Rattle.djq_engine.proofs.Aging.{rested_held}
 use Rattle.djq_engine.proofs.Carrying.{sound_texts}
 use Rattle.djq_model.specs.declared.query.Query.{Query}
-use Rattle.djq_model.specs.Data.{query_of}
+use Rattle.djq_model.specs.Listed.{a_query, listed_of}
 use Rattle.djq_lines.specs.declared.limits.TheConstants.{TEXTS}
 use Rattle.djq_machine.specs.Store.{LearnsAll, LearnsFirst}
 use Rattle.djq_rows.specs.Catalog.{Catalog}
@@ -80,7 +80,7 @@ returns-in-Ok-register-clause-whole g c =
     c.intern_constants-known.ensures.relations (constants_of c.args.query.atoms) c.intern_constants-known.result c.intern_constants-known.ensures.interns) c.requires.whole in
     let passes = passes_of old.catalog old.queries.items old.order old.readers.items old.seq c.requires.whole c.args.query (sym c.in_default.ensures) in
     let l = c.in-Ok-build.live in
-    let fresh = ap (λ (q : Query). query_of (queries_in old.queries.items old.order) q.name) c.in-Ok-build.ensures.query ∙ passes.fresh in
+    let fresh = ap (λ (q : Query). listed_of (queries_in old.queries.items old.order) q.name) c.in-Ok-build.ensures.query ∙ passes.fresh in
     let new = c.register.new.parts in
     let r = c.in-Ok-register.ensures.ok in
     enrolled_whole mid new whole l c.in-Ok-build.ensures.live c.in-Ok-build.ensures.cursors r fresh passes.few
@@ -93,14 +93,14 @@ returns-in-Ok-register-clause-registers g c =
     c.intern_constants-known.ensures.relations (constants_of c.args.query.atoms) c.intern_constants-known.result c.intern_constants-known.ensures.interns) c.requires.whole in
     let passes = passes_of old.catalog old.queries.items old.order old.readers.items old.seq c.requires.whole c.args.query (sym c.in_default.ensures) in
     let l = c.in-Ok-build.live in
-    let fresh = ap (λ (q : Query). query_of (queries_in old.queries.items old.order) q.name) c.in-Ok-build.ensures.query ∙ passes.fresh in
+    let fresh = ap (λ (q : Query). listed_of (queries_in old.queries.items old.order) q.name) c.in-Ok-build.ensures.query ∙ passes.fresh in
     let new = c.register.new.parts in
     let r = c.in-Ok-register.ensures.ok in
     query_done old.catalog new.catalog old.queries.items new.queries.items old.order new.order old.seq new.seq c.args.query (sym c.in_default.ensures)
     (ap (λ (x : Catalog). x.relations) r.catalog ∙ c.intern_constants-known.ensures.relations) r.seq
     (2 * c.len.result + 1) c.in-Ok.ensures.planned.connex (ap (λ (n : ℕ). 2 * n + 1) c.len.ensures)
     (subst (λ (x : Catalog). LearnsAll old.catalog.texts (texts_in (constants_of c.args.query.atoms)) x.texts) (sym r.catalog) c.in-Ok-known.ensures.interns.0)
-    (enrolled_queries mid new whole l c.in-Ok-build.ensures.live c.in-Ok-build.ensures.cursors r fresh passes.few ∙ ap (λ (q : Query). queries_in old.queries.items old.order ++ q ∷ []) c.in-Ok-build.ensures.query)
+    (enrolled_queries mid new whole l c.in-Ok-build.ensures.live c.in-Ok-build.ensures.cursors r fresh passes.few ∙ ap (λ (q : Query). queries_in old.queries.items old.order ++ a_query q ∷ []) c.in-Ok-build.ensures.query)
 
 pub returns-in-Ok-register-clause-cursors : goal.returns-in-Ok-register-clause-cursors
 returns-in-Ok-register-clause-cursors g c id =
@@ -110,7 +110,7 @@ returns-in-Ok-register-clause-cursors g c id =
     c.intern_constants-known.ensures.relations (constants_of c.args.query.atoms) c.intern_constants-known.result c.intern_constants-known.ensures.interns) c.requires.whole in
     let passes = passes_of old.catalog old.queries.items old.order old.readers.items old.seq c.requires.whole c.args.query (sym c.in_default.ensures) in
     let l = c.in-Ok-build.live in
-    let fresh = ap (λ (q : Query). query_of (queries_in old.queries.items old.order) q.name) c.in-Ok-build.ensures.query ∙ passes.fresh in
+    let fresh = ap (λ (q : Query). listed_of (queries_in old.queries.items old.order) q.name) c.in-Ok-build.ensures.query ∙ passes.fresh in
     let new = c.register.new.parts in
     let r = c.in-Ok-register.ensures.ok in
     enrolled_cursors mid new whole l c.in-Ok-build.ensures.live c.in-Ok-build.ensures.cursors r fresh passes.few id ∙ rested_held old.catalog c.intern_constants-known.new.catalog old.queries.items (constants_stay c.live_stays.ensures c.texts_stay.ensures old.catalog c.intern_constants-known.new.catalog old.queries.items old.order old.readers.items c.requires.whole c.laws.ensures
@@ -223,7 +223,7 @@ returns-in-Ok-register-clause-enrols g c =
       registered_none old.catalog old.queries.items old.order old.readers.items old.watchers.items c.requires.whole (id_at r.place) r.vacant,
       ap (registered_in new.queries.items new.watchers.items) r.last
           ∙ enlisted old.queries.items new.queries.items old.watchers.items new.watchers.items old.order r.place l (c.requires.whole.listed r.place ∙ ap is_some r.vacant) r.here r.unwatched r.others r.watchers
-          ∙ ap (λ (q : Query). registered_in old.queries.items old.watchers.items old.order ++ (let x : Registered = record { id = id_at r.place; query = q; watchers = 0 } in x) ∷ []) c.in-Ok-build.ensures.query,
+          ∙ ap (λ (q : Query). registered_in old.queries.items old.watchers.items old.order ++ (let x : Registered = record { id = id_at r.place; query = a_query q; watchers = 0 } in x) ∷ []) c.in-Ok-build.ensures.query,
     )
 
 pub returns-in-Err-register-clause-enrols : goal.returns-in-Err-register-clause-enrols
