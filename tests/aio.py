@@ -42,6 +42,7 @@ def random_commands(count, seed):
             yield chance.choice([("has", ("q", 1, 2, "a")), ("has", ("p", "ü")), ("snapshot", ("q",)), ("has", ("z",))])
         if chance.random() < 0.1:
             yield chance.choice([("snapshot", ("p",)), ("explain", ("q",)), ("watch", ("q",)), ("unwatch", ("p",))])
+            yield "shape", (chance.choice("qpz"),)
         if chance.random() < 0.02:
             yield chance.choice([("drop", ("q",)), ("relation", ("r", int)), ("ping", ()), ("add", ("No", 1))])
 

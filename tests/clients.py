@@ -169,6 +169,9 @@ def test_texts_and_joins(server):
         assert listed == {(at, text, at + 1) for at, text in enumerate(texts)}
         assert client.has("jq", 1, "a b", 2) and not client.has("jq", 1, "unknown", 2)
         assert client.explain("jq")[0].startswith("n 0 leaf people ")
+        assert client.query("jc(x) <- people(x,_), calls(x,y)") == 3 and client.shape("jc") == "flat"
+        assert client.query("jl(x) <- people(y,_), calls(x,y)") == 3 and client.shape("jl") == "linear"
+        raises(djq.NoQuery, lambda: client.shape("jm"))
         refused = raises(djq.NotFreeConnex, lambda: client.query("jn(x,z) <- calls(x,y), calls(y,z)"))
         assert refused.edges == [("x", "y"), ("x", "z"), ("y", "z")]
 

@@ -90,6 +90,7 @@ query w(x,z) <- r(x,y), t(y,z)
 query v(x,y,z) <- r(x,y), t(y,z), t(z,x)
 explain q
 explain p
+shape p
 add r 1 2
 add s 2
 add t 2 5

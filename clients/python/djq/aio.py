@@ -131,6 +131,10 @@ class Connection:
         """The query's join tree, a line a node."""
         return await self._do(spell_line("explain", query), protocol.read_tree)
 
+    async def shape(self, query: str) -> str:
+        """`flat` where no change of a row costs the query more as rows grow in number; else `linear`."""
+        return await self._do(spell_line("shape", query), protocol.READ_SHAPE)
+
     async def watch(self, query: str) -> int:
         """From now on changes of the query's answers come: see `changes`. Gives the number of changes so far."""
         seq = await self._do(spell_line("watch", query), protocol.READ_WATCH)

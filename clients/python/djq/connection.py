@@ -116,6 +116,10 @@ class Connection:
         """The query's join tree, a line a node."""
         return self._do(spell_line("explain", query), protocol.read_tree)
 
+    def shape(self, query: str) -> str:
+        """`flat` where no change of a row costs the query more as rows grow in number; else `linear`."""
+        return self._do(spell_line("shape", query), protocol.READ_SHAPE)
+
     def cursor(self, query: str) -> Cursor:
         """Opens a cursor in front of the query's answers."""
         self._names += 1

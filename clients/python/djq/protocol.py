@@ -325,6 +325,7 @@ READ_UPDATE = reader(
     ok_absent=lambda seq: Update(False, int(seq)),
 )
 READ_HAS = reader(yes=lambda rest: True, no=lambda rest: False)
+READ_SHAPE = reader(flat=lambda rest: "flat", linear=lambda rest: "linear")
 READ_OPEN = reader(ok_open=lambda rest: True)
 READ_QUERY = reader(ok_query=int)
 READ_WATCH = reader(ok_watch=int)
