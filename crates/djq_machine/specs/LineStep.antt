@@ -20,8 +20,9 @@ pub data LineOutcome : Type 0 where
   no_room : Bytes → LineOutcome
   run : Bytes → LineOutcome
 
--- A line is run as what it is read as. It is refused where it is outside the grammar, or a literal of its command is past
--- its limit; else its command is carried out, unless memory is out while it is read.
+-- A line is run as what it is read as. It is refused where it is outside the grammar, or where a
+-- literal of its command is past its limit; else its command is carried out, unless memory is out
+-- while it is read.
 abbrev pub ReadStep : State → ℕ → Session → Bytes → Reading → Effect → State → Type 0
 ReadStep old s x l outside e new = RefusedStep old s Syntax e new
 ReadStep old s x l (past_limit c) e new = RefusedStep old s WrongType e new
