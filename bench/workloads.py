@@ -1,6 +1,6 @@
 """The streams whose instructions `count.py` counts: thirteen kinds of work, each made for a number of rows.
 
-The letters are the rows of the table in docs/PERFORMANCE.md. Each stream is the same on every machine.
+The letters name them in what `count.py` tells. Each stream is the same on every machine.
 """
 
 import random
