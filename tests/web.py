@@ -698,7 +698,7 @@ def take_pictures(program, paths, seconds=100):
             browser.driver.quit()
     for path in paths:
         if shutil.which("pngquant"):
-            subprocess.run(["pngquant", "--force", "--speed", "1", "--output", path, "48", path], check=True)
+            subprocess.run(["pngquant", "--force", "--speed", "1", "--output", path, "24", path], check=True)
         print(f"{path}: {os.path.getsize(path)} bytes")
 
 
