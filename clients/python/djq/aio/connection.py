@@ -1,47 +1,26 @@
-"""A client for asyncio, over the same lines as the one that blocks.
-
-    import djq.aio
-
-    async with djq.aio.connect("127.0.0.1", 7007) as server:
-        await server.relation("reading", int, int)
-        await server.query("q(x,y) <- reading(x,y)")
-        await server.add("reading", 1, 20)
-        async for answer in server.answers("q"):
-            print(answer)                           # (1, 20)
-        async with server.live("q") as live:
-            async for change in live.changes():     # waits until rows change
-                print(change.seq, change.came, change.went)
-
-One connection is one session, and any number of tasks of one loop may use it: their commands are answered in the order
-in which they were said. A task that is cancelled as it waits leaves its command to be done, and the reply goes where it
-belongs. Errors are those of `djq`.
-"""
+"""A connection of asyncio, which has a method for each command."""
 
 from __future__ import annotations
 
 import asyncio
 import time
 from collections import deque
-from typing import AsyncIterator, Callable, Generator, Iterable, Sequence, TypeVar
+from typing import TYPE_CHECKING, Any, AsyncIterator, Callable, Generator, Iterable, Sequence, TypeVar
 
-from . import protocol
-from .errors import Disconnected, Ended, Error, NoCursor, NoQuery, NotWatched, OutOfMemory, Overtaken, Refused
-from .errors import SomeRefused, Stale
-from .listing import FIRST_PAGES, GROWTH, LONGEST_PAUSE, MOST_PAGES, WITHIN, Listing
-from .protocol import FIRST_REFUSALS, MOST_ANSWERS, Answer, Change, Page, Pending, Protocol, Update, Value
-from .protocol import checked, column_type, fitting, spell_line
+from .. import protocol
+from ..errors import Disconnected, Error, NoCursor, NotWatched, Refused, SomeRefused
+from ..listing import CLOSE, MOST_PAGES, WITHIN, Listing, Said
+from ..protocol import FIRST_REFUSALS, MOST_ANSWERS, Answer, Change, Page, Pending, Protocol, Update, Value
+from ..protocol import checked, column_type, fitting, spell_line
 
-__all__ = ["Connection", "Cursor", "Live", "Pipeline", "connect"]
+if TYPE_CHECKING:
+    from .live import Live, Lives
+    from .table import Table
 
 T = TypeVar("T")
 
 MOST_DUE = 2000  # replies that are left due while a pipeline sends more
 MOST_UNTAKEN = 10000  # changes that nobody took, above which no more is read while nobody waits
-FIRST_PAUSE = 0.05  # seconds before a live set that couldn't start anew tries again
-LAST_PAUSE = 5.0
-
-# what may be over after a while: the server isn't there, or isn't yet what it was
-PASSING = (Disconnected, Ended, NoQuery, OutOfMemory, Overtaken)
 
 
 class _Wire(asyncio.Protocol):
@@ -177,11 +156,29 @@ class Connection:
 
     async def snapshot(self, query: str, within: float = WITHIN) -> set[Answer]:
         """All answers of one moment, also while rows change. Raises `Overtaken` after so many seconds without it."""
-        return (await _list_whole(self, query, within)).answers
+        return (await list_whole(self, query, within)).answers
 
-    def live(self, query: str, within: float = WITHIN, reconnect: bool = False) -> Live:
-        """The query's answers, kept up to date, over a connection of its own. For the settings see `Live`."""
-        return Live(self.host, self.port, query, self.timeout, within, reconnect)
+    # Answers that are kept up to date
+
+    def live(self, query: str, **settings: Any) -> Live:
+        """The query's answers, kept up to date as long as its `async with` lasts, over a connection of its own. For
+        `settings` see `Lives`."""
+        from .live import Lives
+
+        return Lives(self.host, self.port, timeout=self.timeout, **settings).only(query)
+
+    def lives(self, *queries: str, **settings: Any) -> Lives:
+        """The answers of several queries, kept up to date over one further connection as long as its `async with`
+        lasts. For `settings` see `Lives`."""
+        from .live import Lives
+
+        return Lives(self.host, self.port, *queries, timeout=self.timeout, **settings)
+
+    async def table(self, relation: str, *types: type | str, key: int = 1) -> Table:
+        """A relation whose first `key` columns are a key. It is made where it isn't there: see `djq.Table`."""
+        from .table import Table
+
+        return await Table(self, relation, types, key)._begin()
 
     # Many at once, and changes
 
@@ -287,6 +284,7 @@ class Connection:
         """Waits for bytes; false where none came until then."""
         left = None if until is None else until - time.monotonic()
         if left is not None and left <= 0:
+            await asyncio.sleep(0)
             return False
         future = asyncio.get_running_loop().create_future()
         self._sleepers.append(future)
@@ -294,7 +292,7 @@ class Connection:
         await asyncio.wait([future], timeout=left)
         return future.done()
 
-    async def _turn(self, lines: Sequence[tuple[str, Callable]], until: float) -> list[Pending] | None:
+    async def _turn(self, lines: Sequence[Said], until: float) -> list[Pending] | None:
         """Sends lines in one write, and reads their replies once all are there. None where that took too long."""
         async with self._order:
             await self._settle()
@@ -384,6 +382,10 @@ class Cursor:
         """The next answers, at most `count`. Raises `Stale`."""
         return await self._connection._do(f"next {self.name} {count}", protocol.read_page)
 
+    async def close(self) -> None:
+        """Gives the cursor up before its `async with` ends."""
+        await self._connection._do(f"close {self.name}", protocol.READ_OK)
+
     async def answers(self, page: int = MOST_ANSWERS) -> AsyncIterator[Answer]:
         """The answers from here on, asked for `page` at a time."""
         while True:
@@ -457,146 +459,20 @@ class Pipeline:
             self.first.append(error)
 
 
-class _Listing(Listing):
-    """One try to list a query's answers, whose turns are waited for."""
-
-    async def run_with(self, connection: Connection, pages: int) -> bool:
-        """Lists, with so many pages in the first turn. False where rows changed, or time ran out, before the end."""
-        front = self._front
-        while True:
-            self.asked += pages
-            replies = await connection._turn(front + [self._page] * pages, self._until)
-            if replies is None:
-                return False
-            for opened in replies[1 : len(front)]:
-                opened.result()
-            try:
-                for page in replies[len(front) :]:
-                    self.answers.update(page.result().answers)
-                    if page.result().last:
-                        self.at = page.at
-                        return True
-            except Stale:
-                return False
-            front, pages = [], min(self._most, GROWTH * pages)
-
-
-async def _list_whole(connection: Connection, query: str, within: float, most: int = MOST_PAGES) -> Listing:
-    """A listing that came to its end. Raises `Overtaken` after `within` seconds."""
-    checked(query)
+async def list_whole(
+    connection: Connection, query: str, within: float, most: int = MOST_PAGES, watch: bool = False
+) -> Listing:
+    """A listing that came to its end, by turns of at most so many pages. Raises `Overtaken` after `within` seconds."""
     async with connection._listing:
-        return await _comes_to_its_end(connection, query, within, most)
-
-
-async def _comes_to_its_end(connection: Connection, query: str, within: float, most: int) -> Listing:
-    until = time.monotonic() + within
-    pages, pause = min(FIRST_PAGES, most), 0.0
-    while True:
-        listing = _Listing(connection, query, most, until)  # type: ignore[arg-type]
-        if await listing.run_with(connection, pages):
-            await connection._do(*listing.close)
-            return listing
-        if time.monotonic() + pause >= until:
-            raise Overtaken(f"{query} wasn't listed in {within:g} s: rows changed before the end of each listing")
-        if pages == most:
-            await asyncio.sleep(pause)
-            pause = min(LONGEST_PAUSE, 2 * pause + 0.01)
-        pages = min(most, listing.asked)
-
-
-class Live:
-    """The answers of one query, as `answers`, and the number of the last change that is in them, as `seq`.
-
-    Where the server ended the session or the connection was lost it starts anew, and what was missed comes as one
-    change with `restarted`. With `reconnect` it tries again, with growing pauses, as long as the server isn't there or
-    doesn't know the query. `within` is how many seconds a listing may take.
-    """
-
-    def __init__(
-        self,
-        host: str,
-        port: int,
-        query: str,
-        timeout: float | None = None,
-        within: float = WITHIN,
-        reconnect: bool = False,
-    ) -> None:
-        self.query = checked(query)
-        self.answers: set[Answer] = set()
-        self.seq = 0
-        self._open = lambda: Connection(host, port, timeout)
-        self._within, self._reconnect = within, reconnect
-        self._most = MOST_PAGES
-        self._closed = False
-        self._connection = self._open()
-
-    async def __aenter__(self) -> Live:
-        while True:
-            try:
-                self.answers, self.seq = await self._start()
-                return self
-            except Ended as error:
-                if error.cause != "slow" or self._most == FIRST_PAGES:
-                    raise
-
-    async def __aexit__(self, *_: object) -> None:
-        self.close()
-
-    def close(self) -> None:
-        """Keeps the answers no more."""
-        self._closed = True
-        self._connection.close()
-
-    async def changes(self, timeout: float | None = None) -> AsyncIterator[Change]:
-        """Each change as it comes, once it is in `answers`; with a timeout, until none came for so many seconds."""
-        while (change := await self.next(timeout)) is not None:
-            yield change
-
-    async def next(self, timeout: float | None = None) -> Change | None:
-        """The next change, once it is in `answers`; none where none came for so many seconds."""
+        listing = Listing(query, within, most, watch)
         try:
-            change = await self._connection.next_change(self.query, timeout)
-        except (Ended, Disconnected, NotWatched):
-            return await self._restarted()
-        if change is not None:
-            self.answers -= change.went
-            self.answers |= change.came
-            self.seq = change.seq
-        return change
-
-    async def _restarted(self) -> Change:
-        """Starts anew, and gives what was missed as one change."""
-        pause = FIRST_PAUSE
-        while True:
-            if self._closed:
-                raise Disconnected("closed")
-            try:
-                answers, seq = await self._start()
-                break
-            except PASSING as error:
-                slow = isinstance(error, Ended) and error.cause == "slow" and self._most > FIRST_PAGES
-                if not self._reconnect and not slow:
-                    raise
-            await asyncio.sleep(pause)
-            pause = min(2 * pause, LAST_PAUSE)
-        change = Change(seq, frozenset(answers - self.answers), frozenset(self.answers - answers), restarted=True)
-        self.answers, self.seq = answers, seq
-        return change
-
-    async def _start(self) -> tuple[set[Answer], int]:
-        """Watches and lists over a new connection. What changed before the listing's last line is in it."""
-        self._connection.close()
-        self._connection = connection = self._open()
-        try:
-            await connection.open()
-            seq = await connection.watch(self.query)
-            listing = await _list_whole(connection, self.query, self._within, self._most)
-        except BaseException as error:
-            if isinstance(error, Ended) and error.cause == "slow":
-                self._most = max(FIRST_PAGES, self._most // 2)
-            connection.close()
-            raise
-        changes = connection._protocol.changes.setdefault(self.query, deque())
-        while changes and changes[0][0] < listing.at:
-            seq = changes.popleft()[1].seq
-        return listing.answers, seq
+            while not listing.whole:
+                listing.take(await connection._turn(listing.turn(), listing.until))
+                if listing.pause:
+                    await asyncio.sleep(listing.pause)
+            if listing.is_open:
+                await connection._do(*CLOSE)
+        finally:
+            if listing.watched:
+                connection._watched.add(query)
+        return listing
