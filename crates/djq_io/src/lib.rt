@@ -47,6 +47,7 @@ pub use mem_hub::{HubCall, MemHub};
 pub use mem_sink::MemSink;
 pub use mem_source::MemSource;
 pub use piece::Piece;
+pub use recording::Recording;
 pub use sessions::Sessions;
 pub use sink::{Sink, Write, Written, Wrote, write_all};
 pub use source::{Read, Source};
