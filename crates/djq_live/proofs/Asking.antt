@@ -94,7 +94,7 @@ use Rattle.djq_live.specs.Leaves.{IsOver}
 use Rattle.djq_live.specs.Live.{Live, IsLive, IsKeptSomewhere, IsShowable}
 use Rattle.djq_live.specs.Order.{reading, AreCellsOfAnswer}
 use Rattle.djq_live.specs.Shown.{value_at, shown, AreShownAs}
-use Rattle.djq_live.proofs.Columns.{
+use Rattle.djq_reduct.proofs.Readings.{
   IsSimple,
   Within,
   simple_of,

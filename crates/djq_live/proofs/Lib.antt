@@ -1,4 +1,3 @@
-pub mod Columns
 pub mod Above
 pub mod Tabling
 pub mod Filling

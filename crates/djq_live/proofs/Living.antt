@@ -50,7 +50,7 @@ use Rattle.djq_live.specs.Stepping.{
 }
 use Rattle.djq_live.proofs.Giving.{one_of}
 use Rattle.djq_live.proofs.Members.{in_none, in_cons, in_rest}
-use Rattle.djq_live.proofs.Columns.{member_here, member_on}
+use Rattle.djq_reduct.proofs.Readings.{member_here, member_on}
 use Rattle.djq_live.proofs.Listings.{few}
 use Rattle.djq_live.proofs.Passing.{part_few}
 use Rattle.djq_live.proofs.Showing.{tree_answer}

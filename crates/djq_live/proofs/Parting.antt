@@ -49,7 +49,7 @@ use Rattle.djq_live.specs.Leaves.{GivesOne, IsOver}
 use Rattle.djq_live.specs.Changes.{IsLater, CameAll, GainsAll}
 use Rattle.djq_live.specs.Shown.{value_at, shown}
 use Rattle.djq_live.specs.Stepping.{ChangesBelow}
-use Rattle.djq_live.proofs.Columns.{cell_there, row_same, member_here, member_on}
+use Rattle.djq_reduct.proofs.Readings.{cell_there, row_same, member_here, member_on}
 use Rattle.djq_live.proofs.Filling.{assigned_of}
 use Rattle.djq_live.proofs.Tabling.{IsIn}
 use Rattle.djq_live.proofs.Giving.{one_as, one_is}

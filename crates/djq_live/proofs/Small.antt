@@ -47,7 +47,7 @@ use Rattle.djq_live.specs.Leaves.{IsPatternOf, GivesOne, IsLeafOf}
 use Rattle.djq_live.specs.Live.{Live, IsKept}
 use Rattle.djq_live.specs.Updating.{LeavesAreSmall}
 use Rattle.djq_live.proofs.Binding.{pattern_row}
-use Rattle.djq_live.proofs.Columns.{IsSimple, simple_of, reading, reading_row, row_same}
+use Rattle.djq_reduct.proofs.Readings.{IsSimple, simple_of, reading, reading_row, row_same}
 use Rattle.djq_live.proofs.Filled.{in_row}
 use Rattle.djq_live.proofs.Heads.{has_at}
 use Rattle.djq_live.proofs.Later.{atom_at}

@@ -36,7 +36,7 @@ use Rattle.djq_query.specs.declared.numbered.NumberedTerm.TheVariants.{
 }
 use Rattle.djq_query.specs.declared.numbered.NumberedAtom.{NumberedAtom}
 use Rattle.djq_query.specs.Numbered.{AreNumbered, are_below, is_number, numbered_terms}
-use Rattle.djq_live.proofs.Columns.{within_of}
+use Rattle.djq_reduct.proofs.Readings.{within_of}
 use Rattle.djq_live.proofs.Graphs.{numbers_same, high_terms, and_parts, edges_long}
 use Rattle.djq_live.proofs.Sets.{Rising, set_has, set_lacks, first_alone}
 use Rattle.std.proofs.lemmas.Option.{same_Some}

@@ -34,7 +34,7 @@ use Rattle.djq_live.specs.Shown.{value_at}
 use Rattle.djq_live.specs.Changes.{IsLater, Gains, Loses, LeavesChange}
 use Rattle.djq_live.specs.Live.{Live, IsKept, IsLive, given_by, position_of, values_of}
 use Rattle.djq_live.specs.Staying.{StaysOver, LiveStays, CamePasses, WentPasses}
-use Rattle.djq_live.proofs.Columns.{member_here, member_on}
+use Rattle.djq_reduct.proofs.Readings.{member_here, member_on}
 use Rattle.djq_live.proofs.Showing.{head_stands}
 use Rattle.djq_live.proofs.Changing.{over_stays, over_gains, over_loses}
 

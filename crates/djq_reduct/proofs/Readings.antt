@@ -139,3 +139,7 @@ reading_row (x ∷ l) (c ∷ u) h e =
     (row_same (λ y. reading (x ∷ l) (c ∷ u) y) (λ y. reading l u y) l
     (λ y m. ap (λ (i : ℕ). slice_index (c ∷ u) i) (column_on x l y (absent x y l h.0 m)))
     ∙ reading_row l u h.1 (omega arith))
+
+-- all columns of a label give a tuple itself
+pub pick_itself : (l u : List ℕ) → IsSimple l → length u ≡ length l → pick (columns l l) u ≡ u
+pick_itself l u h e = pick_reading l l u ∙ reading_row l u h e
