@@ -184,11 +184,11 @@ module _ (c : Catalog) (gs : List (Option Live)) (order : List ℕ) (readers : L
       ap (λ (o : Option Live). listed_reads (query_in o) name) t.is ∙ sym (ap (reads_place name) t.is)
 
   pub readers_read : (at : ℕ) → at < length c.relations
-      → filter (λ r. reads r.query (relation_at c.relations at).name) (registered_in gs ws order) ≡ registered_in gs ws (readers_at readers at)
+      → filter (λ r. listed_reads r.query (relation_at c.relations at).name) (registered_in gs ws order) ≡ registered_in gs ws (readers_at readers at)
   readers_read at low =
       let name = (relation_at c.relations at).name in
-      filter_mapped (λ r. reads r.query name) (registered_as gs ws) order
-      ∙ ap (registered_in gs ws) (filter_members (λ i. reads (query_in (place_at gs i)) name) (λ i. reads_place name (place_at gs i)) order (reads_as name)
+      filter_mapped (λ r. listed_reads r.query name) (registered_as gs ws) order
+      ∙ ap (registered_in gs ws) (filter_members (λ i. listed_reads (query_in (place_at gs i)) name) (λ i. reads_place name (place_at gs i)) order (reads_as name)
       ∙ sym (s.reading at low))
 
   pub readers_are : (at : ℕ) → at < length c.relations → (after : List Relation)

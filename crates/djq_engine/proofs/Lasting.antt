@@ -5,7 +5,7 @@ use Rattle.std.proofs.lemmas.Bool.{cases_lt, eq-eqb, false≢true}
 use Rattle.std.proofs.lemmas.List.{get_or-set_other, get_or-set_same, get_or_past}
 use Rattle.djq_model.specs.declared.relation.Relation.{Relation}
 use Rattle.djq_model.specs.Data.{Bytes}
-use Rattle.djq_machine.specs.Stale.{reads}
+use Rattle.djq_machine.specs.Stale.{listed_reads}
 use Rattle.djq_machine.specs.Delta.{Change}
 use Rattle.djq_cursor.specs.Log.{Log}
 use Rattle.djq_rows.specs.Catalog.{Catalog, relation_at}
@@ -23,7 +23,7 @@ use Rattle.djq_engine.proofs.Told.{alike_same, told_is, told_stays}
 -- ---- whom it affected
 
 affected_readers : (c : Catalog) (gs : List (Option Live)) (order : List ℕ) (readers : List (List ℕ)) (ws : List ℕ) → IsSound c gs order readers → (at : ℕ) → at < length c.relations
-    → map id_at (readers_at readers at) ≡ map (λ r. r.id) (filter (λ r. reads r.query (relation_at c.relations at).name) (registered_in gs ws order))
+    → map id_at (readers_at readers at) ≡ map (λ r. r.id) (filter (λ r. listed_reads r.query (relation_at c.relations at).name) (registered_in gs ws order))
 affected_readers c gs order readers ws s at low =
     sym (map_mapped (λ (r : Registered). r.id) (registered_as gs ws) (readers_at readers at))
     ∙ ap (map (λ (r : Registered). r.id)) (sym (readers_read c gs order readers ws s at low))
@@ -43,7 +43,7 @@ tells_of c d gs hs order places seq n w v s t same changed id told here others =
       others = others;
       relation = Some (relation_at c.relations w.changed).name;
       before = affected_readers c gs order w.readers w.watchers s w.changed low;
-      after = subst (λ (x : Bytes). map id_at (readers_at v.readers v.changed) ≡ map (λ r. r.id) (filter (λ r. reads r.query x) (registered_in hs v.watchers places)))
+      after = subst (λ (x : Bytes). map id_at (readers_at v.readers v.changed) ≡ map (λ r. r.id) (filter (λ r. listed_reads r.query x) (registered_in hs v.watchers places)))
           (ap₂ (λ (rs : List Relation) (k : ℕ). (relation_at rs k).name) same changed)
           (affected_readers d hs places v.readers v.watchers t v.changed (omega (arith, low, changed, ap (λ (rs : List Relation). length rs) same)));
     }

@@ -12,7 +12,7 @@ use Rattle.djq_tree.specs.Explaining.{explain_of}
 use Rattle.djq_machine.specs.State.{Store, Position, open_at, stale}
 use Rattle.djq_machine.specs.Conditions.{first_of, Answers, OutOfMemoryWhere}
 use Rattle.djq_machine.specs.Store.{DropsQuery, IsLeft, AreAll, answer_steps}
-use Rattle.djq_machine.specs.Stale.{reads, outdated, outdater_of}
+use Rattle.djq_machine.specs.Stale.{listed_reads, outdated, outdater_of}
 use Rattle.djq_machine.specs.Changes.{RowsChange, is_outdated}
 use Rattle.djq_machine.specs.Delta.{Change}
 use Rattle.djq_reduct.specs.Answers.{IsAnswerOf}
@@ -126,7 +126,7 @@ pub record SameTellings (old new : Kept) : Type 0 where
 abbrev pub AffectedAre : Option Bytes → Kept → Type 0
 AffectedAre None k = k.affected ≡ []
 AffectedAre (Some relation) k =
-    k.affected ≡ map (λ r. r.id) (filter (λ r. reads r.query relation) k.registered)
+    k.affected ≡ map (λ r. r.id) (filter (λ r. listed_reads r.query relation) k.registered)
 
 -- This is told of one query, and of the others what was told before. The affected queries are those
 -- that read the relation of the last change, as before.
