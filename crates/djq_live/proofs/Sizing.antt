@@ -8,10 +8,12 @@ use Rattle.djq_index.specs.Entries.{Entry, cnt}
 use Rattle.djq_index.proofs.Counts.{cnt_cons, cnt_split}
 use Rattle.djq_index.proofs.Apart.{cnt_once, stands}
 use Rattle.djq_index.proofs.Tuples.{one_same}
+use Rattle.djq_tree.specs.Flat.{HasEqualMeets}
 use Rattle.djq_tree.specs.Tree.{Tree}
 use Rattle.djq_reduct.specs.Tables.{entries_at}
 use Rattle.djq_reduct.specs.Reducts.{Reducts, IsReducts}
 use Rattle.djq_reduct.proofs.Family.{apart_at}
+use Rattle.djq_propagate.specs.Touches.{HaveFew}
 use Rattle.djq_propagate.specs.Updates.{HasInserted, HasMarked, HasKept, HasAtMost, paths}
 use Rattle.djq_propagate.proofs.Measuring.{length_even, length_less}
 use Rattle.djq_query.specs.declared.numbered.NumberedAtom.{NumberedAtom}
@@ -110,12 +112,38 @@ room_after j u n old mid came room = record {
 pub insertion_counts : (j : ℕ) (u : List ℕ) (old mid : Reducts) (x y z : ℕ)
     → HasInserted old mid j u
     → ((n : ℕ) → HasAtMost mid n → y ≤ x + 10 * (paths old.tree * n))
-    → ((n : ℕ) → HasAtMost mid n → z ≤ y + paths mid.tree * (1 + n)) → CountsLeaf old j 1 x z
-insertion_counts j u old mid x y z came first second = λ n b room bounds.
-    let few = room_after j u n old mid came room in
-    sum_inserted (paths old.tree) n b x y z bounds (first (n + 1) few)
-    (subst (λ (t : Tree). z ≤ y + paths t * (1 + (n + 1))) (sym came.without.tree)
-    (second (n + 1) few))
+    → ((n : ℕ) → HasAtMost mid n → z ≤ y + paths mid.tree * (1 + n))
+    → (HasEqualMeets old.tree → HaveFew mid.tables)
+    → (HasEqualMeets old.tree → y ≤ x + 10 * (paths old.tree * 1))
+    → (HaveFew mid.tables → z ≤ y + paths mid.tree * (1 + 1)) → CountsLeaf old j 1 x z
+insertion_counts j u old mid x y z came first second marked flat cleared = λ n b room bounds.
+    elim bounds [
+      | inl linear ↦
+          let few = room_after j u n old mid came room in
+          sum_inserted (paths old.tree) n b x y z linear (first (n + 1) few)
+          (subst (λ (t : Tree). z ≤ y + paths t * (1 + (n + 1))) (sym came.without.tree)
+          (second (n + 1) few))
+      | inr even ↦
+          let a = flat even.0 in
+          let c : z ≤ y + paths old.tree * (1 + 1) =
+          subst (λ (t : Tree). z ≤ y + paths t * (1 + 1)) (sym came.without.tree)
+          (cleared (marked even.0)) in
+          let d = even.1 in
+          omega arith
+    ]
+
+-- a leaf that is refused counts at most twice a bound
+pub refused_counts : (j : ℕ) (old : Reducts) (x y : ℕ)
+    → ((n : ℕ) → HasAtMost old n → length (entries_at old.tables j) < n
+    → y ≤ x + 18 * (paths old.tree * n))
+    → (HasEqualMeets old.tree → y ≤ x + 18 * (paths old.tree * 1)) → CountsLeaf old j 2 x y
+refused_counts j old x y bounded flat = λ n b room bounds.
+    elim bounds [
+      | inl linear ↦
+          let few = bounded (n + 1) room.all (let l = room.leaf in omega arith) in
+          omega arith
+      | inr even ↦ (let a = flat even.0 in let d = even.1 in omega arith)
+    ]
 
 some_path : (r : Reducts) → IsReducts r → 0 < paths r.tree
 some_path r h = let some = h.family.is_tree.some in omega arith
@@ -125,18 +153,33 @@ pub removal_counts : (j : ℕ) (u : List ℕ) (old mid : Reducts) (x y z : ℕ) 
     → ((n : ℕ) → HasAtMost old n → y ≤ x + 6 * (paths old.tree * n))
     → ((n : ℕ) → HasAtMost mid n
     → z ≤ y + 1 + 5 * (paths mid.tree * n) + paths mid.tree * (1 + n))
+    → (HasEqualMeets old.tree → HaveFew mid.tables)
+    → (HasEqualMeets old.tree → y ≤ x + 6 * (paths old.tree * 1))
+    → (HasEqualMeets mid.tree → HaveFew mid.tables
+    → z ≤ y + 1 + 5 * (paths mid.tree * 1) + paths mid.tree * (1 + 1))
     → CountsLeaves old 1 x z
-removal_counts j u old mid x y z sound marked first second = λ n b few bounds.
-    let still : HasAtMost mid n = record {
-      each = λ i low.
-          let a = few.each i (subst (λ (t : Tree). i < t.leaves) marked.tree low) in
-          let b = length_even (entries_at mid.tables i) (entries_at old.tables i)
-          (marked.tables.tuples i) in
-          omega arith;
-    } in
-    sum_removed (paths old.tree) n b x y z (some_path old sound) bounds (first n few)
-    (subst (λ (t : Tree). z ≤ y + 1 + 5 * (paths t * n) + paths t * (1 + n)) marked.tree
-    (second n still))
+removal_counts j u old mid x y z sound marked first second few_marks flat dropped = λ n b few bounds.
+    let some = some_path old sound in
+    elim bounds [
+      | inl linear ↦
+          let still : HasAtMost mid n = record {
+            each = λ i low.
+                let a = few.each i (subst (λ (t : Tree). i < t.leaves) marked.tree low) in
+                let b = length_even (entries_at mid.tables i) (entries_at old.tables i)
+                (marked.tables.tuples i) in
+                omega arith;
+          } in
+          sum_removed (paths old.tree) n b x y z some linear (first n few)
+          (subst (λ (t : Tree). z ≤ y + 1 + 5 * (paths t * n) + paths t * (1 + n)) marked.tree
+          (second n still))
+      | inr even ↦
+          let a = flat even.0 in
+          let c : z ≤ y + 1 + 5 * (paths old.tree * 1) + paths old.tree * (1 + 1) =
+          subst (λ (t : Tree). z ≤ y + 1 + 5 * (paths t * 1) + paths t * (1 + 1)) marked.tree
+          (dropped (subst HasEqualMeets (sym marked.tree) even.0) (few_marks even.0)) in
+          let d = even.1 in
+          omega arith
+    ]
 
 -- ---- leaf after leaf
 
@@ -249,16 +292,16 @@ kept_grows r s t e grows kept = record {
       omega arith;
 }
 
-sum_last : (i b x y z : ℕ) → y ≤ x + i * b → z ≤ y + 3 * b → z ≤ x + (i + 3) * b
+sum_last : (i b x y z : ℕ) → y ≤ x + i * b → z ≤ y + 2 * b → z ≤ x + (i + 2) * b
 sum_last i b x y z first second =
-    let a : (i + 3) * b ≡ i * b + 3 * b = omega arith in
+    let a : (i + 2) * b ≡ i * b + 2 * b = omega arith in
     omega arith
 
 pub counts_last : (Changes : Shape → List Entry → List Entry → Type 0) (at : ℕ)
     (atoms : List NumberedAtom) (ps : List Shape) (k : ℕ) (m : NumberedAtom) (r s : Reducts)
     (i x y z : ℕ) → slice_get atoms k ≡ Some m → k < r.tree.leaves
     → ChangesBelow Changes at atoms ps k r s → GrowsByOne r s → CountsLeaves r i x y
-    → CountsLeaf s k 3 y z → CountsLeaves r (i + 3) x z
+    → CountsLeaf s k 2 y z → CountsLeaves r (i + 2) x z
 counts_last Changes at atoms ps k m r s i x y z e low h grows first second = λ n b few bounds.
     sum_last i b x y z (first n b few bounds)
     (second n b (room_for Changes at atoms ps k m r s n e low h grows few)

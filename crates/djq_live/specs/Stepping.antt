@@ -9,6 +9,7 @@ use Rattle.std.specs.Prelude.{
   ℕ,
   ◌<◌,
   ◌≤◌,
+  ◌⊎◌,
   Bool,
   true,
   false,
@@ -24,6 +25,7 @@ use Rattle.std.specs.Prelude.{
 }
 use Rattle.djq_machine.specs.Store.{most_steps}
 use Rattle.djq_index.specs.Entries.{Entry, cnt}
+use Rattle.djq_tree.specs.Flat.{HasEqualMeets}
 use Rattle.djq_tree.specs.Labels.{label_at}
 use Rattle.djq_tree.specs.Tree.{Tree}
 use Rattle.djq_reduct.specs.Tables.{entries_at}
@@ -140,9 +142,10 @@ pub record GrowsByOne (r s : Reducts) : Type 0 where
   pub each : (j : ℕ) → j < r.tree.leaves
       → length (entries_at s.tables j) ≤ length (entries_at r.tables j) + 1
 
--- b bounds what an update of one leaf counts, where no leaf has more than n tuples before it.
+-- b bounds what an update of one leaf counts, where no leaf has more than n tuples before it; over
+-- equal meets it is the same whatever n is.
 abbrev pub BoundsLeaf : Tree → ℕ → ℕ → Type 0
-BoundsLeaf t n b = 16 * (paths t * (n + 1)) ≤ b
+BoundsLeaf t n b = (16 * (paths t * (n + 1)) ≤ b) ⊎ (HasEqualMeets t × (16 * paths t ≤ b))
 
 -- A tuple that came into the leaf j counts so many times such a bound at most.
 abbrev pub CountsLeaf : Reducts → ℕ → ℕ → ℕ → ℕ → Type 0

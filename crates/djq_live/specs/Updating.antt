@@ -6,6 +6,9 @@ use Rattle.djq_model.specs.Answer.{IsAnswer}
 use Rattle.djq_lines.specs.declared.answer.Sign.TheVariants.{Came as HasCome, Went as HasGone}
 use Rattle.djq_machine.specs.Delta.{Change, IsDelta}
 use Rattle.djq_machine.specs.Store.{most_steps}
+use Rattle.djq_hyper.specs.Flat.{IsFlat}
+use Rattle.djq_lines.specs.Hypergraph.{edges_of, head_of}
+use Rattle.djq_tree.specs.Flat.{HasEqualMeets}
 use Rattle.djq_propagate.specs.Updates.{HasAtMost}
 use Rattle.djq_cursor.specs.declared.log.Line.{Line}
 use Rattle.djq_cursor.specs.Log.{Log}
@@ -96,6 +99,21 @@ update_bound l n =
 abbrev pub CountsUpdate : ℕ → Live → ℕ → ℕ → ℕ → Type 0
 CountsUpdate times l at before now = (n : ℕ) → HasAtMost l.reducts n
     → now ≤ before + times * (atoms_over l at * update_bound l n)
+
+-- What an update of a flat query counts at most for an atom, whatever the number of tuples.
+abbrev pub flat_bound : Live → ℕ
+flat_bound l = 16 * (length l.numbered.atoms + length l.numbered.variables)
+
+-- Where the query is flat, the update count is so many times this at most for each atom over the
+-- relation.
+abbrev pub CountsFlat : ℕ → Live → ℕ → ℕ → ℕ → Type 0
+CountsFlat times l at before now = IsFlat (edges_of l.query) (head_of l.query)
+    → now ≤ before + times * (atoms_over l at * flat_bound l)
+
+-- The meets of the tree of a flat query that is kept have equal labels.
+abbrev pub FlatMeetsAreEqual : Type 0
+FlatMeetsAreEqual = (c : Catalog) (l : Live) → IsKept c l
+    → IsFlat (edges_of l.query) (head_of l.query) → HasEqualMeets (l.reducts).tree
 
 -- no relation that the query reads has more than n rows
 pub record HasFewRows (c : Catalog) (l : Live) (n : ℕ) : Type 0 where

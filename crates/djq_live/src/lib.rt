@@ -42,7 +42,7 @@ pub use cursors::Progress;
 pub use fault::query_fault_of;
 pub use laws::{
     answers_are_listed, answers_are_showable, answers_are_shown, answers_differ, answers_stand,
-    heads_are_bound, leaves_are_small, numbered_is_asked, showable_stays,
+    flat_meets_are_equal, heads_are_bound, leaves_are_small, numbered_is_asked, showable_stays,
 };
 pub use listing::Next;
 pub use live::LiveQuery;

@@ -4,7 +4,7 @@ use Rattle.djq_live.specs.Live.{Live}
 use Rattle.djq_live.specs.Stepping.{GrowsByOne}
 use Rattle.djq_live.specs.Updating.{CountsDelta}
 use Rattle.djq_live.proofs.Below.{below_at}
-use Rattle.djq_live.proofs.Costing.{counts_all, counts_back}
+use Rattle.djq_live.proofs.Costing.{counts_all, counts_back, counts_flat, flat_back}
 use Rattle.djq_live.proofs.Rowing.{leaves_as, put_there}
 use Rattle.djq_live.proofs.Living.{
   can_add,
@@ -289,3 +289,39 @@ pub returns-then-done-atoms-clause-grows : goal.returns-then-done-atoms-clause-g
 returns-then-done-atoms-clause-grows g c =
     subst (λ (x : Live). GrowsByOne x.reducts c.add_to_leaves-done.new.reducts) c.self.view_is
     c.add_to_leaves-done.ensures.grows
+
+pub returns-then-done-atoms-clause-flat : goal.returns-then-done-atoms-clause-flat
+returns-then-done-atoms-clause-flat g c =
+    let l : Live = record {
+      query = c.self.inside.query;
+      numbered = c.self.inside.numbered;
+      patterns = c.self.inside.patterns.items;
+      reducts = c.self.inside.reducts;
+      cursors = c.self.inside.cursors;
+    } in
+    let can = can_add l c.args.self.now c.args.relation.at c.args.cells.now c.self.view_is
+    c.requires in
+    counts_flat l c.args.self.now c.args.relation.at c.atoms-atoms.result.now
+    c.add_to_leaves-done.result c.args.steps.now.update c.add_to_leaves-done.new.steps.update
+    c.self.view_is c.atoms-atoms.ensures (can.before, can.kept)
+    (c.add_to_leaves-done.ensures.updates (let e = c.if-done-atoms.true in omega arith))
+
+pub returns-clause-flat_refusal : goal.returns-clause-flat_refusal
+returns-clause-flat_refusal g c =
+    let l : Live = record {
+      query = c.self.inside.query;
+      numbered = c.self.inside.numbered;
+      patterns = c.self.inside.patterns.items;
+      reducts = c.self.inside.reducts;
+      cursors = c.self.inside.cursors;
+    } in
+    let can = can_add l c.args.self.now c.args.relation.at c.args.cells.now c.self.view_is
+    c.requires in
+    let stopped : c.add_to_leaves-done.result < length c.atoms-atoms.result.now =
+    (let e = c.if-done-atoms.false in let d = c.add_to_leaves-done.ensures.done in omega arith) in
+    flat_back l c.args.self.now c.add_to_leaves-done.new.reducts c.args.relation.at
+    c.atoms-atoms.result.now c.add_to_leaves-done.result c.args.steps.now.update
+    c.add_to_leaves-done.new.steps.update c.give_from_leaves.new.steps.update c.self.view_is
+    c.atoms-atoms.ensures (can.before, can.kept) c.add_to_leaves-done.ensures.gained.tree
+    c.add_to_leaves-done.ensures.grows (c.add_to_leaves-done.ensures.left stopped)
+    (c.add_to_leaves-done.ensures.refusal stopped) c.give_from_leaves.ensures.updates
