@@ -82,7 +82,7 @@ fn obey<L: Ledgers>(
         }
         Command::Shape { query } => {
             run_shape(engine, session, &query);
-            Left::Nothing
+            Left::Nothing { kept: false }
         }
         Command::Quit => {
             run_quit(engine, session);

@@ -1,6 +1,6 @@
 use Rattle.std.proofs.Common.{Bool, false, true, refl, sym, subst, arith}
 use Rattle.djq_lines.specs.declared.command.Command.{Command}
-use Rattle.djq_lines.specs.declared.command.Command.TheVariants.{Open, Next, Close, Has, Watch, Unwatch, Explain, Quit, Stop}
+use Rattle.djq_lines.specs.declared.command.Command.TheVariants.{Open, Next, Close, Has, Watch, Unwatch, Explain, Shape, Quit, Stop}
 use Rattle.djq_model.specs.Data.{Tuple}
 use Rattle.djq_core.specs.Performs.{Executes, ExecutesKeeping}
 use Rattle.djq_core.proofs.Continuing.{counting}
@@ -48,6 +48,12 @@ returns-in-Explain g c =
     subst (λ (command : Command). ExecutesKeeping command false false c.args.engine.now c.args.session.now c.run_explain.new.engine c.run_explain.new.session c.args.steps.now.listing c.args.steps.now.listing) (sym c.in-Explain.is)
     (unkept (Explain c.in-Explain.query) false c.args.engine.now c.args.session.now c.run_explain.new.engine c.run_explain.new.session c.args.steps.now.listing c.args.steps.now.listing refl
     (counting _ false c.args.engine.now c.args.session.now c.run_explain.new.engine c.run_explain.new.session c.args.steps.now.listing c.args.steps.now.listing (omega arith) c.run_explain.ensures))
+
+pub returns-in-Shape : goal.returns-in-Shape
+returns-in-Shape g c =
+    subst (λ (command : Command). ExecutesKeeping command false false c.args.engine.now c.args.session.now c.args.engine.now c.run_shape.new.session c.args.steps.now.listing c.args.steps.now.listing) (sym c.in-Shape.is)
+    (unkept (Shape c.in-Shape.query) false c.args.engine.now c.args.session.now c.args.engine.now c.run_shape.new.session c.args.steps.now.listing c.args.steps.now.listing refl
+    (counting _ false c.args.engine.now c.args.session.now c.args.engine.now c.run_shape.new.session c.args.steps.now.listing c.args.steps.now.listing (omega arith) c.run_shape.ensures))
 
 pub returns-in-Quit : goal.returns-in-Quit
 returns-in-Quit g c =
