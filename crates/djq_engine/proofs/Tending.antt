@@ -83,6 +83,10 @@ pub on_err : {A E : Type 0} {P Q : Type 0} (r : Result A E) → (P → Q) → On
 on_err (Ok a) f h = tt
 on_err (Err e) f h = f h
 
+pub on_refused : {A E : Type 0} {P Q R : Type 0} (r : Result A E) → (P → Q → R) → OnErr r P → OnErr r Q → OnErr r R
+on_refused (Ok a) f h k = tt
+on_refused (Err e) f h k = f h k
+
 -- a place that is to be reached is there
 pub place_within : (places : List ℕ) (k d : ℕ) (gs : List (Option Live)) (P : Live → Type 0) → k < length places → AllAt places gs P → get_or places k d < length gs
 place_within places k d gs P low all = below_some gs (get_or places k d) P (all (get_or places k d) (reader_there places k d low))

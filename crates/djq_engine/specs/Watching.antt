@@ -1,8 +1,10 @@
 -- What an engine says of the queries that sessions watch.
-use Rattle.std.specs.Prelude.{ℕ, List, [], ◌∷◌, ◌++◌, ◌≡◌, ◌≤◌, ◌+◌, ◌*◌, ◌⊎◌, ◌&&◌, ◌||◌, Bool, true, false, not, Option, None, Some, IsSomeAnd, Result, Ok, Err, if◌then◌else◌, Contains, filter, length, map, slice_index_or, sum_by, ⊤}
+use Rattle.std.specs.Prelude.{ℕ, List, [], ◌∷◌, ◌++◌, ◌≡◌, ◌≤◌, ◌+◌, ◌*◌, ◌⊎◌, ◌&&◌, ◌||◌, Bool, true, false, not, Option, None, Some, IsSomeAnd, Result, Ok, Err, min, if◌then◌else◌, Contains, filter, length, map, slice_index_or, sum_by, ⊤}
 use Rattle.djq_model.specs.declared.query.Query.{Query}
 use Rattle.djq_model.specs.declared.query.Atom.{Atom}
 use Rattle.djq_model.specs.Data.{rows_of}
+use Rattle.djq_hyper.specs.Flat.{IsFlat}
+use Rattle.djq_lines.specs.Hypergraph.{edges_of, head_of}
 use Rattle.djq_lines.specs.declared.answer.AddOutcome.{AddOutcome}
 use Rattle.djq_lines.specs.declared.answer.AddOutcome.TheVariants.{Added, Same}
 use Rattle.djq_lines.specs.declared.answer.DeleteOutcome.{DeleteOutcome}
@@ -14,7 +16,7 @@ use Rattle.djq_lines.specs.declared.rest.QueryOutcome.TheVariants.{Registered as
 use Rattle.djq_machine.specs.Changes.{RowsChange, RowsOutcome, accepted, out_of_memory, unchanged, tried, is_outdated}
 use Rattle.djq_machine.specs.Watch.{Delta, ListsDeltas, deltas_steps}
 use Rattle.djq_live.specs.Live.{Live}
-use Rattle.djq_live.specs.Updating.{update_bound}
+use Rattle.djq_live.specs.Updating.{flat_bound, update_bound}
 use Rattle.djq_engine.specs.declared.cursor.QueryId.{QueryId}
 use Rattle.djq_engine.specs.Kept.{Kept, Registered, registered_at, is_watched, readers_of, affected_of, told_at}
 
@@ -76,27 +78,43 @@ Enrols old q (Ok (HasRegistered most)) new =
     × (new ≡ old ++ record { id = id; query = q; watchers = 0 } ∷ [])
 Enrols old q _ new = new ≡ old
 
--- What an update of a query counts at most, where no leaf has more than n tuples before it: for each
--- atom over a relation that changes 16(m + v)(n + 1), with m atoms and v variables, holes counted in.
-abbrev pub bound_in : ℕ → Option Live → ℕ
-bound_in n None = 0
-bound_in n (Some l) = update_bound l n
+-- What an update of a query counts at most: for each atom over a relation that changes 16(m + v) where
+-- the query is flat, with m atoms and v variables, holes counted in; 16(m + v)(n + 1) for any query,
+-- where no leaf has more than n tuples before it.
+abbrev pub bound_in : ℕ → Bool → Option Live → ℕ
+bound_in n flat None = 0
+bound_in n true (Some l) = flat_bound l
+bound_in n false (Some l) = update_bound l n
 
-abbrev pub update_steps : Kept → RowsChange → ℕ → Registered → ℕ
-update_steps k change n r = length (filter (λ a. change.touches a.relation) r.query.atoms)
-    * bound_in n (slice_index_or k.places r.id.at None)
+-- how often that may be; of a flat query at most twice
+abbrev pub times_of : ℕ → Bool → ℕ
+times_of times true = min times 2
+times_of times false = times
 
--- No relation has more than n rows that is read by a query that a change outdates.
-abbrev pub AreFew : Kept → RowsChange → ℕ → Type 0
-AreFew k change n = (id : QueryId) (r : Registered) → registered_at k.registered id ≡ Some r
-    → is_outdated change r.query ≡ true → (a : Atom) → Contains r.query.atoms a
+-- So many updates of a query count that at most, where it is chosen whether it is bounded as a flat one.
+abbrev pub update_steps : Kept → RowsChange → ℕ → ℕ → (Registered → Bool) → Registered → ℕ
+update_steps k change times n flat r = times_of times (flat r)
+    * (length (filter (λ a. change.touches a.relation) r.query.atoms)
+    * bound_in n (flat r) (slice_index_or k.places r.id.at None))
+
+-- The query is flat, where this is chosen; else no relation that it reads has more than n rows.
+abbrev pub IsBoundedBy : Kept → ℕ → Bool → Registered → Type 0
+IsBoundedBy k n true r = IsFlat (edges_of r.query) (head_of r.query)
+IsBoundedBy k n false r = (a : Atom) → Contains r.query.atoms a
     → length (rows_of (k.store).relations a.relation) ≤ n
 
--- A change counts so many times at most what the updates of the queries do that it outdates.
+-- So it is with each query that a change outdates.
+abbrev pub AreBounded : Kept → RowsChange → ℕ → (Registered → Bool) → Type 0
+AreBounded k change n flat = (id : QueryId) (r : Registered)
+    → registered_at k.registered id ≡ Some r → is_outdated change r.query ≡ true
+    → IsBoundedBy k n (flat r) r
+
+-- A change counts so many times at most what the updates of the queries do that it outdates, each of
+-- them bounded as a flat one or by the number of rows, as one likes.
 pub record CountsUpdates (times : ℕ) (old : Kept) (change : RowsChange) (before now : ℕ) : Type 0
   where
-    pub counted : (n : ℕ) → AreFew old change n → now ≤ before + times
-        * sum_by (update_steps old change n) (readers_of old.registered change)
+    pub counted : (n : ℕ) (flat : Registered → Bool) → AreBounded old change n flat → now ≤ before
+        + sum_by (update_steps old change times n flat) (readers_of old.registered change)
 
 -- how often: where memory is refused, rows that were taken in are given back
 abbrev pub add_times : Result AddOutcome Refusal → ℕ

@@ -32,7 +32,7 @@ first_alone x y l h e =
 first_is : (x : ℕ) (l : List ℕ) → member x (x ∷ l) ≡ true
 first_is x l = rw (eq-eqb x x refl) refl
 
-member_past : (x y : ℕ) (l : List ℕ) → (x ≡ y → ⊥) → member x (y ∷ l) ≡ member x l
+pub member_past : (x y : ℕ) (l : List ℕ) → (x ≡ y → ⊥) → member x (y ∷ l) ≡ member x l
 member_past x y l apart = rw (ne_eqb x y apart) refl
 
 same_first : (x y : ℕ) (xs ys : List ℕ) → Rising (x ∷ xs) → Rising (y ∷ ys) → member x (y ∷ ys) ≡ true → member y (x ∷ xs) ≡ true → x ≡ y

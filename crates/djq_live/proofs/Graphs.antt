@@ -56,7 +56,8 @@ use Rattle.djq_query.specs.Meaning.{AreShown, AreAtomsShown}
 use Rattle.djq_query.proofs.Faults.{sound_of}
 use Rattle.djq_query.proofs.Numbers.{both_false, not_false, length_labels, labels_columns}
 use Rattle.djq_query.proofs.Showing.{shown_by}
-use Rattle.djq_live.proofs.Sets.{Rising, is_set}
+use Rattle.djq_hyper.proofs.Rising.{Rising}
+use Rattle.djq_live.proofs.Sets.{is_set}
 
 -- ---- edges
 

@@ -56,6 +56,7 @@ mod tests {
         atoms.push(alloc, b"p")?;
         assert_eq!(rt; tree.len(), 1);
         assert_eq!(rt; tree.leaves(), 1);
+        assert_eq!(rt; tree.leaf_labels(), [tree.label(0)].as_slice());
         assert_eq!(rt; tree.second_stage(), 1);
         assert!(rt; tree.node(0) == Node::Leaf { atom: 0 });
         assert!(rt; tree.label(0).is_empty());
