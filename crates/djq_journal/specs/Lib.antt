@@ -1,0 +1,6 @@
+pub mod Format
+pub mod Standing
+pub mod Calls
+pub mod Appending
+pub mod Staging
+pub mod Keeping
