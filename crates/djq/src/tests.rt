@@ -60,6 +60,10 @@ fn answers_line_by_line_however_the_input_is_cut(rt: HostRuntime) -> Result<(), 
             b"rel r int\r\nadd r 1\r\n\r\nadd r 1\r\n",
             b"ok\nok added 1\nok same 1\n",
         ),
+        (
+            b"rel r int\nrel e int int\nrel s int\nquery a(x,y) <- e(x,y), s(y)\nshape a\nquery b(x,y) <- r(x), e(x,y), s(y)\nshape b\nquery c(x) <- e(x,y), s(y)\nshape c\nshape d\n",
+            b"ok\nok\nok\nok query 5\nflat\nok query 5\nlinear\nok query 3\nlinear\nerr 4 no query\n",
+        ),
     ];
     for (input, replies) in sessions {
         for most in [1, 2, 3, 8192] {
