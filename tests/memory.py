@@ -399,52 +399,6 @@ def a_generated_load():
     each_growth_refused("a load", b"", ("gen", "300", "3"))
 
 
-# ---------------------------------------------------------------- room behind removed rows
-
-# relations and queries, and a row of r for each number: rows whose numbers agree modulo ten are of one shape
-SHAPES = [
-    ("one atom", b"rel r int int\nquery q(x,y) <- r(x,y)\n", lambda at: (at, at * 7)),
-    ("shared groups", b"rel r int int\nrel s int\nquery q(x,y) <- r(x,y), s(y)\n"
-     + b"".join(b"add s %d\n" % at for at in range(10)), lambda at: (at, at % 10)),
-    ("groups of one", b"rel r int int\nrel s int\nquery q(x,y) <- r(x,y), s(y)\n", lambda at: (at, at)),
-]
-
-
-def changes_of(word, row, numbers):
-    return b"".join(b"%s r %d %d\n" % (word, *row(at)) for at in numbers)
-
-
-def removed_rows_make_room(name, start, row):
-    adds = start + changes_of(b"add", row, range(200))
-    begun, runs = start.count(b"\n"), 0
-    with Refusing() as refusing:
-        _, _, before, _ = refusing.run(("run",), start, 0)
-        _, _, met, _ = refusing.run(("run",), adds, 0)
-        for first in range(before + 1, met + 1):
-            output, _, _, _ = refusing.run(("run",), adds, first, many=True)
-            replies = output.splitlines()[begun:]
-            added = [at for at, reply in enumerate(replies) if reply.startswith(b"ok added ")]
-            if b"end memory" in replies or len(added) < 20 or len(added) == 200:
-                continue
-            gone = added[:10]
-            text = adds + changes_of(b"del", row, gone) + changes_of(b"add", row, [1000 + at for at in gone])
-            output, status, _, _ = refusing.run(("run",), text, first, many=True)
-            what = f"{name}, each growth from {first} refused"
-            expect(status, 0, what)
-            expect(output.splitlines()[begun:begun + 200], replies, what)
-            last = [b" ".join(reply.split()[:2]) for reply in output.splitlines()[begun + 200:]]
-            expect(last, [b"ok removed"] * 10 + [b"ok added"] * 10, what)
-            runs += 1
-    expect(runs > 0, True, f"{name}: a run in which rows are refused behind others")
-    print(f"{name}: rows come in place of removed ones in {runs} runs without memory")
-
-
-@test
-def a_removed_row_makes_room():
-    for shape in SHAPES:
-        removed_rows_make_room(*shape)
-
-
 # ---------------------------------------------------------------- a limit of memory
 
 MILLION = 1000000
@@ -490,6 +444,8 @@ def exactly_the_accepted_rows_are_listed_where_memory_ends():
         seq = changed(rows, word, said, seq, reply)
     refused = replies[4:4 + MILLION].count(b"err 12 memory")
     expect(1000 < refused < MILLION - 1000, True, f"{refused} of {MILLION} rows are refused")
+    # a removed row makes room for another
+    expect(b"err 12 memory" in replies[4 + MILLION:4 + len(changes)], False, "rows come in place of removed ones")
     rest = replies[4 + len(changes):]
     expect(rest[:3], [b"stale c r 1", b"ok", b"ok open"])
     listed = [reply[2:] for reply in rest[3:] if reply.startswith(b"= ")]
