@@ -7,8 +7,10 @@ and with 4N. README.md beside this file says how to read the table. Standard lib
 """
 
 import argparse
+import contextlib
 import random
 import select
+import shutil
 import socket
 import sqlite3
 import statistics
@@ -25,11 +27,11 @@ LAST = b"err 4 no query\n"
 
 
 class Session:
-    """One session of `PROGRAM run`, over pipes."""
+    """One session of `PROGRAM run`, over pipes; by another program where its words are given before."""
 
-    def __init__(self, program):
+    def __init__(self, program, before=()):
         self.process = subprocess.Popen(
-            [program, "run"], stdin=subprocess.PIPE, stdout=subprocess.PIPE, bufsize=0
+            [*before, program, "run"], stdin=subprocess.PIPE, stdout=subprocess.PIPE, bufsize=0
         )
 
     def __enter__(self):
@@ -205,6 +207,22 @@ def join(program, count):
     yield "join: delete a row", our_removal / count, their_removal / count, "ns"
 
 
+def register(program, count):
+    """A query over rows that are there already, which all sessions wait for; SQLite makes its two indexes over them."""
+    half = count // 2
+    changes = [("add", "r", row) for row in pairs(half, half, 2)]
+    changes += [("add", "s", (w, z)) for z, w in pairs(half, half, 3)]
+    with Session(program) as session:
+        session.feed(JOIN[:2] + lines_of(changes))
+        ours, told = session.feed(JOIN[2:])
+        same(told, ["ok query 7"], "register")
+    base = base_of("".join(f"create table {name}(x, y, primary key (x, y)) without rowid;" for name in "rs"))
+    apply(base, changes)
+    begin = time.perf_counter()
+    base.executescript("create index ry on r(y, x); create index sx on s(y, x);")
+    yield "register: a query over all rows", ours, time.perf_counter() - begin, "ms"
+
+
 def dead_ends(program, count):
     """The first ten answers, where nearly every row of the middle has a partner on one side only."""
     half = count // 4 * 2
@@ -355,6 +373,7 @@ def untouched(program, count):
 PARTS = {
     "load": load,
     "join": join,
+    "register": register,
     "dead-ends": dead_ends,
     "fan-out": fan_out,
     "hierarchical": hierarchical,
@@ -386,23 +405,27 @@ class Server:
         self.process.wait()
 
     def connect(self):
-        until = time.monotonic() + 10
-        while True:
-            try:
-                client = socket.create_connection(("127.0.0.1", self.port))
-                break
-            except ConnectionRefusedError:
-                if time.monotonic() > until:
-                    raise
-                time.sleep(0.02)
-        client.setsockopt(socket.IPPROTO_TCP, socket.TCP_NODELAY, 1)
-        self.clients.append(client)
-        return client
+        self.clients.append(connected(self.port))
+        return self.clients[-1]
 
     def processor(self):
         """The nanoseconds that the program was on a processor."""
         with open(f"/proc/{self.process.pid}/schedstat", encoding="ascii") as file:
             return int(file.read().split()[0])
+
+
+def connected(port):
+    """A connection, once there is a listener."""
+    until = time.monotonic() + 10
+    while True:
+        try:
+            client = socket.create_connection(("127.0.0.1", port))
+            client.setsockopt(socket.IPPROTO_TCP, socket.TCP_NODELAY, 1)
+            return client
+        except ConnectionRefusedError:
+            if time.monotonic() > until:
+                raise
+            time.sleep(0.02)
 
 
 def ask(client, text, lines=1):
@@ -411,11 +434,23 @@ def ask(client, text, lines=1):
     return hear(client, lines)
 
 
+def pour(client, text, lines):
+    """Sends as fast as it is taken, and reads so many lines meanwhile."""
+    sender = threading.Thread(target=client.sendall, args=(text,))
+    sender.start()
+    hear(client, lines)
+    sender.join()
+
+
 def hear(client, lines):
-    heard = b""
-    while heard.count(b"\n") < lines:
-        heard += client.recv(65536)
-    return heard
+    """Waits for so many lines."""
+    pieces = []
+    while lines > 0:
+        pieces.append(client.recv(65536))
+        if not pieces[-1]:
+            raise SystemExit("the connection was closed")
+        lines -= pieces[-1].count(b"\n")
+    return b"".join(pieces)
 
 
 def waiting(program, count):
@@ -474,6 +509,22 @@ def latency(program, count):
         yield "  of a hundred, the slowest", statistics.quantiles(taken, n=100)[-1] * 1e6, "us"
 
 
+def registering(program, count):
+    """How long another session waits while a query over many rows is registered."""
+    with Server(program) as server:
+        one, two = server.clients[0], server.connect()
+        lines = b"".join(b"add r %d %d\nadd s %d %d\n" % (at, at, at, at) for at in range(2 * count))
+        ask(one, b"rel r int int\nrel s int int\n", 2)
+        pour(one, lines, 4 * count)
+        one.sendall(JOIN[2].encode() + b"\n")
+        longest = 0.0
+        while not select.select([one], [], [], 0)[0]:
+            begin = time.perf_counter()
+            ask(two, b"add r -1 -1\ndel r -1 -1\n", 2)
+            longest = max(longest, time.perf_counter() - begin)
+        yield f"a round trip while a query over {4 * count:,} rows is registered", longest * 1e3, "ms at most"
+
+
 def idle(program, _count):
     """What a server uses that nobody talks to."""
     for number in (0, 64):
@@ -489,10 +540,61 @@ def idle(program, _count):
             yield f"idle with {number} connections", share * 100, "% of a processor"
 
 
-LOOPBACK = {"waiting": waiting, "pipelining": pipelining, "latency": latency, "idle": idle}
+LOOPBACK = {"waiting": waiting, "pipelining": pipelining, "latency": latency, "registering": registering, "idle": idle}
+
+
+# Beside Redis
+
+
+@contextlib.contextmanager
+def redis():
+    """A connection to a Redis of its own that keeps all in memory."""
+    with socket.create_server(("127.0.0.1", 0)) as free:
+        port = free.getsockname()[1]
+    words = ["redis-server", "--port", str(port), "--bind", "127.0.0.1", "--save", "", "--appendonly", "no"]
+    process = subprocess.Popen(words, stdout=subprocess.DEVNULL)
+    try:
+        with connected(port) as client:
+            yield client
+    finally:
+        process.kill()
+        process.wait()
+
+
+def spelled(*words):
+    """A command of Redis."""
+    return b"*%d\r\n" % len(words) + b"".join(b"$%d\r\n%s\r\n" % (len(word), word) for word in words)
+
+
+def each_second(client, lines, at_once):
+    """How many of these lines are answered a second: each one once the one before is, or sent as fast as they go."""
+    begin = time.perf_counter()
+    if not at_once:
+        for line in lines:
+            ask(client, line)
+    else:
+        pour(client, b"".join(lines), len(lines))
+    return len(lines) / (time.perf_counter() - begin)
+
+
+def beside_redis(program, count):
+    """A set of integers: members come, and it is asked for members."""
+    ours = {"a member comes": b"add r %d\n", "is this a member": b"has q %d\n"}
+    with Server(program) as server, redis() as theirs:
+        ask(server.clients[0], b"rel r int\nquery q(x) <- r(x)\n", 2)
+        for at_once, first in ((False, 0), (True, count)):
+            for word, (what, line) in zip((b"SADD", b"SISMEMBER"), ours.items()):
+                values = range(first, first + count)
+                our_rate = each_second(server.clients[0], [line % value for value in values], at_once)
+                commands = [spelled(word, b"r", b"%d" % value) for value in values]
+                how = "sent many at once" if at_once else "each reply waited for"
+                yield f"{what}, {how}", our_rate, each_second(theirs, commands, at_once)
 
 
 # The table
+
+
+SCALES = {"ns": 1e9, "ms": 1e3}  # by which seconds are told
 
 
 def least(part, program, count, runs):
@@ -514,8 +616,7 @@ def watches(program):
 
 
 def number(value, unit):
-    value = value * 1e9 if unit == "ns" else value
-    return f"{value:,.0f}"
+    return f"{value * SCALES.get(unit, 1):,.0f}"
 
 
 def print_parts(given, names):
@@ -539,12 +640,19 @@ def print_loopback(given, names):
             print(f"| {what} | {value:,.{2 if value < 10 else 0}f} {unit} |", flush=True)
 
 
+def print_redis(given):
+    print("\n| a set of integers over loopback, a second | djq | Redis |\n|---|---|---|", flush=True)
+    for what, ours, theirs in beside_redis(given.program, given.rows):
+        print(f"| {what} | {ours:,.0f} | {theirs:,.0f} |", flush=True)
+
+
 def main():
     words = argparse.ArgumentParser(description=__doc__.splitlines()[0])
     words.add_argument("program")
     words.add_argument("--rows", type=int, default=50_000, help="N, the rows of a stream; each part runs with 4N too")
     words.add_argument("--runs", type=int, default=1, help="how often each part runs; the best is told")
-    words.add_argument("--only", nargs="*", choices=[*PARTS, *LOOPBACK], default=[*PARTS, *LOOPBACK])
+    every = [*PARTS, *LOOPBACK, "redis"]
+    words.add_argument("--only", nargs="*", choices=every, default=every)
     given = words.parse_args()
     parts = [name for name in PARTS if name in given.only]
     if not watches(given.program):
@@ -554,6 +662,8 @@ def main():
         print_parts(given, parts)
     if names := [name for name in LOOPBACK if name in given.only]:
         print_loopback(given, names)
+    if "redis" in given.only and shutil.which("redis-server"):
+        print_redis(given)
 
 
 if __name__ == "__main__":

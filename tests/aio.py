@@ -9,6 +9,7 @@ import asyncio
 import inspect
 import os
 import random
+import signal
 import sys
 import time
 import traceback
@@ -42,6 +43,7 @@ def random_commands(count, seed):
             yield chance.choice([("has", ("q", 1, 2, "a")), ("has", ("p", "ü")), ("snapshot", ("q",)), ("has", ("z",))])
         if chance.random() < 0.1:
             yield chance.choice([("snapshot", ("p",)), ("explain", ("q",)), ("watch", ("q",)), ("unwatch", ("p",))])
+            yield "shape", (chance.choice("qpz"),)
         if chance.random() < 0.02:
             yield chance.choice([("drop", ("q",)), ("relation", ("r", int)), ("ping", ()), ("add", ("No", 1))])
 
@@ -91,13 +93,12 @@ def test_the_same_script(program):
 
 def test_the_same_methods(program):
     """What one has, the other has too, and with the same parameters."""
-    left_out = {"fileno", "live", "lives", "table"}
-    for name, method in inspect.getmembers(djq.Connection, inspect.isfunction):
-        if name.startswith("_") or name in left_out:
-            continue
-        other = getattr(djq.aio.Connection, name)
-        own = [word for word in inspect.signature(method).parameters if word != "progress"]
-        assert own == list(inspect.signature(other).parameters), name
+    for kind in ("Connection", "Cursor", "Live", "Lives", "Pipeline", "Table"):
+        own, other = getattr(djq, kind), getattr(djq.aio, kind)
+        for name, method in inspect.getmembers(own, inspect.isfunction):
+            if not name.startswith("_") and name != "fileno":  # what is waited for is the loop's business
+                words = [word for word in inspect.signature(method).parameters if word != "progress"]
+                assert words == list(inspect.signature(getattr(other, name)).parameters), (kind, name)
 
 
 async def pipelines(server):
@@ -229,6 +230,140 @@ def test_a_live_set_comes_back(program):
     asyncio.run(follow())
 
 
+async def several(server):
+    async with client_of(server) as client:
+        for relation in ("machines", "jobs"):
+            await client.relation(relation, int, int)
+        await client.query("every(x) <- machines(x,_)")
+        await client.query("busy(x) <- jobs(_,x)")
+        await client.load("machines", [(at, 0) for at in range(10)])
+        async with client.lives("every", "busy") as both:
+            every, busy = both
+            assert (len(every.answers), busy.answers) == (10, set())
+            stop = asyncio.Event()
+
+            async def move():
+                while not stop.is_set():
+                    for at in range(10):
+                        await client.add("jobs", at, at)
+                        await client.add("machines", 10 + at, 0)
+                    for at in range(10):
+                        await client.delete("jobs", at, at)
+                        await client.delete("machines", 10 + at, 0)
+
+            moving = asyncio.create_task(move())
+            for _ in range(50):
+                # up to one change: a job comes before the machine behind it, and goes before that goes
+                await both.sync()
+                jobs, more = len(busy.answers), len(every.answers) - 10
+                assert (both.seq - 10) % 40 in ({jobs + more, 40 - jobs - more}), (both.seq, jobs, more)
+                assert jobs - more in (0, 1) or more - jobs in (0, 1)
+            stop.set()
+            await moving
+            await both.sync()
+            assert busy.answers == set() and await both.ready() == [] and await both.next(0.05) is None
+            more = await both.add("busy")
+            assert more is busy
+            await client.query("all(x,y) <- jobs(x,y)")
+            all_jobs = await both.add("all")
+            # one task a set; each is told its own
+            told = [asyncio.create_task(one.next()) for one in (busy, all_jobs)]
+            await asyncio.sleep(0.05)
+            await client.add("jobs", 1, 2)
+            changes = await asyncio.wait_for(asyncio.gather(*told), SECONDS)
+            assert [change.came for change in changes] == [{(2,)}, {(1, 2)}], changes
+            both.remove(busy)
+            await client.delete("jobs", 1, 2)
+            assert [live async for live, _ in both.changes(0.3)] == [all_jobs]
+            try:
+                await both.add("nothing")
+                raise AssertionError("not raised")
+            except djq.NoQuery:
+                pass
+        while True:
+            try:
+                await client.drop("busy")
+                break
+            except djq.InUse:
+                await asyncio.sleep(0.01)
+
+
+def test_several_live_sets(program):
+    with Server(program) as server:
+        asyncio.run(several(server))
+
+
+def test_live_sets_find_out_that_a_server_is_stopped(program):
+    """It is asked for a reply where nothing comes; once it goes on, all sets are told what was missed."""
+
+    async def follow(server):
+        async with djq.aio.connect("127.0.0.1", server.port) as client:
+            await client.relation("r", int)
+            for query in ("p", "q"):
+                await client.query(f"{query}(x) <- r(x)")
+            async with client.lives("p", "q", ping=0.2, reconnect=True) as both:
+                assert await both.next(0.7) is None  # its replies to the questions are no changes
+                server.process.send_signal(signal.SIGSTOP)
+                waiting = [asyncio.create_task(live.next()) for live in both]
+                assert not (await asyncio.wait(waiting, timeout=1))[0]
+                server.process.send_signal(signal.SIGCONT)
+                changes = await asyncio.wait_for(asyncio.gather(*waiting), SECONDS)
+                assert all(change.restarted for change in changes), changes
+                await client.add("r", 1)
+                told = [await asyncio.wait_for(both.next(), SECONDS) for _ in range(2)]
+                assert {live.query for live, _ in told} == {"p", "q"}
+            try:
+                await both.next()
+                raise AssertionError("not raised")
+            except djq.Disconnected:
+                pass
+
+    with Server(program) as server:
+        asyncio.run(follow(server))
+
+
+async def keyed(server):
+    draw = random.Random(7)
+    async with client_of(server) as client, client_of(server) as other:
+        table, rows = await client.table("keyed", int, int, str, key=2), {}
+        for _ in range(200):
+            key = (draw.randrange(4), draw.randrange(2))
+            if draw.random() < 0.7:
+                row = (*key, draw.choice("abc"))
+                assert await table.upsert(*row) == (rows.get(key) != row)
+                rows[key] = row
+            else:
+                assert await table.remove(*key) == (rows.pop(key, None) is not None)
+            assert table.get(*key) == rows.get(key)
+        assert set(table) == set(rows.values()) == await client.snapshot("keyed_rows") and len(table) == len(rows)
+        # tasks that write one key leave one row, also where some are cancelled on the way
+        writing = [asyncio.create_task(table.upsert(9, 9, f"text {number}")) for number in range(100)]
+        await asyncio.sleep(0)
+        for task in writing[::7]:
+            task.cancel()
+        await asyncio.gather(*writing, return_exceptions=True)
+        await table.upsert(8, 8, "last")
+        there = {row for row in await other.snapshot("keyed_rows") if row[0] == 9}
+        assert len(there) == 1 and there == {table.get(9, 9)}, there
+        # what is refused leaves the old row
+        try:
+            await table.upsert(8, 8, 8)
+            raise AssertionError("not raised")
+        except djq.WrongType:
+            pass
+        assert table.get(8, 8) == (8, 8, "last") and await other.has("keyed_rows", 8, 8, "last")
+        # rows of others are seen, and two of a key become one
+        await other.add("keyed", 8, 8, "new")
+        await table.upsert(8, 8, "newest")
+        assert {row for row in await other.snapshot("keyed_rows") if row[0] == 8} == {(8, 8, "newest")}
+        assert set(await other.table("keyed", int, int, str, key=2)) == set(table)
+
+
+def test_a_table_with_a_key(program):
+    with Server(program) as server:
+        asyncio.run(keyed(server))
+
+
 async def silent():
     """A server that is stopped gives no reply: the timeout says so, and closes the connection."""
     server = await asyncio.start_server(lambda reader, writer: None, "127.0.0.1", 0)
@@ -255,7 +390,8 @@ def test_a_reply_that_doesnt_come(program):
 
 TESTS = [
     test_the_same_script, test_the_same_methods, test_pipelines_and_cursors, test_tasks_share_a_connection,
-    test_a_live_set_starts_while_rows_change, test_a_live_set_comes_back, test_a_reply_that_doesnt_come,
+    test_a_live_set_starts_while_rows_change, test_a_live_set_comes_back, test_several_live_sets,
+    test_live_sets_find_out_that_a_server_is_stopped, test_a_table_with_a_key, test_a_reply_that_doesnt_come,
 ]  # fmt: skip
 
 

@@ -2,6 +2,7 @@
 lost without a word."""
 
 import contextlib
+import os
 import random
 import signal
 import threading
@@ -36,25 +37,41 @@ def catch_up(live, listed):
 
 
 def live_starts(program, side, rate, most):
-    """A live set of side * side answers starts beside so many changes a second, in so many seconds at most."""
+    """A live set of side * side answers starts beside so many changes a second, in so many seconds at most: at the best
+    of three tries, and where the machine has more to do than it can, by the processor time of both ends."""
+    tries = []
+    for _ in range(3):
+        tries.append(live_started(program, side, rate))
+        if tries[-1][0] < most:
+            return
+    assert os.getloadavg()[0] > os.cpu_count() and min(spent for _, spent in tries) < most, tries
+
+
+def live_started(program, side, rate):
+    """The seconds that a live set takes to start, and those that client and server were on a processor meanwhile."""
     with Server(program) as server, server.connect() as client:
         lines = grid(client, "q", side)
         with churn(server, rate, *lines):
+            spent = time.process_time() + server.processor()
             began = time.monotonic()
             live = client.live("q")
             took = time.monotonic() - began
-            assert took < most, took
+            spent = time.process_time() + server.processor() - spent
             assert len(live.answers) - side * side in (0, 1)
             seqs = [live.next(SECONDS).seq for _ in range(10)]
             assert seqs == list(range(seqs[0], seqs[0] + 10))
         with live:
             catch_up(live, set(client.answers("q")))
-        return took
+    return took, spent
 
 
 def test_live_starts_while_rows_change(program):
-    live_starts(program, 55, 1000, 10)
+    live_starts(program, 55, 1000, 0.2)
     live_starts(program, 158, 50, 10)
+
+
+def test_a_large_live_set_starts_while_rows_change(program):
+    live_starts(program, 633, 1000, 30)
 
 
 def test_live_starts_anew_after_a_long_delta(program):
@@ -267,7 +284,8 @@ def test_a_pipeline_raises(program):
 
 
 TESTS = [
-    test_live_starts_while_rows_change, test_live_starts_anew_after_a_long_delta,
+    test_live_starts_while_rows_change, test_a_large_live_set_starts_while_rows_change,
+    test_live_starts_anew_after_a_long_delta,
     test_a_listing_that_is_overtaken_says_so, test_live_after_a_start_that_failed, test_live_reconnects,
     test_interrupted_listings, test_interrupted_live_sets,
     test_a_pipeline_that_watches_reads_meanwhile, test_a_pipeline_raises,

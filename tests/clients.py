@@ -38,6 +38,24 @@ def test_values_there_and_back():
     raises(TypeError, lambda: djq.spell(1.5))
 
 
+def test_answers_there_and_back():
+    """Lines of equally wide answers are read as each of them would be alone."""
+    draw = random.Random(8)
+    texts = ["", "a", 'say "hi"', "back\\slash", "two\nlines", " ", "\\n", "= 1", "+ q 1", '"', "\\", "a  b"]
+    for _ in range(500):
+        kinds = [draw.choice((int, str)) for _ in range(draw.randrange(4))]
+        rows = [
+            tuple(draw.randrange(-9, 10**18) if kind is int else draw.choice(texts) for kind in kinds)
+            for _ in range(draw.randrange(1, 6))
+        ]
+        front = draw.choice(["=", "+ q", "- abc"])
+        lines = [" ".join([front, *map(djq.spell, row)]) for row in rows]
+        assert djq.protocol.read_answers(lines, front) == rows, lines
+        assert [djq.read_values(line[len(front) :]) for line in lines] == rows, lines
+    for lines in (["= x"], ['= "a'], ["= 1", "= x"], ['= "a"', "= 1x"]):
+        raises(djq.Error, lambda: djq.protocol.read_answers(lines, "="))
+
+
 def test_deltas_between_replies():
     protocol = djq.Protocol()
     first = protocol.say("add r 1", djq.protocol.READ_UPDATE)
@@ -56,6 +74,18 @@ def test_deltas_between_replies():
     assert [change.came for _, change in protocol.changes["p"]] == [frozenset({()})]
     lines = [number for number, _ in protocol.changes["q"]]
     assert lines[0] < protocol.replied and lines[1] < protocol.replied
+
+
+def test_changes_up_to_one():
+    """Sets that are brought up to one change take none behind it, also where only some of what that brings has come."""
+    protocol, kept = djq.Protocol(), [djq.live.Kept("p"), djq.live.Kept("q")]
+    reply = protocol.say("watch p", djq.protocol.READ_WATCH)
+    protocol.feed(b"+ p 1\nat p 1\n+ q 1\nat q 1\nok watch 1\n+ p 2\nat p 2\n")
+    told = djq.live.take_until(kept, protocol, reply.result())
+    assert [(one.query, change.seq) for one, change in told] == [("p", 1), ("q", 1)]
+    assert [one.answers for one in kept] == [{(1,)}, {(1,)}]
+    protocol.feed(b"+ q 2\nat q 2\n")
+    assert [one.query for one, _ in djq.live.take_until(kept, protocol, 2)] == ["p", "q"]
 
 
 def test_refusals_by_their_lines():
@@ -169,6 +199,9 @@ def test_texts_and_joins(server):
         assert listed == {(at, text, at + 1) for at, text in enumerate(texts)}
         assert client.has("jq", 1, "a b", 2) and not client.has("jq", 1, "unknown", 2)
         assert client.explain("jq")[0].startswith("n 0 leaf people ")
+        assert client.query("jc(x) <- people(x,_), calls(x,y)") == 3 and client.shape("jc") == "flat"
+        assert client.query("jl(x) <- people(y,_), calls(x,y)") == 3 and client.shape("jl") == "linear"
+        raises(djq.NoQuery, lambda: client.shape("jm"))
         refused = raises(djq.NotFreeConnex, lambda: client.query("jn(x,z) <- calls(x,y), calls(y,z)"))
         assert refused.edges == [("x", "y"), ("x", "z"), ("y", "z")]
 
@@ -664,7 +697,8 @@ def test_stop(program):
 
 
 ALONE = [
-    test_values_there_and_back, test_deltas_between_replies, test_refusals_by_their_lines, test_an_end_fails_what_is_due,
+    test_values_there_and_back, test_answers_there_and_back, test_deltas_between_replies, test_changes_up_to_one,
+    test_refusals_by_their_lines, test_an_end_fails_what_is_due,
 ]  # fmt: skip
 SERVED = [
     test_commands, test_refusals, test_an_error_class_for_each_number, test_texts_and_joins, test_pipelines,

@@ -90,6 +90,7 @@ query w(x,z) <- r(x,y), t(y,z)
 query v(x,y,z) <- r(x,y), t(y,z), t(z,x)
 explain q
 explain p
+shape p
 add r 1 2
 add s 2
 add t 2 5
@@ -443,6 +444,8 @@ def exactly_the_accepted_rows_are_listed_where_memory_ends():
         seq = changed(rows, word, said, seq, reply)
     refused = replies[4:4 + MILLION].count(b"err 12 memory")
     expect(1000 < refused < MILLION - 1000, True, f"{refused} of {MILLION} rows are refused")
+    # a removed row makes room for another
+    expect(b"err 12 memory" in replies[4 + MILLION:4 + len(changes)], False, "rows come in place of removed ones")
     rest = replies[4 + len(changes):]
     expect(rest[:3], [b"stale c r 1", b"ok", b"ok open"])
     listed = [reply[2:] for reply in rest[3:] if reply.startswith(b"= ")]

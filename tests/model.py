@@ -172,7 +172,7 @@ def command_of(line):
         if text.startswith(b"-") or count is None or not 1 <= count <= MOST_ANSWERS:
             raise Syntax
         said = (name, count)
-    elif word in (b"drop", b"close", b"watch", b"unwatch", b"explain"):
+    elif word in (b"drop", b"close", b"watch", b"unwatch", b"explain", b"shape"):
         said = (reader.name(),)
     elif word in (b"quit", b"stop"):
         said = ()
@@ -355,6 +355,19 @@ class Query:
         for at, node in enumerate(tree.nodes):
             words = node.words or b"leaf " + self.atoms[at][0]
             yield b"n %d %s %s" % (at, words, self.label(node.label)) + (b" out" if at in tree.out else b"")
+
+    def flat(self):
+        """Whether any two variables stand in nested or disjoint sets of atoms, and where one of the head stands in
+        fewer atoms than another one that has all of its, the other is of the head too."""
+        edges = self.edges()
+        places = [{at for at, edge in enumerate(edges) if number in edge} for number in range(len(self.variables))]
+        for one, few in enumerate(places):
+            for other, many in enumerate(places):
+                if few & many and not few <= many and not many <= few:
+                    return False
+                if few < many and one in self.head and other not in self.head:
+                    return False
+        return True
 
     def rest(self, edges):
         return b" ".join(self.label(edge) for edge in sorted(map(sorted, edges)))
@@ -738,6 +751,11 @@ class Machine:
         for line in self.queries[name].explained():
             session.say(line)
         session.say(b"end")
+
+    def shape(self, session, name):
+        if name not in self.queries:
+            return session.say(NO_QUERY)
+        session.say(b"flat" if self.queries[name].flat() else b"linear")
 
     def quit(self, session):
         session.end("quit", b"bye")

@@ -238,6 +238,34 @@ def queries_are_judged_and_explained():
 
 
 @test
+def a_query_is_told_flat_exactly_where_it_is():
+    asked = [
+        (b"a(x,y) <- e(x,y), s(y)", b"flat"),  # x stands where y does
+        (b"b(x,y) <- r(x), e(x,y), s(y)", b"linear"),  # they share an atom, and each has one of its own
+        (b"c(x) <- e(x,y), s(y)", b"linear"),  # x is in the head, and y isn't, which has the atom of x and another
+        (b"d(y) <- e(x,y), s(y)", b"flat"),
+        (b"f() <- e(x,y), s(y)", b"flat"),
+        (b"g(x,y,z) <- e(x,y), e(x,z)", b"flat"),
+        (b"h(x,y,z,w) <- e(x,y), e(y,z), e(z,w)", b"linear"),
+        (b"i(x,z) <- r(x), s(z), e(_,3)", b"flat"),
+        (b"j(x,y) <- r(x), e(x,y), e(x,y), s(_), e(x,x)", b"flat"),
+        (b"k() <- r(x), e(x,y), s(y)", b"linear"),
+    ]
+    lines = [b"rel r int", b"rel e int int", b"rel s int"]
+    replies = [b"ok"] * 3
+    for query, shape in asked:
+        name, _, rest = query.partition(b"(")
+        head = rest[:rest.index(b")")]
+        lines += [b"query " + query, b"shape " + name]
+        replies += [b"ok query %d" % (2 * len(head.replace(b",", b"")) + 1), shape]
+    # rows change nothing of it, and nor does a watch
+    lines += [b"add e 1 2", b"watch b", b"shape b", b"shape l", b"drop a", b"shape a", b"shape", b"shape b c"]
+    replies += [b"ok added 1", b"ok watch 1", b"linear", b"err 4 no query", b"ok", b"err 4 no query"]
+    replies += [b"err 1 syntax"] * 2
+    expect_run(texts_of_lines(lines), texts_of_lines(replies))
+
+
+@test
 def each_refusal_of_a_query_comes_in_its_order():
     lines = [b"rel r int text", b"rel s int", b"query w(x) <- s(x)"]
     asked = [

@@ -66,7 +66,7 @@ class Author:
         self.relations, self.heads, self.cursors, self.planned = self.world.relations, self.world.heads, {}, []
         self.kinds = [self.rel] + [self.row] * self.world.changes + [self.query] * 14 + [self.open] * 6
         self.kinds += [self.listing] * 8 + [self.next] * 12 + [self.close] * 6 + [self.has] * 7 + [self.watch] * 6
-        self.kinds += [self.explain] * 2 + [self.drop] * 8
+        self.kinds += [self.explain] * 2 + [self.shape] * 4 + [self.drop] * 8
 
     def one(self, known, names):
         """Mostly a name that was given, at times any name."""
@@ -203,6 +203,9 @@ class Author:
 
     def explain(self):
         return b"explain " + self.one(self.heads, QUERIES)
+
+    def shape(self):
+        return b"shape " + self.one(self.heads, QUERIES)
 
     def drop(self):
         name = self.one(self.heads, QUERIES)

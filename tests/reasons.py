@@ -5,8 +5,8 @@ import re
 REASONS = {
     0: rb"",
     1: rb"djq: these words are no command\n",
-    2: rb"djq: the standard input can't be read\n",
-    3: rb"djq: the standard output can't be written\n",
+    2: rb"djq: the standard input can't be read: .+\n",
+    3: rb"djq: the standard output can't be written: .+\n",
     4: rb"djq: can't listen on .+: .+\n|djq: the listener failed: .+\n",
     5: rb"djq: all turns were taken\n",
     6: rb"djq: out of memory\n",

@@ -39,6 +39,11 @@ class Server:
         self.process.kill()
         self.process.wait()
 
+    def processor(self):
+        """The seconds that it was on a processor."""
+        with open(f"/proc/{self.process.pid}/schedstat", encoding="ascii") as file:
+            return int(file.read().split()[0]) / 1e9
+
     def connect(self):
         return djq.connect("127.0.0.1", self.port, timeout=SECONDS)
 

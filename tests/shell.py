@@ -122,6 +122,8 @@ has q 2 "b"
 has q 3 "c"
 drop q
 unwatch q
+shape q
+shape z
 explain q
 drop q
 quit

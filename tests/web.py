@@ -3,12 +3,12 @@
 Chromium where it is there.
 
     python3 tests/web.py PROGRAM [NAME ..]
-    python3 tests/web.py PROGRAM --picture FILE.png
+    python3 tests/web.py PROGRAM --picture LIGHT.png [DARK.png]
 
 It needs Python's standard library; the tests in Chromium also the Debian packages chromium, chromium-driver and
 python3-selenium, and are skipped by name without them. A line is printed for each test that fails or is skipped, and
 last `N passed, N failed`, with `, N skipped`; the status is 0 where none failed. With TIMES=1 in the environment it
-tells how long each took. The second form takes a picture of the demo's page after it has moved for a while.
+tells how long each took. The second form takes pictures of the demo's page after it has moved for a while.
 """
 
 import contextlib
@@ -479,6 +479,30 @@ class Browser:
             "row => [...row.cells].map(cell => cell.textContent))"
         )
 
+    def set_scheme(self, scheme):
+        """What the reader prefers: `light` or `dark`."""
+        wanted = {"features": [{"name": "prefers-color-scheme", "value": scheme}]}
+        self.driver.execute_cdp_cmd("Emulation.setEmulatedMedia", wanted)
+
+    def be_phone(self, width, height):
+        """Shows pages as a telephone does."""
+        size = {"width": width, "height": height, "deviceScaleFactor": 3, "mobile": True}
+        self.driver.execute_cdp_cmd("Emulation.setDeviceMetricsOverride", size)
+
+    def read_out(self):
+        """What a screen reader is given: the role and the name of each part that has either, in order."""
+        self.driver.execute_cdp_cmd("Accessibility.enable", {})
+        nodes = self.driver.execute_cdp_cmd("Accessibility.getFullAXTree", {})["nodes"]
+        by_id = {node["nodeId"]: node for node in nodes}
+
+        def parts(node):
+            if not node["ignored"]:
+                yield node["role"]["value"], node.get("name", {}).get("value", "")
+            for child in node.get("childIds", []):
+                yield from parts(by_id[child])
+
+        return [part for part in parts(nodes[0]) if part[0] not in ("generic", "InlineTextBox", "none")]
+
     def complaints(self):
         return [entry["message"] for entry in self.driver.get_log("browser")]
 
@@ -532,6 +556,110 @@ def a_browser_reads_well(program, browser):
         expect(found, wanted)
 
 
+# How far what is drawn stands out from what is behind it: the least contrast of a text, of a line of a chart, and how
+# bright the ground is.
+CONTRASTS = """
+const channels = (color) => color.match(/[\\d.]+/g).map(Number);
+const bright = (color) => {
+  const [r, g, b] = channels(color).map((c) => c / 255)
+    .map((c) => c <= 0.04045 ? c / 12.92 : ((c + 0.055) / 1.055) ** 2.4);
+  return 0.2126 * r + 0.7152 * g + 0.0722 * b;
+};
+const ground = (element) => {
+  for (; element; element = element.parentElement) {
+    const color = getComputedStyle(element).backgroundColor;
+    if ((channels(color)[3] ?? 1) === 1) return color;
+  }
+};
+const contrast = (color, element) => {
+  const [one, two] = [bright(color), bright(ground(element))].sort((a, b) => b - a);
+  return (one + 0.05) / (two + 0.05);
+};
+const texts = [...document.querySelectorAll("body *")].filter((element) =>
+  [...element.childNodes].some((node) => node.nodeType === 3 && node.data.trim() !== ""));
+const style = (element) => getComputedStyle(element);
+return {
+  texts: Math.min(...texts.map((e) => contrast(e instanceof SVGElement ? style(e).fill : style(e).color, e))),
+  lines: Math.min(...[...document.querySelectorAll("path")].map((e) => contrast(style(e).stroke, e))),
+  ground: bright(ground(document.body)),
+  number: texts.length,
+};
+"""
+
+
+@in_browser
+def a_browser_reads_well_in_light_and_in_dark(program, browser):
+    lines = [f'[[panel]]\nkind = "chart"\nqueries = {json.dumps(["rows"] * 6)}\n']
+    with shown(program, (1, "one"), page=PAGE + "".join(lines)) as (client, web):
+        for key, scheme in enumerate(("light", "dark"), 2):
+            browser.set_scheme(scheme)
+            browser.open(web)
+            wait_until(lambda: browser.run("return document.getElementById('status').className") == "live")
+            client.add("r", key, "new")
+            wait_until(lambda: "new" in [row[0] for row in browser.rows()])
+            found = browser.run(CONTRASTS)
+            assert found["texts"] >= 4.5 and found["lines"] >= 3 and found["number"] > 20, (scheme, found)
+            assert (found["ground"] > 0.8) if scheme == "light" else (found["ground"] < 0.05), (scheme, found)
+        browser.set_scheme("light")
+
+
+@in_browser
+def a_screen_reader_is_told_all(program, browser):
+    with shown(program, (1, "one")) as (client, web), Events(web) as events:
+        browser.open(web)
+        client.add("r", 2, "two")
+        events.until(lambda views: views.get("2", {}).get("cells") == ["2", "two"])
+        wait_until(lambda: len(browser.rows()) == 2)
+        told = browser.read_out()
+        expect(told[0], ("RootWebArea", "Tests & <i>more</i>"))
+        expect([name for role, name in told if role == "heading"],
+               ["Tests & <i>more</i>", "Rows <b>here</b>", "How many", "Newest", "Both"])  # fmt: skip
+        for part in (("button", "Pause"), ("status", ""), ("table", "2 rows"), ("image", "Both the last 1 minute"),
+                     ("term", "key"), ("definition", ""), ("listitem", "")):  # fmt: skip
+            assert part in told, (part, told)
+        for title in ("Rows <b>here</b>", "How many", "Newest", "Both"):
+            assert ("region", title) in told, (title, told)
+        cells = [part for part in told if part[0] in ("columnheader", "cell")]
+        expect(cells, [("columnheader", "mark"), ("columnheader", "key"), ("columnheader", "<u>text</u>"),
+                       ("cell", ""), ("cell", "1"), ("cell", "one"),
+                       ("cell", "new"), ("cell", "2"), ("cell", "two")])  # fmt: skip
+        # what lines show stands in words too, and so does what came last
+        wanted = {"live", "<s>all</s>", "keys", "2"}
+
+        def tells_all():
+            words = {name for role, name in browser.read_out() if role == "StaticText"}
+            newest = any(name.endswith("Rows <b>here</b>, new: 2, two") for name in words)
+            return wanted <= words and newest and words & {"always 2 in 5 minutes", "1 to 2 in 5 minutes"}
+
+        wait_until(tells_all)
+        browser.run("document.getElementById('pause').focus()")
+        expect(browser.run("return getComputedStyle(document.activeElement).outlineStyle"), "solid")
+
+
+@in_browser
+def a_phone_shows_all_in_its_width(program, browser):
+    long = "a text that is as long as they come, " * 6
+    try:
+        with shown(program, (1, "one"), (2, long), (3, "w" * 250)) as (_, web):
+            for width, height in ((320, 568), (390, 844), (844, 390)):
+                browser.be_phone(width, height)
+                browser.open(web)
+                wait_until(lambda: len(browser.rows()) == 3)
+                found = browser.run(
+                    "const box = (e) => e.getBoundingClientRect();"
+                    "const all = (words) => [...document.querySelectorAll(words)];"
+                    "const button = box(document.getElementById('pause'));"
+                    "return {inner: innerWidth, wide: document.documentElement.scrollWidth,"
+                    " right: Math.max(...all('header, section, svg, #latest').map(e => box(e).right)),"
+                    " touch: Math.min(button.height, button.width),"
+                    " small: Math.min(...all('body *').map(e => parseFloat(getComputedStyle(e).fontSize)))}"
+                )
+                expect((found["inner"], found["wide"]), (width, width))
+                assert found["right"] <= width and found["touch"] >= 24 and found["small"] >= 12, found
+    finally:
+        browser.resize(1200, 900)
+
+
 @in_browser
 def a_browser_pauses_and_connects_again(program, browser):
     with Server(program) as server, fill(server, (1, "one")) as client:
@@ -552,22 +680,26 @@ def a_browser_pauses_and_connects_again(program, browser):
             wait_until(lambda: browser.run("return document.getElementById('status').className") == "live")
 
 
-def take_picture(program, path, seconds=100):
-    """The demo's page, once its lines are long enough. Where `pngquant` is there, the file is made small by it."""
+def take_pictures(program, paths, seconds=100):
+    """The demo's page, once its lines are long enough: in light, and in dark where a second path is given. Where
+    `pngquant` is there, it makes the files small."""
     with Server(program) as server, Web(server, "", "--demo") as web:
         time.sleep(seconds)
         browser = Browser(1080, 900)
         try:
-            browser.open(web)
-            wait_until(lambda: browser.run("return document.querySelectorAll('tr.came').length") > 1)
-            browser.resize(1080, min(1000, browser.run("return document.body.offsetHeight")))
-            time.sleep(1)
-            browser.driver.save_screenshot(path)
+            for path, scheme in zip(paths, ("light", "dark")):
+                browser.set_scheme(scheme)
+                browser.open(web)
+                wait_until(lambda: browser.run("return document.querySelectorAll('tr.came').length") > 1)
+                browser.resize(1080, min(1000, browser.run("return document.body.offsetHeight")))
+                time.sleep(1)
+                browser.driver.save_screenshot(path)
         finally:
             browser.driver.quit()
-    if shutil.which("pngquant"):
-        subprocess.run(["pngquant", "--force", "--speed", "1", "--output", path, "64", path], check=True)
-    print(f"{path}: {os.path.getsize(path)} bytes")
+    for path in paths:
+        if shutil.which("pngquant"):
+            subprocess.run(["pngquant", "--force", "--speed", "1", "--output", path, "24", path], check=True)
+        print(f"{path}: {os.path.getsize(path)} bytes")
 
 
 def has_browser():
@@ -611,6 +743,6 @@ if __name__ == "__main__":
     if not has_browser() and os.path.exists(DEBIAN) and not os.environ.get("DJQ_WEB_AGAIN"):
         os.execve(DEBIAN, [DEBIAN, *sys.argv], dict(os.environ, DJQ_WEB_AGAIN="1"))
     if sys.argv[2:3] == ["--picture"]:
-        take_picture(os.path.abspath(sys.argv[1]), sys.argv[3])
+        take_pictures(os.path.abspath(sys.argv[1]), sys.argv[3:5])
         sys.exit(0)
     sys.exit(main(os.path.abspath(sys.argv[1]), sys.argv[2:]))

@@ -11,7 +11,7 @@ from typing import TYPE_CHECKING, Any, Callable, Iterable, Iterator, Sequence, T
 
 from . import protocol
 from .errors import Disconnected, Error, NoCursor, NotWatched, Refused, SomeRefused
-from .listing import WITHIN, Late, list_whole
+from .listing import WITHIN, Said, list_whole
 from .protocol import FIRST_REFUSALS, MOST_ANSWERS, Answer, Change, Page, Pending, Protocol, Rows, Update, Value
 from .protocol import checked, column_type, fitting, spell, spell_line
 
@@ -115,6 +115,10 @@ class Connection:
     def explain(self, query: str) -> list[str]:
         """The query's join tree, a line a node."""
         return self._do(spell_line("explain", query), protocol.read_tree)
+
+    def shape(self, query: str) -> str:
+        """`flat` where no change of a row costs the query more as rows grow in number; else `linear`."""
+        return self._do(spell_line("shape", query), protocol.READ_SHAPE)
 
     def cursor(self, query: str) -> Cursor:
         """Opens a cursor in front of the query's answers."""
@@ -272,15 +276,15 @@ class Connection:
         if not self._move(timeout, hold):
             self._lose(Disconnected(f"nothing came in {timeout:g} s"))
 
-    def _turn(self, lines: Sequence[tuple[str, Callable[[list[str]], object]]], until: float) -> list[Pending]:
-        """Sends lines in one write, and reads their replies once all are there. Raises `Late`."""
+    def _turn(self, lines: Sequence[Said], until: float) -> list[Pending] | None:
+        """Sends lines in one write, and reads their replies once all are there. None where that took too long."""
         self._settle()
         pending = [self._say(line, read) for line, read in lines]
         self._whole(self._protocol.hold)
         while self._protocol.ended is None and self._protocol.kept() < len(pending):
             left = until - time.monotonic()
             if left <= 0:
-                raise Late
+                return None
             if self.timeout is None or left < self.timeout:
                 self._move(left, hold=True)
             else:

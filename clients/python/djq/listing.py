@@ -2,9 +2,9 @@
 
 The server runs the lines that it reads at once in one turn, with nothing of other sessions between, and it reads at
 most 8,192 bytes at once. So a cursor is opened and asked for many pages in one write. What is told is parsed only once
-it is all there: who parses as it comes is slower than the server, which ends a session that doesn't read. Where that
-wasn't all, a further turn asks for more; where a change came between, it begins again with as many pages as it had
-asked for.
+it is all there: who parses as it comes is slower than the server, which ends a session that doesn't read. The first
+turn asks for a few pages, which is enough for most; else the next one asks for all that one turn can tell. Where that
+wasn't all, a further turn goes on; where a change came between, it begins again.
 
 That one write comes in one read is likely and no promise. Nothing rests on it: a cursor that isn't stale at its end has
 listed the answers of one moment, however the bytes were cut.
@@ -13,87 +13,118 @@ listed the answers of one moment, however the bytes were cut.
 from __future__ import annotations
 
 import time
-from typing import TYPE_CHECKING
+from typing import TYPE_CHECKING, Any, Callable, Sequence
 
 from . import protocol
 from .errors import Overtaken, Stale
-from .protocol import MOST_ANSWERS, Answer
+from .protocol import MOST_ANSWERS, Answer, Pending
 
 if TYPE_CHECKING:
     from .connection import Connection
 
 MOST_PAGES = 670  # that are asked for in one turn: as many lines as are read at once
 FIRST_PAGES = 8  # that are asked for in the first turn
-GROWTH = 4  # by which each further turn asks for more
 WITHIN = 60.0  # seconds in which a listing has to come to its end
-LONGEST_PAUSE = 0.5  # seconds between two tries that ask for all that one turn can list
+LONGEST_PAUSE = 0.5  # seconds between two tries
 CURSOR = "l"  # a name that no other cursor of a connection has
 
+Said = tuple[str, Callable[[list[str]], object]]  # a line, and what reads its reply
 
-class Late(Exception):
-    """The replies of a turn haven't come in time."""
+CLOSE: Said = (f"close {CURSOR}", protocol.READ_OK)
+PAGE: Said = (f"next {CURSOR} {MOST_ANSWERS}", protocol.read_page)
 
 
 class Listing:
-    """One try to list a query's answers."""
+    """A listing on its way: what its next turn says, and what the replies of a turn come to. It moves no bytes.
 
-    def __init__(self, connection: Connection, query: str, most: int, until: float) -> None:
+    Where it has to, it watches the query first; `seq` is then the number of changes before.
+    """
+
+    def __init__(self, query: str, within: float, most: int = MOST_PAGES, watch: bool = False) -> None:
         self.answers: set[Answer] = set()
-        self.at = 0  # the number of the line that told that these are all
-        self.asked = 0  # how many pages were asked for
-        self._connection, self._most, self._until = connection, most, until
+        self.whole = False  # whether these are all answers of one moment
+        self.at = 0  # the number of the line that told so
+        self.seq = 0
+        self.watched = False
+        self.is_open = False  # whether its cursor is
+        self.until = time.monotonic() + within
+        self.pause = 0.0  # seconds to wait before the next turn
+        self._query, self._within, self._most = protocol.checked(query), within, most
+        self._watches = watch
+        self._pages = min(FIRST_PAGES, most)  # that the next turn asks for
+        self._is_first = True
+        self._tries = self._told = 0
+        self._rest = 0.0  # seconds that the last try was waited for
+
+    def turn(self) -> list[Said]:
+        """What the next turn says."""
+        said = self._front() + [PAGE] * self._pages
+        return said + [CLOSE] if self._is_first else said
+
+    def _front(self) -> list[Said]:
+        if self.is_open:
+            return []
         # an earlier listing that was interrupted may have left its cursor
-        self.close = (f"close {CURSOR}", protocol.READ_OK)
-        self._front = [self.close, (f"open {CURSOR} {query}", protocol.READ_OPEN)]
-        self._page = (f"next {CURSOR} {MOST_ANSWERS}", protocol.read_page)
+        front: list[Said] = [CLOSE, (f"open {CURSOR} {self._query}", protocol.READ_OPEN)]
+        return [(f"watch {self._query}", protocol.READ_WATCH), *front] if self._watches else front
 
-    def run(self, pages: int) -> bool:
-        """Lists, with so many pages in the first turn. False where rows changed before the end."""
-        front = self._front
-        while True:
-            self.asked += pages
-            replies = self._connection._turn(front + [self._page] * pages, self._until)
-            for opened in replies[1 : len(front)]:
-                opened.result()
-            try:
-                for page in replies[len(front) :]:
-                    self.answers.update(page.result().answers)
-                    if page.result().last:
-                        self.at = page.at
-                        return True
-            except Stale:
-                return False
-            front, pages = [], min(self._most, GROWTH * pages)
-
-
-def list_whole(connection: Connection, query: str, within: float, most: int = MOST_PAGES) -> Listing:
-    """A listing that came to its end, by turns of at most so many pages. Raises `Overtaken` after `within` seconds."""
-    protocol.checked(query)
-    until = time.monotonic() + within
-    pages, pause, tries, told = min(FIRST_PAGES, most), 0.0, 0, 0
-    while True:
-        listing = Listing(connection, query, most, until)
+    def take(self, replies: Sequence[Pending[Any]] | None) -> None:
+        """Takes the replies of the turn; none where they came too late. Raises `Overtaken` where time is over."""
+        self.pause = 0.0
+        if replies is None:
+            self._begin_again()
+            return
+        begin = len(self._front())
+        if self._watches:
+            self.seq, self.watched, self._watches = replies[0].result(), True, False
+        if begin:
+            replies[begin - 1].result()
+        self.is_open = not self._is_first
         try:
-            if _comes_to_its_end(listing, pages):
-                connection._do(*listing.close)
-                return listing
-            tries, told = tries + 1, max(told, len(listing.answers))
-            if time.monotonic() + pause >= until:
-                raise Overtaken(
-                    f"{query} wasn't listed in {within:g} s: rows changed before the end of a listing, or it was slow,"
-                    f" {tries} times; at most {told} answers were told, and one turn tells {most * MOST_ANSWERS}"
-                )
-            if pages == most:
-                time.sleep(pause)
-                pause = min(LONGEST_PAUSE, 2 * pause + 0.01)
-        except BaseException:
-            connection._give_up(CURSOR)
-            raise
-        pages = min(most, listing.asked)
+            for page in replies[begin : begin + self._pages]:
+                self.answers.update(page.result().answers)
+                if page.result().last:
+                    self.whole, self.at = True, page.at
+                    return
+        except Stale:
+            self._begin_again()
+            return
+        if self._is_first:
+            self._begin()
+
+    def _begin(self) -> None:
+        """The next try asks for all that one turn can tell, which costs little more than what there is."""
+        self.answers, self._pages, self._is_first, self.is_open = set(), self._most, False, False
+
+    def _begin_again(self) -> None:
+        """Rows changed before the end, or it took too long."""
+        self._tries, self._told = self._tries + 1, max(self._told, len(self.answers))
+        if self._tries > 1:
+            self.pause = self._rest = min(LONGEST_PAUSE, 2 * self._rest + 0.01)
+        if time.monotonic() + self.pause >= self.until:
+            raise Overtaken(
+                f"{self._query} wasn't listed in {self._within:g} s: rows changed before the end of a listing, or it was"
+                f" slow, {self._tries} times; at most {self._told} answers were told, and one turn tells"
+                f" {self._most * MOST_ANSWERS}"
+            )
+        self._begin()
 
 
-def _comes_to_its_end(listing: Listing, pages: int) -> bool:
+def list_whole(
+    connection: Connection, query: str, within: float, most: int = MOST_PAGES, watch: bool = False
+) -> Listing:
+    """A listing that came to its end, by turns of at most so many pages. Raises `Overtaken` after `within` seconds."""
+    listing = Listing(query, within, most, watch)
     try:
-        return listing.run(pages)
-    except Late:
-        return False
+        while not listing.whole:
+            listing.take(connection._turn(listing.turn(), listing.until))
+            time.sleep(listing.pause)
+        if listing.is_open:
+            connection._do(*CLOSE)
+    except BaseException:
+        connection._give_up(CURSOR)
+        raise
+    finally:
+        if listing.watched:
+            connection._watched.add(query)
+    return listing

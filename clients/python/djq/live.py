@@ -2,14 +2,15 @@
 
 from __future__ import annotations
 
+import math
 import time
 from collections import deque
-from typing import Iterator
+from typing import Iterator, Sequence, TypeVar
 
 from .connection import Connection
 from .errors import Disconnected, Ended, Error, NoQuery, OutOfMemory, Overtaken
-from .listing import FIRST_PAGES, MOST_PAGES, WITHIN, list_whole
-from .protocol import Answer, Change, checked
+from .listing import FIRST_PAGES, MOST_PAGES, WITHIN, Listing, list_whole
+from .protocol import Answer, Change, Protocol, checked
 
 FIRST_PAUSE = 0.05  # seconds before a start that failed is tried again; each further one waits twice as long
 LONGEST_PAUSE = 5.0
@@ -18,7 +19,62 @@ LONGEST_PAUSE = 5.0
 PASSING = (Disconnected, Ended, NoQuery, OutOfMemory, Overtaken)
 
 
-class Live:
+class Kept:
+    """The answers of one query, as `answers`, and the number of the last change that is in them, as `seq`."""
+
+    def __init__(self, query: str) -> None:
+        self.query = checked(query)
+        self.answers: set[Answer] = set()
+        self.seq = 0
+        self._anew: tuple[set[Answer], int] | None = None  # a new listing, which wasn't told yet
+
+    def _listed(self, listing: Listing, protocol: Protocol) -> None:
+        """A listing came to its end that watched the query first. What changed before its last line is in it; what
+        changed after isn't."""
+        seq = listing.seq
+        changes = protocol.changes.setdefault(self.query, deque())
+        while changes and changes[0][0] < listing.at:
+            seq = changes.popleft()[1].seq
+        self._anew = (listing.answers, seq)
+
+    def _restarted(self) -> Change:
+        """What the new listing brings, as one change."""
+        answers, seq = self._anew or (self.answers, self.seq)
+        came, went = frozenset(answers - self.answers), frozenset(self.answers - answers)
+        change = Change(seq, came, went, restarted=True)
+        self.answers, self.seq, self._anew = answers, seq, None
+        return change
+
+
+K = TypeVar("K", bound=Kept)
+
+
+def take_first(kept: Sequence[K], protocol: Protocol, until: float = math.inf) -> tuple[K, Change] | None:
+    """The change that came first, once it is in the answers; none where none has come up to the number `until`."""
+    for one in kept:
+        if one._anew is not None:
+            return one, one._restarted()
+    waiting = [(protocol.changes[one.query], one) for one in kept if protocol.changes.get(one.query)]
+    if not waiting:
+        return None
+    changes, first = min(waiting, key=lambda pair: pair[0][0][0])
+    change = changes[0][1]
+    if change.seq > until:
+        return None
+    # it leaves the queue last, and what was done of it before comes to the same when it is done again
+    first.answers -= change.went
+    first.answers |= change.came
+    first.seq = change.seq
+    del changes[0]
+    return first, change
+
+
+def take_until(kept: Sequence[K], protocol: Protocol, seq: int) -> list[tuple[K, Change]]:
+    """The changes that have come, up to this one, in order."""
+    return list(iter(lambda: take_first(kept, protocol, seq), None))
+
+
+class Live(Kept):
     """The answers of one query, as `answers`, and the number of the last change that is in them, as `seq`.
 
     They change only as changes are taken: by `changes` and `next` here, or for several queries by those of `Lives`.
@@ -26,12 +82,9 @@ class Live:
     """
 
     def __init__(self, group: Lives, query: str) -> None:
-        self.query = query
-        self.answers: set[Answer] = set()
-        self.seq = 0
+        super().__init__(query)
         self._group = group
         self._alone = False  # whether the group was made for this one
-        self._anew: tuple[set[Answer], int] | None = None  # a new listing, which wasn't told yet
 
     def __enter__(self) -> Live:
         return self
@@ -59,13 +112,6 @@ class Live:
         """The next change, once it is in `answers`; none where none came for so many seconds."""
         told = self._group._next(timeout, [self])
         return None if told is None else told[1]
-
-    def _restarted(self, answers: set[Answer], seq: int) -> Change:
-        """What was missed, as one change."""
-        came, went = frozenset(answers - self.answers), frozenset(self.answers - answers)
-        change = Change(seq, came, went, restarted=True)
-        self.answers, self.seq, self._anew = answers, seq, None
-        return change
 
 
 class Lives:
@@ -124,10 +170,9 @@ class Lives:
         for live in self._lives:
             if live.query == query:
                 return live
-        live = Live(self, checked(query))
+        live = Live(self, query)
         self._begin(live)
-        if live._anew is not None:
-            live._restarted(*live._anew)
+        live._restarted()
         self._lives.append(live)
         return live
 
@@ -170,16 +215,15 @@ class Lives:
                 break
             except (Ended, Disconnected):
                 self._restart(None)
-        told = list(iter(lambda: self._take(self._lives), None))
         self.seq = seq
-        return told
+        return take_until(self._lives, self._connection._protocol, seq)
 
     # Inside
 
     def _next(self, timeout: float | None, lives: list[Live]) -> tuple[Live, Change] | None:
         until = None if timeout is None else time.monotonic() + timeout
         left = timeout
-        while not self._whole or (told := self._take(lives)) is None:
+        while not self._whole or (told := take_first(lives, self._connection._protocol)) is None:
             if left is not None and left < 0:
                 return None
             try:
@@ -189,24 +233,6 @@ class Lives:
                 self._restart(until)
             left = None if until is None else until - time.monotonic()
         return told
-
-    def _take(self, lives: list[Live]) -> tuple[Live, Change] | None:
-        """The change that came first, once it is in the answers; none where none has come."""
-        for live in lives:
-            if live._anew is not None:
-                return live, live._restarted(*live._anew)
-        waiting = {live: self._connection._protocol.changes.get(live.query) or deque() for live in lives}
-        first = min((live for live in lives if waiting[live]), key=lambda live: waiting[live][0][0], default=None)
-        if first is None:
-            return None
-        changes = waiting[first]
-        change = changes[0][1]
-        # it leaves the queue last, and what was done of it before comes to the same when it is done again
-        first.answers -= change.went
-        first.answers |= change.came
-        first.seq = change.seq
-        del changes[0]
-        return first, change
 
     def _wait(self, left: float | None) -> None:
         """Waits for bytes at most so long, and asks for a reply where none came for long."""
@@ -245,19 +271,15 @@ class Lives:
                 raise
 
     def _start(self, live: Live) -> None:
-        """Watches and lists a query. What changed before the listing's last line is in it; what changed after isn't."""
+        """Watches and lists a query."""
         connection = self._connection
-        seq = connection.watch(live.query)
         try:
-            listing = list_whole(connection, live.query, self._within, self._most)
+            listing = list_whole(connection, live.query, self._within, self._most, watch=True)
         except Ended as error:
             if error.cause == "slow":
                 self._most = max(FIRST_PAGES, self._most // 2)
             raise
-        changes = connection._protocol.changes.setdefault(live.query, deque())
-        while changes and changes[0][0] < listing.at:
-            seq = changes.popleft()[1].seq
-        live._anew = (listing.answers, seq)
+        live._listed(listing, connection._protocol)
 
     def _restart(self, until: float | None) -> None:
         """Starts anew. Where that fails and may come right, it is tried again as long as there is time, or raised."""

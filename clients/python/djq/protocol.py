@@ -5,7 +5,7 @@ from __future__ import annotations
 import re
 from collections import deque
 from dataclasses import dataclass
-from typing import Callable, Generic, TypeVar, Union
+from typing import Callable, Generic, Sequence, TypeVar, Union
 
 from .errors import REFUSALS, BadName, Cyclic, Ended, Error, NotFreeConnex, Refused, Stale, TooLong
 
@@ -26,6 +26,7 @@ _ESCAPES = {'"': '\\"', "\\": "\\\\", "\n": "\\n"}
 _UNESCAPES = {'"': '"', "\\": "\\", "n": "\n"}
 _NEEDS_ESCAPE = re.compile(r'["\\\n]')
 _VALUE = re.compile(r' *(?:(-?[0-9]+)|"((?:[^"\\]|\\.)*)")')
+_WORD = re.compile(r'"(?:[^"\\]|\\.)*"|[^ "]+')  # of a line: a text with its quotes, or what stands between spaces
 _NAME = re.compile(r"[a-z][a-z0-9_]{0,31}")
 
 
@@ -80,14 +81,44 @@ def read_values(text: str) -> Answer:
         if found is None:
             raise Error(f"not a value: {text[at:]!r}")
         number, quoted = found.groups()
-        if number is not None:
-            values.append(int(number))
-        elif "\\" in quoted:
-            values.append(re.sub(r"\\(.)", lambda e: _UNESCAPES[e[1]], quoted))
-        else:
-            values.append(quoted)
+        values.append(int(number) if number is not None else _unescape(quoted))
         at = found.end()
     return tuple(values)
+
+
+def _unescape(quoted: str) -> str:
+    return re.sub(r"\\(.)", lambda found: _UNESCAPES[found[1]], quoted) if "\\" in quoted else quoted
+
+
+def read_answers(lines: list[str], front: str) -> list[Answer]:
+    """The answers that lines say, each behind the same words. Of one query they are as wide and of the same types, so
+    whole columns are read at once."""
+    text, whole = " ".join(lines), True
+    if '"' in text:
+        words = _WORD.findall(text)
+        whole = sum(map(len, words)) + len(words) - 1 == len(text)
+    else:
+        words = text.split(" ")
+    width = len(words) // len(lines)
+    begins = front.split(" ")
+    same = len(words) == width * len(lines) and all(
+        words[place::width].count(word) == len(lines) for place, word in enumerate(begins)
+    )
+    if not whole or not same:
+        return [read_values(line[len(front) :]) for line in lines]
+    columns = [_read_column(words[place::width]) for place in range(len(begins), width)]
+    return list(zip(*columns)) if columns else [()] * len(lines)
+
+
+def _read_column(words: list[str]) -> Sequence[Value]:
+    try:
+        if not words[0].startswith('"'):
+            return list(map(int, words))
+    except ValueError as error:
+        raise Error(f"not integers: {words[:3]!r}") from error
+    if not all(word.startswith('"') for word in words):
+        raise Error(f"not texts: {words[:3]!r}")
+    return [_unescape(word[1:-1]) for word in words]
 
 
 # What the server says
@@ -145,14 +176,10 @@ class Pending(Generic[T]):
 
     def take(self, lines: list[str], at: int) -> int:
         """Takes lines of its reply, the first of them that at `at`. Gives the place behind the last that it took."""
-        kept = self._lines
-        end = at + 1
-        kept.append(lines[at])
-        while lines[end - 1].startswith("=") and end < len(lines) and lines[end].startswith("="):
-            kept.append(lines[end])
-            end += 1
+        end = _end_of_answers(lines, at) if lines[at][:1] == "=" else at + 1
+        self._lines += lines[at:end]
         try:
-            result = self._read(kept)
+            result = self._read(self._lines)
         except Error as error:
             self.fail(error)
         else:
@@ -169,6 +196,14 @@ class Pending(Generic[T]):
         self.done = True
         if self._failed is not None:
             self._failed(error)
+
+
+def _end_of_answers(lines: list[str], at: int) -> int:
+    """The place behind the answers that stand from this line on."""
+    for end in range(at, len(lines)):
+        if lines[end][:1] != "=":
+            return end
+    return len(lines)
 
 
 class Rows:
@@ -290,6 +325,7 @@ READ_UPDATE = reader(
     ok_absent=lambda seq: Update(False, int(seq)),
 )
 READ_HAS = reader(yes=lambda rest: True, no=lambda rest: False)
+READ_SHAPE = reader(flat=lambda rest: "flat", linear=lambda rest: "linear")
 READ_OPEN = reader(ok_open=lambda rest: True)
 READ_QUERY = reader(ok_query=int)
 READ_WATCH = reader(ok_watch=int)
@@ -301,7 +337,7 @@ def read_page(lines: list[str]) -> Page | None:
     if lines[-1].startswith("="):
         return None
     last = _one_line(lines[-1], {"end": lambda rest: True, "more": lambda rest: False})
-    return Page([read_values(line[1:]) for line in lines[:-1]], last)
+    return Page(read_answers(lines[:-1], "=") if len(lines) > 1 else [], last)
 
 
 def read_tree(lines: list[str]) -> list[str] | None:
@@ -443,12 +479,12 @@ class Protocol:
 
     def _delta_lines(self, lines: list[str], at: int, sign: str, query: str) -> int:
         """Takes the lines of answers that came, or went, and gives how many."""
-        side = (self._came if sign == "+" else self._went).setdefault(query, set())
         front = f"{sign} {query}"
         end = at
         while end < len(lines) and lines[end].startswith(front) and lines[end][len(front) : len(front) + 1] in ("", " "):
-            side.add(read_values(lines[end][len(front) :]))
             end += 1
+        side = (self._came if sign == "+" else self._went).setdefault(query, set())
+        side.update(read_answers(lines[at:end], front))
         return end - at
 
     def _close_delta(self, rest: str, line: int) -> None:

@@ -3,100 +3,47 @@
 from __future__ import annotations
 
 from collections import deque
-from typing import TYPE_CHECKING, Iterator, Sequence
+from typing import TYPE_CHECKING, Iterable, Iterator, Sequence
 
 from .errors import Refused, Taken
 from .listing import WITHIN, list_whole
-from .protocol import READ_UPDATE, Answer, Value, spell_line
+from .protocol import READ_UPDATE, Answer, Protocol, Value, spell_line
 
 if TYPE_CHECKING:
     from .connection import Connection
 
 
-class Table:
-    """A relation whose first columns are a key: at most one row for each.
+class Keyed:
+    """Rows by their key, which are the first so many of their columns."""
 
-    The server knows no keys, so the table watches the relation's rows and knows which row a key has; it registers the
-    query `RELATION_rows` for that. A row that replaces another is sent behind the old one's `del` in one write, so no
-    line of another session is run between, as long as the write comes in one read; who watches is told both changes.
-    Where other clients write the same key at the same time, both rows may come to stand there; the next `upsert` of the
-    key leaves its own row alone.
-    """
-
-    def __init__(self, connection: Connection, relation: str, types: Sequence[type | str], key: int = 1) -> None:
+    def __init__(self, relation: str, types: Sequence[type | str], key: int) -> None:
         if not 1 <= key <= len(types):
             raise ValueError("a key has at least one column, and at most all")
         self.relation, self.key = relation, key
-        self._connection = connection
         self._rows: dict[Answer, set[Answer]] = {}
         columns = ",".join(f"c{place}" for place in range(len(types)))
         self._query = f"{relation}_rows"
-        try:
-            connection.relation(relation, *types)
-        except Taken:
-            pass
-        try:
-            connection.query(f"{self._query}({columns}) <- {relation}({columns})")
-        except Taken:
-            pass
-        connection.watch(self._query)
-        listing = list_whole(connection, self._query, WITHIN)
-        for row in listing.answers:
-            self._put(row)
-        self._catch_up(listing.at)
+        self._text = f"{self._query}({columns}) <- {relation}({columns})"
 
-    def __len__(self) -> int:
-        self._catch_up()
-        return len(self._rows)
-
-    def __iter__(self) -> Iterator[Answer]:
-        """The rows."""
-        self._catch_up()
-        return iter([row for rows in self._rows.values() for row in rows])
-
-    def get(self, *key: Value) -> Answer | None:
-        """The row of a key, as far as it was told; none where there is none."""
-        self._catch_up()
+    def _get(self, key: Answer) -> Answer | None:
         return next(iter(self._rows.get(key, ())), None)
 
-    def upsert(self, *row: Value) -> bool:
-        """Makes this the row of its key. False where it is already."""
-        self._catch_up()
-        old = self._rows.get(row[: self.key], set()) - {row}
-        there = row in self._rows.get(row[: self.key], ())
-        if there and not old:
-            return False
-        self._replace(old, [] if there else [row])
-        return True
+    def _all(self) -> list[Answer]:
+        return [row for rows in self._rows.values() for row in rows]
 
-    def remove(self, *key: Value) -> bool:
-        """Takes the row of a key out. False where there is none."""
-        self._catch_up()
-        old = self._rows.get(key, set())
-        self._replace(old, [])
-        return bool(old)
+    def _replacing(self, row: Answer) -> tuple[set[Answer], list[Answer]]:
+        """Which rows have to go so that this is the one of its key, and which have to come."""
+        there = self._rows.get(row[: self.key], set())
+        return there - {row}, [] if row in there else [row]
 
-    # Inside
+    def _lines(self, old: Iterable[Answer], new: Iterable[Answer]) -> list[str]:
+        """What takes rows out and puts rows in."""
+        gone = [spell_line("del", self.relation, row) for row in old]
+        return gone + [spell_line("add", self.relation, row) for row in new]
 
-    def _replace(self, old: set[Answer], new: list[Answer]) -> None:
-        """Takes rows out and puts rows in, in one write. Where a new row is refused, the old ones come back."""
-        lines = [spell_line("del", self.relation, row) for row in old]
-        lines += [spell_line("add", self.relation, row) for row in new]
-        pending = [self._connection._say(line, READ_UPDATE) for line in lines]
-        self._connection._settle()
-        try:
-            for reply in pending:
-                reply.result()
-        except Refused:
-            for row in old:
-                self._connection.add(self.relation, *row)
-            raise
-
-    def _catch_up(self, listed: int = 0) -> None:
+    def _take(self, protocol: Protocol, listed: int = 0) -> None:
         """Takes the changes that have come. Those before the line `listed` are in the rows already."""
-        while self._connection._move(0):
-            pass
-        changes = self._connection._protocol.changes.setdefault(self._query, deque())
+        changes = protocol.changes.setdefault(self._query, deque())
         while changes:
             line, change = changes[0]
             if line > listed:
@@ -110,3 +57,78 @@ class Table:
 
     def _put(self, row: Answer) -> None:
         self._rows.setdefault(row[: self.key], set()).add(row)
+
+
+class Table(Keyed):
+    """A relation whose first columns are a key: at most one row for each.
+
+    The server knows no keys, so the table watches the relation's rows and knows which row a key has; it registers the
+    query `RELATION_rows` for that. A row that replaces another is sent behind the old one's `del` in one write, so no
+    line of another session is run between, as long as the write comes in one read; who watches is told both changes.
+    Where other clients write the same key at the same time, both rows may come to stand there; the next `upsert` of the
+    key leaves its own row alone.
+    """
+
+    def __init__(self, connection: Connection, relation: str, types: Sequence[type | str], key: int = 1) -> None:
+        super().__init__(relation, types, key)
+        self._connection = connection
+        try:
+            connection.relation(relation, *types)
+        except Taken:
+            pass
+        try:
+            connection.query(self._text)
+        except Taken:
+            pass
+        listing = list_whole(connection, self._query, WITHIN, watch=True)
+        for row in listing.answers:
+            self._put(row)
+        self._catch_up(listing.at)
+
+    def __len__(self) -> int:
+        self._catch_up()
+        return len(self._rows)
+
+    def __iter__(self) -> Iterator[Answer]:
+        """The rows."""
+        self._catch_up()
+        return iter(self._all())
+
+    def get(self, *key: Value) -> Answer | None:
+        """The row of a key, as far as it was told; none where there is none."""
+        self._catch_up()
+        return self._get(key)
+
+    def upsert(self, *row: Value) -> bool:
+        """Makes this the row of its key. False where it is already."""
+        self._catch_up()
+        old, new = self._replacing(row)
+        self._replace(old, new)
+        return bool(old or new)
+
+    def remove(self, *key: Value) -> bool:
+        """Takes the row of a key out. False where there is none."""
+        self._catch_up()
+        old = self._rows.get(key, set())
+        self._replace(old, [])
+        return bool(old)
+
+    # Inside
+
+    def _replace(self, old: set[Answer], new: list[Answer]) -> None:
+        """Takes rows out and puts rows in, in one write. Where a new row is refused, the old ones come back."""
+        pending = [self._connection._say(line, READ_UPDATE) for line in self._lines(old, new)]
+        self._connection._settle()
+        try:
+            for reply in pending:
+                reply.result()
+        except Refused:
+            for row in old:
+                self._connection.add(self.relation, *row)
+            raise
+
+    def _catch_up(self, listed: int = 0) -> None:
+        """Takes the changes that have come."""
+        while self._connection._move(0):
+            pass
+        self._take(self._connection._protocol, listed)

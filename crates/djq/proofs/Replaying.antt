@@ -17,7 +17,7 @@ use Rattle.djq_io.specs.declared.hub.Sent.TheVariants.{Took, Again, Gone}
 use Rattle.djq_io.specs.declared.hub.Told.{Told}
 use Rattle.djq_io.specs.declared.hub.Told.TheVariants.{Listening, Turning, Sending, Closing}
 use Rattle.djq_model.specs.Data.{Bytes}
-use Rattle.djq_machine.specs.State.{State, opening}
+use Rattle.djq_machine.specs.State.{State}
 use Rattle.djq_machine.specs.Run.{Walk}
 use Rattle.djq_machine.specs.Call.{Counts}
 use Rattle.djq_laws.specs.declared.limits.TheConstants.{READ_BYTES}
@@ -113,15 +113,15 @@ no_fault (least, inl rose) = absurd (omega (arith, rose))
 no_fault (least, inr top) = absurd (omega (arith, top))
 
 -- Serving such a hub, which tells its turns to the end, ends as it is over, or a session says `stop`.
-is_whole : (answer : Served) (turns : List Coming) (most : ℕ) (counted counted' : Counts) (state : State) (past : Option (List Told)) (left : Script) (ids : Ids)
-    → ServeEnds answer most (hub_of turns) counted opening (shown past (Some left) ids) counted' state
+is_whole : (answer : Served) (turns : List Coming) (most : ℕ) (counted counted' : Counts) (start state : State) (past : Option (List Told)) (left : Script) (ids : Ids)
+    → ServeEnds answer most (hub_of turns) counted start (shown past (Some left) ids) counted' state
     → FaultsCount answer 0 0 → AllShort turns → length turns < most → IsWhole answer
-is_whole Stopped turns most counted counted' state past left ids ends faults all fewer = tt
-is_whole Over turns most counted counted' state past left ids ends faults all fewer = tt
-is_whole HubFailed turns most counted counted' state past left ids ends faults all fewer = no_fault faults
-is_whole AllTaken turns most counted counted' state past left ids ends faults all fewer =
-    let start = place (record { blocked = []; turns = turns }) no_ids in
-    let took = calls (all_told ends.goes.moves) start (place left ids) ends.goes.told.played all ends.caused.over ends.caused.failed in
+is_whole Stopped turns most counted counted' start state past left ids ends faults all fewer = tt
+is_whole Over turns most counted counted' start state past left ids ends faults all fewer = tt
+is_whole HubFailed turns most counted counted' start state past left ids ends faults all fewer = no_fault faults
+is_whole AllTaken turns most counted counted' start state past left ids ends faults all fewer =
+    let begin = place (record { blocked = []; turns = turns }) no_ids in
+    let took = calls (all_told ends.goes.moves) begin (place left ids) ends.goes.told.played all ends.caused.over ends.caused.failed in
     absurd (omega (arith, took.taken, ends.goes.turned, ends.has_taken, fewer))
 
 -- a hub in memory of which no call is to fail, as it shows itself
@@ -144,17 +144,17 @@ made_steady bytes hub made = record {
 }
 
 -- The hub of a schedule was served.
-pub plays : (bytes : Bytes) (made hub hub' : Recorded) (answer : Served) (most : ℕ) (counted counted' : Counts) (start state : State) → IsMade bytes made → hub ≡ made
-    → most ≡ length (lines_of bytes) + 1 → start ≡ opening → ServeEnds answer most (steady hub) counted start (steady hub') counted' state
-    → FaultsCount answer 0 0 → Plays made.script.turns (length (lines_of bytes) + 1) counted counted' hub'.past
-plays bytes made hub hub' answer most counted counted' start state is_made same is_most is_start ends faults =
+pub plays : (bytes : Bytes) (made hub hub' : Recorded) (answer : Served) (most : ℕ) (counted counted' : Counts) (machine start state : State) → IsMade bytes made → hub ≡ made
+    → most ≡ length (lines_of bytes) + 1 → machine ≡ start → ServeEnds answer most (steady hub) counted machine (steady hub') counted' state
+    → FaultsCount answer 0 0 → Plays start made.script.turns (length (lines_of bytes) + 1) counted counted' hub'.past
+plays bytes made hub hub' answer most counted counted' machine start state is_made same is_most is_start ends faults =
     let turns = made.script.turns in
     let lines = length (lines_of bytes) in
     let of_made = ap steady same ∙ made_hub bytes made is_made in
-    let from_opening : ServeEnds answer most (hub_of turns) counted opening (steady hub') counted' state =
+    let from_start : ServeEnds answer most (hub_of turns) counted start (steady hub') counted' state =
     subst (λ (st : State). ServeEnds answer most (hub_of turns) counted st (steady hub') counted' state) is_start
-    (subst (λ (h : Shown). ServeEnds answer most h counted start (steady hub') counted' state) of_made ends) in
-    let served = subst (λ (n : ℕ). ServeEnds answer n (hub_of turns) counted opening (steady hub') counted' state) is_most from_opening in
+    (subst (λ (h : Shown). ServeEnds answer most h counted machine (steady hub') counted' state) of_made ends) in
+    let served = subst (λ (n : ℕ). ServeEnds answer n (hub_of turns) counted start (steady hub') counted' state) is_most from_start in
     let more = turn_for_each_line bytes turns is_made.turns in
     record {
       left = hub'.script;
@@ -162,23 +162,23 @@ plays bytes made hub hub' answer most counted counted' start state is_made same 
       state = state;
       answer = answer;
       ends = served;
-      whole = is_whole answer turns (lines + 1) counted counted' state hub'.past hub'.script hub'.ids served faults (turns_are_short bytes turns is_made.turns) (omega (arith, more));
+      whole = is_whole answer turns (lines + 1) counted counted' start state hub'.past hub'.script hub'.ids served faults (turns_are_short bytes turns is_made.turns) (omega (arith, more));
     }
 
 -- Its past is told at the end.
-pub replays : (turns : List Coming) (most : ℕ) (counted counted' : Counts) (hub' : Recorded) (told : List Told) (text : Bytes) → Plays turns most counted counted' hub'.past
-    → Some told ≡ hub'.past → NeverFails hub' → text ≡ sent_text told → Replays turns most counted counted' text
-replays turns most counted counted' hub' told text played past quiet is_text = record {
+pub replays : (start : State) (turns : List Coming) (most : ℕ) (counted counted' : Counts) (hub' : Recorded) (told : List Told) (text : Bytes) → Plays start turns most counted counted' hub'.past
+    → Some told ≡ hub'.past → NeverFails hub' → text ≡ sent_text told → Replays start turns most counted counted' text
+replays start turns most counted counted' hub' told text played past quiet is_text = record {
   told = told;
-  plays = subst (λ (p : Option (List Told)). Plays turns most counted counted' p) (sym past) played;
+  plays = subst (λ (p : Option (List Told)). Plays start turns most counted counted' p) (sym past) played;
   none_gone = subst (λ (p : Option (List Told)). IfSome p (λ t. has_gone t ≡ false)) (sym past) quiet.past;
   sent = is_text;
 }
 
 -- Nothing was counted.
-pub none_counted : (r : Result (List Coming) ℕ) (bytes : Bytes) (counted : Counts) → LacksMemory r bytes counted counted
-none_counted (Err n) bytes counted = refl
-none_counted (Ok turns) bytes counted = inl refl
+pub none_counted : (start : State) (r : Result (List Coming) ℕ) (bytes : Bytes) (counted : Counts) → LacksMemory start r bytes counted counted
+none_counted start (Err n) bytes counted = refl
+none_counted start (Ok turns) bytes counted = inl refl
 
 -- what holds in any case
 pub on_err : {A E : Type 0} (r : Result A E) (P : Type 0) → P → OnErr r P

@@ -1,5 +1,5 @@
--- The headline of the program's run, which begins in the opening state.
-use Rattle.std.specs.Prelude.{ℕ, List, ◌≡◌, Option}
+-- The headline of the program's run, from the state that it starts from.
+use Rattle.std.specs.Prelude.{ℕ, List, [], ◌≡◌, Option}
 use Rattle.std.proofs.Common.{refl, subst, inl}
 use Rattle.djq_io.specs.declared.hub.Listened.TheVariants.{Ready}
 use Rattle.djq_model.specs.Data.{Bytes}
@@ -18,20 +18,21 @@ use Rattle.djq_words.specs.declared.commands.Asked.{Asked}
 use Rattle.djq_words.specs.Asks.{Answers}
 use Rattle.djq.specs.Ends.{Serves, HubSeen, Listens, HubEnds, status_of}
 
-pub serves : (status : Status) (before now : Outside) (start state : State) → start ≡ opening → RunEnds status before now start state → Serves status before now
-serves status before now start state e run =
-    let from_opening : RunEnds status before now opening state = subst (λ (st : State). RunEnds status before now st state) e run in
-    record { state = state; run = from_opening; headline = headline opening before now state from_opening.course refl }
+-- The machine was at the start, and no session is open there.
+pub serves : (status : Status) (before now : Outside) (machine start state : State) → machine ≡ start → start.sessions ≡ [] → RunEnds status before now machine state → Serves start status before now
+serves status before now machine start state e none run =
+    let from_start : RunEnds status before now start state = subst (λ (st : State). RunEnds status before now st state) e run in
+    record { state = state; run = from_start; headline = headline start before now state from_start.course none }
 
 -- out of memory before anything was done
-pub serves_nothing : (o : Outside) → Serves NoMemory o o
-serves_nothing o = serves NoMemory o o opening opening refl (not_begun o opening opening refl)
+pub serves_nothing : (o : Outside) → Serves opening NoMemory o o
+serves_nothing o = serves NoMemory o o opening opening opening refl refl (not_begun o opening opening refl)
 
 -- The hub listened, and the loop served it.
-pub served_hub : (answer : Served) (status : Status) (addr : Bytes) (turns : ℕ) (hub : HubSeen) (ready : Shown) (counted : Counts) (hub' : HubSeen) (counted' : Counts) (start state : State) → start ≡ opening
-    → Listens addr Ready hub.shown ready → ServeEnds answer turns ready counted start hub'.shown counted' state → FaultsCount answer hub.faults hub'.faults → status ≡ status_of answer
-    → HubEnds status addr turns hub counted hub' counted'
-served_hub answer status addr turns hub ready counted hub' counted' start state e listens ends faults is = inl (record {
+pub served_hub : (answer : Served) (status : Status) (addr : Bytes) (turns : ℕ) (hub : HubSeen) (ready : Shown) (counted : Counts) (hub' : HubSeen) (counted' : Counts) (machine start state : State) → machine ≡ start
+    → Listens addr Ready hub.shown ready → ServeEnds answer turns ready counted machine hub'.shown counted' state → FaultsCount answer hub.faults hub'.faults → status ≡ status_of answer
+    → HubEnds start status addr turns hub counted hub' counted'
+served_hub answer status addr turns hub ready counted hub' counted' machine start state e listens ends faults is = inl (record {
   ready = ready;
   listens = listens;
   state = state;

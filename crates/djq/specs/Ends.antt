@@ -30,17 +30,17 @@ use Rattle.djq.specs.Replay.{ReplayEnds}
 abbrev pub usage_line : Bytes
 usage_line = line (codes "usage: djq run | serve ADDR [--turns N] | replay | gen N SEED")
 
--- **The theorem of `run`.** There is a run of the join machine from its opening state to this one.
+-- **The theorem of `run`.** There is a run of the join machine from the start to this state.
 -- The pieces that it was fed are those that were read, in order, and what was read is run and
 -- answered before the next read. What was written and then what is pending is all that it queued,
 -- in order; and where a write failed, nothing was done behind it. No more was counted than it may
 -- cost. At each moment of it each open cursor had given different answers of its query over the rows
 -- that were there then, and all of them where it was told the end. And the status says exactly how
 -- far the run went.
-pub record Serves (status : Status) (before now : Outside) : Type 0 where
+pub record Serves (start : State) (status : Status) (before now : Outside) : Type 0 where
   pub state : State
-  pub run : RunEnds status before now opening state
-  pub headline : Headline opening before now state run.course
+  pub run : RunEnds status before now start state
+  pub headline : Headline start before now state run.course
 
 -- A hub, as the program shows it: what it tells, and its count of faults.
 pub record HubSeen : Type 0 where
@@ -64,15 +64,15 @@ status_of AllTaken = TurnsUsed
 status_of HubFailed = HubFault
 
 -- **The theorem of `serve`.** The hub listened at the address, and then the server served it from
--- the opening state on: by moves that are a run of the join machine, of which the hub tells, with each
+-- the start on: by moves that are a run of the join machine, of which the hub tells, with each
 -- session sent what is its; and the status says exactly why it ended.
-pub record ServesHub (status : Status) (addr : Bytes) (turns : ℕ) (hub : HubSeen) (counted : Counts)
-    (hub' : HubSeen) (counted' : Counts) : Type 0 where
+pub record ServesHub (start : State) (status : Status) (addr : Bytes) (turns : ℕ) (hub : HubSeen)
+    (counted : Counts) (hub' : HubSeen) (counted' : Counts) : Type 0 where
   pub ready : Shown
   pub listens : Listens addr Ready hub.shown ready
   pub state : State
   pub answer : Served
-  pub ends : ServeEnds answer turns ready counted opening hub'.shown counted' state
+  pub ends : ServeEnds answer turns ready counted start hub'.shown counted' state
   pub faults : FaultsCount answer hub.faults hub'.faults
   pub is : status ≡ status_of answer
 
@@ -90,9 +90,9 @@ NothingServed status hub counted hub' counted' = (status ≡ NoMemory) × (hub' 
     × (counted' ≡ counted)
 
 -- How `serve` ends.
-abbrev pub HubEnds : Status → Bytes → ℕ → HubSeen → Counts → HubSeen → Counts → Type 0
-HubEnds status addr turns hub counted hub' counted' =
-    ServesHub status addr turns hub counted hub' counted'
+abbrev pub HubEnds : State → Status → Bytes → ℕ → HubSeen → Counts → HubSeen → Counts → Type 0
+HubEnds start status addr turns hub counted hub' counted' =
+    ServesHub start status addr turns hub counted hub' counted'
     ⊎ (Unheard status addr hub counted hub' counted'
     ⊎ NothingServed status hub counted hub' counted')
 
@@ -132,20 +132,23 @@ is_serve _ = false
 abbrev pub AsksToServe : List Bytes → Type 0
 AsksToServe words = (asked : Asked) × (is_serve asked ≡ true) × Asks words asked
 
--- How the program ends, by what its words ask for.
-abbrev pub EndsAs : Option Asked → Status → Outside → HubSeen → Outside → HubSeen → Type 0
-EndsAs None status before hub now hub' = Explains status before now × (hub' ≡ hub)
-EndsAs (Some Run) status before hub now hub' = Serves status before now × (hub' ≡ hub)
-EndsAs (Some (Serve addr turns)) status before hub now hub' =
-    HubEnds status addr.now turns hub before.counted hub' now.counted × NoTransfer before now
-EndsAs (Some Replay) status before hub now hub' = ReplayEnds status before now × (hub' ≡ hub)
-EndsAs (Some (Gen n seed)) status before hub now hub' =
-    GenEnds status n seed before.writing before.write_faults before.counted now.writing
+-- How the program ends, by what its words ask for and by the state that it starts from.
+abbrev pub EndsAs : State → Option Asked → Status → Outside → HubSeen → Outside → HubSeen → Type 0
+EndsAs start None status before hub now hub' = Explains status before now × (hub' ≡ hub)
+EndsAs start (Some Run) status before hub now hub' =
+    Serves start status before now × (hub' ≡ hub)
+EndsAs start (Some (Serve addr turns)) status before hub now hub' =
+    HubEnds start status addr.now turns hub before.counted hub' now.counted × NoTransfer before now
+EndsAs start (Some Replay) status before hub now hub' =
+    ReplayEnds start status before now × (hub' ≡ hub)
+EndsAs start (Some (Gen n seed)) status before hub now hub' =
+    GenEnds start status n seed before.writing before.write_faults before.counted now.writing
     now.write_faults now.counted × NoneRead before now × (hub' ≡ hub)
 
--- How the program ends, by the words of its command line: as what they ask for, and as no command
--- where they ask for nothing; or out of memory before they were read.
+-- How the program ends, by the words of its command line: as what they ask for, from the state in
+-- which nothing has happened, and as no command where they ask for nothing; or out of memory before
+-- they were read.
 abbrev pub ProgramEnds : Status → List Bytes → Outside → HubSeen → Outside → HubSeen → Type 0
 ProgramEnds status words before hub now hub' =
-    ((asked : Option Asked) × Answers words asked × EndsAs asked status before hub now hub')
+    ((asked : Option Asked) × Answers words asked × EndsAs opening asked status before hub now hub')
     ⊎ ((status ≡ NoMemory) × (now ≡ before) × (hub' ≡ hub))

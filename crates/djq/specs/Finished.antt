@@ -1,8 +1,9 @@
 -- What a cursor that was told the end has listed.
 use Rattle.std.specs.Prelude.{List, ◌≡◌, true, IsSomeAnd, Contains}
-use Rattle.djq_model.specs.Data.{Tuple, query_of}
-use Rattle.djq_model.specs.Answer.{IsAnswer, IsListing}
-use Rattle.djq_machine.specs.State.{State, Session, Cursor, open_at, opening}
+use Rattle.djq_model.specs.Data.{Tuple}
+use Rattle.djq_model.specs.Answer.{IsListing}
+use Rattle.djq_model.specs.Listed.{AnswersOf, listed_of}
+use Rattle.djq_machine.specs.State.{State, Session, Cursor, open_at}
 use Rattle.djq_laws.specs.Course.{Outside}
 use Rattle.djq_laws.specs.Given.{PassedThrough}
 use Rattle.djq_run.specs.declared.status.Status.{Status}
@@ -12,9 +13,10 @@ use Rattle.djq.specs.Ends.{Serves}
 -- given a listing of its query: each answer over the rows that were there then, once, and nothing
 -- else.
 abbrev pub FinishedCursors : Type 0
-FinishedCursors = (status : Status) (before now : Outside) (serves : Serves status before now)
-    → (mid : State) → PassedThrough opening serves.run.course.done mid serves.state
+FinishedCursors = (start : State) (status : Status) (before now : Outside)
+    (serves : Serves start status before now)
+    → (mid : State) → PassedThrough start serves.run.course.done mid serves.state
     → (x : Session) → Contains mid.sessions x
     → (c : Cursor) → Contains x.cursors c
     → (given : List Tuple) → c.position ≡ open_at given true
-    → IsSomeAnd (query_of mid.store.queries c.query) (λ q. IsListing (IsAnswer mid.store.relations q) given)
+    → IsSomeAnd (listed_of mid.store.queries c.query) (λ q. IsListing (AnswersOf mid.store.relations q) given)

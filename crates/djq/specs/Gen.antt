@@ -2,7 +2,7 @@
 use Rattle.std.specs.Prelude.{ℕ, List, ◌≡◌, ◌++◌, ◌⊎◌, Option, length, codes, decimal}
 use Rattle.djq_io.specs.declared.sink.Write.{Write}
 use Rattle.djq_model.specs.Data.{Bytes, rows_of}
-use Rattle.djq_machine.specs.State.{State, opening}
+use Rattle.djq_machine.specs.State.{State}
 use Rattle.djq_machine.specs.Call.{Counts}
 use Rattle.djq_run.specs.declared.status.Status.{Status}
 use Rattle.djq_run.specs.declared.status.Status.TheVariants.{Done, NoMemory, TurnsUsed}
@@ -25,35 +25,36 @@ summary st totals =
     ++ codes "\nsum " ++ decimal totals.sum
     ++ codes "\n"
 
--- **The theorem of `gen`.** From the opening state on, a run of the join machine fed one session the
+-- **The theorem of `gen`.** From the start on, a run of the join machine fed one session the
 -- lines of the load, and then those that list the answers of its query until the end is told; the
 -- session hasn't ended; the totals are those of the query over the rows that are there then; and
 -- this text is the summary of it.
-pub record Generates (n seed : ℕ) (counted counted' : Counts) (text : Bytes) : Type 0 where
+pub record Generates (start : State) (n seed : ℕ) (counted counted' : Counts) (text : Bytes)
+    : Type 0 where
   pub state : State
   pub totals : Totals
-  pub runs : RunsLoad n seed totals opening counted state counted'
+  pub runs : RunsLoad n seed totals start counted state counted'
   pub is : text ≡ summary state totals
 
--- From the opening state on, a run that stops short: its query has more answers than may be read.
-abbrev pub HasTooMany : ℕ → ℕ → Counts → Counts → Type 0
-HasTooMany n seed counted counted' =
-    (state : State) × StopsShort n seed opening counted state counted'
+-- From the start on, a run that stops short: its query has more answers than may be read.
+abbrev pub HasTooMany : State → ℕ → ℕ → Counts → Counts → Type 0
+HasTooMany start n seed counted counted' =
+    (state : State) × StopsShort n seed start counted state counted'
 
--- From the opening state on, a run out of memory, which was fed a first part of the lines; or all of
+-- From the start on, a run out of memory, which was fed a first part of the lines; or all of
 -- them, and no summary is made. It counted no more of listings than it may cost.
-abbrev pub LoadsUntold : ℕ → ℕ → Counts → Counts → Type 0
-LoadsUntold n seed counted counted' = (state : State)
-    × (RunsOut n seed opening counted state counted'
-    ⊎ ((totals : Totals) × RunsLoad n seed totals opening counted state counted'))
+abbrev pub LoadsUntold : State → ℕ → ℕ → Counts → Counts → Type 0
+LoadsUntold start n seed counted counted' = (state : State)
+    × (RunsOut n seed start counted state counted'
+    ⊎ ((totals : Totals) × RunsLoad n seed totals start counted state counted'))
 
 -- The summary was written; or a first part of it, where a write failed; or nothing was, as memory
 -- was wanted, or as the answers are too many to read.
-abbrev pub GenEnds : Status → ℕ → ℕ → Option (List Write) → ℕ → Counts → Option (List Write) → ℕ
-    → Counts → Type 0
-GenEnds status n seed writing faults counted writing' faults' counted' =
-    ((text : Bytes) × Generates n seed counted counted' text
+abbrev pub GenEnds : State → Status → ℕ → ℕ → Option (List Write) → ℕ → Counts → Option (List Write)
+    → ℕ → Counts → Type 0
+GenEnds start status n seed writing faults counted writing' faults' counted' =
+    ((text : Bytes) × Generates start n seed counted counted' text
     × Written status Done text writing faults writing' faults')
-    ⊎ ((((status ≡ NoMemory) × LoadsUntold n seed counted counted')
-    ⊎ ((status ≡ TurnsUsed) × HasTooMany n seed counted counted'))
+    ⊎ ((((status ≡ NoMemory) × LoadsUntold start n seed counted counted')
+    ⊎ ((status ≡ TurnsUsed) × HasTooMany start n seed counted counted'))
     × (writing' ≡ writing) × (faults' ≡ faults))

@@ -11,7 +11,7 @@ use Rattle.djq_io.specs.SteadyHub.{has_gone}
 use Rattle.djq_io.specs.declared.hub.Coming.{Coming}
 use Rattle.djq_io.specs.declared.hub.Told.{Told}
 use Rattle.djq_model.specs.Data.{Bytes}
-use Rattle.djq_machine.specs.State.{State, opening}
+use Rattle.djq_machine.specs.State.{State}
 use Rattle.djq_machine.specs.Call.{Counts}
 use Rattle.djq_laws.specs.declared.limits.TheConstants.{MOST_READS}
 use Rattle.djq_laws.specs.Course.{Outside}
@@ -65,44 +65,45 @@ IsWhole Over = Unit {0}
 IsWhole AllTaken = ⊥
 IsWhole HubFailed = ⊥
 
--- The hub of these turns was served from the opening state on, until it was over or a session said
+-- The hub of these turns was served from the start on, until it was over or a session said
 -- `stop`: by moves that are a run of the join machine, which counted no more of listings than it may
 -- cost, with each session sent what is its. The hub tells what is left of its turns, so each turn
 -- that was taken is the next of these. At the end it tells this past.
-pub record Plays (turns : List Coming) (most : ℕ) (counted counted' : Counts)
+pub record Plays (start : State) (turns : List Coming) (most : ℕ) (counted counted' : Counts)
     (past : Option (List Told)) : Type 0 where
   pub left : Script
   pub ids : Ids
   pub state : State
   pub answer : Served
-  pub ends : ServeEnds answer most (hub_of turns) counted opening (shown past (Some left) ids)
+  pub ends : ServeEnds answer most (hub_of turns) counted start (shown past (Some left) ids)
       counted' state
   pub whole : IsWhole answer
 
 -- **The theorem of `replay`.** The hub of these turns was served, and tells all calls that it was
 -- asked. No send among them found its session gone: so each took all that was offered, unless the
 -- session was blocked. And this text is the lines that were sent.
-pub record Replays (turns : List Coming) (most : ℕ) (counted counted' : Counts) (text : Bytes)
-    : Type 0 where
+pub record Replays (start : State) (turns : List Coming) (most : ℕ) (counted counted' : Counts)
+    (text : Bytes) : Type 0 where
   pub told : List Told
-  pub plays : Plays turns most counted counted' (Some told)
+  pub plays : Plays start turns most counted counted' (Some told)
   pub none_gone : has_gone told ≡ false
   pub sent : text ≡ sent_text told
 
 -- What is to be written for a schedule: the line that says which of its lines is the first outside
 -- the grammar, and nothing is run; or what was sent, where none is. It is served for one turn more
 -- than it has lines.
-abbrev pub ComesTo : Result (List Coming) ℕ → Bytes → Counts → Counts → Bytes → Type 0
-ComesTo (Err n) bytes counted counted' text = (text ≡ outside_line n) × (counted' ≡ counted)
-ComesTo (Ok turns) bytes counted counted' text =
-    Replays turns (length (lines_of bytes) + 1) counted counted' text
+abbrev pub ComesTo : State → Result (List Coming) ℕ → Bytes → Counts → Counts → Bytes → Type 0
+ComesTo start (Err n) bytes counted counted' text = (text ≡ outside_line n) × (counted' ≡ counted)
+ComesTo start (Ok turns) bytes counted counted' text =
+    Replays start turns (length (lines_of bytes) + 1) counted counted' text
 
 -- What was done for a schedule where memory was wanted: nothing was counted; or its hub was served
 -- all the same, and what was sent couldn't be told.
-abbrev pub LacksMemory : Result (List Coming) ℕ → Bytes → Counts → Counts → Type 0
-LacksMemory (Err n) bytes counted counted' = counted' ≡ counted
-LacksMemory (Ok turns) bytes counted counted' = (counted' ≡ counted)
-    ⊎ ((past : Option (List Told)) × Plays turns (length (lines_of bytes) + 1) counted counted' past)
+abbrev pub LacksMemory : State → Result (List Coming) ℕ → Bytes → Counts → Counts → Type 0
+LacksMemory start (Err n) bytes counted counted' = counted' ≡ counted
+LacksMemory start (Ok turns) bytes counted counted' = (counted' ≡ counted)
+    ⊎ ((past : Option (List Told))
+    × Plays start turns (length (lines_of bytes) + 1) counted counted' past)
 
 -- the status of a schedule whose text was written
 abbrev pub status_for : Result (List Coming) ℕ → Status
@@ -120,19 +121,19 @@ Written status whole text writing faults writing' faults' =
 
 -- What a schedule comes to was written; or memory was wanted, and nothing was. In both cases no more
 -- was counted of listings than the run of the schedule may cost.
-abbrev pub WritesFor : Status → Bytes → Option (List Write) → ℕ → Counts → Option (List Write) → ℕ
-    → Counts → Type 0
-WritesFor status bytes writing faults counted writing' faults' counted' =
-    ((text : Bytes) × ComesTo (turns_of bytes) bytes counted counted' text
+abbrev pub WritesFor : State → Status → Bytes → Option (List Write) → ℕ → Counts
+    → Option (List Write) → ℕ → Counts → Type 0
+WritesFor start status bytes writing faults counted writing' faults' counted' =
+    ((text : Bytes) × ComesTo start (turns_of bytes) bytes counted counted' text
     × Written status (status_for (turns_of bytes)) text writing faults writing' faults')
-    ⊎ ((status ≡ NoMemory) × LacksMemory (turns_of bytes) bytes counted counted'
+    ⊎ ((status ≡ NoMemory) × LacksMemory start (turns_of bytes) bytes counted counted'
     × (writing' ≡ writing) × (faults' ≡ faults))
 
 -- The whole schedule was read, and then written of.
-pub record WritesWhole (status : Status) (before now : Outside) : Type 0 where
+pub record WritesWhole (start : State) (status : Status) (before now : Outside) : Type 0 where
   pub bytes : Bytes
   pub reads : ReadsWhole before.reading now.reading before.read_faults now.read_faults bytes
-  pub writes : WritesFor status bytes before.writing before.write_faults before.counted now.writing
+  pub writes : WritesFor start status bytes before.writing before.write_faults before.counted now.writing
       now.write_faults now.counted
 
 -- Reading stopped before the end: nothing is run or written.
@@ -143,5 +144,5 @@ pub record Stops (status : Status) (before now : Outside) : Type 0 where
   pub none_counted : now.counted ≡ before.counted
 
 -- How `replay` ends.
-abbrev pub ReplayEnds : Status → Outside → Outside → Type 0
-ReplayEnds status before now = WritesWhole status before now ⊎ Stops status before now
+abbrev pub ReplayEnds : State → Status → Outside → Outside → Type 0
+ReplayEnds start status before now = WritesWhole start status before now ⊎ Stops status before now

@@ -1,4 +1,5 @@
 ghost use Rattle.std.specs.Prelude.{◌≡◌, ◌++◌, Err, IfOk, OnOk, decimal};
+ghost use Rattle.djq_machine.specs.State.{opening};
 ghost use Rattle.djq_machine.specs.Call.{counts};
 ghost use Rattle.djq_load.specs.declared.loading.LoadRefusal.TheVariants.{NoMem, TooMany};
 ghost use Rattle.djq.specs.Gen.{summary, Generates, HasTooMany, LoadsUntold, GenEnds};
@@ -24,7 +25,7 @@ pub(crate) fn generate<K: Sink, L: Ledgers>(
     sink: &mut K,
     steps: &mut Steps<L>,
 ) -> Status
-    ensures { GenEnds result n seed (K.told sink.old) (K.faults sink.old)
+    ensures { GenEnds opening result n seed (K.told sink.old) (K.faults sink.old)
         (counts steps.old.listing steps.old.update steps.old.rows) (K.told sink.new)
         (K.faults sink.new) (counts steps.new.listing steps.new.update steps.new.rows) }
 {
@@ -42,13 +43,13 @@ fn summarize<L: Ledgers>(
     seed: u32,
     steps: &mut Steps<L>,
 ) -> Result<Vec<u8>, LoadRefusal>
-    ensures text { IfOk result (λ text. Generates n seed
+    ensures text { IfOk result (λ text. Generates opening n seed
         (counts steps.old.listing steps.old.update steps.old.rows)
         (counts steps.new.listing steps.new.update steps.new.rows) text.items) }
-    ensures short { result ≡ Err TooMany → HasTooMany n seed
+    ensures short { result ≡ Err TooMany → HasTooMany opening n seed
         (counts steps.old.listing steps.old.update steps.old.rows)
         (counts steps.new.listing steps.new.update steps.new.rows) }
-    ensures memory { result ≡ Err NoMem → LoadsUntold n seed
+    ensures memory { result ≡ Err NoMem → LoadsUntold opening n seed
         (counts steps.old.listing steps.old.update steps.old.rows)
         (counts steps.new.listing steps.new.update steps.new.rows) }
 {

@@ -13,6 +13,7 @@ mod laws;
 mod load;
 mod program;
 mod replay;
+mod telling;
 #[cfg(test)]
 mod tests;
 
@@ -28,6 +29,7 @@ use std::alloc::AllocError;
 use std::marker::Brand;
 use std::process::ExitCode;
 use std::{env, io};
+use telling::Telling;
 
 fn main(rt: HostRuntime) -> ExitCode {
     let status = start::<Brand>(&rt, Blanks::new(&rt)).unwrap_or(Status::NoMemory);
@@ -35,17 +37,16 @@ fn main(rt: HostRuntime) -> ExitCode {
     ExitCode::from(status.number())
 }
 
-/// Says on standard error why the program ends so. What failed at the hub it has said itself.
+/// Says on standard error why the program ends so. What failed at the hub or at a standard stream they have said
+/// themselves, with the system's reason.
 fn say_why(rt: &HostRuntime, status: Status) {
     let reason = match status {
-        Status::Done | Status::HubFault => return,
+        Status::Done | Status::HubFault | Status::ReadFault | Status::WriteFault => return,
         Status::Schedule(line) => {
             let _ = eprintln!(rt; "djq: line {line} of the schedule is outside its grammar");
             return;
         }
         Status::Usage => "these words are no command",
-        Status::ReadFault => "the standard input can't be read",
-        Status::WriteFault => "the standard output can't be written",
         Status::TurnsUsed => "all turns were taken",
         Status::NoMemory => "out of memory",
         Status::SessionEnded =>
@@ -66,8 +67,8 @@ fn start<L: Ledgers>(rt: &HostRuntime, blanks: Blanks) -> Result<Status, AllocEr
     Ok(run_program(
         alloc,
         &words,
-        &mut StdSource::new(rt.reader()),
-        &mut StdSink::new(io::writer(rt)),
+        &mut StdSource::new(Telling::new(rt.reader(), *rt)),
+        &mut StdSink::new(Telling::new(io::writer(rt), *rt)),
         &mut TcpHub::new(*rt, alloc)?,
         &mut Steps::<L>::new(rt, blanks),
     ))

@@ -1,5 +1,6 @@
 ghost use Rattle.std.specs.Prelude.{◌≡◌, ℕ, [], Option, map};
 ghost use Rattle.djq_io.specs.Source.{Reading};
+ghost use Rattle.djq_machine.specs.State.{opening};
 ghost use Rattle.djq_machine.specs.Call.{Counts, counts};
 ghost use Rattle.djq_laws.specs.Course.{outside};
 ghost use Rattle.djq_serve.specs.Told.{shown};
@@ -64,7 +65,7 @@ fn serve_source<S: Source, K: Sink, L: Ledgers>(
     sink: &mut K,
     steps: &mut Steps<L>,
 ) -> Status
-    ensures { Serves result
+    ensures { Serves opening result
         (outside (S.told source.old) (S.faults source.old) (K.told sink.old) (K.faults sink.old)
         (counts steps.old.listing steps.old.update steps.old.rows))
         (outside (S.told source.new) (S.faults source.new) (K.told sink.new) (K.faults sink.new)
@@ -89,7 +90,7 @@ fn serve_hub<H: Hub, L: Ledgers>(
     steps: &mut Steps<L>,
 ) -> Status
     requires { (H.ids hub.old).open_ids ≡ [] }
-    ensures { HubEnds result addr.now turns
+    ensures { HubEnds opening result addr.now turns
         (hub_seen (shown (H.past hub.old) (H.script hub.old) (H.ids hub.old)) (H.faults hub.old))
         (counts steps.old.listing steps.old.update steps.old.rows)
         (hub_seen (shown (H.past hub.new) (H.script hub.new) (H.ids hub.new)) (H.faults hub.new))

@@ -1,5 +1,6 @@
 ghost use Rattle.std.specs.Prelude.{◌≡◌, ℕ, List, ◌+◌, ◌<◌, length, Option, Ok, IfOk, OnErr, MatchResult};
 ghost use Rattle.djq_io.specs.Source.{Reading};
+ghost use Rattle.djq_machine.specs.State.{opening};
 ghost use Rattle.djq_machine.specs.Call.{counts};
 ghost use Rattle.djq_laws.specs.Course.{outside};
 ghost use Rattle.djq_schedule.specs.Schedule.{lines_of};
@@ -25,7 +26,7 @@ pub(crate) fn replay<S: Source, K: Sink, L: Ledgers>(
     sink: &mut K,
     steps: &mut Steps<L>,
 ) -> Status
-    ensures { ReplayEnds result
+    ensures { ReplayEnds opening result
         (outside (S.told source.old) (S.faults source.old) (K.told sink.old) (K.faults sink.old)
         (counts steps.old.listing steps.old.update steps.old.rows))
         (outside (S.told source.new) (S.faults source.new) (K.told sink.new) (K.faults sink.new)
@@ -86,7 +87,7 @@ fn replay_schedule<K: Sink, L: Ledgers>(
     sink: &mut K,
     steps: &mut Steps<L>,
 ) -> Status
-    ensures { WritesFor result bytes.now (K.told sink.old) (K.faults sink.old)
+    ensures { WritesFor opening result bytes.now (K.told sink.old) (K.faults sink.old)
         (counts steps.old.listing steps.old.update steps.old.rows) (K.told sink.new)
         (K.faults sink.new) (counts steps.new.listing steps.new.update steps.new.rows) }
 {
@@ -113,11 +114,11 @@ fn make_text<L: Ledgers>(
     bytes: &[u8],
     steps: &mut Steps<L>,
 ) -> Result<(Vec<u8>, Status), AllocError>
-    ensures text { IfOk result (λ made. ComesTo (turns_of bytes.now) bytes.now
+    ensures text { IfOk result (λ made. ComesTo opening (turns_of bytes.now) bytes.now
         (counts steps.old.listing steps.old.update steps.old.rows)
         (counts steps.new.listing steps.new.update steps.new.rows) made.0.items) }
     ensures status { IfOk result (λ made. made.1 ≡ status_for (turns_of bytes.now)) }
-    ensures memory { OnErr result (LacksMemory (turns_of bytes.now) bytes.now
+    ensures memory { OnErr result (LacksMemory opening (turns_of bytes.now) bytes.now
         (counts steps.old.listing steps.old.update steps.old.rows)
         (counts steps.new.listing steps.new.update steps.new.rows)) }
 {
@@ -138,10 +139,11 @@ fn serve_schedule<L: Ledgers>(
     steps: &mut Steps<L>,
 ) -> Result<Vec<u8>, AllocError>
     requires { IsMade bytes.now hub }
-    ensures text { IfOk result (λ text. Replays hub.script.turns (length (lines_of bytes.now) + 1)
+    ensures text { IfOk result (λ text. Replays opening hub.script.turns
+        (length (lines_of bytes.now) + 1)
         (counts steps.old.listing steps.old.update steps.old.rows)
         (counts steps.new.listing steps.new.update steps.new.rows) text.items) }
-    ensures memory { OnErr result (LacksMemory (Ok hub.script.turns) bytes.now
+    ensures memory { OnErr result (LacksMemory opening (Ok hub.script.turns) bytes.now
         (counts steps.old.listing steps.old.update steps.old.rows)
         (counts steps.new.listing steps.new.update steps.new.rows)) }
 {

@@ -13,6 +13,10 @@ pub record Rows : Type 0 where
   pub room : ℕ
   pub rows : List Row
 
+-- each slot holds a row: none is free
+abbrev pub IsFull : Rows → Type 0
+IsFull a = length a.rows ≡ a.room
+
 -- the slots of the rows
 unfoldable pub slots : List Row → List ℕ
 slots rows = map (λ r. r.slot) rows

@@ -1,6 +1,6 @@
-ghost use Rattle.std.specs.Prelude.{◌≡◌, ℕ, ◌+◌, ◌<◌, ◌≤◌, ◌==◌, max, List, [], ◌∷◌, ◌++◌, length, IfOk, OnErr, MatchOption};
+ghost use Rattle.std.specs.Prelude.{◌≡◌, ◌↔◌, IsTrue, ℕ, ◌+◌, ◌<◌, ◌≤◌, ◌==◌, max, List, [], ◌∷◌, ◌++◌, length, IfOk, OnErr, MatchOption};
 ghost use Rattle.djq_arena.specs.Chains.{first_of, last_of};
-ghost use Rattle.djq_arena.specs.Rows.{Row, slots, IsAbsent, IsRow, IsHeld, AreRows};
+ghost use Rattle.djq_arena.specs.Rows.{Row, slots, IsAbsent, IsRow, IsHeld, IsFull, AreRows};
 
 use crate::store::{Store, cells_in, empty, find, newer, older, push_row, remove_row, renew_row};
 use std::alloc::{AllocError, Global};
@@ -71,6 +71,13 @@ impl Arena {
         self.store.order.len()
     }
 
+    /// Whether no slot is free.
+    pub fn is_full(&self) -> bool
+        ensures { IsTrue result ↔ IsFull self.now }
+    {
+        self.len() == self.room()
+    }
+
     /// The slot of a row with these cells; none exactly where there is no such row.
     pub fn find(&self, cells: &[u64]) -> Option<u32>
         ensures { MatchOption result (IsAbsent self.now.rows cells.now) (λ slot. IsRow self.now.rows slot cells.now) }
@@ -78,14 +85,17 @@ impl Arena {
         find(&self.store, cells)
     }
 
-    /// Puts in a row behind all others. It fails only out of memory, and then all stays as it was.
+    /// Puts in a row behind all others, into a free slot if there is one. It fails only out of memory and
+    /// where no slot is free, and then all stays as it was.
     pub fn push(&mut self, cells: &[u64]) -> Result<u32, AllocError>
         requires wide { length cells.now ≡ self.old.width }
         requires few { length self.old.rows < 4294967295 }
         ensures pushed { IfOk result (λ slot. self.new.rows ≡ self.old.rows ++ record { slot = slot; cells = cells.now } ∷ []) }
         ensures room { IfOk result (λ slot. self.new.room ≡ max self.old.room (slot + 1)) }
         ensures slot { IfOk result (λ slot. slot ≤ self.old.room) }
+        ensures reused { IfOk result (λ slot. ¬ IsFull self.old → slot < self.old.room) }
         ensures refused { OnErr result (self.new ≡ self.old) }
+        ensures full { OnErr result (IsFull self.old) }
         ensures width { self.new.width ≡ self.old.width }
     {
         push_row(&mut self.store, self.alloc, cells)

@@ -1,4 +1,4 @@
-ghost use Rattle.std.specs.Prelude.{◌≡◌, ◌+◌, ◌*◌, ◌<◌, ◌≤◌, ◌++◌, ◌∷◌, [], length, take, drop, slice_index_or, Some, None, ℕ, IfOk, OnErr, replicate, IsTrue, ◌↔◌, MatchOption, List, max};
+ghost use Rattle.std.specs.Prelude.{◌≡◌, ◌≢◌, ◌+◌, ◌*◌, ◌<◌, ◌≤◌, ◌++◌, ◌∷◌, [], length, take, drop, slice_index_or, Some, None, ℕ, IfOk, OnErr, replicate, IsTrue, ◌↔◌, MatchOption, List, max};
 ghost use Rattle.djq_arena.specs.Rows.{Row, slots, IsAbsent, IsRow, IsHeld};
 ghost use Rattle.djq_arena.specs.Store.{mixed, hash, unheaded, class, cells_at, Enlists, IsPrepared, IsPut, IsTaken, IsRenewed, IsSound, IsLoose, IsLinked, IsUnlinked, IsSame, IsReleased, IsTidy, Holds, SameRows, live_of, rows_of};
 ghost use Rattle.djq_arena.specs.Chains.{IsWithin, first_of, last_of};
@@ -262,26 +262,29 @@ fn grow(store: &mut Store, alloc: Global) -> Result<(), AllocError>
     Ok(())
 }
 
-/// Twice as many buckets, where there are no more buckets than rows.
+/// Twice as many buckets, where no slot is free and there are no more buckets than rows.
 fn make_room(store: &mut Store, alloc: Global) -> Result<(), AllocError>
     requires { IsSound store.old }
-    ensures { IsSame store.old store.new }
+    ensures same { IsSame store.old store.new }
+    ensures full { OnErr result (store.old.spare ≡ 0) }
 {
-    if store.heads.len() <= store.len as usize {
+    if store.spare == 0 && store.heads.len() <= store.len as usize {
         grow(store, alloc)
     } else {
         Ok(())
     }
 }
 
-/// Writes a row into a slot that holds none.
+/// Writes a row into a slot that holds none: a free one, if there is one.
 fn prepare(store: &mut Store, cells: &[u64]) -> Result<u32, AllocError>
     requires sound { IsSound store.old }
     requires tidy { IsTidy store.old }
     requires wide { length cells.now ≡ store.old.width }
     requires few { store.old.len < 4294967295 }
     ensures prepared { IfOk result (λ slot. IsPrepared store.old store.new slot cells.now) }
+    ensures reused { IfOk result (λ slot. store.old.spare ≢ 0 → slot < length store.old.order.items) }
     ensures refused { OnErr result (IsSame store.old store.new) }
+    ensures full { OnErr result (store.old.spare ≡ 0) }
 {
     match store.free.last.get() {
         Some(slot) => {
@@ -299,7 +302,9 @@ pub fn put(store: &mut Store, alloc: Global, cells: &[u64]) -> Result<u32, Alloc
     requires wide { length cells.now ≡ store.old.width }
     requires few { store.old.len < 4294967295 }
     ensures put { IfOk result (λ slot. IsPut store.old store.new slot cells.now) }
+    ensures reused { IfOk result (λ slot. store.old.spare ≢ 0 → slot < length store.old.order.items) }
     ensures refused { OnErr result (IsSame store.old store.new) }
+    ensures full { OnErr result (store.old.spare ≡ 0) }
 {
     make_room(store, alloc)?;
     let slot = prepare(store, cells)?;
@@ -362,7 +367,9 @@ pub fn push_row(store: &mut Store, alloc: Global, cells: &[u64]) -> Result<u32, 
     ensures pushed { IfOk result (λ slot. rows_of store.new ≡ rows_of store.old ++ record { slot = slot; cells = cells.now } ∷ []) }
     ensures room { IfOk result (λ slot. length store.new.order.items ≡ max (length store.old.order.items) (slot + 1)) }
     ensures slot { IfOk result (λ slot. slot ≤ length store.old.order.items) }
+    ensures reused { IfOk result (λ slot. length (rows_of store.old) ≢ length store.old.order.items → slot < length store.old.order.items) }
     ensures refused { OnErr result (SameRows store.old store.new) }
+    ensures full { OnErr result (length (rows_of store.old) ≡ length store.old.order.items) }
     ensures width { store.new.width ≡ store.old.width }
 {
     match put(store, alloc, cells) {

@@ -52,11 +52,13 @@ fn keeps_rows_in_order(rt: HostRuntime) -> Result<(), Fail> {
     let mut arena = filled(rt.alloc(), 100)?;
     assert_eq!(rt; arena.len(), 100);
     assert_eq!(rt; arena.room(), 100);
+    assert!(rt; arena.is_full());
     assert!(rt; neighbours(&arena, &[50, 50]) == Some((Some(49), Some(51))));
     assert!(rt; renew(&mut arena, &[50, 50]));
     assert!(rt; neighbours(&arena, &[50, 50]) == Some((Some(99), None)));
     assert!(rt; neighbours(&arena, &[51, 51]) == Some((Some(49), Some(52))));
     assert!(rt; take(&mut arena, &[0, 0]));
+    assert!(rt; !arena.is_full());
     assert!(rt; !take(&mut arena, &[0, 0]));
     assert!(rt; arena.first() == Some(1));
     assert!(rt; arena.last() == Some(50));

@@ -4,8 +4,8 @@ use Rattle.std.specs.Prelude.{⊤, All, MatchOption, Contains, IsSome, IsSomeAnd
 use Rattle.std.proofs.lemmas.Bool.{cond-true, cond-false, lt-ltb}
 use Rattle.std.proofs.lemmas.List.Elements.{All-contains, All-head, All-tail}
 use Rattle.djq_deltas.proofs.Lists.{first_there, later_there}
-use Rattle.djq_model.specs.declared.query.Query.{Query}
 use Rattle.djq_model.specs.Data.{Bytes}
+use Rattle.djq_model.specs.Listed.{Listed, listed_name}
 use Rattle.djq_lines.specs.Reply.{text_of}
 use Rattle.djq_machine.specs.Walk.{Walk}
 use Rattle.djq_machine.specs.Delta.{Change, delta_lines}
@@ -20,11 +20,11 @@ use Rattle.djq_core.specs.Telling.{KeepsTold, Prints, GoesOnTelling, TellsQuery,
 use Rattle.djq_core.proofs.Spreading.{Reaches, reaches_on, TellsSoFar, told_all, nobody_reaches, goes_on_on, goes_on_same}
 
 -- what was printed is the delta, where the log tells it
-pub printed : (k : Kept) (id : QueryId) (q : Bytes) (whole : Bool) (text : Bytes) (d : Delta) → Prints k id q whole [] text → d.query.name ≡ q
-    → (told_at k id ≡ None) ⊎ (told_at k id ≡ Some d.changes) → whole ≡ true → text ≡ text_of (delta_lines d.query.name d.changes (k.store).seq)
+pub printed : (k : Kept) (id : QueryId) (q : Bytes) (whole : Bool) (text : Bytes) (d : Delta) → Prints k id q whole [] text → (listed_name d.query) ≡ q
+    → (told_at k id ≡ None) ⊎ (told_at k id ≡ Some d.changes) → whole ≡ true → text ≡ text_of (delta_lines (listed_name d.query) d.changes (k.store).seq)
 printed k id q whole text d p same logs v = by logs
   where
-    by : (told_at k id ≡ None) ⊎ (told_at k id ≡ Some d.changes) → text ≡ text_of (delta_lines d.query.name d.changes (k.store).seq)
+    by : (told_at k id ≡ None) ⊎ (told_at k id ≡ Some d.changes) → text ≡ text_of (delta_lines (listed_name d.query) d.changes (k.store).seq)
     by (inl e) = absurd (subst (λ (o : Option (List Change)). MatchOption o ⊥ (λ changes. text ≡ text_of (delta_lines q changes (k.store).seq))) e (p v))
     by (inr e) =
         subst (λ (o : Option (List Change)). MatchOption o ⊥ (λ changes. text ≡ text_of (delta_lines q changes (k.store).seq))) e (p v)
@@ -78,7 +78,7 @@ passes old xs r left deltas k ys h a =
       reaches = a.reaches;
     }
 
-first_query : (q : Query) (qs : List Query) (p : Query) (ps : List Query) → q ∷ qs ≡ p ∷ ps → (q ≡ p) × (qs ≡ ps)
+first_query : (q : Listed) (qs : List Listed) (p : Listed) (ps : List Listed) → q ∷ qs ≡ p ∷ ps → (q ≡ p) × (qs ≡ ps)
 first_query q qs p ps e = (cc (e), cc (e))
 
 -- one that was watched is told
@@ -193,13 +193,13 @@ has_query (Some r) h = (r, refl)
 
 -- how many watch it
 pub watchers_of : (k : Kept) (xs : List OpenSession) (id : QueryId) (r : Registered) (n : ℕ) → IsSound k xs → registered_at k.registered id ≡ Some r
-    → IsSomeAnd (registered_at k.registered id) (λ r. n ≡ r.watchers) → n ≡ watchers_in xs r.query.name
+    → IsSomeAnd (registered_at k.registered id) (λ r. n ≡ r.watchers) → n ≡ watchers_in xs (listed_name r.query)
 watchers_of k xs id r n sound e h =
     subst (λ (o : Option Registered). IsSomeAnd o (λ q. n ≡ q.watchers)) e h ∙ sound.counted.counted r (at_there k.registered id r e)
 
 -- its name
-pub name_of : (k : Kept) (id : QueryId) (r : Registered) (q : Bytes) → registered_at k.registered id ≡ Some r → IsSomeAnd (registered_at k.registered id) (λ r. q ≡ r.query.name) → q ≡ r.query.name
-name_of k id r q e h = subst (λ (o : Option Registered). IsSomeAnd o (λ x. q ≡ x.query.name)) e h
+pub name_of : (k : Kept) (id : QueryId) (r : Registered) (q : Bytes) → registered_at k.registered id ≡ Some r → IsSomeAnd (registered_at k.registered id) (λ r. q ≡ (listed_name r.query)) → q ≡ (listed_name r.query)
+name_of k id r q e h = subst (λ (o : Option Registered). IsSomeAnd o (λ x. q ≡ (listed_name x.query))) e h
 
 pub still_registered : (old k : Kept) (id : QueryId) → KeepsTold old k → IsRegistered old id → IsRegistered k id
 still_registered old k id kept h =
@@ -238,7 +238,7 @@ told_then old k r d id kept same log =
 
 -- one more of the affected queries
 pub affected_more : (old k new : Kept) (xs ys zs : List OpenSession) (nth : ℕ) (id : QueryId) → IsSound old xs → AffectedSoFar old xs nth k ys → IsRegistered k id
-    → slice_get k.affected nth ≡ Some id → ((r : Registered) → registered_at k.registered id ≡ Some r → TellsQuery k id r.query.name ys new zs) → AffectedSoFar old xs (suc nth) new zs
+    → slice_get k.affected nth ≡ Some id → ((r : Registered) → registered_at k.registered id ≡ Some r → TellsQuery k id (listed_name r.query) ys new zs) → AffectedSoFar old xs (suc nth) new zs
 affected_more old k new xs ys zs nth id sound so there at told =
     let r = has_query (registered_at k.registered id) there in
     let t = told r.0 r.1 in
@@ -248,7 +248,7 @@ affected_more old k new xs ys zs nth id sound so there at told =
     }
   where
     one : (readers : List Registered) (deltas : List Delta) → AreAffected old readers deltas → (r : Registered) → registered_at k.registered id ≡ Some r
-        → TellsQuery k id r.query.name ys new zs → IsLeft old xs (drop (suc nth) readers) deltas new zs
+        → TellsQuery k id (listed_name r.query) ys new zs → IsLeft old xs (drop (suc nth) readers) deltas new zs
     one readers deltas a r f t =
         let m = reader_of readers k.affected nth id (so.goes_on.kept.affected ∙ a.affected) at in
         let q = m.0 in
@@ -264,11 +264,11 @@ affected_more old k new xs ys zs nth id sound so there at told =
         by q left known query true w i =
             tells_next old xs q (drop (suc nth) readers) deltas k new ys zs w left
             (λ d same log. subst (λ (st : Store). Reaches (λ m m'. TellsDelta st.seq m d m') k ys new zs) so.goes_on.kept.store
-            (λ stopped start m done. t.tells d stopped start m (ap (λ (p : Query). p.name) (same ∙ sym query)) (told_then old k q d id so.goes_on.kept i log) done))
+            (λ stopped start m done. t.tells d stopped start m (ap listed_name (same ∙ sym query)) (told_then old k q d id so.goes_on.kept i log) done))
         by q left known query false w i =
-            let none : watchers_in ys r.query.name ≡ 0
-            = none_still (watchers_in ys r.query.name) (watchers_in xs r.query.name) (so.goes_on.fewer r.query.name)
-            (ap (λ (p : Query). watchers_in xs p.name) query ∙ sym (sound.counted.counted q (at_there old.registered q.id q known)) ∙ not_watched q w) in
+            let none : watchers_in ys (listed_name r.query) ≡ 0
+            = none_still (watchers_in ys (listed_name r.query)) (watchers_in xs (listed_name r.query)) (so.goes_on.fewer (listed_name r.query))
+            (ap (λ (p : Listed). watchers_in xs (listed_name p)) query ∙ sym (sound.counted.counted q (at_there old.registered q.id q known)) ∙ not_watched q w) in
             let still = t.quiet none in
             subst (λ (x : Kept). IsLeft old xs (drop (suc nth) readers) deltas x zs) (sym still.0)
             (subst (λ (us : List OpenSession). IsLeft old xs (drop (suc nth) readers) deltas k us) (sym still.1) (passes old xs q (drop (suc nth) readers) deltas k ys w left))

@@ -20,7 +20,7 @@ use Rattle.djq_engine.specs.Kept.{Kept, Registered}
 use Rattle.djq_core.specs.declared.open.OpenSession.{OpenSession}
 use Rattle.djq_core.specs.Views.{Talk, session_in, state_in}
 use Rattle.djq_core.specs.Sound.{IsSound}
-use Rattle.djq_core.specs.Performs.{among, to_one, unqueued, Performs}
+use Rattle.djq_core.specs.Performs.{among, to_keep, unqueued, Performs}
 use Rattle.djq_core.specs.Telling.{AnswersLast, KeepsUntold, ToldSoFar, GoesOnTelling, AreAffected, TellsAffected, TellsAll}
 use Rattle.djq_core.proofs.Around.{parts, found, ids_are}
 use Rattle.djq_core.proofs.Lifting.{queued}
@@ -50,10 +50,11 @@ answers_end roomy reply old before mid new after running lacks same q =
     record {
       text = p.text;
       cost = p.cost;
+      kept = p.kept;
       pending = p.pending;
       does = λ front back s stopped sound.
           let st = state_in old stopped (among front s before back) in
-          let e = to_one s p.text p.cost in
+          let e = to_keep s p.text p.cost p.kept in
           let st' = state_in new stopped (among front s (unqueued before after) back) in
           subst (λ (o : Option EndCause). MatchOption o (((e ≡ says s reply) × (st' ≡ st)) ⊎ ((roomy ≡ true → ⊥) × EndsWith end_memory Memory st s e st')) (λ c. (e ≡ nothing) × (st' ≡ st)))
           (sym running) (inr (lacks, p.does front back s stopped sound));
@@ -248,7 +249,7 @@ told_and_answered accepted reply old mid new xs ys at x e d spread is room l h p
           let seen : queue_all (t.0).state (t.0).queued ≡ st = t.2.seen ∙ ap (λ (us : List OpenSession). state_in mid stopped us) cut in
           let f = found mid stopped front e.id e.session back (parts mid front e.id e.session back sound) in
           let r = answered_by e.id reply (nat_le (REPLY_BYTES + LAST_LINE_BYTES) (e.session).room) t.0 st (state_in new stopped (among front e.id (unqueued e.session d) back)) (session_in mid.cursors e.id e.session)
-          (to_one e.id p.text p.cost) seen f (λ lacks. told_here x e (t.0).queued u.0 u.1 room lacks) (p.does front back e.id stopped sound) in (
+          (to_keep e.id p.text p.cost p.kept) seen f (λ lacks. told_here x e (t.0).queued u.0 u.1 room lacks) (p.does front back e.id stopped sound) in (
             t.0,
             t.1,
             (

@@ -5,22 +5,25 @@ use Rattle.std.specs.List.{list_any}
 use Rattle.std.proofs.lemmas.Bool.{lt-ltb}
 use Rattle.std.proofs.lemmas.List.Elements.{All-filter}
 use Rattle.djq_deltas.proofs.Lists.{hold_each, first_there, later_there}
-use Rattle.djq_model.specs.declared.query.Query.{Query}
 use Rattle.djq_model.specs.declared.relation.Relation.{Relation}
-use Rattle.djq_model.specs.Data.{Bytes, Tuple, bytes_eq, rows_of, without_row}
+use Rattle.djq_model.specs.Data.{Bytes, Tuple, bytes_eq}
+use Rattle.djq_model.specs.Listed.{Listed, listed_name}
 use Rattle.djq_lines.specs.declared.command.Command.{Command}
-use Rattle.djq_lines.specs.declared.command.Command.TheVariants.{Rel, Add, Del, Query as Register, Drop, Open, Next, Close, Has, Watch, Unwatch, Explain, Quit, Stop}
+use Rattle.djq_lines.specs.declared.command.Command.TheVariants.{Rel, Add, Del, Query as Register, Drop, Open, Next, Close, Has, Watch, Unwatch, Explain, Shape, Quit, Stop}
 use Rattle.djq_lines.specs.declared.answer.Refusal.{Refusal}
+use Rattle.djq_lines.specs.declared.answer.Refusal.TheVariants.{NoMemory}
 use Rattle.djq_lines.specs.declared.answer.AddOutcome.{AddOutcome}
 use Rattle.djq_lines.specs.declared.answer.AddOutcome.TheVariants.{Added as WasAdded, Same}
 use Rattle.djq_lines.specs.declared.answer.DeleteOutcome.{DeleteOutcome}
+use Rattle.djq_lines.specs.declared.answer.DeleteOutcome.TheVariants.{Removed, Absent}
 use Rattle.djq_lines.specs.Grammar.{Reading, says as says_command, reading_of}
 use Rattle.djq_lines.specs.Reply.{add_reply, delete_reply}
+use Rattle.djq_machine.specs.Keeping.{Keeping, kept_where, is_done, is_removal}
 use Rattle.djq_machine.specs.State.{Store, Session, State, with_session, session_of}
-use Rattle.djq_machine.specs.Store.{with_rows, AddsRow, DeletesRow}
-use Rattle.djq_machine.specs.Stale.{reads, by_relation, outdated_sessions, changed, add_outdates, add_accepted, delete_outdates}
+use Rattle.djq_machine.specs.Store.{AddsRow, DeletesRow}
+use Rattle.djq_machine.specs.Changes.{RowsChange, RowsOutcome, accepted, out_of_memory, unchanged, row_in, row_out, add_outcome, delete_outcome, is_accepted as is_made, tried, is_outdated, sessions_behind, changed}
 use Rattle.djq_machine.specs.Effect.{Effect, queue_all}
-use Rattle.djq_machine.specs.Watch.{Delta, Telling, AreDeltas, ChangeStep, affected, is_watching, delta_steps, TellsDelta, RepliesLast}
+use Rattle.djq_machine.specs.Watch.{Delta, Telling, AreDeltas, ListsDeltas, ChangeStep, affected, is_watching, deltas_steps, TellsDelta, RepliesLast}
 use Rattle.djq_machine.specs.Walk.{Walk}
 use Rattle.djq_machine.specs.LineStep.{run, behind_line, FrontStep, ReadStep}
 use Rattle.djq_machine.specs.Step.{stepped, Step, Acts}
@@ -29,14 +32,14 @@ use Rattle.djq_machine.specs.Command.{CommandStep}
 use Rattle.djq_machine.specs.declared.machine.Stepped.TheVariants.{Ran}
 use Rattle.djq_engine.specs.declared.cursor.CursorId.{CursorId}
 use Rattle.djq_engine.specs.Kept.{Kept, Held, Registered, held_at, outdated_held, Outdates, same_query, registered_at, is_watched, readers_of, affected_of}
-use Rattle.djq_engine.specs.Watching.{TellsChange, LogsTell}
+use Rattle.djq_engine.specs.Watching.{TellsChange, LogsTell, queries_affected}
 use Rattle.djq_core.specs.declared.open.OpenSession.{OpenSession}
 use Rattle.djq_core.specs.declared.change.Change.{Change}
 use Rattle.djq_core.specs.declared.change.Outcome.TheVariants.{Added, Deleted}
 use Rattle.djq_core.specs.Views.{Talk, session_in, open_in, state_in}
 use Rattle.djq_core.specs.Sound.{ids_of, all_ids, AreHeld, IsSound, is_among_watches, times_in, watchers_in}
 use Rattle.djq_core.specs.Performs.{among}
-use Rattle.djq_core.specs.Changing.{Changed, Adds, Deletes, IsChange, LeavesChange, is_accepted, reply_of}
+use Rattle.djq_core.specs.Changing.{Changed, Adds, Deletes, IsChange, LeavesChange, is_accepted, reply_of, is_kept}
 use Rattle.djq_core.specs.Telling.{AreAffected, TellsAll}
 use Rattle.djq_core.proofs.Ids.{agree_same, agree_held, agree_open, outdated_find, outdated_all_held, outdated_open}
 use Rattle.djq_core.proofs.Around.{Around, parts, whole, becomes, looks}
@@ -47,40 +50,42 @@ use Rattle.djq_core.proofs.Watching.{recount, stays_same, counted_same, at_its_i
 
 -- ---- the cursors behind a change
 
-moves_held : (old new : Kept) (name : Bytes) (b : Bool) (cs : List CursorId) → Outdates old name b new → AreHeld old.cursors cs → AreHeld new.cursors cs
-moves_held old new name true cs out h =
-    outdated_all_held (old.store).queries name (new.store).seq old.cursors new.cursors cs (λ c. out c ∙ outdated_find (old.store).queries name (new.store).seq old.cursors c) h
-moves_held old new name false cs out h = agree_held old.cursors new.cursors cs (agree_same old.cursors new.cursors cs out) h
+moves_held : (old new : Kept) (o : Option RowsChange) (cs : List CursorId) → Outdates old o new → AreHeld old.cursors cs → AreHeld new.cursors cs
+moves_held old new (Some change) cs out h =
+    let f = change.outdater in
+    outdated_all_held (old.store).queries f (new.store).seq old.cursors new.cursors cs (λ c. out c ∙ outdated_find (old.store).queries f (new.store).seq old.cursors c) h
+moves_held old new None cs out h = agree_held old.cursors new.cursors cs (agree_same old.cursors new.cursors cs out) h
 
-moves_still : (old new : Kept) (name : Bytes) (b : Bool) (c : CursorId) → Outdates old name b new → IsSome (held_at new.cursors c) → IsSome (held_at old.cursors c)
-moves_still old new name true c out i =
-    was (held_at old.cursors c) (subst (λ (o : Option Held). IsSome o) (out c ∙ outdated_find (old.store).queries name (new.store).seq old.cursors c) i)
+moves_still : (old new : Kept) (o : Option RowsChange) (c : CursorId) → Outdates old o new → IsSome (held_at new.cursors c) → IsSome (held_at old.cursors c)
+moves_still old new (Some change) c out i =
+    was (held_at old.cursors c) (subst (λ (o : Option Held). IsSome o) (out c ∙ outdated_find (old.store).queries change.outdater (new.store).seq old.cursors c) i)
   where
-    was : (o : Option Held) → IsSome (option_map (outdated_held (old.store).queries name (new.store).seq) o) → IsSome o
+    was : (o : Option Held) → IsSome (option_map (outdated_held (old.store).queries change.outdater (new.store).seq) o) → IsSome o
     was None h = absurd (cc)
     was (Some x) h = refl
-moves_still old new name false c out i = subst (λ (o : Option Held). IsSome o) (out c) i
+moves_still old new None c out i = subst (λ (o : Option Held). IsSome o) (out c) i
 
-moves_open : (old new : Kept) (name : Bytes) (b : Bool) (xs : List OpenSession) → Outdates old name b new
-    → map (open_in new.cursors) xs ≡ (if b then outdated_sessions (old.store).queries (by_relation name) (new.store).seq (map (open_in old.cursors) xs) else map (open_in old.cursors) xs)
-moves_open old new name true xs out =
-    outdated_open (old.store).queries name (new.store).seq old.cursors new.cursors xs (λ c. out c ∙ outdated_find (old.store).queries name (new.store).seq old.cursors c)
-moves_open old new name false xs out = agree_open old.cursors new.cursors xs (agree_same old.cursors new.cursors (all_ids xs) out)
+moves_open : (old new : Kept) (stopped : Bool) (o : Option RowsChange) (xs : List OpenSession) → Outdates old o new
+    → map (open_in new.cursors) xs ≡ sessions_behind (state_in old stopped xs) o (new.store).seq
+moves_open old new stopped (Some change) xs out =
+    let f = change.outdater in
+    outdated_open (old.store).queries f (new.store).seq old.cursors new.cursors xs (λ c. out c ∙ outdated_find (old.store).queries f (new.store).seq old.cursors c)
+moves_open old new stopped None xs out = agree_open old.cursors new.cursors xs (agree_same old.cursors new.cursors (all_ids xs) out)
 
 -- all is sound behind a change whose line was taken
-pub sound_changed : (old new : Kept) (front : List OpenSession) (s : ℕ) (before after : Talk) (back : List OpenSession) (name rest : Bytes) (b : Bool)
-    → Outdates old name b new → new.registered ≡ old.registered → after ≡ record before { held = rest; room = after.room } → IsSound old (among front s before back) → IsSound new (among front s after back)
-sound_changed old new front s before after back name rest b out still e sound =
-    let p = around_held old.cursors new.cursors front s before back (moves_held old new name b (all_ids front) out) (moves_held old new name b (ids_of before.cursors) out)
-    (moves_held old new name b (all_ids back) out) (λ c i. moves_still old new name b c out i) (parts old front s before back sound) in
+pub sound_changed : (old new : Kept) (front : List OpenSession) (s : ℕ) (before after : Talk) (back : List OpenSession) (o : Option RowsChange) (rest : Bytes)
+    → Outdates old o new → new.registered ≡ old.registered → after ≡ record before { held = rest; room = after.room } → IsSound old (among front s before back) → IsSound new (among front s after back)
+sound_changed old new front s before after back o rest out still e sound =
+    let p = around_held old.cursors new.cursors front s before back (moves_held old new o (all_ids front) out) (moves_held old new o (ids_of before.cursors) out)
+    (moves_held old new o (all_ids back) out) (λ c i. moves_still old new o c out i) (parts old front s before back sound) in
     subst (λ (d : Talk). IsSound new (among front s d back)) (sym e)
     (whole new front s (record before { held = rest; room = after.room }) back (around_bytes new.cursors front s before rest before.pending after.room back p)
     (recount old new.registered front s before (record before { held = rest; room = after.room }) back (stays_same old.registered new.registered before.watches before.watches still refl) (λ q. q) sound))
 
 -- the state behind a change
-changed_is : (old new : Kept) (stopped : Bool) (xs : List OpenSession) (name : Bytes) (b : Bool) → Outdates old name b new
-    → state_in new stopped xs ≡ changed (state_in old stopped xs) name b new.store
-changed_is old new stopped xs name b out = ap (λ (ys : List Session). record { store = new.store; stopped = stopped; sessions = ys }) (moves_open old new name b xs out)
+changed_is : (old new : Kept) (stopped : Bool) (xs : List OpenSession) (o : Option RowsChange) → Outdates old o new
+    → state_in new stopped xs ≡ changed (state_in old stopped xs) o new.store
+changed_is old new stopped xs o out = ap (λ (ys : List Session). record { store = new.store; stopped = stopped; sessions = ys }) (moves_open old new stopped o xs out)
 
 -- ---- who watches
 
@@ -98,32 +103,32 @@ watch_seen hs q (x ∷ xs) = step (is_among_watches (x.session).watches q) (watc
         none : (n : ℕ) → n ≡ 0 + n
         none n = omega arith
 
--- the queries that a change affects are those that read its relation and are watched
-affects : (rs : List Registered) (sessions : List Session) (relation : Bytes) → All (λ (r : Registered). list_any (is_watching r.query.name) sessions ≡ is_watched r) rs
-    → map (λ (r : Registered). r.query) (affected_of rs relation) ≡ filter (λ (q : Query). reads q relation && list_any (is_watching q.name) sessions) (map (λ (r : Registered). r.query) rs)
-affects [] sessions relation h = refl
-affects (r ∷ rs) sessions relation h =
-    let more = affects rs sessions relation (λ k d lt. h (suc k) d (omega (arith, lt))) in
-    let here : (reads r.query relation && list_any (is_watching r.query.name) sessions) ≡ (reads r.query relation && is_watched r) = ap (λ (b : Bool). reads r.query relation && b) (h 0 r (omega arith)) in
-    step (reads r.query relation && is_watched r) (reads r.query relation && list_any (is_watching r.query.name) sessions) here more
+-- the queries that a change affects are those that it outdates and that are watched
+affects : (rs : List Registered) (sessions : List Session) (change : RowsChange) → All (λ (r : Registered). list_any (is_watching (listed_name r.query)) sessions ≡ is_watched r) rs
+    → map (λ (r : Registered). r.query) (affected_of rs change) ≡ filter (λ (q : Listed). is_outdated change q && list_any (is_watching (listed_name q)) sessions) (map (λ (r : Registered). r.query) rs)
+affects [] sessions change h = refl
+affects (r ∷ rs) sessions change h =
+    let more = affects rs sessions change (λ k d lt. h (suc k) d (omega (arith, lt))) in
+    let here : (is_outdated change r.query && list_any (is_watching (listed_name r.query)) sessions) ≡ (is_outdated change r.query && is_watched r) = ap (λ (b : Bool). is_outdated change r.query && b) (h 0 r (omega arith)) in
+    step (is_outdated change r.query && is_watched r) (is_outdated change r.query && list_any (is_watching (listed_name r.query)) sessions) here more
   where
     step : (b c : Bool) → c ≡ b
-        → map (λ (x : Registered). x.query) (affected_of rs relation) ≡ filter (λ (q : Query). reads q relation && list_any (is_watching q.name) sessions) (map (λ (x : Registered). x.query) rs)
-        → map (λ (x : Registered). x.query) (cond b (r ∷ affected_of rs relation) (affected_of rs relation))
-        ≡ cond c (r.query ∷ filter (λ (q : Query). reads q relation && list_any (is_watching q.name) sessions) (map (λ (x : Registered). x.query) rs))
-        (filter (λ (q : Query). reads q relation && list_any (is_watching q.name) sessions) (map (λ (x : Registered). x.query) rs))
-    step true true e m = ap (λ (qs : List Query). r.query ∷ qs) m
+        → map (λ (x : Registered). x.query) (affected_of rs change) ≡ filter (λ (q : Listed). is_outdated change q && list_any (is_watching (listed_name q)) sessions) (map (λ (x : Registered). x.query) rs)
+        → map (λ (x : Registered). x.query) (cond b (r ∷ affected_of rs change) (affected_of rs change))
+        ≡ cond c (r.query ∷ filter (λ (q : Listed). is_outdated change q && list_any (is_watching (listed_name q)) sessions) (map (λ (x : Registered). x.query) rs))
+        (filter (λ (q : Listed). is_outdated change q && list_any (is_watching (listed_name q)) sessions) (map (λ (x : Registered). x.query) rs))
+    step true true e m = ap (λ (qs : List Listed). r.query ∷ qs) m
     step false false e m = m
     step true false e m = absurd (cc (e))
     step false true e m = absurd (cc (e))
 
-affected_is : (k : Kept) (stopped : Bool) (xs : List OpenSession) (relation : Bytes) → IsSound k xs → map (λ (r : Registered). r.query) k.registered ≡ (k.store).queries
-    → map (λ (r : Registered). r.query) (affected_of k.registered relation) ≡ affected (state_in k stopped xs) relation
-affected_is k stopped xs relation sound queries =
-    affects k.registered (map (open_in k.cursors) xs) relation
-    (hold_each (λ (r : Registered). list_any (is_watching r.query.name) (map (open_in k.cursors) xs) ≡ is_watched r) k.registered
-    (λ r c. watch_seen k.cursors r.query.name xs ∙ ap (λ (n : ℕ). nat_lt 0 n) (sym (sound.counted.counted r c))))
-    ∙ ap (λ (qs : List Query). filter (λ (q : Query). reads q relation && list_any (is_watching q.name) (map (open_in k.cursors) xs)) qs) queries
+affected_is : (k : Kept) (stopped : Bool) (xs : List OpenSession) (change : RowsChange) → IsSound k xs → map (λ (r : Registered). r.query) k.registered ≡ (k.store).queries
+    → map (λ (r : Registered). r.query) (affected_of k.registered change) ≡ affected (state_in k stopped xs) change
+affected_is k stopped xs change sound queries =
+    affects k.registered (map (open_in k.cursors) xs) change
+    (hold_each (λ (r : Registered). list_any (is_watching (listed_name r.query)) (map (open_in k.cursors) xs) ≡ is_watched r) k.registered
+    (λ r c. watch_seen k.cursors (listed_name r.query) xs ∙ ap (λ (n : ℕ). nat_lt 0 n) (sym (sound.counted.counted r c))))
+    ∙ ap (λ (qs : List Listed). filter (λ (q : Listed). is_outdated change q && list_any (is_watching (listed_name q)) (map (open_in k.cursors) xs)) qs) queries
 
 filter_twice : {A : Type 0} (p q : A → Bool) (xs : List A) → filter q (filter p xs) ≡ filter (λ x. p x && q x) xs
 filter_twice p q [] = refl
@@ -135,84 +140,120 @@ filter_twice p q (x ∷ xs) = step (p x) (q x) refl refl (filter_twice p q xs)
     step true false e f h = ap (λ (w : Bool). cond w (x ∷ filter q (filter p xs)) (filter q (filter p xs))) f ∙ h
     step false c e f h = h
 
+-- the queries that an accepted change outdates
+abbrev pub readers_by : List Registered → RowsOutcome → List Registered
+readers_by rs (accepted change) = readers_of rs change
+readers_by rs (out_of_memory change) = []
+readers_by rs unchanged = []
+
 -- the affected queries, with their logs
-pub affected_logs : (old new : Kept) (relation : Bytes) (rows : List Tuple) (outdates accepted : Bool) (was now : ℕ) (c : Changed old relation rows outdates accepted new was now)
-    → (accepted ≡ true → outdates ≡ true) → accepted ≡ true → AreAffected new (readers_of old.registered relation) (c.tells).deltas
-affected_logs old new relation rows outdates accepted was now c both accepts =
+pub affected_logs : (old new : Kept) (outcome : RowsOutcome) (was now : ℕ) (c : Changed old outcome new was now)
+    → is_made outcome ≡ true → AreAffected new (readers_by old.registered outcome) (c.tells).deltas
+affected_logs old new (accepted change) was now c e =
     let rs = old.registered in
-    let readers = readers_of rs relation in
-    let same : filter is_watched readers ≡ affected_of rs relation = filter_twice (λ (r : Registered). reads r.query relation) is_watched rs in
+    let readers = readers_of rs change in
+    let same : filter is_watched readers ≡ affected_of rs change = filter_twice (λ (r : Registered). is_outdated change r.query) is_watched rs in
     record {
-      affected = (c.tells).affected accepts;
-      there = All-filter (λ (r : Registered). reads r.query relation) (λ (r : Registered). registered_at new.registered r.id ≡ Some r) rs
+      affected = (c.tells).affected;
+      there = All-filter (λ (r : Registered). is_outdated change r.query) (λ (r : Registered). registered_at new.registered r.id ≡ Some r) rs
           (hold_each (λ (r : Registered). registered_at new.registered r.id ≡ Some r) rs
           (λ r k. ap (λ (qs : List Registered). registered_at qs r.id) c.registered ∙ at_its_id rs r c.apart k));
-      queries = ((c.tells).listed).of_queries
-          ∙ ap (λ (b : Bool). map (λ (r : Registered). r.query) (if b then affected_of rs relation else [])) (both accepts)
-          ∙ ap (λ (qs : List Registered). map (λ (r : Registered). r.query) qs) (sym same);
-      logs = subst (λ (qs : List Registered). LogsTell new qs (c.tells).deltas) (sym same) ((c.tells).logs accepts);
+      queries = ((c.tells).listed).of_queries ∙ ap (λ (qs : List Registered). map (λ (r : Registered). r.query) qs) (sym same);
+      logs = subst (λ (qs : List Registered). LogsTell new qs (c.tells).deltas) (sym same) (c.tells).logs;
     }
+affected_logs old new (out_of_memory change) was now c e = absurd (cc (e))
+affected_logs old new unchanged was now c e = absurd (cc (e))
 
 -- ---- the step
 
+-- the deltas are listed as the machine says
+listed_as : (old : Kept) (stopped : Bool) (xs : List OpenSession) (o : Option RowsChange) (ds : List Delta) → IsSound old xs
+    → map (λ (r : Registered). r.query) old.registered ≡ (old.store).queries
+    → ListsDeltas (old.store).relations (queries_affected old) o ds → ListsDeltas (old.store).relations (affected (state_in old stopped xs)) o ds
+listed_as old stopped xs None ds sound queries h = h
+listed_as old stopped xs (Some change) ds sound queries h =
+    subst (λ (qs : List Listed). AreDeltas (old.store).relations change.after qs ds) (affected_is old stopped xs change sound queries) h
+
 -- what the machine says of a change, once its line was taken
-change_step : (old mid new : Kept) (stopped : Bool) (xs ys : List OpenSession) (s : ℕ) (relation : Bytes) (rows : List Tuple) (outdates accepted : Bool) (reply : Bytes) (was now : ℕ)
-    → (accepted ≡ true → outdates ≡ true) → (c : Changed old relation rows outdates accepted mid was now) → IsSound old xs → TellsAll accepted reply mid s xs new ys
-    → (e : Effect) × (last : State) × ChangeStep (state_in old stopped xs) s relation rows outdates accepted mid.store reply e last
+change_step : (old mid new : Kept) (stopped : Bool) (xs ys : List OpenSession) (s : ℕ) (outcome : RowsOutcome) (reply : Bytes) (kept : Keeping) (was now : ℕ)
+    → (c : Changed old outcome mid was now) → IsSound old xs → TellsAll (is_made outcome) reply mid s xs new ys
+    → (e : Effect) × (last : State) × (ChangeStep (state_in old stopped xs) s outcome mid.store reply e last × (e.kept ≡ kept))
     × (queue_all last e.queued ≡ state_in new stopped ys) × (now ≤ was + e.cost)
-change_step old mid new stopped xs ys s relation rows outdates accepted reply was now both c sound t =
+change_step old mid new stopped xs ys s outcome reply kept was now c sound t =
     let st = state_in old stopped xs in
     let ds = (c.tells).deltas in
-    let m : Telling = record { state = changed st relation outdates mid.store; queued = [] } in
-    let r = t.tells (readers_of old.registered relation) ds stopped m (affected_logs old mid relation rows outdates accepted was now c both) refl (sym (changed_is old mid stopped xs relation outdates c.outdated)) in
-    let last = r.2.0 in
-    let which : map (λ (x : Registered). x.query) (if outdates then affected_of old.registered relation else []) ≡ (if outdates then affected st relation else [])
-    = chosen outdates in (
-      record { queued = last.queued; cost = sum_by (delta_steps relation) ds },
+    let m : Telling = record { state = changed st (tried outcome) mid.store; queued = [] } in
+    let r = t.tells (readers_by old.registered outcome) ds stopped m (affected_logs old mid outcome was now c) refl (sym (changed_is old mid stopped xs (tried outcome) c.outdated)) in
+    let last = r.2.0 in (
+      record { queued = last.queued; cost = deltas_steps (tried outcome) ds; kept = kept },
       last.state,
-      record {
-        deltas = ds;
-        listed = subst (λ (qs : List Query). AreDeltas (old.store).relations (with_rows (old.store).relations relation rows) qs ds) which (c.tells).listed;
-        told = r.0;
-        tells = r.1;
-        last = last;
-        replies = r.2.1;
-        effect = refl;
-        state = refl;
-      },
+      (
+        record {
+          deltas = ds;
+          listed = listed_as old stopped xs (tried outcome) ds sound c.queries (c.tells).listed;
+          told = r.0;
+          tells = r.1;
+          last = last;
+          replies = r.2.1;
+          queued = refl;
+          cost = refl;
+          state = refl;
+        },
+        refl,
+      ),
       r.2.2,
       (c.tells).counted,
     )
-  where
-    chosen : (b : Bool) → map (λ (x : Registered). x.query) (if b then affected_of old.registered relation else []) ≡ (if b then affected (state_in old stopped xs) relation else [])
-    chosen true = affected_is old stopped xs relation sound c.queries
-    chosen false = refl
 
-pub add_both : (result : Result AddOutcome Refusal) → add_accepted result ≡ true → add_outdates result ≡ true
-add_both (Ok WasAdded) h = refl
-add_both (Ok Same) h = absurd (cc (h))
-add_both (Err r) h = absurd (cc (h))
+-- A change is accepted for the code where it is for the machine.
+pub add_made : (change : RowsChange) (result : Result AddOutcome Refusal) → is_accepted (Added result) ≡ is_made (add_outcome change result)
+add_made change (Ok WasAdded) = refl
+add_made change (Ok Same) = refl
+add_made change (Err NoMemory) = refl
+add_made change (Err _) = refl
+
+pub delete_made : (change : RowsChange) (result : Result DeleteOutcome Refusal) → is_accepted (Deleted result) ≡ is_made (delete_outcome change result)
+delete_made change (Ok Removed) = refl
+delete_made change (Ok Absent) = refl
+delete_made change (Err r) = refl
 
 -- What a command on a row does, once its line was taken.
-pub record Composed (old : Kept) (stopped : Bool) (xs : List OpenSession) (s : ℕ) (y : Session) (command : Command) (new : Kept) (ys : List OpenSession) (was now : ℕ) : Type 0 where
+pub record Composed (old : Kept) (stopped : Bool) (xs : List OpenSession) (s : ℕ) (y : Session) (command : Command) (kept : Bool) (new : Kept) (ys : List OpenSession) (was now : ℕ) : Type 0 where
   pub effect : Effect
   pub last : State
   pub does : CommandStep (state_in old stopped xs) s y command effect last
   pub queued : queue_all last effect.queued ≡ state_in new stopped ys
   pub counted : now ≤ was + effect.cost
+  pub keeps : effect.kept ≡ kept_where kept
 
 composed : (old mid new : Kept) (stopped : Bool) (xs ys : List OpenSession) (s : ℕ) (y : Session) (change : Change) (was now : ℕ) → IsSound old xs → (command : Command) → IsChange command old change mid was now
-    → TellsAll (is_accepted change.outcome) (reply_of change.outcome (mid.store).seq) mid s xs new ys → Composed old stopped xs s y command new ys was now
+    → TellsAll (is_accepted change.outcome) (reply_of change.outcome (mid.store).seq) mid s xs new ys → Composed old stopped xs s y command (is_kept change.outcome) new ys was now
 composed old mid new stopped xs ys s y change was now sound (Add name row) a t =
+    let change = row_in (old.store).relations name row in
     let told = subst (λ (c : Change). TellsAll (is_accepted c.outcome) (reply_of c.outcome (mid.store).seq) mid s xs new ys) a.is t in
-    let r = change_step old mid new stopped xs ys s name (rows_of (old.store).relations name ++ row ∷ []) (add_outdates a.result) (add_accepted a.result) (add_reply a.result (mid.store).seq) was now
-    (add_both a.result) a.changed sound told in
-    record { effect = r.0; last = r.1; does = record { result = a.result; store = mid.store; done = a.done; change = r.2 }; queued = r.3; counted = r.4 }
+    let r = change_step old mid new stopped xs ys s (add_outcome change a.result) (add_reply a.result (mid.store).seq) (kept_where (is_done a.result)) was now a.changed sound
+    (subst (λ (b : Bool). TellsAll b (add_reply a.result (mid.store).seq) mid s xs new ys) (add_made change a.result) told) in
+    record {
+      effect = r.0;
+      last = r.1;
+      does = record { result = a.result; store = mid.store; done = a.done; change = r.2.0; kept = r.2.1 };
+      queued = r.3;
+      counted = r.4;
+      keeps = r.2.1 ∙ ap (λ (c : Change). kept_where (is_kept c.outcome)) (sym a.is);
+    }
 composed old mid new stopped xs ys s y change was now sound (Del name row) a t =
+    let change = row_out (old.store).relations name row in
     let told = subst (λ (c : Change). TellsAll (is_accepted c.outcome) (reply_of c.outcome (mid.store).seq) mid s xs new ys) a.is t in
-    let r = change_step old mid new stopped xs ys s name (without_row (rows_of (old.store).relations name) row) (delete_outdates a.result) (delete_outdates a.result) (delete_reply a.result (mid.store).seq) was now
-    (λ e. e) a.changed sound told in
-    record { effect = r.0; last = r.1; does = record { result = a.result; store = mid.store; done = a.done; change = r.2 }; queued = r.3; counted = r.4 }
+    let r = change_step old mid new stopped xs ys s (delete_outcome change a.result) (delete_reply a.result (mid.store).seq) (kept_where (is_removal a.result)) was now a.changed sound
+    (subst (λ (b : Bool). TellsAll b (delete_reply a.result (mid.store).seq) mid s xs new ys) (delete_made change a.result) told) in
+    record {
+      effect = r.0;
+      last = r.1;
+      does = record { result = a.result; store = mid.store; done = a.done; change = r.2.0; kept = r.2.1 };
+      queued = r.3;
+      counted = r.4;
+      keeps = r.2.1 ∙ ap (λ (c : Change). kept_where (is_kept c.outcome)) (sym a.is);
+    }
 composed old mid new stopped xs ys s y change was now sound (Rel name types) a t = absurd a
 composed old mid new stopped xs ys s y change was now sound (Register q) a t = absurd a
 composed old mid new stopped xs ys s y change was now sound (Drop q) a t = absurd a
@@ -223,6 +264,7 @@ composed old mid new stopped xs ys s y change was now sound (Has q row) a t = ab
 composed old mid new stopped xs ys s y change was now sound (Watch q) a t = absurd a
 composed old mid new stopped xs ys s y change was now sound (Unwatch q) a t = absurd a
 composed old mid new stopped xs ys s y change was now sound (Explain q) a t = absurd a
+composed old mid new stopped xs ys s y change was now sound (Shape q) a t = absurd a
 composed old mid new stopped xs ys s y change was now sound Quit a t = absurd a
 composed old mid new stopped xs ys s y change was now sound Stop a t = absurd a
 
@@ -230,7 +272,7 @@ composed old mid new stopped xs ys s y change was now sound Stop a t = absurd a
 pub change_gives : (change : Change) (old mid new : Kept) (before after : Talk) (front : List OpenSession) (s : ℕ) (back ys : List OpenSession) (stopped : Bool) (was now : Counts)
     → LeavesChange change old before mid after was.listing now.listing → IsSound old (among front s before back)
     → TellsAll (is_accepted change.outcome) (reply_of change.outcome (mid.store).seq) mid s (among front s after back) new ys
-    → StepGives (state_in old stopped (among front s before back)) s Ran (state_in new stopped ys) was now
+    → StepGives (state_in old stopped (among front s before back)) s (Ran (is_kept change.outcome)) (state_in new stopped ys) was now
 change_gives change old mid new before after front s back ys stopped was now c sound t =
     let st = state_in old stopped (among front s before back) in
     let x = session_in old.cursors s before in
@@ -239,20 +281,23 @@ change_gives change old mid new before after front s back ys stopped was now c s
     = becomes old stopped front s before after back (behind_line c.rest) (parts old front s before back sound) seen in
     let sound' : IsSound old (among front s after back) = subst (λ (d : Talk). IsSound old (among front s d back)) (sym c.taken) (sound_bytes old front s before c.rest before.pending after.room back sound) in
     let r = composed old mid new stopped (among front s after back) ys s (behind_line c.rest x) change was.listing now.listing sound' c.command c.changes t in
-    let read : ReadStep (with_session st s (behind_line c.rest)) s (behind_line c.rest x) (reading_of c.line) r.effect r.last
-    = subst (λ (g : Reading). ReadStep (with_session st s (behind_line c.rest)) s (behind_line c.rest x) g r.effect r.last) (sym c.reads)
+    let read : ReadStep (with_session st s (behind_line c.rest)) s (behind_line c.rest x) c.line (reading_of c.line) r.effect r.last
+    = subst (λ (g : Reading). ReadStep (with_session st s (behind_line c.rest)) s (behind_line c.rest x) c.line g r.effect r.last) (sym c.reads)
     (true, subst (λ (w : State). CommandStep w s (behind_line c.rest x) c.command r.effect r.last) moved r.does) in (
-      c.line,
-      inr (record {
-        effect = r.effect;
-        step = record {
-          mid = r.last;
-          acts = at_session old stopped front s before back (λ z. (z.cause ≡ None) × FrontStep st s z (run c.line) r.effect r.last) sound
-              (c.running, (c.said, c.few, record { rest = c.rest; front = c.front; then = read }));
-          relations = ((r.last).store).relations;
-          reordered = same_relations ((r.last).store).relations;
-          queued = sym r.queued;
-        };
-        listing = r.counted;
-      }),
+      (
+        c.line,
+        inr (record {
+          effect = r.effect;
+          step = record {
+            mid = r.last;
+            acts = at_session old stopped front s before back (λ z. (z.cause ≡ None) × FrontStep st s z (run c.line) r.effect r.last) sound
+                (c.running, (c.said, c.few, record { rest = c.rest; front = c.front; then = read }));
+            relations = ((r.last).store).relations;
+            reordered = same_relations ((r.last).store).relations;
+            queued = sym r.queued;
+          };
+          listing = r.counted;
+        }),
+      ),
+      r.keeps,
     )

@@ -1,15 +1,15 @@
 -- What `next` does to the state.
 use Rattle.std.proofs.Common.{ℕ, ◌+◌, ◌*◌, ◌≤◌, ◌≡◌, ◌++◌, Bool, true, false, List, [], ◌∷◌, length, map, cond, Option, None, Some, refl, sym, ap, ap₂, ◌∙◌, subst, arith, append_assoc, inl, inr}
 use Rattle.std.specs.Prelude.{IsSomeAnd, All, IsSome}
-use Rattle.djq_model.specs.declared.query.Query.{Query}
-use Rattle.djq_model.specs.Data.{Bytes, Tuple, bytes_eq, query_of, change_first}
-use Rattle.djq_model.specs.Answer.{IsAnswer}
+use Rattle.djq_model.specs.Data.{Bytes, Tuple, bytes_eq, change_first}
+use Rattle.djq_model.specs.Listed.{Listed, AnswersOf, listed_of}
 use Rattle.djq_lines.specs.declared.answer.Refusal.TheVariants.{NoCursor}
 use Rattle.djq_lines.specs.declared.answer.EndCause.TheVariants.{Memory}
 use Rattle.djq_lines.specs.declared.command.Command.TheVariants.{Next}
 use Rattle.djq_lines.specs.Reply.{refusal_line, stale_line, answer_line, listing_lines, text_of, end_memory}
+use Rattle.djq_machine.specs.Keeping.{no_line}
 use Rattle.djq_machine.specs.State.{Session, State, Cursor, Position, open_at, stale, with_session, with_position, ended_by}
-use Rattle.djq_machine.specs.Store.{most_steps}
+use Rattle.djq_machine.specs.Store.{answer_steps}
 use Rattle.djq_machine.specs.Effect.{Effect, RefusedStep}
 use Rattle.djq_machine.specs.Command.{CommandStep, NextStepAt, IsNextLine}
 use Rattle.djq_session.specs.declared.named.NamedCursor.{NamedCursor}
@@ -37,6 +37,7 @@ pub counting : (M : State → ℕ → Session → Effect → State → Type 0) (
 counting M stops old before new after was now le p = record {
   text = p.text;
   cost = p.cost;
+  kept = p.kept;
   pending = p.pending;
   does = p.does;
   sound = p.sound;
@@ -139,18 +140,18 @@ moved_among old new before c n h p cut held s front back i stopped room a =
     joined e f g = cc
 
 -- the machine runs `next` where its cursor stands
-pub next_at : (old : Kept) (before : Talk) (c : Bytes) (n : NamedCursor CursorId) (h : Held) (q : Query) (count : ℕ) (st st' : State) (s : ℕ) (x : Session) (e : Effect)
-    → named before.cursors c ≡ Some n → held_at old.cursors n.cursor ≡ Some h → query_of (old.store).queries h.query ≡ Some q
+pub next_at : (old : Kept) (before : Talk) (c : Bytes) (n : NamedCursor CursorId) (h : Held) (q : Listed) (count : ℕ) (st st' : State) (s : ℕ) (x : Session) (e : Effect)
+    → named before.cursors c ≡ Some n → held_at old.cursors n.cursor ≡ Some h → listed_of (old.store).queries h.query ≡ Some q
     → st.store ≡ old.store → x ≡ session_in old.cursors s before → NextStepAt st s c q count h.position e st' → CommandStep st s x (Next c count) e st'
 next_at old before c n h q count st st' s x e f held known store same step =
     subst (λ (y : Session). CommandStep st s y (Next c count) e st') (sym same)
-    (at_found old.cursors before.cursors c n (RefusedStep st s NoCursor e st') (λ k. IsSomeAnd (query_of (st.store).queries k.query) (λ p. NextStepAt st s c p count k.position e st')) f
-    (subst (λ (o : Option Held). IsSomeAnd (query_of (st.store).queries (query_in o)) (λ p. NextStepAt st s c p count (position_in o) e st')) (sym held)
-    (subst (λ w. IsSomeAnd (query_of w.queries h.query) (λ p. NextStepAt st s c p count h.position e st')) (sym store)
-    (subst (λ (o : Option Query). IsSomeAnd o (λ p. NextStepAt st s c p count h.position e st')) (sym known) step))))
+    (at_found old.cursors before.cursors c n (RefusedStep st s NoCursor e st') (λ k. IsSomeAnd (listed_of (st.store).queries k.query) (λ p. NextStepAt st s c p count k.position e st')) f
+    (subst (λ (o : Option Held). IsSomeAnd (listed_of (st.store).queries (query_in o)) (λ p. NextStepAt st s c p count (position_in o) e st')) (sym held)
+    (subst (λ w. IsSomeAnd (listed_of w.queries h.query) (λ p. NextStepAt st s c p count h.position e st')) (sym store)
+    (subst (λ (o : Option Listed). IsSomeAnd o (λ p. NextStepAt st s c p count h.position e st')) (sym known) step))))
 
-does_whole : (old new : Kept) (before after : Talk) (c : Bytes) (n : NamedCursor CursorId) (h : Held) (q : Query) (given : List Tuple) (ended : Bool) (count was now : ℕ)
-    → named before.cursors c ≡ Some n → held_at old.cursors n.cursor ≡ Some h → query_of (old.store).queries h.query ≡ Some q → h.position ≡ open_at given ended
+does_whole : (old new : Kept) (before after : Talk) (c : Bytes) (n : NamedCursor CursorId) (h : Held) (q : Listed) (given : List Tuple) (ended : Bool) (count was now : ℕ)
+    → named before.cursors c ≡ Some n → held_at old.cursors n.cursor ≡ Some h → listed_of (old.store).queries h.query ≡ Some q → h.position ≡ open_at given ended
     → WholeListing old n.cursor before count h q given new after was now → Executes (Next c count) false old before new after was now
 does_whole old new before after c n h q given ended count was now f held known at w =
     let text = text_of (listing_lines w.told w.end) in
@@ -158,13 +159,14 @@ does_whole old new before after c n h q given ended count was now f held known a
     let cut = name_cut before.cursors c n f in
     record {
       text = Some text;
-      cost = (length w.told + 1) * most_steps (length q.head);
+      cost = (length w.told + 1) * answer_steps q;
+      kept = no_line;
       pending = ap (λ (d : Talk). d.pending) w.queued;
       does = λ front back s stopped sound.
           let a = parts old front s before back sound in
           let m = moved_among old new before c n h p cut held w.stands front back s stopped after.room a in
           let seen : record before { room = after.room } ≡ unqueued before after = sym (ap (λ (d : Talk). unqueued before d) w.queued) in
-          let e = to_one s (Some text) ((length w.told + 1) * most_steps (length q.head)) in
+          let e = to_one s (Some text) ((length w.told + 1) * answer_steps q) in
           subst (λ (d : Talk). CommandStep (state_in old stopped (among front s before back)) s (session_in old.cursors s before) (Next c count) e (state_in new stopped (among front s d back))) seen
           (next_at old before c n h q count (state_in old stopped (among front s before back)) (state_in new stopped (among front s (record before { room = after.room }) back)) s (session_in old.cursors s before) e f held known refl refl
           (subst (λ (r : Position). NextStepAt (state_in old stopped (among front s before back)) s c q count r e (state_in new stopped (among front s (record before { room = after.room }) back))) (sym at)
@@ -179,8 +181,8 @@ does_whole old new before after c n h q given ended count was now f held known a
       counted = w.counted;
     }
 
-does_cut : (old mid new : Kept) (before between last after : Talk) (c : Bytes) (n : NamedCursor CursorId) (h : Held) (q : Query) (given : List Tuple) (ended : Bool) (count was now : ℕ)
-    → IsReady old before → named before.cursors c ≡ Some n → held_at old.cursors n.cursor ≡ Some h → query_of (old.store).queries h.query ≡ Some q → h.position ≡ open_at given ended
+does_cut : (old mid new : Kept) (before between last after : Talk) (c : Bytes) (n : NamedCursor CursorId) (h : Held) (q : Listed) (given : List Tuple) (ended : Bool) (count was now : ℕ)
+    → IsReady old before → named before.cursors c ≡ Some n → held_at old.cursors n.cursor ≡ Some h → listed_of (old.store).queries h.query ≡ Some q → h.position ≡ open_at given ended
     → CutListing old n.cursor before count h q given mid between was now → GivesUp mid between new last → EndsWith last after end_memory Memory
     → Executes (Next c count) false old before new after was now
 does_cut old mid new before between last after c n h q given ended count was now ready f held known at w g r =
@@ -201,24 +203,24 @@ does_cut old mid new before between last after c n h q given ended count was now
     let left : after ≡ record before { cursors = []; watches = []; room = after.room; cause = Some Memory; pending = behind before.pending (Some text) }
     = r ∙ ap (λ (d : Talk). record d { pending = d.pending ++ end_memory; room = after.room; cause = Some Memory }) (g.session ∙ ap (λ (d : Talk). record d { cursors = []; watches = [] }) w.queued)
     ∙ ap (λ (bs : Bytes). record before { cursors = []; watches = []; room = after.room; cause = Some Memory; pending = bs }) (append_assoc before.pending lines end_memory) in
-    ends_costing _ false old new before after (Some text) ((length w.told + 1) * most_steps (length q.head)) Memory was now up left w.counted (λ st s x store same.
-    let e = to_one s (Some text) ((length w.told + 1) * most_steps (length q.head)) in
+    ends_costing _ false old new before after (Some text) ((length w.told + 1) * answer_steps q) Memory was now up left w.counted (λ st s x store same.
+    let e = to_one s (Some text) ((length w.told + 1) * answer_steps q) in
     next_at old before c n h q count st (with_session st s (ended_by Memory)) s x e f held known store same
     (subst (λ (p : Position). NextStepAt st s c q count p e (with_session st s (ended_by Memory))) (sym at)
     (inr (record {
       told = w.told;
-      answers = subst (λ z. All (IsAnswer z.relations q) w.told) (sym store) w.answers;
+      answers = subst (λ z. All (AnswersOf z.relations q) w.told) (sym store) w.answers;
       different = w.different;
       at_most = w.at_most;
       lacking = w.lacking;
-      lacks = subst (λ z. IsNextLine (IsAnswer z.relations q) given count w.told w.lacking) (sym store) w.lacks;
+      lacks = subst (λ z. IsNextLine (AnswersOf z.relations q) given count w.told w.lacking) (sym store) w.lacks;
       above = w.above;
       effect = refl;
       state = refl;
     }))))
 
-does_stale : (old new : Kept) (before mid after : Talk) (c : Bytes) (n : NamedCursor CursorId) (h : Held) (q : Query) (relation : Bytes) (seq count was now : ℕ) (r : Bytes) (m : ℕ)
-    → named before.cursors c ≡ Some n → held_at old.cursors n.cursor ≡ Some h → query_of (old.store).queries h.query ≡ Some q → h.position ≡ stale relation seq
+does_stale : (old new : Kept) (before mid after : Talk) (c : Bytes) (n : NamedCursor CursorId) (h : Held) (q : Listed) (relation : Bytes) (seq count was now : ℕ) (r : Bytes) (m : ℕ)
+    → named before.cursors c ≡ Some n → held_at old.cursors n.cursor ≡ Some h → listed_of (old.store).queries h.query ≡ Some q → h.position ≡ stale relation seq
     → r ≡ relation → m ≡ seq → new ≡ old → mid ≡ before → now ≤ was → Replies mid after (stale_line c r m) → Executes (Next c count) false old before new after was now
 does_stale old new before mid after c n h q relation seq count was now r m f held known at er em en eb le reply =
     subst (λ (k : Kept). Executes (Next c count) false old before k after was now) (sym en)
@@ -230,8 +232,8 @@ does_stale old new before mid after c n h q relation seq count was now r m f hel
 
 -- What a listing came to, by where its cursor stood.
 
-whole_at : (old new : Kept) (before after : Talk) (c : Bytes) (n : NamedCursor CursorId) (h : Held) (q : Query) (p : Position) (count was now : ℕ)
-    → named before.cursors c ≡ Some n → held_at old.cursors n.cursor ≡ Some h → query_of (old.store).queries h.query ≡ Some q → h.position ≡ p
+whole_at : (old new : Kept) (before after : Talk) (c : Bytes) (n : NamedCursor CursorId) (h : Held) (q : Listed) (p : Position) (count was now : ℕ)
+    → named before.cursors c ≡ Some n → held_at old.cursors n.cursor ≡ Some h → listed_of (old.store).queries h.query ≡ Some q → h.position ≡ p
     → ListsAt old n.cursor before count h q p Whole new after was now → Executes (Next c count) false old before new after was now
 whole_at old new before after c n h q (open_at given ended) count was now f held known at l = does_whole old new before after c n h q given ended count was now f held known at l
 whole_at old new before after c n h q (stale r m) count was now f held known at l = absurd l
@@ -240,8 +242,8 @@ pub does_next_whole : (old new : Kept) (before after : Talk) (c : Bytes) (n : Na
     → named before.cursors c ≡ Some n → Lists old n.cursor before count Whole new after was now → Executes (Next c count) false old before new after was now
 does_next_whole old new before after c n count was now f l = whole_at old new before after c n l.cursor l.query (l.cursor).position count was now f l.held l.registered refl l.lists
 
-cut_at : (old mid new : Kept) (before between last after : Talk) (c : Bytes) (n : NamedCursor CursorId) (h : Held) (q : Query) (p : Position) (count was now : ℕ)
-    → IsReady old before → named before.cursors c ≡ Some n → held_at old.cursors n.cursor ≡ Some h → query_of (old.store).queries h.query ≡ Some q → h.position ≡ p
+cut_at : (old mid new : Kept) (before between last after : Talk) (c : Bytes) (n : NamedCursor CursorId) (h : Held) (q : Listed) (p : Position) (count was now : ℕ)
+    → IsReady old before → named before.cursors c ≡ Some n → held_at old.cursors n.cursor ≡ Some h → listed_of (old.store).queries h.query ≡ Some q → h.position ≡ p
     → ListsAt old n.cursor before count h q p WasCut mid between was now → GivesUp mid between new last → EndsWith last after end_memory Memory
     → Executes (Next c count) false old before new after was now
 cut_at old mid new before between last after c n h q (open_at given ended) count was now ready f held known at l g r = does_cut old mid new before between last after c n h q given ended count was now ready f held known at l g r
@@ -253,7 +255,7 @@ pub does_next_cut : (old mid new : Kept) (before between after : Talk) (c : Byte
 does_next_cut old mid new before between after c n count was now ready f l cut =
     cut_at old mid new before between (record between { cursors = []; watches = [] }) after c n l.cursor l.query (l.cursor).position count was now ready f l.held l.registered refl l.lists cut.gives_up cut.ends
 
-cut_owns : (old mid : Kept) (before between : Talk) (c : Bytes) (n : NamedCursor CursorId) (h : Held) (q : Query) (p : Position) (count was now : ℕ)
+cut_owns : (old mid : Kept) (before between : Talk) (c : Bytes) (n : NamedCursor CursorId) (h : Held) (q : Listed) (p : Position) (count was now : ℕ)
     → IsOwn old before → named before.cursors c ≡ Some n → ListsAt old n.cursor before count h q p WasCut mid between was now → IsOwn mid between
 cut_owns old mid before between c n h q (open_at given ended) count was now own f w =
     let same = ap (λ (d : Talk). d.cursors) w.queued in
@@ -269,8 +271,8 @@ pub owns_still : (old mid : Kept) (before between : Talk) (c : Bytes) (n : Named
     → IsOwn old before → named before.cursors c ≡ Some n → Lists old n.cursor before count WasCut mid between was now → IsOwn mid between
 owns_still old mid before between c n count was now own f l = cut_owns old mid before between c n l.cursor l.query (l.cursor).position count was now own f l.lists
 
-stale_at : (old new : Kept) (before mid after : Talk) (c : Bytes) (n : NamedCursor CursorId) (h : Held) (q : Query) (p : Position) (r : Bytes) (m count was now : ℕ)
-    → named before.cursors c ≡ Some n → held_at old.cursors n.cursor ≡ Some h → query_of (old.store).queries h.query ≡ Some q → h.position ≡ p
+stale_at : (old new : Kept) (before mid after : Talk) (c : Bytes) (n : NamedCursor CursorId) (h : Held) (q : Listed) (p : Position) (r : Bytes) (m count was now : ℕ)
+    → named before.cursors c ≡ Some n → held_at old.cursors n.cursor ≡ Some h → listed_of (old.store).queries h.query ≡ Some q → h.position ≡ p
     → ListsAt old n.cursor before count h q p (WasStale r m) new mid was now → Replies mid after (stale_line c r m) → Executes (Next c count) false old before new after was now
 stale_at old new before mid after c n h q (open_at given ended) r m count was now f held known at l reply = absurd l
 stale_at old new before mid after c n h q (stale a b) r m count was now f held known at l reply =
@@ -286,7 +288,7 @@ does_next_none k before after c count was f r =
     counting _ false k before k after was was (omega arith)
     (refused _ k before after (refusal_line NoCursor) r (λ st s x store same.
     subst (λ (y : Session). CommandStep st s y (Next c count) (to_one s (Some (refusal_line NoCursor)) 0) st) (sym same)
-    (at_none k.cursors before.cursors c _ (λ k'. IsSomeAnd (query_of (st.store).queries k'.query) (λ p. NextStepAt st s c p count k'.position (to_one s (Some (refusal_line NoCursor)) 0) st)) f (refl, refl))))
+    (at_none k.cursors before.cursors c _ (λ k'. IsSomeAnd (listed_of (st.store).queries k'.query) (λ p. NextStepAt st s c p count k'.position (to_one s (Some (refusal_line NoCursor)) 0) st)) f (refl, refl))))
 
 -- the cursor of a name is held
 pub named_held : (hs : List Held) (names : List (NamedCursor CursorId)) (c : Bytes) (n : NamedCursor CursorId) → named names c ≡ Some n → AreHeld hs (ids_of names) → AreHeld hs (n.cursor ∷ [])

@@ -1,7 +1,8 @@
 -- A session's cursors by name, and those of the engine behind them.
 use Rattle.std.proofs.Common.{ℕ, ◌≡◌, ◌++◌, Bool, true, false, List, [], ◌∷◌, map, find, cond, option_map, Option, None, Some, refl, sym, ap, ap₂, ◌∙◌, append_assoc, is_some, is_none, nat_le}
 use Rattle.std.proofs.lemmas.List.{length-map}
-use Rattle.djq_model.specs.Data.{Bytes, bytes_eq, query_of, drop_first, change_first}
+use Rattle.djq_model.specs.Data.{Bytes, bytes_eq, drop_first, change_first}
+use Rattle.djq_model.specs.Listed.{listed_of}
 use Rattle.djq_lines.specs.declared.limits.TheConstants.{CURSORS}
 use Rattle.djq_lines.specs.declared.answer.Refusal.TheVariants.{Taken, NoQuery, Limit}
 use Rattle.djq_machine.specs.State.{Store, Session, Cursor, cursor_of, with_session}
@@ -74,7 +75,7 @@ some_map f (Some x) = refl
 -- the conditions of `open` are the same
 pub refusal_same : (k : Kept) (d : Talk) (c q : Bytes) → refusal_of k d c q ≡ open_refusal k.store (map (cursor_in k.cursors) d.cursors) c q
 refusal_same k d c q =
-    ap₂ (λ (b : Bool) (n : ℕ). first_of ((b, Taken) ∷ (is_none (query_of (k.store).queries q), NoQuery) ∷ (nat_le CURSORS n, Limit) ∷ []))
+    ap₂ (λ (b : Bool) (n : ℕ). first_of ((b, Taken) ∷ (is_none (listed_of (k.store).queries q), NoQuery) ∷ (nat_le CURSORS n, Limit) ∷ []))
     (sym (some_map (cursor_in k.cursors) (named d.cursors c)) ∙ ap (λ (o : Option Cursor). is_some o) (sym (cursor_seen k.cursors d.cursors c)))
     (sym (length-map d.cursors (cursor_in k.cursors)))
 

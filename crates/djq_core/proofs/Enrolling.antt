@@ -5,7 +5,8 @@ use Rattle.std.proofs.Common.{arith}
 use Rattle.std.proofs.lemmas.Bool.{false≢true, le-leb}
 use Rattle.std.proofs.lemmas.List.Elements.{All-contains, Contains-append_right, Contains-append_cases}
 use Rattle.djq_model.specs.declared.query.Query.{Query}
-use Rattle.djq_model.specs.Data.{Bytes, bytes_eq, query_of}
+use Rattle.djq_model.specs.Data.{Bytes, bytes_eq}
+use Rattle.djq_model.specs.Listed.{a_query, listed_name, listed_of}
 use Rattle.djq_lines.specs.declared.limits.TheConstants.{CURSORS}
 use Rattle.djq_lines.specs.declared.answer.Refusal.{Refusal}
 use Rattle.djq_lines.specs.declared.answer.Refusal.TheVariants.{Taken, NoQuery, Limit}
@@ -38,14 +39,14 @@ pairs_last {A} R (z ∷ xs) y x h c = step (first_or_later z xs x c) (λ k. pair
         (All-contains (R z) (xs ++ y ∷ []) y (pairs_head R z (xs ++ y ∷ []) h) (Contains-append_right xs (y ∷ []) y (first_there y [] y refl)))
     step (inr k) more = more k
 
-none_found : (rs : List Registered) (q : Bytes) → ((r : Registered) → Contains rs r → bytes_eq r.query.name q ≡ false) → registered_of rs q ≡ None
+none_found : (rs : List Registered) (q : Bytes) → ((r : Registered) → Contains rs r → bytes_eq (listed_name r.query) q ≡ false) → registered_of rs q ≡ None
 none_found [] q h = refl
 none_found (x ∷ rs) q h =
     ap (λ (b : Bool). cond b (Some x) (registered_of rs q)) (h x (first_there x rs x refl)) ∙ none_found rs q (λ r c. h r (later_there x rs r c))
 
 found_more : (rs : List Registered) (n : Registered) (q : Bytes) → IsSome (registered_of rs q) → IsSome (registered_of (rs ++ n ∷ []) q)
 found_more [] n q h = absurd (false≢true h)
-found_more (x ∷ rs) n q h = step (bytes_eq x.query.name q) h (λ k. found_more rs n q k)
+found_more (x ∷ rs) n q h = step (bytes_eq (listed_name x.query) q) h (λ k. found_more rs n q k)
   where
     step : (b : Bool) → IsSome (cond b (Some x) (registered_of rs q)) → (IsSome (registered_of rs q) → IsSome (registered_of (rs ++ n ∷ []) q))
         → IsSome (cond b (Some x) (registered_of (rs ++ n ∷ []) q))
@@ -60,30 +61,30 @@ enrolled rs ws n none apart others h = record {
   once = h.once;
 }
   where
-    not_found : registered_of rs n.query.name ≡ None
-    not_found = none_found rs n.query.name (λ r c. pairs_last (λ (u v : Registered). bytes_eq u.query.name v.query.name ≡ false) rs n r apart c)
+    not_found : registered_of rs (listed_name n.query) ≡ None
+    not_found = none_found rs (listed_name n.query) (λ r c. pairs_last (λ (u v : Registered). bytes_eq (listed_name u.query) (listed_name v.query) ≡ false) rs n r apart c)
 
     zero_or : (m : ℕ) → (0 < m → ⊥) → m ≡ 0
     zero_or zero k = refl
     zero_or (suc m) k = absurd (k (omega arith))
 
-    nobody : others n.query.name + times_in ws n.query.name ≡ 0
-    nobody = zero_or (others n.query.name + times_in ws n.query.name) (λ l. false≢true (subst (λ (o : Option Registered). IsSome o) not_found (h.known n.query.name l)))
+    nobody : others (listed_name n.query) + times_in ws (listed_name n.query) ≡ 0
+    nobody = zero_or (others (listed_name n.query) + times_in ws (listed_name n.query)) (λ l. false≢true (subst (λ (o : Option Registered). IsSome o) not_found (h.known (listed_name n.query) l)))
 
-    last : (r : Registered) → n ≡ r → r.watchers ≡ others r.query.name + times_in ws r.query.name
-    last r same = subst (λ (x : Registered). x.watchers ≡ others x.query.name + times_in ws x.query.name) same (none ∙ sym nobody)
+    last : (r : Registered) → n ≡ r → r.watchers ≡ others (listed_name r.query) + times_in ws (listed_name r.query)
+    last r same = subst (λ (x : Registered). x.watchers ≡ others (listed_name x.query) + times_in ws (listed_name x.query)) same (none ∙ sym nobody)
 
-    by : (r : Registered) → Contains rs r ⊎ Contains (n ∷ []) r → r.watchers ≡ others r.query.name + times_in ws r.query.name
+    by : (r : Registered) → Contains rs r ⊎ Contains (n ∷ []) r → r.watchers ≡ others (listed_name r.query) + times_in ws (listed_name r.query)
     by r (inl c) = h.counted r c
     by r (inr c) = here r (first_or_later n [] r c)
       where
-        here : (r : Registered) → (n ≡ r) ⊎ Contains [] r → r.watchers ≡ others r.query.name + times_in ws r.query.name
+        here : (r : Registered) → (n ≡ r) ⊎ Contains [] r → r.watchers ≡ others (listed_name r.query) + times_in ws (listed_name r.query)
         here r (inl same) = last r same
         here r (inr k) = absurd (nothing_there r k)
 
 pub stays_enrolled : (old new : List Registered) (ws : List Bytes) (q : Query) (result : Result QueryOutcome Refusal) → Enrols old q result new → NamesApart new → StaysCounted old ws new ws
 stays_enrolled old new ws q (Ok (HasRegistered most)) e apart =
-    let n : Registered = record { id = e.0; query = q; watchers = 0 } in
+    let n : Registered = record { id = e.0; query = a_query q; watchers = 0 } in
     subst (λ (rs : List Registered). StaysCounted old ws rs ws) (sym e.2) (enrolled old ws n refl (subst NamesApart e.2 apart))
 stays_enrolled old new ws q (Ok (Cyclic u)) e apart = stays_same old new ws ws e refl
 stays_enrolled old new ws q (Ok (NotConnex u)) e apart = stays_same old new ws ws e refl
@@ -107,15 +108,15 @@ none_answer false true e x y = refl
 none_answer false false e x y = absurd (cc)
 
 some_there : (rs : List Registered) (st : Store) (q : Bytes) → map (λ (r : Registered). r.query) rs ≡ st.queries → (o : Option QueryId) → o ≡ option_map (λ (r : Registered). r.id) (registered_of rs q)
-    → is_some o ≡ true → is_none (query_of st.queries q) ≡ false
+    → is_some o ≡ true → is_none (listed_of st.queries q) ≡ false
 some_there rs st q laws o h s = by (registered_of rs q) refl (sym (ap (λ (p : Option QueryId). is_some p) h) ∙ s)
   where
-    by : (r : Option Registered) → registered_of rs q ≡ r → is_some (option_map (λ (x : Registered). x.id) r) ≡ true → is_none (query_of st.queries q) ≡ false
+    by : (r : Option Registered) → registered_of rs q ≡ r → is_some (option_map (λ (x : Registered). x.id) r) ≡ true → is_none (listed_of st.queries q) ≡ false
     by None e k = absurd (false≢true k)
     by (Some r) e k = is_there rs st q r laws e
 
 none_there : (rs : List Registered) (st : Store) (q : Bytes) → map (λ (r : Registered). r.query) rs ≡ st.queries → (o : Option QueryId) → o ≡ option_map (λ (r : Registered). r.id) (registered_of rs q)
-    → is_some o ≡ false → is_none (query_of st.queries q) ≡ true
+    → is_some o ≡ false → is_none (listed_of st.queries q) ≡ true
 none_there rs st q laws None h s = not_there rs st q laws h
 none_there rs st q laws (Some id) h s = absurd (cc)
 

@@ -7,6 +7,7 @@ use Rattle.djq_lines.specs.declared.answer.EndCause.{EndCause}
 use Rattle.djq_lines.specs.declared.answer.EndCause.TheVariants.{Long, Slow, Memory}
 use Rattle.djq_lines.specs.Line.{too_long, dry, a_line, front_of, is_blank}
 use Rattle.djq_lines.specs.Reply.{end_long, end_slow, end_memory}
+use Rattle.djq_machine.specs.Keeping.{no_line}
 use Rattle.djq_machine.specs.declared.machine.Stepped.TheVariants.{Ran, Dry, Ended}
 use Rattle.djq_machine.specs.State.{Session, State}
 use Rattle.djq_machine.specs.Effect.{Effect, EndsWith}
@@ -17,7 +18,7 @@ use Rattle.djq_engine.specs.Kept.{Kept}
 use Rattle.djq_core.specs.Views.{Talk, state_in}
 use Rattle.djq_core.specs.Sound.{IsSound}
 use Rattle.djq_core.specs.Performs.{among, unqueued, Performs}
-use Rattle.djq_core.specs.Stepping.{Fronts, EndsBefore, Unchanged, StepsTo}
+use Rattle.djq_core.specs.Stepping.{Fronts, FrontsKeeping, EndsBefore, Unchanged, StepsTo}
 use Rattle.djq_core.proofs.Around.{parts, becomes}
 use Rattle.djq_core.proofs.Taking.{taking, with_room, sound_bytes}
 
@@ -27,6 +28,7 @@ pub is_too_long : (old new : Kept) (before after : Talk) (was : ℕ) → front_o
 is_too_long old new before after was f p = record {
   text = p.text;
   cost = p.cost;
+  kept = p.kept;
   pending = p.pending;
   does = λ front back s stopped sound. (f, p.does front back s stopped sound);
   sound = p.sound;
@@ -35,7 +37,7 @@ is_too_long old new before after was f p = record {
 
 -- the counts of what lists nothing
 uncounted : (M : State → ℕ → Session → Effect → State → Type 0) (old : Kept) (before : Talk) (new : Kept) (after : Talk) (was : ℕ) → Performs M false old before new after 0 0 → Performs M false old before new after was was
-uncounted M old before new after was p = record { text = p.text; cost = p.cost; pending = p.pending; does = p.does; sound = p.sound; counted = omega arith }
+uncounted M old before new after was p = record { text = p.text; cost = p.cost; kept = p.kept; pending = p.pending; does = p.does; sound = p.sound; counted = omega arith }
 
 -- a line that isn't run since too much is pending
 pub is_slow : (old new : Kept) (before mid after : Talk) (l rest : Bytes) (was : ℕ) → front_of before.held ≡ a_line l rest → mid ≡ record before { held = rest } → is_blank l ≡ false → PENDING_BYTES < length before.pending
@@ -53,18 +55,22 @@ is_unheard old new before kept mid after l rest was f r e said few p =
     (λ st st' s x eff h q t. (said, subst (λ (bs : Bytes). length bs ≤ PENDING_BYTES) (sym (q ∙ ap (λ (d : Talk). d.pending) r)) few, t)) (uncounted _ old mid new after was p))
 
 -- a blank line
-pub is_dropped : (k : Kept) (before after : Talk) (l rest : Bytes) (was : ℕ) → front_of before.held ≡ a_line l rest → after ≡ record before { held = rest } → is_blank l ≡ true → Fronts (blank l) false k before k after was was
+pub is_dropped : (k : Kept) (before after : Talk) (l rest : Bytes) (was : ℕ) → front_of before.held ≡ a_line l rest → after ≡ record before { held = rest } → is_blank l ≡ true → FrontsKeeping (blank l) false false k before k after was was
 is_dropped k before after l rest was f e said = record {
   text = None;
   cost = 0;
+  kept = no_line;
   pending = ap (λ (d : Talk). d.pending) e;
   does = λ front back s stopped sound. (
-    said,
-    record {
-      rest = rest;
-      front = f;
-      then = (refl, ap (λ (d : Talk). state_in k stopped (among front s (unqueued before d) back)) e ∙ becomes k stopped front s before (record before { held = rest }) back (behind_line rest) (parts k front s before back sound) refl);
-    },
+    (
+      said,
+      record {
+        rest = rest;
+        front = f;
+        then = (refl, ap (λ (d : Talk). state_in k stopped (among front s (unqueued before d) back)) e ∙ becomes k stopped front s before (record before { held = rest }) back (behind_line rest) (parts k front s before back sound) refl);
+      },
+    ),
+    refl,
   );
   sound = λ front back s sound. subst (λ (d : Talk). IsSound k (among front s d back)) (sym e) (sound_bytes k front s before rest before.pending before.room back sound);
   counted = omega arith;
@@ -72,11 +78,11 @@ is_dropped k before after l rest was f e said = record {
 
 -- What a step answers.
 
-pub ran_blank : (k : Kept) (before after : Talk) (l : Bytes) (was : Counts) → before.cause ≡ None → Fronts (blank l) false k before k after was.listing was.listing → StepsTo Ran false k before k after was was
+pub ran_blank : (k : Kept) (before after : Talk) (l : Bytes) (was : Counts) → before.cause ≡ None → FrontsKeeping (blank l) false false k before k after was.listing was.listing → StepsTo (Ran false) false k before k after was was
 ran_blank k before after l was c f = (c, (l, inl f))
 
-pub ran_line : (stops : Bool) (old : Kept) (before : Talk) (new : Kept) (after : Talk) (l : Bytes) (was now : Counts) → before.cause ≡ None → Fronts (run l) stops old before new after was.listing now.listing → StepsTo Ran stops old before new after was now
-ran_line stops old before new after l was now c f = (c, (l, inr f))
+pub ran_line : (kept stops : Bool) (old : Kept) (before : Talk) (new : Kept) (after : Talk) (l : Bytes) (was now : Counts) → before.cause ≡ None → FrontsKeeping (run l) kept stops old before new after was.listing now.listing → StepsTo (Ran kept) stops old before new after was now
+ran_line kept stops old before new after l was now c f = (c, (l, inr f))
 
 pub ended_before : (cause : EndCause) (old : Kept) (before : Talk) (new : Kept) (after : Talk) (was : Counts) → before.cause ≡ None → EndsBefore cause false old before new after was was → StepsTo (Ended cause) false old before new after was was
 ended_before cause old before new after was c f = subst (λ (o : Option EndCause). MatchOption o (EndsBefore cause false old before new after was was) (λ d. (d ≡ cause) × Unchanged false old before new after was was)) (sym c) f

@@ -5,6 +5,7 @@ use Rattle.std.proofs.lemmas.Bool.{eqb-true}
 use Rattle.djq_model.specs.Data.{Bytes}
 use Rattle.djq_lines.specs.declared.answer.EndCause.{EndCause}
 use Rattle.djq_lines.specs.Reply.{input_cut}
+use Rattle.djq_machine.specs.Keeping.{no_line}
 use Rattle.djq_machine.specs.State.{Session, State, with_session, ended_by}
 use Rattle.djq_machine.specs.Effect.{Effect}
 use Rattle.djq_session.specs.declared.named.NamedCursor.{NamedCursor}
@@ -67,8 +68,8 @@ giving_goes_on old before k d e k' id g p o =
       gone = (record { name = p.0; cursor = id } ∷ g.gone.0, g.gone.1 ∙ ap (λ (ns : List (NamedCursor CursorId)). ns ++ g.gone.0) p.1 ∙ append_assoc e.cursors (record { name = p.0; cursor = id } ∷ []) g.gone.0);
       lost = λ c a. step c (same_id id c) refl a;
       registered = o.registered ∙ g.registered;
-      affected = o.affected ∙ g.affected;
-      told = o.told ∙ g.told;
+      affected = o.tellings.affected ∙ g.affected;
+      told = o.tellings.told ∙ g.told;
     }
   where
     -- the one that is popped is gone, and so are those before it
@@ -176,6 +177,7 @@ pub ends_costing : (M : State → ℕ → Session → Effect → State → Type 
 ends_costing M stops old new before after text cost cause was now up left counted does = record {
   text = text;
   cost = cost;
+  kept = no_line;
   pending = ap (λ (d : Talk). d.pending) left;
   does = λ front back s stopped sound.
       let p = parts old front s before back sound in

@@ -23,6 +23,7 @@ pub hears_slow : (whole : Bool) (text : Bytes) (old : Kept) (before : Talk) (new
 hears_slow whole text old before new after many p = record {
   text = p.text;
   cost = p.cost;
+  kept = p.kept;
   pending = p.pending;
   does = λ front back s stopped sound. inl (many, p.does front back s stopped sound);
   sound = p.sound;
@@ -36,6 +37,7 @@ pub hears_end : (whole : Bool) (text : Bytes) (old : Kept) (before : Talk) (new 
 hears_end whole text old before new after few p = record {
   text = p.text;
   cost = p.cost;
+  kept = p.kept;
   pending = p.pending;
   does = λ front back s stopped sound. inr (inr (few, p.does front back s stopped sound));
   sound = p.sound;

@@ -3,12 +3,12 @@ use Rattle.std.proofs.Common.{ℕ, ◌≡◌, ◌++◌, ◌&&◌, Bool, true, fa
 use Rattle.std.specs.Prelude.{⊤, IsSome}
 use Rattle.std.proofs.lemmas.Bool.{eqb-true, eq-eqb}
 use Rattle.djq_model.specs.Data.{Bytes}
-use Rattle.djq_model.specs.declared.query.Query.{Query}
+use Rattle.djq_model.specs.Listed.{Listed}
 use Rattle.djq_session.specs.declared.named.NamedCursor.{NamedCursor}
 use Rattle.djq_engine.specs.declared.cursor.CursorId.{CursorId}
 use Rattle.djq_engine.specs.Kept.{Held, held_at, same_id, SameCursors, OthersStay, outdated_held}
 use Rattle.djq_machine.specs.State.{Cursor, Position, open_at, stale}
-use Rattle.djq_machine.specs.Stale.{outdated, outdater_of, by_relation, outdated_cursor, outdated_sessions}
+use Rattle.djq_machine.specs.Stale.{outdated, outdater_of, outdated_cursor, outdated_sessions}
 use Rattle.djq_core.specs.declared.open.OpenSession.{OpenSession}
 use Rattle.djq_core.specs.Views.{query_in, position_in, cursor_in, open_in}
 use Rattle.djq_core.specs.Sound.{ids_of, all_ids, GivesApart, AreHeld, IsApart, AreApart, is_among, AreOwned}
@@ -211,61 +211,61 @@ owned_without old new xs ys zs gone others h c i = step (apart_or c ys)
     step (inr e) = let none : IsSome {T = Held} None = subst (λ (o : Option Held). IsSome o) (gone c e) i in absurd (cc)
     step (inl a) = behind a (among_either c xs (ys ++ zs) (h c (subst (λ (o : Option Held). IsSome o) (others c a) i)))
 
--- A change of a relation.
+-- A change of rows.
 
 -- each cursor is as the change leaves it
-abbrev pub Outdated : List Query → Bytes → ℕ → List Held → List Held → Type 0
-Outdated queries relation n old new = (c : CursorId) → held_at new c ≡ option_map (outdated_held queries relation n) (held_at old c)
+abbrev pub Outdated : List Listed → (Listed → Option Bytes) → ℕ → List Held → List Held → Type 0
+Outdated queries outdater n old new = (c : CursorId) → held_at new c ≡ option_map (outdated_held queries outdater n) (held_at old c)
 
-pub outdated_find : (queries : List Query) (relation : Bytes) (n : ℕ) (hs : List Held) (c : CursorId)
-    → held_at (map (outdated_held queries relation n) hs) c ≡ option_map (outdated_held queries relation n) (held_at hs c)
-outdated_find queries relation n [] c = refl
-outdated_find queries relation n (h ∷ hs) c = step (same_id h.id c) (outdated_find queries relation n hs c)
+pub outdated_find : (queries : List Listed) (outdater : Listed → Option Bytes) (n : ℕ) (hs : List Held) (c : CursorId)
+    → held_at (map (outdated_held queries outdater n) hs) c ≡ option_map (outdated_held queries outdater n) (held_at hs c)
+outdated_find queries outdater n [] c = refl
+outdated_find queries outdater n (h ∷ hs) c = step (same_id h.id c) (outdated_find queries outdater n hs c)
   where
-    step : (b : Bool) → held_at (map (outdated_held queries relation n) hs) c ≡ option_map (outdated_held queries relation n) (held_at hs c)
-        → cond b (Some (outdated_held queries relation n h)) (held_at (map (outdated_held queries relation n) hs) c) ≡ option_map (outdated_held queries relation n) (cond b (Some h) (held_at hs c))
+    step : (b : Bool) → held_at (map (outdated_held queries outdater n) hs) c ≡ option_map (outdated_held queries outdater n) (held_at hs c)
+        → cond b (Some (outdated_held queries outdater n h)) (held_at (map (outdated_held queries outdater n) hs) c) ≡ option_map (outdated_held queries outdater n) (cond b (Some h) (held_at hs c))
     step true r = refl
     step false r = r
 
-still_apart : (queries : List Query) (relation : Bytes) (n : ℕ) (o : Option Bytes) (p : Position) → GivesApart p → GivesApart (outdated o n p)
-still_apart queries relation n None p g = g
-still_apart queries relation n (Some r) (open_at given ended) g = tt
-still_apart queries relation n (Some r) (stale s m) g = tt
+still_apart : (queries : List Listed) (outdater : Listed → Option Bytes) (n : ℕ) (o : Option Bytes) (p : Position) → GivesApart p → GivesApart (outdated o n p)
+still_apart queries outdater n None p g = g
+still_apart queries outdater n (Some r) (open_at given ended) g = tt
+still_apart queries outdater n (Some r) (stale s m) g = tt
 
-pub outdated_all_held : (queries : List Query) (relation : Bytes) (n : ℕ) (old new : List Held) (cs : List CursorId) → Outdated queries relation n old new → AreHeld old cs → AreHeld new cs
-outdated_all_held queries relation n old new [] out h = tt
-outdated_all_held queries relation n old new (c ∷ cs) out h = (
+pub outdated_all_held : (queries : List Listed) (outdater : Listed → Option Bytes) (n : ℕ) (old new : List Held) (cs : List CursorId) → Outdated queries outdater n old new → AreHeld old cs → AreHeld new cs
+outdated_all_held queries outdater n old new [] out h = tt
+outdated_all_held queries outdater n old new (c ∷ cs) out h = (
   (
-    outdated_held queries relation n h.0.0,
-    out c ∙ ap (option_map (outdated_held queries relation n)) h.0.1,
-    still_apart queries relation n (outdater_of queries (by_relation relation) (h.0.0).query) (h.0.0).position h.0.2,
+    outdated_held queries outdater n h.0.0,
+    out c ∙ ap (option_map (outdated_held queries outdater n)) h.0.1,
+    still_apart queries outdater n (outdater_of queries outdater (h.0.0).query) (h.0.0).position h.0.2,
   ),
-  outdated_all_held queries relation n old new cs out h.1,
+  outdated_all_held queries outdater n old new cs out h.1,
 )
 
 stale_stays : (o : Option Bytes) (n : ℕ) → stale [] 0 ≡ outdated o n (stale [] 0)
 stale_stays None n = refl
 stale_stays (Some r) n = refl
 
-outdated_one : (queries : List Query) (relation : Bytes) (n : ℕ) (name : Bytes) (o : Option Held)
-    → record { name = name; query = query_in (option_map (outdated_held queries relation n) o); position = position_in (option_map (outdated_held queries relation n) o) }
-    ≡ outdated_cursor queries (by_relation relation) n (record { name = name; query = query_in o; position = position_in o })
-outdated_one queries relation n name None = ap (λ (p : Position). record { name = name; query = []; position = p }) (stale_stays (outdater_of queries (by_relation relation) []) n)
-outdated_one queries relation n name (Some h) = refl
+outdated_one : (queries : List Listed) (outdater : Listed → Option Bytes) (n : ℕ) (name : Bytes) (o : Option Held)
+    → record { name = name; query = query_in (option_map (outdated_held queries outdater n) o); position = position_in (option_map (outdated_held queries outdater n) o) }
+    ≡ outdated_cursor queries outdater n (record { name = name; query = query_in o; position = position_in o })
+outdated_one queries outdater n name None = ap (λ (p : Position). record { name = name; query = []; position = p }) (stale_stays (outdater_of queries outdater []) n)
+outdated_one queries outdater n name (Some h) = refl
 
-pub outdated_names : (queries : List Query) (relation : Bytes) (n : ℕ) (old new : List Held) (names : List (NamedCursor CursorId)) → Outdated queries relation n old new
-    → map (cursor_in new) names ≡ map (outdated_cursor queries (by_relation relation) n) (map (cursor_in old) names)
-outdated_names queries relation n old new [] out = refl
-outdated_names queries relation n old new (x ∷ names) out =
-    let rest = outdated_names queries relation n old new names out in
-    let moved : cursor_in new x ≡ record { name = x.name; query = query_in (option_map (outdated_held queries relation n) (held_at old x.cursor)); position = position_in (option_map (outdated_held queries relation n) (held_at old x.cursor)) }
+pub outdated_names : (queries : List Listed) (outdater : Listed → Option Bytes) (n : ℕ) (old new : List Held) (names : List (NamedCursor CursorId)) → Outdated queries outdater n old new
+    → map (cursor_in new) names ≡ map (outdated_cursor queries outdater n) (map (cursor_in old) names)
+outdated_names queries outdater n old new [] out = refl
+outdated_names queries outdater n old new (x ∷ names) out =
+    let rest = outdated_names queries outdater n old new names out in
+    let moved : cursor_in new x ≡ record { name = x.name; query = query_in (option_map (outdated_held queries outdater n) (held_at old x.cursor)); position = position_in (option_map (outdated_held queries outdater n) (held_at old x.cursor)) }
     = ap (λ (o : Option Held). record { name = x.name; query = query_in o; position = position_in o }) (out x.cursor) in
-    let here : cursor_in new x ≡ outdated_cursor queries (by_relation relation) n (cursor_in old x) = moved ∙ outdated_one queries relation n x.name (held_at old x.cursor) in cc
+    let here : cursor_in new x ≡ outdated_cursor queries outdater n (cursor_in old x) = moved ∙ outdated_one queries outdater n x.name (held_at old x.cursor) in cc
 
-pub outdated_open : (queries : List Query) (relation : Bytes) (n : ℕ) (old new : List Held) (xs : List OpenSession) → Outdated queries relation n old new
-    → map (open_in new) xs ≡ outdated_sessions queries (by_relation relation) n (map (open_in old) xs)
-outdated_open queries relation n old new [] out = refl
-outdated_open queries relation n old new (x ∷ xs) out =
-    let rest = outdated_open queries relation n old new xs out in
-    let names = outdated_names queries relation n old new (x.session).cursors out in
-    let here : open_in new x ≡ record (open_in old x) { cursors = map (outdated_cursor queries (by_relation relation) n) (open_in old x).cursors } = ap (λ (cs : List Cursor). record (open_in old x) { cursors = cs }) names in cc
+pub outdated_open : (queries : List Listed) (outdater : Listed → Option Bytes) (n : ℕ) (old new : List Held) (xs : List OpenSession) → Outdated queries outdater n old new
+    → map (open_in new) xs ≡ outdated_sessions queries outdater n (map (open_in old) xs)
+outdated_open queries outdater n old new [] out = refl
+outdated_open queries outdater n old new (x ∷ xs) out =
+    let rest = outdated_open queries outdater n old new xs out in
+    let names = outdated_names queries outdater n old new (x.session).cursors out in
+    let here : open_in new x ≡ record (open_in old x) { cursors = map (outdated_cursor queries outdater n) (open_in old x).cursors } = ap (λ (cs : List Cursor). record (open_in old x) { cursors = cs }) names in cc

@@ -12,6 +12,7 @@ pub mod Cutting
 pub mod Telling
 pub mod Continuing
 pub mod Taking
+mod Unkept
 pub mod Saying
 pub mod Fronting
 pub mod Leaving

@@ -9,16 +9,17 @@ use Rattle.djq_lines.specs.declared.answer.EndCause.TheVariants.{Input, Quit, St
 use Rattle.djq_machine.specs.declared.machine.Stepped.{Stepped}
 use Rattle.djq_machine.specs.declared.machine.Stepped.TheVariants.{Ran, Dry, Ended}
 use Rattle.djq_machine.specs.State.{Session, State, session_of}
+use Rattle.djq_machine.specs.Keeping.{kept_where}
 use Rattle.djq_machine.specs.Effect.{Effect, queue_all}
-use Rattle.djq_machine.specs.LineStep.{LineOutcome, long, blank, slow, no_room, run}
+use Rattle.djq_machine.specs.LineStep.{LineOutcome, long, blank, slow, no_room, run, FrontStep}
 use Rattle.djq_machine.specs.Step.{Event, stepped, Acts, Step, SameRelations, is_dry}
-use Rattle.djq_machine.specs.Call.{Counts, MakesCounted, EndedStepAs, StepGives, cause_of, cause_in, held_of, held_in}
+use Rattle.djq_machine.specs.Call.{Counts, MakesCounted, RanStep, kept_by, EndedStepAs, StepGives, cause_of, cause_in, held_of, held_in}
 use Rattle.djq_engine.specs.Kept.{Kept}
 use Rattle.djq_core.specs.declared.open.OpenSession.{OpenSession}
 use Rattle.djq_core.specs.Views.{Talk, session_in, state_in}
 use Rattle.djq_core.specs.Sound.{IsSound}
-use Rattle.djq_core.specs.Performs.{among, to_one, behind, unqueued, Performs}
-use Rattle.djq_core.specs.Stepping.{Fronts, EndsBefore, Unchanged, StepsTo}
+use Rattle.djq_core.specs.Performs.{among, to_one, to_keep, behind, unqueued, Performs}
+use Rattle.djq_core.specs.Stepping.{Fronts, FrontsKeeping, EndsBefore, Unchanged, StepsTo}
 use Rattle.djq_core.proofs.Around.{parts, found, becomes}
 use Rattle.djq_core.proofs.Replying.{around_bytes}
 
@@ -40,10 +41,10 @@ queued k stopped front s before after back (Some text) cost sound e =
 pub makes_step : (M : State → ℕ → Session → Effect → State → Type 0) (event : Event) (stops : Bool) (old : Kept) (before : Talk) (new : Kept) (after : Talk) (was now : ℕ) (front back : List OpenSession) (s : ℕ) (stopped : Bool)
     → (p : Performs M stops old before new after was now) → IsSound old (among front s before back)
     → ((e : Effect) (st' : State) → M (state_in old stopped (among front s before back)) s (session_in old.cursors s before) e st' → Acts (state_in old stopped (among front s before back)) event e st')
-    → Step (state_in old stopped (among front s before back)) event (to_one s p.text p.cost) (state_in new (stops || stopped) (among front s after back))
+    → Step (state_in old stopped (among front s before back)) event (to_keep s p.text p.cost p.kept) (state_in new (stops || stopped) (among front s after back))
 makes_step M event stops old before new after was now front back s stopped p sound acts = record {
   mid = state_in new (stops || stopped) (among front s (unqueued before after) back);
-  acts = acts (to_one s p.text p.cost) (state_in new (stops || stopped) (among front s (unqueued before after) back)) (p.does front back s stopped sound);
+  acts = acts (to_keep s p.text p.cost p.kept) (state_in new (stops || stopped) (among front s (unqueued before after) back)) (p.does front back s stopped sound);
   relations = (new.store).relations;
   reordered = same_relations (new.store).relations;
   queued = queued new (stops || stopped) front s before after back p.text p.cost (p.sound front back s sound) p.pending;
@@ -65,14 +66,28 @@ fronts : (o : LineOutcome) (stops : Bool) (old : Kept) (before : Talk) (new : Ke
     → Fronts o stops old before new after was.listing now.listing → IsSound old (among front s before back)
     → MakesCounted (state_in old stopped (among front s before back)) (stepped s o) (state_in new (stops || stopped) (among front s after back)) was now
 fronts o stops old before new after was now front back s stopped c p sound = record {
-  effect = to_one s p.text p.cost;
+  effect = to_keep s p.text p.cost p.kept;
   step = makes_step _ (stepped s o) stops old before new after was.listing now.listing front back s stopped p sound (λ e st' m. at_session old stopped front s before back _ sound (c, m));
   listing = subst (λ (e : ℕ). now.listing ≤ was.listing + e) (sym (cost_is p.text)) p.counted;
 }
   where
-    cost_is : (t : Option Bytes) → (to_one s t p.cost).cost ≡ p.cost
+    cost_is : (t : Option Bytes) → (to_keep s t p.cost p.kept).cost ≡ p.cost
     cost_is None = refl
     cost_is (Some t) = refl
+
+-- So it does, and its line is kept or isn't.
+fronts_keeping : (o : LineOutcome) (kept stops : Bool) (old : Kept) (before : Talk) (new : Kept) (after : Talk) (was now : Counts) (front back : List OpenSession) (s : ℕ) (stopped : Bool) → before.cause ≡ None
+    → FrontsKeeping o kept stops old before new after was.listing now.listing → IsSound old (among front s before back)
+    → (m : MakesCounted (state_in old stopped (among front s before back)) (stepped s o) (state_in new (stops || stopped) (among front s after back)) was now) × (m.effect.kept ≡ kept_where kept)
+fronts_keeping o kept stops old before new after was now front back s stopped c p sound = (
+  record {
+    effect = to_keep s p.text p.cost p.kept;
+    step = makes_step (λ st i x e st'. FrontStep st i x o e st' × (e.kept ≡ kept_where kept)) (stepped s o) stops old before new after was.listing now.listing front back s stopped p sound
+        (λ e st' m. at_session old stopped front s before back _ sound (c, m.0));
+    listing = p.counted;
+  },
+  (p.does front back s stopped sound).1,
+)
 
 ends_as : (c : EndCause) (stops : Bool) (old : Kept) (before : Talk) (new : Kept) (after : Talk) (was now : Counts) (front back : List OpenSession) (s : ℕ) (stopped : Bool) → before.cause ≡ None
     → EndsBefore c stops old before new after was now → IsSound old (among front s before back)
@@ -94,13 +109,13 @@ unchanged stops old before new after was now front back s stopped u =
 pub step_gives : (result : Stepped) (stops : Bool) (old : Kept) (before : Talk) (new : Kept) (after : Talk) (was now : Counts) (front back : List OpenSession) (s : ℕ) (stopped : Bool)
     → StepsTo result stops old before new after was now → IsSound old (among front s before back)
     → StepGives (state_in old stopped (among front s before back)) s result (state_in new (stops || stopped) (among front s after back)) was now
-step_gives Ran stops old before new after was now front back s stopped t sound = (t.1.0, by t.1.1)
+step_gives (Ran kept) stops old before new after was now front back s stopped t sound = by t.1.1
   where
-    by : (Fronts (blank t.1.0) stops old before new after was.listing now.listing ⊎ Fronts (run t.1.0) stops old before new after was.listing now.listing)
-        → (MakesCounted (state_in old stopped (among front s before back)) (stepped s (blank t.1.0)) (state_in new (stops || stopped) (among front s after back)) was now
-        ⊎ MakesCounted (state_in old stopped (among front s before back)) (stepped s (run t.1.0)) (state_in new (stops || stopped) (among front s after back)) was now)
-    by (inl f) = inl (fronts (blank t.1.0) stops old before new after was now front back s stopped t.0 f sound)
-    by (inr f) = inr (fronts (run t.1.0) stops old before new after was now front back s stopped t.0 f sound)
+    by : (FrontsKeeping (blank t.1.0) kept stops old before new after was.listing now.listing ⊎ FrontsKeeping (run t.1.0) kept stops old before new after was.listing now.listing)
+        → (ran : RanStep (state_in old stopped (among front s before back)) s (state_in new (stops || stopped) (among front s after back)) was now)
+        × (kept_by (state_in old stopped (among front s before back)) s (state_in new (stops || stopped) (among front s after back)) was now ran ≡ kept_where kept)
+    by (inl f) = let m = fronts_keeping (blank t.1.0) kept stops old before new after was now front back s stopped t.0 f sound in ((t.1.0, inl m.0), m.1)
+    by (inr f) = let m = fronts_keeping (run t.1.0) kept stops old before new after was now front back s stopped t.0 f sound in ((t.1.0, inr m.0), m.1)
 step_gives Dry stops old before new after was now front back s stopped t sound = (
   unchanged stops old before new after was now front back s stopped t.2,
   t.2.counted,
@@ -121,9 +136,9 @@ step_gives (Ended c) stops old before new after was now front back s stopped t s
 -- what holds afterwards
 pub step_sound : (result : Stepped) (stops : Bool) (old : Kept) (before : Talk) (new : Kept) (after : Talk) (was now : Counts) (front back : List OpenSession) (s : ℕ)
     → StepsTo result stops old before new after was now → IsSound old (among front s before back) → IsSound new (among front s after back)
-step_sound Ran stops old before new after was now front back s t sound = by t.1.1
+step_sound (Ran kept) stops old before new after was now front back s t sound = by t.1.1
   where
-    by : (Fronts (blank t.1.0) stops old before new after was.listing now.listing ⊎ Fronts (run t.1.0) stops old before new after was.listing now.listing) → IsSound new (among front s after back)
+    by : (FrontsKeeping (blank t.1.0) kept stops old before new after was.listing now.listing ⊎ FrontsKeeping (run t.1.0) kept stops old before new after was.listing now.listing) → IsSound new (among front s after back)
     by (inl f) = f.sound front back s sound
     by (inr f) = f.sound front back s sound
 step_sound Dry stops old before new after was now front back s t sound = still stops old before new after was now front back s t.2 sound

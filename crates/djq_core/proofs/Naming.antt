@@ -6,6 +6,7 @@ use Rattle.djq_lines.specs.declared.answer.Refusal.{Refusal}
 use Rattle.djq_lines.specs.declared.answer.Refusal.TheVariants.{NoCursor}
 use Rattle.djq_lines.specs.declared.command.Command.TheVariants.{Open, Close}
 use Rattle.djq_lines.specs.Reply.{line, ok_reply, refusal_line}
+use Rattle.djq_machine.specs.Keeping.{no_line}
 use Rattle.djq_machine.specs.State.{Store, Session, State, Cursor, open_at, cursor_of, with_session}
 use Rattle.djq_machine.specs.Conditions.{Answers, OutOfMemoryWhere}
 use Rattle.djq_machine.specs.Effect.{Effect}
@@ -36,6 +37,7 @@ pub answered : (M : State → ℕ → Session → Effect → State → Type 0) (
 answered M old new before mid after text r same stays still does = record {
   text = Some text;
   cost = 0;
+  kept = no_line;
   pending = ap (λ (d : Talk). d.pending) r ∙ ap (λ (p : Bytes). p ++ text) same;
   does = λ front back s stopped sound.
       let seen : record mid { room = after.room } ≡ unqueued before after = ap (λ (p : Bytes). record mid { pending = p; room = after.room }) same ∙ sym (ap (λ (d : Talk). unqueued before d) r) in

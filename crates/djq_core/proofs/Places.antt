@@ -25,7 +25,7 @@ use Rattle.djq_session.specs.Dialog.{IsFresh}
 use Rattle.djq_core.specs.Views.{Talk, cursor_in, session_in, open_in, state_in}
 use Rattle.djq_core.specs.Sound.{IsBelow, Rises, IsSound, IsOwn, IsCore, ids_of, all_ids, AreHeld, AreApart, NoneOnceEnded, AreOwned}
 use Rattle.djq_core.specs.Ends.{GivesUp, EndsQuietly}
-use Rattle.djq_core.specs.Performs.{among, to_one, Performs}
+use Rattle.djq_core.specs.Performs.{among, to_keep, Performs}
 use Rattle.djq_core.specs.Stepping.{StepsTo}
 use Rattle.djq_core.proofs.Watching.{has_count, count_left, count_more}
 use Rattle.djq_core.proofs.Ids.{Agree, held_join, apart_split, agree_open, agree_held, owned_without}
@@ -202,7 +202,7 @@ makes_by M event k new xs at s e d stopped h p acts =
     let old = state_in k stopped (among front s e.session back) in
     subst (λ (ys : List OpenSession). Makes (state_in k stopped ys) event (state_in new stopped (set xs at (record e { session = d })))) (sym h.is)
     (subst (λ (ys : List OpenSession). Makes old event (state_in new stopped ys)) (sym (h.put d)) (record {
-      effect = to_one s p.text p.cost;
+      effect = to_keep s p.text p.cost p.kept;
       step = makes_step M event false k e.session new d 0 0 front back s stopped p h.sound (λ eff st' m. acts eff old st' (at_session k stopped front s e.session back (λ x. x ≡ session_in k.cursors s e.session) h.sound refl) m);
     }))
 

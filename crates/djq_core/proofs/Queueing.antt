@@ -4,6 +4,7 @@ use Rattle.std.specs.Prelude.{◌<◌, ◌≤◌, length, ⊤, IsSomeAnd, MatchO
 use Rattle.std.specs.List.{list_any}
 use Rattle.std.proofs.lemmas.Bool.{cond-true, cond-false, eq-eqb}
 use Rattle.djq_model.specs.Data.{Bytes, change_first}
+use Rattle.djq_model.specs.Listed.{listed_name}
 use Rattle.djq_lines.specs.declared.limits.TheConstants.{PENDING_BYTES}
 use Rattle.djq_lines.specs.declared.answer.EndCause.{EndCause}
 use Rattle.djq_lines.specs.declared.answer.EndCause.TheVariants.{Slow, Memory}
@@ -107,9 +108,9 @@ pub record Bridged (d : Delta) (n s : ℕ) (m : Telling) (reached : State) : Typ
   pub grows : telling.queued ≡ m.queued ++ more
   pub told : has_part s telling.queued ≡ true
 
-watcher_is : (d : Delta) (m : Telling) (st : State) (s : ℕ) (x : Session) → st ≡ queue_all m.state m.queued → session_of st s ≡ Some x → is_watching d.query.name x ≡ true → watcher_of m d.query.name s ≡ Some x
+watcher_is : (d : Delta) (m : Telling) (st : State) (s : ℕ) (x : Session) → st ≡ queue_all m.state m.queued → session_of st s ≡ Some x → is_watching (listed_name d.query) x ≡ true → watcher_of m (listed_name d.query) s ≡ Some x
 watcher_is d m st s x e f w =
-    ap (λ (y : State). watching d.query.name (session_of y s)) (sym e) ∙ ap (watching d.query.name) f ∙ cond-true _ _ _ w
+    ap (λ (y : State). watching (listed_name d.query) (session_of y s)) (sym e) ∙ ap (watching (listed_name d.query)) f ∙ cond-true _ _ _ w
 
 ended_state : (m : Telling) (st : State) (s : ℕ) (text : Bytes) (c : EndCause) → st ≡ queue_all m.state m.queued
     → queue (with_session st s (ended_by c)) (s, text) ≡ queue_all (with_session m.state s (ended_by c)) (m.queued ++ (s, text) ∷ [])
@@ -119,7 +120,7 @@ ended_state m st s text c e =
     ∙ sym (queue_last (with_session m.state s (ended_by c)) m.queued (s, text))
 
 pub bridged : (d : Delta) (n s : ℕ) (m : Telling) (st mid : State) (x : Session) (eff : Effect) (whole : Bool) (text : Bytes)
-    → st ≡ queue_all m.state m.queued → session_of st s ≡ Some x → is_watching d.query.name x ≡ true → (whole ≡ true → text ≡ text_of (delta_lines d.query.name d.changes n))
+    → st ≡ queue_all m.state m.queued → session_of st s ≡ Some x → is_watching (listed_name d.query) x ≡ true → (whole ≡ true → text ≡ text_of (delta_lines (listed_name d.query) d.changes n))
     → HearsDelta whole text st s x eff mid → Bridged d n s m (queue_all mid eff.queued)
 bridged d n s m st mid x eff whole text e f w fits told = by told
   where
@@ -136,7 +137,7 @@ bridged d n s m st mid x eff whole text e f w fits told = by told
       told = part_last s m.queued end_slow;
     }
     by (inr (inl (h, v, i, j))) =
-        let lines = text_of (delta_lines d.query.name d.changes n) in
+        let lines = text_of (delta_lines (listed_name d.query) d.changes n) in
         record {
           telling = says_more s lines m;
           tells = tells (says_more s lines m) (inr (inl (h, refl)));

@@ -1,35 +1,37 @@
 -- Commands that leave the session's cursors as they are.
 use Rattle.std.proofs.Common.{ℕ, zero, suc, ◌+◌, ◌<◌, ◌≤◌, ◌≡◌, ◌++◌, Bool, true, false, List, [], ◌∷◌, map, Option, None, Some, Result, Ok, Err, codes, refl, sym, ap, ◌∙◌, subst, arith, ◌||◌, ◌⊎◌, inl, inr, ap₂, option_map}
-use Rattle.std.specs.Prelude.{⊤, ◌==◌, if◌then◌else◌, find, IsSome, IsSomeAnd, IfSome, is_none, nat_lt}
-use Rattle.djq_model.specs.Data.{Bytes, Tuple, query_of, bytes_eq, drop_first}
+use Rattle.std.specs.Prelude.{⊤, ◌==◌, if◌then◌else◌, find, IsSome, IsSomeAnd, IfSome, is_none, is_ok, nat_lt}
+use Rattle.djq_model.specs.Data.{Bytes, Tuple, bytes_eq, drop_first}
+use Rattle.djq_model.specs.Listed.{Listed, listed_name, listed_of}
 use Rattle.std.specs.List.{list_any}
 use Rattle.std.proofs.lemmas.Bool.{ltb-true, lt-ltb}
 use Rattle.djq_model.specs.Equality.{bytes_eq-decides}
 use Rattle.djq_model.specs.declared.query.Query.{Query}
 use Rattle.djq_session.specs.declared.named.NamedCursor.{NamedCursor}
 use Rattle.djq_engine.specs.declared.cursor.CursorId.{CursorId}
+use Rattle.djq_machine.specs.Keeping.{Keeping, no_line, kept_where, is_done, is_registration}
 use Rattle.djq_machine.specs.Command.{uses}
 use Rattle.djq_model.specs.declared.relation.ColumnType.{ColumnType}
 use Rattle.djq_lines.specs.declared.answer.Refusal.{Refusal}
 use Rattle.djq_lines.specs.declared.answer.AddOutcome.{AddOutcome}
 use Rattle.djq_lines.specs.declared.answer.DeleteOutcome.{DeleteOutcome}
+use Rattle.djq_lines.specs.declared.answer.Shape.{Shape}
 use Rattle.djq_lines.specs.declared.rest.QueryOutcome.{QueryOutcome}
-use Rattle.djq_lines.specs.declared.command.Command.TheVariants.{Rel, Add, Del, Query as Register, Has, Drop}
-use Rattle.djq_lines.specs.Reply.{ok_reply, add_reply, delete_reply, query_reply, has_reply}
+use Rattle.djq_lines.specs.declared.command.Command.TheVariants.{Rel, Add, Del, Query as Register, Has, Shape as AskShape, Drop}
+use Rattle.djq_lines.specs.Reply.{ok_reply, add_reply, delete_reply, query_reply, has_reply, shape_reply}
 use Rattle.djq_lines.specs.declared.answer.Refusal.TheVariants.{NoQuery, InUse}
 use Rattle.djq_machine.specs.Conditions.{first_of, Answers, OutOfMemoryWhere}
 use Rattle.djq_machine.specs.State.{Store, Session, State, Cursor, session_of}
-use Rattle.djq_machine.specs.Store.{MakesRelation, AddsRow, DeletesRow, RegistersQuery, TellsWhether, has_steps, DropsQuery}
-use Rattle.djq_machine.specs.Stale.{by_relation, outdated_sessions, add_outdates, add_accepted, delete_outdates, changed}
+use Rattle.djq_machine.specs.Store.{MakesRelation, AddsRow, DeletesRow, RegistersQuery, TellsWhether, has_steps, TellsShape, DropsQuery}
 use Rattle.djq_machine.specs.Watch.{affected}
 use Rattle.djq_machine.specs.Effect.{Effect}
 use Rattle.djq_session.specs.Dialog.{Replies}
-use Rattle.djq_engine.specs.Kept.{Kept, Held, held_at, SameCursors, Outdates, outdated_held, same_id, Uses, DropGives, Registered, registered_of, is_watched}
+use Rattle.djq_engine.specs.Kept.{Kept, Held, held_at, SameCursors, same_id, Uses, DropGives, Registered, registered_of, is_watched}
 use Rattle.djq_core.specs.declared.open.OpenSession.{OpenSession}
 use Rattle.djq_core.specs.Views.{Talk, session_in, open_in, state_in, query_in, cursor_in}
 use Rattle.djq_core.specs.Sound.{ids_of, all_ids, AreHeld, AreCounted, StaysCounted, IsSound, is_among, watchers_in, times_in, is_among_watches}
-use Rattle.djq_core.specs.Performs.{among, to_one, unqueued, Performs, Executes}
-use Rattle.djq_core.proofs.Ids.{agree_same, agree_held, agree_open, outdated_find, outdated_all_held, outdated_open, owned_still, among_either, held_split, same_id_same, or_true}
+use Rattle.djq_core.specs.Performs.{among, to_one, to_keep, unqueued, Performs, Executes, ExecutesKeeping}
+use Rattle.djq_core.proofs.Ids.{agree_same, agree_held, agree_open, owned_still, among_either, held_split, same_id_same, or_true}
 use Rattle.djq_core.proofs.Around.{Around, parts, whole, open_are, found}
 use Rattle.djq_core.proofs.Watching.{recount, stays_same, counted_same, none_watching, unwatched, found_there, same_name, stays_dropped}
 
@@ -89,21 +91,22 @@ around_same old new front s d back same p =
     around_held old new front s d back (move (all_ids front)) (move (ids_of d.cursors)) (move (all_ids back)) (λ c i. subst (λ (o : Option Held). IsSome o) (same c) i) p
 
 -- Something is done and answered, and the cursors stay as they are.
-pub replied_among : (M : State → ℕ → Session → Effect → State → Type 0) (old new : Kept) (before after : Talk) (text : Bytes) (cost was now : ℕ)
+pub replied_among : (M : State → ℕ → Session → Effect → State → Type 0) (old new : Kept) (before after : Talk) (text : Bytes) (cost was now : ℕ) (kept : Keeping)
     → Replies before after text → SameCursors old.cursors new.cursors → StaysCounted old.registered before.watches new.registered before.watches → now ≤ was + cost
     → ((front back : List OpenSession) (s : ℕ) (stopped : Bool) → IsSound old (among front s before back)
-    → (let st = state_in old stopped (among front s before back) in M st s (session_in old.cursors s before) (to_one s (Some text) cost) (record st { store = new.store })))
+    → (let st = state_in old stopped (among front s before back) in M st s (session_in old.cursors s before) (to_keep s (Some text) cost kept) (record st { store = new.store })))
     → Performs M false old before new after was now
-replied_among M old new before after text cost was now r same stays counted does = record {
+replied_among M old new before after text cost was now kept r same stays counted does = record {
   text = Some text;
   cost = cost;
+  kept = kept;
   pending = ap (λ (d : Talk). d.pending) r;
   does = λ front back s stopped sound.
       let xs = among front s before back in
       let eq : map (open_in new.cursors) (among front s (unqueued before after) back) ≡ map (open_in old.cursors) xs
       = open_quiet new.cursors front s before (unqueued before after) back (quiet new.cursors s before after text r)
       ∙ agree_open old.cursors new.cursors xs (agree_same old.cursors new.cursors (all_ids xs) same) in
-      subst (λ (ys : List Session). M (state_in old stopped xs) s (session_in old.cursors s before) (to_one s (Some text) cost) (record { store = new.store; stopped = stopped; sessions = ys }))
+      subst (λ (ys : List Session). M (state_in old stopped xs) s (session_in old.cursors s before) (to_keep s (Some text) cost kept) (record { store = new.store; stopped = stopped; sessions = ys }))
       (sym eq) (does front back s stopped sound);
   sound = λ front back s sound.
       sound_replied new front s before after text back r (around_same old.cursors new.cursors front s before back same (parts old front s before back sound))
@@ -111,85 +114,79 @@ replied_among M old new before after text cost was now r same stays counted does
   counted = counted;
 }
 
-pub replied_costing : (M : State → ℕ → Session → Effect → State → Type 0) (old new : Kept) (before after : Talk) (text : Bytes) (cost was now : ℕ)
+pub replied_costing : (M : State → ℕ → Session → Effect → State → Type 0) (old new : Kept) (before after : Talk) (text : Bytes) (cost was now : ℕ) (kept : Keeping)
     → Replies before after text → SameCursors old.cursors new.cursors → StaysCounted old.registered before.watches new.registered before.watches → now ≤ was + cost
-    → ((st : State) (s : ℕ) (x : Session) → st.store ≡ old.store → x ≡ session_in old.cursors s before → M st s x (to_one s (Some text) cost) (record st { store = new.store }))
+    → ((st : State) (s : ℕ) (x : Session) → st.store ≡ old.store → x ≡ session_in old.cursors s before → M st s x (to_keep s (Some text) cost kept) (record st { store = new.store }))
     → Performs M false old before new after was now
-replied_costing M old new before after text cost was now r same stays counted does =
-    replied_among M old new before after text cost was now r same stays counted
+replied_costing M old new before after text cost was now kept r same stays counted does =
+    replied_among M old new before after text cost was now kept r same stays counted
     (λ front back s stopped sound. does (state_in old stopped (among front s before back)) s (session_in old.cursors s before) refl refl)
 
 pub replied : (M : State → ℕ → Session → Effect → State → Type 0) (old new : Kept) (before after : Talk) (text : Bytes)
     → Replies before after text → SameCursors old.cursors new.cursors → StaysCounted old.registered before.watches new.registered before.watches
     → ((st : State) (s : ℕ) (x : Session) → st.store ≡ old.store → x ≡ session_in old.cursors s before → M st s x (to_one s (Some text) 0) (record st { store = new.store }))
     → Performs M false old before new after 0 0
-replied M old new before after text r same stays does = replied_costing M old new before after text 0 0 0 r same stays (omega arith) does
+replied M old new before after text r same stays does = replied_costing M old new before after text 0 0 0 no_line r same stays (omega arith) does
 
 pub refused : (M : State → ℕ → Session → Effect → State → Type 0) (k : Kept) (before after : Talk) (text : Bytes)
     → Replies before after text → ((st : State) (s : ℕ) (x : Session) → st.store ≡ k.store → x ≡ session_in k.cursors s before → M st s x (to_one s (Some text) 0) st) → Performs M false k before k after 0 0
 refused M k before after text r does = replied M k k before after text r (λ id. refl) (stays_same k.registered k.registered before.watches before.watches refl refl) (λ st s x e f. subst (λ (st' : State). M st s x (to_one s (Some text) 0) st') (ap (λ store. record st { store = store }) e) (does st s x e f))
 
+-- what is done is answered by no refusal
+pub ok_done : {A : Type 0} (r : Result A Refusal) → is_ok r ≡ is_done r
+ok_done (Ok a) = refl
+ok_done (Err e) = refl
+
 pub does_rel : (old new : Kept) (before after : Talk) (name : Bytes) (types : List ColumnType) (result : Result ⊤ Refusal)
     → MakesRelation old.store name types result new.store → SameCursors old.cursors new.cursors → new.registered ≡ old.registered → Replies before after (ok_reply (codes "ok") result)
-    → Executes (Rel name types) false old before new after 0 0
+    → ExecutesKeeping (Rel name types) (is_done result) false old before new after 0 0
 does_rel old new before after name types result makes same still r =
-    replied _ old new before after (ok_reply (codes "ok") result) r same (stays_same old.registered new.registered before.watches before.watches still refl) (λ st s x e f. record {
-      result = result;
-      store = new.store;
-      done = subst (λ store. MakesRelation store name types result new.store) (sym e) makes;
-      effect = refl;
-      state = refl;
-    })
+    replied_costing _ old new before after (ok_reply (codes "ok") result) 0 0 0 (kept_where (is_done result)) r same
+    (stays_same old.registered new.registered before.watches before.watches still refl) (omega arith) (λ st s x e f. (
+      record {
+        result = result;
+        store = new.store;
+        done = subst (λ store. MakesRelation store name types result new.store) (sym e) makes;
+        effect = refl;
+        state = refl;
+      },
+      refl,
+    ))
 
 pub does_query : (old new : Kept) (before after : Talk) (q : Query) (result : Result QueryOutcome Refusal) (was now : ℕ)
     → now ≡ was → RegistersQuery old.store q result new.store → SameCursors old.cursors new.cursors → StaysCounted old.registered before.watches new.registered before.watches → Replies before after (query_reply result)
-    → Executes (Register q) false old before new after was now
+    → ExecutesKeeping (Register q) (is_registration result) false old before new after was now
 does_query old new before after q result was now counted registers same stays r =
-    replied_costing _ old new before after (query_reply result) 0 was now r same stays (omega (arith, counted)) (λ st s x e f. inl (record {
-      result = result;
-      store = new.store;
-      done = subst (λ store. RegistersQuery store q result new.store) (sym e) registers;
-      effect = refl;
-      state = refl;
-    }))
-
--- the cursors after a change are held as they were, and look as the machine says
-moves_held : (old new : Kept) (name : Bytes) (b : Bool) (cs : _) → Outdates old name b new → AreHeld old.cursors cs → AreHeld new.cursors cs
-moves_held old new name true cs out h =
-    outdated_all_held (old.store).queries name (new.store).seq old.cursors new.cursors cs (λ c. out c ∙ outdated_find (old.store).queries name (new.store).seq old.cursors c) h
-moves_held old new name false cs out h = agree_held old.cursors new.cursors cs (agree_same old.cursors new.cursors cs out) h
-
-moves_still : (old new : Kept) (name : Bytes) (b : Bool) (c : CursorId) → Outdates old name b new → IsSome (held_at new.cursors c) → IsSome (held_at old.cursors c)
-moves_still old new name true c out i =
-    was (held_at old.cursors c) (subst (λ (o : Option Held). IsSome o) (out c ∙ outdated_find (old.store).queries name (new.store).seq old.cursors c) i)
-  where
-    was : (o : Option Held) → IsSome (option_map (outdated_held (old.store).queries name (new.store).seq) o) → IsSome o
-    was None h = absurd (cc)
-    was (Some x) h = refl
-moves_still old new name false c out i = subst (λ (o : Option Held). IsSome o) (out c) i
-
-moves_open : (old new : Kept) (name : Bytes) (b : Bool) (xs : List OpenSession) → Outdates old name b new
-    → map (open_in new.cursors) xs ≡ (if b then outdated_sessions (old.store).queries (by_relation name) (new.store).seq (map (open_in old.cursors) xs) else map (open_in old.cursors) xs)
-moves_open old new name true xs out =
-    outdated_open (old.store).queries name (new.store).seq old.cursors new.cursors xs (λ c. out c ∙ outdated_find (old.store).queries name (new.store).seq old.cursors c)
-moves_open old new name false xs out = agree_open old.cursors new.cursors xs (agree_same old.cursors new.cursors (all_ids xs) out)
-
--- what is known around a session holds once a change outdated cursors
-pub around_outdated : (old new : Kept) (name : Bytes) (b : Bool) (front : List OpenSession) (s : ℕ) (d : Talk) (back : List OpenSession) → Outdates old name b new
-    → Around old.cursors front s d back → Around new.cursors front s d back
-around_outdated old new name b front s d back out p =
-    around_held old.cursors new.cursors front s d back (λ h. moves_held old new name b (all_ids front) out h) (λ h. moves_held old new name b (ids_of d.cursors) out h) (λ h. moves_held old new name b (all_ids back) out h) (λ c i. moves_still old new name b c out i) p
+    replied_costing _ old new before after (query_reply result) 0 was now (kept_where (is_registration result)) r same stays (omega (arith, counted)) (λ st s x e f. (
+      inl (record {
+        result = result;
+        store = new.store;
+        done = subst (λ store. RegistersQuery store q result new.store) (sym e) registers;
+        effect = refl;
+        state = refl;
+      }),
+      refl,
+    ))
 
 pub does_has : (k : Kept) (before after : Talk) (q : Bytes) (t : Tuple) (result : Result Bool Refusal) (was now : ℕ)
-    → TellsWhether k.store q t result → now ≤ was + has_steps (query_of k.store.queries q) → Replies before after (has_reply result)
+    → TellsWhether k.store q t result → now ≤ was + has_steps (listed_of k.store.queries q) → Replies before after (has_reply result)
     → Executes (Has q t) false k before k after was now
 does_has k before after q t result was now tells counted r =
-    replied_costing _ k k before after (has_reply result) (has_steps (query_of k.store.queries q)) was now r (λ id. refl) (stays_same k.registered k.registered before.watches before.watches refl refl) counted (λ st s x e f. record {
+    replied_costing _ k k before after (has_reply result) (has_steps (listed_of k.store.queries q)) was now no_line r (λ id. refl) (stays_same k.registered k.registered before.watches before.watches refl refl) counted (λ st s x e f. record {
       result = result;
       tells = subst (λ store. TellsWhether store q t result) (sym e) tells;
-      effect = ap (λ store. to_one s (Some (has_reply result)) (has_steps (query_of store.queries q))) (sym e);
+      effect = ap (λ store. to_one s (Some (has_reply result)) (has_steps (listed_of store.queries q))) (sym e);
       state = ap (λ store. record st { store = store }) (sym e);
     })
+
+pub does_shape : (k : Kept) (before after : Talk) (q : Bytes) (result : Result Shape Refusal)
+    → TellsShape k.store q result → Replies before after (shape_reply result) → Executes (AskShape q) false k before k after 0 0
+does_shape k before after q result tells r = refused _ k before after (shape_reply result) r (λ st s x e f. record {
+  result = result;
+  tells = subst (λ store. TellsShape store q result) (sym e) tells;
+  effect = refl;
+  state = refl;
+})
 
 -- `drop`
 
@@ -261,7 +258,7 @@ sessions_watch hs q (x ∷ xs) some = step (is_among_watches (x.session).watches
 watched_by : (rs : List Registered) (xs : List OpenSession) (q : Bytes) → AreCounted rs xs → (r : Registered) → registered_of rs q ≡ Some r → r.watchers ≡ watchers_in xs q
 watched_by rs xs q counted r f =
     let there = found_there rs q r f in
-    counted.counted r there.0 ∙ ap (watchers_in xs) (same_name r.query.name q there.1)
+    counted.counted r there.0 ∙ ap (watchers_in xs) (same_name (listed_name r.query) q there.1)
 
 is_watched_some : (r : Registered) → is_watched r ≡ true → 0 < r.watchers
 is_watched_some r h = ltb-true 0 r.watchers h
@@ -296,7 +293,7 @@ use_is k q false xs sound u = sym (sessions_unused k.cursors q xs sound.cursors_
 -- what is dropped was in no use
 dropped_unused : (st st' : Store) (used : Bool) (q : Bytes) (d : ⊤) → DropsQuery st used q (Ok d) st' → used ≡ false
 dropped_unused st st' used q d drops =
-    step used (is_none (query_of st.queries q)) (λ x. st' ≡ record st { queries = drop_first (λ (p : Query). bytes_eq p.name q) st.queries }) (OutOfMemoryWhere ⊥) drops.answer
+    step used (is_none (listed_of st.queries q)) (λ x. st' ≡ record st { queries = drop_first (λ (p : Listed). bytes_eq (listed_name p) q) st.queries }) (OutOfMemoryWhere ⊥) drops.answer
   where
     step : (u b : Bool) (Done : ⊤ → Type 0) (Late : Refusal → Type 0) → Answers (first_of ((b, NoQuery) ∷ (u, InUse) ∷ [])) (Ok d) Done Late → u ≡ false
     step false b D L h = refl
@@ -314,12 +311,15 @@ drop_stays old new before q (Ok d) g =
 drop_stays old new before q (Err e) g = stays_same old.registered new.registered before.watches before.watches g.registered refl
 
 pub does_drop : (old new : Kept) (before after : Talk) (q : Bytes) (result : Result ⊤ Refusal)
-    → DropGives old q result new → Replies before after (ok_reply (codes "ok") result) → Executes (Drop q) false old before new after 0 0
+    → DropGives old q result new → Replies before after (ok_reply (codes "ok") result) → ExecutesKeeping (Drop q) (is_done result) false old before new after 0 0
 does_drop old new before after q result d r =
-    replied_among _ old new before after (ok_reply (codes "ok") result) 0 0 0 r d.cursors (drop_stays old new before q result d) (omega arith) (λ front back s stopped sound. record {
-      result = result;
-      store = new.store;
-      done = subst (λ (used : Bool). DropsQuery old.store used q result new.store) (use_is old q d.used (among front s before back) sound d.is_used) d.store;
-      effect = refl;
-      state = refl;
-    })
+    replied_among _ old new before after (ok_reply (codes "ok") result) 0 0 0 (kept_where (is_done result)) r d.cursors (drop_stays old new before q result d) (omega arith) (λ front back s stopped sound. (
+      record {
+        result = result;
+        store = new.store;
+        done = subst (λ (used : Bool). DropsQuery old.store used q result new.store) (use_is old q d.used (among front s before back) sound d.is_used) d.store;
+        effect = refl;
+        state = refl;
+      },
+      refl,
+    ))

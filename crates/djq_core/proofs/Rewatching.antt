@@ -1,8 +1,8 @@
 -- A session that begins to watch a query, or ceases to.
 use Rattle.std.proofs.Common.{ℕ, ◌+◌, ◌<◌, ◌≤◌, ◌≡◌, ◌++◌, ◌||◌, Bool, true, false, List, [], ◌∷◌, map, cond, find, option_map, Option, None, Some, is_some, Result, Ok, Err, codes, refl, sym, ap, ap₂, ◌∙◌, subst, arith}
 use Rattle.std.specs.Prelude.{◌-◌, ⊤, IsSome, IsSomeAnd, is_none, is_err, Contains, OnOk, OnErr}
-use Rattle.djq_model.specs.declared.query.Query.{Query}
-use Rattle.djq_model.specs.Data.{Bytes, bytes_eq, drop_first, query_of}
+use Rattle.djq_model.specs.Data.{Bytes, bytes_eq, drop_first}
+use Rattle.djq_model.specs.Listed.{Listed, listed_name, listed_of}
 use Rattle.djq_model.specs.Equality.{bytes_eq-decides}
 use Rattle.djq_lines.specs.declared.limits.TheConstants.{SESSIONS}
 use Rattle.djq_lines.specs.declared.answer.Refusal.{Refusal}
@@ -78,12 +78,12 @@ pub watches_out : (rs : List Registered) (ws : List Bytes) (q : Bytes) (r : Regi
     → StaysCounted rs ws (with_watchers r.id (λ n. n - 1) rs) (without_query q ws)
 watches_out rs ws q r a n found there others h =
     let at = found_there rs q r found in
-    let name = same_name r.query.name q at.1 in
+    let name = same_name (listed_name r.query) q at.1 in
     record {
-      counted = each_with (λ m. m - 1) (λ (x : Registered). x.watchers ≡ others x.query.name + times_in (without_query q ws) x.query.name) rs r a n at.0
-          (lowered r.watchers (others r.query.name) (times_in ws r.query.name) (times_in (without_query q ws) r.query.name) (h.counted r at.0)
+      counted = each_with (λ m. m - 1) (λ (x : Registered). x.watchers ≡ others (listed_name x.query) + times_in (without_query q ws) (listed_name x.query)) rs r a n at.0
+          (lowered r.watchers (others (listed_name r.query)) (times_in ws (listed_name r.query)) (times_in (without_query q ws) (listed_name r.query)) (h.counted r at.0)
           (ap (times_in ws) name ∙ ap (λ (b : Bool). cond b 1 0) there) (ap (times_in (without_query q ws)) name ∙ times_not (without_query q ws) q (dropped_gone ws q h.once)))
-          (λ x c d. h.counted x c ∙ ap (λ (b : Bool). others x.query.name + cond b 1 0) (sym (dropped_there ws q x.query.name (subst (λ (p : Bytes). bytes_eq x.query.name p ≡ false) name d))));
+          (λ x c d. h.counted x c ∙ ap (λ (b : Bool). others (listed_name x.query) + cond b 1 0) (sym (dropped_there ws q (listed_name x.query) (subst (λ (p : Bytes). bytes_eq (listed_name x.query) p ≡ false) name d))));
       known = λ p k. names_with (λ m. m - 1) r.id rs p ∙ known (bytes_eq p q) p refl k;
       few = h.few;
       once = dropped_once ws q h.once;
@@ -99,30 +99,30 @@ watches_out rs ws q r a n found there others h =
 -- ---- registered queries
 
 -- the query of a name, of the engine's and of the store's
-query_seen : (rs : List Registered) (q : Bytes) → query_of (map (λ (r : Registered). r.query) rs) q ≡ option_map (λ (r : Registered). r.query) (registered_of rs q)
+query_seen : (rs : List Registered) (q : Bytes) → listed_of (map (λ (r : Registered). r.query) rs) q ≡ option_map (λ (r : Registered). r.query) (registered_of rs q)
 query_seen [] q = refl
-query_seen (r ∷ rs) q = step (bytes_eq r.query.name q) (query_seen rs q)
+query_seen (r ∷ rs) q = step (bytes_eq (listed_name r.query) q) (query_seen rs q)
   where
-    step : (b : Bool) → query_of (map (λ (x : Registered). x.query) rs) q ≡ option_map (λ (x : Registered). x.query) (registered_of rs q)
-        → cond b (Some r.query) (query_of (map (λ (x : Registered). x.query) rs) q) ≡ option_map (λ (x : Registered). x.query) (cond b (Some r) (registered_of rs q))
+    step : (b : Bool) → listed_of (map (λ (x : Registered). x.query) rs) q ≡ option_map (λ (x : Registered). x.query) (registered_of rs q)
+        → cond b (Some r.query) (listed_of (map (λ (x : Registered). x.query) rs) q) ≡ option_map (λ (x : Registered). x.query) (cond b (Some r) (registered_of rs q))
     step true e = refl
     step false e = e
 
-asked : (rs : List Registered) (st : Store) (q : Bytes) → map (λ (r : Registered). r.query) rs ≡ st.queries → query_of st.queries q ≡ option_map (λ (r : Registered). r.query) (registered_of rs q)
-asked rs st q e = subst (λ (qs : List Query). query_of qs q ≡ option_map (λ (r : Registered). r.query) (registered_of rs q)) e (query_seen rs q)
+asked : (rs : List Registered) (st : Store) (q : Bytes) → map (λ (r : Registered). r.query) rs ≡ st.queries → listed_of st.queries q ≡ option_map (λ (r : Registered). r.query) (registered_of rs q)
+asked rs st q e = subst (λ (qs : List Listed). listed_of qs q ≡ option_map (λ (r : Registered). r.query) (registered_of rs q)) e (query_seen rs q)
 
 -- no query has the name
 pub not_there : (rs : List Registered) (st : Store) (q : Bytes) → map (λ (r : Registered). r.query) rs ≡ st.queries
-    → None ≡ option_map (λ (r : Registered). r.id) (registered_of rs q) → is_none (query_of st.queries q) ≡ true
-not_there rs st q e h = ap (λ (o : Option Query). is_none o) (asked rs st q e) ∙ by (registered_of rs q) h
+    → None ≡ option_map (λ (r : Registered). r.id) (registered_of rs q) → is_none (listed_of st.queries q) ≡ true
+not_there rs st q e h = ap (λ (o : Option Listed). is_none o) (asked rs st q e) ∙ by (registered_of rs q) h
   where
     by : (o : Option Registered) → None ≡ option_map (λ (r : Registered). r.id) o → is_none (option_map (λ (r : Registered). r.query) o) ≡ true
     by None k = refl
     by (Some r) k = absurd (cc (k))
 
 -- a query has it
-pub is_there : (rs : List Registered) (st : Store) (q : Bytes) (r : Registered) → map (λ (x : Registered). x.query) rs ≡ st.queries → registered_of rs q ≡ Some r → is_none (query_of st.queries q) ≡ false
-is_there rs st q r e h = ap (λ (o : Option Query). is_none o) (asked rs st q e ∙ ap (option_map (λ (x : Registered). x.query)) h)
+pub is_there : (rs : List Registered) (st : Store) (q : Bytes) (r : Registered) → map (λ (x : Registered). x.query) rs ≡ st.queries → registered_of rs q ≡ Some r → is_none (listed_of st.queries q) ≡ false
+is_there rs st q r e h = ap (λ (o : Option Listed). is_none o) (asked rs st q e ∙ ap (option_map (λ (x : Registered). x.query)) h)
 
 -- ---- what is answered
 
@@ -255,39 +255,39 @@ stays_watching ws k d same = record {
 pub begins_none : (k : Kept) (d : Talk) (q : Bytes) → map (λ (r : Registered). r.query) k.registered ≡ (k.store).queries
     → None ≡ option_map (λ (r : Registered). r.id) (registered_of k.registered q) → BeginsWatch k d q (Err NoQuery) k d
 begins_none k d q laws h = record {
-  answer = no_query (is_among_watches d.watches q ≡ false) (is_none (query_of (k.store).queries q)) (not_there k.registered k.store q laws h);
+  answer = no_query (is_among_watches d.watches q ≡ false) (is_none (listed_of (k.store).queries q)) (not_there k.registered k.store q laws h);
   becomes = (refl, refl);
 }
 
 pub ceases_none : (k : Kept) (d : Talk) (q : Bytes) → map (λ (r : Registered). r.query) k.registered ≡ (k.store).queries
     → None ≡ option_map (λ (r : Registered). r.id) (registered_of k.registered q) → CeasesWatch k d q (Err NoQuery) k d
 ceases_none k d q laws h = record {
-  answer = no_query ⊥ (is_none (query_of (k.store).queries q)) (not_there k.registered k.store q laws h);
+  answer = no_query ⊥ (is_none (listed_of (k.store).queries q)) (not_there k.registered k.store q laws h);
   becomes = (refl, refl);
 }
 
 named_there : (k : Kept) (q : Bytes) (id : QueryId) → map (λ (r : Registered). r.query) k.registered ≡ (k.store).queries
-    → Some id ≡ option_map (λ (r : Registered). r.id) (registered_of k.registered q) → is_none (query_of (k.store).queries q) ≡ false
+    → Some id ≡ option_map (λ (r : Registered). r.id) (registered_of k.registered q) → is_none (listed_of (k.store).queries q) ≡ false
 named_there k q id laws h = let f = of_id (registered_of k.registered q) id h in is_there k.registered k.store q f.0 laws f.1
 
 pub begins_already : (k : Kept) (d : Talk) (q : Bytes) (id : QueryId) → map (λ (r : Registered). r.query) k.registered ≡ (k.store).queries
     → Some id ≡ option_map (λ (r : Registered). r.id) (registered_of k.registered q) → is_among_watches d.watches q ≡ true → BeginsWatch k d q (Ok tt) k d
 begins_already k d q id laws h e = record {
-  answer = a_query (is_among_watches d.watches q ≡ false) (is_none (query_of (k.store).queries q)) (named_there k q id laws h);
+  answer = a_query (is_among_watches d.watches q ≡ false) (is_none (listed_of (k.store).queries q)) (named_there k q id laws h);
   becomes = stays_watching (with_query q d.watches) k d (ap (λ (b : Bool). cond b d.watches (d.watches ++ q ∷ [])) e);
 }
 
 pub ceases_already : (k : Kept) (d : Talk) (q : Bytes) (id : QueryId) → map (λ (r : Registered). r.query) k.registered ≡ (k.store).queries
     → Some id ≡ option_map (λ (r : Registered). r.id) (registered_of k.registered q) → is_among_watches d.watches q ≡ false → CeasesWatch k d q (Ok tt) k d
 ceases_already k d q id laws h e = record {
-  answer = a_query ⊥ (is_none (query_of (k.store).queries q)) (named_there k q id laws h);
+  answer = a_query ⊥ (is_none (listed_of (k.store).queries q)) (named_there k q id laws h);
   becomes = stays_watching (without_query q d.watches) k d (dropped_none d.watches q e);
 }
 
 pub begins_full : (k : Kept) (d d' : Talk) (q : Bytes) (id : QueryId) → map (λ (r : Registered). r.query) k.registered ≡ (k.store).queries
     → Some id ≡ option_map (λ (r : Registered). r.id) (registered_of k.registered q) → is_among_watches d.watches q ≡ false → d' ≡ d → BeginsWatch k d q (Err NoMemory) k d'
 begins_full k d d' q id laws h e same = record {
-  answer = no_memory (is_among_watches d.watches q ≡ false) (is_none (query_of (k.store).queries q)) (named_there k q id laws h) e;
+  answer = no_memory (is_among_watches d.watches q ≡ false) (is_none (listed_of (k.store).queries q)) (named_there k q id laws h) e;
   becomes = (refl, same);
 }
 
@@ -308,7 +308,7 @@ begins_done k k' d d' q id laws apart names h e s u =
     let f = of_id (registered_of k.registered q) id h in
     let same : with_query q d.watches ≡ d.watches ++ q ∷ [] = ap (λ (b : Bool). cond b d.watches (d.watches ++ q ∷ [])) e in
     record {
-      answer = a_query (is_among_watches d.watches q ≡ false) (is_none (query_of (k.store).queries q)) (named_there k q id laws h);
+      answer = a_query (is_among_watches d.watches q ≡ false) (is_none (listed_of (k.store).queries q)) (named_there k q id laws h);
       becomes = record {
         rest = rest_with (λ n. n + 1) id k k' u;
         session = s ∙ ap (λ (ws : List Bytes). record d { watches = ws }) (sym same);
@@ -322,7 +322,7 @@ pub ceases_done : (k k' : Kept) (d d' : Talk) (q : Bytes) (id : QueryId) → map
 ceases_done k k' d d' q id laws apart names h e s u =
     let f = of_id (registered_of k.registered q) id h in
     record {
-      answer = a_query ⊥ (is_none (query_of (k.store).queries q)) (named_there k q id laws h);
+      answer = a_query ⊥ (is_none (listed_of (k.store).queries q)) (named_there k q id laws h);
       becomes = record {
         rest = rest_with (λ n. n - 1) id k k' u;
         session = s;
@@ -333,12 +333,12 @@ ceases_done k k' d d' q id laws apart names h e s u =
 -- ---- what the engine asks
 
 at_id : (k : Kept) (q : Bytes) (id : QueryId) (P : Registered → Type 0) → IdsApart k.registered → Some id ≡ option_map (λ (r : Registered). r.id) (registered_of k.registered q)
-    → ((r : Registered) → Contains k.registered r → r.query.name ≡ q → P r) → IsSomeAnd (registered_at k.registered id) P
+    → ((r : Registered) → Contains k.registered r → (listed_name r.query) ≡ q → P r) → IsSomeAnd (registered_at k.registered id) P
 at_id k q id P apart h holds =
     let f = of_id (registered_of k.registered q) id h in
     let t = found_there k.registered q f.0 f.1 in
     subst (λ (i : QueryId). IsSomeAnd (registered_at k.registered i) P) f.2
-    (is_some_at P (registered_at k.registered (f.0).id) f.0 (at_its_id k.registered f.0 apart t.0) (holds f.0 t.0 (same_name (f.0).query.name q t.1)))
+    (is_some_at P (registered_at k.registered (f.0).id) f.0 (at_its_id k.registered f.0 apart t.0) (holds f.0 t.0 (same_name (listed_name (f.0).query) q t.1)))
 
 pub may_watch : (k : Kept) (d : Talk) (q : Bytes) (id : QueryId) → HasCount k.registered d.watches → IdsApart k.registered → Some id ≡ option_map (λ (r : Registered). r.id) (registered_of k.registered q)
     → is_among_watches d.watches q ≡ false → IsSomeAnd (registered_at k.registered id) (λ r. r.watchers < SESSIONS)

@@ -3,6 +3,7 @@ use Rattle.std.proofs.Common.{ℕ, zero, suc, length, ◌≡◌, ◌<◌, ◌≤
 use Rattle.std.specs.Prelude.{⊤}
 use Rattle.std.specs.Str.{is_utf8}
 use Rattle.std.proofs.lemmas.Bool.{and_parts, leb-true}
+use Rattle.djq_model.specs.declared.relation.ColumnType.{ColumnType}
 use Rattle.djq_model.specs.declared.query.Query.{Query}
 use Rattle.djq_model.specs.declared.query.Atom.{Atom}
 use Rattle.djq_model.specs.Data.{Bytes}
@@ -10,14 +11,15 @@ use Rattle.djq_value.specs.Token.{Token, word, text, open_paren, close_paren, co
 use Rattle.djq_value.specs.Literal.{is_name, natural_of, literal_of}
 use Rattle.djq_lines.specs.declared.answer.Refusal.TheVariants.{WrongType, Syntax}
 use Rattle.djq_lines.specs.declared.command.Command.{Command}
-use Rattle.djq_lines.specs.declared.command.Command.TheVariants.{Rel, Add, Del, Query as Register, Drop, Open, Next, Close, Has, Watch, Unwatch, Explain, Quit, Stop}
+use Rattle.djq_lines.specs.declared.command.Command.TheVariants.{Rel, Add, Del, Query as Register, Drop, Open, Next, Close, Has, Watch, Unwatch, Explain, Shape, Quit, Stop}
 use Rattle.djq_lines.specs.declared.keyword.Keyword.{Keyword}
-use Rattle.djq_lines.specs.declared.keyword.Keyword.TheVariants.{Rel as RelWord, Add as AddWord, Del as DelWord, Query as QueryWord, Drop as DropWord, Open as OpenWord, Next as NextWord, Close as CloseWord, Has as HasWord, Watch as WatchWord, Unwatch as UnwatchWord, Explain as ExplainWord, Quit as QuitWord, Stop as StopWord}
+use Rattle.djq_lines.specs.declared.keyword.Keyword.TheVariants.{Rel as RelWord, Add as AddWord, Del as DelWord, Query as QueryWord, Drop as DropWord, Open as OpenWord, Next as NextWord, Close as CloseWord, Has as HasWord, Watch as WatchWord, Unwatch as UnwatchWord, Explain as ExplainWord, Shape as ShapeWord, Quit as QuitWord, Stop as StopWord}
 use Rattle.djq_lines.specs.Reply.{refusal_line}
-use Rattle.djq_lines.specs.Grammar.{Reading, refused, says, reading_in, reading_of, command_of, command_in, command_with, command_behind, is_in_range, takes_memory_to_read, is_count, count_of, keyword_of, nothing, type_of, named_some, named_any, query_in, query_of, body_in, atoms_in, atoms_within, atom_in, behind_atom, in_front, list_in, name_of, one_name, two_names, name_and_count}
+use Rattle.djq_lines.specs.Grammar.{outside, past_limit, says, reading_in, reading_of, command_of, command_in, command_with, command_behind, is_in_range, takes_memory_to_read, is_count, count_of, keyword_of, nothing, type_of, all_of, named_some, named_any, query_in, query_of, body_in, atoms_in, atoms_within, atom_in, behind_atom, in_front, list_in, name_of, one_name, two_names, name_and_count}
 use Rattle.djq_proto.specs.declared.refusal.LineRefusal.{LineRefusal}
 use Rattle.djq_proto.specs.declared.refusal.LineRefusal.TheVariants.{Syntax as Outside, Range, NoMem}
 use Rattle.djq_proto.specs.Reading.{Gives, Reads}
+use Rattle.djq_machine.specs.Keeping.{kept_where}
 use Rattle.djq_machine.specs.LineStep.{ReadStep}
 use Rattle.djq_session.specs.Dialog.{Replies}
 use Rattle.djq_engine.specs.Kept.{Kept}
@@ -27,7 +29,7 @@ use Rattle.djq_core.specs.Stepping.{IsRunnable, refused_as}
 use Rattle.djq_core.proofs.Taking.{reads_refused, reads_nothing}
 
 -- what a command in range gives
-read_by : (in_range : Bool) (c : Command) → in_range ≡ true → cond in_range (says c) (refused WrongType) ≡ says c
+read_by : (in_range : Bool) (c : Command) → in_range ≡ true → cond in_range (says c) (past_limit c) ≡ says c
 read_by true c e = refl
 read_by false c e = absurd (cc)
 
@@ -38,13 +40,13 @@ in_says (Some a) c g = read_by (is_in_range a) a g.0.1 ∙ ap (λ (x : Command).
 pub reads_as : (line : Bytes) (c : Command) → Reads line (Ok c) → reading_of line ≡ says c
 reads_as line c g = in_says (command_of line) c g
 
-in_outside : (o : Option Command) → Gives o (Err Outside) → reading_in o ≡ refused Syntax
+in_outside : (o : Option Command) → Gives o (Err Outside) → reading_in o ≡ outside
 in_outside None g = refl
 in_outside (Some a) g = absurd g.0
 
-in_range_past : (o : Option Command) → Gives o (Err Range) → reading_in o ≡ refused WrongType
+in_range_past : (o : Option Command) → Gives o (Err Range) → (c : Command) × (reading_in o ≡ past_limit c)
 in_range_past None g = absurd (cc (g.0))
-in_range_past (Some a) g = ap (λ (b : Bool). cond b (says a) (refused WrongType)) g.0
+in_range_past (Some a) g = (a, ap (λ (b : Bool). cond b (says a) (past_limit a)) g.0)
 
 in_memory : (o : Option Command) → Gives o (Err NoMem) → (c : Command) × (reading_in o ≡ says c) × (takes_memory_to_read c ≡ true)
 in_memory None g = absurd (cc (g.0))
@@ -52,9 +54,10 @@ in_memory (Some a) g = (a, read_by (is_in_range a) a g.0, g.1)
 
 -- a line that gives no command
 pub reads_err : (k : Kept) (before after : Talk) (line : Bytes) (r : LineRefusal) (was : ℕ) → Reads line (Err r) → Replies before after (refusal_line (refused_as r))
-    → Performs (λ st s x e st'. ReadStep st s x (reading_of line) e st') false k before k after was was
-reads_err k before after line Outside was g reply = reads_refused k before after line Syntax was (in_outside (command_of line) g) reply
-reads_err k before after line Range was g reply = reads_refused k before after line WrongType was (in_range_past (command_of line) g) reply
+    → Performs (λ st s x e st'. ReadStep st s x line (reading_of line) e st' × (e.kept ≡ kept_where false)) false k before k after was was
+reads_err k before after line Outside was g reply = reads_refused k before after line outside Syntax was (in_outside (command_of line) g) (λ st s x e st' h. h) reply
+reads_err k before after line Range was g reply =
+    let past = in_range_past (command_of line) g in reads_refused k before after line (past_limit past.0) WrongType was past.1 (λ st s x e st' h. h) reply
 reads_err k before after line NoMem was g reply = let m = in_memory (command_of line) g in reads_nothing k before after line m.0 was m.1 m.2 reply
 
 -- A count that a line says is one at least.
@@ -105,44 +108,6 @@ count_said (stray ∷ ts) p e = absurd (cc)
 no_count : (command : Command) (ts : List Token) (other : Command) (P : Type 0) → (command ≡ other → P) → nothing command ts ≡ Some other → P
 no_count command [] other P h e = h (cc)
 no_count command (t ∷ ts) other P h e = absurd (cc)
-
-counted : (ts : List Token) (k : Keyword) (c : Bytes) (n : ℕ) → command_behind k ts ≡ Some (Next c n) → 1 ≤ n
-counted ts RelWord c n e = made_of (λ p. Rel p.0 p.1) (named_some type_of ts) (Next c n) (1 ≤ n) (λ a f g. absurd (cc)) e
-counted ts AddWord c n e = made_of (λ p. Add p.0 p.1) (named_some literal_of ts) (Next c n) (1 ≤ n) (λ a f g. absurd (cc)) e
-counted ts DelWord c n e = made_of (λ p. Del p.0 p.1) (named_some literal_of ts) (Next c n) (1 ≤ n) (λ a f g. absurd (cc)) e
-counted ts QueryWord c n e = made_of (λ q. Register q) (query_in ts) (Next c n) (1 ≤ n) (λ a f g. absurd (cc)) e
-counted ts DropWord c n e = made_of (λ q. Drop q) (one_name ts) (Next c n) (1 ≤ n) (λ a f g. absurd (cc)) e
-counted ts OpenWord c n e = made_of (λ p. Open p.0 p.1) (two_names ts) (Next c n) (1 ≤ n) (λ a f g. absurd (cc)) e
-counted ts NextWord c n e = made_of (λ p. Next p.0 p.1) (name_and_count ts) (Next c n) (1 ≤ n) (λ p f g. let same : p.1 ≡ n = cc in subst (λ (k : ℕ). 1 ≤ k) same (count_said ts p f)) e
-counted ts CloseWord c n e = made_of (λ q. Close q) (one_name ts) (Next c n) (1 ≤ n) (λ a f g. absurd (cc)) e
-counted ts HasWord c n e = made_of (λ p. Has p.0 p.1) (named_any literal_of ts) (Next c n) (1 ≤ n) (λ a f g. absurd (cc)) e
-counted ts WatchWord c n e = made_of (λ q. Watch q) (one_name ts) (Next c n) (1 ≤ n) (λ a f g. absurd (cc)) e
-counted ts UnwatchWord c n e = made_of (λ q. Unwatch q) (one_name ts) (Next c n) (1 ≤ n) (λ a f g. absurd (cc)) e
-counted ts ExplainWord c n e = made_of (λ q. Explain q) (one_name ts) (Next c n) (1 ≤ n) (λ a f g. absurd (cc)) e
-counted ts QuitWord c n e = no_count Quit ts (Next c n) (1 ≤ n) (λ g. absurd (cc)) e
-counted ts StopWord c n e = no_count Stop ts (Next c n) (1 ≤ n) (λ g. absurd (cc)) e
-
-counted_with : (o : Option Keyword) (ts : List Token) (c : Bytes) (n : ℕ) → command_with o ts ≡ Some (Next c n) → 1 ≤ n
-counted_with None ts c n e = absurd (cc)
-counted_with (Some k) ts c n e = counted ts k c n e
-
-counted_in : (ts : List Token) (c : Bytes) (n : ℕ) → command_in ts ≡ Some (Next c n) → 1 ≤ n
-counted_in [] c n e = absurd (cc)
-counted_in (word w ∷ ts) c n e = counted_with (keyword_of w) ts c n e
-counted_in (text w ∷ ts) c n e = absurd (cc)
-counted_in (open_paren ∷ ts) c n e = absurd (cc)
-counted_in (close_paren ∷ ts) c n e = absurd (cc)
-counted_in (comma ∷ ts) c n e = absurd (cc)
-counted_in (arrow ∷ ts) c n e = absurd (cc)
-counted_in (stray ∷ ts) c n e = absurd (cc)
-
-counted_of : (line : Bytes) (c : Bytes) (n : ℕ) → command_of line ≡ Some (Next c n) → 1 ≤ n
-unfolding command_of
-counted_of line c n e = step (is_utf8 line) e
-  where
-    step : (b : Bool) → cond b (command_in (tokens line)) None ≡ Some (Next c n) → 1 ≤ n
-    step true e = counted_in (tokens line) c n e
-    step false e = absurd (cc)
 
 -- A query that a line says has an atom at least.
 
@@ -203,36 +168,62 @@ query_said (comma ∷ ts) q e = absurd (cc)
 query_said (arrow ∷ ts) q e = absurd (cc)
 query_said (stray ∷ ts) q e = absurd (cc)
 
--- what holds of a command of a query, and of any other
-abbrev pub HasAtom : Command → Type 0
-HasAtom (Register q) = 0 < length q.atoms
-HasAtom _ = ⊤
+-- A relation that a line says has a column at least.
 
-atoms_behind : (k : Keyword) (ts : List Token) (command : Command) → command_behind k ts ≡ Some command → HasAtom command
-atoms_behind RelWord ts command e = made_of (λ p. Rel p.0 p.1) (named_some type_of ts) command (HasAtom command) (λ a f g. subst HasAtom g tt) e
-atoms_behind AddWord ts command e = made_of (λ p. Add p.0 p.1) (named_some literal_of ts) command (HasAtom command) (λ a f g. subst HasAtom g tt) e
-atoms_behind DelWord ts command e = made_of (λ p. Del p.0 p.1) (named_some literal_of ts) command (HasAtom command) (λ a f g. subst HasAtom g tt) e
-atoms_behind QueryWord ts command e = made_of (λ q. Register q) (query_in ts) command (HasAtom command) (λ q f g. subst HasAtom g (query_said ts q f)) e
-atoms_behind DropWord ts command e = made_of (λ q. Drop q) (one_name ts) command (HasAtom command) (λ a f g. subst HasAtom g tt) e
-atoms_behind OpenWord ts command e = made_of (λ p. Open p.0 p.1) (two_names ts) command (HasAtom command) (λ a f g. subst HasAtom g tt) e
-atoms_behind NextWord ts command e = made_of (λ p. Next p.0 p.1) (name_and_count ts) command (HasAtom command) (λ a f g. subst HasAtom g tt) e
-atoms_behind CloseWord ts command e = made_of (λ q. Close q) (one_name ts) command (HasAtom command) (λ a f g. subst HasAtom g tt) e
-atoms_behind HasWord ts command e = made_of (λ p. Has p.0 p.1) (named_any literal_of ts) command (HasAtom command) (λ a f g. subst HasAtom g tt) e
-atoms_behind WatchWord ts command e = made_of (λ q. Watch q) (one_name ts) command (HasAtom command) (λ a f g. subst HasAtom g tt) e
-atoms_behind UnwatchWord ts command e = made_of (λ q. Unwatch q) (one_name ts) command (HasAtom command) (λ a f g. subst HasAtom g tt) e
-atoms_behind ExplainWord ts command e = made_of (λ q. Explain q) (one_name ts) command (HasAtom command) (λ a f g. subst HasAtom g tt) e
-atoms_behind QuitWord ts command e = no_count Quit ts command (HasAtom command) (λ g. subst HasAtom g tt) e
-atoms_behind StopWord ts command e = no_count Stop ts command (HasAtom command) (λ g. subst HasAtom g tt) e
+front_some : {A : Type 0} (o : Option A) (more : Option (List A)) (xs : List A) → in_front o more ≡ Some xs → 0 < length xs
+front_some None more xs e = absurd (cc)
+front_some (Some a) None xs e = absurd (cc)
+front_some {A} (Some a) (Some more) xs e = let same : a ∷ more ≡ xs = cc in omega (arith, ap (λ (l : List A). length l) same)
 
-registered_of : (line : Bytes) (q : Query) → command_of line ≡ Some (Register q) → 0 < length q.atoms
-unfolding command_of
-registered_of line q e = step (is_utf8 line) e
+types_said : (ts : List Token) (p : Bytes × List ColumnType) → named_some type_of ts ≡ Some p → 0 < length p.1
+types_said [] p e = absurd (cc)
+types_said (word n ∷ []) p e = absurd (cc)
+types_said (word n ∷ t ∷ ts) p e = by (is_name n) e
   where
-    with_keyword : (o : Option Keyword) (ts : List Token) → command_with o ts ≡ Some (Register q) → 0 < length q.atoms
-    with_keyword None ts f = absurd (cc)
-    with_keyword (Some k) ts f = atoms_behind k ts (Register q) f
+    made : (o : Option (List ColumnType)) → all_of type_of (t ∷ ts) ≡ o → option_map (λ xs. (n, xs)) o ≡ Some p → 0 < length p.1
+    made None f g = absurd (cc)
+    made (Some xs) f g =
+        let same : (n, xs) ≡ p = cc in
+        subst (λ (q : Bytes × List ColumnType). 0 < length q.1) same (front_some (type_of t) (all_of type_of ts) xs f)
 
-    in_tokens : (ts : List Token) → command_in ts ≡ Some (Register q) → 0 < length q.atoms
+    by : (b : Bool) → cond b (option_map (λ xs. (n, xs)) (all_of type_of (t ∷ ts))) None ≡ Some p → 0 < length p.1
+    by true f = made (all_of type_of (t ∷ ts)) refl f
+    by false f = absurd (cc)
+types_said (text n ∷ ts) p e = absurd (cc)
+types_said (open_paren ∷ ts) p e = absurd (cc)
+types_said (close_paren ∷ ts) p e = absurd (cc)
+types_said (comma ∷ ts) p e = absurd (cc)
+types_said (arrow ∷ ts) p e = absurd (cc)
+types_said (stray ∷ ts) p e = absurd (cc)
+
+-- What a line says can be run.
+
+runnable_behind : (k : Keyword) (ts : List Token) (command : Command) → command_behind k ts ≡ Some command → IsRunnable command
+runnable_behind RelWord ts command e = made_of (λ p. Rel p.0 p.1) (named_some type_of ts) command (IsRunnable command) (λ p f g. subst IsRunnable g (types_said ts p f)) e
+runnable_behind AddWord ts command e = made_of (λ p. Add p.0 p.1) (named_some literal_of ts) command (IsRunnable command) (λ a f g. subst IsRunnable g tt) e
+runnable_behind DelWord ts command e = made_of (λ p. Del p.0 p.1) (named_some literal_of ts) command (IsRunnable command) (λ a f g. subst IsRunnable g tt) e
+runnable_behind QueryWord ts command e = made_of (λ q. Register q) (query_in ts) command (IsRunnable command) (λ q f g. subst IsRunnable g (query_said ts q f)) e
+runnable_behind DropWord ts command e = made_of (λ q. Drop q) (one_name ts) command (IsRunnable command) (λ a f g. subst IsRunnable g tt) e
+runnable_behind OpenWord ts command e = made_of (λ p. Open p.0 p.1) (two_names ts) command (IsRunnable command) (λ a f g. subst IsRunnable g tt) e
+runnable_behind NextWord ts command e = made_of (λ p. Next p.0 p.1) (name_and_count ts) command (IsRunnable command) (λ p f g. subst IsRunnable g (count_said ts p f)) e
+runnable_behind CloseWord ts command e = made_of (λ q. Close q) (one_name ts) command (IsRunnable command) (λ a f g. subst IsRunnable g tt) e
+runnable_behind HasWord ts command e = made_of (λ p. Has p.0 p.1) (named_any literal_of ts) command (IsRunnable command) (λ a f g. subst IsRunnable g tt) e
+runnable_behind WatchWord ts command e = made_of (λ q. Watch q) (one_name ts) command (IsRunnable command) (λ a f g. subst IsRunnable g tt) e
+runnable_behind UnwatchWord ts command e = made_of (λ q. Unwatch q) (one_name ts) command (IsRunnable command) (λ a f g. subst IsRunnable g tt) e
+runnable_behind ExplainWord ts command e = made_of (λ q. Explain q) (one_name ts) command (IsRunnable command) (λ a f g. subst IsRunnable g tt) e
+runnable_behind ShapeWord ts command e = made_of (λ q. Shape q) (one_name ts) command (IsRunnable command) (λ a f g. subst IsRunnable g tt) e
+runnable_behind QuitWord ts command e = no_count Quit ts command (IsRunnable command) (λ g. subst IsRunnable g tt) e
+runnable_behind StopWord ts command e = no_count Stop ts command (IsRunnable command) (λ g. subst IsRunnable g tt) e
+
+run_as : (line : Bytes) (c : Command) → command_of line ≡ Some c → IsRunnable c
+unfolding command_of
+run_as line c e = step (is_utf8 line) e
+  where
+    with_keyword : (o : Option Keyword) (ts : List Token) → command_with o ts ≡ Some c → IsRunnable c
+    with_keyword None ts f = absurd (cc)
+    with_keyword (Some k) ts f = runnable_behind k ts c f
+
+    in_tokens : (ts : List Token) → command_in ts ≡ Some c → IsRunnable c
     in_tokens [] f = absurd (cc)
     in_tokens (word w ∷ ts) f = with_keyword (keyword_of w) ts f
     in_tokens (text w ∷ ts) f = absurd (cc)
@@ -242,25 +233,9 @@ registered_of line q e = step (is_utf8 line) e
     in_tokens (arrow ∷ ts) f = absurd (cc)
     in_tokens (stray ∷ ts) f = absurd (cc)
 
-    step : (b : Bool) → cond b (command_in (tokens line)) None ≡ Some (Register q) → 0 < length q.atoms
+    step : (b : Bool) → cond b (command_in (tokens line)) None ≡ Some c → IsRunnable c
     step true f = in_tokens (tokens line) f
     step false f = absurd (cc)
-
-run_as : (line : Bytes) (c : Command) → command_of line ≡ Some c → IsRunnable c
-run_as line (Rel n cs) e = tt
-run_as line (Add n row) e = tt
-run_as line (Del n row) e = tt
-run_as line (Register q) e = registered_of line q e
-run_as line (Drop q) e = tt
-run_as line (Open c q) e = tt
-run_as line (Next c n) e = counted_of line c n e
-run_as line (Close c) e = tt
-run_as line (Has q row) e = tt
-run_as line (Watch q) e = tt
-run_as line (Unwatch q) e = tt
-run_as line (Explain q) e = tt
-run_as line Quit e = tt
-run_as line Stop e = tt
 
 runnable_in : (line : Bytes) (o : Option Command) (c : Command) → command_of line ≡ o → Gives o (Ok c) → IsRunnable c
 runnable_in line None c e g = absurd (cc (g.0))

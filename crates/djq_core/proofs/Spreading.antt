@@ -5,6 +5,7 @@ use Rattle.std.specs.List.{list_any}
 use Rattle.std.proofs.lemmas.Bool.{cond-true, cond-false, eq-eqb, eqb-true}
 use Rattle.std.proofs.lemmas.List.{drop_all, length-map}
 use Rattle.djq_model.specs.Data.{Bytes, bytes_eq}
+use Rattle.djq_model.specs.Listed.{listed_name}
 use Rattle.djq_lines.specs.declared.answer.EndCause.{EndCause}
 use Rattle.djq_lines.specs.Reply.{text_of}
 use Rattle.djq_machine.specs.State.{Session, State, ids_of, session_of}
@@ -15,7 +16,7 @@ use Rattle.djq_machine.specs.Watch.{Delta, Telling, is_watching, watching, watch
 use Rattle.djq_engine.specs.Kept.{Kept}
 use Rattle.djq_core.specs.declared.open.OpenSession.{OpenSession}
 use Rattle.djq_core.specs.Views.{Talk, session_in, open_in, state_in}
-use Rattle.djq_core.specs.Performs.{among, to_one, unqueued, Performs}
+use Rattle.djq_core.specs.Performs.{among, to_keep, unqueued, Performs}
 use Rattle.djq_core.specs.Sound.{IsSound, IsOwn, times_in, watchers_in, is_among_watches, all_ids, ids_of as ids_of_cursors}
 use Rattle.djq_core.specs.Telling.{KeepsTold, HearsDelta, WatchesOn, KeepsUntold, ToldSoFar, GoesOnTelling}
 use Rattle.djq_core.proofs.Around.{parts, found, ids_are}
@@ -71,17 +72,17 @@ untold_told ps (x ∷ start) (y ∷ front) s d e back p (i, h, rest) = (i, h, un
 -- One session among others.
 
 -- whether the machine sees the session watching
-sees : (d : Delta) (q : Bytes) (b : Bool) (x : Session) → d.query.name ≡ q → is_among_watches x.watches q ≡ b → is_watching d.query.name x ≡ b
+sees : (d : Delta) (q : Bytes) (b : Bool) (x : Session) → (listed_name d.query) ≡ q → is_among_watches x.watches q ≡ b → is_watching (listed_name d.query) x ≡ b
 sees d q b x e h = ap (λ (n : Bytes). is_among_watches x.watches n) e ∙ h
 
 pub told_reaches : (q : Bytes) (whole : Bool) (text : Bytes) (old : Kept) (before : Talk) (new : Kept) (after : Talk) (front : List OpenSession) (s : ℕ) (back : List OpenSession)
     → Performs (λ st i x e st'. HearsDelta whole text st i x e st') false old before new after 0 0 → IsSound old (among front s before back) → is_among_watches before.watches q ≡ true
-    → (d : Delta) (n : ℕ) → d.query.name ≡ q → (whole ≡ true → text ≡ text_of (delta_lines d.query.name d.changes n))
+    → (d : Delta) (n : ℕ) → (listed_name d.query) ≡ q → (whole ≡ true → text ≡ text_of (delta_lines (listed_name d.query) d.changes n))
     → Reaches (λ m m'. TellsSession d n m s m') old (among front s before back) new (among front s after back)
 told_reaches q whole text old before new after front s back p sound w d n same fits stopped start m so =
     let x = session_in old.cursors s before in
     let did = p.does front back s stopped sound in
-    let b = bridged d n s m (state_in old stopped (among front s before back)) (state_in new stopped (among front s (unqueued before after) back)) x (to_one s p.text p.cost) whole text (sym so.seen)
+    let b = bridged d n s m (state_in old stopped (among front s before back)) (state_in new stopped (among front s (unqueued before after) back)) x (to_keep s p.text p.cost p.kept) whole text (sym so.seen)
     (found old stopped front s before back (parts old front s before back sound)) (sees d q true x same w) fits did in (
       b.telling,
       b.tells,
@@ -93,12 +94,12 @@ told_reaches q whole text old before new after front s back p sound w d n same f
     )
 
 pub untold_reaches : (q : Bytes) (k : Kept) (before : Talk) (front : List OpenSession) (s : ℕ) (back : List OpenSession)
-    → IsSound k (among front s before back) → is_among_watches before.watches q ≡ false → (d : Delta) (n : ℕ) → d.query.name ≡ q
+    → IsSound k (among front s before back) → is_among_watches before.watches q ≡ false → (d : Delta) (n : ℕ) → (listed_name d.query) ≡ q
     → Reaches (λ m m'. TellsSession d n m s m') k (among front s before back) k (among front s before back)
 untold_reaches q k before front s back sound w d n same stopped start m so =
     let x = session_in k.cursors s before in
-    let none : watcher_of m d.query.name s ≡ None
-    = ap (λ (y : State). watching d.query.name (session_of y s)) so.seen ∙ ap (watching d.query.name) (found k stopped front s before back (parts k front s before back sound))
+    let none : watcher_of m (listed_name d.query) s ≡ None
+    = ap (λ (y : State). watching (listed_name d.query) (session_of y s)) so.seen ∙ ap (watching (listed_name d.query)) (found k stopped front s before back (parts k front s before back sound))
     ∙ cond-false _ _ _ (sees d q false x same w) in
     (m, subst (λ (o : Option Session). MatchOption o (m ≡ m) (λ y. TellsWatcher d n s y.pending m m)) (sym none) refl, so)
 
@@ -127,7 +128,7 @@ GoesOnFrom d n xs at m m' = (last : Telling) → Walk (TellsSession d n) m' (dro
 -- So many sessions have been told a delta.
 pub record TellsSoFar (q : Bytes) (whole : Bool) (text : Bytes) (old : Kept) (xs : List OpenSession) (at : ℕ) (k : Kept) (ys : List OpenSession) : Type 0 where
   pub goes_on : GoesOnTelling old xs k ys
-  pub reaches : (d : Delta) (n : ℕ) → d.query.name ≡ q → (whole ≡ true → text ≡ text_of (delta_lines d.query.name d.changes n)) → Reaches (GoesOnFrom d n xs at) old xs k ys
+  pub reaches : (d : Delta) (n : ℕ) → (listed_name d.query) ≡ q → (whole ≡ true → text ≡ text_of (delta_lines (listed_name d.query) d.changes n)) → Reaches (GoesOnFrom d n xs at) old xs k ys
 
 pub telling_starts : (q : Bytes) (whole : Bool) (text : Bytes) (k : Kept) (xs : List OpenSession) → IsSound k xs → TellsSoFar q whole text k xs 0 k xs
 telling_starts q whole text k xs sound = record {
@@ -155,7 +156,7 @@ ids_from old k xs ys at e g l h =
 -- one more, which comes to this
 one_more : (q : Bytes) (whole : Bool) (text : Bytes) (old : Kept) (xs : List OpenSession) (at : ℕ) (k new : Kept) (ys zs : List OpenSession) (e : OpenSession)
     → TellsSoFar q whole text old xs at k ys → at < length ys → e ≡ get_or ys at e → GoesOnTelling k ys new zs
-    → ((d : Delta) (n : ℕ) → d.query.name ≡ q → (whole ≡ true → text ≡ text_of (delta_lines d.query.name d.changes n)) → Reaches (λ m m'. TellsSession d n m e.id m') k ys new zs)
+    → ((d : Delta) (n : ℕ) → (listed_name d.query) ≡ q → (whole ≡ true → text ≡ text_of (delta_lines (listed_name d.query) d.changes n)) → Reaches (λ m m'. TellsSession d n m e.id m') k ys new zs)
     → TellsSoFar q whole text old xs (suc at) new zs
 one_more q whole text old xs at k new ys zs e so l h g step = record {
   goes_on = goes_on_on old k new xs ys zs so.goes_on g;
@@ -195,7 +196,7 @@ untold_one q whole text old xs at k ys e so l h w =
 
 -- all have been told
 pub told_all : (q : Bytes) (whole : Bool) (text : Bytes) (old : Kept) (xs : List OpenSession) (at : ℕ) (k : Kept) (ys : List OpenSession) → TellsSoFar q whole text old xs at k ys → length ys ≤ at
-    → (d : Delta) (n : ℕ) → d.query.name ≡ q → (whole ≡ true → text ≡ text_of (delta_lines d.query.name d.changes n)) → Reaches (λ m m'. TellsDelta n m d m') old xs k ys
+    → (d : Delta) (n : ℕ) → (listed_name d.query) ≡ q → (whole ≡ true → text ≡ text_of (delta_lines (listed_name d.query) d.changes n)) → Reaches (λ m m'. TellsDelta n m d m') old xs k ys
 told_all q whole text old xs at k ys so l d n same fits stopped start m told =
     let r = so.reaches d n same fits stopped start m told in
     let ns = map (λ (x : OpenSession). x.id) xs in
@@ -220,11 +221,11 @@ walks_still : (R : Telling → ℕ → Telling → Type 0) (m : Telling) (ns : L
 walks_still R m [] h = refl
 walks_still R m (n ∷ ns) h = (m, h n, walks_still R m ns h)
 
-pub nobody_reaches : (k : Kept) (xs : List OpenSession) (d : Delta) (n : ℕ) → watchers_in xs d.query.name ≡ 0 → Reaches (λ m m'. TellsDelta n m d m') k xs k xs
+pub nobody_reaches : (k : Kept) (xs : List OpenSession) (d : Delta) (n : ℕ) → watchers_in xs (listed_name d.query) ≡ 0 → Reaches (λ m m'. TellsDelta n m d m') k xs k xs
 nobody_reaches k xs d n h stopped start m so = (
   m,
   walks_still (TellsSession d n) m (ids_of m.state)
-      (λ s. subst (λ (o : Option Session). MatchOption o (m ≡ m) (λ y. TellsWatcher d n s y.pending m m)) (sym (ap (λ (y : State). watching d.query.name (session_of y s)) so.seen ∙ nobody k xs d.query.name s h)) refl),
+      (λ s. subst (λ (o : Option Session). MatchOption o (m ≡ m) (λ y. TellsWatcher d n s y.pending m m)) (sym (ap (λ (y : State). watching (listed_name d.query) (session_of y s)) so.seen ∙ nobody k xs (listed_name d.query) s h)) refl),
   so,
 )
 

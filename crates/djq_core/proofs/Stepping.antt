@@ -4,13 +4,13 @@ use Rattle.std.specs.Prelude.{All, IsSome, IsSomeAnd, slice_get}
 use Rattle.std.proofs.lemmas.List.Elements.{All-map}
 use Rattle.djq_model.specs.Data.{Bytes, Tuple, rows_of, without_row}
 use Rattle.djq_lines.specs.declared.command.Command.{Command}
-use Rattle.djq_lines.specs.declared.command.Command.TheVariants.{Rel, Add, Del, Query as Register, Drop, Open, Next, Close, Has, Watch, Unwatch, Explain, Quit, Stop}
+use Rattle.djq_lines.specs.declared.command.Command.TheVariants.{Rel, Add, Del, Query as Register, Drop, Open, Next, Close, Has, Watch, Unwatch, Explain, Shape, Quit, Stop}
 use Rattle.djq_machine.specs.declared.machine.Stepped.{Stepped}
 use Rattle.djq_machine.specs.declared.machine.Stepped.TheVariants.{Ran, Dry, Ended}
 use Rattle.djq_machine.specs.Call.{Counts}
-use Rattle.djq_machine.specs.Stale.{add_outdates, add_accepted, delete_outdates}
+use Rattle.djq_machine.specs.Changes.{RowsChange, RowsOutcome, row_in, row_out, add_outcome, delete_outcome, is_accepted as is_made, tried}
 use Rattle.djq_engine.specs.declared.cursor.QueryId.{QueryId}
-use Rattle.djq_engine.specs.Kept.{Kept, Registered, Outdates, IsRegistered, registered_at, readers_of}
+use Rattle.djq_engine.specs.Kept.{Kept, Registered, Outdates, IsRegistered, registered_at}
 use Rattle.djq_core.specs.declared.open.OpenSession.{OpenSession}
 use Rattle.djq_core.specs.declared.change.Change.{Change}
 use Rattle.djq_core.specs.declared.change.Left.{Left}
@@ -18,22 +18,22 @@ use Rattle.djq_core.specs.declared.change.Left.TheVariants.{Telling}
 use Rattle.djq_core.specs.Views.{Talk}
 use Rattle.djq_core.specs.Sound.{IsSound}
 use Rattle.djq_core.specs.Performs.{among}
-use Rattle.djq_core.specs.Changing.{Changed, IsChange, LeavesChange, is_accepted}
+use Rattle.djq_core.specs.Changing.{Changed, IsChange, LeavesChange, is_accepted, is_kept}
 use Rattle.djq_core.specs.Stepping.{LeavesTo}
-use Rattle.djq_core.proofs.Composing.{sound_changed, add_both, affected_logs}
+use Rattle.djq_core.proofs.Composing.{sound_changed, add_made, delete_made, readers_by, affected_logs}
 
 -- Only a line that was run leaves one.
 pub telling_ran : (stepped : Stepped) (change : Change) (old : Kept) (before : Talk) (new : Kept) (after : Talk) (was now : Counts)
-    → LeavesTo stepped (Telling change) old before new after was now → (stepped ≡ Ran) × LeavesChange change old before new after was.listing now.listing
-telling_ran Ran change old before new after was now l = (refl, l)
+    → LeavesTo stepped (Telling change) old before new after was now → (stepped ≡ Ran (is_kept change.outcome)) × LeavesChange change old before new after was.listing now.listing
+telling_ran (Ran kept) change old before new after was now l = (ap (λ (b : Bool). Ran b) l.0, l.1)
 telling_ran Dry change old before new after was now l = absurd l
 telling_ran (Ended c) change old before new after was now l = absurd l
 
 -- What of it the cursors see.
 outdated_by : (command : Command) (old : Kept) (change : Change) (new : Kept) (was now : ℕ) → IsChange command old change new was now
-    → (name : Bytes) × (b : Bool) × Outdates old name b new × (new.registered ≡ old.registered)
-outdated_by (Add name row) old change new was now a = (name, add_outdates a.result, (a.changed).outdated, (a.changed).registered)
-outdated_by (Del name row) old change new was now a = (name, delete_outdates a.result, (a.changed).outdated, (a.changed).registered)
+    → (o : Option RowsChange) × Outdates old o new × (new.registered ≡ old.registered)
+outdated_by (Add name row) old change new was now a = (tried (add_outcome (row_in (old.store).relations name row) a.result), (a.changed).outdated, (a.changed).registered)
+outdated_by (Del name row) old change new was now a = (tried (delete_outcome (row_out (old.store).relations name row) a.result), (a.changed).outdated, (a.changed).registered)
 outdated_by (Rel name types) old change new was now a = absurd a
 outdated_by (Register q) old change new was now a = absurd a
 outdated_by (Drop q) old change new was now a = absurd a
@@ -44,6 +44,7 @@ outdated_by (Has q row) old change new was now a = absurd a
 outdated_by (Watch q) old change new was now a = absurd a
 outdated_by (Unwatch q) old change new was now a = absurd a
 outdated_by (Explain q) old change new was now a = absurd a
+outdated_by (Shape q) old change new was now a = absurd a
 outdated_by Quit old change new was now a = absurd a
 outdated_by Stop old change new was now a = absurd a
 
@@ -52,7 +53,7 @@ pub sound_left : (change : Change) (old new : Kept) (front : List OpenSession) (
     → LeavesChange change old before new after was now → IsSound old (among front s before back) → IsSound new (among front s after back)
 sound_left change old new front s before after back was now c sound =
     let o = outdated_by c.command old change new was now c.changes in
-    sound_changed old new front s before after back o.0 c.rest o.1 o.2 o.3 c.taken sound
+    sound_changed old new front s before after back o.0 c.rest o.1 o.2 c.taken sound
 
 -- an element that was set is there
 pub set_there : (xs : List OpenSession) (at : ℕ) (y : OpenSession) → at < length xs → slice_get (set xs at y) at ≡ Some y
@@ -64,20 +65,21 @@ set_there (x ∷ xs) (suc at) y l = set_there xs at y (omega arith)
 pub told_there : (P : OpenSession → Type 0) (xs : List OpenSession) (at : ℕ) (y : OpenSession) → at < length xs → IsSomeAnd (slice_get (set xs at y) at) P → P y
 told_there P xs at y l h = subst (λ (o : Option OpenSession). IsSomeAnd o P) (set_there xs at y l) h
 
-readers_are : (old new : Kept) (relation : Bytes) (rows : List Tuple) (outdates accepted : Bool) (was now : ℕ) → Changed old relation rows outdates accepted new was now
-    → (accepted ≡ true → outdates ≡ true) → accepted ≡ true → All (IsRegistered new) new.affected
-readers_are old new relation rows outdates accepted was now c both held =
-    let r = affected_logs old new relation rows outdates accepted was now c both held in
+readers_are : (old new : Kept) (outcome : RowsOutcome) (was now : ℕ) → Changed old outcome new was now → is_made outcome ≡ true → All (IsRegistered new) new.affected
+readers_are old new outcome was now c held =
+    let r = affected_logs old new outcome was now c held in
     subst (λ (ids : List QueryId). All (IsRegistered new) ids) (sym r.affected)
-    (All-map (IsRegistered new) (λ (x : Registered). x.id) (readers_of old.registered relation) (λ k d lt. subst (λ (o : Option Registered). IsSome o) (sym (r.there k d lt)) refl))
+    (All-map (IsRegistered new) (λ (x : Registered). x.id) (readers_by old.registered outcome) (λ k d lt. subst (λ (o : Option Registered). IsSome o) (sym (r.there k d lt)) refl))
 
 registered_by : (command : Command) (old : Kept) (change : Change) (new : Kept) (was now : ℕ) → IsChange command old change new was now → is_accepted change.outcome ≡ true → All (IsRegistered new) new.affected
 registered_by (Add name row) old change new was now a held =
-    readers_are old new name (rows_of (old.store).relations name ++ row ∷ []) (add_outdates a.result) (add_accepted a.result) was now a.changed (add_both a.result)
-    (subst (λ (c : Change). is_accepted c.outcome ≡ true) a.is held)
+    let made = row_in (old.store).relations name row in
+    readers_are old new (add_outcome made a.result) was now a.changed
+    (sym (add_made made a.result) ∙ subst (λ (c : Change). is_accepted c.outcome ≡ true) a.is held)
 registered_by (Del name row) old change new was now a held =
-    readers_are old new name (without_row (rows_of (old.store).relations name) row) (delete_outdates a.result) (delete_outdates a.result) was now a.changed (λ e. e)
-    (subst (λ (c : Change). is_accepted c.outcome ≡ true) a.is held)
+    let made = row_out (old.store).relations name row in
+    readers_are old new (delete_outcome made a.result) was now a.changed
+    (sym (delete_made made a.result) ∙ subst (λ (c : Change). is_accepted c.outcome ≡ true) a.is held)
 registered_by (Rel name types) old change new was now a held = absurd a
 registered_by (Register q) old change new was now a held = absurd a
 registered_by (Drop q) old change new was now a held = absurd a
@@ -88,6 +90,7 @@ registered_by (Has q row) old change new was now a held = absurd a
 registered_by (Watch q) old change new was now a held = absurd a
 registered_by (Unwatch q) old change new was now a held = absurd a
 registered_by (Explain q) old change new was now a held = absurd a
+registered_by (Shape q) old change new was now a held = absurd a
 registered_by Quit old change new was now a held = absurd a
 registered_by Stop old change new was now a held = absurd a
 

@@ -6,18 +6,19 @@ use Rattle.djq_lines.specs.declared.answer.Refusal.{Refusal}
 use Rattle.djq_lines.specs.declared.answer.Refusal.TheVariants.{NoMemory}
 use Rattle.djq_lines.specs.declared.command.Command.{Command}
 use Rattle.djq_lines.specs.Line.{a_line, front_of, is_blank}
-use Rattle.djq_lines.specs.Grammar.{Reading, refused as is_refused, says, reading_of, takes_memory_to_read}
+use Rattle.djq_lines.specs.Grammar.{Reading, says, reading_of, takes_memory_to_read}
 use Rattle.djq_lines.specs.Reply.{refusal_line}
 use Rattle.djq_machine.specs.State.{Session, State}
-use Rattle.djq_machine.specs.Effect.{Effect}
+use Rattle.djq_machine.specs.Keeping.{kept_where}
+use Rattle.djq_machine.specs.Effect.{Effect, RefusedStep}
 use Rattle.djq_machine.specs.LineStep.{run, TakenLine, behind_line, ReadStep}
 use Rattle.djq_session.specs.Dialog.{Replies}
 use Rattle.djq_engine.specs.Kept.{Kept}
 use Rattle.djq_core.specs.declared.open.OpenSession.{OpenSession}
 use Rattle.djq_core.specs.Views.{Talk, session_in, state_in}
 use Rattle.djq_core.specs.Sound.{IsSound}
-use Rattle.djq_core.specs.Performs.{among, to_one, unqueued, Performs, Executes}
-use Rattle.djq_core.specs.Stepping.{Fronts}
+use Rattle.djq_core.specs.Performs.{among, to_one, to_keep, unqueued, Performs, ExecutesKeeping}
+use Rattle.djq_core.specs.Stepping.{FrontsKeeping}
 use Rattle.djq_core.proofs.Around.{parts, whole, becomes, looks}
 use Rattle.djq_core.proofs.Replying.{refused, around_bytes}
 use Rattle.djq_core.proofs.Continuing.{counting}
@@ -38,9 +39,10 @@ with_room M stops old before mid new after was now e p =
     record {
       text = q.text;
       cost = q.cost;
+      kept = q.kept;
       pending = q.pending;
       does = λ front back s stopped sound.
-          subst (λ (st : State). M st s (session_in old.cursors s before) (to_one s q.text q.cost) (state_in new (stops || stopped) (among front s (unqueued before after) back)))
+          subst (λ (st : State). M st s (session_in old.cursors s before) (to_keep s q.text q.cost q.kept) (state_in new (stops || stopped) (among front s (unqueued before after) back)))
           (looks old stopped front s before (record before { room = mid.room }) back refl)
           (q.does front back s stopped (sound_bytes old front s before before.held before.pending mid.room back sound));
       sound = λ front back s sound. q.sound front back s (sound_bytes old front s before before.held before.pending mid.room back sound);
@@ -57,13 +59,14 @@ taking P M stops old before mid l rest new after was now f e wrap p =
     record {
       text = q.text;
       cost = q.cost;
+      kept = q.kept;
       pending = q.pending;
       does = λ front back s stopped sound.
-          wrap (state_in old stopped (among front s before back)) (state_in new (stops || stopped) (among front s (unqueued before after) back)) s (session_in old.cursors s before) (to_one s q.text q.cost) refl refl
+          wrap (state_in old stopped (among front s before back)) (state_in new (stops || stopped) (among front s (unqueued before after) back)) s (session_in old.cursors s before) (to_keep s q.text q.cost q.kept) refl refl
           (record {
             rest = rest;
             front = f;
-            then = subst (λ (st : State). P st s (session_in old.cursors s (record before { held = rest })) (to_one s q.text q.cost) (state_in new (stops || stopped) (among front s (unqueued before after) back)))
+            then = subst (λ (st : State). P st s (session_in old.cursors s (record before { held = rest })) (to_keep s q.text q.cost q.kept) (state_in new (stops || stopped) (among front s (unqueued before after) back)))
                 (becomes old stopped front s before (record before { held = rest }) back (behind_line rest) (parts old front s before back sound) refl)
                 (q.does front back s stopped (sound_bytes old front s before rest before.pending before.room back sound));
           });
@@ -72,36 +75,40 @@ taking P M stops old before mid l rest new after was now f e wrap p =
     }
 
 -- a line that is run
-pub runs : (stops : Bool) (old : Kept) (before mid : Talk) (l rest : Bytes) (new : Kept) (after : Talk) (was now : ℕ)
+pub runs : (kept stops : Bool) (old : Kept) (before mid : Talk) (l rest : Bytes) (new : Kept) (after : Talk) (was now : ℕ)
     → front_of before.held ≡ a_line l rest → mid ≡ record before { held = rest } → is_blank l ≡ false → length before.pending ≤ PENDING_BYTES
-    → Performs (λ st s x e st'. ReadStep st s x (reading_of l) e st') stops old mid new after was now → Fronts (run l) stops old before new after was now
-runs stops old before mid l rest new after was now f e said few p =
-    taking _ _ stops old before mid l rest new after was now f e (λ st st' s x e h q t. (said, subst (λ (bs : Bytes). length bs ≤ PENDING_BYTES) (sym q) few, t)) p
+    → Performs (λ st s x e st'. ReadStep st s x l (reading_of l) e st' × (e.kept ≡ kept_where kept)) stops old mid new after was now → FrontsKeeping (run l) kept stops old before new after was now
+runs kept stops old before mid l rest new after was now f e said few p =
+    taking (λ st s x e st'. ReadStep st s x l (reading_of l) e st' × (e.kept ≡ kept_where kept)) _ stops old before mid l rest new after was now f e
+    (λ st st' s x eff h q t. ((said, subst (λ (bs : Bytes). length bs ≤ PENDING_BYTES) (sym q) few, record { rest = t.rest; front = t.front; then = t.then.0 }), t.then.1)) p
 
 -- a line that says a command
-pub reads_command : (stops : Bool) (old : Kept) (before : Talk) (l : Bytes) (command : Command) (new : Kept) (after : Talk) (was now : ℕ)
-    → reading_of l ≡ says command → Executes command stops old before new after was now → Performs (λ st s x e st'. ReadStep st s x (reading_of l) e st') stops old before new after was now
-reads_command stops old before l command new after was now r p = record {
+pub reads_command : (kept stops : Bool) (old : Kept) (before : Talk) (l : Bytes) (command : Command) (new : Kept) (after : Talk) (was now : ℕ)
+    → reading_of l ≡ says command → ExecutesKeeping command kept stops old before new after was now → Performs (λ st s x e st'. ReadStep st s x l (reading_of l) e st' × (e.kept ≡ kept_where kept)) stops old before new after was now
+reads_command kept stops old before l command new after was now r p = record {
   text = p.text;
   cost = p.cost;
+  kept = p.kept;
   pending = p.pending;
-  does = λ front back s stopped sound.
-      subst (λ (r : Reading). ReadStep (state_in old stopped (among front s before back)) s (session_in old.cursors s before) r (to_one s p.text p.cost) (state_in new (stops || stopped) (among front s (unqueued before after) back)))
-      (sym r) (true, p.does front back s stopped sound);
+  does = λ front back s stopped sound. let d = p.does front back s stopped sound in (
+    subst (λ (r : Reading). ReadStep (state_in old stopped (among front s before back)) s (session_in old.cursors s before) l r (to_keep s p.text p.cost p.kept) (state_in new (stops || stopped) (among front s (unqueued before after) back)))
+        (sym r) (true, d.0),
+    d.1,
+  );
   sound = p.sound;
   counted = p.counted;
 }
 
 -- a line that is refused whatever the state is
-pub reads_refused : (k : Kept) (before after : Talk) (l : Bytes) (why : Refusal) (was : ℕ)
-    → reading_of l ≡ is_refused why → Replies before after (refusal_line why) → Performs (λ st s x e st'. ReadStep st s x (reading_of l) e st') false k before k after was was
-reads_refused k before after l why was r reply =
+pub reads_refused : (k : Kept) (before after : Talk) (l : Bytes) (r : Reading) (why : Refusal) (was : ℕ) → reading_of l ≡ r
+    → ((st : State) (s : ℕ) (x : Session) (e : Effect) (st' : State) → RefusedStep st s why e st' → ReadStep st s x l r e st') → Replies before after (refusal_line why) → Performs (λ st s x e st'. ReadStep st s x l (reading_of l) e st' × (e.kept ≡ kept_where false)) false k before k after was was
+reads_refused k before after l r why was is refuses reply =
     counting _ false k before k after was was (omega arith)
-    (refused _ k before after (refusal_line why) reply (λ st s x store same. subst (λ (r : Reading). ReadStep st s x r (to_one s (Some (refusal_line why)) 0) st) (sym r) (refl, refl)))
+    (refused _ k before after (refusal_line why) reply (λ st s x store same. (subst (λ (g : Reading). ReadStep st s x l g (to_one s (Some (refusal_line why)) 0) st) (sym is) (refuses st s x (to_one s (Some (refusal_line why)) 0) st (refl, refl)), refl)))
 
 -- a line for whose command there was no memory
 pub reads_nothing : (k : Kept) (before after : Talk) (l : Bytes) (command : Command) (was : ℕ)
-    → reading_of l ≡ says command → takes_memory_to_read command ≡ true → Replies before after (refusal_line NoMemory) → Performs (λ st s x e st'. ReadStep st s x (reading_of l) e st') false k before k after was was
+    → reading_of l ≡ says command → takes_memory_to_read command ≡ true → Replies before after (refusal_line NoMemory) → Performs (λ st s x e st'. ReadStep st s x l (reading_of l) e st' × (e.kept ≡ kept_where false)) false k before k after was was
 reads_nothing k before after l command was r takes reply =
     counting _ false k before k after was was (omega arith)
-    (refused _ k before after (refusal_line NoMemory) reply (λ st s x store same. subst (λ (r : Reading). ReadStep st s x r (to_one s (Some (refusal_line NoMemory)) 0) st) (sym r) (false, (takes, (refl, refl)))))
+    (refused _ k before after (refusal_line NoMemory) reply (λ st s x store same. (subst (λ (r : Reading). ReadStep st s x l r (to_one s (Some (refusal_line NoMemory)) 0) st) (sym r) (false, (takes, (refl, refl))), refl)))

@@ -6,20 +6,20 @@ use Rattle.std.proofs.lemmas.List.Concat.{flat_map-append}
 use Rattle.std.proofs.lemmas.List.Elements.{All-push, Contains-get_or}
 use Rattle.std.proofs.lemmas.List.Quantifiers.{all_pairs_push}
 use Rattle.djq_model.specs.declared.memory.NoMem.{NoMem}
-use Rattle.djq_model.specs.declared.query.Query.{Query}
-use Rattle.djq_model.specs.Data.{Bytes, Tuple, query_of}
-use Rattle.djq_model.specs.Answer.{IsAnswer, AreDifferent}
+use Rattle.djq_model.specs.Data.{Bytes, Tuple}
+use Rattle.djq_model.specs.Answer.{AreDifferent}
+use Rattle.djq_model.specs.Listed.{Listed, AnswersOf, listed_of}
 use Rattle.djq_lines.specs.declared.limits.TheConstants.{REPLY_BYTES, LAST_LINE_BYTES}
 use Rattle.djq_lines.specs.Reply.{answer_line, last_line, text_of}
 use Rattle.djq_machine.specs.State.{Position, open_at, stale}
-use Rattle.djq_machine.specs.Store.{IsLeft, AreAll, TellsAnswers, most_steps}
+use Rattle.djq_machine.specs.Store.{IsLeft, AreAll, TellsAnswers, answer_steps}
 use Rattle.djq_session.specs.Dialog.{Queues, Lacks, MayQueue}
 use Rattle.djq_engine.specs.declared.cursor.CursorId.{CursorId}
 use Rattle.djq_live.specs.declared.listing.Next.{Next}
 use Rattle.djq_live.specs.declared.listing.Next.TheVariants.{Given, End, Stale}
 use Rattle.djq_live.specs.Live.{Live, values_of}
 use Rattle.djq_engine.specs.Kept.{Kept, Held, held_at, same_id, IsHeld, IsFresh, IsOpenAt, MovesCursor, NextGives, NextGivesAt, read_steps, MoreGives, MoreGivesAt, AnswerIs, IsThere}
-use Rattle.djq_core.specs.declared.listing.Listed.{Listed}
+use Rattle.djq_core.specs.declared.listing.Listed.{Listed as HowListed}
 use Rattle.djq_core.specs.declared.listing.Listed.TheVariants.{Cut, Stale as WasStale}
 use Rattle.djq_core.specs.Views.{Talk}
 use Rattle.djq_core.specs.Sound.{AreHeld, GivesApart}
@@ -45,11 +45,11 @@ pub record Told (old : Kept) (id : CursorId) (before : Talk) (h : Held) (given :
   pub count : length told ≡ n
   pub ended : Bool
   pub stands : StandsAt old id h (open_at (given ++ told) ended) k
-  pub answers : (q : Query) → query_of (old.store).queries h.query ≡ Some q → All (IsAnswer (old.store).relations q) told
+  pub answers : (q : Listed) → listed_of (old.store).queries h.query ≡ Some q → All (AnswersOf (old.store).relations q) told
   pub queued : d ≡ record before { pending = before.pending ++ text_of (map answer_line told); room = d.room }
   pub kept : LAST_LINE_BYTES ≤ d.room
   pub room : before.room ≤ d.room + length (text_of (map answer_line told))
-  pub counted : (q : Query) → query_of (old.store).queries h.query ≡ Some q → now ≤ was + n * most_steps (length q.head)
+  pub counted : (q : Listed) → listed_of (old.store).queries h.query ≡ Some q → now ≤ was + n * answer_steps q
 
 -- Nothing was read yet of a stale cursor.
 pub record Untold (old : Kept) (before : Talk) (n : ℕ) (k : Kept) (d : Talk) (was now : ℕ) : Type 0 where
@@ -104,7 +104,7 @@ is_held_still old id before n k d was now s = still_held old id before s.cursor 
 of_held : (P : Held → Type 0) (hs : List Held) (id : CursorId) (h : Held) → held_at hs id ≡ Some h → IsSomeAnd (held_at hs id) P → P h
 of_held P hs id h e g = subst (λ (o : Option Held). IsSomeAnd o P) e g
 
-of_query : (P : Query → Type 0) (o : Option Query) → IsSomeAnd o P → (q : Query) × (o ≡ Some q) × P q
+of_query : (P : Listed → Type 0) (o : Option Listed) → IsSomeAnd o P → (q : Listed) × (o ≡ Some q) × P q
 of_query P None g = absurd g
 of_query P (Some q) g = (q, refl, g)
 
@@ -124,18 +124,18 @@ text_last ls l = flat_map-append (λ (x : Bytes). x) ls (l ∷ []) ∙ ap (λ (b
 -- A read, where the cursor is open.
 
 pub record ReadOpen (old : Kept) (id : CursorId) (h : Held) (at : List Tuple) (ended : Bool) (k : Kept) (result : Next) (answer : List ℕ) (k' : Kept) (now now' : ℕ) : Type 0 where
-  pub query : Query
-  pub registered : query_of (old.store).queries h.query ≡ Some query
+  pub query : Listed
+  pub registered : listed_of (old.store).queries h.query ≡ Some query
   pub gives : NextGivesAt k (record h { position = open_at at ended }) query (open_at at ended) result answer k'
-  pub counted : now' ≤ now + read_steps result (length query.head)
+  pub counted : now' ≤ now + read_steps result query
 
 read_open : (old : Kept) (id : CursorId) (h : Held) (at : List Tuple) (ended : Bool) (k : Kept) (result : Next) (answer : List ℕ) (k' : Kept) (now now' : ℕ)
     → StandsAt old id h (open_at at ended) k → NextGives k id result answer k' now now' → ReadOpen old id h at ended k result answer k' now now'
 read_open old id h at ended k result answer k' now now' s g =
-    let q = of_query _ (query_of (k.store).queries h.query) (of_held _ k.cursors id (record h { position = open_at at ended }) s.there g.gives) in
+    let q = of_query _ (listed_of (k.store).queries h.query) (of_held _ k.cursors id (record h { position = open_at at ended }) s.there g.gives) in
     record {
       query = q.0;
-      registered = ap (λ st. query_of st.queries h.query) (sym s.store) ∙ q.1;
+      registered = ap (λ st. listed_of st.queries h.query) (sym s.store) ∙ q.1;
       gives = q.2.0;
       counted = q.2.1;
     }
@@ -154,19 +154,19 @@ moves_on old id h p r k k' e s m apart =
     }
 
 -- the relations are those at the start
-left_as : (old k : Kept) (q : Query) (given : List Tuple) (t : Tuple) → k.store ≡ old.store → IsLeft (IsAnswer (k.store).relations q) given t → IsLeft (IsAnswer (old.store).relations q) given t
-left_as old k q given t e l = (subst (λ st. IsAnswer st.relations q t) e l.0, l.1)
+left_as : (old k : Kept) (q : Listed) (given : List Tuple) (t : Tuple) → k.store ≡ old.store → IsLeft (AnswersOf (k.store).relations q) given t → IsLeft (AnswersOf (old.store).relations q) given t
+left_as old k q given t e l = (subst (λ st. AnswersOf st.relations q t) e l.0, l.1)
 
-all_as : (old k : Kept) (q : Query) (given : List Tuple) → k.store ≡ old.store → AreAll (IsAnswer (k.store).relations q) given → AreAll (IsAnswer (old.store).relations q) given
-all_as old k q given e a = λ t b. a t (subst (λ st. IsAnswer st.relations q t) (sym e) b)
+all_as : (old k : Kept) (q : Listed) (given : List Tuple) → k.store ≡ old.store → AreAll (AnswersOf (k.store).relations q) given → AreAll (AnswersOf (old.store).relations q) given
+all_as old k q given e a = λ t b. a t (subst (λ st. AnswersOf st.relations q t) (sym e) b)
 
-one_query : (o : Option Query) (q r : Query) → o ≡ Some q → o ≡ Some r → q ≡ r
+one_query : (o : Option Listed) (q r : Listed) → o ≡ Some q → o ≡ Some r → q ≡ r
 one_query o q r e f = let s : Some q ≡ Some r = sym e ∙ f in cc
 
 -- What a further answer is: one that is left, and that the engine lends.
-pub record Further (old : Kept) (id : CursorId) (h : Held) (given told : List Tuple) (k' : Kept) (answer : List ℕ) (q : Query) : Type 0 where
+pub record Further (old : Kept) (id : CursorId) (h : Held) (given told : List Tuple) (k' : Kept) (answer : List ℕ) (q : Listed) : Type 0 where
   pub tuple : Tuple
-  pub left : IsLeft (IsAnswer (old.store).relations q) (given ++ told) tuple
+  pub left : IsLeft (AnswersOf (old.store).relations q) (given ++ told) tuple
   pub there : IsThere k' id answer
   pub is : AnswerIs k' id answer tuple
   pub stands : StandsAt old id h (open_at (given ++ (told ++ tuple ∷ [])) false) k'
@@ -197,16 +197,16 @@ lent_is k id answer t u = step (get_or k.places id.query.at None)
 
 -- A read of a stale cursor gives what made it so.
 pub record ReadStale (old : Kept) (h : Held) (r : Bytes) (m : ℕ) (result : Next) (answer : List ℕ) (k' : Kept) (was now' : ℕ) : Type 0 where
-  pub query : Query
-  pub registered : query_of (old.store).queries h.query ≡ Some query
+  pub query : Listed
+  pub registered : listed_of (old.store).queries h.query ≡ Some query
   pub gives : NextGivesAt old h query (stale r m) result answer k'
-  pub counted : now' ≤ was + read_steps result (length query.head)
+  pub counted : now' ≤ was + read_steps result query
 
 read_stale : (old : Kept) (id : CursorId) (before : Talk) (h : Held) (r : Bytes) (m n : ℕ) (k : Kept) (d : Talk) (was now : ℕ) (result : Next) (answer : List ℕ) (k' : Kept) (now' : ℕ)
     → held_at old.cursors id ≡ Some h → h.position ≡ stale r m → Untold old before n k d was now → NextGives k id result answer k' now now' → ReadStale old h r m result answer k' was now'
 read_stale old id before h r m n k d was now result answer k' now' e f t g =
     let g' : NextGives old id result answer k' was now' = subst (λ (x : Kept). NextGives x id result answer k' was now') t.engine (subst (λ (x : ℕ). NextGives k id result answer k' x now') t.counted g) in
-    let q = of_query _ (query_of (old.store).queries h.query) (of_held _ old.cursors id h e g'.gives) in
+    let q = of_query _ (listed_of (old.store).queries h.query) (of_held _ old.cursors id h e g'.gives) in
     record {
       query = q.0;
       registered = q.1;
@@ -244,14 +244,14 @@ more_at old id before h (open_at given ended) n k d was now answer k' d' now' tu
       count = length-append t.told (x.tuple ∷ []) ∙ ap (λ (i : ℕ). i + 1) t.count;
       ended = false;
       stands = x.stands;
-      answers = λ q fq. let same = one_query (query_of (old.store).queries h.query) r.query q r.registered fq in
-          All-push (IsAnswer (old.store).relations q) t.told x.tuple (t.answers q fq) (subst (λ (y : Query). IsAnswer (old.store).relations y x.tuple) same x.left.0);
+      answers = λ q fq. let same = one_query (listed_of (old.store).queries h.query) r.query q r.registered fq in
+          All-push (AnswersOf (old.store).relations q) t.told x.tuple (t.answers q fq) (subst (λ (y : Listed). AnswersOf (old.store).relations y x.tuple) same x.left.0);
       queued = q'.queued ∙ ap (λ (y : Talk). record y { pending = y.pending ++ answer_line x.tuple; room = d'.room }) t.queued
           ∙ ap (λ (bs : Bytes). record before { pending = bs; room = d'.room }) (append_assoc before.pending (text_of (map answer_line t.told)) (answer_line x.tuple) ∙ ap (λ (bs : Bytes). before.pending ++ bs) (sym text));
       kept = q'.kept;
       room = omega (arith, t.room, q'.room, ap length text, length-append (text_of (map answer_line t.told)) (answer_line x.tuple));
-      counted = λ q fq. let same = one_query (query_of (old.store).queries h.query) r.query q r.registered fq in
-          subst (λ (y : Query). now' ≤ was + (n + 1) * most_steps (length y.head)) same (omega (arith, t.counted r.query r.registered, r.counted));
+      counted = λ q fq. let same = one_query (listed_of (old.store).queries h.query) r.query q r.registered fq in
+          subst (λ (y : Listed). now' ≤ was + (n + 1) * answer_steps y) same (omega (arith, t.counted r.query r.registered, r.counted));
     }
 more_at old id before h (stale a b) n k d was now answer k' d' now' tuple e f t g lent queued =
     let r = read_stale old id before h a b n k d was now Given answer k' now' e f t g in absurd r.gives
@@ -279,7 +279,7 @@ lacked before d d' text line e l = l.same ∙ ap (λ (y : Talk). record y { room
 cut_at_answer : (old : Kept) (id : CursorId) (before : Talk) (h : Held) (p : Position) (n count : ℕ) (k : Kept) (d : Talk) (was now : ℕ) (answer : List ℕ) (k' : Kept) (d' : Talk) (now' : ℕ) (tuple : Tuple)
     → held_at old.cursors id ≡ Some h → h.position ≡ p → REPLY_BYTES + LAST_LINE_BYTES ≤ before.room → n < count → SoFarAt old id before h p n k d was now → NextGives k id Given answer k' now now'
     → AnswerIs k' id answer tuple → Lacks d d' (answer_line tuple)
-    → (q : Query) × (query_of (old.store).queries h.query ≡ Some q) × ListsAt old id before count h q p Cut k' d' was now'
+    → (q : Listed) × (listed_of (old.store).queries h.query ≡ Some q) × ListsAt old id before count h q p Cut k' d' was now'
 cut_at_answer old id before h (open_at given ended) n count k d was now answer k' d' now' tuple e f room below t g lent lacks =
     let r = read_open old id h (given ++ t.told) t.ended k Given answer k' now now' t.stands g in
     let x = further old id h given t.told t.ended k answer k' now now' e t.stands r in
@@ -298,7 +298,7 @@ cut_at_answer old id before h (open_at given ended) n count k d was now answer k
         position = open_at (given ++ (t.told ++ x.tuple ∷ [])) false;
         stands = x.stands;
         queued = lacked before d d' (text_of (map answer_line t.told)) (answer_line x.tuple) t.queued lacks';
-        counted = subst (λ (i : ℕ). now' ≤ was + (i + 1) * most_steps (length (r.query).head)) (sym t.count) (omega (arith, t.counted r.query r.registered, r.counted));
+        counted = subst (λ (i : ℕ). now' ≤ was + (i + 1) * answer_steps r.query) (sym t.count) (omega (arith, t.counted r.query r.registered, r.counted));
       },
     )
 cut_at_answer old id before h (stale a b) n count k d was now answer k' d' now' tuple e f room below t g lent lacks =
@@ -312,13 +312,13 @@ is_cut old id before n count k d was now answer k' d' now' tuple room below s g 
     record { cursor = s.cursor; held = s.held; query = r.0; registered = r.1; lists = r.2 }
 
 -- the last line is queued, or finds no room
-last_put : (old : Kept) (id : CursorId) (before : Talk) (h : Held) (given : List Tuple) (e0 : Bool) (n count : ℕ) (k : Kept) (d : Talk) (was now : ℕ) (q : Query) (end : Bool) (k' : Kept) (d' : Talk) (now' : ℕ) (outcome : Result ⊤ NoMem) (listed : Listed)
-    → REPLY_BYTES + LAST_LINE_BYTES ≤ before.room → (t : Told old id before h given n k d was now) → query_of (old.store).queries h.query ≡ Some q
-    → n ≤ count → (end ≡ true → AreAll (IsAnswer (old.store).relations q) (given ++ t.told)) → (end ≡ false → ((x : Tuple) × IsLeft (IsAnswer (old.store).relations q) (given ++ t.told) x) × (n ≡ count))
-    → StandsAt old id h (open_at (given ++ t.told) end) k' → MayQueue d d' (last_line end) outcome → Lasts outcome listed → now' ≤ now + most_steps (length q.head)
-    → (query_of (old.store).queries h.query ≡ Some q) × ListsAt old id before count h q (open_at given e0) listed k' d' was now'
+last_put : (old : Kept) (id : CursorId) (before : Talk) (h : Held) (given : List Tuple) (e0 : Bool) (n count : ℕ) (k : Kept) (d : Talk) (was now : ℕ) (q : Listed) (end : Bool) (k' : Kept) (d' : Talk) (now' : ℕ) (outcome : Result ⊤ NoMem) (listed : HowListed)
+    → REPLY_BYTES + LAST_LINE_BYTES ≤ before.room → (t : Told old id before h given n k d was now) → listed_of (old.store).queries h.query ≡ Some q
+    → n ≤ count → (end ≡ true → AreAll (AnswersOf (old.store).relations q) (given ++ t.told)) → (end ≡ false → ((x : Tuple) × IsLeft (AnswersOf (old.store).relations q) (given ++ t.told) x) × (n ≡ count))
+    → StandsAt old id h (open_at (given ++ t.told) end) k' → MayQueue d d' (last_line end) outcome → Lasts outcome listed → now' ≤ now + answer_steps q
+    → (listed_of (old.store).queries h.query ≡ Some q) × ListsAt old id before count h q (open_at given e0) listed k' d' was now'
 last_put old id before h given e0 n count k d was now q end k' d' now' (Ok u) listed room t f le all left stands queued is cost =
-    let tells : TellsAnswers (IsAnswer (old.store).relations q) given count t.told end = record {
+    let tells : TellsAnswers (AnswersOf (old.store).relations q) given count t.told end = record {
       answers = t.answers q f;
       different = t.stands.apart;
       none_left = all;
@@ -327,7 +327,7 @@ last_put old id before h given e0 n count k d was now q end k' d' now' (Ok u) li
       all_asked = λ e. t.count ∙ (left e).1;
     } in (
       f,
-      subst (λ (x : Listed). ListsAt old id before count h q (open_at given e0) x k' d' was now') (sym is) (record {
+      subst (λ (x : HowListed). ListsAt old id before count h q (open_at given e0) x k' d' was now') (sym is) (record {
         told = t.told;
         end = end;
         tells = tells;
@@ -335,11 +335,11 @@ last_put old id before h given e0 n count k d was now q end k' d' now' (Ok u) li
         queued = queued.queued ∙ ap (λ (y : Talk). record y { pending = y.pending ++ last_line end; room = d'.room }) t.queued
             ∙ ap (λ (bs : Bytes). record before { pending = bs; room = d'.room }) (append_assoc before.pending (text_of (map answer_line t.told)) (last_line end)
             ∙ ap (λ (bs : Bytes). before.pending ++ bs) (sym (text_last (map answer_line t.told) (last_line end))));
-        counted = subst (λ (i : ℕ). now' ≤ was + (i + 1) * most_steps (length q.head)) (sym t.count) (omega (arith, t.counted q f, cost));
+        counted = subst (λ (i : ℕ). now' ≤ was + (i + 1) * answer_steps q) (sym t.count) (omega (arith, t.counted q f, cost));
       }),
     )
 last_put old id before h given e0 n count k d was now q end k' d' now' (Err r) listed room t f le all left stands lacks is cost =
-    let tells : TellsAnswers (IsAnswer (old.store).relations q) given count t.told end = record {
+    let tells : TellsAnswers (AnswersOf (old.store).relations q) given count t.told end = record {
       answers = t.answers q f;
       different = t.stands.apart;
       none_left = all;
@@ -348,7 +348,7 @@ last_put old id before h given e0 n count k d was now q end k' d' now' (Err r) l
       all_asked = λ e. t.count ∙ (left e).1;
     } in (
       f,
-      subst (λ (x : Listed). ListsAt old id before count h q (open_at given e0) x k' d' was now') (sym is) (record {
+      subst (λ (x : HowListed). ListsAt old id before count h q (open_at given e0) x k' d' was now') (sym is) (record {
         told = t.told;
         answers = t.answers q f;
         different = t.stands.apart;
@@ -359,15 +359,15 @@ last_put old id before h given e0 n count k d was now q end k' d' now' (Err r) l
         position = open_at (given ++ t.told) end;
         stands = stands;
         queued = lacked before d d' (text_of (map answer_line t.told)) (last_line end) t.queued lacks;
-        counted = subst (λ (i : ℕ). now' ≤ was + (i + 1) * most_steps (length q.head)) (sym t.count) (omega (arith, t.counted q f, cost));
+        counted = subst (λ (i : ℕ). now' ≤ was + (i + 1) * answer_steps q) (sym t.count) (omega (arith, t.counted q f, cost));
       }),
     )
 
 -- The end is read.
-end_at : (old : Kept) (id : CursorId) (before : Talk) (h : Held) (p : Position) (n count : ℕ) (k : Kept) (d : Talk) (was now : ℕ) (answer : List ℕ) (k' : Kept) (d' : Talk) (now' : ℕ) (outcome : Result ⊤ NoMem) (listed : Listed)
+end_at : (old : Kept) (id : CursorId) (before : Talk) (h : Held) (p : Position) (n count : ℕ) (k : Kept) (d : Talk) (was now : ℕ) (answer : List ℕ) (k' : Kept) (d' : Talk) (now' : ℕ) (outcome : Result ⊤ NoMem) (listed : HowListed)
     → held_at old.cursors id ≡ Some h → h.position ≡ p → REPLY_BYTES + LAST_LINE_BYTES ≤ before.room → n ≤ count → SoFarAt old id before h p n k d was now → NextGives k id End answer k' now now'
     → MayQueue d d' (last_line true) outcome → Lasts outcome listed
-    → (q : Query) × (query_of (old.store).queries h.query ≡ Some q) × ListsAt old id before count h q p listed k' d' was now'
+    → (q : Listed) × (listed_of (old.store).queries h.query ≡ Some q) × ListsAt old id before count h q p listed k' d' was now'
 end_at old id before h (open_at given ended) n count k d was now answer k' d' now' outcome listed e f room le t g queued is =
     let r = read_open old id h (given ++ t.told) t.ended k End answer k' now now' t.stands g in
     let all = all_as old k r.query (given ++ t.told) t.stands.store r.gives.0 in
@@ -377,7 +377,7 @@ end_at old id before h (open_at given ended) n count k d was now answer k' d' no
 end_at old id before h (stale a b) n count k d was now answer k' d' now' outcome listed e f room le t g queued is =
     let r = read_stale old id before h a b n k d was now End answer k' now' e f t g in absurd r.gives
 
-pub is_ended : (old : Kept) (id : CursorId) (before : Talk) (n count : ℕ) (k : Kept) (d : Talk) (was now : ℕ) (answer : List ℕ) (k' : Kept) (d' : Talk) (now' : ℕ) (outcome : Result ⊤ NoMem) (listed : Listed)
+pub is_ended : (old : Kept) (id : CursorId) (before : Talk) (n count : ℕ) (k : Kept) (d : Talk) (was now : ℕ) (answer : List ℕ) (k' : Kept) (d' : Talk) (now' : ℕ) (outcome : Result ⊤ NoMem) (listed : HowListed)
     → REPLY_BYTES + LAST_LINE_BYTES ≤ before.room → n ≤ count → SoFar old id before n k d was now → NextGives k id End answer k' now now'
     → MayQueue d d' (last_line true) outcome → Lasts outcome listed → Lists old id before count listed k' d' was now'
 is_ended old id before n count k d was now answer k' d' now' outcome listed room le s g queued is =
@@ -387,7 +387,7 @@ is_ended old id before n count k d was now answer k' d' now' outcome listed room
 -- The cursor is stale.
 stale_at : (old : Kept) (id : CursorId) (before : Talk) (h : Held) (p : Position) (n count : ℕ) (k : Kept) (d : Talk) (was now : ℕ) (relation : Bytes) (seq : ℕ) (answer : List ℕ) (k' : Kept) (now' : ℕ)
     → held_at old.cursors id ≡ Some h → h.position ≡ p → SoFarAt old id before h p n k d was now → NextGives k id (Stale relation seq) answer k' now now'
-    → (q : Query) × (query_of (old.store).queries h.query ≡ Some q) × ListsAt old id before count h q p (WasStale relation seq) k' d was now'
+    → (q : Listed) × (listed_of (old.store).queries h.query ≡ Some q) × ListsAt old id before count h q p (WasStale relation seq) k' d was now'
 stale_at old id before h (open_at given ended) n count k d was now relation seq answer k' now' e f t g =
     let r = read_open old id h (given ++ t.told) t.ended k (Stale relation seq) answer k' now now' t.stands g in absurd r.gives
 stale_at old id before h (stale a b) n count k d was now relation seq answer k' now' e f t g =
@@ -411,26 +411,26 @@ is_fresh old id before n k d was now le s = fresh_at old id before s.cursor (s.c
 
 -- whether more is left, of a cursor that is open
 pub record MoreOpen (old : Kept) (id : CursorId) (h : Held) (at : List Tuple) (ended : Bool) (k : Kept) (more : Bool) (k' : Kept) (now now' : ℕ) : Type 0 where
-  pub query : Query
-  pub registered : query_of (old.store).queries h.query ≡ Some query
+  pub query : Listed
+  pub registered : listed_of (old.store).queries h.query ≡ Some query
   pub gives : MoreGivesAt k (record h { position = open_at at ended }) query (open_at at ended) more k'
-  pub counted : now' ≤ now + most_steps (length query.head)
+  pub counted : now' ≤ now + answer_steps query
 
 more_open : (old : Kept) (id : CursorId) (h : Held) (at : List Tuple) (ended : Bool) (k : Kept) (more : Bool) (k' : Kept) (now now' : ℕ)
     → StandsAt old id h (open_at at ended) k → MoreGives k id more k' now now' → MoreOpen old id h at ended k more k' now now'
 more_open old id h at ended k more k' now now' s g =
-    let q = of_query _ (query_of (k.store).queries h.query) (of_held _ k.cursors id (record h { position = open_at at ended }) s.there g.gives) in
+    let q = of_query _ (listed_of (k.store).queries h.query) (of_held _ k.cursors id (record h { position = open_at at ended }) s.there g.gives) in
     record {
       query = q.0;
-      registered = ap (λ st. query_of st.queries h.query) (sym s.store) ∙ q.1;
+      registered = ap (λ st. listed_of st.queries h.query) (sym s.store) ∙ q.1;
       gives = q.2.0;
       counted = q.2.1;
     }
 
-asked_at : (old : Kept) (id : CursorId) (before : Talk) (h : Held) (p : Position) (n count : ℕ) (k : Kept) (d : Talk) (was now : ℕ) (more : Bool) (k' : Kept) (d' : Talk) (now' : ℕ) (outcome : Result ⊤ NoMem) (listed : Listed)
+asked_at : (old : Kept) (id : CursorId) (before : Talk) (h : Held) (p : Position) (n count : ℕ) (k : Kept) (d : Talk) (was now : ℕ) (more : Bool) (k' : Kept) (d' : Talk) (now' : ℕ) (outcome : Result ⊤ NoMem) (listed : HowListed)
     → held_at old.cursors id ≡ Some h → h.position ≡ p → REPLY_BYTES + LAST_LINE_BYTES ≤ before.room → n ≡ count → 1 ≤ count → SoFarAt old id before h p n k d was now → MoreGives k id more k' now now'
     → MayQueue d d' (last_line (not more)) outcome → Lasts outcome listed
-    → (q : Query) × (query_of (old.store).queries h.query ≡ Some q) × ListsAt old id before count h q p listed k' d' was now'
+    → (q : Listed) × (listed_of (old.store).queries h.query ≡ Some q) × ListsAt old id before count h q p listed k' d' was now'
 asked_at old id before h (open_at given ended) n count k d was now true k' d' now' outcome listed e f room same some t g queued is =
     let r = more_open old id h (given ++ t.told) t.ended k true k' now now' t.stands g in
     let left = left_as old k r.query (given ++ t.told) r.gives.0.0 t.stands.store r.gives.0.1 in
@@ -445,7 +445,7 @@ asked_at old id before h (open_at given ended) n count k d was now false k' d' n
     (r.query, u.0, u.1)
 asked_at old id before h (stale a b) n count k d was now more k' d' now' outcome listed e f room same some t g queued is = absurd (omega (arith, t.none))
 
-pub is_asked : (old : Kept) (id : CursorId) (before : Talk) (n count : ℕ) (k : Kept) (d : Talk) (was now : ℕ) (more : Bool) (k' : Kept) (d' : Talk) (now' : ℕ) (outcome : Result ⊤ NoMem) (listed : Listed)
+pub is_asked : (old : Kept) (id : CursorId) (before : Talk) (n count : ℕ) (k : Kept) (d : Talk) (was now : ℕ) (more : Bool) (k' : Kept) (d' : Talk) (now' : ℕ) (outcome : Result ⊤ NoMem) (listed : HowListed)
     → REPLY_BYTES + LAST_LINE_BYTES ≤ before.room → n ≡ count → 1 ≤ count → SoFar old id before n k d was now → MoreGives k id more k' now now'
     → MayQueue d d' (last_line (not more)) outcome → Lasts outcome listed → Lists old id before count listed k' d' was now'
 is_asked old id before n count k d was now more k' d' now' outcome listed room same some s g queued is =

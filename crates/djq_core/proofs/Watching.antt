@@ -6,6 +6,7 @@ use Rattle.std.proofs.lemmas.Bool.{eq-eqb}
 use Rattle.std.proofs.lemmas.List.Elements.{All-contains}
 use Rattle.djq_deltas.proofs.Lists.{nothing_there, first_or_later, first_there, later_there, pairs_head, pairs_tail}
 use Rattle.djq_model.specs.Data.{Bytes, bytes_eq}
+use Rattle.djq_model.specs.Listed.{listed_name}
 use Rattle.djq_model.specs.Equality.{bytes_eq-decides}
 use Rattle.djq_lines.specs.declared.limits.TheConstants.{SESSIONS}
 use Rattle.djq_lines.specs.declared.answer.EndCause.{EndCause}
@@ -72,7 +73,7 @@ others_in front back q = watchers_in front q + watchers_in back q
 pub counted_of : (k : Kept) (front : List OpenSession) (s : ℕ) (d : Talk) (back : List OpenSession) → IsSound k (among front s d back)
     → IsCounted (others_in front back) k.registered d.watches
 counted_of k front s d back sound = record {
-  counted = λ r h. sound.counted.counted r h ∙ count_among front s d back r.query.name;
+  counted = λ r h. sound.counted.counted r h ∙ count_among front s d back (listed_name r.query);
   known = λ q h. sound.counted.known q (subst (λ (n : ℕ). 0 < n) (sym (count_among front s d back q)) h);
   few = λ q. omega (arith, sound.few, length-append front (record { id = s; session = d } ∷ back), few_watch front q, few_watch back q);
   once = (once_split front s d back sound.counted.once).1;
@@ -82,7 +83,7 @@ counted_of k front s d back sound = record {
 pub counted_among : (rs : List Registered) (front : List OpenSession) (s : ℕ) (d : Talk) (back : List OpenSession) → IsCounted (others_in front back) rs d.watches
     → AllOnce front → AllOnce back → AreQuiet (among front s d back) → AreCounted rs (among front s d back)
 counted_among rs front s d back h f b quiet = record {
-  counted = λ r c. h.counted r c ∙ sym (count_among front s d back r.query.name);
+  counted = λ r c. h.counted r c ∙ sym (count_among front s d back (listed_name r.query));
   known = λ q p. h.known q (subst (λ (n : ℕ). 0 < n) (count_among front s d back q) p);
   once = once_join front s d back f h.once b;
   quiet = quiet;
@@ -95,7 +96,7 @@ counted_same rs front s d e back same still h =
     let count = λ (q : Bytes). count_among front s e back q ∙ ap (λ (ws : List Bytes). others_in front back q + times_in ws q) same ∙ sym (count_among front s d back q) in
     let o = once_split front s d back h.once in
     record {
-      counted = λ r c. h.counted r c ∙ sym (count r.query.name);
+      counted = λ r c. h.counted r c ∙ sym (count (listed_name r.query));
       known = λ q p. h.known q (subst (λ (n : ℕ). 0 < n) (count q) p);
       once = once_join front s e back o.0 (subst AreOnce (sym same) o.1) o.2;
       quiet = quiet_join front s e back w.0 (still w.1) w.2;
@@ -154,7 +155,7 @@ count_left k new front s d e back stays sound =
     let o = once_split front s d back sound.counted.once in
     let same = λ (q : Bytes). wholes (watchers_in front q) (watchers_in back q) in
     record {
-      counted = λ r c. h.counted r c ∙ sym (same r.query.name) ∙ sym (watch_append front back r.query.name);
+      counted = λ r c. h.counted r c ∙ sym (same (listed_name r.query)) ∙ sym (watch_append front back (listed_name r.query));
       known = λ q p. h.known q (subst (λ (n : ℕ). 0 < n) (watch_append front back q ∙ same q) p);
       once = once_append front back o.0 o.2;
       quiet = let w = quiet_split front s d back sound.counted.quiet in quiet_append front back w.0 w.2;
@@ -165,7 +166,7 @@ pub count_more : (rs : List Registered) (xs : List OpenSession) (s : ℕ) (d : T
 count_more rs xs s d none on h =
     let none_more = λ (q : Bytes). watch_append xs (record { id = s; session = d } ∷ []) q ∙ ap (λ (ws : List Bytes). watchers_in xs q + (times_in ws q + 0)) none ∙ nothing_more (watchers_in xs q) in
     record {
-      counted = λ r c. h.counted r c ∙ sym (none_more r.query.name);
+      counted = λ r c. h.counted r c ∙ sym (none_more (listed_name r.query));
       known = λ q p. h.known q (subst (λ (n : ℕ). 0 < n) (none_more q) p);
       once = once_append xs (record { id = s; session = d } ∷ []) h.once (subst AreOnce (sym none) tt, tt);
       quiet = quiet_append xs (record { id = s; session = d } ∷ []) h.quiet (subst (λ (o : Option EndCause). QuietOnceEnded o d.watches) (sym on) tt, tt);
@@ -177,24 +178,24 @@ count_more rs xs s d none on h =
 -- ---- the registered queries
 
 -- the first of a name is there, and has it
-pub found_there : (rs : List Registered) (q : Bytes) (r : Registered) → registered_of rs q ≡ Some r → Contains rs r × (bytes_eq r.query.name q ≡ true)
+pub found_there : (rs : List Registered) (q : Bytes) (r : Registered) → registered_of rs q ≡ Some r → Contains rs r × (bytes_eq (listed_name r.query) q ≡ true)
 found_there [] q r h = absurd (cc)
-found_there (x ∷ rs) q r h = step (bytes_eq x.query.name q) refl (λ k. found_there rs q r k) h
+found_there (x ∷ rs) q r h = step (bytes_eq (listed_name x.query) q) refl (λ k. found_there rs q r k) h
   where
-    step : (b : Bool) → bytes_eq x.query.name q ≡ b → (registered_of rs q ≡ Some r → Contains rs r × (bytes_eq r.query.name q ≡ true)) → cond b (Some x) (registered_of rs q) ≡ Some r
-        → Contains (x ∷ rs) r × (bytes_eq r.query.name q ≡ true)
-    step true e more h = let same : x ≡ r = cc in (first_there x rs r same, subst (λ (z : Registered). bytes_eq z.query.name q ≡ true) same e)
+    step : (b : Bool) → bytes_eq (listed_name x.query) q ≡ b → (registered_of rs q ≡ Some r → Contains rs r × (bytes_eq (listed_name r.query) q ≡ true)) → cond b (Some x) (registered_of rs q) ≡ Some r
+        → Contains (x ∷ rs) r × (bytes_eq (listed_name r.query) q ≡ true)
+    step true e more h = let same : x ≡ r = cc in (first_there x rs r same, subst (λ (z : Registered). bytes_eq (listed_name z.query) q ≡ true) same e)
     step false e more h = let k = more h in (later_there x rs r k.0, k.1)
 
 -- what is there is found by its name
-pub is_found : (rs : List Registered) (q : Bytes) (r : Registered) → Contains rs r → bytes_eq r.query.name q ≡ true → IsSome (registered_of rs q)
+pub is_found : (rs : List Registered) (q : Bytes) (r : Registered) → Contains rs r → bytes_eq (listed_name r.query) q ≡ true → IsSome (registered_of rs q)
 is_found [] q r h e = absurd (nothing_there r h)
-is_found (x ∷ rs) q r h e = step (bytes_eq x.query.name q) refl (first_or_later x rs r h) (λ k. is_found rs q r k e)
+is_found (x ∷ rs) q r h e = step (bytes_eq (listed_name x.query) q) refl (first_or_later x rs r h) (λ k. is_found rs q r k e)
   where
-    step : (b : Bool) → bytes_eq x.query.name q ≡ b → (x ≡ r) ⊎ Contains rs r → (Contains rs r → IsSome (registered_of rs q)) → IsSome (cond b (Some x) (registered_of rs q))
+    step : (b : Bool) → bytes_eq (listed_name x.query) q ≡ b → (x ≡ r) ⊎ Contains rs r → (Contains rs r → IsSome (registered_of rs q)) → IsSome (cond b (Some x) (registered_of rs q))
     step true f o more = refl
     step false f (inl same) more =
-        let so : bytes_eq x.query.name q ≡ true = ap (λ (z : Registered). bytes_eq z.query.name q) same ∙ e in absurd (cc (so, f))
+        let so : bytes_eq (listed_name x.query) q ≡ true = ap (λ (z : Registered). bytes_eq (listed_name z.query) q) same ∙ e in absurd (cc (so, f))
     step false f (inr k) more = more k
 
 pub same_name : (p q : Bytes) → bytes_eq p q ≡ true → p ≡ q
@@ -214,7 +215,7 @@ abbrev pub OtherId : Registered → Registered → Type 0
 OtherId r s = same_query r.id s.id ≡ false
 
 abbrev pub OtherName : Registered → Registered → Type 0
-OtherName r s = bytes_eq r.query.name s.query.name ≡ false
+OtherName r s = bytes_eq (listed_name r.query) (listed_name s.query) ≡ false
 
 abbrev pub IdsApart : List Registered → Type 0
 IdsApart = AllPairs OtherId
@@ -236,7 +237,7 @@ at_its_id (x ∷ rs) r a h = step (same_query x.id r.id) refl (first_or_later x 
 -- What holds of each, where one has other watchers.
 pub each_with : (f : ℕ → ℕ) (Q : Registered → Type 0) (rs : List Registered) (r : Registered) → IdsApart rs → NamesApart rs → Contains rs r
     → Q (record r { watchers = f r.watchers })
-    → ((x : Registered) → Contains rs x → bytes_eq x.query.name r.query.name ≡ false → Q x)
+    → ((x : Registered) → Contains rs x → bytes_eq (listed_name x.query) (listed_name r.query) ≡ false → Q x)
     → (y : Registered) → Contains (with_watchers r.id f rs) y → Q y
 each_with f Q [] r a n h here others y k = absurd (nothing_there r h)
 each_with f Q (x ∷ rs) r a n h here others y k =
@@ -244,10 +245,10 @@ each_with f Q (x ∷ rs) r a n h here others y k =
   where
     behind : x ≡ r → Contains rs y → Q y
     behind same c =
-        let apart : bytes_eq x.query.name y.query.name ≡ false = All-contains (λ (z : Registered). bytes_eq x.query.name z.query.name ≡ false) rs y (pairs_head OtherName x rs n) c in
+        let apart : bytes_eq (listed_name x.query) (listed_name y.query) ≡ false = All-contains (λ (z : Registered). bytes_eq (listed_name x.query) (listed_name z.query) ≡ false) rs y (pairs_head OtherName x rs n) c in
         others y (later_there x rs y c)
-        (other_name y.query.name r.query.name
-        (λ e. let so : bytes_eq x.query.name y.query.name ≡ true = (bytes_eq-decides x.query.name y.query.name).1 (ap (λ (z : Registered). z.query.name) same ∙ sym e) in absurd (cc (so, apart))))
+        (other_name (listed_name y.query) (listed_name r.query)
+        (λ e. let so : bytes_eq (listed_name x.query) (listed_name y.query) ≡ true = (bytes_eq-decides (listed_name x.query) (listed_name y.query)).1 (ap (λ (z : Registered). (listed_name z.query)) same ∙ sym e) in absurd (cc (so, apart))))
 
     first_of : x ≡ r → (record x { watchers = f x.watchers } ≡ y) ⊎ Contains rs y → Q y
     first_of same (inl e) = subst Q (ap (λ (z : Registered). record z { watchers = f z.watchers }) (sym same) ∙ e) here
@@ -255,7 +256,7 @@ each_with f Q (x ∷ rs) r a n h here others y k =
 
     later_of : Contains rs r → (Contains (with_watchers r.id f rs) y → Q y) → (x ≡ y) ⊎ Contains (with_watchers r.id f rs) y → Q y
     later_of c more (inl e) =
-        let apart : bytes_eq x.query.name r.query.name ≡ false = All-contains (λ (z : Registered). bytes_eq x.query.name z.query.name ≡ false) rs r (pairs_head OtherName x rs n) c in
+        let apart : bytes_eq (listed_name x.query) (listed_name r.query) ≡ false = All-contains (λ (z : Registered). bytes_eq (listed_name x.query) (listed_name z.query) ≡ false) rs r (pairs_head OtherName x rs n) c in
         subst Q e (others x (first_there x rs x refl) apart)
     later_of c more (inr d) = more d
 
@@ -281,8 +282,8 @@ names_with f id (x ∷ rs) q = step (same_query x.id id) (names_with f id rs q)
 
     step : (b : Bool) → is_some (registered_of (with_watchers id f rs) q) ≡ is_some (registered_of rs q)
         → is_some (registered_of (cond b (record x { watchers = f x.watchers } ∷ rs) (x ∷ with_watchers id f rs)) q) ≡ is_some (registered_of (x ∷ rs) q)
-    step true e = first (bytes_eq x.query.name q)
-    step false e = both (bytes_eq x.query.name q) (registered_of (with_watchers id f rs) q) (registered_of rs q) e
+    step true e = first (bytes_eq (listed_name x.query) q)
+    step false e = both (bytes_eq (listed_name x.query) q) (registered_of (with_watchers id f rs) q) (registered_of rs q) e
 
 pub listed_with : (f : ℕ → ℕ) (id : QueryId) (rs : List Registered) → listed (with_watchers id f rs) ≡ listed rs
 listed_with f id [] = refl
@@ -364,12 +365,12 @@ pub watches_more : (rs : List Registered) (ws : List Bytes) (q : Bytes) (r : Reg
     → StaysCounted rs ws (with_watchers r.id (λ n. n + 1) rs) (ws ++ q ∷ [])
 watches_more rs ws q r a n found fresh others h =
     let there = found_there rs q r found in
-    let name = same_name r.query.name q there.1 in
+    let name = same_name (listed_name r.query) q there.1 in
     record {
-      counted = each_with (λ m. m + 1) (λ (x : Registered). x.watchers ≡ others x.query.name + times_in (ws ++ q ∷ []) x.query.name) rs r a n there.0
-          (raised r.watchers (others r.query.name) (times_in ws r.query.name) (times_in (ws ++ q ∷ []) r.query.name) (h.counted r there.0)
+      counted = each_with (λ m. m + 1) (λ (x : Registered). x.watchers ≡ others (listed_name x.query) + times_in (ws ++ q ∷ []) (listed_name x.query)) rs r a n there.0
+          (raised r.watchers (others (listed_name r.query)) (times_in ws (listed_name r.query)) (times_in (ws ++ q ∷ []) (listed_name r.query)) (h.counted r there.0)
           (ap (times_in ws) name ∙ times_not ws q fresh) (ap (times_in (ws ++ q ∷ [])) name ∙ times_here ws q))
-          (λ x c d. h.counted x c ∙ ap (λ (m : ℕ). others x.query.name + m) (sym (times_there ws q x.query.name (subst (λ (p : Bytes). bytes_eq x.query.name p ≡ false) name d))));
+          (λ x c d. h.counted x c ∙ ap (λ (m : ℕ). others (listed_name x.query) + m) (sym (times_there ws q (listed_name x.query) (subst (λ (p : Bytes). bytes_eq (listed_name x.query) p ≡ false) name d))));
       known = λ p k. names_with (λ m. m + 1) r.id rs p ∙ known (bytes_eq p q) p refl k;
       few = h.few;
       once = once_more ws q h.once fresh;
@@ -386,13 +387,13 @@ pub watches_less : (rs : List Registered) (ws : List Bytes) (q : Bytes) (r : Reg
     → StaysCounted rs (ws ++ q ∷ []) (with_watchers r.id (λ n. n - 1) rs) ws
 watches_less rs ws q r a n found others h =
     let there = found_there rs q r found in
-    let name = same_name r.query.name q there.1 in
+    let name = same_name (listed_name r.query) q there.1 in
     let o = once_last ws q h.once in
     record {
-      counted = each_with (λ m. m - 1) (λ (x : Registered). x.watchers ≡ others x.query.name + times_in ws x.query.name) rs r a n there.0
-          (lowered r.watchers (others r.query.name) (times_in (ws ++ q ∷ []) r.query.name) (times_in ws r.query.name) (h.counted r there.0)
+      counted = each_with (λ m. m - 1) (λ (x : Registered). x.watchers ≡ others (listed_name x.query) + times_in ws (listed_name x.query)) rs r a n there.0
+          (lowered r.watchers (others (listed_name r.query)) (times_in (ws ++ q ∷ []) (listed_name r.query)) (times_in ws (listed_name r.query)) (h.counted r there.0)
           (ap (times_in (ws ++ q ∷ [])) name ∙ times_here ws q) (ap (times_in ws) name ∙ times_not ws q o.1))
-          (λ x c d. h.counted x c ∙ ap (λ (m : ℕ). others x.query.name + m) (times_there ws q x.query.name (subst (λ (p : Bytes). bytes_eq x.query.name p ≡ false) name d)));
+          (λ x c d. h.counted x c ∙ ap (λ (m : ℕ). others (listed_name x.query) + m) (times_there ws q (listed_name x.query) (subst (λ (p : Bytes). bytes_eq (listed_name x.query) p ≡ false) name d)));
       known = λ p k. names_with (λ m. m - 1) r.id rs p ∙ known (bytes_eq p q) p refl k;
       few = h.few;
       once = o.0;
@@ -409,7 +410,7 @@ watches_less rs ws q r a n found others h =
 pub has_watcher : (others : Bytes → ℕ) (rs : List Registered) (ws : List Bytes) (q : Bytes) (r : Registered) → IsCounted others rs (ws ++ q ∷ []) → registered_of rs q ≡ Some r → 0 < r.watchers
 has_watcher others rs ws q r h found =
     let there = found_there rs q r found in
-    let name = same_name r.query.name q there.1 in
+    let name = same_name (listed_name r.query) q there.1 in
     omega (arith, h.counted r there.0, ap (times_in (ws ++ q ∷ [])) name ∙ times_here ws q)
 
 -- it is registered
@@ -433,11 +434,11 @@ unwatched ws q h = step (is_among_watches ws q) (times_in ws q) refl h
 
 -- the registered queries without those of a name
 abbrev pub left_of : Bytes → List Registered → List Registered
-left_of q rs = filter (λ (r : Registered). not (bytes_eq r.query.name q)) rs
+left_of q rs = filter (λ (r : Registered). not (bytes_eq (listed_name r.query) q)) rs
 
 left_there : (q : Bytes) (rs : List Registered) (r : Registered) → Contains (left_of q rs) r → Contains rs r
 left_there q [] r c = c
-left_there q (x ∷ rs) r c = step (bytes_eq x.query.name q) c (λ d. left_there q rs r d)
+left_there q (x ∷ rs) r c = step (bytes_eq (listed_name x.query) q) c (λ d. left_there q rs r d)
   where
     by : (x ≡ r) ⊎ Contains (left_of q rs) r → (Contains (left_of q rs) r → Contains rs r) → Contains (x ∷ rs) r
     by (inl e) more = first_there x rs r e
@@ -449,12 +450,12 @@ left_there q (x ∷ rs) r c = step (bytes_eq x.query.name q) c (λ d. left_there
 
 found_still : (q p : Bytes) (rs : List Registered) → bytes_eq p q ≡ false → IsSome (registered_of rs p) → IsSome (registered_of (left_of q rs) p)
 found_still q p [] d i = i
-found_still q p (x ∷ rs) d i = step (bytes_eq x.query.name q) refl (bytes_eq x.query.name p) refl i (λ j. found_still q p rs d j)
+found_still q p (x ∷ rs) d i = step (bytes_eq (listed_name x.query) q) refl (bytes_eq (listed_name x.query) p) refl i (λ j. found_still q p rs d j)
   where
-    step : (b : Bool) → bytes_eq x.query.name q ≡ b → (c : Bool) → bytes_eq x.query.name p ≡ c → IsSome (cond c (Some x) (registered_of rs p))
+    step : (b : Bool) → bytes_eq (listed_name x.query) q ≡ b → (c : Bool) → bytes_eq (listed_name x.query) p ≡ c → IsSome (cond c (Some x) (registered_of rs p))
         → (IsSome (registered_of rs p) → IsSome (registered_of (left_of q rs) p)) → IsSome (registered_of (cond (not b) (x ∷ left_of q rs) (left_of q rs)) p)
     step true e true f i more =
-        let same : p ≡ q = sym (same_name x.query.name p f) ∙ same_name x.query.name q e in
+        let same : p ≡ q = sym (same_name (listed_name x.query) p f) ∙ same_name (listed_name x.query) q e in
         let so : bytes_eq p q ≡ true = (bytes_eq-decides p q).1 same in absurd (cc (so, d))
     step true e false f i more = more i
     step false e true f i more = subst (λ (c : Bool). IsSome (cond c (Some x) (registered_of (left_of q rs) p))) (sym f) refl
@@ -462,7 +463,7 @@ found_still q p (x ∷ rs) d i = step (bytes_eq x.query.name q) refl (bytes_eq x
 
 -- A query that isn't watched is dropped.
 pub stays_dropped : (rs : List Registered) (q : Bytes) (ws : List Bytes) → ((r : Registered) → registered_of rs q ≡ Some r → r.watchers ≡ 0)
-    → StaysCounted rs ws (filter (λ (r : Registered). not (bytes_eq r.query.name q)) rs) ws
+    → StaysCounted rs ws (filter (λ (r : Registered). not (bytes_eq (listed_name r.query) q)) rs) ws
 stays_dropped rs q ws none others h = record {
   counted = λ r c. h.counted r (kept_there rs r c);
   known = λ p l. still_known p (h.known p l) l;
@@ -473,18 +474,18 @@ stays_dropped rs q ws none others h = record {
     kept_there : (rs : List Registered) (r : Registered) → Contains (left_of q rs) r → Contains rs r
     kept_there rs r c = left_there q rs r c
 
-    still_known : (p : Bytes) → IsSome (registered_of rs p) → 0 < others p + times_in ws p → IsSome (registered_of (filter (λ (x : Registered). not (bytes_eq x.query.name q)) rs) p)
+    still_known : (p : Bytes) → IsSome (registered_of rs p) → 0 < others p + times_in ws p → IsSome (registered_of (filter (λ (x : Registered). not (bytes_eq (listed_name x.query) q)) rs) p)
     still_known p i l = step (bytes_eq p q) refl
       where
-        step : (b : Bool) → bytes_eq p q ≡ b → IsSome (registered_of (filter (λ (x : Registered). not (bytes_eq x.query.name q)) rs) p)
+        step : (b : Bool) → bytes_eq p q ≡ b → IsSome (registered_of (filter (λ (x : Registered). not (bytes_eq (listed_name x.query) q)) rs) p)
         step false e = found_still q p rs e i
         step true e = by (registered_of rs p) refl i
           where
-            by : (o : Option Registered) → registered_of rs p ≡ o → IsSome o → IsSome (registered_of (filter (λ (x : Registered). not (bytes_eq x.query.name q)) rs) p)
+            by : (o : Option Registered) → registered_of rs p ≡ o → IsSome o → IsSome (registered_of (filter (λ (x : Registered). not (bytes_eq (listed_name x.query) q)) rs) p)
             by None f j = absurd (cc (j))
             by (Some r) f j =
                 let there = found_there rs p r f in
-                let name : r.query.name ≡ p = same_name r.query.name p there.1 in
+                let name : (listed_name r.query) ≡ p = same_name (listed_name r.query) p there.1 in
                 let zero : r.watchers ≡ 0 = none r (ap (registered_of rs) (sym (same_name p q e)) ∙ f) in
                 let some : r.watchers ≡ others p + times_in ws p = h.counted r there.0 ∙ ap (λ (n : Bytes). others n + times_in ws n) name in
                 absurd (omega (arith, zero, some, l))

@@ -1,18 +1,21 @@
 -- A command on a row, which a session says and which all who watch are told.
-use Rattle.std.specs.Prelude.{ℕ, [], ◌∷◌, ◌≡◌, ◌+◌, ◌++◌, ◌≤◌, Bool, true, false, None, Result, AllPairs, length, map}
-use Rattle.djq_model.specs.Data.{Bytes, Tuple, rows_of, without_row}
+use Rattle.std.specs.Prelude.{ℕ, [], ◌∷◌, ◌≡◌, ◌+◌, ◌++◌, ◌≤◌, Bool, true, false, None, Result, Ok, Err, AllPairs, length, map}
+use Rattle.djq_model.specs.Data.{Bytes, Tuple}
 use Rattle.std.specs.Prelude.{List}
 use Rattle.djq_lines.specs.declared.limits.TheConstants.{PENDING_BYTES, REPLY_BYTES, LAST_LINE_BYTES}
 use Rattle.djq_lines.specs.declared.answer.Refusal.{Refusal}
 use Rattle.djq_lines.specs.declared.answer.AddOutcome.{AddOutcome}
+use Rattle.djq_lines.specs.declared.answer.AddOutcome.TheVariants.{Added as HasAdded, Same}
 use Rattle.djq_lines.specs.declared.answer.DeleteOutcome.{DeleteOutcome}
+use Rattle.djq_lines.specs.declared.answer.DeleteOutcome.TheVariants.{Removed, Absent}
 use Rattle.djq_lines.specs.declared.command.Command.{Command}
 use Rattle.djq_lines.specs.declared.command.Command.TheVariants.{Add, Del}
 use Rattle.djq_lines.specs.Line.{a_line, front_of, is_blank}
 use Rattle.djq_lines.specs.Grammar.{says, reading_of}
 use Rattle.djq_lines.specs.Reply.{add_reply, delete_reply}
+use Rattle.djq_machine.specs.Keeping.{is_done, is_removal}
 use Rattle.djq_machine.specs.Store.{AddsRow, DeletesRow}
-use Rattle.djq_machine.specs.Stale.{add_outdates, add_accepted, delete_outdates}
+use Rattle.djq_machine.specs.Changes.{RowsOutcome, row_in, row_out, add_outcome, delete_outcome, tried}
 use Rattle.djq_engine.specs.Kept.{Kept, Outdates, same_query}
 use Rattle.djq_engine.specs.Watching.{TellsChange}
 use Rattle.djq_core.specs.declared.change.Change.{Change}
@@ -22,8 +25,17 @@ use Rattle.djq_core.specs.Views.{Talk}
 
 -- whether the change was accepted
 abbrev pub is_accepted : Outcome → Bool
-is_accepted (Added result) = add_accepted result
-is_accepted (Deleted result) = delete_outdates result
+is_accepted (Added (Ok HasAdded)) = true
+is_accepted (Added (Ok Same)) = false
+is_accepted (Added (Err r)) = false
+is_accepted (Deleted (Ok Removed)) = true
+is_accepted (Deleted (Ok Absent)) = false
+is_accepted (Deleted (Err r)) = false
+
+-- whether its line is kept
+abbrev pub is_kept : Outcome → Bool
+is_kept (Added result) = is_done result
+is_kept (Deleted result) = is_removal result
 
 -- its reply, at a number of changes
 abbrev pub reply_of : Outcome → ℕ → Bytes
@@ -31,26 +43,26 @@ reply_of (Added result) n = add_reply result n
 reply_of (Deleted result) n = delete_reply result n
 
 -- What the engine did of a change, whoever watches. Its registered queries are those of the store, and their ids differ.
-pub record Changed (old : Kept) (relation : Bytes) (rows : List Tuple) (outdates accepted : Bool) (new : Kept) (was now : ℕ) : Type 0 where
-  pub outdated : Outdates old relation outdates new
+pub record Changed (old : Kept) (outcome : RowsOutcome) (new : Kept) (was now : ℕ) : Type 0 where
+  pub outdated : Outdates old (tried outcome) new
   pub registered : new.registered ≡ old.registered
   pub queries : map (λ r. r.query) old.registered ≡ (old.store).queries
   pub apart : AllPairs (λ r s. same_query r.id s.id ≡ false) old.registered
-  pub tells : TellsChange old relation rows outdates accepted new was now
+  pub tells : TellsChange old outcome new was now
 
 -- A row was to be added.
 pub record Adds (old : Kept) (name : Bytes) (row : Tuple) (change : Change) (new : Kept) (was now : ℕ) : Type 0 where
   pub result : Result AddOutcome Refusal
   pub is : change ≡ record { relation = name; outcome = Added result }
   pub done : AddsRow old.store name row result new.store
-  pub changed : Changed old name (rows_of (old.store).relations name ++ row ∷ []) (add_outdates result) (add_accepted result) new was now
+  pub changed : Changed old (add_outcome (row_in (old.store).relations name row) result) new was now
 
 -- A row was to be deleted.
 pub record Deletes (old : Kept) (name : Bytes) (row : Tuple) (change : Change) (new : Kept) (was now : ℕ) : Type 0 where
   pub result : Result DeleteOutcome Refusal
   pub is : change ≡ record { relation = name; outcome = Deleted result }
   pub done : DeletesRow old.store name row result new.store
-  pub changed : Changed old name (without_row (rows_of (old.store).relations name) row) (delete_outdates result) (delete_outdates result) new was now
+  pub changed : Changed old (delete_outcome (row_out (old.store).relations name row) result) new was now
 
 abbrev pub IsChange : Command → Kept → Change → Kept → ℕ → ℕ → Type 0
 IsChange (Add name row) old change new was now = Adds old name row change new was now

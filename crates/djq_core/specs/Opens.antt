@@ -1,6 +1,7 @@
 -- What opening a cursor does to the engine and to a session.
 use Rattle.std.specs.Prelude.{[], ◌∷◌, ◌≡◌, ◌++◌, nat_le, Option, is_some, is_none, Result, Ok, Err, length, ⊤}
-use Rattle.djq_model.specs.Data.{Bytes, query_of}
+use Rattle.djq_model.specs.Data.{Bytes}
+use Rattle.djq_model.specs.Listed.{listed_of}
 use Rattle.djq_lines.specs.declared.limits.TheConstants.{CURSORS}
 use Rattle.djq_lines.specs.declared.answer.Refusal.{Refusal}
 use Rattle.djq_lines.specs.declared.answer.Refusal.TheVariants.{Taken, NoQuery, Limit}
@@ -14,7 +15,7 @@ use Rattle.djq_core.specs.Views.{Talk}
 abbrev pub refusal_of : Kept → Talk → Bytes → Bytes → Option Refusal
 refusal_of k d c q = first_of (
     (is_some (named d.cursors c), Taken)
-    ∷ (is_none (query_of (k.store).queries q), NoQuery)
+    ∷ (is_none (listed_of (k.store).queries q), NoQuery)
     ∷ (nat_le CURSORS (length d.cursors), Limit)
     ∷ [])
 

@@ -3,6 +3,7 @@ use Rattle.std.specs.Prelude.{ℕ, List, [], ◌∷◌, ◌≡◌, ◌+◌, ◌+
 use Rattle.std.specs.List.{list_any}
 use Rattle.djq_model.specs.Data.{Bytes, bytes_eq}
 use Rattle.djq_model.specs.Answer.{AreDifferent}
+use Rattle.djq_model.specs.Listed.{listed_name}
 use Rattle.djq_lines.specs.declared.answer.EndCause.{EndCause}
 use Rattle.djq_lines.specs.declared.limits.TheConstants.{SESSIONS, REPLY_BYTES, LAST_LINE_BYTES}
 use Rattle.djq_session.specs.declared.named.NamedCursor.{NamedCursor}
@@ -100,14 +101,15 @@ AreQuiet (x ∷ xs) = QuietOnceEnded (x.session).cause (x.session).watches × Ar
 
 -- The engine counts the sessions that watch each query, and each query that is watched is registered.
 pub record AreCounted (rs : List Registered) (xs : List OpenSession) : Type 0 where
-  pub counted : (r : Registered) → Contains rs r → r.watchers ≡ watchers_in xs r.query.name
+  pub counted : (r : Registered) → Contains rs r → r.watchers ≡ watchers_in xs (listed_name r.query)
   pub known : (q : Bytes) → 0 < watchers_in xs q → IsSome (registered_of rs q)
   pub once : AllOnce xs
   pub quiet : AreQuiet xs
 
 -- The same of a session that watches these queries, where so many others watch each.
 pub record IsCounted (others : Bytes → ℕ) (rs : List Registered) (ws : List Bytes) : Type 0 where
-  pub counted : (r : Registered) → Contains rs r → r.watchers ≡ others r.query.name + times_in ws r.query.name
+  pub counted : (r : Registered) → Contains rs r
+      → r.watchers ≡ others (listed_name r.query) + times_in ws (listed_name r.query)
   pub known : (q : Bytes) → 0 < others q + times_in ws q → IsSome (registered_of rs q)
   pub few : (q : Bytes) → others q < SESSIONS
   pub once : AreOnce ws

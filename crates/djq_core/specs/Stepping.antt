@@ -4,13 +4,14 @@ use Rattle.djq_model.specs.Data.{Bytes}
 use Rattle.djq_lines.specs.declared.answer.EndCause.{EndCause}
 use Rattle.djq_lines.specs.declared.answer.EndCause.TheVariants.{Long, Slow, Memory}
 use Rattle.djq_lines.specs.declared.command.Command.{Command}
-use Rattle.djq_lines.specs.declared.command.Command.TheVariants.{Query as Register, Next}
+use Rattle.djq_lines.specs.declared.command.Command.TheVariants.{Rel, Query as Register, Next}
 use Rattle.djq_lines.specs.declared.answer.Refusal.{Refusal}
 use Rattle.djq_lines.specs.declared.answer.Refusal.TheVariants.{Syntax, WrongType, NoMemory}
 use Rattle.djq_proto.specs.declared.refusal.LineRefusal.{LineRefusal}
 use Rattle.djq_proto.specs.declared.refusal.LineRefusal.TheVariants.{Syntax as Outside, Range, NoMem}
 use Rattle.djq_machine.specs.declared.machine.Stepped.{Stepped}
 use Rattle.djq_machine.specs.declared.machine.Stepped.TheVariants.{Ran, Dry, Ended}
+use Rattle.djq_machine.specs.Keeping.{kept_where}
 use Rattle.djq_machine.specs.LineStep.{LineOutcome, long, blank, slow, no_room, run, FrontStep}
 use Rattle.djq_machine.specs.Step.{is_dry}
 use Rattle.djq_machine.specs.Call.{Counts}
@@ -19,11 +20,13 @@ use Rattle.djq_core.specs.Views.{Talk}
 use Rattle.djq_core.specs.declared.change.Change.{Change}
 use Rattle.djq_core.specs.declared.change.Left.{Left}
 use Rattle.djq_core.specs.declared.change.Left.TheVariants.{Nothing, Stopping, Telling}
-use Rattle.djq_core.specs.Performs.{Performs, Executes}
-use Rattle.djq_core.specs.Changing.{IsChange, LeavesChange}
+use Rattle.djq_core.specs.Performs.{Performs, ExecutesKeeping}
+use Rattle.djq_core.specs.Changing.{IsChange, LeavesChange, is_kept}
 
--- As a line says a command: its query has an atom at least, and it asks for an answer at least.
+-- As a line says a command: its relation has a column at least, its query an atom, and it asks for
+-- an answer at least.
 abbrev pub IsRunnable : Command → Type 0
+IsRunnable (Rel n cs) = 0 < length cs
 IsRunnable (Register q) = 0 < length q.atoms
 IsRunnable (Next c count) = 1 ≤ count
 IsRunnable _ = ⊤
@@ -37,6 +40,11 @@ refused_as NoMem = NoMemory
 -- The front of a session's bytes comes to this.
 abbrev pub Fronts : LineOutcome → Bool → Kept → Talk → Kept → Talk → ℕ → ℕ → Type 0
 Fronts outcome stops old before new after was now = Performs (λ st s x e st'. FrontStep st s x outcome e st') stops old before new after was now
+
+-- So it does, and its line is kept where this holds.
+abbrev pub FrontsKeeping : LineOutcome → Bool → Bool → Kept → Talk → Kept → Talk → ℕ → ℕ → Type 0
+FrontsKeeping outcome kept stops old before new after was now =
+    Performs (λ st s x e st'. FrontStep st s x outcome e st' × (e.kept ≡ kept_where kept)) stops old before new after was now
 
 -- A session ends before its line is run.
 abbrev pub EndsBefore : EndCause → Bool → Kept → Talk → Kept → Talk → Counts → Counts → Type 0
@@ -54,28 +62,35 @@ pub record Unchanged (stops : Bool) (old : Kept) (before : Talk) (new : Kept) (a
 
 -- What a step of a session answers, and does.
 abbrev pub StepsTo : Stepped → Bool → Kept → Talk → Kept → Talk → Counts → Counts → Type 0
-StepsTo Ran stops old before new after was now = (before.cause ≡ None) × ((l : Bytes) × (Fronts (blank l) stops old before new after was.listing now.listing ⊎ Fronts (run l) stops old before new after was.listing now.listing))
+StepsTo (Ran kept) stops old before new after was now = (before.cause ≡ None) × ((l : Bytes) × (FrontsKeeping (blank l) kept stops old before new after was.listing now.listing
+    ⊎ FrontsKeeping (run l) kept stops old before new after was.listing now.listing))
 StepsTo Dry stops old before new after was now = (before.cause ≡ None) × (is_dry before.held ≡ true) × Unchanged stops old before new after was now
 StepsTo (Ended c) stops old before new after was now = MatchOption before.cause
     (EndsBefore c stops old before new after was now)
     (λ d. (d ≡ c) × Unchanged stops old before new after was now)
 
+-- whether a line of which this is left is kept
+abbrev pub is_kept_by : Left → Bool
+is_kept_by (Nothing kept) = kept
+is_kept_by Stopping = false
+is_kept_by (Telling change) = is_kept change.outcome
+
 -- A command is done, or what is left of it is to tell a change.
 abbrev pub Obeys : Command → Left → Kept → Talk → Kept → Talk → ℕ → ℕ → Type 0
-Obeys command Nothing old before new after was now = Executes command false old before new after was now
-Obeys command Stopping old before new after was now = Executes command true old before new after was now
+Obeys command (Nothing kept) old before new after was now = ExecutesKeeping command kept false old before new after was now
+Obeys command Stopping old before new after was now = ExecutesKeeping command false true old before new after was now
 Obeys command (Telling change) old before new after was now = IsChange command old change new was now × (after ≡ before)
 
 -- So it is of a line.
 abbrev pub LineLeaves : Bytes → Left → Kept → Talk → Kept → Talk → ℕ → ℕ → Type 0
-LineLeaves l Nothing old before new after was now = Fronts (run l) false old before new after was now
-LineLeaves l Stopping old before new after was now = Fronts (run l) true old before new after was now
+LineLeaves l (Nothing kept) old before new after was now = FrontsKeeping (run l) kept false old before new after was now
+LineLeaves l Stopping old before new after was now = FrontsKeeping (run l) false true old before new after was now
 LineLeaves l (Telling change) old before new after was now = LeavesChange change old before new after was now
 
 -- And of a step.
 abbrev pub LeavesTo : Stepped → Left → Kept → Talk → Kept → Talk → Counts → Counts → Type 0
-LeavesTo stepped Nothing old before new after was now = StepsTo stepped false old before new after was now
+LeavesTo stepped (Nothing kept) old before new after was now = StepsTo stepped false old before new after was now
 LeavesTo stepped Stopping old before new after was now = StepsTo stepped true old before new after was now
-LeavesTo Ran (Telling change) old before new after was now = LeavesChange change old before new after was.listing now.listing
+LeavesTo (Ran kept) (Telling change) old before new after was now = (kept ≡ is_kept change.outcome) × LeavesChange change old before new after was.listing now.listing
 LeavesTo Dry (Telling change) old before new after was now = ⊥
 LeavesTo (Ended c) (Telling change) old before new after was now = ⊥

@@ -1,8 +1,8 @@
 -- How a change is told to the sessions that watch, and answered.
 use Rattle.std.specs.Prelude.{ℕ, List, [], ◌∷◌, ◌==◌, ◌≡◌, ◌+◌, ◌++◌, ◌<◌, ◌≤◌, ◌⊎◌, Bool, true, Option, None, Some, MatchOption, Result, if◌then◌else◌, All, filter, length, map, ⊤}
 use Rattle.std.specs.List.{list_any}
-use Rattle.djq_model.specs.declared.query.Query.{Query}
 use Rattle.djq_model.specs.Data.{Bytes}
+use Rattle.djq_model.specs.Listed.{listed_name}
 use Rattle.djq_lines.specs.declared.limits.TheConstants.{PENDING_BYTES}
 use Rattle.djq_lines.specs.declared.answer.EndCause.TheVariants.{Slow, Memory}
 use Rattle.djq_lines.specs.Reply.{text_of, end_slow, end_memory}
@@ -70,7 +70,7 @@ pub record GoesOnTelling (old : Kept) (xs : List OpenSession) (new : Kept) (ys :
 pub record TellsQuery (old : Kept) (id : QueryId) (query : Bytes) (xs : List OpenSession) (new : Kept) (ys : List OpenSession) : Type 0 where
   pub goes_on : GoesOnTelling old xs new ys
   pub quiet : watchers_in xs query ≡ 0 → (new ≡ old) × (ys ≡ xs)
-  pub tells : (d : Delta) (stopped : Bool) (start : List OpenSession) (m : Telling) → d.query.name ≡ query
+  pub tells : (d : Delta) (stopped : Bool) (start : List OpenSession) (m : Telling) → (listed_name d.query) ≡ query
       → (told_at old id ≡ None) ⊎ (told_at old id ≡ Some d.changes) → ToldSoFar stopped start m old xs
       → (m' : Telling) × TellsDelta (old.store).seq m d m' × ToldSoFar stopped start m' new ys
 

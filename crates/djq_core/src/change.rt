@@ -1,3 +1,7 @@
+ghost use Rattle.std.specs.Prelude.{◌≡◌};
+ghost use Rattle.djq_core.specs.Changing.{is_kept};
+ghost use Rattle.djq_core.specs.Stepping.{is_kept_by};
+
 use djq_lines::{AddOutcome, DeleteOutcome, Refusal};
 use djq_model::Name;
 
@@ -8,6 +12,19 @@ pub(crate) enum Outcome {
     Added(Result<AddOutcome, Refusal>),
     /// Of `del`.
     Deleted(Result<DeleteOutcome, Refusal>),
+}
+
+impl Outcome {
+    // Whether the line is kept.
+    fn is_kept(&self) -> bool
+        ensures { result ≡ is_kept self.now }
+    {
+        match *self {
+            Outcome::Added(Ok(_)) | Outcome::Deleted(Ok(DeleteOutcome::Removed)) => true,
+            Outcome::Added(Err(_)) => false,
+            Outcome::Deleted(Ok(DeleteOutcome::Absent) | Err(_)) => false,
+        }
+    }
 }
 
 /// A command on a row of a relation, once it was done or refused: what is left is to tell those who
@@ -22,9 +39,25 @@ pub(crate) struct Change {
 #[derive(Clone, Copy, Debug)]
 pub(crate) enum Left {
     /// Nothing.
-    Nothing,
+    Nothing {
+        /// Whether the line is kept.
+        kept: bool,
+    },
     /// The server is stopped.
     Stopping,
     /// A change is to be told and answered.
     Telling(Change),
+}
+
+impl Left {
+    /// Whether the line is kept.
+    pub(crate) fn is_kept(&self) -> bool
+        ensures { result ≡ is_kept_by self.now }
+    {
+        match *self {
+            Left::Nothing { kept } => kept,
+            Left::Stopping => false,
+            Left::Telling(change) => change.outcome.is_kept(),
+        }
+    }
 }

@@ -3,9 +3,10 @@ ghost use Rattle.std.specs.Prelude.{◌≡◌, ◌<◌, false, true, length};
 ghost use Rattle.djq_lines.specs.declared.command.Command.TheVariants.{Rel};
 ghost use Rattle.djq_lines.specs.declared.command.Command.TheVariants.{Query as Register, Drop, Open};
 ghost use Rattle.djq_lines.specs.declared.command.Command.TheVariants.{Close, Has, Quit, Stop};
-ghost use Rattle.djq_lines.specs.declared.command.Command.TheVariants.{Explain};
+ghost use Rattle.djq_lines.specs.declared.command.Command.TheVariants.{Explain, Shape};
 ghost use Rattle.djq_core.specs.Opens.{Opens};
-ghost use Rattle.djq_core.specs.Performs.{Executes};
+ghost use Rattle.djq_machine.specs.Keeping.{is_registration};
+ghost use Rattle.djq_core.specs.Performs.{Executes, ExecutesKeeping};
 ghost use Rattle.djq_core.specs.Changing.{Adds, Deletes};
 ghost use Rattle.djq_core.specs.Sound.{IsReady};
 
@@ -13,23 +14,26 @@ use crate::change::{Change, Outcome};
 use crate::ending::{cut_off, give_up};
 use djq_engine::{CursorId, Engine};
 use djq_lines::limits::CURSORS;
-use djq_lines::{EndCause, Refusal};
+use djq_lines::{EndCause, QueryOutcome, Refusal};
 use djq_model::{Name, Query, Types, Value};
 use djq_session::Session;
 use djq_steps::{Ledgers, Listing, Steps, Tally};
 
-/// `rel`: a new relation.
+/// `rel`: a new relation. The answer is whether the line is kept.
 pub(crate) fn run_rel(
     engine: &mut Engine,
     session: &mut Session<CursorId, Name>,
     name: Name,
     types: Types,
-)
-    requires { IsReady engine.old session.old }
-    ensures { Executes (Rel name types) false engine.old session.old engine.new session.new 0 0 }
+) -> bool
+    requires ready { IsReady engine.old session.old }
+    requires some { 0 < length types }
+    ensures { ExecutesKeeping (Rel name types) result false
+        engine.old session.old engine.new session.new 0 0 }
 {
     let outcome = engine.rel(name, types);
     session.answer_done(outcome);
+    outcome.is_ok()
 }
 
 /// `add`: a row goes into a relation. What is left is to tell it and to answer.
@@ -67,22 +71,37 @@ pub(crate) fn run_del<L: Ledgers>(
 }
 
 /// `query`: a query is registered, or a rest shows why it isn't. Out of memory in a long rest, the
-/// session ends.
+/// session ends. The answer is whether the line is kept.
 pub(crate) fn run_query<L: Ledgers>(
     engine: &mut Engine,
     session: &mut Session<CursorId, Name>,
     query: Query,
     steps: &mut Steps<L>,
-)
+) -> bool
     requires ready { IsReady engine.old session.old }
     requires some { 0 < length query.atoms }
-    ensures { Executes (Register query) false engine.old session.old engine.new session.new
+    ensures { ExecutesKeeping (Register query) result false
+        engine.old session.old engine.new session.new
         steps.old.listing steps.new.listing }
 {
     let outcome = engine.query(query, steps);
     engine.laws();
+    let kept = is_registered(&outcome);
     if session.answer_registered(&outcome).is_err() {
         cut_off(engine, session);
+        return kept;
+    }
+    kept
+}
+
+// Whether a query is registered.
+fn is_registered(outcome: &Result<QueryOutcome, Refusal>) -> bool
+    ensures { result ≡ is_registration outcome.now }
+{
+    match outcome {
+        Ok(QueryOutcome::Registered(_)) => true,
+        Ok(QueryOutcome::Cyclic(_) | QueryOutcome::NotConnex(_)) => false,
+        Err(_) => false,
     }
 }
 
@@ -146,13 +165,19 @@ pub(crate) fn run_close(engine: &mut Engine, session: &mut Session<CursorId, Nam
     }
 }
 
-/// `drop`: a query is registered no more.
-pub(crate) fn run_drop(engine: &mut Engine, session: &mut Session<CursorId, Name>, query: &Name)
+/// `drop`: a query is registered no more. The answer is whether the line is kept.
+pub(crate) fn run_drop(
+    engine: &mut Engine,
+    session: &mut Session<CursorId, Name>,
+    query: &Name,
+) -> bool
     requires { IsReady engine.old session.old }
-    ensures { Executes (Drop query.now) false engine.old session.old engine.new session.new 0 0 }
+    ensures { ExecutesKeeping (Drop query.now) result false
+        engine.old session.old engine.new session.new 0 0 }
 {
     let outcome = engine.drop_query(query);
     session.answer_done(outcome);
+    outcome.is_ok()
 }
 
 /// `has`: whether a tuple is an answer of a query.
@@ -188,6 +213,15 @@ pub(crate) fn run_explain(engine: &mut Engine, session: &mut Session<CursorId, N
             _ => session.refuse(refusal),
         },
     }
+}
+
+/// `shape`: what bounds an update of a query.
+pub(crate) fn run_shape(engine: &Engine, session: &mut Session<CursorId, Name>, query: &Name)
+    requires { IsReady engine.now session.old }
+    ensures { Executes (Shape query.now) false engine.now session.old engine.now session.new 0 0 }
+{
+    let outcome = engine.shape(query);
+    session.answer_shape(outcome);
 }
 
 /// `quit`: the session ends.

@@ -6,16 +6,27 @@
 //!
 //! What surprises: a cursor's name belongs to its session, and stands for a cursor of the engine;
 //! so two sessions may use one name, and a change outdates cursors in the engine alone, whatever
-//! sessions they are of. A session's end gives up its cursors and nothing else.
+//! sessions they are of. A session's end gives up its cursors and its watches, and nothing else. A
+//! change is told to all who watch before the session that made it is answered.
+//!
+//! ```text
+//! 1 says  query q(x) <- r(x)      pending for 1                   pending for 2
+//! 2 says  watch q                                                 ok watch 0
+//! 1 says  add r 7                                                 + q 7
+//!                                                                 at q 1
+//!                                 ok added 1
+//! ```
 //!
 //! Every command is a command of *a session among others*. Each function that runs one is handed
 //! the engine and that session alone, and promises a step of the machine whatever sessions there
 //! are besides (`specs/Performs.antt`); so none of them can read or write another session, and a
-//! step costs nothing that grows with their number but the binary search for its id.
+//! step costs nothing that grows with their number but the binary search for its id. A change is
+//! told afterwards, by a pass over the sessions for each watched query that it affected.
 //!
 //! Inside: `serving` has the sessions by id and the calls; `line` the order of checks before a line
-//! is run; `commands`, `listing` and `ending` what commands do, `next` line by line, and a
-//! session's end. `told` lends an answer of the engine to the session that prints it.
+//! is run; `commands`, `watch`, `listing` and `ending` what commands do, `next` line by line, and a
+//! session's end; `tell` what a command on rows leaves to do, each delta printed once, and then its
+//! answer. `told` lends an answer of the engine to the session that prints it.
 #![tactic(auto)]
 
 pub use serving::Core;

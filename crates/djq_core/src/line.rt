@@ -9,7 +9,7 @@ ghost use Rattle.djq_core.specs.Stepping.{IsRunnable, LeavesTo, LineLeaves, Obey
 use crate::change::Left;
 use crate::commands::{
     run_add, run_close, run_del, run_drop, run_explain, run_has, run_open, run_query, run_quit,
-    run_rel, run_stop,
+    run_rel, run_shape, run_stop,
 };
 use crate::ending::end_by;
 use crate::listing::run_next;
@@ -37,55 +37,56 @@ fn obey<L: Ledgers>(
         steps.old.listing steps.new.listing }
 {
     match command {
-        Command::Rel { name, types } => {
-            run_rel(engine, session, name, types);
-            Left::Nothing
-        }
+        Command::Rel { name, types } => Left::Nothing {
+            kept: run_rel(engine, session, name, types),
+        },
         Command::Add { name, row } => {
             Left::Telling(run_add(engine, &name, row.as_slice(), steps))
         }
         Command::Del { name, row } => {
             Left::Telling(run_del(engine, &name, row.as_slice(), steps))
         }
-        Command::Query { query } => {
-            run_query(engine, session, query, steps);
-            Left::Nothing
-        }
+        Command::Query { query } => Left::Nothing {
+            kept: run_query(engine, session, query, steps),
+        },
         Command::Open { cursor, query } => {
             run_open(engine, session, &cursor, &query);
-            Left::Nothing
+            Left::Nothing { kept: false }
         }
         Command::Next { cursor, count } => {
             run_next(engine, session, &cursor, count, &mut steps.listing);
-            Left::Nothing
+            Left::Nothing { kept: false }
         }
         Command::Close { cursor } => {
             run_close(engine, session, &cursor);
-            Left::Nothing
+            Left::Nothing { kept: false }
         }
-        Command::Drop { query } => {
-            run_drop(engine, session, &query);
-            Left::Nothing
-        }
+        Command::Drop { query } => Left::Nothing {
+            kept: run_drop(engine, session, &query),
+        },
         Command::Has { query, row } => {
             run_has(engine, session, &query, row.as_slice(), &mut steps.listing);
-            Left::Nothing
+            Left::Nothing { kept: false }
         }
         Command::Watch { query } => {
             run_watch(engine, session, &query);
-            Left::Nothing
+            Left::Nothing { kept: false }
         }
         Command::Unwatch { query } => {
             run_unwatch(engine, session, &query);
-            Left::Nothing
+            Left::Nothing { kept: false }
         }
         Command::Explain { query } => {
             run_explain(engine, session, &query);
-            Left::Nothing
+            Left::Nothing { kept: false }
+        }
+        Command::Shape { query } => {
+            run_shape(engine, session, &query);
+            Left::Nothing { kept: false }
         }
         Command::Quit => {
             run_quit(engine, session);
-            Left::Nothing
+            Left::Nothing { kept: false }
         }
         Command::Stop => {
             run_stop(engine, session);
@@ -119,7 +120,7 @@ fn run_line<L: Ledgers>(
         Ok(command) => obey(engine, session, command, steps),
         Err(refusal) => {
             session.refuse(refusal_of(refusal));
-            Left::Nothing
+            Left::Nothing { kept: false }
         }
     }
 }
@@ -156,22 +157,29 @@ fn step_line<L: Ledgers>(
 {
     if is_blank(&session.held()[..end]) {
         session.take_line(rest);
-        return (Stepped::Ran, Left::Nothing);
+        return (Stepped::Ran { kept: false }, Left::Nothing { kept: false });
     }
     if session.pending().len() > PENDING_BYTES {
         session.take_line(rest);
         end_by(engine, session, EndLine::Slow, EndCause::Slow);
-        return (Stepped::Ended(EndCause::Slow), Left::Nothing);
+        return (
+            Stepped::Ended(EndCause::Slow),
+            Left::Nothing { kept: false },
+        );
     }
     match session.keep(REPLY_BYTES) {
         Ok(()) => {
             let left = run_line(alloc, engine, session, end, rest, steps);
-            (Stepped::Ran, left)
+            let kept = left.is_kept();
+            (Stepped::Ran { kept }, left)
         }
         Err(_) => {
             session.take_line(rest);
             end_by(engine, session, EndLine::Memory, EndCause::Memory);
-            (Stepped::Ended(EndCause::Memory), Left::Nothing)
+            (
+                Stepped::Ended(EndCause::Memory),
+                Left::Nothing { kept: false },
+            )
         }
     }
 }
@@ -189,13 +197,16 @@ pub(crate) fn step_session<L: Ledgers>(
         (counts steps.new.listing steps.new.update steps.new.rows) }
 {
     if let Some(cause) = session.cause() {
-        return (Stepped::Ended(cause), Left::Nothing);
+        return (Stepped::Ended(cause), Left::Nothing { kept: false });
     }
     match session.front() {
-        Front::Dry => (Stepped::Dry, Left::Nothing),
+        Front::Dry => (Stepped::Dry, Left::Nothing { kept: false }),
         Front::Long => {
             end_by(engine, session, EndLine::Long, EndCause::Long);
-            (Stepped::Ended(EndCause::Long), Left::Nothing)
+            (
+                Stepped::Ended(EndCause::Long),
+                Left::Nothing { kept: false },
+            )
         }
         Front::Line { end, rest } => step_line(alloc, engine, session, end, rest, steps),
     }

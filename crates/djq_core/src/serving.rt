@@ -132,7 +132,7 @@ impl Machine for Core {
         let found = &mut self.sessions[at];
         let (stepped, left) = step_session(self.alloc, &mut self.engine, &mut found.session, steps);
         match left {
-            Left::Nothing => {}
+            Left::Nothing { .. } => {}
             Left::Stopping => self.stopped = true,
             Left::Telling(change) => tell_change(
                 &mut self.engine,

@@ -1,5 +1,6 @@
 //! A change that is told to all who watch, and answered last.
 ghost use Rattle.std.specs.Prelude.{◌≡◌, ◌+◌, ◌≤◌, ◌<◌, [], false, true, None, All, IsSomeAnd, nat_le, slice_get};
+ghost use Rattle.djq_model.specs.Listed.{listed_name};
 ghost use Rattle.djq_lines.specs.declared.limits.TheConstants.{LAST_LINE_BYTES, REPLY_BYTES};
 ghost use Rattle.djq_engine.specs.Kept.{IsRegistered, Registered, registered_at};
 ghost use Rattle.djq_core.specs.Changing.{is_accepted, reply_of};
@@ -101,7 +102,7 @@ fn tell_query(
     requires sound { IsSound engine.old sessions.old.items }
     requires registered { IsRegistered engine.old id }
     ensures tells { (r : Registered) → registered_at engine.old.registered id ≡ Some r
-        → TellsQuery engine.old id r.query.name sessions.old.items
+        → TellsQuery engine.old id (listed_name r.query) sessions.old.items
         engine.new sessions.new.items }
     ensures cap { sessions.new.cap ≡ sessions.old.cap }
 {

@@ -1,4 +1,4 @@
--- A listing of a query's answers, and the delta between two.
+-- A listing of answers, and the delta between two.
 use Rattle.std.specs.Prelude.{List, [], ◌∷◌, ◌≡◌, ◌++◌, ◌⊎◌, Bool, true, false, not, filter, map, All, Contains}
 use Rattle.std.proofs.Common.{refl, sym, ap, ◌∙◌, subst, inl, inr}
 use Rattle.std.proofs.lemmas.List.{map-append}
@@ -6,20 +6,21 @@ use Rattle.std.proofs.lemmas.List.Elements.{All-nil, All-cons, All-head, All-tai
 use Rattle.std.proofs.lemmas.List.Kept.{AllPairs-filter}
 use Rattle.djq_model.specs.Data.{Tuple, has_row}
 use Rattle.djq_model.specs.Answer.{IsAnswer, IsListing, AreDifferent}
+use Rattle.djq_model.specs.Listed.{a_query, AnswersOf}
 use Rattle.djq_lines.specs.declared.answer.Sign.{Sign}
 use Rattle.djq_lines.specs.declared.answer.Sign.TheVariants.{Came, Went}
 use Rattle.djq_machine.specs.Delta.{Change, HasChanged, IsDelta}
 use Rattle.djq_deltas.specs.Finite.{AnswersAreFinite, DeltasExist}
 use Rattle.djq_deltas.proofs.Lists.{nothing_there, first_or_later, first_there, later_there, row_found, row_there, kept_hold, kept_there, pairs_join, hold_each, once, once_hold, once_there, once_differ}
-use Rattle.djq_deltas.proofs.Naive.{all_tried, all_hold, all_there}
+use Rattle.djq_deltas.proofs.Naive.{listed, all_hold, all_there}
 
 pub answers_are_finite : AnswersAreFinite
-answers_are_finite relations q bound = (
-  once (all_tried relations q),
+answers_are_finite relations (a_query q) bound = (
+  once (listed relations q),
   record {
-    different = once_differ (all_tried relations q);
-    answers = once_hold (IsAnswer relations q) (all_tried relations q) (all_hold relations q);
-    complete = λ t h. once_there (all_tried relations q) t (all_there relations q bound t h);
+    different = once_differ (listed relations q);
+    answers = once_hold (IsAnswer relations q) (listed relations q) (all_hold relations q);
+    complete = λ t h. once_there (listed relations q) t (all_there relations q bound t h);
   },
 )
 
@@ -119,4 +120,4 @@ pub deltas_exist : DeltasExist
 deltas_exist before after q bound =
     let e = answers_are_finite before q bound in
     let l = answers_are_finite after q bound in
-    (delta (IsAnswer before q) (IsAnswer after q) e.0 l.0 e.1 l.1, is_delta (IsAnswer before q) (IsAnswer after q) e.0 l.0 e.1 l.1)
+    (delta (AnswersOf before q) (AnswersOf after q) e.0 l.0 e.1 l.1, is_delta (AnswersOf before q) (AnswersOf after q) e.0 l.0 e.1 l.1)

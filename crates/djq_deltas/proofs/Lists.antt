@@ -1,5 +1,5 @@
 -- What lists contain, and lists without repeats.
-use Rattle.std.specs.Prelude.{zero, suc, List, [], ◌∷◌, ◌≡◌, ◌++◌, ◌⊎◌, Bool, true, false, cond, filter, All, AllPairs, Contains}
+use Rattle.std.specs.Prelude.{zero, suc, List, [], ◌∷◌, ◌≡◌, ◌++◌, ◌⊎◌, Bool, true, false, cond, filter, map, All, AllPairs, Contains}
 use Rattle.std.proofs.Common.{refl, sym, ap, ◌∙◌, subst, inl, inr, arith}
 use Rattle.std.proofs.lemmas.List.Elements.{All-nil, All-cons, All-head, All-tail, All-append, All-weaker, All-contains_itself, Contains-append_right, Contains-append_cases}
 use Rattle.std.proofs.lemmas.List.Kept.{AllPairs-cons}
@@ -64,6 +64,15 @@ kept_there p (y ∷ ys) x e h = step (p y) refl (first_or_later y ys x h) (λ k.
     step true k (inr c) more = later_there y (filter p ys) x (more c)
     step false k (inl same) more = let so : p y ≡ true = ap p same ∙ e in absurd (cc (so, k))
     step false k (inr c) more = more c
+
+-- what a list is mapped to
+pub mapped_there : {A B : Type 0} (f : A → B) (xs : List A) (x : A) → Contains xs x → Contains (map f xs) (f x)
+mapped_there f [] x h = absurd (nothing_there x h)
+mapped_there f (y ∷ ys) x h = step (first_or_later y ys x h) (λ k. mapped_there f ys x k)
+  where
+    step : (y ≡ x) ⊎ Contains ys x → (Contains ys x → Contains (map f ys) (f x)) → Contains (f y ∷ map f ys) (f x)
+    step (inl e) more = first_there (f y) (map f ys) (f x) (ap f e)
+    step (inr c) more = later_there (f y) (map f ys) (f x) (more c)
 
 -- pairs of a list
 pub pairs_head : {A : Type 0} (R : A → A → Type 0) (x : A) (xs : List A) → AllPairs R (x ∷ xs) → All (R x) xs

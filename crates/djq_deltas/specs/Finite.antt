@@ -5,7 +5,8 @@ use Rattle.djq_model.specs.declared.query.Query.{Query}
 use Rattle.djq_model.specs.declared.query.Atom.{Atom}
 use Rattle.djq_model.specs.declared.query.Term.TheVariants.{Variable}
 use Rattle.djq_model.specs.Data.{Bytes, Tuple}
-use Rattle.djq_model.specs.Answer.{IsAnswer, IsListing}
+use Rattle.djq_model.specs.Answer.{IsListing}
+use Rattle.djq_model.specs.Listed.{Listed, a_query, AnswersOf}
 use Rattle.djq_machine.specs.Delta.{Change, IsDelta}
 
 -- A variable stands in an atom of a query.
@@ -16,12 +17,16 @@ IsInBody x q = (a : Atom) × Contains q.atoms a × Contains a.terms (Variable x)
 abbrev pub IsBound : Query → Type 0
 IsBound q = (x : Bytes) → Contains q.head x → IsInBody x q
 
--- A bound query has a listing of its answers.
+-- What is registered is bound where its query is.
+abbrev pub IsBoundListed : Listed → Type 0
+IsBoundListed (a_query q) = IsBound q
+
+-- What is registered has a listing of its answers, where it is bound.
 abbrev pub AnswersAreFinite : Type 0
-AnswersAreFinite = (relations : List Relation) (q : Query) → IsBound q
-    → (ts : List Tuple) × IsListing (IsAnswer relations q) ts
+AnswersAreFinite = (relations : List Relation) (q : Listed) → IsBoundListed q
+    → (ts : List Tuple) × IsListing (AnswersOf relations q) ts
 
 -- And each change of relations has a delta.
 abbrev pub DeltasExist : Type 0
-DeltasExist = (before after : List Relation) (q : Query) → IsBound q
-    → (changes : List Change) × IsDelta (IsAnswer before q) (IsAnswer after q) changes
+DeltasExist = (before after : List Relation) (q : Listed) → IsBoundListed q
+    → (changes : List Change) × IsDelta (AnswersOf before q) (AnswersOf after q) changes

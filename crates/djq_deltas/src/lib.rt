@@ -1,13 +1,41 @@
-//! That every query has finitely many answers, and every change of relations a delta.
+//! That answers are decided and finitely many, and that every change of relations has a delta.
 //!
-//! The function here is empty: its contract is the law, and its proof says nothing of code. What a
-//! change brings and takes is then a list that may be spoken of, also where a program never made it:
-//! where its log was lost, or a row was refused.
+//! Each function here is empty: its contract is the law, and its proof says nothing of code. What a
+//! change brings and takes is then a list that may be spoken of, also where a program never made
+//! it: where its log was lost, or a row was refused.
+//!
+//! ```text
+//! q(x) <- r(x,y)     r before: (1,5) (2,5)     behind: (1,5) (1,6)
+//!
+//! answers            1, 2                      1
+//! the delta          - 2                       1 stays an answer, so nothing came
+//! ```
+//!
+//! What this crate is not: it lists nothing that anybody runs. Deltas are told by djq_engine, off
+//! the marks that an update leaves (djq_cursor).
+//!
+//! What surprises: it isn't obvious that there are such lists. An answer is what an assignment of
+//! values to all names gives on the head, and there are infinitely many of these. So the laws ask
+//! that each variable of a head stands in the body, as the protocol asks of a query.
+//!
+//! Inside, a bound answer takes its values from rows, so those to try are finitely many, and each
+//! is decided by trying the choices of a row for each atom. [`deltas_exist`] then compares two
+//! listings.
+//!
+//! djq_engine cites [`deltas_exist`] of changes whose delta no log tells, and djq_laws
+//! [`answers_are_decided`] where a listing and a delta are added up.
 #![tactic(auto)]
 
+ghost use Rattle.djq_deltas.specs.Decided.{AnswersAreDecided};
 ghost use Rattle.djq_deltas.specs.Finite.{AnswersAreFinite, DeltasExist};
 
-/// A query has finitely many answers, where each variable of its head stands in its body.
+/// A tuple is an answer of what is registered over some relations, or it isn't.
+pub fn answers_are_decided()
+    ensures { AnswersAreDecided }
+{}
+
+/// What is registered has finitely many answers: a query, where each variable of its head stands in
+/// its body.
 pub fn answers_are_finite()
     ensures { AnswersAreFinite }
 {}

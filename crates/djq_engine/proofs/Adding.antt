@@ -3,8 +3,8 @@ use Rattle.std.proofs.Common.{ℕ, zero, List, [], ◌∷◌, ◌++◌, ◌+◌,
 use Rattle.std.specs.Prelude.{Option, None, Some, is_some, Ok, Err, AllPairs, map, ⊤}
 use Rattle.std.proofs.lemmas.Bool.{false≢true}
 use Rattle.djq_model.specs.declared.relation.Relation.{Relation}
-use Rattle.djq_model.specs.declared.query.Query.{Query}
 use Rattle.djq_model.specs.Data.{Bytes, Tuple, bytes_eq, change_first, rows_of, has_row, without_row}
+use Rattle.djq_model.specs.Listed.{Listed}
 use Rattle.djq_model.specs.Known.{texts_in, all_learned}
 use Rattle.djq_lines.specs.declared.limits.TheConstants.{TEXTS}
 use Rattle.djq_lines.specs.declared.answer.Refusal.{Refusal}
@@ -20,6 +20,7 @@ use Rattle.djq_live.specs.Live.{Live}
 use Rattle.djq_engine.specs.declared.cursor.CursorId.{CursorId}
 use Rattle.djq_engine.specs.declared.judge.Deletion.{Deletion}
 use Rattle.djq_engine.specs.declared.parts.Parts.{Parts}
+use Rattle.djq_machine.specs.Stale.{by_relation}
 use Rattle.djq_engine.specs.Kept.{held_at, outdated_held}
 use Rattle.djq_engine.specs.Places.{readers_at, queries_in, store_of, held_from}
 use Rattle.djq_engine.specs.Sound.{IsSound, AreOnce}
@@ -37,7 +38,7 @@ store_as : (c d : Catalog) (gs hs : List (Option Live)) (order places : List ℕ
     → store_of d hs places n ≡ record { relations = relations; texts = texts; queries = queries_in gs order; seq = seq }
 store_as c d gs hs order places seq n relations texts e f g h =
     ap₂ (λ (rs : List Relation) (ts : List Bytes). (let s : Store = record { relations = rs; texts = ts; queries = queries_in hs places; seq = n } in s)) e f
-    ∙ ap₂ (λ (qs : List Query) (m : ℕ). (let s : Store = record { relations = relations; texts = texts; queries = qs; seq = m } in s)) g h
+    ∙ ap₂ (λ (qs : List Listed) (m : ℕ). (let s : Store = record { relations = relations; texts = texts; queries = qs; seq = m } in s)) g h
 
 pub same_names : (c d : Catalog) (at : ℕ) (rows : List Tuple) → at < length c.relations → d.relations ≡ with_rows_at c.relations at rows → SameNames c d
 same_names c d at rows low e = record {
@@ -55,7 +56,7 @@ names_kept c d e = record {
 pub record Aged (old new : Parts) (name : Bytes) (n : ℕ) : Type 0 where
   pub whole : IsWhole new
   pub cursors : (id : CursorId) → held_at (held_from (new.catalog).texts zero new.queries.items) id
-      ≡ held_at (map (outdated_held (queries_in old.queries.items old.order) name n) (held_from (old.catalog).texts zero old.queries.items)) id
+      ≡ held_at (map (outdated_held (queries_in old.queries.items old.order) (by_relation name) n) (held_from (old.catalog).texts zero old.queries.items)) id
   pub queries : queries_in new.queries.items new.order ≡ queries_in old.queries.items old.order
 
 module _ (old mid : Parts) (s : IsWhole old) (at : ℕ) (low : at < length (old.catalog).relations) (carries : Carries (readers_at old.readers.items at) old.catalog old.queries.items mid.catalog mid.queries.items)
@@ -84,7 +85,7 @@ module _ (old mid : Parts) (s : IsWhole old) (at : ℕ) (low : at < length (old.
             (subst (λ (rs : List (List ℕ)). IsSound mid.catalog new.queries.items old.order rs) (sym (a.rest.readers ∙ readers)) sound));
         cursors = λ id.
             ap (λ (x : Catalog). held_at (held_from x.texts zero new.queries.items) id) a.catalog ∙ held id
-            ∙ ap (λ (x : Bytes). held_at (map (outdated_held (queries_in old.queries.items old.order) x new.seq) (held_from (old.catalog).texts zero old.queries.items)) id) named;
+            ∙ ap (λ (x : Bytes). held_at (map (outdated_held (queries_in old.queries.items old.order) (by_relation x) new.seq) (held_from (old.catalog).texts zero old.queries.items)) id) named;
         queries = ap (queries_in new.queries.items) (a.rest.order ∙ order) ∙ queries;
       }
 

@@ -4,6 +4,7 @@ use Rattle.std.proofs.Common.{ℕ, zero, suc, List, [], ◌∷◌, ◌≡◌, �
 use Rattle.std.specs.Prelude.{Option, None, Some, IsSomeAnd, is_some, option_map, map, cond, ⊤}
 use Rattle.djq_model.specs.declared.query.Query.{Query}
 use Rattle.djq_model.specs.Data.{Bytes}
+use Rattle.djq_model.specs.Listed.{Listed, a_query}
 use Rattle.djq_machine.specs.State.{Position, stale}
 use Rattle.djq_machine.specs.Stale.{reads, outdated, outdater_of, by_relation}
 use Rattle.djq_rows.specs.Catalog.{Catalog, relation_at}
@@ -89,7 +90,7 @@ module _ (c d : Catalog) (gs ks : List (Option Live)) (order : List ℕ) (reader
       by_place true (Some l) (Some m) t = h l m t.query
 
   same_query : (i : ℕ) → query_in (place_at ks i) ≡ query_in (place_at gs i)
-  same_query = same_field query_in (λ l m e. e)
+  same_query = same_field query_in (λ l m e. ap a_query e)
 
   same_live : (i : ℕ) → is_live ks i ≡ is_live gs i
   same_live = same_field is_some (λ l m e. refl)
@@ -108,9 +109,12 @@ module _ (c d : Catalog) (gs ks : List (Option Live)) (order : List ℕ) (reader
   was : (i : ℕ) (m : Live) → place_at ks i ≡ Some m → (l : Live) × (place_at gs i ≡ Some l) × (m.query ≡ l.query)
   was i m e = by_place (place_at gs i) refl (sym (same_live i) ∙ ap is_some e) (sym (same_query i) ∙ ap query_in e)
     where
-      by_place : (o : Option Live) → place_at gs i ≡ o → is_some (place_at gs i) ≡ true → query_in (place_at gs i) ≡ m.query → (l : Live) × (place_at gs i ≡ Some l) × (m.query ≡ l.query)
+      same_listed : (x y : Query) → a_query x ≡ a_query y → x ≡ y
+      same_listed x y e = cc
+
+      by_place : (o : Option Live) → place_at gs i ≡ o → is_some (place_at gs i) ≡ true → query_in (place_at gs i) ≡ a_query m.query → (l : Live) × (place_at gs i ≡ Some l) × (m.query ≡ l.query)
       by_place None g h q = let none : is_some (place_at gs i) ≡ false = ap is_some g in absurd cc
-      by_place (Some l) g h q = (l, g, sym q ∙ ap query_in g)
+      by_place (Some l) g h q = (l, g, same_listed m.query l.query (sym q ∙ ap query_in g))
 
   pub turned_sound : IsSound d ks order readers
   turned_sound = record {
@@ -139,12 +143,12 @@ module _ (c d : Catalog) (gs ks : List (Option Live)) (order : List ℕ) (reader
       ap (λ o. outdater_by o) (query_kept c gs order readers s i l e)
       ∙ ap (λ x. cond x (Some (relation_at c.relations at).name) None) (sym (reader_reads c gs order readers s at low i l e) ∙ f)
     where
-      outdater_by : Option Query → Option Bytes
+      outdater_by : Option Listed → Option Bytes
       outdater_by None = None
       outdater_by (Some q) = by_relation (relation_at c.relations at).name q
 
   step_reader : (id : CursorId) (l m : Live) → m.query ≡ l.query → outdater_of (queries_in gs order) (by_relation (relation_at c.relations at).name) l.query.name ≡ Some (relation_at c.relations at).name → (o : Option Progress)
-      → option_map (held_as d.texts m id) (option_map (outdated_progress (relation_at c.relations at).name n) o) ≡ option_map (outdated_held (queries_in gs order) (relation_at c.relations at).name n) (option_map (held_as c.texts l id) o)
+      → option_map (held_as d.texts m id) (option_map (outdated_progress (relation_at c.relations at).name n) o) ≡ option_map (outdated_held (queries_in gs order) (by_relation (relation_at c.relations at).name) n) (option_map (held_as c.texts l id) o)
   step_reader id l m q e None = refl
   step_reader id l m q e (Some (Open cursor ended)) =
       ap (λ (x : Query). Some (held_with id x.name (stale (relation_at c.relations at).name n))) q
@@ -154,17 +158,17 @@ module _ (c d : Catalog) (gs ks : List (Option Live)) (order : List ℕ) (reader
       ∙ ap (λ (o : Option Bytes). Some (held_with id l.query.name (outdated o n (stale r k)))) (sym e)
 
   step_other : (id : CursorId) (l : Live) → outdater_of (queries_in gs order) (by_relation (relation_at c.relations at).name) l.query.name ≡ None → (o : Option Progress) → ((p : Progress) → o ≡ Some p → position_of d.texts l p ≡ position_of c.texts l p)
-      → option_map (held_as d.texts l id) o ≡ option_map (outdated_held (queries_in gs order) (relation_at c.relations at).name n) (option_map (held_as c.texts l id) o)
+      → option_map (held_as d.texts l id) o ≡ option_map (outdated_held (queries_in gs order) (by_relation (relation_at c.relations at).name) n) (option_map (held_as c.texts l id) o)
   step_other id l e None h = refl
   step_other id l e (Some p) h =
       ap (λ (x : Position). Some (held_with id l.query.name x)) (h p refl)
       ∙ ap (λ (o : Option Bytes). Some (held_with id l.query.name (outdated o n (position_of c.texts l p)))) (sym e)
 
-  held_now : (id : CursorId) → held_of d.texts id (place_at ks id.query.at) ≡ option_map (outdated_held (queries_in gs order) (relation_at c.relations at).name n) (held_of c.texts id (place_at gs id.query.at))
+  held_now : (id : CursorId) → held_of d.texts id (place_at ks id.query.at) ≡ option_map (outdated_held (queries_in gs order) (by_relation (relation_at c.relations at).name) n) (held_of c.texts id (place_at gs id.query.at))
   held_now id = by_place (is_reader (readers_at readers at) id.query.at) refl (place_at gs id.query.at) refl (place_at ks id.query.at) (turns.each id.query.at)
     where
       by_place : (b : Bool) → is_reader (readers_at readers at) id.query.at ≡ b → (o : Option Live) → place_at gs id.query.at ≡ o → (p : Option Live) → DoneAt (Turns d (relation_at c.relations at).name n) b o p
-          → held_of d.texts id p ≡ option_map (outdated_held (queries_in gs order) (relation_at c.relations at).name n) (held_of c.texts id o)
+          → held_of d.texts id p ≡ option_map (outdated_held (queries_in gs order) (by_relation (relation_at c.relations at).name) n) (held_of c.texts id o)
       by_place false f None g p t = ap (held_of d.texts id) t
       by_place false f (Some l) g p t =
           ap (held_of d.texts id) t
@@ -177,10 +181,10 @@ module _ (c d : Catalog) (gs ks : List (Option Live)) (order : List ℕ) (reader
           ∙ ap (option_map (held_as d.texts m id)) (outdated_at (relation_at c.relations at).name n l.cursors id.cursor)
           ∙ step_reader id l m t.query (outdater_is id.query.at l g true f) (slot_at l.cursors id.cursor)
 
-  pub turned_held : (id : CursorId) → held_at (held_from d.texts zero ks) id ≡ held_at (map (outdated_held (queries_in gs order) (relation_at c.relations at).name n) (held_from c.texts zero gs)) id
+  pub turned_held : (id : CursorId) → held_at (held_from d.texts zero ks) id ≡ held_at (map (outdated_held (queries_in gs order) (by_relation (relation_at c.relations at).name) n) (held_from c.texts zero gs)) id
   turned_held id =
       held_is d.texts ks id ∙ held_now id
-      ∙ sym (find_mapped (λ h. same_id h.id id) (outdated_held (queries_in gs order) (relation_at c.relations at).name n) (held_from c.texts zero gs) ∙ ap (option_map (outdated_held (queries_in gs order) (relation_at c.relations at).name n)) (held_is c.texts gs id))
+      ∙ sym (find_mapped (λ h. same_id h.id id) (outdated_held (queries_in gs order) (by_relation (relation_at c.relations at).name) n) (held_from c.texts zero gs) ∙ ap (option_map (outdated_held (queries_in gs order) (by_relation (relation_at c.relations at).name) n)) (held_is c.texts gs id))
 
 -- where no query is reached, all cursors stand where they stood
 pub rested_held : (c d : Catalog) (gs : List (Option Live)) → ((i : ℕ) (l : Live) → place_at gs i ≡ Some l → StaysOver c d l)

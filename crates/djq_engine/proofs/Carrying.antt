@@ -3,7 +3,7 @@ use Rattle.std.proofs.Common.{ℕ, zero, suc, List, [], ◌∷◌, ◌++◌, ◌
 use Rattle.std.specs.Prelude.{◌==◌, ◌&&◌, Option, None, Some, IsSomeAnd, is_some, filter, cond, Contains}
 use Rattle.std.proofs.lemmas.Bool.{false≢true, eqb-true, eq-eqb}
 use Rattle.std.proofs.lemmas.List.{get_or-set_same, get_or-set_other, set-get_or}
-use Rattle.djq_model.specs.Data.{Tuple, tuple_eq, has_row, without_row}
+use Rattle.djq_model.specs.Data.{Tuple, tuples_in, tuple_eq, has_row, without_row}
 use Rattle.djq_model.specs.Equality.{tuple_eq-decides}
 use Rattle.djq_model.specs.declared.relation.Relation.{Relation}
 use Rattle.djq_machine.specs.Stale.{reads}
@@ -47,7 +47,7 @@ last_there (r ∷ rs) row = by_test (tuple_eq r row) (last_there rs row)
 -- ---- relations with other rows
 
 pub rows_with : (rs : List Relation) (at : ℕ) (rows : List Tuple) → at < length rs → rows_at (with_rows_at rs at rows) at ≡ rows
-rows_with rs at rows low = ap (λ (r : Relation). r.rows) (get_or-set_same rs at (let r = relation_at rs at in record r { rows = rows }) no_relation low)
+rows_with rs at rows low = ap tuples_in (get_or-set_same rs at (let r = relation_at rs at in record r { rows = rows }) no_relation low)
 
 pub field_with : {A : Type 0} (f : Relation → A) (rs : List Relation) (at : ℕ) (rows : List Tuple) → at < length rs → f (let r = relation_at rs at in record r { rows = rows }) ≡ f (relation_at rs at)
     → (k : ℕ) → f (relation_at (with_rows_at rs at rows) k) ≡ f (relation_at rs k)

@@ -3,11 +3,12 @@ use Rattle.std.proofs.Common.{ℕ, zero, List, [], ◌∷◌, ◌++◌, ◌+◌,
 use Rattle.std.specs.Prelude.{Option, None, Some, is_none, IsSome, IsSomeAnd, option_map, position, map, Result, Ok, Err, IfOk, ⊤}
 use Rattle.std.proofs.lemmas.List.{set-get_or}
 use Rattle.djq_model.specs.declared.query.Query.{Query}
-use Rattle.djq_model.specs.Data.{Bytes, query_of}
+use Rattle.djq_model.specs.Data.{Bytes}
+use Rattle.djq_model.specs.Listed.{Listed, a_query, listed_of}
 use Rattle.djq_lines.specs.declared.answer.Refusal.TheVariants.{NoQuery, NoMemory}
 use Rattle.djq_machine.specs.Conditions.{first_of}
 use Rattle.djq_machine.specs.State.{Position, open_at, stale}
-use Rattle.djq_machine.specs.Store.{most_steps}
+use Rattle.djq_machine.specs.Store.{answer_steps}
 use Rattle.djq_reduct.specs.Answers.{IsAnswerOf}
 use Rattle.djq_rows.specs.Catalog.{Catalog}
 use Rattle.djq_live.specs.declared.cursors.Progress.{Progress}
@@ -90,11 +91,11 @@ module _ (c : Catalog) (gs : List (Option Live)) (order : List ℕ) (readers : L
   cursor_found = held_is c.texts gs id ∙ ap (held_of c.texts id) h.there ∙ ap (option_map (held_as c.texts h.query id)) h.slot
 
   -- what holds of the cursor and its query
-  of_both : (P : Held → Query → Type 0) → P (held_as c.texts h.query id h.progress) h.query.query
-      → IsSomeAnd (held_at (held_from c.texts zero gs) id) (λ x. IsSomeAnd (query_of (queries_in gs order) x.query) (λ q. P x q))
+  of_both : (P : Held → Listed → Type 0) → P (held_as c.texts h.query id h.progress) (a_query h.query.query)
+      → IsSomeAnd (held_at (held_from c.texts zero gs) id) (λ x. IsSomeAnd (listed_of (queries_in gs order) x.query) (λ q. P x q))
   of_both P x =
-      subst (λ (o : Option Held). IsSomeAnd o (λ x. IsSomeAnd (query_of (queries_in gs order) x.query) (λ q. P x q))) (sym cursor_found)
-      (subst (λ (o : Option Query). IsSomeAnd o (λ q. P (held_as c.texts h.query id h.progress) q)) (sym (query_kept c gs order readers s id.query.at h.query h.there)) x)
+      subst (λ (o : Option Held). IsSomeAnd o (λ x. IsSomeAnd (listed_of (queries_in gs order) x.query) (λ q. P x q))) (sym cursor_found)
+      (subst (λ (o : Option Listed). IsSomeAnd o (λ q. P (held_as c.texts h.query id h.progress) q)) (sym (query_kept c gs order readers s id.query.at h.query h.there)) x)
 
   -- a fresh cursor is open
   pub freshly : IsFresh (kept_of c gs order seq w) id → IsSomeAnd (place_at gs id.query.at) (IsFreshly id.cursor)
@@ -122,6 +123,11 @@ module _ (c : Catalog) (gs : List (Option Live)) (order : List ℕ) (readers : L
                 others = moved_others c gs order readers s id h.query m h.there same (Some t.progress) cs t.moved sets;
                 store = moved_store c gs order readers s id h.query m h.there same seq;
                 registered = moved_registered c gs order readers s id h.query m h.there same w.watchers;
+                tellings = record {
+                  affected = refl;
+                  told = told_set c.texts gs w.logs id.query.at (Some m)
+                      (λ log. ap (λ (x : Live). told_of c.texts (Some x) log) t.moved ∙ ap (λ (o : Option Live). told_of c.texts o log) (sym h.there));
+                };
               }),
         )
 
@@ -142,7 +148,7 @@ module _ (c : Catalog) (gs : List (Option Live)) (order : List ℕ) (readers : L
         )
 
     next_by : (p : Position) (result : Next) (u : List ℕ) → live.NextGivesAt c h.query id.cursor p result u m
-        → IsSound c hs order readers × NextGivesAt (kept_of c gs order seq w) (held_as c.texts h.query id h.progress) h.query.query p result u (kept_of c hs order seq w)
+        → IsSound c hs order readers × NextGivesAt (kept_of c gs order seq w) (held_as c.texts h.query id h.progress) (a_query h.query.query) p result u (kept_of c hs order seq w)
     next_by (open_at given ended) Given u x =
         let y = moves (open_at (given ++ values_of c.texts h.query u ∷ []) false) x.2 in
         let z = lends u (open_at (given ++ values_of c.texts h.query u ∷ []) false) x.2 x.0 in
@@ -156,16 +162,16 @@ module _ (c : Catalog) (gs : List (Option Live)) (order : List ℕ) (readers : L
     next_by (stale r n) End u x = absurd x
 
     more_by : (p : Position) (result : Bool) → live.MoreGivesAt c h.query id.cursor p result m
-        → IsSound c hs order readers × MoreGivesAt (kept_of c gs order seq w) (held_as c.texts h.query id h.progress) h.query.query p result (kept_of c hs order seq w)
+        → IsSound c hs order readers × MoreGivesAt (kept_of c gs order seq w) (held_as c.texts h.query id h.progress) (a_query h.query.query) p result (kept_of c hs order seq w)
     more_by (open_at given ended) true x = let y = moves (open_at given false) x.1 in (y.0, (x.0, y.1))
     more_by (open_at given ended) false x = let y = moves (open_at given true) x.1 in (y.0, (x.0, y.1))
     more_by (stale r n) true x = absurd x
     more_by (stale r n) false x = absurd x
 
-  steps_same : (result : Next) (n : ℕ) → live.next_steps result n ≡ read_steps result n
-  steps_same Given n = refl
-  steps_same End n = refl
-  steps_same (StaleNext r k) n = refl
+  steps_same : (result : Next) (q : Query) → live.next_steps result (length q.head) ≡ read_steps result (a_query q)
+  steps_same Given q = refl
+  steps_same End q = refl
+  steps_same (StaleNext r k) q = refl
 
   pub next_gives : (hs : List (Option Live)) (result : Next) (u : List ℕ) (before now : ℕ) → Moves (ReadsAt id.cursor result u before now) id.query.at gs hs
       → IsSound c hs order readers × NextGives (kept_of c gs order seq w) id result u (kept_of c hs order seq w) before now
@@ -177,8 +183,8 @@ module _ (c : Catalog) (gs : List (Option Live)) (order : List ℕ) (readers : L
       let y = next_by hs v.new v.is (position_of c.texts h.query h.progress) result u g in (
         y.0,
         record {
-          gives = of_both (λ x q. NextGivesAt (kept_of c gs order seq w) x q x.position result u (kept_of c hs order seq w) × (now ≤ before + read_steps result (length q.head)))
-              (y.1, subst (λ (n : ℕ). now ≤ before + n) (steps_same result (length h.query.query.head)) (d.counted c live_now));
+          gives = of_both (λ x q. NextGivesAt (kept_of c gs order seq w) x q x.position result u (kept_of c hs order seq w) × (now ≤ before + read_steps result q))
+              (y.1, subst (λ (n : ℕ). now ≤ before + n) (steps_same result h.query.query) (d.counted c live_now));
         },
       )
 
@@ -192,7 +198,7 @@ module _ (c : Catalog) (gs : List (Option Live)) (order : List ℕ) (readers : L
       let y = more_by hs v.new v.is (position_of c.texts h.query h.progress) result g in (
         y.0,
         record {
-          gives = of_both (λ x q. MoreGivesAt (kept_of c gs order seq w) x q x.position result (kept_of c hs order seq w) × (now ≤ before + most_steps (length q.head)))
+          gives = of_both (λ x q. MoreGivesAt (kept_of c gs order seq w) x q x.position result (kept_of c hs order seq w) × (now ≤ before + answer_steps q))
               (y.1, d.counted c live_now);
         },
       )
@@ -212,9 +218,11 @@ module _ (c : Catalog) (gs : List (Option Live)) (order : List ℕ) (readers : L
               others = moved_others c gs order readers s id h.query v.new h.there same None cs d.closes sets;
               store = moved_store c gs order readers s id h.query v.new h.there same seq;
               registered = moved_registered c gs order readers s id h.query v.new h.there same w.watchers;
-              affected = refl;
-              told = told_set c.texts gs w.logs id.query.at (Some v.new)
-                  (λ log. ap (λ (x : Live). told_of c.texts (Some x) log) d.closes ∙ ap (λ (o : Option Live). told_of c.texts o log) (sym h.there));
+              tellings = record {
+                affected = refl;
+                told = told_set c.texts gs w.logs id.query.at (Some v.new)
+                    (λ log. ap (λ (x : Live). told_of c.texts (Some x) log) d.closes ∙ ap (λ (o : Option Live). told_of c.texts o log) (sym h.there));
+              };
             }),
       )
 
@@ -223,19 +231,19 @@ module _ (c : Catalog) (gs : List (Option Live)) (order : List ℕ) (readers : L
 module _ (c : Catalog) (gs : List (Option Live)) (order : List ℕ) (readers : List (List ℕ)) (seq : ℕ) (w : Watches) (s : IsSound c gs order readers) (query : Bytes) where
   pub open_refused : None ≡ position (is_query query) gs → OpenGives (kept_of c gs order seq w) query (Err NoQuery) (kept_of c gs order seq w)
   open_refused e = record {
-    answer = answers_refused (first_of ((is_none (query_of (queries_in gs order) query), NoQuery) ∷ [])) NoQuery (λ id. OpensCursor (kept_of c gs order seq w) query id (kept_of c gs order seq w)) _
-        (ap (λ (o : Option Query). first_of ((is_none o, NoQuery) ∷ [])) (no_query_of c gs order readers s query e));
+    answer = answers_refused (first_of ((is_none (listed_of (queries_in gs order) query), NoQuery) ∷ [])) NoQuery (λ id. OpensCursor (kept_of c gs order seq w) query id (kept_of c gs order seq w)) _
+        (ap (λ (o : Option Listed). first_of ((is_none o, NoQuery) ∷ [])) (no_query_of c gs order readers s query e));
     stays = λ r f. refl;
   }
 
-  passes : (at : ℕ) → Named gs query at → first_of ((is_none (query_of (queries_in gs order) query), NoQuery) ∷ []) ≡ None
-  passes at n = ap (λ (o : Option Query). first_of ((is_none o, NoQuery) ∷ [])) (query_named c gs order readers s query at n)
+  passes : (at : ℕ) → Named gs query at → first_of ((is_none (listed_of (queries_in gs order) query), NoQuery) ∷ []) ≡ None
+  passes at n = ap (λ (o : Option Listed). first_of ((is_none o, NoQuery) ∷ [])) (query_named c gs order readers s query at n)
 
   pub open_lacks : (at : ℕ) (hs : List (Option Live)) → Named gs query at → hs ≡ gs → IsSound c hs order readers × OpenGives (kept_of c gs order seq w) query (Err NoMemory) (kept_of c hs order seq w)
   open_lacks at hs n e = (
     subst (λ (xs : List (Option Live)). IsSound c xs order readers) (sym e) s,
     subst (λ (xs : List (Option Live)). OpenGives (kept_of c gs order seq w) query (Err NoMemory) (kept_of c xs order seq w)) (sym e) (record {
-      answer = answers_lacking (first_of ((is_none (query_of (queries_in gs order) query), NoQuery) ∷ [])) (λ id. OpensCursor (kept_of c gs order seq w) query id (kept_of c gs order seq w)) _ (passes at n) tt;
+      answer = answers_lacking (first_of ((is_none (listed_of (queries_in gs order) query), NoQuery) ∷ [])) (λ id. OpensCursor (kept_of c gs order seq w) query id (kept_of c gs order seq w)) _ (passes at n) tt;
       stays = λ r f. refl;
     }),
   )
@@ -259,6 +267,11 @@ module _ (c : Catalog) (gs : List (Option Live)) (order : List ℕ) (readers : L
               others = moved_others c gs order readers s id l v.new n.there same (Some (Open o.cursor false)) cs o.others o.sets;
               store = moved_store c gs order readers s id l v.new n.there same seq;
               registered = moved_registered c gs order readers s id l v.new n.there same w.watchers;
+              tellings = record {
+                affected = refl;
+                told = told_set c.texts gs w.logs id.query.at (Some v.new)
+                    (λ log. ap (λ (x : Live). told_of c.texts (Some x) log) o.others ∙ ap (λ (p : Option Live). told_of c.texts p log) (sym n.there));
+              };
             }),
       )
 
@@ -267,7 +280,7 @@ module _ (c : Catalog) (gs : List (Option Live)) (order : List ℕ) (readers : L
       let y = opened id hs n v in (
         y.0,
         record {
-          answer = answers_done (first_of ((is_none (query_of (queries_in gs order) query), NoQuery) ∷ [])) id (λ id. OpensCursor (kept_of c gs order seq w) query id (kept_of c hs order seq w)) _ (passes id.query.at n) y.1;
+          answer = answers_done (first_of ((is_none (listed_of (queries_in gs order) query), NoQuery) ∷ [])) id (λ id. OpensCursor (kept_of c gs order seq w) query id (kept_of c hs order seq w)) _ (passes id.query.at n) y.1;
           stays = λ r e. absurd (cc);
         },
       )

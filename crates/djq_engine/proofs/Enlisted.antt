@@ -4,10 +4,12 @@ use Rattle.std.proofs.Common.{ℕ, zero, suc, List, [], ◌∷◌, ◌++◌, ◌
 use Rattle.std.specs.Prelude.{◌==◌, ◌&&◌, ◌||◌, not, Option, None, Some, is_some, IsSome, IsSomeAnd, option_map, find, map, filter, cond, position, AllPairs}
 use Rattle.std.proofs.lemmas.Bool.{eqb-true, eq-eqb, false≢true}
 use Rattle.std.proofs.lemmas.List.{map-append}
-use Rattle.djq_model.specs.declared.query.Query.{Query}
+use Rattle.djq_model.specs.declared.relation.Relation.{Relation}
 use Rattle.djq_model.specs.Data.{Bytes, bytes_eq}
+use Rattle.djq_model.specs.Listed.{Listed, a_query, listed_name}
 use Rattle.djq_model.specs.Equality.{bytes_eq-decides}
-use Rattle.djq_machine.specs.Stale.{reads}
+use Rattle.djq_machine.specs.Stale.{listed_reads, by_relation}
+use Rattle.djq_machine.specs.Changes.{one_change}
 use Rattle.djq_rows.specs.Catalog.{Catalog, relation_at}
 use Rattle.djq_live.specs.Live.{Live}
 use Rattle.djq_engine.specs.declared.cursor.QueryId.{QueryId}
@@ -17,7 +19,7 @@ use Rattle.djq_engine.specs.Sound.{IsSound, AreOnce}
 use Rattle.djq_engine.proofs.Listing.{apart, map_members, filter_members}
 use Rattle.djq_engine.proofs.Naming.{There, Named, live_there, order_there, unnamed}
 
-abbrev registered_with : QueryId → Query → ℕ → Registered
+abbrev registered_with : QueryId → Listed → ℕ → Registered
 registered_with id q n = record { id = id; query = q; watchers = n }
 
 -- ---- by place
@@ -74,6 +76,14 @@ map_mapped g f (x ∷ xs) = ap (λ l. g (f x) ∷ l) (map_mapped g f xs)
 
 -- ---- what an id stands for
 
+-- A change of one relation outdates the queries that read it.
+pub outdated_reads : (name : Bytes) (q : Listed) → is_some (by_relation name q) ≡ listed_reads q name
+outdated_reads name q = step (listed_reads q name)
+  where
+    step : (b : Bool) → is_some (cond b (Some name) None) ≡ b
+    step true = refl
+    step false = refl
+
 module _ (c : Catalog) (gs : List (Option Live)) (order : List ℕ) (readers : List (List ℕ)) (ws : List ℕ) (s : IsSound c gs order readers) where
   found_is : (id : QueryId) (xs : List ℕ) → registered_at (registered_in gs ws xs) id ≡ cond (is_reader xs id.at) (Some (registered_as gs ws id.at)) None
   found_is id [] = refl
@@ -112,20 +122,20 @@ module _ (c : Catalog) (gs : List (Option Live)) (order : List ℕ) (readers : L
 
   pub name_found : (name : Bytes) (at : ℕ) → Named gs name at → registered_of (registered_in gs ws order) name ≡ Some (registered_as gs ws at)
   name_found name at n =
-      found_mapped (λ r. bytes_eq r.query.name name) (registered_as gs ws) order
-      ∙ ap (option_map (registered_as gs ws)) (find_place (λ i. bytes_eq (query_in (place_at gs i)).name name) order at (s.listed at ∙ ap is_some n.there)
-      (ap (λ (o : Option Live). bytes_eq (query_in o).name name) n.there ∙ (bytes_eq-decides n.query.query.name name).1 n.called)
+      found_mapped (λ r. bytes_eq (listed_name r.query) name) (registered_as gs ws) order
+      ∙ ap (option_map (registered_as gs ws)) (find_place (λ i. bytes_eq (listed_name (query_in (place_at gs i))) name) order at (s.listed at ∙ ap is_some n.there)
+      (ap (λ (o : Option Live). bytes_eq (listed_name (query_in o)) name) n.there ∙ (bytes_eq-decides n.query.query.name name).1 n.called)
       (λ j there m.
       let t = order_there c gs order readers s j there in
       s.named j at t.query n.query t.is n.there
-      ((bytes_eq-decides t.query.query.name name).0 (ap (λ (o : Option Live). bytes_eq (query_in o).name name) (sym t.is) ∙ m) ∙ sym n.called)))
+      ((bytes_eq-decides t.query.query.name name).0 (ap (λ (o : Option Live). bytes_eq (listed_name (query_in o)) name) (sym t.is) ∙ m) ∙ sym n.called)))
 
   pub name_unknown : (name : Bytes) → None ≡ position (is_query name) gs → registered_of (registered_in gs ws order) name ≡ None
   name_unknown name e =
-      found_mapped (λ r. bytes_eq r.query.name name) (registered_as gs ws) order
-      ∙ ap (option_map (registered_as gs ws)) (no_place (λ i. bytes_eq (query_in (place_at gs i)).name name) order
+      found_mapped (λ r. bytes_eq (listed_name r.query) name) (registered_as gs ws) order
+      ∙ ap (option_map (registered_as gs ws)) (no_place (λ i. bytes_eq (listed_name (query_in (place_at gs i))) name) order
       (λ j h. let t = order_there c gs order readers s j h in
-      ap (λ (o : Option Live). bytes_eq (query_in o).name name) t.is ∙ unnamed gs name j t.query e t.is))
+      ap (λ (o : Option Live). bytes_eq (listed_name (query_in o)) name) t.is ∙ unnamed gs name j t.query e t.is))
 
   -- ---- laws
 
@@ -149,14 +159,14 @@ module _ (c : Catalog) (gs : List (Option Live)) (order : List ℕ) (readers : L
   pub ids_differ : AllPairs (λ r t. same_query r.id t.id ≡ false) (registered_in gs ws order)
   ids_differ = all_pairs (λ r t. same_query r.id t.id ≡ false) order s.once (λ i j e f d. apart i j d)
 
-  pub names_differ : AllPairs (λ r t. bytes_eq r.query.name t.query.name ≡ false) (registered_in gs ws order)
-  names_differ = all_pairs (λ r t. bytes_eq r.query.name t.query.name ≡ false) order s.once unlike
+  pub names_differ : AllPairs (λ r t. bytes_eq (listed_name r.query) (listed_name t.query) ≡ false) (registered_in gs ws order)
+  names_differ = all_pairs (λ r t. bytes_eq (listed_name r.query) (listed_name t.query) ≡ false) order s.once unlike
     where
-      unlike : (i j : ℕ) → is_reader order i ≡ true → is_reader order j ≡ true → i ≢ j → bytes_eq (query_in (place_at gs i)).name (query_in (place_at gs j)).name ≡ false
+      unlike : (i j : ℕ) → is_reader order i ≡ true → is_reader order j ≡ true → i ≢ j → bytes_eq (listed_name (query_in (place_at gs i))) (listed_name (query_in (place_at gs j))) ≡ false
       unlike i j e f d =
           let a = order_there c gs order readers s i e in
           let b = order_there c gs order readers s j f in
-          ap₂ (λ (o p : Option Live). bytes_eq (query_in o).name (query_in p).name) a.is b.is
+          ap₂ (λ (o p : Option Live). bytes_eq (listed_name (query_in o)) (listed_name (query_in p))) a.is b.is
           ∙ by_test (bytes_eq a.query.query.name b.query.query.name) refl
         where
           by_test : (t : Bool) → bytes_eq (order_there c gs order readers s i e).query.query.name (order_there c gs order readers s j f).query.query.name ≡ t → t ≡ false
@@ -168,16 +178,26 @@ module _ (c : Catalog) (gs : List (Option Live)) (order : List ℕ) (readers : L
 
   -- ---- readers
 
-  reads_as : (name : Bytes) (i : ℕ) → is_reader order i ≡ true → reads (query_in (place_at gs i)) name ≡ reads_place name (place_at gs i)
+  reads_as : (name : Bytes) (i : ℕ) → is_reader order i ≡ true → listed_reads (query_in (place_at gs i)) name ≡ reads_place name (place_at gs i)
   reads_as name i e =
       let t = order_there c gs order readers s i e in
-      ap (λ (o : Option Live). reads (query_in o) name) t.is ∙ sym (ap (reads_place name) t.is)
+      ap (λ (o : Option Live). listed_reads (query_in o) name) t.is ∙ sym (ap (reads_place name) t.is)
 
-  pub readers_are : (at : ℕ) → at < length c.relations → readers_of (registered_in gs ws order) (relation_at c.relations at).name ≡ registered_in gs ws (readers_at readers at)
-  readers_are at low =
-      filter_mapped (λ r. reads r.query (relation_at c.relations at).name) (registered_as gs ws) order
-      ∙ ap (registered_in gs ws) (filter_members (λ i. reads (query_in (place_at gs i)) (relation_at c.relations at).name) (λ i. reads_place (relation_at c.relations at).name (place_at gs i)) order
-      (reads_as (relation_at c.relations at).name) ∙ sym (s.reading at low))
+  pub readers_read : (at : ℕ) → at < length c.relations
+      → filter (λ r. listed_reads r.query (relation_at c.relations at).name) (registered_in gs ws order) ≡ registered_in gs ws (readers_at readers at)
+  readers_read at low =
+      let name = (relation_at c.relations at).name in
+      filter_mapped (λ r. listed_reads r.query name) (registered_as gs ws) order
+      ∙ ap (registered_in gs ws) (filter_members (λ i. listed_reads (query_in (place_at gs i)) name) (λ i. reads_place name (place_at gs i)) order (reads_as name)
+      ∙ sym (s.reading at low))
+
+  pub readers_are : (at : ℕ) → at < length c.relations → (after : List Relation)
+      → readers_of (registered_in gs ws order) (one_change (relation_at c.relations at).name after) ≡ registered_in gs ws (readers_at readers at)
+  readers_are at low after =
+      let name = (relation_at c.relations at).name in
+      filter_mapped (λ r. is_some (by_relation name r.query)) (registered_as gs ws) order
+      ∙ ap (registered_in gs ws) (filter_members (λ i. is_some (by_relation name (query_in (place_at gs i)))) (λ i. reads_place name (place_at gs i)) order
+      (λ i e. outdated_reads name (query_in (place_at gs i)) ∙ reads_as name i e) ∙ sym (s.reading at low))
 
   filter_both : {A : Type 0} (p q : A → Bool) (xs : List A) → filter (λ x. p x && q x) xs ≡ filter q (filter p xs)
   filter_both p q [] = refl
@@ -188,11 +208,11 @@ module _ (c : Catalog) (gs : List (Option Live)) (order : List ℕ) (readers : L
       step true e = ap (λ l. cond (q x) (x ∷ l) l) e
       step false e = e
 
-  pub affected_are : (at : ℕ) → at < length c.relations
-      → affected_of (registered_in gs ws order) (relation_at c.relations at).name ≡ registered_in gs ws (filter (watched_at ws) (readers_at readers at))
-  affected_are at low =
-      filter_both (λ r. reads r.query (relation_at c.relations at).name) is_watched (registered_in gs ws order)
-      ∙ ap (filter is_watched) (readers_are at low)
+  pub affected_are : (at : ℕ) → at < length c.relations → (after : List Relation)
+      → affected_of (registered_in gs ws order) (one_change (relation_at c.relations at).name after) ≡ registered_in gs ws (filter (watched_at ws) (readers_at readers at))
+  affected_are at low after =
+      filter_both (λ r. is_some (by_relation (relation_at c.relations at).name r.query)) is_watched (registered_in gs ws order)
+      ∙ ap (filter is_watched) (readers_are at low after)
       ∙ filter_mapped is_watched (registered_as gs ws) (readers_at readers at)
 
 -- ---- other watchers
@@ -219,7 +239,7 @@ module _ (gs : List (Option Live)) (ws vs : List ℕ) (id : QueryId) (f : ℕ �
 
 pub enlisted : (gs hs : List (Option Live)) (ws vs : List ℕ) (order : List ℕ) (place : ℕ) (q : Live) → is_reader order place ≡ false → place_at hs place ≡ Some q → watchers_at vs place ≡ 0
     → ((i : ℕ) → i ≢ place → place_at hs i ≡ place_at gs i) → ((i : ℕ) → i ≢ place → watchers_at vs i ≡ watchers_at ws i)
-    → registered_in hs vs (order ++ place ∷ []) ≡ registered_in gs ws order ++ registered_with (id_at place) q.query 0 ∷ []
+    → registered_in hs vs (order ++ place ∷ []) ≡ registered_in gs ws order ++ registered_with (id_at place) (a_query q.query) 0 ∷ []
 enlisted gs hs ws vs order place q out at none others watched =
     map-append (registered_as hs vs) order (place ∷ [])
     ∙ ap₂ (λ (rs : List Registered) (r : Registered). rs ++ r ∷ [])
@@ -231,19 +251,19 @@ enlisted gs hs ws vs order place q out at none others watched =
 pub registered_same : (gs hs : List (Option Live)) (ws vs : List ℕ) (order : List ℕ) → ((i : ℕ) → query_in (place_at hs i) ≡ query_in (place_at gs i)) → ((i : ℕ) → watchers_at vs i ≡ watchers_at ws i)
     → registered_in hs vs order ≡ registered_in gs ws order
 registered_same gs hs ws vs order e f =
-    map_members (registered_as hs vs) (registered_as gs ws) order (λ i h. ap₂ (λ (q : Query) (n : ℕ). registered_with (id_at i) q n) (e i) (f i))
+    map_members (registered_as hs vs) (registered_as gs ws) order (λ i h. ap₂ (λ (q : Listed) (n : ℕ). registered_with (id_at i) q n) (e i) (f i))
 
 pub delisted : (gs hs : List (Option Live)) (ws : List ℕ) (order : List ℕ) (at : ℕ) (name : Bytes) → ((i : ℕ) → i ≢ at → place_at hs i ≡ place_at gs i)
-    → ((j : ℕ) → is_reader order j ≡ true → bytes_eq (query_in (place_at gs j)).name name ≡ (j == at))
-    → registered_in hs ws (filter (λ i. not (i == at)) order) ≡ filter (λ r. not (bytes_eq r.query.name name)) (registered_in gs ws order)
+    → ((j : ℕ) → is_reader order j ≡ true → bytes_eq (listed_name (query_in (place_at gs j))) name ≡ (j == at))
+    → registered_in hs ws (filter (λ i. not (i == at)) order) ≡ filter (λ r. not (bytes_eq (listed_name r.query) name)) (registered_in gs ws order)
 delisted gs hs ws [] at name others named = refl
 delisted gs hs ws (x ∷ xs) at name others named =
     step (x == at) refl (delisted gs hs ws xs at name others (λ j e. named j (behind x xs j e)))
-    ∙ sym (ap (λ b. cond (not b) (registered_as gs ws x ∷ filter (λ r. not (bytes_eq r.query.name name)) (registered_in gs ws xs)) (filter (λ r. not (bytes_eq r.query.name name)) (registered_in gs ws xs))) (named x (here x xs)))
+    ∙ sym (ap (λ b. cond (not b) (registered_as gs ws x ∷ filter (λ r. not (bytes_eq (listed_name r.query) name)) (registered_in gs ws xs)) (filter (λ r. not (bytes_eq (listed_name r.query) name)) (registered_in gs ws xs))) (named x (here x xs)))
   where
-    step : (b : Bool) → (x == at) ≡ b → registered_in hs ws (filter (λ i. not (i == at)) xs) ≡ filter (λ r. not (bytes_eq r.query.name name)) (registered_in gs ws xs)
+    step : (b : Bool) → (x == at) ≡ b → registered_in hs ws (filter (λ i. not (i == at)) xs) ≡ filter (λ r. not (bytes_eq (listed_name r.query) name)) (registered_in gs ws xs)
         → registered_in hs ws (cond (not b) (x ∷ filter (λ i. not (i == at)) xs) (filter (λ i. not (i == at)) xs))
-        ≡ cond (not b) (registered_as gs ws x ∷ filter (λ r. not (bytes_eq r.query.name name)) (registered_in gs ws xs)) (filter (λ r. not (bytes_eq r.query.name name)) (registered_in gs ws xs))
+        ≡ cond (not b) (registered_as gs ws x ∷ filter (λ r. not (bytes_eq (listed_name r.query) name)) (registered_in gs ws xs)) (filter (λ r. not (bytes_eq (listed_name r.query) name)) (registered_in gs ws xs))
     step true e h = h
     step false e h =
         ap₂ (λ (o : Option Live) (rs : List Registered). registered_with (id_at x) (query_in o) (watchers_at ws x) ∷ rs) (others x (λ d. false≢true (sym e ∙ eq-eqb x at d))) h

@@ -5,8 +5,8 @@ use Rattle.std.proofs.lemmas.Bool.{cases_lt, eqb-true, eq-eqb, false≢true}
 use Rattle.std.proofs.lemmas.List.Elements.{filter-append}
 use Rattle.std.proofs.lemmas.List.{get_or-set_same, get_or-set_other, map-append, get_or_past}
 use Rattle.std.proofs.lemmas.List.Sums.{sum_by-cons}
-use Rattle.djq_model.specs.declared.query.Query.{Query}
-use Rattle.djq_model.specs.Data.{Bytes, bytes_eq, query_of, drop_first}
+use Rattle.djq_model.specs.Data.{Bytes, bytes_eq, drop_first}
+use Rattle.djq_model.specs.Listed.{Listed, a_query, listed_name, listed_of}
 use Rattle.djq_model.specs.Equality.{bytes_eq-decides}
 use Rattle.djq_lines.specs.declared.limits.TheConstants.{QUERIES}
 use Rattle.djq_machine.specs.Stale.{reads}
@@ -34,7 +34,7 @@ none_some x o e f = cc
 module _ (c : Catalog) (gs hs : List (Option Live)) (order order' : List ℕ) (readers readers' : List (List ℕ)) (s : IsSound c gs order readers) (q : Live) (live : IsLive c q) (idle : q.cursors ≡ [])
     (place : ℕ) (vacant : place_at gs place ≡ None) (here : place_at hs place ≡ Some q) (others : (i : ℕ) → i ≢ place → place_at hs i ≡ place_at gs i)
     (last : order' ≡ order ++ place ∷ []) (joins : JoinsReaders c.relations q.query place readers readers')
-    (fresh : query_of (queries_in gs order) q.query.name ≡ None) (few : length order < QUERIES) where
+    (fresh : listed_of (queries_in gs order) q.query.name ≡ None) (few : length order < QUERIES) where
   unnamed_now : (j : ℕ) (m : Live) → place_at gs j ≡ Some m → m.query.name ≡ q.query.name → ⊥
   unnamed_now j m e n = let found = query_there c gs order readers s q.query.name j m e n in let none = fresh in absurd (cc)
 
@@ -100,10 +100,10 @@ module _ (c : Catalog) (gs hs : List (Option Live)) (order order' : List ℕ) (r
       ∙ sym (ap (held_of c.texts id) vacant))
       (λ i d. ap (held_of c.texts id) (others i d)) id.query.at ∙ sym (held_is c.texts gs id)
 
-  pub registered_queries : queries_in hs order' ≡ queries_in gs order ++ q.query ∷ []
+  pub registered_queries : queries_in hs order' ≡ queries_in gs order ++ a_query q.query ∷ []
   registered_queries =
       ap (queries_in hs) last ∙ map-append (λ i. query_in (place_at hs i)) order (place ∷ [])
-      ∙ ap₂ (λ (qs : List Query) (x : Query). qs ++ x ∷ [])
+      ∙ ap₂ (λ (qs : List Listed) (x : Listed). qs ++ x ∷ [])
       (map_members (λ i. query_in (place_at hs i)) (λ i. query_in (place_at gs i)) order (λ i e. ap query_in (others i (not_here i e))))
       (ap query_in here)
 
@@ -177,7 +177,7 @@ module _ (c : Catalog) (gs hs : List (Option Live)) (order order' : List ℕ) (r
       ∙ sym (ap (held_of c.texts id) there ∙ ap (option_map (held_as c.texts l id)) (all_empty l.cursors (eqb-true (count_by is_some l.cursors) 0 e) id.cursor)))
       (λ i d. ap (held_of c.texts id) (others i d)) id.query.at ∙ sym (held_is c.texts gs id)
 
-  pub by_name : (j : ℕ) → is_reader order j ≡ true → bytes_eq (query_in (place_at gs j)).name l.query.name ≡ (j == at)
+  pub by_name : (j : ℕ) → is_reader order j ≡ true → bytes_eq (listed_name (query_in (place_at gs j))) l.query.name ≡ (j == at)
   by_name j e = by_there (place_at gs j) refl (sym (s.listed j) ∙ e)
     where
       by_test : (m : Live) → place_at gs j ≡ Some m → (b : Bool) → bytes_eq m.query.name l.query.name ≡ b → b ≡ (j == at)
@@ -186,11 +186,11 @@ module _ (c : Catalog) (gs hs : List (Option Live)) (order order' : List ℕ) (r
           let equal : m ≡ l = same_some m l (sym f ∙ ap (place_at gs) same ∙ there) in
           false≢true (sym h ∙ (bytes_eq-decides m.query.name l.query.name).1 (ap (λ (x : Live). x.query.name) equal))))
 
-      by_there : (o : Option Live) → place_at gs j ≡ o → is_some (place_at gs j) ≡ true → bytes_eq (query_in (place_at gs j)).name l.query.name ≡ (j == at)
+      by_there : (o : Option Live) → place_at gs j ≡ o → is_some (place_at gs j) ≡ true → bytes_eq (listed_name (query_in (place_at gs j))) l.query.name ≡ (j == at)
       by_there None f h = absurd (false≢true (sym (ap is_some f) ∙ h))
-      by_there (Some m) f h = ap (λ (o : Option Live). bytes_eq (query_in o).name l.query.name) f ∙ by_test m f (bytes_eq m.query.name l.query.name) refl
+      by_there (Some m) f h = ap (λ (o : Option Live). bytes_eq (listed_name (query_in o)) l.query.name) f ∙ by_test m f (bytes_eq m.query.name l.query.name) refl
 
-  pub dropped_queries : queries_in hs order' ≡ drop_first (λ q. bytes_eq q.name l.query.name) (queries_in gs order)
+  pub dropped_queries : queries_in hs order' ≡ drop_first (λ q. bytes_eq (listed_name q) l.query.name) (queries_in gs order)
   dropped_queries =
       ap (queries_in hs) places
       ∙ map_members (λ i. query_in (place_at hs i)) (λ i. query_in (place_at gs i)) (left at order) (λ i e. ap query_in (others i (member_apart i e)))

@@ -15,6 +15,7 @@ pub mod Adding
 pub mod Making
 pub mod Enrolling
 pub mod Telling
+pub mod Lasting
 pub mod Refusing
 pub mod Unseating
 pub mod Told

@@ -2,8 +2,8 @@
 use Rattle.std.proofs.Common.{ℕ, zero, suc, List, [], ◌∷◌, ◌++◌, ◌≡◌, Bool, true, false, refl, sym, ap, ◌∙◌, arith}
 use Rattle.std.specs.Prelude.{◌==◌, ◌&&◌, ◌||◌, not, cond, filter, map, find, position, remove, None, Some}
 use Rattle.std.proofs.lemmas.Bool.{eqb-true, eq-eqb}
-use Rattle.djq_model.specs.declared.query.Query.{Query}
 use Rattle.djq_model.specs.Data.{Bytes, bytes_eq, drop_first}
+use Rattle.djq_model.specs.Listed.{Listed, listed_name}
 use Rattle.djq_engine.specs.Finding.{IsFirst}
 use Rattle.djq_engine.specs.Places.{is_reader}
 use Rattle.djq_engine.specs.Sound.{AreOnce}
@@ -137,35 +137,35 @@ none_left_out xs i e = sym (all_but xs i (unfound xs (none_of_position (λ j. j 
 
 -- the query of a name among those in these places
 
-pub find_listed : (f : ℕ → Query) (xs : List ℕ) (name : Bytes) (i : ℕ) → is_reader xs i ≡ true → bytes_eq (f i).name name ≡ true
-    → ((j : ℕ) → is_reader xs j ≡ true → bytes_eq (f j).name name ≡ true → j ≡ i) → find (λ q. bytes_eq q.name name) (map f xs) ≡ Some (f i)
+pub find_listed : (f : ℕ → Listed) (xs : List ℕ) (name : Bytes) (i : ℕ) → is_reader xs i ≡ true → bytes_eq (listed_name (f i)) name ≡ true
+    → ((j : ℕ) → is_reader xs j ≡ true → bytes_eq (listed_name (f j)) name ≡ true → j ≡ i) → find (λ q. bytes_eq (listed_name q) name) (map f xs) ≡ Some (f i)
 find_listed f [] name i there named alone = absurd cc
 find_listed f (x ∷ xs) name i there named alone =
-    step (bytes_eq (f x).name name) refl (λ k. find_listed f xs name i k named (λ j l m. alone j (behind x xs j l) m))
+    step (bytes_eq (listed_name (f x)) name) refl (λ k. find_listed f xs name i k named (λ j l m. alone j (behind x xs j l) m))
   where
-    step : (b : Bool) → bytes_eq (f x).name name ≡ b → (is_reader xs i ≡ true → find (λ q. bytes_eq q.name name) (map f xs) ≡ Some (f i))
-        → cond b (Some (f x)) (find (λ q. bytes_eq q.name name) (map f xs)) ≡ Some (f i)
+    step : (b : Bool) → bytes_eq (listed_name (f x)) name ≡ b → (is_reader xs i ≡ true → find (λ q. bytes_eq (listed_name q) name) (map f xs) ≡ Some (f i))
+        → cond b (Some (f x)) (find (λ q. bytes_eq (listed_name q) name) (map f xs)) ≡ Some (f i)
     step true e more = ap (λ j. Some (f j)) (alone x (here x xs) e)
     step false e more = more (by_place (x == i) refl there)
       where
         by_place : (c : Bool) → (x == i) ≡ c → (c || is_reader xs i) ≡ true → is_reader xs i ≡ true
-        by_place true s h = let t : bytes_eq (f x).name name ≡ true = ap (λ j. bytes_eq (f j).name name) (eqb-true x i s) ∙ named in absurd cc
+        by_place true s h = let t : bytes_eq (listed_name (f x)) name ≡ true = ap (λ j. bytes_eq (listed_name (f j)) name) (eqb-true x i s) ∙ named in absurd cc
         by_place false s h = h
 
-pub none_listed : (f : ℕ → Query) (xs : List ℕ) (name : Bytes) → ((j : ℕ) → is_reader xs j ≡ true → bytes_eq (f j).name name ≡ false) → find (λ q. bytes_eq q.name name) (map f xs) ≡ None
+pub none_listed : (f : ℕ → Listed) (xs : List ℕ) (name : Bytes) → ((j : ℕ) → is_reader xs j ≡ true → bytes_eq (listed_name (f j)) name ≡ false) → find (λ q. bytes_eq (listed_name q) name) (map f xs) ≡ None
 none_listed f [] name h = refl
 none_listed f (x ∷ xs) name h =
-    ap (λ b. cond b (Some (f x)) (find (λ q. bytes_eq q.name name) (map f xs))) (h x (here x xs)) ∙ none_listed f xs name (λ j e. h j (behind x xs j e))
+    ap (λ b. cond b (Some (f x)) (find (λ q. bytes_eq (listed_name q) name) (map f xs))) (h x (here x xs)) ∙ none_listed f xs name (λ j e. h j (behind x xs j e))
 
-pub drop_listed : (f : ℕ → Query) (xs : List ℕ) (name : Bytes) (i : ℕ) → AreOnce xs → ((j : ℕ) → is_reader xs j ≡ true → bytes_eq (f j).name name ≡ (j == i))
-    → drop_first (λ q. bytes_eq q.name name) (map f xs) ≡ map f (filter (λ j. not (j == i)) xs)
+pub drop_listed : (f : ℕ → Listed) (xs : List ℕ) (name : Bytes) (i : ℕ) → AreOnce xs → ((j : ℕ) → is_reader xs j ≡ true → bytes_eq (listed_name (f j)) name ≡ (j == i))
+    → drop_first (λ q. bytes_eq (listed_name q) name) (map f xs) ≡ map f (filter (λ j. not (j == i)) xs)
 drop_listed f [] name i o h = refl
 drop_listed f (x ∷ xs) name i o h =
-    ap (λ b. cond b (map f xs) (f x ∷ drop_first (λ q. bytes_eq q.name name) (map f xs))) (h x (here x xs))
+    ap (λ b. cond b (map f xs) (f x ∷ drop_first (λ q. bytes_eq (listed_name q) name) (map f xs))) (h x (here x xs))
     ∙ step (x == i) refl (drop_listed f xs name i o.1 (λ j e. h j (behind x xs j e)))
   where
-    step : (b : Bool) → (x == i) ≡ b → drop_first (λ q. bytes_eq q.name name) (map f xs) ≡ map f (filter (λ j. not (j == i)) xs)
-        → cond b (map f xs) (f x ∷ drop_first (λ q. bytes_eq q.name name) (map f xs)) ≡ map f (cond (not b) (x ∷ filter (λ j. not (j == i)) xs) (filter (λ j. not (j == i)) xs))
+    step : (b : Bool) → (x == i) ≡ b → drop_first (λ q. bytes_eq (listed_name q) name) (map f xs) ≡ map f (filter (λ j. not (j == i)) xs)
+        → cond b (map f xs) (f x ∷ drop_first (λ q. bytes_eq (listed_name q) name) (map f xs)) ≡ map f (cond (not b) (x ∷ filter (λ j. not (j == i)) xs) (filter (λ j. not (j == i)) xs))
     step true e more = ap (map f) (sym (all_but xs i (ap (is_reader xs) (sym (eqb-true x i e)) ∙ o.0)))
     step false e more = ap (λ l. f x ∷ l) more
 

@@ -1,14 +1,17 @@
 -- Lists of places, changed one after another.
 use Rattle.std.proofs.Common.{Bool, true, false, cond, ℕ, List, [], ◌∷◌, ◌++◌, ◌+◌, ◌≡◌, ◌<◌, ◌≤◌, ◌⊎◌, inl, inr, sym, ap, ◌∙◌, subst, length, get_or, set, arith, length-set}
 use Rattle.std.proofs.lemmas.Bool.{cases_lt, cases_order}
-use Rattle.std.proofs.lemmas.List.{get_or-set_same, get_or-set_other, get_or_default, get_or_past}
+use Rattle.std.proofs.lemmas.List.{get_or-set_same, get_or-set_other, get_or_default, get_or_past, get_or_append_left}
+use Rattle.std.specs.Prelude.{Option, None, Some}
 use Rattle.djq_cursor.specs.Log.{Log}
-use Rattle.djq_engine.specs.Places.{readers_at, left, log_at, no_log}
+use Rattle.djq_live.specs.Live.{Live}
+use Rattle.djq_engine.specs.Places.{place_at, readers_at, left, log_at, no_log}
 use Rattle.djq_model.specs.declared.relation.Relation.{Relation}
 use Rattle.djq_model.specs.declared.query.Query.{Query}
 use Rattle.djq_machine.specs.Stale.{reads}
 use Rattle.djq_rows.specs.Catalog.{relation_at}
 use Rattle.djq_engine.specs.Placing.{LeavesAll, JoinsReaders, JoinsSome, SameLogs}
+use Rattle.djq_engine.proofs.Reaching.{place_below}
 
 -- a list, as the code reads it
 pub list_read : (now old : List (List ℕ)) (k : ℕ) (p : List ℕ) → k < length now → p ≡ get_or now k p → readers_at now k ≡ readers_at old k → p ≡ readers_at old k
@@ -102,10 +105,13 @@ module _ (rs : List Relation) (q : Query) (at : ℕ) (old now : List (List ℕ))
   join_whole past long done = record { long = long; each = λ r low. done r (omega (arith, past, low)) }
 
 -- a log that was cleared
-pub logs_cleared : (old now : List Log) (at : ℕ) (x : Log) → at < length now → x.lines ≡ [] → SameLogs old now → SameLogs old (set now at x)
-logs_cleared old now at x low none same i = by_order (cases_order i at)
+pub logs_cleared : (gs : List (Option Live)) (old now : List Log) (at : ℕ) (x : Log) → place_at gs at ≡ None → SameLogs gs old now → SameLogs gs old (set now at x)
+logs_cleared gs old now at x none same i l there =
+    get_or-set_other now at i x no_log (λ (e : i ≡ at). not_both l (place_at gs at) none (ap (place_at gs) (sym e) ∙ there)) ∙ same i l there
   where
-    by_order : (i ≡ at) ⊎ ((i < at) ⊎ (at < i)) → (log_at (set now at x) i ≡ log_at old i) ⊎ ((log_at (set now at x) i).lines ≡ [])
-    by_order (inl e) = inr (ap (λ (j : ℕ). (log_at (set now at x) j).lines) e ∙ ap (λ (y : Log). y.lines) (get_or-set_same now at x no_log low) ∙ none)
-    by_order (inr (inl b)) = subst (λ (y : Log). (y ≡ log_at old i) ⊎ (y.lines ≡ [])) (sym (get_or-set_other now at i x no_log (λ e. omega (arith, e, b)))) (same i)
-    by_order (inr (inr b)) = subst (λ (y : Log). (y ≡ log_at old i) ⊎ (y.lines ≡ [])) (sym (get_or-set_other now at i x no_log (λ e. omega (arith, e, b)))) (same i)
+    not_both : (l : Live) (o : Option Live) → o ≡ None → o ≡ Some l → ⊥
+    not_both l o e f = cc
+
+-- a log more, in a place of no query
+pub logs_longer : (gs : List (Option Live)) (old : List Log) (x : Log) → length old ≡ length gs → SameLogs gs old (old ++ x ∷ [])
+logs_longer gs old x long i l there = get_or_append_left old (x ∷ []) no_log i (omega (arith, place_below gs i l there, long))

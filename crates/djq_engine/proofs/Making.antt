@@ -8,7 +8,7 @@ use Rattle.std.proofs.Math.Seq.{get_or-append_seam}
 use Rattle.djq_model.specs.declared.relation.Relation.{Relation}
 use Rattle.djq_model.specs.declared.relation.ColumnType.{ColumnType}
 use Rattle.djq_model.specs.declared.query.Atom.{Atom}
-use Rattle.djq_model.specs.Data.{Bytes, bytes_eq, relation_of}
+use Rattle.djq_model.specs.Data.{Bytes, tuples_in, bytes_eq, relation_of}
 use Rattle.djq_query.specs.declared.numbered.Variable.{Variable}
 use Rattle.djq_query.specs.declared.numbered.NumberedAtom.{NumberedAtom}
 use Rattle.djq_rows.specs.declared.refusal.RowsRefusal.{RowsRefusal}
@@ -45,7 +45,7 @@ longer c d r h e f = record {
     named = λ at low. ap (λ (rs : List Relation). (relation_at rs at).name) e ∙ ap (λ (x : Relation). x.name) (get_or_append_left c.relations (r ∷ []) no_relation at low);
     typed = λ at low. ap (λ (rs : List Relation). (relation_at rs at).types) e ∙ ap (λ (x : Relation). x.types) (get_or_append_left c.relations (r ∷ []) no_relation at low);
   };
-  same = λ at low. ap (λ (rs : List Relation). rows_at rs at) e ∙ ap (λ (x : Relation). x.rows) (get_or_append_left c.relations (r ∷ []) no_relation at low);
+  same = λ at low. ap (λ (rs : List Relation). rows_at rs at) e ∙ ap tuples_in (get_or_append_left c.relations (r ∷ []) no_relation at low);
 }
 
 no_one : (xs : List ℕ) → filter (λ i. false) xs ≡ []

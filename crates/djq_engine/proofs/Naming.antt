@@ -1,7 +1,8 @@
 -- Queries by name and by place.
 use Rattle.std.proofs.Common.{ℕ, zero, suc, get_or, List, [], ◌∷◌, ◌≡◌, ◌<◌, Bool, true, false, refl, sym, ap, ◌∙◌, length, arith}
 use Rattle.std.specs.Prelude.{Option, None, Some, is_some, find, position, cond}
-use Rattle.djq_model.specs.Data.{Bytes, bytes_eq, query_of}
+use Rattle.djq_model.specs.Data.{Bytes, bytes_eq}
+use Rattle.djq_model.specs.Listed.{a_query, listed_name, listed_of}
 use Rattle.djq_model.specs.Equality.{bytes_eq-decides}
 use Rattle.djq_rows.specs.Catalog.{Catalog}
 use Rattle.djq_live.specs.Live.{Live}
@@ -27,17 +28,17 @@ module _ (c : Catalog) (gs : List (Option Live)) (order : List ℕ) (readers : L
   pub order_there : (i : ℕ) → is_reader order i ≡ true → There gs i
   order_there i e = live_there gs i (sym (s.listed i) ∙ e)
 
-  pub query_there : (name : Bytes) (i : ℕ) (l : Live) → place_at gs i ≡ Some l → l.query.name ≡ name → query_of (queries_in gs order) name ≡ Some l.query
+  pub query_there : (name : Bytes) (i : ℕ) (l : Live) → place_at gs i ≡ Some l → l.query.name ≡ name → listed_of (queries_in gs order) name ≡ Some (a_query l.query)
   query_there name i l e called =
       find_listed (λ i. query_in (place_at gs i)) order name i (s.listed i ∙ ap is_some e)
-      (ap (λ (o : Option Live). bytes_eq (query_in o).name name) e ∙ (bytes_eq-decides l.query.name name).1 called)
+      (ap (λ (o : Option Live). bytes_eq (listed_name (query_in o)) name) e ∙ (bytes_eq-decides l.query.name name).1 called)
       (λ j there m.
       let t = order_there j there in
       s.named j i t.query l t.is e
-      ((bytes_eq-decides t.query.query.name name).0 (ap (λ (o : Option Live). bytes_eq (query_in o).name name) (sym t.is) ∙ m) ∙ sym called))
+      ((bytes_eq-decides t.query.query.name name).0 (ap (λ (o : Option Live). bytes_eq (listed_name (query_in o)) name) (sym t.is) ∙ m) ∙ sym called))
       ∙ ap (λ (o : Option Live). Some (query_in o)) e
 
-  pub query_kept : (i : ℕ) (l : Live) → place_at gs i ≡ Some l → query_of (queries_in gs order) l.query.name ≡ Some l.query
+  pub query_kept : (i : ℕ) (l : Live) → place_at gs i ≡ Some l → listed_of (queries_in gs order) l.query.name ≡ Some (a_query l.query)
   query_kept i l e = query_there l.query.name i l e refl
 
 -- the place of the query of a name
@@ -69,14 +70,14 @@ unnamed gs name j l e there =
     sym (ap (is_query name) there) ∙ none_passes (is_query name) gs (none_of_position (is_query name) gs (sym e)) j None (place_below gs j l there)
 
 module _ (c : Catalog) (gs : List (Option Live)) (order : List ℕ) (readers : List (List ℕ)) (s : IsSound c gs order readers) (name : Bytes) where
-  pub query_named : (i : ℕ) (n : Named gs name i) → query_of (queries_in gs order) name ≡ Some n.query.query
+  pub query_named : (i : ℕ) (n : Named gs name i) → listed_of (queries_in gs order) name ≡ Some (a_query n.query.query)
   query_named i n = query_there c gs order readers s name i n.query n.there n.called
 
-  pub no_query_of : None ≡ position (is_query name) gs → query_of (queries_in gs order) name ≡ None
+  pub no_query_of : None ≡ position (is_query name) gs → listed_of (queries_in gs order) name ≡ None
   no_query_of e = none_listed (λ i. query_in (place_at gs i)) order name
       (λ j h. let t = order_there c gs order readers s j h in
-      ap (λ (o : Option Live). bytes_eq (query_in o).name name) t.is ∙ unnamed gs name j t.query e t.is)
+      ap (λ (o : Option Live). bytes_eq (listed_name (query_in o)) name) t.is ∙ unnamed gs name j t.query e t.is)
 
-  pub query_found : (o : Option ℕ) → o ≡ position (is_query name) gs → is_some (query_of (queries_in gs order) name) ≡ is_some o
+  pub query_found : (o : Option ℕ) → o ≡ position (is_query name) gs → is_some (listed_of (queries_in gs order) name) ≡ is_some o
   query_found None e = ap is_some (no_query_of e)
   query_found (Some at) e = ap is_some (query_named at (first_query gs name at e))

@@ -1,11 +1,12 @@
 -- What the machine says of a query that is to be registered, or dropped.
 use Rattle.std.proofs.Common.{ℕ, zero, suc, List, [], ◌∷◌, ◌++◌, ◌≡◌, ◌<◌, ◌≤◌, ◌⊎◌, inl, inr, Bool, true, false, refl, sym, ap, ap₂, ◌∙◌, subst, length, set, arith, append-nil}
-use Rattle.std.specs.Prelude.{Option, None, Some, is_some, is_none, IsSomeAnd, IfSome, option_map, count_by, Result, Ok, Err, position, cond, nat_le, ⊤}
+use Rattle.std.specs.Prelude.{Option, None, Some, is_some, is_none, IsSomeAnd, IfSome, option_map, count_by, Result, Ok, Err, position, cond, nat_le, slice_index_or, ⊤}
 use Rattle.std.proofs.lemmas.Bool.{eq-eqb, eqb-true, cases_lt, le-leb, lt-leb, false≢true}
 use Rattle.std.proofs.lemmas.List.{length-map, get_or-set_other}
 use Rattle.djq_model.specs.declared.relation.Relation.{Relation}
 use Rattle.djq_model.specs.declared.query.Query.{Query}
-use Rattle.djq_model.specs.Data.{Bytes, Tuple, bytes_eq, query_of, drop_first}
+use Rattle.djq_model.specs.Data.{Bytes, Tuple, bytes_eq, drop_first}
+use Rattle.djq_model.specs.Listed.{Listed, a_query, listed_name, listed_of}
 use Rattle.djq_model.specs.Known.{texts_in, all_learned}
 use Rattle.djq_hyper.specs.JoinTree.{IsFreeConnex}
 use Rattle.djq_dict.specs.declared.refusal.InternRefusal.{InternRefusal}
@@ -30,18 +31,19 @@ use Rattle.djq_live.specs.Live.{Live, IsLive, ShowableStays}
 use Rattle.djq_live.specs.Staying.{StaysOver, LiveStays}
 use Rattle.djq_engine.specs.declared.cursor.CursorId.{CursorId}
 use Rattle.djq_engine.specs.declared.parts.Parts.{Parts}
-use Rattle.djq_engine.specs.Kept.{Held, Registered as Enlisted, registered_of, is_watched, held_at, SameCursors, DropGives}
-use Rattle.djq_engine.specs.Places.{place_at, query_in, queries_in, store_of, kept_of, held_as, held_from, held_of, is_query, left, watched_at, registered_as, registered_in, Watches}
+use Rattle.djq_engine.specs.Kept.{Held, Registered as Enlisted, registered_of, is_watched, held_at, SameCursors, DropGives, TellsOf}
+use Rattle.djq_engine.specs.Places.{place_at, query_in, queries_in, store_of, kept_of, held_as, held_from, held_of, is_query, left, watched_at, id_at, registered_as, registered_in, told_from, Watches}
 use Rattle.djq_engine.specs.Sound.{IsSound}
 use Rattle.djq_engine.specs.Tending.{AreShown}
 use Rattle.djq_engine.proofs.Tending.{shown_more}
-use Rattle.djq_engine.specs.Placing.{LeavesAll}
+use Rattle.djq_engine.specs.Placing.{LeavesAll, SameLogs}
 use Rattle.djq_engine.specs.Registering.{Registers, SameParts}
-use Rattle.djq_engine.specs.Whole.{kept_in, IsWhole}
+use Rattle.djq_engine.specs.Whole.{kept_in, watches_in, IsWhole}
 use Rattle.djq_engine.proofs.Conditions.{answers_refused, answers_done, front_refuses, front_passes, first_false}
 use Rattle.djq_engine.proofs.Enrolling.{registered_sound, registered_cursors, registered_queries, dropped_sound, dropped_cursors, dropped_queries, by_name, all_empty, sound_same, queries_same, cursors_same}
 use Rattle.djq_engine.proofs.Enlisted.{name_found, name_unknown, delisted}
 use Rattle.djq_engine.proofs.Holding.{held_is}
+use Rattle.djq_engine.proofs.Lasting.{tells_of, told_then, told_gone, told_left, other_place}
 use Rattle.djq_engine.proofs.Naming.{Named, query_found, query_named, no_query_of, unnamed}
 use Rattle.djq_engine.proofs.Storing.{learned_rows, all_stay}
 use Rattle.djq_model.specs.Equality.{bytes_eq-decides}
@@ -59,7 +61,7 @@ append_none (x ∷ xs) ys e = step x.0 x.1 e (append_none xs ys)
 
 -- What is known of a query that no condition refuses.
 pub record Passes (c : Catalog) (gs : List (Option Live)) (order : List ℕ) (q : Query) : Type 0 where
-  pub fresh : query_of (queries_in gs order) q.name ≡ None
+  pub fresh : listed_of (queries_in gs order) q.name ≡ None
   pub fault : query_fault c.relations q ≡ None
   pub few : length order < QUERIES
 
@@ -68,7 +70,7 @@ not_some None e = refl
 not_some (Some a) e = absurd cc
 
 module _ (c : Catalog) (gs : List (Option Live)) (order : List ℕ) (readers : List (List ℕ)) (seq : ℕ) (s : IsSound c gs order readers) (q : Query) where
-  refusal_by : (t : Bool) → is_some (query_of (queries_in gs order) q.name) ≡ t
+  refusal_by : (t : Bool) → is_some (listed_of (queries_in gs order) q.name) ≡ t
       → query_refusal (store_of c gs order seq) q ≡ cond t (Some Taken) (first_of (query_faults c.relations q ++ (nat_le QUERIES (length (queries_in gs order)), Limit) ∷ []))
   refusal_by t e = ap (λ b. cond b (Some Taken) (first_of (query_faults c.relations q ++ (nat_le QUERIES (length (queries_in gs order)), Limit) ∷ []))) e
 
@@ -97,10 +99,10 @@ module _ (c : Catalog) (gs : List (Option Live)) (order : List ℕ) (readers : L
 
   pub passes_of : query_refusal (store_of c gs order seq) q ≡ None → Passes c gs order q
   passes_of e =
-      let a = first_false (is_some (query_of (queries_in gs order) q.name)) Taken (query_faults c.relations q ++ (nat_le QUERIES (length (queries_in gs order)), Limit) ∷ []) e in
+      let a = first_false (is_some (listed_of (queries_in gs order) q.name)) Taken (query_faults c.relations q ++ (nat_le QUERIES (length (queries_in gs order)), Limit) ∷ []) e in
       let b = append_none (query_faults c.relations q) ((nat_le QUERIES (length (queries_in gs order)), Limit) ∷ []) a.1 in
       let d = first_false (nat_le QUERIES (length (queries_in gs order))) Limit [] b.1 in record {
-        fresh = not_some (query_of (queries_in gs order) q.name) a.0;
+        fresh = not_some (listed_of (queries_in gs order) q.name) a.0;
         fault = b.0;
         few = by_length (cases_lt (length order) QUERIES) d.0;
       }
@@ -129,16 +131,24 @@ mid_shown law texts old new cs result k gs logs h =
     let m = texts old t.0 in
     shown_more law old m.0 new (t.1 ∙ m.1) gs logs h
 
+-- and so does what is told
+pub mid_told : ShowableStays → TextsStay → (old now : List Bytes) (cs : Tuple) (result : Result ⊤ InternRefusal) → InternsConstants old cs result now → (gs hs : List (Option Live)) (logs new : List Log)
+    → AreShown old gs logs → SameLogs gs logs new → (i : ℕ) → place_at hs i ≡ place_at gs i → slice_index_or (told_from now hs new) i None ≡ slice_index_or (told_from old gs logs) i None
+mid_told law texts old now cs result k gs hs logs new shown same =
+    let t = constants_learned old cs result now k in
+    let m = texts old t.0 in
+    told_then law old m.0 now (t.1 ∙ m.1) gs hs logs new shown same
+
 pub all_first : (old cs new : List Bytes) → LearnsAll old cs new → LearnsFirst old cs new
 all_first old cs new h = record { first = cs; rest = []; parts = sym (append-nil cs); learned = h.0 }
 
 -- ---- what the machine says
 
-store_with : (c d : Catalog) (gs hs : List (Option Live)) (order places : List ℕ) (seq n : ℕ) (texts : List Bytes) (queries : List Query) → d.relations ≡ c.relations → d.texts ≡ texts → queries_in hs places ≡ queries → n ≡ seq
+store_with : (c d : Catalog) (gs hs : List (Option Live)) (order places : List ℕ) (seq n : ℕ) (texts : List Bytes) (queries : List Listed) → d.relations ≡ c.relations → d.texts ≡ texts → queries_in hs places ≡ queries → n ≡ seq
     → store_of d hs places n ≡ record { relations = c.relations; texts = texts; queries = queries; seq = seq }
 store_with c d gs hs order places seq n texts queries e f g h =
     ap₂ (λ (rs : List Relation) (ts : List Bytes). (let s : Store = record { relations = rs; texts = ts; queries = queries_in hs places; seq = n } in s)) e f
-    ∙ ap₂ (λ (qs : List Query) (m : ℕ). (let s : Store = record { relations = c.relations; texts = texts; queries = qs; seq = m } in s)) g h
+    ∙ ap₂ (λ (qs : List Listed) (m : ℕ). (let s : Store = record { relations = c.relations; texts = texts; queries = qs; seq = m } in s)) g h
 
 module _ (c d : Catalog) (gs hs : List (Option Live)) (order places : List ℕ) (seq n : ℕ) (q : Query) (none : query_refusal (store_of c gs order seq) q ≡ None) (rel : d.relations ≡ c.relations) (same : n ≡ seq) where
   stays : query_refusal (store_of c gs order seq) q ≡ None → is_some (query_refusal (store_of c gs order seq) q) ≡ true → {P : Type 0} → P
@@ -161,14 +171,14 @@ module _ (c d : Catalog) (gs hs : List (Option Live)) (order places : List ℕ) 
     stays = λ h. stays none h;
   }
 
-  pub query_done : (most : ℕ) → IsFreeConnex (edges_of q) (head_of q) → most ≡ most_steps (length q.head) → LearnsAll c.texts (texts_in (constants_of q.atoms)) d.texts → queries_in hs places ≡ queries_in gs order ++ q ∷ []
+  pub query_done : (most : ℕ) → IsFreeConnex (edges_of q) (head_of q) → most ≡ most_steps (length q.head) → LearnsAll c.texts (texts_in (constants_of q.atoms)) d.texts → queries_in hs places ≡ queries_in gs order ++ a_query q ∷ []
       → RegistersQuery (store_of c gs order seq) q (Ok (Registered most)) (store_of d hs places n)
   query_done most connex is learns queries = record {
     answer = answers_done (query_refusal (store_of c gs order seq) q) (Registered most) (RegistersAs (store_of c gs order seq) q (store_of d hs places n)) _ none (
       connex,
       is,
       learns.1,
-      store_with c d gs hs order places seq n (all_learned c.texts (texts_in (constants_of q.atoms))) (queries_in gs order ++ q ∷ []) rel learns.0 queries same,
+      store_with c d gs hs order places seq n (all_learned c.texts (texts_in (constants_of q.atoms))) (queries_in gs order ++ a_query q ∷ []) rel learns.0 queries same,
     );
     stays = λ h. stays none h;
   }
@@ -176,7 +186,7 @@ module _ (c d : Catalog) (gs hs : List (Option Live)) (order places : List ℕ) 
 -- ---- a query that is registered
 
 module _ (mid new : Parts) (s : IsWhole mid) (l : Live) (live : IsLive mid.catalog l) (idle : l.cursors ≡ []) (r : Registers l mid new)
-    (fresh : query_of (queries_in mid.queries.items mid.order) l.query.name ≡ None) (few : length mid.order < QUERIES) where
+    (fresh : listed_of (queries_in mid.queries.items mid.order) l.query.name ≡ None) (few : length mid.order < QUERIES) where
   pub enrolled_whole : IsWhole new
   enrolled_whole = subst (λ (x : Catalog). IsSound x new.queries.items new.order new.readers.items) (sym r.catalog)
       (registered_sound mid.catalog mid.queries.items new.queries.items mid.order new.order mid.readers.items new.readers.items s l live idle r.place r.vacant r.here r.others r.last r.readers fresh few)
@@ -185,7 +195,7 @@ module _ (mid new : Parts) (s : IsWhole mid) (l : Live) (live : IsLive mid.catal
   enrolled_cursors id = ap (λ (x : Catalog). held_at (held_from x.texts zero new.queries.items) id) r.catalog
       ∙ registered_cursors mid.catalog mid.queries.items new.queries.items mid.order new.order mid.readers.items new.readers.items s l live idle r.place r.vacant r.here r.others r.last r.readers fresh few id
 
-  pub enrolled_queries : queries_in new.queries.items new.order ≡ queries_in mid.queries.items mid.order ++ l.query ∷ []
+  pub enrolled_queries : queries_in new.queries.items new.order ≡ queries_in mid.queries.items mid.order ++ a_query l.query ∷ []
   enrolled_queries = registered_queries mid.catalog mid.queries.items new.queries.items mid.order new.order mid.readers.items new.readers.items s l live idle r.place r.vacant r.here r.others r.last r.readers fresh few
 
 module _ (mid new : Parts) (s : IsWhole mid) (r : SameParts mid new) where
@@ -242,15 +252,16 @@ module _ (old : Parts) (s : IsWhole old) (name : Bytes) where
       subst (λ (o : Option Enlisted). IfSome o (λ r. is_watched r ≡ false)) (sym (name_unknown old.catalog old.queries.items old.order old.readers.items old.watchers.items s name e)) tt,
     );
     store = record {
-      answer = answers_refused (drop_refusal (kept_in old).store false name) NoQuery _ _ (ap (λ (o : Option Query). cond (is_none o) (Some NoQuery) None) (no_query_of old.catalog old.queries.items old.order old.readers.items s name e));
+      answer = answers_refused (drop_refusal (kept_in old).store false name) NoQuery _ _ (ap (λ (o : Option Listed). cond (is_none o) (Some NoQuery) None) (no_query_of old.catalog old.queries.items old.order old.readers.items s name e));
       stays = refl;
     };
     cursors = λ id. refl;
     registered = refl;
+    tellings = record { affected = refl; told = refl };
   }
 
   module _ (at : ℕ) (n : Named old.queries.items name at) where
-    found : query_of (queries_in old.queries.items old.order) name ≡ Some n.query.query
+    found : listed_of (queries_in old.queries.items old.order) name ≡ Some (a_query n.query.query)
     found = query_named old.catalog old.queries.items old.order old.readers.items s name at n
 
     used : are_vacant n.query.cursors ≡ false → (id : CursorId) × (h : Held) × (held_at (kept_in old).cursors id ≡ Some h) × (h.query ≡ name)
@@ -264,11 +275,12 @@ module _ (old : Parts) (s : IsWhole old) (name : Bytes) where
       used = true;
       is_used = inl (used e);
       store = record {
-        answer = answers_refused (drop_refusal (kept_in old).store true name) InUse _ _ (ap (λ (o : Option Query). cond (is_none o) (Some NoQuery) (Some InUse)) found);
+        answer = answers_refused (drop_refusal (kept_in old).store true name) InUse _ _ (ap (λ (o : Option Listed). cond (is_none o) (Some NoQuery) (Some InUse)) found);
         stays = refl;
       };
       cursors = λ id. refl;
       registered = refl;
+      tellings = record { affected = refl; told = refl };
     }
 
     enlisted_as : registered_of (kept_in old).registered name ≡ Some (registered_as old.queries.items old.watchers.items at)
@@ -279,11 +291,12 @@ module _ (old : Parts) (s : IsWhole old) (name : Bytes) where
       used = true;
       is_used = inr (subst (λ (o : Option Enlisted). IsSomeAnd o (λ r. is_watched r ≡ true)) (sym enlisted_as) e);
       store = record {
-        answer = answers_refused (drop_refusal (kept_in old).store true name) InUse _ _ (ap (λ (o : Option Query). cond (is_none o) (Some NoQuery) (Some InUse)) found);
+        answer = answers_refused (drop_refusal (kept_in old).store true name) InUse _ _ (ap (λ (o : Option Listed). cond (is_none o) (Some NoQuery) (Some InUse)) found);
         stays = refl;
       };
       cursors = λ id. refl;
       registered = refl;
+      tellings = record { affected = refl; told = refl };
     }
 
     unused : are_vacant n.query.cursors ≡ true → (id : CursorId) (h : Held) → held_at (kept_in old).cursors id ≡ Some h → h.query ≡ name → ⊥
@@ -294,28 +307,39 @@ module _ (old : Parts) (s : IsWhole old) (name : Bytes) where
         false≢true (sym (ap (λ (x : Live). is_some (slot_at x.cursors id.cursor)) same
         ∙ ap is_some (all_empty n.query.cursors (eqb-true (count_by is_some n.query.cursors) 0 e) id.cursor)) ∙ o.3)
 
-    pub drop_done : (hs : List (Option Live)) (order' : List ℕ) (readers' : List (List ℕ)) (w : Watches) → hs ≡ set old.queries.items at None → order' ≡ left at old.order → LeavesAll at old.readers.items readers'
-        → are_vacant n.query.cursors ≡ true → watched_at old.watchers.items at ≡ false → w.watchers ≡ old.watchers.items
-        → IsSound old.catalog hs order' readers' × DropGives (kept_in old) name (Ok tt) (kept_of old.catalog hs order' old.seq w)
-    drop_done hs order' readers' w is places leaves e unwatched same = (
+    pub drop_done : (hs : List (Option Live)) (order' : List ℕ) (readers' : List (List ℕ)) (x : Log) → hs ≡ set old.queries.items at None → order' ≡ left at old.order → LeavesAll at old.readers.items readers'
+        → are_vacant n.query.cursors ≡ true → watched_at old.watchers.items at ≡ false
+        → IsSound old.catalog hs order' readers'
+        × DropGives (kept_in old) name (Ok tt) (kept_of old.catalog hs order' old.seq (record { readers = readers'; watchers = old.watchers.items; logs = set old.logs.items at x; changed = old.changed }))
+    drop_done hs order' readers' x is places leaves e unwatched = (
       dropped_sound old.catalog old.queries.items hs old.order order' old.readers.items readers' s at n.query n.there is places leaves,
       record {
         used = false;
         is_used = (unused e, subst (λ (o : Option Enlisted). IfSome o (λ r. is_watched r ≡ false)) (sym enlisted_as) unwatched);
         store = record {
-          answer = answers_done (drop_refusal (kept_in old).store false name) tt _ _ (ap (λ (o : Option Query). cond (is_none o) (Some NoQuery) None) found)
-              (ap (λ (qs : List Query). (let st : Store = record { relations = (old.catalog).relations; texts = (old.catalog).texts; queries = qs; seq = old.seq } in st))
+          answer = answers_done (drop_refusal (kept_in old).store false name) tt _ _ (ap (λ (o : Option Listed). cond (is_none o) (Some NoQuery) None) found)
+              (ap (λ (qs : List Listed). (let st : Store = record { relations = (old.catalog).relations; texts = (old.catalog).texts; queries = qs; seq = old.seq } in st))
               (dropped_queries old.catalog old.queries.items hs old.order order' old.readers.items readers' s at n.query n.there is places leaves
-              ∙ ap (λ (x : Bytes). drop_first (λ q. bytes_eq q.name x) (queries_in old.queries.items old.order)) n.called));
+              ∙ ap (λ (x : Bytes). drop_first (λ q. bytes_eq (listed_name q) x) (queries_in old.queries.items old.order)) n.called));
           stays = tt;
         };
         cursors = dropped_cursors old.catalog old.queries.items hs old.order order' old.readers.items readers' s at n.query n.there is places leaves e;
         registered =
-            ap₂ (λ (ws os : List ℕ). registered_in hs ws os) same places
+            ap (registered_in hs old.watchers.items) places
             ∙ delisted old.queries.items hs old.watchers.items old.order at name
             (λ i d. ap (λ (xs : List (Option Live)). place_at xs i) is ∙ get_or-set_other old.queries.items at i None None d)
-            (λ j m. ap (λ (x : Bytes). bytes_eq (query_in (place_at old.queries.items j)).name x) (sym n.called)
+            (λ j m. ap (λ (x : Bytes). bytes_eq (listed_name (query_in (place_at old.queries.items j))) x) (sym n.called)
             ∙ by_name old.catalog old.queries.items hs old.order order' old.readers.items readers' s at n.query n.there is places leaves j m);
+        tellings =
+            let texts = (old.catalog).texts in
+            let v : Watches = record { readers = readers'; watchers = old.watchers.items; logs = set old.logs.items at x; changed = old.changed } in
+            subst (λ (o : Option Enlisted). IsSomeAnd o (λ r. TellsOf (kept_in old) r.id None (kept_of old.catalog hs order' old.seq v))) (sym enlisted_as)
+            (tells_of old.catalog old.catalog old.queries.items hs old.order order' old.seq old.seq (watches_in old) v s
+            (dropped_sound old.catalog old.queries.items hs old.order order' old.readers.items readers' s at n.query n.there is places leaves)
+            refl refl (id_at at) None
+            (ap (λ (xs : List (Option Live)). slice_index_or (told_from texts xs v.logs) at None) is ∙ told_gone texts old.queries.items old.logs.items at n.query n.there x)
+            (λ other d. ap (λ (xs : List (Option Live)). slice_index_or (told_from texts xs v.logs) other.at None) is
+            ∙ told_left texts old.queries.items old.logs.items at x other.at (other_place other (id_at at) d)));
       },
     )
 

@@ -15,11 +15,12 @@ use Rattle.djq_lines.specs.declared.answer.Refusal.{Refusal}
 use Rattle.djq_lines.specs.declared.answer.Refusal.TheVariants.{NoRelation, Arity, WrongType, Limit}
 use Rattle.djq_lines.specs.declared.answer.AddOutcome.{AddOutcome}
 use Rattle.djq_lines.specs.declared.answer.DeleteOutcome.{DeleteOutcome}
-use Rattle.djq_machine.specs.Stale.{add_outdates, add_accepted, delete_outdates}
+use Rattle.djq_machine.specs.Changes.{RowsChange, RowsOutcome, accepted, out_of_memory, unchanged, one_change, new_rows, row_in, row_out, add_outcome, delete_outcome, is_outdated}
 use Rattle.djq_model.specs.Answer.{IsAnswer}
+use Rattle.djq_model.specs.Listed.{a_query, AnswersOf}
 use Rattle.djq_model.specs.Equality.{bytes_eq-decides}
 use Rattle.djq_machine.specs.Delta.{Change, IsDelta}
-use Rattle.djq_machine.specs.Stale.{reads}
+use Rattle.djq_machine.specs.Stale.{reads, listed_reads}
 use Rattle.djq_machine.specs.Store.{most_steps, with_rows, add_refusal}
 use Rattle.djq_machine.specs.Watch.{Delta, AreDeltas, delta_steps}
 use Rattle.djq_query.specs.declared.numbered.NumberedAtom.{NumberedAtom}
@@ -42,13 +43,13 @@ use Rattle.djq_engine.proofs.Tending.{shown_alike}
 use Rattle.djq_engine.specs.declared.parts.Parts.{Parts}
 use Rattle.djq_engine.specs.Reaching.{Carries}
 use Rattle.djq_engine.specs.Changing.{IsDeltaWith, TellsRows, CountsRows, KeepsRest, KeepsLogs, AgesReaders, LacksMemory, LacksPlace, PutsRow, Drops, reads_at, tells_at}
-use Rattle.djq_engine.specs.Watching.{LogTells, LogsTell, TellsChange, reaches}
+use Rattle.djq_engine.specs.Watching.{LogTells, LogsTell, TellsChange, queries_affected, reaches}
 use Rattle.djq_engine.specs.Whole.{kept_in, IsWhole, IsTended}
 use Rattle.djq_engine.specs.Judging.{bare, Suits}
 use Rattle.djq_engine.proofs.Judged.{rows_found}
 use Rattle.djq_engine.proofs.Listing.{reader_filter}
 use Rattle.djq_engine.proofs.Carrying.{reader_is, reader_reads}
-use Rattle.djq_engine.proofs.Enlisted.{map_mapped, readers_are, affected_are, registered_has, registered_same}
+use Rattle.djq_engine.proofs.Enlisted.{outdated_reads, map_mapped, readers_are, affected_are, registered_has, registered_same}
 use Rattle.djq_engine.proofs.Told.{AlikeAt, AreAlike, aged_alike, told_is, told_alike_at, told_empty, told_stays, query_alike_at, alike_same}
 use Rattle.djq_engine.proofs.Naming.{There, live_there}
 use Rattle.djq_engine.proofs.Reaching.{place_below}
@@ -73,8 +74,9 @@ atoms_of c at variables (a ∷ atoms) (m ∷ ms) h = step (m.relation == at) ref
     step false e true f k = omega (arith, k)
     step false e false f k = k
 
-pub bound_steps : (c : Catalog) (at : ℕ) (l : Live) (changes : List Change) → IsKept c l → delta_bound l at changes ≤ delta_steps (relation_at c.relations at).name (record { query = l.query; changes = changes })
-bound_steps c at l changes k =
+pub bound_steps : (c : Catalog) (at : ℕ) (l : Live) (changes : List Change) (after : List Relation) → IsKept c l
+    → delta_bound l at changes ≤ delta_steps (one_change (relation_at c.relations at).name after) (record { query = a_query l.query; changes = changes })
+bound_steps c at l changes after k =
     let fewer : atoms_over l at ≤ length (filter (λ a. bytes_eq a.relation (relation_at c.relations at).name) l.query.atoms) = atoms_of c at l.numbered.variables l.query.atoms l.numbered.atoms k.over.asked.atoms in
     mul-le (length changes + atoms_over l at) (most_steps (length l.query.head)) (length changes + length (filter (λ a. bytes_eq a.relation (relation_at c.relations at).name) l.query.atoms)) (most_steps (length l.query.head)) (omega (arith, fewer)) (omega arith)
 
@@ -114,29 +116,29 @@ module _ (c : Catalog) (gs : List (Option Live)) (order : List ℕ) (readers : L
   reader_there : (i : ℕ) → is_reader (readers_at readers at) i ≡ true → There gs i
   reader_there i e = live_there gs i (both_true (is_live gs i) _ (sym (reader_is c gs order readers s at low i) ∙ e)).0
 
-  pub listed_with : (f : ℕ → List Change) → AreFor f → AreDeltas c.relations after (map (λ r. r.query) (affected_of (registered_in gs ws order) name)) (deltas_with f)
+  pub listed_with : (f : ℕ → List Change) → AreFor f → AreDeltas c.relations after (map (λ r. r.query) (affected_of (registered_in gs ws order) (one_change name after))) (deltas_with f)
   listed_with f h = record {
     of_queries =
         map_mapped (λ (d : Delta). d.query) (delta_at f) watched
         ∙ sym (map_mapped (λ (r : Registered). r.query) (registered_as gs ws) watched)
-        ∙ ap (map (λ (r : Registered). r.query)) (sym (ap (affected_of (registered_in gs ws order)) (sym named) ∙ affected_are c gs order readers ws s at low));
-    are_deltas = all_made (λ d. IsDelta (IsAnswer c.relations d.query) (IsAnswer after d.query) d.changes) (delta_at f) watched (λ i e.
+        ∙ ap (map (λ (r : Registered). r.query)) (sym (ap (λ (x : Bytes). affected_of (registered_in gs ws order) (one_change x after)) (sym named) ∙ affected_are c gs order readers ws s at low after));
+    are_deltas = all_made (λ d. IsDelta (AnswersOf c.relations d.query) (AnswersOf after d.query) d.changes) (delta_at f) watched (λ i e.
         let b = both_true (is_reader (readers_at readers at) i) (watched_at ws i) (sym (reader_filter (watched_at ws) (readers_at readers at) i) ∙ e) in
         let t = reader_there i b.0 in
-        subst (λ (o : Option Live). IsDelta (IsAnswer c.relations (query_in o)) (IsAnswer after (query_in o)) (f i)) (sym t.is) (h i t.query b.0 b.1 t.is));
+        subst (λ (o : Option Live). IsDelta (AnswersOf c.relations (query_in o)) (AnswersOf after (query_in o)) (f i)) (sym t.is) (h i t.query b.0 b.1 t.is));
   }
 
-  pub steps_with : (f : ℕ → List Change) → sum_by (cost_at ws gs at f) (readers_at readers at) ≤ sum_by (delta_steps name) (deltas_with f)
-  steps_with f = subst (λ (x : Bytes). sum_by (cost_at ws gs at f) (readers_at readers at) ≤ sum_by (delta_steps x) (deltas_with f)) named (over (readers_at readers at) (λ i e. e))
+  pub steps_with : (f : ℕ → List Change) → sum_by (cost_at ws gs at f) (readers_at readers at) ≤ sum_by (delta_steps (one_change name after)) (deltas_with f)
+  steps_with f = subst (λ (x : Bytes). sum_by (cost_at ws gs at f) (readers_at readers at) ≤ sum_by (delta_steps (one_change x after)) (deltas_with f)) named (over (readers_at readers at) (λ i e. e))
     where
-      cost_steps : (i : ℕ) → is_reader (readers_at readers at) i ≡ true → cost_of at (f i) (place_at gs i) ≤ delta_steps (relation_at c.relations at).name (delta_at f i)
+      cost_steps : (i : ℕ) → is_reader (readers_at readers at) i ≡ true → cost_of at (f i) (place_at gs i) ≤ delta_steps (one_change (relation_at c.relations at).name after) (delta_at f i)
       cost_steps i e =
           let t = reader_there i e in
-          subst (λ (o : Option Live). cost_of at (f i) o ≤ delta_steps (relation_at c.relations at).name (record { query = query_in o; changes = f i })) (sym t.is)
-          (bound_steps c at t.query (f i) (s.live i t.query t.is).kept)
+          subst (λ (o : Option Live). cost_of at (f i) o ≤ delta_steps (one_change (relation_at c.relations at).name after) (record { query = query_in o; changes = f i })) (sym t.is)
+          (bound_steps c at t.query (f i) after (s.live i t.query t.is).kept)
 
       over : (xs : List ℕ) → ((i : ℕ) → is_reader xs i ≡ true → is_reader (readers_at readers at) i ≡ true)
-          → sum_by (cost_at ws gs at f) xs ≤ sum_by (delta_steps (relation_at c.relations at).name) (map (delta_at f) (filter (watched_at ws) xs))
+          → sum_by (cost_at ws gs at f) xs ≤ sum_by (delta_steps (one_change (relation_at c.relations at).name after)) (map (delta_at f) (filter (watched_at ws) xs))
       over [] h = omega arith
       over (x ∷ xs) h = step (watched_at ws x) refl (over xs (λ i e. h i (behind i (x == i) e)))
         where
@@ -144,11 +146,11 @@ module _ (c : Catalog) (gs : List (Option Live)) (order : List ℕ) (readers : L
           behind i true e = refl
           behind i false e = e
 
-          step : (b : Bool) → watched_at ws x ≡ b → sum_by (cost_at ws gs at f) xs ≤ sum_by (delta_steps (relation_at c.relations at).name) (map (delta_at f) (filter (watched_at ws) xs))
-              → sum_by (cost_at ws gs at f) (x ∷ xs) ≤ sum_by (delta_steps (relation_at c.relations at).name) (map (delta_at f) (cond b (x ∷ filter (watched_at ws) xs) (filter (watched_at ws) xs)))
+          step : (b : Bool) → watched_at ws x ≡ b → sum_by (cost_at ws gs at f) xs ≤ sum_by (delta_steps (one_change (relation_at c.relations at).name after)) (map (delta_at f) (filter (watched_at ws) xs))
+              → sum_by (cost_at ws gs at f) (x ∷ xs) ≤ sum_by (delta_steps (one_change (relation_at c.relations at).name after)) (map (delta_at f) (cond b (x ∷ filter (watched_at ws) xs) (filter (watched_at ws) xs)))
           step true e more =
               let first = sum_by-cons (cost_at ws gs at f) x xs in
-              let second = sum_by-cons (delta_steps (relation_at c.relations at).name) (delta_at f x) (map (delta_at f) (filter (watched_at ws) xs)) in
+              let second = sum_by-cons (delta_steps (one_change (relation_at c.relations at).name after)) (delta_at f x) (map (delta_at f) (filter (watched_at ws) xs)) in
               let cost : cost_at ws gs at f x ≡ cost_of at (f x) (place_at gs x) = ap (λ b. cond b (cost_of at (f x) (place_at gs x)) 0) e in
               let bound = cost_steps x (h x (ap (λ b. b || is_reader xs x) (eq-eqb x x refl))) in
               omega (arith, first, second, cost, bound, more)
@@ -157,15 +159,15 @@ module _ (c : Catalog) (gs : List (Option Live)) (order : List ℕ) (readers : L
               let cost : cost_at ws gs at f x ≡ 0 = ap (λ b. cond b (cost_of at (f x) (place_at gs x)) 0) e in
               omega (arith, first, cost, more)
 
-  pub affected_with : map id_at (readers_at readers at) ≡ map (λ r. r.id) (readers_of (registered_in gs ws order) name)
+  pub affected_with : map id_at (readers_at readers at) ≡ map (λ r. r.id) (readers_of (registered_in gs ws order) (one_change name after))
   affected_with =
       sym (map_mapped (λ (r : Registered). r.id) (registered_as gs ws) (readers_at readers at))
-      ∙ ap (map (λ (r : Registered). r.id)) (sym (ap (readers_of (registered_in gs ws order)) (sym named) ∙ readers_are c gs order readers ws s at low))
+      ∙ ap (map (λ (r : Registered). r.id)) (sym (ap (λ (x : Bytes). readers_of (registered_in gs ws order) (one_change x after)) (sym named) ∙ readers_are c gs order readers ws s at low after))
 
   pub logs_with : (f : ℕ → List Change) (new : Kept) → ((i : ℕ) → is_reader (readers_at readers at) i ≡ true → LogTells new (registered_as gs ws i) (delta_at f i))
-      → LogsTell new (affected_of (registered_in gs ws order) name) (deltas_with f)
+      → LogsTell new (affected_of (registered_in gs ws order) (one_change name after)) (deltas_with f)
   logs_with f new h =
-      subst (λ (rs : List Registered). LogsTell new rs (deltas_with f)) (sym (ap (affected_of (registered_in gs ws order)) (sym named) ∙ affected_are c gs order readers ws s at low))
+      subst (λ (rs : List Registered). LogsTell new rs (deltas_with f)) (sym (ap (λ (x : Bytes). affected_of (registered_in gs ws order) (one_change x after)) (sym named) ∙ affected_are c gs order readers ws s at low after))
       (over watched (λ i e. h i (both_true (is_reader (readers_at readers at) i) (watched_at ws i) (sym (reader_filter (watched_at ws) (readers_at readers at) i) ∙ e)).0))
     where
       over : (xs : List ℕ) → ((i : ℕ) → is_reader xs i ≡ true → LogTells new (registered_as gs ws i) (delta_at f i)) → LogsTell new (registered_in gs ws xs) (map (delta_at f) xs)
@@ -326,28 +328,22 @@ told_drop law old mid new at row p same t alike =
     told_stay law old new [] (ap (λ (x : Catalog). x.texts) same ∙ p.texts ∙ sym (append-nil (old.catalog).texts)) t
     alike
 
-unread_both : (a w : Bool) → (a && (w || false)) ≡ false → (a && w) ≡ false
-unread_both true true e = e
-unread_both true false e = e
-unread_both false w e = refl
-
-unread_either : (a w : Bool) → (a && (w || true)) ≡ false → a ≡ false
-unread_either true true e = e
-unread_either true false e = e
-unread_either false w e = refl
+-- the same relation changed last
+pub affected_same : (old new : Parts) → new.readers.items ≡ old.readers.items → new.changed ≡ old.changed → (kept_in new).affected ≡ (kept_in old).affected
+affected_same old new readers changed = ap₂ (λ (rs : List (List ℕ)) (k : ℕ). map id_at (readers_at rs k)) readers changed
 
 -- nothing is told
-pub tells_nothing : (old new : Kept) (name : Bytes) (rows : List Tuple) (before now : ℕ) → now ≤ before
-    → ((id : QueryId) → IsSomeAnd (registered_at old.registered id) (λ r. reaches name false false r ≡ false)
+pub tells_nothing : (old new : Kept) (before now : ℕ) → now ≤ before → new.affected ≡ old.affected
+    → ((id : QueryId) → IsSomeAnd (registered_at old.registered id) (λ r. reaches unchanged r ≡ false)
     → told_at new id ≡ told_at old id)
-    → TellsChange old name rows false false new before now
-tells_nothing old new name rows before now h stays = record {
+    → TellsChange old unchanged new before now
+tells_nothing old new before now h affected stays = record {
   deltas = [];
-  listed = record { of_queries = refl; are_deltas = λ k d l. absurd (omega (arith, l)) };
+  listed = refl;
   counted = omega (arith, h);
-  affected = λ e. absurd (false≢true e);
-  logs = λ e. absurd (false≢true e);
-  discards = λ e. absurd (false≢true e);
+  affected = affected;
+  logs = tt;
+  discards = tt;
   stays = stays;
 }
 
@@ -360,40 +356,45 @@ module _ (old : Parts) (s : IsWhole old) (at : ℕ) (low : at < length (old.cata
       sym (law (old.catalog).relations at rows differ low)
       ∙ ap (λ (x : Bytes). change_first (λ r. bytes_eq r.name x) (λ (r : Relation). record r { rows = rows }) (old.catalog).relations) named
 
-  -- that the query in a place reads the relation, by place and by name
+  -- the change, and that the query in a place reads the relation, by place and by name
+  abbrev one : RowsChange
+  one = new_rows (old.catalog).relations name rows
+
   reads_are : (i : ℕ) (t : There old.queries.items i)
-      → reads_at old at i ≡ reads (query_in (place_at old.queries.items i)) name
+      → reads_at old at i ≡ is_outdated one (query_in (place_at old.queries.items i))
   reads_are i t =
       reader_reads old.catalog old.queries.items old.order old.readers.items s at low i t.query t.is
       ∙ ap (reads t.query.query) named
-      ∙ ap (λ (o : Option Live). reads (query_in o) name) (sym t.is)
+      ∙ ap (λ (o : Option Live). listed_reads (query_in o) name) (sym t.is)
+      ∙ sym (outdated_reads name (query_in (place_at old.queries.items i)))
 
   -- where memory was refused
-  pub tells_refused : (new : Parts) → Discards old at new → ToldStay old new
-      → TellsChange (kept_in old) name rows true false (kept_in new) before now
-  tells_refused new empty told =
+  pub tells_refused : (new : Parts) → (kept_in new).affected ≡ (kept_in old).affected → Discards old at new → ToldStay old new
+      → TellsChange (kept_in old) (out_of_memory one) (kept_in new) before now
+  tells_refused new affected empty told =
       let c = old.catalog in
       let after = with_rows_at c.relations at rows in
       let f = some_changes c old.queries.items old.order old.readers.items s at low old.watchers.items name named after have in
       let total = counts f (λ i l r w there. some_are c old.queries.items old.order old.readers.items s at low old.watchers.items name named after have i l there) in
-      let steps = steps_with c old.queries.items old.order old.readers.items s at low old.watchers.items name named after f in record {
-        deltas = deltas_with c old.queries.items old.order old.readers.items s at low old.watchers.items name named after f;
-        listed = subst (λ (rs : List Relation). AreDeltas c.relations rs (map (λ r. r.query) (affected_of (registered_in old.queries.items old.watchers.items old.order) name))
+      let ds = deltas_with c old.queries.items old.order old.readers.items s at low old.watchers.items name named after f in
+      let steps : sum_by (cost_at old.watchers.items old.queries.items at f) (readers_at old.readers.items at) ≤ sum_by (delta_steps one) ds =
+      subst (λ (rs : List Relation). sum_by (cost_at old.watchers.items old.queries.items at f) (readers_at old.readers.items at) ≤ sum_by (delta_steps (one_change name rs)) ds) after_is
+      (steps_with c old.queries.items old.order old.readers.items s at low old.watchers.items name named after f) in record {
+        deltas = ds;
+        listed = subst (λ (rs : List Relation). AreDeltas c.relations rs (queries_affected (kept_in old) one)
             (deltas_with c old.queries.items old.order old.readers.items s at low old.watchers.items name named after f)) after_is
             (listed_with c old.queries.items old.order old.readers.items s at low old.watchers.items name named after f (λ i l r w there. some_are c old.queries.items old.order old.readers.items s at low old.watchers.items name named after have i l there));
         counted = omega (arith, total, steps);
-        affected = λ e. absurd (false≢true e);
-        logs = λ e. absurd (false≢true e);
-        discards = λ e f id h.
+        affected = affected;
+        logs = tt;
+        discards = λ id h.
             let r = registered_has c old.queries.items old.order old.readers.items old.watchers.items s id
-            (λ r. reads r.query name ≡ true) h in
+            (λ r. is_outdated one r.query ≡ true) h in
             empty.emptied id.at (reads_are id.at r.0 ∙ r.1);
         stays = λ id h.
             let r = registered_has c old.queries.items old.order old.readers.items old.watchers.items s id
-            (λ r. reaches name true false r ≡ false) h in
-            told id.at (empty.others id.at r.0.query r.0.is (reads_are id.at r.0
-            ∙ unread_either (reads (query_in (place_at old.queries.items id.at)) name)
-            (watched_at old.watchers.items id.at) r.1));
+            (λ r. reaches (out_of_memory one) r ≡ false) h in
+            told id.at (empty.others id.at r.0.query r.0.is (reads_are id.at r.0 ∙ r.1));
       }
 
   -- where the change was accepted
@@ -402,7 +403,7 @@ module _ (old : Parts) (s : IsWhole old) (at : ℕ) (low : at < length (old.cata
       → IsDeltaWith at rows (old.catalog).relations l (map (change_of (new.catalog).texts l) (log_at new.logs.items i).lines))
       → AreAlike old.queries.items new.queries.items → new.readers.items ≡ old.readers.items → new.changed ≡ at
       → KeepsLogs (tells_at old at) old new → ToldStay old new
-      → TellsChange (kept_in old) name rows true true (kept_in new) before now
+      → TellsChange (kept_in old) (accepted one) (kept_in new) before now
   tells_done new tells alike readers changed quiet told =
       let c = old.catalog in
       let after = with_rows_at c.relations at rows in
@@ -411,24 +412,26 @@ module _ (old : Parts) (s : IsWhole old) (at : ℕ) (low : at < length (old.cata
       (λ i l r w there changes e. told_delta (new.catalog).texts new.queries.items new.logs.items i l (λ (cs : List Change). IsDelta (IsAnswer c.relations l.query) (IsAnswer after l.query) cs)
       (subst (λ (o : Option Live). AlikeAt o (place_at new.queries.items i)) there (alike i)) (tells i l r w there) changes e) in
       let total = counts f are in
-      let steps = steps_with c old.queries.items old.order old.readers.items s at low old.watchers.items name named after f in record {
-        deltas = deltas_with c old.queries.items old.order old.readers.items s at low old.watchers.items name named after f;
-        listed = subst (λ (rs : List Relation). AreDeltas c.relations rs (map (λ r. r.query) (affected_of (registered_in old.queries.items old.watchers.items old.order) name))
+      let ds = deltas_with c old.queries.items old.order old.readers.items s at low old.watchers.items name named after f in
+      let steps : sum_by (cost_at old.watchers.items old.queries.items at f) (readers_at old.readers.items at) ≤ sum_by (delta_steps one) ds =
+      subst (λ (rs : List Relation). sum_by (cost_at old.watchers.items old.queries.items at f) (readers_at old.readers.items at) ≤ sum_by (delta_steps (one_change name rs)) ds) after_is
+      (steps_with c old.queries.items old.order old.readers.items s at low old.watchers.items name named after f) in record {
+        deltas = ds;
+        listed = subst (λ (rs : List Relation). AreDeltas c.relations rs (queries_affected (kept_in old) one)
             (deltas_with c old.queries.items old.order old.readers.items s at low old.watchers.items name named after f)) after_is
             (listed_with c old.queries.items old.order old.readers.items s at low old.watchers.items name named after f are);
         counted = omega (arith, total, steps);
-        affected = λ e. ap₂ (λ (rs : List (List ℕ)) (k : ℕ). map id_at (readers_at rs k)) readers changed
+        affected = ap₂ (λ (rs : List (List ℕ)) (k : ℕ). map id_at (readers_at rs k)) readers changed
             ∙ affected_with c old.queries.items old.order old.readers.items s at low old.watchers.items name named after;
-        logs = λ e. logs_with c old.queries.items old.order old.readers.items s at low old.watchers.items name named after f (kept_in new)
+        logs = logs_with c old.queries.items old.order old.readers.items s at low old.watchers.items name named after f (kept_in new)
             (λ i r. told_by_log c old.queries.items old.order old.readers.items s at low old.watchers.items name named after have (kept_in new) i);
-        discards = λ e f. absurd (false≢true (sym f));
+        discards = tt;
         stays = λ id h.
             let r = registered_has c old.queries.items old.order old.readers.items old.watchers.items s id
-            (λ r. reaches name true true r ≡ false) h in
+            (λ r. reaches (accepted one) r ≡ false) h in
             told id.at (quiet id.at r.0.query r.0.is
             (ap (λ b. b && watched_at old.watchers.items id.at) (reads_are id.at r.0)
-            ∙ unread_both (reads (query_in (place_at old.queries.items id.at)) name)
-            (watched_at old.watchers.items id.at) r.1));
+            ∙ r.1));
       }
 
 -- ---- what is kept once readers were reached and their cursors outdated
@@ -471,26 +474,26 @@ module _ (old : Parts) (s : IsWhole old) (name : Bytes) (row : Tuple) (at : ℕ)
     (differ : AllPairs (λ r s. r.name ≢ s.name) (old.catalog).relations) (before now : ℕ) where
   have : (rows : List Tuple) (i : ℕ) (l : Live) → place_at old.queries.items i ≡ Some l → (changes : List Change)
       × IsDelta (IsAnswer (old.catalog).relations l.query) (IsAnswer (with_rows_at (old.catalog).relations at rows) l.query) changes
-  have rows i l there = exist (old.catalog).relations (with_rows_at (old.catalog).relations at rows) l.query (bound old.catalog l (s.live i l there).kept)
+  have rows i l there = exist (old.catalog).relations (with_rows_at (old.catalog).relations at rows) (a_query l.query) (bound old.catalog l (s.live i l there).kept)
 
   rows_are : rows_of (old.catalog).relations name ≡ rows_at (old.catalog).relations at
   rows_are = rows_found (old.catalog).relations name row old.seq at m
 
   pub adds_refused : CountsRows at (rows_at (old.catalog).relations at ++ row ∷ []) old before now → (new : Parts)
-      → Discards old at new → ToldStay old new
-      → TellsChange (kept_in old) name (rows_of (old.catalog).relations name ++ row ∷ []) true false (kept_in new)
-      before now
-  adds_refused counts new empty told =
-      subst (λ (rows : List Tuple). TellsChange (kept_in old) name (rows ++ row ∷ []) true false (kept_in new) before
-      now) (sym rows_are)
+      → (kept_in new).affected ≡ (kept_in old).affected → Discards old at new → ToldStay old new
+      → TellsChange (kept_in old) (out_of_memory (row_in (old.catalog).relations name row)) (kept_in new) before now
+  adds_refused counts new affected empty told =
+      subst (λ (rows : List Tuple). TellsChange (kept_in old) (out_of_memory (new_rows (old.catalog).relations name
+      (rows ++ row ∷ []))) (kept_in new) before now) (sym rows_are)
       (tells_refused old s at m.below name m.named (rows_at (old.catalog).relations at ++ row ∷ []) law differ
-      (have (rows_at (old.catalog).relations at ++ row ∷ [])) before now counts new empty told)
+      (have (rows_at (old.catalog).relations at ++ row ∷ [])) before now counts new affected empty told)
 
   module _ (mid new : Parts) (logs : new.logs.items ≡ mid.logs.items) (catalog : new.catalog ≡ mid.catalog)
       (alike : AreAlike old.queries.items new.queries.items) (readers : new.readers.items ≡ old.readers.items)
       (changed : new.changed ≡ at)
       (quiet : KeepsLogs (tells_at old at) old mid) (told : ToldStay old new) where
-    done : (rows : List Tuple) → CountsRows at rows old before now → TellsRows at rows old mid → TellsChange (kept_in old) name rows true true (kept_in new) before now
+    done : (rows : List Tuple) → CountsRows at rows old before now → TellsRows at rows old mid
+        → TellsChange (kept_in old) (accepted (new_rows (old.catalog).relations name rows)) (kept_in new) before now
     done rows counts tells = tells_done old s at m.below name m.named rows law differ (have rows) before now counts new
         (λ i l r w there. subst (λ (ls : List Log). (log_at ls i).lost ≡ false → IsDeltaWith at rows (old.catalog).relations l (map (change_of (new.catalog).texts l) (log_at ls i).lines)) (sym logs)
         (subst (λ (x : Catalog). (log_at mid.logs.items i).lost ≡ false → IsDeltaWith at rows (old.catalog).relations l (map (change_of x.texts l) (log_at mid.logs.items i).lines)) (sym catalog) (tells i l r w there)))
@@ -498,29 +501,32 @@ module _ (old : Parts) (s : IsWhole old) (name : Bytes) (row : Tuple) (at : ℕ)
         (λ i l there e. ap (λ (ls : List Log). log_at ls i) logs ∙ quiet i l there e) told
 
     pub adds_done : CountsRows at (rows_at (old.catalog).relations at ++ row ∷ []) old before now → TellsRows at (rows_at (old.catalog).relations at ++ row ∷ []) old mid
-        → TellsChange (kept_in old) name (rows_of (old.catalog).relations name ++ row ∷ []) true true (kept_in new) before now
-    adds_done counts tells = subst (λ (rows : List Tuple). TellsChange (kept_in old) name (rows ++ row ∷ []) true true (kept_in new) before now) (sym rows_are)
+        → TellsChange (kept_in old) (accepted (row_in (old.catalog).relations name row)) (kept_in new) before now
+    adds_done counts tells = subst (λ (rows : List Tuple). TellsChange (kept_in old)
+        (accepted (new_rows (old.catalog).relations name (rows ++ row ∷ []))) (kept_in new) before now) (sym rows_are)
         (done (rows_at (old.catalog).relations at ++ row ∷ []) counts tells)
 
     pub deletes_done : CountsRows at (without_row (rows_at (old.catalog).relations at) row) old before now → TellsRows at (without_row (rows_at (old.catalog).relations at) row) old mid
-        → TellsChange (kept_in old) name (without_row (rows_of (old.catalog).relations name) row) true true (kept_in new) before now
-    deletes_done counts tells = subst (λ (rows : List Tuple). TellsChange (kept_in old) name (without_row rows row) true true (kept_in new) before now) (sym rows_are)
+        → TellsChange (kept_in old) (accepted (row_out (old.catalog).relations name row)) (kept_in new) before now
+    deletes_done counts tells = subst (λ (rows : List Tuple). TellsChange (kept_in old)
+        (accepted (new_rows (old.catalog).relations name (without_row rows row))) (kept_in new) before now) (sym rows_are)
         (done (without_row (rows_at (old.catalog).relations at) row) counts tells)
 
--- a row that is refused by a condition outdates nothing
+-- a row that is refused by a condition changes nothing
 
-outdates_by : Option Refusal → Bool
-outdates_by None = false
-outdates_by (Some r) = add_outdates (Err r)
+outcome_by : RowsChange → Option Refusal → RowsOutcome
+outcome_by change None = unchanged
+outcome_by change (Some r) = add_outcome change (Err r)
 
-pub refused_quietly : (relations : List Relation) (name : Bytes) (row : Tuple) (seq : ℕ) (r : Refusal) → add_refusal (bare relations seq) name row ≡ Some r → add_outdates (Err r) ≡ false
-unfolding outdates_by
-refused_quietly relations name row seq r e =
-    sym (ap outdates_by e)
+pub refused_quietly : (change : RowsChange) (relations : List Relation) (name : Bytes) (row : Tuple) (seq : ℕ) (r : Refusal) → add_refusal (bare relations seq) name row ≡ Some r
+    → add_outcome change (Err r) ≡ unchanged
+unfolding outcome_by
+refused_quietly change relations name row seq r e =
+    sym (ap (outcome_by change) e)
     ∙ by_tests (is_none (relation_of relations name)) (not (length row == length (types_of (relation_of relations name)))) (not (fits (types_of (relation_of relations name)) row))
     (not (has_row (rows_of relations name) row) && nat_le ROWS (length (rows_of relations name))) (not (has_row (rows_of relations name) row) && nat_le LAST_SEQ seq)
   where
-    by_tests : (a b c d f : Bool) → outdates_by (cond a (Some NoRelation) (cond b (Some Arity) (cond c (Some WrongType) (cond d (Some Limit) (cond f (Some Limit) None))))) ≡ false
+    by_tests : (a b c d f : Bool) → outcome_by change (cond a (Some NoRelation) (cond b (Some Arity) (cond c (Some WrongType) (cond d (Some Limit) (cond f (Some Limit) None))))) ≡ unchanged
     by_tests true b c d f = refl
     by_tests false true c d f = refl
     by_tests false false true d f = refl
@@ -530,13 +536,13 @@ refused_quietly relations name row seq r e =
 
 abbrev pub TellsAdd : Parts → Bytes → Tuple → Result AddOutcome Refusal → ℕ → Type 0
 TellsAdd old name row result n =
-    TellsChange (kept_in old) name (rows_of (old.catalog).relations name ++ row ∷ []) (add_outdates result) (add_accepted result) (kept_in old) n n
+    TellsChange (kept_in old) (add_outcome (row_in (old.catalog).relations name row) result) (kept_in old) n n
 
 add_err_tells : (old : Parts) (name : Bytes) (row : Tuple) (r : Refusal) → add_refusal (bare (old.catalog).relations old.seq) name row ≡ Some r → (n : ℕ) → TellsAdd old name row (Err r) n
 add_err_tells old name row r h n =
-    subst (λ (b : Bool). TellsChange (kept_in old) name (rows_of (old.catalog).relations name ++ row ∷ []) b false (kept_in old) n n) (sym (refused_quietly (old.catalog).relations name row old.seq r h))
-    (tells_nothing (kept_in old) (kept_in old) name (rows_of (old.catalog).relations name ++ row ∷ []) n n
-    (omega arith) (λ id k. refl))
+    subst (λ (o : RowsOutcome). TellsChange (kept_in old) o (kept_in old) n n)
+    (sym (refused_quietly (row_in (old.catalog).relations name row) (old.catalog).relations name row old.seq r h))
+    (tells_nothing (kept_in old) (kept_in old) n n (omega arith) refl (λ id k. refl))
 
 pub add_refused_tells : (old : Parts) (name : Bytes) (row : Tuple) (result : Result AddOutcome Refusal) → IsErr result
     → IfErr result (λ r. add_refusal (bare (old.catalog).relations old.seq) name row ≡ Some r) → (n : ℕ) → TellsAdd old name row result n
@@ -544,7 +550,6 @@ add_refused_tells old name row (Ok x) e h n = absurd (false≢true e)
 add_refused_tells old name row (Err r) e h n = add_err_tells old name row r h n
 
 pub delete_refused_tells : (old : Parts) (name : Bytes) (row : Tuple) (result : Result DeleteOutcome Refusal) → IsErr result → (n : ℕ)
-    → TellsChange (kept_in old) name (without_row (rows_of (old.catalog).relations name) row) (delete_outdates result) (delete_outdates result) (kept_in old) n n
+    → TellsChange (kept_in old) (delete_outcome (row_out (old.catalog).relations name row) result) (kept_in old) n n
 delete_refused_tells old name row (Ok x) e n = absurd (false≢true e)
-delete_refused_tells old name row (Err r) e n = tells_nothing (kept_in old) (kept_in old) name
-    (without_row (rows_of (old.catalog).relations name) row) n n (omega arith) (λ id k. refl)
+delete_refused_tells old name row (Err r) e n = tells_nothing (kept_in old) (kept_in old) n n (omega arith) refl (λ id k. refl)

@@ -5,6 +5,7 @@ use Rattle.std.proofs.lemmas.Bool.{eq-eqb, cases_lt, cases_order, false≢true}
 use Rattle.std.proofs.lemmas.List.{get_or-set_same, get_or-set_other, get_or_past}
 use Rattle.djq_model.specs.declared.query.Query.{Query}
 use Rattle.djq_model.specs.Data.{Bytes}
+use Rattle.djq_model.specs.Listed.{Listed, a_query}
 use Rattle.djq_machine.specs.State.{Store}
 use Rattle.djq_machine.specs.Stale.{reads}
 use Rattle.djq_rows.specs.Catalog.{Catalog, relation_at}
@@ -40,7 +41,7 @@ module _ (c : Catalog) (gs : List (Option Live)) (order : List ℕ) (readers : L
 
   pub query_same : (j : ℕ) → query_in (place_at (set gs id.query.at (Some m)) j) ≡ query_in (place_at gs j)
   query_same = everywhere (λ j. query_in (place_at (set gs id.query.at (Some m)) j) ≡ query_in (place_at gs j)) id.query.at
-      (ap query_in place_here ∙ same ∙ ap query_in (sym e)) (λ j d. ap query_in (place_else j d))
+      (ap query_in place_here ∙ ap a_query same ∙ ap query_in (sym e)) (λ j d. ap query_in (place_else j d))
 
   live_same : (j : ℕ) → is_live (set gs id.query.at (Some m)) j ≡ is_live gs j
   live_same = everywhere (λ j. is_live (set gs id.query.at (Some m)) j ≡ is_live gs j) id.query.at
@@ -80,11 +81,11 @@ module _ (c : Catalog) (gs : List (Option Live)) (order : List ℕ) (readers : L
   moved_queries = map_members (λ j. query_in (place_at (set gs id.query.at (Some m)) j)) (λ j. query_in (place_at gs j)) order (λ j h. query_same j)
 
   pub moved_store : (seq : ℕ) → store_of c (set gs id.query.at (Some m)) order seq ≡ store_of c gs order seq
-  moved_store seq = ap (λ (qs : List Query). (let st : Store = record { relations = c.relations; texts = c.texts; queries = qs; seq = seq } in st)) moved_queries
+  moved_store seq = ap (λ (qs : List Listed). (let st : Store = record { relations = c.relations; texts = c.texts; queries = qs; seq = seq } in st)) moved_queries
 
   pub moved_registered : (ws : List ℕ) → registered_in (set gs id.query.at (Some m)) ws order ≡ registered_in gs ws order
   moved_registered ws = map_members (registered_as (set gs id.query.at (Some m)) ws) (registered_as gs ws) order
-      (λ j h. ap (λ (q : Query). (let r : Registered = record { id = id_at j; query = q; watchers = watchers_at ws j } in r)) (query_same j))
+      (λ j h. ap (λ (q : Listed). (let r : Registered = record { id = id_at j; query = q; watchers = watchers_at ws j } in r)) (query_same j))
 
   -- where only a slot of its cursors has changed
   module _ (slot : Option Progress) (cs : List (Option Progress)) (is : m ≡ record l { cursors = cs }) (moved : SetsSlot l.cursors id.cursor slot cs) where

@@ -2,16 +2,17 @@
 use Rattle.std.proofs.Common.{ℕ, List, [], ◌∷◌, ◌≡◌, Bool, refl, sym, ap, ◌∙◌, subst, length, get_or}
 use Rattle.std.specs.Prelude.{◌==◌, not, Option, None, Some, is_none, IsSomeAnd, option_map, position, Ok, Err, map}
 use Rattle.std.proofs.lemmas.List.{get_or_default}
-use Rattle.djq_model.specs.declared.query.Query.{Query}
-use Rattle.djq_model.specs.Data.{Bytes, Tuple, query_of}
+use Rattle.djq_model.specs.Data.{Bytes, Tuple}
 use Rattle.djq_model.specs.Typed.{fits}
 use Rattle.djq_model.specs.Answer.{IsAnswer}
+use Rattle.djq_model.specs.Listed.{Listed, a_query, AnswersOf, listed_of}
 use Rattle.djq_lines.specs.declared.answer.Refusal.{Refusal}
 use Rattle.djq_lines.specs.declared.answer.Refusal.TheVariants.{NoQuery, Arity, WrongType, NoMemory}
+use Rattle.djq_lines.specs.declared.answer.Shape.{Shape}
 use Rattle.djq_lines.specs.Hypergraph.{variable_names}
 use Rattle.djq_tree.specs.Explaining.{explain_of}
 use Rattle.djq_machine.specs.Conditions.{first_of}
-use Rattle.djq_machine.specs.Store.{TellsWhether, Tells, has_refusal, has_steps, answer_types, misfit}
+use Rattle.djq_machine.specs.Store.{TellsWhether, Tells, has_refusal, has_steps, answer_types, listed_types, misfit, TellsShape, IsShapeOf}
 use Rattle.djq_rows.specs.Catalog.{Catalog}
 use Rattle.djq_live.specs.declared.cursors.Progress.{Progress}
 use Rattle.djq_live.specs.Cursors.{slot_at}
@@ -51,60 +52,70 @@ module _ (c : Catalog) (gs : List (Option Live)) (order : List ℕ) (readers : L
   pub tells_none : None ≡ position (is_query name) gs → TellsWhether (store_of c gs order seq) name tuple (Err NoQuery)
   tells_none e = record {
     answer = answers_refused (has_refusal (store_of c gs order seq) name tuple) NoQuery _ _
-        (ap (λ (o : Option Query). first_of ((is_none o, NoQuery) ∷ (not (length tuple == length (answer_types c.relations o)), Arity) ∷ (not (fits (answer_types c.relations o) tuple), WrongType) ∷ []))
+        (ap (λ (o : Option Listed). first_of ((is_none o, NoQuery) ∷ (not (length tuple == length (listed_types c.relations o)), Arity) ∷ (not (fits (listed_types c.relations o) tuple), WrongType) ∷ []))
         (no_query_of c gs order readers s name e));
   }
 
   module _ (at : ℕ) (n : Named gs name at) (l : Live) (there : place_at gs at ≡ Some l) where
-    found : query_of (queries_in gs order) name ≡ Some l.query
-    found = query_named c gs order readers s name at n ∙ ap (λ (x : Live). Some x.query) (same_live n.query l (place_at gs at) n.there there)
+    found : listed_of (queries_in gs order) name ≡ Some (a_query l.query)
+    found = query_named c gs order readers s name at n ∙ ap (λ (x : Live). Some (a_query x.query)) (same_live n.query l (place_at gs at) n.there there)
 
-    refusal_is : has_refusal (store_of c gs order seq) name tuple ≡ misfit (answer_types c.relations (Some l.query)) tuple
-    refusal_is = ap (λ (o : Option Query). first_of ((is_none o, NoQuery) ∷ (not (length tuple == length (answer_types c.relations o)), Arity) ∷ (not (fits (answer_types c.relations o) tuple), WrongType) ∷ [])) found
+    refusal_is : has_refusal (store_of c gs order seq) name tuple ≡ misfit (answer_types c.relations l.query) tuple
+    refusal_is = ap (λ (o : Option Listed). first_of ((is_none o, NoQuery) ∷ (not (length tuple == length (listed_types c.relations o)), Arity) ∷ (not (fits (listed_types c.relations o) tuple), WrongType) ∷ [])) found
 
-    pub tells_err : (r : Refusal) → misfit (answer_types c.relations (Some l.query)) tuple ≡ Some r → TellsWhether (store_of c gs order seq) name tuple (Err r)
+    pub tells_err : (r : Refusal) → misfit (answer_types c.relations l.query) tuple ≡ Some r → TellsWhether (store_of c gs order seq) name tuple (Err r)
     tells_err r e = record { answer = answers_refused (has_refusal (store_of c gs order seq) name tuple) r _ _ (refusal_is ∙ e) }
 
-    pub tells_ok : (whether : Bool) → misfit (answer_types c.relations (Some l.query)) tuple ≡ None → Tells (IsAnswer c.relations l.query tuple) whether → TellsWhether (store_of c gs order seq) name tuple (Ok whether)
+    pub tells_ok : (whether : Bool) → misfit (answer_types c.relations l.query) tuple ≡ None → Tells (IsAnswer c.relations l.query tuple) whether → TellsWhether (store_of c gs order seq) name tuple (Ok whether)
     tells_ok whether e t = record {
       answer = answers_done (has_refusal (store_of c gs order seq) name tuple) whether
-          (λ b. IsSomeAnd (query_of (queries_in gs order) name) (λ q. Tells (IsAnswer c.relations q tuple) b)) _ (refusal_is ∙ e)
-          (subst (λ (o : Option Query). IsSomeAnd o (λ q. Tells (IsAnswer c.relations q tuple) whether)) (sym found) t);
+          (λ b. IsSomeAnd (listed_of (queries_in gs order) name) (λ q. Tells (AnswersOf c.relations q tuple) b)) _ (refusal_is ∙ e)
+          (subst (λ (o : Option Listed). IsSomeAnd o (λ q. Tells (AnswersOf c.relations q tuple) whether)) (sym found) t);
     }
 
-    pub steps_are : has_steps (query_of (queries_in gs order) name) ≡ length l.query.atoms
+    pub steps_are : has_steps (listed_of (queries_in gs order) name) ≡ length l.query.atoms
     steps_are = ap has_steps found
 
-  -- `explain`
+  -- `explain` and `shape`
+
+  missing : None ≡ position (is_query name) gs → first_of ((is_none (listed_of (queries_in gs order) name), NoQuery) ∷ []) ≡ Some NoQuery
+  missing e = ap (λ (o : Option Listed). first_of ((is_none o, NoQuery) ∷ [])) (no_query_of c gs order readers s name e)
 
   pub explain_none : None ≡ position (is_query name) gs → ExplainGives (store_of c gs order seq) name (Err NoQuery)
-  explain_none e = record {
-    answer = answers_refused (first_of ((is_none (query_of (queries_in gs order) name), NoQuery) ∷ [])) NoQuery _ _
-        (ap (λ (o : Option Query). first_of ((is_none o, NoQuery) ∷ [])) (no_query_of c gs order readers s name e));
-  }
+  explain_none e = record { answer = answers_refused (first_of ((is_none (listed_of (queries_in gs order) name), NoQuery) ∷ [])) NoQuery _ _ (missing e) }
+
+  pub shape_none : None ≡ position (is_query name) gs → TellsShape (store_of c gs order seq) name (Err NoQuery)
+  shape_none e = record { answer = answers_refused (first_of ((is_none (listed_of (queries_in gs order) name), NoQuery) ∷ [])) NoQuery _ _ (missing e) }
 
   module _ (at : ℕ) (n : Named gs name at) (l : Live) (there : place_at gs at ≡ Some l) where
-    passes : first_of ((is_none (query_of (queries_in gs order) name), NoQuery) ∷ []) ≡ None
-    passes = ap (λ (o : Option Query). first_of ((is_none o, NoQuery) ∷ [])) (found at n l there)
+    passes : first_of ((is_none (listed_of (queries_in gs order) name), NoQuery) ∷ []) ≡ None
+    passes = ap (λ (o : Option Listed). first_of ((is_none o, NoQuery) ∷ [])) (found at n l there)
 
-    pub explain_kept : IsKeptSomewhere l
-    explain_kept = (c, (s.live at l there).kept)
+    pub query_kept : IsKeptSomewhere l
+    query_kept = (c, (s.live at l there).kept)
 
     pub explain_lacks : ExplainGives (store_of c gs order seq) name (Err NoMemory)
     explain_lacks = record {
-      answer = answers_lacking (first_of ((is_none (query_of (queries_in gs order) name), NoQuery) ∷ []))
-          (λ lines. IsSomeAnd (query_of (queries_in gs order) name) (λ q. Explains q lines)) _ passes
-          (subst (λ (o : Option Query). IsSomeAnd o HasTree) (sym (found at n l there))
+      answer = answers_lacking (first_of ((is_none (listed_of (queries_in gs order) name), NoQuery) ∷ []))
+          (λ lines. IsSomeAnd (listed_of (queries_in gs order) name) (λ q. Explains q lines)) _ passes
+          (subst (λ (o : Option Listed). IsSomeAnd o HasTree) (sym (found at n l there))
           (l.reducts.tree, (s.live at l there).kept.named));
     }
 
     pub explain_done : (lines : List ℕ) → lines ≡ explain_of (map (λ a. a.relation) l.query.atoms) (variable_names l.query) l.reducts.tree
         → ExplainGives (store_of c gs order seq) name (Ok lines)
     explain_done lines e = record {
-      answer = answers_done (first_of ((is_none (query_of (queries_in gs order) name), NoQuery) ∷ [])) lines
-          (λ lines. IsSomeAnd (query_of (queries_in gs order) name) (λ q. Explains q lines)) _ passes
-          (subst (λ (o : Option Query). IsSomeAnd o (λ q. Explains q lines)) (sym (found at n l there))
+      answer = answers_done (first_of ((is_none (listed_of (queries_in gs order) name), NoQuery) ∷ [])) lines
+          (λ lines. IsSomeAnd (listed_of (queries_in gs order) name) (λ q. Explains q lines)) _ passes
+          (subst (λ (o : Option Listed). IsSomeAnd o (λ q. Explains q lines)) (sym (found at n l there))
           (record { tree = l.reducts.tree; named = (s.live at l there).kept.named; are = e }));
+    }
+
+    pub shape_done : (shape : Shape) → IsShapeOf (a_query l.query) shape → TellsShape (store_of c gs order seq) name (Ok shape)
+    shape_done shape is = record {
+      answer = answers_done (first_of ((is_none (listed_of (queries_in gs order) name), NoQuery) ∷ [])) shape
+          (λ shape. IsSomeAnd (listed_of (queries_in gs order) name) (λ q. IsShapeOf q shape)) _ passes
+          (subst (λ (o : Option Listed). IsSomeAnd o (λ q. IsShapeOf q shape)) (sym (found at n l there)) is);
     }
 
 -- an answer that is there is one of the query that is read
@@ -126,7 +137,7 @@ lends p s id l there law =
     let c = p.catalog in
     let kept = (s.live id.at l there).kept in
     record {
-      query = registered_gives c p.queries.items p.order p.readers.items p.watchers.items s id (λ r. r.query ≡ l.query)
+      query = registered_gives c p.queries.items p.order p.readers.items p.watchers.items s id (λ r. r.query ≡ a_query l.query)
           (record { query = l; is = there }) (ap query_in there);
       place = there;
       catalog = c;

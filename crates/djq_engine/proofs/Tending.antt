@@ -222,13 +222,6 @@ empties_next places k d i old mid m low at within a none = record {
     front j d = more j ∙ ap (λ b. is_reader (take k places) j || b) (apart i j (λ s. d (sym s)))
         ∙ or_false (is_reader (take k places) j)
 
-pub empties_same : (places : List ℕ) (old new : List Log) → Empties places old new → SameLogs old new
-empties_same places old new a i = by_reader (is_reader places i) refl
-  where
-    by_reader : (b : Bool) → is_reader places i ≡ b → (log_at new i ≡ log_at old i) ⊎ ((log_at new i).lines ≡ [])
-    by_reader true e = inr (a.emptied i e).lines
-    by_reader false e = inl (a.others i e)
-
 -- ---- what can be shown
 
 pub showable_alike : (texts : List Bytes) (u : List ℕ) (l m : Live) → Alike l m → IsShowable texts l u → IsShowable texts m u
@@ -250,12 +243,16 @@ pub shown_more : ShowableStays → (texts more now : List Bytes) → now ≡ tex
 shown_more law texts more now e gs logs h i l there kept k d low =
     subst (λ (ts : List Bytes). IsShowable ts l (get_or (log_at logs i).lines k d).answer) (sym e) (law texts more l l (get_or (log_at logs i).lines k d).answer refl refl (h i l there kept k d low)).0
 
-pub shown_same : (texts : List Bytes) (gs : List (Option Live)) (old new : List Log) → SameLogs old new → AreShown texts gs old → AreShown texts gs new
-shown_same texts gs old new same h i l there kept = by_log (same i)
+pub shown_same : (texts : List Bytes) (gs : List (Option Live)) (old new : List Log) → SameLogs gs old new → AreShown texts gs old → AreShown texts gs new
+shown_same texts gs old new same h i l there kept =
+    subst (λ (x : Log). All (λ k. IsShowable texts l k.answer) x.lines) (sym (same i l there)) (h i l there (ap (λ (x : Log). x.lost) (sym (same i l there)) ∙ kept))
+
+pub shown_emptied : (texts : List Bytes) (gs : List (Option Live)) (places : List ℕ) (old new : List Log) → Empties places old new → AreShown texts gs old → AreShown texts gs new
+shown_emptied texts gs places old new a h i l there kept = by_reader (is_reader places i) refl
   where
-    by_log : (log_at new i ≡ log_at old i) ⊎ ((log_at new i).lines ≡ []) → All (λ k. IsShowable texts l k.answer) (log_at new i).lines
-    by_log (inl e) = subst (λ (x : Log). All (λ k. IsShowable texts l k.answer) x.lines) (sym e) (h i l there (ap (λ (x : Log). x.lost) (sym e) ∙ kept))
-    by_log (inr e) = all_none (λ k. IsShowable texts l k.answer) (log_at new i).lines e
+    by_reader : (b : Bool) → is_reader places i ≡ b → All (λ k. IsShowable texts l k.answer) (log_at new i).lines
+    by_reader true e = all_none (λ k. IsShowable texts l k.answer) (log_at new i).lines (a.emptied i e).lines
+    by_reader false e = subst (λ (x : Log). All (λ k. IsShowable texts l k.answer) x.lines) (sym (a.others i e)) (h i l there (ap (λ (x : Log). x.lost) (sym (a.others i e)) ∙ kept))
 
 -- a query less
 pub shown_dropped : (texts : List Bytes) (gs : List (Option Live)) (logs : List Log) (at : ℕ) (x : Log) → at < length gs → x.lines ≡ [] → AreShown texts gs logs → AreShown texts (set gs at None) (set logs at x)
@@ -270,13 +267,13 @@ shown_dropped texts gs logs at x low none h i l there kept =
 
 -- a query more
 pub shown_enrolled : (texts : List Bytes) (gs hs : List (Option Live)) (old new : List Log) (place : ℕ) → ((i : ℕ) → i ≢ place → place_at hs i ≡ place_at gs i) → (log_at new place).lines ≡ []
-    → SameLogs old new → AreShown texts gs old → AreShown texts hs new
+    → SameLogs gs old new → AreShown texts gs old → AreShown texts hs new
 shown_enrolled texts gs hs old new place others none same h i l there kept =
     everywhere (λ i. (l : Live) → place_at hs i ≡ Some l → (log_at new i).lost ≡ false → All (λ k. IsShowable texts l k.answer) (log_at new i).lines) place
     (λ l there kept. all_none (λ k. IsShowable texts l k.answer) (log_at new place).lines none)
     (λ i d l there kept. shown_same texts gs old new same h i l (sym (others i d) ∙ there) kept) i l there kept
 
-pub shown_places : (texts : List Bytes) (gs hs : List (Option Live)) (old new : List Log) → ((i : ℕ) → place_at hs i ≡ place_at gs i) → SameLogs old new → AreShown texts gs old → AreShown texts hs new
+pub shown_places : (texts : List Bytes) (gs hs : List (Option Live)) (old new : List Log) → ((i : ℕ) → place_at hs i ≡ place_at gs i) → SameLogs gs old new → AreShown texts gs old → AreShown texts hs new
 shown_places texts gs hs old new places same h i l there kept = shown_same texts gs old new same h i l (sym (places i) ∙ there) kept
 
 pub shown_tended : (Changed : Catalog → Catalog → Tuple → Type 0) (c d : Catalog) (gs : List (Option Live)) (ps : List ℕ) (old new : List Log) (row : Tuple) → AllAt ps gs (λ l. IsKept c l) → Changed c d row → d.texts ≡ c.texts

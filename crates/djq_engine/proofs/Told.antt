@@ -2,6 +2,7 @@
 use Rattle.std.proofs.Common.{ℕ, zero, suc, List, [], ◌∷◌, ◌++◌, ◌≡◌, Bool, true, false, refl, sym, ap, ap₂, ◌∙◌, subst, set, get_or, arith}
 use Rattle.std.specs.Prelude.{Option, None, Some, All, map, cond, slice_index_or, ⊤}
 use Rattle.djq_model.specs.Data.{Bytes, Tuple}
+use Rattle.djq_model.specs.Listed.{a_query}
 use Rattle.djq_lines.specs.declared.answer.Sign.TheVariants.{Came as HasCome, Went as HasGone}
 use Rattle.djq_machine.specs.Delta.{Change}
 use Rattle.djq_tree.specs.Tree.{Tree}
@@ -144,4 +145,4 @@ pub query_alike_at : (o p : Option Live) → AlikeAt o p → query_in p ≡ quer
 query_alike_at None None a = refl
 query_alike_at None (Some m) a = absurd a
 query_alike_at (Some l) None a = absurd a
-query_alike_at (Some l) (Some m) a = a.query
+query_alike_at (Some l) (Some m) a = ap a_query a.query

@@ -1,16 +1,25 @@
 -- How much updates of the queries in places count, one after another.
-use Rattle.std.proofs.Common.{ℕ, List, [], ◌∷◌, ◌++◌, ◌+◌, ◌*◌, ◌≡◌, ◌<◌, ◌≤◌, Bool, true, false, refl, sym, ap, ◌∙◌, subst, length, get_or, take, arith, mul-le-mul_left}
+use Rattle.std.proofs.Common.{ℕ, List, [], ◌∷◌, ◌++◌, ◌+◌, ◌*◌, ◌≡◌, ◌<◌, ◌≤◌, Bool, true, false, refl, sym, ap, ap₂, ◌∙◌, subst, length, get_or, take, arith, mul-le-mul_left}
 use Rattle.std.specs.Prelude.{◌==◌, ◌||◌, Option, None, Some, IsSomeAnd, is_some, cond, Contains, filter, map, sum_by}
 use Rattle.std.proofs.lemmas.Bool.{eqb-true, eq-eqb, false≢true}
-use Rattle.std.proofs.lemmas.List.{take_more}
+use Rattle.std.proofs.lemmas.List.{take_more, length-map}
 use Rattle.std.proofs.lemmas.List.Sums.{sum_by-cons, sum_by-append, sum_by-take-le, sum_by_more}
 use Rattle.std.proofs.lemmas.Nat.{mul-le}
 use Rattle.djq_model.specs.Data.{Bytes, bytes_eq}
-use Rattle.djq_machine.specs.Stale.{reads}
+use Rattle.djq_model.specs.declared.relation.Relation.{Relation}
+use Rattle.djq_model.specs.declared.query.Query.{Query}
+use Rattle.djq_model.specs.declared.query.Atom.{Atom}
+use Rattle.djq_lines.specs.Variables.{Label, variables_of}
+use Rattle.djq_machine.specs.Stale.{reads, listed_reads, by_relation}
+use Rattle.djq_machine.specs.Changes.{one_change}
+use Rattle.djq_machine.proofs.Reading.{reads_atom}
 use Rattle.djq_propagate.specs.Updates.{HasAtMost}
+use Rattle.djq_query.specs.declared.numbered.Variable.{Variable}
+use Rattle.djq_query.specs.declared.numbered.NumberedAtom.{NumberedAtom}
 use Rattle.djq_query.specs.Numbered.{Numbered}
-use Rattle.djq_rows.specs.Catalog.{relation_at}
-use Rattle.djq_live.specs.Live.{Live}
+use Rattle.djq_rows.specs.Catalog.{Catalog, relation_at}
+use Rattle.djq_live.specs.Asked.{AreAtomsOf}
+use Rattle.djq_live.specs.Live.{Live, IsKept}
 use Rattle.djq_live.specs.Updating.{CountsUpdate, LeavesAreSmall, atoms_over, update_bound}
 use Rattle.djq_live.proofs.Sizing.{all_grown}
 use Rattle.djq_engine.specs.declared.parts.Parts.{Parts}
@@ -20,11 +29,11 @@ use Rattle.djq_engine.specs.Sound.{AreOnce}
 use Rattle.djq_engine.specs.Reaching.{DoneAt, Reach, AllAt, TakesIn, Remains}
 use Rattle.djq_engine.specs.Tending.{Works, work_of, work_at}
 use Rattle.djq_engine.specs.Changing.{WorksRows}
-use Rattle.djq_engine.specs.Watching.{AreFew, CountsUpdates, bound_in, update_steps}
+use Rattle.djq_engine.specs.Watching.{AreFew, CountsUpdates, update_steps}
 use Rattle.djq_engine.specs.Whole.{kept_in, IsWhole}
 use Rattle.djq_engine.proofs.Listing.{apart, reader_more, or_true}
 use Rattle.djq_engine.proofs.Carrying.{reader_is, reader_reads}
-use Rattle.djq_engine.proofs.Enlisted.{readers_are, registered_is}
+use Rattle.djq_engine.proofs.Enlisted.{outdated_reads, readers_are, registered_is}
 use Rattle.djq_engine.proofs.Naming.{There, live_there}
 use Rattle.djq_engine.proofs.Reaching.{once_at, only, reader_there}
 use Rattle.djq_engine.proofs.Reporting.{atoms_of, both_true}
@@ -193,11 +202,33 @@ works_back at cells places k d old now mid x y z u o low took last first second 
         (subst (λ (b : Bool). DoneAt (TakesIn at cells) b (place_at old j) (place_at now j)) e
         (took.each j)) (few j (reader_front places k j e)))
 
+-- ---- the bound, by the query's text
+
+atoms_many : (c : Catalog) (vs : List Variable) (atoms : List Atom) (ms : List NumberedAtom)
+    → AreAtomsOf c vs atoms ms → length ms ≡ length atoms
+atoms_many c vs [] [] h = refl
+atoms_many c vs [] (m ∷ ms) h = absurd h
+atoms_many c vs (a ∷ atoms) [] h = absurd h
+atoms_many c vs (a ∷ atoms) (m ∷ ms) h =
+    let more = atoms_many c vs atoms ms h.1 in
+    omega (arith, more)
+
+abbrev text_bound : Query → ℕ → ℕ
+text_bound q n = 16 * ((length q.atoms + length (variables_of q.atoms)) * (n + 1))
+
+bound_of_text : (c : Catalog) (l : Live) (n : ℕ) → IsKept c l → update_bound l n ≡ text_bound l.query n
+bound_of_text c l n k =
+    let asked = k.over.asked in
+    ap₂ (λ (m v : ℕ). 16 * ((m + v) * (n + 1)))
+    (atoms_many c (l.numbered).variables (l.query).atoms (l.numbered).atoms asked.atoms)
+    (sym (length-map (l.numbered).variables (λ (v : Variable). v.name))
+    ∙ ap (λ (ls : List Label). length ls) asked.variables)
+
 -- ---- as contracts see it
 
 module _ (old : Parts) (s : IsWhole old) (at : ℕ) (low : at < length (old.catalog).relations)
     (name : Bytes) (named : (relation_at (old.catalog).relations at).name ≡ name)
-    (law : LeavesAreSmall) where
+    (after : List Relation) (law : LeavesAreSmall) where
   reads_there : (i : ℕ) → is_reader (readers_at old.readers.items at) i ≡ true
       → There old.queries.items i
   reads_there i e =
@@ -206,10 +237,11 @@ module _ (old : Parts) (s : IsWhole old) (at : ℕ) (low : at < length (old.cata
       (sym (reader_is old.catalog old.queries.items old.order old.readers.items s at low i) ∙ e)).0
 
   reads_name : (i : ℕ) → is_reader (readers_at old.readers.items at) i ≡ true
-      → reads (query_in (place_at old.queries.items i)) name ≡ true
+      → is_some (by_relation name (query_in (place_at old.queries.items i))) ≡ true
   reads_name i e =
       let t = reads_there i e in
-      ap (λ (o : Option Live). reads (query_in o) name) t.is
+      outdated_reads name (query_in (place_at old.queries.items i))
+      ∙ ap (λ (o : Option Live). listed_reads (query_in o) name) t.is
       ∙ ap (reads t.query.query) (sym named)
       ∙ sym (reader_reads old.catalog old.queries.items old.order old.readers.items s at low i
       t.query t.is)
@@ -224,7 +256,7 @@ module _ (old : Parts) (s : IsWhole old) (at : ℕ) (low : at < length (old.cata
       ∙ ap (λ b. cond b (Some (registered_as old.queries.items old.watchers.items i)) None)
       (ap is_some (reads_there i e).is)
 
-  small : (n : ℕ) → AreFew (kept_in old) name n
+  small : (n : ℕ) → AreFew (kept_in old) (one_change name after) n
       → AllAt (readers_at old.readers.items at) old.queries.items (λ l. HasAtMost l.reducts n)
   small n few i e =
       let t = reads_there i e in
@@ -232,13 +264,14 @@ module _ (old : Parts) (s : IsWhole old) (at : ℕ) (low : at < length (old.cata
       (law old.catalog t.query n (s.live i t.query t.is).kept (record {
         each = λ a has.
             few (id_at i) (registered_as old.queries.items old.watchers.items i)
-            (registered_here i e) (reads_name i e) a
-            (subst (λ (o : Option Live). Contains (query_in o).atoms a) (sym t.is) has);
+            (registered_here i e) (reads_name i e) a.relation
+            (subst (λ (o : Option Live). listed_reads (query_in o) a.relation ≡ true) (sym t.is)
+            (reads_atom t.query.query a has));
       }))
 
   steps_of : (n i : ℕ) → is_reader (readers_at old.readers.items at) i ≡ true
       → work_at old.queries.items at n i
-      ≤ update_steps (kept_in old) name n (registered_as old.queries.items old.watchers.items i)
+      ≤ update_steps (one_change name after) n (query_in (place_at old.queries.items i))
   steps_of n i e =
       let t = reads_there i e in
       let l = t.query in
@@ -250,26 +283,25 @@ module _ (old : Parts) (s : IsWhole old) (at : ℕ) (low : at < length (old.cata
       (atoms_of old.catalog at (l.numbered).variables (l.query).atoms (l.numbered).atoms
       kept.over.asked.atoms) in
       subst (λ (o : Option Live). work_of at n o
-      ≤ length (filter (λ a. bytes_eq a.relation name) (query_in o).atoms) * bound_in n o)
-      (sym t.is)
+      ≤ update_steps (one_change name after) n (query_in o)) (sym t.is)
       (mul-le (atoms_over l at) (update_bound l n)
-      (length (filter (λ a. bytes_eq a.relation name) (l.query).atoms)) (update_bound l n) fewer
-      (omega arith))
+      (length (filter (λ a. bytes_eq a.relation name) (l.query).atoms)) (text_bound l.query n) fewer
+      (subst (λ (b : ℕ). update_bound l n ≤ b) (bound_of_text old.catalog l n kept) (omega arith)))
 
   pub counts_updates : (times before now : ℕ) → WorksRows at times old before now
-      → CountsUpdates times (kept_in old) name before now
+      → CountsUpdates times (kept_in old) (one_change name after) before now
   counts_updates times before now works = record {
     counted = λ n few.
         let a = works n (small n few) in
-        let b = sums_le (work_at old.queries.items at n) (update_steps (kept_in old) name n)
+        let b = sums_le (work_at old.queries.items at n) (λ (r : Registered). update_steps (one_change name after) n r.query)
         (registered_as old.queries.items old.watchers.items) (readers_at old.readers.items at)
         (steps_of n) in
-        let same = ap (readers_of (kept_in old).registered) (sym named)
+        let same = ap (λ (x : Bytes). readers_of (kept_in old).registered (one_change x after)) (sym named)
         ∙ readers_are old.catalog old.queries.items old.order old.readers.items
-        old.watchers.items s at low in
+        old.watchers.items s at low after in
         let c = mul-le-mul_left times
         (subst (λ (rs : List Registered). sum_by (work_at old.queries.items at n)
-        (readers_at old.readers.items at) ≤ sum_by (update_steps (kept_in old) name n) rs)
+        (readers_at old.readers.items at) ≤ sum_by (λ r. update_steps (one_change name after) n r.query) rs)
         (sym same) b) in
         omega (arith, a, c);
   }

@@ -1,8 +1,8 @@
 -- What contracts see of an engine, and what its calls do to its cursors.
 use Rattle.std.specs.Prelude.{ℕ, List, [], ◌∷◌, ◌==◌, ◌≡◌, ◌≤◌, ◌+◌, ◌++◌, ◌&&◌, ◌⊎◌, Bool, true, false, not, Option, None, Some, is_none, IsSome, IsSomeAnd, IfSome, Result, Ok, Err, if◌then◌else◌, map, filter, find, length, nat_lt, slice_index_or, ⊤}
 use Rattle.djq_model.specs.declared.query.Query.{Query}
-use Rattle.djq_model.specs.Data.{Bytes, Tuple, bytes_eq, change_first, query_of}
-use Rattle.djq_model.specs.Answer.{IsAnswer}
+use Rattle.djq_model.specs.Data.{Bytes, Tuple, bytes_eq, change_first}
+use Rattle.djq_model.specs.Listed.{Listed, a_query, listed_name, AnswersOf, listed_of}
 use Rattle.djq_lines.specs.declared.answer.Refusal.{Refusal}
 use Rattle.djq_lines.specs.declared.answer.Refusal.TheVariants.{NoQuery}
 use Rattle.djq_lines.specs.Hypergraph.{edges_of, head_of, variable_names}
@@ -11,8 +11,9 @@ use Rattle.djq_tree.specs.Growing.{IsTreeOf}
 use Rattle.djq_tree.specs.Explaining.{explain_of}
 use Rattle.djq_machine.specs.State.{Store, Position, open_at, stale}
 use Rattle.djq_machine.specs.Conditions.{first_of, Answers, OutOfMemoryWhere}
-use Rattle.djq_machine.specs.Store.{DropsQuery, IsLeft, AreAll, most_steps}
-use Rattle.djq_machine.specs.Stale.{reads, outdated, outdater_of, by_relation}
+use Rattle.djq_machine.specs.Store.{DropsQuery, IsLeft, AreAll, answer_steps}
+use Rattle.djq_machine.specs.Stale.{listed_reads, outdated, outdater_of}
+use Rattle.djq_machine.specs.Changes.{RowsChange, is_outdated}
 use Rattle.djq_machine.specs.Delta.{Change}
 use Rattle.djq_reduct.specs.Answers.{IsAnswerOf}
 use Rattle.djq_live.specs.declared.listing.Next.{Next}
@@ -30,7 +31,7 @@ pub record Held : Type 0 where
 -- A registered query of the engine, and how many sessions watch it.
 pub record Registered : Type 0 where
   pub id : QueryId
-  pub query : Query
+  pub query : Listed
   pub watchers : ℕ
 
 -- What the engine keeps: the store of the join machine, and cursors; the registered queries, in
@@ -55,7 +56,7 @@ registered_at rs id = find (λ r. same_query r.id id) rs
 
 -- the registered query of a name
 abbrev pub registered_of : List Registered → Bytes → Option Registered
-registered_of rs name = find (λ r. bytes_eq r.query.name name) rs
+registered_of rs name = find (λ r. bytes_eq (listed_name r.query) name) rs
 
 -- that an engine keeps a query
 abbrev pub IsRegistered : Kept → QueryId → Type 0
@@ -65,13 +66,13 @@ IsRegistered k id = IsSome (registered_at k.registered id)
 abbrev pub is_watched : Registered → Bool
 is_watched r = nat_lt 0 r.watchers
 
--- the queries that read a relation
-abbrev pub readers_of : List Registered → Bytes → List Registered
-readers_of rs relation = filter (λ r. reads r.query relation) rs
+-- the queries that a change outdates: those that read a relation that it changes
+abbrev pub readers_of : List Registered → RowsChange → List Registered
+readers_of rs change = filter (λ r. is_outdated change r.query) rs
 
--- the queries that read a relation and are watched
-abbrev pub affected_of : List Registered → Bytes → List Registered
-affected_of rs relation = filter (λ r. reads r.query relation && is_watched r) rs
+-- those of them that are watched
+abbrev pub affected_of : List Registered → RowsChange → List Registered
+affected_of rs change = filter (λ r. is_outdated change r.query && is_watched r) rs
 
 -- the queries, of which one has other watchers
 abbrev pub with_watchers : QueryId → (ℕ → ℕ) → List Registered → List Registered
@@ -99,17 +100,43 @@ abbrev pub OthersStay : List Held → CursorId → List Held → Type 0
 OthersStay old id new = (other : CursorId) → same_id other id ≡ false
     → held_at new other ≡ held_at old other
 
--- a cursor after a change of a relation of this number
-abbrev pub outdated_held : List Query → Bytes → ℕ → Held → Held
-outdated_held queries relation n h = record h {
-  position = outdated (outdater_of queries (by_relation relation) h.query) n h.position;
+-- a cursor after a change of this number
+abbrev pub outdated_held : List Listed → (Listed → Option Bytes) → ℕ → Held → Held
+outdated_held queries outdater n h = record h {
+  position = outdated (outdater_of queries outdater h.query) n h.position;
 }
 
--- The cursors after a command on a relation, which outdates or doesn't.
-abbrev pub Outdates : Kept → Bytes → Bool → Kept → Type 0
-Outdates old relation outdates new = (id : CursorId) → held_at new.cursors id ≡ held_at
-    (if outdates then map (outdated_held old.store.queries relation (new.store).seq) old.cursors
-    else old.cursors) id
+-- the cursors behind a change of this number that was made or tried, where there was one
+abbrev pub cursors_behind : Kept → Option RowsChange → ℕ → List Held
+cursors_behind old None n = old.cursors
+cursors_behind old (Some change) n =
+    map (outdated_held old.store.queries change.outdater n) old.cursors
+
+-- The cursors are as they are behind it.
+abbrev pub Outdates : Kept → Option RowsChange → Kept → Type 0
+Outdates old o new =
+    (id : CursorId) → held_at new.cursors id ≡ held_at (cursors_behind old o (new.store).seq) id
+
+-- What the last change told, and whom it affected, is as before.
+pub record SameTellings (old new : Kept) : Type 0 where
+  pub affected : new.affected ≡ old.affected
+  pub told : new.told ≡ old.told
+
+-- The affected queries are those that read this relation, in order of registration; or none is.
+abbrev pub AffectedAre : Option Bytes → Kept → Type 0
+AffectedAre None k = k.affected ≡ []
+AffectedAre (Some relation) k =
+    k.affected ≡ map (λ r. r.id) (filter (λ r. listed_reads r.query relation) k.registered)
+
+-- This is told of one query, and of the others what was told before. The affected queries are those
+-- that read the relation of the last change, as before.
+pub record TellsOf (old : Kept) (id : QueryId) (told : Option (List Change)) (new : Kept) : Type 0
+  where
+    pub here : told_at new id ≡ told
+    pub others : (other : QueryId) → same_query other id ≡ false → told_at new other ≡ told_at old other
+    pub relation : Option Bytes
+    pub before : AffectedAre relation old
+    pub after : AffectedAre relation new
 
 -- A new cursor stands in front of the answers of its query.
 pub record OpensCursor (old : Kept) (query : Bytes) (id : CursorId) (new : Kept) : Type 0 where
@@ -119,11 +146,12 @@ pub record OpensCursor (old : Kept) (query : Bytes) (id : CursorId) (new : Kept)
   pub others : OthersStay old.cursors id new.cursors
   pub store : new.store ≡ old.store
   pub registered : new.registered ≡ old.registered
+  pub tellings : SameTellings old new
 
 -- What `open` answers.
 pub record OpenGives (old : Kept) (query : Bytes) (result : Result CursorId Refusal) (new : Kept) :
     Type 0 where
-  pub answer : Answers (first_of ((is_none (query_of (old.store).queries query), NoQuery) ∷ []))
+  pub answer : Answers (first_of ((is_none (listed_of (old.store).queries query), NoQuery) ∷ []))
       result (λ id. OpensCursor old query id new) (OutOfMemoryWhere ⊤)
   pub stays : (r : Refusal) → result ≡ Err r → new ≡ old
 
@@ -133,6 +161,7 @@ pub record MovesCursor (old : Kept) (h : Held) (position : Position) (new : Kept
   pub others : OthersStay old.cursors h.id new.cursors
   pub store : new.store ≡ old.store
   pub registered : new.registered ≡ old.registered
+  pub tellings : SameTellings old new
 
 -- what holds of the query over which a cursor of this id is
 abbrev pub AtQuery : Kept → CursorId → (Live → Type 0) → Type 0
@@ -148,45 +177,45 @@ AnswerIs k id answer t = AtQuery k id (λ l. t ≡ values_of k.store.texts l ans
 
 -- What a read of a cursor gives: one answer that is left; the end exactly where none is; or what
 -- made it stale.
-abbrev pub NextGivesAt : Kept → Held → Query → Position → Next → List ℕ → Kept → Type 0
+abbrev pub NextGivesAt : Kept → Held → Listed → Position → Next → List ℕ → Kept → Type 0
 NextGivesAt old h q (open_at given ended) Given answer new =
-    (t : Tuple) × IsLeft (IsAnswer (old.store).relations q) given t
+    (t : Tuple) × IsLeft (AnswersOf (old.store).relations q) given t
     × IsThere new h.id answer × AnswerIs new h.id answer t
     × MovesCursor old h (open_at (given ++ t ∷ []) false) new
 NextGivesAt old h q (open_at given ended) End answer new =
-    AreAll (IsAnswer (old.store).relations q) given × MovesCursor old h (open_at given true) new
+    AreAll (AnswersOf (old.store).relations q) given × MovesCursor old h (open_at given true) new
 NextGivesAt old h q (open_at given ended) (Stale relation n) answer new = ⊥
 NextGivesAt old h q (stale r m) (Stale relation n) answer new =
     (relation ≡ r) × (n ≡ m) × (new ≡ old)
 NextGivesAt old h q (stale r m) _ answer new = ⊥
 
 -- what a read counts at most: a stale cursor costs nothing
-abbrev pub read_steps : Next → ℕ → ℕ
-read_steps (Stale relation n) h = 0
-read_steps _ h = most_steps h
+abbrev pub read_steps : Next → Listed → ℕ
+read_steps (Stale relation n) q = 0
+read_steps _ q = answer_steps q
 
 -- A read of a cursor, and what it counts at most.
 pub record NextGives (old : Kept) (id : CursorId) (result : Next) (answer : List ℕ) (new : Kept)
     (before now : ℕ) : Type 0 where
   pub gives : IsSomeAnd (held_at old.cursors id) (λ h. IsSomeAnd
-      (query_of (old.store).queries h.query) (λ q. NextGivesAt old h q h.position result answer new
-      × (now ≤ before + read_steps result (length q.head))))
+      (listed_of (old.store).queries h.query) (λ q. NextGivesAt old h q h.position result answer new
+      × (now ≤ before + read_steps result q)))
 
 -- Whether a further answer is left is known of a cursor that isn't stale; where none is, it stands
 -- at its end.
-abbrev pub MoreGivesAt : Kept → Held → Query → Position → Bool → Kept → Type 0
+abbrev pub MoreGivesAt : Kept → Held → Listed → Position → Bool → Kept → Type 0
 MoreGivesAt old h q (open_at given ended) true new =
-    ((t : Tuple) × IsLeft (IsAnswer (old.store).relations q) given t)
+    ((t : Tuple) × IsLeft (AnswersOf (old.store).relations q) given t)
     × MovesCursor old h (open_at given false) new
 MoreGivesAt old h q (open_at given ended) false new =
-    AreAll (IsAnswer (old.store).relations q) given × MovesCursor old h (open_at given true) new
+    AreAll (AnswersOf (old.store).relations q) given × MovesCursor old h (open_at given true) new
 MoreGivesAt old h q (stale r m) more new = ⊥
 
 pub record MoreGives (old : Kept) (id : CursorId) (result : Bool) (new : Kept) (before now : ℕ) :
     Type 0 where
   pub gives : IsSomeAnd (held_at old.cursors id) (λ h. IsSomeAnd
-      (query_of (old.store).queries h.query) (λ q. MoreGivesAt old h q h.position result new
-      × (now ≤ before + most_steps (length q.head))))
+      (listed_of (old.store).queries h.query) (λ q. MoreGivesAt old h q h.position result new
+      × (now ≤ before + answer_steps q)))
 
 -- that an engine holds a cursor
 abbrev pub IsHeld : Kept → CursorId → Type 0
@@ -207,8 +236,7 @@ pub record ClosesCursor (old : Kept) (id : CursorId) (new : Kept) : Type 0 where
   pub others : OthersStay old.cursors id new.cursors
   pub store : new.store ≡ old.store
   pub registered : new.registered ≡ old.registered
-  pub affected : new.affected ≡ old.affected
-  pub told : new.told ≡ old.told
+  pub tellings : SameTellings old new
 
 -- Whether a query is in use: a cursor that is held, stale or not, is over it, or a session watches
 -- it.
@@ -223,8 +251,14 @@ Uses k query false =
 -- the registered queries once a query was dropped, or wasn't
 abbrev pub DropsRegistered : List Registered → Bytes → Result ⊤ Refusal → List Registered → Type 0
 DropsRegistered old query (Ok done) new =
-    new ≡ filter (λ r. not (bytes_eq r.query.name query)) old
+    new ≡ filter (λ r. not (bytes_eq (listed_name r.query) query)) old
 DropsRegistered old query (Err r) new = new ≡ old
+
+-- Of a query that was dropped nothing is told any more; else nothing has changed of what is told.
+abbrev pub DropsTelling : Kept → Bytes → Result ⊤ Refusal → Kept → Type 0
+DropsTelling old query (Ok done) new =
+    IsSomeAnd (registered_of old.registered query) (λ r. TellsOf old r.id None new)
+DropsTelling old query (Err r) new = SameTellings old new
 
 -- A query that isn't in use is registered no more, and all cursors are as before.
 pub record DropGives (old : Kept) (query : Bytes) (result : Result ⊤ Refusal) (new : Kept) :
@@ -234,20 +268,25 @@ pub record DropGives (old : Kept) (query : Bytes) (result : Result ⊤ Refusal) 
   pub store : DropsQuery old.store used query result new.store
   pub cursors : SameCursors old.cursors new.cursors
   pub registered : DropsRegistered old.registered query result new.registered
+  pub tellings : DropsTelling old query result new
 
--- The lines explain the tree that the choice rule names.
-pub record Explains (q : Query) (lines : List ℕ) : Type 0 where
+-- The lines explain the tree of a query that the choice rule names.
+pub record ExplainsTree (q : Query) (lines : List ℕ) : Type 0 where
   pub tree : Tree
   pub named : IsTreeOf (edges_of q) (head_of q) tree
   pub are : lines ≡ explain_of (map (λ a. a.relation) q.atoms) (variable_names q) tree
 
+-- They explain what is registered: a query is explained by its tree.
+abbrev pub Explains : Listed → List ℕ → Type 0
+Explains (a_query q) lines = ExplainsTree q lines
+
 -- The choice rule names a tree of a query.
-abbrev pub HasTree : Query → Type 0
-HasTree q = (t : Tree) × IsTreeOf (edges_of q) (head_of q) t
+abbrev pub HasTree : Listed → Type 0
+HasTree (a_query q) = (t : Tree) × IsTreeOf (edges_of q) (head_of q) t
 
 -- What `explain` answers. A query whose lines find no memory has a tree too.
 pub record ExplainGives (st : Store) (query : Bytes) (result : Result (List ℕ) Refusal) :
     Type 0 where
-  pub answer : Answers (first_of ((is_none (query_of st.queries query), NoQuery) ∷ []))
-      result (λ lines. IsSomeAnd (query_of st.queries query) (λ q. Explains q lines))
-      (OutOfMemoryWhere (IsSomeAnd (query_of st.queries query) HasTree))
+  pub answer : Answers (first_of ((is_none (listed_of st.queries query), NoQuery) ∷ []))
+      result (λ lines. IsSomeAnd (listed_of st.queries query) (λ q. Explains q lines))
+      (OutOfMemoryWhere (IsSomeAnd (listed_of st.queries query) HasTree))

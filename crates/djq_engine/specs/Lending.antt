@@ -2,6 +2,7 @@
 use Rattle.std.specs.Prelude.{◌≡◌, ◌↔◌, ℕ, Bool, Some, None, IsSomeAnd, if◌then◌else◌, option_map, slice_index_or}
 use Rattle.djq_model.specs.Data.{Tuple}
 use Rattle.djq_model.specs.Answer.{IsAnswer}
+use Rattle.djq_model.specs.Listed.{a_query}
 use Rattle.djq_lines.specs.declared.answer.Sign.{Sign}
 use Rattle.djq_lines.specs.declared.answer.Sign.TheVariants.{Came, Went}
 use Rattle.djq_rows.specs.Catalog.{Catalog}
@@ -15,7 +16,7 @@ use Rattle.djq_engine.specs.Kept.{Kept, registered_at, held_at}
 -- the store, so its tables are those of its tree over the rows as they are: a tuple is an answer
 -- exactly where they have its projections. Its cursors stand where those of the engine do.
 pub record LendsQuery (k : Kept) (id : QueryId) (l : Live) : Type 0 where
-  pub query : IsSomeAnd (registered_at k.registered id) (λ r. r.query ≡ l.query)
+  pub query : IsSomeAnd (registered_at k.registered id) (λ r. r.query ≡ a_query l.query)
   pub place : slice_index_or k.places id.at None ≡ Some l
   pub catalog : Catalog
   pub relations : catalog.relations ≡ (k.store).relations

@@ -2,8 +2,8 @@
 -- contracts see of them.
 use Rattle.std.specs.Prelude.{ℕ, zero, suc, List, [], ◌∷◌, ◌++◌, ◌==◌, nat_lt, Bool, true, false, not, Option, None, Some, is_some, option_map, if◌then◌else◌, map, filter, slice_index_or}
 use Rattle.std.specs.List.{list_any}
-use Rattle.djq_model.specs.declared.query.Query.{Query}
 use Rattle.djq_model.specs.Data.{Bytes, bytes_eq}
+use Rattle.djq_model.specs.Listed.{Listed, a_query}
 use Rattle.djq_machine.specs.State.{Store}
 use Rattle.djq_machine.specs.Stale.{reads}
 use Rattle.djq_rows.specs.Catalog.{Catalog}
@@ -26,15 +26,16 @@ abbrev pub is_live : List (Option Live) → ℕ → Bool
 is_live gs i = is_some (place_at gs i)
 
 -- what stands for the query of a vacant place
-abbrev pub no_query : Query
-no_query = record { name = []; head = []; atoms = [] }
+abbrev pub no_query : Listed
+no_query = a_query (record { name = []; head = []; atoms = [] })
 
-abbrev pub query_in : Option Live → Query
+-- the query in a place, as it is registered
+abbrev pub query_in : Option Live → Listed
 query_in None = no_query
-query_in (Some l) = l.query
+query_in (Some l) = a_query l.query
 
 -- the queries in these places
-abbrev pub queries_in : List (Option Live) → List ℕ → List Query
+abbrev pub queries_in : List (Option Live) → List ℕ → List Listed
 queries_in gs order = map (λ i. query_in (place_at gs i)) order
 
 -- whether a place has the query of a name

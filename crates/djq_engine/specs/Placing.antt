@@ -1,5 +1,5 @@
 -- Lists of places.
-use Rattle.std.specs.Prelude.{ℕ, List, [], ◌∷◌, ◌++◌, ◌≡◌, ◌<◌, ◌⊎◌, Option, if◌then◌else◌, length}
+use Rattle.std.specs.Prelude.{ℕ, List, [], ◌∷◌, ◌++◌, ◌≡◌, ◌<◌, ◌⊎◌, Option, Some, if◌then◌else◌, length}
 use Rattle.djq_model.specs.declared.query.Query.{Query}
 use Rattle.djq_model.specs.declared.relation.Relation.{Relation}
 use Rattle.djq_machine.specs.Stale.{reads}
@@ -17,9 +17,9 @@ SamePlaces old new = (i : ℕ) → place_at new i ≡ place_at old i
 abbrev pub SameWatchers : List ℕ → List ℕ → Type 0
 SameWatchers old new = (i : ℕ) → watchers_at new i ≡ watchers_at old i
 
--- Each log is as before, or empty.
-abbrev pub SameLogs : List Log → List Log → Type 0
-SameLogs old new = (i : ℕ) → (log_at new i ≡ log_at old i) ⊎ ((log_at new i).lines ≡ [])
+-- The log of each query is as before.
+abbrev pub SameLogs : List (Option Live) → List Log → List Log → Type 0
+SameLogs gs old new = (i : ℕ) (l : Live) → place_at gs i ≡ Some l → log_at new i ≡ log_at old i
 
 -- in none of these lists is a place twice
 abbrev pub AllOnce : List (List ℕ) → Type 0

@@ -1,6 +1,7 @@
 -- A query that is registered, or dropped.
 use Rattle.std.specs.Prelude.{ℕ, [], ◌∷◌, ◌++◌, ◌≡◌, ◌≢◌, None, Some, length}
 use Rattle.djq_live.specs.Live.{Live}
+use Rattle.djq_live.specs.Updating.{IsEmpty}
 use Rattle.djq_engine.specs.declared.parts.Parts.{Parts}
 use Rattle.djq_engine.specs.Places.{place_at, watchers_at, log_at}
 use Rattle.djq_engine.specs.Placing.{SamePlaces, SameLists, SameWatchers, SameLogs, JoinsReaders}
@@ -20,8 +21,9 @@ pub record Registers (q : Live) (old new : Parts) : Type 0 where
   pub unwatched : watchers_at new.watchers.items place ≡ 0
   pub watchers : (i : ℕ) → i ≢ place → watchers_at new.watchers.items i
       ≡ watchers_at old.watchers.items i
-  pub empty : (log_at new.logs.items place).lines ≡ []
-  pub logs : SameLogs old.logs.items new.logs.items
+  pub empty : IsEmpty (log_at new.logs.items place)
+  pub logs : SameLogs old.queries.items old.logs.items new.logs.items
+  pub changed : new.changed ≡ old.changed
   pub watched : length new.watchers.items ≡ length new.queries.items
   pub logged : length new.logs.items ≡ length new.queries.items
 
@@ -33,6 +35,7 @@ pub record SameParts (old new : Parts) : Type 0 where
   pub catalog : new.catalog ≡ old.catalog
   pub seq : new.seq ≡ old.seq
   pub watchers : SameWatchers old.watchers.items new.watchers.items
-  pub logs : SameLogs old.logs.items new.logs.items
+  pub logs : SameLogs old.queries.items old.logs.items new.logs.items
+  pub changed : new.changed ≡ old.changed
   pub watched : length new.watchers.items ≡ length new.queries.items
   pub logged : length new.logs.items ≡ length new.queries.items

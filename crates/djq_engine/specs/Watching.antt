@@ -1,8 +1,10 @@
 -- What an engine says of the queries that sessions watch.
-use Rattle.std.specs.Prelude.{ℕ, List, [], ◌∷◌, ◌++◌, ◌≡◌, ◌≤◌, ◌+◌, ◌*◌, ◌⊎◌, ◌&&◌, ◌||◌, Bool, true, false, not, Option, None, Some, IsSomeAnd, Result, Ok, Err, if◌then◌else◌, Contains, filter, length, map, slice_index_or, sum_by, ⊤}
+use Rattle.std.specs.Prelude.{ℕ, List, [], ◌∷◌, ◌++◌, ◌≡◌, ◌≤◌, ◌+◌, ◌*◌, ◌⊎◌, ◌&&◌, ◌||◌, Bool, true, false, not, Option, None, Some, IsSomeAnd, Result, Ok, Err, if◌then◌else◌, Contains, filter, length, map, sum_by, ⊤}
 use Rattle.djq_model.specs.declared.query.Query.{Query}
 use Rattle.djq_model.specs.declared.query.Atom.{Atom}
-use Rattle.djq_model.specs.Data.{Bytes, Tuple, bytes_eq, rows_of}
+use Rattle.djq_model.specs.Data.{Bytes, rows_of}
+use Rattle.djq_model.specs.Listed.{Listed, a_query}
+use Rattle.djq_lines.specs.Variables.{variables_of}
 use Rattle.djq_lines.specs.declared.answer.AddOutcome.{AddOutcome}
 use Rattle.djq_lines.specs.declared.answer.AddOutcome.TheVariants.{Added, Same}
 use Rattle.djq_lines.specs.declared.answer.DeleteOutcome.{DeleteOutcome}
@@ -11,13 +13,11 @@ use Rattle.djq_lines.specs.declared.answer.Refusal.{Refusal}
 use Rattle.djq_lines.specs.declared.answer.Refusal.TheVariants.{NoMemory}
 use Rattle.djq_lines.specs.declared.rest.QueryOutcome.{QueryOutcome}
 use Rattle.djq_lines.specs.declared.rest.QueryOutcome.TheVariants.{Registered as HasRegistered}
-use Rattle.djq_machine.specs.Store.{with_rows}
-use Rattle.djq_machine.specs.Stale.{reads}
-use Rattle.djq_machine.specs.Watch.{Delta, AreDeltas, delta_steps}
-use Rattle.djq_live.specs.Live.{Live}
-use Rattle.djq_live.specs.Updating.{update_bound}
+use Rattle.djq_machine.specs.Stale.{listed_reads}
+use Rattle.djq_machine.specs.Changes.{RowsChange, RowsOutcome, accepted, out_of_memory, unchanged, tried, is_outdated}
+use Rattle.djq_machine.specs.Watch.{Delta, ListsDeltas, deltas_steps}
 use Rattle.djq_engine.specs.declared.cursor.QueryId.{QueryId}
-use Rattle.djq_engine.specs.Kept.{Kept, Registered, registered_at, is_watched, readers_of, affected_of, told_at}
+use Rattle.djq_engine.specs.Kept.{Kept, Registered, registered_at, registered_of, TellsOf, is_watched, readers_of, affected_of, told_at}
 
 -- The log of a query tells a delta, or was lost.
 abbrev pub LogTells : Kept → Registered → Delta → Type 0
@@ -30,58 +30,82 @@ LogsTell k (r ∷ rs) (d ∷ ds) = LogTells k r d × LogsTell k rs ds
 LogsTell k [] (d ∷ ds) = ⊥
 LogsTell k (r ∷ rs) [] = ⊥
 
--- Whether a change of a relation's rows reaches the log of a query: where it was accepted, of each
--- watched query that reads the relation; where memory was refused, of each that reads it.
-abbrev pub reaches : Bytes → Bool → Bool → Registered → Bool
-reaches relation outdates accepted r =
-    outdates && reads r.query relation && (is_watched r || not accepted)
+-- What holds of a change that was accepted, and of one for which memory was refused.
+abbrev pub IfAccepted : RowsOutcome → (RowsChange → Type 0) → Type 0
+IfAccepted (accepted change) Holds = Holds change
+IfAccepted (out_of_memory change) Holds = ⊤
+IfAccepted unchanged Holds = ⊤
 
--- What a change of rows, accepted or refused, makes known of the watched queries that read its
--- relation.
-pub record TellsChange (old : Kept) (relation : Bytes) (rows : List Tuple)
-    (outdates accepted : Bool) (new : Kept) (before now : ℕ) : Type 0 where
-  pub deltas : List Delta
-  pub listed : AreDeltas (old.store).relations (with_rows (old.store).relations relation rows)
-      (map (λ r. r.query) (if outdates then affected_of old.registered relation else [])) deltas
-  pub counted : now ≤ before + sum_by (delta_steps relation) deltas
-  pub affected : accepted ≡ true
-      → new.affected ≡ map (λ r. r.id) (readers_of old.registered relation)
-  pub logs : accepted ≡ true → LogsTell new (affected_of old.registered relation) deltas
-  -- where memory was refused, the logs of the queries that read the relation tell of nothing
-  pub discards : outdates ≡ true → accepted ≡ false → (id : QueryId)
-      → IsSomeAnd (registered_at old.registered id) (λ r. reads r.query relation ≡ true)
-      → told_at new id ≡ Some []
-  -- the logs of all others tell what they told
-  pub stays : (id : QueryId) → IsSomeAnd (registered_at old.registered id)
-      (λ r. reaches relation outdates accepted r ≡ false) → told_at new id ≡ told_at old id
+abbrev pub IfOutOfMemory : RowsOutcome → (RowsChange → Type 0) → Type 0
+IfOutOfMemory (accepted change) Holds = ⊤
+IfOutOfMemory (out_of_memory change) Holds = Holds change
+IfOutOfMemory unchanged Holds = ⊤
+
+-- Whether what comes of a command on rows reaches the log of a query: where its change was accepted,
+-- of each watched query that it outdates; where memory was refused, of each that it outdates.
+abbrev pub reaches : RowsOutcome → Registered → Bool
+reaches (accepted change) r = is_outdated change r.query && is_watched r
+reaches (out_of_memory change) r = is_outdated change r.query
+reaches unchanged r = false
+
+-- the watched queries that a change outdates
+abbrev pub queries_affected : Kept → RowsChange → List Listed
+queries_affected k change = map (λ r. r.query) (affected_of k.registered change)
+
+-- A change that was accepted affects the queries that it outdates. Else the affected are as before.
+abbrev pub Affects : RowsOutcome → Kept → Kept → Type 0
+Affects (accepted change) old new = new.affected ≡ map (λ r. r.id) (readers_of old.registered change)
+Affects (out_of_memory change) old new = new.affected ≡ old.affected
+Affects unchanged old new = new.affected ≡ old.affected
+
+-- What a change of rows, made or tried, makes known of the watched queries that it outdates.
+pub record TellsChange (old : Kept) (outcome : RowsOutcome) (new : Kept) (before now : ℕ) : Type 0
+  where
+    pub deltas : List Delta
+    pub listed : ListsDeltas (old.store).relations (queries_affected old) (tried outcome) deltas
+    pub counted : now ≤ before + deltas_steps (tried outcome) deltas
+    pub affected : Affects outcome old new
+    pub logs : IfAccepted outcome
+        (λ change. LogsTell new (affected_of old.registered change) deltas)
+    -- where memory was refused, the logs of the queries that it would outdate tell of nothing
+    pub discards : IfOutOfMemory outcome (λ change. (id : QueryId)
+        → IsSomeAnd (registered_at old.registered id) (λ r. is_outdated change r.query ≡ true)
+        → told_at new id ≡ Some [])
+    -- the logs of all others tell what they told
+    pub stays : (id : QueryId) → IsSomeAnd (registered_at old.registered id)
+        (λ r. reaches outcome r ≡ false) → told_at new id ≡ told_at old id
 
 -- A query is enrolled last, unwatched, where it was registered.
 abbrev pub Enrols : List Registered → Query → Result QueryOutcome Refusal → List Registered → Type 0
 Enrols old q (Ok (HasRegistered most)) new =
     (id : QueryId) × (registered_at old id ≡ None)
-    × (new ≡ old ++ record { id = id; query = q; watchers = 0 } ∷ [])
+    × (new ≡ old ++ record { id = id; query = a_query q; watchers = 0 } ∷ [])
 Enrols old q _ new = new ≡ old
 
+-- Of a query that was registered no change is told yet. Else what is told of each is as before.
+abbrev pub EnrolsTelling : Kept → Query → Result QueryOutcome Refusal → Kept → Type 0
+EnrolsTelling old q (Ok (HasRegistered most)) new =
+    IsSomeAnd (registered_of new.registered q.name) (λ r. TellsOf old r.id (Some []) new)
+EnrolsTelling old q _ new =
+    (new.affected ≡ old.affected) × ((id : QueryId) → told_at new id ≡ told_at old id)
+
 -- What an update of a query counts at most, where no leaf has more than n tuples before it: for each
--- atom over the relation 16(m + v)(n + 1), with m atoms and v variables, holes counted in.
-abbrev pub bound_in : ℕ → Option Live → ℕ
-bound_in n None = 0
-bound_in n (Some l) = update_bound l n
+-- atom over a relation that changes 16(m + v)(n + 1), with m atoms and v variables, holes counted in.
+abbrev pub update_steps : RowsChange → ℕ → Listed → ℕ
+update_steps change n (a_query q) = length (filter (λ a. change.touches a.relation) q.atoms)
+    * (16 * ((length q.atoms + length (variables_of q.atoms)) * (n + 1)))
 
-abbrev pub update_steps : Kept → Bytes → ℕ → Registered → ℕ
-update_steps k relation n r = length (filter (λ a. bytes_eq a.relation relation) r.query.atoms)
-    * bound_in n (slice_index_or k.places r.id.at None)
+-- No relation has more than n rows that is read by a query that a change outdates.
+abbrev pub AreFew : Kept → RowsChange → ℕ → Type 0
+AreFew k change n = (id : QueryId) (r : Registered) → registered_at k.registered id ≡ Some r
+    → is_outdated change r.query ≡ true → (relation : Bytes) → listed_reads r.query relation ≡ true
+    → length (rows_of (k.store).relations relation) ≤ n
 
--- No relation has more than n rows that is read by a query over this relation.
-abbrev pub AreFew : Kept → Bytes → ℕ → Type 0
-AreFew k relation n = (id : QueryId) (r : Registered) → registered_at k.registered id ≡ Some r
-    → reads r.query relation ≡ true → (a : Atom) → Contains r.query.atoms a
-    → length (rows_of (k.store).relations a.relation) ≤ n
-
--- A change counts so many times at most what the updates of the queries over its relation do.
-pub record CountsUpdates (times : ℕ) (old : Kept) (relation : Bytes) (before now : ℕ) : Type 0 where
-  pub counted : (n : ℕ) → AreFew old relation n → now ≤ before + times
-      * sum_by (update_steps old relation n) (readers_of old.registered relation)
+-- A change counts so many times at most what the updates of the queries do that it outdates.
+pub record CountsUpdates (times : ℕ) (old : Kept) (change : RowsChange) (before now : ℕ) : Type 0
+  where
+    pub counted : (n : ℕ) → AreFew old change n → now ≤ before + times
+        * sum_by (λ r. update_steps change n r.query) (readers_of old.registered change)
 
 -- how often: where memory is refused, rows that were taken in are given back
 abbrev pub add_times : Result AddOutcome Refusal → ℕ

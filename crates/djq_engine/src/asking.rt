@@ -1,7 +1,7 @@
 //! What is asked of registered queries without changing them.
 ghost use Rattle.std.specs.Prelude.{◌≡◌, ◌+◌, ◌≤◌};
-ghost use Rattle.djq_model.specs.Data.{query_of};
-ghost use Rattle.djq_machine.specs.Store.{TellsWhether, has_steps};
+ghost use Rattle.djq_model.specs.Listed.{listed_of};
+ghost use Rattle.djq_machine.specs.Store.{TellsShape, TellsWhether, has_steps};
 ghost use Rattle.djq_engine.specs.Kept.{ExplainGives, IsRegistered, IsThere, AnswerIs};
 ghost use Rattle.djq_engine.specs.Lending.{LendsQuery};
 ghost use Rattle.djq_engine.specs.Whole.{kept_in, IsWhole};
@@ -10,7 +10,7 @@ use crate::cursor::{CursorId, QueryId};
 use crate::lent::LentAnswer;
 use crate::parts::Parts;
 use crate::places::find_query;
-use djq_lines::Refusal;
+use djq_lines::{Refusal, Shape};
 use djq_live::{LiveQuery, answers_are_showable, answers_are_shown};
 use djq_model::{Name, Value};
 use djq_reduct::Answer;
@@ -40,7 +40,7 @@ pub fn has_in<L: Ledgers>(
     requires { IsWhole parts.now }
     ensures tells { TellsWhether (kept_in parts.now).store query.now tuple.now result }
     ensures counted { listing.new ≤ listing.old
-        + has_steps (query_of (kept_in parts.now).store.queries query.now) }
+        + has_steps (listed_of (kept_in parts.now).store.queries query.now) }
 {
     let Some(at) = find_query(parts.queries.as_slice(), query) else {
         return Err(Refusal::NoQuery);
@@ -67,6 +67,20 @@ pub fn explain_in(parts: &Parts, query: &Name) -> Result<Lines, Refusal>
             Ok(lines) => Ok(lines),
             Err(_error) => Err(Refusal::NoMemory),
         },
+        None => unreachable!(),
+    }
+}
+
+/// What bounds an update of a query.
+pub fn shape_in(parts: &Parts, query: &Name) -> Result<Shape, Refusal>
+    requires { IsWhole parts.now }
+    ensures { TellsShape (kept_in parts.now).store query.now result }
+{
+    let Some(at) = find_query(parts.queries.as_slice(), query) else {
+        return Err(Refusal::NoQuery);
+    };
+    match &parts.queries[at] {
+        Some(live) => Ok(live.shape()),
         None => unreachable!(),
     }
 }

@@ -1,20 +1,21 @@
 ghost use Rattle.std.specs.Prelude.{◌≡◌, ◌≤◌, ◌+◌, ◌-◌, ◌<◌, ◌∷◌, ◌++◌, false, [], length, map, option_map, slice_get, IfOk, IsSomeAnd, AllPairs};
-ghost use Rattle.djq_model.specs.Data.{bytes_eq, query_of, rows_of, without_row};
+ghost use Rattle.djq_model.specs.Data.{bytes_eq, rows_of, without_row};
+ghost use Rattle.djq_model.specs.Listed.{listed_name, listed_of};
 ghost use Rattle.djq_lines.specs.declared.limits.TheConstants.{SESSIONS};
 ghost use Rattle.djq_machine.specs.State.{opening};
 ghost use Rattle.djq_machine.specs.Store.{MakesRelation, AddsRow, DeletesRow, RegistersQuery};
-ghost use Rattle.djq_machine.specs.Store.{TellsWhether, has_steps};
-ghost use Rattle.djq_machine.specs.Stale.{add_outdates, add_accepted, delete_outdates};
-ghost use Rattle.djq_engine.specs.Kept.{SameCursors, Outdates, DropGives, OpenGives, NextGives};
+ghost use Rattle.djq_machine.specs.Store.{TellsShape, TellsWhether, has_steps};
+ghost use Rattle.djq_machine.specs.Changes.{row_in, row_out, add_outcome, delete_outcome, tried};
+ghost use Rattle.djq_engine.specs.Kept.{SameCursors, SameTellings, Outdates, DropGives, OpenGives, NextGives};
 ghost use Rattle.djq_engine.specs.Kept.{MoreGives, ClosesCursor, IsHeld, IsFresh, IsThere};
 ghost use Rattle.djq_engine.specs.Kept.{AnswerIs, ExplainGives};
 ghost use Rattle.djq_engine.specs.Kept.{registered_of, registered_at, same_query, IsRegistered};
 ghost use Rattle.djq_engine.specs.Kept.{with_watchers, told_at};
 ghost use Rattle.djq_engine.specs.Lending.{LendsQuery};
-ghost use Rattle.djq_engine.specs.Watching.{TellsChange, Enrols};
+ghost use Rattle.djq_engine.specs.Watching.{TellsChange, Enrols, EnrolsTelling};
 ghost use Rattle.djq_engine.specs.Watching.{CountsUpdates, add_times, delete_times};
 
-use crate::asking::{answer_in, explain_in, has_in, live_in};
+use crate::asking::{answer_in, explain_in, has_in, live_in, shape_in};
 use crate::cursor::{CursorId, QueryId};
 use crate::lent::LentAnswer;
 use crate::parts::Parts;
@@ -25,7 +26,7 @@ use crate::watching::{
     affected_count_in, affected_in, delta_len_in, delta_line_in, laws_in, query_id_in,
     query_name_in, unwatch_in, watch_in, watchers_in,
 };
-use djq_lines::{AddOutcome, DeleteOutcome, QueryOutcome, Refusal, Sign};
+use djq_lines::{AddOutcome, DeleteOutcome, QueryOutcome, Refusal, Shape, Sign};
 use djq_live::{LiveQuery, Next};
 use djq_model::{Name, NoMem, Query, Sequence, Types, Value};
 use djq_reduct::Answer;
@@ -64,6 +65,8 @@ impl Engine {
         ensures store { IfOk result (λ e. e.store ≡ opening.store) }
         ensures cursors { IfOk result (λ e. e.cursors ≡ []) }
         ensures registered { IfOk result (λ e. e.registered ≡ []) }
+        ensures affected { IfOk result (λ e. e.affected ≡ []) }
+        ensures told { IfOk result (λ e. e.told ≡ []) }
     {
         match Catalog::new(alloc) {
             Ok(catalog) => Ok(Engine {
@@ -110,7 +113,7 @@ impl Engine {
     /// The name of a registered query.
     pub fn query_name(&self, id: QueryId) -> Name
         requires { IsRegistered self.now id }
-        ensures { IsSomeAnd (registered_at self.now.registered id) (λ r. result ≡ r.query.name) }
+        ensures { IsSomeAnd (registered_at self.now.registered id) (λ r. result ≡ listed_name r.query) }
     {
         query_name_in(&self.parts, id)
     }
@@ -128,7 +131,7 @@ impl Engine {
     pub fn laws(&self)
         ensures queries { map (λ r. r.query) self.now.registered ≡ self.now.store.queries }
         ensures apart { AllPairs (λ r s. same_query r.id s.id ≡ false) self.now.registered }
-        ensures named { AllPairs (λ r s. bytes_eq r.query.name s.query.name ≡ false)
+        ensures named { AllPairs (λ r s. bytes_eq (listed_name r.query) (listed_name s.query) ≡ false)
             self.now.registered }
     {
         laws_in(&self.parts);
@@ -199,7 +202,7 @@ impl Engine {
         delta_line_in(&self.parts, id, nth)
     }
 
-    /// Makes a relation without rows.
+    /// Makes a relation without rows, of one column at least.
     ///
     /// # Errors
     ///
@@ -207,9 +210,11 @@ impl Engine {
     /// columns and at [`RELATIONS`](djq_lines::limits::RELATIONS) relations; `NoMemory` out of
     /// memory. Nothing has changed.
     pub fn rel(&mut self, name: Name, types: Types) -> Result<(), Refusal>
+        requires { 0 < length types }
         ensures makes { MakesRelation self.old.store name types result self.new.store }
         ensures cursors { SameCursors self.old.cursors self.new.cursors }
         ensures registered { self.new.registered ≡ self.old.registered }
+        ensures tellings { SameTellings self.old self.new }
     {
         rel_in(&mut self.parts, name, types)
     }
@@ -234,13 +239,15 @@ impl Engine {
         steps: &mut Steps<L>,
     ) -> Result<AddOutcome, Refusal>
         ensures adds { AddsRow self.old.store name.now row.now result self.new.store }
-        ensures outdates { Outdates self.old name.now (add_outdates result) self.new }
+        ensures outdates { Outdates self.old
+            (tried (add_outcome (row_in self.old.store.relations name.now row.now) result))
+            self.new }
         ensures watches { self.new.registered ≡ self.old.registered }
-        ensures tells { TellsChange self.old name.now
-            (rows_of self.old.store.relations name.now ++ row.now ∷ [])
-            (add_outdates result) (add_accepted result) self.new
+        ensures tells { TellsChange self.old
+            (add_outcome (row_in self.old.store.relations name.now row.now) result) self.new
             steps.old.listing steps.new.listing }
-        ensures updates { CountsUpdates (add_times result) self.old name.now
+        ensures updates { CountsUpdates (add_times result) self.old
+            (row_in self.old.store.relations name.now row.now)
             steps.old.update steps.new.update }
     {
         add_in(&mut self.parts, name, row, steps)
@@ -261,13 +268,15 @@ impl Engine {
         steps: &mut Steps<L>,
     ) -> Result<DeleteOutcome, Refusal>
         ensures deletes { DeletesRow self.old.store name.now row.now result self.new.store }
-        ensures outdates { Outdates self.old name.now (delete_outdates result) self.new }
+        ensures outdates { Outdates self.old
+            (tried (delete_outcome (row_out self.old.store.relations name.now row.now) result))
+            self.new }
         ensures watches { self.new.registered ≡ self.old.registered }
-        ensures tells { TellsChange self.old name.now
-            (without_row (rows_of self.old.store.relations name.now) row.now)
-            (delete_outdates result) (delete_outdates result) self.new
+        ensures tells { TellsChange self.old
+            (delete_outcome (row_out self.old.store.relations name.now row.now) result) self.new
             steps.old.listing steps.new.listing }
-        ensures updates { CountsUpdates (delete_times result) self.old name.now
+        ensures updates { CountsUpdates (delete_times result) self.old
+            (row_out self.old.store.relations name.now row.now)
             steps.old.update steps.new.update }
     {
         del_in(&mut self.parts, name, row, steps)
@@ -291,6 +300,7 @@ impl Engine {
         ensures registers { RegistersQuery self.old.store query result self.new.store }
         ensures cursors { SameCursors self.old.cursors self.new.cursors }
         ensures enrols { Enrols self.old.registered query result self.new.registered }
+        ensures tellings { EnrolsTelling self.old query result self.new }
         ensures counted { steps.new.listing ≡ steps.old.listing }
     {
         query_in(&mut self.parts, query, steps)
@@ -358,7 +368,7 @@ impl Engine {
     ) -> Result<bool, Refusal>
         ensures tells { TellsWhether self.now.store query.now tuple.now result }
         ensures counted { listing.new ≤ listing.old
-            + has_steps (query_of self.now.store.queries query.now) }
+            + has_steps (listed_of self.now.store.queries query.now) }
     {
         has_in(&self.parts, query, tuple, listing)
     }
@@ -388,5 +398,17 @@ impl Engine {
         ensures { ExplainGives self.now.store query.now result }
     {
         explain_in(&self.parts, query)
+    }
+
+    /// What bounds an update of a query: `Flat` exactly where the query is flat, and then it is the
+    /// same whatever the rows.
+    ///
+    /// # Errors
+    ///
+    /// `NoQuery` where none has the name. It takes no memory.
+    pub fn shape(&self, query: &Name) -> Result<Shape, Refusal>
+        ensures { TellsShape self.now.store query.now result }
+    {
+        shape_in(&self.parts, query)
     }
 }

@@ -1,4 +1,48 @@
-//! The relations, the registered queries and their cursors.
+//! The engine: relations with their rows, the registered queries, cursors over their answers, and
+//! how these answers changed last. A command of the protocol that reads or changes data is one
+//! call.
+//!
+//! An [`Engine`] is what the join machine calls the store, in code. [`Engine::rel`],
+//! [`Engine::add`], [`Engine::del`], [`Engine::query`] and [`Engine::drop_query`] change it,
+//! [`Engine::open`], [`Engine::next`], [`Engine::more`] and [`Engine::close`] serve cursors, and
+//! [`Engine::has`] and [`Engine::explain`] ask. Each is refused by the first condition that holds,
+//! or does what djq_machine says (`specs/Store.antt`). Behind a change [`Engine::affected`] tells
+//! which queries read its relation, and [`Engine::delta_line`] the answers of each that came or
+//! went. Contracts see one record, `Kept` (`specs/Kept.antt`).
+//!
+//! It knows no session, no bytes and no names of cursors, and it sends nothing. It counts how many
+//! watch a query, and not who. How a query is judged, kept and listed is djq_live's.
+//!
+//! What surprises: an `add` that finds no memory leaves all rows as they were, yet the cursors over
+//! its relation are stale behind it, the logs of the queries that read it are empty, and texts that
+//! became known stay so. A log tells the last change of a relation that its query reads, so it is
+//! to be read before the next one. An id may come again once its query is dropped or its cursor
+//! closed. A stale cursor keeps its query from being dropped, as an open one does.
+//!
+//! ```text
+//! q(x,y) <- r(x,y), s(y,_)     p(x) <- r(x,_)     q is watched, and s has (5,9)
+//!
+//! place      query  watchers  log         readers of r: 0, 1     of s: 0
+//!     0      q             1  + 4 5       order of registration: 0, 1
+//!     1      p             0  -
+//!     2      vacant                       a query was dropped here
+//!
+//! add r 4 5     r takes the row; then places 0 and 1 take it into their leaves, and place 0 logs
+//!               that (4,5) came; no other place is looked at; open cursors on q and p are stale
+//! ```
+//!
+//! Inside, `parts` has what is kept side by side, and each call is a few lines over it. A change of
+//! rows goes through `judge`, whether the row may come or go, which changes nothing; `change`, the
+//! catalog first; and `reach`, the queries that read the relation, one after another. Where one of
+//! them finds no memory, those before it give the row back, and so does the catalog.
+//!
+//! A read of a cursor is bounded by the head alone, since just the free-connex queries are
+//! registered (Bagan, Durand, Grandjean, *On acyclic conjunctive queries and constant delay
+//! enumeration*, CSL 2007), and a change by a multiple of the rows (Idris, Ugarte, Vansummeren,
+//! *The dynamic Yannakakis algorithm*, SIGMOD 2017). That both are constant is possible for
+//! q-hierarchical queries, and for no others without self-joins, unless a conjecture on
+//! matrix-vector products is wrong (Berkholz, Keppeler, Schweikardt, *Answering conjunctive queries
+//! under updates*, PODS 2017).
 #![tactic(auto)]
 
 pub use cursor::{CursorId, QueryId};

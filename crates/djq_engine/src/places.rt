@@ -44,7 +44,7 @@ pub fn vacant_place(
     ensures vacant { IfOk result (λ at. place_at queries.new.items at ≡ None) }
     ensures same { SamePlaces queries.old.items queries.new.items }
     ensures watchers { SameWatchers watchers.old.items watchers.new.items }
-    ensures logs { SameLogs logs.old.items logs.new.items }
+    ensures logs { SameLogs queries.old.items logs.old.items logs.new.items }
     ensures watched { length watchers.new.items ≡ length queries.new.items }
     ensures logged { length logs.new.items ≡ length queries.new.items }
 {

@@ -7,7 +7,7 @@ ghost use Rattle.djq_engine.specs.Kept.{SameCursors, DropGives};
 ghost use Rattle.djq_engine.specs.Places.{place_at};
 ghost use Rattle.djq_engine.specs.Placing.{JoinsReaders, JoinsSome};
 ghost use Rattle.djq_engine.specs.Registering.{Registers, SameParts};
-ghost use Rattle.djq_engine.specs.Watching.{Enrols};
+ghost use Rattle.djq_engine.specs.Watching.{Enrols, EnrolsTelling};
 ghost use Rattle.djq_engine.specs.Whole.{kept_in, IsWhole, IsTended};
 
 use crate::parts::Parts;
@@ -131,6 +131,7 @@ pub fn query_in<L: Ledgers>(
     ensures cursors { SameCursors (kept_in parts.old).cursors (kept_in parts.new).cursors }
     ensures enrols { Enrols (kept_in parts.old).registered query result
         (kept_in parts.new).registered }
+    ensures tellings { EnrolsTelling (kept_in parts.old) query result (kept_in parts.new) }
     ensures counted { steps.new.listing ≡ steps.old.listing }
 {
     live_stays();

@@ -2,8 +2,8 @@
 ghost use Rattle.std.specs.Prelude.{◌≡◌, ◌<◌, [], ◌∷◌, ◌++◌, ⊤, length};
 ghost use Rattle.djq_model.specs.Data.{rows_of, without_row};
 ghost use Rattle.djq_machine.specs.Store.{MakesRelation, AddsRow, DeletesRow};
-ghost use Rattle.djq_machine.specs.Stale.{add_outdates, add_accepted, delete_outdates};
-ghost use Rattle.djq_engine.specs.Kept.{Outdates, SameCursors};
+ghost use Rattle.djq_machine.specs.Changes.{row_in, row_out, add_outcome, delete_outcome, tried};
+ghost use Rattle.djq_engine.specs.Kept.{Outdates, SameCursors, SameTellings};
 ghost use Rattle.djq_engine.specs.Places.{readers_at};
 ghost use Rattle.djq_engine.specs.Sound.{AreOnce};
 ghost use Rattle.djq_engine.specs.Reaching.{AllAt};
@@ -49,14 +49,16 @@ pub fn add_in<L: Ledgers>(
     ensures tended { IsTended parts.new }
     ensures adds { AddsRow (kept_in parts.old).store name.now row.now result
         (kept_in parts.new).store }
-    ensures outdates { Outdates (kept_in parts.old) name.now (add_outdates result)
+    ensures outdates { Outdates (kept_in parts.old)
+        (tried (add_outcome (row_in (kept_in parts.old).store.relations name.now row.now) result))
         (kept_in parts.new) }
     ensures watches { (kept_in parts.new).registered ≡ (kept_in parts.old).registered }
-    ensures tells { TellsChange (kept_in parts.old) name.now
-        (rows_of (kept_in parts.old).store.relations name.now ++ row.now ∷ [])
-        (add_outdates result) (add_accepted result) (kept_in parts.new)
+    ensures tells { TellsChange (kept_in parts.old)
+        (add_outcome (row_in (kept_in parts.old).store.relations name.now row.now) result)
+        (kept_in parts.new)
         steps.old.listing steps.new.listing }
-    ensures updates { CountsUpdates (add_times result) (kept_in parts.old) name.now
+    ensures updates { CountsUpdates (add_times result) (kept_in parts.old)
+        (row_in (kept_in parts.old).store.relations name.now row.now)
         steps.old.update steps.new.update }
 {
     names_tell();
@@ -99,14 +101,16 @@ pub fn del_in<L: Ledgers>(
     ensures tended { IsTended parts.new }
     ensures deletes { DeletesRow (kept_in parts.old).store name.now row.now result
         (kept_in parts.new).store }
-    ensures outdates { Outdates (kept_in parts.old) name.now (delete_outdates result)
+    ensures outdates { Outdates (kept_in parts.old)
+        (tried (delete_outcome (row_out (kept_in parts.old).store.relations name.now row.now) result))
         (kept_in parts.new) }
     ensures watches { (kept_in parts.new).registered ≡ (kept_in parts.old).registered }
-    ensures tells { TellsChange (kept_in parts.old) name.now
-        (without_row (rows_of (kept_in parts.old).store.relations name.now) row.now)
-        (delete_outdates result) (delete_outdates result) (kept_in parts.new)
+    ensures tells { TellsChange (kept_in parts.old)
+        (delete_outcome (row_out (kept_in parts.old).store.relations name.now row.now) result)
+        (kept_in parts.new)
         steps.old.listing steps.new.listing }
-    ensures updates { CountsUpdates (delete_times result) (kept_in parts.old) name.now
+    ensures updates { CountsUpdates (delete_times result) (kept_in parts.old)
+        (row_out (kept_in parts.old).store.relations name.now row.now)
         steps.old.update steps.new.update }
 {
     names_tell();
@@ -130,12 +134,14 @@ pub fn del_in<L: Ledgers>(
 pub fn rel_in(parts: &mut Parts, name: Name, types: Types) -> Result<(), Refusal>
     requires whole { IsWhole parts.old }
     requires tended { IsTended parts.old }
+    requires some { 0 < length types }
     ensures whole { IsWhole parts.new }
     ensures tended { IsTended parts.new }
     ensures makes { MakesRelation (kept_in parts.old).store name types result
         (kept_in parts.new).store }
     ensures cursors { SameCursors (kept_in parts.old).cursors (kept_in parts.new).cursors }
     ensures registered { (kept_in parts.new).registered ≡ (kept_in parts.old).registered }
+    ensures tellings { SameTellings (kept_in parts.old) (kept_in parts.new) }
 {
     live_stays();
     if parts.catalog.id(&name).is_some() {

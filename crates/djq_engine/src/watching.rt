@@ -1,6 +1,7 @@
 //! Sessions that watch queries, and how the answers of these changed last.
 ghost use Rattle.std.specs.Prelude.{◌≡◌, ◌<◌, ◌+◌, ◌-◌, Some, IsSomeAnd, option_map, false, map, AllPairs, length, slice_get};
 ghost use Rattle.djq_model.specs.Data.{bytes_eq};
+ghost use Rattle.djq_model.specs.Listed.{listed_name};
 ghost use Rattle.djq_lines.specs.declared.limits.TheConstants.{SESSIONS};
 ghost use Rattle.djq_engine.specs.Kept.{registered_of, registered_at, same_query, IsRegistered, with_watchers, told_at};
 ghost use Rattle.djq_engine.specs.Lending.{sign_of};
@@ -31,7 +32,7 @@ pub fn query_name_in(parts: &Parts, id: QueryId) -> Name
     requires whole { IsWhole parts.now }
     requires registered { IsRegistered (kept_in parts.now) id }
     ensures { IsSomeAnd (registered_at (kept_in parts.now).registered id)
-        (λ r. result ≡ r.query.name) }
+        (λ r. result ≡ listed_name r.query) }
 {
     match &parts.queries[id.at] {
         Some(live) => live.query().name,
@@ -46,7 +47,7 @@ pub fn laws_in(parts: &Parts)
     ensures queries { map (λ r. r.query) (kept_in parts.now).registered
         ≡ (kept_in parts.now).store.queries }
     ensures apart { AllPairs (λ r s. same_query r.id s.id ≡ false) (kept_in parts.now).registered }
-    ensures named { AllPairs (λ r s. bytes_eq r.query.name s.query.name ≡ false)
+    ensures named { AllPairs (λ r s. bytes_eq (listed_name r.query) (listed_name s.query) ≡ false)
         (kept_in parts.now).registered }
 {}
 

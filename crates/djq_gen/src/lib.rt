@@ -13,11 +13,15 @@
 //! add r 0 1                              add r 0 1        (5 changes, seed 1)
 //! ```
 //!
+//! It runs nothing, and asks nothing of what a line is answered: a row may be added twice, or
+//! deleted where it isn't there. djq_load runs the lines.
+//!
 //! The surprise: it ends with its last change, or with the cursor's lines after it. Whoever runs a
 //! load opens the last cursor and reads it to its end.
 //!
-//! It takes no memory: a line is written into a buffer of the caller's, with its line end, and a
-//! load is five numbers and what is due next.
+//! Inside, a load is four numbers and what is due next: three draws make a change, and behind each
+//! hundredth a cursor is opened, read and closed. It takes no memory: a line is written into a
+//! buffer of the caller's, with its line end.
 #![tactic(auto)]
 
 mod draw;

@@ -1,5 +1,7 @@
 pub mod Members
 pub mod Owning
+pub mod Flatness
+pub mod Rising
 pub mod Words
 pub mod Bags
 pub mod Counting

@@ -2,6 +2,7 @@ pub mod Hypergraph
 pub mod Variables
 pub mod JoinTree
 pub mod Checking
+pub mod Flat
 pub mod Gyo
 pub mod Refusing
 pub mod Masks

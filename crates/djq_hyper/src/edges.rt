@@ -21,6 +21,17 @@ impl Model for Edges {
     ghost view = { λ e. e.sets.items };
 }
 
+/// The variables that lie in one of the sets.
+pub(crate) fn variables(sets: &[VarSet]) -> VarSet
+    ensures { (x : ℕ) → member x result ≡ nat_lt 0 (degree x sets.now) }
+{
+    let mut all = VarSet::new();
+    'sets: for i in 0..sets.len() {
+        all = all.union(sets[i]);
+    }
+    all
+}
+
 impl Edges {
     /// The list of no edge, which takes no memory.
     pub fn new(alloc: Global) -> Edges
@@ -89,11 +100,7 @@ impl Edges {
     pub fn variables(&self) -> VarSet
         ensures { (x : ℕ) → member x result ≡ nat_lt 0 (degree x self.now) }
     {
-        let mut all = VarSet::new();
-        'edges: for i in 0..self.sets.len() {
-            all = all.union(self.sets[i]);
-        }
-        all
+        variables(&self.sets)
     }
 
     /// Whether each variable of the set lies in an edge.

@@ -16,6 +16,7 @@
 
 mod check;
 mod edges;
+mod flat;
 mod join_tree;
 mod names;
 mod own;
@@ -24,6 +25,7 @@ mod var_set;
 
 pub use check::check_join_tree;
 pub use edges::Edges;
+pub use flat::is_flat;
 pub use join_tree::{JoinTree, Link};
 pub use names::Names;
 pub use own::own_variables;

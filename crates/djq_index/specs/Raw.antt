@@ -1,8 +1,8 @@
 -- A table's parts: its tuples as the rows of an arena, a note for each slot, and for each group a head.
-use Rattle.std.specs.Prelude.{◌≡◌, ◌≢◌, ◌⊎◌, ⊤, ℕ, ◌<◌, ◌≤◌, ◌==◌, true, false, cond, List, [], ◌∷◌, ◌++◌, map, length, slice_index, slice_index_or, slice_set, Option, Some, None}
+use Rattle.std.specs.Prelude.{◌≡◌, ◌≢◌, ◌⊎◌, ⊤, ℕ, ◌<◌, ◌≤◌, ◌==◌, true, false, cond, List, [], ◌∷◌, ◌++◌, map, length, slice_index, slice_index_or, slice_set, vec_capacity, Option, Some, None}
 use Rattle.djq_arena.specs.declared.chain.Pair.{Pair}
 use Rattle.djq_arena.specs.declared.chain.Ends.{Ends}
-use Rattle.djq_arena.specs.Rows.{Row, Rows, AreRows, IsAbsent, IsRow}
+use Rattle.djq_arena.specs.Rows.{Row, Rows, AreRows, IsAbsent, IsRow, IsFull}
 use Rattle.djq_arena.specs.Chains.{Linked, first_of, pair_at, entered}
 use Rattle.djq_arena.specs.Store.{ends_of, extended, beside}
 use Rattle.djq_index.specs.declared.place.Place.{Place}
@@ -97,6 +97,14 @@ pub record AreHeads (r : Raw) : Type 0 where
 pub record IsRaw (r : Raw) : Type 0 where
   pub bare : IsBare r
   pub heads : r.kind ≡ Keyed → AreHeads r
+
+-- no slot is free for a head, or the buffer is too short for its cells
+abbrev pub HasNoRoomForHead : Raw → Type 0
+HasNoRoomForHead r = IsFull r.keys ⊎ (vec_capacity r.cells < length r.key.items)
+
+-- no slot is free for a tuple, or none for the head of its group
+abbrev pub HasNoRoom : Raw → Type 0
+HasNoRoom r = IsFull r.rows ⊎ ((r.kind ≡ Keyed) × HasNoRoomForHead r)
 
 -- the place of a slot, if any
 abbrev pub place_of : Option ℕ → Option Place

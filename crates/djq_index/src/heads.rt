@@ -1,7 +1,7 @@
-ghost use Rattle.std.specs.Prelude.{◌≡◌, ◌≢◌, ℕ, ◌+◌, ◌<◌, ◌≤◌, List, [], ◌∷◌, ◌++◌, length, slice_set, slice_index, IfOk, OnErr, Some, None};
+ghost use Rattle.std.specs.Prelude.{◌≡◌, ◌≢◌, ℕ, ◌+◌, ◌<◌, ◌≤◌, List, [], ◌∷◌, ◌++◌, length, slice_set, slice_index, vec_capacity, IfOk, OnErr, Some, None};
 ghost use Rattle.djq_arena.specs.Chains.{pair_at, entered, left, IsWithin};
 ghost use Rattle.djq_arena.specs.Store.{extended, shrunk};
-ghost use Rattle.djq_arena.specs.Rows.{Row, AreRows, IsHeld};
+ghost use Rattle.djq_arena.specs.Rows.{Row, AreRows, IsHeld, IsFull};
 ghost use Rattle.djq_index.specs.Tuple.{pick};
 ghost use Rattle.djq_index.specs.Table.{AreColumns};
 ghost use Rattle.djq_index.specs.Raw.{ends_at};
@@ -77,11 +77,13 @@ fn cell_at(tuple: &[u64], column: usize) -> u64
 /// Writes the cells of a tuple's key into a buffer.
 pub fn project(cells: &mut Vec<u64>, key: &[usize], tuple: &[u64]) -> Result<(), AllocError>
     requires { AreColumns (length tuple.now) key.now }
-    ensures { IfOk result (λ _. cells.new.items ≡ pick key.now tuple.now) }
+    ensures picked { IfOk result (λ _. cells.new.items ≡ pick key.now tuple.now) }
+    ensures full { OnErr result (vec_capacity cells.old < length key.now) }
 {
     cells.clear();
+    cells.reserve(key.len())?;
     for column in key {
-        cells.push(cell_at(tuple, *column))?;
+        cells.push_reserved(cell_at(tuple, *column));
     }
     Ok(())
 }
@@ -100,8 +102,11 @@ pub fn found(keys: &mut Arena, ends: &mut Vec<Ends>, cells: &[u64]) -> Result<u3
     ensures founded { IfOk result (λ head. keys.new.rows ≡ keys.old.rows ++ record { slot = head; cells = cells.now } ∷ []) }
     ensures blank { IfOk result (λ head. ends_at ends.new.items head ≡ record { first = None; last = None }) }
     ensures others { IfOk result (λ head. (k : ℕ) → k ≢ head → ends_at ends.new.items k ≡ ends_at ends.old.items k) }
+    ensures full { OnErr result (IsFull keys.old) }
 {
-    ends.reserve(1)?;
+    if keys.is_full() {
+        ends.reserve(1)?;
+    }
     let head = keys.push(cells)?;
     keys.laws();
     if head as usize >= ends.len() {

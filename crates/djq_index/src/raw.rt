@@ -1,11 +1,11 @@
-ghost use Rattle.std.specs.Prelude.{◌≡◌, ℕ, ◌+◌, ◌-◌, ◌<◌, ◌≤◌, List, [], ◌∷◌, ◌++◌, length, max, slice_set, vec_len, vec_capacity, IfOk, OnErr, MatchOption, Some, None};
+ghost use Rattle.std.specs.Prelude.{◌≡◌, ℕ, ◌+◌, ◌-◌, ◌<◌, ◌≤◌, ◌⊎◌, List, [], ◌∷◌, ◌++◌, length, max, slice_set, vec_len, vec_capacity, IfOk, OnErr, MatchOption, Some, None};
 ghost use Rattle.djq_arena.specs.Chains.{pair_at, IsWithin, first_of};
-ghost use Rattle.djq_arena.specs.Rows.{Row, AreRows, IsHeld};
+ghost use Rattle.djq_arena.specs.Rows.{Row, AreRows, IsHeld, IsFull};
 ghost use Rattle.djq_index.specs.Tuple.{pick};
 ghost use Rattle.djq_index.specs.Entries.{Entry, supp, cnt, grp, marks, is_marked, unmarked, head_at, last_at};
 ghost use Rattle.djq_index.specs.Table.{IsAt, IsLive, IsUnmarked, IsRaisable, IsLowerable, AreColumns};
 ghost use Rattle.djq_index.specs.Changes.{Inserted, Removed, Touched, Supported};
-ghost use Rattle.djq_index.specs.Raw.{IsRaw, IsBare, AreHeads, IsNoted, IsMarked, entries_of, slots_at, place_of, note_at, ends_at, IsSeat, IsSettled, passed, entries_in, AreTrailing, without_mark};
+ghost use Rattle.djq_index.specs.Raw.{IsRaw, IsBare, AreHeads, IsNoted, IsMarked, entries_of, slots_at, place_of, note_at, ends_at, IsSeat, IsSettled, passed, entries_in, AreTrailing, without_mark, HasNoRoom, HasNoRoomForHead};
 ghost use Rattle.djq_arena.specs.Store.{ends_of, beside};
 
 use crate::heads::{found, join, part, project, prune};
@@ -117,10 +117,10 @@ fn set_note(notes: &mut Vec<Note>, slot: u32, note: Note)
     notes[slot as usize] = note;
 }
 
-/// Makes sure that a slot has a note. There is room for one more.
+/// Makes sure that a slot has a note. There is room for one more where it has none.
 fn cover_notes(notes: &mut Vec<Note>, slot: u32)
     requires slot { slot ≤ length notes.old.items }
-    requires room { vec_len notes.old < vec_capacity notes.old }
+    requires room { slot < length notes.old.items ⊎ vec_len notes.old < vec_capacity notes.old }
     ensures covered { slot < length notes.new.items }
     ensures longer { length notes.old.items ≤ length notes.new.items }
     ensures same { (k : ℕ) → note_at notes.new.items k ≡ note_at notes.old.items k }
@@ -134,10 +134,10 @@ fn cover_notes(notes: &mut Vec<Note>, slot: u32)
     }
 }
 
-/// Makes sure that a slot has neighbours. There is room for one more.
+/// Makes sure that a slot has neighbours. There is room for one more where it has none.
 fn cover_links(links: &mut Vec<Pair>, slot: u32)
     requires slot { slot ≤ length links.old.items }
-    requires room { vec_len links.old < vec_capacity links.old }
+    requires room { slot < length links.old.items ⊎ vec_len links.old < vec_capacity links.old }
     ensures covered { slot < length links.new.items }
     ensures longer { length links.old.items ≤ length links.new.items }
     ensures same { (k : ℕ) → pair_at links.new.items k ≡ pair_at links.old.items k }
@@ -166,8 +166,12 @@ fn lay(rows: &mut Arena, notes: &mut Vec<Note>, tuple: &[u64]) -> Result<u32, Al
     ensures refused { OnErr result (rows.new.rows ≡ rows.old.rows) }
     ensures laid { IfOk result (λ slot. rows.new.rows ≡ rows.old.rows ++ record { slot = slot; cells = tuple.now } ∷ []) }
     ensures same_notes { (k : ℕ) → note_at notes.new.items k ≡ note_at notes.old.items k }
+    ensures reused { IfOk result (λ slot. ¬ IsFull rows.old → slot < rows.old.room) }
+    ensures full { OnErr result (IsFull rows.old) }
 {
-    notes.reserve(1)?;
+    if rows.is_full() {
+        notes.reserve(1)?;
+    }
     let slot = rows.push(tuple)?;
     rows.laws();
     cover_notes(notes, slot);
@@ -195,8 +199,11 @@ fn lay_linked(
     ensures same_notes { (k : ℕ) → note_at notes.new.items k ≡ note_at notes.old.items k }
     ensures same_links { (k : ℕ) → pair_at links.new.items k ≡ pair_at links.old.items k }
     ensures longer { length links.old.items ≤ length links.new.items }
+    ensures full { OnErr result (IsFull rows.old) }
 {
-    links.reserve(1)?;
+    if rows.is_full() {
+        links.reserve(1)?;
+    }
     let slot = lay(rows, notes, tuple)?;
     cover_links(links, slot);
     Ok(slot)
@@ -221,6 +228,7 @@ fn seat(
     ensures seated { IfOk result (λ head. IsSeat keys.old.rows keys.new.rows ends.old.items ends.new.items head (pick key.now tuple.now)) }
     ensures refused { OnErr result (keys.new.rows ≡ keys.old.rows) }
     ensures refused_ends { OnErr result ((k : ℕ) → ends_at ends.new.items k ≡ ends_at ends.old.items k) }
+    ensures full { OnErr result (IsFull keys.old ⊎ vec_capacity cells.old < length key.now) }
 {
     project(cells, key, tuple)?;
     match keys.find(cells.as_slice()) {
@@ -330,6 +338,7 @@ fn insert_keyed(raw: &mut Raw, tuple: &[u64]) -> Result<Place, AllocError>
     ensures inserted { IfOk result (λ p. Inserted raw.old.key.items (entries_of raw.old) (entries_of raw.new) tuple.now) }
     ensures at { IfOk result (λ p. IsAt (entries_of raw.new) p tuple.now) }
     ensures refused { OnErr result (entries_of raw.new ≡ entries_of raw.old) }
+    ensures full { OnErr result (IsFull raw.old.rows ⊎ HasNoRoomForHead raw.old) }
     ensures kind { raw.new.kind ≡ raw.old.kind }
     ensures key { raw.new.key.items ≡ raw.old.key.items }
     ensures width { raw.new.rows.width ≡ raw.old.rows.width }
@@ -363,6 +372,7 @@ fn insert_bare(raw: &mut Raw, tuple: &[u64]) -> Result<Place, AllocError>
     ensures inserted { IfOk result (λ p. Inserted raw.old.key.items (entries_of raw.old) (entries_of raw.new) tuple.now) }
     ensures at { IfOk result (λ p. IsAt (entries_of raw.new) p tuple.now) }
     ensures refused { OnErr result (entries_of raw.new ≡ entries_of raw.old) }
+    ensures full { OnErr result (IsFull raw.old.rows) }
     ensures kind { raw.new.kind ≡ raw.old.kind }
     ensures key { raw.new.key.items ≡ raw.old.key.items }
     ensures width { raw.new.rows.width ≡ raw.old.rows.width }
@@ -382,6 +392,7 @@ pub fn insert_in(raw: &mut Raw, tuple: &[u64]) -> Result<Place, AllocError>
     ensures inserted { IfOk result (λ p. Inserted raw.old.key.items (entries_of raw.old) (entries_of raw.new) tuple.now) }
     ensures at { IfOk result (λ p. IsAt (entries_of raw.new) p tuple.now) }
     ensures refused { OnErr result (entries_of raw.new ≡ entries_of raw.old) }
+    ensures full { OnErr result (HasNoRoom raw.old) }
     ensures key { raw.new.key.items ≡ raw.old.key.items }
     ensures width { raw.new.rows.width ≡ raw.old.rows.width }
 {

@@ -5,12 +5,23 @@
 //! nanoseconds a call. KIND is `table`, `hash` or `tree`; the two maps hold the tuples' first and
 //! last cells, and know no groups. GROUP is the number of tuples of a group, or `half`: one group
 //! with half of all tuples, and each other tuple alone. With other words it prints how it is used.
-//! The bytes are to be read from outside, as the peak of a run.
 //!
-//! Look-ups go through the tuples once as they came and once in another order, and the tuples of a
-//! group came one by one between those of others, so that neither cells nor links are met in the
-//! order of memory. `fill`, `touch` and `remove` find the tuple first, as every caller does; a
-//! map's calls do so by themselves.
+//! ```text
+//! djq_index_bench table 1000000 2 1 8      a million pairs, eight of each first cell
+//! djq_index_bench hash 1000000 2 1 8       the same in a hash map
+//! djq_index_bench table 1000000 2 1 half   whether a long group makes the others slow
+//! ```
+//!
+//! What it isn't: nothing is proved of what it prints, and it measures no memory. The bytes are to
+//! be read from outside, as the peak of a run.
+//!
+//! What surprises: look-ups go through the tuples once as they came and once in another order, and
+//! the tuples of a group came one by one between those of others, so that neither cells nor links
+//! are met in the order of memory. `fill`, `touch` and `remove` find the tuple first, as every
+//! caller does; a map's calls do so by themselves.
+//!
+//! Inside, `load` says which tuples there are and in which order, `calls` measures what every
+//! container does, over a trait that `rows` and `maps` meet, and `groups` what a table alone has.
 #![tactic(auto)]
 
 mod calls;

@@ -1,57 +1,18 @@
 -- A listing and a delta come to a listing.
-use Rattle.std.specs.Prelude.{suc, List, [], ◌∷◌, ◌≡◌, ◌++◌, ◌⊎◌, Bool, true, false, not, cond, filter, map, All, AllPairs, Contains}
-use Rattle.std.proofs.Common.{refl, ap, ◌∙◌, subst, inl, inr, arith}
+use Rattle.std.specs.Prelude.{List, [], ◌∷◌, ◌≡◌, ◌⊎◌, Bool, true, false, not, cond, filter, map, All, AllPairs, Contains}
+use Rattle.std.proofs.Common.{refl, ap, ◌∙◌, subst, inl, inr}
 use Rattle.std.proofs.lemmas.List.Elements.{All-nil, All-cons, All-head, All-tail, All-append, All-contains, Contains-append_left, Contains-append_right}
 use Rattle.std.proofs.lemmas.List.Kept.{AllPairs-filter, AllPairs-cons}
-use Rattle.djq_model.specs.Data.{Tuple, tuple_eq, has_row}
-use Rattle.djq_model.specs.Answer.{IsAnswer, IsListing}
-use Rattle.djq_model.specs.Equality.{tuple_eq-decides}
+use Rattle.djq_model.specs.Data.{Tuple, has_row}
+use Rattle.djq_model.specs.Answer.{IsListing}
+use Rattle.djq_model.specs.Listed.{AnswersOf}
 use Rattle.djq_lines.specs.declared.answer.Sign.{Sign}
 use Rattle.djq_lines.specs.declared.answer.Sign.TheVariants.{Came, Went}
 use Rattle.djq_machine.specs.Delta.{Change, HasChanged, IsDelta}
 use Rattle.djq_laws.specs.Added.{same_sign, of_sign, added_up, DeltasAddUp}
-use Rattle.djq_laws.proofs.Containing.{nothing_there, first_or_later, first_there, later_there, kept_there}
-use Rattle.djq_laws.proofs.Deciding.{Decided, answer_decided}
-
--- whether a row is among rows
-pub row_found : (ts : List Tuple) (t : Tuple) → Contains ts t → has_row ts t ≡ true
-row_found [] t h = absurd (nothing_there t h)
-row_found (r ∷ rs) t h = step (first_or_later r rs t h) (tuple_eq r t) refl (λ k. row_found rs t k)
-  where
-    step : (r ≡ t) ⊎ Contains rs t → (b : Bool) → tuple_eq r t ≡ b → (Contains rs t → has_row rs t ≡ true) → cond b true (has_row rs t) ≡ true
-    step o true e more = refl
-    step (inl same) false e more = let yes : tuple_eq r t ≡ true = (tuple_eq-decides r t).1 same in absurd (cc (yes, e))
-    step (inr k) false e more = more k
-
-pub row_there : (ts : List Tuple) (t : Tuple) → has_row ts t ≡ true → Contains ts t
-row_there [] t h = absurd (cc)
-row_there (r ∷ rs) t h = step (tuple_eq r t) refl h (λ k. row_there rs t k)
-  where
-    step : (b : Bool) → tuple_eq r t ≡ b → cond b true (has_row rs t) ≡ true → (has_row rs t ≡ true → Contains rs t) → Contains (r ∷ rs) t
-    step true e k more = first_there r rs t ((tuple_eq-decides r t).0 e)
-    step false e k more = later_there r rs t (more k)
-
--- what a filter keeps
-kept_hold : {A : Type 0} (P Q : A → Type 0) (p : A → Bool) (xs : List A) → ((x : A) → p x ≡ true → P x → Q x) → All P xs → All Q (filter p xs)
-kept_hold P Q p [] f h = All-nil Q
-kept_hold P Q p (x ∷ xs) f h = step (p x) refl (kept_hold P Q p xs f (All-tail P x xs h))
-  where
-    step : (b : Bool) → p x ≡ b → All Q (filter p xs) → All Q (cond b (x ∷ filter p xs) (filter p xs))
-    step true e rest = All-cons Q x (filter p xs) (f x e (All-head P x xs h)) rest
-    step false e rest = rest
-
--- pairs of a list
-pub pairs_head : {A : Type 0} (R : A → A → Type 0) (x : A) (xs : List A) → AllPairs R (x ∷ xs) → All (R x) xs
-pairs_head R x xs h = λ k d lt. h 0 (suc k) d (omega arith) (omega (arith, lt))
-
-pub pairs_tail : {A : Type 0} (R : A → A → Type 0) (x : A) (xs : List A) → AllPairs R (x ∷ xs) → AllPairs R xs
-pairs_tail R x xs h = λ i j d lt within. h (suc i) (suc j) d (omega (arith, lt)) (omega (arith, within))
-
-pairs_join : {A : Type 0} (R : A → A → Type 0) (xs ys : List A) → AllPairs R xs → AllPairs R ys → All (λ x. All (R x) ys) xs → AllPairs R (xs ++ ys)
-pairs_join R [] ys h k apart = k
-pairs_join R (x ∷ xs) ys h k apart =
-    AllPairs-cons R x (xs ++ ys) (All-append (R x) xs ys (pairs_head R x xs h) (All-head (λ z. All (R z) ys) x xs apart))
-    (pairs_join R xs ys (pairs_tail R x xs h) k (All-tail (λ z. All (R z) ys) x xs apart))
+use Rattle.djq_deltas.specs.Decided.{Decided}
+use Rattle.djq_deltas.proofs.Lists.{nothing_there, first_or_later, first_there, later_there, row_found, row_there, kept_hold, kept_there, pairs_head, pairs_tail, pairs_join}
+use Rattle.djq_deltas.proofs.Deciding.{answers_are_decided}
 
 -- the answers of a sign
 sign_is : (s r : Sign) → same_sign s r ≡ true → r ≡ s
@@ -162,4 +123,4 @@ module _ (Before After : Tuple → Type 0) (ts : List Tuple) (changes : List Cha
   }
 
 pub deltas_add_up : DeltasAddUp
-deltas_add_up before after q ts changes listing delta = adds_up (IsAnswer before q) (IsAnswer after q) ts changes (answer_decided after q) listing delta
+deltas_add_up before after q ts changes listing delta = adds_up (AnswersOf before q) (AnswersOf after q) ts changes (answers_are_decided after q) listing delta

@@ -1,29 +1,27 @@
 -- What a line does to the sessions: each keeps its id, its bytes, and its end cause unless the line ends it.
-use Rattle.std.specs.Prelude.{ℕ, List, [], ◌∷◌, ◌==◌, ◌≡◌, ◌++◌, ◌⊎◌, Bool, true, false, cond, Option, None, Some, IsSome, IsSomeAnd, MatchOption, find, map, codes, Result, Ok, Err, ⊤}
+use Rattle.std.specs.Prelude.{ℕ, List, [], ◌∷◌, ◌==◌, ◌≡◌, ◌++◌, ◌⊎◌, Bool, true, false, cond, Option, None, Some, IsSome, IsSomeAnd, find, map}
 use Rattle.std.proofs.Common.{refl, sym, ap, ap₂, ◌∙◌, subst, inl, inr}
-use Rattle.djq_model.specs.declared.query.Query.{Query}
 use Rattle.std.proofs.lemmas.Bool.{eqb-true}
 use Rattle.std.proofs.lemmas.Grind.{flat_map-append}
-use Rattle.djq_model.specs.Data.{Bytes, Tuple, change_first, drop_first, bytes_eq, query_of}
+use Rattle.djq_model.specs.Data.{Bytes, change_first}
 use Rattle.djq_lines.specs.declared.answer.EndCause.{EndCause}
-use Rattle.djq_lines.specs.declared.answer.EndCause.TheVariants.{Quit as SaidQuit, Stop as SaidStop, Memory}
-use Rattle.djq_lines.specs.declared.answer.Refusal.{Refusal}
-use Rattle.djq_lines.specs.declared.answer.Refusal.TheVariants.{NoCursor, NoMemory, NoQuery}
-use Rattle.djq_lines.specs.declared.command.Command.{Command}
-use Rattle.djq_lines.specs.declared.command.Command.TheVariants.{Rel, Add, Del, Query as Register, Drop, Open, Next, Close, Has, Watch, Unwatch, Explain, Quit, Stop}
-use Rattle.djq_lines.specs.Grammar.{Reading, refused, says as says_command}
-use Rattle.djq_lines.specs.Reply.{line, answer_line, refusal_line, ok_reply, query_reply, has_reply, watch_reply, stale_line, text_of, listing_lines, bye, end_memory}
-use Rattle.djq_machine.specs.State.{Store, State, Session, Cursor, Position, open_at, stale, session_of, with_session, cursor_of, with_position, ended_by}
-use Rattle.djq_machine.specs.Stale.{by_relation, outdated_sessions, outdated_cursor}
+use Rattle.djq_lines.specs.declared.answer.EndCause.TheVariants.{Memory}
+use Rattle.djq_lines.specs.declared.answer.Refusal.TheVariants.{Syntax, WrongType, NoMemory}
+use Rattle.djq_lines.specs.Grammar.{Reading, outside, past_limit, says as says_command}
+use Rattle.djq_lines.specs.Reply.{refusal_line}
+use Rattle.djq_machine.specs.State.{Store, State, Session, session_of, with_session, ended_by}
+use Rattle.djq_machine.specs.Stale.{outdated_cursor}
+use Rattle.djq_machine.specs.Changes.{RowsChange, RowsOutcome, tried, changed}
 use Rattle.djq_machine.specs.Watch.{Telling, ChangeStep}
-use Rattle.djq_machine.specs.Store.{has_steps}
-use Rattle.djq_machine.specs.Effect.{Effect, nothing, says, EndsWith, RefusedStep}
-use Rattle.djq_machine.specs.Command.{OpensTo, BecomesWhere, with_watch, without_watch, with_cursor, NextStepAt, CloseStep, CommandStep, QueryStep, QueryCutStep, ExplainStep, TellsLines, explain_lines}
+use Rattle.djq_machine.specs.Keeping.{Keeping, no_line}
+use Rattle.djq_machine.specs.Effect.{Effect, nothing, says}
 use Rattle.djq_machine.specs.LineStep.{ReadStep}
 use Rattle.djq_machine.specs.Run.{to_session, pending_in}
 use Rattle.djq_machine.specs.Call.{IsOpen, cause_in, held_in}
 use Rattle.djq_laws.specs.Moved.{EndsByRun}
-use Rattle.djq_laws.proofs.Finding.{some_and}
+use Rattle.djq_laws.specs.Form.{form_of, Form, asking, storing, turning, changing, ending, Turn, SaysAlone, Replied, is_whole, is_cut, DoesTurn, is_turned, is_refused, Does}
+use Rattle.djq_laws.proofs.Forms.{turned_one, command_does}
+use Rattle.djq_laws.proofs.Rows.{rows_do}
 use Rattle.djq_laws.proofs.Told.{change_keeps}
 
 -- What is queued to another session is queued to one that is open.
@@ -33,8 +31,11 @@ pub record ToOpen (s : ℕ) (e : Effect) (mid : State) : Type 0 where
 pub alone_nothing : {mid : State} (s : ℕ) (e : Effect) → e ≡ nothing → ToOpen s e mid
 alone_nothing s e h = record { others = λ t ne. inr (ap (λ (d : Effect). to_session t d.queued) h) }
 
-pub alone_text : {mid : State} (s : ℕ) (text : Bytes) (cost : ℕ) (e : Effect) → e ≡ record { queued = (s, text) ∷ []; cost = cost } → ToOpen s e mid
-alone_text s text cost e h = record { others = λ t ne. inr (ap (λ (d : Effect). to_session t d.queued) h ∙ rw ne refl) }
+pub alone_text : {mid : State} (s : ℕ) (text : Bytes) (cost : ℕ) (kept : Keeping) (e : Effect) → e ≡ record { queued = (s, text) ∷ []; cost = cost; kept = kept } → ToOpen s e mid
+alone_text s text cost kept e h = record { others = λ t ne. inr (ap (λ (d : Effect). to_session t d.queued) h ∙ rw ne refl) }
+
+alone : {mid : State} (s : ℕ) (e : Effect) → SaysAlone s e → ToOpen s e mid
+alone s e h = alone_text s h.text h.cost h.kept e h.effect
 
 -- The end cause stays, or is one of these.
 module _ (May : EndCause → Type 0) where
@@ -156,30 +157,18 @@ module _ (May : EndCause → Type 0) where
   abbrev pub KeepsAlike : State → ℕ → Effect → State → Type 0
   KeepsAlike old s e new = Alike old.sessions new.sessions × ToOpen s e new
 
-  pub nothing_keeps : (old : State) (s : ℕ) (e : Effect) (new : State) → e ≡ nothing → new ≡ old → KeepsAlike old s e new
-  nothing_keeps old s e new none after = (alike_state old new after, alone_nothing s e none)
-
-  pub says_keeps : (old : State) (s : ℕ) (text : Bytes) (f : Session → Session) (e : Effect) (new : State) → Keeps f → e ≡ says s text → new ≡ with_session old s f → KeepsAlike old s e new
-  says_keeps old s text f e new k said after = (alike_with old new s f k after, alone_text s text 0 e said)
-
-  pub ends_keeps : (old : State) (s : ℕ) (text : Bytes) (cause : EndCause) (e : Effect) (new : State) → May cause → EndsWith text cause old s e new → KeepsAlike old s e new
-  ends_keeps old s text cause e new may h = says_keeps old s text (ended_by cause) e new (keeps_ended cause may) h.0 h.1
-
   pub stays_keeps : (old : State) (s : ℕ) (text : Bytes) (e : Effect) (new : State) → e ≡ says s text → new ≡ old → KeepsAlike old s e new
-  stays_keeps old s text e new said after = (alike_state old new after, alone_text s text 0 e said)
+  stays_keeps old s text e new said after = (alike_state old new after, alone_text s text 0 no_line e said)
 
 -- A line that is read keeps the sessions alike, but for the causes by which a line ends its session.
 abbrev Runs : State → ℕ → Effect → State → Type 0
 Runs = KeepsAlike EndsByRun
 
-store_keeps : (old : State) (s : ℕ) (text : Bytes) (store : Store) (e : Effect) (new : State) → e ≡ says s text → new ≡ record old { store = store } → Runs old s e new
-store_keeps old s text store e new said after = (alike_same EndsByRun old.sessions new.sessions (ap (λ (st : State). st.sessions) after), alone_text s text 0 e said)
-
-outdated_alike : (queries : List Query) (outdater : Query → Option Bytes) (n : ℕ) (b : Bool) (xs : List Session) → Alike EndsByRun xs (cond b (outdated_sessions queries outdater n xs) xs)
-outdated_alike queries outdater n true xs =
-    alike_map EndsByRun (λ (x : Session). record x { cursors = map (outdated_cursor queries outdater n) x.cursors }) xs
-    (keeps_cause EndsByRun (λ (x : Session). record x { cursors = map (outdated_cursor queries outdater n) x.cursors }) (λ x. refl) (λ x. refl) (λ x. refl) (λ x. refl))
-outdated_alike queries outdater n false xs = alike_refl EndsByRun xs
+changed_alike : (old : State) (o : Option RowsChange) (store : Store) → Alike EndsByRun old.sessions (changed old o store).sessions
+changed_alike old None store = alike_refl EndsByRun old.sessions
+changed_alike old (Some change) store =
+    let f = λ (x : Session). record x { cursors = map (outdated_cursor old.store.queries change.outdater store.seq) x.cursors } in
+    alike_map EndsByRun f old.sessions (keeps_cause EndsByRun f (λ x. refl) (λ x. refl) (λ x. refl) (λ x. refl))
 
 -- The sessions stay alike as a change is told, and what is queued is queued to those that are open.
 record IsTelling (xs : List Session) (m : Telling) : Type 0 where
@@ -202,90 +191,52 @@ part_more xs m s text st there same h = record {
     by_test t false e (inl o) = inl (keeps_open t o)
     by_test t false e (inr none) = inr (flat_map-append (λ (q : ℕ × Bytes). cond (q.0 == t) q.1 []) m.queued ((s, text) ∷ []) ∙ ap₂ (λ (a b : Bytes). a ++ b) none (rw e refl))
 
-change_alike : (old : State) (s : ℕ) (name : Bytes) (rows : List Tuple) (outdates accepted : Bool) (store : Store) (reply : Bytes) (e : Effect) (new : State)
-    → ChangeStep old s name rows outdates accepted store reply e new → Runs old s e new
-change_alike old s name rows outdates accepted store reply e new h =
+change_alike : (old : State) (s : ℕ) (outcome : RowsOutcome) (store : Store) (reply : Bytes) (e : Effect) (new : State)
+    → ChangeStep old s outcome store reply e new → Runs old s e new
+change_alike old s outcome store reply e new h =
     let k = change_keeps (IsTelling old.sessions)
     (λ m t text there p. part_more old.sessions m t text m.state there (alike_refl EndsByRun m.state.sessions) p)
     (λ m t text cause may there p. part_more old.sessions m t text (with_session m.state t (ended_by cause)) there
     (alike_change EndsByRun (λ (x : Session). x.id == t) (ended_by cause) m.state.sessions (keeps_ended EndsByRun cause may)) p)
-    old s name rows outdates accepted store reply e new h
-    (record { alike = outdated_alike old.store.queries (by_relation name) store.seq outdates old.sessions; there = λ t. inr refl }) in (
+    old s outcome store reply e new h
+    (record { alike = changed_alike old (tried outcome) store; there = λ t. inr refl }) in (
       subst (λ (st : State). Alike EndsByRun old.sessions st.sessions) (sym h.state) k.alike,
       record { others = λ t ne. as_new t (k.there t) },
     )
   where
     as_new : (t : ℕ) → IsOpen h.last.state t ⊎ (to_session t h.last.queued ≡ []) → IsOpen new t ⊎ (to_session t e.queued ≡ [])
     as_new t (inl o) = inl (subst (λ (st : State). IsOpen st t) (sym h.state) o)
-    as_new t (inr none) = inr (ap (λ (d : Effect). to_session t d.queued) h.effect ∙ none)
+    as_new t (inr none) = inr (ap (λ (qs : List (ℕ × Bytes)). to_session t qs) h.queued ∙ none)
 
-next_keeps : (old : State) (s : ℕ) (c : Bytes) (q : Query) (count : ℕ) (p : Position) (e : Effect) (new : State) → NextStepAt old s c q count p e new → Runs old s e new
-next_keeps old s c q count (open_at given ended) e new (inl h) =
-    let moved = λ (x : Session). record x { cursors = with_position x.cursors c (open_at (given ++ h.told) h.end) } in
-    (alike_with EndsByRun old new s moved (keeps_cause EndsByRun moved (λ x. refl) (λ x. refl) (λ x. refl) (λ x. refl)) h.state, alone_text s (text_of (listing_lines h.told h.end)) _ e h.effect)
-next_keeps old s c q count (open_at given ended) e new (inr h) =
-    (alike_with EndsByRun old new s (ended_by Memory) (keeps_ended EndsByRun Memory tt) h.state, alone_text s (text_of (map answer_line h.told) ++ end_memory) _ e h.effect)
-next_keeps old s c q count (stale relation n) e new h = stays_keeps EndsByRun old s (stale_line c relation n) e new h.0 h.1
+replied_alike : (s : ℕ) (mid new : State) → Replied s mid new → Alike EndsByRun mid.sessions new.sessions
+replied_alike s mid new (is_whole after) = alike_state EndsByRun mid new after
+replied_alike s mid new (is_cut after) =
+    alike_with EndsByRun mid new s (ended_by Memory) (keeps_ended EndsByRun Memory tt) after
 
-next_found : (old : State) (s : ℕ) (c : Bytes) (count : ℕ) (o : Option Cursor) (e : Effect) (new : State)
-    → MatchOption o (RefusedStep old s NoCursor e new) (λ k. IsSomeAnd (query_of old.store.queries k.query) (λ q. NextStepAt old s c q count k.position e new)) → Runs old s e new
-next_found old s c count None e new h = stays_keeps EndsByRun old s (refusal_line NoCursor) e new h.0 h.1
-next_found old s c count (Some k) e new h =
-    let f = some_and (query_of old.store.queries k.query) (λ q. NextStepAt old s c q count k.position e new) h in
-    next_keeps old s c f.0 count k.position e new f.2
+turned_alike : (old : State) (s : ℕ) (x : Session) (t : Turn) (new : State) → DoesTurn old s x t new
+    → Alike EndsByRun old.sessions new.sessions
+turned_alike old s x t new (is_refused r) = replied_alike s old new r
+turned_alike old s x t new (is_turned h) =
+    let one = turned_one old s x t new h in
+    alike_with EndsByRun old new s one.change
+    (keeps_cause EndsByRun one.change one.id one.pending one.held one.cause) one.state
 
-close_found : (old : State) (s : ℕ) (c : Bytes) (o : Option Cursor) (e : Effect) (new : State)
-    → MatchOption o (RefusedStep old s NoCursor e new) (λ k. CloseStep old s c e new) → Runs old s e new
-close_found old s c None e new h = stays_keeps EndsByRun old s (refusal_line NoCursor) e new h.0 h.1
-close_found old s c (Some k) e new h =
-    let dropped = λ (x : Session). record x { cursors = drop_first (λ z. bytes_eq z.name c) x.cursors } in
-    says_keeps EndsByRun old s (line (codes "ok")) dropped e new (keeps_cause EndsByRun dropped (λ x. refl) (λ x. refl) (λ x. refl) (λ x. refl)) h.0 h.1
-
-open_keeps : (old : State) (s : ℕ) (c q text : Bytes) (e : Effect) (new : State) (r : Result ⊤ Refusal) → e ≡ says s text → OpensTo old s c q new r → Runs old s e new
-open_keeps old s c q text e new (Ok u) said h =
-    says_keeps EndsByRun old s text (with_cursor c q) e new (keeps_cause EndsByRun (with_cursor c q) (λ x. refl) (λ x. refl) (λ x. refl) (λ x. refl)) said h
-open_keeps old s c q text e new (Err r) said h = stays_keeps EndsByRun old s text e new said h
-
-becomes_keeps : (old : State) (s : ℕ) (text : Bytes) (f : Session → Session) (e : Effect) (new : State) (r : Result ⊤ Refusal) → Keeps EndsByRun f → e ≡ says s text → BecomesWhere old s f new r → Runs old s e new
-becomes_keeps old s text f e new (Ok u) k said h = says_keeps EndsByRun old s text f e new k said h
-becomes_keeps old s text f e new (Err r) k said h = stays_keeps EndsByRun old s text e new said h
-
-query_keeps : (old : State) (s : ℕ) (q : Query) (e : Effect) (new : State)
-    → QueryStep old s q e new ⊎ QueryCutStep old s q e new → Runs old s e new
-query_keeps old s q e new (inl h) =
-    store_keeps old s (query_reply h.result) h.store e new h.effect h.state
-query_keeps old s q e new (inr h) =
-    ends_keeps EndsByRun (record old { store = h.store }) s end_memory Memory e new tt h.ends
-
-lines_keep : (old : State) (s : ℕ) (lines : List Bytes) (e : Effect) (new : State)
-    → TellsLines old s lines e new → Runs old s e new
-lines_keep old s lines e new (inl h) = stays_keeps EndsByRun old s (text_of lines) e new h.0 h.1
-lines_keep old s lines e new (inr (told, lacking, rest, parts, ends)) =
-    ends_keeps EndsByRun old s (text_of told ++ end_memory) Memory e new tt ends
-
-explain_found : (old : State) (s : ℕ) (o : Option Query) (e : Effect) (new : State)
-    → MatchOption o (RefusedStep old s NoQuery e new) (λ q. ExplainStep old s q e new)
+form_keeps : (f : Form) (old : State) (s : ℕ) (x : Session) (e : Effect) (new : State) → Does f old s x e new
     → Runs old s e new
-explain_found old s None e new h = stays_keeps EndsByRun old s (refusal_line NoQuery) e new h.0 h.1
-explain_found old s (Some q) e new h = lines_keep old s (explain_lines q h.tree) e new h.tells
+form_keeps asking old s x e new h = (replied_alike s old new h.1, alone s e h.0)
+form_keeps storing old s x e new h = (replied_alike s (record old { store = h.1.store }) new h.1.replied, alone s e h.0)
+form_keeps (turning t) old s x e new h = (turned_alike old s x t new h.1, alone s e h.0)
+form_keeps (changing c) old s x e new h =
+    let d = rows_do old s c e new h in change_alike old s d.outcome d.store d.reply e new d.change
+form_keeps ending old s x e new h = (
+  alike_with EndsByRun (record old { stopped = h.1.stopped }) new s (ended_by h.1.cause)
+      (keeps_ended EndsByRun h.1.cause h.1.may) h.1.state,
+  alone s e h.0,
+)
 
-command_keeps : (old : State) (s : ℕ) (x : Session) (c : Command) (e : Effect) (new : State) → CommandStep old s x c e new → Runs old s e new
-command_keeps old s x (Rel name types) e new h = store_keeps old s (ok_reply (codes "ok") h.result) h.store e new h.effect h.state
-command_keeps old s x (Add name row) e new h = change_alike old s name _ _ _ h.store _ e new h.change
-command_keeps old s x (Del name row) e new h = change_alike old s name _ _ _ h.store _ e new h.change
-command_keeps old s x (Register q) e new h = query_keeps old s q e new h
-command_keeps old s x (Open c q) e new h = open_keeps old s c q (ok_reply (codes "ok open") h.result) e new h.result h.effect h.state
-command_keeps old s x (Next c count) e new h = next_found old s c count (cursor_of x.cursors c) e new h
-command_keeps old s x (Close c) e new h = close_found old s c (cursor_of x.cursors c) e new h
-command_keeps old s x Quit e new h = ends_keeps EndsByRun old s bye SaidQuit e new tt h
-command_keeps old s x Stop e new h = ends_keeps EndsByRun (record old { stopped = true }) s bye SaidStop e new tt h
-command_keeps old s x (Drop q) e new h = store_keeps old s (ok_reply (codes "ok") h.result) h.store e new h.effect h.state
-command_keeps old s x (Has q row) e new h = (alike_state EndsByRun old new h.state, alone_text s (has_reply h.result) (has_steps (query_of old.store.queries q)) e h.effect)
-command_keeps old s x (Watch q) e new h = becomes_keeps old s (watch_reply h.result old.store.seq) (with_watch q) e new h.result (keeps_cause EndsByRun (with_watch q) (λ x. refl) (λ x. refl) (λ x. refl) (λ x. refl)) h.effect h.state
-command_keeps old s x (Unwatch q) e new h = becomes_keeps old s (ok_reply (codes "ok") h.result) (without_watch q) e new h.result (keeps_cause EndsByRun (without_watch q) (λ x. refl) (λ x. refl) (λ x. refl) (λ x. refl)) h.effect h.state
-command_keeps old s x (Explain q) e new h = explain_found old s (query_of old.store.queries q) e new h
-
-pub read_keeps : (old : State) (s : ℕ) (x : Session) (r : Reading) (e : Effect) (new : State) → ReadStep old s x r e new → Runs old s e new
-read_keeps old s x (refused r) e new h = stays_keeps EndsByRun old s (refusal_line r) e new h.0 h.1
-read_keeps old s x (says_command c) e new (true, h) = command_keeps old s x c e new h
-read_keeps old s x (says_command c) e new (false, h) = stays_keeps EndsByRun old s (refusal_line NoMemory) e new h.1.0 h.1.1
+pub read_keeps : (old : State) (s : ℕ) (x : Session) (l : Bytes) (r : Reading) (e : Effect) (new : State) → ReadStep old s x l r e new → Runs old s e new
+read_keeps old s x l outside e new h = stays_keeps EndsByRun old s (refusal_line Syntax) e new h.0 h.1
+read_keeps old s x l (past_limit c) e new h = stays_keeps EndsByRun old s (refusal_line WrongType) e new h.0 h.1
+read_keeps old s x l (says_command c) e new (true, h) =
+    form_keeps (form_of c) old s x e new (command_does old s x c e new h)
+read_keeps old s x l (says_command c) e new (false, h) = stays_keeps EndsByRun old s (refusal_line NoMemory) e new h.1.0 h.1.1

@@ -1,19 +1,20 @@
--- When a query has the same answers over other relations.
+-- When what is registered has the same answers over other relations.
 use Rattle.std.specs.Prelude.{List, [], ◌∷◌, ◌≡◌, ◌++◌, ◌||◌, Bool, true, false, cond, Option, None, Some, All, Contains, IsPermutation}
-use Rattle.std.specs.List.{list_any}
+use Rattle.std.specs.List.{list_any, slice_index_or}
 use Rattle.std.proofs.Common.{refl, sym, ap, ◌∙◌, subst}
-use Rattle.std.proofs.lemmas.List.Elements.{All-nil, All-cons}
+use Rattle.std.proofs.lemmas.List.Elements.{All-nil, All-cons, Contains-get_or}
 use Rattle.std.proofs.lemmas.List.Sorted.{Contains-permutation, IsPermutation-sym, IsPermutation-refl}
 use Rattle.djq_model.specs.declared.relation.Relation.{Relation}
 use Rattle.djq_model.specs.declared.relation.ColumnType.{ColumnType}
-use Rattle.djq_model.specs.declared.query.Query.{Query}
-use Rattle.djq_model.specs.declared.query.Atom.{Atom}
 use Rattle.djq_model.specs.Data.{Bytes, Tuple, bytes_eq, relation_of, rows_of, rows_in}
-use Rattle.djq_model.specs.Answer.{IsAnswer}
+use Rattle.djq_model.specs.Listed.{Listed, a_query, AnswersOf}
 use Rattle.djq_model.specs.Equality.{bytes_eq-decides}
 use Rattle.djq_machine.specs.Store.{with_rows}
+use Rattle.djq_machine.specs.Stale.{listed_reads}
+use Rattle.djq_machine.specs.Changes.{RowsChange, new_rows}
 use Rattle.djq_machine.specs.Step.{SameRelations}
 use Rattle.djq_machine.specs.Gives.{Gives}
+use Rattle.djq_machine.proofs.Reading.{reads_atom}
 use Rattle.djq_laws.proofs.Finding.{find_other}
 
 pub apart_from : (r name n : Bytes) (b : Bool) → bytes_eq r n ≡ b → bytes_eq n name ≡ false → bytes_eq r name ≡ true → b ≡ false
@@ -23,27 +24,31 @@ apart_from r name n true e ne same =
     let twice : bytes_eq n name ≡ true = ap (λ z. bytes_eq z name) (sym k) ∙ same in
     absurd (cc (twice, ne))
 
--- what holds of the rows of every atom's relation: those of the one are among those of the other
-abbrev pub RowsWithin : List Relation → List Relation → Query → Type 0
-RowsWithin rs rs' q = All (λ (a : Atom). (row : Tuple) → Contains (rows_of rs a.relation) row → Contains (rows_of rs' a.relation) row) q.atoms
+-- what holds of every relation that is read: its rows of the one are among those of the other
+abbrev pub RowsWithin : List Relation → List Relation → Listed → Type 0
+RowsWithin rs rs' q = (n : Bytes) → listed_reads q n ≡ true → (row : Tuple) → Contains (rows_of rs n) row → Contains (rows_of rs' n) row
 
-pub answer_within : (rs rs' : List Relation) (q : Query) (t : Tuple) → RowsWithin rs rs' q → IsAnswer rs q t → IsAnswer rs' q t
-answer_within rs rs' q t within h = record {
+answer_within : (rs rs' : List Relation) (q : Listed) (t : Tuple) → RowsWithin rs rs' q → AnswersOf rs q t → AnswersOf rs' q t
+answer_within rs rs' (a_query q) t within h = record {
   assignment = h.assignment;
-  satisfies = λ k d lt. let s = h.satisfies k d lt in record { row = s.row; is_there = within k d lt s.row s.is_there; stands = s.stands };
+  satisfies = λ k d lt.
+      let s = h.satisfies k d lt in
+      let a = slice_index_or q.atoms k d in
+      let read = reads_atom q a (Contains-get_or q.atoms k d lt) in
+      record { row = s.row; is_there = within a.relation read s.row s.is_there; stands = s.stands };
   on_head = h.on_head;
 }
 
 -- the same answers
-pub record SameAnswers (rs rs' : List Relation) (q : Query) : Type 0 where
-  pub there : (t : Tuple) → IsAnswer rs q t → IsAnswer rs' q t
-  pub back : (t : Tuple) → IsAnswer rs' q t → IsAnswer rs q t
+pub record SameAnswers (rs rs' : List Relation) (q : Listed) : Type 0 where
+  pub there : (t : Tuple) → AnswersOf rs q t → AnswersOf rs' q t
+  pub back : (t : Tuple) → AnswersOf rs' q t → AnswersOf rs q t
 
-pub same_within : (rs rs' : List Relation) (q : Query) → RowsWithin rs rs' q → RowsWithin rs' rs q → SameAnswers rs rs' q
+same_within : (rs rs' : List Relation) (q : Listed) → RowsWithin rs rs' q → RowsWithin rs' rs q → SameAnswers rs rs' q
 same_within rs rs' q there back = record { there = λ t h. answer_within rs rs' q t there h; back = λ t h. answer_within rs' rs q t back h }
 
 -- what a cursor has given it still gives
-pub gives_kept : (rs rs' : List Relation) (q : Query) (given : List Tuple) (finished : Bool) → SameAnswers rs rs' q → Gives (IsAnswer rs q) given finished → Gives (IsAnswer rs' q) given finished
+pub gives_kept : (rs rs' : List Relation) (q : Listed) (given : List Tuple) (finished : Bool) → SameAnswers rs rs' q → Gives (AnswersOf rs q) given finished → Gives (AnswersOf rs' q) given finished
 gives_kept rs rs' q given finished same h = record {
   different = h.different;
   answers = λ k d lt. same.there _ (h.answers k d lt);
@@ -63,20 +68,20 @@ first_step : (n : Bytes) (r : Relation) (o p : Option Relation) (b : Bool) → r
 first_step n r o p true h = refl
 first_step n r o p false h = h
 
-pub new_rows : (rs : List Relation) (name : Bytes) (types : List ColumnType) (n : Bytes)
+pub rows_of_new : (rs : List Relation) (name : Bytes) (types : List ColumnType) (n : Bytes)
     → rows_of (rs ++ record { name = name; types = types; rows = [] } ∷ []) n ≡ rows_of rs n
-new_rows [] name types n = new_step n name types (bytes_eq name n)
-new_rows (r ∷ rs) name types n =
-    first_step n r (relation_of (rs ++ record { name = name; types = types; rows = [] } ∷ []) n) (relation_of rs n) (bytes_eq r.name n) (new_rows rs name types n)
+rows_of_new [] name types n = new_step n name types (bytes_eq name n)
+rows_of_new (r ∷ rs) name types n =
+    first_step n r (relation_of (rs ++ record { name = name; types = types; rows = [] } ∷ []) n) (relation_of rs n) (bytes_eq r.name n) (rows_of_new rs name types n)
 
-rows_same : (rs rs' : List Relation) (q : Query) → ((n : Bytes) → rows_of rs' n ≡ rows_of rs n) → SameAnswers rs rs' q
+rows_same : (rs rs' : List Relation) (q : Listed) → ((n : Bytes) → rows_of rs' n ≡ rows_of rs n) → SameAnswers rs rs' q
 rows_same rs rs' q e = same_within rs rs' q
-    (λ k d lt row h. rw e h)
-    (λ k d lt row h. rw e at h)
+    (λ n r row h. rw e h)
+    (λ n r row h. rw e at h)
 
-pub new_relation_same : (rs : List Relation) (name : Bytes) (types : List ColumnType) (q : Query)
+pub new_relation_same : (rs : List Relation) (name : Bytes) (types : List ColumnType) (q : Listed)
     → SameAnswers rs (rs ++ record { name = name; types = types; rows = [] } ∷ []) q
-new_relation_same rs name types q = rows_same rs (rs ++ record { name = name; types = types; rows = [] } ∷ []) q (new_rows rs name types)
+new_relation_same rs name types q = rows_same rs (rs ++ record { name = name; types = types; rows = [] } ∷ []) q (rows_of_new rs name types)
 
 -- The same relations with their rows in another order.
 order_step : (n : Bytes) (r s : Relation) (o p : Option Relation) (b : Bool) → bytes_eq r.name n ≡ b → s.name ≡ r.name → IsPermutation r.rows s.rows
@@ -90,12 +95,12 @@ reordered_rows (r ∷ rs) (s ∷ rs') n h = order_step n r s (relation_of rs n) 
 reordered_rows [] (s ∷ rs') n h = absurd h
 reordered_rows (r ∷ rs) [] n h = absurd h
 
-pub reordered_same : (rs rs' : List Relation) (q : Query) → SameRelations rs rs' → SameAnswers rs rs' q
+pub reordered_same : (rs rs' : List Relation) (q : Listed) → SameRelations rs rs' → SameAnswers rs rs' q
 reordered_same rs rs' q h = same_within rs rs' q
-    (λ k d lt row c. Contains-permutation _ _ row (reordered_rows rs rs' _ h) c)
-    (λ k d lt row c. Contains-permutation _ _ row (IsPermutation-sym _ _ (reordered_rows rs rs' _ h)) c)
+    (λ n r row c. Contains-permutation _ _ row (reordered_rows rs rs' n h) c)
+    (λ n r row c. Contains-permutation _ _ row (IsPermutation-sym _ _ (reordered_rows rs rs' n h)) c)
 
--- A change of a relation that a query doesn't read.
+-- A change of a relation that isn't read.
 pub rows_apart : (rs : List Relation) (name : Bytes) (rows : List Tuple) (n : Bytes) → bytes_eq n name ≡ false → rows_of (with_rows rs name rows) n ≡ rows_of rs n
 rows_apart rs name rows n ne =
     ap rows_in (find_other (λ (r : Relation). bytes_eq r.name name) (λ (r : Relation). bytes_eq r.name n) (λ (r : Relation). record r { rows = rows }) (λ r. refl)
@@ -110,10 +115,30 @@ pub none_pass : {A : Type 0} (p : A → Bool) (xs : List A) → list_any p xs �
 none_pass p [] h = All-nil (λ x. p x ≡ false)
 none_pass p (x ∷ xs) h = let n = none_or (p x) (list_any p xs) h in All-cons (λ y. p y ≡ false) x xs n.0 (none_pass p xs n.1)
 
-pub unread_same : (rs : List Relation) (name : Bytes) (rows : List Tuple) (q : Query) → list_any (λ (a : Atom). bytes_eq a.relation name) q.atoms ≡ false
+unread_same : (rs : List Relation) (name : Bytes) (rows : List Tuple) (q : Listed) → listed_reads q name ≡ false
     → SameAnswers rs (with_rows rs name rows) q
 unread_same rs name rows q h =
-    let apart = none_pass (λ (a : Atom). bytes_eq a.relation name) q.atoms h in
     same_within rs (with_rows rs name rows) q
-    (λ k d lt row c. subst (λ (r : List Tuple). Contains r row) (sym (rows_apart rs name rows _ (apart k d lt))) c)
-    (λ k d lt row c. subst (λ (r : List Tuple). Contains r row) (rows_apart rs name rows _ (apart k d lt)) c)
+    (λ n r row c. subst (λ (ts : List Tuple). Contains ts row) (sym (rows_apart rs name rows n (apart n r))) c)
+    (λ n r row c. subst (λ (ts : List Tuple). Contains ts row) (rows_apart rs name rows n (apart n r)) c)
+  where
+    apart : (n : Bytes) → listed_reads q n ≡ true → bytes_eq n name ≡ false
+    apart n r = by (bytes_eq n name) refl
+      where
+        by : (b : Bool) → bytes_eq n name ≡ b → b ≡ false
+        by false e = refl
+        by true e =
+            let read : listed_reads q name ≡ true = ap (listed_reads q) (sym ((bytes_eq-decides n name).0 e)) ∙ r in
+            absurd (cc (read, h))
+
+-- A change outdates whatever it may change the answers of.
+abbrev pub Spares : List Relation → RowsChange → Type 0
+Spares rs change = (q : Listed) → change.outdater q ≡ None → SameAnswers rs change.after q
+
+-- So does a change of one relation.
+pub one_spares : (rs : List Relation) (name : Bytes) (rows : List Tuple) → Spares rs (new_rows rs name rows)
+one_spares rs name rows q h = unread_same rs name rows q (unread (listed_reads q name) h)
+  where
+    unread : (b : Bool) → cond b (Some name) None ≡ None → b ≡ false
+    unread true k = absurd cc
+    unread false k = refl

@@ -29,8 +29,8 @@ use Rattle.djq_model.specs.Data.{Bytes, Tuple, bytes_eq, tuple_eq, change_first,
 use Rattle.djq_model.specs.Answer.{AreDifferent}
 use Rattle.djq_model.specs.Equality.{bytes_eq-decides, tuple_eq-decides}
 use Rattle.djq_model.specs.Known.{knows, learned, all_learned}
+use Rattle.djq_deltas.proofs.Lists.{pairs_head, pairs_tail}
 use Rattle.djq_laws.specs.Sound.{AreApart}
-use Rattle.djq_laws.proofs.Adding.{pairs_head, pairs_tail}
 use Rattle.djq_laws.proofs.Changing.{all_dropped}
 
 pub nothing_apart : {A : Type 0} (R : A → A → Type 0) → AllPairs R []

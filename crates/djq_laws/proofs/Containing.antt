@@ -1,39 +1,8 @@
--- What lists contain.
-use Rattle.std.specs.Prelude.{zero, suc, List, [], ◌∷◌, ◌≡◌, ◌⊎◌, ◌||◌, Bool, true, false, cond, Some, filter, find, map, Contains}
+-- What is found in lists, and what lists are mapped from.
+use Rattle.std.specs.Prelude.{List, [], ◌∷◌, ◌≡◌, ◌⊎◌, ◌||◌, Bool, true, false, cond, Some, find, map, Contains}
 use Rattle.std.specs.List.{list_any}
-use Rattle.std.proofs.Common.{refl, sym, ap, ◌∙◌, inl, inr, arith}
-use Rattle.std.proofs.lemmas.List.Elements.{Contains-append_right, Contains-append_cases}
-
-pub nothing_there : {A : Type 0} (x : A) → Contains [] x → ⊥
-nothing_there x h = absurd (omega (arith, h.1))
-
-only_one : {A : Type 0} (y x : A) → Contains (y ∷ []) x → y ≡ x
-only_one y x (zero, l, e) = e
-only_one y x (suc k, l, e) = absurd (omega (arith, l))
-
-pub first_or_later : {A : Type 0} (y : A) (ys : List A) (x : A) → Contains (y ∷ ys) x → (y ≡ x) ⊎ Contains ys x
-first_or_later y ys x h = step (Contains-append_cases (y ∷ []) ys x h)
-  where
-    step : Contains (y ∷ []) x ⊎ Contains ys x → (y ≡ x) ⊎ Contains ys x
-    step (inl k) = inl (only_one y x k)
-    step (inr k) = inr k
-
-pub first_there : {A : Type 0} (y : A) (ys : List A) (x : A) → y ≡ x → Contains (y ∷ ys) x
-first_there y ys x e = (0, omega arith, e)
-
-pub later_there : {A : Type 0} (y : A) (ys : List A) (x : A) → Contains ys x → Contains (y ∷ ys) x
-later_there y ys x h = Contains-append_right (y ∷ []) ys x h
-
--- what a filter keeps
-pub kept_there : {A : Type 0} (p : A → Bool) (xs : List A) (x : A) → p x ≡ true → Contains xs x → Contains (filter p xs) x
-kept_there p [] x e h = absurd (nothing_there x h)
-kept_there p (y ∷ ys) x e h = step (p y) refl (first_or_later y ys x h) (λ k. kept_there p ys x e k)
-  where
-    step : (b : Bool) → p y ≡ b → (y ≡ x) ⊎ Contains ys x → (Contains ys x → Contains (filter p ys) x) → Contains (cond b (y ∷ filter p ys) (filter p ys)) x
-    step true k (inl same) more = first_there y (filter p ys) x same
-    step true k (inr c) more = later_there y (filter p ys) x (more c)
-    step false k (inl same) more = let yes : p y ≡ true = ap p same ∙ e in absurd (cc (yes, k))
-    step false k (inr c) more = more c
+use Rattle.std.proofs.Common.{refl, sym, ap, ◌∙◌, inl, inr}
+use Rattle.djq_deltas.proofs.Lists.{nothing_there, first_or_later, first_there, later_there}
 
 -- what is found is there
 pub found_there : {A : Type 0} (p : A → Bool) (xs : List A) (x : A) → find p xs ≡ Some x → Contains xs x
@@ -68,15 +37,7 @@ any_there p (y ∷ ys) x h e = step (p y) refl (first_or_later y ys x h) (λ k. 
     step false k (inl same) more = let yes : p y ≡ true = ap p same ∙ e in absurd (cc (yes, k))
     step false k (inr c) more = more c
 
--- what a list is mapped to, and where it comes from
-pub mapped_there : {A B : Type 0} (f : A → B) (xs : List A) (x : A) → Contains xs x → Contains (map f xs) (f x)
-mapped_there f [] x h = absurd (nothing_there x h)
-mapped_there f (y ∷ ys) x h = step (first_or_later y ys x h) (λ k. mapped_there f ys x k)
-  where
-    step : (y ≡ x) ⊎ Contains ys x → (Contains ys x → Contains (map f ys) (f x)) → Contains (f y ∷ map f ys) (f x)
-    step (inl e) more = first_there (f y) (map f ys) (f x) (ap f e)
-    step (inr c) more = later_there (f y) (map f ys) (f x) (more c)
-
+-- where what a list is mapped to comes from
 pub mapped_from : {A B : Type 0} (f : A → B) (xs : List A) (y : B) → Contains (map f xs) y → (x : A) × Contains xs x × (f x ≡ y)
 mapped_from f [] y h = absurd (nothing_there y h)
 mapped_from {A = A} f (x ∷ xs) y h = step (first_or_later (f x) (map f xs) y h) (λ k. mapped_from f xs y k)

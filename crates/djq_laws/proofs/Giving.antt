@@ -1,37 +1,23 @@
 -- What open cursors have given, along any run: different answers of their queries over the present rows, and all of them where the end was told.
-use Rattle.std.specs.Prelude.{ℕ, List, [], ◌∷◌, ◌==◌, ◌≡◌, ◌<◌, ◌+◌, ◌++◌, ◌⊎◌, Bool, true, false, not, cond, length, Option, None, Some, is_some, is_none, nat_le, IsSomeAnd, MatchOption, option_map, Result, Ok, Err, map, All, ⊤}
+use Rattle.std.specs.Prelude.{ℕ, List, [], ◌∷◌, ◌==◌, ◌≡◌, ◌<◌, ◌+◌, ◌++◌, ◌⊎◌, Bool, true, false, not, cond, length, Option, None, Some, IsSome, MatchOption, option_map, map, All}
 use Rattle.std.specs.List.{list_any, slice_index_or}
 use Rattle.std.proofs.Common.{refl, sym, ap, ◌∙◌, subst, inl, inr, arith}
 use Rattle.std.proofs.lemmas.List.Elements.{All-nil, All-append, All-push, All-weaker, All-filter}
 use Rattle.djq_model.specs.declared.relation.Relation.{Relation}
-use Rattle.djq_model.specs.declared.relation.ColumnType.{ColumnType}
-use Rattle.djq_model.specs.declared.query.Query.{Query}
-use Rattle.djq_model.specs.Data.{Bytes, Tuple, bytes_eq, drop_first, rows_of, has_row, without_row, query_of}
-use Rattle.djq_model.specs.Answer.{IsAnswer}
-use Rattle.djq_model.specs.Known.{texts_in, all_learned}
-use Rattle.djq_lines.specs.Variables.{constants_of}
-use Rattle.djq_lines.specs.declared.rest.QueryOutcome.{QueryOutcome}
-use Rattle.djq_lines.specs.declared.rest.QueryOutcome.TheVariants.{Registered, Cyclic, NotConnex}
+use Rattle.djq_model.specs.Data.{Bytes, Tuple, bytes_eq, drop_first}
+use Rattle.djq_model.specs.Listed.{Listed, listed_name, AnswersOf, listed_of}
 use Rattle.djq_lines.specs.declared.answer.EndCause.{EndCause}
 use Rattle.djq_lines.specs.declared.answer.EndCause.TheVariants.{Input, Memory}
-use Rattle.djq_lines.specs.declared.answer.Refusal.{Refusal}
-use Rattle.djq_lines.specs.declared.answer.Refusal.TheVariants.{Taken, NoQuery, NoCursor, Limit, NoMemory, InUse}
-use Rattle.djq_lines.specs.declared.answer.AddOutcome.{AddOutcome}
-use Rattle.djq_lines.specs.declared.answer.AddOutcome.TheVariants.{Added, Same}
-use Rattle.djq_lines.specs.declared.answer.DeleteOutcome.{DeleteOutcome}
-use Rattle.djq_lines.specs.declared.answer.DeleteOutcome.TheVariants.{Removed, Absent}
-use Rattle.djq_lines.specs.declared.command.Command.{Command}
-use Rattle.djq_lines.specs.declared.command.Command.TheVariants.{Rel, Add, Del, Query as Register, Drop, Open, Next, Close, Has, Watch, Unwatch, Explain, Quit, Stop}
-use Rattle.djq_lines.specs.declared.limits.TheConstants.{CURSORS, SESSIONS}
-use Rattle.djq_lines.specs.Grammar.{Reading, refused, says as says_command, reading_of}
+use Rattle.djq_lines.specs.declared.limits.TheConstants.{SESSIONS}
+use Rattle.djq_lines.specs.Grammar.{Reading, outside, past_limit, says as says_command, reading_of}
 use Rattle.djq_lines.specs.Reply.{end_memory}
 use Rattle.djq_machine.specs.State.{Store, State, Session, Cursor, Position, open_at, stale, fresh, session_of, with_session, cursor_of, with_position, ended_by}
-use Rattle.djq_machine.specs.Conditions.{first_of, Answers, OutOfMemoryWhere}
-use Rattle.djq_machine.specs.Store.{RefusedByTexts, RefusedLate, RegistersAs, MakesRelation, AddsRow, AddsAs, DeletesRow, DeletesAs, RegistersQuery, DropsQuery, TellsAnswers, with_rows, rel_refusal, add_refusal, delete_refusal, query_refusal, drop_refusal}
-use Rattle.djq_machine.specs.Stale.{reads, outdated, outdater_of, outdated_cursor, outdated_sessions, by_relation, add_outdates, delete_outdates, changed}
+use Rattle.djq_machine.specs.Store.{TellsAnswers}
+use Rattle.djq_machine.specs.Stale.{outdated, outdater_of, outdated_cursor, outdated_sessions}
+use Rattle.djq_machine.specs.Changes.{RowsOutcome, accepted, out_of_memory, unchanged, tried, changed}
 use Rattle.djq_machine.specs.Watch.{Telling, ChangeStep}
-use Rattle.djq_machine.specs.Effect.{Effect, nothing, EndsWith, RefusedStep, queue_all, queue}
-use Rattle.djq_machine.specs.Command.{uses, open_refusal, with_cursor, OpensTo, BecomesWhere, with_watch, without_watch, NextStepAt, CloseStep, CommandStep, QueryStep, QueryCutStep, ExplainStep, TellsLines, explain_lines}
+use Rattle.djq_machine.specs.Effect.{Effect, nothing, EndsWith, queue_all, queue}
+use Rattle.djq_machine.specs.Command.{uses, with_cursor, with_watch, without_watch}
 use Rattle.djq_machine.specs.LineStep.{LineOutcome, long, blank, slow, no_room, run, ReadStep, FrontStep, behind_line}
 use Rattle.djq_machine.specs.Step.{Event, opened, fed, stepped, took, ended, closed, FedStep, TookStep, EndedStep, Acts, with_relations, Step}
 use Rattle.djq_machine.specs.Run.{Did}
@@ -41,81 +27,76 @@ use Rattle.djq_laws.proofs.Finding.{some_and, find_dropped}
 use Rattle.djq_laws.proofs.Told.{change_keeps}
 use Rattle.djq_laws.proofs.Queueing.{session_changed}
 use Rattle.djq_laws.specs.Given.{RunsGive}
+use Rattle.djq_laws.specs.Form.{form_of, Form, asking, storing, turning, changing, ending, Turn, opens_cursor, moves_cursor, closes_cursor, starts_watching, stops_watching, Replied, is_whole, is_cut, Stored, learns_texts, makes_relation, registers, drops_query, in_use, MovesCursor, without_cursor, Turned, DoesTurn, is_turned, is_refused, Does}
+use Rattle.djq_laws.proofs.Forms.{command_does}
+use Rattle.djq_laws.proofs.Rows.{RowsMade, outdater_by, rows_do}
 use Rattle.djq_laws.proofs.Changing.{all_changed, all_found, all_dropped, all_mapped}
-use Rattle.djq_laws.proofs.Answering.{SameAnswers, gives_kept, new_relation_same, reordered_same, unread_same, apart_from, none_or, none_pass}
+use Rattle.djq_laws.proofs.Answering.{SameAnswers, gives_kept, new_relation_same, reordered_same, apart_from, none_or, none_pass}
 
 -- a cursor gives what it should, over these relations and queries
-abbrev pub CursorGives : List Relation → List Query → Cursor → Type 0
-CursorGives rs qs c = PositionGives rs (query_of qs c.query) c.position
+abbrev pub CursorGives : List Relation → List Listed → Cursor → Type 0
+CursorGives rs qs c = PositionGives rs (listed_of qs c.query) c.position
 
-abbrev pub SessionGives : List Relation → List Query → Session → Type 0
+abbrev pub SessionGives : List Relation → List Listed → Session → Type 0
 SessionGives rs qs x = All (CursorGives rs qs) x.cursors
 
-abbrev pub SessionsGive : List Relation → List Query → List Session → Type 0
+abbrev pub SessionsGive : List Relation → List Listed → List Session → Type 0
 SessionsGive rs qs xs = All (SessionGives rs qs) xs
 
 -- A position gives over other relations where the queries have the same answers.
-position_kept : (rs rs' : List Relation) (o : Option Query) (p : Position) → ((q : Query) → SameAnswers rs rs' q) → PositionGives rs o p → PositionGives rs' o p
+position_kept : (rs rs' : List Relation) (o : Option Listed) (p : Position) → ((q : Listed) → SameAnswers rs rs' q) → PositionGives rs o p → PositionGives rs' o p
 position_kept rs rs' None (open_at given finished) same h = h
 position_kept rs rs' (Some q) (open_at given finished) same h = gives_kept rs rs' q given finished (same q) h
 position_kept rs rs' o (stale r n) same h = tt
 
-relations_give : (rs rs' : List Relation) (qs : List Query) (xs : List Session) → ((q : Query) → SameAnswers rs rs' q) → SessionsGive rs qs xs → SessionsGive rs' qs xs
+relations_give : (rs rs' : List Relation) (qs : List Listed) (xs : List Session) → ((q : Listed) → SameAnswers rs rs' q) → SessionsGive rs qs xs → SessionsGive rs' qs xs
 relations_give rs rs' qs xs same h =
     All-weaker (SessionGives rs qs) (SessionGives rs' qs)
-    (λ x g. All-weaker (CursorGives rs qs) (CursorGives rs' qs) (λ c k. position_kept rs rs' (query_of qs c.query) c.position same k) x.cursors g) xs h
+    (λ x g. All-weaker (CursorGives rs qs) (CursorGives rs' qs) (λ c k. position_kept rs rs' (listed_of qs c.query) c.position same k) x.cursors g) xs h
 
 -- A query that is registered changes no name's meaning.
-position_registered : (rs : List Relation) (o p : Option Query) (position : Position) → ((q : Query) → o ≡ Some q → p ≡ Some q) → PositionGives rs o position → PositionGives rs p position
+position_registered : (rs : List Relation) (o p : Option Listed) (position : Position) → ((q : Listed) → o ≡ Some q → p ≡ Some q) → PositionGives rs o position → PositionGives rs p position
 position_registered rs None p (open_at given finished) same h = absurd h
 position_registered rs (Some q) p (open_at given finished) same h = let e = same q refl in rw e h
 position_registered rs o p (stale r n) same h = tt
 
-pub found_in_front : (qs : List Query) (q : Query) (name : Bytes) (found : Query) → query_of qs name ≡ Some found → query_of (qs ++ q ∷ []) name ≡ Some found
+pub found_in_front : (qs : List Listed) (q : Listed) (name : Bytes) (found : Listed) → listed_of qs name ≡ Some found → listed_of (qs ++ q ∷ []) name ≡ Some found
 found_in_front [] q name found e = absurd cc
-found_in_front (r ∷ qs) q name found e = at_first (bytes_eq r.name name) e (λ k. found_in_front qs q name found k)
+found_in_front (r ∷ qs) q name found e = at_first (bytes_eq (listed_name r) name) e (λ k. found_in_front qs q name found k)
   where
-    at_first : (b : Bool) → cond b (Some r) (query_of qs name) ≡ Some found → (query_of qs name ≡ Some found → query_of (qs ++ q ∷ []) name ≡ Some found)
-        → cond b (Some r) (query_of (qs ++ q ∷ []) name) ≡ Some found
+    at_first : (b : Bool) → cond b (Some r) (listed_of qs name) ≡ Some found → (listed_of qs name ≡ Some found → listed_of (qs ++ q ∷ []) name ≡ Some found)
+        → cond b (Some r) (listed_of (qs ++ q ∷ []) name) ≡ Some found
     at_first true k rest = k
     at_first false k rest = rest k
 
-registered_give : (rs : List Relation) (qs : List Query) (q : Query) (xs : List Session) → SessionsGive rs qs xs → SessionsGive rs (qs ++ q ∷ []) xs
+registered_give : (rs : List Relation) (qs : List Listed) (q : Listed) (xs : List Session) → SessionsGive rs qs xs → SessionsGive rs (qs ++ q ∷ []) xs
 registered_give rs qs q xs h =
     All-weaker (SessionGives rs qs) (SessionGives rs (qs ++ q ∷ []))
     (λ x g. All-weaker (CursorGives rs qs) (CursorGives rs (qs ++ q ∷ []))
-    (λ c k. position_registered rs (query_of qs c.query) (query_of (qs ++ q ∷ []) c.query) c.position (λ f e. found_in_front qs q c.query f e) k) x.cursors g) xs h
+    (λ c k. position_registered rs (listed_of qs c.query) (listed_of (qs ++ q ∷ []) c.query) c.position (λ f e. found_in_front qs q c.query f e) k) x.cursors g) xs h
 
 -- the relation that outdates a query, where there is the query
-abbrev outdater_at : (Query → Option Bytes) → Option Query → Option Bytes
+abbrev outdater_at : (Listed → Option Bytes) → Option Listed → Option Bytes
 outdater_at outdater None = None
 outdater_at outdater (Some q) = outdater q
 
 -- After a change the cursors over what it outdates are stale, and the other queries have the same answers.
-position_outdated : (rs rs' : List Relation) (o : Option Query) (p : Position) (outdater : Query → Option Bytes) (n : ℕ) (b : Option Bytes) → outdater_at outdater o ≡ b
-    → ((q : Query) → outdater q ≡ None → SameAnswers rs rs' q) → PositionGives rs o p → PositionGives rs' o (outdated b n p)
+position_outdated : (rs rs' : List Relation) (o : Option Listed) (p : Position) (outdater : Listed → Option Bytes) (n : ℕ) (b : Option Bytes) → outdater_at outdater o ≡ b
+    → ((q : Listed) → outdater q ≡ None → SameAnswers rs rs' q) → PositionGives rs o p → PositionGives rs' o (outdated b n p)
 position_outdated rs rs' o (stale r m) outdater n None e same h = tt
 position_outdated rs rs' o (stale r m) outdater n (Some relation) e same h = tt
 position_outdated rs rs' o (open_at given finished) outdater n (Some relation) e same h = tt
 position_outdated rs rs' None (open_at given finished) outdater n None e same h = h
 position_outdated rs rs' (Some q) (open_at given finished) outdater n None e same h = gives_kept rs rs' q given finished (same q e) h
 
-outdated_give : (rs rs' : List Relation) (qs : List Query) (outdater : Query → Option Bytes) (n : ℕ) (xs : List Session)
-    → ((q : Query) → outdater q ≡ None → SameAnswers rs rs' q) → SessionsGive rs qs xs → SessionsGive rs' qs (outdated_sessions qs outdater n xs)
+outdated_give : (rs rs' : List Relation) (qs : List Listed) (outdater : Listed → Option Bytes) (n : ℕ) (xs : List Session)
+    → ((q : Listed) → outdater q ≡ None → SameAnswers rs rs' q) → SessionsGive rs qs xs → SessionsGive rs' qs (outdated_sessions qs outdater n xs)
 outdated_give rs rs' qs outdater n xs same h =
     all_mapped (SessionGives rs qs) (SessionGives rs' qs) (λ (x : Session). record x { cursors = map (outdated_cursor qs outdater n) x.cursors })
     (λ x g. all_mapped (CursorGives rs qs) (CursorGives rs' qs) (outdated_cursor qs outdater n)
-    (λ c k. position_outdated rs rs' (query_of qs c.query) c.position outdater n (outdater_of qs outdater c.query) refl same k) x.cursors g) xs h
+    (λ c k. position_outdated rs rs' (listed_of qs c.query) c.position outdater n (outdater_of qs outdater c.query) refl same k) x.cursors g) xs h
 
--- a query that a change of a relation doesn't outdate doesn't read it
-unread : (name : Bytes) (q : Query) → by_relation name q ≡ None → reads q name ≡ false
-unread name q h = at_read (reads q name) h
-  where
-    at_read : (b : Bool) → cond b (Some name) None ≡ None → b ≡ false
-    at_read true k = absurd cc
-    at_read false k = refl
-
-pub same_itself : (rs : List Relation) (q : Query) → SameAnswers rs rs q
+pub same_itself : (rs : List Relation) (q : Listed) → SameAnswers rs rs q
 same_itself rs q = record { there = λ t h. h; back = λ t h. h }
 
 -- A session that is changed, where the change keeps what its cursors give.
@@ -129,157 +110,58 @@ same_gives : (old new : State) → new ≡ old → CursorsGive old → CursorsGi
 same_gives old new e h = subst CursorsGive (sym e) h
 
 -- The commands.
-pub done_of : {A : Type 0} (o : Option Refusal) (a : A) (D : A → Type 0) (L : Refusal → Type 0) → Answers o (Ok a) D L → D a
-done_of None a D L h = h
-done_of (Some r) a D L h = absurd h
-
-relation_gives : (old : State) (name : Bytes) (types : List ColumnType) (r : Result ⊤ Refusal) (store : Store) (new : State) → MakesRelation old.store name types r store → new ≡ record old { store = store } → CursorsGive old → CursorsGive new
-relation_gives old name types (Ok u) store new h after g =
-    let e = done_of (rel_refusal old.store name types) u (λ _. store ≡ record old.store { relations = old.store.relations ++ record { name = name; types = types; rows = [] } ∷ [] }) (OutOfMemoryWhere ⊤) h.answer in
-    subst CursorsGive (sym (after ∙ ap (λ (st : Store). record old { store = st }) e))
-    (relations_give old.store.relations (old.store.relations ++ record { name = name; types = types; rows = [] } ∷ []) old.store.queries old.sessions
-    (new_relation_same old.store.relations name types) g)
-relation_gives old name types (Err r) store new h after g = same_gives old new (after ∙ ap (λ (st : Store). record old { store = st }) h.stays) g
-
--- a change that outdates, or none
-changed_gives : (old : State) (name : Bytes) (rows : List Tuple) (texts : List Bytes) (store : Store) (new : State)
-    → store ≡ record old.store { relations = with_rows old.store.relations name rows; texts = texts; seq = old.store.seq + 1 }
-    → new ≡ changed old name true store → CursorsGive old → CursorsGive new
-changed_gives old name rows texts store new e after g =
-    subst CursorsGive (sym (after ∙ ap (λ (st : Store). changed old name true st) e))
-    (outdated_give old.store.relations (with_rows old.store.relations name rows) old.store.queries (by_relation name) (old.store.seq + 1) old.sessions
-    (λ q apart. unread_same old.store.relations name rows q (unread name q apart)) g)
-
-unchanged_gives : (old : State) (name : Bytes) (store : Store) (new : State) → store ≡ old.store → new ≡ changed old name false store → CursorsGive old → CursorsGive new
-unchanged_gives old name store new e after g = same_gives old new (after ∙ ap (λ (st : Store). record old { store = st }) e) g
-
--- A late refusal changes no more than which texts are known.
-refused_texts : (old : Store) (texts : List Bytes) (new : Store) (r : Refusal) → RefusedByTexts old texts new r → new ≡ record old { texts = new.texts }
-refused_texts old texts new Limit h = h.1
-refused_texts old texts new NoMemory h = h.2
-refused_texts old texts new _ h = absurd h
-
-same_texts : (old new : Store) → new ≡ old → new ≡ record old { texts = new.texts }
-same_texts old new e = subst (λ (st : Store). st ≡ record old { texts = st.texts }) (sym e) refl
-
--- what a refusal changes: nothing by a condition, and what a late one does
-pub refused_store : {A : Type 0} (o : Option Refusal) (r : Refusal) (D : A → Type 0) (L : Refusal → Type 0) (old new : Store)
-    → Answers o (Err r) D L → (is_some o ≡ true → new ≡ old) → (L r → new ≡ record old { texts = new.texts })
-    → new ≡ record old { texts = new.texts }
-refused_store None r D L old new h stays late = late h
-refused_store (Some t) r D L old new h stays late = same_texts old new (stays refl)
-
--- texts that become known are nothing to cursors
-texts_give : (old : State) (store : Store) (new : State) → store ≡ record old.store { texts = store.texts } → new ≡ record old { store = store } → CursorsGive old → CursorsGive new
-texts_give old store new e after g = subst CursorsGive (sym (after ∙ ap (λ (st : Store). record old { store = st }) e)) g
-
-out_of_memory_gives : (old : State) (name : Bytes) (store : Store) (new : State) → store ≡ record old.store { texts = store.texts } → new ≡ changed old name true store → CursorsGive old → CursorsGive new
-out_of_memory_gives old name store new e after g =
-    subst CursorsGive (sym (after ∙ ap (λ (st : Store). changed old name true st) e))
-    (outdated_give old.store.relations old.store.relations old.store.queries (by_relation name) old.store.seq old.sessions (λ q apart. same_itself old.store.relations q) g)
-
--- a row that isn't added
-pub add_refused : (old : Store) (name : Bytes) (row : Tuple) (r : Refusal) (new : Store) → AddsRow old name row (Err r) new → new ≡ record old { texts = new.texts }
-add_refused old name row r new h =
-    refused_store (add_refusal old name row) r (AddsAs old name row new)
-    (λ t. (has_row (rows_of old.relations name) row ≡ false) × RefusedByTexts old (texts_in row) new t) old new h.answer h.stays
-    (λ late. refused_texts old (texts_in row) new r late.1)
-
-add_gives : (old : State) (name : Bytes) (row : Tuple) (r : Result AddOutcome Refusal) (store : Store) (new : State) → AddsRow old.store name row r store → new ≡ changed old name (add_outdates r) store → CursorsGive old → CursorsGive new
-add_gives old name row (Ok Added) store new h after g =
-    let d = done_of (add_refusal old.store name row) Added (AddsAs old.store name row store) _ h.answer in
-    changed_gives old name (rows_of old.store.relations name ++ row ∷ []) (all_learned old.store.texts (texts_in row)) store new d.2 after g
-add_gives old name row (Ok Same) store new h after g =
-    let d = done_of (add_refusal old.store name row) Same (AddsAs old.store name row store) _ h.answer in
-    unchanged_gives old name store new d.1 after g
-add_gives old name row (Err NoMemory) store new h after g = out_of_memory_gives old name store new (add_refused old.store name row NoMemory store h) after g
-add_gives old name row (Err r) store new h after g = texts_give old store new (add_refused old.store name row r store h) after g
-
-delete_gives : (old : State) (name : Bytes) (row : Tuple) (r : Result DeleteOutcome Refusal) (store : Store) (new : State) → DeletesRow old.store name row r store → new ≡ changed old name (delete_outdates r) store → CursorsGive old → CursorsGive new
-delete_gives old name row (Ok Removed) store new h after g =
-    let d = done_of (delete_refusal old.store name row) Removed (DeletesAs old.store name row store) (OutOfMemoryWhere ⊥) h.answer in
-    changed_gives old name (without_row (rows_of old.store.relations name) row) old.store.texts store new d.1 after g
-delete_gives old name row (Ok Absent) store new h after g =
-    let d = done_of (delete_refusal old.store name row) Absent (DeletesAs old.store name row store) (OutOfMemoryWhere ⊥) h.answer in
-    unchanged_gives old name store new d.1 after g
-delete_gives old name row (Err r) store new h after g = unchanged_gives old name store new h.stays after g
-
-pub query_late : (old : Store) (q : Query) (r : Refusal) (new : Store) → RefusedLate old q new r → new ≡ record old { texts = new.texts }
-query_late old q r new (inl h) = refused_texts old (texts_in (constants_of q.atoms)) new r h.1
-query_late old q r new (inr h) = same_texts old new h.1
-
-query_gives : (old : State) (q : Query) (r : Result QueryOutcome Refusal) (store : Store) (new : State) → RegistersQuery old.store q r store → new ≡ record old { store = store } → CursorsGive old → CursorsGive new
-query_gives old q (Ok (Registered most)) store new h after g =
-    let d = done_of (query_refusal old.store q) (Registered most) (RegistersAs old.store q store) (RefusedLate old.store q store) h.answer in
-    subst CursorsGive (sym (after ∙ ap (λ (st : Store). record old { store = st }) d.3)) (registered_give old.store.relations old.store.queries q old.sessions g)
-query_gives old q (Ok (Cyclic rest)) store new h after g =
-    let d = done_of (query_refusal old.store q) (Cyclic rest) (RegistersAs old.store q store) (RefusedLate old.store q store) h.answer in
-    same_gives old new (after ∙ ap (λ (st : Store). record old { store = st }) d.1) g
-query_gives old q (Ok (NotConnex rest)) store new h after g =
-    let d = done_of (query_refusal old.store q) (NotConnex rest) (RegistersAs old.store q store) (RefusedLate old.store q store) h.answer in
-    same_gives old new (after ∙ ap (λ (st : Store). record old { store = st }) d.1) g
-query_gives old q (Err r) store new h after g =
-    texts_give old store new
-    (refused_store (query_refusal old.store q) r (RegistersAs old.store q store) (RefusedLate old.store q store) old.store store h.answer h.stays (query_late old.store q r store)) after g
+-- What a command of rows makes of it, behind which cursors are stale or not.
+made_gives : (outdater : Listed → Option Bytes) (old : State) (o : RowsOutcome) (store : Store)
+    → RowsMade outdater old.store o store → CursorsGive old → CursorsGive (changed old (tried o) store)
+made_gives outdater old (accepted change) store h g =
+    subst (λ (st : Store). CursorsGive (changed old (Some change) st)) (sym h.store)
+    (outdated_give old.store.relations change.after old.store.queries change.outdater (old.store.seq + 1) old.sessions
+    h.spares g)
+made_gives outdater old (out_of_memory change) store h g =
+    let rs = old.store.relations in
+    subst (λ (st : Store). CursorsGive (changed old (Some change) st)) (sym h.store)
+    (outdated_give rs rs old.store.queries change.outdater old.store.seq old.sessions (λ q apart. same_itself rs q) g)
+made_gives outdater old unchanged store h g =
+    subst (λ (st : Store). CursorsGive (record old { store = st })) (sym h.store) g
 
 -- A query that no session uses is no cursor's.
-pub dropped_query : (qs : List Query) (name other : Bytes) → bytes_eq other name ≡ false → query_of (drop_first (λ p. bytes_eq p.name name) qs) other ≡ query_of qs other
+pub dropped_query : (qs : List Listed) (name other : Bytes) → bytes_eq other name ≡ false → listed_of (drop_first (λ p. bytes_eq (listed_name p) name) qs) other ≡ listed_of qs other
 dropped_query qs name other ne =
-    find_dropped (λ (p : Query). bytes_eq p.name name) (λ (p : Query). bytes_eq p.name other) (λ p e. apart_from p.name name other (bytes_eq p.name other) refl ne e) qs
+    find_dropped (λ (p : Listed). bytes_eq (listed_name p) name) (λ (p : Listed). bytes_eq (listed_name p) other) (λ p e. apart_from (listed_name p) name other (bytes_eq (listed_name p) other) refl ne e) qs
 
-dropped_give : (rs : List Relation) (qs : List Query) (q : Bytes) (xs : List Session) → list_any (uses q) xs ≡ false → SessionsGive rs qs xs → SessionsGive rs (drop_first (λ p. bytes_eq p.name q) qs) xs
+dropped_give : (rs : List Relation) (qs : List Listed) (q : Bytes) (xs : List Session) → list_any (uses q) xs ≡ false → SessionsGive rs qs xs → SessionsGive rs (drop_first (λ p. bytes_eq (listed_name p) q) qs) xs
 dropped_give rs qs q xs none h = λ k d lt.
     let x = slice_index_or xs k d in
     let unused = (none_or (list_any (λ (c : Cursor). bytes_eq c.query q) x.cursors) (list_any (λ w. bytes_eq w q) x.watches) (none_pass (uses q) xs none k d lt)).0 in
     λ j e within.
     let c = slice_index_or x.cursors j e in
-    subst (λ (o : Option Query). PositionGives rs o c.position) (sym (dropped_query qs q c.query (none_pass (λ (z : Cursor). bytes_eq z.query q) x.cursors unused j e within))) (h k d lt j e within)
+    subst (λ (o : Option Listed). PositionGives rs o c.position) (sym (dropped_query qs q c.query (none_pass (λ (z : Cursor). bytes_eq z.query q) x.cursors unused j e within))) (h k d lt j e within)
 
--- the condition on use doesn't hold of a query that is dropped
-pub unused_of : (a b : Bool) (r t : Refusal) (u : ⊤) (D : ⊤ → Type 0) (L : Refusal → Type 0) → Answers (cond a (Some r) (cond b (Some t) None)) (Ok u) D L → b ≡ false
-unused_of true b r t u D L h = absurd h
-unused_of false true r t u D L h = absurd h
-unused_of false false r t u D L h = refl
-
-drop_gives : (old : State) (q : Bytes) (r : Result ⊤ Refusal) (store : Store) (new : State) → DropsQuery old.store (list_any (uses q) old.sessions) q r store → new ≡ record old { store = store } → CursorsGive old → CursorsGive new
-drop_gives old q (Ok u) store new h after g =
-    let used = list_any (uses q) old.sessions in
-    let D = λ (_ : ⊤). store ≡ record old.store { queries = drop_first (λ p. bytes_eq p.name q) old.store.queries } in
-    let e = done_of (drop_refusal old.store used q) u D (OutOfMemoryWhere ⊥) h.answer in
-    let none = unused_of (is_none (query_of old.store.queries q)) used NoQuery InUse u D (OutOfMemoryWhere ⊥) h.answer in
-    subst CursorsGive (sym (after ∙ ap (λ (st : Store). record old { store = st }) e)) (dropped_give old.store.relations old.store.queries q old.sessions none g)
-drop_gives old q (Err r) store new h after g = same_gives old new (after ∙ ap (λ (st : Store). record old { store = st }) h.stays) g
+-- What a command of the store makes of it.
+stored_gives : (old : State) (store : Store) → Stored (in_use old) old.store store → CursorsGive old
+    → CursorsGive (record old { store = store })
+stored_gives old store (learns_texts h) g =
+    subst (λ (st : Store). CursorsGive (record old { store = st })) (sym h.store) g
+stored_gives old store (makes_relation name types none e) g =
+    subst (λ (st : Store). CursorsGive (record old { store = st })) (sym e)
+    (relations_give old.store.relations
+    (old.store.relations ++ record { name = name; types = types; rows = [] } ∷ []) old.store.queries old.sessions
+    (new_relation_same old.store.relations name types) g)
+stored_gives old store (registers q none connex few e) g =
+    subst (λ (st : Store). CursorsGive (record old { store = st })) (sym e)
+    (registered_give old.store.relations old.store.queries q old.sessions g)
+stored_gives old store (drops_query q unused e) g =
+    subst (λ (st : Store). CursorsGive (record old { store = st })) (sym e)
+    (dropped_give old.store.relations old.store.queries q old.sessions unused g)
 
 -- A cursor that opens has given nothing.
-pub opens_on : (o : Option Refusal) (u : ⊤) (L : Refusal → Type 0) → Answers o (Ok u) (λ _. ⊤) L → o ≡ None
-opens_on None u L h = refl
-opens_on (Some r) u L h = absurd h
-
-pub none_second : (a b : Bool) (r t : Refusal) (o : Option Refusal) → cond a (Some r) (cond b (Some t) o) ≡ None → b ≡ false
-none_second true b r t o h = absurd cc
-none_second false true r t o h = absurd cc
-none_second false false r t o h = refl
-
-pub query_there : (st : Store) (cursors : List Cursor) (c q : Bytes) → open_refusal st cursors c q ≡ None → is_none (query_of st.queries q) ≡ false
-query_there st cursors c q h =
-    none_second (is_some (cursor_of cursors c)) (is_none (query_of st.queries q)) Taken NoQuery (first_of ((nat_le CURSORS (length cursors), Limit) ∷ [])) h
-
-nothing_given : (rs : List Relation) (o : Option Query) → is_none o ≡ false → PositionGives rs o (open_at [] false)
+nothing_given : (rs : List Relation) (o : Option Listed) → IsSome o → PositionGives rs o (open_at [] false)
 nothing_given rs None h = absurd cc
 nothing_given rs (Some q) h = record {
   different = λ i j d lt in_range. absurd (omega arith);
-  answers = All-nil (IsAnswer rs q);
+  answers = All-nil (AnswersOf rs q);
   listing = λ e. absurd cc;
 }
-
-open_gives : (old : State) (s : ℕ) (x : Session) (c q : Bytes) (r : Result ⊤ Refusal) (new : State) → Answers (open_refusal old.store x.cursors c q) r (λ _. ⊤) (OutOfMemoryWhere ⊤)
-    → OpensTo old s c q new r → CursorsGive old → CursorsGive new
-open_gives old s x c q (Ok u) new answer after g =
-    let there = query_there old.store x.cursors c q (opens_on (open_refusal old.store x.cursors c q) u (OutOfMemoryWhere ⊤) answer) in
-    session_gives old new s (with_cursor c q) after
-    (λ y found k. All-push (CursorGives old.store.relations old.store.queries) y.cursors (record { name = c; query = q; position = open_at [] false }) k
-    (nothing_given old.store.relations (query_of old.store.queries q) there)) g
-open_gives old s x c q (Err r) new answer after g = same_gives old new after g
 
 -- What `next` tells comes behind what was given.
 told_gives : (Answer : Tuple → Type 0) (given : List Tuple) (finished : Bool) (count : ℕ) (told : List Tuple) (end : Bool)
@@ -297,105 +179,104 @@ ends_gives old s cause new after g =
     session_gives old new s (ended_by cause) after (λ x found k. All-nil (CursorGives old.store.relations old.store.queries)) g
 
 -- the cursor that is read, in the session that reads it
-moved_gives : (rs : List Relation) (qs : List Query) (cursors : List Cursor) (c : Bytes) (k : Cursor) (position : Position) → cursor_of cursors c ≡ Some k
-    → PositionGives rs (query_of qs k.query) position → All (CursorGives rs qs) cursors → All (CursorGives rs qs) (with_position cursors c position)
+moved_gives : (rs : List Relation) (qs : List Listed) (cursors : List Cursor) (c : Bytes) (k : Cursor) (position : Position) → cursor_of cursors c ≡ Some k
+    → PositionGives rs (listed_of qs k.query) position → All (CursorGives rs qs) cursors → All (CursorGives rs qs) (with_position cursors c position)
 moved_gives rs qs cursors c k position found gives h =
     all_changed (CursorGives rs qs) (λ (z : Cursor). bytes_eq z.name c) (λ (z : Cursor). record z { position = position }) cursors h
-    (λ z at old. let e : k ≡ z = same_found (cursor_of cursors c) k z found at in subst (λ (y : Cursor). PositionGives rs (query_of qs y.query) position) e gives)
+    (λ z at old. let e : k ≡ z = same_found (cursor_of cursors c) k z found at in subst (λ (y : Cursor). PositionGives rs (listed_of qs y.query) position) e gives)
   where
     same_found : (o : Option Cursor) (y z : Cursor) → o ≡ Some y → o ≡ Some z → y ≡ z
     same_found o y z e f = cc
 
-next_at_gives : (old : State) (s : ℕ) (x : Session) (c : Bytes) (k : Cursor) (q : Query) (count : ℕ) (p : Position) (e : Effect) (new : State)
-    → session_of old s ≡ Some x → cursor_of x.cursors c ≡ Some k → query_of old.store.queries k.query ≡ Some q → PositionGives old.store.relations (query_of old.store.queries k.query) p
-    → NextStepAt old s c q count p e new → CursorsGive old → CursorsGive new
-next_at_gives old s x c k q count (stale r n) e new at found is_query gave h g = same_gives old new h.1 g
-next_at_gives old s x c k q count (open_at given finished) e new at found is_query gave (inr h) g = ends_gives old s Memory new h.state g
-next_at_gives old s x c k q count (open_at given finished) e new at found is_query gave (inl h) g =
-    let before : Gives (IsAnswer old.store.relations q) given finished = rw is_query at gave in
-    let after = told_gives (IsAnswer old.store.relations q) given finished count h.told h.end before h.tells in
-    let now : PositionGives old.store.relations (query_of old.store.queries k.query) (open_at (given ++ h.told) h.end) = rw is_query after in
-    session_gives old new s (λ y. record y { cursors = with_position y.cursors c (open_at (given ++ h.told) h.end) }) h.state
+-- a session whose cursors stay
+cursors_stay : (old new : State) (s : ℕ) (f : Session → Session) → ((x : Session) → (f x).cursors ≡ x.cursors)
+    → new ≡ with_session old s f → CursorsGive old → CursorsGive new
+cursors_stay old new s f same after g =
+    session_gives old new s f after
+    (λ x found k. subst (λ (cs : List Cursor). All (CursorGives old.store.relations old.store.queries) cs)
+    (sym (same x)) k) g
+
+-- What a turn makes of a session.
+moves_give : (old : State) (s : ℕ) (x : Session) (c : Bytes) (new : State) → session_of old s ≡ Some x
+    → MovesCursor old s x c new → CursorsGive old → CursorsGive new
+moves_give old s x c new at h g =
+    let session = all_found (SessionGives old.store.relations old.store.queries)
+    (λ (y : Session). y.id == s) old.sessions x g at in
+    let gave = all_found (CursorGives old.store.relations old.store.queries)
+    (λ (z : Cursor). bytes_eq z.name c) x.cursors h.cursor session h.is in
+    let before : Gives (AnswersOf old.store.relations h.query) h.given h.finished =
+    held (listed_of old.store.queries (h.cursor).query) (h.cursor).position h.over h.stands gave in
+    let after = told_gives (AnswersOf old.store.relations h.query) h.given h.finished h.count h.told h.end before
+    h.tells in
+    let position = open_at (h.given ++ h.told) h.end in
+    let now : PositionGives old.store.relations (listed_of old.store.queries (h.cursor).query) position =
+    subst (λ (o : Option Listed). PositionGives old.store.relations o position) (sym h.over) after in
+    session_gives old new s (λ y. record y { cursors = with_position y.cursors c position }) h.state
     (λ y here cursors. let same : x ≡ y = same_found (session_of old s) x y at here in
-    moved_gives old.store.relations old.store.queries y.cursors c k (open_at (given ++ h.told) h.end) (ap (λ (z : Session). cursor_of z.cursors c) (sym same) ∙ found) now cursors) g
+    moved_gives old.store.relations old.store.queries y.cursors c h.cursor position
+    (ap (λ (z : Session). cursor_of z.cursors c) (sym same) ∙ h.is) now cursors) g
   where
     same_found : (o : Option Session) (y z : Session) → o ≡ Some y → o ≡ Some z → y ≡ z
     same_found o y z e f = cc
 
-next_gives : (old : State) (s : ℕ) (x : Session) (c : Bytes) (count : ℕ) (o : Option Cursor) (e : Effect) (new : State) → session_of old s ≡ Some x → cursor_of x.cursors c ≡ o
-    → MatchOption o (RefusedStep old s NoCursor e new) (λ k. IsSomeAnd (query_of old.store.queries k.query) (λ q. NextStepAt old s c q count k.position e new)) → CursorsGive old → CursorsGive new
-next_gives old s x c count None e new at found h g = same_gives old new h.1 g
-next_gives old s x c count (Some k) e new at found h g =
-    let f = some_and (query_of old.store.queries k.query) (λ q. NextStepAt old s c q count k.position e new) h in
-    let session = all_found (SessionGives old.store.relations old.store.queries) (λ (y : Session). y.id == s) old.sessions x g at in
-    let gave = all_found (CursorGives old.store.relations old.store.queries) (λ (z : Cursor). bytes_eq z.name c) x.cursors k session found in
-    next_at_gives old s x c k f.0 count k.position e new at found f.1 gave f.2 g
+    held : (o : Option Listed) (p : Position) → o ≡ Some h.query → p ≡ open_at h.given h.finished
+        → PositionGives old.store.relations o p
+        → Gives (AnswersOf old.store.relations h.query) h.given h.finished
+    held o p over stands k =
+        subst (λ (r : Position). PositionGives old.store.relations (Some h.query) r) stands
+        (subst (λ (r : Option Listed). PositionGives old.store.relations r p) over k)
 
-close_gives : (old : State) (s : ℕ) (c : Bytes) (o : Option Cursor) (e : Effect) (new : State)
-    → MatchOption o (RefusedStep old s NoCursor e new) (λ k. CloseStep old s c e new) → CursorsGive old → CursorsGive new
-close_gives old s c None e new h g = same_gives old new h.1 g
-close_gives old s c (Some k) e new h g =
-    session_gives old new s (λ y. record y { cursors = drop_first (λ z. bytes_eq z.name c) y.cursors }) h.1
+turned_gives : (old : State) (s : ℕ) (x : Session) (t : Turn) (new : State) → session_of old s ≡ Some x
+    → Turned old s x t new → CursorsGive old → CursorsGive new
+turned_gives old s x (opens_cursor c q) new at h g =
+    session_gives old new s (with_cursor c q) h.2
+    (λ y found k. All-push (CursorGives old.store.relations old.store.queries) y.cursors
+    (record { name = c; query = q; position = open_at [] false }) k
+    (nothing_given old.store.relations (listed_of old.store.queries q) h.1)) g
+turned_gives old s x (moves_cursor c) new at h g = moves_give old s x c new at h g
+turned_gives old s x (closes_cursor c) new at h g =
+    session_gives old new s (without_cursor c) h
     (λ y found k. all_dropped (CursorGives old.store.relations old.store.queries) (λ (z : Cursor). bytes_eq z.name c) y.cursors k) g
+turned_gives old s x (starts_watching q) new at h g = cursors_stay old new s (with_watch q) (λ y. refl) h.1 g
+turned_gives old s x (stops_watching q) new at h g = cursors_stay old new s (without_watch q) (λ y. refl) h g
 
--- `stop` changes nothing of the cursors but that the session's are given up
-stopped_gives : (old : State) → CursorsGive old → CursorsGive (record old { stopped = true })
-stopped_gives old g = g
-
--- a session whose cursors stay
-cursors_stay : (old new : State) (s : ℕ) (f : Session → Session) → ((x : Session) → (f x).cursors ≡ x.cursors) → new ≡ with_session old s f → CursorsGive old → CursorsGive new
-cursors_stay old new s f same after g =
-    session_gives old new s f after (λ x found k. subst (λ (cs : List Cursor). All (CursorGives old.store.relations old.store.queries) cs) (sym (same x)) k) g
+replied_gives : (s : ℕ) (mid new : State) → Replied s mid new → CursorsGive mid → CursorsGive new
+replied_gives s mid new (is_whole after) g = same_gives mid new after g
+replied_gives s mid new (is_cut after) g = ends_gives mid s Memory new after g
 
 -- What a change tells ends sessions, and changes no cursor of the others.
-change_gives : (old : State) (s : ℕ) (name : Bytes) (rows : List Tuple) (outdates accepted : Bool) (store : Store) (reply : Bytes) (e : Effect) (new : State)
-    → ChangeStep old s name rows outdates accepted store reply e new → CursorsGive (changed old name outdates store) → CursorsGive new
-change_gives old s name rows outdates accepted store reply e new h g =
+change_gives : (old : State) (s : ℕ) (outcome : RowsOutcome) (store : Store) (reply : Bytes) (e : Effect) (new : State)
+    → ChangeStep old s outcome store reply e new → CursorsGive (changed old (tried outcome) store) → CursorsGive new
+change_gives old s outcome store reply e new h g =
     subst CursorsGive (sym h.state)
     (change_keeps (λ (m : Telling). CursorsGive m.state) (λ m t text there k. k) (λ m t text cause may there k. ends_gives m.state t cause (with_session m.state t (ended_by cause)) refl k)
-    old s name rows outdates accepted store reply e new h g)
+    old s outcome store reply e new h g)
 
-becomes_gives : (old : State) (s : ℕ) (f : Session → Session) (new : State) (r : Result ⊤ Refusal) → ((x : Session) → (f x).cursors ≡ x.cursors) → BecomesWhere old s f new r → CursorsGive old → CursorsGive new
-becomes_gives old s f new (Ok u) same after g = cursors_stay old new s f same after g
-becomes_gives old s f new (Err r) same after g = same_gives old new after g
+turn_gives : (old : State) (s : ℕ) (x : Session) (t : Turn) (new : State) → session_of old s ≡ Some x
+    → DoesTurn old s x t new → CursorsGive old → CursorsGive new
+turn_gives old s x t new found (is_turned h) g = turned_gives old s x t new found h g
+turn_gives old s x t new found (is_refused r) g = replied_gives s old new r g
 
-register_gives : (old : State) (s : ℕ) (q : Query) (e : Effect) (new : State) → QueryStep old s q e new ⊎ QueryCutStep old s q e new → CursorsGive old → CursorsGive new
-register_gives old s q e new (inl h) g = query_gives old q h.result h.store new h.done h.state g
-register_gives old s q e new (inr h) g =
-    let mid : State = record old { store = h.store } in
-    ends_gives mid s Memory new h.ends.1 (query_gives old q h.result h.store mid h.done refl g)
-
-lines_give : (old : State) (s : ℕ) (lines : List Bytes) (e : Effect) (new : State) → TellsLines old s lines e new → CursorsGive old → CursorsGive new
-lines_give old s lines e new (inl h) g = same_gives old new h.1 g
-lines_give old s lines e new (inr (told, lacking, rest, parts, ends)) g = ends_gives old s Memory new ends.1 g
-
-explain_gives : (old : State) (s : ℕ) (o : Option Query) (e : Effect) (new : State) → MatchOption o (RefusedStep old s NoQuery e new) (λ q. ExplainStep old s q e new) → CursorsGive old → CursorsGive new
-explain_gives old s None e new h g = same_gives old new h.1 g
-explain_gives old s (Some q) e new h g = lines_give old s (explain_lines q h.tree) e new h.tells g
-
-command_gives : (old : State) (s : ℕ) (x : Session) (c : Command) (e : Effect) (new : State) → session_of old s ≡ Some x → CommandStep old s x c e new → CursorsGive old → CursorsGive new
-command_gives old s x (Rel name types) e new found h g = relation_gives old name types h.result h.store new h.done h.state g
-command_gives old s x (Add name row) e new found h g =
-    change_gives old s name _ _ _ h.store _ e new h.change (add_gives old name row h.result h.store (changed old name (add_outdates h.result) h.store) h.done refl g)
-command_gives old s x (Del name row) e new found h g =
-    change_gives old s name _ _ _ h.store _ e new h.change (delete_gives old name row h.result h.store (changed old name (delete_outdates h.result) h.store) h.done refl g)
-command_gives old s x (Register q) e new found h g = register_gives old s q e new h g
-command_gives old s x (Open c q) e new found h g = open_gives old s x c q h.result new h.answer h.state g
-command_gives old s x (Next c count) e new found h g = next_gives old s x c count (cursor_of x.cursors c) e new found refl h g
-command_gives old s x (Close c) e new found h g = close_gives old s c (cursor_of x.cursors c) e new h g
-command_gives old s x Quit e new found h g = ends_gives old s _ new h.1 g
-command_gives old s x Stop e new found h g = ends_gives (record old { stopped = true }) s _ new h.1 (stopped_gives old g)
-command_gives old s x (Drop q) e new found h g = drop_gives old q h.result h.store new h.done h.state g
-command_gives old s x (Has q row) e new found h g = same_gives old new h.state g
-command_gives old s x (Watch q) e new found h g = becomes_gives old s (with_watch q) new h.result (λ y. refl) h.state g
-command_gives old s x (Unwatch q) e new found h g = becomes_gives old s (without_watch q) new h.result (λ y. refl) h.state g
-command_gives old s x (Explain q) e new found h g = explain_gives old s (query_of old.store.queries q) e new h g
+form_gives : (f : Form) (old : State) (s : ℕ) (x : Session) (e : Effect) (new : State) → session_of old s ≡ Some x
+    → Does f old s x e new → CursorsGive old → CursorsGive new
+form_gives asking old s x e new found h g = replied_gives s old new h.1 g
+form_gives storing old s x e new found h g =
+    replied_gives s (record old { store = h.1.store }) new h.1.replied (stored_gives old h.1.store h.1.stored g)
+form_gives (turning t) old s x e new found h g = turn_gives old s x t new found h.1 g
+form_gives (changing c) old s x e new found h g =
+    let d = rows_do old s c e new h in
+    change_gives old s d.outcome d.store d.reply e new d.change
+    (made_gives (outdater_by c) old d.outcome d.store d.made g)
+form_gives ending old s x e new found h g =
+    ends_gives (record old { stopped = h.1.stopped }) s h.1.cause new h.1.state g
 
 -- The front of a session's bytes.
-read_gives : (old : State) (s : ℕ) (x : Session) (r : Reading) (e : Effect) (new : State) → session_of old s ≡ Some x → ReadStep old s x r e new → CursorsGive old → CursorsGive new
-read_gives old s x (refused r) e new found h g = same_gives old new h.1 g
-read_gives old s x (says_command c) e new found (true, h) g = command_gives old s x c e new found h g
-read_gives old s x (says_command c) e new found (false, h) g = same_gives old new h.1.1 g
+read_gives : (old : State) (s : ℕ) (x : Session) (l : Bytes) (r : Reading) (e : Effect) (new : State) → session_of old s ≡ Some x → ReadStep old s x l r e new → CursorsGive old → CursorsGive new
+read_gives old s x l outside e new found h g = same_gives old new h.1 g
+read_gives old s x l (past_limit c) e new found h g = same_gives old new h.1 g
+read_gives old s x l (says_command c) e new found (true, h) g =
+    form_gives (form_of c) old s x e new found (command_does old s x c e new h) g
+read_gives old s x l (says_command c) e new found (false, h) g = same_gives old new h.1.1 g
 
 without_line_gives : (old : State) (s : ℕ) (rest : Bytes) → CursorsGive old → CursorsGive (with_session old s (behind_line rest))
 without_line_gives old s rest g = cursors_stay old (with_session old s (behind_line rest)) s (behind_line rest) (λ x. refl) refl g
@@ -409,7 +290,7 @@ front_gives old s x (run l) e new found h g =
     let rest = h.2.rest in
     let here : session_of (with_session old s (behind_line rest)) s ≡ Some (behind_line rest x) =
     session_changed old s (behind_line rest) (λ y. refl) ∙ ap (λ o. option_map (behind_line rest) o) found in
-    read_gives (with_session old s (behind_line rest)) s (behind_line rest x) (reading_of l) e new here h.2.then (without_line_gives old s rest g)
+    read_gives (with_session old s (behind_line rest)) s (behind_line rest x) l (reading_of l) e new here h.2.then (without_line_gives old s rest g)
 
 -- The events.
 opened_gives : (old mid : State) (s : ℕ) → ((length old.sessions < SESSIONS) × (mid ≡ record old { sessions = old.sessions ++ fresh s ∷ [] })) ⊎ (mid ≡ old) → CursorsGive old → CursorsGive mid

@@ -2,6 +2,8 @@ pub mod Finding
 pub mod Queueing
 mod Told
 pub mod Changing
+pub mod Forms
+pub mod Rows
 pub mod Alike
 pub mod Touching
 pub mod Moving
@@ -15,7 +17,6 @@ pub mod Courses
 pub mod Heading
 pub mod Stopping
 pub mod Containing
-pub mod Deciding
 pub mod Adding
 pub mod Telling
 pub mod Watching

@@ -40,8 +40,8 @@ use Rattle.std.proofs.lemmas.Bool.{eqb-true, eq-eqb}
 use Rattle.std.proofs.lemmas.List.{map-append}
 use Rattle.std.proofs.lemmas.Grind.{flat_map-append}
 use Rattle.std.proofs.lemmas.List.Elements.{All-nil, All-head, All-tail, All-contains}
-use Rattle.djq_model.specs.declared.query.Query.{Query}
-use Rattle.djq_model.specs.Data.{Bytes, Tuple, bytes_eq, drop_first, query_of}
+use Rattle.djq_model.specs.Data.{Bytes, Tuple, bytes_eq, drop_first}
+use Rattle.djq_model.specs.Listed.{Listed, listed_of}
 use Rattle.djq_model.specs.Equality.{bytes_eq-decides}
 use Rattle.djq_lines.specs.Conditions.{Answers, OutOfMemoryWhere}
 use Rattle.djq_lines.specs.declared.limits.TheConstants.{SESSIONS}
@@ -64,23 +64,8 @@ use Rattle.djq_lines.specs.declared.answer.Refusal.TheVariants.{
   InUse,
 }
 use Rattle.djq_lines.specs.declared.command.Command.{Command}
-use Rattle.djq_lines.specs.declared.command.Command.TheVariants.{
-  Rel,
-  Add,
-  Del,
-  Query as Register,
-  Drop,
-  Open,
-  Next,
-  Close,
-  Has,
-  Watch,
-  Unwatch,
-  Explain,
-  Quit,
-  Stop,
-}
-use Rattle.djq_lines.specs.Grammar.{Reading, refused, says as says_command, reading_of, takes_memory_to_read}
+use Rattle.djq_lines.specs.declared.command.Command.TheVariants.{Open, Next}
+use Rattle.djq_lines.specs.Grammar.{Reading, outside, past_limit, says as says_command, reading_of, takes_memory_to_read}
 use Rattle.djq_lines.specs.Reply.{line, refusal_line, ok_reply, text_of, listing_lines, end_memory}
 use Rattle.djq_machine.specs.State.{
   Store,
@@ -91,32 +76,17 @@ use Rattle.djq_machine.specs.State.{
   open_at,
   stale,
   fresh,
-  opening,
   session_of,
   with_session,
   cursor_of,
   with_position,
   ended_by,
 }
-use Rattle.djq_machine.specs.Stale.{outdated, outdater_of, outdated_cursor, by_relation, changed}
+use Rattle.djq_machine.specs.Stale.{outdated, outdater_of, outdated_cursor}
+use Rattle.djq_machine.specs.Changes.{RowsChange, RowsOutcome, tried, changed}
 use Rattle.djq_machine.specs.Watch.{Telling, ChangeStep}
 use Rattle.djq_machine.specs.Effect.{Effect, nothing, says, EndsWith, RefusedStep, queue, queue_all}
-use Rattle.djq_machine.specs.Command.{
-  open_refusal,
-  with_cursor,
-  OpensTo,
-  BecomesWhere,
-  with_watch,
-  without_watch,
-  NextStepAt,
-  CloseStep,
-  CommandStep,
-  QueryStep,
-  QueryCutStep,
-  ExplainStep,
-  TellsLines,
-  explain_lines,
-}
+use Rattle.djq_machine.specs.Command.{open_refusal, with_cursor, OpensTo, with_watch, without_watch, NextStepAt, CommandStep}
 use Rattle.djq_machine.specs.LineStep.{LineOutcome, long, blank, slow, no_room, run, ReadStep, FrontStep, behind_line}
 use Rattle.djq_machine.specs.Step.{
   Event,
@@ -134,7 +104,8 @@ use Rattle.djq_machine.specs.Step.{
   Step,
 }
 use Rattle.djq_machine.specs.Run.{Did, Run, to_session}
-use Rattle.djq_laws.specs.Sound.{AreApart, IsSoundSession, IsSoundState}
+use Rattle.djq_deltas.proofs.Lists.{nothing_there, first_or_later, mapped_there, pairs_head, pairs_tail}
+use Rattle.djq_laws.specs.Sound.{AreApart, IsSoundSession, IsSoundState, IsStart}
 use Rattle.djq_laws.specs.Listed.{
   ListedIsTold,
   is_opened,
@@ -150,23 +121,22 @@ use Rattle.djq_laws.specs.Listed.{
   position_of,
   GivenIsTold,
 }
+use Rattle.djq_laws.specs.Form.{form_of, Form, asking, storing, turning, changing, ending, Turn, opens_cursor, moves_cursor, closes_cursor, starts_watching, stops_watching, Replied, is_whole, is_cut, MovesCursor, without_cursor, Turned, DoesTurn, is_turned, is_refused, Does}
 use Rattle.djq_laws.proofs.Finding.{some_and, find_changed, find_other, find_dropped}
 use Rattle.djq_laws.proofs.Told.{change_keeps}
 use Rattle.djq_laws.proofs.Queueing.{session_changed, session_other}
 use Rattle.djq_laws.proofs.Changing.{all_found}
 use Rattle.djq_laws.proofs.Touching.{says_to, said}
-use Rattle.djq_laws.proofs.Adding.{pairs_head, pairs_tail}
 use Rattle.djq_machine.specs.Gives.{PositionGives, CursorsGive}
-use Rattle.djq_laws.proofs.Containing.{nothing_there, first_or_later, mapped_there}
 use Rattle.djq_laws.proofs.Live.{listed}
-use Rattle.djq_laws.proofs.Giving.{opens_on, runs_give}
-use Rattle.djq_laws.proofs.Storing.{none_found}
+use Rattle.djq_laws.proofs.Forms.{none_holds, none_found, none_first, next_does, command_does}
+use Rattle.djq_laws.proofs.Rows.{rows_do}
+use Rattle.djq_laws.proofs.Giving.{runs_give}
 use Rattle.djq_laws.proofs.Sounding.{
   states_are_sound,
   AreKept,
-  none_first,
   step_sound,
-  opening_sound,
+  start_sound,
   without_line_kept,
 }
 
@@ -347,7 +317,7 @@ module _ (s : ℕ) (c : Bytes) where
       (λ e x is. cursors_same x.cursors (f x).cursors (ap (λ ks. cursor_of ks c) (same x)))
 
   -- a change of rows
-  module _ (qs : List Query) (outdater : Query → Option Bytes) (n : ℕ) where
+  module _ (qs : List Listed) (outdater : Listed → Option Bytes) (n : ℕ) where
     outdated_found : (o : Option Cursor) (given : List Tuple) (finished : Bool)
         → option_map (λ (k : Cursor). k.position) (option_map (outdated_cursor qs outdater n) o) ≡ Some
         (open_at given finished)
@@ -370,59 +340,44 @@ module _ (s : ℕ) (c : Bytes) where
     outdated_session None given finished h = h
     outdated_session (Some x) given finished h = outdated_cursors x.cursors given finished h
 
-  back_changed : (old : State) (name : Bytes) (outdates : Bool) (store : Store)
-      → Back old (changed old name outdates store)
-  back_changed old name false store given finished at = at
-  back_changed old name true store given finished at =
-      outdated_session old.store.queries (by_relation name) store.seq (session_of old s) given finished
+  back_changed : (old : State) (o : Option RowsChange) (store : Store) → Back old (changed old o store)
+  back_changed old None store given finished at = at
+  back_changed old (Some change) store given finished at =
+      outdated_session old.store.queries change.outdater store.seq (session_of old s) given finished
       (ap (λ o. position_in o c) (sym (find_mapped (λ (x : Session). x.id == s)
       (λ (x : Session). record x {
-        cursors = map (outdated_cursor old.store.queries (by_relation name) store.seq)
+        cursors = map (outdated_cursor old.store.queries change.outdater store.seq)
             x.cursors;
       }) (λ x. refl) old.sessions)) ∙ at)
 
-  back_change : (old : State) (t : ℕ) (name : Bytes) (rows : List Tuple) (outdates accepted : Bool) (store : Store)
+  back_change : (old : State) (t : ℕ) (outcome : RowsOutcome) (store : Store)
       (reply : Bytes) (e : Effect) (new : State)
-      → ChangeStep old t name rows outdates accepted store reply e new → Back old new
-  back_change old t name rows outdates accepted store reply e new h =
+      → ChangeStep old t outcome store reply e new → Back old new
+  back_change old t outcome store reply e new h =
       subst (λ (st : State). Back old st) (sym h.state)
       (change_keeps (λ (m : Telling). Back old m.state) (λ m i text there k. k)
       (λ m i text cause may there k. back_then old m.state (with_session m.state i (ended_by cause)) k
       (back_ends m.state (with_session m.state i (ended_by cause)) i cause refl))
-      old t name rows outdates accepted store reply e new h (back_changed old name outdates store))
+      old t outcome store reply e new h (back_changed old (tried outcome) store))
 
-  -- the commands
-  back_open : (old : State) (t : ℕ) (d q : Bytes) (r : Result ⊤ Refusal) (new : State)
-      → ((t == s) ≡ true → bytes_eq d c ≡ false) → OpensTo old t d q new r → Back old new
-  back_open old t d q (Ok u) new apart after =
+  -- what a turn makes of a session
+  back_opens : (old : State) (t : ℕ) (d q : Bytes) (new : State) → ((t == s) ≡ true → bytes_eq d c ≡ false)
+      → new ≡ with_session old t (with_cursor d q) → Back old new
+  back_opens old t d q new apart after =
       let more : Cursor = record { name = d; query = q; position = open_at [] false } in
       back_with old new t (with_cursor d q) (λ x. refl) after
       (λ e x is. cursors_same x.cursors (x.cursors ++ more ∷ [])
       (find_front (λ (k : Cursor). bytes_eq k.name c) x.cursors more (apart e)))
-  back_open old t d q (Err r) new apart after = back_same old new after
 
-  back_next_at : (old : State) (t : ℕ) (d : Bytes) (q : Query) (count : ℕ) (p : Position) (e : Effect) (new : State)
-      → ((t == s) ≡ true → bytes_eq d c ≡ false)
-      → NextStepAt old t d q count p e new → Back old new
-  back_next_at old t d q count (stale r n) e new apart h = back_same old new h.1
-  back_next_at old t d q count (open_at g f) e new apart (inr h) = back_ends old new t Memory h.state
-  back_next_at old t d q count (open_at g f) e new apart (inl h) =
-      let to = open_at (g ++ h.told) h.end in
+  back_moves : (old : State) (t : ℕ) (x : Session) (d : Bytes) (new : State)
+      → ((t == s) ≡ true → bytes_eq d c ≡ false) → MovesCursor old t x d new → Back old new
+  back_moves old t x d new apart h =
+      let to = open_at (h.given ++ h.told) h.end in
       back_with old new t (λ x. record x { cursors = with_position x.cursors d to }) (λ x. refl) h.state
       (λ same x is. cursors_same x.cursors (with_position x.cursors d to)
       (find_other (λ (k : Cursor). bytes_eq k.name d) (λ (k : Cursor). bytes_eq k.name c)
       (λ (k : Cursor). record k { position = to }) (λ k. refl)
       (λ k here. has_other d c k.name (apart same) here) x.cursors))
-
-  back_next : (old : State) (t : ℕ) (d : Bytes) (count : ℕ) (o : Option Cursor) (e : Effect) (new : State)
-      → ((t == s) ≡ true → bytes_eq d c ≡ false)
-      → MatchOption o (RefusedStep old t NoCursor e new)
-      (λ k. IsSomeAnd (query_of old.store.queries k.query) (λ q. NextStepAt old t d q count k.position e new))
-      → Back old new
-  back_next old t d count None e new apart h = back_same old new h.1
-  back_next old t d count (Some k) e new apart h =
-      let f = some_and (query_of old.store.queries k.query) (λ q. NextStepAt old t d q count k.position e new) h in
-      back_next_at old t d f.0 count k.position e new apart f.2
 
   closed_cursors : (ks : List Cursor) (d : Bytes) (b : Bool) → bytes_eq d c ≡ b
       → AreApart (map (λ (k : Cursor). k.name) ks) → CursorsBack ks (drop_first (λ (k : Cursor). bytes_eq k.name d) ks)
@@ -436,66 +391,52 @@ module _ (s : ℕ) (c : Bytes) where
       (find_dropped (λ (k : Cursor). bytes_eq k.name d) (λ (k : Cursor). bytes_eq k.name c)
       (λ k here. has_other d c k.name e here) ks)
 
-  back_close : (old : State) (t : ℕ) (d : Bytes) (o : Option Cursor) (e : Effect) (new : State) → AreKept old
-      → MatchOption o (RefusedStep old t NoCursor e new) (λ k. CloseStep old t d e new) → Back old new
-  back_close old t d None e new kept h = back_same old new h.1
-  back_close old t d (Some k) e new kept h =
-      back_with old new t (λ x. record x { cursors = drop_first (λ z. bytes_eq z.name d) x.cursors }) (λ x. refl) h.1
-      (λ same x is. closed_cursors x.cursors d (bytes_eq d c) refl
-      (all_found (IsSoundSession old.store.queries) (λ (y : Session). y.id == s) old.sessions x kept.1 is).names)
-
-  back_becomes : (old : State) (t : ℕ) (f : Session → Session) (new : State) (r : Result ⊤ Refusal)
-      → ((x : Session) → (f x).id ≡ x.id) → ((x : Session) → (f x).cursors ≡ x.cursors)
-      → BecomesWhere old t f new r → Back old new
-  back_becomes old t f new (Ok u) keeps same after = back_kept old new t f keeps same after
-  back_becomes old t f new (Err r) keeps same after = back_same old new after
-
-  back_store : (old : State) (store : Store) (new : State) → new ≡ record old { store = store } → Back old new
-  back_store old store new after given finished at = ap (λ st. position_of st s c) (sym after) ∙ at
-
-  back_query : (old : State) (t : ℕ) (q : Query) (e : Effect) (new : State)
-      → QueryStep old t q e new ⊎ QueryCutStep old t q e new → Back old new
-  back_query old t q e new (inl h) = back_store old h.store new h.state
-  back_query old t q e new (inr h) =
-      let mid : State = record old { store = h.store } in
-      back_then old mid new (back_store old h.store mid refl) (back_ends mid new t Memory h.ends.1)
-
-  back_lines : (old : State) (t : ℕ) (lines : List Bytes) (e : Effect) (new : State) → TellsLines old t lines e new
-      → Back old new
-  back_lines old t lines e new (inl h) = back_same old new h.1
-  back_lines old t lines e new (inr (told, lacking, rest, parts, ends)) = back_ends old new t Memory ends.1
-
-  back_explain : (old : State) (t : ℕ) (o : Option Query) (e : Effect) (new : State)
-      → MatchOption o (RefusedStep old t NoQuery e new) (λ q. ExplainStep old t q e new) → Back old new
-  back_explain old t None e new h = back_same old new h.1
-  back_explain old t (Some q) e new h = back_lines old t (explain_lines q h.tree) e new h.tells
-
-  -- whether a command is `open` or `next` of a cursor of the name
-  abbrev is_of : Command → Bool
-  is_of (Open d q) = bytes_eq d c
-  is_of (Next d count) = bytes_eq d c
+  -- whether a command of a form opens or moves a cursor of the name
+  abbrev is_of : Form → Bool
+  is_of (turning (opens_cursor d q)) = bytes_eq d c
+  is_of (turning (moves_cursor d)) = bytes_eq d c
   is_of _ = false
 
+  back_turned : (old : State) (t : ℕ) (x : Session) (turn : Turn) (new : State) → AreKept old
+      → ((t == s) ≡ true → is_of (turning turn) ≡ false) → Turned old t x turn new → Back old new
+  back_turned old t x (opens_cursor d q) new kept apart h = back_opens old t d q new apart h.2
+  back_turned old t x (moves_cursor d) new kept apart h = back_moves old t x d new apart h
+  back_turned old t x (closes_cursor d) new kept apart h =
+      back_with old new t (without_cursor d) (λ x. refl) h
+      (λ same x is. closed_cursors x.cursors d (bytes_eq d c) refl
+      (all_found (IsSoundSession old.store.queries) (λ (y : Session). y.id == s) old.sessions x kept.1 is).names)
+  back_turned old t x (starts_watching q) new kept apart h =
+      back_kept old new t (with_watch q) (λ y. refl) (λ y. refl) h.1
+  back_turned old t x (stops_watching q) new kept apart h =
+      back_kept old new t (without_watch q) (λ y. refl) (λ y. refl) h
+
+  back_replied : (t : ℕ) (mid new : State) → Replied t mid new → Back mid new
+  back_replied t mid new (is_whole after) = back_same mid new after
+  back_replied t mid new (is_cut after) = back_ends mid new t Memory after
+
+  back_turn : (old : State) (t : ℕ) (x : Session) (turn : Turn) (new : State) → AreKept old
+      → ((t == s) ≡ true → is_of (turning turn) ≡ false) → DoesTurn old t x turn new → Back old new
+  back_turn old t x turn new kept apart (is_turned h) = back_turned old t x turn new kept apart h
+  back_turn old t x turn new kept apart (is_refused r) = back_replied t old new r
+
+  -- the commands
+  back_form : (f : Form) (old : State) (t : ℕ) (x : Session) (e : Effect) (new : State) → AreKept old
+      → ((t == s) ≡ true → is_of f ≡ false) → Does f old t x e new → Back old new
+  back_form asking old t x e new kept apart h = back_replied t old new h.1
+  back_form storing old t x e new kept apart h =
+      back_then old (record old { store = h.1.store }) new (λ given finished at. at)
+      (back_replied t (record old { store = h.1.store }) new h.1.replied)
+  back_form (turning turn) old t x e new kept apart h = back_turn old t x turn new kept apart h.1
+  back_form (changing k) old t x e new kept apart h =
+      let d = rows_do old t k e new h in back_change old t d.outcome d.store d.reply e new d.change
+  back_form ending old t x e new kept apart h =
+      let mid : State = record old { stopped = h.1.stopped } in
+      back_then old mid new (λ given finished at. at) (back_ends mid new t h.1.cause h.1.state)
+
   back_command : (old : State) (t : ℕ) (x : Session) (k : Command) (e : Effect) (new : State) → AreKept old
-      → ((t == s) ≡ true → is_of k ≡ false) → CommandStep old t x k e new → Back old new
-  back_command old t x (Rel name types) e new kept apart h = back_store old h.store new h.state
-  back_command old t x (Add name row) e new kept apart h = back_change old t name _ _ _ h.store _ e new h.change
-  back_command old t x (Del name row) e new kept apart h = back_change old t name _ _ _ h.store _ e new h.change
-  back_command old t x (Register q) e new kept apart h = back_query old t q e new h
-  back_command old t x (Open d q) e new kept apart h = back_open old t d q h.result new apart h.state
-  back_command old t x (Next d count) e new kept apart h = back_next old t d count (cursor_of x.cursors d) e new apart h
-  back_command old t x (Close d) e new kept apart h = back_close old t d (cursor_of x.cursors d) e new kept h
-  back_command old t x Quit e new kept apart h = back_ends old new t _ h.1
-  back_command old t x Stop e new kept apart h =
-      let mid : State = record old { stopped = true } in
-      back_then old mid new (λ given finished at. at) (back_ends mid new t _ h.1)
-  back_command old t x (Drop q) e new kept apart h = back_store old h.store new h.state
-  back_command old t x (Has q row) e new kept apart h = back_same old new h.state
-  back_command old t x (Watch q) e new kept apart h = back_becomes old t (with_watch q) new h.result (λ y. refl)
-      (λ y. refl) h.state
-  back_command old t x (Unwatch q) e new kept apart h = back_becomes old t (without_watch q) new h.result (λ y. refl)
-      (λ y. refl) h.state
-  back_command old t x (Explain q) e new kept apart h = back_explain old t (query_of old.store.queries q) e new h
+      → ((t == s) ≡ true → is_of (form_of k) ≡ false) → CommandStep old t x k e new → Back old new
+  back_command old t x k e new kept apart h =
+      back_form (form_of k) old t x e new kept apart (command_does old t x k e new h)
 
   -- ---- what replies tell of the cursor
 
@@ -530,11 +471,13 @@ module _ (s : ℕ) (c : Bytes) where
       → Answers (open_refusal old.store x.cursors d q) r (λ _. ⊤) (OutOfMemoryWhere ⊤)
       → e ≡ says s (ok_reply (codes "ok open") r) → OpensTo old s d q new r
       → Tell old replies → Tell new (cond (b && is_opened (to_session s e.queued)) [] replies)
-  open_told old x d q r e new replies false is found answer effect after tell = tell_back old new replies
-      (back_open old s d q r new (λ same. is) after) tell
+  open_told old x d q (Ok u) e new replies false is found answer effect after tell = tell_back old new replies
+      (back_opens old s d q new (λ same. is) after) tell
+  open_told old x d q (Err r) e new replies false is found answer effect after tell = tell_back old new replies
+      (back_same old new after) tell
   open_told old x d q (Ok u) e new replies true is found answer effect after tell =
       let yes : is_opened (to_session s e.queued) ≡ true = ap is_opened (said s (line (codes "ok open")) e effect) in
-      let fine = opens_on (open_refusal old.store x.cursors d q) u (OutOfMemoryWhere ⊤) answer in
+      let fine = none_holds (open_refusal old.store x.cursors d q) u (λ _. ⊤) (OutOfMemoryWhere ⊤) answer in
       let none = none_found (cursor_of x.cursors d) (none_first (is_some (cursor_of x.cursors d)) _ _ fine) in
       subst (λ b. Tell new (cond b [] replies)) (sym yes) (opened_now old x d q new found none (same_name d c is) after)
   open_told old x d q (Err r) e new replies true is found answer effect after tell =
@@ -574,7 +517,7 @@ module _ (s : ℕ) (c : Bytes) where
       (subst (λ ts. TellGiven (replies ++ text ∷ []) ts end) gs more)
 
   -- the reply to `next`, where the cursor stands
-  next_at_told : (old : State) (x : Session) (d : Bytes) (k : Cursor) (q : Query) (count : ℕ) (p : Position)
+  next_at_told : (old : State) (x : Session) (d : Bytes) (k : Cursor) (q : Listed) (count : ℕ) (p : Position)
       (e : Effect) (new : State) (replies : List Bytes) → session_of old s ≡ Some x
       → cursor_of x.cursors d ≡ Some k → k.position ≡ p → d ≡ c → NextStepAt old s d q count p e new → Tell old replies
       → Tell new (replies ++ to_session s e.queued ∷ [])
@@ -598,19 +541,20 @@ module _ (s : ℕ) (c : Bytes) where
 
   next_told : (old : State) (x : Session) (d : Bytes) (count : ℕ) (o : Option Cursor) (e : Effect) (new : State)
       (replies : List Bytes) (b : Bool) → bytes_eq d c ≡ b → session_of old s ≡ Some x
-      → cursor_of x.cursors d ≡ o
+      → AreKept old → cursor_of x.cursors d ≡ o
       → MatchOption o (RefusedStep old s NoCursor e new)
-      (λ k. IsSomeAnd (query_of old.store.queries k.query) (λ q. NextStepAt old s d q count k.position e new))
+      (λ k. IsSomeAnd (listed_of old.store.queries k.query) (λ q. NextStepAt old s d q count k.position e new))
       → Tell old replies → Tell new (cond b (replies ++ to_session s e.queued ∷ []) replies)
-  next_told old x d count o e new replies false same found is h tell given finished at = tell_back old new replies
-      (back_next old s d count o e new (λ k. same) h) tell given finished at
-  next_told old x d count None e new replies true same found is h tell given finished at =
+  next_told old x d count o e new replies false same found kept is h tell given finished at = tell_back old new replies
+      (back_turn old s x (moves_cursor d) new kept (λ k. same) (next_does old s x d count o e new is h).1) tell given
+      finished at
+  next_told old x d count None e new replies true same found kept is h tell given finished at =
       let none : cursor_of x.cursors c ≡ None = subst (λ m. cursor_of x.cursors m ≡ None) (same_name d c same) is in
       let before : position_of new s c ≡ None = ap (λ st. position_of st s c) h.1 ∙ ap (λ w. position_in w c) found ∙ ap
       (λ w. option_map (λ (z : Cursor). z.position) w) none in
       absurd (cc (before, at))
-  next_told old x d count (Some k) e new replies true same found is h tell given finished at =
-      let f = some_and (query_of old.store.queries k.query) (λ q. NextStepAt old s d q count k.position e new) h in
+  next_told old x d count (Some k) e new replies true same found kept is h tell given finished at =
+      let f = some_and (listed_of old.store.queries k.query) (λ q. NextStepAt old s d q count k.position e new) h in
       next_at_told old x d k f.0 count k.position e new replies found is refl (same_name d c same) f.2 tell given
       finished at
 
@@ -620,67 +564,37 @@ module _ (s : ℕ) (c : Bytes) where
   command_told old x (Open d q) e new replies found kept h tell = open_told old x d q h.result e new replies
       (bytes_eq d c) refl found h.answer h.effect h.state tell
   command_told old x (Next d count) e new replies found kept h tell = next_told old x d count (cursor_of x.cursors d) e
-      new replies (bytes_eq d c) refl found refl h tell
-  command_told old x (Rel name types) e new replies found kept h tell = tell_back old new replies
-      (back_command old s x (Rel name types) e new kept (λ same. refl) h) tell
-  command_told old x (Add name row) e new replies found kept h tell = tell_back old new replies
-      (back_command old s x (Add name row) e new kept (λ same. refl) h) tell
-  command_told old x (Del name row) e new replies found kept h tell = tell_back old new replies
-      (back_command old s x (Del name row) e new kept (λ same. refl) h) tell
-  command_told old x (Register q) e new replies found kept h tell = tell_back old new replies
-      (back_command old s x (Register q) e new kept (λ same. refl) h) tell
-  command_told old x (Close d) e new replies found kept h tell = tell_back old new replies
-      (back_command old s x (Close d) e new kept (λ same. refl) h) tell
-  command_told old x Quit e new replies found kept h tell = tell_back old new replies
-      (back_command old s x Quit e new kept (λ same. refl) h) tell
-  command_told old x Stop e new replies found kept h tell = tell_back old new replies
-      (back_command old s x Stop e new kept (λ same. refl) h) tell
-  command_told old x (Drop q) e new replies found kept h tell = tell_back old new replies
-      (back_command old s x (Drop q) e new kept (λ same. refl) h) tell
-  command_told old x (Has q row) e new replies found kept h tell = tell_back old new replies
-      (back_command old s x (Has q row) e new kept (λ same. refl) h) tell
-  command_told old x (Watch q) e new replies found kept h tell = tell_back old new replies
-      (back_command old s x (Watch q) e new kept (λ same. refl) h) tell
-  command_told old x (Unwatch q) e new replies found kept h tell = tell_back old new replies
-      (back_command old s x (Unwatch q) e new kept (λ same. refl) h) tell
-  command_told old x (Explain q) e new replies found kept h tell = tell_back old new replies
-      (back_command old s x (Explain q) e new kept (λ same. refl) h) tell
+      new replies (bytes_eq d c) refl found kept refl h tell
+  command_told old x k e new replies found kept h tell = tell_back old new replies
+      (back_command old s x k e new kept (λ same. refl) h) tell
 
   -- a line that found no memory as it was read
   unread_told : (k : Command) (replies : List Bytes) (reply : Bytes) → takes_memory_to_read k ≡ true
       → replies_behind c replies (says_command k) reply ≡ replies
   unread_told (Open d q) replies reply takes = absurd cc
   unread_told (Next d count) replies reply takes = absurd cc
-  unread_told (Rel name types) replies reply takes = refl
-  unread_told (Add name row) replies reply takes = refl
-  unread_told (Del name row) replies reply takes = refl
-  unread_told (Register q) replies reply takes = refl
-  unread_told (Close d) replies reply takes = refl
-  unread_told Quit replies reply takes = refl
-  unread_told Stop replies reply takes = refl
-  unread_told (Drop q) replies reply takes = refl
-  unread_told (Has q row) replies reply takes = refl
-  unread_told (Watch q) replies reply takes = refl
-  unread_told (Unwatch q) replies reply takes = refl
-  unread_told (Explain q) replies reply takes = refl
+  unread_told k replies reply takes = refl
 
-  read_told : (old : State) (x : Session) (r : Reading) (e : Effect) (new : State) (replies : List Bytes)
-      → session_of old s ≡ Some x → AreKept old → ReadStep old s x r e new
+  read_told : (old : State) (x : Session) (l : Bytes) (r : Reading) (e : Effect) (new : State) (replies : List Bytes)
+      → session_of old s ≡ Some x → AreKept old → ReadStep old s x l r e new
       → Tell old replies → Tell new (replies_behind c replies r (to_session s e.queued))
-  read_told old x (refused r) e new replies found kept h tell = tell_back old new replies (back_same old new h.1) tell
-  read_told old x (says_command k) e new replies found kept (true, h) tell = command_told old x k e new replies found
+  read_told old x l outside e new replies found kept h tell = tell_back old new replies (back_same old new h.1) tell
+  read_told old x l (past_limit k) e new replies found kept h tell = tell_back old new replies
+      (back_same old new h.1) tell
+  read_told old x l (says_command k) e new replies found kept (true, h) tell = command_told old x k e new replies found
       kept h tell
-  read_told old x (says_command k) e new replies found kept (false, h) tell =
+  read_told old x l (says_command k) e new replies found kept (false, h) tell =
       subst (λ rs. Tell new rs) (sym (unread_told k replies (to_session s e.queued) h.0))
       (tell_back old new replies (back_same old new h.1.1) tell)
 
   -- a line of another session
-  back_read : (old : State) (t : ℕ) (x : Session) (r : Reading) (e : Effect) (new : State) → (t == s) ≡ false
-      → AreKept old → ReadStep old t x r e new → Back old new
-  back_read old t x (refused r) e new ne kept h = back_same old new h.1
-  back_read old t x (says_command k) e new ne kept (true, h) = back_command old t x k e new kept
+  back_read : (old : State) (t : ℕ) (x : Session) (l : Bytes) (r : Reading) (e : Effect) (new : State)
+      → (t == s) ≡ false → AreKept old → ReadStep old t x l r e new → Back old new
+  back_read old t x l outside e new ne kept h = back_same old new h.1
+  back_read old t x l (past_limit k) e new ne kept h = back_same old new h.1
+  back_read old t x l (says_command k) e new ne kept (true, h) = back_command old t x k e new kept
       (λ same. absurd (cc (same, ne))) h
-  back_read old t x (says_command k) e new ne kept (false, h) = back_same old new h.1.1
+  back_read old t x l (says_command k) e new ne kept (false, h) = back_same old new h.1.1
 
   back_line : (old : State) (t : ℕ) (rest : Bytes) → Back old (with_session old t (behind_line rest))
   back_line old t rest = back_kept old (with_session old t (behind_line rest)) t (behind_line rest) (λ x. refl)
@@ -708,8 +622,8 @@ module _ (s : ℕ) (c : Bytes) where
   front_told old t x (run l) e mid replies false same found kept h tell =
       let rest = h.2.rest in
       let between = with_session old t (behind_line rest) in
-      let back = back_read between t (behind_line rest x) (reading_of l) e mid same (without_line_kept old t rest kept)
-      h.2.then in
+      let back = back_read between t (behind_line rest x) l (reading_of l) e mid same
+      (without_line_kept old t rest kept) h.2.then in
       subst (λ k. Tell mid (cond k (replies_behind c replies (reading_of l) (to_session s e.queued)) replies))
       (sym same)
       (tell_back old mid replies (back_then old between mid (back_line old t rest) back) tell)
@@ -720,12 +634,12 @@ module _ (s : ℕ) (c : Bytes) where
       let here : session_of between s ≡ Some (behind_line rest x) =
       session_changed old s (behind_line rest) (λ y. refl) ∙ ap (λ o. option_map (behind_line rest) o)
       (subst (λ i. session_of old i ≡ Some x) at found) in
-      let read : ReadStep between s (behind_line rest x) (reading_of l) e mid =
-      subst (λ i. ReadStep (with_session old i (behind_line rest)) i (behind_line rest x) (reading_of l) e mid) at
+      let read : ReadStep between s (behind_line rest x) l (reading_of l) e mid =
+      subst (λ i. ReadStep (with_session old i (behind_line rest)) i (behind_line rest x) l (reading_of l) e mid) at
       h.2.then in
       subst (λ k. Tell mid (cond k (replies_behind c replies (reading_of l) (to_session s e.queued)) replies))
       (sym same)
-      (read_told between (behind_line rest x) (reading_of l) e mid replies here (without_line_kept old s rest kept) read
+      (read_told between (behind_line rest x) l (reading_of l) e mid replies here (without_line_kept old s rest kept) read
       (tell_back old between replies (back_line old s rest) tell))
 
   opened_cursors : (o : Option Session) (t : ℕ) (given : List Tuple) (finished : Bool) (b : Bool)
@@ -866,8 +780,14 @@ module _ (s : ℕ) (c : Bytes) where
       (step_told old d.event d.effect mid replies w.1 sound tell)
 
 pub given_is_told : GivenIsTold
-given_is_told s c done new w given finished at = along_told s c opening done new [] w opening_sound
-    (λ g f here. absurd cc) given finished at
+given_is_told start h s c done new w given finished at = along_told s c start done new [] w (start_sound start h)
+    (λ g f here. absurd (no_cursor g f here)) given finished at
+  where
+    no_cursor : (g : List Tuple) (f : Bool) → position_of start s c ≡ Some (open_at g f) → ⊥
+    no_cursor g f here =
+        let found : position_of (record start { sessions = [] }) s c ≡ Some (open_at g f) =
+        subst (λ (xs : List Session). position_of (record start { sessions = xs }) s c ≡ Some (open_at g f)) h.none here in
+        cc found
 
 -- where names are apart, a cursor is found by its own
 by_its_name : (ks : List Cursor) (k : Cursor) → AreApart (map (λ (z : Cursor). z.name) ks) → Contains ks k
@@ -889,20 +809,22 @@ by_its_name (z ∷ ks) k apart h =
         (same_name z.name k.name is))
     by (inr c) false is more = more c
 
-nothing_given : CursorsGive opening
-nothing_given = All-nil (λ (x : Session). All (λ (k : Cursor). PositionGives [] (query_of [] k.query) k.position)
-    x.cursors)
+-- where no session is open, no cursor has given anything
+pub nothing_given : (start : State) → IsStart start → CursorsGive start
+nothing_given start h = subst (λ (xs : List Session). CursorsGive (record start { sessions = xs })) (sym h.none)
+    (All-nil (λ (x : Session). All (λ (k : Cursor). PositionGives start.store.relations
+    (listed_of start.store.queries k.query) k.position) x.cursors))
 
 pub listed_is_told : ListedIsTold
-listed_is_told q s given done new w h =
-    let sound = states_are_sound done new w in
+listed_is_told start begins q s given done new w h =
+    let sound = states_are_sound start begins done new w in
     let session = all_found (IsSoundSession new.store.queries) (λ (x : Session). x.id == s) new.sessions h.session
     sound.sessions h.is_session in
     let found = by_its_name (h.session).cursors h.cursor session.names h.is_cursor in
     let at : position_of new s (h.cursor).name ≡ Some (open_at given true) =
     ap (λ o. position_in o (h.cursor).name) h.is_session ∙ ap (λ o. option_map (λ (k : Cursor). k.position) o) found
     ∙ ap (λ p. Some p) h.is_finished in (
-      given_is_told s (h.cursor).name done new w given true at,
+      given_is_told start begins s (h.cursor).name done new w given true at,
       listed q s new given
-          (runs_give opening done new w nothing_given) h,
+          (runs_give start done new w (nothing_given start begins)) h,
     )

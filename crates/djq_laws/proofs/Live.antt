@@ -3,9 +3,9 @@ use Rattle.std.specs.Prelude.{ℕ, List, ◌==◌, ◌≡◌, true, Option, Some
 use Rattle.std.proofs.Common.{refl, subst}
 use Rattle.std.proofs.lemmas.List.Elements.{All-contains}
 use Rattle.djq_model.specs.declared.relation.Relation.{Relation}
-use Rattle.djq_model.specs.declared.query.Query.{Query}
-use Rattle.djq_model.specs.Data.{Tuple, query_of}
-use Rattle.djq_model.specs.Answer.{IsAnswer, IsListing}
+use Rattle.djq_model.specs.Data.{Tuple}
+use Rattle.djq_model.specs.Answer.{IsListing}
+use Rattle.djq_model.specs.Listed.{Listed, AnswersOf, listed_of}
 use Rattle.djq_machine.specs.State.{State, Session, Cursor, Position, open_at}
 use Rattle.djq_machine.specs.Gives.{PositionGives, CursorsGive}
 use Rattle.djq_laws.specs.Live.{HasListed, ListingsStayLive}
@@ -14,19 +14,19 @@ use Rattle.djq_laws.proofs.Watched.{watchers_have_answers}
 use Rattle.djq_laws.proofs.Staying.{watchers_stay}
 
 -- What a finished cursor has given is a listing.
-finished_listing : (relations : List Relation) (o : Option Query) (q : Query) (given : List Tuple) (p : Position) → o ≡ Some q → p ≡ open_at given true
-    → PositionGives relations o p → IsListing (IsAnswer relations q) given
+finished_listing : (relations : List Relation) (o : Option Listed) (q : Listed) (given : List Tuple) (p : Position) → o ≡ Some q → p ≡ open_at given true
+    → PositionGives relations o p → IsListing (AnswersOf relations q) given
 finished_listing relations o q given p is at h =
-    let here : PositionGives relations (Some q) (open_at given true) = subst (λ (r : Position). PositionGives relations (Some q) r) at (subst (λ (r : Option Query). PositionGives relations r p) is h) in
+    let here : PositionGives relations (Some q) (open_at given true) = subst (λ (r : Position). PositionGives relations (Some q) r) at (subst (λ (r : Option Listed). PositionGives relations r p) is h) in
     here.listing refl
 
-pub listed : (q : Query) (s : ℕ) (st : State) (given : List Tuple) → CursorsGive st → HasListed q s st given → IsListing (IsAnswer st.store.relations q) given
+pub listed : (q : Listed) (s : ℕ) (st : State) (given : List Tuple) → CursorsGive st → HasListed q s st given → IsListing (AnswersOf st.store.relations q) given
 listed q s st given gives h =
     let store = st.store in
-    let of_session = all_found (λ (x : Session). All (λ (c : Cursor). PositionGives store.relations (query_of store.queries c.query) c.position) x.cursors)
+    let of_session = all_found (λ (x : Session). All (λ (c : Cursor). PositionGives store.relations (listed_of store.queries c.query) c.position) x.cursors)
     (λ (x : Session). x.id == s) st.sessions h.session gives h.is_session in
-    let of_cursor = All-contains (λ (c : Cursor). PositionGives store.relations (query_of store.queries c.query) c.position) (h.session).cursors h.cursor of_session h.is_cursor in
-    finished_listing store.relations (query_of store.queries (h.cursor).query) q given (h.cursor).position h.of_query h.is_finished of_cursor
+    let of_cursor = All-contains (λ (c : Cursor). PositionGives store.relations (listed_of store.queries c.query) c.position) (h.session).cursors h.cursor of_session h.is_cursor in
+    finished_listing store.relations (listed_of store.queries (h.cursor).query) q given (h.cursor).position h.of_query h.is_finished of_cursor
 
 pub listings_stay_live : ListingsStayLive
 listings_stay_live old gives q s given h watches done new run keeps goes_on =

@@ -1,85 +1,22 @@
 -- Each state that the machine comes to is sound.
-use Rattle.std.specs.Prelude.{ℕ, List, [], ◌∷◌, ◌==◌, ◌≡◌, ◌≢◌, ◌<◌, ◌≤◌, ◌+◌, ◌++◌, ◌⊎◌, Bool, true, false, not, cond, length, filter, Option, None, Some, is_some, is_none, nat_le, IsSome, IsSomeAnd, MatchOption, option_map, Result, Ok, Err, map, All, ⊤}
+use Rattle.std.specs.Prelude.{ℕ, List, [], ◌∷◌, ◌==◌, ◌≡◌, ◌≢◌, ◌<◌, ◌≤◌, ◌+◌, ◌++◌, ◌⊎◌, Bool, true, false, not, cond, length, filter, Option, None, Some, is_some, IsSome, MatchOption, option_map, map, All, AllPairs}
 use Rattle.std.specs.List.{list_any, slice_index_or}
 use Rattle.std.proofs.Common.{refl, sym, ap, ◌∙◌, subst, inl, inr, arith}
 use Rattle.std.proofs.lemmas.List.{length-map, length-append}
 use Rattle.std.proofs.lemmas.List.Elements.{All-nil, All-push, All-weaker, All-filter}
-use Rattle.djq_model.specs.declared.query.Query.{Query}
-use Rattle.djq_model.specs.Data.{Bytes, Tuple, bytes_eq, drop_first, query_of}
-use Rattle.djq_lines.specs.Conditions.{first_of, Answers, OutOfMemoryWhere}
-use Rattle.djq_lines.specs.declared.limits.TheConstants.{CURSORS, SESSIONS}
+use Rattle.djq_model.specs.Data.{Bytes, bytes_eq, drop_first}
+use Rattle.djq_model.specs.Listed.{Listed, listed_name, listed_of}
+use Rattle.djq_lines.specs.declared.limits.TheConstants.{SESSIONS}
 use Rattle.djq_lines.specs.declared.answer.EndCause.{EndCause}
 use Rattle.djq_lines.specs.declared.answer.EndCause.TheVariants.{Input, Memory}
-use Rattle.djq_lines.specs.declared.answer.Refusal.{Refusal}
-use Rattle.djq_lines.specs.declared.answer.Refusal.TheVariants.{NoQuery, NoCursor, InUse, Limit}
-use Rattle.djq_lines.specs.declared.command.Command.{Command}
-use Rattle.djq_lines.specs.declared.command.Command.TheVariants.{
-  Rel,
-  Add,
-  Del,
-  Query as Register,
-  Drop,
-  Open,
-  Next,
-  Close,
-  Has,
-  Watch,
-  Unwatch,
-  Explain,
-  Quit,
-  Stop,
-}
-use Rattle.djq_lines.specs.Grammar.{Reading, refused, says as says_command, reading_of}
+use Rattle.djq_lines.specs.Grammar.{Reading, outside, past_limit, says as says_command, reading_of}
 use Rattle.djq_lines.specs.Reply.{end_memory}
-use Rattle.djq_lines.specs.Hypergraph.{edges_of, head_of}
-use Rattle.djq_machine.specs.Store.{IsFreeConnex}
-use Rattle.djq_machine.specs.State.{
-  Store,
-  State,
-  Session,
-  Cursor,
-  Position,
-  open_at,
-  stale,
-  fresh,
-  opening,
-  session_of,
-  with_session,
-  cursor_of,
-  with_position,
-  ended_by,
-}
-use Rattle.djq_machine.specs.Store.{RegistersQuery, DropsQuery, drop_refusal}
-use Rattle.djq_machine.specs.Stale.{
-  outdated,
-  outdater_of,
-  outdated_cursor,
-  outdated_sessions,
-  by_relation,
-  add_outdates,
-  delete_outdates,
-  changed,
-}
+use Rattle.djq_machine.specs.State.{Store, State, Session, Cursor, Position, open_at, stale, fresh, session_of, with_session, with_position, ended_by}
+use Rattle.djq_machine.specs.Stale.{outdated, outdater_of, outdated_cursor, outdated_sessions}
+use Rattle.djq_machine.specs.Changes.{RowsChange, RowsOutcome, tried, changed}
 use Rattle.djq_machine.specs.Watch.{is_watching, Telling, ChangeStep}
-use Rattle.djq_machine.specs.Effect.{Effect, nothing, EndsWith, RefusedStep, queue, queue_all}
-use Rattle.djq_machine.specs.Command.{
-  uses,
-  open_refusal,
-  with_cursor,
-  OpensTo,
-  watch_refusal,
-  BecomesWhere,
-  with_watch,
-  without_watch,
-  NextStepAt,
-  CloseStep,
-  CommandStep,
-  QueryStep,
-  QueryCutStep,
-  ExplainStep,
-  TellsLines,
-  explain_lines,
-}
+use Rattle.djq_machine.specs.Effect.{Effect, nothing, EndsWith, queue, queue_all}
+use Rattle.djq_machine.specs.Command.{uses, with_cursor, with_watch, without_watch}
 use Rattle.djq_machine.specs.LineStep.{LineOutcome, long, blank, slow, no_room, run, ReadStep, FrontStep, behind_line}
 use Rattle.djq_machine.specs.Step.{
   Event,
@@ -99,6 +36,7 @@ use Rattle.djq_machine.specs.Step.{
 use Rattle.djq_machine.specs.Run.{Did}
 use Rattle.djq_machine.proofs.Walks.{walk_keeps}
 use Rattle.djq_laws.specs.Sound.{
+  IsConnex,
   AreApart,
   IsSoundStore,
   IsSoundRelation,
@@ -106,16 +44,21 @@ use Rattle.djq_laws.specs.Sound.{
   IsSoundCursor,
   IsSoundSession,
   IsSoundState,
+  IsStart,
   RunsKeepSound,
+  OpeningIsStart,
   StatesAreSound,
 }
+use Rattle.djq_laws.specs.Form.{form_of, Form, asking, storing, turning, changing, ending, Turn, opens_cursor, moves_cursor, closes_cursor, starts_watching, stops_watching, Replied, is_whole, is_cut, Stored, learns_texts, makes_relation, registers, drops_query, in_use, without_cursor, Turned, DoesTurn, is_turned, is_refused, Does}
 use Rattle.djq_laws.proofs.Finding.{some_and}
+use Rattle.djq_laws.proofs.Forms.{command_does}
+use Rattle.djq_laws.proofs.Rows.{outdater_by, rows_do, made_queries}
 use Rattle.djq_laws.proofs.Told.{change_keeps}
 use Rattle.djq_laws.proofs.Queueing.{session_changed}
 use Rattle.djq_laws.proofs.Changing.{all_changed, all_dropped, all_mapped}
 use Rattle.djq_laws.proofs.Answering.{none_or, none_pass}
 use Rattle.djq_laws.proofs.Rising.{step_rises, acts_ids, queued_ids}
-use Rattle.djq_laws.proofs.Giving.{done_of, found_in_front, dropped_query, unused_of, opens_on, none_second}
+use Rattle.djq_laws.proofs.Giving.{found_in_front, dropped_query}
 use Rattle.djq_laws.proofs.Apart.{
   nothing_apart,
   pairs_push,
@@ -126,29 +69,17 @@ use Rattle.djq_laws.proofs.Apart.{
   names_dropped,
   names_mapped,
 }
-use Rattle.djq_laws.proofs.Storing.{
-  none_found,
-  related_store,
-  related_queries,
-  added_store,
-  added_queries,
-  deleted_store,
-  deleted_queries,
-  registered_store,
-  registered_queries,
-  dropped_store,
-  moved_store,
-}
+use Rattle.djq_laws.proofs.Storing.{stored_sound, made_sound, moved_store}
 
 abbrev IsNamed : Cursor → Bytes
 IsNamed c = c.name
 
 -- Sessions.
-ended_session : (qs : List Query) (cause : EndCause) (x : Session) → IsSoundSession qs (ended_by cause x)
+ended_session : (qs : List Listed) (cause : EndCause) (x : Session) → IsSoundSession qs (ended_by cause x)
 ended_session qs cause x = record {
   cursors = All-nil (IsSoundCursor qs);
   names = nothing_apart (λ a b. a ≢ b);
-  registered = All-nil (λ w. IsSome (query_of qs w));
+  registered = All-nil (λ w. IsSome (listed_of qs w));
   once = nothing_apart (λ a b. a ≢ b);
   ended = λ h. (refl, refl);
 }
@@ -158,28 +89,28 @@ going : (x : Session) → x.cause ≡ None → {P : Type 0} → IsSome x.cause �
 going x none h = absurd (cc (none, h))
 
 -- A query that is registered is so for each name.
-some_kept : (qs ps : List Query) (name : Bytes) (o : Option Query) → query_of qs name ≡ o
-    → ((q : Query) → query_of qs name ≡ Some q → query_of ps name ≡ Some q)
-    → IsSome (query_of qs name) → IsSome (query_of ps name)
+some_kept : (qs ps : List Listed) (name : Bytes) (o : Option Listed) → listed_of qs name ≡ o
+    → ((q : Listed) → listed_of qs name ≡ Some q → listed_of ps name ≡ Some q)
+    → IsSome (listed_of qs name) → IsSome (listed_of ps name)
 some_kept qs ps name None e keeps h = absurd (cc (e, h))
 some_kept qs ps name (Some q) e keeps h = ap is_some (keeps q e)
 
-queries_kept : (qs ps : List Query) (x : Session)
-    → ((name : Bytes) → IsSome (query_of qs name) → IsSome (query_of ps name)) → IsSoundSession qs x
+queries_kept : (qs ps : List Listed) (x : Session)
+    → ((name : Bytes) → IsSome (listed_of qs name) → IsSome (listed_of ps name)) → IsSoundSession qs x
     → IsSoundSession ps x
 queries_kept qs ps x keeps g = record {
   cursors = All-weaker (IsSoundCursor qs) (IsSoundCursor ps)
       (λ c k. record { registered = keeps c.query k.registered; once = k.once }) x.cursors g.cursors;
   names = g.names;
-  registered = All-weaker (λ w. IsSome (query_of qs w)) (λ w. IsSome (query_of ps w)) (λ w k. keeps w k) x.watches
+  registered = All-weaker (λ w. IsSome (listed_of qs w)) (λ w. IsSome (listed_of ps w)) (λ w k. keeps w k) x.watches
       g.registered;
   once = g.once;
   ended = g.ended;
 }
 
-in_front : (qs : List Query) (q : Query) (name : Bytes) → IsSome (query_of qs name)
-    → IsSome (query_of (qs ++ q ∷ []) name)
-in_front qs q name h = some_kept qs (qs ++ q ∷ []) name (query_of qs name) refl (λ f e. found_in_front qs q name f e) h
+in_front : (qs : List Listed) (q : Listed) (name : Bytes) → IsSome (listed_of qs name)
+    → IsSome (listed_of (qs ++ q ∷ []) name)
+in_front qs q name h = some_kept qs (qs ++ q ∷ []) name (listed_of qs name) refl (λ f e. found_in_front qs q name f e) h
 
 -- The store and the sessions.
 abbrev pub AreKept : State → Type 0
@@ -225,7 +156,7 @@ others_stay old new s f cursors watches cause after k =
     session_kept old new s f after (λ x found g. let qs = old.store.queries in record {
       cursors = subst (λ (cs : List Cursor). All (IsSoundCursor qs) cs) (sym (cursors x)) g.cursors;
       names = subst (λ (cs : List Cursor). AreApart (map IsNamed cs)) (sym (cursors x)) g.names;
-      registered = subst (λ (ws : List Bytes). All (λ w. IsSome (query_of qs w)) ws) (sym (watches x)) g.registered;
+      registered = subst (λ (ws : List Bytes). All (λ w. IsSome (listed_of qs w)) ws) (sym (watches x)) g.registered;
       once = subst AreApart (sym (watches x)) g.once;
       ended = λ h. let both = g.ended (subst (λ (o : Option EndCause). IsSome o) (cause x) h) in
           (cursors x ∙ both.0, watches x ∙ both.1);
@@ -235,7 +166,7 @@ others_stay old new s f cursors watches cause after k =
 store_kept : (old : State) (store : Store) (new : State) → store.queries ≡ old.store.queries → IsSoundStore store
     → new ≡ record old { store = store } → AreKept old → AreKept new
 store_kept old store new same sound after k =
-    subst AreKept (sym after) (sound, subst (λ (qs : List Query). All (IsSoundSession qs) old.sessions) (sym same) k.1)
+    subst AreKept (sym after) (sound, subst (λ (qs : List Listed). All (IsSoundSession qs) old.sessions) (sym same) k.1)
 
 -- Cursors that become stale.
 once_outdated : (o : Option Bytes) (n : ℕ) (p : Position) → GaveOnce p → GaveOnce (outdated o n p)
@@ -243,7 +174,7 @@ once_outdated None n p h = h
 once_outdated (Some relation) n (open_at given finished) h = tt
 once_outdated (Some relation) n (stale r m) h = tt
 
-outdated_sound : (qs : List Query) (outdater : Query → Option Bytes) (n : ℕ) (x : Session) → IsSoundSession qs x
+outdated_sound : (qs : List Listed) (outdater : Listed → Option Bytes) (n : ℕ) (x : Session) → IsSoundSession qs x
     → IsSoundSession qs (record x { cursors = map (outdated_cursor qs outdater n) x.cursors })
 outdated_sound qs outdater n x g = record {
   cursors = all_mapped (IsSoundCursor qs) (IsSoundCursor qs) (outdated_cursor qs outdater n)
@@ -261,132 +192,105 @@ outdated_sound qs outdater n x g = record {
   );
 }
 
-changed_kept : (old : State) (name : Bytes) (outdates : Bool) (store : Store) → store.queries ≡ old.store.queries
-    → IsSoundStore store → AreKept old → AreKept (changed old name outdates store)
-changed_kept old name false store same sound k = store_kept old store (record old { store = store }) same sound refl k
-changed_kept old name true store same sound k =
+changed_kept : (old : State) (o : Option RowsChange) (store : Store) → store.queries ≡ old.store.queries
+    → IsSoundStore store → AreKept old → AreKept (changed old o store)
+changed_kept old None store same sound k = store_kept old store (record old { store = store }) same sound refl k
+changed_kept old (Some change) store same sound k =
     let qs = old.store.queries in
-    let kept : All (IsSoundSession qs) (outdated_sessions qs (by_relation name) store.seq old.sessions) =
+    let kept : All (IsSoundSession qs) (outdated_sessions qs change.outdater store.seq old.sessions) =
     all_mapped (IsSoundSession qs) (IsSoundSession qs)
-    (λ (x : Session). record x { cursors = map (outdated_cursor qs (by_relation name) store.seq) x.cursors })
-    (λ x g. outdated_sound qs (by_relation name) store.seq x g) old.sessions k.1 in (
+    (λ (x : Session). record x { cursors = map (outdated_cursor qs change.outdater store.seq) x.cursors })
+    (λ x g. outdated_sound qs change.outdater store.seq x g) old.sessions k.1 in (
       sound,
-      subst (λ (ps : List Query). All (IsSoundSession ps)
-          (outdated_sessions qs (by_relation name) store.seq old.sessions)) (sym same) kept,
+      subst (λ (ps : List Listed). All (IsSoundSession ps)
+          (outdated_sessions qs change.outdater store.seq old.sessions)) (sym same) kept,
     )
 
-change_kept : (old : State) (s : ℕ) (name : Bytes) (rows : List Tuple) (outdates accepted : Bool) (store : Store)
+change_kept : (old : State) (s : ℕ) (outcome : RowsOutcome) (store : Store)
     (reply : Bytes) (e : Effect) (new : State)
-    → ChangeStep old s name rows outdates accepted store reply e new → AreKept (changed old name outdates store)
+    → ChangeStep old s outcome store reply e new → AreKept (changed old (tried outcome) store)
     → AreKept new
-change_kept old s name rows outdates accepted store reply e new h k =
+change_kept old s outcome store reply e new h k =
     subst AreKept (sym h.state)
     (change_keeps (λ (m : Telling). AreKept m.state) (λ m t text there g. g)
     (λ m t text cause may there g. ends_kept m.state t cause (with_session m.state t (ended_by cause)) refl g)
-    old s name rows outdates accepted store reply e new h k)
-
--- The commands.
-register_kept : (old : State) (q : Query) (r : Result _ Refusal) (store : Store) (new : State)
-    → RegistersQuery old.store q r store → new ≡ record old { store = store } → AreKept old → AreKept new
-register_kept old q r store new h after k = by (registered_queries old.store q r store h)
-  where
-    by : (store.queries ≡ old.store.queries ++ q ∷ []) ⊎ (store.queries ≡ old.store.queries) → AreKept new
-    by (inr same) = store_kept old store new same (registered_store old.store q r store h k.0) after k
-    by (inl more) =
-        let kept : All (IsSoundSession store.queries) old.sessions =
-        subst (λ (qs : List Query). All (IsSoundSession qs) old.sessions) (sym more)
-        (All-weaker (IsSoundSession old.store.queries) (IsSoundSession (old.store.queries ++ q ∷ []))
-        (λ x g. queries_kept old.store.queries (old.store.queries ++ q ∷ []) x
-        (λ name there. in_front old.store.queries q name there) g) old.sessions k.1) in
-        subst AreKept (sym after) (registered_store old.store q r store h k.0, kept)
-
-query_kept : (old : State) (s : ℕ) (q : Query) (e : Effect) (new : State)
-    → QueryStep old s q e new ⊎ QueryCutStep old s q e new → AreKept old → AreKept new
-query_kept old s q e new (inl h) k = register_kept old q h.result h.store new h.done h.state k
-query_kept old s q e new (inr h) k =
-    let mid : State = record old { store = h.store } in
-    ends_kept mid s Memory new h.ends.1 (register_kept old q h.result h.store mid h.done refl k)
+    old s outcome store reply e new h k)
 
 -- A query that no session uses is dropped.
-not_used : (qs : List Query) (q : Bytes) (x : Session) → uses q x ≡ false → IsSoundSession qs x
-    → IsSoundSession (drop_first (λ p. bytes_eq p.name q) qs) x
+not_used : (qs : List Listed) (q : Bytes) (x : Session) → uses q x ≡ false → IsSoundSession qs x
+    → IsSoundSession (drop_first (λ p. bytes_eq (listed_name p) q) qs) x
 not_used qs q x unused g =
-    let ps = drop_first (λ (p : Query). bytes_eq p.name q) qs in
+    let ps = drop_first (λ (p : Listed). bytes_eq (listed_name p) q) qs in
     let none = none_or (list_any (λ (c : Cursor). bytes_eq c.query q) x.cursors) (is_watching q x) unused in
     let apart = none_pass (λ (c : Cursor). bytes_eq c.query q) x.cursors none.0 in
     let unwatched = none_pass (λ w. bytes_eq w q) x.watches none.1 in record {
       cursors = λ j e within. let c = slice_index_or x.cursors j e in let k = g.cursors j e within in record {
-        registered = subst (λ (o : Option Query). IsSome o) (sym (dropped_query qs q c.query (apart j e within)))
+        registered = subst (λ (o : Option Listed). IsSome o) (sym (dropped_query qs q c.query (apart j e within)))
             k.registered;
         once = k.once;
       };
       names = g.names;
-      registered = λ j e within. subst (λ (o : Option Query). IsSome o)
+      registered = λ j e within. subst (λ (o : Option Listed). IsSome o)
           (sym (dropped_query qs q (slice_index_or x.watches j e) (unwatched j e within))) (g.registered j e within);
       once = g.once;
       ended = g.ended;
     }
 
-drop_kept : (old : State) (q : Bytes) (r : Result ⊤ Refusal) (store : Store) (new : State)
-    → DropsQuery old.store (list_any (uses q) old.sessions) q r store → new ≡ record old { store = store } → AreKept old
-    → AreKept new
-drop_kept old q (Ok u) store new h after k =
-    let used = list_any (uses q) old.sessions in
-    let D = λ (_ : ⊤). store ≡ record old.store { queries = drop_first (λ p. bytes_eq p.name q) old.store.queries } in
-    let e = done_of (drop_refusal old.store used q) u D (OutOfMemoryWhere ⊥) h.answer in
-    let none = none_pass (uses q) old.sessions (unused_of (is_none (query_of old.store.queries q)) used NoQuery InUse u
-    D (OutOfMemoryWhere ⊥) h.answer) in
-    let kept : All (IsSoundSession store.queries) old.sessions =
-    subst (λ (st : Store). All (IsSoundSession st.queries) old.sessions) (sym e)
-    (λ i d lt. not_used old.store.queries q (slice_index_or old.sessions i d) (none i d lt) (k.1 i d lt)) in
-    subst AreKept (sym after) (dropped_store old.store used q (Ok u) store h k.0, kept)
-drop_kept old q (Err r) store new h after k = same_kept old new
-    (after ∙ ap (λ (st : Store). record old { store = st }) h.stays) k
+-- What a command of the store makes of it.
+stored_kept : (old : State) (store : Store) → Stored (in_use old) old.store store → AreKept old
+    → AreKept (record old { store = store })
+stored_kept old store h k = (
+  stored_sound (in_use old) old.store store h k.0,
+  by h,
+)
+  where
+    same : store.queries ≡ old.store.queries → All (IsSoundSession store.queries) old.sessions
+    same e = subst (λ (qs : List Listed). All (IsSoundSession qs) old.sessions) (sym e) k.1
 
--- a registered query
-is_registered : (o : Option Query) → is_none o ≡ false → IsSome o
-is_registered None e = absurd cc
-is_registered (Some q) e = refl
+    by : Stored (in_use old) old.store store → All (IsSoundSession store.queries) old.sessions
+    by (learns_texts h) = same (ap (λ (st : Store). st.queries) h.store)
+    by (makes_relation name types none e) = same (ap (λ (st : Store). st.queries) e)
+    by (registers q none connex few e) =
+        subst (λ (st : Store). All (IsSoundSession st.queries) old.sessions) (sym e)
+        (All-weaker (IsSoundSession old.store.queries) (IsSoundSession (old.store.queries ++ q ∷ []))
+        (λ x g. queries_kept old.store.queries (old.store.queries ++ q ∷ []) x
+        (λ name there. in_front old.store.queries q name there) g) old.sessions k.1)
+    by (drops_query q unused e) =
+        let none = none_pass (uses q) old.sessions unused in
+        subst (λ (st : Store). All (IsSoundSession st.queries) old.sessions) (sym e)
+        (λ i d lt. not_used old.store.queries q (slice_index_or old.sessions i d) (none i d lt) (k.1 i d lt))
 
-pub none_first : (a : Bool) (r : Refusal) (o : Option Refusal) → cond a (Some r) o ≡ None → a ≡ false
-none_first true r o h = absurd cc
-none_first false r o h = refl
+-- watches
+none_watched : (q : Bytes) (ws : List Bytes) → list_any (λ w. bytes_eq w q) ws ≡ false → All (λ w. w ≢ q) ws
+none_watched q ws e = All-weaker (λ w. bytes_eq w q ≡ false) (λ w. w ≢ q) (λ w k. other_name w q k) ws
+    (none_pass (λ w. bytes_eq w q) ws e)
 
-open_kept : (old : State) (s : ℕ) (x : Session) (c q : Bytes) (r : Result ⊤ Refusal) (new : State)
-    → session_of old s ≡ Some x → x.cause ≡ None
-    → Answers (open_refusal old.store x.cursors c q) r (λ _. ⊤) (OutOfMemoryWhere ⊤) → OpensTo old s c q new r
-    → AreKept old → AreKept new
-open_kept old s x c q (Ok u) new found runs answer after k =
+watched : (qs : List Listed) (q : Bytes) (ws : List Bytes) (b : Bool) → list_any (λ w. bytes_eq w q) ws ≡ b
+    → IsSome (listed_of qs q)
+    → All (λ w. IsSome (listed_of qs w)) ws → AreApart ws
+    → All (λ w. IsSome (listed_of qs w)) (cond b ws (ws ++ q ∷ [])) × AreApart (cond b ws (ws ++ q ∷ []))
+watched qs q ws true e there all once = (all, once)
+watched qs q ws false e there all once = (
+  All-push (λ w. IsSome (listed_of qs w)) ws q all there,
+  pairs_push
+      (λ a b. a ≢ b) ws q once (none_watched q ws e),
+)
+
+-- What a turn makes of a session.
+turned_kept : (old : State) (s : ℕ) (x : Session) (t : Turn) (new : State) → session_of old s ≡ Some x
+    → x.cause ≡ None → Turned old s x t new → AreKept old → AreKept new
+turned_kept old s x (opens_cursor c q) new found runs h k =
     let more : Cursor = record { name = c; query = q; position = open_at [] false } in
-    let rest = first_of ((nat_le CURSORS (length x.cursors), Limit) ∷ []) in
-    let fine = opens_on (open_refusal old.store x.cursors c q) u (OutOfMemoryWhere ⊤) answer in
-    let unnamed = none_found (cursor_of x.cursors c)
-    (none_first (is_some (cursor_of x.cursors c)) _
-    (cond (is_none (query_of old.store.queries q)) (Some NoQuery) rest) fine) in
-    let there = none_second (is_some (cursor_of x.cursors c)) (is_none (query_of old.store.queries q)) _ NoQuery rest
-    fine in
-    session_runs old new s x (with_cursor c q) found after (λ g. record {
+    session_runs old new s x (with_cursor c q) found h.2 (λ g. record {
       cursors = All-push (IsSoundCursor old.store.queries) x.cursors more g.cursors
-          (record {
-            registered = is_registered (query_of old.store.queries q) there;
-            once = nothing_apart
-                (λ a b. a ≡ b → ⊥);
-          });
-      names = names_push IsNamed x.cursors more g.names unnamed;
+          (record { registered = h.1; once = nothing_apart (λ a b. a ≡ b → ⊥) });
+      names = names_push IsNamed x.cursors more g.names h.0;
       registered = g.registered;
       once = g.once;
       ended = λ h. going x runs h;
     }) k
-open_kept old s x c q (Err r) new found runs answer after k = same_kept old new after k
-
-next_at_kept : (old : State) (s : ℕ) (x : Session) (c : Bytes) (q : Query) (count : ℕ) (p : Position) (e : Effect)
-    (new : State)
-    → session_of old s ≡ Some x → x.cause ≡ None → NextStepAt old s c q count p e new → AreKept old → AreKept new
-next_at_kept old s x c q count (stale r n) e new found runs h k = same_kept old new h.1 k
-next_at_kept old s x c q count (open_at given finished) e new found runs (inr h) k = ends_kept old s Memory new h.state
-    k
-next_at_kept old s x c q count (open_at given finished) e new found runs (inl h) k =
-    let position = open_at (given ++ h.told) h.end in
+turned_kept old s x (moves_cursor c) new found runs h k =
+    let position = open_at (h.given ++ h.told) h.end in
     session_runs old new s x (λ y. record y { cursors = with_position y.cursors c position }) found h.state
     (λ g. record {
       cursors = all_changed (IsSoundCursor old.store.queries) (λ (z : Cursor). bytes_eq z.name c)
@@ -398,23 +302,8 @@ next_at_kept old s x c q count (open_at given finished) e new found runs (inl h)
       once = g.once;
       ended = λ ends. going x runs ends;
     }) k
-
-next_kept : (old : State) (s : ℕ) (x : Session) (c : Bytes) (count : ℕ) (o : Option Cursor) (e : Effect) (new : State)
-    → session_of old s ≡ Some x → x.cause ≡ None
-    → MatchOption o (RefusedStep old s NoCursor e new)
-    (λ z. IsSomeAnd (query_of old.store.queries z.query) (λ q. NextStepAt old s c q count z.position e new))
-    → AreKept old → AreKept new
-next_kept old s x c count None e new found runs h k = same_kept old new h.1 k
-next_kept old s x c count (Some z) e new found runs h k =
-    let f = some_and (query_of old.store.queries z.query) (λ q. NextStepAt old s c q count z.position e new) h in
-    next_at_kept old s x c f.0 count z.position e new found runs f.2 k
-
-close_kept : (old : State) (s : ℕ) (x : Session) (c : Bytes) (o : Option Cursor) (e : Effect) (new : State)
-    → session_of old s ≡ Some x → x.cause ≡ None
-    → MatchOption o (RefusedStep old s NoCursor e new) (λ z. CloseStep old s c e new) → AreKept old → AreKept new
-close_kept old s x c None e new found runs h k = same_kept old new h.1 k
-close_kept old s x c (Some z) e new found runs h k =
-    session_runs old new s x (λ y. record y { cursors = drop_first (λ d. bytes_eq d.name c) y.cursors }) found h.1
+turned_kept old s x (closes_cursor c) new found runs h k =
+    session_runs old new s x (without_cursor c) found h
     (λ g. record {
       cursors = all_dropped (IsSoundCursor old.store.queries) (λ (d : Cursor). bytes_eq d.name c) x.cursors g.cursors;
       names = names_dropped IsNamed (λ n. bytes_eq n c) x.cursors g.names;
@@ -422,97 +311,55 @@ close_kept old s x c (Some z) e new found runs h k =
       once = g.once;
       ended = λ ends. going x runs ends;
     }) k
-
--- watches
-none_watched : (q : Bytes) (ws : List Bytes) → list_any (λ w. bytes_eq w q) ws ≡ false → All (λ w. w ≢ q) ws
-none_watched q ws e = All-weaker (λ w. bytes_eq w q ≡ false) (λ w. w ≢ q) (λ w k. other_name w q k) ws
-    (none_pass (λ w. bytes_eq w q) ws e)
-
-watched : (qs : List Query) (q : Bytes) (ws : List Bytes) (b : Bool) → list_any (λ w. bytes_eq w q) ws ≡ b
-    → IsSome (query_of qs q)
-    → All (λ w. IsSome (query_of qs w)) ws → AreApart ws
-    → All (λ w. IsSome (query_of qs w)) (cond b ws (ws ++ q ∷ [])) × AreApart (cond b ws (ws ++ q ∷ []))
-watched qs q ws true e there all once = (all, once)
-watched qs q ws false e there all once = (
-  All-push (λ w. IsSome (query_of qs w)) ws q all there,
-  pairs_push
-      (λ a b. a ≢ b) ws q once (none_watched q ws e),
-)
-
-watch_kept : (old : State) (s : ℕ) (x : Session) (q : Bytes) (r : Result ⊤ Refusal) (new : State)
-    → session_of old s ≡ Some x → x.cause ≡ None
-    → Answers (watch_refusal old.store q) r (λ _. ⊤) (OutOfMemoryWhere (is_watching q x ≡ false))
-    → BecomesWhere old s (with_watch q) new r → AreKept old → AreKept new
-watch_kept old s x q (Ok u) new found runs answer after k =
-    let fine = opens_on (watch_refusal old.store q) u (OutOfMemoryWhere (is_watching q x ≡ false)) answer in
-    let there = is_registered (query_of old.store.queries q)
-    (none_first (is_none (query_of old.store.queries q)) NoQuery None fine) in
-    session_runs old new s x (with_watch q) found after (λ g.
-    let both = watched old.store.queries q x.watches (is_watching q x) refl there g.registered g.once in record {
+turned_kept old s x (starts_watching q) new found runs h k =
+    session_runs old new s x (with_watch q) found h.1 (λ g.
+    let both = watched old.store.queries q x.watches (is_watching q x) refl h.0 g.registered g.once in record {
       cursors = g.cursors;
       names = g.names;
       registered = both.0;
       once = both.1;
       ended = λ ends. going x runs ends;
     }) k
-watch_kept old s x q (Err r) new found runs answer after k = same_kept old new after k
-
-unwatch_kept : (old : State) (s : ℕ) (x : Session) (q : Bytes) (r : Result ⊤ Refusal) (new : State)
-    → session_of old s ≡ Some x → x.cause ≡ None
-    → BecomesWhere old s (without_watch q) new r → AreKept old → AreKept new
-unwatch_kept old s x q (Ok u) new found runs after k =
-    session_runs old new s x (without_watch q) found after (λ g. record {
+turned_kept old s x (stops_watching q) new found runs h k =
+    session_runs old new s x (without_watch q) found h (λ g. record {
       cursors = g.cursors;
       names = g.names;
-      registered = all_dropped (λ w. IsSome (query_of old.store.queries w)) (λ w. bytes_eq w q) x.watches g.registered;
+      registered = all_dropped (λ w. IsSome (listed_of old.store.queries w)) (λ w. bytes_eq w q) x.watches g.registered;
       once = pairs_dropped (λ a b. a ≢ b) (λ w. bytes_eq w q) x.watches g.once;
       ended = λ ends. going x runs ends;
     }) k
-unwatch_kept old s x q (Err r) new found runs after k = same_kept old new after k
 
-lines_kept : (old : State) (s : ℕ) (lines : List Bytes) (e : Effect) (new : State) → TellsLines old s lines e new
-    → AreKept old → AreKept new
-lines_kept old s lines e new (inl h) k = same_kept old new h.1 k
-lines_kept old s lines e new (inr (told, lacking, rest, parts, ends)) k = ends_kept old s Memory new ends.1 k
+replied_kept : (s : ℕ) (mid new : State) → Replied s mid new → AreKept mid → AreKept new
+replied_kept s mid new (is_whole after) k = same_kept mid new after k
+replied_kept s mid new (is_cut after) k = ends_kept mid s Memory new after k
 
-explain_kept : (old : State) (s : ℕ) (o : Option Query) (e : Effect) (new : State)
-    → MatchOption o (RefusedStep old s NoQuery e new) (λ q. ExplainStep old s q e new) → AreKept old → AreKept new
-explain_kept old s None e new h k = same_kept old new h.1 k
-explain_kept old s (Some q) e new h k = lines_kept old s (explain_lines q h.tree) e new h.tells k
+turn_kept : (old : State) (s : ℕ) (x : Session) (t : Turn) (new : State) → session_of old s ≡ Some x
+    → x.cause ≡ None → DoesTurn old s x t new → AreKept old → AreKept new
+turn_kept old s x t new found runs (is_turned h) k = turned_kept old s x t new found runs h k
+turn_kept old s x t new found runs (is_refused r) k = replied_kept s old new r k
 
-command_kept : (old : State) (s : ℕ) (x : Session) (c : Command) (e : Effect) (new : State) → session_of old s ≡ Some x
-    → x.cause ≡ None → CommandStep old s x c e new → AreKept old → AreKept new
-command_kept old s x (Rel name types) e new found runs h k =
-    store_kept old h.store new (related_queries old.store name types h.result h.store h.done)
-    (related_store old.store name types h.result h.store h.done k.0) h.state k
-command_kept old s x (Add name row) e new found runs h k =
-    change_kept old s name _ _ _ h.store _ e new h.change
-    (changed_kept old name (add_outdates h.result) h.store (added_queries old.store name row h.result h.store h.done)
-    (added_store old.store name row h.result h.store h.done k.0) k)
-command_kept old s x (Del name row) e new found runs h k =
-    change_kept old s name _ _ _ h.store _ e new h.change
-    (changed_kept old name (delete_outdates h.result) h.store
-    (deleted_queries old.store name row h.result h.store h.done)
-    (deleted_store old.store name row h.result h.store h.done k.0) k)
-command_kept old s x (Register q) e new found runs h k = query_kept old s q e new h k
-command_kept old s x (Open c q) e new found runs h k = open_kept old s x c q h.result new found runs h.answer h.state k
-command_kept old s x (Next c count) e new found runs h k = next_kept old s x c count (cursor_of x.cursors c) e new found
-    runs h k
-command_kept old s x (Close c) e new found runs h k = close_kept old s x c (cursor_of x.cursors c) e new found runs h k
-command_kept old s x Quit e new found runs h k = ends_kept old s _ new h.1 k
-command_kept old s x Stop e new found runs h k = ends_kept (record old { stopped = true }) s _ new h.1 k
-command_kept old s x (Drop q) e new found runs h k = drop_kept old q h.result h.store new h.done h.state k
-command_kept old s x (Has q row) e new found runs h k = same_kept old new h.state k
-command_kept old s x (Watch q) e new found runs h k = watch_kept old s x q h.result new found runs h.answer h.state k
-command_kept old s x (Unwatch q) e new found runs h k = unwatch_kept old s x q h.result new found runs h.state k
-command_kept old s x (Explain q) e new found runs h k = explain_kept old s (query_of old.store.queries q) e new h k
+form_kept : (f : Form) (old : State) (s : ℕ) (x : Session) (e : Effect) (new : State) → session_of old s ≡ Some x
+    → x.cause ≡ None → Does f old s x e new → AreKept old → AreKept new
+form_kept asking old s x e new found runs h k = replied_kept s old new h.1 k
+form_kept storing old s x e new found runs h k =
+    replied_kept s (record old { store = h.1.store }) new h.1.replied (stored_kept old h.1.store h.1.stored k)
+form_kept (turning t) old s x e new found runs h k = turn_kept old s x t new found runs h.1 k
+form_kept (changing c) old s x e new found runs h k =
+    let d = rows_do old s c e new h in
+    change_kept old s d.outcome d.store d.reply e new d.change
+    (changed_kept old (tried d.outcome) d.store (made_queries (outdater_by c) old.store d.outcome d.store d.made)
+    (made_sound (outdater_by c) old.store d.outcome d.store d.made k.0) k)
+form_kept ending old s x e new found runs h k =
+    ends_kept (record old { stopped = h.1.stopped }) s h.1.cause new h.1.state k
 
 -- The front of a session's bytes.
-read_kept : (old : State) (s : ℕ) (x : Session) (r : Reading) (e : Effect) (new : State) → session_of old s ≡ Some x
-    → x.cause ≡ None → ReadStep old s x r e new → AreKept old → AreKept new
-read_kept old s x (refused r) e new found runs h k = same_kept old new h.1 k
-read_kept old s x (says_command c) e new found runs (true, h) k = command_kept old s x c e new found runs h k
-read_kept old s x (says_command c) e new found runs (false, h) k = same_kept old new h.1.1 k
+read_kept : (old : State) (s : ℕ) (x : Session) (l : Bytes) (r : Reading) (e : Effect) (new : State) → session_of old s ≡ Some x
+    → x.cause ≡ None → ReadStep old s x l r e new → AreKept old → AreKept new
+read_kept old s x l outside e new found runs h k = same_kept old new h.1 k
+read_kept old s x l (past_limit c) e new found runs h k = same_kept old new h.1 k
+read_kept old s x l (says_command c) e new found runs (true, h) k = form_kept (form_of c) old s x e new
+    found runs (command_does old s x c e new h) k
+read_kept old s x l (says_command c) e new found runs (false, h) k = same_kept old new h.1.1 k
 
 pub without_line_kept : (old : State) (s : ℕ) (rest : Bytes) → AreKept old
     → AreKept (with_session old s (behind_line rest))
@@ -532,15 +379,15 @@ front_kept old s x (run l) e new found runs h k =
     let rest = h.2.rest in
     let here : session_of (with_session old s (behind_line rest)) s ≡ Some (behind_line rest x) =
     session_changed old s (behind_line rest) (λ y. refl) ∙ ap (λ o. option_map (behind_line rest) o) found in
-    read_kept (with_session old s (behind_line rest)) s (behind_line rest x) (reading_of l) e new here runs h.2.then
+    read_kept (with_session old s (behind_line rest)) s (behind_line rest x) l (reading_of l) e new here runs h.2.then
     (without_line_kept old s rest k)
 
 -- The events.
-fresh_sound : (qs : List Query) (s : ℕ) → IsSoundSession qs (fresh s)
+fresh_sound : (qs : List Listed) (s : ℕ) → IsSoundSession qs (fresh s)
 fresh_sound qs s = record {
   cursors = All-nil (IsSoundCursor qs);
   names = nothing_apart (λ a b. a ≢ b);
-  registered = All-nil (λ w. IsSome (query_of qs w));
+  registered = All-nil (λ w. IsSome (listed_of qs w));
   once = nothing_apart (λ a b. a ≢ b);
   ended = λ h. (refl, refl);
 }
@@ -661,20 +508,30 @@ pub runs_keep_sound : RunsKeepSound
 runs_keep_sound old done new w g = walk_keeps (λ (o : State) (d : Did) (n : State). Step o d.event d.effect n)
     IsSoundState (λ o d n h. step_sound o d.event d.effect n h) old done new w g
 
-pub opening_sound : IsSoundState opening
-opening_sound = record {
+pub opening_is_start : OpeningIsStart
+opening_is_start = record {
   store = record {
     relations = nothing_apart (λ a b. a ≢ b);
     rows = All-nil IsSoundRelation;
     texts = nothing_apart (λ a b. a ≢ b);
     few = omega arith;
     queries = nothing_apart (λ a b. a ≢ b);
-    connex = All-nil (λ (q : Query). IsFreeConnex (edges_of q) (head_of q));
+    connex = All-nil IsConnex;
   };
-  sessions = All-nil (IsSoundSession []);
-  rising = nothing_apart (λ s t. s < t);
-  few = omega arith;
+  none = refl;
+  going = refl;
+}
+
+-- where no session is open, the store alone is to be sound
+pub start_sound : (start : State) → IsStart start → IsSoundState start
+start_sound start h = record {
+  store = h.store;
+  sessions = subst (λ (xs : List Session). All (IsSoundSession start.store.queries) xs) (sym h.none)
+      (All-nil (IsSoundSession start.store.queries));
+  rising = subst (λ (xs : List Session). AllPairs (λ s t. s < t) (map (λ (x : Session). x.id) xs)) (sym h.none)
+      (nothing_apart (λ s t. s < t));
+  few = subst (λ (xs : List Session). length xs ≤ SESSIONS) (sym h.none) (omega arith);
 }
 
 pub states_are_sound : StatesAreSound
-states_are_sound done new w = runs_keep_sound opening done new w opening_sound
+states_are_sound start h done new w = runs_keep_sound start done new w (start_sound start h)

@@ -1,35 +1,24 @@
 -- A session that watches a registered query does so as long as it goes on and doesn't unwatch it.
-use Rattle.std.specs.Prelude.{ℕ, List, [], ◌∷◌, ◌==◌, ◌≡◌, ◌<◌, ◌++◌, ◌⊎◌, ◌||◌, Bool, true, false, cond, length, Option, None, Some, is_none, IsSomeAnd, MatchOption, option_map, find, Result, Ok, Err, All, ⊤}
+use Rattle.std.specs.Prelude.{ℕ, List, [], ◌∷◌, ◌==◌, ◌≡◌, ◌<◌, ◌++◌, ◌⊎◌, ◌||◌, Bool, true, false, cond, length, Option, None, Some, MatchOption, option_map, find, All}
 use Rattle.std.specs.List.{list_any}
 use Rattle.std.proofs.Common.{refl, sym, ap, ◌∙◌, subst, inl, inr}
 use Rattle.std.proofs.lemmas.Bool.{eqb-true}
 use Rattle.std.proofs.lemmas.List.Elements.{All-head, All-tail}
-use Rattle.djq_model.specs.declared.relation.ColumnType.{ColumnType}
-use Rattle.djq_model.specs.declared.query.Query.{Query}
-use Rattle.djq_model.specs.Data.{Bytes, Tuple, bytes_eq, drop_first, query_of}
+use Rattle.djq_model.specs.Data.{Bytes, bytes_eq, drop_first}
+use Rattle.djq_model.specs.Listed.{Listed, listed_name, listed_of}
 use Rattle.djq_model.specs.Equality.{bytes_eq-decides}
-use Rattle.djq_lines.specs.declared.rest.QueryOutcome.{QueryOutcome}
-use Rattle.djq_lines.specs.declared.rest.QueryOutcome.TheVariants.{Registered, Cyclic, NotConnex}
 use Rattle.djq_lines.specs.declared.answer.EndCause.{EndCause}
 use Rattle.djq_lines.specs.declared.answer.EndCause.TheVariants.{Input, Long, Slow, Memory}
-use Rattle.djq_lines.specs.declared.answer.Refusal.{Refusal}
-use Rattle.djq_lines.specs.declared.answer.Refusal.TheVariants.{NoQuery, NoCursor, InUse}
-use Rattle.djq_lines.specs.declared.answer.AddOutcome.{AddOutcome}
-use Rattle.djq_lines.specs.declared.answer.AddOutcome.TheVariants.{Added, Same}
-use Rattle.djq_lines.specs.declared.answer.DeleteOutcome.{DeleteOutcome}
-use Rattle.djq_lines.specs.declared.answer.DeleteOutcome.TheVariants.{Removed, Absent}
 use Rattle.djq_lines.specs.declared.command.Command.{Command}
-use Rattle.djq_lines.specs.declared.command.Command.TheVariants.{Rel, Add, Del, Query as Register, Drop, Open, Next, Close, Has, Watch, Unwatch, Explain, Quit, Stop}
+use Rattle.djq_lines.specs.declared.command.Command.TheVariants.{Unwatch}
 use Rattle.djq_lines.specs.declared.limits.TheConstants.{SESSIONS}
-use Rattle.djq_lines.specs.Grammar.{Reading, refused, says as says_command, reading_of}
+use Rattle.djq_lines.specs.Grammar.{Reading, outside, past_limit, says as says_command, reading_of}
 use Rattle.djq_lines.specs.Reply.{end_memory}
-use Rattle.djq_machine.specs.State.{Store, State, Session, Cursor, Position, open_at, stale, fresh, session_of, with_session, cursor_of, ended_by}
-use Rattle.djq_machine.specs.Conditions.{OutOfMemoryWhere}
-use Rattle.djq_machine.specs.Store.{RefusedLate, RegistersAs, MakesRelation, AddsRow, AddsAs, DeletesRow, DeletesAs, RegistersQuery, DropsQuery, rel_refusal, add_refusal, delete_refusal, query_refusal, drop_refusal}
-use Rattle.djq_machine.specs.Stale.{changed}
+use Rattle.djq_machine.specs.State.{Store, State, Session, Cursor, fresh, session_of, with_session, ended_by}
+use Rattle.djq_machine.specs.Changes.{RowsChange, RowsOutcome, tried, changed}
 use Rattle.djq_machine.specs.Watch.{is_watching, Telling, ChangeStep}
-use Rattle.djq_machine.specs.Effect.{Effect, nothing, EndsWith, RefusedStep}
-use Rattle.djq_machine.specs.Command.{uses, OpensTo, BecomesWhere, with_cursor, with_watch, without_watch, NextStepAt, CloseStep, CommandStep, QueryStep, QueryCutStep, ExplainStep, TellsLines, explain_lines}
+use Rattle.djq_machine.specs.Effect.{Effect, nothing, EndsWith}
+use Rattle.djq_machine.specs.Command.{uses, with_cursor, with_watch, without_watch, CommandStep}
 use Rattle.djq_machine.specs.LineStep.{LineOutcome, long, blank, slow, no_room, run, ReadStep, FrontStep, behind_line}
 use Rattle.djq_machine.specs.Step.{Event, opened, fed, stepped, took, ended, closed, FedStep, TookStep, EndedStep, Acts, with_relations, Step}
 use Rattle.djq_machine.specs.Run.{Did, Run, to_session}
@@ -37,10 +26,13 @@ use Rattle.djq_machine.specs.Call.{IsOpen, cause_of, cause_in}
 use Rattle.djq_laws.specs.Moved.{EndsByRun, Spares, Comes, is_held, out_of_memory, is_dropped, Ends, input_ends, had_ended}
 use Rattle.djq_laws.specs.Watched.{IsWatcher, WatchesAlong}
 use Rattle.djq_laws.specs.Staying.{GoesOn, KeepsWatch, WatchersStay}
+use Rattle.djq_laws.specs.Form.{form_of, Form, asking, storing, turning, changing, ending, Turn, opens_cursor, moves_cursor, closes_cursor, starts_watching, stops_watching, RowCommand, Replied, is_whole, is_cut, Stored, learns_texts, makes_relation, registers, drops_query, in_use, without_cursor, Turned, Changed, DoesStore, DoesTurn, is_turned, is_refused, Does}
 use Rattle.djq_laws.proofs.Finding.{some_and, and_some}
+use Rattle.djq_laws.proofs.Forms.{command_does}
+use Rattle.djq_laws.proofs.Rows.{outdater_by, rows_do, made_queries}
 use Rattle.djq_laws.proofs.Told.{change_keeps}
 use Rattle.djq_laws.proofs.Queueing.{gaining, session_changed, session_other, stepped as stepped_session, stepped_cause}
-use Rattle.djq_laws.proofs.Giving.{done_of, add_refused, query_late, refused_store, found_in_front, dropped_query, unused_of}
+use Rattle.djq_laws.proofs.Giving.{found_in_front, dropped_query}
 use Rattle.djq_laws.proofs.Alike.{CauseKept, alike_cause}
 use Rattle.djq_laws.proofs.Touching.{AnyCause, Touches, is_fed, is_stepped, is_taken, is_ended}
 use Rattle.djq_laws.proofs.Moving.{fed_facts, took_facts, ended_facts}
@@ -93,188 +85,156 @@ others_unwatched : (q p : Bytes) (x : Session) → bytes_eq p q ≡ false → is
 others_unwatched q p x apart h = any_dropped (λ w. bytes_eq w q) (λ w. bytes_eq w p) (λ w e. let same : w ≡ p = (bytes_eq-decides w p).0 e in ap (λ v. bytes_eq v q) same ∙ apart) x.watches h
 
 -- What stays of a session that watches a registered query.
-record Stays (q : Query) (s : ℕ) (st : State) : Type 0 where
-  registered : query_of st.store.queries q.name ≡ Some q
-  goes : Goes q.name st s
+record Stays (q : Listed) (s : ℕ) (st : State) : Type 0 where
+  registered : listed_of st.store.queries (listed_name q) ≡ Some q
+  goes : Goes (listed_name q) st s
 
-module _ (q : Query) (s : ℕ) (old : State) (registered : query_of old.store.queries q.name ≡ Some q) (watches : Watches q.name (session_of old s)) where
+module _ (q : Listed) (s : ℕ) (old : State) (registered : listed_of old.store.queries (listed_name q) ≡ Some q) (watches : Watches (listed_name q) (session_of old s)) where
   by_none : (new : State) → new ≡ old → Stays q s new
   by_none new e = subst (λ (st : State). Stays q s st) (sym e) (record { registered = registered; goes = inl watches })
 
-  by_session : (t : ℕ) (f : Session → Session) (new : State) → ((x : Session) → (f x).id ≡ x.id) → ((t == s) ≡ true → (x : Session) → is_watching q.name x ≡ true → is_watching q.name (f x) ≡ true)
+  by_session : (t : ℕ) (f : Session → Session) (new : State) → ((x : Session) → (f x).id ≡ x.id) → ((t == s) ≡ true → (x : Session) → is_watching (listed_name q) x ≡ true → is_watching (listed_name q) (f x) ≡ true)
       → new ≡ with_session old t f → Stays q s new
   by_session t f new id keeps e =
       subst (λ (st : State). Stays q s st) (sym e)
-      (record { registered = registered; goes = inl (watches_with q.name old t f s (t == s) refl id keeps watches) })
+      (record { registered = registered; goes = inl (watches_with (listed_name q) old t f s (t == s) refl id keeps watches) })
 
   by_end : (t : ℕ) (cause : EndCause) (new : State) → IsOpen old t → new ≡ with_session old t (ended_by cause) → Stays q s new
   by_end t cause new there e =
-      subst (λ (st : State). Stays q s st) (sym e) (record { registered = registered; goes = watches_still q.name old t cause s (t == s) refl there watches })
+      subst (λ (st : State). Stays q s st) (sym e) (record { registered = registered; goes = watches_still (listed_name q) old t cause s (t == s) refl there watches })
 
-  by_store : (store : Store) (new : State) → query_of store.queries q.name ≡ Some q → new ≡ record old { store = store } → Stays q s new
-  by_store store new still e = subst (λ (st : State). Stays q s st) (sym e) (record { registered = still; goes = inl watches })
+  same_queries : (store : Store) → store.queries ≡ old.store.queries → listed_of store.queries (listed_name q) ≡ Some q
+  same_queries store e = ap (λ qs. listed_of qs (listed_name q)) e ∙ registered
 
-  same_queries : (store : Store) → store.queries ≡ old.store.queries → query_of store.queries q.name ≡ Some q
-  same_queries store e = ap (λ qs. query_of qs q.name) e ∙ registered
+  begins : (o : Option RowsChange) (store : Store) → Watches (listed_name q) (session_of (changed old o store) s)
+  begins None store = watches
+  begins (Some change) store = watches_changed (listed_name q) old change store s watches
 
-  begins : (name : Bytes) (b : Bool) (store : Store) → Watches q.name (session_of (changed old name b store) s)
-  begins name true store = watches_changed q.name old name store s watches
-  begins name false store = watches
-
-  by_change : (t : ℕ) (name : Bytes) (rows : List Tuple) (outdates accepted : Bool) (store : Store) (reply : Bytes) (e : Effect) (new : State)
-      → ChangeStep old t name rows outdates accepted store reply e new → store.queries ≡ old.store.queries → Stays q s new
-  by_change t name rows outdates accepted store reply e new h same = record {
-    registered = same_queries new.store (ap (λ (st : Store). st.queries) (change_store old t name rows outdates accepted store reply e new h) ∙ same);
-    goes = subst (λ (st : State). Goes q.name st s) (sym h.state)
-        (change_keeps (λ (m : Telling). Goes q.name m.state s) (λ m i text there k. k) ends old t name rows outdates accepted store reply e new h (inl (begins name outdates store)));
+  by_change : (t : ℕ) (outcome : RowsOutcome) (store : Store) (reply : Bytes) (e : Effect) (new : State)
+      → ChangeStep old t outcome store reply e new → store.queries ≡ old.store.queries → Stays q s new
+  by_change t outcome store reply e new h same = record {
+    registered = same_queries new.store (ap (λ (st : Store). st.queries) (change_store old t outcome store reply e new h) ∙ same);
+    goes = subst (λ (st : State). Goes (listed_name q) st s) (sym h.state)
+        (change_keeps (λ (m : Telling). Goes (listed_name q) m.state s) (λ m i text there k. k) ends old t outcome store reply e new h (inl (begins (tried outcome) store)));
   }
     where
-      ends : (m : Telling) (i : ℕ) (text : Bytes) (cause : EndCause) → EndsByRun cause → IsOpen m.state i → Goes q.name m.state s → Goes q.name (with_session m.state i (ended_by cause)) s
-      ends m i text cause may there (inl w) = watches_still q.name m.state i cause s (i == s) refl there w
+      ends : (m : Telling) (i : ℕ) (text : Bytes) (cause : EndCause) → EndsByRun cause → IsOpen m.state i → Goes (listed_name q) m.state s → Goes (listed_name q) (with_session m.state i (ended_by cause)) s
+      ends m i text cause may there (inl w) = watches_still (listed_name q) m.state i cause s (i == s) refl there w
       ends m i text cause may there (inr over) = inr (over_stays m.state i cause s (i == s) refl there over)
 
-  relation_queries : (name : Bytes) (types : List ColumnType) (r : Result ⊤ Refusal) (store : Store) → MakesRelation old.store name types r store → store.queries ≡ old.store.queries
-  relation_queries name types (Ok u) store h = ap (λ (st : Store). st.queries) (done_of (rel_refusal old.store name types) u _ (OutOfMemoryWhere ⊤) h.answer)
-  relation_queries name types (Err r) store h = ap (λ (st : Store). st.queries) h.stays
-
-  add_queries : (name : Bytes) (row : Tuple) (r : Result AddOutcome Refusal) (store : Store) → AddsRow old.store name row r store → store.queries ≡ old.store.queries
-  add_queries name row (Ok Added) store h = let d = done_of (add_refusal old.store name row) Added (AddsAs old.store name row store) _ h.answer in ap (λ (st : Store). st.queries) d.2
-  add_queries name row (Ok Same) store h = let d = done_of (add_refusal old.store name row) Same (AddsAs old.store name row store) _ h.answer in ap (λ (st : Store). st.queries) d.1
-  add_queries name row (Err r) store h = ap (λ (st : Store). st.queries) (add_refused old.store name row r store h)
-
-  delete_queries : (name : Bytes) (row : Tuple) (r : Result DeleteOutcome Refusal) (store : Store) → DeletesRow old.store name row r store → store.queries ≡ old.store.queries
-  delete_queries name row (Ok Removed) store h = let d = done_of (delete_refusal old.store name row) Removed (DeletesAs old.store name row store) (OutOfMemoryWhere ⊥) h.answer in ap (λ (st : Store). st.queries) d.1
-  delete_queries name row (Ok Absent) store h = let d = done_of (delete_refusal old.store name row) Absent (DeletesAs old.store name row store) (OutOfMemoryWhere ⊥) h.answer in ap (λ (st : Store). st.queries) d.1
-  delete_queries name row (Err r) store h = ap (λ (st : Store). st.queries) h.stays
-
-  query_registered : (p : Query) (r : Result QueryOutcome Refusal) (store : Store) → RegistersQuery old.store p r store → query_of store.queries q.name ≡ Some q
-  query_registered p (Ok (Registered most)) store h =
-      let d = done_of (query_refusal old.store p) (Registered most) (RegistersAs old.store p store) (RefusedLate old.store p store) h.answer in
-      ap (λ (st : Store). query_of st.queries q.name) d.3 ∙ found_in_front old.store.queries p q.name q registered
-  query_registered p (Ok (Cyclic rest)) store h =
-      let d = done_of (query_refusal old.store p) (Cyclic rest) (RegistersAs old.store p store) (RefusedLate old.store p store) h.answer in
-      same_queries store (ap (λ (st : Store). st.queries) d.1)
-  query_registered p (Ok (NotConnex rest)) store h =
-      let d = done_of (query_refusal old.store p) (NotConnex rest) (RegistersAs old.store p store) (RefusedLate old.store p store) h.answer in
-      same_queries store (ap (λ (st : Store). st.queries) d.1)
-  query_registered p (Err r) store h =
-      same_queries store (ap (λ (st : Store). st.queries) (refused_store (query_refusal old.store p) r (RegistersAs old.store p store) (RefusedLate old.store p store) old.store store h.answer h.stays (query_late old.store p r store)))
-
-  by_register : (t : ℕ) (p : Query) (e : Effect) (new : State) → IsOpen old t → QueryStep old t p e new ⊎ QueryCutStep old t p e new → Stays q s new
-  by_register t p e new there (inl h) = by_store h.store new (query_registered p h.result h.store h.done) h.state
-  by_register t p e new there (inr h) =
-      subst (λ (st : State). Stays q s st) (sym h.ends.1)
-      (record { registered = query_registered p h.result h.store h.done; goes = watches_still q.name (record old { store = h.store }) t Memory s (t == s) refl there watches })
-
-  -- a query that is watched isn't dropped
-  drop_registered : (p : Bytes) (r : Result ⊤ Refusal) (store : Store) → DropsQuery old.store (list_any (uses p) old.sessions) p r store → query_of store.queries q.name ≡ Some q
-  drop_registered p (Err r) store h = same_queries store (ap (λ (st : Store). st.queries) h.stays)
-  drop_registered p (Ok u) store h =
-      ap (λ (st : Store). query_of st.queries q.name) e ∙ dropped_query old.store.queries p q.name (other (bytes_eq q.name p) refl) ∙ registered
+  -- what a command of the store makes of it: a query that is watched isn't dropped
+  used : in_use old (listed_name q) ≡ true
+  used =
+      let g = some_and (session_of old s) (λ x. is_watching (listed_name q) x ≡ true) watches in
+      any_there (uses (listed_name q)) old.sessions g.0 (found_there (λ (x : Session). x.id == s) old.sessions g.0 g.1)
+      (or_true (list_any (λ (c : Cursor). bytes_eq c.query (listed_name q)) (g.0).cursors) (is_watching (listed_name q) g.0) g.2)
     where
-      D : ⊤ → Type 0
-      D u = store ≡ record old.store { queries = drop_first (λ k. bytes_eq k.name p) old.store.queries }
-
-      e : store ≡ record old.store { queries = drop_first (λ k. bytes_eq k.name p) old.store.queries }
-      e = done_of (drop_refusal old.store (list_any (uses p) old.sessions) p) u D (OutOfMemoryWhere ⊥) h.answer
-
-      unused : list_any (uses p) old.sessions ≡ false
-      unused = unused_of (is_none (query_of old.store.queries p)) (list_any (uses p) old.sessions) NoQuery InUse u D (OutOfMemoryWhere ⊥) h.answer
-
       or_true : (a b : Bool) → b ≡ true → (a || b) ≡ true
       or_true true b k = refl
       or_true false b k = k
 
-      used : list_any (uses q.name) old.sessions ≡ true
-      used =
-          let g = some_and (session_of old s) (λ x. is_watching q.name x ≡ true) watches in
-          any_there (uses q.name) old.sessions g.0 (found_there (λ (x : Session). x.id == s) old.sessions g.0 g.1)
-          (or_true (list_any (λ (c : Cursor). bytes_eq c.query q.name) (g.0).cursors) (is_watching q.name g.0) g.2)
-
-      other : (b : Bool) → bytes_eq q.name p ≡ b → b ≡ false
+  still_registered : (store : Store) → Stored (in_use old) old.store store → listed_of store.queries (listed_name q) ≡ Some q
+  still_registered store (learns_texts h) = same_queries store (ap (λ (st : Store). st.queries) h.store)
+  still_registered store (makes_relation name types none e) = same_queries store (ap (λ (st : Store). st.queries) e)
+  still_registered store (registers p none connex few e) =
+      ap (λ (st : Store). listed_of st.queries (listed_name q)) e ∙ found_in_front old.store.queries p (listed_name q) q registered
+  still_registered store (drops_query p unused e) =
+      ap (λ (st : Store). listed_of st.queries (listed_name q)) e
+      ∙ dropped_query old.store.queries p (listed_name q) (other (bytes_eq (listed_name q) p) refl) ∙ registered
+    where
+      other : (b : Bool) → bytes_eq (listed_name q) p ≡ b → b ≡ false
       other false k = refl
       other true k =
-          let same : q.name ≡ p = (bytes_eq-decides q.name p).0 k in
-          let yes : list_any (uses p) old.sessions ≡ true = subst (λ (n : Bytes). list_any (uses n) old.sessions ≡ true) same used in
+          let same : listed_name q ≡ p = (bytes_eq-decides (listed_name q) p).0 k in
+          let yes : in_use old p ≡ true = subst (λ (n : Bytes). in_use old n ≡ true) same used in
           absurd (cc (yes, unused))
 
-  by_opening : (t : ℕ) (c p : Bytes) (r : Result ⊤ Refusal) (new : State) → OpensTo old t c p new r → Stays q s new
-  by_opening t c p (Ok u) new h = by_session t (with_cursor c p) new (λ x. refl) (λ b x k. k) h
-  by_opening t c p (Err r) new h = by_none new h
-
-  by_becoming : (t : ℕ) (f : Session → Session) (r : Result ⊤ Refusal) (new : State) → ((x : Session) → (f x).id ≡ x.id)
-      → ((t == s) ≡ true → (x : Session) → is_watching q.name x ≡ true → is_watching q.name (f x) ≡ true) → BecomesWhere old t f new r → Stays q s new
-  by_becoming t f (Ok u) new id keeps h = by_session t f new id keeps h
-  by_becoming t f (Err r) new id keeps h = by_none new h
-
-  by_next : (t : ℕ) (c : Bytes) (p : Query) (count : ℕ) (at : Position) (e : Effect) (new : State) → IsOpen old t → NextStepAt old t c p count at e new → Stays q s new
-  by_next t c p count (open_at given end) e new there (inl h) = by_session t _ new (λ x. refl) (λ b x k. k) h.state
-  by_next t c p count (open_at given end) e new there (inr h) = by_end t Memory new there h.state
-  by_next t c p count (stale relation n) e new there h = by_none new h.1
-
-  by_next_found : (t : ℕ) (c : Bytes) (count : ℕ) (o : Option Cursor) (e : Effect) (new : State) → IsOpen old t
-      → MatchOption o (RefusedStep old t NoCursor e new) (λ k. IsSomeAnd (query_of old.store.queries k.query) (λ p. NextStepAt old t c p count k.position e new)) → Stays q s new
-  by_next_found t c count None e new there h = by_none new h.1
-  by_next_found t c count (Some k) e new there h =
-      let f = some_and (query_of old.store.queries k.query) (λ p. NextStepAt old t c p count k.position e new) h in
-      by_next t c f.0 count k.position e new there f.2
-
-  by_close : (t : ℕ) (c : Bytes) (o : Option Cursor) (e : Effect) (new : State) → MatchOption o (RefusedStep old t NoCursor e new) (λ k. CloseStep old t c e new) → Stays q s new
-  by_close t c None e new h = by_none new h.1
-  by_close t c (Some k) e new h = by_session t _ new (λ x. refl) (λ b x k. k) h.1
-
-  by_lines : (t : ℕ) (lines : List Bytes) (e : Effect) (new : State) → IsOpen old t → TellsLines old t lines e new → Stays q s new
-  by_lines t lines e new there (inl h) = by_none new h.1
-  by_lines t lines e new there (inr (told, lacking, rest, parts, ends)) = by_end t Memory new there ends.1
-
-  by_explain : (t : ℕ) (o : Option Query) (e : Effect) (new : State) → IsOpen old t → MatchOption o (RefusedStep old t NoQuery e new) (λ p. ExplainStep old t p e new) → Stays q s new
-  by_explain t None e new there h = by_none new h.1
-  by_explain t (Some p) e new there h = by_lines t (explain_lines p h.tree) e new there h.tells
-
   -- a session that doesn't unwatch the query
-  unwatches_other : (t : ℕ) (p : Bytes) → ((t == s) ≡ true → says_command (Unwatch p) ≡ says_command (Unwatch q.name) → ⊥)
-      → (t == s) ≡ true → (x : Session) → is_watching q.name x ≡ true → is_watching q.name (without_watch p x) ≡ true
-  unwatches_other t p not_it here x k = others_unwatched q.name p x (other (bytes_eq p q.name) refl) k
+  unwatches_other : (t : ℕ) (p : Bytes) → ((t == s) ≡ true → stops_watching p ≡ stops_watching (listed_name q) → ⊥)
+      → (t == s) ≡ true → (x : Session) → is_watching (listed_name q) x ≡ true → is_watching (listed_name q) (without_watch p x) ≡ true
+  unwatches_other t p not_it here x k = others_unwatched (listed_name q) p x (other (bytes_eq p (listed_name q)) refl) k
     where
-      other : (b : Bool) → bytes_eq p q.name ≡ b → b ≡ false
+      other : (b : Bool) → bytes_eq p (listed_name q) ≡ b → b ≡ false
       other false e = refl
-      other true e = let same : p ≡ q.name = (bytes_eq-decides p q.name).0 e in absurd (not_it here (ap (λ n. says_command (Unwatch n)) same))
+      other true e =
+          let same : p ≡ listed_name q = (bytes_eq-decides p (listed_name q)).0 e in
+          absurd (not_it here (ap (λ n. stops_watching n) same))
 
-  by_command : (t : ℕ) (x : Session) (c : Command) (e : Effect) (new : State) → IsOpen old t → ((t == s) ≡ true → says_command c ≡ says_command (Unwatch q.name) → ⊥)
+  by_turn : (t : ℕ) (x : Session) (turn : Turn) (new : State) → ((t == s) ≡ true → turn ≡ stops_watching (listed_name q) → ⊥)
+      → Turned old t x turn new → Stays q s new
+  by_turn t x (opens_cursor c p) new not_it h = by_session t (with_cursor c p) new (λ y. refl) (λ b y k. k) h.2
+  by_turn t x (moves_cursor c) new not_it h = by_session t _ new (λ y. refl) (λ b y k. k) h.state
+  by_turn t x (closes_cursor c) new not_it h = by_session t (without_cursor c) new (λ y. refl) (λ b y k. k) h
+  by_turn t x (starts_watching p) new not_it h =
+      by_session t (with_watch p) new (λ y. refl) (λ b y k. still_watches (listed_name q) p y k) h.1
+  by_turn t x (stops_watching p) new not_it h =
+      by_session t (without_watch p) new (λ y. refl) (unwatches_other t p not_it) h
+
+  by_reply : (t : ℕ) (new : State) → IsOpen old t → Replied t old new → Stays q s new
+  by_reply t new there (is_whole after) = by_none new after
+  by_reply t new there (is_cut after) = by_end t Memory new there after
+
+  by_turning : (t : ℕ) (x : Session) (turn : Turn) (new : State) → IsOpen old t
+      → ((t == s) ≡ true → turn ≡ stops_watching (listed_name q) → ⊥) → DoesTurn old t x turn new → Stays q s new
+  by_turning t x turn new there not_it (is_turned h) = by_turn t x turn new not_it h
+  by_turning t x turn new there not_it (is_refused r) = by_reply t new there r
+
+  by_rows : (t : ℕ) (c : RowCommand) (e : Effect) (new : State) → Changed old t c e new → Stays q s new
+  by_rows t c e new h =
+      let d = rows_do old t c e new h in
+      by_change t d.outcome d.store d.reply e new d.change
+      (made_queries (outdater_by c) old.store d.outcome d.store d.made)
+
+by_storing : (q : Listed) (s : ℕ) (old : State) → listed_of old.store.queries (listed_name q) ≡ Some q
+    → Watches (listed_name q) (session_of old s)
+    → (t : ℕ) (new : State) → IsOpen old t → DoesStore old t new → Stays q s new
+by_storing q s old registered watches t new there h =
+    by_reply q s (record old { store = h.store }) (still_registered q s old registered watches h.store h.stored) watches
+    t new there h.replied
+
+module _ (q : Listed) (s : ℕ) (old : State) (registered : listed_of old.store.queries (listed_name q) ≡ Some q)
+    (watches : Watches (listed_name q) (session_of old s)) where
+  by_form : (f : Form) (t : ℕ) (x : Session) (e : Effect) (new : State) → IsOpen old t
+      → ((t == s) ≡ true → f ≡ turning (stops_watching (listed_name q)) → ⊥)
+      → Does f old t x e new → Stays q s new
+  by_form asking t x e new there not_it h = by_reply q s old registered watches t new there h.1
+  by_form storing t x e new there not_it h = by_storing q s old registered watches t new there h.1
+  by_form (turning turn) t x e new there not_it h =
+      by_turning q s old registered watches t x turn new there
+      (λ here same. not_it here (ap (λ (u : Turn). turning u) same)) h.1
+  by_form (changing c) t x e new there not_it h = by_rows q s old registered watches t c e new h
+  by_form ending t x e new there not_it h =
+      by_end q s (record old { stopped = h.1.stopped }) registered watches t h.1.cause new there h.1.state
+
+  -- `unwatch` alone is of its form
+  is_unwatch : (c : Command) (p : Bytes) → form_of c ≡ turning (stops_watching p) → c ≡ Unwatch p
+  is_unwatch (Unwatch n) p e = cc
+  is_unwatch c p e = absurd cc
+
+  by_command : (t : ℕ) (x : Session) (c : Command) (e : Effect) (new : State) → IsOpen old t → ((t == s) ≡ true → says_command c ≡ says_command (Unwatch (listed_name q)) → ⊥)
       → CommandStep old t x c e new → Stays q s new
-  by_command t x (Rel name types) e new there not_it h = by_store h.store new (same_queries h.store (relation_queries name types h.result h.store h.done)) h.state
-  by_command t x (Add name row) e new there not_it h = by_change t name _ _ _ h.store _ e new h.change (add_queries name row h.result h.store h.done)
-  by_command t x (Del name row) e new there not_it h = by_change t name _ _ _ h.store _ e new h.change (delete_queries name row h.result h.store h.done)
-  by_command t x (Register p) e new there not_it h = by_register t p e new there h
-  by_command t x (Open c p) e new there not_it h = by_opening t c p h.result new h.state
-  by_command t x (Next c count) e new there not_it h = by_next_found t c count (cursor_of x.cursors c) e new there h
-  by_command t x (Close c) e new there not_it h = by_close t c (cursor_of x.cursors c) e new h
-  by_command t x Quit e new there not_it h = by_end t _ new there h.1
-  by_command t x Stop e new there not_it h =
-      subst (λ (st : State). Stays q s st) (sym h.1) (record { registered = registered; goes = watches_still q.name (record old { stopped = true }) t _ s (t == s) refl there watches })
-  by_command t x (Drop p) e new there not_it h = by_store h.store new (drop_registered p h.result h.store h.done) h.state
-  by_command t x (Has p row) e new there not_it h = by_none new h.state
-  by_command t x (Watch p) e new there not_it h = by_becoming t (with_watch p) h.result new (λ y. refl) (λ b y k. still_watches q.name p y k) h.state
-  by_command t x (Unwatch p) e new there not_it h = by_becoming t (without_watch p) h.result new (λ y. refl) (unwatches_other t p not_it) h.state
-  by_command t x (Explain p) e new there not_it h = by_explain t (query_of old.store.queries p) e new there h
+  by_command t x c e new there not_it h =
+      by_form (form_of c) t x e new there
+      (λ here same. not_it here (ap (λ k. says_command k) (is_unwatch c (listed_name q) same))) (command_does old t x c e new h)
 
-  by_reading : (t : ℕ) (x : Session) (r : Reading) (e : Effect) (new : State) → IsOpen old t → ((t == s) ≡ true → r ≡ says_command (Unwatch q.name) → ⊥)
-      → ReadStep old t x r e new → Stays q s new
-  by_reading t x (refused r) e new there not_it h = by_none new h.1
-  by_reading t x (says_command c) e new there not_it (true, h) = by_command t x c e new there not_it h
-  by_reading t x (says_command c) e new there not_it (false, h) = by_none new h.1.1
+  by_reading : (t : ℕ) (x : Session) (l : Bytes) (r : Reading) (e : Effect) (new : State) → IsOpen old t → ((t == s) ≡ true → r ≡ says_command (Unwatch (listed_name q)) → ⊥)
+      → ReadStep old t x l r e new → Stays q s new
+  by_reading t x l outside e new there not_it h = by_none q s old registered watches new h.1
+  by_reading t x l (past_limit c) e new there not_it h = by_none q s old registered watches new h.1
+  by_reading t x l (says_command c) e new there not_it (true, h) = by_command t x c e new there not_it h
+  by_reading t x l (says_command c) e new there not_it (false, h) = by_none q s old registered watches new h.1.1
 
 -- The front of a session's bytes.
 open_behind : (old : State) (t : ℕ) (rest : Bytes) (x : Session) → session_of old t ≡ Some x → IsOpen (with_session old t (behind_line rest)) t
 open_behind old t rest x found = rw (session_changed old t (behind_line rest) (λ y. refl) ∙ ap (λ o. option_map (behind_line rest) o) found) refl
 
-ends_behind : (q : Query) (s : ℕ) (old : State) → query_of old.store.queries q.name ≡ Some q → Watches q.name (session_of old s)
+ends_behind : (q : Listed) (s : ℕ) (old : State) → listed_of old.store.queries (listed_name q) ≡ Some q → Watches (listed_name q) (session_of old s)
     → (t : ℕ) (rest : Bytes) (x : Session) (cause : EndCause) (new : State) → session_of old t ≡ Some x → new ≡ with_session (with_session old t (behind_line rest)) t (ended_by cause) → Stays q s new
 ends_behind q s old registered watches t rest x cause new found e =
     by_end q s (with_session old t (behind_line rest)) registered
-    (watches_with q.name old t (behind_line rest) s (t == s) refl (λ y. refl) (λ b y k. k) watches) t cause new (open_behind old t rest x found) e
+    (watches_with (listed_name q) old t (behind_line rest) s (t == s) refl (λ y. refl) (λ b y k. k) watches) t cause new (open_behind old t rest x found) e
 
-by_front : (q : Query) (s : ℕ) (old : State) → query_of old.store.queries q.name ≡ Some q → Watches q.name (session_of old s)
+by_front : (q : Listed) (s : ℕ) (old : State) → listed_of old.store.queries (listed_name q) ≡ Some q → Watches (listed_name q) (session_of old s)
     → (t : ℕ) (x : Session) (outcome : LineOutcome) (e : Effect) (new : State) → session_of old t ≡ Some x → KeepsWatch q s (stepped t outcome) → FrontStep old t x outcome e new → Stays q s new
 by_front q s old registered watches t x long e new found keeps h = by_end q s old registered watches t Long new (rw found refl) h.1.1
 by_front q s old registered watches t x (blank l) e new found keeps h = by_session q s old registered watches t (behind_line h.1.rest) new (λ y. refl) (λ b y k. k) h.1.then.1
@@ -282,8 +242,8 @@ by_front q s old registered watches t x (slow l) e new found keeps h = ends_behi
 by_front q s old registered watches t x (no_room l) e new found keeps h = ends_behind q s old registered watches t h.2.rest x Memory new found h.2.then.1
 by_front q s old registered watches t x (run l) e new found keeps h =
     by_reading q s (with_session old t (behind_line h.2.rest)) registered
-    (watches_with q.name old t (behind_line h.2.rest) s (t == s) refl (λ y. refl) (λ b y k. k) watches)
-    t (behind_line h.2.rest x) (reading_of l) e new (open_behind old t h.2.rest x found) keeps h.2.then
+    (watches_with (listed_name q) old t (behind_line h.2.rest) s (t == s) refl (λ y. refl) (λ b y k. k) watches)
+    t (behind_line h.2.rest x) l (reading_of l) e new (open_behind old t h.2.rest x found) keeps h.2.then
 
 -- The events.
 find_front : (p : Session → Bool) (xs : List Session) (y x : Session) → find p xs ≡ Some x → find p (xs ++ y ∷ []) ≡ Some x
@@ -294,19 +254,19 @@ find_front p (z ∷ zs) y x h = step (p z) h (λ k. find_front p zs y x k)
     step true k more = k
     step false k more = more k
 
-by_open : (q : Query) (s : ℕ) (old : State) → query_of old.store.queries q.name ≡ Some q → Watches q.name (session_of old s)
+by_open : (q : Listed) (s : ℕ) (old : State) → listed_of old.store.queries (listed_name q) ≡ Some q → Watches (listed_name q) (session_of old s)
     → (t : ℕ) (new : State) → ((length old.sessions < SESSIONS) × (new ≡ record old { sessions = old.sessions ++ fresh t ∷ [] })) ⊎ (new ≡ old) → Stays q s new
 by_open q s old registered watches t new (inr h) = by_none q s old registered watches new h
 by_open q s old registered watches t new (inl h) =
-    let g = some_and (session_of old s) (λ x. is_watching q.name x ≡ true) watches in
+    let g = some_and (session_of old s) (λ x. is_watching (listed_name q) x ≡ true) watches in
     let opened : State = record old { sessions = old.sessions ++ fresh t ∷ [] } in
     subst (λ (st : State). Stays q s st) (sym h.1)
     (record {
       registered = registered;
-      goes = inl (and_some (session_of opened s) (λ x. is_watching q.name x ≡ true) g.0 (find_front (λ (x : Session). x.id == s) old.sessions (fresh t) g.0 g.1) g.2);
+      goes = inl (and_some (session_of opened s) (λ x. is_watching (listed_name q) x ≡ true) g.0 (find_front (λ (x : Session). x.id == s) old.sessions (fresh t) g.0 g.1) g.2);
     })
 
-by_feeding : (q : Query) (s : ℕ) (old : State) → query_of old.store.queries q.name ≡ Some q → Watches q.name (session_of old s)
+by_feeding : (q : Listed) (s : ℕ) (old : State) → listed_of old.store.queries (listed_name q) ≡ Some q → Watches (listed_name q) (session_of old s)
     → (t : ℕ) (bytes : Bytes) (e : Effect) (mid : State) (c : Option EndCause) → IsOpen old t
     → MatchOption c
     (((e ≡ nothing) × (mid ≡ with_session old t (λ y. record y { held = y.held ++ bytes }))) ⊎ EndsWith end_memory Memory old t e mid)
@@ -316,12 +276,12 @@ by_feeding q s old registered watches t bytes e mid None there (inl h) = by_sess
 by_feeding q s old registered watches t bytes e mid None there (inr h) = by_end q s old registered watches t Memory mid there h.1
 by_feeding q s old registered watches t bytes e mid (Some c) there h = by_none q s old registered watches mid h.1
 
-by_input : (q : Query) (s : ℕ) (old : State) → query_of old.store.queries q.name ≡ Some q → Watches q.name (session_of old s)
+by_input : (q : Listed) (s : ℕ) (old : State) → listed_of old.store.queries (listed_name q) ≡ Some q → Watches (listed_name q) (session_of old s)
     → (t : ℕ) (mid : State) (P Q R : Type 0) (c : Option EndCause) → IsOpen old t → MatchOption c (P × Q × (mid ≡ with_session old t (ended_by Input))) (λ _. R × (mid ≡ old)) → Stays q s mid
 by_input q s old registered watches t mid P Q R None there h = by_end q s old registered watches t Input mid there h.2
 by_input q s old registered watches t mid P Q R (Some c) there h = by_none q s old registered watches mid h.1
 
-acts_stay : (q : Query) (s : ℕ) (old : State) → query_of old.store.queries q.name ≡ Some q → Watches q.name (session_of old s)
+acts_stay : (q : Listed) (s : ℕ) (old : State) → listed_of old.store.queries (listed_name q) ≡ Some q → Watches (listed_name q) (session_of old s)
     → (event : Event) (e : Effect) (mid : State) → KeepsWatch q s event → Acts old event e mid → Stays q s mid
 acts_stay q s old registered watches (opened t) e mid keeps h = by_open q s old registered watches t mid h.2
 acts_stay q s old registered watches (fed t bytes) e mid keeps h =
@@ -338,19 +298,19 @@ acts_stay q s old registered watches (ended t) e mid keeps h =
     by_input q s old registered watches t mid _ _ _ (f.0).cause (rw f.1 refl) f.2
 acts_stay q s old registered watches (closed t bytes) e mid keeps h =
     subst (λ (st : State). Stays q s st) (sym h.2)
-    (record { registered = registered; goes = inl (subst (λ (o : Option Session). Watches q.name o) (sym (others_stay t s old.sessions keeps)) watches) })
+    (record { registered = registered; goes = inl (subst (λ (o : Option Session). Watches (listed_name q) o) (sym (others_stay t s old.sessions keeps)) watches) })
 
 -- A step behind which the session goes on.
 running : (st : State) (s : ℕ) → GoesOn st s → cause_of st s ≡ None
 running st s h = let g = some_and (session_of st s) (λ x. x.cause ≡ None) h in ap cause_in g.1 ∙ g.2
 
-step_stays : (q : Query) (s : ℕ) (old : State) (event : Event) (e : Effect) (new : State) → Step old event e new → KeepsWatch q s event → IsWatcher q s old → cause_of new s ≡ None → IsWatcher q s new
+step_stays : (q : Listed) (s : ℕ) (old : State) (event : Event) (e : Effect) (new : State) → Step old event e new → KeepsWatch q s event → IsWatcher q s old → cause_of new s ≡ None → IsWatcher q s new
 step_stays q s old event e new h keeps before goes_on = by acted.goes
   where
-    watching : Watches q.name (session_of old s)
+    watching : Watches (listed_name q) (session_of old s)
     watching =
-        let f = some_and (session_of old s) (λ x. (x.cause ≡ None) × (is_watching q.name x ≡ true)) before.watches in
-        and_some (session_of old s) (λ x. is_watching q.name x ≡ true) f.0 f.1 f.2.1
+        let f = some_and (session_of old s) (λ x. (x.cause ≡ None) × (is_watching (listed_name q) x ≡ true)) before.watches in
+        and_some (session_of old s) (λ x. is_watching (listed_name q) x ≡ true) f.0 f.1 f.2.1
 
     acted : Stays q s h.mid
     acted = acts_stay q s old before.registered watching event e h.mid keeps h.acts
@@ -358,15 +318,15 @@ step_stays q s old event e new h keeps before goes_on = by acted.goes
     same : new.store.queries ≡ h.mid.store.queries
     same = ap (λ (st : State). st.store.queries) h.queued ∙ ap (λ (st : Store). st.queries) (queued_store (with_relations h.mid h.relations) e.queued)
 
-    by : Goes q.name h.mid s → IsWatcher q s new
+    by : Goes (listed_name q) h.mid s → IsWatcher q s new
     by (inr over) = absurd (over (sym (stepped_cause old event e new h s) ∙ goes_on))
     by (inl w) =
-        let g = some_and (session_of h.mid s) (λ x. is_watching q.name x ≡ true) w in
+        let g = some_and (session_of h.mid s) (λ x. is_watching (listed_name q) x ≡ true) w in
         let bytes = to_session s e.queued in
         let now : session_of new s ≡ Some (gaining bytes g.0) = stepped_session old event e new h s ∙ ap (λ o. option_map (gaining bytes) o) g.1 in
         record {
-          registered = ap (λ qs. query_of qs q.name) same ∙ acted.registered;
-          watches = and_some (session_of new s) (λ x. (x.cause ≡ None) × (is_watching q.name x ≡ true)) (gaining bytes g.0) now (sym (ap cause_in now) ∙ goes_on, g.2);
+          registered = ap (λ qs. listed_of qs (listed_name q)) same ∙ acted.registered;
+          watches = and_some (session_of new s) (λ x. (x.cause ≡ None) × (is_watching (listed_name q) x ≡ true)) (gaining bytes g.0) now (sym (ap cause_in now) ∙ goes_on, g.2);
         }
 
 -- A session that has ended doesn't go on again.
@@ -444,7 +404,7 @@ step_none s old (ended t) e new h k there none = by (t == s) refl
 step_none s old (closed t bytes) e new h k there none =
     sym (ap cause_in (others_stay t s old.sessions k)) ∙ sym (ap (λ st. cause_of st s) h.acts.2) ∙ sym (stepped_cause old (closed t bytes) e new h s) ∙ none
 
-spares : (q : Query) (s : ℕ) (event : Event) → KeepsWatch q s event → Spares event s
+spares : (q : Listed) (s : ℕ) (event : Event) → KeepsWatch q s event → Spares event s
 spares q s (opened t) k = tt
 spares q s (fed t bytes) k = tt
 spares q s (stepped t outcome) k = tt
@@ -452,15 +412,15 @@ spares q s (took t bytes) k = tt
 spares q s (ended t) k = tt
 spares q s (closed t bytes) k = k
 
-run_none : (q : Query) (s : ℕ) (old : State) (done : List Did) (new : State) → Run old done new → All (λ d. KeepsWatch q s d.event) done → IsOpen old s → cause_of new s ≡ None → cause_of old s ≡ None
+run_none : (q : Listed) (s : ℕ) (old : State) (done : List Did) (new : State) → Run old done new → All (λ d. KeepsWatch q s d.event) done → IsOpen old s → cause_of new s ≡ None → cause_of old s ≡ None
 run_none q s old [] new w k there none = ap (λ st. cause_of st s) (sym w) ∙ none
 run_none q s old (d ∷ done) new w k there none =
     let spared = spares q s d.event (All-head (λ (x : Did). KeepsWatch q s x.event) d done k) in
     step_none s old d.event d.effect w.0 w.1 spared there
     (run_none q s w.0 done new w.2 (All-tail (λ (x : Did). KeepsWatch q s x.event) d done k) (step_open old d.event d.effect w.0 w.1 s spared there) none)
 
-watcher_open : (q : Query) (s : ℕ) (st : State) → IsWatcher q s st → IsOpen st s
-watcher_open q s st h = let f = some_and (session_of st s) (λ x. (x.cause ≡ None) × (is_watching q.name x ≡ true)) h.watches in rw f.1 refl
+watcher_open : (q : Listed) (s : ℕ) (st : State) → IsWatcher q s st → IsOpen st s
+watcher_open q s st h = let f = some_and (session_of st s) (λ x. (x.cause ≡ None) × (is_watching (listed_name q) x ≡ true)) h.watches in rw f.1 refl
 
 pub watchers_stay : WatchersStay
 watchers_stay q s old done new w k before goes_on = along old done w k before

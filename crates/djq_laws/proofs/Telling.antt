@@ -5,26 +5,26 @@ use Rattle.std.proofs.Common.{refl, sym, ap, ◌∙◌, subst, inl, inr}
 use Rattle.std.proofs.lemmas.Bool.{eqb-true}
 use Rattle.std.proofs.lemmas.List.Elements.{All-contains, Contains-append_left, Contains-append_right}
 use Rattle.djq_model.specs.declared.relation.Relation.{Relation}
-use Rattle.djq_model.specs.declared.query.Query.{Query}
-use Rattle.djq_model.specs.Data.{Bytes, Tuple, bytes_eq, query_of}
-use Rattle.djq_model.specs.Answer.{IsAnswer}
+use Rattle.djq_model.specs.Data.{Bytes, bytes_eq}
+use Rattle.djq_model.specs.Listed.{Listed, listed_name, AnswersOf, listed_of}
 use Rattle.djq_lines.specs.declared.answer.EndCause.{EndCause}
 use Rattle.djq_lines.specs.declared.answer.EndCause.TheVariants.{Slow, Memory}
 use Rattle.djq_lines.specs.Reply.{text_of}
 use Rattle.djq_machine.specs.State.{Store, State, Session, session_of, with_session, ended_by, ids_of}
 use Rattle.djq_machine.specs.Effect.{Effect}
 use Rattle.djq_machine.specs.Delta.{Change, IsDelta, delta_lines}
-use Rattle.djq_machine.specs.Stale.{reads, by_relation, outdated_cursor, changed}
-use Rattle.djq_machine.specs.Store.{with_rows}
+use Rattle.djq_machine.specs.Stale.{outdated_cursor}
+use Rattle.djq_machine.specs.Changes.{RowsChange, accepted, is_outdated, changed}
 use Rattle.djq_machine.specs.Run.{Walk, to_session}
 use Rattle.djq_machine.specs.Call.{IsOpen, cause_of, cause_in}
 use Rattle.djq_machine.specs.Watch.{is_watching, affected, Delta, Telling, says_more, ends_more, watching, watcher_of, TellsWatcher, TellsSession, TellsDelta, ChangeStep}
 use Rattle.djq_machine.proofs.Walks.{walk_keeps}
+use Rattle.djq_deltas.proofs.Lists.{nothing_there, first_or_later, first_there, kept_there, mapped_there}
 use Rattle.djq_laws.proofs.Finding.{some_and, and_some}
 use Rattle.djq_laws.proofs.Queueing.{gaining, session_changed, session_other, queued_all}
 use Rattle.djq_laws.specs.Moved.{EndsByRun}
 use Rattle.djq_laws.proofs.Told.{beginning, session_keeps, delta_keeps, last_keeps}
-use Rattle.djq_laws.proofs.Containing.{nothing_there, first_or_later, first_there, kept_there, found_there, found_passes, any_there, mapped_there, mapped_from}
+use Rattle.djq_laws.proofs.Containing.{found_there, found_passes, any_there, mapped_from}
 
 -- What each thing of a walk keeps, and one thing brings about, there is behind the walk.
 walk_meets : {D L : Type 0} (May : D → L → D → Type 0) (P Q : D → Type 0) (l : L)
@@ -81,17 +81,17 @@ find_mapped p f keeps (x ∷ xs) = step (p x) (keeps x) (find_mapped p f keeps x
     step true e h = rw e refl
     step false e h = rw e h
 
-pub watches_changed : (q : Bytes) (old : State) (relation : Bytes) (store : Store) (s : ℕ) → Watches q (session_of old s) → Watches q (session_of (changed old relation true store) s)
-watches_changed q old relation store s w =
-    let f = λ (x : Session). record x { cursors = map (outdated_cursor old.store.queries (by_relation relation) store.seq) x.cursors } in
+pub watches_changed : (q : Bytes) (old : State) (change : RowsChange) (store : Store) (s : ℕ) → Watches q (session_of old s) → Watches q (session_of (changed old (Some change) store) s)
+watches_changed q old change store s w =
+    let f = λ (x : Session). record x { cursors = map (outdated_cursor old.store.queries change.outdater store.seq) x.cursors } in
     let g = some_and (session_of old s) (λ x. is_watching q x ≡ true) w in
-    and_some (session_of (changed old relation true store) s) (λ x. is_watching q x ≡ true) (f g.0)
+    and_some (session_of (changed old (Some change) store) s) (λ x. is_watching q x ≡ true) (f g.0)
     (find_mapped (λ (x : Session). x.id == s) f (λ x. refl) old.sessions ∙ ap (λ o. option_map f o) g.1) g.2
 
-module _ (q : Query) (s : ℕ) (part : Bytes) where
+module _ (q : Listed) (s : ℕ) (part : Bytes) where
   -- before the delta is told, and behind it
   abbrev Waits : Telling → Type 0
-  Waits m = Watches q.name (session_of m.state s) ⊎ IsOver m.state s
+  Waits m = Watches (listed_name q) (session_of m.state s) ⊎ IsOver m.state s
 
   abbrev Has : Telling → Type 0
   Has m = Contains m.queued (s, part) ⊎ IsOver m.state s
@@ -100,7 +100,7 @@ module _ (q : Query) (s : ℕ) (part : Bytes) where
   waits_says m t text there h = h
 
   waits_ends : (m : Telling) (t : ℕ) (text : Bytes) (cause : EndCause) → EndsByRun cause → IsOpen m.state t → Waits m → Waits (ends_more t text cause m)
-  waits_ends m t text cause may there (inl w) = watches_still q.name m.state t cause s (t == s) refl there w
+  waits_ends m t text cause may there (inl w) = watches_still (listed_name q) m.state t cause s (t == s) refl there w
   waits_ends m t text cause may there (inr over) = inr (over_stays m.state t cause s (t == s) refl there over)
 
   has_says : (m : Telling) (t : ℕ) (text : Bytes) → IsOpen m.state t → Has m → Has (says_more t text m)
@@ -111,82 +111,81 @@ module _ (q : Query) (s : ℕ) (part : Bytes) where
   has_ends m t text cause may there (inl c) = inl (Contains-append_left m.queued ((t, text) ∷ []) (s, part) c)
   has_ends m t text cause may there (inr over) = inr (over_stays m.state t cause s (t == s) refl there over)
 
-  watcher_has : (d : Delta) (n : ℕ) (pending : Bytes) (m new : Telling) → text_of (delta_lines d.query.name d.changes n) ≡ part → IsOpen m.state s → TellsWatcher d n s pending m new → Has new
+  watcher_has : (d : Delta) (n : ℕ) (pending : Bytes) (m new : Telling) → text_of (delta_lines (listed_name d.query) d.changes n) ≡ part → IsOpen m.state s → TellsWatcher d n s pending m new → Has new
   watcher_has d n pending m new is there (inl h) = inr (subst (λ (k : Telling). IsOver k.state s) (sym h.1) (ended_over m.state s Slow there))
   watcher_has d n pending m new is there (inr (inl h)) =
-      let text = text_of (delta_lines d.query.name d.changes n) in
+      let text = text_of (delta_lines (listed_name d.query) d.changes n) in
       inl (subst (λ (k : Telling). Contains k.queued (s, part)) (sym h.1)
       (Contains-append_right m.queued ((s, text) ∷ []) (s, part) (first_there (s, text) [] (s, part) (ap (λ (bytes : Bytes). (s, bytes)) is))))
   watcher_has d n pending m new is there (inr (inr h)) = inr (subst (λ (k : Telling). IsOver k.state s) (sym h.4) (ended_over m.state s Memory there))
 
-  session_has : (d : Delta) (n : ℕ) → d.query ≡ q → text_of (delta_lines d.query.name d.changes n) ≡ part → (m new : Telling) → TellsSession d n m s new → Waits m → Has new
-  session_has d n same is m new h (inr over) = session_keeps Has has_says has_ends d n m s new (watcher_of m d.query.name s) refl h (inr over)
+  session_has : (d : Delta) (n : ℕ) → d.query ≡ q → text_of (delta_lines (listed_name d.query) d.changes n) ≡ part → (m new : Telling) → TellsSession d n m s new → Waits m → Has new
+  session_has d n same is m new h (inr over) = session_keeps Has has_says has_ends d n m s new (watcher_of m (listed_name d.query) s) refl h (inr over)
   session_has d n same is m new h (inl w) =
-      let f = some_and (session_of m.state s) (λ x. is_watching q.name x ≡ true) w in
+      let f = some_and (session_of m.state s) (λ x. is_watching (listed_name q) x ≡ true) w in
       let now = gaining (to_session s m.queued) f.0 in
-      let watcher : watcher_of m d.query.name s ≡ Some now =
-      ap (λ o. watching d.query.name o) (queued_all m.state m.queued s ∙ ap (λ o. option_map (gaining (to_session s m.queued)) o) f.1)
-      ∙ ap (λ (b : Bool). cond b (Some now) None) (ap (λ (p : Query). is_watching p.name f.0) same ∙ f.2) in
+      let watcher : watcher_of m (listed_name d.query) s ≡ Some now =
+      ap (λ o. watching (listed_name d.query) o) (queued_all m.state m.queued s ∙ ap (λ o. option_map (gaining (to_session s m.queued)) o) f.1)
+      ∙ ap (λ (b : Bool). cond b (Some now) None) (ap (λ (p : Listed). is_watching (listed_name p) f.0) same ∙ f.2) in
       watcher_has d n now.pending m new is (rw f.1 refl)
       (subst (λ (o : Option Session). MatchOption o (new ≡ m) (λ x. TellsWatcher d n s x.pending m new)) watcher h)
 
-  watcher_listed : (m : Telling) → Watches q.name (session_of m.state s) → Contains (ids_of m.state) s
+  watcher_listed : (m : Telling) → Watches (listed_name q) (session_of m.state s) → Contains (ids_of m.state) s
   watcher_listed m w =
-      let f = some_and (session_of m.state s) (λ x. is_watching q.name x ≡ true) w in
+      let f = some_and (session_of m.state s) (λ x. is_watching (listed_name q) x ≡ true) w in
       let is : (f.0).id ≡ s = eqb-true (f.0).id s (found_passes (λ (x : Session). x.id == s) m.state.sessions f.0 f.1) in
       subst (λ (i : ℕ). Contains (ids_of m.state) i) is
       (mapped_there (λ (x : Session). x.id) m.state.sessions f.0 (found_there (λ (x : Session). x.id == s) m.state.sessions f.0 f.1))
 
-  delta_has : (d : Delta) (n : ℕ) → d.query ≡ q → text_of (delta_lines d.query.name d.changes n) ≡ part → (m new : Telling) → TellsDelta n m d new → Waits m → Has new
+  delta_has : (d : Delta) (n : ℕ) → d.query ≡ q → text_of (delta_lines (listed_name d.query) d.changes n) ≡ part → (m new : Telling) → TellsDelta n m d new → Waits m → Has new
   delta_has d n same is m new h (inr over) = delta_keeps Has has_says has_ends n m d new h (inr over)
   delta_has d n same is m new h (inl w) =
       walk_meets (TellsSession d n) Waits Has s
-      (λ from t to k p. session_keeps Waits waits_says waits_ends d n from t to (watcher_of from d.query.name t) refl k p)
-      (λ from t to k p. session_keeps Has has_says has_ends d n from t to (watcher_of from d.query.name t) refl k p)
+      (λ from t to k p. session_keeps Waits waits_says waits_ends d n from t to (watcher_of from (listed_name d.query) t) refl k p)
+      (λ from t to k p. session_keeps Has has_says has_ends d n from t to (watcher_of from (listed_name d.query) t) refl k p)
       (λ from to k p. session_has d n same is from to k p) m (ids_of m.state) new h (watcher_listed m w) (inl w)
 
-  change_has : (old : State) (t : ℕ) (relation : Bytes) (rows : List Tuple) (store : Store) (reply : Bytes) (e : Effect) (new : State)
-      (h : ChangeStep old t relation rows true true store reply e new) (d : Delta) → Contains h.deltas d → d.query ≡ q → text_of (delta_lines d.query.name d.changes store.seq) ≡ part
-      → Watches q.name (session_of old s) → Has h.last
-  change_has old t relation rows store reply e new h d c same is w =
-      last_keeps Has has_says has_ends old t relation rows true true store reply e new h
+  change_has : (old : State) (t : ℕ) (change : RowsChange) (store : Store) (reply : Bytes) (e : Effect) (new : State)
+      (h : ChangeStep old t (accepted change) store reply e new) (d : Delta) → Contains h.deltas d → d.query ≡ q → text_of (delta_lines (listed_name d.query) d.changes store.seq) ≡ part
+      → Watches (listed_name q) (session_of old s) → Has h.last
+  change_has old t change store reply e new h d c same is w =
+      last_keeps Has has_says has_ends old t (accepted change) store reply e new h
       (walk_meets (TellsDelta store.seq) Waits Has d
       (λ from k to m p. delta_keeps Waits waits_says waits_ends store.seq from k to m p)
       (λ from k to m p. delta_keeps Has has_says has_ends store.seq from k to m p)
-      (λ from to m p. delta_has d store.seq same is from to m p) (beginning old relation true store) h.deltas h.told h.tells c (inl (watches_changed q.name old relation store s w)))
+      (λ from to m p. delta_has d store.seq same is from to m p) (beginning old (accepted change) store) h.deltas h.told h.tells c (inl (watches_changed (listed_name q) old change store s w)))
 
--- How an accepted change of a relation that a query reads changed its answers is told a session that watches it, where that hasn't ended behind the change.
-pub record IsTheDelta (q : Query) (s : ℕ) (before after : List Relation) (n : ℕ) (queued : List (ℕ × Bytes)) : Type 0 where
+-- How an accepted change that outdates a query changed its answers is told a session that watches it, where that hasn't ended behind the change.
+pub record IsTheDelta (q : Listed) (s : ℕ) (before after : List Relation) (n : ℕ) (queued : List (ℕ × Bytes)) : Type 0 where
   pub changes : List Change
-  pub delta : IsDelta (IsAnswer before q) (IsAnswer after q) changes
-  pub told : Contains queued (s, text_of (delta_lines q.name changes n))
+  pub delta : IsDelta (AnswersOf before q) (AnswersOf after q) changes
+  pub told : Contains queued (s, text_of (delta_lines (listed_name q) changes n))
 
 both_true : (a b : Bool) → a ≡ true → b ≡ true → (a && b) ≡ true
 both_true true true h k = refl
 both_true true false h k = absurd cc
 both_true false b h k = absurd cc
 
-pub change_is_told : (q : Query) (s : ℕ) (old : State) (t : ℕ) (relation : Bytes) (rows : List Tuple) (store : Store) (reply : Bytes) (e : Effect) (new : State)
-    → ChangeStep old t relation rows true true store reply e new → reads q relation ≡ true
-    → query_of old.store.queries q.name ≡ Some q → Watches q.name (session_of old s) → cause_of new s ≡ None
-    → IsTheDelta q s old.store.relations (with_rows old.store.relations relation rows) store.seq e.queued
-change_is_told q s old t relation rows store reply e new h reading registered w running =
-    let f = some_and (session_of old s) (λ x. is_watching q.name x ≡ true) w in
-    let watched : list_any (is_watching q.name) old.sessions ≡ true = any_there (is_watching q.name) old.sessions f.0 (found_there (λ (x : Session). x.id == s) old.sessions f.0 f.1) f.2 in
-    let among : Contains (affected old relation) q =
-    kept_there (λ (p : Query). reads p relation && list_any (is_watching p.name) old.sessions) old.store.queries q
-    (both_true (reads q relation) (list_any (is_watching q.name) old.sessions) reading watched) (found_there (λ (p : Query). bytes_eq p.name q.name) old.store.queries q registered) in
-    let d = mapped_from (λ (k : Delta). k.query) h.deltas q (subst (λ (qs : List Query). Contains qs q) (sym h.listed.of_queries) among) in
-    let part = text_of (delta_lines q.name (d.0).changes store.seq) in
-    let last = change_has q s part old t relation rows store reply e new h d.0 d.1 d.2 (ap (λ (p : Query). text_of (delta_lines p.name (d.0).changes store.seq)) d.2) w in
-    let after = with_rows old.store.relations relation rows in
+pub change_is_told : (q : Listed) (s : ℕ) (old : State) (t : ℕ) (change : RowsChange) (store : Store) (reply : Bytes) (e : Effect) (new : State)
+    → ChangeStep old t (accepted change) store reply e new → is_outdated change q ≡ true
+    → listed_of old.store.queries (listed_name q) ≡ Some q → Watches (listed_name q) (session_of old s) → cause_of new s ≡ None
+    → IsTheDelta q s old.store.relations change.after store.seq e.queued
+change_is_told q s old t change store reply e new h reading registered w running =
+    let f = some_and (session_of old s) (λ x. is_watching (listed_name q) x ≡ true) w in
+    let watched : list_any (is_watching (listed_name q)) old.sessions ≡ true = any_there (is_watching (listed_name q)) old.sessions f.0 (found_there (λ (x : Session). x.id == s) old.sessions f.0 f.1) f.2 in
+    let among : Contains (affected old change) q =
+    kept_there (λ (p : Listed). is_outdated change p && list_any (is_watching (listed_name p)) old.sessions) old.store.queries q
+    (both_true (is_outdated change q) (list_any (is_watching (listed_name q)) old.sessions) reading watched) (found_there (λ (p : Listed). bytes_eq (listed_name p) (listed_name q)) old.store.queries q registered) in
+    let d = mapped_from (λ (k : Delta). k.query) h.deltas q (subst (λ (qs : List Listed). Contains qs q) (sym h.listed.of_queries) among) in
+    let part = text_of (delta_lines (listed_name q) (d.0).changes store.seq) in
+    let last = change_has q s part old t change store reply e new h d.0 d.1 d.2 (ap (λ (p : Listed). text_of (delta_lines (listed_name p) (d.0).changes store.seq)) d.2) w in
     record {
       changes = (d.0).changes;
-      delta = subst (λ (p : Query). IsDelta (IsAnswer old.store.relations p) (IsAnswer after p) (d.0).changes) d.2
-          (All-contains (λ (k : Delta). IsDelta (IsAnswer old.store.relations k.query) (IsAnswer after k.query) k.changes) h.deltas d.0 h.listed.are_deltas d.1);
+      delta = subst (λ (p : Listed). IsDelta (AnswersOf old.store.relations p) (AnswersOf change.after p) (d.0).changes) d.2
+          (All-contains (λ (k : Delta). IsDelta (AnswersOf old.store.relations k.query) (AnswersOf change.after k.query) k.changes) h.deltas d.0 h.listed.are_deltas d.1);
       told = queued part last;
     }
   where
     queued : (part : Bytes) → Contains h.last.queued (s, part) ⊎ IsOver h.last.state s → Contains e.queued (s, part)
-    queued part (inl c) = subst (λ (k : Effect). Contains k.queued (s, part)) (sym h.effect) c
+    queued part (inl c) = subst (λ (qs : List (ℕ × Bytes)). Contains qs (s, part)) (sym h.queued) c
     queued part (inr over) = absurd (over (ap (λ (st : State). cause_of st s) (sym h.state) ∙ running))

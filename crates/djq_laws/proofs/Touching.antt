@@ -9,6 +9,7 @@ use Rattle.djq_lines.specs.Line.{a_line}
 use Rattle.djq_lines.specs.Grammar.{reading_of}
 use Rattle.djq_lines.specs.Reply.{end_long, end_slow, end_memory, input_cut}
 use Rattle.djq_machine.specs.State.{State, Session, session_of, with_session, ended_by}
+use Rattle.djq_machine.specs.Keeping.{no_line}
 use Rattle.djq_machine.specs.Effect.{Effect, nothing, says, EndsWith}
 use Rattle.djq_machine.specs.LineStep.{LineOutcome, long, blank, slow, no_room, run, FrontStep, behind_line}
 use Rattle.djq_machine.specs.Step.{is_dry, FedStep, TookStep, EndedStep}
@@ -89,7 +90,7 @@ fed_by_cause old s bytes x e mid None found running (inl h) = record {
 }
 fed_by_cause old s bytes x e mid None found running (inr h) = record {
   session = ended_by Memory x;
-  touches = touches_changed old s x (ended_by Memory) e mid found (λ y. refl) h.1 (alone_text s end_memory 0 e h.0);
+  touches = touches_changed old s x (ended_by Memory) e mid found (λ y. refl) h.1 (alone_text s end_memory 0 no_line e h.0);
   pending = refl;
   fed = out_of_memory running refl refl (said s end_memory e h.0);
 }
@@ -123,7 +124,7 @@ cut_of s (b ∷ bs) = says s input_cut
 cut_cases : {mid : State} (s : ℕ) (held : Bytes) (e : Effect) → e ≡ cut_of s held → ((to_session s e.queued ≡ []) ⊎ (to_session s e.queued ≡ input_cut)) × ToOpen s e mid
 unfolding cut_of
 cut_cases s [] e h = (inl (quiet s e h), alone_nothing s e h)
-cut_cases s (b ∷ bs) e h = (inr (said s input_cut e h), alone_text s input_cut 0 e h)
+cut_cases s (b ∷ bs) e h = (inr (said s input_cut e h), alone_text s input_cut 0 no_line e h)
 
 ended_by_cause : (old : State) (s : ℕ) (x : Session) (e : Effect) (mid : State) (c : Option EndCause) → session_of old s ≡ Some x → x.cause ≡ c
     → MatchOption c
@@ -239,8 +240,8 @@ ends_behind : (old : State) (s : ℕ) (x : Session) (outcome : LineOutcome) (res
     → EndsWith text cause (with_session old s (behind_line rest)) s e mid → LeavesHeld outcome x.held rest → CausedBy outcome (Some cause) → Stepped old s x outcome e mid
 ends_behind old s x outcome rest text cause e mid found h held caused =
     let between = with_session old s (behind_line rest) in
-    let first = touches_changed old s x (behind_line rest) e between found (λ y. refl) refl (alone_text s text 0 e h.0) in
-    let then = touches_changed between s (behind_line rest x) (ended_by cause) e mid first.now (λ y. refl) h.1 (alone_text s text 0 e h.0) in
+    let first = touches_changed old s x (behind_line rest) e between found (λ y. refl) refl (alone_text s text 0 no_line e h.0) in
+    let then = touches_changed between s (behind_line rest x) (ended_by cause) e mid first.now (λ y. refl) h.1 (alone_text s text 0 no_line e h.0) in
     record {
       session = ended_by cause (behind_line rest x);
       touches = record {
@@ -258,7 +259,7 @@ pub is_stepped : (old : State) (s : ℕ) (x : Session) (outcome : LineOutcome) (
     → Stepped old s x outcome e mid
 is_stepped old s x long e mid found running h = record {
   session = ended_by Long x;
-  touches = touches_changed old s x (ended_by Long) e mid found (λ y. refl) h.1.1 (alone_text s end_long 0 e h.1.0);
+  touches = touches_changed old s x (ended_by Long) e mid found (λ y. refl) h.1.1 (alone_text s end_long 0 no_line e h.1.0);
   pending = refl;
   held = refl;
   cause = refl;
@@ -274,7 +275,7 @@ is_stepped old s x (slow l) e mid found running h = ends_behind old s x (slow l)
 is_stepped old s x (no_room l) e mid found running h = ends_behind old s x (no_room l) h.2.rest end_memory Memory e mid found h.2.then h.2.front refl
 is_stepped old s x (run l) e mid found running h =
     let rest = h.2.rest in
-    let b = behind EndsByRun old s x (behind_line rest) e mid found (λ y. refl) (read_keeps (with_session old s (behind_line rest)) s (behind_line rest x) (reading_of l) e mid h.2.then) in
+    let b = behind EndsByRun old s x (behind_line rest) e mid found (λ y. refl) (read_keeps (with_session old s (behind_line rest)) s (behind_line rest x) l (reading_of l) e mid h.2.then) in
     record {
       session = b.session;
       touches = b.touches;

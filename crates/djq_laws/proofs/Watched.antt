@@ -6,16 +6,16 @@ use Rattle.std.proofs.lemmas.Bool.{eq-eqb, ne_eqb}
 use Rattle.std.proofs.lemmas.Grind.{flat_map-append}
 use Rattle.std.proofs.lemmas.List.Elements.{All-nil, All-cons, All-append, All-weaker}
 use Rattle.std.proofs.lemmas.List.Kept.{AllPairs-cons}
-use Rattle.djq_model.specs.declared.query.Query.{Query}
 use Rattle.djq_model.specs.Data.{Bytes, Tuple}
-use Rattle.djq_model.specs.Answer.{IsAnswer, IsListing}
+use Rattle.djq_model.specs.Answer.{IsListing}
+use Rattle.djq_model.specs.Listed.{Listed, listed_name, AnswersOf}
 use Rattle.djq_machine.specs.State.{Store, State}
 use Rattle.djq_machine.specs.Step.{Event}
 use Rattle.djq_machine.specs.Run.{Did, to_session, out}
+use Rattle.djq_deltas.proofs.Lists.{nothing_there, first_or_later, kept_there, mapped_there}
 use Rattle.djq_laws.specs.Added.{added_up}
 use Rattle.djq_laws.specs.Watched.{WatchesAlong, event_changes, number_by, numbers_along, parts_for, parts_to, AreAmong, Told, told_text, IsTold, WatchersHaveAnswers}
 use Rattle.djq_laws.proofs.Answering.{SameAnswers}
-use Rattle.djq_laws.proofs.Containing.{nothing_there, first_or_later, kept_there, mapped_there}
 use Rattle.djq_laws.proofs.Adding.{deltas_add_up}
 use Rattle.djq_laws.proofs.Watching.{StepTells, is_quiet, is_told, step_tells}
 
@@ -61,59 +61,59 @@ parts_out s (d ∷ done) =
     ∙ ap₂ (λ (xs ys : Bytes). xs ++ ys) (parts_whole s d.effect.queued) (parts_out s done)
 
 -- Numbers of changes.
-number_none : (q : Query) (old : Store) (event : Event) (new : Store) → (new.seq ≡ old.seq) ⊎ ((new.seq ≡ old.seq + 1) × (event_changes q event ≡ false)) → number_by q old event new ≡ []
-number_none q old event new (inl e) = let same = eq-eqb new.seq old.seq e in rw same refl
-number_none q old event new (inr h) = step (not (new.seq == old.seq)) (event_changes q event) h.1
+number_none : (q : Listed) (old : State) (event : Event) (new : State) → (new.store.seq ≡ old.store.seq) ⊎ ((new.store.seq ≡ old.store.seq + 1) × (event_changes q old event ≡ false)) → number_by q old event new ≡ []
+number_none q old event new (inl e) = let same = eq-eqb new.store.seq old.store.seq e in rw same refl
+number_none q old event new (inr h) = step (not (new.store.seq == old.store.seq)) (event_changes q old event) h.1
   where
-    step : (a b : Bool) → b ≡ false → cond (a && b) (new.seq ∷ []) [] ≡ []
+    step : (a b : Bool) → b ≡ false → cond (a && b) (new.store.seq ∷ []) [] ≡ []
     step true true e = absurd cc
     step true false e = refl
     step false b e = refl
 
-number_one : (q : Query) (old : Store) (event : Event) (new : Store) → new.seq ≡ old.seq + 1 → event_changes q event ≡ true → number_by q old event new ≡ new.seq ∷ []
+number_one : (q : Listed) (old : State) (event : Event) (new : State) → new.store.seq ≡ old.store.seq + 1 → event_changes q old event ≡ true → number_by q old event new ≡ new.store.seq ∷ []
 number_one q old event new e k =
-    let apart : (new.seq == old.seq) ≡ false = ne_eqb new.seq old.seq (λ same. omega (arith, e, same)) in
+    let apart : (new.store.seq == old.store.seq) ≡ false = ne_eqb new.store.seq old.store.seq (λ same. omega (arith, e, same)) in
     rw (apart, k) refl
 
-number_above : (q : Query) (old : Store) (event : Event) (new : Store) (b : Bool) → old.seq < new.seq → All (λ n. old.seq < n) (cond b (new.seq ∷ []) [])
-number_above q old event new true lt = All-cons (λ n. old.seq < n) new.seq [] lt (All-nil (λ n. old.seq < n))
-number_above q old event new false lt = All-nil (λ n. old.seq < n)
+number_above : (old new : Store) (b : Bool) → old.seq < new.seq → All (λ n. old.seq < n) (cond b (new.seq ∷ []) [])
+number_above old new true lt = All-cons (λ n. old.seq < n) new.seq [] lt (All-nil (λ n. old.seq < n))
+number_above old new false lt = All-nil (λ n. old.seq < n)
 
-numbers_step : (q : Query) (s : ℕ) (old : Store) (event : Event) (new : Store) (queued : List (ℕ × Bytes)) → StepTells q s old new queued (event_changes q event)
-    → (old.seq ≤ new.seq) × All (λ n. old.seq < n) (number_by q old event new)
-numbers_step q s old event new queued (is_quiet same seq) = (at_most seq, subst (λ (ns : List ℕ). All (λ n. old.seq < n) ns) (sym (number_none q old event new seq)) (All-nil (λ n. old.seq < n)))
+numbers_step : (q : Listed) (s : ℕ) (old : State) (event : Event) (new : State) (queued : List (ℕ × Bytes)) → StepTells q s old.store new.store queued (event_changes q old event)
+    → (old.store.seq ≤ new.store.seq) × All (λ n. old.store.seq < n) (number_by q old event new)
+numbers_step q s old event new queued (is_quiet same seq) = (at_most seq, subst (λ (ns : List ℕ). All (λ n. old.store.seq < n) ns) (sym (number_none q old event new seq)) (All-nil (λ n. old.store.seq < n)))
   where
-    at_most : (new.seq ≡ old.seq) ⊎ ((new.seq ≡ old.seq + 1) × (event_changes q event ≡ false)) → old.seq ≤ new.seq
+    at_most : (new.store.seq ≡ old.store.seq) ⊎ ((new.store.seq ≡ old.store.seq + 1) × (event_changes q old event ≡ false)) → old.store.seq ≤ new.store.seq
     at_most (inl e) = omega (arith, e)
     at_most (inr h) = omega (arith, h.0)
 numbers_step q s old event new queued (is_told delta seq counts) =
-    (omega (arith, seq), number_above q old event new (not (new.seq == old.seq) && event_changes q event) (omega (arith, seq)))
+    (omega (arith, seq), number_above old.store new.store (not (new.store.seq == old.store.seq) && event_changes q old event) (omega (arith, seq)))
 
-numbers_above : (q : Query) (s : ℕ) (old : State) (done : List Did) (new : State) (walk : WatchesAlong q s old done new) → All (λ n. old.store.seq < n) (numbers_along q s old done new walk)
+numbers_above : (q : Listed) (s : ℕ) (old : State) (done : List Did) (new : State) (walk : WatchesAlong q s old done new) → All (λ n. old.store.seq < n) (numbers_along q s old done new walk)
 numbers_above q s old [] new walk = All-nil (λ n. old.store.seq < n)
 numbers_above q s old (d ∷ done) new walk =
     let mid = walk.0 in
     let h = walk.1 in
-    let k = numbers_step q s old.store d.event mid.store d.effect.queued (step_tells q s old d.event d.effect mid h.step h.before h.behind) in
-    All-append (λ n. old.store.seq < n) (number_by q old.store d.event mid.store) (numbers_along q s mid done new walk.2) k.1
+    let k = numbers_step q s old d.event mid d.effect.queued (step_tells q s old d.event d.effect mid h.step h.before h.behind) in
+    All-append (λ n. old.store.seq < n) (number_by q old d.event mid) (numbers_along q s mid done new walk.2) k.1
     (All-weaker (λ n. mid.store.seq < n) (λ n. old.store.seq < n) (λ n lt. omega (arith, lt, k.0)) (numbers_along q s mid done new walk.2) (numbers_above q s mid done new walk.2))
 
 -- A listing stays one where the answers do.
-listing_stays : (old new : Store) (q : Query) (ts : List Tuple) → SameAnswers old.relations new.relations q → IsListing (IsAnswer old.relations q) ts → IsListing (IsAnswer new.relations q) ts
+listing_stays : (old new : Store) (q : Listed) (ts : List Tuple) → SameAnswers old.relations new.relations q → IsListing (AnswersOf old.relations q) ts → IsListing (AnswersOf new.relations q) ts
 listing_stays old new q ts same h = record {
   different = h.different;
-  answers = All-weaker (IsAnswer old.relations q) (IsAnswer new.relations q) same.there ts h.answers;
+  answers = All-weaker (AnswersOf old.relations q) (AnswersOf new.relations q) same.there ts h.answers;
   complete = λ t a. h.complete t (same.back t a);
 }
 
 -- one step more in front
-told_more : (q : Query) (s : ℕ) (old : State) (d : Did) (done : List Did) (new : State) (walk : WatchesAlong q s old (d ∷ done) new)
-    → StepTells q s old.store walk.0.store d.effect.queued (event_changes q d.event) → IsTold q s walk.0 done new walk.2 → IsTold q s old (d ∷ done) new walk
+told_more : (q : Listed) (s : ℕ) (old : State) (d : Did) (done : List Did) (new : State) (walk : WatchesAlong q s old (d ∷ done) new)
+    → StepTells q s old.store walk.0.store d.effect.queued (event_changes q old d.event) → IsTold q s walk.0 done new walk.2 → IsTold q s old (d ∷ done) new walk
 told_more q s old d done new walk (is_quiet same seq) h = record {
   told = h.told;
   whole = parts_out s (d ∷ done);
-  among = among_later (map (told_text q.name) h.told) (parts_for s d.effect.queued) (parts_to s done) h.among;
-  numbers = h.numbers ∙ ap (λ ns. ns ++ numbers_along q s walk.0 done new walk.2) (sym (number_none q old.store d.event walk.0.store seq));
+  among = among_later (map (told_text (listed_name q)) h.told) (parts_for s d.effect.queued) (parts_to s done) h.among;
+  numbers = h.numbers ∙ ap (λ ns. ns ++ numbers_along q s walk.0 done new walk.2) (sym (number_none q old d.event walk.0 seq));
   rising = h.rising;
   adds_up = λ ts l. h.adds_up ts (listing_stays old.store walk.0.store q ts same l);
 }
@@ -125,9 +125,9 @@ told_more q s old d done new walk (is_told delta seq counts) h =
     record {
       told = first ∷ h.told;
       whole = parts_out s (d ∷ done);
-      among = among_first (told_text q.name first) (map (told_text q.name) h.told) (parts_for s d.effect.queued) (parts_to s done)
-          (part_there s d.effect.queued (told_text q.name first) delta.told) h.among;
-      numbers = ap (λ ns. mid.store.seq ∷ ns) h.numbers ∙ ap (λ ns. ns ++ numbers_along q s mid done new walk.2) (sym (number_one q old.store d.event mid.store seq counts));
+      among = among_first (told_text (listed_name q) first) (map (told_text (listed_name q)) h.told) (parts_for s d.effect.queued) (parts_to s done)
+          (part_there s d.effect.queued (told_text (listed_name q) first) delta.told) h.among;
+      numbers = ap (λ ns. mid.store.seq ∷ ns) h.numbers ∙ ap (λ ns. ns ++ numbers_along q s mid done new walk.2) (sym (number_one q old d.event mid seq counts));
       rising = AllPairs-cons (λ m n. m < n) mid.store.seq (map (λ (t : Told). t.number) h.told) above h.rising;
       adds_up = λ ts l. h.adds_up (added_up ts delta.changes) (deltas_add_up old.store.relations mid.store.relations q ts delta.changes l delta.delta);
     }
@@ -139,7 +139,7 @@ watchers_have_answers q s old [] new walk = record {
   among = tt;
   numbers = refl;
   rising = λ i j d lt within. absurd (omega arith);
-  adds_up = λ ts l. subst (λ (st : State). IsListing (IsAnswer st.store.relations q) ts) (sym walk) l;
+  adds_up = λ ts l. subst (λ (st : State). IsListing (AnswersOf st.store.relations q) ts) (sym walk) l;
 }
 watchers_have_answers q s old (d ∷ done) new walk =
     let h = walk.1 in

@@ -1,57 +1,86 @@
 -- What a step tells a session that watches a query: how its answers changed, where it changes the rows of a relation that the query reads.
-use Rattle.std.specs.Prelude.{ℕ, List, [], ◌∷◌, ◌==◌, ◌≡◌, ◌<◌, ◌+◌, ◌++◌, ◌⊎◌, Bool, true, false, length, Option, None, Some, IsSomeAnd, MatchOption, option_map, Result, Ok, Err, ⊤}
+use Rattle.std.specs.Prelude.{ℕ, List, [], ◌∷◌, ◌==◌, ◌≡◌, ◌<◌, ◌+◌, ◌++◌, ◌⊎◌, Bool, true, false, length, Option, None, Some, is_some, MatchOption, option_map}
 use Rattle.std.proofs.Common.{refl, sym, ap, ◌∙◌, subst, inl, inr}
 use Rattle.std.proofs.lemmas.Bool.{eqb-true}
 use Rattle.std.proofs.lemmas.List.Elements.{All-weaker}
 use Rattle.djq_model.specs.declared.relation.Relation.{Relation}
-use Rattle.djq_model.specs.declared.relation.ColumnType.{ColumnType}
-use Rattle.djq_model.specs.declared.query.Query.{Query}
-use Rattle.djq_model.specs.Data.{Bytes, Tuple, rows_of, without_row, query_of}
-use Rattle.djq_model.specs.Answer.{IsAnswer}
-use Rattle.djq_model.specs.Known.{texts_in, all_learned}
-use Rattle.djq_lines.specs.declared.rest.QueryOutcome.{QueryOutcome}
-use Rattle.djq_lines.specs.declared.rest.QueryOutcome.TheVariants.{Registered, Cyclic, NotConnex}
+use Rattle.djq_model.specs.Data.{Bytes, Tuple}
+use Rattle.djq_model.specs.Listed.{Listed, listed_name, AnswersOf, listed_of}
+use Rattle.djq_model.specs.Known.{all_learned}
 use Rattle.djq_lines.specs.declared.answer.EndCause.{EndCause}
 use Rattle.djq_lines.specs.declared.answer.EndCause.TheVariants.{Input, Memory}
-use Rattle.djq_lines.specs.declared.answer.Refusal.{Refusal}
-use Rattle.djq_lines.specs.declared.answer.Refusal.TheVariants.{NoQuery, NoCursor}
 use Rattle.djq_lines.specs.declared.answer.Sign.{Sign}
 use Rattle.djq_lines.specs.declared.answer.Sign.TheVariants.{Came, Went}
-use Rattle.djq_lines.specs.declared.answer.AddOutcome.{AddOutcome}
-use Rattle.djq_lines.specs.declared.answer.AddOutcome.TheVariants.{Added, Same}
-use Rattle.djq_lines.specs.declared.answer.DeleteOutcome.{DeleteOutcome}
-use Rattle.djq_lines.specs.declared.answer.DeleteOutcome.TheVariants.{Removed, Absent}
 use Rattle.djq_lines.specs.declared.command.Command.{Command}
-use Rattle.djq_lines.specs.declared.command.Command.TheVariants.{Rel, Add, Del, Query as Register, Drop, Open, Next, Close, Has, Watch, Unwatch, Explain, Quit, Stop}
+use Rattle.djq_lines.specs.declared.command.Command.TheVariants.{Add, Del}
 use Rattle.djq_lines.specs.declared.limits.TheConstants.{SESSIONS}
-use Rattle.djq_lines.specs.Grammar.{Reading, refused, says as says_command, reading_of}
+use Rattle.djq_lines.specs.Grammar.{Reading, outside, past_limit, says as says_command, reading_of}
 use Rattle.djq_lines.specs.Reply.{end_memory}
-use Rattle.djq_machine.specs.State.{Store, State, Session, Cursor, Position, open_at, stale, fresh, session_of, with_session, cursor_of, ended_by}
-use Rattle.djq_machine.specs.Conditions.{OutOfMemoryWhere}
+use Rattle.djq_machine.specs.State.{Store, State, Session, fresh, session_of, with_session, ended_by}
 use Rattle.djq_machine.specs.Delta.{Change, HasChanged}
-use Rattle.djq_machine.specs.Store.{RefusedLate, RegistersAs, MakesRelation, AddsRow, AddsAs, DeletesRow, DeletesAs, RegistersQuery, DropsQuery, with_rows, rel_refusal, add_refusal, delete_refusal, query_refusal, drop_refusal}
-use Rattle.djq_machine.specs.Stale.{reads, add_outdates, add_accepted, delete_outdates}
+use Rattle.djq_machine.specs.Changes.{RowsChange, RowsOutcome, accepted, out_of_memory, unchanged, is_outdated}
 use Rattle.djq_machine.specs.Watch.{is_watching, Telling, ChangeStep}
-use Rattle.djq_machine.specs.Effect.{Effect, nothing, EndsWith, RefusedStep, queue_all, queue}
-use Rattle.djq_machine.specs.Command.{OpensTo, BecomesWhere, with_cursor, with_watch, without_watch, NextStepAt, CloseStep, CommandStep, QueryStep, QueryCutStep, ExplainStep, TellsLines, explain_lines}
+use Rattle.djq_machine.specs.Effect.{Effect, nothing, EndsWith, queue_all, queue}
+use Rattle.djq_machine.specs.Command.{CommandStep}
 use Rattle.djq_machine.specs.LineStep.{LineOutcome, long, blank, slow, no_room, run, ReadStep, FrontStep, behind_line}
 use Rattle.djq_machine.specs.Step.{Event, opened, fed, stepped, took, ended, closed, FedStep, TookStep, EndedStep, Acts, with_relations, Step}
 use Rattle.djq_machine.specs.Call.{cause_of, cause_in}
-use Rattle.djq_laws.specs.Watched.{IsWatcher, line_changes, event_changes}
+use Rattle.djq_laws.specs.Watched.{IsWatcher, line_outdater, event_changes}
+use Rattle.djq_laws.specs.Form.{
+  form_of,
+  Form,
+  asking,
+  storing,
+  turning,
+  changing,
+  ending,
+  Turn,
+  Replied,
+  is_whole,
+  is_cut,
+  Stored,
+  LearnsTexts,
+  learns_texts,
+  makes_relation,
+  registers,
+  drops_query,
+  in_use,
+  DoesTurn,
+  is_turned,
+  is_refused,
+  Does,
+}
 use Rattle.djq_laws.proofs.Finding.{some_and, and_some}
+use Rattle.djq_laws.proofs.Forms.{turned_one, command_does}
+use Rattle.djq_laws.proofs.Rows.{RowsMade, outdater_by, rows_do}
 use Rattle.djq_laws.proofs.Told.{change_keeps}
 use Rattle.djq_laws.proofs.Queueing.{session_changed, session_other, stepped_cause}
-use Rattle.djq_laws.proofs.Answering.{SameAnswers, new_relation_same, reordered_same, unread_same}
-use Rattle.djq_laws.proofs.Giving.{same_itself, done_of, add_refused, query_late, refused_store}
+use Rattle.djq_laws.proofs.Answering.{SameAnswers, new_relation_same, reordered_same, Spares}
+use Rattle.djq_laws.proofs.Giving.{same_itself}
 use Rattle.djq_laws.proofs.Telling.{Watches, IsTheDelta, change_is_told}
 
 -- Either the answers stay, and no change was accepted but of other relations; or one was, and its delta is told.
-pub data StepTells (q : Query) (s : ℕ) (old new : Store) (queued : List (ℕ × Bytes)) (changes : Bool) : Type 0 where
+pub data StepTells (q : Listed) (s : ℕ) (old new : Store) (queued : List (ℕ × Bytes)) (changes : Bool) : Type 0 where
   is_quiet : SameAnswers old.relations new.relations q → (new.seq ≡ old.seq) ⊎ ((new.seq ≡ old.seq + 1) × (changes ≡ false)) → StepTells q s old new queued changes
   is_told : IsTheDelta q s old.relations new.relations new.seq queued → new.seq ≡ old.seq + 1 → changes ≡ true → StepTells q s old new queued changes
 
+replied_store : (s : ℕ) (mid new : State) → Replied s mid new → new.store ≡ mid.store
+replied_store s mid new (is_whole after) = ap (λ (st : State). st.store) after
+replied_store s mid new (is_cut after) = ap (λ (st : State). st.store) after
+
+-- the relation whose change by a command of a form outdates a query
+abbrev form_outdater : Form → Listed → Option Bytes
+form_outdater (changing c) q = outdater_by c q
+form_outdater _ q = None
+
+outdated_alike : (old : State) (t : ℕ) (c : Command) (q : Listed)
+    → form_outdater (form_of c) q ≡ line_outdater old t (says_command c) q
+outdated_alike old t (Add name row) q = refl
+outdated_alike old t (Del name row) q = refl
+outdated_alike old t c q = refl
+
 -- nothing of it changes
-module _ (q : Query) (s : ℕ) (queued : List (ℕ × Bytes)) (changes : Bool) where
+module _ (q : Listed) (s : ℕ) (queued : List (ℕ × Bytes)) (changes : Bool) where
   stays : (old new : Store) → new.relations ≡ old.relations → new.seq ≡ old.seq → StepTells q s old new queued changes
   stays old new relations seq = is_quiet (subst (λ (rs : List Relation). SameAnswers old.relations rs q) (sym relations) (same_itself old.relations q)) (inl seq)
 
@@ -64,148 +93,91 @@ module _ (q : Query) (s : ℕ) (queued : List (ℕ × Bytes)) (changes : Bool) w
   one_session : (old new : State) (t : ℕ) (f : Session → Session) → new ≡ with_session old t f → StepTells q s old.store new.store queued changes
   one_session old new t f e = same_store old new (ap (λ (st : State). st.store) e)
 
-  of_store : (old : State) (store : Store) (new : State) → new ≡ record old { store = store } → StepTells q s old.store store queued changes → StepTells q s old.store new.store queued changes
-  of_store old store new after h = subst (λ (st : Store). StepTells q s old.store st queued changes) (sym (ap (λ (st : State). st.store) after)) h
+  learned_stays : (old new : Store) → LearnsTexts old new → StepTells q s old new queued changes
+  learned_stays old new h =
+      stays old new (ap (λ (st : Store). st.relations) h.store) (ap (λ (st : Store). st.seq) h.store)
 
-  texts_stay : (old new : Store) → new ≡ record old { texts = new.texts } → StepTells q s old new queued changes
-  texts_stay old new e = stays old new (ap (λ (st : Store). st.relations) e) (ap (λ (st : Store). st.seq) e)
-
-  relation_stays : (old : Store) (name : Bytes) (types : List ColumnType) (r : Result ⊤ Refusal) (new : Store) → MakesRelation old name types r new → StepTells q s old new queued changes
-  relation_stays old name types (Ok u) new h =
-      let e = done_of (rel_refusal old name types) u (λ _. new ≡ record old { relations = old.relations ++ record { name = name; types = types; rows = [] } ∷ [] }) (OutOfMemoryWhere ⊤) h.answer in
+  -- what a command of the store makes of it
+  stored_stays : (used : Bytes → Bool) (old new : Store) → Stored used old new → StepTells q s old new queued changes
+  stored_stays used old new (learns_texts h) = learned_stays old new h
+  stored_stays used old new (makes_relation name types none e) =
       is_quiet
       (subst (λ (rs : List Relation). SameAnswers old.relations rs q) (sym (ap (λ (st : Store). st.relations) e)) (new_relation_same old.relations name types q))
       (inl (ap (λ (st : Store). st.seq) e))
-  relation_stays old name types (Err r) new h = stays old new (ap (λ (st : Store). st.relations) h.stays) (ap (λ (st : Store). st.seq) h.stays)
-
-  query_stays : (old : Store) (p : Query) (r : Result QueryOutcome Refusal) (new : Store) → RegistersQuery old p r new → StepTells q s old new queued changes
-  query_stays old p (Ok (Registered most)) new h =
-      let d = done_of (query_refusal old p) (Registered most) (RegistersAs old p new) (RefusedLate old p new) h.answer in
-      stays old new (ap (λ (st : Store). st.relations) d.3) (ap (λ (st : Store). st.seq) d.3)
-  query_stays old p (Ok (Cyclic rest)) new h =
-      let d = done_of (query_refusal old p) (Cyclic rest) (RegistersAs old p new) (RefusedLate old p new) h.answer in
-      stays old new (ap (λ (st : Store). st.relations) d.1) (ap (λ (st : Store). st.seq) d.1)
-  query_stays old p (Ok (NotConnex rest)) new h =
-      let d = done_of (query_refusal old p) (NotConnex rest) (RegistersAs old p new) (RefusedLate old p new) h.answer in
-      stays old new (ap (λ (st : Store). st.relations) d.1) (ap (λ (st : Store). st.seq) d.1)
-  query_stays old p (Err r) new h =
-      texts_stay old new (refused_store (query_refusal old p) r (RegistersAs old p new) (RefusedLate old p new) old new h.answer h.stays (query_late old p r new))
-
-  register_stays : (old : State) (t : ℕ) (p : Query) (e : Effect) (new : State) → QueryStep old t p e new ⊎ QueryCutStep old t p e new → StepTells q s old.store new.store queued changes
-  register_stays old t p e new (inl h) = of_store old h.store new h.state (query_stays old.store p h.result h.store h.done)
-  register_stays old t p e new (inr h) =
-      subst (λ (st : Store). StepTells q s old.store st queued changes) (sym (ap (λ (st : State). st.store) h.ends.1)) (query_stays old.store p h.result h.store h.done)
-
-  drop_stays : (old : Store) (used : Bool) (name : Bytes) (r : Result ⊤ Refusal) (new : Store) → DropsQuery old used name r new → StepTells q s old new queued changes
-  drop_stays old used name (Ok u) new h =
-      let e = done_of (drop_refusal old used name) u _ (OutOfMemoryWhere ⊥) h.answer in
+  stored_stays used old new (registers p none connex few e) =
       stays old new (ap (λ (st : Store). st.relations) e) (ap (λ (st : Store). st.seq) e)
-  drop_stays old used name (Err r) new h = stays old new (ap (λ (st : Store). st.relations) h.stays) (ap (λ (st : Store). st.seq) h.stays)
+  stored_stays used old new (drops_query name unused e) =
+      stays old new (ap (λ (st : Store). st.relations) e) (ap (λ (st : Store). st.seq) e)
 
-  opens_stay : (old : State) (t : ℕ) (c p : Bytes) (r : Result ⊤ Refusal) (new : State) → OpensTo old t c p new r → StepTells q s old.store new.store queued changes
-  opens_stay old t c p (Ok u) new h = one_session old new t (with_cursor c p) h
-  opens_stay old t c p (Err r) new h = same_state old new h
-
-  becomes_stays : (old : State) (t : ℕ) (f : Session → Session) (r : Result ⊤ Refusal) (new : State) → BecomesWhere old t f new r → StepTells q s old.store new.store queued changes
-  becomes_stays old t f (Ok u) new h = one_session old new t f h
-  becomes_stays old t f (Err r) new h = same_state old new h
-
-  next_stays : (old : State) (t : ℕ) (c : Bytes) (p : Query) (count : ℕ) (at : Position) (e : Effect) (new : State) → NextStepAt old t c p count at e new → StepTells q s old.store new.store queued changes
-  next_stays old t c p count (open_at given end) e new (inl h) = one_session old new t _ h.state
-  next_stays old t c p count (open_at given end) e new (inr h) = one_session old new t _ h.state
-  next_stays old t c p count (stale relation n) e new h = same_state old new h.1
-
-  next_found : (old : State) (t : ℕ) (c : Bytes) (count : ℕ) (o : Option Cursor) (e : Effect) (new : State)
-      → MatchOption o (RefusedStep old t NoCursor e new) (λ k. IsSomeAnd (query_of old.store.queries k.query) (λ p. NextStepAt old t c p count k.position e new)) → StepTells q s old.store new.store queued changes
-  next_found old t c count None e new h = same_state old new h.1
-  next_found old t c count (Some k) e new h =
-      let f = some_and (query_of old.store.queries k.query) (λ p. NextStepAt old t c p count k.position e new) h in
-      next_stays old t c f.0 count k.position e new f.2
-
-  close_found : (old : State) (t : ℕ) (c : Bytes) (o : Option Cursor) (e : Effect) (new : State) → MatchOption o (RefusedStep old t NoCursor e new) (λ k. CloseStep old t c e new) → StepTells q s old.store new.store queued changes
-  close_found old t c None e new h = same_state old new h.1
-  close_found old t c (Some k) e new h = one_session old new t _ h.1
-
-  lines_stay : (old : State) (t : ℕ) (lines : List Bytes) (e : Effect) (new : State) → TellsLines old t lines e new → StepTells q s old.store new.store queued changes
-  lines_stay old t lines e new (inl h) = same_state old new h.1
-  lines_stay old t lines e new (inr (told, lacking, rest, parts, ends)) = one_session old new t _ ends.1
-
-  explain_stays : (old : State) (t : ℕ) (o : Option Query) (e : Effect) (new : State) → MatchOption o (RefusedStep old t NoQuery e new) (λ p. ExplainStep old t p e new) → StepTells q s old.store new.store queued changes
-  explain_stays old t None e new h = same_state old new h.1
-  explain_stays old t (Some p) e new h = lines_stay old t (explain_lines p h.tree) e new h.tells
+  turn_stays : (old : State) (t : ℕ) (x : Session) (turn : Turn) (new : State) → DoesTurn old t x turn new
+      → StepTells q s old.store new.store queued changes
+  turn_stays old t x turn new (is_turned h) =
+      let one = turned_one old t x turn new h in one_session old new t one.change one.state
+  turn_stays old t x turn new (is_refused r) = same_store old new (replied_store t old new r)
 
 -- The store behind a change is the one that the change left.
-pub change_store : (old : State) (t : ℕ) (name : Bytes) (rows : List Tuple) (outdates accepted : Bool) (store : Store) (reply : Bytes) (e : Effect) (new : State)
-    → ChangeStep old t name rows outdates accepted store reply e new → new.store ≡ store
-change_store old t name rows outdates accepted store reply e new h =
+pub change_store : (old : State) (t : ℕ) (outcome : RowsOutcome) (store : Store) (reply : Bytes) (e : Effect) (new : State)
+    → ChangeStep old t outcome store reply e new → new.store ≡ store
+change_store old t outcome store reply e new h =
     ap (λ (st : State). st.store) h.state
-    ∙ change_keeps (λ (m : Telling). m.state.store ≡ store) (λ m i text there k. k) (λ m i text cause may there k. k) old t name rows outdates accepted store reply e new h refl
+    ∙ change_keeps (λ (m : Telling). m.state.store ≡ store) (λ m i text there k. k) (λ m i text cause may there k. k) old t outcome store reply e new h refl
 
 -- of one that goes on and watches
-module _ (q : Query) (s : ℕ) (old : State) (registered : query_of old.store.queries q.name ≡ Some q) (watches : Watches q.name (session_of old s)) where
-  accepted_tells : (t : ℕ) (name : Bytes) (rows : List Tuple) (texts : List Bytes) (store : Store) (reply : Bytes) (e : Effect) (new : State) → cause_of new s ≡ None
-      → store ≡ record old.store { relations = with_rows old.store.relations name rows; texts = texts; seq = old.store.seq + 1 }
-      → ChangeStep old t name rows true true store reply e new → StepTells q s old.store store e.queued (reads q name)
-  accepted_tells t name rows texts store reply e new running after h = step (reads q name) refl
+module _ (q : Listed) (s : ℕ) (old : State) (registered : listed_of old.store.queries (listed_name q) ≡ Some q) (watches : Watches (listed_name q) (session_of old s)) where
+  accepted_tells : (t : ℕ) (change : RowsChange) (texts : List Bytes) (store : Store) (reply : Bytes) (e : Effect) (new : State) → cause_of new s ≡ None
+      → Spares old.store.relations change → store ≡ record old.store { relations = change.after; texts = texts; seq = old.store.seq + 1 }
+      → ChangeStep old t (accepted change) store reply e new → StepTells q s old.store store e.queued (is_outdated change q)
+  accepted_tells t change texts store reply e new running spares after h = step (change.outdater q) refl
     where
-      relations : store.relations ≡ with_rows old.store.relations name rows
+      relations : store.relations ≡ change.after
       relations = ap (λ (st : Store). st.relations) after
 
-      step : (b : Bool) → reads q name ≡ b → StepTells q s old.store store e.queued b
-      step true k =
+      step : (o : Option Bytes) → change.outdater q ≡ o → StepTells q s old.store store e.queued (is_some o)
+      step (Some relation) k =
           is_told (subst (λ (rs : List Relation). IsTheDelta q s old.store.relations rs store.seq e.queued) (sym relations)
-          (change_is_told q s old t name rows store reply e new h k registered watches running)) (ap (λ (st : Store). st.seq) after) refl
-      step false k =
-          is_quiet (subst (λ (rs : List Relation). SameAnswers old.store.relations rs q) (sym relations) (unread_same old.store.relations name rows q k))
+          (change_is_told q s old t change store reply e new h (ap is_some k) registered watches running)) (ap (λ (st : Store). st.seq) after) refl
+      step None k =
+          is_quiet (subst (λ (rs : List Relation). SameAnswers old.store.relations rs q) (sym relations) (spares q k))
           (inr (ap (λ (st : Store). st.seq) after, refl))
 
-  add_tells : (t : ℕ) (name : Bytes) (row : Tuple) (r : Result AddOutcome Refusal) (store : Store) (reply : Bytes) (e : Effect) (new : State) → cause_of new s ≡ None
-      → AddsRow old.store name row r store → ChangeStep old t name (rows_of old.store.relations name ++ row ∷ []) (add_outdates r) (add_accepted r) store reply e new
-      → StepTells q s old.store store e.queued (reads q name)
-  add_tells t name row (Ok Added) store reply e new running h c =
-      let d = done_of (add_refusal old.store name row) Added (AddsAs old.store name row store) _ h.answer in
-      accepted_tells t name (rows_of old.store.relations name ++ row ∷ []) (all_learned old.store.texts (texts_in row)) store reply e new running d.2 c
-  add_tells t name row (Ok Same) store reply e new running h c =
-      let d = done_of (add_refusal old.store name row) Same (AddsAs old.store name row store) _ h.answer in
-      stays q s e.queued (reads q name) old.store store (ap (λ (st : Store). st.relations) d.1) (ap (λ (st : Store). st.seq) d.1)
-  add_tells t name row (Err r) store reply e new running h c = texts_stay q s e.queued (reads q name) old.store store (add_refused old.store name row r store h)
+  made_tells : (outdater : Listed → Option Bytes) (t : ℕ) (o : RowsOutcome) (store : Store) (reply : Bytes) (e : Effect)
+      (new : State)
+      → cause_of new s ≡ None → RowsMade outdater old.store o store → ChangeStep old t o store reply e new
+      → StepTells q s old.store store e.queued (is_some (outdater q))
+  made_tells outdater t (accepted change) store reply e new running m h =
+      subst (λ (o : Option Bytes). StepTells q s old.store store e.queued (is_some o)) (m.outdates q)
+      (accepted_tells t change (all_learned old.store.texts m.texts) store reply e new running m.spares m.store h)
+  made_tells outdater t (out_of_memory change) store reply e new running m h =
+      learned_stays q s e.queued (is_some (outdater q)) old.store store m
+  made_tells outdater t unchanged store reply e new running m h =
+      learned_stays q s e.queued (is_some (outdater q)) old.store store m
 
-  delete_tells : (t : ℕ) (name : Bytes) (row : Tuple) (r : Result DeleteOutcome Refusal) (store : Store) (reply : Bytes) (e : Effect) (new : State) → cause_of new s ≡ None
-      → DeletesRow old.store name row r store → ChangeStep old t name (without_row (rows_of old.store.relations name) row) (delete_outdates r) (delete_outdates r) store reply e new
-      → StepTells q s old.store store e.queued (reads q name)
-  delete_tells t name row (Ok Removed) store reply e new running h c =
-      let d = done_of (delete_refusal old.store name row) Removed (DeletesAs old.store name row store) (OutOfMemoryWhere ⊥) h.answer in
-      accepted_tells t name (without_row (rows_of old.store.relations name) row) old.store.texts store reply e new running d.1 c
-  delete_tells t name row (Ok Absent) store reply e new running h c =
-      let d = done_of (delete_refusal old.store name row) Absent (DeletesAs old.store name row store) (OutOfMemoryWhere ⊥) h.answer in
-      stays q s e.queued (reads q name) old.store store (ap (λ (st : Store). st.relations) d.1) (ap (λ (st : Store). st.seq) d.1)
-  delete_tells t name row (Err r) store reply e new running h c =
-      stays q s e.queued (reads q name) old.store store (ap (λ (st : Store). st.relations) h.stays) (ap (λ (st : Store). st.seq) h.stays)
+  form_tells : (f : Form) (t : ℕ) (x : Session) (e : Effect) (new : State) → cause_of new s ≡ None
+      → Does f old t x e new → StepTells q s old.store new.store e.queued (is_some (form_outdater f q))
+  form_tells asking t x e new running h = same_store q s e.queued false old new (replied_store t old new h.1)
+  form_tells storing t x e new running h =
+      subst (λ (st : Store). StepTells q s old.store st e.queued false)
+      (sym (replied_store t (record old { store = h.1.store }) new h.1.replied))
+      (stored_stays q s e.queued false (in_use old) old.store h.1.store h.1.stored)
+  form_tells (turning turn) t x e new running h = turn_stays q s e.queued false old t x turn new h.1
+  form_tells (changing c) t x e new running h =
+      let d = rows_do old t c e new h in
+      subst (λ (st : Store). StepTells q s old.store st e.queued (is_some (outdater_by c q)))
+      (sym (change_store old t d.outcome d.store d.reply e new d.change))
+      (made_tells (outdater_by c) t d.outcome d.store d.reply e new running d.made d.change)
+  form_tells ending t x e new running h =
+      same_store q s e.queued false old new (ap (λ (st : State). st.store) h.1.state)
 
-  command_tells : (t : ℕ) (x : Session) (c : Command) (e : Effect) (new : State) → cause_of new s ≡ None → CommandStep old t x c e new → StepTells q s old.store new.store e.queued (line_changes q (says_command c))
-  command_tells t x (Rel name types) e new running h = of_store q s e.queued false old h.store new h.state (relation_stays q s e.queued false old.store name types h.result h.store h.done)
-  command_tells t x (Add name row) e new running h =
-      subst (λ (st : Store). StepTells q s old.store st e.queued (reads q name)) (sym (change_store old t name _ _ _ h.store _ e new h.change))
-      (add_tells t name row h.result h.store _ e new running h.done h.change)
-  command_tells t x (Del name row) e new running h =
-      subst (λ (st : Store). StepTells q s old.store st e.queued (reads q name)) (sym (change_store old t name _ _ _ h.store _ e new h.change))
-      (delete_tells t name row h.result h.store _ e new running h.done h.change)
-  command_tells t x (Register p) e new running h = register_stays q s e.queued false old t p e new h
-  command_tells t x (Open c p) e new running h = opens_stay q s e.queued false old t c p h.result new h.state
-  command_tells t x (Next c count) e new running h = next_found q s e.queued false old t c count (cursor_of x.cursors c) e new h
-  command_tells t x (Close c) e new running h = close_found q s e.queued false old t c (cursor_of x.cursors c) e new h
-  command_tells t x Quit e new running h = one_session q s e.queued false old new t _ h.1
-  command_tells t x Stop e new running h = same_store q s e.queued false old new (ap (λ (st : State). st.store) h.1)
-  command_tells t x (Drop p) e new running h = of_store q s e.queued false old h.store new h.state (drop_stays q s e.queued false old.store _ p h.result h.store h.done)
-  command_tells t x (Has p row) e new running h = same_state q s e.queued false old new h.state
-  command_tells t x (Watch p) e new running h = becomes_stays q s e.queued false old t (with_watch p) h.result new h.state
-  command_tells t x (Unwatch p) e new running h = becomes_stays q s e.queued false old t (without_watch p) h.result new h.state
-  command_tells t x (Explain p) e new running h = explain_stays q s e.queued false old t (query_of old.store.queries p) e new h
+  command_tells : (t : ℕ) (x : Session) (c : Command) (e : Effect) (new : State) → cause_of new s ≡ None → CommandStep old t x c e new → StepTells q s old.store new.store e.queued (is_some (line_outdater old t (says_command c) q))
+  command_tells t x c e new running h =
+      subst (λ (o : Option Bytes). StepTells q s old.store new.store e.queued (is_some o)) (outdated_alike old t c q)
+      (form_tells (form_of c) t x e new running (command_does old t x c e new h))
 
-  read_tells : (t : ℕ) (x : Session) (r : Reading) (e : Effect) (new : State) → cause_of new s ≡ None → ReadStep old t x r e new → StepTells q s old.store new.store e.queued (line_changes q r)
-  read_tells t x (refused r) e new running h = same_state q s e.queued false old new h.1
-  read_tells t x (says_command c) e new running (true, h) = command_tells t x c e new running h
-  read_tells t x (says_command c) e new running (false, h) = same_state q s e.queued (line_changes q (says_command c)) old new h.1.1
+  read_tells : (t : ℕ) (x : Session) (l : Bytes) (r : Reading) (e : Effect) (new : State) → cause_of new s ≡ None → ReadStep old t x l r e new → StepTells q s old.store new.store e.queued (is_some (line_outdater old t r q))
+  read_tells t x l outside e new running h = same_state q s e.queued false old new h.1
+  read_tells t x l (past_limit c) e new running h = same_state q s e.queued false old new h.1
+  read_tells t x l (says_command c) e new running (true, h) = command_tells t x c e new running h
+  read_tells t x l (says_command c) e new running (false, h) = same_state q s e.queued (is_some (line_outdater old t (says_command c) q)) old new h.1.1
 
 -- a line that is taken changes no watches
 line_watches : (q : Bytes) (old : State) (t : ℕ) (rest : Bytes) (s : ℕ) (b : Bool) → (t == s) ≡ b → Watches q (session_of old s) → Watches q (session_of (with_session old t (behind_line rest)) s)
@@ -218,18 +190,26 @@ line_watches q old t rest s true e w =
 line_watches q old t rest s false e w =
     subst (λ (o : Option Session). Watches q o) (sym (session_other old t s (behind_line rest) (λ x. refl) e)) w
 
-front_tells : (q : Query) (s : ℕ) (old : State) → query_of old.store.queries q.name ≡ Some q → Watches q.name (session_of old s)
-    → (t : ℕ) (x : Session) (outcome : LineOutcome) (e : Effect) (new : State) → cause_of new s ≡ None → FrontStep old t x outcome e new → StepTells q s old.store new.store e.queued (event_changes q (stepped t outcome))
+-- what a line is to change hangs on the line alone
+line_alike : (q : Listed) (t : ℕ) (a b : State) (r : Reading) → line_outdater a t r q ≡ line_outdater b t r q
+line_alike q t a b (says_command (Add name row)) = refl
+line_alike q t a b (says_command (Del name row)) = refl
+line_alike q t a b _ = refl
+
+front_tells : (q : Listed) (s : ℕ) (old : State) → listed_of old.store.queries (listed_name q) ≡ Some q → Watches (listed_name q) (session_of old s)
+    → (t : ℕ) (x : Session) (outcome : LineOutcome) (e : Effect) (new : State) → cause_of new s ≡ None → FrontStep old t x outcome e new → StepTells q s old.store new.store e.queued (event_changes q old (stepped t outcome))
 front_tells q s old registered watches t x long e new running h = one_session q s e.queued false old new t _ h.1.1
 front_tells q s old registered watches t x (blank l) e new running h = one_session q s e.queued false old new t _ h.1.then.1
 front_tells q s old registered watches t x (slow l) e new running h = same_store q s e.queued false old new (ap (λ (st : State). st.store) h.2.then.1)
 front_tells q s old registered watches t x (no_room l) e new running h = same_store q s e.queued false old new (ap (λ (st : State). st.store) h.2.then.1)
 front_tells q s old registered watches t x (run l) e new running h =
-    read_tells q s (with_session old t (behind_line h.2.rest)) registered (line_watches q.name old t h.2.rest s (t == s) refl watches)
-    t (behind_line h.2.rest x) (reading_of l) e new running h.2.then
+    let taken = with_session old t (behind_line h.2.rest) in
+    subst (λ (o : Option Bytes). StepTells q s old.store new.store e.queued (is_some o)) (line_alike q t taken old (reading_of l))
+    (read_tells q s taken registered (line_watches (listed_name q) old t h.2.rest s (t == s) refl watches)
+    t (behind_line h.2.rest x) l (reading_of l) e new running h.2.then)
 
 -- the events
-fed_stays : (q : Query) (s : ℕ) (old : State) (t : ℕ) (bytes : Bytes) (e : Effect) (mid : State) (c : Option EndCause)
+fed_stays : (q : Listed) (s : ℕ) (old : State) (t : ℕ) (bytes : Bytes) (e : Effect) (mid : State) (c : Option EndCause)
     → MatchOption c
     (((e ≡ nothing) × (mid ≡ with_session old t (λ y. record y { held = y.held ++ bytes }))) ⊎ EndsWith end_memory Memory old t e mid)
     (λ _. (e ≡ nothing) × (mid ≡ old))
@@ -238,18 +218,18 @@ fed_stays q s old t bytes e mid None (inl h) = one_session q s e.queued false ol
 fed_stays q s old t bytes e mid None (inr h) = one_session q s e.queued false old mid t _ h.1
 fed_stays q s old t bytes e mid (Some c) h = same_state q s e.queued false old mid h.1
 
-input_stays : (q : Query) (s : ℕ) (old : State) (t : ℕ) (e : Effect) (mid : State) (P Q R : Type 0) (c : Option EndCause)
+input_stays : (q : Listed) (s : ℕ) (old : State) (t : ℕ) (e : Effect) (mid : State) (P Q R : Type 0) (c : Option EndCause)
     → MatchOption c (P × Q × (mid ≡ with_session old t (ended_by Input))) (λ _. R × (mid ≡ old)) → StepTells q s old.store mid.store e.queued false
 input_stays q s old t e mid P Q R None h = one_session q s e.queued false old mid t _ h.2
 input_stays q s old t e mid P Q R (Some c) h = same_state q s e.queued false old mid h.1
 
-opened_stays : (q : Query) (s : ℕ) (old : State) (t : ℕ) (e : Effect) (mid : State) → ((length old.sessions < SESSIONS) × (mid ≡ record old { sessions = old.sessions ++ fresh t ∷ [] })) ⊎ (mid ≡ old)
+opened_stays : (q : Listed) (s : ℕ) (old : State) (t : ℕ) (e : Effect) (mid : State) → ((length old.sessions < SESSIONS) × (mid ≡ record old { sessions = old.sessions ++ fresh t ∷ [] })) ⊎ (mid ≡ old)
     → StepTells q s old.store mid.store e.queued false
 opened_stays q s old t e mid (inl h) = same_store q s e.queued false old mid (ap (λ (st : State). st.store) h.1)
 opened_stays q s old t e mid (inr h) = same_state q s e.queued false old mid h
 
-acts_tell : (q : Query) (s : ℕ) (old : State) → query_of old.store.queries q.name ≡ Some q → Watches q.name (session_of old s)
-    → (event : Event) (e : Effect) (mid : State) → cause_of mid s ≡ None → Acts old event e mid → StepTells q s old.store mid.store e.queued (event_changes q event)
+acts_tell : (q : Listed) (s : ℕ) (old : State) → listed_of old.store.queries (listed_name q) ≡ Some q → Watches (listed_name q) (session_of old s)
+    → (event : Event) (e : Effect) (mid : State) → cause_of mid s ≡ None → Acts old event e mid → StepTells q s old.store mid.store e.queued (event_changes q old event)
 acts_tell q s old registered watches (opened t) e mid running h = opened_stays q s old t e mid h.2
 acts_tell q s old registered watches (fed t bytes) e mid running h =
     let f = some_and (session_of old t) (λ x. FedStep old t bytes x e mid) h in
@@ -266,30 +246,30 @@ acts_tell q s old registered watches (ended t) e mid running h =
 acts_tell q s old registered watches (closed t bytes) e mid running h = same_store q s e.queued false old mid (ap (λ (st : State). st.store) h.2)
 
 -- rows in another order
-same_then : (rs rs' rs'' : List Relation) (q : Query) → SameAnswers rs rs' q → SameAnswers rs' rs'' q → SameAnswers rs rs'' q
+same_then : (rs rs' rs'' : List Relation) (q : Listed) → SameAnswers rs rs' q → SameAnswers rs' rs'' q → SameAnswers rs rs'' q
 same_then rs rs' rs'' q h k = record { there = λ t a. k.there t (h.there t a); back = λ t a. h.back t (k.back t a) }
 
-changed_to : (before rs rs' : List Relation) (q : Query) → SameAnswers rs rs' q → (sign : Sign) (t : Tuple) → HasChanged (IsAnswer before q) (IsAnswer rs q) sign t → HasChanged (IsAnswer before q) (IsAnswer rs' q) sign t
+changed_to : (before rs rs' : List Relation) (q : Listed) → SameAnswers rs rs' q → (sign : Sign) (t : Tuple) → HasChanged (AnswersOf before q) (AnswersOf rs q) sign t → HasChanged (AnswersOf before q) (AnswersOf rs' q) sign t
 changed_to before rs rs' q same Came t h = (same.there t h.0, h.1)
 changed_to before rs rs' q same Went t h = (h.0, λ a. h.1 (same.back t a))
 
-changed_back : (before rs rs' : List Relation) (q : Query) → SameAnswers rs rs' q → (sign : Sign) (t : Tuple) → HasChanged (IsAnswer before q) (IsAnswer rs' q) sign t → HasChanged (IsAnswer before q) (IsAnswer rs q) sign t
+changed_back : (before rs rs' : List Relation) (q : Listed) → SameAnswers rs rs' q → (sign : Sign) (t : Tuple) → HasChanged (AnswersOf before q) (AnswersOf rs' q) sign t → HasChanged (AnswersOf before q) (AnswersOf rs q) sign t
 changed_back before rs rs' q same Came t h = (same.back t h.0, h.1)
 changed_back before rs rs' q same Went t h = (h.0, λ a. h.1 (same.there t a))
 
-delta_to : (before rs rs' : List Relation) (q : Query) (n : ℕ) (s : ℕ) (queued : List (ℕ × Bytes)) → SameAnswers rs rs' q → IsTheDelta q s before rs n queued → IsTheDelta q s before rs' n queued
+delta_to : (before rs rs' : List Relation) (q : Listed) (n : ℕ) (s : ℕ) (queued : List (ℕ × Bytes)) → SameAnswers rs rs' q → IsTheDelta q s before rs n queued → IsTheDelta q s before rs' n queued
 delta_to before rs rs' q n s queued same h = record {
   changes = h.changes;
   delta = record {
     different = h.delta.different;
-    changed = All-weaker (λ (c : Change). HasChanged (IsAnswer before q) (IsAnswer rs q) c.sign c.answer) (λ (c : Change). HasChanged (IsAnswer before q) (IsAnswer rs' q) c.sign c.answer)
+    changed = All-weaker (λ (c : Change). HasChanged (AnswersOf before q) (AnswersOf rs q) c.sign c.answer) (λ (c : Change). HasChanged (AnswersOf before q) (AnswersOf rs' q) c.sign c.answer)
         (λ c k. changed_to before rs rs' q same c.sign c.answer k) h.changes h.delta.changed;
     complete = λ sign t k. h.delta.complete sign t (changed_back before rs rs' q same sign t k);
   };
   told = h.told;
 }
 
-reordered_tells : (q : Query) (s : ℕ) (old mid : Store) (rs : List Relation) (queued : List (ℕ × Bytes)) (changes : Bool) → SameAnswers mid.relations rs q
+reordered_tells : (q : Listed) (s : ℕ) (old mid : Store) (rs : List Relation) (queued : List (ℕ × Bytes)) (changes : Bool) → SameAnswers mid.relations rs q
     → StepTells q s old mid queued changes → StepTells q s old (record mid { relations = rs }) queued changes
 reordered_tells q s old mid rs queued changes same (is_quiet answers seq) = is_quiet (same_then old.relations mid.relations rs q answers same) seq
 reordered_tells q s old mid rs queued changes same (is_told delta seq counts) = is_told (delta_to old.relations mid.relations rs q mid.seq s queued same delta) seq counts
@@ -298,15 +278,15 @@ pub queued_store : (st : State) (qs : List (ℕ × Bytes)) → (queue_all st qs)
 queued_store st [] = refl
 queued_store st (p ∷ ps) = queued_store (queue st p) ps
 
-pub step_tells : (q : Query) (s : ℕ) (old : State) (event : Event) (e : Effect) (new : State) → Step old event e new → IsWatcher q s old → IsWatcher q s new
-    → StepTells q s old.store new.store e.queued (event_changes q event)
+pub step_tells : (q : Listed) (s : ℕ) (old : State) (event : Event) (e : Effect) (new : State) → Step old event e new → IsWatcher q s old → IsWatcher q s new
+    → StepTells q s old.store new.store e.queued (event_changes q old event)
 step_tells q s old event e new h before behind =
-    let f = some_and (session_of old s) (λ x. (x.cause ≡ None) × (is_watching q.name x ≡ true)) before.watches in
-    let g = some_and (session_of new s) (λ x. (x.cause ≡ None) × (is_watching q.name x ≡ true)) behind.watches in
-    let watches = and_some (session_of old s) (λ x. is_watching q.name x ≡ true) f.0 f.1 f.2.1 in
+    let f = some_and (session_of old s) (λ x. (x.cause ≡ None) × (is_watching (listed_name q) x ≡ true)) before.watches in
+    let g = some_and (session_of new s) (λ x. (x.cause ≡ None) × (is_watching (listed_name q) x ≡ true)) behind.watches in
+    let watches = and_some (session_of old s) (λ x. is_watching (listed_name q) x ≡ true) f.0 f.1 f.2.1 in
     let running : cause_of h.mid s ≡ None = sym (stepped_cause old event e new h s) ∙ ap cause_in g.1 ∙ g.2.0 in
     let mid = h.mid in
     let acted = acts_tell q s old before.registered watches event e mid running h.acts in
     let now : new.store ≡ record mid.store { relations = h.relations } = ap (λ (st : State). st.store) h.queued ∙ queued_store (with_relations mid h.relations) e.queued in
-    subst (λ (st : Store). StepTells q s old.store st e.queued (event_changes q event)) (sym now)
-    (reordered_tells q s old.store mid.store h.relations e.queued (event_changes q event) (reordered_same mid.store.relations h.relations q h.reordered) acted)
+    subst (λ (st : Store). StepTells q s old.store st e.queued (event_changes q old event)) (sym now)
+    (reordered_tells q s old.store mid.store h.relations e.queued (event_changes q old event) (reordered_same mid.store.relations h.relations q h.reordered) acted)

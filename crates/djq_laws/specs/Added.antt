@@ -2,8 +2,8 @@
 use Rattle.std.specs.Prelude.{List, [], ◌∷◌, ◌++◌, Bool, true, false, not, if◌then◌else◌, filter}
 use Rattle.djq_model.specs.Data.{Tuple, has_row}
 use Rattle.djq_model.specs.declared.relation.Relation.{Relation}
-use Rattle.djq_model.specs.declared.query.Query.{Query}
-use Rattle.djq_model.specs.Answer.{IsAnswer, IsListing}
+use Rattle.djq_model.specs.Answer.{IsListing}
+use Rattle.djq_model.specs.Listed.{Listed, AnswersOf}
 use Rattle.djq_lines.specs.declared.answer.Sign.{Sign}
 use Rattle.djq_lines.specs.declared.answer.Sign.TheVariants.{Came, Went}
 use Rattle.djq_machine.specs.Delta.{Change, IsDelta}
@@ -25,6 +25,6 @@ added_up ts changes = filter (λ t. not (has_row (of_sign Went changes) t)) ts +
 
 -- A listing and the delta of a change come to a listing of the answers behind it.
 abbrev pub DeltasAddUp : Type 0
-DeltasAddUp = (before after : List Relation) (q : Query) (ts : List Tuple) (changes : List Change)
-    → IsListing (IsAnswer before q) ts → IsDelta (IsAnswer before q) (IsAnswer after q) changes
-    → IsListing (IsAnswer after q) (added_up ts changes)
+DeltasAddUp = (before after : List Relation) (q : Listed) (ts : List Tuple) (changes : List Change)
+    → IsListing (AnswersOf before q) ts → IsDelta (AnswersOf before q) (AnswersOf after q) changes
+    → IsListing (AnswersOf after q) (added_up ts changes)

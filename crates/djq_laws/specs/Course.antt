@@ -4,7 +4,6 @@ use Rattle.djq_io.specs.Source.{Reading, Gives}
 use Rattle.djq_io.specs.Sink.{Gains}
 use Rattle.djq_io.specs.declared.sink.Write.{Write}
 use Rattle.djq_io.specs.declared.sink.Wrote.TheVariants.{Took, Failed}
-use Rattle.djq_model.specs.Data.{Bytes}
 use Rattle.djq_machine.specs.State.{State, Session, session_of}
 use Rattle.djq_machine.specs.Step.{Event, opened, fed, stepped, took, ended, closed, Step, is_dry}
 use Rattle.djq_machine.specs.Run.{Did, pieces_of, cost_of, pending_of}

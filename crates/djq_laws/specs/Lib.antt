@@ -6,6 +6,7 @@ pub mod Course
 pub mod Given
 pub mod Added
 pub mod Watched
+pub mod Form
 pub mod Staying
 pub mod Live
 pub mod Sound

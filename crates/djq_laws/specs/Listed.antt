@@ -21,16 +21,17 @@ use Rattle.std.specs.Prelude.{
 }
 use Rattle.std.specs.List.{flat_map}
 use Rattle.djq_model.specs.Data.{Bytes, Tuple, bytes_eq}
-use Rattle.djq_model.specs.declared.query.Query.{Query}
-use Rattle.djq_model.specs.Answer.{IsAnswer, IsListing}
+use Rattle.djq_model.specs.Answer.{IsListing}
+use Rattle.djq_model.specs.Listed.{Listed, AnswersOf}
 use Rattle.djq_lines.specs.declared.command.Command.TheVariants.{Open, Next}
 use Rattle.djq_lines.specs.Grammar.{Reading, says as says_command, reading_of}
 use Rattle.djq_lines.specs.Reply.{line, text_of, listing_lines}
-use Rattle.djq_machine.specs.State.{State, Session, Cursor, Position, open_at, opening, session_of, cursor_of}
+use Rattle.djq_machine.specs.State.{State, Session, Cursor, Position, open_at, session_of, cursor_of}
 use Rattle.djq_machine.specs.LineStep.{run}
 use Rattle.djq_machine.specs.Step.{Event, stepped}
 use Rattle.djq_machine.specs.Run.{Did, Run, to_session}
 use Rattle.djq_laws.specs.Live.{HasListed}
+use Rattle.djq_laws.specs.Sound.{IsStart}
 
 -- whether a reply to `open` says that the cursor is open
 abbrev pub is_opened : Bytes → Bool
@@ -93,16 +94,16 @@ abbrev pub position_of : State → ℕ → Bytes → Option Position
 position_of st s c = position_in (session_of st s) c
 
 -- What an open cursor has given is what its session was told since it opened it: so it is along
--- every run from the state in which nothing has happened.
+-- every run from a state to start from.
 abbrev pub GivenIsTold : Type 0
-GivenIsTold = (s : ℕ) (c : Bytes) (done : List Did) (new : State) → Run opening done new
-    → (given : List Tuple) (finished : Bool) → position_of new s c ≡ Some (open_at given finished)
+GivenIsTold = (start : State) → IsStart start → (s : ℕ) (c : Bytes) (done : List Did) (new : State)
+    → Run start done new → (given : List Tuple) (finished : Bool) → position_of new s c ≡ Some (open_at given finished)
     → TellGiven (replies_since s c [] done) given finished
 
 -- A session that has listed a query was told the listing, since it opened the cursor: each answer
 -- over the present rows, once, and the end.
 abbrev pub ListedIsTold : Type 0
-ListedIsTold = (q : Query) (s : ℕ) (given : List Tuple) (done : List Did) (new : State)
-    → Run opening done new → (h : HasListed q s new given)
+ListedIsTold = (start : State) → IsStart start → (q : Listed) (s : ℕ) (given : List Tuple)
+    (done : List Did) (new : State) → Run start done new → (h : HasListed q s new given)
     → TellGiven (replies_since s (h.cursor).name [] done) given true
-    × IsListing (IsAnswer new.store.relations q) given
+    × IsListing (AnswersOf new.store.relations q) given

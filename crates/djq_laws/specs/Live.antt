@@ -1,9 +1,9 @@
 -- What a session has that lists a query through a cursor, and watches it from then on.
 use Rattle.std.specs.Prelude.{ℕ, List, ◌≡◌, ◌<◌, true, Some, map, All, AllPairs, Contains}
 use Rattle.std.specs.List.{flat_map}
-use Rattle.djq_model.specs.declared.query.Query.{Query}
-use Rattle.djq_model.specs.Data.{Tuple, query_of}
-use Rattle.djq_model.specs.Answer.{IsAnswer, IsListing}
+use Rattle.djq_model.specs.Data.{Tuple}
+use Rattle.djq_model.specs.Answer.{IsListing}
+use Rattle.djq_model.specs.Listed.{Listed, listed_name, AnswersOf, listed_of}
 use Rattle.djq_machine.specs.State.{State, Session, Cursor, open_at, session_of}
 use Rattle.djq_machine.specs.Run.{Did, Run, out}
 use Rattle.djq_machine.specs.Gives.{CursorsGive}
@@ -20,32 +20,32 @@ use Rattle.djq_laws.specs.Watched.{
 use Rattle.djq_laws.specs.Staying.{GoesOn, KeepsWatch}
 
 -- A cursor of a session was told the end, and has given these.
-pub record HasListed (q : Query) (s : ℕ) (st : State) (given : List Tuple) : Type 0 where
+pub record HasListed (q : Listed) (s : ℕ) (st : State) (given : List Tuple) : Type 0 where
   pub session : Session
   pub is_session : session_of st s ≡ Some session
   pub cursor : Cursor
   pub is_cursor : Contains session.cursors cursor
-  pub of_query : query_of st.store.queries cursor.query ≡ Some q
+  pub of_query : listed_of st.store.queries cursor.query ≡ Some q
   pub is_finished : cursor.position ≡ open_at given true
 
 -- What a session was given, and the deltas that it is told along a run, add up to a listing of the
 -- answers at the end. It watches the query all the while, and is told one delta for each accepted
 -- change of a relation that the query reads, by rising number: their lines are parts of all that is
 -- queued to it.
-pub record StaysLive (q : Query) (s : ℕ) (given : List Tuple) (old : State) (done : List Did)
+pub record StaysLive (q : Listed) (s : ℕ) (given : List Tuple) (old : State) (done : List Did)
     (new : State) : Type 0 where
   pub walk : WatchesAlong q s old done new
   pub told : List Told
   pub whole : flat_map (λ part. part) (parts_to s done) ≡ out s done
-  pub among : AreAmong (map (told_text q.name) told) (parts_to s done)
+  pub among : AreAmong (map (told_text (listed_name q)) told) (parts_to s done)
   pub numbers : map (λ t. t.number) told ≡ numbers_along q s old done new walk
   pub rising : AllPairs (λ m n. m < n) (map (λ t. t.number) told)
-  pub listing : IsListing (IsAnswer new.store.relations q) (all_added_up given told)
+  pub listing : IsListing (AnswersOf new.store.relations q) (all_added_up given told)
 
 -- So it is along every run from a state in which it has listed and watches a query, if it doesn't
 -- unwatch it, and goes on at the end.
 abbrev pub LiveFrom : State → Type 0
-LiveFrom old = (q : Query) (s : ℕ) (given : List Tuple) → HasListed q s old given → IsWatcher q s old
+LiveFrom old = (q : Listed) (s : ℕ) (given : List Tuple) → HasListed q s old given → IsWatcher q s old
     → (done : List Did) (new : State) → Run old done new → All (λ d. KeepsWatch q s d.event) done
     → GoesOn new s → StaysLive q s given old done new
 

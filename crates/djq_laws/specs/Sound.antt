@@ -1,9 +1,9 @@
 -- What holds of every state that the machine comes to.
-use Rattle.std.specs.Prelude.{List, [], ◌≡◌, ◌≢◌, ◌≤◌, true, IsSome, length, map, All, AllPairs}
+use Rattle.std.specs.Prelude.{List, [], ◌≡◌, ◌≢◌, ◌≤◌, true, false, IsSome, length, map, All, AllPairs}
 use Rattle.djq_model.specs.declared.relation.Relation.{Relation}
-use Rattle.djq_model.specs.declared.query.Query.{Query}
-use Rattle.djq_model.specs.Data.{Bytes, query_of}
+use Rattle.djq_model.specs.Data.{Bytes, tuples_in}
 use Rattle.djq_model.specs.Answer.{AreDifferent}
+use Rattle.djq_model.specs.Listed.{Listed, a_query, listed_name, listed_of}
 use Rattle.djq_model.specs.Typed.{fits}
 use Rattle.djq_lines.specs.declared.limits.TheConstants.{SESSIONS, TEXTS}
 use Rattle.djq_lines.specs.Hypergraph.{edges_of, head_of}
@@ -18,8 +18,12 @@ AreApart names = AllPairs (λ a b. a ≢ b) names
 
 -- The rows of a relation are of its columns' types, and none stands twice.
 pub record IsSoundRelation (r : Relation) : Type 0 where
-  pub typed : All (λ row. fits r.types row ≡ true) r.rows
-  pub once : AreDifferent r.rows
+  pub typed : All (λ row. fits r.types row ≡ true) (tuples_in r)
+  pub once : AreDifferent (tuples_in r)
+
+-- What is registered is free-connex.
+abbrev pub IsConnex : Listed → Type 0
+IsConnex (a_query q) = IsFreeConnex (edges_of q) (head_of q)
 
 -- Relations have names of their own, and queries, each of which is free-connex; and each known text
 -- is known once, and no more are than may be.
@@ -28,8 +32,8 @@ pub record IsSoundStore (st : Store) : Type 0 where
   pub rows : All IsSoundRelation st.relations
   pub texts : AreApart st.texts
   pub few : length st.texts ≤ TEXTS
-  pub queries : AreApart (map (λ q. q.name) st.queries)
-  pub connex : All (λ q. IsFreeConnex (edges_of q) (head_of q)) st.queries
+  pub queries : AreApart (map listed_name st.queries)
+  pub connex : All IsConnex st.queries
 
 -- An open cursor has given no answer twice.
 abbrev pub GaveOnce : Position → Type 0
@@ -37,16 +41,16 @@ GaveOnce (open_at given finished) = AreDifferent given
 GaveOnce (stale r n) = Unit {0}
 
 -- A cursor, stale or not, is over a registered query.
-pub record IsSoundCursor (queries : List Query) (c : Cursor) : Type 0 where
-  pub registered : IsSome (query_of queries c.query)
+pub record IsSoundCursor (queries : List Listed) (c : Cursor) : Type 0 where
+  pub registered : IsSome (listed_of queries c.query)
   pub once : GaveOnce c.position
 
 -- A session's cursors have names of their own, and what it watches are registered queries, each
 -- once. A session that has ended has no cursors and no watches.
-pub record IsSoundSession (queries : List Query) (x : Session) : Type 0 where
+pub record IsSoundSession (queries : List Listed) (x : Session) : Type 0 where
   pub cursors : All (IsSoundCursor queries) x.cursors
   pub names : AreApart (map (λ c. c.name) x.cursors)
-  pub registered : All (λ w. IsSome (query_of queries w)) x.watches
+  pub registered : All (λ w. IsSome (listed_of queries w)) x.watches
   pub once : AreApart x.watches
   pub ended : IsSome x.cause → (x.cursors ≡ []) × (x.watches ≡ [])
 
@@ -62,6 +66,18 @@ abbrev pub RunsKeepSound : Type 0
 RunsKeepSound = (old : State) (done : List Did) (new : State) → Run old done new → IsSoundState old
     → IsSoundState new
 
--- Each state that a run comes to from the state in which nothing has happened is sound.
+-- A state to start from: what is kept of the data is sound, no session is open, so that nothing is
+-- queued, and none has said `stop`.
+pub record IsStart (st : State) : Type 0 where
+  pub store : IsSoundStore st.store
+  pub none : st.sessions ≡ []
+  pub going : st.stopped ≡ false
+
+-- The state in which nothing has happened is one.
+abbrev pub OpeningIsStart : Type 0
+OpeningIsStart = IsStart opening
+
+-- Each state that a run comes to from a state to start from is sound.
 abbrev pub StatesAreSound : Type 0
-StatesAreSound = (done : List Did) (new : State) → Run opening done new → IsSoundState new
+StatesAreSound = (start : State) → IsStart start → (done : List Did) (new : State)
+    → Run start done new → IsSoundState new

@@ -1,14 +1,14 @@
 -- What a session is told that watches a query all along a run.
-use Rattle.std.specs.Prelude.{ℕ, List, [], ◌∷◌, ◌==◌, ◌≡◌, ◌<◌, ◌++◌, ◌&&◌, Bool, true, false, not, None, Some, IsSomeAnd, if◌then◌else◌, filter, map, AllPairs}
+use Rattle.std.specs.Prelude.{ℕ, List, [], ◌∷◌, ◌==◌, ◌≡◌, ◌<◌, ◌++◌, ◌&&◌, Bool, true, false, not, Option, None, Some, is_some, IsSomeAnd, if◌then◌else◌, filter, map, AllPairs}
 use Rattle.std.specs.List.{flat_map}
-use Rattle.djq_model.specs.declared.query.Query.{Query}
-use Rattle.djq_model.specs.Data.{Bytes, Tuple, query_of}
-use Rattle.djq_model.specs.Answer.{IsAnswer, IsListing}
+use Rattle.djq_model.specs.Data.{Bytes, Tuple}
+use Rattle.djq_model.specs.Answer.{IsListing}
+use Rattle.djq_model.specs.Listed.{Listed, listed_name, AnswersOf, listed_of}
 use Rattle.djq_lines.specs.declared.command.Command.TheVariants.{Add, Del}
 use Rattle.djq_lines.specs.Grammar.{Reading, says as says_command, reading_of}
 use Rattle.djq_lines.specs.Reply.{text_of}
-use Rattle.djq_machine.specs.State.{Store, State, session_of}
-use Rattle.djq_machine.specs.Stale.{reads}
+use Rattle.djq_machine.specs.State.{State, session_of}
+use Rattle.djq_machine.specs.Stale.{by_relation}
 use Rattle.djq_machine.specs.Delta.{Change, delta_lines}
 use Rattle.djq_machine.specs.Watch.{is_watching}
 use Rattle.djq_machine.specs.LineStep.{run}
@@ -17,41 +17,42 @@ use Rattle.djq_machine.specs.Run.{Did, Walk, out}
 use Rattle.djq_laws.specs.Added.{added_up}
 
 -- A session goes on, and watches a registered query.
-pub record IsWatcher (q : Query) (s : ℕ) (st : State) : Type 0 where
-  pub registered : query_of st.store.queries q.name ≡ Some q
-  pub watches : IsSomeAnd (session_of st s) (λ x. (x.cause ≡ None) × (is_watching q.name x ≡ true))
+pub record IsWatcher (q : Listed) (s : ℕ) (st : State) : Type 0 where
+  pub registered : listed_of st.store.queries (listed_name q) ≡ Some q
+  pub watches : IsSomeAnd (session_of st s) (λ x. (x.cause ≡ None) × (is_watching (listed_name q) x ≡ true))
 
 -- It does so before a step and behind it.
-pub record WatchesStep (q : Query) (s : ℕ) (old : State) (d : Did) (new : State) : Type 0 where
+pub record WatchesStep (q : Listed) (s : ℕ) (old : State) (d : Did) (new : State) : Type 0 where
   pub before : IsWatcher q s old
   pub step : Step old d.event d.effect new
   pub behind : IsWatcher q s new
 
 -- A run in each state of which it does so.
-abbrev pub WatchesAlong : Query → ℕ → State → List Did → State → Type 0
+abbrev pub WatchesAlong : Listed → ℕ → State → List Did → State → Type 0
 WatchesAlong q s = Walk (WatchesStep q s)
 
--- whether a line is to change the rows of a relation that a query reads
-abbrev pub line_changes : Query → Reading → Bool
-line_changes q (says_command (Add name row)) = reads q name
-line_changes q (says_command (Del name row)) = reads q name
-line_changes q _ = false
+-- the relation whose change by a line of a session outdates a query, where the line is to change one
+abbrev pub line_outdater : State → ℕ → Reading → Listed → Option Bytes
+line_outdater old t (says_command (Add name row)) q = by_relation name q
+line_outdater old t (says_command (Del name row)) q = by_relation name q
+line_outdater old t _ q = None
 
--- whether an event runs such a line
-abbrev pub event_changes : Query → Event → Bool
-event_changes q (stepped t (run l)) = line_changes q (reading_of l)
-event_changes q _ = false
+-- whether an event runs a line that is to change rows of a relation that a query reads
+abbrev pub event_changes : Listed → State → Event → Bool
+event_changes q old (stepped t (run l)) = is_some (line_outdater old t (reading_of l) q)
+event_changes q old _ = false
 
 -- the number of an accepted change by such an event
-abbrev pub number_by : Query → Store → Event → Store → List ℕ
-number_by q old event new =
-    if not (new.seq == old.seq) && event_changes q event then new.seq ∷ [] else []
+abbrev pub number_by : Listed → State → Event → State → List ℕ
+number_by q old event new = if not (new.store.seq == old.store.seq) && event_changes q old event
+    then new.store.seq ∷ [] else []
 
 -- the numbers of all of a run
-abbrev pub numbers_along : (q : Query) (s : ℕ) (old : State) (done : List Did) (new : State) → WatchesAlong q s old done new → List ℕ
+abbrev pub numbers_along : (q : Listed) (s : ℕ) (old : State) (done : List Did) (new : State)
+    → WatchesAlong q s old done new → List ℕ
 numbers_along q s old [] new walk = []
 numbers_along q s old (d ∷ done) new walk =
-    number_by q old.store d.event walk.0.store ++ numbers_along q s walk.0 done new walk.2
+    number_by q old d.event walk.0 ++ numbers_along q s walk.0 done new walk.2
 
 -- the parts for a session, of those that are queued
 abbrev pub parts_for : ℕ → List (ℕ × Bytes) → List Bytes
@@ -84,15 +85,17 @@ all_added_up ts (t ∷ more) = all_added_up (added_up ts t.changes) more
 -- Along a run in which a session watches a query it is told a delta for each accepted change of a
 -- relation that the query reads, by rising number: their lines are parts of all that is queued to
 -- it. They add up from any listing of the answers at the start to a listing of those at the end.
-pub record IsTold (q : Query) (s : ℕ) (old : State) (done : List Did) (new : State) (walk : WatchesAlong q s old done new) : Type 0 where
+pub record IsTold (q : Listed) (s : ℕ) (old : State) (done : List Did) (new : State)
+    (walk : WatchesAlong q s old done new) : Type 0 where
   pub told : List Told
   pub whole : flat_map (λ part. part) (parts_to s done) ≡ out s done
-  pub among : AreAmong (map (told_text q.name) told) (parts_to s done)
+  pub among : AreAmong (map (told_text (listed_name q)) told) (parts_to s done)
   pub numbers : map (λ t. t.number) told ≡ numbers_along q s old done new walk
   pub rising : AllPairs (λ m n. m < n) (map (λ t. t.number) told)
-  pub adds_up : (ts : List Tuple) → IsListing (IsAnswer old.store.relations q) ts
-      → IsListing (IsAnswer new.store.relations q) (all_added_up ts told)
+  pub adds_up : (ts : List Tuple) → IsListing (AnswersOf old.store.relations q) ts
+      → IsListing (AnswersOf new.store.relations q) (all_added_up ts told)
 
 -- So it is from any state on, whatever the other sessions do.
 abbrev pub WatchersHaveAnswers : Type 0
-WatchersHaveAnswers = (q : Query) (s : ℕ) (old : State) (done : List Did) (new : State) (walk : WatchesAlong q s old done new) → IsTold q s old done new walk
+WatchersHaveAnswers = (q : Listed) (s : ℕ) (old : State) (done : List Did) (new : State)
+    (walk : WatchesAlong q s old done new) → IsTold q s old done new walk

@@ -4,9 +4,26 @@
 //! reader finds the laws in one place, and a program that makes a run has them of that run. They
 //! hold from any state on, over any number of sessions.
 //!
-//! `specs/Course.antt` says what the program may make of a run under the words `run`, and what its
-//! source, its sink and its counters show of it. It is the one reason that this crate stands on
-//! djq_io.
+//! ```text
+//! 1 says  open c q, next c 9      = 1 5, end                       a listing: (1,5)
+//! 1 says  watch q                 ok watch 3
+//! 2 says  add r 2 5               to 1: + q 2 5, at q 4
+//! listings_stay_live              (1,5) (2,5) is a listing of q over the rows behind it
+//! ```
+//!
+//! What this crate is not: it makes no run, and doesn't say that a program makes one. That djq_run
+//! and djq_serve promise, and djq puts the two together in what `run_program` promises. The laws on
+//! lines that are kept are djq_kept's.
+//!
+//! What surprises: `specs/Course.antt` says what the program may make of a run under the words
+//! `run`, and what its source, its sink and its counters show of it. It is the one reason that this
+//! crate stands on djq_io, and that it has limits. Whoever makes a course, djq_run, cites it.
+//!
+//! Inside, a law over commands goes by their forms: `specs/Form.antt` says what each command may
+//! change, and `proofs/Forms.antt` that it does. A new command is given a form there. Laws over
+//! runs go by induction over steps, each law in a file of `specs/` with the notions that it needs.
+//! That a tuple is an answer of a query or isn't is a law of djq_deltas, on which [`deltas_add_up`]
+//! rests.
 #![tactic(auto)]
 
 pub mod limits;
@@ -20,7 +37,7 @@ ghost use Rattle.djq_laws.specs.Added.{DeltasAddUp};
 ghost use Rattle.djq_laws.specs.Watched.{WatchersHaveAnswers};
 ghost use Rattle.djq_laws.specs.Staying.{WatchersStay};
 ghost use Rattle.djq_laws.specs.Live.{ListingsStayLive};
-ghost use Rattle.djq_laws.specs.Sound.{RunsKeepSound, StatesAreSound};
+ghost use Rattle.djq_laws.specs.Sound.{RunsKeepSound, OpeningIsStart, StatesAreSound};
 ghost use Rattle.djq_laws.specs.Listed.{GivenIsTold, ListedIsTold};
 
 /// A session that is open stays so in every step that doesn't close it.
@@ -52,13 +69,15 @@ pub fn line_is_taken()
     ensures { LineIsTaken }
 {}
 
-/// Each state that a run comes to from the opening state is sound: relations, queries, known texts,
-/// the rows of a relation and the answers that an open cursor has given are without repeats; rows
-/// are of their columns' types, and queries free-connex; cursors and watches are of registered
+/// Each state that a run comes to from a state to start from is sound: relations, queries, known
+/// texts, the rows of a relation and the answers that an open cursor has given are without repeats;
+/// rows are of their columns' types, and queries free-connex; cursors and watches are of registered
 /// queries; a session that has ended has none of them; and texts and sessions are within their
-/// limits, sessions by rising id. Every run keeps it so.
+/// limits, sessions by rising id. Every run keeps it so. The state in which nothing has happened is
+/// one to start from.
 pub fn states_are_sound()
     ensures kept { RunsKeepSound }
+    ensures opening { OpeningIsStart }
     ensures reached { StatesAreSound }
 {}
 

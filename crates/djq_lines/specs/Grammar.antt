@@ -6,7 +6,8 @@
 --           | "open" name name                | "next" name count
 --           | "close" name                    | "has" name *literal
 --           | "watch" name                    | "unwatch" name
---           | "explain" name                  | "quit" | "stop"
+--           | "explain" name                  | "shape" name
+--           | "quit"                          | "stop"
 --     query = name "(" [name *("," name)] ")" "<-" atom *("," atom)
 --     atom  = name "(" [term *("," term)] ")"
 --     term  = name | "_" | literal
@@ -48,8 +49,6 @@ use Rattle.djq_model.specs.Data.{Bytes, bytes_eq}
 use Rattle.djq_value.specs.Token.{Token, word, open_paren, close_paren, comma, arrow, tokens}
 use Rattle.djq_value.specs.Literal.{is_name, is_small_value, literal_of, natural_of}
 use Rattle.djq_lines.specs.declared.limits.TheConstants.{NEXT_COUNT}
-use Rattle.djq_lines.specs.declared.answer.Refusal.{Refusal}
-use Rattle.djq_lines.specs.declared.answer.Refusal.TheVariants.{Syntax, WrongType}
 use Rattle.djq_lines.specs.declared.keyword.Keyword.{Keyword}
 use Rattle.djq_lines.specs.declared.keyword.Keyword.TheVariants.{
   Rel as RelWord,
@@ -64,6 +63,7 @@ use Rattle.djq_lines.specs.declared.keyword.Keyword.TheVariants.{
   Watch as WatchWord,
   Unwatch as UnwatchWord,
   Explain as ExplainWord,
+  Shape as ShapeWord,
   Quit as QuitWord,
   Stop as StopWord,
 }
@@ -81,6 +81,7 @@ use Rattle.djq_lines.specs.declared.command.Command.TheVariants.{
   Watch,
   Unwatch,
   Explain,
+  Shape,
   Quit,
   Stop,
 }
@@ -240,9 +241,10 @@ keyword_of w =
     else (if bytes_eq w (codes "watch") then Some WatchWord
     else (if bytes_eq w (codes "unwatch") then Some UnwatchWord
     else (if bytes_eq w (codes "explain") then Some ExplainWord
+    else (if bytes_eq w (codes "shape") then Some ShapeWord
     else (if bytes_eq w (codes "quit") then Some QuitWord
     else (if bytes_eq w (codes "stop") then Some StopWord
-    else None)))))))))))))
+    else None))))))))))))))
 
 -- the command that stands behind a keyword
 abbrev pub command_behind : Keyword → List Token → Option Command
@@ -258,6 +260,7 @@ command_behind HasWord ts = option_map (λ p. Has p.0 p.1) (named_any literal_of
 command_behind WatchWord ts = option_map (λ q. Watch q) (one_name ts)
 command_behind UnwatchWord ts = option_map (λ q. Unwatch q) (one_name ts)
 command_behind ExplainWord ts = option_map (λ q. Explain q) (one_name ts)
+command_behind ShapeWord ts = option_map (λ q. Shape q) (one_name ts)
 command_behind QuitWord ts = nothing Quit ts
 command_behind StopWord ts = nothing Stop ts
 
@@ -301,15 +304,18 @@ takes_memory_to_read (Has q row) = true
 takes_memory_to_read (Register q) = true
 takes_memory_to_read _ = false
 
--- What a line says: why it isn't run, whatever the state is; or a command whose literals are within
--- their limits.
+-- What a line says.
 pub data Reading : Type 0 where
-  refused : Refusal → Reading
+  -- nothing, as it is outside the grammar
+  outside : Reading
+  -- a command of which a literal is past its limit
+  past_limit : Command → Reading
+  -- a command whose literals are within their limits
   says : Command → Reading
 
 abbrev pub reading_in : Option Command → Reading
-reading_in None = refused Syntax
-reading_in (Some c) = if is_in_range c then says c else refused WrongType
+reading_in None = outside
+reading_in (Some c) = if is_in_range c then says c else past_limit c
 
 abbrev pub reading_of : Bytes → Reading
 reading_of line = reading_in (command_of line)

@@ -24,7 +24,8 @@ use Rattle.djq_model.specs.declared.query.Query.{Query}
 use Rattle.djq_model.specs.declared.query.Atom.{Atom}
 use Rattle.djq_model.specs.declared.query.Term.{Term}
 use Rattle.djq_model.specs.declared.query.Term.TheVariants.{Variable, Hole, Constant}
-use Rattle.djq_model.specs.Data.{bytes_eq, query_of, relation_of}
+use Rattle.djq_model.specs.Data.{bytes_eq, relation_of}
+use Rattle.djq_model.specs.Listed.{Listed, listed_of}
 use Rattle.djq_value.specs.Literal.{are_different}
 use Rattle.djq_lines.specs.declared.limits.TheConstants.{ATOMS, VARIABLES, HEAD_VARIABLES, QUERIES}
 use Rattle.djq_lines.specs.declared.answer.Refusal.{Refusal}
@@ -113,9 +114,9 @@ abbrev pub query_fault : List Relation → Query → Option Refusal
 query_fault relations q = first_of (query_faults relations q)
 
 -- Why a query isn't registered beside others: its name is taken, a fault, or the number of queries.
-abbrev pub whole_query_refusal : List Relation → List Query → Query → Option Refusal
+abbrev pub whole_query_refusal : List Relation → List Listed → Query → Option Refusal
 whole_query_refusal relations queries q = first_of (
-    (is_some (query_of queries q.name), Taken)
+    (is_some (listed_of queries q.name), Taken)
     ∷ query_faults relations q
     ++ (nat_le QUERIES (length queries), Limit)
     ∷ [])

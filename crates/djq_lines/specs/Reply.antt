@@ -47,6 +47,8 @@ use Rattle.djq_lines.specs.declared.answer.AddOutcome.{AddOutcome}
 use Rattle.djq_lines.specs.declared.answer.AddOutcome.TheVariants.{Added, Same}
 use Rattle.djq_lines.specs.declared.answer.DeleteOutcome.{DeleteOutcome}
 use Rattle.djq_lines.specs.declared.answer.DeleteOutcome.TheVariants.{Removed, Absent}
+use Rattle.djq_lines.specs.declared.answer.Shape.{Shape}
+use Rattle.djq_lines.specs.declared.answer.Shape.TheVariants.{Flat, Linear}
 
 -- a text, ended by LF
 abbrev pub line : Bytes → Bytes
@@ -160,6 +162,12 @@ abbrev pub has_reply : Result Bool Refusal → Bytes
 has_reply (Ok true) = line (codes "yes")
 has_reply (Ok false) = line (codes "no")
 has_reply (Err r) = refusal_line r
+
+-- what `shape` answers
+abbrev pub shape_reply : Result Shape Refusal → Bytes
+shape_reply (Ok Flat) = line (codes "flat")
+shape_reply (Ok Linear) = line (codes "linear")
+shape_reply (Err r) = refusal_line r
 
 -- what `watch` answers, at a number of changes
 abbrev pub watch_reply : {A : Type 0} → Result A Refusal → ℕ → Bytes

@@ -47,6 +47,15 @@ pub enum DeleteOutcome {
     Absent,
 }
 
+/// What bounds an update of a query, as the query alone tells.
+#[derive(Clone, Copy, Debug, PartialEq, Eq)]
+pub enum Shape {
+    /// A bound that knows no rows.
+    Flat,
+    /// One in proportion to the rows, and none that knows no rows is promised.
+    Linear,
+}
+
 /// Which line ends a session against its will.
 #[derive(Clone, Copy, Debug, PartialEq, Eq)]
 pub enum EndLine {

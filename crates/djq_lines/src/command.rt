@@ -75,6 +75,11 @@ pub enum Command {
         /// The query.
         query: Name,
     },
+    /// `shape QUERY`: whether an update's cost has a bound that knows no rows.
+    Shape {
+        /// The query.
+        query: Name,
+    },
     /// `quit`: the session ends.
     Quit,
     /// `stop`: the whole server ends.

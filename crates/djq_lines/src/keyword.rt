@@ -25,6 +25,8 @@ pub enum Keyword {
     Unwatch,
     /// `explain`.
     Explain,
+    /// `shape`.
+    Shape,
     /// `quit`.
     Quit,
     /// `stop`.

@@ -4,12 +4,22 @@
 //! tuples each, GROUP of each for each y, and prints a line for each kind of call, in nanoseconds a
 //! call. The query has ENTRIES * GROUP answers. With other words it prints how it is used.
 //!
-//! `insert` and `remove` are whole updates, with what ends them, of tuples in another order than
-//! they came in; they find the tuple first, as every caller does. `list` is an answer of a whole
-//! listing, `first` the first answer of one, with two readings of the clock, the best of three
-//! tries. `told` is an answer of a delta, listed while its update is unfinished.
+//! ```text
+//! djq_listing_bench 100000 1       each tuple has one partner
+//! djq_listing_bench 100000 100     a tuple brings and takes a hundred answers
+//! ```
 //!
-//! Its tests compare listings, deltas and look-ups over random updates with brute force.
+//! What it isn't: nothing is proved of what it prints, and it measures neither rows nor replies.
+//! What the whole program costs is measured from outside.
+//!
+//! What surprises: `insert` and `remove` are whole updates, with what ends them, of tuples in
+//! another order than they came in; they find the tuple first, as every caller does. `list` is an
+//! answer of a whole listing, `first` the first answer of one, with two readings of the clock, the
+//! best of three tries. `told` is an answer of a delta, listed while its update is unfinished.
+//!
+//! Inside, `load` says which tuples there are, `phases` fills and changes, `listing` lists, and
+//! `updates` has the tree and one update from its first call to its last. Its tests compare
+//! listings, deltas and look-ups over random updates with brute force.
 #![tactic(auto)]
 
 mod listing;

@@ -94,7 +94,7 @@ use Rattle.djq_live.specs.Leaves.{IsOver}
 use Rattle.djq_live.specs.Live.{Live, IsLive, IsKeptSomewhere, IsShowable}
 use Rattle.djq_live.specs.Order.{reading, AreCellsOfAnswer}
 use Rattle.djq_live.specs.Shown.{value_at, shown, AreShownAs}
-use Rattle.djq_live.proofs.Columns.{
+use Rattle.djq_reduct.proofs.Readings.{
   IsSimple,
   Within,
   simple_of,
@@ -239,7 +239,7 @@ heads_same {A} ls f g (x ∷ xs) (name ∷ names) e h =
 -- the types of a query's answers are those of its head's numbers
 types_are : (c : Catalog) (q : Query) (n : Numbered) (ps : List Shape) (r : Reducts)
     → IsOver c q n ps r
-    → answer_types c.relations (Some q) ≡ map (column_of n.variables) n.head
+    → answer_types c.relations q ≡ map (column_of n.variables) n.head
 types_are c q n ps r h =
     heads_same (labels n.variables) (column_of n.variables) (variable_type c.relations q.atoms)
     n.head q.head h.asked.head
@@ -352,7 +352,7 @@ misfit_fits types t h =
 told : (c : Catalog) (l : Live) (vs : List Variable) (xs : List ℕ) (t : Tuple)
     (o : Option Refusal) → IsLive c l → vs ≡ l.numbered.variables → xs ≡ l.numbered.head
     → misfit (map (column_of vs) xs) t ≡ o
-    → misfit (answer_types c.relations (Some l.query)) t ≡ o
+    → misfit (answer_types c.relations l.query) t ≡ o
 told c l vs xs t o live variables head h =
     ap (λ (types : List ColumnType). misfit types t)
     (types_are c l.query l.numbered l.patterns l.reducts live.kept.over
@@ -361,7 +361,7 @@ told c l vs xs t o live variables head h =
 
 pub tells_width : (c : Catalog) (l m : Live) (xs : List ℕ) (t : Tuple) → l ≡ m → IsLive c m
     → xs ≡ l.numbered.head → (length t ≡ length xs → ⊥)
-    → misfit (answer_types c.relations (Some m.query)) t ≡ Some Arity
+    → misfit (answer_types c.relations m.query) t ≡ Some Arity
 tells_width c l m xs t e live head other =
     let vs = m.numbered.variables in
     told c m vs xs t (Some Arity) live refl (head ∙ ap (λ (o : Live). o.numbered.head) e)
@@ -370,7 +370,7 @@ tells_width c l m xs t e live head other =
 pub tells_type : (c : Catalog) (l m : Live) (vs : List Variable) (xs : List ℕ) (t : Tuple)
     (b : Bool) → l ≡ m → IsLive c m → vs ≡ l.numbered.variables → xs ≡ l.numbered.head
     → length t ≡ length xs → b ≡ fits (map (column_of vs) xs) t → b ≡ false
-    → misfit (answer_types c.relations (Some m.query)) t ≡ Some WrongType
+    → misfit (answer_types c.relations m.query) t ≡ Some WrongType
 tells_type c l m vs xs t b e live variables head long fit is =
     told c m vs xs t (Some WrongType) live
     (variables ∙ ap (λ (o : Live). o.numbered.variables) e)
@@ -381,7 +381,7 @@ tells_type c l m vs xs t b e live variables head long fit is =
 pub tells_none : (c : Catalog) (l m : Live) (vs : List Variable) (xs : List ℕ) (t : Tuple)
     (b : Bool) → l ≡ m → IsLive c m → vs ≡ l.numbered.variables → xs ≡ l.numbered.head
     → length t ≡ length xs → b ≡ fits (map (column_of vs) xs) t → b ≡ true
-    → misfit (answer_types c.relations (Some m.query)) t ≡ None
+    → misfit (answer_types c.relations m.query) t ≡ None
 tells_none c l m vs xs t b e live variables head long fit is =
     told c m vs xs t None live
     (variables ∙ ap (λ (o : Live). o.numbered.variables) e)
@@ -391,9 +391,9 @@ tells_none c l m vs xs t b e live variables head long fit is =
 
 -- a tuple that suits is as wide as the head
 pub suits_long : (c : Catalog) (l : Live) (t : Tuple) → IsLive c l
-    → misfit (answer_types c.relations (Some l.query)) t ≡ None → length t ≡ length l.numbered.head
+    → misfit (answer_types c.relations l.query) t ≡ None → length t ≡ length l.numbered.head
 suits_long c l t live h =
-    misfit_long (answer_types c.relations (Some l.query)) t h
+    misfit_long (answer_types c.relations l.query) t h
     ∙ length-map l.query.head (variable_type c.relations l.query.atoms)
     ∙ sym (head_long c l.query l.numbered l.patterns l.reducts live.kept.over)
 
@@ -476,7 +476,7 @@ cells_answer c q n ps r t h fit have is =
 
 -- what is told of a tuple that suits
 pub tells_answer : (c : Catalog) (l m : Live) (t : Tuple) (xs cells : List ℕ) (b : Bool) → l ≡ m
-    → IsLive c m → misfit (answer_types c.relations (Some m.query)) t ≡ None
+    → IsLive c m → misfit (answer_types c.relations m.query) t ≡ None
     → HaveCells c.texts t → cells ≡ cells_of c.texts t → xs ≡ l.numbered.head
     → b ≡ true ↔ AreCellsOfAnswer l.reducts xs cells
     → Tells (IsAnswer c.relations m.query t) b
@@ -492,7 +492,7 @@ tells_answer c l m t xs cells true e live suits have are head exact =
     cells_answer c q n m.patterns m.reducts t over
     (ap (λ (types : List ColumnType). fits types t)
     (sym (types_are c q n m.patterns m.reducts over))
-    ∙ misfit_fits (answer_types c.relations (Some q)) t suits) have same
+    ∙ misfit_fits (answer_types c.relations q) t suits) have same
 tells_answer c l m t xs cells false e live suits have are head exact = λ is.
     let there = (answer_cells c m.query m.numbered m.patterns m.reducts t live.kept.over is).1 in
     false≢true (exact.1

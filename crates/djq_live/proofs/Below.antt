@@ -22,49 +22,47 @@ use Rattle.std.proofs.lemmas.Bool.{cases_eq}
 use Rattle.std.proofs.lemmas.Option.{same_Some, slice_get_within}
 use Rattle.djq_index.specs.Entries.{Entry, cnt}
 use Rattle.djq_tree.specs.Tree.{Tree}
-use Rattle.djq_tree.specs.Labels.{label_at}
 use Rattle.djq_reduct.specs.Tables.{entries_at}
 use Rattle.djq_reduct.specs.Reducts.{Reducts, IsReducts}
 use Rattle.djq_reduct.specs.Marks.{IsBare}
 use Rattle.djq_propagate.specs.Updates.{HasKept}
 use Rattle.djq_query.specs.declared.numbered.NumberedAtom.{NumberedAtom}
 use Rattle.djq_query.specs.Pattern.{Shape}
-use Rattle.djq_live.specs.Changes.{Gains, Loses, Keeps}
+use Rattle.djq_live.specs.Changes.{GainsAll, Loses, Keeps}
 use Rattle.djq_live.specs.Stepping.{HasMore, ChangesAt, ChangesBelow, HoldBelow}
-use Rattle.djq_live.proofs.Tabling.{tuple_wide}
 
 -- what holds the same before and after may stand in a change's place
 abbrev pub IsStable : (Shape → List Entry → List Entry → Type 0) → Type 0
 IsStable Changes = (p : Shape) (ds es fs gs : List Entry) → Keeps ds es → Changes p es fs
     → Keeps fs gs → Changes p ds gs
 
-pub gains_stable : (cells : List ℕ) → IsStable (λ p old new. Gains p cells old new)
-gains_stable cells p ds es fs gs early g late = λ u wide.
+pub gains_stable : (rows : List (List ℕ)) → IsStable (λ p old new. GainsAll p rows old new)
+gains_stable rows p ds es fs gs early g late = λ u.
     let a = early u in
     let b = late u in (
       λ there.
-          elim ((g u wide).0 (omega arith)) [
+          elim ((g u).0 (omega arith)) [
             | inl before ↦ inl (omega arith)
             | inr is ↦ inr is
           ],
       λ either.
           elim either [
-            | inl before ↦ (let k = (g u wide).1 (inl (omega arith)) in omega arith)
-            | inr is ↦ (let k = (g u wide).1 (inr is) in omega arith)
+            | inl before ↦ (let k = (g u).1 (inl (omega arith)) in omega arith)
+            | inr is ↦ (let k = (g u).1 (inr is) in omega arith)
           ],
     )
 
 pub loses_stable : (cells : List ℕ) → IsStable (λ p old new. Loses p cells old new)
-loses_stable cells p ds es fs gs early g late = λ u wide.
+loses_stable cells p ds es fs gs early g late = λ u.
     let a = early u in
     let b = late u in (
       λ there.
-          let k = (g u wide).0 (omega arith) in
+          let k = (g u).0 (omega arith) in
           let l = k.0 in
           (omega arith, k.1),
       λ both.
           let l = both.0 in
-          let k = (g u wide).1 (omega arith, both.1) in
+          let k = (g u).1 (omega arith, both.1) in
           omega arith,
     )
 
@@ -182,43 +180,31 @@ leaves_stay Changes Holds at atoms ps k n m p r s stays low holds h e f on =
 
 -- ---- more and more tuples, and fewer and fewer
 
-pub within_nodes : (r : Reducts) (j : ℕ) → IsReducts r → j < r.tree.leaves → j < length r.tree.nodes
-within_nodes r j h low =
-    let a = h.family.is_tree.stages.0 in
-    let b = h.family.is_tree.stages.1 in
-    omega arith
-
-pub gains_more : (cells : List ℕ) (p : Shape) (k : ℕ) (s t : Reducts) → IsReducts s
-    → p.width ≡ length (label_at s.tree.labels k)
-    → ChangesAt (λ q es fs. Gains q cells es fs) p k s t → HasMore s t
-gains_more cells p k s t h wide step = record {
+pub gains_more : (rows : List (List ℕ)) (p : Shape) (k : ℕ) (s t : Reducts)
+    → ChangesAt (λ q es fs. GainsAll q rows es fs) p k s t → HasMore s t
+gains_more rows p k s t step = record {
   tree = step.tree;
   more = λ j u low there.
       elim (cases_eq j k) [
         | inl here ↦
             let at = subst (λ (i : ℕ). 0 < cnt (entries_at s.tables i) u) here there in
-            let w = tuple_wide s k u h (within_nodes s k h (omega arith)) at in
             subst (λ (i : ℕ). 0 < cnt (entries_at t.tables i) u) (sym here)
-            ((step.leaf u (w ∙ sym wide)).1 (inl at))
+            ((step.leaf u).1 (inl at))
         | inr apart ↦ (let e = step.others j low apart u in omega arith)
       ];
 }
 
 pub loses_more : (cells : List ℕ) (p : Shape) (k : ℕ) (s t : Reducts)
-    → p.width ≡ length (label_at s.tree.labels k)
     → ChangesAt (λ q es fs. Loses q cells es fs) p k s t → HasMore t s
-loses_more cells p k s t wide step = record {
+loses_more cells p k s t step = record {
   tree = sym step.tree;
   more = λ j u low there.
       let lower = subst (λ (x : Tree). j < x.leaves) step.tree low in
       elim (cases_eq j k) [
         | inl here ↦
             let at = subst (λ (i : ℕ). 0 < cnt (entries_at t.tables i) u) here there in
-            let w = tuple_wide t k u step.sound
-            (within_nodes t k step.sound (omega arith)) at in
-            let label = ap (λ (x : Tree). length (label_at x.labels k)) step.tree in
             subst (λ (i : ℕ). 0 < cnt (entries_at s.tables i) u) (sym here)
-            ((step.leaf u (w ∙ label ∙ sym wide)).0 at).0
+            ((step.leaf u).0 at).0
         | inr apart ↦ (let e = step.others j lower apart u in omega arith)
       ];
 }

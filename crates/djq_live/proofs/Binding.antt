@@ -1,24 +1,5 @@
 -- What a leaf holds, said of assignments.
-use Rattle.std.proofs.Common.{
-  ◌≡◌,
-  ℕ,
-  suc,
-  ◌<◌,
-  true,
-  List,
-  [],
-  ◌∷◌,
-  map,
-  refl,
-  ap,
-  ap₂,
-  sym,
-  subst,
-  ◌∙◌,
-  inl,
-  inr,
-  arith,
-}
+use Rattle.std.proofs.Common.{◌≡◌, ℕ, suc, ◌<◌, true, List, [], ◌∷◌, map, refl, ap, ap₂, sym, ◌∙◌, inl, inr, arith}
 use Rattle.std.specs.Prelude.{◌↔◌, ◌==◌, slice_index}
 use Rattle.std.specs.List.{list_any, position_or_len}
 use Rattle.std.proofs.lemmas.Bool.{
@@ -42,8 +23,9 @@ use Rattle.djq_query.specs.declared.numbered.NumberedTerm.TheVariants.{
 }
 use Rattle.djq_query.specs.declared.numbered.NumberedAtom.{NumberedAtom}
 use Rattle.djq_query.specs.Numbered.{is_number}
-use Rattle.djq_query.specs.Pattern.{Shape, bound, filled, slot_of, cell_of}
+use Rattle.djq_query.specs.Pattern.{Shape, Gives, bound, filled, slot_of, cell_of}
 use Rattle.djq_rows.specs.Catalog.{Catalog}
+use Rattle.djq_live.proofs.Giving.{one_is}
 use Rattle.djq_live.specs.Cells.{AreRowOf, cell_under, IsSatisfied}
 use Rattle.djq_live.specs.Leaves.{AreCellsOf, IsPatternOf, IsLeafOf}
 
@@ -86,12 +68,21 @@ pattern_row c l m p a h =
     ap (λ ss. filled (map a l) ss) h.slots
     ∙ filled_row c.texts a l m.terms h.cells h.are (λ x s. h.variables x ∙ s)
 
+-- the tuple of an assignment gives the cells of the atom's terms
+pub pattern_gives : (c : Catalog) (l : List ℕ) (m : NumberedAtom) (p : Shape) (a : ℕ → ℕ)
+    → IsPatternOf c.texts l m p → Gives p (map a l) (map (cell_under c.texts a) m.terms)
+pattern_gives c l m p a h = record {
+  wide = length-map l a ∙ sym h.width;
+  fills = pattern_row c l m p a h;
+}
+
 -- an assignment's row is in the leaf exactly where the assignment satisfies the atom
 pub leaf_says : (c : Catalog) (l : List ℕ) (m : NumberedAtom) (p : Shape) (es : List Entry)
     (a : ℕ → ℕ) → IsLeafOf c l m p es → (0 < cnt es (map a l)) ↔ IsSatisfied c a m
 leaf_says c l m p es a h =
-    let same = pattern_row c l m p a h.pattern in
-    let says = h.holds.exact (map a l) (length-map l a ∙ sym h.pattern.width) in (
-      λ there. subst (λ (u : List ℕ). AreRowOf c m.relation u) same (says.0 there),
-      λ is. says.1 (subst (λ (u : List ℕ). AreRowOf c m.relation u) (sym same) is),
+    let cells = map (cell_under c.texts a) m.terms in
+    let gives = pattern_gives c l m p a h.pattern in
+    let says = h.holds.exact (map a l) in (
+      λ there. one_is (AreRowOf c m.relation) p (map a l) cells gives (says.0 there),
+      λ is. says.1 (record { cells = cells; row = is; gives = gives }),
     )

@@ -22,7 +22,7 @@ use Rattle.djq_query.specs.Meaning.{IsShown, AreShown}
 use Rattle.djq_rows.specs.Catalog.{Catalog}
 use Rattle.djq_live.specs.Asked.{AreAtomsOf}
 use Rattle.djq_live.specs.Body.{HeadsAreBound}
-use Rattle.djq_live.proofs.Columns.{member_here, member_on}
+use Rattle.djq_reduct.proofs.Readings.{member_here, member_on}
 use Rattle.djq_live.proofs.Heads.{in_atom}
 use Rattle.djq_live.proofs.Members.{in_none, in_cons, in_first, in_rest}
 use Rattle.djq_live.proofs.Showing.{first_label, rest_labels}

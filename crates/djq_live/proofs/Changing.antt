@@ -19,6 +19,11 @@ use Rattle.std.proofs.Common.{
 }
 use Rattle.std.specs.Prelude.{Some, Contains, slice_get}
 use Rattle.std.proofs.lemmas.Bool.{cases_eq}
+use Rattle.std.proofs.lemmas.List.Elements.{
+  Contains-append_cases,
+  Contains-append_left,
+  Contains-append_right,
+}
 use Rattle.djq_hyper.specs.Hypergraph.{member}
 use Rattle.djq_model.specs.declared.query.Query.{Query}
 use Rattle.djq_model.specs.Data.{Tuple}
@@ -30,25 +35,34 @@ use Rattle.djq_reduct.specs.Tables.{entries_at}
 use Rattle.djq_reduct.specs.Reducts.{Reducts}
 use Rattle.djq_query.specs.declared.numbered.NumberedAtom.{NumberedAtom}
 use Rattle.djq_query.specs.Numbered.{Numbered}
-use Rattle.djq_query.specs.Pattern.{Shape, filled}
+use Rattle.djq_query.specs.Pattern.{Shape}
 use Rattle.djq_rows.specs.Cells.{cells_of, HaveCells}
-use Rattle.djq_rows.specs.Catalog.{Catalog, IsCatalog, no_relation, relation_at, rows_at}
+use Rattle.djq_rows.specs.Catalog.{
+  Catalog,
+  IsCatalog,
+  StandForRow,
+  no_relation,
+  relation_at,
+  rows_at,
+}
 use Rattle.djq_rows.proofs.Lawful.{differ as cells_differ}
 use Rattle.djq_live.specs.Cells.{AreRowOf}
 use Rattle.djq_live.specs.Leaves.{Holds, IsLeafOf, IsOver}
 use Rattle.djq_live.specs.Changes.{
   IsLater,
-  Came,
+  CameAll,
+  StandForRows,
   Went,
-  Gains,
+  GainsAll,
   Loses,
   Keeps,
   OverStays,
   OverGains,
   OverLoses,
 }
+use Rattle.djq_live.proofs.Giving.{gives_once, gives_same, one_as}
 use Rattle.djq_live.proofs.Rows.{all_in}
-use Rattle.djq_live.proofs.Members.{in_left, in_last, in_pushed, in_without, still_in}
+use Rattle.djq_live.proofs.Members.{in_none, in_first, in_rest, in_cons, in_without, still_in}
 use Rattle.djq_live.proofs.Later.{asked_later, atom_at, pattern_later, cells_later}
 
 have_cells : (c : Catalog) (at : ℕ) (row : Tuple) → IsCatalog c → at < length c.relations
@@ -89,47 +103,104 @@ same_rows : (c d : Catalog) (at : ℕ) (p : Shape) (es fs : List Entry) → IsCa
     → at < length c.relations → rows_at d.relations at ≡ rows_at c.relations at → Keeps es fs
     → Holds c at p es → Holds d at p fs
 same_rows c d at p es fs h l low e keeps holds = record {
-  exact = λ u wide. (
+  exact = λ u. (
     λ there.
-        let is = (holds.exact u wide).0 (subst (λ (n : ℕ). 0 < n) (keeps u) there) in
-        row_on c d at (filled u p.slots) h l low is
-        (subst (λ (rows : List Tuple). Contains rows is.row) (sym e) is.there),
-    λ is.
+        one_as (AreRowOf c at) (AreRowOf d at) p u
+        (λ cells is. row_on c d at cells h l low is
+        (subst (λ (rows : List Tuple). Contains rows is.row) (sym e) is.there))
+        ((holds.exact u).0 (subst (λ (n : ℕ). 0 < n) (keeps u) there)),
+    λ one.
         subst (λ (n : ℕ). 0 < n) (sym (keeps u))
-        ((holds.exact u wide).1
-        (row_back c d at (filled u p.slots) h l low is
-        (subst (λ (rows : List Tuple). Contains rows is.row) e is.there))),
+        ((holds.exact u).1
+        (one_as (AreRowOf d at) (AreRowOf c at) p u
+        (λ cells is. row_back c d at cells h l low is
+        (subst (λ (rows : List Tuple). Contains rows is.row) e is.there))
+        one)),
   );
 }
 
-came_rows : (c d : Catalog) (at : ℕ) (cells : List ℕ) (row : Tuple) (p : Shape)
-    (es fs : List Entry) → IsCatalog c → at < length c.relations → Came c d at cells row
-    → Gains p cells es fs → Holds c at p es → Holds d at p fs
-came_rows c d at cells row p es fs h low came gains holds = record {
-  exact = λ u wide. (
+-- the row that cells stand for, among rows
+pub record StandsIn (d : Catalog) (at : ℕ) (new : List Tuple) (cells : List ℕ) : Type 0 where
+  pub row : Tuple
+  pub there : Contains new row
+  pub stand : StandForRow d at cells row
+
+pub stands_in : (d : Catalog) (at : ℕ) (cells : List (List ℕ)) (new : List Tuple) (x : List ℕ)
+    → StandForRows d at cells new → Contains cells x → StandsIn d at new x
+stands_in d at [] [] x h is = absurd (in_none x is)
+stands_in d at [] (row ∷ new) x h is = absurd h
+stands_in d at (k ∷ cells) [] x h is = absurd h
+stands_in d at (k ∷ cells) (row ∷ new) x h is =
+    elim (in_cons k x cells is) [
+      | inl here ↦ record {
+        row = row;
+        there = in_first row new;
+        stand = subst (λ (y : List ℕ). StandForRow d at y row) here h.0;
+      }
+      | inr there ↦
+          let s = stands_in d at cells new x h.1 there in
+          record { row = s.row; there = in_rest row s.row new s.there; stand = s.stand }
+    ]
+
+cells_in : (d : Catalog) (at : ℕ) (cells : List (List ℕ)) (new : List Tuple) (x : Tuple)
+    → StandForRows d at cells new → Contains new x → Contains cells (cells_of d.texts x)
+cells_in d at [] [] x h is = absurd (in_none x is)
+cells_in d at [] (row ∷ new) x h is = absurd h
+cells_in d at (k ∷ cells) [] x h is = absurd h
+cells_in d at (k ∷ cells) (row ∷ new) x h is =
+    elim (in_cons row x new is) [
+      | inl here ↦
+          subst (λ (y : List ℕ). Contains (k ∷ cells) y)
+          (h.0.are ∙ ap (λ (r : Tuple). cells_of d.texts r) here) (in_first k cells)
+      | inr there ↦ in_rest k (cells_of d.texts x) cells (cells_in d at cells new x h.1 there)
+    ]
+
+-- cells of a row that came are those of a row of the later catalog
+pub row_new : (c d : Catalog) (at : ℕ) (cells : List (List ℕ)) (new : List Tuple) (x : List ℕ)
+    → CameAll c d at cells new → Contains cells x → AreRowOf d at x
+row_new c d at cells new x came is =
+    let s = stands_in d at cells new x came.stand is in
+    record {
+      row = s.row;
+      there = subst (λ (rows : List Tuple). Contains rows s.row) (sym came.rows)
+          (Contains-append_right (rows_at c.relations at) new s.row s.there);
+      are = s.stand.are;
+    }
+
+came_rows : (c d : Catalog) (at : ℕ) (cells : List (List ℕ)) (new : List Tuple) (p : Shape)
+    (es fs : List Entry) → IsCatalog c → at < length c.relations → CameAll c d at cells new
+    → GainsAll p cells es fs → Holds c at p es → Holds d at p fs
+came_rows c d at cells new p es fs h low came gains holds = record {
+  exact = λ u. (
     λ there.
-        elim ((gains u wide).0 there) [
+        elim ((gains u).0 there) [
           | inl before ↦
-              let is = (holds.exact u wide).0 before in
-              row_on c d at (filled u p.slots) h came.later low is
+              one_as (AreRowOf c at) (AreRowOf d at) p u
+              (λ x is. row_on c d at x h came.later low is
               (subst (λ (rows : List Tuple). Contains rows is.row) (sym came.rows)
-              (in_left is.row (rows_at c.relations at) (row ∷ []) is.there))
-          | inr new ↦ record {
-            row = row;
-            there = subst (λ (rows : List Tuple). Contains rows row) (sym came.rows)
-                (in_last row (rows_at c.relations at));
-            are = new ∙ came.stand.are;
-          }
+              (Contains-append_left (rows_at c.relations at) new is.row is.there)))
+              ((holds.exact u).0 before)
+          | inr one ↦
+              one_as (Contains cells) (AreRowOf d at) p u
+              (λ x is. row_new c d at cells new x came is) one
         ],
-    λ is.
-        (gains u wide).1
-        (elim (in_pushed row is.row (rows_at c.relations at)
+    λ one.
+        let is = one.row in
+        (gains u).1
+        (elim (Contains-append_cases (rows_at c.relations at) new is.row
         (subst (λ (rows : List Tuple). Contains rows is.row) came.rows is.there)) [
           | inl before ↦ inl
-              ((holds.exact u wide).1 (row_back c d at
-              (filled u p.slots) h came.later low is before))
-          | inr new ↦ inr
-              (is.are ∙ ap (λ (r : Tuple). cells_of d.texts r) (sym new) ∙ sym came.stand.are)
+              ((holds.exact u).1 (record {
+                cells = one.cells;
+                row = row_back c d at one.cells h came.later low is before;
+                gives = one.gives;
+              }))
+          | inr fresh ↦ inr (record {
+            cells = one.cells;
+            row = subst (λ (y : List ℕ). Contains cells y) (sym is.are)
+                (cells_in d at cells new is.row came.stand fresh);
+            gives = one.gives;
+          })
         ]),
   );
 }
@@ -149,28 +220,41 @@ went_rows : (c d : Catalog) (at : ℕ) (cells : List ℕ) (row : Tuple) (p : Sha
 went_rows c d at cells row p es fs h low went loses holds =
     let later : at < length d.relations = (let long = went.later.long in omega arith) in
     record {
-      exact = λ u wide. (
+      exact = λ u. (
         λ there.
-            let both = (loses u wide).0 there in
-            let is = (holds.exact u wide).0 both.0 in
-            row_on c d at (filled u p.slots) h went.later low is
-            (subst (λ (rows : List Tuple). Contains rows is.row) (sym went.rows)
-            (still_in (rows_at c.relations at) row is.row is.there
-            (λ (same : row ≡ is.row). both.1
-            (is.are ∙ ap (λ (r : Tuple). cells_of c.texts r) (sym same)
-            ∙ sym (cells_later c d row went.later
-            (have_cells c at row h low
-            (subst (λ (r : Tuple). Contains (rows_at c.relations at) r) (sym same) is.there)))
-            ∙ sym went.stand.are)))),
-        λ is.
+            let both = (loses u).0 there in
+            let one = (holds.exact u).0 both.0 in
+            let is = one.row in
+            record {
+              cells = one.cells;
+              row = row_on c d at one.cells h went.later low is
+                  (subst (λ (rows : List Tuple). Contains rows is.row) (sym went.rows)
+                  (still_in (rows_at c.relations at) row is.row is.there
+                  (λ (same : row ≡ is.row). both.1
+                  (gives_same p u one.cells cells
+                  (is.are ∙ ap (λ (r : Tuple). cells_of c.texts r) (sym same)
+                  ∙ sym (cells_later c d row went.later
+                  (have_cells c at row h low
+                  (subst (λ (r : Tuple). Contains (rows_at c.relations at) r) (sym same)
+                  is.there)))
+                  ∙ sym went.stand.are)
+                  one.gives))));
+              gives = one.gives;
+            },
+        λ one.
+            let is = one.row in
             let left = in_without (rows_at c.relations at) row is.row
             (h.kept at no_relation low).differ
             (subst (λ (rows : List Tuple). Contains rows is.row) went.rows is.there) in
-            (loses u wide).1 (
-              (holds.exact u wide).1 (row_back c d at
-                  (filled u p.slots) h went.later low is left.0),
-              λ same. left.1
-                  (other_cells c d at cells row is.row went later is.there (sym is.are ∙ same)),
+            (loses u).1 (
+              (holds.exact u).1 (record {
+                cells = one.cells;
+                row = row_back c d at one.cells h went.later low is left.0;
+                gives = one.gives;
+              }),
+              λ gives. left.1
+                  (other_cells c d at cells row is.row went later is.there
+                  (sym is.are ∙ gives_once p u one.cells cells one.gives gives)),
             ),
       );
     }
@@ -215,7 +299,7 @@ over_stays c d q n ps r h rows = record {
 }
 
 pub over_gains : OverGains
-over_gains c d q n ps r s at cells row h came change = record {
+over_gains c d q n ps r s at cells new h came change = record {
   asked = asked_later c d q n came.later h.asked;
   reducts = change.reducts;
   head = λ x. head_same r s x change.tree ∙ h.head x;
@@ -226,7 +310,7 @@ over_gains c d q n ps r s at cells row h came change = record {
       elim (cases_eq m.relation at) [
         | inl same ↦
             subst (λ (k : ℕ). Holds d k p (entries_at s.tables j)) (sym same)
-            (came_rows c d at cells row p (entries_at r.tables j) (entries_at s.tables j)
+            (came_rows c d at cells new p (entries_at r.tables j) (entries_at s.tables j)
             h.asked.catalog (subst (λ (k : ℕ). k < length c.relations) same low) came
             (change.over j m p e f same)
             (subst (λ (k : ℕ). Holds c k p (entries_at r.tables j)) same holds))

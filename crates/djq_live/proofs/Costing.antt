@@ -1,21 +1,26 @@
 -- How much an update of a registered query counts, measured by its atoms and variables.
-use Rattle.std.proofs.Common.{◌≡◌, ℕ, ◌+◌, ◌*◌, ◌<◌, ◌≤◌, true, List, [], ◌∷◌, length, sym, subst, inl, inr, arith, mul-le-mul_left, mul-le-mul_right}
+use Rattle.std.proofs.Common.{◌≡◌, ℕ, zero, suc, ◌+◌, ◌*◌, ◌<◌, ◌≤◌, true, List, [], ◌∷◌, length, ap, sym, subst, inl, inr, arith, mul-le-mul_right}
 use Rattle.std.specs.Prelude.{◌==◌, None, Some}
 use Rattle.std.specs.List.{list_any}
-use Rattle.std.proofs.lemmas.Bool.{eqb-true, false≢true, or_cases}
+use Rattle.std.proofs.lemmas.Bool.{cases_eq, eqb-true, false≢true, or_cases}
 use Rattle.std.proofs.lemmas.List.{length-map}
-use Rattle.std.proofs.lemmas.Nat.{mul-le}
 use Rattle.std.proofs.lemmas.Option.{slice_get_within}
+use Rattle.djq_hyper.specs.Flat.{IsFlat}
 use Rattle.djq_hyper.specs.Hypergraph.{numbers_below}
+use Rattle.djq_index.specs.Table.{Table}
 use Rattle.djq_model.specs.declared.query.Query.{Query}
 use Rattle.djq_model.specs.declared.query.Term.{Term}
 use Rattle.djq_model.specs.declared.query.Term.TheVariants.{Variable as Named, Hole, Constant}
+use Rattle.djq_lines.specs.Hypergraph.{edges_of, head_of}
 use Rattle.djq_lines.specs.Variables.{Label}
 use Rattle.djq_tree.specs.Tree.{Tree}
 use Rattle.djq_tree.proofs.Trimming.{all_trims_of}
+use Rattle.djq_plan.proofs.Flat.{equal_meets}
 use Rattle.djq_plan.proofs.Stepping.{length_below}
 use Rattle.djq_reduct.specs.Reducts.{Reducts}
-use Rattle.djq_propagate.specs.Updates.{paths}
+use Rattle.djq_reduct.specs.Tables.{entries_at}
+use Rattle.djq_propagate.specs.Updates.{HasAtMost, paths}
+use Rattle.djq_propagate.proofs.Measuring.{part}
 use Rattle.djq_query.specs.declared.numbered.Variable.{Variable}
 use Rattle.djq_query.specs.declared.numbered.NumberedTerm.{NumberedTerm}
 use Rattle.djq_query.specs.declared.numbered.NumberedTerm.TheVariants.{
@@ -30,8 +35,15 @@ use Rattle.djq_rows.specs.Catalog.{Catalog}
 use Rattle.djq_live.specs.Asked.{IsAsked}
 use Rattle.djq_live.specs.Leaves.{IsOver}
 use Rattle.djq_live.specs.Live.{Live, IsKept, IsKeptSomewhere}
-use Rattle.djq_live.specs.Stepping.{GrowsByOne, CountsLeaves, atoms_below, leaf_bound}
-use Rattle.djq_live.specs.Updating.{CountsUpdate, atoms_over, update_bound}
+use Rattle.djq_live.specs.Stepping.{GrowsByOne, CountsLeaves, BoundsLeaf, atoms_below}
+use Rattle.djq_live.specs.Updating.{
+  CountsUpdate,
+  CountsFlat,
+  FlatMeetsAreEqual,
+  atoms_over,
+  update_bound,
+  flat_bound,
+}
 use Rattle.djq_live.proofs.Heads.{InAtom, leaf_with, leaf_atom}
 use Rattle.djq_live.proofs.Later.{atom_at}
 use Rattle.djq_live.proofs.Passing.{part_few}
@@ -86,12 +98,36 @@ few_paths c q n ps r h =
     let leaves = h.long in
     omega arith
 
-leaf_within : (c : Catalog) (l : Live) (n : ℕ) → IsKept c l
-    → leaf_bound (l.reducts).tree n ≤ update_bound l n
-leaf_within c l n h =
+update_bounds : (c : Catalog) (l : Live) (n : ℕ) → IsKept c l
+    → BoundsLeaf (l.reducts).tree n (update_bound l n)
+update_bounds c l n h =
     let few = few_paths c l.query l.numbered l.patterns l.reducts h.over in
     let product = mul-le-mul_right (n + 1) few in
-    omega arith
+    inl (omega arith)
+
+-- the meets of a flat query's tree are equal
+pub flat_meets : FlatMeetsAreEqual
+flat_meets c l h flat = equal_meets (edges_of l.query) (head_of l.query) (l.reducts).tree h.named
+    h.over.reducts.family.is_tree flat
+
+flat_bounds : (c : Catalog) (l : Live) (n : ℕ) → IsKept c l
+    → IsFlat (edges_of l.query) (head_of l.query) → BoundsLeaf (l.reducts).tree n (flat_bound l)
+flat_bounds c l n h flat =
+    let few = few_paths c l.query l.numbered l.patterns l.reducts h.over in
+    inr (flat_meets c l h flat, omega arith)
+
+-- some number bounds the tuples of each leaf
+length_part : (ts : List Table) (j k : ℕ) → j < k → length (entries_at ts j) ≤ part ts k
+unfolding part
+length_part ts j zero low = absurd (omega arith)
+length_part ts j (suc k) low =
+    elim (cases_eq j k) [
+      | inl here ↦ (let e = ap (λ (i : ℕ). length (entries_at ts i)) here in omega arith)
+      | inr apart ↦ (let r = length_part ts j k (omega arith) in omega arith)
+    ]
+
+all_most : (r : Reducts) → HasAtMost r (part r.tables r.tree.leaves)
+all_most r = record { each = λ j low. length_part r.tables j r.tree.leaves low }
 
 -- ---- what a call counts
 
@@ -101,9 +137,9 @@ below_over l at atoms k e =
     subst (λ (a : List NumberedAtom). atoms_below at a k ≤ atoms_over l at) (sym e)
     (part_few (λ (a : NumberedAtom). a.relation == at) (l.numbered).atoms k)
 
-sum_all : (j o b u x y : ℕ) → j ≤ o → b ≤ u → y ≤ x + j * b → y ≤ x + 1 * (o * u)
-sum_all j o b u x y few within first =
-    let product = mul-le j b o u few within in
+sum_all : (j o u x y : ℕ) → j ≤ o → y ≤ x + j * u → y ≤ x + 1 * (o * u)
+sum_all j o u x y few first =
+    let product = mul-le-mul_right u few in
     omega arith
 
 pub counts_all : (l self : Live) (at : ℕ) (atoms : List NumberedAtom) (k x y : ℕ) → l ≡ self
@@ -111,43 +147,86 @@ pub counts_all : (l self : Live) (at : ℕ) (atoms : List NumberedAtom) (k x y :
     → CountsLeaves l.reducts (atoms_below at atoms k) x y → CountsUpdate 1 self at x y
 counts_all l self at atoms k x y e a kept counts =
     subst (λ (z : Live). CountsUpdate 1 z at x y) e
-    (λ n few. sum_all (atoms_below at atoms k) (atoms_over l at) (leaf_bound (l.reducts).tree n)
-    (update_bound l n) x y (below_over l at atoms k a) (leaf_within kept.0 l n kept.1)
-    (counts n few))
+    (λ n few. sum_all (atoms_below at atoms k) (atoms_over l at) (update_bound l n) x y
+    (below_over l at atoms k a)
+    (counts n (update_bound l n) few (update_bounds kept.0 l n kept.1)))
+
+pub counts_flat : (l self : Live) (at : ℕ) (atoms : List NumberedAtom) (k x y : ℕ) → l ≡ self
+    → atoms ≡ (l.numbered).atoms → IsKeptSomewhere l
+    → CountsLeaves l.reducts (atoms_below at atoms k) x y → CountsFlat 1 self at x y
+counts_flat l self at atoms k x y e a kept counts =
+    subst (λ (z : Live). CountsFlat 1 z at x y) e
+    (λ flat.
+    let n = part (l.reducts).tables (l.reducts).tree.leaves in
+    sum_all (atoms_below at atoms k) (atoms_over l at) (flat_bound l) x y
+    (below_over l at atoms k a)
+    (counts n (flat_bound l) (all_most l.reducts) (flat_bounds kept.0 l n kept.1 flat)))
 
 -- giving back counts at most twice what taking in does, since a leaf has one tuple more
-twice_bound : (t : Tree) (n : ℕ) → leaf_bound t (n + 1) ≤ 2 * leaf_bound t n
-twice_bound t n = twice (paths t) n
+twice_bounds : (t : Tree) (n b : ℕ) → BoundsLeaf t n b → BoundsLeaf t (n + 1) (2 * b)
+twice_bounds t n b h =
+    elim h [
+      | inl linear ↦ inl (twice (paths t) n linear)
+      | inr even ↦ inr (even.0, let d = even.1 in omega arith)
+    ]
   where
-    twice : (p m : ℕ) → 16 * (p * (m + 1 + 1)) ≤ 2 * (16 * (p * (m + 1)))
-    twice p m =
+    twice : (p m : ℕ) → 16 * (p * (m + 1)) ≤ b → 16 * (p * (m + 1 + 1)) ≤ 2 * b
+    twice p m bounds =
         let a : p * (m + 1) ≡ p * m + p = omega arith in
-        let b : p * (m + 1 + 1) ≡ p * m + 2 * p = omega arith in
+        let d : p * (m + 1 + 1) ≡ p * m + 2 * p = omega arith in
         omega arith
 
-sum_back : (j o b d u x y z : ℕ) → j + 1 ≤ o → b ≤ u → d ≤ 2 * b → y ≤ x + (j + 3) * b
-    → z ≤ y + j * d → z ≤ x + 3 * (o * u)
-sum_back j o b d u x y z few within twice first second =
-    let a = mul-le-mul_left j twice in
-    let p = mul-le (j + 1) b o u few within in
-    let e : (j + 3) * b ≡ j * b + 3 * b = omega arith in
-    let f : j * (2 * b) ≡ 2 * (j * b) = omega arith in
-    let g : (j + 1) * b ≡ j * b + b = omega arith in
+sum_back : (j o u x y z : ℕ) → j + 1 ≤ o → y ≤ x + (j + 2) * u → z ≤ y + j * (2 * u)
+    → z ≤ x + 3 * (o * u)
+sum_back j o u x y z few first second =
+    let p = mul-le-mul_right u few in
+    let e : (j + 2) * u ≡ j * u + 2 * u = omega arith in
+    let f : j * (2 * u) ≡ 2 * (j * u) = omega arith in
+    let g : (j + 1) * u ≡ j * u + u = omega arith in
+    omega arith
+
+sum_twice : (j o u x y z : ℕ) → j + 1 ≤ o → y ≤ x + (j + 2) * u → z ≤ y + j * u
+    → z ≤ x + 2 * (o * u)
+sum_twice j o u x y z few first second =
+    let p = mul-le-mul_right u few in
+    let e : (j + 2) * u ≡ j * u + 2 * u = omega arith in
+    let g : (j + 1) * u ≡ j * u + u = omega arith in
     omega arith
 
 pub counts_back : (l self : Live) (s : Reducts) (at : ℕ) (atoms : List NumberedAtom)
     (k x y z : ℕ) → l ≡ self → atoms ≡ (l.numbered).atoms → IsKeptSomewhere l
     → s.tree ≡ (l.reducts).tree → GrowsByOne l.reducts s
     → atoms_below at atoms k + 1 ≤ atoms_below at atoms (length atoms)
-    → CountsLeaves l.reducts (atoms_below at atoms k + 3) x y
+    → CountsLeaves l.reducts (atoms_below at atoms k + 2) x y
     → CountsLeaves s (atoms_below at atoms k) y z → CountsUpdate 3 self at x z
 counts_back l self s at atoms k x y z e a kept tree grows more first second =
     subst (λ (v : Live). CountsUpdate 3 v at x z) e
     (λ n few.
-    let j = atoms_below at atoms k in
+    let u = update_bound l n in
+    let bounds = update_bounds kept.0 l n kept.1 in
     let over = below_over l at atoms (length atoms) a in
-    sum_back j (atoms_over l at) (leaf_bound (l.reducts).tree n)
-    (leaf_bound (l.reducts).tree (n + 1)) (update_bound l n) x y z (omega arith)
-    (leaf_within kept.0 l n kept.1) (twice_bound (l.reducts).tree n) (first n few)
-    (subst (λ (t : Tree). z ≤ y + j * leaf_bound t (n + 1)) tree
-    (second (n + 1) (all_grown l.reducts s n tree grows few))))
+    sum_back (atoms_below at atoms k) (atoms_over l at) u x y z (omega arith)
+    (first n u few bounds)
+    (second (n + 1) (2 * u) (all_grown l.reducts s n tree grows few)
+    (subst (λ (t : Tree). BoundsLeaf t (n + 1) (2 * u)) (sym tree)
+    (twice_bounds (l.reducts).tree n u bounds))))
+
+-- over equal meets giving back counts no more than taking in does
+pub flat_back : (l self : Live) (s : Reducts) (at : ℕ) (atoms : List NumberedAtom)
+    (k x y z : ℕ) → l ≡ self → atoms ≡ (l.numbered).atoms → IsKeptSomewhere l
+    → s.tree ≡ (l.reducts).tree → GrowsByOne l.reducts s
+    → atoms_below at atoms k + 1 ≤ atoms_below at atoms (length atoms)
+    → CountsLeaves l.reducts (atoms_below at atoms k + 2) x y
+    → CountsLeaves s (atoms_below at atoms k) y z → CountsFlat 2 self at x z
+flat_back l self s at atoms k x y z e a kept tree grows more first second =
+    subst (λ (v : Live). CountsFlat 2 v at x z) e
+    (λ flat.
+    let n = part (l.reducts).tables (l.reducts).tree.leaves in
+    let u = flat_bound l in
+    let few = all_most l.reducts in
+    let over = below_over l at atoms (length atoms) a in
+    sum_twice (atoms_below at atoms k) (atoms_over l at) u x y z (omega arith)
+    (first n u few (flat_bounds kept.0 l n kept.1 flat))
+    (second (n + 1) u (all_grown l.reducts s n tree grows few)
+    (subst (λ (t : Tree). BoundsLeaf t (n + 1) u) (sym tree)
+    (flat_bounds kept.0 l (n + 1) kept.1 flat))))

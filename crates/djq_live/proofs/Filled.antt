@@ -1,51 +1,42 @@
 -- A leaf that is filled row by row.
-use Rattle.std.proofs.Common.{
-  ◌≡◌,
-  ℕ,
-  zero,
-  suc,
-  ◌<◌,
-  List,
-  [],
-  ◌∷◌,
-  ◌++◌,
-  length,
-  map,
-  refl,
-  ap,
-  sym,
-  subst,
-  ◌∙◌,
-  inl,
-  inr,
-  arith,
-}
+use Rattle.std.proofs.Common.{◌≡◌, ℕ, zero, suc, ◌<◌, List, [], ◌∷◌, ◌++◌, length, map, refl, ap, sym, ◌∙◌, inl, inr, arith}
 use Rattle.std.specs.Prelude.{Contains, slice_index_or}
 use Rattle.std.proofs.lemmas.List.{get_or-map, length-map}
+use Rattle.std.proofs.lemmas.List.Elements.{
+  Contains-append_cases,
+  Contains-append_left,
+  Contains-append_right,
+}
 use Rattle.djq_model.specs.Data.{Tuple}
-use Rattle.djq_query.specs.Pattern.{filled}
 use Rattle.djq_rows.specs.Cells.{cells_of}
 use Rattle.djq_rows.specs.Catalog.{Catalog, rows_at}
 use Rattle.djq_live.specs.Cells.{AreRowOf}
 use Rattle.djq_live.specs.Changes.{LeafIsEmpty, LeafGains, LeafIsFilled}
-use Rattle.djq_live.proofs.Members.{in_none, in_left, in_last, in_pushed}
+use Rattle.djq_live.proofs.Giving.{one_as}
+use Rattle.djq_live.proofs.Members.{in_none}
 
 pub leaf_empty : LeafIsEmpty
-leaf_empty p es none u wide =
-    (λ there. absurd (let z = none u in omega arith), λ is. absurd (in_none (filled u p.slots) is))
+leaf_empty p es none u =
+    (λ there. absurd (let z = none u in omega arith), λ one. absurd (in_none one.cells one.row))
 
 pub leaf_gains : LeafGains
-leaf_gains rows cells p old new holds gains u wide = (
+leaf_gains rows more p old new holds gains u = (
   λ there.
-      elim ((gains u wide).0 there) [
-        | inl before ↦ in_left (filled u p.slots) rows (cells ∷ []) ((holds u wide).0 before)
-        | inr same ↦
-            subst (λ (v : List ℕ). Contains (rows ++ cells ∷ []) v) (sym same) (in_last cells rows)
+      elim ((gains u).0 there) [
+        | inl before ↦
+            one_as (Contains rows) (Contains (rows ++ more)) p u
+            (λ x is. Contains-append_left rows more x is) ((holds u).0 before)
+        | inr one ↦
+            one_as (Contains more) (Contains (rows ++ more)) p u
+            (λ x is. Contains-append_right rows more x is) one
       ],
-  λ is.
-      (gains u wide).1
-      (elim (in_pushed cells (filled u p.slots) rows is)
-      [ inl before ↦ inl ((holds u wide).1 before) | inr same ↦ inr (sym same) ]),
+  λ one.
+      (gains u).1
+      (elim (Contains-append_cases rows more one.cells one.row) [
+        | inl before ↦ inl
+            ((holds u).1 (record { cells = one.cells; row = before; gives = one.gives }))
+        | inr late ↦ inr (record { cells = one.cells; row = late; gives = one.gives })
+      ]),
 )
 
 -- an element doesn't depend on what stands past the end
@@ -82,8 +73,11 @@ in_row c at cells is =
 
 pub leaf_filled : LeafIsFilled
 leaf_filled c at p es holds = record {
-  exact = λ u wide. (
-    λ there. row_in c at (filled u p.slots) ((holds u wide).0 there),
-    λ is. (holds u wide).1 (in_row c at (filled u p.slots) is),
+  exact = λ u. (
+    λ there. one_as (Contains (map (cells_of c.texts) (rows_at c.relations at))) (AreRowOf c at) p u
+        (row_in c at) ((holds u).0 there),
+    λ one. (holds u).1
+        (one_as (AreRowOf c at) (Contains (map (cells_of c.texts) (rows_at c.relations at))) p u
+        (in_row c at) one),
   );
 }

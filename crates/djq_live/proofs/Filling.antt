@@ -39,7 +39,7 @@ use Rattle.djq_reduct.specs.Columns.{column, columns}
 use Rattle.djq_reduct.specs.Tables.{entries_at}
 use Rattle.djq_reduct.specs.Reducts.{Reducts, IsReducts}
 use Rattle.djq_reduct.specs.Answers.{on_node, IsAnswerOf}
-use Rattle.djq_live.proofs.Columns.{
+use Rattle.djq_reduct.proofs.Readings.{
   IsSimple,
   cell_there,
   simple_of,

@@ -80,6 +80,7 @@ pub asked_later : (c d : Catalog) (q : Query) (n : Numbered) → IsLater c d →
     → IsAsked d q n
 asked_later c d q n l h = record {
   catalog = l.catalog;
+  variables = h.variables;
   atoms = atoms_later c d n.variables q.atoms n.atoms l h.atoms;
   one = h.one;
   fresh = h.fresh;

@@ -39,15 +39,16 @@ use Rattle.djq_propagate.specs.Updates.{HasInserted, HasMarked, HasKept, HasDrop
 use Rattle.djq_cursor.specs.Listing.{IsListing}
 use Rattle.djq_cursor.specs.Changed.{IsGained}
 use Rattle.djq_cursor.specs.Log.{Log}
-use Rattle.djq_query.specs.Pattern.{Shape, filled}
+use Rattle.djq_query.specs.Pattern.{Shape, Gives}
 use Rattle.djq_live.specs.Changes.{Gains, Loses}
 use Rattle.djq_live.specs.Stepping.{ChangesAt, ListsWhere}
+use Rattle.djq_live.proofs.Giving.{one_of, only_one}
 use Rattle.djq_live.proofs.Gaining.{gained_none, gained_same, listing_as, same_more}
 use Rattle.djq_live.proofs.Telling.{tells_none, tells_both, counts_none, counts_both}
 
 -- the tuple is the one that gives the cells
 abbrev pub IsOnly : Option (List ℕ) → Shape → List ℕ → Type 0
-IsOnly o p cells = (u : List ℕ) → length u ≡ p.width → (o ≡ Some u) ↔ (filled u p.slots ≡ cells)
+IsOnly o p cells = (u : List ℕ) → (o ≡ Some u) ↔ Gives p u cells
 
 pub only_as : (p : Shape) (cells u v : List ℕ) → v ≡ u → IsOnly (Some u) p cells
     → IsOnly (Some v) p cells
@@ -65,21 +66,21 @@ inserted_gains cells u p j old mid new only came kept = record {
   sound = kept.sound;
   tree = kept.tree ∙ sym came.without.tree;
   bare = kept.bare;
-  leaf = λ v wide.
+  leaf = λ v.
       let a = kept.tables.tuples j v in
       let s = cnt_split (entries_at mid.tables j) v in
       let l = came.without.leaf v in
       let m = came.marked v in (
         λ there.
             elim (same_cases u v) [
-              | inl is ↦ inr ((only v wide).0 (ap (λ (w : List ℕ). Some w) is))
+              | inl is ↦ inr (one_of p v cells ((only v).0 (ap (λ (w : List ℕ). Some w) is)))
               | inr other ↦ inl (let o = one_other u v other in omega arith)
             ],
         λ either.
             elim either [
               | inl before ↦ omega arith
               | inr e ↦
-                  let is = same_Some u v ((only v wide).1 e) in
+                  let is = same_Some u v ((only v).1 (only_one p v cells e)) in
                   let o = one_true (same u v) (is_same u v is) in
                   omega arith
             ],
@@ -96,12 +97,12 @@ unmatched_gains cells p j r only sound bare = record {
   sound = sound;
   tree = refl;
   bare = bare;
-  leaf = λ v wide. (
+  leaf = λ v. (
     λ there. inl there,
     λ either.
         elim either [
           | inl before ↦ before
-          | inr e ↦ absurd (none-some v ((only v wide).1 e))
+          | inr e ↦ absurd (none-some v ((only v).1 (only_one p v cells e)))
         ],
   );
   others = λ i low apart v. refl;
@@ -116,7 +117,7 @@ marked_loses cells u p j old mid new only sound marked went = record {
   sound = went.sound;
   tree = went.without.tree ∙ marked.tree;
   bare = went.bare;
-  leaf = λ v wide.
+  leaf = λ v.
       let a = marked.tables.tuples j v in
       let s = cnt_split (entries_at mid.tables j) v in
       let l = went.without.leaf v in
@@ -126,13 +127,13 @@ marked_loses cells u p j old mid new only sound marked went = record {
         λ there. (
           omega arith,
           λ e.
-              let is = same_Some u v ((only v wide).1 e) in
+              let is = same_Some u v ((only v).1 e) in
               let o = one_true (same u v) (is_same u v is) in
               omega arith,
         ),
         λ both.
             elim (same_cases u v) [
-              | inl is ↦ absurd (both.1 ((only v wide).0 (ap (λ (w : List ℕ). Some w) is)))
+              | inl is ↦ absurd (both.1 ((only v).0 (ap (λ (w : List ℕ). Some w) is)))
               | inr other ↦
                   let o = one_other u v other in
                   let before = both.0 in
@@ -150,8 +151,8 @@ unmatched_loses cells p j r only sound bare = record {
   sound = sound;
   tree = refl;
   bare = bare;
-  leaf = λ v wide. (
-    λ there. (there, λ e. none-some v ((only v wide).1 e)),
+  leaf = λ v. (
+    λ there. (there, λ e. none-some v ((only v).1 e)),
     λ both. both.0,
   );
   others = λ i low apart v. refl;

@@ -1,7 +1,7 @@
-pub mod Columns
 pub mod Above
 pub mod Tabling
 pub mod Filling
+pub mod Giving
 pub mod Binding
 pub mod Rows
 pub mod Terms

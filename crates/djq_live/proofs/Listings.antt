@@ -22,9 +22,9 @@ use Rattle.std.proofs.Common.{
   arith,
 }
 use Rattle.std.specs.Prelude.{All, AllPairs, Contains, slice_index_or}
-use Rattle.std.proofs.lemmas.List.Elements.{All-append, Contains-get_or}
+use Rattle.std.proofs.lemmas.List.Elements.{All-append, Contains-append_right, Contains-get_or}
 use Rattle.std.proofs.lemmas.List.Kept.{AllPairs-cons}
-use Rattle.djq_live.proofs.Members.{in_first, in_rest, in_last, in_cons, in_none}
+use Rattle.djq_live.proofs.Members.{in_first, in_rest, in_cons, in_none}
 
 -- no two of a list are equal
 abbrev pub Different : {A : Type 0} → List A → Type 0
@@ -43,13 +43,13 @@ first_differs x y xs d c e =
     d zero (suc c.0) y (omega arith) (let low = c.1 in omega arith) (e ∙ sym c.2)
 
 -- what is put behind a list without repeats wasn't in it
-pub last_differs : {A : Type 0} (x : A) (xs : List A) → Different (xs ++ x ∷ []) → Contains xs x
-    → ⊥
-last_differs x [] d c = in_none x c
-last_differs x (y ∷ xs) d c =
+pub late_differs : {A : Type 0} (x : A) (xs ys : List A) → Different (xs ++ ys) → Contains xs x
+    → Contains ys x → ⊥
+late_differs x [] ys d c k = in_none x c
+late_differs x (y ∷ xs) ys d c k =
     elim (in_cons y x xs c) [
-      | inl here ↦ first_differs y x (xs ++ x ∷ []) d (in_last x xs) here
-      | inr there ↦ last_differs x xs (rest_differ y (xs ++ x ∷ []) d) there
+      | inl here ↦ first_differs y x (xs ++ ys) d (Contains-append_right xs ys x k) here
+      | inr there ↦ late_differs x xs ys (rest_differ y (xs ++ ys) d) there k
     ]
 
 -- ---- no more than there are

@@ -1,5 +1,5 @@
 -- What an update of the leaves makes of a registered query.
-use Rattle.std.proofs.Common.{◌≡◌, ℕ, ◌+◌, ◌*◌, ◌<◌, ◌≤◌, ◌++◌, Bool, true, false, List, [], ◌∷◌, length, map, refl, ap, sym, subst, ◌∙◌, inl, inr, arith, length-append}
+use Rattle.std.proofs.Common.{◌≡◌, ℕ, ◌+◌, ◌*◌, ◌<◌, ◌≤◌, Bool, true, false, List, [], ◌∷◌, length, map, refl, ap, sym, subst, ◌∙◌, inl, inr, arith, length-append}
 use Rattle.std.specs.Prelude.{◌==◌, Contains, Option, Some, slice_get}
 use Rattle.std.proofs.lemmas.Bool.{cases_lt, false≢true, or_cases, eqb-true}
 use Rattle.std.proofs.lemmas.List.{get_or_past, length-map}
@@ -7,7 +7,7 @@ use Rattle.std.proofs.lemmas.List.Kept.{AllPairs-from_increasing}
 use Rattle.std.proofs.lemmas.Nat.{mul-le}
 use Rattle.djq_hyper.specs.Hypergraph.{member}
 use Rattle.djq_model.specs.declared.query.Query.{Query}
-use Rattle.djq_model.specs.Data.{Bytes, Tuple}
+use Rattle.djq_model.specs.Data.{Bytes, Tuple, tuples_in}
 use Rattle.djq_model.specs.declared.relation.Relation.{Relation}
 use Rattle.djq_model.specs.Answer.{IsAnswer}
 use Rattle.djq_lines.specs.Variables.{Label}
@@ -15,7 +15,6 @@ use Rattle.djq_lines.specs.declared.answer.Sign.TheVariants.{Came as HasCome, We
 use Rattle.djq_machine.specs.Delta.{Change}
 use Rattle.djq_machine.specs.Store.{most_steps}
 use Rattle.djq_tree.specs.Tree.{Tree}
-use Rattle.djq_reduct.specs.Tables.{entries_at}
 use Rattle.djq_reduct.specs.Reducts.{Reducts, SameTables}
 use Rattle.djq_cursor.specs.Listing.{IsListing}
 use Rattle.djq_cursor.specs.Changed.{IsGained}
@@ -25,7 +24,7 @@ use Rattle.djq_query.specs.Numbered.{Numbered, labels}
 use Rattle.djq_query.specs.Pattern.{Shape}
 use Rattle.djq_rows.specs.Catalog.{Catalog, IsCatalog, no_relation, rows_at}
 use Rattle.djq_live.specs.Leaves.{IsOver}
-use Rattle.djq_live.specs.Changes.{IsLater, Came, Went, Gains, Loses}
+use Rattle.djq_live.specs.Changes.{IsLater, Came, CameAll, Went, Gains, GainsAll, Loses}
 use Rattle.djq_live.specs.Shown.{shown}
 use Rattle.djq_live.specs.Live.{Live, IsKept, SameQuery, values_of}
 use Rattle.djq_live.specs.Updating.{
@@ -49,8 +48,9 @@ use Rattle.djq_live.specs.Stepping.{
   atoms_below,
   lines_of,
 }
+use Rattle.djq_live.proofs.Giving.{one_of}
 use Rattle.djq_live.proofs.Members.{in_none, in_cons, in_rest}
-use Rattle.djq_live.proofs.Columns.{member_here, member_on}
+use Rattle.djq_reduct.proofs.Readings.{member_here, member_on}
 use Rattle.djq_live.proofs.Listings.{few}
 use Rattle.djq_live.proofs.Passing.{part_few}
 use Rattle.djq_live.proofs.Showing.{tree_answer}
@@ -149,7 +149,7 @@ pub add_leaves : (l : Live) (at : ℕ) (cells : List ℕ) (atoms : List Numbered
 add_leaves l at cells atoms ps e f can =
     inside (λ a p. AreLeaves at cells a p l.reducts) atoms (l.numbered).atoms ps l.patterns e f
     (leaves_of can.before can.after l.query l.numbered l.patterns l.reducts at cells can.row
-    can.kept.over can.came.later can.came.stand)
+    can.kept.over can.came.later can.came.stand.0)
 
 pub add_lacks : (l : Live) (at : ℕ) (cells : List ℕ) (atoms : List NumberedAtom)
     (ps : List Shape) → atoms ≡ (l.numbered).atoms → ps ≡ l.patterns → CanAdd l at cells
@@ -157,8 +157,12 @@ pub add_lacks : (l : Live) (at : ℕ) (cells : List ℕ) (atoms : List NumberedA
 add_lacks l at cells atoms ps e f can =
     inside (λ a p. HoldBelow (λ x es. Lacks cells x es) at a p (length a) l.reducts) atoms
     (l.numbered).atoms ps l.patterns e f
-    (none_there can.before can.after l.query l.numbered l.patterns l.reducts at cells can.row
-    (length (l.numbered).atoms) can.kept.over can.came)
+    (record {
+      each = λ j m p low a b on u gives.
+          (none_there can.before can.after l.query l.numbered l.patterns l.reducts at (cells ∷ [])
+          (can.row ∷ []) (length (l.numbered).atoms) can.kept.over can.came).each j m p low a b on
+          u (one_of p u cells gives);
+    })
 
 -- no relation has more rows than there are numbers
 rows_few : (c : Catalog) (at : ℕ) → IsCatalog c → length (rows_at c.relations at) ≤ 4294967295
@@ -166,7 +170,7 @@ rows_few c at h =
     elim (cases_lt at (length c.relations)) [
       | inl low ↦ (h.kept at no_relation low).few
       | inr past ↦
-          (let e = ap (λ (r : Relation). length r.rows)
+          (let e = ap (λ (r : Relation). length (tuples_in r))
           (get_or_past c.relations at no_relation (omega arith)) in
           omega arith)
     ]
@@ -205,15 +209,15 @@ same_query l self s e tree =
     subst (λ (x : Live). SameQuery x (record l { reducts = s })) e
     (record { query = refl; numbered = refl; patterns = refl; tree = tree; cursors = refl })
 
-pub follows_came : (l self : Live) (s : Reducts) (at : ℕ) (cells : List ℕ)
+pub follows_came : (l self : Live) (s : Reducts) (at : ℕ) (cells : List (List ℕ))
     (atoms : List NumberedAtom) (ps : List Shape) → l ≡ self → atoms ≡ (l.numbered).atoms
     → ps ≡ l.patterns
-    → ChangesBelow (λ p old new. Gains p cells old new) at atoms ps (length atoms) l.reducts s
-    → Follows (λ c d. Came c d at cells) self (record l { reducts = s })
-follows_came l self s at cells atoms ps e a p change = λ c d row h came.
-    added_kept c d l s at cells row (subst (λ (x : Live). IsKept c x) (sym e) h) came
-    (outside (λ x y. ChangesBelow (λ q old new. Gains q cells old new) at x y (length x) l.reducts
-    s)
+    → ChangesBelow (λ p old new. GainsAll p cells old new) at atoms ps (length atoms) l.reducts s
+    → Follows (λ c d. CameAll c d at cells) self (record l { reducts = s })
+follows_came l self s at cells atoms ps e a p change = λ c d rows h came.
+    added_kept c d l s at cells rows (subst (λ (x : Live). IsKept c x) (sym e) h) came
+    (outside (λ x y. ChangesBelow (λ q old new. GainsAll q cells old new) at x y (length x)
+    l.reducts s)
     atoms (l.numbered).atoms ps l.patterns a p change)
 
 pub follows_went : (l self : Live) (s : Reducts) (at : ℕ) (cells : List ℕ)
@@ -308,17 +312,17 @@ all_as P texts n r s e h =
 
 -- ---- logs
 
-gains_log : (l : Live) (s : Reducts) (at : ℕ) (cells : List ℕ) (us : List (List ℕ))
-    (c d : Catalog) (row : Tuple) → HasMore l.reducts s
-    → ChangesBelow (λ p old new. Gains p cells old new) at (l.numbered).atoms l.patterns
+gains_log : (l : Live) (s : Reducts) (at : ℕ) (cells : List (List ℕ)) (us : List (List ℕ))
+    (c d : Catalog) (rows : List Tuple) → HasMore l.reducts s
+    → ChangesBelow (λ p old new. GainsAll p cells old new) at (l.numbered).atoms l.patterns
     (length (l.numbered).atoms) l.reducts s
-    → IsListing (IsGained s l.reducts) us → IsKept c l → Came c d at cells row
+    → IsListing (IsGained s l.reducts) us → IsKept c l → CameAll c d at cells rows
     → IsDeltaOf l c d (map (change_of d.texts l) (lines_of true us))
-gains_log l s at cells us c d row more change listing h came =
+gains_log l s at cells us c d rows more change listing h came =
     let q = l.query in
     let n = l.numbered in
     let r = l.reducts in
-    let over = (added_kept c d l s at cells row h came change).over in
+    let over = (added_kept c d l s at cells rows h came change).over in
     subst (λ (cs : List Change). IsDeltaOf l c d cs) (sym (lines_came d.texts l us))
     (came_delta (IsAnswer c.relations q) (IsAnswer d.relations q) s r (values_of d.texts l) us
     change.sound h.over.reducts more
@@ -350,19 +354,19 @@ loses_log l s at cells us c d row more change listing h went =
     (all_as (IsAnswer d.relations q) d.texts n r s change.tree
     (shows_all d q n l.patterns s over)) listing)
 
-came_logged : (wanted : Bool) (l : Live) (s : Reducts) (at : ℕ) (cells : List ℕ) (h calls : ℕ)
-    (log new : Log) (x y : ℕ) → HasMore l.reducts s
-    → ChangesBelow (λ p old new. Gains p cells old new) at (l.numbered).atoms l.patterns
+came_logged : (wanted : Bool) (l : Live) (s : Reducts) (at : ℕ) (cells : List (List ℕ))
+    (h calls : ℕ) (log new : Log) (x y : ℕ) → HasMore l.reducts s
+    → ChangesBelow (λ p old new. GainsAll p cells old new) at (l.numbered).atoms l.patterns
     (length (l.numbered).atoms) l.reducts s
     → ListsWhere wanted true (IsGained s l.reducts) h calls log new x y
-    → LogsWhere wanted (λ c d. Came c d at cells) l log new
+    → LogsWhere wanted (λ c d. CameAll c d at cells) l log new
 came_logged true l s at cells h calls log new x y more change k = record {
   lines = lines_of true k.answers;
   behind = k.tells.behind;
-  tells = λ whole c d row kept came. gains_log l s at cells k.answers c d row more change
+  tells = λ whole c d rows kept came. gains_log l s at cells k.answers c d rows more change
       k.listing kept came;
-  shown = λ whole c d row kept came. new_lines d l s k.answers
-      (added_kept c d l s at cells row kept came change) change.tree
+  shown = λ whole c d rows kept came. new_lines d l s k.answers
+      (added_kept c d l s at cells rows kept came change) change.tree
       (λ i u low. (k.listing.all i u low).is);
   stays = k.tells.stays;
 }
@@ -394,14 +398,14 @@ within x y a b m n h k e f g i =
     in
     omega arith
 
-came_counted : (wanted : Bool) (l : Live) (s : Reducts) (at : ℕ) (cells : List ℕ) (k : ℕ)
+came_counted : (wanted : Bool) (l : Live) (s : Reducts) (at : ℕ) (cells : List (List ℕ)) (k : ℕ)
     (log new : Log) (x y : ℕ) → HasMore l.reducts s
-    → ChangesBelow (λ p old new. Gains p cells old new) at (l.numbered).atoms l.patterns k
+    → ChangesBelow (λ p old new. GainsAll p cells old new) at (l.numbered).atoms l.patterns k
     l.reducts s
     → ListsWhere wanted true (IsGained s l.reducts) (length (l.reducts).tree.head)
     (atoms_below at (l.numbered).atoms k) log new x y
-    → CountsDelta wanted (λ c d. Came c d at cells) l at x y
-came_counted true l s at cells k log new x y more change lists = λ c d row changes h came delta.
+    → CountsDelta wanted (λ c d. CameAll c d at cells) l at x y
+came_counted true l s at cells k log new x y more change lists = λ c d rows changes h came delta.
     let q = l.query in
     let n = l.numbered in
     let r = l.reducts in
@@ -412,7 +416,7 @@ came_counted true l s at cells k log new x y more change lists = λ c d row chan
     change.sound h.over.reducts more
     (shows_as (IsAnswer d.relations q) d.texts n r s change.tree
     (shows_part d q n s
-    (some_part c d q n l.patterns r s at cells row k h.over came change)))
+    (some_part c d q n l.patterns r s at cells rows k h.over came change)))
     (all_later c d q n l.patterns r h.over came.later) lists.listing
     (λ t is none. (is, none)) delta)
     (part_few (λ (a : NumberedAtom). a.relation == at) n.atoms k)
@@ -446,17 +450,17 @@ went_counted false l s at cells k log new x y more change lists = lists.1
 
 -- ---- the same, of what a call has in hand
 
-pub logs_came : (wanted : Bool) (l self : Live) (s : Reducts) (at : ℕ) (cells : List ℕ)
+pub logs_came : (wanted : Bool) (l self : Live) (s : Reducts) (at : ℕ) (cells : List (List ℕ))
     (atoms : List NumberedAtom) (ps : List Shape) (h calls : ℕ) (log new : Log) (x y : ℕ)
     → l ≡ self → atoms ≡ (l.numbered).atoms → ps ≡ l.patterns → HasMore l.reducts s
-    → ChangesBelow (λ p old new. Gains p cells old new) at atoms ps (length atoms) l.reducts s
+    → ChangesBelow (λ p old new. GainsAll p cells old new) at atoms ps (length atoms) l.reducts s
     → ListsWhere wanted true (IsGained s l.reducts) h calls log new x y
-    → LogsWhere wanted (λ c d. Came c d at cells) self log new
+    → LogsWhere wanted (λ c d. CameAll c d at cells) self log new
 logs_came wanted l self s at cells atoms ps h calls log new x y e a p more change lists =
-    subst (λ (z : Live). LogsWhere wanted (λ c d. Came c d at cells) z log new) e
+    subst (λ (z : Live). LogsWhere wanted (λ c d. CameAll c d at cells) z log new) e
     (came_logged wanted l s at cells h calls log new x y more
-    (outside (λ v w. ChangesBelow (λ q old new. Gains q cells old new) at v w (length v) l.reducts
-    s)
+    (outside (λ v w. ChangesBelow (λ q old new. GainsAll q cells old new) at v w (length v)
+    l.reducts s)
     atoms (l.numbered).atoms ps l.patterns a p change) lists)
 
 pub logs_went : (wanted : Bool) (l self : Live) (s : Reducts) (at : ℕ) (cells : List ℕ)
@@ -472,18 +476,18 @@ logs_went wanted l self s at cells atoms ps h calls log new x y e a p more chang
     s)
     atoms (l.numbered).atoms ps l.patterns a p change) lists)
 
-pub counts_came : (wanted : Bool) (l self : Live) (s : Reducts) (at : ℕ) (cells : List ℕ)
+pub counts_came : (wanted : Bool) (l self : Live) (s : Reducts) (at : ℕ) (cells : List (List ℕ))
     (atoms : List NumberedAtom) (ps : List Shape) (k : ℕ) (log new : Log) (x y : ℕ)
     → l ≡ self → atoms ≡ (l.numbered).atoms → ps ≡ l.patterns → HasMore l.reducts s
-    → ChangesBelow (λ p old new. Gains p cells old new) at atoms ps k l.reducts s
+    → ChangesBelow (λ p old new. GainsAll p cells old new) at atoms ps k l.reducts s
     → ListsWhere wanted true (IsGained s l.reducts) (length (l.reducts).tree.head)
     (atoms_below at atoms k) log new x y
-    → CountsDelta wanted (λ c d. Came c d at cells) self at x y
+    → CountsDelta wanted (λ c d. CameAll c d at cells) self at x y
 counts_came wanted l self s at cells atoms ps k log new x y e a p more change lists =
-    subst (λ (z : Live). CountsDelta wanted (λ c d. Came c d at cells) z at x y) e
+    subst (λ (z : Live). CountsDelta wanted (λ c d. CameAll c d at cells) z at x y) e
     (came_counted wanted l s at cells k log new x y more
-    (outside (λ v w. ChangesBelow (λ q old new. Gains q cells old new) at v w k l.reducts s) atoms
-    (l.numbered).atoms ps l.patterns a p change)
+    (outside (λ v w. ChangesBelow (λ q old new. GainsAll q cells old new) at v w k l.reducts s)
+    atoms (l.numbered).atoms ps l.patterns a p change)
     (subst (λ (v : List NumberedAtom). ListsWhere wanted true (IsGained s l.reducts)
     (length (l.reducts).tree.head) (atoms_below at v k) log new x y) a lists))
 
@@ -502,3 +506,28 @@ counts_went wanted l self s at cells atoms ps log new x y e a p more change list
     atoms (l.numbered).atoms ps l.patterns a p change)
     (subst (λ (v : List NumberedAtom). ListsWhere wanted false (IsGained l.reducts s)
     (length (l.reducts).tree.head) (atoms_below at v (length v)) log new x y) a lists))
+
+-- ---- one row
+
+pub follows_one : (l m : Live) (at : ℕ) (cells : List ℕ)
+    → Follows (λ c d. CameAll c d at (cells ∷ [])) l m → Follows (λ c d. Came c d at cells) l m
+follows_one l m at cells h = λ c d row kept came. h c d (row ∷ []) kept came
+
+pub logs_one : (wanted : Bool) (l : Live) (at : ℕ) (cells : List ℕ) (log new : Log)
+    → LogsWhere wanted (λ c d. CameAll c d at (cells ∷ [])) l log new
+    → LogsWhere wanted (λ c d. Came c d at cells) l log new
+logs_one true l at cells log new h = record {
+  lines = h.lines;
+  behind = h.behind;
+  tells = λ whole c d row kept came. h.tells whole c d (row ∷ []) kept came;
+  shown = λ whole c d row kept came. h.shown whole c d (row ∷ []) kept came;
+  stays = h.stays;
+}
+logs_one false l at cells log new h = h
+
+pub counts_one : (wanted : Bool) (l : Live) (at : ℕ) (cells : List ℕ) (x y : ℕ)
+    → CountsDelta wanted (λ c d. CameAll c d at (cells ∷ [])) l at x y
+    → CountsDelta wanted (λ c d. Came c d at cells) l at x y
+counts_one true l at cells x y h = λ c d row changes kept came delta.
+    h c d (row ∷ []) changes kept came delta
+counts_one false l at cells x y h = h

@@ -42,6 +42,9 @@ in_cons y x xs c = in_cons_at y x xs c.0 c.1 c.2
 pub in_none : {A : Type 0} (x : A) → Contains [] x → ⊥
 in_none x c = let low = c.1 in omega arith
 
+pub in_only : {A : Type 0} (y x : A) → Contains (y ∷ []) x → y ≡ x
+in_only y x c = elim (in_cons y x [] c) [ inl is ↦ is | inr there ↦ absurd (in_none x there) ]
+
 pub in_left : {A : Type 0} (x : A) (xs ys : List A) → Contains xs x → Contains (xs ++ ys) x
 in_left x [] ys c = absurd (in_none x c)
 in_left x (y ∷ xs) ys c =

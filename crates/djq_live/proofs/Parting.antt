@@ -21,7 +21,7 @@ use Rattle.std.proofs.Common.{
 }
 use Rattle.std.specs.Prelude.{Some, Contains, slice_get, slice_index}
 use Rattle.std.proofs.lemmas.Bool.{cases_eq, cases_lt}
-use Rattle.std.proofs.lemmas.List.{length-map}
+use Rattle.std.proofs.lemmas.List.Elements.{Contains-append_left}
 use Rattle.std.proofs.lemmas.Option.{slice_get_within}
 use Rattle.djq_hyper.specs.Hypergraph.{member}
 use Rattle.djq_model.specs.declared.value.Value.{Value}
@@ -38,27 +38,27 @@ use Rattle.djq_reduct.specs.Answers.{IsAnswerOf}
 use Rattle.djq_query.specs.declared.numbered.Variable.{Variable}
 use Rattle.djq_query.specs.declared.numbered.NumberedAtom.{NumberedAtom}
 use Rattle.djq_query.specs.Numbered.{Numbered, labels}
-use Rattle.djq_query.specs.Pattern.{Shape, filled}
+use Rattle.djq_query.specs.Pattern.{Shape}
 use Rattle.djq_rows.specs.Cells.{cell_of, StandsFor, IsCell}
 use Rattle.djq_rows.specs.Parts.{value_of}
 use Rattle.djq_rows.specs.Catalog.{Catalog, rows_at}
 use Rattle.djq_rows.proofs.Encoding.{value_back}
 use Rattle.djq_live.specs.Asked.{IsAsked, column_of}
-use Rattle.djq_live.specs.Cells.{AreRowOf}
-use Rattle.djq_live.specs.Leaves.{IsOver}
-use Rattle.djq_live.specs.Changes.{IsLater, Came, Gains}
+use Rattle.djq_live.specs.Cells.{AreRowOf, cell_under}
+use Rattle.djq_live.specs.Leaves.{GivesOne, IsOver}
+use Rattle.djq_live.specs.Changes.{IsLater, CameAll, GainsAll}
 use Rattle.djq_live.specs.Shown.{value_at, shown}
 use Rattle.djq_live.specs.Stepping.{ChangesBelow}
-use Rattle.djq_live.proofs.Columns.{cell_there, row_same, member_here, member_on}
+use Rattle.djq_reduct.proofs.Readings.{cell_there, row_same, member_here, member_on}
 use Rattle.djq_live.proofs.Filling.{assigned_of}
 use Rattle.djq_live.proofs.Tabling.{IsIn}
-use Rattle.djq_live.proofs.Binding.{pattern_row}
+use Rattle.djq_live.proofs.Giving.{one_as, one_is}
+use Rattle.djq_live.proofs.Binding.{pattern_gives}
 use Rattle.djq_live.proofs.Terms.{value_by, value_by_is}
 use Rattle.djq_live.proofs.Atoms.{AreSatisfied, satisfies_all, cell_at}
 use Rattle.djq_live.proofs.Heads.{InAtom, has_at, in_atom}
-use Rattle.djq_live.proofs.Members.{in_left, in_last}
 use Rattle.djq_live.proofs.Later.{asked_later, atom_at, pattern_later, has_later, cell_later}
-use Rattle.djq_live.proofs.Changing.{row_on}
+use Rattle.djq_live.proofs.Changing.{row_on, row_new}
 use Rattle.djq_live.proofs.Showing.{satisfied, row_value, heads_same, value_stands, maps_at}
 
 -- What is in all leaves satisfies all atoms. So it is of the query's reducts, and of those that
@@ -83,33 +83,34 @@ whole_part c q n ps r h = record {
 
 -- ---- a row that came into some leaves
 
-still_row : (c d : Catalog) (at : ℕ) (cells : List ℕ) (row : Tuple) (k : ℕ) (x : Tuple)
-    → Came c d at cells row → k < length c.relations → Contains (rows_at c.relations k) x
-    → Contains (rows_at d.relations k) x
-still_row c d at cells row k x came low there =
+still_row : (c d : Catalog) (at : ℕ) (cells : List (List ℕ)) (new : List Tuple) (k : ℕ)
+    (x : Tuple) → CameAll c d at cells new → k < length c.relations
+    → Contains (rows_at c.relations k) x → Contains (rows_at d.relations k) x
+still_row c d at cells new k x came low there =
     elim (cases_eq k at) [
       | inl here ↦
           let at_place = subst (λ (i : ℕ). Contains (rows_at c.relations i) x) here there in
           subst (λ (i : ℕ). Contains (rows_at d.relations i) x) (sym here)
           (subst (λ (rows : List Tuple). Contains rows x) (sym came.rows)
-          (in_left x (rows_at c.relations at) (row ∷ []) at_place))
+          (Contains-append_left (rows_at c.relations at) new x at_place))
       | inr apart ↦ subst (λ (rows : List Tuple). Contains rows x) (sym (came.others k low apart))
           there
     ]
 
 row_in : (c d : Catalog) (q : Query) (n : Numbered) (ps : List Shape) (r s : Reducts) (at : ℕ)
-    (cells : List ℕ) (row : Tuple) (k j : ℕ) (m : NumberedAtom) (p : Shape) (u : List ℕ)
-    → IsOver c q n ps r → Came c d at cells row
-    → ChangesBelow (λ x old new. Gains x cells old new) at n.atoms ps k r s
-    → slice_get n.atoms j ≡ Some m → slice_get ps j ≡ Some p → length u ≡ p.width
-    → 0 < cnt (entries_at s.tables j) u → AreRowOf d m.relation (filled u p.slots)
-row_in c d q n ps r s at cells row k j m p u h came change e f wide there =
+    (cells : List (List ℕ)) (new : List Tuple) (k j : ℕ) (m : NumberedAtom) (p : Shape)
+    (u : List ℕ) → IsOver c q n ps r → CameAll c d at cells new
+    → ChangesBelow (λ x before after. GainsAll x cells before after) at n.atoms ps k r s
+    → slice_get n.atoms j ≡ Some m → slice_get ps j ≡ Some p → 0 < cnt (entries_at s.tables j) u
+    → GivesOne (AreRowOf d m.relation) p u
+row_in c d q n ps r s at cells new k j m p u h came change e f there =
     let low = (atom_at c n.variables q.atoms n.atoms j m h.asked.atoms e).is.below in
-    let before : 0 < cnt (entries_at r.tables j) u → AreRowOf d m.relation (filled u p.slots) =
+    let before : 0 < cnt (entries_at r.tables j) u → GivesOne (AreRowOf d m.relation) p u =
     (λ some.
-    let is = ((h.leaves j m p e f).holds.exact u wide).0 some in
-    row_on c d m.relation (filled u p.slots) h.asked.catalog came.later low is
-    (still_row c d at cells row m.relation is.row came low is.there)) in
+    one_as (AreRowOf c m.relation) (AreRowOf d m.relation) p u
+    (λ x is. row_on c d m.relation x h.asked.catalog came.later low is
+    (still_row c d at cells new m.relation is.row came low is.there))
+    (((h.leaves j m p e f).holds.exact u).0 some)) in
     elim (cases_eq m.relation at) [
       | inr off ↦ before (let same = change.others j m e (λ l. off) u in omega arith)
       | inl on ↦
@@ -117,24 +118,23 @@ row_in c d q n ps r s at cells row k j m p u h came change e f wide there =
             | inr high ↦ before
                 (let same = change.others j m e (λ l. absurd (omega arith)) u in omega arith)
             | inl lower ↦
-                elim ((change.over j m p lower e f on u wide).0 there) [
+                elim ((change.over j m p lower e f on u).0 there) [
                   | inl some ↦ before some
-                  | inr is ↦
-                      subst (λ (i : ℕ). AreRowOf d i (filled u p.slots)) (sym on)
-                      (record {
-                        row = row;
-                        there = subst (λ (rows : List Tuple). Contains rows row) (sym came.rows)
-                            (in_last row (rows_at c.relations at));
-                        are = is ∙ came.stand.are;
-                      })
+                  | inr one ↦
+                      one_as (Contains cells) (AreRowOf d m.relation) p u
+                      (λ x is. subst (λ (i : ℕ). AreRowOf d i x) (sym on)
+                      (row_new c d at cells new x came is))
+                      one
                 ]
           ]
     ]
 
 pub some_part : (c d : Catalog) (q : Query) (n : Numbered) (ps : List Shape) (r s : Reducts)
-    (at : ℕ) (cells : List ℕ) (row : Tuple) (k : ℕ) → IsOver c q n ps r → Came c d at cells row
-    → ChangesBelow (λ x old new. Gains x cells old new) at n.atoms ps k r s → IsPart d q n s
-some_part c d q n ps r s at cells row k h came change = record {
+    (at : ℕ) (cells : List (List ℕ)) (new : List Tuple) (k : ℕ) → IsOver c q n ps r
+    → CameAll c d at cells new
+    → ChangesBelow (λ x before after. GainsAll x cells before after) at n.atoms ps k r s
+    → IsPart d q n s
+some_part c d q n ps r s at cells new k h came change = record {
   asked = asked_later c d q n came.later h.asked;
   sound = change.sound;
   head = λ x. ap (λ (t : Tree). member x t.head) change.tree ∙ h.head x;
@@ -150,10 +150,9 @@ some_part c d q n ps r s at cells row k h came change = record {
       let x = atom_at c n.variables q.atoms n.atoms j m h.asked.atoms e in
       let pattern = pattern_later c d n.variables l x.atom m p.element came.later x.is leaf.pattern
       in
-      subst (λ (u : List ℕ). AreRowOf d m.relation u)
-      (pattern_row d l m p.element a pattern)
-      (row_in c d q n ps r s at cells row k j m p.element (map a l) h came change e p.is
-      (length-map l a ∙ sym leaf.pattern.width) there);
+      one_is (AreRowOf d m.relation) p.element (map a l) (map (cell_under d.texts a) m.terms)
+      (pattern_gives d l m p.element a pattern)
+      (row_in c d q n ps r s at cells new k j m p.element (map a l) h came change e p.is there);
   stands = λ x m. in_atom c q n ps r x h m;
 }
 

@@ -167,7 +167,7 @@ kept_more r s t h kept = more_both r s t h (same_more s t kept.tree kept.tables.
 
 pub lacks_stay : (cells : List ℕ) (p : Shape) (es fs : List Entry) → Keeps es fs
     → Lacks cells p es → Lacks cells p fs
-lacks_stay cells p es fs keeps h u wide e = keeps u ∙ h u wide e
+lacks_stay cells p es fs keeps h u gives = keeps u ∙ h u gives
 
 pub few_stay : (p : Shape) (es fs : List Entry) → Keeps es fs → length es < 4294967295
     → length fs < 4294967295
@@ -175,7 +175,7 @@ few_stay p es fs keeps few = subst (λ (n : ℕ). n < 4294967295) (sym (length_e
 
 pub has_stay : (cells : List ℕ) (p : Shape) (es fs : List Entry) → Keeps es fs → Has cells p es
     → Has cells p fs
-has_stay cells p es fs keeps h u wide e = subst (λ (n : ℕ). 0 < n) (sym (keeps u)) (h u wide e)
+has_stay cells p es fs keeps h u gives = subst (λ (n : ℕ). 0 < n) (sym (keeps u)) (h u gives)
 
 pub wide_stays : (r s : Reducts) (k : ℕ) (p : Shape) → s.tree ≡ r.tree
     → p.width ≡ length (label_at r.tree.labels k) → p.width ≡ length (label_at s.tree.labels k)

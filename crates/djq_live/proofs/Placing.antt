@@ -21,7 +21,7 @@ use Rattle.std.proofs.lemmas.Bool.{cases_eq}
 use Rattle.std.proofs.lemmas.List.{append-nil, length-set, get_or-set_same, get_or-set_other}
 use Rattle.djq_model.specs.declared.relation.ColumnType.{ColumnType}
 use Rattle.djq_model.specs.declared.relation.Relation.{Relation}
-use Rattle.djq_model.specs.Data.{Bytes, Tuple, without_row}
+use Rattle.djq_model.specs.Data.{Bytes, Tuple, tuples_in, without_row}
 use Rattle.djq_rows.specs.Cells.{StandFor}
 use Rattle.djq_rows.specs.Catalog.{
   Catalog,
@@ -32,7 +32,7 @@ use Rattle.djq_rows.specs.Catalog.{
   rows_at,
   with_rows_at,
 }
-use Rattle.djq_live.specs.Changes.{IsLater, AddedCame, DeletedWent}
+use Rattle.djq_live.specs.Changes.{IsLater, CameAll, StandForRows, AddedCame, DeletedWent}
 
 -- the relation with other rows
 abbrev changed : List Relation → ℕ → List Tuple → Relation
@@ -92,25 +92,42 @@ rows_here : (c d : Catalog) (at : ℕ) (rows : List Tuple) → at < length c.rel
     → d.relations ≡ with_rows_at c.relations at rows → rows_at d.relations at ≡ rows
 rows_here c d at rows low e =
     ap (λ (l : List Relation). rows_at l at) e
-    ∙ ap (λ (r : Relation). r.rows) (here c.relations at rows low)
+    ∙ ap tuples_in (here c.relations at rows low)
 
 rows_elsewhere : (c d : Catalog) (at k : ℕ) (rows : List Tuple) → k ≢ at
     → d.relations ≡ with_rows_at c.relations at rows
     → rows_at d.relations k ≡ rows_at c.relations k
 rows_elsewhere c d at k rows other e =
     ap (λ (l : List Relation). rows_at l k) e
-    ∙ ap (λ (r : Relation). r.rows) (elsewhere c.relations at k rows other)
+    ∙ ap tuples_in (elsewhere c.relations at k rows other)
 
-pub added_came : AddedCame
-added_came c d at cells row h low stand texts e =
-    let rows = rows_at c.relations at ++ row ∷ [] in
+all_stand : (c d : Catalog) (at : ℕ) (cells : List (List ℕ)) (new : List Tuple) → IsLater c d
+    → at < length c.relations → d.texts ≡ c.texts → StandForRows c at cells new
+    → StandForRows d at cells new
+all_stand c d at [] [] l low texts h = h
+all_stand c d at [] (row ∷ new) l low texts h = absurd h
+all_stand c d at (k ∷ cells) [] l low texts h = absurd h
+all_stand c d at (k ∷ cells) (row ∷ new) l low texts h =
+    (stands c d at k row l low texts h.0, all_stand c d at cells new l low texts h.1)
+
+-- rows that are added to a catalog came
+pub added_all : (c d : Catalog) (at : ℕ) (cells : List (List ℕ)) (new : List Tuple) → IsCatalog d
+    → at < length c.relations → StandForRows c at cells new → d.texts ≡ c.texts
+    → d.relations ≡ with_rows_at c.relations at (rows_at c.relations at ++ new)
+    → CameAll c d at cells new
+added_all c d at cells new h low stand texts e =
+    let rows = rows_at c.relations at ++ new in
     let l = later c d at rows h low texts e in
     record {
       later = l;
-      stand = stands c d at cells row l low texts stand;
+      stand = all_stand c d at cells new l low texts stand;
       rows = rows_here c d at rows low e;
       others = λ k within other. rows_elsewhere c d at k rows other e;
     }
+
+pub added_came : AddedCame
+added_came c d at cells row h low stand texts e =
+    added_all c d at (cells ∷ []) (row ∷ []) h low (stand, tt) texts e
 
 pub deleted_went : DeletedWent
 deleted_went c d at cells row h low stand texts e =

@@ -46,17 +46,16 @@ use Rattle.djq_rows.specs.Catalog.{Catalog, StandForRow, no_relation, relation_a
 use Rattle.djq_rows.proofs.Lawful.{differ as cells_differ}
 use Rattle.djq_live.specs.Asked.{AreSuited}
 use Rattle.djq_live.specs.Leaves.{AreCellsOf, IsLeafOf, IsOver}
-use Rattle.djq_live.specs.Changes.{IsLater, Came, Went, Gains, Loses, LeavesChange}
+use Rattle.djq_live.specs.Changes.{IsLater, CameAll, Went, Gains, GainsAll, Loses, LeavesChange}
 use Rattle.djq_live.specs.Live.{Live, IsKept}
-use Rattle.djq_live.specs.Stepping.{Lacks, Has, ChangesBelow, AreLeaves, HoldBelow}
+use Rattle.djq_live.specs.Stepping.{Lacks, LacksAll, Has, ChangesBelow, AreLeaves, HoldBelow}
 use Rattle.djq_live.proofs.Heads.{has_at}
 use Rattle.djq_live.proofs.Rows.{row_fits, row_cells}
 use Rattle.djq_live.proofs.Later.{asked_later, atom_at, cells_later}
-use Rattle.djq_live.proofs.Changing.{over_gains, over_loses}
-use Rattle.djq_live.proofs.Listings.{last_differs}
+use Rattle.djq_live.proofs.Changing.{stands_in, over_gains, over_loses}
+use Rattle.djq_live.proofs.Listings.{late_differs}
 use Rattle.djq_live.proofs.Members.{in_left}
-use Rattle.djq_live.proofs.Tabling.{tuple_wide}
-use Rattle.djq_live.proofs.Below.{within_nodes}
+use Rattle.djq_live.proofs.Giving.{gives_once, one_of, only_one}
 use Rattle.djq_query.specs.declared.pattern.Slot.{Slot}
 
 -- ---- lengths
@@ -134,24 +133,26 @@ leaves_as at cells atoms ps r s e h = record {
 -- ---- a row that came wasn't there, and one that went was
 
 pub none_there : (c d : Catalog) (q : Query) (n : Numbered) (ps : List Shape) (r : Reducts)
-    (at : ℕ) (cells : List ℕ) (row : Tuple) (k : ℕ) → IsOver c q n ps r → Came c d at cells row
-    → HoldBelow (λ p es. Lacks cells p es) at n.atoms ps k r
-none_there c d q n ps r at cells row k h came = record {
-  each = λ j m p low e f on u wide is.
+    (at : ℕ) (cells : List (List ℕ)) (new : List Tuple) (k : ℕ) → IsOver c q n ps r
+    → CameAll c d at cells new → HoldBelow (λ p es. LacksAll cells p es) at n.atoms ps k r
+none_there c d q n ps r at cells new k h came = record {
+  each = λ j m p low e f on u given.
       elim (cases_lt 0 (cnt (entries_at r.tables j) u)) [
         | inr none ↦ omega arith
         | inl some ↦
             let a = atom_at c n.variables q.atoms n.atoms j m h.asked.atoms e in
             let b = atom_at d n.variables q.atoms n.atoms j m
             (asked_later c d q n came.later h.asked).atoms e in
-            let at_row = ((h.leaves j m p e f).holds.exact u wide).0 some in
+            let one = ((h.leaves j m p e f).holds.exact u).0 some in
+            let at_row = one.row in
+            let s = stands_in d at cells new given.cells came.stand given.row in
             let old : Contains (rows_at c.relations at) at_row.row =
             subst (λ (i : ℕ). Contains (rows_at c.relations i) at_row.row) on at_row.there in
-            let new : Contains (rows_at d.relations at) at_row.row =
+            let still : Contains (rows_at d.relations at) at_row.row =
             subst (λ (rows : List Tuple). Contains rows at_row.row) (sym came.rows)
-            (in_left at_row.row (rows_at c.relations at) (row ∷ []) old) in
+            (in_left at_row.row (rows_at c.relations at) new old) in
             let new_there : Contains (rows_at d.relations m.relation) at_row.row =
-            subst (λ (i : ℕ). Contains (rows_at d.relations i) at_row.row) (sym on) new in
+            subst (λ (i : ℕ). Contains (rows_at d.relations i) at_row.row) (sym on) still in
             let of = subst
             (λ (i : ℕ). fits (relation_at d.relations i).types at_row.row ≡ true) on
             (row_fits d n.variables b.atom m at_row.row came.later.catalog b.is new_there) in
@@ -159,17 +160,18 @@ none_there c d q n ps r at cells row k h came = record {
             at_row.there in
             let have = row_cells d n.variables b.atom m at_row.row came.later.catalog b.is
             new_there in
-            let same : row ≡ at_row.row =
-            cells_differ d.texts (relation_at d.relations at).types row at_row.row came.stand.of of
-            came.stand.have have
-            (sym came.stand.are ∙ sym is ∙ at_row.are
+            let same : s.row ≡ at_row.row =
+            cells_differ d.texts (relation_at d.relations at).types s.row at_row.row s.stand.of of
+            s.stand.have have
+            (sym s.stand.are ∙ gives_once p u given.cells one.cells given.gives one.gives
+            ∙ at_row.are
             ∙ sym (cells_later c d at_row.row came.later have_old)) in
             let kept = came.later.catalog.kept at no_relation
             (let low = a.is.below in let long = came.later.long in omega arith) in
             absurd
-            (last_differs row (rows_at c.relations at)
+            (late_differs s.row (rows_at c.relations at) new
             (subst (λ (rows : List Tuple). AreDifferent rows) came.rows kept.differ)
-            (subst (λ (x : Tuple). Contains (rows_at c.relations at) x) (sym same) old))
+            (subst (λ (x : Tuple). Contains (rows_at c.relations at) x) (sym same) old) s.there)
       ];
 }
 
@@ -178,16 +180,20 @@ pub all_there : (c d : Catalog) (q : Query) (n : Numbered) (ps : List Shape) (r 
     → Contains (rows_at c.relations at) row → Went c d at cells row
     → HoldBelow (λ p es. Has cells p es) at n.atoms ps k r
 all_there c d q n ps r at cells row k h there went = record {
-  each = λ j m p low e f on u wide is.
+  each = λ j m p low e f on u gives.
       let a = atom_at c n.variables q.atoms n.atoms j m h.asked.atoms e in
       let here : Contains (rows_at c.relations m.relation) row =
       subst (λ (i : ℕ). Contains (rows_at c.relations i) row) (sym on) there in
-      ((h.leaves j m p e f).holds.exact u wide).1 (record {
-        row = row;
-        there = here;
-        are = is ∙ went.stand.are
-            ∙ cells_later c d row went.later
-            (row_cells c n.variables a.atom m row h.asked.catalog a.is here);
+      ((h.leaves j m p e f).holds.exact u).1 (record {
+        cells = cells;
+        row = record {
+          row = row;
+          there = here;
+          are = went.stand.are
+              ∙ cells_later c d row went.later
+              (row_cells c n.variables a.atom m row h.asked.catalog a.is here);
+        };
+        gives = gives;
       });
 }
 
@@ -196,7 +202,7 @@ pub put_there : (cells : List ℕ) (at : ℕ) (atoms : List NumberedAtom) (ps : 
     (r s : Reducts) → ChangesBelow (λ p old new. Gains p cells old new) at atoms ps k r s
     → HoldBelow (λ p es. Has cells p es) at atoms ps k s
 put_there cells at atoms ps k r s h = record {
-  each = λ j m p low e f on u wide is. (h.over j m p low e f on u wide).1 (inr is);
+  each = λ j m p low e f on u gives. (h.over j m p low e f on u).1 (inr (one_of p u cells gives));
 }
 
 -- ---- the query after the change
@@ -216,15 +222,15 @@ tree_named : (l : Live) (s : Reducts) → s.tree ≡ (l.reducts).tree
     → IsTreeOf (edges_of l.query) (head_of l.query) s.tree
 tree_named l s e h = subst (λ (t : Tree). IsTreeOf (edges_of l.query) (head_of l.query) t) (sym e) h
 
-pub added_kept : (c d : Catalog) (l : Live) (s : Reducts) (at : ℕ) (cells : List ℕ) (row : Tuple)
-    → IsKept c l → Came c d at cells row
-    → ChangesBelow (λ p old new. Gains p cells old new) at (l.numbered).atoms l.patterns
-    (length (l.numbered).atoms) l.reducts s
+pub added_kept : (c d : Catalog) (l : Live) (s : Reducts) (at : ℕ) (cells : List (List ℕ))
+    (new : List Tuple) → IsKept c l → CameAll c d at cells new
+    → ChangesBelow (λ p before after. GainsAll p cells before after) at (l.numbered).atoms
+    l.patterns (length (l.numbered).atoms) l.reducts s
     → IsKept d (record l { reducts = s })
-added_kept c d l s at cells row h came change = record {
-  over = over_gains c d l.query l.numbered l.patterns l.reducts s at cells row h.over came
-      (leaves_change (λ p old new. Gains p cells old new) at l.numbered l.patterns l.reducts s
-      change);
+added_kept c d l s at cells new h came change = record {
+  over = over_gains c d l.query l.numbered l.patterns l.reducts s at cells new h.over came
+      (leaves_change (λ p before after. GainsAll p cells before after) at l.numbered l.patterns
+      l.reducts s change);
   named = tree_named l s change.tree h.named;
   bare = change.bare;
 }
@@ -246,14 +252,17 @@ lost_kept c d l s at cells row h went change = record {
 
 -- a leaf holds what it held once it has lost what it gained and lacked
 back_again : (cells : List ℕ) (p : Shape) (es fs gs : List Entry) (u : List ℕ)
-    → length u ≡ p.width → Lacks cells p es → Gains p cells es fs → Loses p cells fs gs
+    → Lacks cells p es → Gains p cells es fs → Loses p cells fs gs
     → (0 < cnt gs u) ↔ (0 < cnt es u)
-back_again cells p es fs gs u wide lacks gains loses = (
+back_again cells p es fs gs u lacks gains loses = (
   λ there.
-      let k = (loses u wide).0 there in
-      elim ((gains u wide).0 k.0) [ inl before ↦ before | inr is ↦ absurd (k.1 is) ],
-  λ there. (loses u wide).1
-      ((gains u wide).1 (inl there), λ is. let none = lacks u wide is in omega arith),
+      let k = (loses u).0 there in
+      elim ((gains u).0 k.0) [
+        | inl before ↦ before
+        | inr one ↦ absurd (k.1 (only_one p u cells one))
+      ],
+  λ there. (loses u).1
+      ((gains u).1 (inl there), λ gives. let none = lacks u gives in omega arith),
 )
 
 back_leaf : (cells : List ℕ) (at : ℕ) (atoms : List NumberedAtom) (ps : List Shape) (k : ℕ)
@@ -261,9 +270,9 @@ back_leaf : (cells : List ℕ) (at : ℕ) (atoms : List NumberedAtom) (ps : List
     → HoldBelow (λ q es. Lacks cells q es) at atoms ps (length atoms) r
     → ChangesBelow (λ q old new. Gains q cells old new) at atoms ps k r s
     → ChangesBelow (λ q old new. Loses q cells old new) at atoms ps k s t
-    → slice_get atoms j ≡ Some m → slice_get ps j ≡ Some p → length u ≡ p.width
+    → slice_get atoms j ≡ Some m → slice_get ps j ≡ Some p
     → (0 < cnt (entries_at t.tables j) u) ↔ (0 < cnt (entries_at r.tables j) u)
-back_leaf cells at atoms ps k r s t j m p u lacks gains loses e f wide =
+back_leaf cells at atoms ps k r s t j m p u lacks gains loses e f =
     elim (cases_eq m.relation at) [
       | inr off ↦
           let a = gains.others j m e (λ low. off) u in
@@ -272,7 +281,7 @@ back_leaf cells at atoms ps k r s t j m p u lacks gains loses e f wide =
       | inl on ↦
           elim (cases_lt j k) [
             | inl low ↦ back_again cells p (entries_at r.tables j) (entries_at s.tables j)
-                (entries_at t.tables j) u wide
+                (entries_at t.tables j) u
                 (lacks.each j m p (slice_get_within atoms j m e) e f on)
                 (gains.over j m p low e f on) (loses.over j m p low e f on)
             | inr high ↦
@@ -305,11 +314,11 @@ back_kept c l s t at cells k lacks gains loses h =
             (record {
               pattern = leaf.pattern;
               holds = record {
-                exact = λ u wide.
+                exact = λ u.
                     let same = back_leaf cells at (l.numbered).atoms l.patterns k l.reducts s t j
-                    m p u lacks gains loses e f wide in (
-                      λ there. (leaf.holds.exact u wide).0 (same.0 there),
-                      λ is. same.1 ((leaf.holds.exact u wide).1 is),
+                    m p u lacks gains loses e f in (
+                      λ there. (leaf.holds.exact u).0 (same.0 there),
+                      λ is. same.1 ((leaf.holds.exact u).1 is),
                     );
               };
             });
@@ -342,10 +351,7 @@ back_tables c l s t at cells k lacks gains loses h =
         let m = has_at (l.numbered).atoms j (let e = h.over.long in omega arith) in
         let p = has_at l.patterns j
         (let e = h.over.long in let f = h.over.patterns in omega arith) in
-        let wide = (h.over.leaves j m.element p.element m.is p.is).pattern.width in
-        let back : length u ≡ (p.element).width
-        → (0 < cnt (entries_at t.tables j) u) ↔ (0 < cnt (entries_at r.tables j) u) =
-        back_leaf cells at (l.numbered).atoms l.patterns k r s t j m.element p.element u lacks
+        let back = back_leaf cells at (l.numbered).atoms l.patterns k r s t j m.element p.element u lacks
         gains loses m.is p.is in
         let before = cnt_once (entries_at r.tables j) u
         (apart_at r.tables j (h.over.reducts.family.sound j)) in
@@ -353,18 +359,12 @@ back_tables c l s t at cells k lacks gains loses h =
         (apart_at t.tables j (loses.sound.family.sound j)) in
         elim (cases_lt 0 (cnt (entries_at r.tables j) u)) [
           | inl there ↦
-              let w = tuple_wide r j u h.over.reducts (within_nodes r j h.over.reducts low) there in
-              let still = (back (w ∙ sym wide)).1 there in
+              let still = back.1 there in
               omega arith
           | inr none ↦
               elim (cases_lt 0 (cnt (entries_at t.tables j) u)) [
                 | inl there ↦
-                    let lower : j < t.tree.leaves =
-                    subst (λ (x : Tree). j < x.leaves) (sym tree) low in
-                    let w = tuple_wide t j u loses.sound
-                    (within_nodes t j loses.sound lower) there in
-                    let label = ap (λ (x : Tree). length (label_at x.labels j)) tree in
-                    let was = (back (w ∙ label ∙ sym wide)).0 there in
+                    let was = back.0 there in
                     absurd (omega arith)
                 | inr gone ↦ omega arith
               ]

@@ -17,7 +17,7 @@ use Rattle.std.proofs.lemmas.List.Kept.{AllPairs-from_increasing, IsStrictlyIncr
 use Rattle.djq_hyper.specs.Hypergraph.{member, numbers_below, set_below}
 use Rattle.djq_hyper.proofs.Members.{has_filter, one_true, one_false, from_true, from_false}
 use Rattle.djq_plan.proofs.Stepping.{length_below}
-use Rattle.djq_live.proofs.Columns.{member_here, member_on}
+use Rattle.djq_reduct.proofs.Readings.{member_here, member_on}
 
 abbrev pub Rising : List ℕ → Type 0
 Rising l = AllPairs (λ x y. x < y) l

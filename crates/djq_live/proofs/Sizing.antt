@@ -8,10 +8,12 @@ use Rattle.djq_index.specs.Entries.{Entry, cnt}
 use Rattle.djq_index.proofs.Counts.{cnt_cons, cnt_split}
 use Rattle.djq_index.proofs.Apart.{cnt_once, stands}
 use Rattle.djq_index.proofs.Tuples.{one_same}
+use Rattle.djq_tree.specs.Flat.{HasEqualMeets}
 use Rattle.djq_tree.specs.Tree.{Tree}
 use Rattle.djq_reduct.specs.Tables.{entries_at}
 use Rattle.djq_reduct.specs.Reducts.{Reducts, IsReducts}
 use Rattle.djq_reduct.proofs.Family.{apart_at}
+use Rattle.djq_propagate.specs.Touches.{HaveFew}
 use Rattle.djq_propagate.specs.Updates.{HasInserted, HasMarked, HasKept, HasAtMost, paths}
 use Rattle.djq_propagate.proofs.Measuring.{length_even, length_less}
 use Rattle.djq_query.specs.declared.numbered.NumberedAtom.{NumberedAtom}
@@ -24,8 +26,8 @@ use Rattle.djq_live.specs.Stepping.{
   GrowsByOne,
   CountsLeaf,
   CountsLeaves,
+  BoundsLeaf,
   atoms_below,
-  leaf_bound,
 }
 use Rattle.djq_live.proofs.Passing.{counts_over, part_few}
 
@@ -76,16 +78,16 @@ inserted_grows j u old mid new came kept = record {
 
 -- ---- what it counts
 
-sum_inserted : (p n x y z : ℕ) → y ≤ x + 10 * (p * (n + 1)) → z ≤ y + p * (1 + (n + 1))
-    → z ≤ x + 1 * (16 * (p * (n + 1)))
-sum_inserted p n x y z first second =
+sum_inserted : (p n b x y z : ℕ) → 16 * (p * (n + 1)) ≤ b → y ≤ x + 10 * (p * (n + 1))
+    → z ≤ y + p * (1 + (n + 1)) → z ≤ x + 1 * b
+sum_inserted p n b x y z bounds first second =
     let a : p * (n + 1) ≡ p * n + p = omega arith in
     let b : p * (1 + (n + 1)) ≡ p * n + 2 * p = omega arith in
     omega arith
 
-sum_removed : (p n x y z : ℕ) → 0 < p → y ≤ x + 6 * (p * n)
-    → z ≤ y + 1 + 5 * (p * n) + p * (1 + n) → z ≤ x + 1 * (16 * (p * (n + 1)))
-sum_removed p n x y z some first second =
+sum_removed : (p n b x y z : ℕ) → 0 < p → 16 * (p * (n + 1)) ≤ b → y ≤ x + 6 * (p * n)
+    → z ≤ y + 1 + 5 * (p * n) + p * (1 + n) → z ≤ x + 1 * b
+sum_removed p n b x y z some bounds first second =
     let a : p * (n + 1) ≡ p * n + p = omega arith in
     let b : p * (1 + n) ≡ p * n + p = omega arith in
     omega arith
@@ -110,12 +112,38 @@ room_after j u n old mid came room = record {
 pub insertion_counts : (j : ℕ) (u : List ℕ) (old mid : Reducts) (x y z : ℕ)
     → HasInserted old mid j u
     → ((n : ℕ) → HasAtMost mid n → y ≤ x + 10 * (paths old.tree * n))
-    → ((n : ℕ) → HasAtMost mid n → z ≤ y + paths mid.tree * (1 + n)) → CountsLeaf old j 1 x z
-insertion_counts j u old mid x y z came first second = λ n room.
-    let few = room_after j u n old mid came room in
-    sum_inserted (paths old.tree) n x y z (first (n + 1) few)
-    (subst (λ (t : Tree). z ≤ y + paths t * (1 + (n + 1))) (sym came.without.tree)
-    (second (n + 1) few))
+    → ((n : ℕ) → HasAtMost mid n → z ≤ y + paths mid.tree * (1 + n))
+    → (HasEqualMeets old.tree → HaveFew mid.tables)
+    → (HasEqualMeets old.tree → y ≤ x + 10 * (paths old.tree * 1))
+    → (HaveFew mid.tables → z ≤ y + paths mid.tree * (1 + 1)) → CountsLeaf old j 1 x z
+insertion_counts j u old mid x y z came first second marked flat cleared = λ n b room bounds.
+    elim bounds [
+      | inl linear ↦
+          let few = room_after j u n old mid came room in
+          sum_inserted (paths old.tree) n b x y z linear (first (n + 1) few)
+          (subst (λ (t : Tree). z ≤ y + paths t * (1 + (n + 1))) (sym came.without.tree)
+          (second (n + 1) few))
+      | inr even ↦
+          let a = flat even.0 in
+          let c : z ≤ y + paths old.tree * (1 + 1) =
+          subst (λ (t : Tree). z ≤ y + paths t * (1 + 1)) (sym came.without.tree)
+          (cleared (marked even.0)) in
+          let d = even.1 in
+          omega arith
+    ]
+
+-- a leaf that is refused counts at most twice a bound
+pub refused_counts : (j : ℕ) (old : Reducts) (x y : ℕ)
+    → ((n : ℕ) → HasAtMost old n → length (entries_at old.tables j) < n
+    → y ≤ x + 18 * (paths old.tree * n))
+    → (HasEqualMeets old.tree → y ≤ x + 18 * (paths old.tree * 1)) → CountsLeaf old j 2 x y
+refused_counts j old x y bounded flat = λ n b room bounds.
+    elim bounds [
+      | inl linear ↦
+          let few = bounded (n + 1) room.all (let l = room.leaf in omega arith) in
+          omega arith
+      | inr even ↦ (let a = flat even.0 in let d = even.1 in omega arith)
+    ]
 
 some_path : (r : Reducts) → IsReducts r → 0 < paths r.tree
 some_path r h = let some = h.family.is_tree.some in omega arith
@@ -125,18 +153,33 @@ pub removal_counts : (j : ℕ) (u : List ℕ) (old mid : Reducts) (x y z : ℕ) 
     → ((n : ℕ) → HasAtMost old n → y ≤ x + 6 * (paths old.tree * n))
     → ((n : ℕ) → HasAtMost mid n
     → z ≤ y + 1 + 5 * (paths mid.tree * n) + paths mid.tree * (1 + n))
+    → (HasEqualMeets old.tree → HaveFew mid.tables)
+    → (HasEqualMeets old.tree → y ≤ x + 6 * (paths old.tree * 1))
+    → (HasEqualMeets mid.tree → HaveFew mid.tables
+    → z ≤ y + 1 + 5 * (paths mid.tree * 1) + paths mid.tree * (1 + 1))
     → CountsLeaves old 1 x z
-removal_counts j u old mid x y z sound marked first second = λ n few.
-    let still : HasAtMost mid n = record {
-      each = λ i low.
-          let a = few.each i (subst (λ (t : Tree). i < t.leaves) marked.tree low) in
-          let b = length_even (entries_at mid.tables i) (entries_at old.tables i)
-          (marked.tables.tuples i) in
-          omega arith;
-    } in
-    sum_removed (paths old.tree) n x y z (some_path old sound) (first n few)
-    (subst (λ (t : Tree). z ≤ y + 1 + 5 * (paths t * n) + paths t * (1 + n)) marked.tree
-    (second n still))
+removal_counts j u old mid x y z sound marked first second few_marks flat dropped = λ n b few bounds.
+    let some = some_path old sound in
+    elim bounds [
+      | inl linear ↦
+          let still : HasAtMost mid n = record {
+            each = λ i low.
+                let a = few.each i (subst (λ (t : Tree). i < t.leaves) marked.tree low) in
+                let b = length_even (entries_at mid.tables i) (entries_at old.tables i)
+                (marked.tables.tuples i) in
+                omega arith;
+          } in
+          sum_removed (paths old.tree) n b x y z some linear (first n few)
+          (subst (λ (t : Tree). z ≤ y + 1 + 5 * (paths t * n) + paths t * (1 + n)) marked.tree
+          (second n still))
+      | inr even ↦
+          let a = flat even.0 in
+          let c : z ≤ y + 1 + 5 * (paths old.tree * 1) + paths old.tree * (1 + 1) =
+          subst (λ (t : Tree). z ≤ y + 1 + 5 * (paths t * 1) + paths t * (1 + 1)) marked.tree
+          (dropped (subst HasEqualMeets (sym marked.tree) even.0) (few_marks even.0)) in
+          let d = even.1 in
+          omega arith
+    ]
 
 -- ---- leaf after leaf
 
@@ -149,9 +192,9 @@ sum_next j k b x y z e first second =
     subst (λ (i : ℕ). z ≤ x + i * b) e
     (let a : (j + 1) * b ≡ j * b + b = omega arith in omega arith)
 
-bound_as : (r s : Reducts) (n c y z : ℕ) → s.tree ≡ r.tree → z ≤ y + c * leaf_bound s.tree n
-    → z ≤ y + c * leaf_bound r.tree n
-bound_as r s n c y z e h = subst (λ (t : Tree). z ≤ y + c * leaf_bound t n) e h
+bounds_as : (r s : Reducts) (n b : ℕ) → s.tree ≡ r.tree → BoundsLeaf r.tree n b
+    → BoundsLeaf s.tree n b
+bounds_as r s n b e h = subst (λ (t : Tree). BoundsLeaf t n b) (sym e) h
 
 -- with fewer tuples there are at most as many
 fewer_stay : (small big : Reducts) (n : ℕ) → IsReducts small → HasMore small big
@@ -174,9 +217,9 @@ fewer_stay small big n h more few = record {
 
 pub counts_fewer : (r s : Reducts) (j k x y z : ℕ) → IsReducts s → HasMore s r → j + 1 ≡ k
     → CountsLeaves r j x y → CountsLeaves s 1 y z → CountsLeaves r k x z
-counts_fewer r s j k x y z h more e first second = λ n few.
-    sum_next j k (leaf_bound r.tree n) x y z e (first n few)
-    (bound_as r s n 1 y z (sym more.tree) (second n (fewer_stay s r n h more few)))
+counts_fewer r s j k x y z h more e first second = λ n b few bounds.
+    sum_next j k b x y z e (first n b few bounds)
+    (second n b (fewer_stay s r n h more few) (bounds_as r s n b (sym more.tree) bounds))
 
 pub all_grown : (r s : Reducts) (n : ℕ) → s.tree ≡ r.tree → GrowsByOne r s → HasAtMost r n
     → HasAtMost s (n + 1)
@@ -233,10 +276,10 @@ pub counts_next : (Changes : Shape → List Entry → List Entry → Type 0) (at
     (i j x y z : ℕ) → slice_get atoms k ≡ Some m → k < r.tree.leaves
     → ChangesBelow Changes at atoms ps k r s → GrowsByOne r s → i + 1 ≡ j
     → CountsLeaves r i x y → CountsLeaf s k 1 y z → CountsLeaves r j x z
-counts_next Changes at atoms ps k m r s i j x y z e low h grows one first second = λ n few.
-    sum_next i j (leaf_bound r.tree n) x y z one (first n few)
-    (bound_as r s n 1 y z h.tree
-    (second n (room_for Changes at atoms ps k m r s n e low h grows few)))
+counts_next Changes at atoms ps k m r s i j x y z e low h grows one first second = λ n b few bounds.
+    sum_next i j b x y z one (first n b few bounds)
+    (second n b (room_for Changes at atoms ps k m r s n e low h grows few)
+    (bounds_as r s n b h.tree bounds))
 
 -- ---- a leaf that is refused
 
@@ -249,20 +292,20 @@ kept_grows r s t e grows kept = record {
       omega arith;
 }
 
-sum_last : (i b x y z : ℕ) → y ≤ x + i * b → z ≤ y + 3 * b → z ≤ x + (i + 3) * b
+sum_last : (i b x y z : ℕ) → y ≤ x + i * b → z ≤ y + 2 * b → z ≤ x + (i + 2) * b
 sum_last i b x y z first second =
-    let a : (i + 3) * b ≡ i * b + 3 * b = omega arith in
+    let a : (i + 2) * b ≡ i * b + 2 * b = omega arith in
     omega arith
 
 pub counts_last : (Changes : Shape → List Entry → List Entry → Type 0) (at : ℕ)
     (atoms : List NumberedAtom) (ps : List Shape) (k : ℕ) (m : NumberedAtom) (r s : Reducts)
     (i x y z : ℕ) → slice_get atoms k ≡ Some m → k < r.tree.leaves
     → ChangesBelow Changes at atoms ps k r s → GrowsByOne r s → CountsLeaves r i x y
-    → CountsLeaf s k 3 y z → CountsLeaves r (i + 3) x z
-counts_last Changes at atoms ps k m r s i x y z e low h grows first second = λ n few.
-    sum_last i (leaf_bound r.tree n) x y z (first n few)
-    (bound_as r s n 3 y z h.tree
-    (second n (room_for Changes at atoms ps k m r s n e low h grows few)))
+    → CountsLeaf s k 2 y z → CountsLeaves r (i + 2) x z
+counts_last Changes at atoms ps k m r s i x y z e low h grows first second = λ n b few bounds.
+    sum_last i b x y z (first n b few bounds)
+    (second n b (room_for Changes at atoms ps k m r s n e low h grows few)
+    (bounds_as r s n b h.tree bounds))
 
 -- the leaf that is refused is one more over the relation
 pub one_more : (at : ℕ) (atoms : List NumberedAtom) (k : ℕ) (m : NumberedAtom)

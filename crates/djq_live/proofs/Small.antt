@@ -42,12 +42,12 @@ use Rattle.djq_query.specs.Numbered.{is_number}
 use Rattle.djq_query.specs.Pattern.{Shape, filled}
 use Rattle.djq_rows.specs.Cells.{cells_of}
 use Rattle.djq_rows.specs.Catalog.{Catalog, rows_at}
-use Rattle.djq_live.specs.Cells.{cell_under}
-use Rattle.djq_live.specs.Leaves.{IsPatternOf, IsLeafOf}
+use Rattle.djq_live.specs.Cells.{AreRowOf, cell_under}
+use Rattle.djq_live.specs.Leaves.{IsPatternOf, GivesOne, IsLeafOf}
 use Rattle.djq_live.specs.Live.{Live, IsKept}
 use Rattle.djq_live.specs.Updating.{LeavesAreSmall}
 use Rattle.djq_live.proofs.Binding.{pattern_row}
-use Rattle.djq_live.proofs.Columns.{IsSimple, simple_of, reading, reading_row, row_same}
+use Rattle.djq_reduct.proofs.Readings.{IsSimple, simple_of, reading, reading_row, row_same}
 use Rattle.djq_live.proofs.Filled.{in_row}
 use Rattle.djq_live.proofs.Heads.{has_at}
 use Rattle.djq_live.proofs.Later.{atom_at}
@@ -60,7 +60,6 @@ use Rattle.djq_live.proofs.Listings.{
 }
 use Rattle.djq_live.proofs.Members.{in_none, in_cons}
 use Rattle.djq_live.proofs.Rows.{rows_are}
-use Rattle.djq_live.proofs.Tabling.{tuple_wide}
 use Rattle.djq_live.proofs.Terms.{heads, tails}
 
 -- ---- different tuples give different rows
@@ -131,21 +130,23 @@ tuples_differ (e ∷ es) h =
     (tuples_differ es h.1)
 
 leaf_small : (c : Catalog) (l : List ℕ) (m : NumberedAtom) (p : Shape) (es : List Entry)
-    → IsSimple l → AreApart es → ((u : List ℕ) → 0 < cnt es u → length u ≡ p.width)
-    → IsLeafOf c l m p es → length es ≤ length (rows_at c.relations m.relation)
-leaf_small c l m p es simple apart wide h =
+    → IsSimple l → AreApart es → IsLeafOf c l m p es
+    → length es ≤ length (rows_at c.relations m.relation)
+leaf_small c l m p es simple apart h =
     let fill = λ (u : List ℕ). filled u p.slots in
     let us = tuples_of es in
     let rows = rows_at c.relations m.relation in
+    let one : (u : List ℕ) → Contains us u → GivesOne (AreRowOf c m.relation) p u =
+    λ u is. (h.holds.exact u).0 (tuple_there es u is) in
     let no_more = few (map fill us) (map (cells_of c.texts) rows)
     (images_differ fill us (tuples_differ es apart)
-    (λ u v a b e. filled_once c l m p u v simple h.pattern (wide u (tuple_there es u a))
-    (wide v (tuple_there es v b)) e))
+    (λ u v a b e. filled_once c l m p u v simple h.pattern (one u a).gives.wide
+    (one v b).gives.wide e))
     (λ cells is.
     let i = image_of fill us cells is in
-    let there = tuple_there es i.of i.there in
-    subst (λ (w : List ℕ). Contains (map (cells_of c.texts) rows) w) (sym i.is)
-    (in_row c m.relation (fill i.of) ((h.holds.exact i.of (wide i.of there)).0 there))) in
+    let given = one i.of i.there in
+    subst (λ (w : List ℕ). Contains (map (cells_of c.texts) rows) w)
+    (sym given.gives.fills ∙ sym i.is) (in_row c m.relation given.cells given.row)) in
     let a = length-map us fill in
     let b = length-map es (λ (e : Entry). e.tuple) in
     let d = length-map rows (cells_of c.texts) in
@@ -160,12 +161,9 @@ leaf_few c l j m p h low e f =
     let r = l.reducts in
     let s = h.over.reducts in
     let leaf = h.over.leaves j m p e f in
-    let within : j < length r.tree.nodes =
-    (let x = s.family.is_tree.stages.0 in let y = s.family.is_tree.stages.1 in omega arith) in
     leaf_small c (label_at r.tree.labels j) m p (entries_at r.tables j)
     (simple_of (label_at r.tree.labels j) (s.family.is_tree.sets j).rising)
-    (apart_at r.tables j (s.family.sound j))
-    (λ u there. tuple_wide r j u s within there ∙ sym leaf.pattern.width) leaf
+    (apart_at r.tables j (s.family.sound j)) leaf
 
 pub leaves_small : LeavesAreSmall
 leaves_small c l n h most = record {

@@ -37,7 +37,7 @@ use Rattle.djq_reduct.specs.Columns.{columns}
 use Rattle.djq_reduct.specs.Tables.{entries_at, key_at, width_at}
 use Rattle.djq_reduct.specs.Reducts.{Reducts, IsReducts}
 use Rattle.djq_reduct.proofs.Family.{trim_law, meet_law}
-use Rattle.djq_live.proofs.Columns.{Within, within_of, pick_row}
+use Rattle.djq_reduct.proofs.Readings.{Within, within_of, pick_row}
 
 -- an entry's tuple with these cells at the key's columns
 pub record HasPart (key : List ℕ) (es : List Entry) (w : List ℕ) : Type 0 where

@@ -1,6 +1,6 @@
 -- A leaf takes the rows of a relation in, one after another.
 use Rattle.std.proofs.Common.{◌≡◌, ℕ, suc, ◌+◌, ◌<◌, ◌≤◌, true, false, List, [], ◌∷◌, ◌++◌, length, map, refl, ap, sym, subst, ◌∙◌, inl, inr, arith, append_assoc}
-use Rattle.std.specs.Prelude.{◌↔◌, Some, Contains, slice_get, slice_index_or}
+use Rattle.std.specs.Prelude.{Some, Contains, slice_get, slice_index_or}
 use Rattle.std.proofs.Common.{append-nil, length-append}
 use Rattle.std.proofs.Math.Seq.{get_or-append_seam}
 use Rattle.std.proofs.lemmas.Bool.{cases_eq, cases_lt, false≢true}
@@ -20,23 +20,26 @@ use Rattle.djq_reduct.specs.Marks.{IsBare}
 use Rattle.djq_propagate.specs.Updates.{HasInserted, HasKept}
 use Rattle.djq_propagate.proofs.Measuring.{length_less}
 use Rattle.djq_query.specs.declared.numbered.NumberedAtom.{NumberedAtom}
-use Rattle.djq_query.specs.Pattern.{Shape, filled}
+use Rattle.djq_query.specs.Pattern.{Shape}
 use Rattle.djq_rows.specs.Cells.{cells_of}
 use Rattle.djq_rows.specs.Catalog.{Catalog, IsCatalog, no_relation, relation_at, rows_at}
 use Rattle.djq_rows.proofs.Encoding.{cells_long}
 use Rattle.djq_rows.proofs.Lawful.{differ}
 use Rattle.djq_live.specs.Changes.{HoldsThese}
 use Rattle.djq_live.specs.Leaves.{Holds}
+use Rattle.djq_live.specs.Stepping.{Lacks}
 use Rattle.djq_live.specs.Building.{AreFilled, HasTaken, IsFilled, TakesRow, cells_at}
 use Rattle.djq_live.proofs.Terms.{both}
+use Rattle.djq_live.proofs.Giving.{one_is, one_of, only_one}
 use Rattle.djq_live.proofs.Filled.{leaf_empty, leaf_gains, leaf_filled}
+use Rattle.djq_live.proofs.Leafing.{IsOnly}
 use Rattle.djq_live.proofs.Sizing.{inserted_grows}
 
 -- ---- one row
 
-one_is : (u : List ℕ) → one (same u u) ≡ 1
+one_itself : (u : List ℕ) → one (same u u) ≡ 1
 unfolding one
-one_is u = rw (same_refl u) refl
+one_itself u = rw (same_refl u) refl
 
 one_isnt : (u v : List ℕ) → same u v ≡ false → one (same u v) ≡ 0
 unfolding one
@@ -54,24 +57,23 @@ came_count old mid new leaf u v i k =
     omega arith
 
 pub took_row : (p : Shape) (leaf : ℕ) (cells u : List ℕ) (old mid new : Reducts)
-    → HasInserted old mid leaf u → HasKept mid new
-    → ((v : List ℕ) → length v ≡ p.width → (Some u ≡ Some v) ↔ (filled v p.slots ≡ cells))
+    → HasInserted old mid leaf u → HasKept mid new → IsOnly (Some u) p cells
     → TakesRow p leaf cells old new
 took_row p leaf cells u old mid new i k exact = record {
   tree = k.tree ∙ sym i.without.tree;
   bare = k.bare;
-  gains = λ v wide.
+  gains = λ v.
       let count = came_count old mid new leaf u v i k in (
         λ there. elim (same_cases u v) [
-          | inl is ↦ inr ((exact v wide).0 (ap (λ (w : List ℕ). Some w) is))
+          | inl is ↦ inr (one_of p v cells ((exact v).0 (ap (λ (w : List ℕ). Some w) is)))
           | inr isnt ↦ inl (let none = one_isnt u v isnt in omega arith)
         ],
         λ h. elim h [
           | inl before ↦ omega arith
-          | inr fills ↦
-              let is : u ≡ v = same_Some u v ((exact v wide).1 fills) in
+          | inr gives ↦
+              let is : u ≡ v = same_Some u v ((exact v).1 (only_one p v cells gives)) in
               let some : one (same u v) ≡ 1 =
-              ap (λ (w : List ℕ). one (same u w)) (sym is) ∙ one_is u in
+              ap (λ (w : List ℕ). one (same u w)) (sym is) ∙ one_itself u in
               omega arith
         ],
       );
@@ -142,7 +144,7 @@ step_taken c at p leaf row before left old mid new h next takes = record {
   done = h.done ++ row ∷ [];
   parts = h.parts ∙ ap (λ (l : List (List ℕ)). h.done ++ l) next
       ∙ sym (append_assoc h.done (row ∷ []) left);
-  holds = leaf_gains h.done row p (entries_at mid.tables leaf) (entries_at new.tables leaf)
+  holds = leaf_gains h.done (row ∷ []) p (entries_at mid.tables leaf) (entries_at new.tables leaf)
       h.holds takes.gains;
   few = (let a = takes.grows in let b = h.few in let d = length-append h.done (row ∷ []) in
       omega arith);
@@ -170,15 +172,14 @@ end_taken c at p leaf left old new h over = record {
 pub absent_row : (c : Catalog) (at : ℕ) (p : Shape) (leaf : ℕ) (row : List ℕ)
     (before left : List (List ℕ)) (old mid : Reducts) → IsCatalog c → at < length c.relations
     → HasTaken c at p leaf before old mid → before ≡ row ∷ left
-    → (u : List ℕ) → length u ≡ p.width → filled u p.slots ≡ row
-    → cnt (entries_at mid.tables leaf) u ≡ 0
-absent_row c at p leaf row before left old mid catalog low h next u wide fills =
+    → Lacks row p (entries_at mid.tables leaf)
+absent_row c at p leaf row before left old mid catalog low h next u gives =
     elim (cases_lt 0 (cnt (entries_at mid.tables leaf) u)) [
       | inl there ↦ absurd
           (twice (cells_of c.texts) (rows_at c.relations at) h.done left row
           (h.parts ∙ ap (λ (l : List (List ℕ)). h.done ++ l) next)
           (rows_differ c at catalog low)
-          (subst (λ (x : List ℕ). Contains h.done x) fills ((h.holds u wide).0 there)))
+          (one_is (Contains h.done) p u row gives ((h.holds u).0 there)))
       | inr none ↦ omega arith
     ]
 
@@ -235,9 +236,9 @@ few_row c at p leaf row before left old mid catalog low h next =
 holds_kept : (c : Catalog) (at : ℕ) (p : Shape) (es fs : List Entry)
     → ((u : List ℕ) → cnt fs u ≡ cnt es u) → Holds c at p es → Holds c at p fs
 holds_kept c at p es fs same h = record {
-  exact = λ u wide. (
-    λ there. (h.exact u wide).0 (let e = same u in omega arith),
-    λ is. (let e = same u in let s = (h.exact u wide).1 is in omega arith),
+  exact = λ u. (
+    λ there. (h.exact u).0 (let e = same u in omega arith),
+    λ is. (let e = same u in let s = (h.exact u).1 is in omega arith),
   );
 }
 

@@ -1,5 +1,5 @@
 -- The tree of a query: its leaves have the atoms' variables, and no label is wide.
-use Rattle.std.proofs.Common.{◌≡◌, ℕ, zero, suc, ◌<◌, ◌≤◌, true, List, [], ◌∷◌, ◌++◌, length, map, take, refl, ap, sym, ◌∙◌, inl, inr, arith, append_assoc}
+use Rattle.std.proofs.Common.{◌≡◌, ◌↔◌, ℕ, Bool, IsTrue, zero, suc, ◌<◌, ◌≤◌, true, List, [], ◌∷◌, ◌++◌, length, map, take, refl, ap, sym, ◌∙◌, subst, inl, inr, arith, append_assoc}
 use Rattle.std.specs.Prelude.{◌==◌, ◌||◌, Some, slice_get}
 use Rattle.std.specs.List.{list_all, list_any}
 use Rattle.std.proofs.lemmas.Bool.{cases_Bool, cases_eq, cases_lt, ne_eqb, false≢true}
@@ -7,6 +7,7 @@ use Rattle.std.proofs.lemmas.List.{get_or_append_left, get_or_past, length-map, 
 use Rattle.std.proofs.lemmas.List.Kept.{AllPairs-from_increasing}
 use Rattle.djq_hyper.specs.Hypergraph.{member, edge_at, set_below, one}
 use Rattle.djq_hyper.specs.Variables.{AreNamed}
+use Rattle.djq_hyper.specs.Flat.{IsFlat}
 use Rattle.djq_hyper.proofs.Members.{one_le, from_true, from_false}
 use Rattle.djq_hyper.proofs.Bags.{numbers, times}
 use Rattle.djq_model.specs.declared.relation.Relation.{Relation}
@@ -35,7 +36,7 @@ use Rattle.djq_query.specs.declared.numbered.NumberedTerm.TheVariants.{
 }
 use Rattle.djq_query.specs.declared.numbered.NumberedAtom.{NumberedAtom}
 use Rattle.djq_query.specs.Numbered.{AreNumbered, are_below, is_number, numbered_terms}
-use Rattle.djq_live.proofs.Columns.{within_of}
+use Rattle.djq_reduct.proofs.Readings.{within_of}
 use Rattle.djq_live.proofs.Graphs.{numbers_same, high_terms, and_parts, edges_long}
 use Rattle.djq_live.proofs.Sets.{Rising, set_has, set_lacks, first_alone}
 use Rattle.std.proofs.lemmas.Option.{same_Some}
@@ -81,6 +82,16 @@ pub tree_leaf_labels : (H : List (List ℕ)) (F : List ℕ) (t : Tree) → IsTre
 tree_leaf_labels H F t h =
     let b = tree_begins H F t h in
     ap (take t.leaves) b.is ∙ take_at H b.more t.leaves (sym (tree_leaves H F t h))
+
+-- whether a query is flat is told by its tree's leaves and head
+pub flat_told : (H : List (List ℕ)) (F : List ℕ) (t s : Tree) → IsTreeOf H F t → s ≡ t
+    → (labels : List (List ℕ)) (head : List ℕ) (flat : Bool) → labels ≡ leaf_labels s → head ≡ s.head
+    → IsTrue flat ↔ IsFlat labels head → IsTrue flat ↔ IsFlat H F
+flat_told H F t s h same labels head flat leaves top told =
+    subst (λ (L : List (List ℕ)). IsTrue flat ↔ IsFlat L F)
+    (leaves ∙ ap leaf_labels same ∙ tree_leaf_labels H F t h)
+    (subst (λ (G : List ℕ). IsTrue flat ↔ IsFlat labels G)
+    (top ∙ ap (λ (u : Tree). u.head) same ∙ tree_head H F t h) told)
 
 -- ---- the variables of an edge
 

@@ -411,6 +411,7 @@ numbered_asked c q n catalog fault h have =
     (λ k v e. e) in
     record {
       catalog = catalog;
+      variables = s.variables;
       atoms = atoms_of c q.atoms n.variables [] q.atoms n.atoms grows agree s.body h.atoms
           sound.known
           sound.arity (no_misfit rs q fault) (λ p none. none) have;

@@ -22,6 +22,7 @@ use Rattle.djq_model.specs.declared.query.Atom.{Atom}
 use Rattle.djq_model.specs.Data.{Bytes}
 use Rattle.djq_model.specs.Typed.{is_of}
 use Rattle.djq_lines.specs.QueryFault.{query_fault}
+use Rattle.djq_lines.specs.Variables.{variables_of}
 use Rattle.djq_query.specs.declared.numbered.Variable.{Variable}
 use Rattle.djq_query.specs.declared.numbered.NumberedTerm.{NumberedTerm}
 use Rattle.djq_query.specs.declared.numbered.NumberedTerm.TheVariants.{
@@ -71,10 +72,12 @@ AreAtomsOf c variables (a ∷ atoms) (m ∷ ms) =
 AreAtomsOf c variables [] (m ∷ ms) = ⊥
 AreAtomsOf c variables (a ∷ atoms) [] = ⊥
 
--- A query over numbers stands for a query over a catalog: atom by atom, each name has one number,
--- each hole has one of its own, and the head's numbers have the head's names.
+-- A query over numbers stands for a query over a catalog: its variables are those of its body in
+-- the order in which they first stand; atom by atom, each name has one number, each hole has one of
+-- its own, and the head's numbers have the head's names.
 pub record IsAsked (c : Catalog) (q : Query) (n : Numbered) : Type 0 where
   pub catalog : IsCatalog c
+  pub variables : labels n.variables ≡ variables_of q.atoms
   pub atoms : AreAtomsOf c n.variables q.atoms n.atoms
   pub one : (x : ℕ) (name : Bytes) → slice_get (labels n.variables) x ≡ Some (Some name)
       → number_of (labels n.variables) name ≡ x

@@ -4,6 +4,7 @@ use Rattle.std.specs.Prelude.{
   ◌≢◌,
   ◌↔◌,
   ◌⊎◌,
+  ⊤,
   ℕ,
   ◌<◌,
   ◌≤◌,
@@ -24,7 +25,7 @@ use Rattle.djq_reduct.specs.Tables.{entries_at}
 use Rattle.djq_reduct.specs.Reducts.{Reducts, IsReducts}
 use Rattle.djq_query.specs.declared.numbered.NumberedAtom.{NumberedAtom}
 use Rattle.djq_query.specs.Numbered.{Numbered}
-use Rattle.djq_query.specs.Pattern.{Shape, filled}
+use Rattle.djq_query.specs.Pattern.{Shape, Gives}
 use Rattle.djq_rows.specs.Cells.{cells_of}
 use Rattle.djq_rows.specs.Catalog.{
   Catalog,
@@ -34,7 +35,7 @@ use Rattle.djq_rows.specs.Catalog.{
   rows_at,
   with_rows_at,
 }
-use Rattle.djq_live.specs.Leaves.{Holds, IsOver}
+use Rattle.djq_live.specs.Leaves.{GivesOne, Holds, IsOver}
 
 -- A later catalog: the relations are there with their names and types, and further relations and
 -- texts may be.
@@ -48,20 +49,32 @@ pub record IsLater (c d : Catalog) : Type 0 where
   pub typed : (at : ℕ) → at < length c.relations
       → (relation_at d.relations at).types ≡ (relation_at c.relations at).types
 
+-- cells stand for rows of the relation at a place, one for one
+abbrev pub StandForRows : Catalog → ℕ → List (List ℕ) → List Tuple → Type 0
+StandForRows c at [] [] = ⊤
+StandForRows c at (k ∷ cells) (row ∷ rows) = StandForRow c at k row × StandForRows c at cells rows
+StandForRows c at [] (row ∷ rows) = ⊥
+StandForRows c at (k ∷ cells) [] = ⊥
+
 -- no relation has other rows
 pub record HasSameRows (c d : Catalog) : Type 0 where
   pub later : IsLater c d
   pub same : (at : ℕ) → at < length c.relations → rows_at d.relations at ≡ rows_at c.relations at
 
--- a row with these cells came into the relation at a place
-pub record Came (c d : Catalog) (at : ℕ) (cells : List ℕ) (row : Tuple) : Type 0 where
-  pub later : IsLater c d
-  pub stand : StandForRow d at cells row
-  pub rows : rows_at d.relations at ≡ rows_at c.relations at ++ row ∷ []
-  pub others : (k : ℕ) → k < length c.relations → k ≢ at
-      → rows_at d.relations k ≡ rows_at c.relations k
+-- rows with these cells, one for one, came into the relation at a place
+pub record CameAll (c d : Catalog) (at : ℕ) (cells : List (List ℕ)) (new : List Tuple) : Type 0
+  where
+    pub later : IsLater c d
+    pub stand : StandForRows d at cells new
+    pub rows : rows_at d.relations at ≡ rows_at c.relations at ++ new
+    pub others : (k : ℕ) → k < length c.relations → k ≢ at
+        → rows_at d.relations k ≡ rows_at c.relations k
 
--- it went out of it
+-- one row with these cells came
+abbrev pub Came : Catalog → Catalog → ℕ → List ℕ → Tuple → Type 0
+Came c d at cells row = CameAll c d at (cells ∷ []) (row ∷ [])
+
+-- a row with these cells went out of the relation at a place
 pub record Went (c d : Catalog) (at : ℕ) (cells : List ℕ) (row : Tuple) : Type 0 where
   pub later : IsLater c d
   pub stand : StandForRow d at cells row
@@ -69,15 +82,18 @@ pub record Went (c d : Catalog) (at : ℕ) (cells : List ℕ) (row : Tuple) : Ty
   pub others : (k : ℕ) → k < length c.relations → k ≢ at
       → rows_at d.relations k ≡ rows_at c.relations k
 
--- the entries gained the tuples that put into the atom give these cells, of which there is one at
--- most; or they lost them
+-- the entries gained the tuples that put into the atom give one of these rows of cells
+abbrev pub GainsAll : Shape → List (List ℕ) → List Entry → List Entry → Type 0
+GainsAll p rows old new = (u : List ℕ)
+    → (0 < cnt new u) ↔ ((0 < cnt old u) ⊎ GivesOne (Contains rows) p u)
+
+-- they gained the tuple that gives these cells, of which there is one at most; or they lost it
 abbrev pub Gains : Shape → List ℕ → List Entry → List Entry → Type 0
-Gains p cells old new = (u : List ℕ) → length u ≡ p.width
-    → (0 < cnt new u) ↔ ((0 < cnt old u) ⊎ (filled u p.slots ≡ cells))
+Gains p cells old new = GainsAll p (cells ∷ []) old new
 
 abbrev pub Loses : Shape → List ℕ → List Entry → List Entry → Type 0
-Loses p cells old new = (u : List ℕ) → length u ≡ p.width
-    → (0 < cnt new u) ↔ ((0 < cnt old u) × (filled u p.slots ≢ cells))
+Loses p cells old new = (u : List ℕ)
+    → (0 < cnt new u) ↔ ((0 < cnt old u) × (Gives p u cells → ⊥))
 
 -- the entries hold the same tuples
 abbrev pub Keeps : List Entry → List Entry → Type 0
@@ -99,11 +115,11 @@ abbrev pub OverStays : Type 0
 OverStays = (c d : Catalog) (q : Query) (n : Numbered) (ps : List Shape) (r : Reducts)
     → IsOver c q n ps r → HasSameRows c d → IsOver d q n ps r
 
--- Where a row came, they are once the leaves have gained its tuples.
+-- Where rows came, they are once the leaves have gained their tuples.
 abbrev pub OverGains : Type 0
 OverGains = (c d : Catalog) (q : Query) (n : Numbered) (ps : List Shape) (r s : Reducts) (at : ℕ)
-    (cells : List ℕ) (row : Tuple) → IsOver c q n ps r → Came c d at cells row
-    → LeavesChange (λ p old new. Gains p cells old new) at n ps r s → IsOver d q n ps s
+    (cells : List (List ℕ)) (new : List Tuple) → IsOver c q n ps r → CameAll c d at cells new
+    → LeavesChange (λ p old new. GainsAll p cells old new) at n ps r s → IsOver d q n ps s
 
 -- Where a row went, they are once the leaves have lost its tuples.
 abbrev pub OverLoses : Type 0
@@ -126,17 +142,16 @@ DeletedWent = (c d : Catalog) (at : ℕ) (cells : List ℕ) (row : Tuple) → Is
 
 -- a leaf's entries hold exactly the tuples that put into the atom give one of these rows of cells
 abbrev pub HoldsThese : List (List ℕ) → Shape → List Entry → Type 0
-HoldsThese rows p es = (u : List ℕ) → length u ≡ p.width
-    → (0 < cnt es u) ↔ Contains rows (filled u p.slots)
+HoldsThese rows p es = (u : List ℕ) → (0 < cnt es u) ↔ GivesOne (Contains rows) p u
 
--- A leaf is filled row by row: without tuples it holds those of no rows, a row more makes it gain
--- the row's tuples, and with all rows of a relation it holds what it should.
+-- A leaf is filled row by row: without tuples it holds those of no rows, more rows make it gain
+-- their tuples, and with all rows of a relation it holds what it should.
 abbrev pub LeafIsEmpty : Type 0
 LeafIsEmpty = (p : Shape) (es : List Entry) → ((u : List ℕ) → cnt es u ≡ 0) → HoldsThese [] p es
 
 abbrev pub LeafGains : Type 0
-LeafGains = (rows : List (List ℕ)) (cells : List ℕ) (p : Shape) (old new : List Entry)
-    → HoldsThese rows p old → Gains p cells old new → HoldsThese (rows ++ cells ∷ []) p new
+LeafGains = (rows more : List (List ℕ)) (p : Shape) (old new : List Entry)
+    → HoldsThese rows p old → GainsAll p more old new → HoldsThese (rows ++ more) p new
 
 abbrev pub LeafIsFilled : Type 0
 LeafIsFilled = (c : Catalog) (at : ℕ) (p : Shape) (es : List Entry)

@@ -15,7 +15,7 @@ use Rattle.djq_query.specs.declared.numbered.NumberedTerm.TheVariants.{
 }
 use Rattle.djq_query.specs.declared.numbered.NumberedAtom.{NumberedAtom}
 use Rattle.djq_query.specs.Numbered.{Numbered, is_number}
-use Rattle.djq_query.specs.Pattern.{Shape, bound, filled}
+use Rattle.djq_query.specs.Pattern.{Shape, Gives, bound}
 use Rattle.djq_rows.specs.Cells.{cell_of}
 use Rattle.djq_rows.specs.Catalog.{Catalog}
 use Rattle.djq_live.specs.Cells.{AreRowOf}
@@ -41,10 +41,15 @@ pub record IsPatternOf (texts : List Bytes) (label : List ℕ) (m : NumberedAtom
   pub are : AreCellsOf texts m.terms cells
   pub slots : p.slots ≡ bound label m.terms cells
 
+-- a tuple put into the atom gives one of such rows
+pub record GivesOne (IsRow : List ℕ → Type 0) (p : Shape) (u : List ℕ) : Type 0 where
+  pub cells : List ℕ
+  pub row : IsRow cells
+  pub gives : Gives p u cells
+
 -- a leaf's entries hold exactly the tuples that put into the atom give a row of its relation
 pub record Holds (c : Catalog) (at : ℕ) (p : Shape) (es : List Entry) : Type 0 where
-  pub exact : (u : List ℕ) → length u ≡ p.width
-      → (0 < cnt es u) ↔ AreRowOf c at (filled u p.slots)
+  pub exact : (u : List ℕ) → (0 < cnt es u) ↔ GivesOne (AreRowOf c at) p u
 
 -- the leaf of an atom
 pub record IsLeafOf (c : Catalog) (label : List ℕ) (m : NumberedAtom) (p : Shape)

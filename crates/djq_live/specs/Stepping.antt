@@ -9,6 +9,7 @@ use Rattle.std.specs.Prelude.{
   ℕ,
   ◌<◌,
   ◌≤◌,
+  ◌⊎◌,
   Bool,
   true,
   false,
@@ -19,10 +20,12 @@ use Rattle.std.specs.Prelude.{
   take,
   filter,
   Some,
+  Contains,
   slice_get,
 }
 use Rattle.djq_machine.specs.Store.{most_steps}
 use Rattle.djq_index.specs.Entries.{Entry, cnt}
+use Rattle.djq_tree.specs.Flat.{HasEqualMeets}
 use Rattle.djq_tree.specs.Labels.{label_at}
 use Rattle.djq_tree.specs.Tree.{Tree}
 use Rattle.djq_reduct.specs.Tables.{entries_at}
@@ -33,15 +36,20 @@ use Rattle.djq_cursor.specs.Listing.{IsListing}
 use Rattle.djq_cursor.specs.declared.log.Line.{Line}
 use Rattle.djq_cursor.specs.Log.{Log}
 use Rattle.djq_query.specs.declared.numbered.NumberedAtom.{NumberedAtom}
-use Rattle.djq_query.specs.Pattern.{Shape, filled}
+use Rattle.djq_query.specs.Pattern.{Shape, Gives}
+use Rattle.djq_live.specs.Leaves.{GivesOne}
 use Rattle.djq_live.specs.Changes.{Keeps}
 
--- no entry's tuple gives these cells, put into the atom; or each tuple that gives them is there
+-- no entry's tuple gives one of these rows of cells, put into the atom
+abbrev pub LacksAll : List (List ℕ) → Shape → List Entry → Type 0
+LacksAll rows p es = (u : List ℕ) → GivesOne (Contains rows) p u → cnt es u ≡ 0
+
+-- no entry's tuple gives these cells; or each tuple that gives them is there
 abbrev pub Lacks : List ℕ → Shape → List Entry → Type 0
-Lacks cells p es = (u : List ℕ) → length u ≡ p.width → filled u p.slots ≡ cells → cnt es u ≡ 0
+Lacks cells p es = (u : List ℕ) → Gives p u cells → cnt es u ≡ 0
 
 abbrev pub Has : List ℕ → Shape → List Entry → Type 0
-Has cells p es = (u : List ℕ) → length u ≡ p.width → filled u p.slots ≡ cells → 0 < cnt es u
+Has cells p es = (u : List ℕ) → Gives p u cells → 0 < cnt es u
 
 -- One leaf changed so, each other one holds what it held, and no update is unfinished.
 pub record ChangesAt (Changes : Shape → List Entry → List Entry → Type 0) (p : Shape) (j : ℕ)
@@ -134,17 +142,18 @@ pub record GrowsByOne (r s : Reducts) : Type 0 where
   pub each : (j : ℕ) → j < r.tree.leaves
       → length (entries_at s.tables j) ≤ length (entries_at r.tables j) + 1
 
--- what an update of a leaf counts at most, where no leaf has more than n tuples before it
-abbrev pub leaf_bound : Tree → ℕ → ℕ
-leaf_bound t n = 16 * (paths t * (n + 1))
+-- b bounds what an update of one leaf counts, where no leaf has more than n tuples before it; over
+-- equal meets it is the same whatever n is.
+abbrev pub BoundsLeaf : Tree → ℕ → ℕ → Type 0
+BoundsLeaf t n b = (16 * (paths t * (n + 1)) ≤ b) ⊎ (HasEqualMeets t × (16 * paths t ≤ b))
 
--- A tuple that came into the leaf j counts so many times the bound at most.
+-- A tuple that came into the leaf j counts so many times such a bound at most.
 abbrev pub CountsLeaf : Reducts → ℕ → ℕ → ℕ → ℕ → Type 0
-CountsLeaf r j times before now = (n : ℕ) → HasRoom r j n
-    → now ≤ before + times * leaf_bound r.tree n
+CountsLeaf r j times before now = (n b : ℕ) → HasRoom r j n → BoundsLeaf r.tree n b
+    → now ≤ before + times * b
 
--- Updates count so many times the bound at most, where no leaf has more than n tuples before all
+-- Updates count so many times such a bound at most, where no leaf has more than n tuples before all
 -- of them.
 abbrev pub CountsLeaves : Reducts → ℕ → ℕ → ℕ → Type 0
-CountsLeaves r times before now = (n : ℕ) → HasAtMost r n
-    → now ≤ before + times * leaf_bound r.tree n
+CountsLeaves r times before now = (n b : ℕ) → HasAtMost r n → BoundsLeaf r.tree n b
+    → now ≤ before + times * b

@@ -6,6 +6,9 @@ use Rattle.djq_model.specs.Answer.{IsAnswer}
 use Rattle.djq_lines.specs.declared.answer.Sign.TheVariants.{Came as HasCome, Went as HasGone}
 use Rattle.djq_machine.specs.Delta.{Change, IsDelta}
 use Rattle.djq_machine.specs.Store.{most_steps}
+use Rattle.djq_hyper.specs.Flat.{IsFlat}
+use Rattle.djq_lines.specs.Hypergraph.{edges_of, head_of}
+use Rattle.djq_tree.specs.Flat.{HasEqualMeets}
 use Rattle.djq_propagate.specs.Updates.{HasAtMost}
 use Rattle.djq_cursor.specs.declared.log.Line.{Line}
 use Rattle.djq_cursor.specs.Log.{Log}
@@ -30,9 +33,9 @@ pub record CanDelete (l : Live) (at : ℕ) (cells : List ℕ) : Type 0 where
   pub there : Contains (rows_at before.relations at) row
   pub went : Went before after at cells row
 
--- The query is kept over the later catalog, too.
-abbrev pub Follows : (Catalog → Catalog → Tuple → Type 0) → Live → Live → Type 0
-Follows Changed old new = (c d : Catalog) (row : Tuple) → IsKept c old → Changed c d row
+-- The query is kept over the later catalog, too, whatever changed: a row or some rows.
+abbrev pub Follows : {R : Type 0} → (Catalog → Catalog → R → Type 0) → Live → Live → Type 0
+Follows {R} Changed old new = (c d : Catalog) (what : R) → IsKept c old → Changed c d what
     → IsKept d new
 
 -- the change that a line of a log tells
@@ -47,20 +50,21 @@ abbrev pub IsDeltaOf : Live → Catalog → Catalog → List Change → Type 0
 IsDeltaOf l c d = IsDelta (IsAnswer c.relations l.query) (IsAnswer d.relations l.query)
 
 -- Unless the log is lost, it tells the delta behind what it told, in lines that can be shown.
-pub record Logs (Changed : Catalog → Catalog → Tuple → Type 0) (old : Live) (log new : Log) :
-    Type 0 where
+pub record Logs {R : Type 0} (Changed : Catalog → Catalog → R → Type 0) (old : Live)
+    (log new : Log) : Type 0 where
   pub lines : List Line
   pub behind : new.lost ≡ false → new.lines ≡ log.lines ++ lines
-  pub tells : new.lost ≡ false → (c d : Catalog) (row : Tuple) → IsKept c old → Changed c d row
+  pub tells : new.lost ≡ false → (c d : Catalog) (what : R) → IsKept c old → Changed c d what
       → IsDeltaOf old c d (map (change_of d.texts old) lines)
-  pub shown : new.lost ≡ false → (c d : Catalog) (row : Tuple) → IsKept c old → Changed c d row
+  pub shown : new.lost ≡ false → (c d : Catalog) (what : R) → IsKept c old → Changed c d what
       → All (λ k. IsShowable d.texts old k.answer) lines
   pub stays : log.lost ≡ true → new.lost ≡ true
 
 -- What becomes of the log, where the delta is wanted and where it isn't.
-abbrev pub LogsWhere : Bool → (Catalog → Catalog → Tuple → Type 0) → Live → Log → Log → Type 0
-LogsWhere true Changed old log new = Logs Changed old log new
-LogsWhere false Changed old log new = new ≡ log
+abbrev pub LogsWhere :
+    {R : Type 0} → Bool → (Catalog → Catalog → R → Type 0) → Live → Log → Log → Type 0
+LogsWhere {R} true Changed old log new = Logs Changed old log new
+LogsWhere {R} false Changed old log new = new ≡ log
 
 -- The log tells of no change, and isn't lost.
 pub record IsEmpty (log : Log) : Type 0 where
@@ -78,11 +82,11 @@ delta_bound l at changes = (length changes + atoms_over l at) * most_steps (leng
 
 -- the listing count, where the delta is wanted and where it isn't
 abbrev pub CountsDelta :
-    Bool → (Catalog → Catalog → Tuple → Type 0) → Live → ℕ → ℕ → ℕ → Type 0
-CountsDelta true Changed old at before now = (c d : Catalog) (row : Tuple) (changes : List Change)
-    → IsKept c old → Changed c d row → IsDeltaOf old c d changes
-    → now ≤ before + delta_bound old at changes
-CountsDelta false Changed old at before now = now ≡ before
+    {R : Type 0} → Bool → (Catalog → Catalog → R → Type 0) → Live → ℕ → ℕ → ℕ → Type 0
+CountsDelta {R} true Changed old at before now =
+    (c d : Catalog) (what : R) (changes : List Change) → IsKept c old → Changed c d what
+    → IsDeltaOf old c d changes → now ≤ before + delta_bound old at changes
+CountsDelta {R} false Changed old at before now = now ≡ before
 
 -- What an update counts at most for an atom, where no leaf has more than n tuples before it. No path
 -- to the root has more nodes than there are atoms and variables: there is one meet fewer than atoms,
@@ -95,6 +99,21 @@ update_bound l n =
 abbrev pub CountsUpdate : ℕ → Live → ℕ → ℕ → ℕ → Type 0
 CountsUpdate times l at before now = (n : ℕ) → HasAtMost l.reducts n
     → now ≤ before + times * (atoms_over l at * update_bound l n)
+
+-- What an update of a flat query counts at most for an atom, whatever the number of tuples.
+abbrev pub flat_bound : Live → ℕ
+flat_bound l = 16 * (length l.numbered.atoms + length l.numbered.variables)
+
+-- Where the query is flat, the update count is so many times this at most for each atom over the
+-- relation.
+abbrev pub CountsFlat : ℕ → Live → ℕ → ℕ → ℕ → Type 0
+CountsFlat times l at before now = IsFlat (edges_of l.query) (head_of l.query)
+    → now ≤ before + times * (atoms_over l at * flat_bound l)
+
+-- The meets of the tree of a flat query that is kept have equal labels.
+abbrev pub FlatMeetsAreEqual : Type 0
+FlatMeetsAreEqual = (c : Catalog) (l : Live) → IsKept c l
+    → IsFlat (edges_of l.query) (head_of l.query) → HasEqualMeets (l.reducts).tree
 
 -- no relation that the query reads has more than n rows
 pub record HasFewRows (c : Catalog) (l : Live) (n : ℕ) : Type 0 where

@@ -8,8 +8,8 @@ pub fn over_stays()
     ensures { OverStays }
 {}
 
-/// Where a row came, the reducts are those of the query once each leaf over the row's relation has
-/// gained the tuple that put into its atom gives the row, if there is one.
+/// Where rows came into a relation, the reducts are those of the query once each leaf over the
+/// relation has gained the tuples that put into its atom give one of them.
 pub fn over_gains()
     ensures { OverGains }
 {}
@@ -34,7 +34,7 @@ pub fn leaf_is_empty()
     ensures { LeafIsEmpty }
 {}
 
-/// A leaf that gains a row's tuples holds those of the rows before and of that row.
+/// A leaf that gains the tuples of further rows holds those of the rows before and of these.
 pub fn leaf_gains()
     ensures { LeafGains }
 {}

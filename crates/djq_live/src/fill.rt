@@ -1,7 +1,6 @@
 //! The leaves of a query, row by row.
 ghost use Rattle.std.specs.Prelude.{◌≡◌, ℕ, ◌<◌, ◌≤◌, List, IfOk, length};
 ghost use Rattle.djq_index.specs.Entries.{cnt};
-ghost use Rattle.djq_query.specs.Pattern.{filled};
 ghost use Rattle.djq_reduct.specs.Tables.{entries_at};
 ghost use Rattle.djq_reduct.specs.Marks.{IsBare};
 ghost use Rattle.djq_tree.specs.Labels.{label_at};
@@ -12,6 +11,7 @@ ghost use Rattle.djq_live.specs.Building.{
   SuitsRelation,
   TakesRow,
 };
+ghost use Rattle.djq_live.specs.Stepping.{Lacks};
 
 use djq_model::NoMem;
 use djq_propagate::{finish_insertion, insert_leaf};
@@ -32,8 +32,7 @@ fn insert_row<U: Ledger>(
     requires leaf { leaf < reducts.old.tree.leaves }
     requires width { pattern.now.width ≡ length (label_at reducts.old.tree.labels leaf) }
     requires columns { length row.now ≡ length pattern.now.slots }
-    requires absent { (u : List ℕ) → length u ≡ pattern.now.width → filled u pattern.now.slots
-        ≡ row.now → cnt (entries_at reducts.old.tables leaf) u ≡ 0 }
+    requires absent { Lacks row.now pattern.now (entries_at reducts.old.tables leaf) }
     requires bare { IsBare reducts.old.tables }
     requires few { length (entries_at reducts.old.tables leaf) < 4294967295 }
     ensures { IfOk result (λ _. TakesRow pattern.now leaf row.now reducts.old reducts.new) }

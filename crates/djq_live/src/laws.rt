@@ -3,7 +3,7 @@ ghost use Rattle.djq_live.specs.Shown.{AnswersAreShown, AnswersAreListed};
 ghost use Rattle.djq_live.specs.Shown.{AnswersDiffer, AnswersStand};
 ghost use Rattle.djq_live.specs.Live.{AnswersAreShowable, ShowableStays};
 ghost use Rattle.djq_live.specs.Body.{HeadsAreBound};
-ghost use Rattle.djq_live.specs.Updating.{LeavesAreSmall};
+ghost use Rattle.djq_live.specs.Updating.{LeavesAreSmall, FlatMeetsAreEqual};
 
 /// A tuple of values is an answer of the query exactly where an answer of the tree shows it: a
 /// tuple of cells whose projection on every node of `out` is in the node's table (Idris, Ugarte and
@@ -51,4 +51,9 @@ pub fn heads_are_bound()
 /// A leaf of a query that is kept has no more tuples than its relation has rows.
 pub fn leaves_are_small()
     ensures { LeavesAreSmall }
+{}
+
+/// The tree of a flat query that is kept has meets of equal labels alone.
+pub fn flat_meets_are_equal()
+    ensures { FlatMeetsAreEqual }
 {}

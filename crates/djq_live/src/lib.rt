@@ -15,19 +15,22 @@
 //!
 //! It keeps no rows and no texts: it is kept *over* a catalog, which the engine changes first. What
 //! ties the two is a predicate of the contracts, `IsLive` (`specs/Live.antt`), and each call says
-//! over which catalog the query is kept afterwards. A change makes no cursor stale by itself: whoever
-//! reads one next calls [`LiveQuery::outdate`] before.
+//! over which catalog the query is kept afterwards. A change makes no cursor stale by itself:
+//! whoever reads one next calls [`LiveQuery::outdate`] before.
 //!
 //! What surprises: no contract needs a word on how a leaf's tuples came. A leaf holds exactly the
 //! tuples that put into the atom give a row of the relation, so constants and repeated variables
 //! need no case, and neither do relations that are read twice.
 //!
-//! Inside, the functions with empty bodies are laws between tables and answers. An answer goes
-//! through an assignment of cells to numbers. From a node of `out` down to the leaves it is extended
-//! trim by trim, by a tuple of the trim's child: what the trim drops is in no label above it, so
-//! nothing that was settled changes. From values to cells each hole takes the cell of the row where
-//! it stands. A row goes into its leaves, or out of them, one after another, and what is listed leaf
-//! by leaf is the change of the answers: they only grow, or only shrink.
+//! Inside, it is the algorithm of Idris, Ugarte and Vansummeren (*The dynamic Yannakakis
+//! algorithm*, SIGMOD 2017) between a catalog and a list of answers: the planner's tree, its
+//! reducts, their updates and their cursors are djq_plan's, djq_reduct's, djq_propagate's and
+//! djq_cursor's. The functions with empty bodies are laws between tables and answers. An answer
+//! goes through an assignment of cells to numbers. From a node of `out` down to the leaves it is
+//! extended trim by trim, by a tuple of the trim's child: what the trim drops is in no label above
+//! it, so nothing that was settled changes. From values to cells each hole takes the cell of the
+//! row where it stands. A row goes into its leaves, or out of them, one after another, and what is
+//! listed leaf by leaf is the change of the answers: they only grow, or only shrink.
 #![tactic(auto)]
 
 pub use build::intern_constants;
@@ -39,7 +42,7 @@ pub use cursors::Progress;
 pub use fault::query_fault_of;
 pub use laws::{
     answers_are_listed, answers_are_showable, answers_are_shown, answers_differ, answers_stand,
-    heads_are_bound, leaves_are_small, numbered_is_asked, showable_stays,
+    flat_meets_are_equal, heads_are_bound, leaves_are_small, numbered_is_asked, showable_stays,
 };
 pub use listing::Next;
 pub use live::LiveQuery;

@@ -127,9 +127,9 @@ impl LiveQuery {
     /// `Arity` where it has another number of values, else `WrongType` where one has another type.
     pub fn suits(&self, tuple: &[Value]) -> Result<(), Refusal>
         ensures ok { OnOk result ((c : CatalogModel) → IsLive c self.now
-            → misfit (answer_types c.relations (Some self.now.query)) tuple.now ≡ None) }
+            → misfit (answer_types c.relations self.now.query) tuple.now ≡ None) }
         ensures err { IfErr result (λ r. (c : CatalogModel) → IsLive c self.now
-            → misfit (answer_types c.relations (Some self.now.query)) tuple.now ≡ Some r) }
+            → misfit (answer_types c.relations self.now.query) tuple.now ≡ Some r) }
     {
         let head = self.numbered.head();
         if tuple.len() != head.len() {
@@ -151,7 +151,7 @@ impl LiveQuery {
         listing: &mut Tally<Listing<L>>,
     ) -> bool
         requires live { IsLive catalog.now self.now }
-        requires suits { misfit (answer_types catalog.now.relations (Some self.now.query)) tuple.now
+        requires suits { misfit (answer_types catalog.now.relations self.now.query) tuple.now
             ≡ None }
         ensures tells { Tells (IsAnswer catalog.now.relations self.now.query tuple.now) result }
         ensures counted { listing.new ≤ listing.old + length self.now.query.atoms }

@@ -1,6 +1,11 @@
 ghost use Rattle.std.specs.Prelude.{◌≡◌};
+ghost use Rattle.djq_model.specs.Listed.{a_query};
+ghost use Rattle.djq_machine.specs.Store.{IsShapeOf};
+ghost use Rattle.djq_live.specs.Live.{IsKeptSomewhere};
 
 use crate::cursors::Cursors;
+use djq_hyper::is_flat;
+use djq_lines::Shape;
 use djq_model::Query;
 use djq_query::{NumberedQuery, Pattern};
 use djq_reduct::Reducts;
@@ -38,5 +43,19 @@ impl LiveQuery {
         ensures { result.now ≡ self.now.reducts }
     {
         &self.reducts
+    }
+
+    /// What bounds an update: its query's variables alone tell, and those of an atom are the label of
+    /// its leaf.
+    pub fn shape(&self) -> Shape
+        requires { IsKeptSomewhere self.now }
+        ensures { IsShapeOf (a_query self.now.query) result }
+    {
+        let tree = self.reducts.tree();
+        if is_flat(tree.leaf_labels(), &tree.head()) {
+            Shape::Flat
+        } else {
+            Shape::Linear
+        }
     }
 }

@@ -102,7 +102,7 @@ fn add_to_leaf<L: Ledgers>(
     ensures grows { OnOk result (GrowsAt leaf reducts.old reducts.new) }
     ensures updates { OnOk result (CountsLeaf reducts.old leaf 1
         steps.old.update steps.new.update) }
-    ensures refusal { OnErr result (CountsLeaf reducts.old leaf 3
+    ensures refusal { OnErr result (CountsLeaf reducts.old leaf 2
         steps.old.update steps.new.update) }
     ensures rows { steps.new.rows ≡ steps.old.rows }
 {
@@ -178,7 +178,7 @@ pub(crate) fn add_to_leaves<L: Ledgers>(
         → CountsLeaves reducts.old (atoms_below relation atoms.now result)
         steps.old.update steps.new.update }
     ensures refusal { result < length atoms.now
-        → CountsLeaves reducts.old (atoms_below relation atoms.now result + 3)
+        → CountsLeaves reducts.old (atoms_below relation atoms.now result + 2)
         steps.old.update steps.new.update }
     ensures left { result < length atoms.now → atoms_below relation atoms.now result + 1
         ≤ atoms_below relation atoms.now (length atoms.now) }

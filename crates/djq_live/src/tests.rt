@@ -70,7 +70,7 @@ fn make(
     for _column in 0..columns {
         types.push(ColumnType::Int)?;
     }
-    if types.len() > 3 {
+    if types.is_empty() || types.len() > 3 {
         return Err(NoMem)?;
     }
     Ok(catalog.relation(Name::new(&[name]), types)?)

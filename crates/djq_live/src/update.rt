@@ -14,6 +14,7 @@ ghost use Rattle.djq_live.specs.Updating.{
   LogsWhere,
   IsEmpty,
   CountsDelta,
+  CountsFlat,
   CountsUpdate,
 };
 
@@ -32,12 +33,13 @@ impl LiveQuery {
     ///
     /// For each atom over the relation the update count rises by at most 16(m + v)(n + 1), where the
     /// query has m atoms and v variables, holes counted in, and no leaf more than n tuples before.
+    /// Where the query is flat, by at most 16(m + v), whatever the number of tuples.
     ///
     /// # Errors
     ///
     /// `NoMem` out of memory; all tables are as before, with the same supports, and the log is empty.
     /// The update count then rises by at most three times as much, since the leaves that took the row
-    /// in give it back.
+    /// in give it back; where the query is flat, by at most twice as much.
     pub fn add<L: Ledgers>(
         &mut self,
         relation: RelationId,
@@ -62,6 +64,10 @@ impl LiveQuery {
         ensures updates { OnOk result (CountsUpdate 1 self.old relation.at
             steps.old.update steps.new.update) }
         ensures refusal { OnErr result (CountsUpdate 3 self.old relation.at
+            steps.old.update steps.new.update) }
+        ensures flat { OnOk result (CountsFlat 1 self.old relation.at
+            steps.old.update steps.new.update) }
+        ensures flat_refusal { OnErr result (CountsFlat 2 self.old relation.at
             steps.old.update steps.new.update) }
         ensures rows { steps.new.rows ≡ steps.old.rows }
     {
@@ -114,6 +120,7 @@ impl LiveQuery {
             self.old relation.at steps.old.listing steps.new.listing }
         ensures updates { CountsUpdate 1 self.old relation.at
             steps.old.update steps.new.update }
+        ensures flat { CountsFlat 1 self.old relation.at steps.old.update steps.new.update }
         ensures rows { steps.new.rows ≡ steps.old.rows }
     {
         let atoms = self.numbered.atoms();
@@ -146,6 +153,7 @@ impl LiveQuery {
         ensures counted { steps.new.listing ≡ steps.old.listing }
         ensures updates { CountsUpdate 1 self.old relation.at
             steps.old.update steps.new.update }
+        ensures flat { CountsFlat 1 self.old relation.at steps.old.update steps.new.update }
         ensures rows { steps.new.rows ≡ steps.old.rows }
     {
         let atoms = self.numbered.atoms();

@@ -6,9 +6,8 @@ use Rattle.std.proofs.Common.{refl, sym, ap, ◌∙◌, subst, inl, inr, arith, 
 use Rattle.std.proofs.lemmas.Bool.{and_parts, leb-true}
 use Rattle.std.proofs.lemmas.Str.{IsUtf8-from_ascii, is_utf8-from_IsUtf8}
 use Rattle.std.proofs.lemmas.Str.Ascii.{IsAscii-nil, IsAscii-cons}
-use Rattle.djq_model.specs.declared.query.Query.{Query}
-use Rattle.djq_model.specs.Data.{Bytes, Tuple, bytes_eq, query_of}
-use Rattle.djq_model.specs.Answer.{IsAnswer}
+use Rattle.djq_model.specs.Data.{Bytes, Tuple, bytes_eq}
+use Rattle.djq_model.specs.Listed.{Listed, AnswersOf, listed_of}
 use Rattle.djq_lines.specs.declared.answer.EndCause.{EndCause}
 use Rattle.djq_lines.specs.declared.answer.EndCause.TheVariants.{Memory}
 use Rattle.djq_lines.specs.declared.answer.Refusal.{Refusal}
@@ -115,7 +114,7 @@ record Runs (text : Bytes) (mid new : State) : Type 0 where
   session : Session
   found : session_of mid 1 ≡ Some session
   rest : Bytes
-  reads : ReadStep (with_session mid 1 (behind_line rest)) 1 (behind_line rest session) (reading_of text) effect step.mid
+  reads : ReadStep (with_session mid 1 (behind_line rest)) 1 (behind_line rest session) text (reading_of text) effect step.mid
   stays : IsOpen step.mid 1
   pending : pending_of step.mid 1 ≡ pending_of mid 1
 
@@ -150,7 +149,7 @@ runs line text mid new before now held is full (l, inr m) =
       session = f.0;
       found = f.1;
       rest = t.rest;
-      reads = subst (λ (k : Bytes). ReadStep (with_session mid 1 (behind_line t.rest)) 1 (behind_line t.rest f.0) (reading_of k) m.effect h.mid) e t.then;
+      reads = subst (λ (k : Bytes). ReadStep (with_session mid 1 (behind_line t.rest)) 1 (behind_line t.rest f.0) k (reading_of k) m.effect h.mid) e t.then;
       stays = subst (λ (o : Option Session). IsSome o) (sym (k.touches).now) refl;
       pending = ap pending_in (k.touches).now ∙ k.pending ∙ sym (ap pending_in f.1);
     }
@@ -193,17 +192,17 @@ record NextTold (given : List Tuple) (st : State) (y : Session) (e : Effect) (m 
   cursors : session.cursors ≡ with_position y.cursors (codes "c") (open_at (given ++ told) end)
   pending : session.pending ≡ y.pending
 
-next_told : (given : List Tuple) (st : State) (y : Session) (q : Query) (e : Effect) (m : State) → session_of st 1 ≡ Some y → query_of st.store.queries (codes "q") ≡ Some q → cause_of m 1 ≡ None
+next_told : (given : List Tuple) (st : State) (y : Session) (q : Listed) (e : Effect) (m : State) → session_of st 1 ≡ Some y → listed_of st.store.queries (codes "q") ≡ Some q → cause_of m 1 ≡ None
     → NextStep st 1 (codes "c") q given 1000 e m ⊎ NextCutStep st 1 q given 1000 e m → NextTold given st y e m
 next_told given st y q e m found registered running (inl h) = record {
   told = h.told;
   end = h.end;
   few = (h.tells).at_most;
   full = (h.tells).all_asked;
-  some = λ left ends. some_told (IsAnswer st.store.relations q) given h.told
-      (subst (λ (o : Option Query). IsSomeAnd o (λ p. (t : Tuple) × IsLeft (IsAnswer st.store.relations p) given t)) registered left) ((h.tells).none_left ends);
+  some = λ left ends. some_told (AnswersOf st.store.relations q) given h.told
+      (subst (λ (o : Option Listed). IsSomeAnd o (λ p. (t : Tuple) × IsLeft (AnswersOf st.store.relations p) given t)) registered left) ((h.tells).none_left ends);
   left = λ goes. subst (λ (store : Store). HasLeft store (given ++ h.told)) (sym (ap (λ (s : State). s.store) h.state))
-      (subst (λ (o : Option Query). IsSomeAnd o (λ p. (t : Tuple) × IsLeft (IsAnswer st.store.relations p) (given ++ h.told) t)) (sym registered) ((h.tells).some_left goes));
+      (subst (λ (o : Option Listed). IsSomeAnd o (λ p. (t : Tuple) × IsLeft (AnswersOf st.store.relations p) (given ++ h.told) t)) (sym registered) ((h.tells).some_left goes));
   queued = ap (λ (d : Effect). to_session 1 d.queued) h.effect ∙ says_to 1 (text_of (listing_lines h.told h.end));
   session = record y { cursors = with_position y.cursors (codes "c") (open_at (given ++ h.told) h.end) };
   found = changed_to st m y (λ x. record x { cursors = with_position x.cursors (codes "c") (open_at (given ++ h.told) h.end) }) (λ x. refl) found h.state;
@@ -213,11 +212,11 @@ next_told given st y q e m found registered running (inl h) = record {
 next_told given st y q e m found registered running (inr h) = absurd (none_some (cause_of m 1) Memory running (ended_cause st m y found h.state))
 
 next_at : (given : List Tuple) (ended : Bool) (st : State) (y : Session) (e : Effect) (m : State) → session_of st 1 ≡ Some y → cursor_of y.cursors (codes "c") ≡ Some (cursor_at given ended) → cause_of m 1 ≡ None
-    → ReadStep st 1 y (says_command (Next (codes "c") 1000)) e m → NextTold given st y e m
+    → ReadStep st 1 y (codes "next c 1000") (says_command (Next (codes "c") 1000)) e m → NextTold given st y e m
 next_at given ended st y e m found stands running (true, h) =
-    let at : IsSomeAnd (query_of st.store.queries (codes "q")) (λ q. NextStepAt st 1 (codes "c") q 1000 (open_at given ended) e m) =
-    subst (λ (o : Option Cursor). MatchOption o (RefusedStep st 1 NoCursor e m) (λ k. IsSomeAnd (query_of st.store.queries k.query) (λ q. NextStepAt st 1 (codes "c") q 1000 k.position e m))) stands h in
-    let q = some_and (query_of st.store.queries (codes "q")) (λ q. NextStepAt st 1 (codes "c") q 1000 (open_at given ended) e m) at in
+    let at : IsSomeAnd (listed_of st.store.queries (codes "q")) (λ q. NextStepAt st 1 (codes "c") q 1000 (open_at given ended) e m) =
+    subst (λ (o : Option Cursor). MatchOption o (RefusedStep st 1 NoCursor e m) (λ k. IsSomeAnd (listed_of st.store.queries k.query) (λ q. NextStepAt st 1 (codes "c") q 1000 k.position e m))) stands h in
+    let q = some_and (listed_of st.store.queries (codes "q")) (λ q. NextStepAt st 1 (codes "c") q 1000 (open_at given ended) e m) at in
     next_told given st y q.0 e m found q.1 running q.2
 next_at given ended st y e m found stands running (false, h) = absurd (not_true h.0)
   where
@@ -250,7 +249,7 @@ next_run given ended mid new stands pending running r =
     let y = behind_line r.rest r.session in
     let here = behind_found mid r.session r.rest r.found in
     let stays : cursor_of y.cursors (codes "c") ≡ Some (cursor_at given ended) = ap (λ (o : Option Session). cursor_of (cursors_in o) (codes "c")) (sym r.found) ∙ stands in
-    let reads = subst (λ (k : Reading). ReadStep st 1 y k r.effect (r.step).mid) next_reads r.reads in
+    let reads = subst (λ (k : Reading). ReadStep st 1 y (codes "next c 1000") k r.effect (r.step).mid) next_reads r.reads in
     let t = next_at given ended st y r.effect (r.step).mid here stays (sym (stepped_cause mid r.event r.effect new r.step 1) ∙ running) reads in
     record {
       told = t.told;
@@ -336,7 +335,7 @@ opened_by L st y e m (Err r) found told answer effect after =
     absurd (not_refused r (sym (says_to 1 (refusal_line r)) ∙ sym (ap (λ (d : Effect). to_session 1 d.queued) effect) ∙ told))
 
 open_at_once : (st : State) (y : Session) (e : Effect) (m : State) → session_of st 1 ≡ Some y → to_session 1 e.queued ≡ codes "ok open\n"
-    → ReadStep st 1 y (says_command (Open (codes "c") (codes "q"))) e m → cursor_of (cursors_of m) (codes "c") ≡ Some (cursor_at [] false)
+    → ReadStep st 1 y (codes "open c q") (says_command (Open (codes "c") (codes "q"))) e m → cursor_of (cursors_of m) (codes "c") ≡ Some (cursor_at [] false)
 open_at_once st y e m found told (true, h) = opened_by _ st y e m h.result found told h.answer h.effect h.state
 open_at_once st y e m found told (false, h) = absurd (not_true h.0)
   where
@@ -351,7 +350,7 @@ open_run mid new none told r =
     sym (stepped_pending mid r.event r.effect new r.step 1 r.stays ∙ ap (λ (p : Bytes). p ++ to_session 1 (r.effect).queued) (r.pending ∙ none)) ∙ told in
     ap (λ (cs : List Cursor). cursor_of cs (codes "c")) (stepped_cursors mid r.event r.effect new r.step)
     ∙ open_at_once st y r.effect (r.step).mid (behind_found mid r.session r.rest r.found) queued
-    (subst (λ (k : Reading). ReadStep st 1 y k r.effect (r.step).mid) open_reads r.reads)
+    (subst (λ (k : Reading). ReadStep st 1 y (codes "open c q") k r.effect (r.step).mid) open_reads r.reads)
 
 open_front : front_of open_line ≡ a_line (codes "open c q") []
 open_front = refl

@@ -241,7 +241,7 @@ ran_feeds line old before mid new now here comes (l, inr m) = front_feeds line o
 
 stepped_by : (line : Bytes) (old : State) (before : Counts) (mid : State) (r : Stepped) (new : State) (now : Counts) → IsFed line mid → cause_of mid 1 ≡ None
     → Feeds (line ∷ []) old before mid before → StepGives mid 1 r new before now → Feeds (line ∷ []) old before new now
-stepped_by line old before mid Ran new now here running comes h = ran_feeds line old before mid new now here comes h
+stepped_by line old before mid (Ran kept) new now here running comes h = ran_feeds line old before mid new now here comes h.0
 stepped_by line old before mid Dry new now here running comes h =
     subst (λ (st : State). Feeds (line ∷ []) old before st now) (sym h.0) (subst (λ (counted : Counts). Feeds (line ∷ []) old before mid counted) (sym h.1) comes)
 stepped_by line old before mid (HadEnded c) new now here running comes h =

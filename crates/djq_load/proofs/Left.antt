@@ -2,9 +2,8 @@
 use Rattle.std.specs.Prelude.{List, [], ◌∷◌, ◌++◌, ◌<◌, Option, None, Some, IsSomeAnd, Contains, length}
 use Rattle.std.proofs.Common.{sym, ap, ◌∙◌, subst, arith, append-nil}
 use Rattle.djq_model.specs.declared.relation.Relation.{Relation}
-use Rattle.djq_model.specs.declared.query.Query.{Query}
 use Rattle.djq_model.specs.Data.{Tuple}
-use Rattle.djq_model.specs.Answer.{IsAnswer}
+use Rattle.djq_model.specs.Listed.{Listed, AnswersOf}
 use Rattle.djq_machine.specs.State.{Store, State}
 use Rattle.djq_machine.specs.Store.{IsLeft, AreAll}
 use Rattle.djq_machine.specs.Effect.{Effect}
@@ -13,8 +12,8 @@ use Rattle.djq_laws.proofs.Answering.{SameAnswers, reordered_same}
 use Rattle.djq_laws.proofs.Watching.{queued_store}
 use Rattle.djq_load.specs.Totals.{HasLeft}
 
-moved : (rs rs' : List Relation) (o : Option Query) (given : List Tuple) → ((q : Query) → SameAnswers rs rs' q)
-    → IsSomeAnd o (λ q. (t : Tuple) × IsLeft (IsAnswer rs q) given t) → IsSomeAnd o (λ q. (t : Tuple) × IsLeft (IsAnswer rs' q) given t)
+moved : (rs rs' : List Relation) (o : Option Listed) (given : List Tuple) → ((q : Listed) → SameAnswers rs rs' q)
+    → IsSomeAnd o (λ q. (t : Tuple) × IsLeft (AnswersOf rs q) given t) → IsSomeAnd o (λ q. (t : Tuple) × IsLeft (AnswersOf rs' q) given t)
 moved rs rs' None given same h = h
 moved rs rs' (Some q) given same (t, h) = (t, ((same q).there t h.0, h.1))
 

@@ -2,9 +2,8 @@
 use Rattle.std.specs.Prelude.{ℕ, List, [], ◌∷◌, ◌++◌, ◌≡◌, ◌≢◌, ◌==◌, ◌+◌, ◌*◌, ◌%◌, ◌^◌, ◌<◌, ◌≤◌, zero, suc, Bool, true, false, Option, None, Some, Result, Ok, Err, All, length, replicate, codes, ⊤, is_err, IfOk, OnOk, ◌⊎◌}
 use Rattle.std.proofs.Common.{refl, sym, ap, ap₂, ◌∙◌, subst, inl, inr, length-append, arith}
 use Rattle.std.proofs.lemmas.List.Elements.{All-nil}
-use Rattle.djq_model.specs.declared.query.Query.{Query}
-use Rattle.djq_model.specs.Data.{Bytes, Tuple, bytes_eq, query_of}
-use Rattle.djq_model.specs.Answer.{IsAnswer}
+use Rattle.djq_model.specs.Data.{Bytes, Tuple, bytes_eq}
+use Rattle.djq_model.specs.Listed.{Listed, AnswersOf, listed_of}
 use Rattle.djq_lines.specs.declared.answer.Refusal.TheVariants.{NoMemory}
 use Rattle.djq_lines.specs.Reply.{refusal_line}
 use Rattle.djq_machine.specs.State.{State, Session, Cursor, open_at, session_of, cursor_of, fresh}
@@ -130,9 +129,9 @@ none_give : (st : State) → st.sessions ≡ [] → CursorsGive st
 none_give st none = subst (λ (xs : List Session). All (SessionGives st.store.relations st.store.queries) xs) (sym none) (All-nil (SessionGives st.store.relations st.store.queries))
 
 record HasGiven (st : State) (given : List Tuple) (ended : Bool) : Type 0 where
-  query : Query
-  registered : query_of st.store.queries (codes "q") ≡ Some query
-  gives : Gives (IsAnswer st.store.relations query) given ended
+  query : Listed
+  registered : listed_of st.store.queries (codes "q") ≡ Some query
+  gives : Gives (AnswersOf st.store.relations query) given ended
 
 has_given : (start : State) (done : List Did) (st : State) (given : List Tuple) (ended : Bool) → Walk RunNext start done st → start.sessions ≡ [] → Stands st given ended → HasGiven st given ended
 has_given start done st given ended walk none stands =
@@ -141,9 +140,9 @@ has_given start done st given ended walk none stands =
     let qs = st.store.queries in
     let f = found_in st given ended (session_of st 1) refl stands in
     let of_session : SessionGives rs qs f.session = all_found (SessionGives rs qs) (λ (x : Session). x.id == 1) st.sessions f.session give f.is in
-    let of_cursor : PositionGives rs (query_of qs (codes "q")) (open_at given ended) =
+    let of_cursor : PositionGives rs (listed_of qs (codes "q")) (open_at given ended) =
     all_found (CursorGives rs qs) (λ (c : Cursor). bytes_eq c.name (codes "c")) (f.session).cursors (cursor_at given ended) of_session f.cursor in
-    let q = some_and (query_of qs (codes "q")) (λ (q : Query). Gives (IsAnswer rs q) given ended) of_cursor in
+    let q = some_and (listed_of qs (codes "q")) (λ (q : Listed). Gives (AnswersOf rs q) given ended) of_cursor in
     record { query = q.0; registered = q.1; gives = q.2 }
 
 totals_are : (start : State) (done : List Did) (st : State) (totals : Totals) (reads : ℕ) → Walk RunNext start done st → start.sessions ≡ [] → (h : IsTold st totals reads) → AreTotals st h.given totals

@@ -1,9 +1,9 @@
 -- What a load comes to.
 use Rattle.std.specs.Prelude.{ℕ, ℤ, pos, negsuc, List, [], ◌∷◌, ◌≡◌, ◌+◌, ◌-◌, ◌*◌, ◌++◌, ◌/◌, ◌%◌, ◌^◌, ◌<◌, ◌⊎◌, Bool, true, false, Option, None, Some, IsSomeAnd, length, replicate, codes, sum_by}
-use Rattle.djq_model.specs.declared.query.Query.{Query}
 use Rattle.djq_model.specs.declared.value.Value.{Value}
-use Rattle.djq_model.specs.Data.{Bytes, Tuple, query_of}
-use Rattle.djq_model.specs.Answer.{IsAnswer, IsListing}
+use Rattle.djq_model.specs.Data.{Bytes, Tuple}
+use Rattle.djq_model.specs.Answer.{IsListing}
+use Rattle.djq_model.specs.Listed.{Listed, AnswersOf, listed_of}
 use Rattle.djq_value.specs.Literal.{integer_of}
 use Rattle.djq_value.specs.ValueText.{value_text}
 use Rattle.djq_machine.specs.State.{Store, State}
@@ -43,8 +43,8 @@ reads_for count = 1 + (count - 1) / 1000
 
 -- The query `q` has an answer that isn't among these.
 abbrev pub HasLeft : Store → List Tuple → Type 0
-HasLeft store given = IsSomeAnd (query_of store.queries (codes "q"))
-    (λ q. (t : Tuple) × IsLeft (IsAnswer store.relations q) given t)
+HasLeft store given = IsSomeAnd (listed_of store.queries (codes "q"))
+    (λ q. (t : Tuple) × IsLeft (AnswersOf store.relations q) given t)
 
 -- What was read, by so many reads, is what the cursor has given. Where it wasn't told the end, each
 -- read gave a thousand answers, and behind the first read some are left; else the last read alone
@@ -82,9 +82,9 @@ next_line = codes "next c 1000\n"
 -- **What the totals are**: the query `q` has these answers over the relations, each counted once,
 -- and their integers add up to the sum, modulo 2^64.
 pub record AreTotals (st : State) (answers : List Tuple) (totals : Totals) : Type 0 where
-  pub query : Query
-  pub registered : query_of st.store.queries (codes "q") ≡ Some query
-  pub listing : IsListing (IsAnswer st.store.relations query) answers
+  pub query : Listed
+  pub registered : listed_of st.store.queries (codes "q") ≡ Some query
+  pub listing : IsListing (AnswersOf st.store.relations query) answers
   pub count : totals.answers ≡ length answers
   pub sum : totals.sum ≡ amount_of answers % 2 ^ 64
 
@@ -112,9 +112,9 @@ pub record StopsShort (n seed : ℕ) (old : State) (before : Counts) (new : Stat
   pub given : List Tuple
   pub stands : Stands new given false
   pub many : length given ≡ 1000 * nexts
-  pub query : Query
-  pub registered : query_of new.store.queries (codes "q") ≡ Some query
-  pub gives : Gives (IsAnswer new.store.relations query) given false
+  pub query : Listed
+  pub registered : listed_of new.store.queries (codes "q") ≡ Some query
+  pub gives : Gives (AnswersOf new.store.relations query) given false
 
 -- **How reading stops out of memory.** Session 1 was fed these lines, and then some that read the
 -- cursor: each was answered a thousand answers, each of them once, and the cursor stands before its

@@ -232,7 +232,7 @@ fn run_line<M: Machine, L: Ledgers>(
     let Fed::Held = machine.feed(ID, line) else {
         return Err(LoadRefusal::NoMem);
     };
-    let Stepped::Ran = machine.step(ID, steps) else {
+    let Stepped::Ran { .. } = machine.step(ID, steps) else {
         return Err(LoadRefusal::NoMem);
     };
     match machine.cause(ID) {

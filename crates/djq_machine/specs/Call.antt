@@ -1,5 +1,6 @@
 -- What the calls of a machine promise.
 use Rattle.std.specs.Prelude.{ℕ, [], ◌≡◌, ◌+◌, ◌<◌, ◌≤◌, ◌⊎◌, ◌&&◌, ◌||◌, Bool, true, nat_le, nat_lt, Option, None, Some, IsSome, MatchOption, is_some, find, Result, Ok, Err, length, ⊤}
+use Rattle.std.proofs.Common.{inl, inr}
 use Rattle.djq_model.specs.Data.{Bytes}
 use Rattle.djq_lines.specs.declared.limits.TheConstants.{SESSIONS}
 use Rattle.djq_lines.specs.declared.answer.EndCause.{EndCause}
@@ -12,6 +13,7 @@ use Rattle.djq_machine.specs.declared.machine.OpenRefusal.{OpenRefusal}
 use Rattle.djq_machine.specs.declared.machine.OpenRefusal.TheVariants.{Full, NoMem}
 use Rattle.djq_machine.specs.State.{State, Session, session_of}
 pub use Rattle.djq_machine.specs.State.{ids_of}
+use Rattle.djq_machine.specs.Keeping.{Keeping, kept_where}
 use Rattle.djq_machine.specs.Effect.{Effect}
 use Rattle.djq_machine.specs.LineStep.{long, blank, slow, no_room, run}
 use Rattle.djq_machine.specs.Step.{Event, opened, stepped, Step, is_dry}
@@ -80,6 +82,11 @@ FedGives old s (HadEnded c) new = (cause_of new s ≡ Some c) × MatchOption (ca
 abbrev pub RanStep : State → ℕ → State → Counts → Counts → Type 0
 RanStep old s new before now = (l : Bytes) × (MakesCounted old (stepped s (blank l)) new before now ⊎ MakesCounted old (stepped s (run l)) new before now)
 
+-- what is kept of a line that was blank, or was run
+abbrev pub kept_by : (old : State) (s : ℕ) (new : State) (before now : Counts) → RanStep old s new before now → Keeping
+kept_by old s new before now (l, inl m) = m.effect.kept
+kept_by old s new before now (l, inr m) = m.effect.kept
+
 -- A session ended before its line was run: it was too long, too much was pending, or there was no room for a reply.
 abbrev pub EndedStepAs : EndCause → State → ℕ → State → Counts → Counts → Type 0
 EndedStepAs Long old s new before now = MakesCounted old (stepped s long) new before now
@@ -87,10 +94,11 @@ EndedStepAs Slow old s new before now = (l : Bytes) × MakesCounted old (stepped
 EndedStepAs Memory old s new before now = (l : Bytes) × MakesCounted old (stepped s (no_room l)) new before now
 EndedStepAs _ old s new before now = ⊥
 
--- What a step answers: a line was run, or dropped where it is blank; there is no whole line; or the session had ended, or
--- ended before its line was run. A line that is run and ends its own session was run.
+-- What a step answers: a line was run, or dropped where it is blank, and is kept or isn't; there is no whole line; or the
+-- session had ended, or ended before its line was run. A line that is run and ends its own session was run.
 abbrev pub StepGives : State → ℕ → Stepped → State → Counts → Counts → Type 0
-StepGives old s Ran new before now = RanStep old s new before now
+StepGives old s (Ran kept) new before now = (ran : RanStep old s new before now)
+    × (kept_by old s new before now ran ≡ kept_where kept)
 StepGives old s Dry new before now = (new ≡ old) × (now ≡ before) × (cause_of old s ≡ None) × (is_dry (held_of old s) ≡ true)
 StepGives old s (Ended c) new before now = MatchOption (cause_of old s)
     (EndedStepAs c old s new before now)

@@ -33,14 +33,16 @@ use Rattle.std.specs.Prelude.{
 }
 use Rattle.std.specs.List.{list_any}
 use Rattle.djq_model.specs.declared.query.Query.{Query}
-use Rattle.djq_model.specs.Data.{Bytes, Tuple, bytes_eq, drop_first, rows_of, without_row, query_of}
-use Rattle.djq_model.specs.Answer.{IsAnswer, AreDifferent}
+use Rattle.djq_model.specs.Data.{Bytes, Tuple, bytes_eq, drop_first}
+use Rattle.djq_model.specs.Answer.{AreDifferent}
+use Rattle.djq_model.specs.Listed.{Listed, a_query, AnswersOf, listed_of}
 use Rattle.djq_lines.specs.declared.limits.TheConstants.{CURSORS, REPLY_BYTES}
 use Rattle.djq_lines.specs.declared.answer.Refusal.{Refusal}
 use Rattle.djq_lines.specs.declared.answer.Refusal.TheVariants.{Taken, NoQuery, NoCursor, Limit}
 use Rattle.djq_lines.specs.declared.rest.QueryOutcome.{QueryOutcome}
 use Rattle.djq_lines.specs.declared.answer.AddOutcome.{AddOutcome}
 use Rattle.djq_lines.specs.declared.answer.DeleteOutcome.{DeleteOutcome}
+use Rattle.djq_lines.specs.declared.answer.Shape.{Shape}
 use Rattle.djq_lines.specs.declared.answer.EndCause.TheVariants.{
   Quit as SaidQuit,
   Stop as SaidStop,
@@ -60,6 +62,7 @@ use Rattle.djq_lines.specs.declared.command.Command.TheVariants.{
   Watch,
   Unwatch,
   Explain,
+  Shape as AskShape,
   Quit,
   Stop,
 }
@@ -75,6 +78,7 @@ use Rattle.djq_lines.specs.Reply.{
   delete_reply,
   query_reply,
   has_reply,
+  shape_reply,
   watch_reply,
   bye,
   end_memory,
@@ -106,13 +110,15 @@ use Rattle.djq_machine.specs.Store.{
   DropsQuery,
   TellsWhether,
   has_steps,
+  TellsShape,
   TellsAnswers,
   IsLeft,
-  most_steps,
+  answer_steps,
 }
-use Rattle.djq_machine.specs.Stale.{add_outdates, add_accepted, delete_outdates}
+use Rattle.djq_machine.specs.Changes.{row_in, row_out, add_outcome, delete_outcome}
 use Rattle.djq_machine.specs.Watch.{is_watching, ChangeStep}
-use Rattle.djq_machine.specs.Effect.{Effect, says, EndsWith, RefusedStep}
+use Rattle.djq_machine.specs.Keeping.{no_line, kept_where, is_done, is_removal, is_registration}
+use Rattle.djq_machine.specs.Effect.{Effect, says, answers, EndsWith, EndsAnswering, RefusedStep}
 
 -- `rel`: a relation is made.
 pub record RelStep (old : State) (s : ℕ) (makes : Store → Result ⊤ Refusal → Store → Type 0)
@@ -120,7 +126,7 @@ pub record RelStep (old : State) (s : ℕ) (makes : Store → Result ⊤ Refusal
   pub result : Result ⊤ Refusal
   pub store : Store
   pub done : makes old.store result store
-  pub effect : e ≡ says s (ok_reply (codes "ok") result)
+  pub effect : e ≡ answers s (ok_reply (codes "ok") result) (is_done result)
   pub state : new ≡ record old { store = store }
 
 -- `add`: a row goes in, and that is told those who watch.
@@ -129,8 +135,9 @@ pub record AddStep (old : State) (s : ℕ) (name : Bytes) (row : Tuple) (e : Eff
   pub result : Result AddOutcome Refusal
   pub store : Store
   pub done : AddsRow old.store name row result store
-  pub change : ChangeStep old s name (rows_of old.store.relations name ++ row ∷ [])
-      (add_outdates result) (add_accepted result) store (add_reply result store.seq) e new
+  pub change : ChangeStep old s (add_outcome (row_in old.store.relations name row) result) store
+      (add_reply result store.seq) e new
+  pub kept : e.kept ≡ kept_where (is_done result)
 
 -- `del`: a row goes out, likewise.
 pub record DeleteStep (old : State) (s : ℕ) (name : Bytes) (row : Tuple) (e : Effect)
@@ -138,15 +145,16 @@ pub record DeleteStep (old : State) (s : ℕ) (name : Bytes) (row : Tuple) (e : 
   pub result : Result DeleteOutcome Refusal
   pub store : Store
   pub done : DeletesRow old.store name row result store
-  pub change : ChangeStep old s name (without_row (rows_of old.store.relations name) row)
-      (delete_outdates result) (delete_outdates result) store (delete_reply result store.seq) e new
+  pub change : ChangeStep old s (delete_outcome (row_out old.store.relations name row) result) store
+      (delete_reply result store.seq) e new
+  pub kept : e.kept ≡ kept_where (is_removal result)
 
 -- `query`: a query is registered, or a rest shows why it isn't.
 pub record QueryStep (old : State) (s : ℕ) (q : Query) (e : Effect) (new : State) : Type 0 where
   pub result : Result QueryOutcome Refusal
   pub store : Store
   pub done : RegistersQuery old.store q result store
-  pub effect : e ≡ says s (query_reply result)
+  pub effect : e ≡ answers s (query_reply result) (is_registration result)
   pub state : new ≡ record old { store = store }
 
 -- Out of memory in a reply to `query` above the bytes that were kept for it, which tells a rest:
@@ -156,7 +164,8 @@ pub record QueryCutStep (old : State) (s : ℕ) (q : Query) (e : Effect) (new : 
   pub store : Store
   pub done : RegistersQuery old.store q result store
   pub above : REPLY_BYTES < length (query_reply result)
-  pub ends : EndsWith end_memory Memory (record old { store = store }) s e new
+  pub ends : EndsAnswering end_memory Memory (is_registration result) (record old { store = store }) s
+      e new
 
 -- whether a session uses a query: a cursor of it, stale or not, is over the query, or it watches
 -- the query
@@ -168,7 +177,7 @@ pub record DropStep (old : State) (s : ℕ) (q : Bytes) (e : Effect) (new : Stat
   pub result : Result ⊤ Refusal
   pub store : Store
   pub done : DropsQuery old.store (list_any (uses q) old.sessions) q result store
-  pub effect : e ≡ says s (ok_reply (codes "ok") result)
+  pub effect : e ≡ answers s (ok_reply (codes "ok") result) (is_done result)
   pub state : new ≡ record old { store = store }
 
 -- `has`: whether a tuple is an answer of a query.
@@ -178,14 +187,15 @@ pub record HasStep (old : State) (s : ℕ) (q : Bytes) (t : Tuple) (e : Effect)
   pub tells : TellsWhether old.store q t result
   pub effect : e ≡ record {
     queued = (s, has_reply result) ∷ [];
-    cost = has_steps (query_of old.store.queries q);
+    cost = has_steps (listed_of old.store.queries q);
+    kept = no_line;
   }
   pub state : new ≡ old
 
 abbrev pub open_refusal : Store → List Cursor → Bytes → Bytes → Option Refusal
 open_refusal st cursors c q = first_of (
     (is_some (cursor_of cursors c), Taken)
-    ∷ (is_none (query_of st.queries q), NoQuery)
+    ∷ (is_none (listed_of st.queries q), NoQuery)
     ∷ (nat_le CURSORS (length cursors), Limit)
     ∷ [])
 
@@ -209,14 +219,15 @@ pub record OpenStep (old : State) (s : ℕ) (x : Session) (c q : Bytes) (e : Eff
   pub state : OpensTo old s c q new result
 
 -- `next` is told whole: a line an answer, and the last line.
-pub record NextStep (old : State) (s : ℕ) (c : Bytes) (q : Query) (given : List Tuple) (count : ℕ)
+pub record NextStep (old : State) (s : ℕ) (c : Bytes) (q : Listed) (given : List Tuple) (count : ℕ)
     (e : Effect) (new : State) : Type 0 where
   pub told : List Tuple
   pub end : Bool
-  pub tells : TellsAnswers (IsAnswer old.store.relations q) given count told end
+  pub tells : TellsAnswers (AnswersOf old.store.relations q) given count told end
   pub effect : e ≡ record {
     queued = (s, text_of (listing_lines told end)) ∷ [];
-    cost = (length told + 1) * most_steps (length q.head);
+    cost = (length told + 1) * answer_steps q;
+    kept = no_line;
   }
   pub state : new ≡ with_session old s
       (λ x. record x { cursors = with_position x.cursors c (open_at (given ++ told) end) })
@@ -231,23 +242,24 @@ IsNextLine Answer given count told l =
 -- Out of memory in a reply to `next` above the bytes that were kept for it: its first lines are
 -- told, each whole, and the session ends. It costs no more than the lines told and the one that
 -- found no memory.
-pub record NextCutStep (old : State) (s : ℕ) (q : Query) (given : List Tuple) (count : ℕ)
+pub record NextCutStep (old : State) (s : ℕ) (q : Listed) (given : List Tuple) (count : ℕ)
     (e : Effect) (new : State) : Type 0 where
   pub told : List Tuple
-  pub answers : All (IsAnswer old.store.relations q) told
+  pub answers : All (AnswersOf old.store.relations q) told
   pub different : AreDifferent (given ++ told)
   pub at_most : length told ≤ count
   pub lacking : Bytes
-  pub lacks : IsNextLine (IsAnswer old.store.relations q) given count told lacking
+  pub lacks : IsNextLine (AnswersOf old.store.relations q) given count told lacking
   pub above : REPLY_BYTES < length (text_of (map answer_line told ++ lacking ∷ []))
   pub effect : e ≡ record {
     queued = (s, text_of (map answer_line told) ++ end_memory) ∷ [];
-    cost = (length told + 1) * most_steps (length q.head);
+    cost = (length told + 1) * answer_steps q;
+    kept = no_line;
   }
   pub state : new ≡ with_session old s (ended_by Memory)
 
 -- `next`, by where its cursor stands
-abbrev pub NextStepAt : State → ℕ → Bytes → Query → ℕ → Position → Effect → State → Type 0
+abbrev pub NextStepAt : State → ℕ → Bytes → Listed → ℕ → Position → Effect → State → Type 0
 NextStepAt old s c q count (open_at given ended) e new =
     NextStep old s c q given count e new ⊎ NextCutStep old s q given count e new
 NextStepAt old s c q count (stale relation n) e new =
@@ -260,7 +272,7 @@ CloseStep old s c e new = (e ≡ says s (line (codes "ok")))
     (λ x. record x { cursors = drop_first (λ k. bytes_eq k.name c) x.cursors }))
 
 abbrev pub watch_refusal : Store → Bytes → Option Refusal
-watch_refusal st q = first_of ((is_none (query_of st.queries q), NoQuery) ∷ [])
+watch_refusal st q = first_of ((is_none (listed_of st.queries q), NoQuery) ∷ [])
 
 -- a session that watches a query, once
 abbrev pub with_watch : Bytes → Session → Session
@@ -307,11 +319,22 @@ TellsLines old s lines e new =
     × (lines ≡ told ++ lacking ∷ rest)
     × EndsWith (text_of told ++ end_memory) Memory old s e new)
 
--- `explain`: the tree that the choice rule names is told.
+-- The tree of a query that the choice rule names is told.
 pub record ExplainStep (old : State) (s : ℕ) (q : Query) (e : Effect) (new : State) : Type 0 where
   pub tree : Tree
   pub named : IsTreeOf (edges_of q) (head_of q) tree
   pub tells : TellsLines old s (explain_lines q tree) e new
+
+-- `shape`: whether what an update costs stays constant as rows come.
+pub record ShapeStep (old : State) (s : ℕ) (q : Bytes) (e : Effect) (new : State) : Type 0 where
+  pub result : Result Shape Refusal
+  pub tells : TellsShape old.store q result
+  pub effect : e ≡ says s (shape_reply result)
+  pub state : new ≡ old
+
+-- `explain`, by what is registered: a query is explained by its tree.
+abbrev pub ExplainStepOf : State → ℕ → Listed → Effect → State → Type 0
+ExplainStepOf old s (a_query q) e new = ExplainStep old s q e new
 
 -- A command of a session is done, or refused by the first condition that holds.
 abbrev pub CommandStep : State → ℕ → Session → Command → Effect → State → Type 0
@@ -322,7 +345,7 @@ CommandStep old s x (Register q) e new = QueryStep old s q e new ⊎ QueryCutSte
 CommandStep old s x (Open c q) e new = OpenStep old s x c q e new
 CommandStep old s x (Next c count) e new = MatchOption (cursor_of x.cursors c)
     (RefusedStep old s NoCursor e new)
-    (λ k. IsSomeAnd (query_of old.store.queries k.query)
+    (λ k. IsSomeAnd (listed_of old.store.queries k.query)
     (λ q. NextStepAt old s c q count k.position e new))
 CommandStep old s x (Close c) e new = MatchOption (cursor_of x.cursors c)
     (RefusedStep old s NoCursor e new)
@@ -333,6 +356,7 @@ CommandStep old s x (Drop q) e new = DropStep old s q e new
 CommandStep old s x (Has q row) e new = HasStep old s q row e new
 CommandStep old s x (Watch q) e new = WatchStep old s x q e new
 CommandStep old s x (Unwatch q) e new = UnwatchStep old s q e new
-CommandStep old s x (Explain q) e new = MatchOption (query_of old.store.queries q)
+CommandStep old s x (Explain q) e new = MatchOption (listed_of old.store.queries q)
     (RefusedStep old s NoQuery e new)
-    (λ k. ExplainStep old s k e new)
+    (λ k. ExplainStepOf old s k e new)
+CommandStep old s x (AskShape q) e new = ShapeStep old s q e new

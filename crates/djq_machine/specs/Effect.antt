@@ -1,28 +1,40 @@
--- What an event brings about beside the state: bytes queued, and what it may cost.
-use Rattle.std.specs.Prelude.{ℕ, List, [], ◌∷◌, ◌≡◌, ◌++◌}
+-- What an event brings about beside the state: bytes queued, what it may cost, and what is kept.
+use Rattle.std.specs.Prelude.{ℕ, Bool, List, [], ◌∷◌, ◌≡◌, ◌++◌}
 use Rattle.djq_model.specs.Data.{Bytes}
 use Rattle.djq_lines.specs.declared.answer.EndCause.{EndCause}
 use Rattle.djq_lines.specs.declared.answer.Refusal.{Refusal}
 use Rattle.djq_lines.specs.Reply.{refusal_line}
 use Rattle.djq_machine.specs.State.{State, with_session, ended_by}
+use Rattle.djq_machine.specs.Keeping.{Keeping, no_line, kept_where}
 
 pub record Effect : Type 0 where
   -- The parts that are queued, in order: to which session, and which bytes. Whether a part comes may depend on those before it.
   pub queued : List (ℕ × Bytes)
   -- the most lookups and links of listings that may be counted
   pub cost : ℕ
+  -- what is kept of the line that is run
+  pub kept : Keeping
 
--- no bytes and no cost
+-- no bytes and no cost, and nothing is kept
 abbrev pub nothing : Effect
-nothing = record { queued = []; cost = 0 }
+nothing = record { queued = []; cost = 0; kept = no_line }
 
 -- bytes for one session
 abbrev pub says : ℕ → Bytes → Effect
-says s text = record { queued = (s, text) ∷ []; cost = 0 }
+says s text = record { queued = (s, text) ∷ []; cost = 0; kept = no_line }
+
+-- bytes for one session, which answer a line that is kept where this holds
+abbrev pub answers : ℕ → Bytes → Bool → Effect
+answers s text test = record { queued = (s, text) ∷ []; cost = 0; kept = kept_where test }
 
 -- A session ends with a line: the line is queued, the cause kept, and its cursors and watches are given up.
 abbrev pub EndsWith : Bytes → EndCause → State → ℕ → Effect → State → Type 0
 EndsWith text cause old s e new = (e ≡ says s text) × (new ≡ with_session old s (ended_by cause))
+
+-- A session ends with a line where one is run that is kept where this holds.
+abbrev pub EndsAnswering : Bytes → EndCause → Bool → State → ℕ → Effect → State → Type 0
+EndsAnswering text cause test old s e new =
+    (e ≡ answers s text test) × (new ≡ with_session old s (ended_by cause))
 
 -- A refused command is answered by its line, and changes nothing.
 abbrev pub RefusedStep : State → ℕ → Refusal → Effect → State → Type 0

@@ -2,6 +2,8 @@ pub mod State
 pub mod Conditions
 pub mod Store
 pub mod Stale
+pub mod Changes
+pub mod Keeping
 pub mod Effect
 pub mod Command
 pub mod LineStep

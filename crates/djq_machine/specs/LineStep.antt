@@ -3,9 +3,9 @@ use Rattle.std.specs.Prelude.{ℕ, ◌≡◌, ◌<◌, ◌≤◌, Bool, true, fa
 use Rattle.djq_model.specs.Data.{Bytes}
 use Rattle.djq_lines.specs.declared.limits.TheConstants.{PENDING_BYTES}
 use Rattle.djq_lines.specs.declared.answer.EndCause.TheVariants.{Long, Slow, Memory}
-use Rattle.djq_lines.specs.declared.answer.Refusal.TheVariants.{NoMemory}
+use Rattle.djq_lines.specs.declared.answer.Refusal.TheVariants.{Syntax, WrongType, NoMemory}
 use Rattle.djq_lines.specs.Line.{too_long, a_line, front_of, is_blank}
-use Rattle.djq_lines.specs.Grammar.{Reading, refused, says as says_command, reading_of, takes_memory_to_read}
+use Rattle.djq_lines.specs.Grammar.{Reading, outside, past_limit, says as says_command, reading_of, takes_memory_to_read}
 use Rattle.djq_lines.specs.Reply.{end_long, end_slow, end_memory}
 use Rattle.djq_machine.specs.State.{Session, State, with_session}
 use Rattle.djq_machine.specs.Effect.{Effect, nothing, EndsWith, RefusedStep}
@@ -20,10 +20,13 @@ pub data LineOutcome : Type 0 where
   no_room : Bytes → LineOutcome
   run : Bytes → LineOutcome
 
--- A line that is read is refused whatever the state is, or says a command. Out of memory may come while a command is read.
-abbrev pub ReadStep : State → ℕ → Session → Reading → Effect → State → Type 0
-ReadStep old s x (refused r) e new = RefusedStep old s r e new
-ReadStep old s x (says_command c) e new = (is_read : Bool) × ReadAs is_read
+-- A line is run as what it is read as. It is refused where it is outside the grammar, or where a
+-- literal of its command is past its limit; else its command is carried out, unless memory is out
+-- while it is read.
+abbrev pub ReadStep : State → ℕ → Session → Bytes → Reading → Effect → State → Type 0
+ReadStep old s x l outside e new = RefusedStep old s Syntax e new
+ReadStep old s x l (past_limit c) e new = RefusedStep old s WrongType e new
+ReadStep old s x l (says_command c) e new = (is_read : Bool) × ReadAs is_read
   where
     ReadAs : Bool → Type 0
     ReadAs true = CommandStep old s x c e new
@@ -48,4 +51,4 @@ FrontStep old s x (slow l) e new = (is_blank l ≡ false) × (PENDING_BYTES < le
 FrontStep old s x (no_room l) e new = (is_blank l ≡ false) × (length x.pending ≤ PENDING_BYTES)
     × TakenLine old s x l (λ mid y. EndsWith end_memory Memory mid s e new)
 FrontStep old s x (run l) e new = (is_blank l ≡ false) × (length x.pending ≤ PENDING_BYTES)
-    × TakenLine old s x l (λ mid y. ReadStep mid s y (reading_of l) e new)
+    × TakenLine old s x l (λ mid y. ReadStep mid s y l (reading_of l) e new)

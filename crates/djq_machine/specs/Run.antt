@@ -4,6 +4,7 @@ use Rattle.std.specs.List.{flat_map}
 use Rattle.djq_model.specs.Data.{Bytes}
 use Rattle.djq_machine.specs.State.{State, Session, session_of}
 use Rattle.djq_lines.specs.Line.{a_line, front_of}
+use Rattle.djq_machine.specs.Keeping.{Keeping, the_line}
 use Rattle.djq_machine.specs.Effect.{Effect}
 pub use Rattle.djq_machine.specs.Walk.{Walk}
 use Rattle.djq_machine.specs.LineStep.{LineOutcome, long, blank, slow, no_room, run}
@@ -86,3 +87,20 @@ pending_in (Some x) = x.pending
 
 abbrev pub pending_of : State → ℕ → Bytes
 pending_of st s = pending_in (session_of st s)
+
+-- what is kept as one: the lines that are loaded all or none
+abbrev pub Group : Type 0
+Group = List Bytes
+
+-- the group that a step keeps: the line that it runs
+abbrev pub group_of : Event → Keeping → List Group
+group_of (stepped s (run l)) the_line = (l ∷ []) ∷ []
+group_of _ _ = []
+
+-- the groups that a run keeps, in order
+abbrev pub groups_of : List Did → List Group
+groups_of done = flat_map (λ d. group_of d.event d.effect.kept) done
+
+-- the lines of groups
+abbrev pub lines_in : List Group → List Bytes
+lines_in groups = flat_map (λ group. group) groups

@@ -1,8 +1,8 @@
 -- The state of the join machine.
 use Rattle.std.specs.Prelude.{ℕ, List, [], ◌==◌, Bool, false, Option, None, Some, find, map}
 use Rattle.djq_model.specs.declared.relation.Relation.{Relation}
-use Rattle.djq_model.specs.declared.query.Query.{Query}
 use Rattle.djq_model.specs.Data.{Bytes, Tuple, bytes_eq, change_first}
+use Rattle.djq_model.specs.Listed.{Listed}
 use Rattle.djq_lines.specs.declared.answer.EndCause.{EndCause}
 
 -- What is kept of the data, whoever changes it.
@@ -11,7 +11,7 @@ pub record Store : Type 0 where
   -- the texts that are known
   pub texts : List Bytes
   -- in order of registration
-  pub queries : List Query
+  pub queries : List Listed
   -- the number of accepted changes of rows
   pub seq : ℕ
 

@@ -49,11 +49,11 @@ use Rattle.djq_model.specs.Data.{
   drop_first,
   relation_of,
   rows_of,
-  query_of,
   has_row,
   without_row,
 }
-use Rattle.djq_model.specs.Answer.{IsAnswer, AreDifferent}
+use Rattle.djq_model.specs.Answer.{AreDifferent}
+use Rattle.djq_model.specs.Listed.{Listed, a_query, listed_name, AnswersOf, listed_of}
 pub use Rattle.djq_model.specs.Typed.{is_of, fits}
 use Rattle.djq_model.specs.Known.{knows, texts_in, all_learned}
 use Rattle.djq_lines.specs.declared.limits.TheConstants.{COLUMNS, RELATIONS, ROWS, LAST_SEQ, TEXTS}
@@ -72,6 +72,8 @@ use Rattle.djq_lines.specs.declared.answer.AddOutcome.{AddOutcome}
 use Rattle.djq_lines.specs.declared.answer.AddOutcome.TheVariants.{Added, Same}
 use Rattle.djq_lines.specs.declared.answer.DeleteOutcome.{DeleteOutcome}
 use Rattle.djq_lines.specs.declared.answer.DeleteOutcome.TheVariants.{Removed, Absent}
+use Rattle.djq_lines.specs.declared.answer.Shape.{Shape}
+use Rattle.djq_lines.specs.declared.answer.Shape.TheVariants.{Flat, Linear}
 use Rattle.djq_lines.specs.declared.rest.QueryOutcome.{QueryOutcome}
 use Rattle.djq_lines.specs.declared.rest.QueryOutcome.TheVariants.{Registered, Cyclic, NotConnex}
 pub use Rattle.djq_lines.specs.Columns.{types_of}
@@ -81,6 +83,7 @@ use Rattle.djq_lines.specs.Rest.{IsNamedRest}
 use Rattle.djq_lines.specs.QueryFault.{whole_query_refusal}
 pub use Rattle.djq_hyper.specs.JoinTree.{IsFreeConnex}
 use Rattle.djq_hyper.specs.Refusing.{IsCyclic, IsNotConnex}
+use Rattle.djq_hyper.specs.Flat.{IsFlat}
 use Rattle.djq_machine.specs.State.{Store}
 use Rattle.djq_machine.specs.Conditions.{first_of, Answers, OutOfMemoryWhere}
 
@@ -207,6 +210,10 @@ query_refusal st q = whole_query_refusal st.relations st.queries q
 abbrev pub most_steps : ℕ → ℕ
 most_steps h = 2 * h + 1
 
+-- the most that one answer of what is registered takes, and the end too
+abbrev pub answer_steps : Listed → ℕ
+answer_steps (a_query q) = most_steps (length q.head)
+
 -- A free-connex query is registered behind the others, and its texts are known. Of another one a
 -- rest is told that shows what it lacks, and nothing changes.
 abbrev pub RegistersAs : Store → Query → Store → QueryOutcome → Type 0
@@ -216,7 +223,7 @@ RegistersAs old q new (Registered most) =
     × (length new.texts ≤ TEXTS)
     × (new ≡ record old {
       texts = all_learned old.texts (texts_in (constants_of q.atoms));
-      queries = old.queries ++ q ∷ [];
+      queries = old.queries ++ a_query q ∷ [];
     })
 RegistersAs old q new (Cyclic rest) =
     ((R : List (List ℕ)) × IsCyclic (edges_of q) R × IsNamedRest q R rest) × (new ≡ old)
@@ -241,7 +248,7 @@ pub record RegistersQuery (old : Store) (q : Query) (result : Result QueryOutcom
 
 abbrev pub drop_refusal : Store → Bool → Bytes → Option Refusal
 drop_refusal st used name = first_of (
-    (is_none (query_of st.queries name), NoQuery)
+    (is_none (listed_of st.queries name), NoQuery)
     ∷ (used, InUse)
     ∷ [])
 
@@ -250,7 +257,7 @@ drop_refusal st used name = first_of (
 pub record DropsQuery (old : Store) (used : Bool) (name : Bytes) (result : Result ⊤ Refusal)
     (new : Store) : Type 0 where
   pub answer : Answers (drop_refusal old used name) result
-      (λ _. new ≡ record old { queries = drop_first (λ q. bytes_eq q.name name) old.queries })
+      (λ _. new ≡ record old { queries = drop_first (λ q. bytes_eq (listed_name q) name) old.queries })
       (OutOfMemoryWhere ⊥)
   pub stays : OnErr result (new ≡ old)
 
@@ -273,9 +280,13 @@ variable_type relations (a ∷ more) x =
     (variable_type relations more x)
 
 -- the types of the cells of a query's answers
-abbrev pub answer_types : List Relation → Option Query → List ColumnType
-answer_types relations None = []
-answer_types relations (Some q) = map (variable_type relations q.atoms) q.head
+abbrev pub answer_types : List Relation → Query → List ColumnType
+answer_types relations q = map (variable_type relations q.atoms) q.head
+
+-- those of what is registered, if anything is
+abbrev pub listed_types : List Relation → Option Listed → List ColumnType
+listed_types relations None = []
+listed_types relations (Some (a_query q)) = answer_types relations q
 
 -- why a tuple doesn't suit columns of these types
 abbrev pub misfit : List ColumnType → Tuple → Option Refusal
@@ -286,8 +297,8 @@ misfit types t = first_of (
 
 abbrev pub has_refusal : Store → Bytes → Tuple → Option Refusal
 has_refusal st name t =
-    let types = answer_types st.relations (query_of st.queries name) in first_of (
-    (is_none (query_of st.queries name), NoQuery)
+    let types = listed_types st.relations (listed_of st.queries name) in first_of (
+    (is_none (listed_of st.queries name), NoQuery)
     ∷ (not (length t == length types), Arity)
     ∷ (not (fits types t), WrongType)
     ∷ [])
@@ -301,13 +312,26 @@ Tells P false = P → ⊥
 pub record TellsWhether (st : Store) (name : Bytes) (t : Tuple)
     (result : Result Bool Refusal) : Type 0 where
   pub answer : Answers (has_refusal st name t) result
-      (λ yes. IsSomeAnd (query_of st.queries name) (λ q. Tells (IsAnswer st.relations q t) yes))
+      (λ yes. IsSomeAnd (listed_of st.queries name) (λ q. Tells (AnswersOf st.relations q t) yes))
       (OutOfMemoryWhere ⊥)
 
 -- the most lookups that it takes: one for each atom
-abbrev pub has_steps : Option Query → ℕ
+abbrev pub has_steps : Option Listed → ℕ
 has_steps None = 0
-has_steps (Some q) = length q.atoms
+has_steps (Some (a_query q)) = length q.atoms
+
+-- `shape`
+
+-- What is told of its updates, by what is registered: those of a query are flat exactly where the query is.
+abbrev pub IsShapeOf : Listed → Shape → Type 0
+IsShapeOf (a_query q) Flat = IsFlat (edges_of q) (head_of q)
+IsShapeOf (a_query q) Linear = IsFlat (edges_of q) (head_of q) → ⊥
+
+-- The shape of what is registered is told. It takes no memory.
+pub record TellsShape (st : Store) (name : Bytes) (result : Result Shape Refusal) : Type 0 where
+  pub answer : Answers (first_of ((is_none (listed_of st.queries name), NoQuery) ∷ [])) result
+      (λ shape. IsSomeAnd (listed_of st.queries name) (λ q. IsShapeOf q shape))
+      (OutOfMemoryWhere ⊥)
 
 -- `next`
 

@@ -2,17 +2,16 @@
 use Rattle.std.specs.Prelude.{ℕ, List, [], ◌∷◌, ◌==◌, ◌≡◌, ◌+◌, ◌*◌, ◌++◌, ◌<◌, ◌≤◌, ◌⊎◌, ◌&&◌, Bool, true, Option, None, Some, IsSomeAnd, MatchOption, if◌then◌else◌, length, map, filter, sum_by, All}
 use Rattle.std.specs.List.{list_any}
 use Rattle.djq_model.specs.declared.relation.Relation.{Relation}
-use Rattle.djq_model.specs.declared.query.Query.{Query}
-use Rattle.djq_model.specs.Data.{Bytes, Tuple, bytes_eq}
-use Rattle.djq_model.specs.Answer.{IsAnswer}
+use Rattle.djq_model.specs.Data.{Bytes, bytes_eq}
+use Rattle.djq_model.specs.Listed.{Listed, a_query, listed_name, AnswersOf}
 use Rattle.djq_lines.specs.declared.limits.TheConstants.{PENDING_BYTES}
 use Rattle.djq_lines.specs.declared.answer.EndCause.{EndCause}
 use Rattle.djq_lines.specs.declared.answer.EndCause.TheVariants.{Slow, Memory}
 use Rattle.djq_lines.specs.Reply.{text_of, end_slow, end_memory}
 use Rattle.djq_machine.specs.State.{Store, Session, State, session_of, with_session, ended_by, ids_of}
 use Rattle.djq_machine.specs.Effect.{Effect, queue_all}
-use Rattle.djq_machine.specs.Store.{with_rows, most_steps}
-use Rattle.djq_machine.specs.Stale.{reads, changed}
+use Rattle.djq_machine.specs.Store.{most_steps}
+use Rattle.djq_machine.specs.Changes.{RowsChange, RowsOutcome, is_accepted, tried, is_outdated, changed}
 use Rattle.djq_machine.specs.Delta.{Change, IsDelta, change_lines, delta_lines}
 use Rattle.djq_machine.specs.Walk.{Walk}
 
@@ -20,28 +19,43 @@ use Rattle.djq_machine.specs.Walk.{Walk}
 abbrev pub is_watching : Bytes → Session → Bool
 is_watching q x = list_any (λ w. bytes_eq w q) x.watches
 
--- the queries that read a relation and that a session watches, in order of registration
-abbrev pub affected : State → Bytes → List Query
-affected st relation =
-    filter (λ q. reads q relation && list_any (is_watching q.name) st.sessions) st.store.queries
+-- the queries that a change outdates and that a session watches, in order of registration
+abbrev pub affected : State → RowsChange → List Listed
+affected st change =
+    filter (λ q. is_outdated change q && list_any (is_watching (listed_name q)) st.sessions) st.store.queries
 
 -- a query, and how its answers changed
 pub record Delta : Type 0 where
-  pub query : Query
+  pub query : Listed
   pub changes : List Change
 
 -- The deltas of these queries, in order, as one list of relations becomes another.
-pub record AreDeltas (before after : List Relation) (queries : List Query) (deltas : List Delta) : Type 0 where
+pub record AreDeltas (before after : List Relation) (queries : List Listed) (deltas : List Delta) : Type 0 where
   pub of_queries : map (λ d. d.query) deltas ≡ queries
-  pub are_deltas : All (λ d. IsDelta (IsAnswer before d.query) (IsAnswer after d.query) d.changes)
+  pub are_deltas : All (λ d. IsDelta (AnswersOf before d.query) (AnswersOf after d.query) d.changes)
       deltas
 
--- the most lookups and links that listing a delta takes: as many as an answer for each that came or
--- went, and for each atom over the relation that changed
-abbrev pub delta_steps : Bytes → Delta → ℕ
-delta_steps relation d =
-    (length d.changes + length (filter (λ a. bytes_eq a.relation relation) d.query.atoms))
-    * most_steps (length d.query.head)
+-- The deltas of the queries that a change affects, made or only tried; none where there was none.
+abbrev pub ListsDeltas : List Relation → (RowsChange → List Listed) → Option RowsChange → List Delta
+    → Type 0
+ListsDeltas before affected None deltas = deltas ≡ []
+ListsDeltas before affected (Some change) deltas =
+    AreDeltas before change.after (affected change) deltas
+
+-- the most lookups and links that listing this many answers that came or went takes: as many as an
+-- answer for each of them, and for each atom over a relation that changed
+abbrev pub changes_steps : RowsChange → Listed → ℕ → ℕ
+changes_steps change (a_query q) count =
+    (count + length (filter (λ a. change.touches a.relation) q.atoms)) * most_steps (length q.head)
+
+-- the most that listing a delta takes
+abbrev pub delta_steps : RowsChange → Delta → ℕ
+delta_steps change d = changes_steps change d.query (length d.changes)
+
+-- the most that listing all of them takes
+abbrev pub deltas_steps : Option RowsChange → List Delta → ℕ
+deltas_steps None deltas = 0
+deltas_steps (Some change) deltas = sum_by (delta_steps change) deltas
 
 -- How far a change has been told: the state, and the parts that this step has queued so far.
 pub record Telling : Type 0 where
@@ -71,15 +85,15 @@ abbrev pub TellsWatcher : Delta → ℕ → ℕ → Bytes → Telling → Tellin
 TellsWatcher d n s pending m new =
     ((PENDING_BYTES < length pending) × (new ≡ ends_more s end_slow Slow m))
     ⊎ ((length pending ≤ PENDING_BYTES)
-    × (new ≡ says_more s (text_of (delta_lines d.query.name d.changes n)) m))
+    × (new ≡ says_more s (text_of (delta_lines (listed_name d.query) d.changes n)) m))
     ⊎ ((length pending ≤ PENDING_BYTES)
     × (told : List Change) × (rest : List Change) × (d.changes ≡ told ++ rest)
-    × (new ≡ ends_more s (text_of (change_lines d.query.name told) ++ end_memory) Memory m))
+    × (new ≡ ends_more s (text_of (change_lines (listed_name d.query) told) ++ end_memory) Memory m))
 
 -- A session is told a delta where it watches the query.
 abbrev pub TellsSession : Delta → ℕ → Telling → ℕ → Telling → Type 0
 TellsSession d n m s new =
-    MatchOption (watcher_of m d.query.name s) (new ≡ m) (λ x. TellsWatcher d n s x.pending m new)
+    MatchOption (watcher_of m (listed_name d.query) s) (new ≡ m) (λ x. TellsWatcher d n s x.pending m new)
 
 -- The sessions are told a delta, in rising id.
 abbrev pub TellsDelta : ℕ → Telling → Delta → Telling → Type 0
@@ -93,18 +107,19 @@ RepliesLast s reply m new = IsSomeAnd (session_of m.state s) (λ x. MatchOption 
     ⊎ ((list_any (λ part. part.0 == s) m.queued ≡ true) × (new ≡ ends_more s end_memory Memory m)))
     (λ c. new ≡ m))
 
--- A relation's rows change to these, or would have, and a command of a session is answered. Cursors
--- over queries that read it become stale; the deltas of the affected queries are listed, and told
--- where the change was accepted, one after another; then comes the reply.
-pub record ChangeStep (old : State) (s : ℕ) (relation : Bytes) (rows : List Tuple) (outdates accepted : Bool) (store : Store) (reply : Bytes) (e : Effect) (new : State) : Type 0 where
+-- A command of a session that may change rows is done, and answered. Cursors over the queries that
+-- its change outdates become stale; the deltas of the affected ones are listed, and told where the
+-- change was accepted, one after another; then comes the reply.
+pub record ChangeStep (old : State) (s : ℕ) (outcome : RowsOutcome) (store : Store)
+    (reply : Bytes) (e : Effect) (new : State) : Type 0 where
   pub deltas : List Delta
-  pub listed : AreDeltas old.store.relations (with_rows old.store.relations relation rows)
-      (if outdates then affected old relation else []) deltas
+  pub listed : ListsDeltas old.store.relations (affected old) (tried outcome) deltas
   pub told : Telling
   pub tells : Walk (TellsDelta store.seq)
-      (record { state = changed old relation outdates store; queued = [] })
-      (if accepted then deltas else []) told
+      (record { state = changed old (tried outcome) store; queued = [] })
+      (if is_accepted outcome then deltas else []) told
   pub last : Telling
   pub replies : RepliesLast s reply told last
-  pub effect : e ≡ record { queued = last.queued; cost = sum_by (delta_steps relation) deltas }
+  pub queued : e.queued ≡ last.queued
+  pub cost : e.cost ≡ deltas_steps (tried outcome) deltas
   pub state : new ≡ last.state

@@ -1,10 +1,26 @@
 //! The join machine, as definitions: its state, what each event may do to it and queue, what a run
 //! is, and what the calls of whoever keeps such a state promise.
 //!
-//! This crate has no way to compute anything. `Step` is a relation, so it leaves open what the
-//! product leaves open: the order of a query's answers and of a relation's rows, and when memory
-//! runs out. To read first: `specs/Step.antt`, from `Step` at its end backwards. The laws of its
-//! runs are djq_laws'.
+//! [`Machine`] is a trait: a call of it makes a step. djq_core keeps the state in code; the loops
+//! of `run`, `serve` and `gen` are proved over any machine.
+//!
+//! ```text
+//! session 1, which holds add r 7 and then qu; the relation r without rows; 0 changes
+//!
+//! stepped 1     queued to 1: ok added 1      session 1 holds qu, r has the row (7), 1 change
+//!               cost: 0                      kept: the line
+//! ```
+//!
+//! This crate has no way to compute anything, and knows nothing of how rows are kept.
+//!
+//! What surprises: `Step` is a relation and no function, so it leaves open what the product leaves
+//! open: the order of a query's answers and of a relation's rows, and when memory runs out. Each
+//! step may leave rows in another order. What a step may cost in look-ups and links stands beside
+//! what it queues, and bounds what code counts.
+//!
+//! To read first: `specs/Step.antt`, from `Step` at its end backwards. From there `LineStep.antt`
+//! has the order of checks on a line, `Command.antt` a case for each command, and `Store.antt` its
+//! conditions and what it does to relations and queries. The laws of its runs are djq_laws'.
 #![tactic(auto)]
 
 pub use machine::{Fed, Machine, OpenRefusal, Stepped};

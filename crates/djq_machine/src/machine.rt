@@ -6,7 +6,11 @@ use thiserror::Error;
 #[derive(Clone, Copy, Debug, PartialEq, Eq)]
 pub enum Stepped {
     /// It was run, or dropped where it is blank.
-    Ran,
+    Ran {
+        /// Whether it is kept: loaded again, it does what it did to the relations, their rows and
+        /// the queries.
+        kept: bool,
+    },
     /// No whole line is held.
     Dry,
     /// The session had ended, or ended before the line was run.

@@ -6,7 +6,6 @@ use Rattle.std.specs.Cmp.Lexicographic.{pointwise}
 use Rattle.djq_model.specs.declared.value.Value.{Value}
 use Rattle.djq_model.specs.declared.value.Value.TheVariants.{Int, Text}
 use Rattle.djq_model.specs.declared.relation.Relation.{Relation}
-use Rattle.djq_model.specs.declared.query.Query.{Query}
 
 -- a text or a name
 abbrev pub Bytes : Type 0
@@ -55,17 +54,18 @@ drop_first p (x ∷ xs) = if p x then xs else x ∷ drop_first p xs
 abbrev pub relation_of : List Relation → Bytes → Option Relation
 relation_of relations name = find (λ r. bytes_eq r.name name) relations
 
+-- the relation's rows, each once
+abbrev pub tuples_in : Relation → List Tuple
+tuples_in r = r.rows
+
+-- the rows of the relation that was found; none where none was
 abbrev pub rows_in : Option Relation → List Tuple
 rows_in None = []
-rows_in (Some r) = r.rows
+rows_in (Some r) = tuples_in r
 
 -- its rows; none where there is no such relation
 abbrev pub rows_of : List Relation → Bytes → List Tuple
 rows_of relations name = rows_in (relation_of relations name)
-
--- the query of a name
-abbrev pub query_of : List Query → Bytes → Option Query
-query_of queries name = find (λ q. bytes_eq q.name name) queries
 
 -- the cell of a row at a column
 abbrev pub cell_at : Tuple → ℕ → Value

@@ -4,4 +4,5 @@ pub mod Typed
 pub mod Known
 pub mod Lent
 pub mod Answer
+pub mod Listed
 pub mod Equality

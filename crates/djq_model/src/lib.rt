@@ -5,9 +5,25 @@
 //! atom by, which tuples are answers of a query, what a listing of them is. Nothing here knows of a
 //! server, a session or a way to compute answers.
 //!
-//! Every list is a `Sequence`, which contracts see as a list; `==` on names, texts, values and
+//! ```text
+//! r int int   (1,2) (3,4)       s int   (2)       q(x) <- r(x,y), s(y)
+//!
+//! x is 1, y is 2     satisfies r(x,y) by the row (1,2), and s(y) by the row (2)
+//! (1)                so it is an answer: what this assignment gives on the head
+//! [(1)]              a listing: each answer once, and nothing else
+//! ```
+//!
+//! What surprises: an answer is one however many assignments give it. A hole may stand for any
+//! value, each by itself. An assignment gives a value to every name, also to those that no atom
+//! has, so that a head's variable that stands in no atom would have any value.
+//!
+//! Every list is a [`Sequence`], which contracts see as a list; `==` on names, texts, values and
 //! tuples is `bytes_eq`, `value_eq` and `tuple_eq` of `specs/Data.antt`, and `specs/Equality.antt`
 //! says that these decide equality.
+//!
+//! Inside, a [`Name`] stands inline, so that it is copied without memory, and a [`Text`] is a list
+//! of bytes. A value whose text stands elsewhere is a [`Lent`], and a tuple that is told from where
+//! it stands is [`Answered`]. To read first: `specs/Answer.antt`.
 #![tactic(auto)]
 
 pub use answered::Answered;

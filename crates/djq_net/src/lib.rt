@@ -10,13 +10,23 @@
 //!
 //! What surprises: nothing that a client does is a fault of the hub, only of its session. A read
 //! that fails is told as the end of the input, and a send that fails as a session that is gone. A
-//! connection that breaks before it is accepted isn't told at all.
+//! connection that breaks before it is accepted isn't told at all. One that begins with a request
+//! of HTTP is told as one whose input ended: a web page can send such a request to any port of its
+//! reader's machine.
+//!
+//! ```text
+//! a client connects              Opened(1)
+//! it sends rel r int             Bytes(1, 10), with the line's end
+//! it sends no more               Ended(1)
+//! another sends GET / HTTP/1.1   Opened(2), and then Ended(2)
+//! nobody sends anything          Idle, after a quarter of a second
+//! ```
 //!
 //! How it works: the system says by `epoll` which sockets have changed ([`mio`]), and the hub keeps
-//! for each whether it may have bytes. A turn goes round these places, from behind the last one that
-//! it served, and waits only where none has anything. So a busy client delays the others by one
-//! piece at a time, an idle server sleeps, and no reply waits for a clock: a client that takes bytes
-//! again wakes the hub.
+//! for each whether it may have bytes. A turn goes round these places, from behind the last one
+//! that it served, and waits only where none has anything. So a busy client delays the others by
+//! one piece at a time, an idle server sleeps, and no reply waits for a clock: a client that takes
+//! bytes again wakes the hub.
 #![tactic(auto)]
 
 mod conn;

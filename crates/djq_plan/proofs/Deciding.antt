@@ -41,7 +41,7 @@ some_times j [] h = absurd (omega arith)
 some_times j (y ∷ ns) h = omega arith
 
 -- some node is always current
-some_current : (m : ℕ) (s : Growth) → 0 < m → Grown m s → 0 < length s.current
+pub some_current : (m : ℕ) (s : Growth) → 0 < m → Grown m s → 0 < length s.current
 some_current m s some g =
     let f = g.sound.fits in
     let l = last_current m s g (omega arith) in

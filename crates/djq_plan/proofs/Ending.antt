@@ -38,7 +38,7 @@ extends_one s t n l u e p q = record {
   labels = q ∙ ap (λ (k : List (List ℕ)). k ++ l ∷ []) e.labels ∙ append_assoc s.labels e.more_labels (l ∷ []);
 }
 
-extends_step : (s t : Growth) (c : Choice) → Extends s t → Extends s (grown t c)
+pub extends_step : (s t : Growth) (c : Choice) → Extends s t → Extends s (grown t c)
 extends_step s t (Trim i X) e = extends_one s t _ _ (grown t (Trim i X)) e refl refl
 extends_step s t (Meet g d) e = extends_one s t _ _ (grown t (Meet g d)) e refl refl
 extends_step s t Stuck e = e

@@ -203,7 +203,7 @@ childless m k j =
       | inr high ↦ rw (leaves_past m k high) refl
     ]
 
-some_leaf : (m k : ℕ) → (a : ℕ) × (node_at (leaf_nodes m) k ≡ node.Leaf a)
+pub some_leaf : (m k : ℕ) → (a : ℕ) × (node_at (leaf_nodes m) k ≡ node.Leaf a)
 some_leaf m k = elim (cases_lt k m) [ inl low ↦ (k, leaves_at m k low) | inr high ↦ (0, leaves_past m k high) ]
 
 times_above : (m j : ℕ) → m ≤ j → times numbers j (numbers_below m) ≡ 0
@@ -224,7 +224,7 @@ paired_below H (suc n) h =
     map_push (edge_at H) (numbers_below n) n ∙ ap (λ (k : List (List ℕ)). k ++ edge_at H n ∷ []) (paired_below H n (omega arith))
     ∙ sym (take_more H n [] (omega arith)) ∙ ap (λ (k : ℕ). take k H) (add-one n)
 
-start_low : (H : List (List ℕ)) (x j : ℕ) → member x (edge_at H j) ≡ true → j < length H
+pub start_low : (H : List (List ℕ)) (x j : ℕ) → member x (edge_at H j) ≡ true → j < length H
 start_low H x j h =
     elim (cases_lt j (length H)) [
       | inl low ↦ low

@@ -11,3 +11,6 @@ pub mod Planned
 pub mod Rules
 pub mod Stepping
 pub mod Deciding
+pub mod Pairs
+pub mod Evening
+pub mod Flat

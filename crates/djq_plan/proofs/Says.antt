@@ -99,17 +99,19 @@ equal_found L a (Some b) within e h =
       inside = and_right (subset (edge_at L a) (edge_at L b)) (subset (edge_at L b) (edge_at L a)) (and_right (nat_lt a b) (are_equal L a b) f.passes);
     }
 
+-- no node has a twin, so no two labels are equal
+pub no_twins : (L : List (List ℕ)) → lowest (λ a. is_some (twin L a)) L ≡ None → (a b : ℕ) → a < b → b < length L → are_equal L a b ≡ false
+no_twins L e a b low within =
+    let c = lowest_none (λ a. is_some (twin L a)) 0 (length L) e a (omega arith) (omega arith) in
+    let d = lowest_none (λ b. nat_lt a b && are_equal L a b) 0 (length L) (none_some (twin L a) c) b (omega arith) (omega arith) in
+    after_and (nat_lt a b) (are_equal L a b) (lt_test a b low) d
+
 says_equal : (keep : List ℕ) (L : List (List ℕ)) (o : Option ℕ) → o ≡ lowest (λ a. is_some (twin L a)) L
     → ((i : ℕ) → i < length L → has_removable keep L i ≡ false) → Says keep L (choose_equal L o)
 says_equal keep L (Some a) e own =
     let f = lowest_some (λ a. is_some (twin L a)) 0 (length L) a (sym e) in
     equal_found L a (twin L a) (let b = f.below in omega arith) refl f.passes
-says_equal keep L None e own =
-    says_inside keep L (lowest (λ s. is_some (cover L s)) L) refl own
-    (λ a b low within.
-    let c = lowest_none (λ a. is_some (twin L a)) 0 (length L) (sym e) a (omega arith) (omega arith) in
-    let d = lowest_none (λ b. nat_lt a b && are_equal L a b) 0 (length L) (none_some (twin L a) c) b (omega arith) (omega arith) in
-    after_and (nat_lt a b) (are_equal L a b) (lt_test a b low) d)
+says_equal keep L None e own = says_inside keep L (lowest (λ s. is_some (cover L s)) L) refl own (no_twins L (sym e))
 
 says_trim : (keep : List ℕ) (L : List (List ℕ)) (o : Option ℕ) → o ≡ lowest (λ i. has_removable keep L i) L → Says keep L (choose_trim keep L o)
 says_trim keep L (Some i) e =

@@ -118,6 +118,7 @@ pub ran_stuck : (over : List (List ℕ) → Bool) (keep : List ℕ) (s t u : Gro
 ran_stuck over keep s t u r off h = record {
   steps = r.steps;
   leads = h.0 ∙ r.leads;
+  goes = r.goes;
   goes_on = ap (λ (w : Growth). over w.current) h.0 ∙ off;
   stuck = ap (λ (w : Growth). choose keep w.current) h.0 ∙ h.1;
 }

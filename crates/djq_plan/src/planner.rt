@@ -1,7 +1,10 @@
 //! The planner's two stages.
-ghost use Rattle.std.specs.Prelude.{◌≡◌, ◌<◌, length, None, Ok, IfOk, IfErr, IfSome};
+ghost use Rattle.std.specs.Prelude.{◌≡◌, ◌↔◌, ◌<◌, length, None, Ok, IfOk, IfErr, IfSome};
+ghost use Rattle.djq_hyper.specs.Flat.{IsFlat};
 ghost use Rattle.djq_hyper.specs.Variables.{AreCovered};
 ghost use Rattle.djq_hyper.specs.JoinTree.{IsFreeConnex};
+ghost use Rattle.djq_tree.specs.Flat.{HasEqualMeets};
+ghost use Rattle.djq_plan.specs.declared.refusal.PlanRefusal.TheVariants as refusal;
 ghost use Rattle.djq_plan.specs.Plan.{IsPlan, IsRefusal};
 
 use crate::growing::Growing;
@@ -22,6 +25,9 @@ use std::alloc::{AllocError, Global};
 /// have the head's variables and no others. With m edges, v variables and h head variables it has
 /// 2m - 1 nodes that aren't trims and at most v trims, of which at most h are of the second stage.
 ///
+/// A flat query has a plan, and it is flat exactly where the two labels of each meet of its tree are
+/// equal: its updates then take a number of steps that doesn't grow with the rows.
+///
 /// Each of the at most 2m + v steps is found by O(m^2) operations on words; nothing is ever taken
 /// back. Beside the tree, the numbers and labels of the at most m current nodes take memory while
 /// it grows.
@@ -31,6 +37,8 @@ pub fn plan(alloc: Global, edges: &Edges, head: &VarSet) -> Result<Tree, PlanRef
     ensures connex { IfOk result (λ _. IsFreeConnex edges.now head.now) }
     ensures plan { IfOk result (λ t. IsPlan edges.now head.now t) }
     ensures refused { IfErr result (λ e. IsRefusal edges.now head.now e) }
+    ensures flat_ok { IfOk result (λ t. IsFlat edges.now head.now ↔ HasEqualMeets t) }
+    ensures flat_err { IfErr result (λ e. IsFlat edges.now head.now → e ≡ refusal.NoMem) }
 {
     match grow_tree(alloc, edges, *head)? {
         Some(tree) => Ok(tree),
@@ -45,6 +53,7 @@ fn grow_tree(alloc: Global, edges: &Edges, head: VarSet) -> Result<Option<Tree>,
     ensures stuck { result ≡ Ok None → IsFreeConnex edges.now head → ⊥ }
     ensures connex { IfOk result (λ t. IfSome t (λ _. IsFreeConnex edges.now head)) }
     ensures plan { IfOk result (λ t. IfSome t (IsPlan edges.now head)) }
+    ensures flat { result ≡ Ok None → IsFlat edges.now head → ⊥ }
 {
     edges.rise();
     head.rises();

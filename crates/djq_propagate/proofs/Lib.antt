@@ -12,3 +12,6 @@ pub mod Measuring
 pub mod Rooms
 pub mod Marking
 pub mod Adding
+pub mod Single
+pub mod Fewing
+pub mod Refusing

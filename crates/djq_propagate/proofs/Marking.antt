@@ -38,11 +38,11 @@ both_some (suc a) zero h k = absurd (omega arith)
 both_some (suc a) (suc b) h k = omega arith
 
 -- what is reached agrees
-reach_agrees : (n : Node) (j : ℕ) (ts : List Table) (es : List Entry) (w : List ℕ) → 0 < reach n false j ts es w → 0 < agreeing n j ts es w
+pub reach_agrees : (n : Node) (going : Bool) (j : ℕ) (ts : List Table) (es : List Entry) (w : List ℕ) → 0 < reach n going j ts es w → 0 < agreeing n j ts es w
 unfolding reach agreeing
-reach_agrees (Leaf a) j ts es w h = h
-reach_agrees (Trim c) j ts es w h = first_some (many (key_at ts c) es w) (one (gate false (many (key_at ts c) (plain (entries_at ts c)) w))) h
-reach_agrees (Meet g s) j ts es w h = by_side (g == j) (cnt es w) (cnt (entries_at ts g) w) (cnt es (pick (key_at ts g) w)) h
+reach_agrees (Leaf a) going j ts es w h = h
+reach_agrees (Trim c) going j ts es w h = first_some (many (key_at ts c) es w) (one (gate going (many (key_at ts c) (plain (entries_at ts c)) w))) h
+reach_agrees (Meet g s) going j ts es w h = by_side (g == j) (cnt es w) (cnt (entries_at ts g) w) (cnt es (pick (key_at ts g) w)) h
   where
     by_side : (b : Bool) (x y z : ℕ) → 0 < cond b x (y * z) → 0 < cond b x z
     by_side true x y z h = h
@@ -78,7 +78,7 @@ agreeing_less (Meet g s) j ts es fs w h some = by_side (g == j) (cnt es w) (cnt 
     by_side true x y p q a c k = omega arith
     by_side false x y p q a c k = omega arith
 
-guard_some : (n : Node) (ts : List Table) (k : ℕ) (w : List ℕ) → IsReductOf n ts k → 0 < supp (entries_at ts k) w → (g s : ℕ) → n ≡ Meet g s → 0 < cnt (entries_at ts g) w
+pub guard_some : (n : Node) (ts : List Table) (k : ℕ) (w : List ℕ) → IsReductOf n ts k → 0 < supp (entries_at ts k) w → (g s : ℕ) → n ≡ Meet g s → 0 < cnt (entries_at ts g) w
 guard_some n ts k w law some g s e = first_some (cnt (entries_at ts g) w) (cnt (entries_at ts s) (pick (key_at ts g) w)) (let l = meet_law n g s ts k e law w in omega arith)
 
 -- a step above the frontier
@@ -88,7 +88,7 @@ agree_step t ts us n j k f low law cover x = record {
       subst (λ (m : ℕ). 0 < m) (sym (still w))
       (elim (cases_lt 0 (cnt (marks (entries_at ts k)) w)) [
         | inl before ↦ cover.each w before
-        | inr none ↦ reach_agrees n j ts (marks (entries_at ts j)) w (let o = x.only w some in omega arith)
+        | inr none ↦ reach_agrees n false j ts (marks (entries_at ts j)) w (let o = x.only w some in omega arith)
       ]);
   down = λ w there some.
       let was : 0 < cnt (entries_at ts k) w = omega (arith, tuples_same t ts us f x.family k x.supports w) in
@@ -308,6 +308,21 @@ other_off t a k i s child apart = ((λ e. apart (sym (child_on t a k i s child (
     off_i : on_path t.nodes a i ≡ false
     off_i = elim (cases_Bool (on_path t.nodes a i)) [ inl on ↦ absurd (apart (sym (child_on t a k i s child (inr on)))) | inr none ↦ none ]
 
+-- the marks at the nodes to come
+pub bare_mid : (t : Tree) (old mid : List Table) (a k i : ℕ) (removal : Bool) → IsWalked t old mid a removal k → CanWalk t old a removal → i ≢ a → removal ≡ true → k ≤ i → (v : List ℕ) → cnt (marks (entries_at mid i)) v ≡ 0
+bare_mid t old mid a k i removal x can other going later v = ap (λ (es : List Entry). cnt (marks es) v) (x.later i later) ∙ can.bare going i other v
+
+pub covered_mid : (t : Tree) (old mid : List Table) (a k j : ℕ) (removal : Bool) → IsFamily t old → IsTouchedUp t old mid a → IsWalked t old mid a removal k → CanWalk t old a removal → j ≡ path_at t.nodes a k
+    → has_child (node_at t.nodes k) j ≡ true → t.second_stage ≤ k → IsCovered (node_at t.nodes k) mid j k
+covered_mid t old mid a k j removal f up x can at child high = record {
+  each = λ w some.
+      let on : on_path t.nodes a k ≡ true = on_at t.nodes a k j at ∙ child in
+      let before : 0 < cnt (marks (entries_at old k)) w = subst (λ (es : List Entry). 0 < cnt (marks es) w) (x.later k (omega arith)) some in
+      let agrees : 0 < agreeing (node_at t.nodes k) j old (marks (entries_at old j)) w = subst (λ (i : ℕ). 0 < agreeing (node_at t.nodes k) i old (marks (entries_at old i)) w) (sym at) ((can.covered k high on).each w before) in
+      subst (λ (m : ℕ). 0 < m) (sym (agreeing_still (node_at t.nodes k) j old mid (marks (entries_at mid j)) w (same_keys t old mid f up.family)))
+      (agreeing_less (node_at t.nodes k) j old (marks (entries_at old j)) (marks (entries_at mid j)) w (x.keeps j) agrees);
+}
+
 pub walk_more : (t : Tree) (old mid new : List Table) (a k j : ℕ) (removal : Bool) → IsFamily t old → a < t.leaves → CanWalk t old a removal → k < length t.nodes → IsTouchedUp t old mid a → IsWalked t old mid a removal k → j ≡ path_at t.nodes a k
     → (has_child (node_at t.nodes k) j ≡ true → t.second_stage ≤ k → IsTouched t mid new k (λ v. reach (node_at t.nodes k) false j mid (marks (entries_at mid j)) v))
     → (has_child (node_at t.nodes k) j ≡ true → k < t.second_stage → removal ≡ true → IsTouched t mid new k (λ v. reach (node_at t.nodes k) true j mid (marks (entries_at mid j)) v))
@@ -321,13 +336,13 @@ walk_more t old mid new a k j removal f leaf can within up x at above below idle
           | inr coming ↦ walk_skip t old mid new a k removal x (λ l going on. false≢true (sym coming ∙ going)) (λ high on. absurd (omega arith)) (idle low coming)
           | inl going ↦
               walk_touch t old mid new a k removal (λ v. reach (node_at t.nodes k) true j mid (marks (entries_at mid j)) v) up.family x (below child low going) (λ (e : removal ≡ false). absurd (false≢true (sym e ∙ going)))
-              (λ l. plain_step t mid new (node_at t.nodes k) j k up.family refl child law (bare_at k (high_a child) going (omega arith)) (λ c other other_apart. bare_off c (other_off t a k c f.is_tree other (λ e. other_apart (e ∙ sym at))) going) (below child low going))
+              (λ l. plain_step t mid new (node_at t.nodes k) j k up.family refl child law (bare_mid t old mid a k k removal x can (high_a child) going (omega arith)) (λ c other other_apart. bare_off c (other_off t a k c f.is_tree other (λ e. other_apart (e ∙ sym at))) going) (below child low going))
               (λ high. absurd (omega arith))
         ]
         | inr high ↦
             walk_touch t old mid new a k removal (λ v. reach (node_at t.nodes k) false j mid (marks (entries_at mid j)) v) up.family x (above child high) (λ (e : removal ≡ false). high)
             (λ low. absurd (omega arith))
-            (λ h. subst (λ (i : ℕ). AgreeAt (node_at t.nodes k) new i k) at (agree_step t mid new (node_at t.nodes k) j k up.family (rising_of t f.is_tree k j child) law (covered child high) (above child high)))
+            (λ h. subst (λ (i : ℕ). AgreeAt (node_at t.nodes k) new i k) at (agree_step t mid new (node_at t.nodes k) j k up.family (rising_of t f.is_tree k j child) law (covered_mid t old mid a k j removal f up x can at child high) (above child high)))
       ]
     ]
   where
@@ -337,24 +352,11 @@ walk_more t old mid new a k j removal f leaf can within up x at above below idle
     high_a : has_child (node_at t.nodes k) j ≡ true → k ≢ a
     high_a child e = let h = inner_high t k j f.is_tree child in absurd (omega arith)
 
-    bare_at : (i : ℕ) → i ≢ a → removal ≡ true → k ≤ i → (v : List ℕ) → cnt (marks (entries_at mid i)) v ≡ 0
-    bare_at i other going later v = ap (λ (es : List Entry). cnt (marks es) v) (x.later i later) ∙ can.bare going i other v
-
     bare_off : (i : ℕ) → IsOff t.nodes a i → removal ≡ true → (v : List ℕ) → cnt (marks (entries_at mid i)) v ≡ 0
     bare_off i off going v = ap (λ (es : List Entry). cnt (marks es) v) (up.off i off) ∙ can.bare going i off.0 v
 
-    covered : has_child (node_at t.nodes k) j ≡ true → t.second_stage ≤ k → IsCovered (node_at t.nodes k) mid j k
-    covered child high = record {
-      each = λ w some.
-          let on : on_path t.nodes a k ≡ true = on_at t.nodes a k j at ∙ child in
-          let before : 0 < cnt (marks (entries_at old k)) w = subst (λ (es : List Entry). 0 < cnt (marks es) w) (x.later k (omega arith)) some in
-          let agrees : 0 < agreeing (node_at t.nodes k) j old (marks (entries_at old j)) w = subst (λ (i : ℕ). 0 < agreeing (node_at t.nodes k) i old (marks (entries_at old i)) w) (sym at) ((can.covered k high on).each w before) in
-          subst (λ (m : ℕ). 0 < m) (sym (agreeing_still (node_at t.nodes k) j old mid (marks (entries_at mid j)) w (same_keys t old mid f up.family)))
-          (agreeing_less (node_at t.nodes k) j old (marks (entries_at old j)) (marks (entries_at mid j)) w (x.keeps j) agrees);
-    }
-
 -- what came agrees with what came
-new_supp : (t : Tree) (old new : List Table) (k : ℕ) → IsReducts (record { tree = t; tables = old }) → IsReducts (record { tree = t; tables = new }) → IsBare old → SamePlain old new → (w : List ℕ) → 0 < cnt (marks (entries_at new k)) w → supp (entries_at old k) w ≡ 0
+pub new_supp : (t : Tree) (old new : List Table) (k : ℕ) → IsReducts (record { tree = t; tables = old }) → IsReducts (record { tree = t; tables = new }) → IsBare old → SamePlain old new → (w : List ℕ) → 0 < cnt (marks (entries_at new k)) w → supp (entries_at old k) w ≡ 0
 new_supp t old new k r s bare p w some =
     supp_none (entries_at old k) w (omega (arith, once t new s.family k w, cnt_split (entries_at new k) w, p.same k w, cnt_split (entries_at old k) w, bare.none k w))
 

@@ -55,7 +55,7 @@ pub record Holds (ks : List ℕ) (fs : List Entry) (w : List ℕ) : Type 0 where
   pub is : fs ≡ front ++ entry ∷ back
   pub key : pick ks entry.tuple ≡ w
 
-holds : (ks : List ℕ) (fs : List Entry) (w : List ℕ) → 0 < many ks fs w → Holds ks fs w
+pub holds : (ks : List ℕ) (fs : List Entry) (w : List ℕ) → 0 < many ks fs w → Holds ks fs w
 unfolding many
 holds ks [] w h = absurd (omega arith)
 holds ks (f ∷ fs) w h =
@@ -158,12 +158,12 @@ times_more x y n h = omega (arith, mul-le-mul_right n h, spread x n)
 times_same : (x y n : ℕ) → x ≤ y → x * n ≤ y * n
 times_same x y n h = mul-le-mul_right n h
 
-step_count : (nodes : List Node) (a k : ℕ) → steps nodes a (suc k) ≡ steps nodes a k + one (on_path nodes a k)
+pub step_count : (nodes : List Node) (a k : ℕ) → steps nodes a (suc k) ≡ steps nodes a k + one (on_path nodes a k)
 unfolding steps
 step_count nodes a k = refl
 
 -- only the tables of the path grow
-grow_part : (nodes : List Node) (a : ℕ) (ts us : List Table) (n : ℕ) → ((i : ℕ) → IsOff nodes a i → length (entries_at us i) ≡ length (entries_at ts i)) → ((i : ℕ) → length (entries_at us i) ≤ n) → (k : ℕ) → part us k ≤ part ts k + (one (nat_lt a k) + steps nodes a k) * n
+grow_part : (nodes : List Node) (a : ℕ) (ts us : List Table) (n : ℕ) → ((i : ℕ) → IsOff nodes a i → length (entries_at us i) ≡ length (entries_at ts i)) → ((i : ℕ) → length (entries_at us i) ≤ length (entries_at ts i) + n) → (k : ℕ) → part us k ≤ part ts k + (one (nat_lt a k) + steps nodes a k) * n
 unfolding part
 grow_part nodes a ts us n off all zero = omega arith
 grow_part nodes a ts us n off all (suc k) =
@@ -182,7 +182,7 @@ grow_part nodes a ts us n off all (suc k) =
       ]
     ]
 
-pub grown_size : (nodes : List Node) (a : ℕ) (ts us : List Table) (n : ℕ) → length us ≡ length ts → ((i : ℕ) → IsOff nodes a i → length (entries_at us i) ≡ length (entries_at ts i)) → ((i : ℕ) → length (entries_at us i) ≤ n) → size us ≤ size ts + (1 + steps nodes a (length ts)) * n
+pub grown_size : (nodes : List Node) (a : ℕ) (ts us : List Table) (n : ℕ) → length us ≡ length ts → ((i : ℕ) → IsOff nodes a i → length (entries_at us i) ≡ length (entries_at ts i)) → ((i : ℕ) → length (entries_at us i) ≤ length (entries_at ts i) + n) → size us ≤ size ts + (1 + steps nodes a (length ts)) * n
 grown_size nodes a ts us n long off all =
     let g = grow_part nodes a ts us n off all (length ts) in
     let t = times_same (one (nat_lt a (length ts)) + steps nodes a (length ts)) (1 + steps nodes a (length ts)) n (let o = one_le (nat_lt a (length ts)) in omega arith) in
@@ -242,7 +242,7 @@ count_put S P n a b c so sm short some first grows second =
     let h : S * 1 ≡ S = omega arith in
     omega arith
 
-count_mark : (S P n a b c : ℕ) → S + 1 ≤ P → 1 ≤ n → b ≤ a + 2 → c ≤ b + S * (1 + 5 * n) → c ≤ a + 6 * (P * n)
+pub count_mark : (S P n a b c : ℕ) → S + 1 ≤ P → 1 ≤ n → b ≤ a + 2 → c ≤ b + S * (1 + 5 * n) → c ≤ a + 6 * (P * n)
 count_mark S P n a b c short some first second =
     let m = mul-le-mul_right n short in
     let o = mul-le-mul_left S some in
@@ -265,18 +265,23 @@ lengths_off : (t : Tree) (ts us : List Table) (a : ℕ) → IsReducts (both t ts
 lengths_off t ts us a r s leaves i off =
     length_even (entries_at us i) (entries_at ts i) (tuples_same t ts us r.family s.family i (off_same t ts us a r.family s.family r.reduced s.reduced leaves (suc i) i (omega arith) off))
 
-pub put_counted : (t : Tree) (old mid new : List Table) (a : ℕ) (u : List ℕ) (n x y z : ℕ) → IsReducts (both t old) → a < t.leaves → Lived t old mid a u → IsTouchedUp t mid new a → IsReducts (both t new) → HasAtMost (both t new) n
-    → y + 1 + 4 * size old ≤ x + 4 * size mid → ((m : ℕ) → ((i : ℕ) → length (entries_at mid i) ≤ m) → z ≤ y + steps t.nodes a (length t.nodes) * (1 + 5 * m)) → z ≤ x + 10 * (paths t * n)
-put_counted t old mid new a u n x y z r h l up s few first second =
-    let all : (i : ℕ) → length (entries_at mid i) ≤ n = (λ (i : ℕ). let e = up.long i in omega (arith, sized t new n s few i)) in
+-- where no table has gained more than n tuples, and a step marks for so many
+pub put_by : (t : Tree) (old mid : List Table) (a : ℕ) (u : List ℕ) (n x y z : ℕ) → IsReducts (both t old) → a < t.leaves → Lived t old mid a u → 1 ≤ n → ((i : ℕ) → length (entries_at mid i) ≤ length (entries_at old i) + n)
+    → y + 1 + 4 * size old ≤ x + 4 * size mid → z ≤ y + steps t.nodes a (length t.nodes) * (1 + 5 * n) → z ≤ x + 10 * (paths t * n)
+put_by t old mid a u n x y z r h l some grows first second =
     let m = reducts_lived t old mid a u r h l in
     let long = r.family.long in
     let longer = l.family.long in
     let grow = grown_size t.nodes a old mid n (longer ∙ sym long)
-    (lengths_off t old mid a r m (λ j v low apart. ap (λ (es : List Entry). cnt es v) (l.below j (leaf_below t a j r.family.is_tree low apart)))) all in
-    count_put (steps t.nodes a (length t.nodes)) (paths t) n x y z (size old) (size mid) (path_short t a r.family.is_tree)
-    (omega (arith, all a, inserted_length (key_at old a) (entries_at old a) (entries_at mid a) u l.gains)) first
-    (subst (λ (k : ℕ). size mid ≤ size old + (1 + steps t.nodes a k) * n) long grow) (second n all)
+    (lengths_off t old mid a r m (λ j v low apart. ap (λ (es : List Entry). cnt es v) (l.below j (leaf_below t a j r.family.is_tree low apart)))) grows in
+    count_put (steps t.nodes a (length t.nodes)) (paths t) n x y z (size old) (size mid) (path_short t a r.family.is_tree) some first
+    (subst (λ (k : ℕ). size mid ≤ size old + (1 + steps t.nodes a k) * n) long grow) second
+
+pub put_counted : (t : Tree) (old mid new : List Table) (a : ℕ) (u : List ℕ) (n x y z : ℕ) → IsReducts (both t old) → a < t.leaves → Lived t old mid a u → IsTouchedUp t mid new a → IsReducts (both t new) → HasAtMost (both t new) n
+    → y + 1 + 4 * size old ≤ x + 4 * size mid → ((m : ℕ) → ((i : ℕ) → length (entries_at mid i) ≤ m) → z ≤ y + steps t.nodes a (length t.nodes) * (1 + 5 * m)) → z ≤ x + 10 * (paths t * n)
+put_counted t old mid new a u n x y z r h l up s few first second =
+    let all : (i : ℕ) → length (entries_at mid i) ≤ n = (λ (i : ℕ). let e = up.long i in omega (arith, sized t new n s few i)) in
+    put_by t old mid a u n x y z r h l (omega (arith, all a, inserted_length (key_at old a) (entries_at old a) (entries_at mid a) u l.gains)) (λ i. let b = all i in omega arith) first (second n all)
 
 pub mark_counted : (t : Tree) (old mid : List Table) (a : ℕ) (u : List ℕ) (f : List ℕ → ℕ) (n x y z : ℕ) → IsReducts (both t old) → 0 < cnt (entries_at old a) u → IsTouched t old mid a f → HasAtMost (both t old) n → y ≤ x + 2
     → ((m : ℕ) → ((i : ℕ) → length (entries_at mid i) ≤ m) → z ≤ y + steps t.nodes a (length t.nodes) * (1 + 5 * m)) → z ≤ x + 6 * (paths t * n)
@@ -287,10 +292,23 @@ mark_counted t old mid a u f n x y z r there w few first second =
     ]) in
     count_mark (steps t.nodes a (length t.nodes)) (paths t) n x y z (path_short t a r.family.is_tree) (omega (arith, sized t old n r few a, cnt_length (entries_at old a) u)) first (second n all)
 
+pub keep_by : (t : Tree) (a n x z : ℕ) → IsTree t → z ≤ x + (1 + steps t.nodes a (length t.nodes)) * (1 + n) → z ≤ x + paths t * (1 + n)
+keep_by t a n x z is_tree first =
+    let k : (1 + steps t.nodes a (length t.nodes)) * (1 + n) ≤ paths t * (1 + n) = mul-le-mul_right (1 + n) (let p = path_short t a is_tree in omega arith) in
+    omega arith
+
 pub keep_counted : (t : Tree) (old : List Table) (a n x z : ℕ) → IsReducts (both t old) → HasAtMost (both t old) n → ((m : ℕ) → ((i : ℕ) → length (entries_at old i) ≤ m) → z ≤ x + (1 + steps t.nodes a (length t.nodes)) * (1 + m)) → z ≤ x + paths t * (1 + n)
-keep_counted t old a n x z r few first =
-    let k : (1 + steps t.nodes a (length t.nodes)) * (1 + n) ≤ paths t * (1 + n) = mul-le-mul_right (1 + n) (let p = path_short t a r.family.is_tree in omega arith) in
-    omega (arith, first n (sized t old n r few))
+keep_counted t old a n x z r few first = keep_by t a n x z r.family.is_tree (first n (sized t old n r few))
+
+-- where no table has lost more than n tuples, and a node has no more marks
+pub take_by : (t : Tree) (old mid : List Table) (a n x y z : ℕ) → IsReducts (both t old) → HasTaken (both t old) (both t mid) a → ((i : ℕ) → length (entries_at old i) ≤ length (entries_at mid i) + n) → y + 5 * size mid ≤ x + 1 + 5 * size old
+    → z ≤ y + (1 + steps t.nodes a (length t.nodes)) * (1 + n) → z ≤ x + 1 + 5 * (paths t * n) + paths t * (1 + n)
+take_by t old mid a n x y z r w grows first second =
+    let long = w.sound.family.long in
+    let longer = r.family.long in
+    let grow = grown_size t.nodes a mid old n (longer ∙ sym long) (λ i off. sym (lengths_off t old mid a r w.sound w.without.others i off)) grows in
+    count_take (steps t.nodes a (length t.nodes)) (paths t) n x y z (size old) (size mid) (path_short t a r.family.is_tree) first
+    (subst (λ (k : ℕ). size old ≤ size mid + (1 + steps t.nodes a k) * n) long grow) second
 
 pub take_counted : (t : Tree) (old mid : List Table) (a n x y z : ℕ) → IsReducts (both t old) → HasTaken (both t old) (both t mid) a → HasAtMost (both t old) n → y + 5 * size mid ≤ x + 1 + 5 * size old
     → ((m : ℕ) → ((i : ℕ) → length (entries_at mid i) ≤ m) → z ≤ y + (1 + steps t.nodes a (length t.nodes)) * (1 + m)) → z ≤ x + 1 + 5 * (paths t * n) + paths t * (1 + n)
@@ -305,8 +323,4 @@ take_counted t old mid a n x y z r w few first second =
         ]),
       );
     } in
-    let long = w.sound.family.long in
-    let longer = r.family.long in
-    let grow = grown_size t.nodes a mid old n (longer ∙ sym long) (λ i off. sym (lengths_off t old mid a r w.sound w.without.others i off)) (sized t old n r few) in
-    count_take (steps t.nodes a (length t.nodes)) (paths t) n x y z (size old) (size mid) (path_short t a r.family.is_tree) first
-    (subst (λ (k : ℕ). size old ≤ size mid + (1 + steps t.nodes a k) * n) long grow) (second n (sized t mid n w.sound less))
+    take_by t old mid a n x y z r w (λ i. let b = sized t old n r few i in omega arith) first (second n (sized t mid n w.sound less))

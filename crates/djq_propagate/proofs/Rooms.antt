@@ -172,7 +172,7 @@ side_bounded t now mid after last b x y z w f g h k stays back first second thir
     omega arith
 
 -- and what that is for an update, by the sizes of leaves
-few_nodes : (t : Tree) → IsTree t → length t.nodes ≤ 2 * paths t
+pub few_nodes : (t : Tree) → IsTree t → length t.nodes ≤ 2 * paths t
 few_nodes t s = omega (arith, both_kinds t.nodes, not_trims_of t s)
 
 spread : (P n : ℕ) → 2 * P * n ≡ 2 * (P * n)

@@ -354,7 +354,7 @@ marks_length (e ∷ es) =
       | inr other ↦ rw (marks_no e es other) (omega arith)
     ]
 
-groups : List ℕ → List Entry → List Entry → ℕ
+unfoldable pub groups : List ℕ → List Entry → List Entry → ℕ
 groups ks gs [] = 0
 groups ks gs (e ∷ es) = many ks gs e.tuple + groups ks gs es
 
@@ -373,22 +373,22 @@ groups_le : (ks : List ℕ) (gs es : List Entry) → ((v : List ℕ) → cnt es 
 groups_le ks [] es h = omega (arith, groups_none ks es)
 groups_le ks (x ∷ gs) es h = omega (arith, groups_first ks x gs es, h (pick ks x.tuple), groups_le ks gs es h)
 
-cost_side_all : (g s j : ℕ) (ts : List Table) (es : List Entry) → (g ≡ j → ⊥) → cost (Meet g s) j ts es ≡ 2 * length es + 3 * groups (key_at ts g) (entries_at ts g) es
+pub cost_side_all : (g s j : ℕ) (ts : List Table) (es : List Entry) → (g ≡ j → ⊥) → cost (Meet g s) j ts es ≡ 2 * length es + 3 * groups (key_at ts g) (entries_at ts g) es
 unfolding cost groups
 cost_side_all g s j ts [] other = refl
 cost_side_all g s j ts (e ∷ es) other = omega (arith, cost_side (Meet g s) g s j ts e.tuple refl other, cost_side_all g s j ts es other)
 
-cost_guard_all : (g s j : ℕ) (ts : List Table) (es : List Entry) → g ≡ j → cost (Meet g s) j ts es ≡ 3 * length es
+pub cost_guard_all : (g s j : ℕ) (ts : List Table) (es : List Entry) → g ≡ j → cost (Meet g s) j ts es ≡ 3 * length es
 unfolding cost
 cost_guard_all g s j ts [] here = refl
 cost_guard_all g s j ts (e ∷ es) here = omega (arith, cost_guard (Meet g s) g s j ts e.tuple refl here, cost_guard_all g s j ts es here)
 
-cost_trim_all : (c j : ℕ) (ts : List Table) (es : List Entry) → cost (Trim c) j ts es ≡ 4 * length es
+pub cost_trim_all : (c j : ℕ) (ts : List Table) (es : List Entry) → cost (Trim c) j ts es ≡ 4 * length es
 unfolding cost
 cost_trim_all c j ts [] = refl
 cost_trim_all c j ts (e ∷ es) = omega (arith, cost_trim (Trim c) c j ts e.tuple refl, cost_trim_all c j ts es)
 
-cost_leaf_all : (a j : ℕ) (ts : List Table) (es : List Entry) → cost (Leaf a) j ts es ≡ length es
+pub cost_leaf_all : (a j : ℕ) (ts : List Table) (es : List Entry) → cost (Leaf a) j ts es ≡ length es
 unfolding cost cost_one
 cost_leaf_all a j ts [] = refl
 cost_leaf_all a j ts (e ∷ es) = omega (arith, cost_leaf_all a j ts es)

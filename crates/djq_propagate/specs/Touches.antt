@@ -73,7 +73,11 @@ pub record CanWalk (t : Tree) (ts : List Table) (a : ℕ) (removal : Bool) : Typ
   pub covered : (k : ℕ) → t.second_stage ≤ k → on_path t.nodes a k ≡ true → IsCovered (node_at t.nodes k) ts (path_at t.nodes a k) k
   pub bare : removal ≡ true → (i : ℕ) → i ≢ a → (v : List ℕ) → cnt (marks (entries_at ts i)) v ≡ 0
 
--- and they were, at the nodes with numbers below k
+-- at most one tuple is marked in each table
+pub record HaveFew (ts : List Table) : Type 0 where
+  pub each : (i : ℕ) → length (marks (entries_at ts i)) ≤ 1
+
+-- the marks were made, at the nodes with numbers below k
 pub record IsWalked (t : Tree) (old new : List Table) (a : ℕ) (removal : Bool) (k : ℕ) : Type 0 where
   pub later : (i : ℕ) → k ≤ i → entries_at new i ≡ entries_at old i
   pub keeps : (i : ℕ) (v : List ℕ) → cnt (marks (entries_at old i)) v ≤ cnt (marks (entries_at new i)) v

@@ -1,23 +1,35 @@
-//! Updates of reducts: a tuple comes to a leaf or goes from it, and each table is its node's reduct again
-//! (Idris, Ugarte and Vansummeren 2017).
+//! Updates of reducts: a tuple comes to a leaf or goes from it, and each table is its node's reduct
+//! again (Idris, Ugarte, Vansummeren, *The dynamic Yannakakis algorithm*, SIGMOD 2017).
 //!
-//! An update has two calls. [`insert_leaf`] puts a tuple into a leaf's table and what it brings into the
-//! tables above, and [`finish_insertion`] ends it, or [`undo_insertion`] takes it back. [`mark_removal`]
-//! marks a tuple and what goes with it, and [`finish_removal`] takes them out. In between, the marks on
-//! the leaf's path say what the update changes: up to the lowest node in `out` the marked tuples are those
-//! that would not be there without the leaf's marked one, above it those that agree with a marked tuple of
-//! the path's next lower node. From these a query's new or lost answers are listed.
+//! An update has two calls. [`insert_leaf`] puts a tuple into a leaf's table and what it brings
+//! into the tables above, and [`finish_insertion`] ends it, or [`undo_insertion`] takes it back.
+//! [`mark_removal`] marks a tuple and what goes with it, and [`finish_removal`] takes them out. In
+//! between, the marks on the leaf's path say what the update changes: up to the lowest node in
+//! `out` the marked tuples are those that would not be there without the leaf's marked one, above
+//! it those that agree with a marked tuple of the path's next lower node. From these a query's new
+//! or lost answers are listed.
 //!
-//! It lists no answer, and it knows no relation: a self-join's row goes into its leaves one after another.
+//! ```text
+//! q(x,y) <- r(x,y), s(y)     before                insert_leaf(1, (7))
+//! 4   trim of 3              ()                    () by 2, marked
+//! 3   meet of 2 with 1       5                     5    7 marked
+//! 2   trim of 0, on y        5 by 2    7           as before
+//! 1   leaf s(y)              5    9                5    9    7 marked
+//! 0   leaf r(x,y)            1,5    2,7    3,5     as before: 2,7 is an answer now
+//! ```
 //!
-//! What surprises: only [`insert_leaf`] asks for memory. Where it gets none, all tables hold what they held,
-//! though the order in groups may differ. A removal does nothing to the tables until it is finished.
+//! It lists no answer, and it knows no relation: a self-join's row goes into its leaves one after
+//! another.
 //!
-//! Inside, one tuple goes up the path at a time, depth first. What comes to a trim raises a support or
-//! comes there too; what comes to a guard comes to its meet where the side has its projection; what comes
-//! to a side brings the guard's group. What goes takes the same way, with no memory, so that it also serves
-//! to give back. A table's equation with its children is a sum over its tuples, and no call shows more than
-//! that each sum gains or loses one.
+//! What surprises: only [`insert_leaf`] asks for memory. Where it gets none, all tables hold what
+//! they held, though the order in groups may differ. A removal does nothing to the tables until it
+//! is finished. What an update counts is bounded by the tuples of the leaves ([`counts_add_up`]).
+//!
+//! Inside, one tuple goes up the path at a time, depth first. What comes to a trim raises a support
+//! or comes there too; what comes to a guard comes to its meet where the side has its projection;
+//! what comes to a side brings the guard's group. What goes takes the same way, with no memory, so
+//! that it also serves to give back. A table's equation with its children is a sum over its tuples,
+//! and no call shows more than that each sum gains or loses one.
 #![tactic(auto)]
 
 mod kill;

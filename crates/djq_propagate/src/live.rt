@@ -1,8 +1,9 @@
 //! A tuple comes to a node, and what it brings comes to the nodes above it.
 
-ghost use Rattle.std.specs.Prelude.{◌≡◌, ℕ, ◌+◌, ◌*◌, ◌<◌, ◌≤◌, length, IfOk, OnErr};
+ghost use Rattle.std.specs.Prelude.{◌≡◌, ℕ, ◌+◌, ◌-◌, ◌*◌, ◌<◌, ◌≤◌, length, IfOk, OnErr};
 ghost use Rattle.djq_index.specs.Entries.{cnt};
 ghost use Rattle.djq_tree.specs.declared.node.Node.TheVariants.{Trim, Meet};
+ghost use Rattle.djq_tree.specs.Flat.{HasEqualMeets};
 ghost use Rattle.djq_reduct.specs.Tables.{entries_at, key_at, width_at};
 ghost use Rattle.djq_propagate.specs.Sizes.{size, AreAtMost};
 ghost use Rattle.djq_propagate.specs.Walks.{Ready, Lived, Refused, Gaining, Righted, Stayed, SamePlain, IsUnder};
@@ -37,6 +38,7 @@ pub(crate) fn live<L: Ledger>(
     ensures plain { SamePlain tables.old.items tables.new.items }
     ensures counted { IfOk result (λ _. tally.new + 1 + 4 * size tables.old.items ≤ tally.old + 4 * size tables.new.items) }
     ensures bounded { OnErr result ((n : ℕ) → AreAtMost tables.old.items n → length (entries_at tables.old.items at) < n → tally.new + 9 * size tables.old.items ≤ tally.old + 9 * (n * length tree.now.nodes)) }
+    ensures flat { OnErr result (HasEqualMeets tree.now → tally.new ≤ tally.old + 5 * (length tree.now.nodes - at)) }
 {
     let place = insert_at(tables, at, tuple, tally)?;
     match rise(tree, tables, at, tuple, tally) {
@@ -64,6 +66,7 @@ fn rise<L: Ledger>(
     ensures plain { SamePlain tables.old.items tables.new.items }
     ensures counted { IfOk result (λ _. tally.new + 4 * size tables.old.items ≤ tally.old + 2 + 4 * size tables.new.items) }
     ensures bounded { OnErr result ((n : ℕ) → AreAtMost tables.old.items n → tally.new + 9 * size tables.old.items ≤ tally.old + 7 + 9 * (n * length tree.now.nodes)) }
+    ensures flat { OnErr result (HasEqualMeets tree.now → tally.new + 2 ≤ tally.old + 5 * (length tree.now.nodes - at)) }
 {
     match tree.parent(at) {
         None => Ok(()),
@@ -99,6 +102,7 @@ fn rise_trim<L: Ledger>(
     ensures plain { SamePlain tables.old.items tables.new.items }
     ensures counted { IfOk result (λ _. tally.new + 4 * size tables.old.items ≤ tally.old + 2 + 4 * size tables.new.items) }
     ensures bounded { OnErr result ((n : ℕ) → AreAtMost tables.old.items n → tally.new + 9 * size tables.old.items ≤ tally.old + 7 + 9 * (n * length tree.now.nodes)) }
+    ensures flat { OnErr result (HasEqualMeets tree.now → tally.new + 2 ≤ tally.old + 5 * (length tree.now.nodes - at)) }
 {
     is_small_at(tables, at);
     let part = part_of(tables, at, tuple);
@@ -131,6 +135,7 @@ fn rise_guard<L: Ledger>(
     ensures plain { SamePlain tables.old.items tables.new.items }
     ensures counted { IfOk result (λ _. tally.new + 4 * size tables.old.items ≤ tally.old + 2 + 4 * size tables.new.items) }
     ensures bounded { OnErr result ((n : ℕ) → AreAtMost tables.old.items n → tally.new + 9 * size tables.old.items ≤ tally.old + 7 + 9 * (n * length tree.now.nodes)) }
+    ensures flat { OnErr result (HasEqualMeets tree.now → tally.new + 2 ≤ tally.old + 5 * (length tree.now.nodes - at)) }
 {
     is_small_at(tables, at);
     let part = part_of(tables, at, tuple);
@@ -158,6 +163,7 @@ fn rise_side<L: Ledger>(
     ensures plain { SamePlain tables.old.items tables.new.items }
     ensures counted { IfOk result (λ _. tally.new + 4 * size tables.old.items ≤ tally.old + 2 + 4 * size tables.new.items) }
     ensures bounded { OnErr result ((n : ℕ) → AreAtMost tables.old.items n → tally.new + 9 * size tables.old.items ≤ tally.old + 7 + 9 * (n * length tree.now.nodes)) }
+    ensures flat { OnErr result (HasEqualMeets tree.now → tally.new + 2 ≤ tally.old + 5 * (length tree.now.nodes - at)) }
 {
     is_small_at(tables, guard);
     let count = len_at(tables, guard);

@@ -3,11 +3,12 @@
 ghost use Rattle.std.specs.Prelude.{◌≡◌, ℕ, ◌+◌, ◌*◌, ◌<◌, ◌≤◌, false, true, cond, length};
 ghost use Rattle.djq_index.specs.Entries.{marks, unmarked};
 ghost use Rattle.djq_index.specs.Tuple.{one};
+ghost use Rattle.djq_tree.specs.Flat.{HasEqualMeets};
 ghost use Rattle.djq_tree.specs.Tree.{node_at, has_child};
 ghost use Rattle.djq_reduct.specs.Tables.{entries_at};
 ghost use Rattle.djq_reduct.specs.Reducts.{IsFamily, IsReducts};
 ghost use Rattle.djq_propagate.specs.Sizes.{size};
-ghost use Rattle.djq_propagate.specs.Touches.{CanWalk, IsTouched, IsTouchedUp, IsWalked, reach};
+ghost use Rattle.djq_propagate.specs.Touches.{CanWalk, HaveFew, IsTouched, IsTouchedUp, IsWalked, reach};
 ghost use Rattle.djq_propagate.specs.Walks.{Changed};
 ghost use Rattle.djq_propagate.specs.Updates.{HasCleared, HasTaken, steps};
 
@@ -37,6 +38,7 @@ fn touch_above<L: Ledger>(
     ensures idle { up < tree.now.second_stage → removal ≡ false → tables.new.items ≡ tables.old.items }
     ensures apart { has_child (node_at tree.now.nodes up) at ≡ false → tables.new.items ≡ tables.old.items }
     ensures counted { (n : ℕ) → ((i : ℕ) → length (entries_at tables.old.items i) ≤ n) → tally.new ≤ tally.old + one (has_child (node_at tree.now.nodes up) at) * (1 + 5 * n) }
+    ensures flat { HasEqualMeets tree.now → length (marks (entries_at tables.old.items at)) ≤ 1 → tally.new ≤ tally.old + one (has_child (node_at tree.now.nodes up) at) * 6 }
 {
     if tree.node(up).has_child(at) {
         if up >= tree.second_stage() {
@@ -66,6 +68,8 @@ pub(crate) fn touch_path<L: Ledger>(
     ensures touched { IsTouchedUp tree.now tables.old.items tables.new.items leaf }
     ensures walked { IsWalked tree.now tables.old.items tables.new.items leaf removal (length tree.now.nodes) }
     ensures counted { (n : ℕ) → ((i : ℕ) → length (entries_at tables.old.items i) ≤ n) → tally.new ≤ tally.old + steps tree.now.nodes leaf (length tree.now.nodes) * (1 + 5 * n) }
+    ensures few { HasEqualMeets tree.now → HaveFew tables.old.items → HaveFew tables.new.items }
+    ensures flat { HasEqualMeets tree.now → HaveFew tables.old.items → tally.new ≤ tally.old + steps tree.now.nodes leaf (length tree.now.nodes) * 6 }
 {
     let mut at = leaf;
     for up in 0..tree.len() {
@@ -88,6 +92,7 @@ fn clear_above<L: Ledger>(
     ensures changed { has_child (node_at tree.now.nodes up) at ≡ true → Changed tables.old.items tables.new.items up }
     ensures apart { has_child (node_at tree.now.nodes up) at ≡ false → tables.new.items ≡ tables.old.items }
     ensures counted { (n : ℕ) → ((i : ℕ) → length (entries_at tables.old.items i) ≤ n) → tally.new ≤ tally.old + one (has_child (node_at tree.now.nodes up) at) * (1 + n) }
+    ensures flat { HaveFew tables.old.items → tally.new ≤ tally.old + one (has_child (node_at tree.now.nodes up) at) * 2 }
 {
     if tree.node(up).has_child(at) {
         clear_at(tables, up, tally);
@@ -107,6 +112,7 @@ pub(crate) fn clear_path<L: Ledger>(
     requires leaf { leaf < tree.now.leaves }
     ensures cleared { HasCleared tree.now tables.old.items tables.new.items leaf (length tree.now.nodes) }
     ensures counted { (n : ℕ) → ((i : ℕ) → length (entries_at tables.old.items i) ≤ n) → tally.new ≤ tally.old + (1 + steps tree.now.nodes leaf (length tree.now.nodes)) * (1 + n) }
+    ensures flat { HaveFew tables.old.items → tally.new ≤ tally.old + (1 + steps tree.now.nodes leaf (length tree.now.nodes)) * 2 }
 {
     clear_at(tables, leaf, tally);
     let mut at = leaf;

@@ -3,6 +3,7 @@
 ghost use Rattle.std.specs.Prelude.{◌≡◌, ℕ, ◌+◌, ◌*◌, ◌<◌, ◌≤◌, length};
 ghost use Rattle.djq_index.specs.Tuple.{same, one};
 ghost use Rattle.djq_index.specs.Entries.{cnt, many, marks, plain, grp};
+ghost use Rattle.djq_tree.specs.Flat.{HasEqualMeets};
 ghost use Rattle.djq_tree.specs.Tree.{node_at};
 ghost use Rattle.djq_tree.specs.declared.node.Node.TheVariants.{Trim};
 ghost use Rattle.djq_reduct.specs.Tables.{entries_at, key_at, width_at};
@@ -163,6 +164,7 @@ pub(crate) fn touch_step<L: Ledger>(
     requires step { IsStep tree.now tables.old.items at up }
     ensures touched { IsTouched tree.now tables.old.items tables.new.items up (λ v. reach (node_at tree.now.nodes up) going at tables.old.items (marks (entries_at tables.old.items at)) v) }
     ensures counted { (n : ℕ) → ((i : ℕ) → length (entries_at tables.old.items i) ≤ n) → tally.new ≤ tally.old + 1 + 5 * n }
+    ensures flat { HasEqualMeets tree.now → length (marks (entries_at tables.old.items at)) ≤ 1 → tally.new ≤ tally.old + 6 }
 {
     let count = len_at(tables, at);
     let mut next = first_marked_at(tables, at, tally);

@@ -1,12 +1,15 @@
-//! The calls of an update.
+//! The calls of an update. Over a tree of equal meets each of them counts at most what it would if no leaf
+//! had more than one tuple.
 
 ghost use Rattle.std.specs.Prelude.{◌≡◌, ℕ, ◌<◌, ◌≤◌, List, length, IfOk, OnErr};
 ghost use Rattle.djq_index.specs.Entries.{cnt};
+ghost use Rattle.djq_tree.specs.Flat.{HasEqualMeets};
 ghost use Rattle.djq_tree.specs.Labels.{label_at};
 ghost use Rattle.djq_reduct.specs.Tables.{entries_at};
 ghost use Rattle.djq_reduct.specs.Reducts.{IsReducts, SameTables};
 ghost use Rattle.djq_reduct.specs.Reducts as spec;
 ghost use Rattle.djq_reduct.specs.Marks.{IsBare, AreOnPath, IsWithout};
+ghost use Rattle.djq_propagate.specs.Touches.{HaveFew};
 ghost use Rattle.djq_propagate.specs.Updates.{HasInserted, HasMarked, HasKept, HasDropped, HasAtMost};
 ghost use Rattle.djq_propagate.specs.Bounds.{after_insert, after_refusal, after_mark, after_keep, after_drop, HasVariables, AddUp};
 
@@ -38,6 +41,9 @@ pub fn insert_leaf<L: Ledger>(
     ensures refused { OnErr result (HasKept reducts.old reducts.new) }
     ensures counted { IfOk result (λ _. (n : ℕ) → HasAtMost reducts.new n → tally.new ≤ after_insert reducts.old.tree n tally.old) }
     ensures bounded { OnErr result ((n : ℕ) → HasAtMost reducts.old n → length (entries_at reducts.old.tables leaf) < n → tally.new ≤ after_refusal reducts.old.tree n tally.old) }
+    ensures few { IfOk result (λ _. HasEqualMeets reducts.old.tree → HaveFew reducts.new.tables) }
+    ensures flat { IfOk result (λ _. HasEqualMeets reducts.old.tree → tally.new ≤ after_insert reducts.old.tree 1 tally.old) }
+    ensures flat_refused { OnErr result (HasEqualMeets reducts.old.tree → tally.new ≤ after_refusal reducts.old.tree 1 tally.old) }
 {
     let _tables = &reducts.tables;
     put(&reducts.tree, &mut reducts.tables, leaf, tuple, tally)
@@ -60,6 +66,9 @@ fn put<L: Ledger>(
     ensures refused { OnErr result (HasKept (record { tree = tree.now; tables = tables.old.items }) (record { tree = tree.now; tables = tables.new.items })) }
     ensures counted { IfOk result (λ _. (n : ℕ) → HasAtMost (record { tree = tree.now; tables = tables.new.items }) n → tally.new ≤ after_insert tree.now n tally.old) }
     ensures bounded { OnErr result ((n : ℕ) → HasAtMost (record { tree = tree.now; tables = tables.old.items }) n → length (entries_at tables.old.items leaf) < n → tally.new ≤ after_refusal tree.now n tally.old) }
+    ensures few { IfOk result (λ _. HasEqualMeets tree.now → HaveFew tables.new.items) }
+    ensures flat { IfOk result (λ _. HasEqualMeets tree.now → tally.new ≤ after_insert tree.now 1 tally.old) }
+    ensures flat_refused { OnErr result (HasEqualMeets tree.now → tally.new ≤ after_refusal tree.now 1 tally.old) }
 {
     live(tree, tables, leaf, tuple, tally)?;
     touch_path(tree, tables, leaf, false, tally);
@@ -79,6 +88,8 @@ pub fn mark_removal<L: Ledger>(
     requires bare { IsBare reducts.old.tables }
     ensures marked { HasMarked reducts.old reducts.new leaf tuple.now }
     ensures counted { (n : ℕ) → HasAtMost reducts.old n → tally.new ≤ after_mark reducts.old.tree n tally.old }
+    ensures few { HasEqualMeets reducts.old.tree → HaveFew reducts.new.tables }
+    ensures flat { HasEqualMeets reducts.old.tree → tally.new ≤ after_mark reducts.old.tree 1 tally.old }
 {
     let _tables = &reducts.tables;
     mark(&reducts.tree, &mut reducts.tables, leaf, tuple, tally);
@@ -97,6 +108,8 @@ fn mark<L: Ledger>(
     requires bare { IsBare tables.old.items }
     ensures marked { HasMarked (record { tree = tree.now; tables = tables.old.items }) (record { tree = tree.now; tables = tables.new.items }) leaf tuple.now }
     ensures counted { (n : ℕ) → HasAtMost (record { tree = tree.now; tables = tables.old.items }) n → tally.new ≤ after_mark tree.now n tally.old }
+    ensures few { HasEqualMeets tree.now → HaveFew tables.new.items }
+    ensures flat { HasEqualMeets tree.now → tally.new ≤ after_mark tree.now 1 tally.old }
 {
     touch_tuple(tree, tables, leaf, tuple, tally);
     touch_path(tree, tables, leaf, true, tally);
@@ -108,6 +121,7 @@ pub fn finish_insertion<L: Ledger>(reducts: &mut Reducts, leaf: usize, tally: &m
     requires path { AreOnPath reducts.old.tree reducts.old.tables leaf }
     ensures kept { HasKept reducts.old reducts.new }
     ensures counted { (n : ℕ) → HasAtMost reducts.old n → tally.new ≤ after_keep reducts.old.tree n tally.old }
+    ensures flat { HaveFew reducts.old.tables → tally.new ≤ after_keep reducts.old.tree 1 tally.old }
 {
     let _tables = &reducts.tables;
     keep(&reducts.tree, &mut reducts.tables, leaf, tally);
@@ -119,6 +133,7 @@ fn keep<L: Ledger>(tree: &Tree, tables: &mut Vec<Table>, leaf: usize, tally: &mu
     requires path { AreOnPath tree.now tables.old.items leaf }
     ensures kept { HasKept (record { tree = tree.now; tables = tables.old.items }) (record { tree = tree.now; tables = tables.new.items }) }
     ensures counted { (n : ℕ) → HasAtMost (record { tree = tree.now; tables = tables.old.items }) n → tally.new ≤ after_keep tree.now n tally.old }
+    ensures flat { HaveFew tables.old.items → tally.new ≤ after_keep tree.now 1 tally.old }
 {
     clear_path(tree, tables, leaf, tally);
 }
@@ -129,6 +144,7 @@ pub fn finish_removal<L: Ledger>(reducts: &mut Reducts, leaf: usize, tally: &mut
     requires path { AreOnPath reducts.old.tree reducts.old.tables leaf }
     ensures dropped { HasDropped reducts.old reducts.new leaf }
     ensures counted { (n : ℕ) → HasAtMost reducts.old n → tally.new ≤ after_drop reducts.old.tree n tally.old }
+    ensures flat { HasEqualMeets reducts.old.tree → HaveFew reducts.old.tables → tally.new ≤ after_drop reducts.old.tree 1 tally.old }
 {
     let _tables = &reducts.tables;
     take_out(&reducts.tree, &mut reducts.tables, leaf, tally);
@@ -142,6 +158,7 @@ pub fn undo_insertion<L: Ledger>(reducts: &mut Reducts, leaf: usize, tally: &mut
     ensures dropped { HasDropped reducts.old reducts.new leaf }
     ensures back { (before : spec.Reducts) → IsReducts before → IsWithout reducts.old before leaf → SameTables before reducts.new }
     ensures counted { (n : ℕ) → HasAtMost reducts.old n → tally.new ≤ after_drop reducts.old.tree n tally.old }
+    ensures flat { HasEqualMeets reducts.old.tree → HaveFew reducts.old.tables → tally.new ≤ after_drop reducts.old.tree 1 tally.old }
 {
     let _tables = &reducts.tables;
     take_out(&reducts.tree, &mut reducts.tables, leaf, tally);
@@ -154,6 +171,7 @@ fn take_out<L: Ledger>(tree: &Tree, tables: &mut Vec<Table>, leaf: usize, tally:
     ensures dropped { HasDropped (record { tree = tree.now; tables = tables.old.items }) (record { tree = tree.now; tables = tables.new.items }) leaf }
     ensures back { (before : spec.Reducts) → IsReducts before → IsWithout (record { tree = tree.now; tables = tables.old.items }) before leaf → SameTables before (record { tree = tree.now; tables = tables.new.items }) }
     ensures counted { (n : ℕ) → HasAtMost (record { tree = tree.now; tables = tables.old.items }) n → tally.new ≤ after_drop tree.now n tally.old }
+    ensures flat { HasEqualMeets tree.now → HaveFew tables.old.items → tally.new ≤ after_drop tree.now 1 tally.old }
 {
     take_marked(tree, tables, leaf, tally);
     clear_path(tree, tables, leaf, tally);

@@ -8,9 +8,9 @@ use Rattle.djq_model.specs.declared.relation.ColumnType.{ColumnType}
 use Rattle.djq_model.specs.declared.query.Atom.{Atom}
 use Rattle.djq_model.specs.declared.query.Query.{Query}
 use Rattle.djq_lines.specs.declared.command.Command.{Command}
-use Rattle.djq_lines.specs.declared.command.Command.TheVariants.{Rel, Add, Del, Query as Register, Drop, Open, Next, Close, Has, Watch, Unwatch, Explain, Quit, Stop}
+use Rattle.djq_lines.specs.declared.command.Command.TheVariants.{Rel, Add, Del, Query as Register, Drop, Open, Next, Close, Has, Watch, Unwatch, Explain, Shape, Quit, Stop}
 use Rattle.djq_lines.specs.declared.keyword.Keyword.{Keyword}
-use Rattle.djq_lines.specs.declared.keyword.Keyword.TheVariants.{Rel as RelWord, Add as AddWord, Del as DelWord, Query as QueryWord, Drop as DropWord, Open as OpenWord, Next as NextWord, Close as CloseWord, Has as HasWord, Watch as WatchWord, Unwatch as UnwatchWord, Explain as ExplainWord, Quit as QuitWord, Stop as StopWord}
+use Rattle.djq_lines.specs.declared.keyword.Keyword.TheVariants.{Rel as RelWord, Add as AddWord, Del as DelWord, Query as QueryWord, Drop as DropWord, Open as OpenWord, Next as NextWord, Close as CloseWord, Has as HasWord, Watch as WatchWord, Unwatch as UnwatchWord, Explain as ExplainWord, Shape as ShapeWord, Quit as QuitWord, Stop as StopWord}
 use Rattle.djq_value.specs.Token.{Token, word, text, open_paren, close_paren, comma, arrow, stray}
 use Rattle.djq_value.specs.Literal.{is_name, literal_of, natural_of}
 use Rattle.djq_lines.specs.Grammar.{all_of, atom_in, atom_over, atoms_in, atoms_within, behind_atom, body_in, command_behind, command_in, command_with, count_of, in_front, is_count, keyword_of, list_in, name_and_count, name_of, named_any, named_some, nothing, one_name, query_in, query_of, term_of, two_names, type_of}
@@ -249,6 +249,7 @@ keyword_text HasWord = codes "has"
 keyword_text WatchWord = codes "watch"
 keyword_text UnwatchWord = codes "unwatch"
 keyword_text ExplainWord = codes "explain"
+keyword_text ShapeWord = codes "shape"
 keyword_text QuitWord = codes "quit"
 keyword_text StopWord = codes "stop"
 
@@ -267,9 +268,10 @@ keyword_said w k e =
     pick (bytes_eq w (codes "watch")) (Some WatchWord) _ (Some k) e9 (λ is h. text_is w WatchWord k is h) (λ _ e10.
     pick (bytes_eq w (codes "unwatch")) (Some UnwatchWord) _ (Some k) e10 (λ is h. text_is w UnwatchWord k is h) (λ _ e11.
     pick (bytes_eq w (codes "explain")) (Some ExplainWord) _ (Some k) e11 (λ is h. text_is w ExplainWord k is h) (λ _ e12.
-    pick (bytes_eq w (codes "quit")) (Some QuitWord) _ (Some k) e12 (λ is h. text_is w QuitWord k is h) (λ _ e13.
-    pick (bytes_eq w (codes "stop")) (Some StopWord) None (Some k) e13 (λ is h. text_is w StopWord k is h) (λ _ e14.
-    absurd (cc)))))))))))))))
+    pick (bytes_eq w (codes "shape")) (Some ShapeWord) _ (Some k) e12 (λ is h. text_is w ShapeWord k is h) (λ _ e13.
+    pick (bytes_eq w (codes "quit")) (Some QuitWord) _ (Some k) e13 (λ is h. text_is w QuitWord k is h) (λ _ e14.
+    pick (bytes_eq w (codes "stop")) (Some StopWord) None (Some k) e14 (λ is h. text_is w StopWord k is h) (λ _ e15.
+    absurd (cc))))))))))))))))
   where
     text_is : (w : Bytes) (here k : Keyword) → bytes_eq w (keyword_text here) ≡ true → Some here ≡ Some k → w ≡ keyword_text k
     text_is w here k is h = let same : here ≡ k = cc in (bytes_eq-decides w (keyword_text here)).0 is ∙ ap keyword_text same
@@ -316,6 +318,7 @@ behind_said HasWord ts c e =
 behind_said WatchWord ts c e = named_one (codes "watch") (λ q. Watch q) ts c (λ n us s. s) e
 behind_said UnwatchWord ts c e = named_one (codes "unwatch") (λ q. Unwatch q) ts c (λ n us s. s) e
 behind_said ExplainWord ts c e = named_one (codes "explain") (λ q. Explain q) ts c (λ n us s. s) e
+behind_said ShapeWord ts c e = named_one (codes "shape") (λ q. Shape q) ts c (λ n us s. s) e
 behind_said QuitWord ts c e =
     let none = nothing_said Quit c ts e in subst (λ (d : Command). Says d (word (codes "quit") ∷ ts)) none.1 (ap (λ us. word (codes "quit") ∷ us) none.0)
 behind_said StopWord ts c e =
@@ -350,6 +353,7 @@ said_read (Has q vs) ts s = ap command_in s.3 ∙ ap (option_map (λ (p : Bytes 
 said_read (Watch q) ts s = ap command_in s.1 ∙ ap (option_map (λ n. Watch n)) (cond-true _ _ _ s.0)
 said_read (Unwatch q) ts s = ap command_in s.1 ∙ ap (option_map (λ n. Unwatch n)) (cond-true _ _ _ s.0)
 said_read (Explain q) ts s = ap command_in s.1 ∙ ap (option_map (λ n. Explain n)) (cond-true _ _ _ s.0)
+said_read (Shape q) ts s = ap command_in s.1 ∙ ap (option_map (λ n. Shape n)) (cond-true _ _ _ s.0)
 said_read Quit ts s = ap command_in s
 said_read Stop ts s = ap command_in s
 

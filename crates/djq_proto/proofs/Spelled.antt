@@ -13,7 +13,7 @@ use Rattle.djq_model.specs.declared.query.Atom.{Atom}
 use Rattle.djq_model.specs.declared.query.Term.{Term}
 use Rattle.djq_model.specs.declared.query.Term.TheVariants.{Variable, Hole, Constant}
 use Rattle.djq_lines.specs.declared.command.Command.{Command}
-use Rattle.djq_lines.specs.declared.command.Command.TheVariants.{Rel, Add, Del, Query as Register, Drop, Open, Next, Close, Has, Watch, Unwatch, Explain, Quit, Stop}
+use Rattle.djq_lines.specs.declared.command.Command.TheVariants.{Rel, Add, Del, Query as Register, Drop, Open, Next, Close, Has, Watch, Unwatch, Explain, Shape, Quit, Stop}
 use Rattle.djq_value.specs.Token.{Token, word, text, open_paren, close_paren, comma, arrow, stray, tokens}
 use Rattle.djq_value.specs.Spelling.{HasNoStray}
 use Rattle.djq_value.proofs.Spellings.{tokens_are_spelled}
@@ -107,6 +107,7 @@ says_real (Has q vs) ts s = as_real ts _ s.3 (items_real SaysValue value_real vs
 says_real (Watch q) ts s = as_real ts _ s.1 tt
 says_real (Unwatch q) ts s = as_real ts _ s.1 tt
 says_real (Explain q) ts s = as_real ts _ s.1 tt
+says_real (Shape q) ts s = as_real ts _ s.1 tt
 says_real Quit ts s = as_real ts _ s tt
 says_real Stop ts s = as_real ts _ s tt
 

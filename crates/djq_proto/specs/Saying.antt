@@ -12,7 +12,7 @@ use Rattle.djq_model.specs.declared.query.Atom.{Atom}
 use Rattle.djq_model.specs.declared.query.Query.{Query}
 use Rattle.djq_lines.specs.declared.limits.TheConstants.{NEXT_COUNT}
 use Rattle.djq_lines.specs.declared.command.Command.{Command}
-use Rattle.djq_lines.specs.declared.command.Command.TheVariants.{Rel, Add, Del, Query as Register, Drop, Open, Next, Close, Has, Watch, Unwatch, Explain, Quit, Stop}
+use Rattle.djq_lines.specs.declared.command.Command.TheVariants.{Rel, Add, Del, Query as Register, Drop, Open, Next, Close, Has, Watch, Unwatch, Explain, Shape, Quit, Stop}
 use Rattle.djq_value.specs.Token.{Token, word, text, open_paren, close_paren, comma, arrow}
 use Rattle.djq_value.specs.Literal.{is_digit, is_name}
 
@@ -99,5 +99,6 @@ Says (Has q vs) ts = SaysRow (codes "has") q vs ts
 Says (Watch q) ts = SaysOne (codes "watch") q ts
 Says (Unwatch q) ts = SaysOne (codes "unwatch") q ts
 Says (Explain q) ts = SaysOne (codes "explain") q ts
+Says (Shape q) ts = SaysOne (codes "shape") q ts
 Says Quit ts = ts ≡ word (codes "quit") ∷ []
 Says Stop ts = ts ≡ word (codes "stop") ∷ []

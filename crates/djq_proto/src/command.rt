@@ -102,6 +102,10 @@ fn read_behind(
             let query = read_one_name(lexer)?;
             Ok(Command::Explain { query })
         }
+        Keyword::Shape => {
+            let query = read_one_name(lexer)?;
+            Ok(Command::Shape { query })
+        }
         Keyword::Watch => {
             let query = read_one_name(lexer)?;
             Ok(Command::Watch { query })

@@ -33,6 +33,8 @@ pub(crate) fn read_keyword(word: &[u8]) -> Option<Keyword>
         Some(Keyword::Unwatch)
     } else if is_text(word, b"explain") {
         Some(Keyword::Explain)
+    } else if is_text(word, b"shape") {
+        Some(Keyword::Shape)
     } else if is_text(word, b"quit") {
         Some(Keyword::Quit)
     } else if is_text(word, b"stop") {

@@ -1,12 +1,28 @@
 //! From a session's bytes to lines, and from a line to a command.
 //!
-//! `Splitter` finds the line in front of the bytes that a session holds, and `read_command` gives
-//! the command that a line says. Nothing here keeps state between lines, and only what a command
-//! holds (types, a row, a query) takes memory.
+//! [`Splitter`] finds the line in front of the bytes that a session holds, and [`read_command`]
+//! gives the command that a line says. Nothing here keeps state between lines, and only what a
+//! command holds (types, a row, a query) takes memory.
 //!
 //! ```text
-//! add edge 1 -20   ->  Command::Add { name: "edge", row: [1, -20] }
+//! add edge 1 -20       Command::Add { name: edge, row: (1, -20) }
+//! add edge 1 x         Syntax: x is no literal
+//! add edge 1 99999999999999999999      Range: past 64 bits
+//! next c 1001          Syntax: a count is from 1 to 1000
 //! ```
+//!
+//! It runs no command, and asks nothing of relations and queries: that a relation is there and a
+//! row suits it is the engine's to say. It prints nothing; djq_reply does.
+//!
+//! What surprises: a line without an end may be refused already. [`Splitter::front`] answers that
+//! it is too long as soon as no end could make it short enough, and looks at no more than 4,098
+//! bytes for that. A literal past its limit is `Range` only where the line is in the grammar.
+//!
+//! Inside, a line is cut into tokens by the lexer of djq_value, and `keyword` says by the first
+//! what stands behind: `command` has a reader for each form, over names, literals and lists of them
+//! (`parts`, `item`, `items`), and `query` reads heads and bodies. `laws` has two functions that do
+//! nothing: what they promise is that a line is read as a command exactly where it spells it, said
+//! without reading (`specs/Saying.antt`, and `specs/Spelling.antt` of djq_value).
 #![tactic(auto)]
 
 pub use command::read_command;

@@ -17,6 +17,7 @@ fn letter(alloc: Global, line: &[u8]) -> char {
         Ok(Command::Drop { .. }) => 'p',
         Ok(Command::Has { .. }) => 'h',
         Ok(Command::Explain { .. }) => 'e',
+        Ok(Command::Shape { .. }) => 's',
         Ok(Command::Watch { .. }) => 'w',
         Ok(Command::Unwatch { .. }) => 'u',
         Ok(Command::Quit) => 'x',
@@ -29,7 +30,7 @@ fn letter(alloc: Global, line: &[u8]) -> char {
 
 // Lines and what they say: a letter for each command, S for none of the grammar, R for a literal
 // past its limit.
-const LINES: [(&[u8], char); 105] = [
+const LINES: [(&[u8], char); 108] = [
     (b"rel r int", 'r'),
     (b"  rel  r_1 int   int ", 'r'),
     (b"rel rel int", 'r'),
@@ -132,6 +133,9 @@ const LINES: [(&[u8], char); 105] = [
     (b"unwatch q", 'u'),
     (b"explain q", 'e'),
     (b"explain q q", 'S'),
+    (b"shape q", 's'),
+    (b"shape", 'S'),
+    (b"shape q q", 'S'),
     (b"quit", 'x'),
     (b"quit q", 'S'),
     (b"stop", 'y'),

@@ -8,7 +8,7 @@ use Rattle.std.proofs.lemmas.List.Folds.{list_any_more}
 use Rattle.std.proofs.lemmas.Grind.{same_number_lists}
 use Rattle.djq_query.specs.declared.pattern.Slot.{Slot}
 use Rattle.djq_query.specs.declared.pattern.Slot.TheVariants.{Place, Cell}
-use Rattle.djq_query.specs.Pattern.{Shape, IsPattern, cell_of, put_cell, filled, is_place, is_within}
+use Rattle.djq_query.specs.Pattern.{Shape, IsPattern, Gives, cell_of, put_cell, filled, is_place, is_within}
 use Rattle.djq_query.proofs.Edging.{all_true_at}
 
 -- a slot of a pattern, whatever the default
@@ -78,14 +78,26 @@ filled_more u row slots ss i d same below under before here =
     ∙ ap₂ (λ (xs : List ℕ) (x : ℕ). xs ++ x ∷ []) before (ap (λ (l : List Slot). cell_of u (get_or l i d)) (sym same) ∙ here)
     ∙ sym (take_more row i 0 under)
 
-pub filled_apart : (u row : List ℕ) (slots ss : List Slot) (i : ℕ) (d : Slot) → ss ≡ slots → i < length ss → (cell_of u (get_or ss i d) ≡ get_or row i 0 → ⊥) → (false ≡ true) ↔ (filled u slots ≡ row)
-filled_apart u row slots ss i d same below other = (
+-- a column that differs, or none
+pub gives_not : (p : Shape) (u row : List ℕ) (ss : List Slot) (i : ℕ) (d : Slot) → ss ≡ p.slots → i < length ss
+    → (cell_of u (get_or ss i d) ≡ get_or row i 0 → ⊥) → (false ≡ true) ↔ Gives p u row
+gives_not p u row ss i d same below other = (
   λ e. absurd (false≢true e),
-  λ e. absurd (other (ap (λ (l : List Slot). cell_of u (get_or l i d)) same ∙ sym (filled_at u row slots i d e (omega (arith, ap (λ (l : List Slot). length l) same))))),
+  λ gives. absurd
+      (other
+      (ap (λ (l : List Slot). cell_of u (get_or l i d)) same
+      ∙ sym (filled_at u row p.slots i d gives.fills (omega (arith, ap (λ (l : List Slot). length l) same))))),
 )
 
-pub filled_all : (u row : List ℕ) (slots : List Slot) (i : ℕ) → length slots ≤ i → length row ≤ i → filled u (take i slots) ≡ take i row → filled u slots ≡ row
-filled_all u row slots i past over e = ap (filled u) (sym (take_all i slots past)) ∙ e ∙ take_all i row over
+pub gives_all : (p : Shape) (u row : List ℕ) (i : ℕ) → length u ≡ p.width → length p.slots ≤ i → length row ≤ i
+    → filled u (take i p.slots) ≡ take i row → (true ≡ true) ↔ Gives p u row
+gives_all p u row i wide past over e = (
+  λ is. record {
+    wide = wide;
+    fills = ap (filled u) (sym (take_all i p.slots past)) ∙ e ∙ take_all i row over;
+  },
+  λ gives. refl,
+)
 
 -- one slot
 pub cell_at : (u : List ℕ) (s : Slot) (p : ℕ) → s ≡ Place p → get_or u p 0 ≡ cell_of u s

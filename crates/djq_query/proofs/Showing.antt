@@ -206,6 +206,7 @@ shown_by rs q n fault numbered =
     let named : labels n.variables ≡ variables_of q.atoms = ap labels numbered.variables ∙ labels_columns rs [] q.atoms sound.arity in
     let heads : n.head ≡ map (number_of (variables_of q.atoms)) q.head = numbered.head ∙ ap (λ (ls : List Label). map (number_of ls) q.head) named in
     record {
+      variables = named;
       body = subst (λ (ls : List Label). AreAtomsShown rs ls q.atoms n.atoms) (sym named) (atoms_shown rs [] (variables_of q.atoms) q.atoms n.atoms (λ k l e. e) numbered.atoms);
       one = subst (λ (ls : List Label). (k : ℕ) (x : Bytes) → slice_get ls k ≡ Some (Some x) → number_of ls x ≡ k) (sym named) (atoms_unique [] q.atoms none_unique);
       fresh = atoms_rise rs [] q.atoms n.atoms numbered.atoms;

@@ -7,7 +7,7 @@ use Rattle.djq_model.specs.declared.query.Term.{Term}
 use Rattle.djq_model.specs.declared.query.Term.TheVariants.{Variable as Named, Hole, Constant}
 use Rattle.djq_model.specs.Data.{Bytes, relation_of}
 use Rattle.djq_lines.specs.QueryFault.{query_fault}
-use Rattle.djq_lines.specs.Variables.{Label}
+use Rattle.djq_lines.specs.Variables.{Label, variables_of}
 use Rattle.djq_query.specs.declared.numbered.NumberedTerm.{NumberedTerm}
 use Rattle.djq_query.specs.declared.numbered.NumberedTerm.TheVariants.{Variable as Number, Constant as Fixed}
 use Rattle.djq_query.specs.declared.numbered.NumberedAtom.{NumberedAtom}
@@ -57,9 +57,11 @@ unfoldable pub Rise : ℕ → List ℕ → Type 0
 Rise from [] = Unit {0}
 Rise from (k ∷ ks) = (from ≤ k) × Rise (k + 1) ks
 
--- The numbers stand for the query: term by term, each name has one number, each hole has one of its
--- own, and the head's numbers have the head's names.
+-- The numbers stand for the query: its variables are those of its body in the order in which they
+-- first stand; term by term, each name has one number, each hole has one of its own, and the head's
+-- numbers have the head's names.
 pub record IsShownBy (rs : List Relation) (q : Query) (n : Numbered) : Type 0 where
+  pub variables : labels n.variables ≡ variables_of q.atoms
   pub body : AreAtomsShown rs (labels n.variables) q.atoms n.atoms
   pub one : (k : ℕ) (x : Bytes) → slice_get (labels n.variables) k ≡ Some (Some x) → number_of (labels n.variables) x ≡ k
   pub fresh : Rise 0 (holes_in q.atoms n.atoms)

@@ -1,5 +1,5 @@
 -- Atoms whose constants are cells, and the rows that they give.
-use Rattle.std.specs.Prelude.{ℕ, ◌==◌, ◌≡◌, ◌≤◌, ◌<◌, List, [], ◌∷◌, Bool, true, false, nat_lt, map, slice_index, slice_set}
+use Rattle.std.specs.Prelude.{ℕ, ◌==◌, ◌≡◌, ◌≤◌, ◌<◌, List, [], ◌∷◌, Bool, true, false, nat_lt, length, map, slice_index, slice_set}
 use Rattle.std.specs.List.{list_all, list_any, position_or_len}
 use Rattle.djq_query.specs.declared.numbered.NumberedTerm.{NumberedTerm}
 use Rattle.djq_query.specs.declared.numbered.NumberedTerm.TheVariants.{Variable as Number, Constant as Fixed}
@@ -19,6 +19,11 @@ cell_of u (Cell c) = c
 -- The row that a tuple put into an atom gives.
 unfoldable pub filled : List ℕ → List Slot → List ℕ
 filled u slots = map (cell_of u) slots
+
+-- A tuple gives a row: it has a cell for each variable, and put into the atom its cells are the row's.
+pub record Gives (p : Shape) (u row : List ℕ) : Type 0 where
+  pub wide : length u ≡ p.width
+  pub fills : filled u p.slots ≡ row
 
 -- a tuple with the cell of a row's column, where a variable stands at the column
 unfoldable pub put_cell : List ℕ → Slot → ℕ → List ℕ

@@ -1,7 +1,7 @@
 ghost use Rattle.djq_query.specs.Meaning.{NumbersAreShown};
 
 /// The law of [`number`](crate::number), said of the definitions alone: a query by number has the
-/// query's terms, each name with one number and each hole with one that has no name, and the head's
+/// query's variables in the order in which they first stand, and the query's terms, each name with one number and each hole with one that has no name, and the head's
 /// numbers have the head's names. It does nothing.
 pub fn numbers_are_shown()
     ensures { NumbersAreShown }

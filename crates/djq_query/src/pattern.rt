@@ -1,5 +1,5 @@
 ghost use Rattle.std.specs.Prelude.{◌≡◌, ◌↔◌, ℕ, List, ◌<◌, ◌≤◌, Some, true, length, IfOk, IfSome};
-ghost use Rattle.djq_query.specs.Pattern.{cell_of, filled, is_within, put_cell, IsPattern};
+ghost use Rattle.djq_query.specs.Pattern.{cell_of, is_within, put_cell, Gives, IsPattern};
 
 use djq_index::Cells;
 use djq_model::Sequence;
@@ -85,8 +85,7 @@ impl Pattern {
     pub fn matches(&self, row: &[u64]) -> Option<Cells>
         requires { length row.now ≡ length self.now.slots }
         ensures wide { IfSome result (λ u. length u ≡ self.now.width) }
-        ensures exact { (u : List ℕ) → length u ≡ self.now.width → (result ≡ Some u) ↔ (filled u
-            self.now.slots ≡ row.now) }
+        ensures exact { (u : List ℕ) → (result ≡ Some u) ↔ Gives self.now u row.now }
     {
         let tuple = self.cells_of(row);
         if self.fills(&tuple, row) {
@@ -100,8 +99,7 @@ impl Pattern {
     fn cells_of(&self, row: &[u64]) -> Cells
         requires { length row.now ≡ length self.now.slots }
         ensures wide { length result ≡ self.now.width }
-        ensures only { (u : List ℕ) → length u ≡ self.now.width
-            → filled u self.now.slots ≡ row.now → result ≡ u }
+        ensures only { (u : List ℕ) → Gives self.now u row.now → result ≡ u }
     {
         let slots = self.slots.as_slice();
         let mut tuple = Cells::new(self.width);
@@ -115,7 +113,7 @@ impl Pattern {
     fn fills(&self, tuple: &Cells, row: &[u64]) -> bool
         requires long { length row.now ≡ length self.now.slots }
         requires wide { length tuple.now ≡ self.now.width }
-        ensures { (result ≡ true) ↔ (filled tuple.now self.now.slots ≡ row.now) }
+        ensures { (result ≡ true) ↔ Gives self.now tuple.now row.now }
     {
         let slots = self.slots.as_slice();
         let cells = tuple.as_slice();

@@ -1,4 +1,5 @@
 pub mod Placing
+pub mod Readings
 pub mod Family
 pub mod Making
 pub mod Paths

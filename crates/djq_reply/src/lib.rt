@@ -1,20 +1,38 @@
 //! Every reply and end line of the protocol, as bytes that are queued for a session.
 //!
 //! A short reply goes into room that was kept before its command began: it takes no memory and
-//! leaves room for the session's last line. The lines of a listing, of a change and of a rest are of
-//! any length, and so is the text that explains a tree: each is appended whole, or out of memory not
-//! at all.
+//! leaves room for the session's last line. The lines of a listing, of a change and of a rest are
+//! of any length, and so is the text that explains a tree: each is appended whole, or out of memory
+//! not at all.
+//!
+//! ```text
+//! say_added      Ok(Added), at 7 changes      ok added 7
+//! put_registered Registered(5)                ok query 5
+//! put_answer     the answer (1, "a")          = 1 "a"
+//! put_change     Came, q, the same            + q 1 "a"
+//! put_at         q, 7                         at q 7
+//! say_end        EndLine::Slow                end slow
+//! ```
 //!
 //! `specs/Reply.antt` of djq_lines says what the bytes of each reply are. Nothing here decides
-//! which reply a command gets.
+//! which reply a command gets, and nothing sends: who calls owns the buffer.
+//!
+//! What surprises: room is asked for in the contract of a call. A `say_` call can't fail, and its
+//! caller owes it 256 bytes and 32 behind them, or for a last line those 32 alone. A `put_` call
+//! asks for memory where its room is too small.
+//!
+//! Inside, `short` and `refusal` are the replies of fixed room, `registered` that of `query`,
+//! `growing` those of any length, and `ending` the last lines. Values are printed by djq_value, and
+//! an answer is told from where it stands, by the trait [`Answered`](djq_model::Answered), without
+//! being made.
 #![tactic(auto)]
 
 pub use ending::{end_bytes, say_cut, say_end};
 pub use growing::{put_answer, put_at, put_change, put_explained, put_last};
 pub use registered::put_registered;
 pub use short::{
-    say_added, say_bye, say_deleted, say_done, say_has, say_opened, say_refused, say_stale,
-    say_watched,
+    say_added, say_bye, say_deleted, say_done, say_has, say_opened, say_refused, say_shape,
+    say_stale, say_watched,
 };
 
 mod ending;

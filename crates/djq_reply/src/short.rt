@@ -1,14 +1,14 @@
 // Replies of at most 256 bytes, in room that was kept.
 ghost use Rattle.std.specs.Prelude.{◌≡◌, ◌+◌, ◌≤◌, codes, length};
 ghost use Rattle.djq_lines.specs.Reply.{add_reply, bye, delete_reply, has_reply, line, numbered};
-ghost use Rattle.djq_lines.specs.Reply.{ok_reply, refusal_line, stale_line};
+ghost use Rattle.djq_lines.specs.Reply.{ok_reply, refusal_line, shape_reply, stale_line};
 ghost use Rattle.djq_lines.specs.Reply.{watch_reply};
 ghost use Rattle.djq_lines.specs.declared.limits.TheConstants.{LAST_LINE_BYTES, REPLY_BYTES};
 ghost use Rattle.djq_value.specs.Output.{Says};
 
 use crate::refusal::refusal_words;
 use bytes::BytesMut;
-use djq_lines::{AddOutcome, DeleteOutcome, Refusal};
+use djq_lines::{AddOutcome, DeleteOutcome, Refusal, Shape};
 use djq_model::Name;
 use itoa::Buffer;
 
@@ -102,6 +102,19 @@ pub fn say_has(out: &mut BytesMut, outcome: Result<bool, Refusal>)
     match outcome {
         Ok(true) => say(out, b"yes"),
         Ok(false) => say(out, b"no"),
+        Err(refusal) => say_refused(out, refusal),
+    }
+}
+
+/// Answers `shape`.
+pub fn say_shape(out: &mut BytesMut, outcome: Result<Shape, Refusal>)
+    requires room { REPLY_BYTES + LAST_LINE_BYTES ≤ out.old.spare }
+    ensures kept { LAST_LINE_BYTES ≤ out.new.spare }
+    ensures says { Says out.old out.new (shape_reply outcome) }
+{
+    match outcome {
+        Ok(Shape::Flat) => say(out, b"flat"),
+        Ok(Shape::Linear) => say(out, b"linear"),
         Err(refusal) => say_refused(out, refusal),
     }
 }

@@ -2,7 +2,9 @@ use super::*;
 use bytes::BytesMut;
 use djq_hyper::{Edges, Names, VarSet};
 use djq_lines::limits::{LAST_LINE_BYTES, REPLY_BYTES};
-use djq_lines::{AddOutcome, DeleteOutcome, EndLine, NamedRest, QueryOutcome, Refusal, Sign};
+use djq_lines::{
+    AddOutcome, DeleteOutcome, EndLine, NamedRest, QueryOutcome, Refusal, Shape, Sign,
+};
 use djq_model::{Name, NoMem, Row, Text, Value};
 use std::alloc::{AllocError, Global};
 use std::test::Fail;
@@ -55,6 +57,10 @@ fn answers_commands(rt: HostRuntime) -> Result<(), Fail> {
     out.reserve(REPLY_BYTES + LAST_LINE_BYTES)?;
     say_has(&mut out, Ok(false));
     out.reserve(REPLY_BYTES + LAST_LINE_BYTES)?;
+    say_shape(&mut out, Ok(Shape::Flat));
+    out.reserve(REPLY_BYTES + LAST_LINE_BYTES)?;
+    say_shape(&mut out, Ok(Shape::Linear));
+    out.reserve(REPLY_BYTES + LAST_LINE_BYTES)?;
     say_watched(&mut out, Ok(()), 33);
     out.reserve(REPLY_BYTES + LAST_LINE_BYTES)?;
     say_stale(&mut out, &Name::new(b"c"), &Name::new(b"rel"), 5);
@@ -62,7 +68,7 @@ fn answers_commands(rt: HostRuntime) -> Result<(), Fail> {
     say_bye(&mut out);
     assert_eq!(rt;
         out.as_slice(),
-        b"ok\nok open\nok added 18446744073709551615\nok same 0\nok removed 3\nok absent 3\nok query 5\nyes\nno\nok watch 33\nstale c rel 5\nbye\n".as_slice()
+        b"ok\nok open\nok added 18446744073709551615\nok same 0\nok removed 3\nok absent 3\nok query 5\nyes\nno\nflat\nlinear\nok watch 33\nstale c rel 5\nbye\n".as_slice()
     );
     Ok(())
 }

@@ -37,7 +37,7 @@ use Rattle.std.proofs.Math.Seq.{map-set_same}
 use Rattle.std.proofs.lemmas.Option.{slice_get_within, get_or_from_slice_get}
 use Rattle.djq_model.specs.declared.relation.ColumnType.{ColumnType}
 use Rattle.djq_model.specs.declared.relation.Relation.{Relation}
-use Rattle.djq_model.specs.Data.{Bytes, Tuple, bytes_eq, relation_of, has_row, without_row}
+use Rattle.djq_model.specs.Data.{Bytes, Tuple, tuples_in, bytes_eq, relation_of, has_row, without_row}
 use Rattle.djq_model.specs.Typed.{fits}
 use Rattle.djq_lines.specs.declared.limits.TheConstants.{COLUMNS, ROWS}
 use Rattle.djq_lines.specs.declared.answer.AddOutcome.{AddOutcome}
@@ -97,7 +97,7 @@ pub in_types : (texts : List Bytes) (k : Kept) → (relation_in texts k).types �
 unfolding relation_in
 in_types texts k = refl
 
-pub in_rows : (texts : List Bytes) (k : Kept) → (relation_in texts k).rows ≡ rows_in texts k.types
+pub in_rows : (texts : List Bytes) (k : Kept) → tuples_in (relation_in texts k) ≡ rows_in texts k.types
     k.table.entries
 unfolding relation_in
 in_rows texts k = refl
@@ -153,7 +153,7 @@ relation_is texts ks at low = get_or-map (relation_in texts) ks at no_kept no_re
 
 pub rows_is : (texts : List Bytes) (ks : List Kept) (at : ℕ) → at < length ks → rows_at
     (relations_of texts ks) at ≡ rows_in texts (kept_at ks at).types (kept_at ks at).table.entries
-rows_is texts ks at low = ap (λ (r : Relation). r.rows) (relation_is texts ks at low) ∙ in_rows
+rows_is texts ks at low = ap tuples_in (relation_is texts ks at low) ∙ in_rows
     texts (kept_at ks at)
 
 pub types_is : (texts : List Bytes) (ks : List Kept) (at : ℕ) → at < length ks → (relation_at
@@ -310,6 +310,7 @@ sound_as : (texts : List Bytes) (j k : Kept) → k.types ≡ j.types → StaysTa
     IsSound texts j → Within texts j.types k.table.entries → length k.table.entries ≤ ROWS →
     IsSound texts k
 sound_as texts j k t st s w few = record {
+  some = subst (λ (l : List ColumnType). 0 < length l) (sym t) s.some;
   narrow = subst (λ (l : List ColumnType). length l ≤ COLUMNS) (sym t) s.narrow;
   key = st.key ∙ s.key;
   width = st.width ∙ s.width ∙ ap (λ (l : List ColumnType). length l) (sym t);
@@ -397,6 +398,7 @@ relations_grown old new (k ∷ ks) g h = ap (λ (r : Relation). r ∷ relations_
 
 sound_grown : (old new : List Bytes) (k : Kept) → Grown old new → IsSound old k → IsSound new k
 sound_grown old new k g s = record {
+  some = s.some;
   narrow = s.narrow;
   key = s.key;
   width = s.width;
@@ -441,6 +443,7 @@ pub sound_kept : (texts : List Bytes) (k : Kept) → AllDifferent texts → IsSo
     texts (relation_in texts k)
 unfolding relation_in
 sound_kept texts k d s = record {
+  some = s.some;
   narrow = s.narrow;
   typed = All-from_recursion (λ (row : Tuple). fits k.types row ≡ true) (map (row_of texts k.types)
       (tuples_of k.table.entries)) (within_typed texts k.types (tuples_of k.table.entries) d

@@ -337,10 +337,11 @@ empty_relation texts name types t e = ap (λ (es : List Entry). record {
 }) e
 
 pub pushed_parts : (p q : Parts) (name : Bytes) (types : List ColumnType) → IsParts p → Pushes p
-    name types q → q.texts ≡ p.texts → length p.kept.items < RELATIONS → length types ≤ COLUMNS →
-    IsParts q
-pushed_parts p q name types h u texts few narrow =
+    name types q → q.texts ≡ p.texts → length p.kept.items < RELATIONS → 0 < length types → length types
+    ≤ COLUMNS → IsParts q
+pushed_parts p q name types h u texts few some narrow =
     let new : IsSound p.texts (record { name = name; types = types; table = u.table }) = record {
+      some = some;
       narrow = narrow;
       key = ap (λ (t : Table). t.key) u.empty;
       width = ap (λ (t : Table). t.width) u.empty;

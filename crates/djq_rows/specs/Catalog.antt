@@ -3,6 +3,7 @@ use Rattle.std.specs.Prelude.{
   ◌≡◌,
   ◌≢◌,
   ℕ,
+  ◌<◌,
   ◌≤◌,
   true,
   List,
@@ -14,7 +15,7 @@ use Rattle.std.specs.Prelude.{
   AllPairs,
 }
 use Rattle.djq_model.specs.declared.relation.Relation.{Relation}
-use Rattle.djq_model.specs.Data.{Bytes, Tuple}
+use Rattle.djq_model.specs.Data.{Bytes, Tuple, tuples_in}
 use Rattle.djq_model.specs.Answer.{AreDifferent}
 use Rattle.djq_model.specs.Typed.{fits}
 use Rattle.djq_lines.specs.declared.limits.TheConstants.{COLUMNS, RELATIONS, ROWS}
@@ -37,7 +38,7 @@ relation_at relations at = slice_index_or relations at no_relation
 
 -- its rows
 abbrev pub rows_at : List Relation → ℕ → List Tuple
-rows_at relations at = (relation_at relations at).rows
+rows_at relations at = tuples_in (relation_at relations at)
 
 -- the cells stand for the row, in the columns of the relation at a place
 abbrev pub StandForRow : Catalog → ℕ → List ℕ → Tuple → Type 0
@@ -52,13 +53,15 @@ abbrev pub with_rows_at : List Relation → ℕ → List Tuple → List Relation
 with_rows_at relations at rows =
     slice_set relations at (let r = relation_at relations at in record r { rows = rows })
 
--- the rows of a relation suit its columns, differ, have cells, and are within the limit
+-- A relation has a column at least. Its rows suit its columns, differ, have cells, and are within
+-- the limit.
 pub record IsKept (texts : List Bytes) (r : Relation) : Type 0 where
+  pub some : 0 < length r.types
   pub narrow : length r.types ≤ COLUMNS
-  pub typed : All (λ row. fits r.types row ≡ true) r.rows
-  pub differ : AreDifferent r.rows
-  pub cells : All (HaveCells texts) r.rows
-  pub few : length r.rows ≤ ROWS
+  pub typed : All (λ row. fits r.types row ≡ true) (tuples_in r)
+  pub differ : AreDifferent (tuples_in r)
+  pub cells : All (HaveCells texts) (tuples_in r)
+  pub few : length (tuples_in r) ≤ ROWS
 
 -- what holds of every catalog
 pub record IsCatalog (c : Catalog) : Type 0 where

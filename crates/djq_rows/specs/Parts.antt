@@ -87,6 +87,7 @@ AreWithin texts (t ∷ ts) [] = ⊥
 
 -- what holds of each relation that is kept: its rows are one group of its table
 pub record IsSound (texts : List Bytes) (k : Kept) : Type 0 where
+  pub some : 0 < length k.types
   pub narrow : length k.types ≤ COLUMNS
   pub key : k.table.key ≡ []
   pub width : k.table.width ≡ length k.types

@@ -99,7 +99,7 @@ impl Catalog {
         find_in(&self.parts, name)
     }
 
-    /// Makes a relation without rows, behind the others.
+    /// Makes a relation of one column at least, without rows, behind the others.
     ///
     /// # Errors
     ///
@@ -107,6 +107,7 @@ impl Catalog {
     /// exactly at [`RELATIONS`](djq_lines::limits::RELATIONS) relations; [`RowsRefusal::NoMem`] for
     /// want of memory. Nothing has changed.
     pub fn relation(&mut self, name: Name, types: Types) -> Result<RelationId, RowsRefusal>
+        requires some { 0 < length types }
         requires narrow { length types ≤ COLUMNS }
         ensures makes { MakesRelation self.old.relations name types result self.new.relations }
         ensures texts { self.new.texts ≡ self.old.texts }

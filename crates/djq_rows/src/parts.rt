@@ -81,6 +81,7 @@ pub fn find_in(parts: &Parts, name: &Name) -> Option<RelationId>
 /// Makes a relation without rows.
 pub fn make_in(parts: &mut Parts, name: Name, types: Types) -> Result<RelationId, RowsRefusal>
     requires parts { IsParts parts.old }
+    requires some { 0 < length types }
     requires narrow { length types ≤ COLUMNS }
     ensures parts { IsParts parts.new }
     ensures makes { MakesRelation (catalog_of parts.old).relations name types result

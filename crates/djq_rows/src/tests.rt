@@ -1,4 +1,4 @@
-ghost use Rattle.std.specs.Prelude.{◌≡◌, true};
+ghost use Rattle.std.specs.Prelude.{◌≡◌, true, IfOk, length};
 ghost use Rattle.djq_model.specs.Typed.{is_of};
 
 use super::*;
@@ -25,12 +25,21 @@ fn pair(alloc: Global, number: i64, byte: u8) -> Result<Row, Fail> {
     Ok(row)
 }
 
+/// One column of integers.
+fn column(alloc: Global) -> Result<Types, Fail>
+    ensures { IfOk result (λ types. length types ≡ 1) }
+{
+    let mut types = Types::new(alloc);
+    types.push(ColumnType::Int)?;
+    Ok(types)
+}
+
 /// Makes a relation of such rows, where its name is short enough.
 fn make(alloc: Global, catalog: &mut Catalog, name: &[u8]) -> Result<RelationId, Fail> {
     let mut types = Types::new(alloc);
     types.push(ColumnType::Int)?;
     types.push(ColumnType::Text)?;
-    if name.len() > 32 || types.len() > 8 {
+    if name.len() > 32 || types.is_empty() || types.len() > 8 {
         return Err(RowsRefusal::Full)?;
     }
     Ok(catalog.relation(Name::new(name), types)?)
@@ -414,9 +423,9 @@ fn finds_relations_by_name(rt: HostRuntime) -> Result<(), Fail> {
     assert_eq!(rt; make_many(rt.alloc(), &mut catalog)?, 256);
     assert!(rt; finds(&catalog, &9u16.to_be_bytes(), 9));
     assert!(rt; !finds(&catalog, &300u16.to_be_bytes(), 300));
-    let full = catalog.relation(Name::new(b"r"), Types::new(rt.alloc()));
+    let full = catalog.relation(Name::new(b"r"), column(rt.alloc())?);
     assert!(rt; full == Err(RowsRefusal::Full));
-    let taken = catalog.relation(Name::new(&7u16.to_be_bytes()), Types::new(rt.alloc()));
+    let taken = catalog.relation(Name::new(&7u16.to_be_bytes()), column(rt.alloc())?);
     assert!(rt; taken == Err(RowsRefusal::NameTaken));
     catalog.laws();
     Ok(())

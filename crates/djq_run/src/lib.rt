@@ -1,4 +1,4 @@
-//! The loops of `djq run`: one session of a join machine, from a source to a sink.
+//! The loop of `djq run`: one session of a join machine, from a source to a sink.
 //!
 //! [`run_session`] opens session 1, reads pieces, feeds them to the machine, runs each whole line
 //! that they complete and writes what it answers before the next line is run. It is generic in the
@@ -8,10 +8,23 @@
 //!
 //! What this crate is not: it buffers nothing, allocates nothing, and knows no command.
 //!
-//! A write that failed is the last thing that a run does ([`failed_write_is_last`]).
-//!
 //! What surprises: it never reads ahead. A piece that was read is fed, run and answered before the
-//! next read, so a client that waits for a reply always gets it.
+//! next read, so a client that waits for a reply always gets it. And a write that failed is the
+//! last thing that a run does ([`failed_write_is_last`]).
+//!
+//! ```text
+//! read    rel r int, add r 7, add      at most as many bytes as the buffer has
+//! write   ok                           once rel r int is run
+//! write   ok added 1                   once add r 7 is run; add waits for its end
+//! read    r 8, quit
+//! write   ok added 2
+//! write   bye                          and nothing is read behind it: the status is Done
+//! ```
+//!
+//! Inside, `session` has the loop in three: a read and what it brings, the lines that a session
+//! holds, and the writes behind each. What a write took is told to the machine before the next one.
+//! `status` has what the exit status of the process is, for the other commands too. A course is a
+//! definition of djq_laws (`specs/Course.antt`), and what holds of every course is a law there.
 #![tactic(auto)]
 
 mod laws;

@@ -128,7 +128,7 @@ fn serve_held<M: Machine, K: Sink, L: Ledgers>(
 {
     'lines: while flush(machine, sink) {
         match machine.step(ID, steps) {
-            Stepped::Ran => {}
+            Stepped::Ran { .. } => {}
             Stepped::Dry => return Served::AwaitsInput,
             Stepped::Ended(cause) => {
                 if flush(machine, sink) {

@@ -10,7 +10,17 @@
 //! What this crate is not: it buffers nothing, allocates nothing, knows no command and no socket.
 //!
 //! What surprises: a line is run in the turn that brings its end, so no turn leaves a line behind;
-//! and a session that takes nothing now is passed over, so that it delays no other.
+//! and a session that takes nothing now is passed over, so that it delays no other. A session that
+//! isn't let in is offered one line, `end full` or `end memory`, once, and closed.
+//!
+//! ```text
+//! turn   1 opens                       let in
+//! turn   1 brings rel r int, add r     the line is run and ok sent; what has no end waits
+//! turn   1 brings 7                    add r 7 is run, and ok added 1 sent
+//! turn   2 opens                       let in
+//! turn   2 brings stop                 bye is sent, and no line is run behind it
+//!                                      both are closed, and the answer is Stopped
+//! ```
 //!
 //! To read first: `specs/Server.antt`, from `Serves` at its end backwards. It is a relation of one
 //! move: where the server stands, what it asks the hub, which step the machine makes, and where the

@@ -34,7 +34,7 @@ pub(crate) fn run_lines<M: Machine, H: Hub, L: Ledgers>(
 {
     'lines: while is_served(machine, id) {
         match machine.step(id, steps) {
-            Stepped::Ran => flush(machine, hub),
+            Stepped::Ran { .. } => flush(machine, hub),
             Stepped::Dry => return,
             Stepped::Ended(_) => return,
         }

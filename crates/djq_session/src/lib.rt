@@ -1,18 +1,28 @@
 //! What is kept of a session: the bytes that came and aren't run, those that are queued and aren't
 //! taken, its cursors by name, what it watches, and why it takes no further commands.
 //!
-//! A session runs nothing. What a cursor is, and what a query is named by, is left to whoever keeps
-//! the session.
+//! A [`Session`] runs nothing. What a cursor is, and what a query is named by, is left to whoever
+//! keeps the session: it is generic in both. Contracts see one record, `Dialog`.
 //!
-//! As long as it goes on, 32 bytes of output are kept free, so that its last line never needs
-//! memory; and a short reply stands in room that `keep` makes before its command begins. So what a
-//! command did is always answered. A text is appended where it is queued, without a copy.
+//! What surprises: as long as it goes on, 32 bytes of output are kept free, so that its last line
+//! never needs memory; and a short reply stands in room that [`Session::keep`] makes before its
+//! command begins. So what a command did is always answered. An idle session holds its bytes, and
+//! besides a constant: a buffer above 16,384 bytes is given back when the last of its bytes is
+//! taken.
 //!
-//! An idle session holds its bytes, and besides a constant: a buffer above 16,384 bytes is given
-//! back when the last of its bytes is taken.
+//! ```text
+//! feed("open c q\nnext c 10\nne")    held      open c q    next c 10    ne
+//! front()                            a line of 8 bytes, and what is behind it begins at 9
+//! take_line(9)                       held      next c 10   ne
+//! keep(256)                          room for the reply, and for the last line behind it
+//! add_cursor(c, 0)                   cursors   c 0
+//! answer_opened(Ok(()))              pending   ok open
+//! took(8)                            pending   nothing
+//! ```
 //!
-//! Inside: one file each for the bytes that come, the output, replies, cursors, watches, and a
-//! session's end.
+//! Inside: `input` has the bytes that come, `output` those that go, `replies` each reply in its
+//! place, and `cursors`, `watches` and `end` the rest, a file each. A text is appended where it is
+//! queued, without a copy. Cursors and watches are short lists that are gone through.
 #![tactic(auto)]
 
 pub use named::NamedCursor;

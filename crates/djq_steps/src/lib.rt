@@ -25,7 +25,11 @@
 //!
 //! ```text
 //! abbrev pub ghosts-counted : goal.ghosts-counted
-//! ghosts-counted a = record { listing = a.blanks.listing.name; update = a.blanks.update.name; rows = a.blanks.rows.name }
+//! ghosts-counted a = record {
+//!   listing = a.blanks.listing.name;
+//!   update = a.blanks.update.name;
+//!   rows = a.blanks.rows.name;
+//! }
 //! ```
 //!
 //! Inside, a tally is the book of a ledger (`std::sync::ledger`) with its one share.

@@ -5,5 +5,6 @@ pub mod Tree
 pub mod Levels
 pub mod Keys
 pub mod Counts
+pub mod Flat
 pub mod Growing
 pub mod Explaining

@@ -2,8 +2,8 @@
 //!
 //! A [`Tree`] of a conjunctive query has its atoms as leaves. An inner node is a *trim* of one
 //! node, a projection on fewer variables, or a *meet* of two, the tuples of its guard that agree
-//! with one of its side (Idris, Ugarte and Vansummeren 2017). A node's label is its variables. In
-//! the part `out` the query's answers are read off.
+//! with one of its side (Idris, Ugarte, Vansummeren, *The dynamic Yannakakis algorithm*, SIGMOD
+//! 2017). A node's label is its variables. In the part `out` the query's answers are read off.
 //!
 //! ```text
 //! q(x,y) <- r(x,y), s(y)       n 0 leaf r x,y out       0: r x,y     1: s y
@@ -16,8 +16,10 @@
 //! This crate has the tree with its invariant, its paths, its text, the group keys and levels by
 //! which its nodes' tuples are kept and listed, and the law that a tree is small. It also has the
 //! definition of the tree that belongs to a query: the choice rule on the current nodes, and the
-//! two stages in which the rule grows it. It makes no tree; `djq_plan` does. A tree may have nodes
-//! with equal or empty labels, and a single leaf without variables is one.
+//! two stages in which the rule grows it. It makes no tree; `djq_plan` does.
+//!
+//! What surprises: a tree may have nodes with equal or empty labels, and a single leaf without
+//! variables is one.
 //!
 //! Inside, a tree is three lists side by side, with the head's variables. A node's parent isn't
 //! stored: children have lower numbers, so one pass up the nodes goes along a whole path.

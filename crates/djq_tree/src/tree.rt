@@ -112,6 +112,13 @@ impl Tree {
         self.leaves
     }
 
+    /// The labels of the leaves: the sets of the atoms' variables, in the order of the atoms.
+    pub fn leaf_labels(&self) -> &[VarSet]
+        ensures { result.now ≡ leaf_labels self.now }
+    {
+        &self.labels[..self.leaves]
+    }
+
     /// The number from which on the nodes were made in the second stage.
     pub fn second_stage(&self) -> usize
         ensures { result ≡ self.now.second_stage }

@@ -1,12 +1,29 @@
 //! Tokens and literals: what the words of a line are, and how values are printed.
 //!
-//! `Lexer` gives the tokens of a line, `read_literal` and `read_name` say what a token is,
-//! `print_value` appends the text of a value. Nothing here knows of commands or replies.
+//! [`Lexer`] gives the tokens of a line, [`read_literal`] and [`read_name`] say what a token is,
+//! and [`print_value`] appends the text of a value. [`read_value`] reads one in front of bytes that
+//! go on behind it.
 //!
-//! Output goes into a `BytesMut`, of which contracts see the bytes and the room behind them.
-//! Whoever prints leaves 32 bytes of room, so that a session's last line never needs memory. What
-//! is printed in part only, out of memory, is taken back: a call appends its text whole, or
-//! nothing.
+//! ```text
+//! add r -20 "a\"b"     the words add, r and -20, and a text
+//! -20                  the integer -20, printed as -20
+//! -007                 the integer -7, printed as -7
+//! "a\"b"               the text a"b, printed as "a\"b"
+//! 9223372036854775808  no value: it is past 64 bits
+//! ```
+//!
+//! Nothing here knows of commands, replies, relations or types of columns.
+//!
+//! What surprises: output goes into a `BytesMut`, of which contracts see the bytes and the room
+//! behind them. Whoever prints leaves 32 bytes of room ([`KEPT`]), so that a session's last line
+//! never needs memory. What is printed in part only, out of memory, is taken back: a call appends
+//! its text whole, or nothing. An integer has several spellings and is printed in one; a text has
+//! one.
+//!
+//! Inside, `lexer` cuts, `word`, `number`, `literal` and `quoted` read, `print` and `output` write.
+//! A text stays in its line as [`Quoted`] until it is copied. `laws` has the promises on both ways
+//! at once: what is printed is read back, and tokens and values are read exactly as they are
+//! spelled.
 #![tactic(auto)]
 
 pub use laws::{tokens_are_spelled, values_are_read_back, values_are_spelled};

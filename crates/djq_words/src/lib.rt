@@ -5,8 +5,22 @@
 //! the builder here, and whose numbers are decimal digits without a sign or a leading zero, which
 //! `clap` would take.
 //!
-//! What this crate is not: it prints nothing. `clap`'s own texts aren't used, and help and version
-//! words are no command.
+//! ```text
+//! djq run                     Asked::Run
+//! djq serve a:1 --turns 7     Asked::Serve("a:1", 7)
+//! djq gen 5 1                 Asked::Gen(5, 1)
+//! djq gen 05 1                no command
+//! djq --help                  no command
+//! ```
+//!
+//! What this crate is not: it prints nothing, and it doesn't run what it read. Whether an address
+//! can be listened at is for the hub to say.
+//!
+//! What surprises: `clap`'s own texts aren't used, and help and version words are no command.
+//! Without `--turns`, `serve` takes as many turns as it may be asked for ([`MOST_TURNS`]).
+//!
+//! Inside, the command set is built anew for each call, and what `clap` gives back, a text under a
+//! name, is turned into [`Asked`]. Memory that is wanting is told apart from words that are wrong.
 #![tactic(auto)]
 
 mod commands;

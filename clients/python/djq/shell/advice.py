@@ -24,6 +24,7 @@ FORMS = {
     "watch": "watch QUERY",
     "unwatch": "unwatch QUERY",
     "explain": "explain QUERY",
+    "shape": "shape QUERY",
     "quit": "quit",
     "stop": "stop",
 }

@@ -30,6 +30,7 @@ has QUERY 1 "a text" ..           whether that is an answer
 open CURSOR QUERY, next CURSOR 20, close CURSOR
                                   answers, page by page
 explain QUERY, drop QUERY         how a query is kept; gives it up
+shape QUERY                       flat where a change costs the same however many rows there are; else linear
 quit, stop                        ends this session; ends the whole server
 
 \\show QUERY [COUNT]               answers of one moment, as a table

@@ -49,7 +49,7 @@ class Names:
             self.cursors.pop(name, None)
         elif command == "drop":
             self.queries.pop(name, None)
-        elif command in ("watch", "has", "explain"):
+        elif command in ("watch", "has", "explain", "shape"):
             self.queries.setdefault(name, None)
             if command == "watch":
                 self.watched.add(name)

@@ -27,7 +27,7 @@ except ImportError:  # lines are read without it then
 
 OWN = [line.split()[0] for line in HELP.split("\n") if line.startswith("\\")]
 OF_RELATIONS = ("add", "del", "\\columns")
-OF_QUERIES = ("watch", "unwatch", "has", "explain", "drop", "\\show", "\\explain", "\\dump")
+OF_QUERIES = ("watch", "unwatch", "has", "explain", "shape", "drop", "\\show", "\\explain", "\\dump")
 
 
 def run(shell: Shell, fancy: bool) -> None:

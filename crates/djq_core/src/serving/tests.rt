@@ -43,7 +43,7 @@ fn say<L: Ledgers>(core: &mut Core, steps: &mut Steps<L>, id: u64, text: &[u8]) 
     }
     core.feed(id, text);
     for _ in 0..100 {
-        if !is_open(core, id) || core.step(id, steps) != Stepped::Ran {
+        if !is_open(core, id) || !matches!(core.step(id, steps), Stepped::Ran { .. }) {
             return;
         }
     }

@@ -1,8 +1,11 @@
-use Rattle.djq_laws.proofs.Sounding.{runs_keep_sound, states_are_sound}
+use Rattle.djq_laws.proofs.Sounding.{runs_keep_sound, opening_is_start, states_are_sound}
 use Rattle.djq_laws.proofs.states_are_sound.Goals as goal
 
 pub returns-clause-kept : goal.returns-clause-kept
 returns-clause-kept c = runs_keep_sound
+
+pub returns-clause-opening : goal.returns-clause-opening
+returns-clause-opening c = opening_is_start
 
 pub returns-clause-reached : goal.returns-clause-reached
 returns-clause-reached c = states_are_sound

@@ -2,16 +2,17 @@
 ghost use Rattle.std.specs.Prelude.{◌+◌, ◌≤◌, ◌++◌, codes};
 ghost use Rattle.djq_lines.specs.Reply.{add_reply, answer_line, at_line, change_line};
 ghost use Rattle.djq_lines.specs.Reply.{delete_reply, has_reply, last_line};
-ghost use Rattle.djq_lines.specs.Reply.{ok_reply, query_reply, refusal_line, stale_line, watch_reply};
+ghost use Rattle.djq_lines.specs.Reply.{ok_reply, query_reply, refusal_line, shape_reply};
+ghost use Rattle.djq_lines.specs.Reply.{stale_line, watch_reply};
 ghost use Rattle.djq_lines.specs.declared.limits.TheConstants.{LAST_LINE_BYTES, REPLY_BYTES};
 ghost use Rattle.djq_session.specs.Dialog.{MayQueue, Replies};
 
 use super::Session;
-use djq_lines::{AddOutcome, DeleteOutcome, QueryOutcome, Refusal, Sign};
+use djq_lines::{AddOutcome, DeleteOutcome, QueryOutcome, Refusal, Shape, Sign};
 use djq_model::{Answered, Name, NoMem};
 use djq_reply::{
     put_answer, put_at, put_change, put_explained, put_last, put_registered, say_added,
-    say_deleted, say_done, say_has, say_opened, say_refused, say_stale, say_watched,
+    say_deleted, say_done, say_has, say_opened, say_refused, say_shape, say_stale, say_watched,
 };
 
 impl<C: Copy, Q: Copy + PartialEq> Session<C, Q> {
@@ -77,6 +78,14 @@ impl<C: Copy, Q: Copy + PartialEq> Session<C, Q> {
         ensures { Replies self.old self.new (has_reply outcome) }
     {
         say_has(&mut self.output, outcome);
+    }
+
+    /// `shape` is answered.
+    pub fn answer_shape(&mut self, outcome: Result<Shape, Refusal>)
+        requires { REPLY_BYTES + LAST_LINE_BYTES ≤ self.old.room }
+        ensures { Replies self.old self.new (shape_reply outcome) }
+    {
+        say_shape(&mut self.output, outcome);
     }
 
     /// `watch` is answered, at a number of changes.

@@ -19,7 +19,7 @@ serve-requires-clause-going g c = ap (λ (st : State). st.stopped) c.in-Ok.ensur
 pub returns-in-Ready : goal.returns-in-Ready
 returns-in-Ready g c =
     let heard = c.in-Ready.ensures in
-    served_hub c.serve.result c.ended_status.result _ _ _ _ _ _ _ _ _ c.in-Ok.ensures
+    served_hub c.serve.result c.ended_status.result _ _ _ _ _ _ _ _ _ _ c.in-Ok.ensures
     (record { past = heard.past; script = heard.script; ids = heard.ids }) c.serve.ensures.ends
     (faults_from c.serve.result _ _ _ heard.faults c.serve.ensures.faults) c.ended_status.ensures
 

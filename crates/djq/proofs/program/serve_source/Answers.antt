@@ -1,5 +1,5 @@
 -- The session's run begins in the opening state; before that nothing is done.
-use Rattle.std.proofs.Common.{ap, arith}
+use Rattle.std.proofs.Common.{ap, refl, arith}
 use Rattle.djq_machine.specs.State.{State}
 use Rattle.djq.proofs.Running.{serves, serves_nothing}
 use Rattle.djq.proofs.program.serve_source.Goals as goal
@@ -17,7 +17,7 @@ pub run_session-requires-clause-alone : goal.run_session-requires-clause-alone
 run_session-requires-clause-alone g c = ap (λ (st : State). st.sessions) c.in-Ok.ensures
 
 pub returns : goal.returns
-returns g c = serves _ _ _ _ _ c.in-Ok.ensures c.run_session.ensures
+returns g c = serves _ _ _ _ _ _ c.in-Ok.ensures refl c.run_session.ensures
 
 pub returns-in_default-vec : goal.returns-in_default-vec
 returns-in_default-vec g c = serves_nothing _

@@ -27,6 +27,6 @@ returns-in-Err g c =
     let line = take c.args.end old.held in
     let said = subst (λ (bs : Bytes). Reads (take c.args.end bs) (Err c.in-Err.refusal)) c.held.ensures c.in-Err.ensures in
     let reply = subst (λ (r : Refusal). Replies c.take_line.new.self c.refuse.new.self (refusal_line r)) c.refusal_of.ensures c.refuse.ensures in
-    runs false c.args.engine.now old c.take_line.new.self line (drop c.args.rest old.held) c.args.engine.now c.refuse.new.self c.args.steps.now.listing c.args.steps.now.listing
+    runs false false c.args.engine.now old c.take_line.new.self line (drop c.args.rest old.held) c.args.engine.now c.refuse.new.self c.args.steps.now.listing c.args.steps.now.listing
     c.requires.front c.take_line.ensures c.requires.said c.requires.few
     (reads_err c.args.engine.now c.take_line.new.self c.refuse.new.self line c.in-Err.refusal c.args.steps.now.listing said reply)

@@ -1,10 +1,11 @@
-use Rattle.std.proofs.Common.{◌≡◌, ◌<◌, ◌≤◌, sym, ap, subst, take, drop, length, true, false}
+use Rattle.std.proofs.Common.{◌≡◌, ◌<◌, ◌≤◌, Bool, sym, ap, subst, take, drop, length, true, false}
 use Rattle.djq_model.specs.Data.{Bytes}
 use Rattle.djq_lines.specs.declared.limits.TheConstants.{PENDING_BYTES}
 use Rattle.djq_lines.specs.declared.answer.EndCause.TheVariants.{Slow, Memory}
 use Rattle.djq_lines.specs.Line.{is_blank}
+use Rattle.djq_machine.specs.declared.machine.Stepped.TheVariants.{Ran}
 use Rattle.djq_machine.specs.Call.{counts}
-use Rattle.djq_core.specs.Stepping.{LineLeaves}
+use Rattle.djq_core.specs.Stepping.{LineLeaves, LeavesTo}
 use Rattle.djq_core.specs.Views.{Talk}
 use Rattle.djq_core.proofs.Fronting.{is_slow, is_unheard, is_dropped, ran_blank, ended_before}
 use Rattle.djq_core.proofs.Leaving.{step_leaves}
@@ -50,5 +51,7 @@ returns-in-Ok g c =
     let same : c.keep.new.self.held ≡ old.held = ap (λ (d : Talk). d.held) c.in-Ok.ensures.others in
     let left : LineLeaves line c.run_line-left.result c.args.engine.now c.keep.new.self c.run_line-left.new.engine c.run_line-left.new.session c.args.steps.now.listing c.run_line-left.new.steps.listing
     = subst (λ (bs : Bytes). LineLeaves (take c.args.end bs) c.run_line-left.result c.args.engine.now c.keep.new.self c.run_line-left.new.engine c.run_line-left.new.session c.args.steps.now.listing c.run_line-left.new.steps.listing) same c.run_line-left.ensures in
-    step_leaves c.run_line-left.result c.args.engine.now old c.keep.new.self line c.run_line-left.new.engine c.run_line-left.new.session (counts c.args.steps.now.listing c.args.steps.now.update c.args.steps.now.rows)
-    (counts c.run_line-left.new.steps.listing c.run_line-left.new.steps.update c.run_line-left.new.steps.rows) c.in-Ok.ensures.others c.requires.running left
+    let before = counts c.args.steps.now.listing c.args.steps.now.update c.args.steps.now.rows in
+    let now = counts c.run_line-left.new.steps.listing c.run_line-left.new.steps.update c.run_line-left.new.steps.rows in
+    subst (λ (kept : Bool). LeavesTo (Ran kept) c.run_line-left.result c.args.engine.now old c.run_line-left.new.engine c.run_line-left.new.session before now) (sym c.is_kept-kept.ensures)
+    (step_leaves c.run_line-left.result c.args.engine.now old c.keep.new.self line c.run_line-left.new.engine c.run_line-left.new.session before now c.in-Ok.ensures.others c.requires.running left)

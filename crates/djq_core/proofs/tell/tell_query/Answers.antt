@@ -1,5 +1,6 @@
 use Rattle.std.proofs.Common.{ℕ, suc, ◌<◌, ◌≡◌, ◌∙◌, List, length, true, false, sym, ap, subst, arith, inl, inr, refl}
 use Rattle.djq_model.specs.Data.{Bytes}
+use Rattle.djq_model.specs.Listed.{listed_name}
 use Rattle.djq_engine.specs.Kept.{Kept, Registered}
 use Rattle.djq_core.specs.declared.open.OpenSession.{OpenSession}
 use Rattle.djq_core.specs.Sound.{watchers_in, is_among_watches}
@@ -12,7 +13,7 @@ use Rattle.djq_core.proofs.tell.tell_query.Goals as goal
 
 pub returns-then-watchers-eq0-clause-tells : goal.returns-then-watchers-eq0-clause-tells
 returns-then-watchers-eq0-clause-tells c = λ r e.
-    query_untold c.args.engine.now c.args.id r.query.name c.args.sessions.now.items c.requires.sound
+    query_untold c.args.engine.now c.args.id (listed_name r.query) c.args.sessions.now.items c.requires.sound
     (sym (watchers_of c.args.engine.now c.args.sessions.now.items c.args.id r c.watchers.result c.requires.sound e c.watchers.ensures) ∙ c.if-watchers-eq0.true)
 
 pub loop-at-init : goal.loop-at-init

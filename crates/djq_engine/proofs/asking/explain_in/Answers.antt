@@ -2,7 +2,7 @@ use Rattle.std.proofs.Common.{◌∙◌, ap, []}
 use Rattle.std.specs.Prelude.{position}
 use Rattle.djq_engine.specs.Places.{is_query}
 use Rattle.djq_engine.proofs.Naming.{first_query}
-use Rattle.djq_engine.proofs.Telling.{explain_done, explain_kept, explain_lacks, explain_none, named_read, named_there}
+use Rattle.djq_engine.proofs.Telling.{explain_done, query_kept, explain_lacks, explain_none, named_read, named_there}
 use Rattle.djq_engine.proofs.asking.explain_in.Goals as goal
 
 pub returns-in_default : goal.returns-in_default
@@ -12,7 +12,7 @@ returns-in_default c =
 
 pub explain-requires : goal.explain-requires
 explain-requires c = record {
-  kept = explain_kept c.args.parts.now.catalog c.args.parts.now.queries.items c.args.parts.now.order c.args.parts.now.readers.items c.args.parts.now.seq c.requires c.args.query.now [] c.in-Some.at (first_query c.args.parts.now.queries.items c.args.query.now c.in-Some.at (c.in-Some.ensures ∙ ap (position (is_query c.args.query.now)) c.as_slice.ensures.value)) c.in-Some-index.live (named_read c.args.parts.now.queries.items c.args.query.now c.in-Some.at (first_query c.args.parts.now.queries.items c.args.query.now c.in-Some.at (c.in-Some.ensures ∙ ap (position (is_query c.args.query.now)) c.as_slice.ensures.value)) c.index.result.now c.in-Some-index.live c.index.ensures c.in-Some-index.is);
+  kept = query_kept c.args.parts.now.catalog c.args.parts.now.queries.items c.args.parts.now.order c.args.parts.now.readers.items c.args.parts.now.seq c.requires c.args.query.now [] c.in-Some.at (first_query c.args.parts.now.queries.items c.args.query.now c.in-Some.at (c.in-Some.ensures ∙ ap (position (is_query c.args.query.now)) c.as_slice.ensures.value)) c.in-Some-index.live (named_read c.args.parts.now.queries.items c.args.query.now c.in-Some.at (first_query c.args.parts.now.queries.items c.args.query.now c.in-Some.at (c.in-Some.ensures ∙ ap (position (is_query c.args.query.now)) c.as_slice.ensures.value)) c.index.result.now c.in-Some-index.live c.index.ensures c.in-Some-index.is);
 }
 
 pub unreachable-requires : goal.unreachable-requires

@@ -53,11 +53,10 @@ returns-clause-whole c =
     let n = first_query old.queries.items c.args.query.now c.in-Some.at (c.in-Some.ensures ∙ ap (position (is_query c.args.query.now)) c.as_slice.ensures.value) in
     (drop_done old c.requires.whole c.args.query.now c.in-Some.at n
     (set old.queries.items c.in-Some.at None) c.leave_out.new.places c.leave_all.new.lists.items
-    (record { readers = c.leave_all.new.lists.items; watchers = old.watchers.items; logs = set old.logs.items c.in-Some.at c.clear.new.self; changed = old.changed })
-    refl c.leave_out.ensures c.leave_all.ensures
+    c.clear.new.self refl c.leave_out.ensures c.leave_all.ensures
     ((idle_as old.queries.items c.in-Some.at n.query c.is_idle.result n.there
     (subst (λ (gs : List (Option Live)). IsSomeAnd (place_at gs c.in-Some.at) (λ x. c.is_idle.result ≡ are_vacant x.cursors)) c.as_slice-3.ensures.value c.is_idle.ensures)) ∙ c.if-not-is_idle.false)
-    (ap (λ (ws : List ℕ). watched_at ws c.in-Some.at) (sym c.as_slice-2.ensures.value) ∙ sym c.if-is_watched.ensures) refl).0
+    (ap (λ (ws : List ℕ). watched_at ws c.in-Some.at) (sym c.as_slice-2.ensures.value) ∙ sym c.if-is_watched.ensures)).0
 
 pub returns-clause-gives : goal.returns-clause-gives
 returns-clause-gives c =
@@ -65,11 +64,10 @@ returns-clause-gives c =
     let n = first_query old.queries.items c.args.query.now c.in-Some.at (c.in-Some.ensures ∙ ap (position (is_query c.args.query.now)) c.as_slice.ensures.value) in
     (drop_done old c.requires.whole c.args.query.now c.in-Some.at n
     (set old.queries.items c.in-Some.at None) c.leave_out.new.places c.leave_all.new.lists.items
-    (record { readers = c.leave_all.new.lists.items; watchers = old.watchers.items; logs = set old.logs.items c.in-Some.at c.clear.new.self; changed = old.changed })
-    refl c.leave_out.ensures c.leave_all.ensures
+    c.clear.new.self refl c.leave_out.ensures c.leave_all.ensures
     ((idle_as old.queries.items c.in-Some.at n.query c.is_idle.result n.there
     (subst (λ (gs : List (Option Live)). IsSomeAnd (place_at gs c.in-Some.at) (λ x. c.is_idle.result ≡ are_vacant x.cursors)) c.as_slice-3.ensures.value c.is_idle.ensures)) ∙ c.if-not-is_idle.false)
-    (ap (λ (ws : List ℕ). watched_at ws c.in-Some.at) (sym c.as_slice-2.ensures.value) ∙ sym c.if-is_watched.ensures) refl).1
+    (ap (λ (ws : List ℕ). watched_at ws c.in-Some.at) (sym c.as_slice-2.ensures.value) ∙ sym c.if-is_watched.ensures)).1
 
 pub returns-clause-tended : goal.returns-clause-tended
 returns-clause-tended c =

@@ -32,6 +32,7 @@ returns-in-Err-join_readers-clause-err c =
       seq = refl;
       watchers = c.vacant_place.ensures.watchers;
       logs = c.vacant_place.ensures.logs;
+      changed = refl;
       watched = c.vacant_place.ensures.watched;
       logged = c.vacant_place.ensures.logged;
     }

@@ -34,6 +34,7 @@ use Rattle.djq_engine.proofs.Reporting.{
   told_put,
   registered_now,
   registered_still,
+  affected_same,
   tells_nothing,
   tended_now,
   tended_still,
@@ -42,7 +43,7 @@ use Rattle.djq_cursor.specs.Log.{Log}
 use Rattle.djq_engine.specs.Places.{readers_at}
 use Rattle.djq_engine.specs.Tending.{Empties, HaveLogs}
 use Rattle.djq_engine.proofs.Storing.{places_read}
-use Rattle.djq_engine.proofs.Tending.{empties_same, shown_same}
+use Rattle.djq_engine.proofs.Tending.{shown_emptied}
 use Rattle.djq_engine.proofs.Working.{counts_updates}
 use Rattle.djq_engine.proofs.rows.add_in.Goals as goal
 
@@ -140,9 +141,8 @@ returns-in_err-judged-clause-tells g c =
 pub returns-in_default-clause-tells : goal.returns-in_default-clause-tells
 returns-in_default-clause-tells g c =
     let old = c.args.parts.now in
-    tells_nothing (kept_in old) (kept_in old) c.args.name.now
-    (rows_of old.catalog.relations c.args.name.now ++ c.args.row.now ∷ []) c.args.steps.now.listing
-    c.args.steps.now.listing (omega arith) (λ id h. refl)
+    tells_nothing (kept_in old) (kept_in old) c.args.steps.now.listing
+    c.args.steps.now.listing (omega arith) refl (λ id h. refl)
 
 pub returns-in-Err-Full-clause-tended : goal.returns-in-Err-Full-clause-tended
 returns-in-Err-Full-clause-tended g c =
@@ -155,8 +155,9 @@ returns-in-Err-Full-clause-watches g c =
 pub returns-in-Err-Full-clause-tells : goal.returns-in-Err-Full-clause-tells
 returns-in-Err-Full-clause-tells g c =
     let old = c.args.parts.now in
-    tells_nothing (kept_in old) (kept_in c.put_row.new.parts) c.args.name.now (rows_of old.catalog.relations c.args.name.now ++ c.args.row.now ∷ []) c.args.steps.now.listing c.put_row.new.steps.listing
+    tells_nothing (kept_in old) (kept_in c.put_row.new.parts) c.args.steps.now.listing c.put_row.new.steps.listing
     (subst (λ (r : InternRefusal). Idles c.args.steps.now.listing c.put_row.new.steps.listing r) c.in-Err-Full.field-0-is c.in-Err-Full.ensures.idle)
+    (affected_same old c.put_row.new.parts c.put_row.ensures.rest.readers c.put_row.ensures.rest.changed)
     (λ id h. told_full c.showable_stays.ensures c.texts_stay.ensures old c.put_row.new.parts c.args.row.now
     (subst (λ (r : InternRefusal). Lacks c.in-Some.id.at c.args.row.now c.args.parts.now c.put_row.new.parts r)
     c.in-Err-Full.field-0-is c.in-Err-Full.ensures.err) c.requires.tended id.at)
@@ -168,10 +169,8 @@ returns-in-Err-NoMem-clause-tended g c =
     c.args.parts.now c.put_row.new.parts r) c.in-Err-NoMem.field-0-is c.in-Err-NoMem.ensures.err).carries
     c.put_row.ensures.rest.watchers c.put_row.ensures.rest.order (c.empty_logs.ensures.long
     ∙ c.put_row.ensures.rest.long) c.age_readers.ensures c.requires.tended
-    (shown_same c.put_row.new.parts.catalog.texts c.args.parts.now.queries.items c.put_row.new.parts.logs.items
-    c.empty_logs.new.logs.items
-    (empties_same c.as_slice.result.now c.put_row.new.parts.logs.items c.empty_logs.new.logs.items
-    c.empty_logs.ensures) c.put_row.ensures.shown)
+    (shown_emptied c.put_row.new.parts.catalog.texts c.args.parts.now.queries.items c.as_slice.result.now
+    c.put_row.new.parts.logs.items c.empty_logs.new.logs.items c.empty_logs.ensures c.put_row.ensures.shown)
 
 pub returns-in-Err-NoMem-clause-watches : goal.returns-in-Err-NoMem-clause-watches
 returns-in-Err-NoMem-clause-watches g c =
@@ -203,6 +202,8 @@ returns-in-Err-NoMem-clause-tells g c =
     adds_refused old c.requires.whole c.args.name.now c.args.row.now c.in-Some.id.at m.relation c.deltas_exist.ensures
     c.heads_are_bound.ensures c.names_tell.ensures c.laws.ensures.names
     c.args.steps.now.listing c.put_row.new.steps.listing c.put_row.ensures.counted new
+    (affected_same old new (c.age_readers.ensures.rest.readers ∙ c.put_row.ensures.rest.readers)
+    (c.age_readers.ensures.rest.changed ∙ c.put_row.ensures.rest.changed))
     (discards_by old mid new c.requires.whole c.in-Some.id.at m.relation.below c.put_row.ensures.rest.readers
     c.in-Err-NoMem.ensures.apart
     (subst (λ (ls : List Log). Empties (readers_at mid.readers.items c.in-Some.id.at) mid.logs.items ls)
@@ -286,7 +287,7 @@ returns-in-Err-NoMem-clause-updates g c =
     let m = (subst (λ (j : Option RelationId). JudgesAdd c.args.parts.now.catalog.relations c.args.name.now
     c.args.row.now c.args.parts.now.seq j) c.in-Some.is c.in_ok-judged.ensures.ok) in
     counts_updates c.args.parts.now c.requires.whole c.in-Some.id.at m.relation.below c.args.name.now m.relation.named
-    c.leaves_are_small.ensures
+    _ c.leaves_are_small.ensures
     3 c.args.steps.now.update c.put_row.new.steps.update c.in-Err-NoMem.ensures.refusal
 
 pub returns-clause-updates : goal.returns-clause-updates
@@ -294,5 +295,5 @@ returns-clause-updates g c =
     let m = (subst (λ (j : Option RelationId). JudgesAdd c.args.parts.now.catalog.relations c.args.name.now
     c.args.row.now c.args.parts.now.seq j) c.in-Some.is c.in_ok-judged.ensures.ok) in
     counts_updates c.args.parts.now c.requires.whole c.in-Some.id.at m.relation.below c.args.name.now m.relation.named
-    c.leaves_are_small.ensures
+    _ c.leaves_are_small.ensures
     1 c.args.steps.now.update c.put_row.new.steps.update c.in-Ok.ensures.updates

@@ -71,9 +71,8 @@ returns-in_err-judged-clause-tells g c =
 pub returns-in_default-clause-tells : goal.returns-in_default-clause-tells
 returns-in_default-clause-tells g c =
     let old = c.args.parts.now in
-    tells_nothing (kept_in old) (kept_in old) c.args.name.now
-    (without_row (rows_of old.catalog.relations c.args.name.now) c.args.row.now) c.args.steps.now.listing
-    c.args.steps.now.listing (omega arith) (λ id h. refl)
+    tells_nothing (kept_in old) (kept_in old) c.args.steps.now.listing
+    c.args.steps.now.listing (omega arith) refl (λ id h. refl)
 
 pub returns-clause-tended : goal.returns-clause-tended
 returns-clause-tended g c =
@@ -143,5 +142,5 @@ returns-clause-updates g c =
     let m = (subst (λ (j : Option Deletion). JudgesDelete c.args.parts.now.catalog c.args.name.now c.args.row.now
     c.args.parts.now.seq j) c.in-Some.is c.in_ok-judged.ensures.ok) in
     counts_updates c.args.parts.now c.requires.whole c.in-Some.found.relation.at m.relation.below c.args.name.now
-    m.relation.named c.leaves_are_small.ensures
+    m.relation.named _ c.leaves_are_small.ensures
     1 c.args.steps.now.update c.drop_cells.new.steps.update c.drop_cells.ensures.updates

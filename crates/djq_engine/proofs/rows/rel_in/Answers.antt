@@ -1,6 +1,10 @@
-use Rattle.std.proofs.Common.{[], ◌∷◌, ◌++◌, ◌∙◌, ap₂, List, subst, sym}
+use Rattle.std.proofs.Common.{[], ◌∷◌, ◌++◌, ◌∙◌, ap, ap₂, List, ℕ, subst, sym}
+use Rattle.std.specs.Prelude.{map}
 use Rattle.djq_model.specs.Data.{Bytes}
+use Rattle.djq_engine.specs.Places.{Watches, id_at, readers_at, told_from}
 use Rattle.djq_engine.specs.Tending.{AreShown}
+use Rattle.djq_engine.specs.Whole.{watches_in}
+use Rattle.djq_engine.proofs.Lasting.{made_tellings}
 use Rattle.djq_engine.proofs.Making.{made_sound, unmade_sound}
 use Rattle.djq_engine.proofs.rows.rel_in.Goals as goal
 
@@ -34,3 +38,19 @@ returns-in-Err-clause-tended c = record {
   logged = c.requires.tended.logged;
   shown = subst (λ (ts : List Bytes). AreShown ts c.args.parts.now.queries.items c.args.parts.now.logs.items) (sym c.relation.ensures.texts) c.requires.tended.shown;
 }
+
+pub returns-in-Ok-relation-clause-tellings : goal.returns-in-Ok-relation-clause-tellings
+returns-in-Ok-relation-clause-tellings c =
+    let old = c.args.parts.now in
+    made_tellings old.catalog c.relation.new.self old.queries.items old.order old.seq (watches_in old)
+    (record (watches_in old) { readers = c.push_reserved.new.self.items }) c.relation.ensures.texts
+    (ap (λ (rs : List (List ℕ)). (let w : Watches = record (watches_in old) { readers = rs } in w))
+    (c.push_reserved.ensures.items ∙ ap₂ (λ xs x. xs ++ x ∷ []) c.reserve.ensures.items c.new.ensures))
+
+pub returns-in-Err-clause-tellings : goal.returns-in-Err-clause-tellings
+returns-in-Err-clause-tellings c =
+    let old = c.args.parts.now in
+    record {
+      affected = ap (λ (rs : List (List ℕ)). map id_at (readers_at rs old.changed)) c.reserve.ensures.items;
+      told = ap (λ (ts : List Bytes). told_from ts old.queries.items old.logs.items) c.relation.ensures.texts;
+    }

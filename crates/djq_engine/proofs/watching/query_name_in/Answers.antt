@@ -1,5 +1,8 @@
 use Rattle.std.proofs.Common.{◌≡◌, ◌∙◌, ap, arith, sym}
+use Rattle.std.specs.Prelude.{Option}
 use Rattle.djq_model.specs.declared.query.Query.{Query}
+use Rattle.djq_model.specs.Listed.{listed_name}
+use Rattle.djq_live.specs.Live.{Live}
 use Rattle.djq_engine.specs.Places.{query_in}
 use Rattle.djq_engine.proofs.Attending.{below_queries, gives_that, query_kept_there, there_not_none}
 use Rattle.djq_engine.proofs.Reaching.{place_read}
@@ -20,5 +23,5 @@ returns c =
     let p = c.args.parts.now in
     let t = query_kept_there p c.requires.whole c.args.id c.requires.registered in
     let there = place_read p.queries.items c.args.id.at c.index.result.now c.in-Some.live (below_queries p c.requires.whole c.args.id t) c.index.ensures c.in-Some.is in
-    gives_that p c.requires.whole c.args.id (λ r. c.query.result.now.name ≡ r.query.name) t
-    (ap (λ (q : Query). q.name) (c.query.ensures ∙ sym (ap query_in there)))
+    gives_that p c.requires.whole c.args.id (λ r. c.query.result.now.name ≡ listed_name r.query) t
+    (ap (λ (q : Query). q.name) c.query.ensures ∙ sym (ap (λ (o : Option Live). listed_name (query_in o)) there))

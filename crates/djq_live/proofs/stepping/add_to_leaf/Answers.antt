@@ -32,3 +32,5 @@ returns-clause-updates g c =
     c.insert_leaf.new.reducts c.args.steps.now.update c.insert_leaf.new.tally
     c.finish_insertion.new.tally c.in_ok-insert_leaf.ensures.inserted
     c.in_ok-insert_leaf.ensures.counted c.finish_insertion.ensures.counted
+    c.in_ok-insert_leaf.ensures.few c.in_ok-insert_leaf.ensures.flat
+    c.finish_insertion.ensures.flat

@@ -1,10 +1,11 @@
-use Rattle.std.proofs.Common.{true, ◌+◌, ◌<◌, length, ℕ, sym, subst, ◌∙◌}
+use Rattle.std.proofs.Common.{true, ◌+◌, ◌<◌, length, ℕ, [], ◌∷◌, sym, subst, ◌∙◌}
 use Rattle.djq_live.specs.Changes.{Gains}
 use Rattle.djq_live.specs.Stepping.{Lacks, atoms_below}
 use Rattle.djq_live.proofs.Below.{
   below_skip,
   below_step,
   below_kept,
+  below_at,
   gains_stable,
   gains_more,
   leaves_stay,
@@ -117,7 +118,7 @@ pub returns-in_default-clause-gained : goal.returns-in_default-clause-gained
 returns-in_default-clause-gained g c =
     below_kept (λ p old new. Gains p c.args.cells.now old new) c.args.relation c.args.atoms.now
     c.args.patterns.now c.leaves.leaf c.args.reducts.now c.leaves.reducts
-    c.add_to_leaf.new.reducts (gains_stable c.args.cells.now) c.leaves.invariant.changed
+    c.add_to_leaf.new.reducts (gains_stable (c.args.cells.now ∷ [])) c.leaves.invariant.changed
     c.in_default.ensures.refused
 
 pub returns-in_default-clause-more : goal.returns-in_default-clause-more
@@ -135,20 +136,13 @@ returns-in_default-clause-listed g c =
 
 pub leaves-preserved : goal.leaves-preserved
 leaves-preserved g c =
-    let wide = wide_stays c.args.reducts.now c.leaves.reducts c.leaves.leaf
-    c.index-patterns-leaf.result c.leaves.invariant.changed.tree
-    (c.requires.leaves.wide c.leaves.leaf c.index-patterns-leaf.result
-    (got c.args.patterns.now c.leaves.leaf c.index-patterns-leaf.result (subst (λ (n : ℕ).
-    c.leaves.leaf < n) (sym c.requires.leaves.patterns) c.leaves-test.true)
-    c.index-patterns-leaf.is)) in
-    let more = gains_more c.args.cells.now c.index-patterns-leaf.result c.leaves.leaf
-    c.leaves.reducts c.add_to_leaf.new.reducts c.leaves.invariant.changed.sound wide
-    c.in-Ok.ensures.gained in
+    let more = gains_more (c.args.cells.now ∷ []) c.index-patterns-leaf.result c.leaves.leaf
+    c.leaves.reducts c.add_to_leaf.new.reducts c.in-Ok.ensures.gained in
     record {
       changed = below_step (λ p old new. Gains p c.args.cells.now old new) c.args.relation
           c.args.atoms.now c.args.patterns.now c.leaves.leaf c.index-atoms-leaf.result
           c.index-patterns-leaf.result c.args.reducts.now c.leaves.reducts
-          c.add_to_leaf.new.reducts (gains_stable c.args.cells.now) c.requires.leaves.long
+          c.add_to_leaf.new.reducts (gains_stable (c.args.cells.now ∷ [])) c.requires.leaves.long
           (got c.args.atoms.now c.leaves.leaf c.index-atoms-leaf.result c.leaves-test.true
           c.index-atoms-leaf.is)
           (got c.args.patterns.now c.leaves.leaf c.index-patterns-leaf.result (subst (λ (n : ℕ).
@@ -214,3 +208,9 @@ returns-in_default-clause-left g c = λ low.
     one_more c.args.relation c.args.atoms.now c.leaves.leaf c.index-atoms-leaf.result
     c.leaves-test.true c.index-atoms-leaf.is
     (on_as c.index-atoms-leaf.result _ c.args.relation c.index-atoms-leaf.is c.if-atoms-leaf.false)
+
+pub returns-clause-gained : goal.returns-clause-gained
+returns-clause-gained g c =
+    below_at (λ p old new. Gains p c.args.cells.now old new) c.args.relation c.args.atoms.now
+    c.args.patterns.now c.leaves.leaf (length c.args.atoms.now) c.args.reducts.now c.leaves.reducts
+    c.leaves.auto.leaf-end c.leaves-test.false c.leaves.invariant.changed

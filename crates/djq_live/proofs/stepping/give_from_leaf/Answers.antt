@@ -16,3 +16,4 @@ returns-clause-updates g c =
     c.mark_removal.new.reducts c.args.steps.now.update c.mark_removal.new.tally
     c.finish_removal.new.tally c.laws.ensures.sound c.mark_removal.ensures.marked
     c.mark_removal.ensures.counted c.finish_removal.ensures.counted
+    c.mark_removal.ensures.few c.mark_removal.ensures.flat c.finish_removal.ensures.flat

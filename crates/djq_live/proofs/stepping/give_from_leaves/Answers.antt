@@ -10,16 +10,7 @@ use Rattle.djq_live.proofs.Below.{
   leaves_stay,
 }
 use Rattle.djq_live.proofs.Gaining.{more_both}
-use Rattle.djq_live.proofs.Passing.{
-  got,
-  on_as,
-  off_as,
-  below_end,
-  counts_over,
-  counts_past,
-  has_stay,
-  wide_stays,
-}
+use Rattle.djq_live.proofs.Passing.{got, on_as, off_as, below_end, counts_over, counts_past, has_stay}
 use Rattle.djq_live.proofs.Sizing.{counts_as, counts_fewer}
 use Rattle.djq_live.proofs.stepping.give_from_leaves.Goals as goal
 
@@ -77,13 +68,6 @@ give_from_leaf-requires-clause-there g c =
 
 pub leaves-preserved : goal.leaves-preserved
 leaves-preserved g c =
-    let wide = wide_stays c.args.reducts.now c.leaves.reducts c.leaves.leaf
-    c.index-patterns-leaf.result c.leaves.invariant.changed.tree
-    (c.requires.leaves.wide c.leaves.leaf c.index-patterns-leaf.result
-    (got c.args.patterns.now c.leaves.leaf c.index-patterns-leaf.result (subst (λ (n : ℕ).
-    c.leaves.leaf < n) (sym c.requires.leaves.patterns) (below_end c.leaves.leaf c.args.end
-    (length c.args.atoms.now) c.leaves-test.true c.requires.end))
-    c.index-patterns-leaf.is)) in
     record {
       changed = below_step (λ p old new. Loses p c.args.cells.now old new) c.args.relation
           c.args.atoms.now c.args.patterns.now c.leaves.leaf c.index-atoms-leaf.result
@@ -100,7 +84,7 @@ leaves-preserved g c =
           c.if-atoms-leaf.false) c.leaves.invariant.changed c.give_from_leaf.ensures.lost;
       more = more_both c.give_from_leaf.new.reducts c.leaves.reducts c.args.reducts.now
           (loses_more c.args.cells.now c.index-patterns-leaf.result c.leaves.leaf
-          c.leaves.reducts c.give_from_leaf.new.reducts wide c.give_from_leaf.ensures.lost)
+          c.leaves.reducts c.give_from_leaf.new.reducts c.give_from_leaf.ensures.lost)
           c.leaves.invariant.more;
       listing = c.give_from_leaf.ensures.listing ∙ c.leaves.invariant.listing;
       updates = counts_fewer c.args.reducts.now c.leaves.reducts

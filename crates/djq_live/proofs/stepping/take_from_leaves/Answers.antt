@@ -91,16 +91,8 @@ take_from_leaf-requires-clause-there g c =
 
 pub leaves-preserved : goal.leaves-preserved
 leaves-preserved g c =
-    let wide = wide_stays c.args.reducts.now c.leaves.reducts c.leaves.leaf
-    c.index-patterns-leaf.result c.leaves.invariant.changed.tree
-    (c.requires.leaves.wide c.leaves.leaf c.index-patterns-leaf.result
-    (got c.args.patterns.now c.leaves.leaf c.index-patterns-leaf.result (subst (λ (n : ℕ).
-    c.leaves.leaf < n) (sym c.requires.leaves.patterns) (below_end c.leaves.leaf c.args.end
-    (length c.args.atoms.now) c.leaves-test.true c.requires.end))
-    c.index-patterns-leaf.is)) in
     let more = loses_more c.args.cells.now c.index-patterns-leaf.result c.leaves.leaf
-    c.leaves.reducts c.take_from_leaf.new.reducts wide
-    c.take_from_leaf.ensures.lost in
+    c.leaves.reducts c.take_from_leaf.new.reducts c.take_from_leaf.ensures.lost in
     record {
       changed = below_step (λ p old new. Loses p c.args.cells.now old new) c.args.relation
           c.args.atoms.now c.args.patterns.now c.leaves.leaf c.index-atoms-leaf.result

@@ -2,6 +2,7 @@ use Rattle.std.proofs.Common.{sym, subst}
 use Rattle.djq_tree.specs.Tree.{Tree}
 use Rattle.djq_plan.specs.Plan.{IsPlan}
 use Rattle.djq_plan.proofs.Deciding.{stuck_first, stuck_second, plan_of}
+use Rattle.djq_plan.proofs.Flat.{flat_first, flat_second}
 use Rattle.djq_plan.proofs.planner.grow_tree.Goals as goal
 
 pub returns-then-not-branch-clause-stuck : goal.returns-then-not-branch-clause-stuck
@@ -30,4 +31,13 @@ returns-in-Some-clause-plan c =
 pub returns-in-None-clause-stuck : goal.returns-in-None-clause-stuck
 returns-in-None-clause-stuck c =
     λ none. stuck_second c.args.edges.now c.args.head c.in_ok-growing.growing c.run_first.new.self c.grow_out.new.self c.in_ok-run_first.field-0
+    c.requires.some c.in_ok-growing.ensures c.in_ok-run_first.ensures c.if-not-branch.false (rw c.in-None.is at c.in_ok-out.ensures)
+
+pub returns-then-not-branch-clause-flat : goal.returns-then-not-branch-clause-flat
+returns-then-not-branch-clause-flat c =
+    λ none. flat_first c.args.edges.now c.args.head c.in_ok-growing.growing c.run_first.new.self c.in_ok-run_first.field-0 c.requires.some c.in_ok-growing.ensures c.in_ok-run_first.ensures c.if-not-branch.true
+
+pub returns-in-None-clause-flat : goal.returns-in-None-clause-flat
+returns-in-None-clause-flat c =
+    λ none. flat_second c.args.edges.now c.args.head c.in_ok-growing.growing c.run_first.new.self c.grow_out.new.self c.in_ok-run_first.field-0
     c.requires.some c.in_ok-growing.ensures c.in_ok-run_first.ensures c.if-not-branch.false (rw c.in-None.is at c.in_ok-out.ensures)

@@ -1,8 +1,9 @@
-use Rattle.std.proofs.Common.{◌≡◌, ℕ, ◌+◌, ◌*◌, ◌<◌, ◌≤◌, List, length, take, drop, ap, subst, sym, ◌∙◌, arith}
+use Rattle.std.proofs.Common.{◌≡◌, ℕ, ◌+◌, ◌-◌, ◌*◌, ◌<◌, ◌≤◌, List, length, take, drop, ap, subst, sym, ◌∙◌, arith}
 use Rattle.djq_index.specs.Entries.{Entry, supp, cnt, grp}
 use Rattle.djq_index.specs.Table.{IsAt}
 use Rattle.djq_index.proofs.Changing.{inserted_length, supported_length}
 use Rattle.djq_tree.specs.declared.node.Node.TheVariants.{Trim, Meet}
+use Rattle.djq_tree.specs.Flat.{HasEqualMeets}
 use Rattle.djq_reduct.specs.Tables.{entries_at, key_at}
 use Rattle.djq_propagate.specs.Sizes.{size, AreAtMost}
 use Rattle.std.proofs.Common.{rules}
@@ -13,6 +14,7 @@ use Rattle.djq_propagate.proofs.Sides.{head_none, drop_group, grown_none, grown_
 use Rattle.djq_propagate.proofs.Gains.{width_narrow, trim_few, trim_wide, trim_raised, trim_lived, trim_room, guard_few, guard_wide, guard_absent, guard_lived, guard_idle, side_absent, side_righted, side_full, refused_ready, same_group, side_stayed, refused_here, lived_here}
 use Rattle.djq_propagate.proofs.Going.{has_table, wide_now, under_leaf, under_trim, under_guard, under_side, guard_under, cut_of, cut_at, as_live, moved_at, group_still, on_err, ok_map, err_map, refused_none, plain_none}
 use Rattle.djq_propagate.proofs.Rooms.{room_size, most_more, trim_fits, guard_fits, next_fits, side_fits, side_bounded}
+use Rattle.djq_propagate.proofs.Refusing.{side_flat}
 use Rattle.djq_propagate.proofs.live.+live.Goals as goal
 
 pub live-insert_at-requires-clause-within : goal.live-insert_at-requires-clause-within
@@ -507,3 +509,42 @@ rise_side-returns-clause-plain g t c =
 pub rise_side-returns-clause-counted : goal.rise_side-returns-clause-counted
 rise_side-returns-clause-counted g t c =
     omega (arith, c.loop-done.invariant.counted)
+
+pub live-returns-in_err-place-clause-flat : goal.live-returns-in_err-place-clause-flat
+live-returns-in_err-place-clause-flat g t c =
+    on_err c.from_residual.result (HasEqualMeets c.args.tree.now → c.insert_at.new.tally ≤ c.args.tally.now + 5 * (length c.args.tree.now.nodes - c.args.at))
+    (λ meets. let within = c.requires.ready.within in omega (arith, c.insert_at.ensures.counted))
+
+pub live-returns-in-Err-clause-flat : goal.live-returns-in-Err-clause-flat
+live-returns-in-Err-clause-flat g t c =
+    λ meets. omega (arith, c.insert_at.ensures.counted, c.in-Err.ensures.flat meets, c.remove_at.ensures.counted)
+
+pub rise-returns-in-Trim-clause-flat : goal.rise-returns-in-Trim-clause-flat
+rise-returns-in-Trim-clause-flat g t c =
+    c.rise_trim.ensures.flat
+
+pub rise-returns-then-guard-at-clause-flat : goal.rise-returns-then-guard-at-clause-flat
+rise-returns-then-guard-at-clause-flat g t c =
+    c.rise_guard.ensures.flat
+
+pub rise-returns-else-guard-at-clause-flat : goal.rise-returns-else-guard-at-clause-flat
+rise-returns-else-guard-at-clause-flat g t c =
+    c.rise_side.ensures.flat
+
+pub rise_guard-returns-in-Some-clause-flat : goal.rise_guard-returns-in-Some-clause-flat
+rise_guard-returns-in-Some-clause-flat g t c =
+    err_map c.live.result (HasEqualMeets c.args.tree.now → c.live.new.tally ≤ c.find_at.new.tally + 5 * (length c.args.tree.now.nodes - c.args.up)) (HasEqualMeets c.args.tree.now → c.live.new.tally + 2 ≤ c.args.tally.now + 5 * (length c.args.tree.now.nodes - c.args.at))
+    (λ h meets. let low = lower_of c.args.tree.now c.args.up (Meet c.args.at c.args.side) c.args.at c.requires.gaining.began.ready.family.is_tree c.requires.under in let within = c.requires.under.within in omega (arith, c.find_at.ensures.counted, h meets)) c.live.ensures.flat
+
+pub rise_trim-returns-in-None-clause-flat : goal.rise_trim-returns-in-None-clause-flat
+rise_trim-returns-in-None-clause-flat g t c =
+    err_map c.live.result (HasEqualMeets c.args.tree.now → c.live.new.tally ≤ c.find_at.new.tally + 5 * (length c.args.tree.now.nodes - c.args.up)) (HasEqualMeets c.args.tree.now → c.live.new.tally + 2 ≤ c.args.tally.now + 5 * (length c.args.tree.now.nodes - c.args.at))
+    (λ h meets. let low = lower_of c.args.tree.now c.args.up (Trim c.args.at) c.args.at c.requires.gaining.began.ready.family.is_tree c.requires.under in let within = c.requires.under.within in omega (arith, c.find_at.ensures.counted, h meets)) c.live.ensures.flat
+
+pub rise_side-returns-in-Err-clause-flat : goal.rise_side-returns-in-Err-clause-flat
+rise_side-returns-in-Err-clause-flat g t c =
+    λ meets.
+    let k = cut_of (grp (key_at c.args.tables.now.items c.args.guard) (entries_at c.args.tables.now.items c.args.guard) c.args.tuple.now) c.loop-done.done c.loop-done.next c.in-Some.place c.loop-done.invariant.next c.in-Some.is in
+    let back = side_stayed c.args.tree.now c.requires.gaining.was c.args.tables.now.items c.loop-done.tables.items c.live.new.tables.items c.empty_group.new.tables.items c.args.guard c.args.at c.args.up c.loop-done.done c.args.tuple.now c.requires.gaining.began c.requires.under c.loop-done.invariant.grown c.in-Err.ensures.refused c.empty_group.ensures.emptied in
+    side_flat c.args.tree.now c.requires.gaining.was c.args.tables.now.items c.loop-done.tables.items c.live.new.tables.items c.empty_group.new.tables.items c.args.guard c.args.at c.args.up c.loop-done.done c.args.tally.now c.loop-done.tally c.live.new.tally c.empty_group.new.tally c.args.tuple.now k.entry
+    meets c.requires.gaining.began c.requires.under c.loop-done.invariant.grown k.is c.in-Err.ensures.refused.family c.empty_group.ensures.emptied.family c.in-Err.ensures.refused.supports back.supports c.loop-done.invariant.counted (c.in-Err.ensures.flat meets) c.empty_group.ensures.counted

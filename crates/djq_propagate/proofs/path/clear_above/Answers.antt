@@ -55,3 +55,11 @@ returns-clause-apart g c =
 pub returns-clause-counted : goal.returns-clause-counted
 returns-clause-counted g c =
     λ n h. omega arith
+
+pub returns-then-has_child-clause-flat : goal.returns-then-has_child-clause-flat
+returns-then-has_child-clause-flat g c =
+    λ few. let b : one (has_child (node_at c.args.tree.now.nodes c.args.up) c.args.at) * 2 ≡ 1 * 2 = ap (λ (x : ℕ). x * 2) (one_true (has_child (node_at c.args.tree.now.nodes c.args.up) c.args.at) (ap (λ n. has_child n c.args.at) (sym c.node.ensures) ∙ sym c.has_child.ensures ∙ c.if-has_child.true)) in omega (arith, c.clear_at.ensures.counted, few.each c.args.up)
+
+pub returns-clause-flat : goal.returns-clause-flat
+returns-clause-flat g c =
+    λ few. omega arith

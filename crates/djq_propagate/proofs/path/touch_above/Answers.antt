@@ -112,3 +112,19 @@ returns-clause-apart g c =
 pub returns-clause-counted : goal.returns-clause-counted
 returns-clause-counted g c =
     λ n h. omega arith
+
+pub returns-then-up-second_stage-clause-flat : goal.returns-then-up-second_stage-clause-flat
+returns-then-up-second_stage-clause-flat g c =
+    λ meets few. let b : one (has_child (node_at c.args.tree.now.nodes c.args.up) c.args.at) * 6 ≡ 1 * 6 = ap (λ (x : ℕ). x * 6) (one_true (has_child (node_at c.args.tree.now.nodes c.args.up) c.args.at) (ap (λ n. has_child n c.args.at) (sym c.node.ensures) ∙ sym c.has_child.ensures ∙ c.if-has_child.true)) in omega (arith, c.touch_step.ensures.flat meets few)
+
+pub returns-then-removal-clause-flat : goal.returns-then-removal-clause-flat
+returns-then-removal-clause-flat g c =
+    λ meets few. let b : one (has_child (node_at c.args.tree.now.nodes c.args.up) c.args.at) * 6 ≡ 1 * 6 = ap (λ (x : ℕ). x * 6) (one_true (has_child (node_at c.args.tree.now.nodes c.args.up) c.args.at) (ap (λ n. has_child n c.args.at) (sym c.node.ensures) ∙ sym c.has_child.ensures ∙ c.if-has_child.true)) in omega (arith, c.touch_step-then-removal.ensures.flat meets few)
+
+pub returns-then-has_child-clause-flat : goal.returns-then-has_child-clause-flat
+returns-then-has_child-clause-flat g c =
+    λ meets few. omega arith
+
+pub returns-clause-flat : goal.returns-clause-flat
+returns-clause-flat g c =
+    λ meets few. omega arith

@@ -8,6 +8,7 @@ use Rattle.djq_propagate.proofs.Sides.{head_none}
 use Rattle.djq_propagate.proofs.Gains.{width_narrow}
 use Rattle.djq_propagate.proofs.Going.{has_table, cut_of, as_live, moved_at}
 use Rattle.djq_propagate.proofs.Touching.{touched_none, touched_as, touched_more, reach_still, cost_still, reach_more, reach_nothing, cost_none, cost_more, cost_le, cost_bound, take_whole, cut_mark, drop_marks, step_lower, kids_still}
+use Rattle.djq_propagate.proofs.Fewing.{step_few}
 use Rattle.djq_propagate.proofs.touch.touch_step.Goals as goal
 
 pub len_at-count-requires : goal.len_at-count-requires
@@ -103,3 +104,11 @@ returns-clause-touched g c =
 pub returns-clause-counted : goal.returns-clause-counted
 returns-clause-counted g c =
     λ n h. omega (arith, c.loop-done.invariant.counted, cost_le (node_at c.args.tree.now.nodes c.args.up) c.args.at c.args.tables.now.items (marks (entries_at c.args.tables.now.items c.args.at)) c.loop-done.done, cost_bound c.args.tree.now c.args.tables.now.items (node_at c.args.tree.now.nodes c.args.up) c.args.at n c.requires.step.family h)
+
+pub returns-in-None-clause-flat : goal.returns-in-None-clause-flat
+returns-in-None-clause-flat g c =
+    λ meets few. omega (arith, c.loop-done.invariant.counted, cost_le (node_at c.args.tree.now.nodes c.args.up) c.args.at c.args.tables.now.items (marks (entries_at c.args.tables.now.items c.args.at)) c.loop-done.done, step_few c.args.tree.now c.args.tables.now.items c.args.at c.args.up meets c.requires.step few)
+
+pub returns-clause-flat : goal.returns-clause-flat
+returns-clause-flat g c =
+    λ meets few. omega (arith, c.loop-done.invariant.counted, cost_le (node_at c.args.tree.now.nodes c.args.up) c.args.at c.args.tables.now.items (marks (entries_at c.args.tables.now.items c.args.at)) c.loop-done.done, step_few c.args.tree.now c.args.tables.now.items c.args.at c.args.up meets c.requires.step few)

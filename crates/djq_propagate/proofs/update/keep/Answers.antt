@@ -1,4 +1,4 @@
-use Rattle.djq_propagate.proofs.Measuring.{keep_counted}
+use Rattle.djq_propagate.proofs.Measuring.{keep_by, keep_counted}
 use Rattle.djq_propagate.proofs.Updating.{kept_all}
 use Rattle.djq_propagate.proofs.update.keep.Goals as goal
 
@@ -17,3 +17,7 @@ returns-clause-kept g c =
 pub returns-clause-counted : goal.returns-clause-counted
 returns-clause-counted g c =
     λ n few. keep_counted c.args.tree.now c.args.tables.now.items c.args.leaf n c.args.tally.now c.clear_path.new.tally c.requires.reducts few c.clear_path.ensures.counted
+
+pub returns-clause-flat : goal.returns-clause-flat
+returns-clause-flat g c =
+    λ few. keep_by c.args.tree.now c.args.leaf 1 c.args.tally.now c.clear_path.new.tally c.requires.reducts.family.is_tree (c.clear_path.ensures.flat few)

@@ -1,10 +1,14 @@
-use Rattle.std.proofs.Common.{ℕ, ◌+◌, ◌*◌, ◌<◌, ◌≤◌, length, sym, ◌∙◌, rules}
+use Rattle.std.proofs.Common.{ℕ, ◌+◌, ◌*◌, ◌<◌, ◌≤◌, List, length, ap, sym, ◌∙◌, rules, arith}
+use Rattle.djq_index.specs.Entries.{Entry, cnt}
+use Rattle.djq_tree.specs.Flat.{HasEqualMeets}
 use Rattle.djq_reduct.specs.Tables.{entries_at}
 use Rattle.djq_propagate.specs.Updates.{HasKept}
 use Rattle.djq_propagate.proofs.Going.{on_err}
-use Rattle.djq_propagate.proofs.Measuring.{put_counted}
-use Rattle.djq_propagate.proofs.Updating.{both, leaf_within, ready_leaf, refused_kept, inserted_all, can_insert}
-use Rattle.djq_propagate.proofs.Rooms.{put_bounded}
+use Rattle.djq_propagate.proofs.Fewing.{few_lived, one_lived}
+use Rattle.djq_propagate.proofs.Measuring.{put_by, put_counted}
+use Rattle.djq_propagate.proofs.Single.{more_length}
+use Rattle.djq_propagate.proofs.Updating.{both, leaf_within, leaf_below, reducts_lived, ready_leaf, refused_kept, inserted_all, can_insert}
+use Rattle.djq_propagate.proofs.Rooms.{few_nodes, put_bounded}
 use Rattle.djq_propagate.specs.Updates.{HasAtMost, paths}
 use Rattle.djq_propagate.proofs.update.put.Goals as goal
 
@@ -60,3 +64,34 @@ returns-clause-counted g c =
 pub returns-in_err-live-clause-counted : goal.returns-in_err-live-clause-counted
 returns-in_err-live-clause-counted g c =
     search rules
+
+pub returns-clause-few : goal.returns-clause-few
+returns-clause-few g c =
+    λ meets. c.touch_path.ensures.few meets (few_lived c.args.tree.now c.args.tables.now.items c.live.new.tables.items c.args.leaf c.args.tuple.now meets c.requires.reducts c.requires.leaf c.requires.bare c.in_ok-live.ensures.ok c.live.ensures.plain)
+
+pub returns-clause-flat : goal.returns-clause-flat
+returns-clause-flat g c =
+    λ meets.
+    let t = c.args.tree.now in
+    let old = c.args.tables.now.items in
+    let mid = c.live.new.tables.items in
+    let l = c.in_ok-live.ensures.ok in
+    put_by t old mid c.args.leaf c.args.tuple.now 1 c.args.tally.now c.live.new.tally c.touch_path.new.tally c.requires.reducts c.requires.leaf l (omega arith)
+    (more_length t old mid c.args.leaf meets c.requires.reducts (reducts_lived t old mid c.args.leaf c.args.tuple.now c.requires.reducts c.requires.leaf l)
+    (λ j v low apart. ap (λ (es : List Entry). cnt es v) (l.below j (leaf_below t c.args.leaf j c.requires.reducts.family.is_tree low apart)))
+    (one_lived t old mid c.args.leaf c.args.tuple.now l))
+    c.in_ok-live.ensures.counted
+    (c.touch_path.ensures.flat meets (few_lived t old mid c.args.leaf c.args.tuple.now meets c.requires.reducts c.requires.leaf c.requires.bare l c.live.ensures.plain))
+
+pub returns-in_err-live-clause-few : goal.returns-in_err-live-clause-few
+returns-in_err-live-clause-few g c =
+    search rules
+
+pub returns-in_err-live-clause-flat : goal.returns-in_err-live-clause-flat
+returns-in_err-live-clause-flat g c =
+    search rules
+
+pub returns-in_err-live-clause-flat_refused : goal.returns-in_err-live-clause-flat_refused
+returns-in_err-live-clause-flat_refused g c =
+    on_err c.from_residual.result (HasEqualMeets c.args.tree.now → c.live.new.tally ≤ c.args.tally.now + 18 * (paths c.args.tree.now * 1))
+    (λ meets. let h = c.in_err-live.ensures.flat meets in let n = few_nodes c.args.tree.now c.requires.reducts.family.is_tree in omega arith)

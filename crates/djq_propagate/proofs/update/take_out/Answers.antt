@@ -1,4 +1,7 @@
-use Rattle.djq_propagate.proofs.Measuring.{take_counted}
+use Rattle.std.proofs.Common.{sym}
+use Rattle.djq_propagate.proofs.Fewing.{few_taken, one_taken}
+use Rattle.djq_propagate.proofs.Measuring.{take_by, take_counted}
+use Rattle.djq_propagate.proofs.Single.{more_length}
 use Rattle.djq_propagate.proofs.Updating.{both, dropped_all, undone}
 use Rattle.djq_propagate.proofs.update.take_out.Goals as goal
 
@@ -29,3 +32,11 @@ returns-clause-back g c =
 pub returns-clause-counted : goal.returns-clause-counted
 returns-clause-counted g c =
     λ n few. take_counted c.args.tree.now c.args.tables.now.items c.take_marked.new.tables.items c.args.leaf n c.args.tally.now c.take_marked.new.tally c.clear_path.new.tally c.requires.reducts c.take_marked.ensures.taken few c.take_marked.ensures.counted c.clear_path.ensures.counted
+
+pub returns-clause-flat : goal.returns-clause-flat
+returns-clause-flat g c =
+    λ meets few.
+    let w = c.take_marked.ensures.taken in
+    take_by c.args.tree.now c.args.tables.now.items c.take_marked.new.tables.items c.args.leaf 1 c.args.tally.now c.take_marked.new.tally c.clear_path.new.tally c.requires.reducts w
+    (more_length c.args.tree.now c.take_marked.new.tables.items c.args.tables.now.items c.args.leaf meets w.sound c.requires.reducts (λ j v low apart. sym (w.without.others j v low apart)) (one_taken c.args.tree.now c.args.tables.now.items c.take_marked.new.tables.items c.args.leaf w few))
+    c.take_marked.ensures.counted (c.clear_path.ensures.flat (few_taken c.args.tree.now c.args.tables.now.items c.take_marked.new.tables.items c.args.leaf w few))

@@ -20,7 +20,7 @@ pub returns-in-Ok-clause-parts : goal.returns-in-Ok-clause-parts
 returns-in-Ok-clause-parts c =
     pushed_parts c.args.parts.now _ c.args.name c.args.types c.requires.parts c.in-Ok.ensures.ok
     c.push_in.ensures.texts (omega (arith, c.len.ensures, c.args.parts.now.kept.ok.0))
-    c.requires.narrow
+    c.requires.some c.requires.narrow
 
 pub returns-in-Ok-clause-makes : goal.returns-in-Ok-clause-makes
 returns-in-Ok-clause-makes c =

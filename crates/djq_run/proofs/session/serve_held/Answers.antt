@@ -18,7 +18,7 @@ lines-smaller g c =
     let before = counts c.lines.steps.listing c.lines.steps.update c.lines.steps.rows in
     let now = counts c.step.new.steps.listing c.step.new.steps.update c.step.new.steps.rows in
     let flushed = c.lines-test.ensures in
-    let line = line_ran (state c.flush.new.machine) (state c.step.new.self) before now flushed.is_open flushed.pending c.in-Ran.ensures in
+    let line = line_ran (state c.flush.new.machine) (state c.step.new.self) before now flushed.is_open flushed.pending c.in-Ran.ensures.0 in
     omega (arith, line.fewer, ap length flushed.held)
 
 -- The run so far, a flush, and a line.
@@ -28,7 +28,7 @@ lines-preserved g c =
     let before = counts c.lines.steps.listing c.lines.steps.update c.lines.steps.rows in
     let now = counts c.step.new.steps.listing c.step.new.steps.update c.step.new.steps.rows in
     let flushed = c.lines-test.ensures in
-    let line = line_ran (state c.flush.new.machine) (state c.step.new.self) before now flushed.is_open flushed.pending c.in-Ran.ensures in
+    let line = line_ran (state c.flush.new.machine) (state c.step.new.self) before now flushed.is_open flushed.pending c.in-Ran.ensures.0 in
     record {
       is_open = line.is_open;
       course = λ o. goes_then _ _ _ _ _ _ _ (c.lines.invariant.course o)

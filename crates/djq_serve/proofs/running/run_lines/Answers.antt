@@ -15,19 +15,19 @@ step-requires g c = c.lines-test.ensures.is_open
 pub flush-requires : goal.flush-requires
 flush-requires g c =
     let state = g.M.Machine.state in
-    record { agrees = ran_agrees (state c.lines.machine) (state c.step.new.self) (g.H.Hub.ids c.lines.hub) c.args.id _ _ c.in-Ran.ensures c.lines.invariant.lining.agrees }
+    record { agrees = ran_agrees (state c.lines.machine) (state c.step.new.self) (g.H.Hub.ids c.lines.hub) c.args.id _ _ c.in-Ran.ensures.0 c.lines.invariant.lining.agrees }
 
 pub lines-smaller : goal.lines-smaller
 lines-smaller g c =
     let state = g.M.Machine.state in
-    line_smaller (state c.lines.machine) (state c.step.new.self) (state c.flush.new.machine) c.args.id _ _ c.in-Ran.ensures c.flush.ensures.spares
+    line_smaller (state c.lines.machine) (state c.step.new.self) (state c.flush.new.machine) c.args.id _ _ c.in-Ran.ensures.0 c.flush.ensures.spares
 
 pub lines-preserved : goal.lines-preserved
 lines-preserved g c =
     let state = g.M.Machine.state in
     record {
       lining = line_then _ _ _ _ _ _ (state c.args.machine.now) (state c.lines.machine) (state c.step.new.self) (state c.flush.new.machine) c.args.id
-          c.lines.invariant.lining c.lines-test.ensures c.in-Ran.ensures c.flush.ensures.flushes.goes
+          c.lines.invariant.lining c.lines-test.ensures c.in-Ran.ensures.0 c.flush.ensures.flushes.goes
           c.flush.ensures.agrees c.flush.ensures.spares;
       faults = c.flush.ensures.faults ∙ c.lines.invariant.faults;
     }

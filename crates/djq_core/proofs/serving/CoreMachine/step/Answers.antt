@@ -2,7 +2,7 @@ use Rattle.std.proofs.Common.{◌||◌, ◌≤◌, ◌+◌, ◌∙◌, ℕ, suc,
 use Rattle.djq_lines.specs.declared.limits.TheConstants.{REPLY_BYTES, LAST_LINE_BYTES, SESSIONS}
 use Rattle.djq_machine.specs.declared.machine.Stepped.{Stepped}
 use Rattle.djq_machine.specs.declared.machine.Stepped.TheVariants.{Ran}
-use Rattle.djq_core.specs.Changing.{is_accepted, reply_of}
+use Rattle.djq_core.specs.Changing.{is_accepted, is_kept, reply_of}
 use Rattle.djq_core.specs.Performs.{among}
 use Rattle.djq_core.specs.Telling.{TellsAll}
 use Rattle.djq_core.proofs.Composing.{change_gives}
@@ -135,5 +135,5 @@ returns-in-Telling g c =
     (subst (λ (xs : List OpenSession). TellsAll (is_accepted (c.in-Telling.change).outcome) (reply_of (c.in-Telling.change).outcome ((c.step_session-stepped.new.engine).store).seq) c.step_session-stepped.new.engine y.id xs c.tell_change.new.engine c.tell_change.new.sessions.items) (h.put c.step_session-stepped.new.session) all) in
     let gives = change_gives c.in-Telling.change c.self.inside.engine c.step_session-stepped.new.engine c.tell_change.new.engine (c.index_mut-found.result.now).session c.step_session-stepped.new.session front c.args.id back c.tell_change.new.sessions.items c.self.inside.stopped before now t.1 h.sound told in
     subst (λ (r : Stepped). StepGives c.args.self.now c.args.id r (state_in c.tell_change.new.engine c.self.inside.stopped c.tell_change.new.sessions.items) before now) (sym t.0)
-    (subst (λ (st : State). StepGives st c.args.id Ran (state_in c.tell_change.new.engine c.self.inside.stopped c.tell_change.new.sessions.items) before now) c.self.view_is
-    (subst (λ (xs : List OpenSession). StepGives (state_in c.self.inside.engine c.self.inside.stopped xs) c.args.id Ran (state_in c.tell_change.new.engine c.self.inside.stopped c.tell_change.new.sessions.items) before now) (sym h.is) gives))
+    (subst (λ (st : State). StepGives st c.args.id (Ran (is_kept (c.in-Telling.change).outcome)) (state_in c.tell_change.new.engine c.self.inside.stopped c.tell_change.new.sessions.items) before now) c.self.view_is
+    (subst (λ (xs : List OpenSession). StepGives (state_in c.self.inside.engine c.self.inside.stopped xs) c.args.id (Ran (is_kept (c.in-Telling.change).outcome)) (state_in c.tell_change.new.engine c.self.inside.stopped c.tell_change.new.sessions.items) before now) (sym h.is) gives))

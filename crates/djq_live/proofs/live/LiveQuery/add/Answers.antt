@@ -1,10 +1,10 @@
-use Rattle.std.proofs.Common.{ℕ, ◌<◌, length, sym, subst, ◌∙◌, arith}
+use Rattle.std.proofs.Common.{ℕ, [], ◌∷◌, ◌<◌, length, sym, subst, ◌∙◌, arith}
 use Rattle.djq_live.specs.Changes.{Came, Gains}
 use Rattle.djq_live.specs.Live.{Live}
 use Rattle.djq_live.specs.Stepping.{GrowsByOne}
 use Rattle.djq_live.specs.Updating.{CountsDelta}
 use Rattle.djq_live.proofs.Below.{below_at}
-use Rattle.djq_live.proofs.Costing.{counts_all, counts_back}
+use Rattle.djq_live.proofs.Costing.{counts_all, counts_back, counts_flat, flat_back}
 use Rattle.djq_live.proofs.Rowing.{leaves_as, put_there}
 use Rattle.djq_live.proofs.Living.{
   can_add,
@@ -12,11 +12,14 @@ use Rattle.djq_live.proofs.Living.{
   add_lacks,
   add_few,
   follows_came,
+  follows_one,
   given_back,
   tables_back,
   same_query,
   logs_came,
+  logs_one,
   counts_came,
+  counts_one,
 }
 use Rattle.djq_live.proofs.live.LiveQuery.add.Goals as goal
 
@@ -83,14 +86,15 @@ returns-then-done-atoms-clause-added g c =
       reducts = c.self.inside.reducts;
       cursors = c.self.inside.cursors;
     } in
-    follows_came l c.args.self.now c.add_to_leaves-done.new.reducts c.args.relation.at
-    c.args.cells.now c.atoms-atoms.result.now c.as_slice-patterns.result.now c.self.view_is
+    follows_one c.args.self.now _ c.args.relation.at c.args.cells.now
+    (follows_came l c.args.self.now c.add_to_leaves-done.new.reducts c.args.relation.at
+    (c.args.cells.now ∷ []) c.atoms-atoms.result.now c.as_slice-patterns.result.now c.self.view_is
     c.atoms-atoms.ensures c.as_slice-patterns.ensures.value
     (below_at (λ p old new. Gains p c.args.cells.now old new) c.args.relation.at
     c.atoms-atoms.result.now c.as_slice-patterns.result.now c.add_to_leaves-done.result
     (length c.atoms-atoms.result.now) c.self.inside.reducts c.add_to_leaves-done.new.reducts
     (let e = c.if-done-atoms.true in omega arith) (let e = c.if-done-atoms.true in omega arith)
-    c.add_to_leaves-done.ensures.gained)
+    c.add_to_leaves-done.ensures.gained))
 
 pub returns-then-done-atoms-clause-same : goal.returns-then-done-atoms-clause-same
 returns-then-done-atoms-clause-same g c =
@@ -113,8 +117,10 @@ returns-then-done-atoms-clause-log g c =
       reducts = c.self.inside.reducts;
       cursors = c.self.inside.cursors;
     } in
-    logs_came c.args.wanted l c.args.self.now c.add_to_leaves-done.new.reducts c.args.relation.at
-    c.args.cells.now c.atoms-atoms.result.now c.as_slice-patterns.result.now
+    logs_one c.args.wanted c.args.self.now c.args.relation.at c.args.cells.now c.args.log.now
+    c.add_to_leaves-done.new.log
+    (logs_came c.args.wanted l c.args.self.now c.add_to_leaves-done.new.reducts c.args.relation.at
+    (c.args.cells.now ∷ []) c.atoms-atoms.result.now c.as_slice-patterns.result.now
     (length c.self.inside.reducts.tree.head) _ c.args.log.now c.add_to_leaves-done.new.log
     c.args.steps.now.listing c.add_to_leaves-done.new.steps.listing c.self.view_is
     c.atoms-atoms.ensures c.as_slice-patterns.ensures.value
@@ -124,7 +130,7 @@ returns-then-done-atoms-clause-log g c =
     (length c.atoms-atoms.result.now) c.self.inside.reducts c.add_to_leaves-done.new.reducts
     (let e = c.if-done-atoms.true in omega arith) (let e = c.if-done-atoms.true in omega arith)
     c.add_to_leaves-done.ensures.gained)
-    c.add_to_leaves-done.ensures.listed
+    c.add_to_leaves-done.ensures.listed)
 
 pub returns-then-done-atoms-clause-counted : goal.returns-then-done-atoms-clause-counted
 returns-then-done-atoms-clause-counted g c =
@@ -135,13 +141,15 @@ returns-then-done-atoms-clause-counted g c =
       reducts = c.self.inside.reducts;
       cursors = c.self.inside.cursors;
     } in
-    counts_came c.args.wanted l c.args.self.now c.add_to_leaves-done.new.reducts c.args.relation.at
-    c.args.cells.now c.atoms-atoms.result.now c.as_slice-patterns.result.now
+    counts_one c.args.wanted c.args.self.now c.args.relation.at c.args.cells.now
+    c.args.steps.now.listing c.add_to_leaves-done.new.steps.listing
+    (counts_came c.args.wanted l c.args.self.now c.add_to_leaves-done.new.reducts c.args.relation.at
+    (c.args.cells.now ∷ []) c.atoms-atoms.result.now c.as_slice-patterns.result.now
     c.add_to_leaves-done.result c.args.log.now c.add_to_leaves-done.new.log
     c.args.steps.now.listing c.add_to_leaves-done.new.steps.listing c.self.view_is
     c.atoms-atoms.ensures c.as_slice-patterns.ensures.value
     c.add_to_leaves-done.ensures.more c.add_to_leaves-done.ensures.gained
-    c.add_to_leaves-done.ensures.listed
+    c.add_to_leaves-done.ensures.listed)
 
 pub give_from_leaves-requires-clause-leaves : goal.give_from_leaves-requires-clause-leaves
 give_from_leaves-requires-clause-leaves g c =
@@ -231,13 +239,15 @@ returns-clause-counted g c =
     subst (λ (n : ℕ). CountsDelta c.args.wanted (λ x y. Came x y c.args.relation.at
     c.args.cells.now) c.args.self.now c.args.relation.at c.args.steps.now.listing n)
     (sym c.give_from_leaves.ensures.listing)
+    (counts_one c.args.wanted c.args.self.now c.args.relation.at c.args.cells.now
+    c.args.steps.now.listing c.add_to_leaves-done.new.steps.listing
     (counts_came c.args.wanted l c.args.self.now c.add_to_leaves-done.new.reducts c.args.relation.at
-    c.args.cells.now c.atoms-atoms.result.now c.as_slice-patterns.result.now
+    (c.args.cells.now ∷ []) c.atoms-atoms.result.now c.as_slice-patterns.result.now
     c.add_to_leaves-done.result c.args.log.now c.add_to_leaves-done.new.log
     c.args.steps.now.listing c.add_to_leaves-done.new.steps.listing c.self.view_is
     c.atoms-atoms.ensures c.as_slice-patterns.ensures.value
     c.add_to_leaves-done.ensures.more c.add_to_leaves-done.ensures.gained
-    c.add_to_leaves-done.ensures.listed)
+    c.add_to_leaves-done.ensures.listed))
 
 pub returns-then-done-atoms-clause-updates : goal.returns-then-done-atoms-clause-updates
 returns-then-done-atoms-clause-updates g c =
@@ -279,3 +289,39 @@ pub returns-then-done-atoms-clause-grows : goal.returns-then-done-atoms-clause-g
 returns-then-done-atoms-clause-grows g c =
     subst (λ (x : Live). GrowsByOne x.reducts c.add_to_leaves-done.new.reducts) c.self.view_is
     c.add_to_leaves-done.ensures.grows
+
+pub returns-then-done-atoms-clause-flat : goal.returns-then-done-atoms-clause-flat
+returns-then-done-atoms-clause-flat g c =
+    let l : Live = record {
+      query = c.self.inside.query;
+      numbered = c.self.inside.numbered;
+      patterns = c.self.inside.patterns.items;
+      reducts = c.self.inside.reducts;
+      cursors = c.self.inside.cursors;
+    } in
+    let can = can_add l c.args.self.now c.args.relation.at c.args.cells.now c.self.view_is
+    c.requires in
+    counts_flat l c.args.self.now c.args.relation.at c.atoms-atoms.result.now
+    c.add_to_leaves-done.result c.args.steps.now.update c.add_to_leaves-done.new.steps.update
+    c.self.view_is c.atoms-atoms.ensures (can.before, can.kept)
+    (c.add_to_leaves-done.ensures.updates (let e = c.if-done-atoms.true in omega arith))
+
+pub returns-clause-flat_refusal : goal.returns-clause-flat_refusal
+returns-clause-flat_refusal g c =
+    let l : Live = record {
+      query = c.self.inside.query;
+      numbered = c.self.inside.numbered;
+      patterns = c.self.inside.patterns.items;
+      reducts = c.self.inside.reducts;
+      cursors = c.self.inside.cursors;
+    } in
+    let can = can_add l c.args.self.now c.args.relation.at c.args.cells.now c.self.view_is
+    c.requires in
+    let stopped : c.add_to_leaves-done.result < length c.atoms-atoms.result.now =
+    (let e = c.if-done-atoms.false in let d = c.add_to_leaves-done.ensures.done in omega arith) in
+    flat_back l c.args.self.now c.add_to_leaves-done.new.reducts c.args.relation.at
+    c.atoms-atoms.result.now c.add_to_leaves-done.result c.args.steps.now.update
+    c.add_to_leaves-done.new.steps.update c.give_from_leaves.new.steps.update c.self.view_is
+    c.atoms-atoms.ensures (can.before, can.kept) c.add_to_leaves-done.ensures.gained.tree
+    c.add_to_leaves-done.ensures.grows (c.add_to_leaves-done.ensures.left stopped)
+    (c.add_to_leaves-done.ensures.refusal stopped) c.give_from_leaves.ensures.updates

@@ -1,6 +1,6 @@
 use Rattle.std.proofs.Common.{length, arith}
 use Rattle.djq_live.specs.Live.{Live}
-use Rattle.djq_live.proofs.Costing.{counts_all}
+use Rattle.djq_live.proofs.Costing.{counts_all, counts_flat}
 use Rattle.djq_live.proofs.Living.{
   can_delete,
   delete_leaves,
@@ -91,5 +91,20 @@ returns-clause-updates g c =
     let can = can_delete l c.args.self.now c.args.relation.at c.args.cells.now c.self.view_is
     c.requires in
     counts_all l c.args.self.now c.args.relation.at c.atoms-atoms.result.now
+    (length c.atoms-atoms.result.now) c.args.steps.now.update c.give_from_leaves.new.steps.update
+    c.self.view_is c.atoms-atoms.ensures (can.before, can.kept) c.give_from_leaves.ensures.updates
+
+pub returns-clause-flat : goal.returns-clause-flat
+returns-clause-flat g c =
+    let l : Live = record {
+      query = c.self.inside.query;
+      numbered = c.self.inside.numbered;
+      patterns = c.self.inside.patterns.items;
+      reducts = c.self.inside.reducts;
+      cursors = c.self.inside.cursors;
+    } in
+    let can = can_delete l c.args.self.now c.args.relation.at c.args.cells.now c.self.view_is
+    c.requires in
+    counts_flat l c.args.self.now c.args.relation.at c.atoms-atoms.result.now
     (length c.atoms-atoms.result.now) c.args.steps.now.update c.give_from_leaves.new.steps.update
     c.self.view_is c.atoms-atoms.ensures (can.before, can.kept) c.give_from_leaves.ensures.updates

@@ -1,0 +1,112 @@
+#!/usr/bin/env python3
+"""What djq costs in instructions: python3 bench/count.py PROGRAM [--only A ..] [--write].
+
+Each kind of work of `workloads.py` is run with N rows and with 4N under `valgrind --tool=callgrind`, which counts the
+instructions of the operations alone. They hardly depend on the machine, nor on what else it does. `--write` keeps the
+counts in counted.json and in the table of docs/PERFORMANCE.md; `tests/counted.py` holds them.
+"""
+
+import argparse
+import concurrent.futures
+import json
+import os
+import re
+import shutil
+import subprocess
+import tempfile
+
+from bench import Session
+from workloads import WORKLOADS
+
+HERE = os.path.dirname(os.path.abspath(__file__))
+KEPT = os.path.join(HERE, "counted.json")
+PAGE = os.path.join(HERE, "..", "docs", "PERFORMANCE.md")
+TABLE = re.compile(r"(?<=<!-- begin: bench/count.py --write -->\n).*?(?=<!-- end -->)", re.DOTALL)
+AT_ONCE = 3  # streams that are run side by side
+
+
+def can_count():
+    """Whether valgrind is there."""
+    return shutil.which("valgrind") is not None and shutil.which("callgrind_control") is not None
+
+
+def per_operation(program, stream):
+    """The instructions of a stream's operations, an operation."""
+    with tempfile.NamedTemporaryFile("r+") as told:
+        words = ["valgrind", "--tool=callgrind", "--instr-atstart=no", "--callgrind-out-file=/dev/null"]
+        with Session(program, [*words, f"--log-file={told.name}"]) as session:
+            run(session, stream.before, 0)
+            switch(session, "on")
+            run(session, stream.counted, stream.told)
+            switch(session, "off")
+        instructions = re.search(r"Collected : (\d+)", told.read())
+    return int(instructions[1]) / stream.operations
+
+
+def switch(session, state):
+    """Counts from now on, or no more."""
+    subprocess.run(["callgrind_control", "-i", state, str(session.process.pid)], check=True, capture_output=True)
+
+
+def run(session, lines, answers):
+    """Runs lines, of which none may be refused, and which are told so many lines of answers."""
+    _, told = session.feed(lines)
+    refused = [line for line in told if line.startswith(("err ", "no ", "ok same", "ok absent", "stale "))]
+    number = sum(line.startswith(("= ", "+ ", "- ")) for line in told)
+    if refused or number != answers:
+        raise SystemExit(f"refused: {refused[:3]}; {number} answers, and there are {answers}")
+
+
+def count(program, names=tuple(WORKLOADS)):
+    """The instructions of an operation, with N rows and with 4N, of each kind of work."""
+    sizes = [(name, size * WORKLOADS[name].rows) for name in names for size in (1, 4)]
+    with concurrent.futures.ThreadPoolExecutor(AT_ONCE) as pool:
+        counts = list(pool.map(lambda one: per_operation(program, WORKLOADS[one[0]].make(one[1])), sizes))
+    return {name: [round(counts[2 * at]), round(counts[2 * at + 1])] for at, name in enumerate(names)}
+
+
+def table(counts):
+    """The counts as a page shows them."""
+    lines = ["| | | N | instructions | with 4N | by hand | times |", "|---|---|---|---|---|---|---|"]
+    for name, (small, large) in counts.items():
+        work = WORKLOADS[name]
+        cells = [name, work.what, f"{work.rows:,}", f"{small:,}", f"{large:,}"]
+        lines.append(f"| {' | '.join(cells)} | {work.by_hand:,} | {small / work.by_hand:.2f} |")
+    return "\n".join(lines) + "\n"
+
+
+def kept():
+    """The counts that are kept; none before the first were."""
+    if not os.path.exists(KEPT):
+        return {}
+    with open(KEPT, encoding="ascii") as file:
+        return json.load(file)
+
+
+def keep(counts):
+    """Keeps the counts, and shows them in the page, where it has a place for them."""
+    counts = {name: both for name in WORKLOADS if (both := {**kept(), **counts}.get(name)) is not None}
+    with open(KEPT, "w", encoding="ascii") as file:
+        file.write("{\n" + ",\n".join(f'  "{name}": {both}' for name, both in counts.items()) + "\n}\n")
+    with open(PAGE, encoding="utf-8") as file:
+        page = file.read()
+    with open(PAGE, "w", encoding="utf-8") as file:
+        file.write(TABLE.sub(lambda _: table(counts), page))
+
+
+def main():
+    words = argparse.ArgumentParser(description=__doc__.splitlines()[0])
+    words.add_argument("program")
+    words.add_argument("--only", nargs="*", choices=[*WORKLOADS], default=[*WORKLOADS])
+    words.add_argument("--write", action="store_true", help="keep the counts")
+    given = words.parse_args()
+    if not can_count():
+        raise SystemExit("valgrind isn't there: on Debian, apt-get install valgrind")
+    counts = count(given.program, given.only)
+    print(table(counts), end="")
+    if given.write:
+        keep(counts)
+
+
+if __name__ == "__main__":
+    main()

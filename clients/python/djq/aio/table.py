@@ -1,0 +1,90 @@
+"""A relation whose rows have a key, for asyncio."""
+
+from __future__ import annotations
+
+import asyncio
+from typing import Iterator, Sequence
+
+from ..errors import Refused, Taken
+from ..listing import WITHIN
+from ..protocol import READ_UPDATE, Answer, Value
+from ..table import Keyed
+from .connection import Connection, list_whole
+
+
+class Table(Keyed):
+    """A relation whose first columns are a key: at most one row for each. It promises what `djq.Table` does.
+
+    Any number of tasks may write to one table; they take turns. One that is cancelled leaves its write to be done.
+    """
+
+    def __init__(self, connection: Connection, relation: str, types: Sequence[type | str], key: int = 1) -> None:
+        super().__init__(relation, types, key)
+        self._connection, self._types = connection, types
+        self._writing = asyncio.Lock()  # held until a write is answered, behind which the rows are known
+
+    async def _begin(self) -> Table:
+        """Makes what isn't there, and lists the rows."""
+        connection = self._connection
+        try:
+            await connection.relation(self.relation, *self._types)
+        except Taken:
+            pass
+        try:
+            await connection.query(self._text)
+        except Taken:
+            pass
+        listing = await list_whole(connection, self._query, WITHIN, watch=True)
+        for row in listing.answers:
+            self._put(row)
+        self._take(connection._protocol, listing.at)
+        return self
+
+    def __len__(self) -> int:
+        self._catch_up()
+        return len(self._rows)
+
+    def __iter__(self) -> Iterator[Answer]:
+        """The rows."""
+        self._catch_up()
+        return iter(self._all())
+
+    def get(self, *key: Value) -> Answer | None:
+        """The row of a key, as far as it was told; none where there is none."""
+        self._catch_up()
+        return self._get(key)
+
+    async def upsert(self, *row: Value) -> bool:
+        """Makes this the row of its key. False where it is already."""
+        return await asyncio.shield(self._replace(row[: self.key], row))
+
+    async def remove(self, *key: Value) -> bool:
+        """Takes the row of a key out. False where there is none."""
+        return await asyncio.shield(self._replace(key, None))
+
+    # Inside
+
+    async def _replace(self, key: Answer, row: Answer | None) -> bool:
+        """Makes this the one row of a key, or none, in one write. Where it is refused, the old ones come back."""
+        async with self._writing:
+            self._catch_up()
+            old, new = self._replacing(row) if row is not None else (set(self._rows.get(key, ())), [])
+            connection = self._connection
+            async with connection._order:
+                pending = [connection._say(line, READ_UPDATE) for line in self._lines(old, new)]
+                connection._flush()
+            for reply in pending:
+                await connection._done(reply)
+            try:
+                for reply in pending:
+                    reply.result()
+            except Refused:
+                for gone in old:
+                    await connection.add(self.relation, *gone)
+                raise
+            return bool(pending)
+
+    def _catch_up(self) -> None:
+        """Takes the changes that have come."""
+        self._connection._check()
+        self._take(self._connection._protocol)

@@ -1,0 +1,154 @@
+-- Whether a tuple is an answer is decided: of a query, one of finitely many choices of rows shows it, or none does.
+use Rattle.std.specs.Prelude.{List, [], ◌∷◌, ◌≡◌, ◌⊎◌, Bool, true, false, cond, pos, map, All, Contains}
+use Rattle.std.proofs.Common.{refl, sym, ap, ap₂, ◌∙◌, inl, inr}
+use Rattle.std.proofs.lemmas.List.Elements.{All-nil, All-cons, All-head, All-tail}
+use Rattle.djq_model.specs.declared.value.Value.{Value}
+use Rattle.djq_model.specs.declared.value.Value.TheVariants.{Int}
+use Rattle.djq_model.specs.declared.relation.Relation.{Relation}
+use Rattle.djq_model.specs.declared.query.Query.{Query}
+use Rattle.djq_model.specs.declared.query.Atom.{Atom}
+use Rattle.djq_model.specs.declared.query.Term.{Term}
+use Rattle.djq_model.specs.declared.query.Term.TheVariants.{Variable, Hole, Constant}
+use Rattle.djq_model.specs.Data.{Bytes, Tuple, bytes_eq, value_eq, rows_of}
+use Rattle.djq_model.specs.Answer.{Assignment, StandForAll, Satisfies, IsAnswer}
+use Rattle.djq_model.specs.Listed.{a_query}
+use Rattle.djq_model.specs.Equality.{bytes_eq-decides, value_eq-decides}
+use Rattle.djq_deltas.specs.Decided.{Decided, AnswersAreDecided}
+use Rattle.djq_deltas.proofs.Lists.{nothing_there, first_or_later, first_there, later_there}
+
+decided_as : {A B : Type 0} → (A → B) → (B → A) → Decided A → Decided B
+decided_as to back (inl a) = inl (to a)
+decided_as to back (inr never) = inr (λ b. never (back b))
+
+-- a variable and its value
+abbrev Binding : Type 0
+Binding = Bytes × Value
+
+-- An assignment gives each of these variables its value.
+abbrev Holds : Assignment → List Binding → Type 0
+Holds a [] = Unit {0}
+Holds a (b ∷ bs) = (a b.0 ≡ b.1) × Holds a bs
+
+-- There is such an assignment, of which something else holds too.
+record Sat (P : Assignment → Type 0) (bs : List Binding) : Type 0 where
+  assignment : Assignment
+  holds : Holds assignment bs
+  rest : P assignment
+
+-- the assignment of the first values
+bound : List Binding → Assignment
+bound [] x = Int (pos 0)
+bound (b ∷ bs) x = cond (bytes_eq b.0 x) b.1 (bound bs x)
+
+behind_first : (a : Assignment) (b : Binding) (f : Assignment) (bs : List Binding) → a b.0 ≡ b.1 → Holds a bs → Holds f bs
+    → Holds (λ x. cond (bytes_eq b.0 x) b.1 (f x)) bs
+behind_first a b f [] h k l = tt
+behind_first a b f (c ∷ cs) h k l = (step (bytes_eq b.0 c.0) refl, behind_first a b f cs h k.1 l.1)
+  where
+    step : (t : Bool) → bytes_eq b.0 c.0 ≡ t → cond t b.1 (f c.0) ≡ c.1
+    step true e = sym h ∙ ap a ((bytes_eq-decides b.0 c.0).0 e) ∙ k.0
+    step false e = l.0
+
+-- where there is one, the assignment of the first values is one
+bound_holds : (a : Assignment) (bs : List Binding) → Holds a bs → Holds (bound bs) bs
+unfolding bound
+bound_holds a [] h = tt
+bound_holds a (b ∷ bs) h =
+    let same : bytes_eq b.0 b.0 ≡ true = (bytes_eq-decides b.0 b.0).1 refl in
+    (ap (λ t. cond t b.1 (bound bs b.0)) same, behind_first a b (bound bs) bs h.0 h.1 (bound_holds a bs h.1))
+
+holds_decided : (a : Assignment) (bs : List Binding) → Decided (Holds a bs)
+holds_decided a [] = inl tt
+holds_decided a (b ∷ bs) = step (value_eq (a b.0) b.1) refl (holds_decided a bs)
+  where
+    step : (t : Bool) → value_eq (a b.0) b.1 ≡ t → Decided (Holds a bs) → Decided (Holds a (b ∷ bs))
+    step true e d = decided_as (λ h. ((value_eq-decides (a b.0) b.1).0 e, h)) (λ h. h.1) d
+    step false e d = inr (λ h. let yes : value_eq (a b.0) b.1 ≡ true = (value_eq-decides (a b.0) b.1).1 h.0 in absurd (cc (yes, e)))
+
+-- Where what else holds is decided under any values, it is with the terms of an atom against a row, ..
+module _ (P : Assignment → Type 0) (decided : (bs : List Binding) → Decided (Sat P bs)) where
+  terms_decided : (terms : List Term) (row : Tuple) (bs : List Binding) → Decided (Sat (λ a. StandForAll a terms row × P a) bs)
+  terms_decided [] [] bs =
+      decided_as (λ s. record { assignment = s.assignment; holds = s.holds; rest = (tt, s.rest) }) (λ s. record { assignment = s.assignment; holds = s.holds; rest = s.rest.1 }) (decided bs)
+  terms_decided [] (v ∷ vs) bs = inr (λ s. absurd s.rest.0)
+  terms_decided (t ∷ ts) [] bs = inr (λ s. absurd s.rest.0)
+  terms_decided (Variable x ∷ ts) (v ∷ vs) bs =
+      decided_as (λ s. record { assignment = s.assignment; holds = s.holds.1; rest = ((s.holds.0, s.rest.0), s.rest.1) })
+      (λ s. record { assignment = s.assignment; holds = (s.rest.0.0, s.holds); rest = (s.rest.0.1, s.rest.1) })
+      (terms_decided ts vs ((x, v) ∷ bs))
+  terms_decided (Hole ∷ ts) (v ∷ vs) bs =
+      decided_as (λ s. record { assignment = s.assignment; holds = s.holds; rest = ((tt, s.rest.0), s.rest.1) })
+      (λ s. record { assignment = s.assignment; holds = s.holds; rest = (s.rest.0.1, s.rest.1) })
+      (terms_decided ts vs bs)
+  terms_decided (Constant c ∷ ts) (v ∷ vs) bs = step (value_eq c v) refl (terms_decided ts vs bs)
+    where
+      step : (t : Bool) → value_eq c v ≡ t → Decided (Sat (λ a. StandForAll a ts vs × P a) bs) → Decided (Sat (λ a. StandForAll a (Constant c ∷ ts) (v ∷ vs) × P a) bs)
+      step true e d =
+          decided_as (λ s. record { assignment = s.assignment; holds = s.holds; rest = (((value_eq-decides c v).0 e, s.rest.0), s.rest.1) })
+          (λ s. record { assignment = s.assignment; holds = s.holds; rest = (s.rest.0.1, s.rest.1) }) d
+      step false e d = inr (λ s. let yes : value_eq c v ≡ true = (value_eq-decides c v).1 s.rest.0.0 in absurd (cc (yes, e)))
+
+  -- .. with those of an atom against some row, ..
+  abbrev RowFor : List Term → List Tuple → Assignment → Type 0
+  RowFor terms rows a = (row : Tuple) × Contains rows row × StandForAll a terms row
+
+  rows_decided : (terms : List Term) (rows : List Tuple) (bs : List Binding) → Decided (Sat (λ a. RowFor terms rows a × P a) bs)
+  rows_decided terms [] bs = inr (λ s. nothing_there s.rest.0.0 s.rest.0.1)
+  rows_decided terms (r ∷ rs) bs = step (terms_decided terms r bs) (rows_decided terms rs bs)
+    where
+      later : (a : Assignment) → RowFor terms rs a × P a → RowFor terms (r ∷ rs) a × P a
+      later a h = ((h.0.0, later_there r rs h.0.0 h.0.1, h.0.2), h.1)
+
+      either : (s : Sat (λ a. RowFor terms (r ∷ rs) a × P a) bs) → (r ≡ s.rest.0.0) ⊎ Contains rs s.rest.0.0
+          → Sat (λ a. StandForAll a terms r × P a) bs ⊎ Sat (λ a. RowFor terms rs a × P a) bs
+      either s (inl e) = inl (record { assignment = s.assignment; holds = s.holds; rest = (rw e (s.rest.0.2), s.rest.1) })
+      either s (inr c) = inr (record { assignment = s.assignment; holds = s.holds; rest = ((s.rest.0.0, c, s.rest.0.2), s.rest.1) })
+
+      neither : {A B : Type 0} → (A → ⊥) → (B → ⊥) → A ⊎ B → ⊥
+      neither f g (inl a) = f a
+      neither f g (inr b) = g b
+
+      step : Decided (Sat (λ a. StandForAll a terms r × P a) bs) → Decided (Sat (λ a. RowFor terms rs a × P a) bs) → Decided (Sat (λ a. RowFor terms (r ∷ rs) a × P a) bs)
+      step (inl s) d = inl (record { assignment = s.assignment; holds = s.holds; rest = ((r, first_there r rs r refl, s.rest.0), s.rest.1) })
+      step (inr never) (inl s) = inl (record { assignment = s.assignment; holds = s.holds; rest = later s.assignment s.rest })
+      step (inr never) (inr none) = inr (λ s. neither never none (either s (first_or_later r rs s.rest.0.0 s.rest.0.1)))
+
+  -- .. and with a tuple against the head
+  head_decided : (head : List Bytes) (t : Tuple) (bs : List Binding) → Decided (Sat (λ a. (t ≡ map a head) × P a) bs)
+  head_decided [] [] bs =
+      decided_as (λ s. record { assignment = s.assignment; holds = s.holds; rest = (refl, s.rest) }) (λ s. record { assignment = s.assignment; holds = s.holds; rest = s.rest.1 }) (decided bs)
+  head_decided [] (v ∷ vs) bs = inr (λ s. let e = s.rest.0 in absurd cc)
+  head_decided (x ∷ xs) [] bs = inr (λ s. let e = s.rest.0 in absurd cc)
+  head_decided (x ∷ xs) (v ∷ vs) bs =
+      decided_as (λ s. record { assignment = s.assignment; holds = s.holds.1; rest = (ap₂ (λ (w : Value) (ws : Tuple). w ∷ ws) (sym s.holds.0) s.rest.0, s.rest.1) })
+      (λ s. record { assignment = s.assignment; holds = (first_of s.assignment s.rest.0, s.holds); rest = (rest_of s.assignment s.rest.0, s.rest.1) })
+      (head_decided xs vs ((x, v) ∷ bs))
+    where
+      first_of : (a : Assignment) → v ∷ vs ≡ a x ∷ map a xs → a x ≡ v
+      first_of a e = cc
+
+      rest_of : (a : Assignment) → v ∷ vs ≡ a x ∷ map a xs → vs ≡ map a xs
+      rest_of a e = cc
+
+atoms_decided : (relations : List Relation) (atoms : List Atom) (bs : List Binding) → Decided (Sat (λ a. All (Satisfies relations a) atoms) bs)
+atoms_decided relations [] bs =
+    decided_as (λ h. record { assignment = bound bs; holds = h; rest = All-nil (Satisfies relations (bound bs)) }) (λ s. bound_holds s.assignment bs s.holds) (holds_decided (bound bs) bs)
+atoms_decided relations (a ∷ more) bs =
+    decided_as
+    (λ s. record {
+      assignment = s.assignment;
+      holds = s.holds;
+      rest = All-cons (Satisfies relations s.assignment) a more (record { row = s.rest.0.0; is_there = s.rest.0.1; stands = s.rest.0.2 }) s.rest.1;
+    })
+    (λ s. let first = All-head (Satisfies relations s.assignment) a more s.rest in
+    record { assignment = s.assignment; holds = s.holds; rest = ((first.row, first.is_there, first.stands), All-tail (Satisfies relations s.assignment) a more s.rest) })
+    (rows_decided (λ f. All (Satisfies relations f) more) (λ cs. atoms_decided relations more cs) a.terms (rows_of relations a.relation) bs)
+
+pub query_decided : (relations : List Relation) (q : Query) (t : Tuple) → Decided (IsAnswer relations q t)
+query_decided relations q t =
+    decided_as (λ s. record { assignment = s.assignment; satisfies = s.rest.1; on_head = s.rest.0 })
+    (λ h. record { assignment = h.assignment; holds = tt; rest = (h.on_head, h.satisfies) })
+    (head_decided (λ f. All (Satisfies relations f) q.atoms) (λ bs. atoms_decided relations q.atoms bs) q.head t [])
+
+pub answers_are_decided : AnswersAreDecided
+answers_are_decided relations (a_query q) t = query_decided relations q t

@@ -1,0 +1,5 @@
+use Rattle.djq_deltas.proofs.Deciding.{answers_are_decided}
+use Rattle.djq_deltas.proofs.answers_are_decided.Goals as goal
+
+pub returns : goal.returns
+returns c = answers_are_decided

@@ -1,0 +1,149 @@
+-- What a stop leaves of a file that is written.
+use Rattle.std.proofs.Common.{◌≡◌, ℕ, ◌+◌, ◌-◌, ◌<◌, ◌≤◌, inl, inr, List, [], ◌∷◌, ◌++◌, length, take, drop, get_or, replicate, refl, sym, ap, subst, ◌∙◌, arith, append_assoc, append-nil, length-append, length-take, length-drop}
+use Rattle.std.specs.List.{AllByRecursion}
+use Rattle.std.proofs.lemmas.List.{length-replicate, get_or_append_left, get_or-take, get_or-drop, get_or-append_right}
+use Rattle.djq_disk.specs.File.{Span, File, IsSettled, settled, with_written, put, Keeps}
+use Rattle.djq_disk.specs.History.{History, moved_to, Writes, Syncs}
+use Rattle.djq_disk.specs.Leaving.{LeavesOnly, LeavesSince}
+use Rattle.djq_disk.specs.WritingDown.{WritesDown}
+use Rattle.djq_disk.specs.declared.disk.DiskDid.{DiskDid}
+use Rattle.djq_disk.specs.declared.disk.DiskDid.TheVariants.{Done, Failed}
+
+-- what holds of two lists' elements holds of those of both
+pub all_append : {X : Type 0} (P : X → Type 0) (xs ys : List X) → AllByRecursion P xs → AllByRecursion P ys → AllByRecursion P (xs ++ ys)
+all_append P [] ys p q = q
+all_append P (x ∷ xs) ys p q = (p.0, all_append P xs ys p.1 q)
+
+pub all_so : {X : Type 0} (P Q : X → Type 0) (xs : List X) → ((x : X) → P x → Q x) → AllByRecursion P xs → AllByRecursion Q xs
+all_so P Q [] so p = tt
+all_so P Q (x ∷ xs) so p = (so x p.0, all_so P Q xs so p.1)
+
+-- no time goes by
+pub leaves_none : (P : List ℕ → Type 0) (h : History) → LeavesOnly P h.file → LeavesSince P h h
+leaves_none P h now = record { more = []; past = sym (append-nil h.past); paths = refl; each = tt; now = now }
+
+-- a moment more
+pub leaves_move : (P : List ℕ → Type 0) (old mid : History) (file : File) → LeavesSince P old mid → LeavesOnly P file
+    → LeavesSince P old (moved_to file mid)
+leaves_move P old mid file leaves now = record {
+  more = leaves.more ++ mid.file ∷ [];
+  past = ap (λ files. files ++ mid.file ∷ []) leaves.past ∙ append_assoc old.past leaves.more (mid.file ∷ []);
+  paths = leaves.paths;
+  each = all_append (LeavesOnly P) leaves.more (mid.file ∷ []) leaves.each (leaves.now, tt);
+  now = now;
+}
+
+-- one stretch of time after another
+pub leaves_more : (P : List ℕ → Type 0) (old mid new : History) → LeavesSince P old mid → LeavesSince P mid new → LeavesSince P old new
+leaves_more P old mid new p q = record {
+  more = p.more ++ q.more;
+  past = q.past ∙ ap (λ files. files ++ q.more) p.past ∙ append_assoc old.past p.more q.more;
+  paths = q.paths ∙ p.paths;
+  each = all_append (LeavesOnly P) p.more q.more p.each q.each;
+  now = q.now;
+}
+
+-- what follows of the images
+pub leaves_so : (P Q : List ℕ → Type 0) (old new : History) → ((image : List ℕ) → P image → Q image) → LeavesSince P old new → LeavesSince Q old new
+leaves_so P Q old new so p = record {
+  more = p.more;
+  past = p.past;
+  paths = p.paths;
+  each = all_so (LeavesOnly P) (LeavesOnly Q) p.more (λ file only image is. so image (only image is)) p.each;
+  now = λ image is. so image (p.now image is);
+}
+
+pub keeps_all : (span : Span) (bytes : List ℕ) → Keeps span bytes bytes
+keeps_all span bytes = record { longer = omega arith; same = λ i within out. refl }
+
+-- a write that was done
+pub put_keeps : (at : ℕ) (piece bytes : List ℕ) → Keeps (record { at = at; size = length piece }) bytes (put at piece bytes)
+put_keeps at piece bytes = record {
+  longer = omega (arith, sizes, front_size);
+  same = λ i within out. elim out [ inl before ↦ before_it i within before | inr behind ↦ behind_it i within behind ];
+}
+  where
+    zeros : List ℕ
+    zeros = replicate (at - length bytes) 0
+
+    front : List ℕ
+    front = take at bytes ++ replicate (at - length bytes) 0 ++ piece
+
+    sizes : length (front ++ drop (at + length piece) bytes) ≡ length front + (length bytes - (at + length piece))
+    sizes = length-append front (drop (at + length piece) bytes) ∙ ap (λ n. length front + n) (length-drop (at + length piece) bytes)
+
+    front_size : length front ≡ at + length piece
+    front_size = omega (arith, length-append (take at bytes ++ replicate (at - length bytes) 0) piece, length-append (take at bytes) (replicate (at - length bytes) 0), length-take at bytes, length-replicate {A = ℕ} (at - length bytes) 0)
+
+    before_it : (i : ℕ) → i < length bytes → i < at → get_or (put at piece bytes) i 0 ≡ get_or bytes i 0
+    before_it i within before =
+        let in_take : i < length (take at bytes) = omega (arith, length-take at bytes) in
+        let in_zeros : i < length (take at bytes ++ replicate (at - length bytes) 0) = omega (arith, length-append (take at bytes) (replicate (at - length bytes) 0)) in
+        let in_front : i < length front = omega (arith, front_size) in
+        get_or_append_left front (drop (at + length piece) bytes) 0 i in_front
+        ∙ get_or_append_left (take at bytes ++ replicate (at - length bytes) 0) piece 0 i in_zeros
+        ∙ get_or_append_left (take at bytes) (replicate (at - length bytes) 0) 0 i in_take
+        ∙ get_or-take at bytes i 0 before
+
+    behind_it : (i : ℕ) → i < length bytes → at + length piece ≤ i → get_or (put at piece bytes) i 0 ≡ get_or bytes i 0
+    behind_it i within behind =
+        let there : (at + length piece) + (i - (at + length piece)) ≡ i = omega arith in
+        get_or-append_right front (drop (at + length piece) bytes) (at + length piece) i 0 front_size behind
+        ∙ get_or-drop (at + length piece) bytes (i - (at + length piece)) 0 ∙ ap (λ k. get_or bytes k 0) there
+
+-- Whatever a write answers, it keeps what is outside its part.
+pub write_keeps : (did : DiskDid) (at : ℕ) (piece : List ℕ) (old new : History) → Writes did at piece old new
+    → (bytes : List ℕ) × Keeps (record { at = at; size = length piece }) old.file.bytes bytes
+    × (new ≡ moved_to (with_written (record { at = at; size = length piece }) bytes old.file) old)
+write_keeps Done at piece old new writes = (put at piece old.file.bytes, put_keeps at piece old.file.bytes, writes)
+write_keeps Failed at piece old new writes = (writes.0, writes.1.keeps, writes.2)
+
+-- what a stop leaves of a file that is settled
+pub settled_leaves : (span : Span) (old bytes : List ℕ) → Keeps span old bytes → LeavesOnly (Keeps span old) (settled bytes)
+settled_leaves span old bytes keeps image is = record {
+  longer = omega (arith, keeps.longer, is.long);
+  same = λ i within out. is.kept i (omega (arith, keeps.longer)) tt ∙ keeps.same i within out;
+}
+
+-- and of one that was then written
+pub written_leaves : (span : Span) (old bytes : List ℕ) → Keeps span old bytes → LeavesOnly (Keeps span old) (with_written span bytes (settled old))
+written_leaves span old bytes keeps image is = record {
+  longer = is.long;
+  same = λ i within out. is.kept i within (out, tt) ∙ keeps.same i within out;
+}
+
+-- A settled file is written: each moment from then on.
+pub write_leaves : (span : Span) (bytes : List ℕ) (old : History) → IsSettled old.file → Keeps span old.file.bytes bytes
+    → LeavesSince (Keeps span old.file.bytes) old (moved_to (with_written span bytes old.file) old)
+write_leaves span bytes old is keeps =
+    let P = Keeps span old.file.bytes in
+    let before : LeavesOnly P old.file = subst (λ (f : File). LeavesOnly P f) (sym is) (settled_leaves span old.file.bytes old.file.bytes (keeps_all span old.file.bytes)) in
+    let behind : LeavesOnly P (with_written span bytes old.file) = subst (λ (f : File). LeavesOnly P (with_written span bytes f)) (sym is) (written_leaves span old.file.bytes bytes keeps) in
+    leaves_move P old old (with_written span bytes old.file) (leaves_none P old before) behind
+
+-- a write that failed, and no sync
+pub fails_down : (at : ℕ) (piece : List ℕ) (old new : History) → Writes Failed at piece old new → WritesDown Failed at piece old new
+fails_down at piece old new writes =
+    let kept = write_keeps Failed at piece old new writes in
+    record {
+      leaves = λ is. subst (λ (h : History). LeavesSince (Keeps (record { at = at; size = length piece }) old.file.bytes) old h) (sym kept.2) (write_leaves _ kept.0 old is kept.1);
+      done = λ wrong. cc;
+    }
+
+-- a write that was done, and a sync
+pub writes_down : (did : DiskDid) (at : ℕ) (piece : List ℕ) (old mid new : History) → Writes Done at piece old mid → Syncs did mid new → WritesDown did at piece old new
+writes_down Failed at piece old mid new writes syncs = record {
+  leaves = λ is. subst (λ (h : History). LeavesSince (Keeps (record { at = at; size = length piece }) old.file.bytes) old h) (sym (syncs ∙ writes)) (write_leaves _ (put at piece old.file.bytes) old is (put_keeps at piece old.file.bytes));
+  done = λ wrong. cc;
+}
+writes_down Done at piece old mid new writes syncs =
+    let span : Span = record { at = at; size = length piece } in
+    let bytes = put at piece old.file.bytes in
+    let keeps = put_keeps at piece old.file.bytes in
+    let file : mid.file.bytes ≡ bytes = ap (λ (h : History). h.file.bytes) writes in
+    let is_new : new ≡ moved_to (settled bytes) (moved_to (with_written span bytes old.file) old) = syncs ∙ ap (λ (h : History). moved_to (settled h.file.bytes) h) writes in
+    record {
+      leaves = λ is. subst (λ (h : History). LeavesSince (Keeps span old.file.bytes) old h) (sym is_new)
+          (leaves_move (Keeps span old.file.bytes) old (moved_to (with_written span bytes old.file) old) (settled bytes) (write_leaves span bytes old is keeps) (settled_leaves span old.file.bytes bytes keeps));
+      done = λ _. ap (λ (h : History). h.file) is_new;
+    }

@@ -1,0 +1,16 @@
+use Rattle.djq_disk.specs.History.{Writes, Syncs}
+use Rattle.djq_disk.specs.WritingDown.{WritesDown}
+use Rattle.djq_disk.specs.declared.disk.DiskDid.TheVariants.{Done, Failed}
+use Rattle.djq_disk.proofs.Telling.{told_both, told_so}
+use Rattle.djq_disk.proofs.Keeping.{writes_down, fails_down}
+use Rattle.djq_disk.proofs.writing_down.write_down.Goals as goal
+
+pub returns-in-Done-clause-told : goal.returns-in-Done-clause-told
+returns-in-Done-clause-told g c =
+    let at = c.args.at in
+    let piece = c.args.piece.now in
+    told_both _ _ _ (Writes Done at piece) (Syncs c.sync.result) (WritesDown c.sync.result at piece) (writes_down c.sync.result at piece) c.in-Done.ensures.told c.sync.ensures.told
+
+pub returns-in-Failed-clause-told : goal.returns-in-Failed-clause-told
+returns-in-Failed-clause-told g c =
+    told_so _ _ (Writes Failed c.args.at c.args.piece.now) (WritesDown Failed c.args.at c.args.piece.now) (fails_down c.args.at c.args.piece.now) c.in-Failed.ensures.told

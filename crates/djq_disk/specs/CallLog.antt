@@ -1,0 +1,52 @@
+-- A disk in memory by its calls.
+use Rattle.std.specs.Prelude.{◌≡◌, ℕ, List, [], ◌∷◌, ◌++◌, length, Option}
+use Rattle.std.specs.Option.{option_map}
+use Rattle.djq_io.specs.Sink.{Gains}
+use Rattle.djq_disk.specs.File.{settled, with_written, put}
+use Rattle.djq_disk.specs.History.{History, moved_to}
+use Rattle.djq_disk.specs.declared.disk.DiskDid.{DiskDid}
+use Rattle.djq_disk.specs.declared.disk.DiskDid.TheVariants.{Done, Failed}
+use Rattle.djq_disk.specs.declared.call_log.DiskCall.{DiskCall}
+use Rattle.djq_disk.specs.declared.call_log.DiskCall.TheVariants.{Opening, Measuring, Reading, Writing, Syncing}
+
+-- a disk that was asked nothing yet, with a file of these bytes
+abbrev pub untouched : List ℕ → History
+untouched bytes = record { paths = []; past = []; file = settled bytes }
+
+-- the history after a write of a disk in memory, which leaves its part as it was where it fails
+abbrev pub after_write : History → ℕ → List ℕ → DiskDid → History
+after_write h at piece Done = moved_to (with_written (record { at = at; size = length piece }) (put at piece h.file.bytes) h.file) h
+after_write h at piece Failed = moved_to (with_written (record { at = at; size = length piece }) h.file.bytes h.file) h
+
+-- the history after a sync
+abbrev pub after_sync : History → DiskDid → History
+after_sync h Done = moved_to (settled h.file.bytes) h
+after_sync h Failed = h
+
+-- the history after a call
+abbrev pub after_call : History → DiskCall → History
+after_call h (Opening path answer) = record h { paths = h.paths ++ path ∷ [] }
+after_call h (Measuring answer) = h
+after_call h (Reading at answer) = h
+after_call h (Writing at piece answer) = after_write h at piece answer
+after_call h (Syncing answer) = after_sync h answer
+
+-- the history after these calls, in order
+abbrev pub after_calls : History → List DiskCall → History
+after_calls h [] = h
+after_calls h (call ∷ calls) = after_calls (after_call h call) calls
+
+-- A disk in memory by its calls: the bytes of its file at first, and its calls in order with their
+-- answers, unless it has lost them.
+pub record Calls : Type 0 where
+  pub first : List ℕ
+  pub calls : Option (List DiskCall)
+
+-- the history that it tells, where it has its calls
+abbrev pub told_by : Calls → Option History
+told_by log = option_map (after_calls (untouched log.first)) log.calls
+
+-- From some calls of a disk to later ones this one came, where they are told.
+pub record GainsCall (call : DiskCall) (old new : Calls) : Type 0 where
+  pub first : new.first ≡ old.first
+  pub calls : Gains old.calls new.calls (call ∷ [])

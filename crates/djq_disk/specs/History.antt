@@ -1,0 +1,70 @@
+-- What a disk went through, and what each of its calls does to that.
+use Rattle.std.specs.Prelude.{◌≡◌, ℕ, ◌+◌, ◌≤◌, List, [], ◌∷◌, ◌++◌, length, take, drop, Option, IfSome, IsSomeAnd}
+use Rattle.djq_disk.specs.File.{File, settled, with_written, put, Torn}
+use Rattle.djq_disk.specs.declared.disk.DiskLen.{DiskLen}
+use Rattle.djq_disk.specs.declared.disk.DiskLen.TheVariants.{Len, Failed as Unmeasured}
+use Rattle.djq_disk.specs.declared.disk.DiskRead.{DiskRead}
+use Rattle.djq_disk.specs.declared.disk.DiskRead.TheVariants.{Got, End, Failed as Unread}
+use Rattle.djq_disk.specs.declared.disk.DiskDid.{DiskDid}
+use Rattle.djq_disk.specs.declared.disk.DiskDid.TheVariants.{Done, Failed}
+
+-- What a disk went through: the paths that were opened, the file as it was at each earlier moment,
+-- and the file as it is.
+--
+-- A moment comes with each write, and with each sync that was done. Within a call there is no
+-- further one, and none is wanting: a write marks its part as written, so that what a stop leaves in
+-- its middle is among the images behind it, and what one leaves in the middle of a sync is among
+-- those before it.
+pub record History : Type 0 where
+  pub paths : List (List ℕ)
+  pub past : List File
+  pub file : File
+
+-- where a history is told as the later state comes, it was told in the earlier one, and this holds
+-- of both
+abbrev pub WhereTold : Option History → Option History → (History → History → Type 0) → Type 0
+WhereTold old new P = IfSome new (λ n. IsSomeAnd old (λ o. P o n))
+
+-- the history a moment later, with this file
+abbrev pub moved_to : File → History → History
+moved_to file h = record { paths = h.paths; past = h.past ++ h.file ∷ []; file = file }
+
+-- An open adds its path, whatever it answers.
+abbrev pub Opens : List ℕ → History → History → Type 0
+Opens path old new = new ≡ record old { paths = old.paths ++ path ∷ [] }
+
+-- The length that is answered is the file's, and nothing changes.
+abbrev pub Sizes : DiskLen → History → History → Type 0
+Sizes (Len n) old new = (n ≡ length old.file.bytes) × (new ≡ old)
+Sizes Unmeasured old new = new ≡ old
+
+-- A read at a place of a file of these bytes gives those that stand there, or the end exactly where
+-- none do.
+abbrev pub IsPart : DiskRead → ℕ → List ℕ → List ℕ → Type 0
+IsPart (Got n) at buf bytes = (at + n ≤ length bytes) × (take n buf ≡ take n (drop at bytes))
+IsPart End at buf bytes = length bytes ≤ at
+IsPart Unread at buf bytes = Unit {0}
+
+-- A read gives a part of the file, and nothing changes.
+abbrev pub Reads : DiskRead → ℕ → List ℕ → History → History → Type 0
+Reads answer at buf old new = IsPart answer at buf old.file.bytes × (new ≡ old)
+
+-- What a read may give, told or not: at least one byte, at most as many as the buffer has room for,
+-- and none past the last place that a number names.
+abbrev pub Fits : DiskRead → ℕ → List ℕ → Type 0
+Fits (Got n) at buf = (1 ≤ n) × (n ≤ length buf) × (at + n ≤ 18446744073709551615)
+Fits End at buf = Unit {0}
+Fits Unread at buf = Unit {0}
+
+-- A write that was done has written the whole piece. One that failed may have left any bytes in its
+-- part. Both count as written since the last sync.
+abbrev pub Writes : DiskDid → ℕ → List ℕ → History → History → Type 0
+Writes Done at piece old new =
+    new ≡ moved_to (with_written (record { at = at; size = length piece }) (put at piece old.file.bytes) old.file) old
+Writes Failed at piece old new = (bytes : List ℕ) × Torn (record { at = at; size = length piece }) old.file.bytes bytes
+    × (new ≡ moved_to (with_written (record { at = at; size = length piece }) bytes old.file) old)
+
+-- After a sync that was done a stop leaves what a read gives. One that failed counts as none.
+abbrev pub Syncs : DiskDid → History → History → Type 0
+Syncs Done old new = new ≡ moved_to (settled old.file.bytes) old
+Syncs Failed old new = new ≡ old

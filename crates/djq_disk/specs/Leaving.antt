@@ -1,0 +1,36 @@
+-- What a stop may leave at each moment of a stretch of time, and what no call of a disk breaks.
+use Rattle.std.specs.Prelude.{◌≡◌, ℕ, List, ◌++◌}
+use Rattle.std.specs.List.{AllByRecursion}
+use Rattle.djq_disk.specs.File.{File, IsImage}
+use Rattle.djq_disk.specs.History.{History, Opens, Sizes, Reads, Writes, Syncs}
+use Rattle.djq_disk.specs.declared.disk.DiskLen.{DiskLen}
+use Rattle.djq_disk.specs.declared.disk.DiskRead.{DiskRead}
+use Rattle.djq_disk.specs.declared.disk.DiskDid.{DiskDid}
+
+-- whatever a stop leaves of the file has P
+abbrev pub LeavesOnly : (List ℕ → Type 0) → File → Type 0
+LeavesOnly P file = (image : List ℕ) → IsImage file image → P image
+
+-- At each moment from an earlier history to a later one, the later one's file among them, a stop
+-- leaves only what has P. The moment of the earlier one is among them where anything was written
+-- or synced since.
+pub record LeavesSince (P : List ℕ → Type 0) (old new : History) : Type 0 where
+  pub more : List File
+  pub past : new.past ≡ old.past ++ more
+  pub paths : new.paths ≡ old.paths
+  pub each : AllByRecursion (LeavesOnly P) more
+  pub now : LeavesOnly P new.file
+
+-- A file as it reads is one of its images.
+abbrev pub ReadsAsImage : File → Type 0
+ReadsAsImage file = IsImage file file.bytes
+
+-- It stays so in each call of a disk, whatever it answers.
+pub record StaysAnImage : Type 0 where
+  pub opening : (path : List ℕ) (old new : History) → Opens path old new → ReadsAsImage old.file → ReadsAsImage new.file
+  pub sizing : (answer : DiskLen) (old new : History) → Sizes answer old new → ReadsAsImage old.file → ReadsAsImage new.file
+  pub reading : (answer : DiskRead) (at : ℕ) (buf : List ℕ) (old new : History) → Reads answer at buf old new
+      → ReadsAsImage old.file → ReadsAsImage new.file
+  pub writing : (did : DiskDid) (at : ℕ) (piece : List ℕ) (old new : History) → Writes did at piece old new
+      → ReadsAsImage old.file → ReadsAsImage new.file
+  pub syncing : (did : DiskDid) (old new : History) → Syncs did old new → ReadsAsImage old.file → ReadsAsImage new.file

@@ -1,0 +1,73 @@
+/// The answer to an open.
+#[derive(Clone, Copy, Debug, PartialEq, Eq)]
+pub enum DiskOpen {
+    Ready,
+    Failed,
+}
+
+/// The answer to a question for the length.
+#[derive(Clone, Copy, Debug, PartialEq, Eq)]
+pub enum DiskLen {
+    /// So many bytes.
+    Len(u64),
+    Failed,
+}
+
+/// The answer to a read.
+#[derive(Clone, Copy, Debug, PartialEq, Eq)]
+pub enum DiskRead {
+    /// So many bytes stand at the start of the buffer, at least 1.
+    Got(usize),
+    /// The file has no byte at that place.
+    End,
+    Failed,
+}
+
+/// The answer to a write or a sync.
+#[derive(Clone, Copy, Debug, PartialEq, Eq)]
+pub enum DiskDid {
+    Done,
+    Failed,
+}
+
+/// A disk with one file.
+pub trait Disk {
+    ghost use Rattle.std.specs.Prelude.{◌≡◌, ℕ, ◌+◌, ◌<◌, ◌≤◌, length, Option};
+    ghost use Rattle.djq_disk.specs.History.{History, WhereTold, Opens, Sizes, Reads, Fits, Writes, Syncs};
+    ghost use Rattle.djq_disk.specs.DiskFaults.{CountsOpen, CountsLen, CountsRead, CountsDid};
+
+    // What it went through, where the disk tells it.
+    ghost told: { Self → Option History };
+
+    // How many faults it has met.
+    ghost faults: { Self → ℕ };
+
+    /// Opens the file at the path, where it makes it if none is there.
+    fn open(&mut self, path: &str) -> DiskOpen
+        ensures told { WhereTold (told self.old) (told self.new) (Opens path.now) }
+        ensures faults { CountsOpen result (faults self.old) (faults self.new) };
+
+    /// How many bytes the file has.
+    fn len(&mut self) -> DiskLen
+        ensures told { WhereTold (told self.old) (told self.new) (Sizes result) }
+        ensures faults { CountsLen result (faults self.old) (faults self.new) };
+
+    /// Reads some bytes from the place on into the start of the buffer. Past them the buffer may
+    /// change too.
+    fn read(&mut self, at: u64, buf: &mut [u8]) -> DiskRead
+        requires { 0 < length buf.old }
+        ensures fits { Fits result at buf.new }
+        ensures told { WhereTold (told self.old) (told self.new) (Reads result at buf.new) }
+        ensures faults { CountsRead result (faults self.old) (faults self.new) };
+
+    /// Writes the whole piece at the place.
+    fn write_at(&mut self, at: u64, piece: &[u8]) -> DiskDid
+        requires { at + length piece.now ≤ 18446744073709551615 }
+        ensures told { WhereTold (told self.old) (told self.new) (Writes result at piece.now) }
+        ensures faults { CountsDid result (faults self.old) (faults self.new) };
+
+    /// Waits until all that was written outlives a stop.
+    fn sync(&mut self) -> DiskDid
+        ensures told { WhereTold (told self.old) (told self.new) (Syncs result) }
+        ensures faults { CountsDid result (faults self.old) (faults self.new) };
+}

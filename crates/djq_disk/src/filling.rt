@@ -1,0 +1,34 @@
+ghost use Rattle.std.specs.Prelude.{◌≡◌, ◌+◌, ◌≤◌, length};
+ghost use Rattle.djq_disk.specs.History.{WhereTold};
+ghost use Rattle.djq_disk.specs.DiskFaults.{CountsFill};
+ghost use Rattle.djq_disk.specs.Filling.{Fills, FillsWithin};
+
+use crate::disk::{Disk, DiskRead};
+
+/// How a buffer was filled.
+#[derive(Clone, Copy, Debug, PartialEq, Eq)]
+pub enum Filled {
+    /// All of it.
+    Whole,
+    /// The file ends before its end.
+    Short,
+    Failed,
+}
+
+/// Fills the whole buffer with the bytes of the file from the place on, by as many reads as it
+/// takes.
+pub fn fill<D: Disk>(disk: &mut D, at: u64, buf: &mut [u8]) -> Filled
+    ensures told { WhereTold (D.told disk.old) (D.told disk.new) (Fills result at buf.new) }
+    ensures within { FillsWithin result at buf.new }
+    ensures faults { CountsFill result (D.faults disk.old) (D.faults disk.new) }
+{
+    let mut done = 0;
+    while done < buf.len() {
+        match disk.read(at + done as u64, &mut buf[done..]) {
+            DiskRead::Got(n) => done += n,
+            DiskRead::End => return Filled::Short,
+            DiskRead::Failed => return Filled::Failed,
+        }
+    }
+    Filled::Whole
+}

@@ -1,0 +1,35 @@
+ghost use Rattle.std.specs.Prelude.{◌≡◌, ℕ, ◌+◌, ◌<◌, ◌≤◌, length, None};
+ghost use Rattle.djq_disk.specs.History.{History, WhereTold, Opens, Sizes, Reads, Fits, Writes, Syncs};
+ghost use Rattle.djq_disk.specs.DiskFaults.{CountsOpen, CountsLen, CountsRead, CountsDid};
+
+use crate::disk::{Disk, DiskDid, DiskLen, DiskOpen, DiskRead};
+
+/// A disk that keeps nothing, for a program without a file. It tells nothing and never fails.
+#[derive(Clone, Copy, Debug)]
+pub struct NoDisk;
+
+impl Disk for NoDisk {
+    ghost told = { λ _. None };
+
+    ghost faults = { λ _. 0 };
+
+    fn open(&mut self, _path: &str) -> DiskOpen {
+        DiskOpen::Ready
+    }
+
+    fn len(&mut self) -> DiskLen {
+        DiskLen::Len(0)
+    }
+
+    fn read(&mut self, _at: u64, _buf: &mut [u8]) -> DiskRead {
+        DiskRead::End
+    }
+
+    fn write_at(&mut self, _at: u64, _piece: &[u8]) -> DiskDid {
+        DiskDid::Done
+    }
+
+    fn sync(&mut self) -> DiskDid {
+        DiskDid::Done
+    }
+}

@@ -1,0 +1,12 @@
+use Rattle.std.proofs.Common.{subst}
+use Rattle.djq_machine.specs.Changes.{row_in, add_outcome}
+use Rattle.djq_engine.specs.Kept.{Kept}
+use Rattle.djq_engine.specs.Watching.{TellsChange}
+use Rattle.djq_engine.specs.Whole.{kept_in}
+use Rattle.djq_engine.proofs.engine.Engine.add.Goals as goal
+
+pub returns-clause-tells : goal.returns-clause-tells
+returns-clause-tells g c =
+    subst (λ (k : Kept). TellsChange k (add_outcome (row_in (k.store).relations c.args.name.now c.args.row.now)
+    c.add_in.result) (kept_in c.add_in.new.parts) c.args.steps.now.listing c.add_in.new.steps.listing) c.self.view_is
+    c.add_in.ensures.tells

@@ -1,0 +1,18 @@
+use Rattle.std.proofs.Common.{subst}
+use Rattle.djq_machine.specs.Store.{DeletesRow}
+use Rattle.djq_machine.specs.Changes.{row_out, delete_outcome}
+use Rattle.djq_engine.specs.Kept.{Kept}
+use Rattle.djq_engine.specs.Watching.{TellsChange}
+use Rattle.djq_engine.specs.Whole.{kept_in}
+use Rattle.djq_engine.proofs.engine.Engine.del.Goals as goal
+
+pub returns-clause-deletes : goal.returns-clause-deletes
+returns-clause-deletes g c =
+    subst (λ (k : Kept). DeletesRow k.store c.args.name.now c.args.row.now c.del_in.result
+    (kept_in c.del_in.new.parts).store) c.self.view_is c.del_in.ensures.deletes
+
+pub returns-clause-tells : goal.returns-clause-tells
+returns-clause-tells g c =
+    subst (λ (k : Kept). TellsChange k (delete_outcome (row_out (k.store).relations c.args.name.now c.args.row.now)
+    c.del_in.result) (kept_in c.del_in.new.parts) c.args.steps.now.listing c.del_in.new.steps.listing) c.self.view_is
+    c.del_in.ensures.tells

@@ -1,0 +1,173 @@
+-- What a step of a run keeps of its line, and that it can be loaded.
+use Rattle.std.proofs.Common.{ℕ, List, ◌≡◌, inl, inr, Bool, true, refl, sym, ap, subst}
+use Rattle.std.specs.Prelude.{Option, None, Some, is_some, IsSomeAnd, MatchOption, Result, Ok, Err, ⊤}
+use Rattle.djq_model.specs.declared.relation.ColumnType.{ColumnType}
+use Rattle.djq_model.specs.declared.query.Query.{Query}
+use Rattle.djq_model.specs.Data.{Bytes, Tuple}
+use Rattle.djq_model.specs.Listed.{Listed, a_query, listed_of}
+use Rattle.djq_model.specs.Known.{texts_in}
+use Rattle.djq_lines.specs.declared.answer.Refusal.{Refusal}
+use Rattle.djq_lines.specs.declared.answer.Refusal.TheVariants.{NoQuery, NoCursor, Limit, NoMemory}
+use Rattle.djq_lines.specs.declared.answer.AddOutcome.{AddOutcome}
+use Rattle.djq_lines.specs.declared.answer.AddOutcome.TheVariants.{Added, Same}
+use Rattle.djq_lines.specs.declared.answer.DeleteOutcome.{DeleteOutcome}
+use Rattle.djq_lines.specs.declared.answer.DeleteOutcome.TheVariants.{Removed, Absent}
+use Rattle.djq_lines.specs.declared.rest.QueryOutcome.{QueryOutcome}
+use Rattle.djq_lines.specs.declared.rest.QueryOutcome.TheVariants.{Registered, Cyclic, NotConnex}
+use Rattle.djq_lines.specs.declared.command.Command.{Command}
+use Rattle.djq_lines.specs.declared.command.Command.TheVariants.{Rel, Add, Del, Query as Register, Drop, Open, Next, Close, Has, Watch, Unwatch, Explain, Shape, Quit, Stop}
+use Rattle.djq_lines.specs.Variables.{constants_of}
+use Rattle.djq_machine.specs.Conditions.{Answers, OutOfMemoryWhere}
+use Rattle.djq_machine.specs.State.{Store, State, Session, Cursor, Position, open_at, stale, cursor_of}
+use Rattle.djq_machine.specs.Store.{RefusedByTexts, MakesRelation, add_refusal, AddsAs, AddsRow, delete_refusal, DeletesAs, DeletesRow, query_refusal, RegistersAs, RefusedLate, RegistersQuery, DropsQuery}
+use Rattle.djq_machine.specs.Keeping.{Keeping, no_line, the_line, kept_where, is_done, is_removal, is_registration}
+use Rattle.djq_machine.specs.Effect.{Effect, RefusedStep}
+use Rattle.djq_machine.specs.Command.{OpensTo, BecomesWhere, NextStepAt, CloseStep, ExplainStepOf, TellsLines, explain_lines, CommandStep}
+use Rattle.djq_laws.proofs.Finding.{some_and}
+use Rattle.djq_laws.proofs.Forms.{done_of}
+use Rattle.djq_laws.proofs.Watching.{change_store}
+use Rattle.djq_kept.specs.Kept.{AreKnown, Follows}
+use Rattle.djq_kept.proofs.Knowing.{known_refl, first_known, full_known}
+use Rattle.djq_kept.proofs.Respecting.{Respects, rel_respects, add_respects, same_respects, delete_respects, query_respects, drop_respects}
+
+-- The data stay as they are, and no fewer texts are known.
+pub record Grows (a to : Store) : Type 0 where
+  pub relations : to.relations ≡ a.relations
+  pub queries : to.queries ≡ a.queries
+  pub seq : to.seq ≡ a.seq
+  pub among : AreKnown a.texts to.texts
+
+-- A line is kept that can be loaded; or none is kept, and the store grows at most.
+pub data Keeps (a : Store) (c : Command) (k : Keeping) (to : Store) : Type 0 where
+  is_kept : k ≡ the_line → ((b : Store) → Follows a b → Respects b c to) → Keeps a c k to
+  is_left : k ≡ no_line → Grows a to → Keeps a c k to
+
+pub grows_same : (a to : Store) → to ≡ a → Grows a to
+grows_same a to e = subst (λ (st : Store). Grows a st) (sym e) (record { relations = refl; queries = refl; seq = refl; among = known_refl a.texts })
+
+grows_texts : (a to : Store) → to ≡ record a { texts = to.texts } → AreKnown a.texts to.texts → Grows a to
+grows_texts a to e k = record {
+  relations = ap (λ (st : Store). st.relations) e;
+  queries = ap (λ (st : Store). st.queries) e;
+  seq = ap (λ (st : Store). st.seq) e;
+  among = k;
+}
+
+grows_refused : (a to : Store) (ts : List Bytes) (r : Refusal) → RefusedByTexts a ts to r → Grows a to
+grows_refused a to ts Limit h = grows_texts a to h.1 (full_known a.texts ts to.texts h.0)
+grows_refused a to ts NoMemory h = grows_texts a to h.2 (first_known a.texts ts to.texts h.0)
+grows_refused a to ts _ h = absurd h
+
+grows_late : {A : Type 0} (a to : Store) (o : Option Refusal) (r : Refusal) (D : A → Type 0) (L : Refusal → Type 0) → Answers o (Err r) D L
+    → (is_some o ≡ true → to ≡ a) → (L r → Grows a to) → Grows a to
+grows_late a to None r D L h stays late = late h
+grows_late a to (Some s) r D L h stays late = grows_same a to (stays refl)
+
+module _ (a : Store) (k : Keeping) (to : Store) where
+  rel_keeps : (name : Bytes) (types : List ColumnType) (r : Result ⊤ Refusal) → MakesRelation a name types r to → k ≡ kept_where (is_done r) → Keeps a (Rel name types) k to
+  rel_keeps name types (Ok u) m e = is_kept e (λ b f. rel_respects a b f name types u to m)
+  rel_keeps name types (Err r) m e = is_left e (grows_same a to m.stays)
+
+  add_keeps : (name : Bytes) (row : Tuple) (r : Result AddOutcome Refusal) → AddsRow a name row r to → k ≡ kept_where (is_done r) → Keeps a (Add name row) k to
+  add_keeps name row (Ok Added) m e = is_kept e (λ b f. add_respects a b f name row to m)
+  add_keeps name row (Ok Same) m e = is_kept e (λ b f. same_respects a b f name row to m)
+  add_keeps name row (Err r) m e =
+      is_left e (grows_late a to (add_refusal a name row) r (AddsAs a name row to) _ m.answer m.stays (λ l. grows_refused a to (texts_in row) r l.1))
+
+  delete_keeps : (name : Bytes) (row : Tuple) (r : Result DeleteOutcome Refusal) → DeletesRow a name row r to → k ≡ kept_where (is_removal r) → Keeps a (Del name row) k to
+  delete_keeps name row (Ok Removed) m e = is_kept e (λ b f. delete_respects a b f name row to m)
+  delete_keeps name row (Ok Absent) m e =
+      let d = done_of (delete_refusal a name row) Absent (DeletesAs a name row to) (OutOfMemoryWhere ⊥) m.answer in
+      is_left e (grows_same a to d.1)
+  delete_keeps name row (Err r) m e = is_left e (grows_same a to m.stays)
+
+  query_late : (q : Query) (r : Refusal) → RefusedLate a q to r → Grows a to
+  query_late q r (inl h) = grows_refused a to (texts_in (constants_of q.atoms)) r h.1
+  query_late q r (inr h) = grows_same a to h.1
+
+  query_keeps : (q : Query) (r : Result QueryOutcome Refusal) → RegistersQuery a q r to → k ≡ kept_where (is_registration r) → Keeps a (Register q) k to
+  query_keeps q (Ok (Registered most)) m e = is_kept e (λ b f. query_respects a b f q most to m)
+  query_keeps q (Ok (Cyclic rest)) m e =
+      let d = done_of (query_refusal a q) (Cyclic rest) (RegistersAs a q to) (RefusedLate a q to) m.answer in
+      is_left e (grows_same a to d.1)
+  query_keeps q (Ok (NotConnex rest)) m e =
+      let d = done_of (query_refusal a q) (NotConnex rest) (RegistersAs a q to) (RefusedLate a q to) m.answer in
+      is_left e (grows_same a to d.1)
+  query_keeps q (Err r) m e = is_left e (grows_late a to (query_refusal a q) r (RegistersAs a q to) (RefusedLate a q to) m.answer m.stays (query_late q r))
+
+  drop_keeps : (used : Bool) (q : Bytes) (r : Result ⊤ Refusal) → DropsQuery a used q r to → k ≡ kept_where (is_done r) → Keeps a (Drop q) k to
+  drop_keeps used q (Ok u) m e = is_kept e (λ b f. drop_respects a b f used q u to m)
+  drop_keeps used q (Err r) m e = is_left e (grows_same a to m.stays)
+
+-- ---- the commands
+
+module _ (old : State) (s : ℕ) (c : Command) (e : Effect) (new : State) where
+  abbrev Done : Type 0
+  Done = Keeps old.store c e.kept new.store
+
+  -- the store stays
+  quiet : e.kept ≡ no_line → new.store ≡ old.store → Done
+  quiet k same = is_left k (grows_same old.store new.store same)
+
+  refused_quiet : (r : Refusal) → RefusedStep old s r e new → Done
+  refused_quiet r h = quiet (ap (λ (f : Effect). f.kept) h.0) (ap (λ (st : State). st.store) h.1)
+
+  opens_quiet : (d q : Bytes) (r : Result ⊤ Refusal) → e.kept ≡ no_line → OpensTo old s d q new r → Done
+  opens_quiet d q (Ok u) k h = quiet k (ap (λ (st : State). st.store) h)
+  opens_quiet d q (Err r) k h = quiet k (ap (λ (st : State). st.store) h)
+
+  becomes_quiet : (f : Session → Session) (r : Result ⊤ Refusal) → e.kept ≡ no_line → BecomesWhere old s f new r → Done
+  becomes_quiet f (Ok u) k h = quiet k (ap (λ (st : State). st.store) h)
+  becomes_quiet f (Err r) k h = quiet k (ap (λ (st : State). st.store) h)
+
+  next_quiet : (d : Bytes) (q : Listed) (count : ℕ) (p : Position) → NextStepAt old s d q count p e new → Done
+  next_quiet d q count (open_at given ended) (inl h) = quiet (ap (λ (f : Effect). f.kept) h.effect) (ap (λ (st : State). st.store) h.state)
+  next_quiet d q count (open_at given ended) (inr h) = quiet (ap (λ (f : Effect). f.kept) h.effect) (ap (λ (st : State). st.store) h.state)
+  next_quiet d q count (stale relation n) h = quiet (ap (λ (f : Effect). f.kept) h.0) (ap (λ (st : State). st.store) h.1)
+
+  next_found : (d : Bytes) (count : ℕ) (o : Option Cursor)
+      → MatchOption o (RefusedStep old s NoCursor e new) (λ k. IsSomeAnd (listed_of old.store.queries k.query) (λ q. NextStepAt old s d q count k.position e new)) → Done
+  next_found d count None h = refused_quiet NoCursor h
+  next_found d count (Some k) h =
+      let f = some_and (listed_of old.store.queries k.query) (λ q. NextStepAt old s d q count k.position e new) h in
+      next_quiet d f.0 count k.position f.2
+
+  close_found : (d : Bytes) (o : Option Cursor) → MatchOption o (RefusedStep old s NoCursor e new) (λ k. CloseStep old s d e new) → Done
+  close_found d None h = refused_quiet NoCursor h
+  close_found d (Some k) h = quiet (ap (λ (f : Effect). f.kept) h.0) (ap (λ (st : State). st.store) h.1)
+
+  lines_quiet : (lines : List Bytes) → TellsLines old s lines e new → Done
+  lines_quiet lines (inl h) = quiet (ap (λ (f : Effect). f.kept) h.0) (ap (λ (st : State). st.store) h.1)
+  lines_quiet lines (inr (told, lacking, rest, parts, ends)) = quiet (ap (λ (f : Effect). f.kept) ends.0) (ap (λ (st : State). st.store) ends.1)
+
+  explain_found : (o : Option Listed) → MatchOption o (RefusedStep old s NoQuery e new) (λ q. ExplainStepOf old s q e new) → Done
+  explain_found None h = refused_quiet NoQuery h
+  explain_found (Some (a_query q)) h = lines_quiet (explain_lines q h.tree) h.tells
+
+-- the store behind a command
+store_is : (old : State) (c : Command) (k : Keeping) (store : Store) (new : State) → new.store ≡ store → Keeps old.store c k store → Keeps old.store c k new.store
+store_is old c k store new e h = subst (λ (st : Store). Keeps old.store c k st) (sym e) h
+
+pub command_keeps : (old : State) (s : ℕ) (x : Session) (c : Command) (e : Effect) (new : State) → CommandStep old s x c e new → Keeps old.store c e.kept new.store
+command_keeps old s x (Rel name types) e new h =
+    store_is old (Rel name types) e.kept h.store new (ap (λ (st : State). st.store) h.state) (rel_keeps old.store e.kept h.store name types h.result h.done (ap (λ (f : Effect). f.kept) h.effect))
+command_keeps old s x (Add name row) e new h =
+    store_is old (Add name row) e.kept h.store new (change_store old s _ h.store _ e new h.change) (add_keeps old.store e.kept h.store name row h.result h.done h.kept)
+command_keeps old s x (Del name row) e new h =
+    store_is old (Del name row) e.kept h.store new (change_store old s _ h.store _ e new h.change) (delete_keeps old.store e.kept h.store name row h.result h.done h.kept)
+command_keeps old s x (Register q) e new (inl h) =
+    store_is old (Register q) e.kept h.store new (ap (λ (st : State). st.store) h.state) (query_keeps old.store e.kept h.store q h.result h.done (ap (λ (f : Effect). f.kept) h.effect))
+command_keeps old s x (Register q) e new (inr h) =
+    store_is old (Register q) e.kept h.store new (ap (λ (st : State). st.store) h.ends.1) (query_keeps old.store e.kept h.store q h.result h.done (ap (λ (f : Effect). f.kept) h.ends.0))
+command_keeps old s x (Open c q) e new h = opens_quiet old s (Open c q) e new c q h.result (ap (λ (f : Effect). f.kept) h.effect) h.state
+command_keeps old s x (Next c count) e new h = next_found old s (Next c count) e new c count (cursor_of x.cursors c) h
+command_keeps old s x (Close c) e new h = close_found old s (Close c) e new c (cursor_of x.cursors c) h
+command_keeps old s x Quit e new h = quiet old s Quit e new (ap (λ (f : Effect). f.kept) h.0) (ap (λ (st : State). st.store) h.1)
+command_keeps old s x Stop e new h = quiet old s Stop e new (ap (λ (f : Effect). f.kept) h.0) (ap (λ (st : State). st.store) h.1)
+command_keeps old s x (Drop q) e new h =
+    store_is old (Drop q) e.kept h.store new (ap (λ (st : State). st.store) h.state) (drop_keeps old.store e.kept h.store _ q h.result h.done (ap (λ (f : Effect). f.kept) h.effect))
+command_keeps old s x (Has q row) e new h = quiet old s (Has q row) e new (ap (λ (f : Effect). f.kept) h.effect) (ap (λ (st : State). st.store) h.state)
+command_keeps old s x (Watch q) e new h = becomes_quiet old s (Watch q) e new _ h.result (ap (λ (f : Effect). f.kept) h.effect) h.state
+command_keeps old s x (Unwatch q) e new h = becomes_quiet old s (Unwatch q) e new _ h.result (ap (λ (f : Effect). f.kept) h.effect) h.state
+command_keeps old s x (Explain q) e new h = explain_found old s (Explain q) e new (listed_of old.store.queries q) h
+command_keeps old s x (Shape q) e new h = quiet old s (Shape q) e new (ap (λ (f : Effect). f.kept) h.effect) (ap (λ (st : State). st.store) h.state)

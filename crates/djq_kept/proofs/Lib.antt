@@ -1,0 +1,9 @@
+mod Rows
+mod Knowing
+mod Sameness
+mod Respecting
+mod Keeping
+mod Running
+mod Reloading
+mod Lines
+mod Starting

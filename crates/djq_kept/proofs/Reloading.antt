@@ -1,0 +1,135 @@
+-- Lines that were found and loaded, and what a run kept behind them.
+use Rattle.std.proofs.Common.{List, [], ◌∷◌, ◌++◌, ◌≡◌, ◌≢◌, ◌⊎◌, inl, inr, false, refl, sym, ap, ◌∙◌, subst}
+use Rattle.std.specs.Prelude.{Ok, Err}
+use Rattle.djq_model.specs.Data.{Bytes}
+use Rattle.djq_lines.specs.declared.answer.Refusal.{Refusal}
+use Rattle.djq_lines.specs.declared.answer.Refusal.TheVariants.{NoMemory}
+use Rattle.djq_lines.specs.declared.answer.AddOutcome.TheVariants.{Added, Same}
+use Rattle.djq_lines.specs.declared.answer.DeleteOutcome.TheVariants.{Removed, Absent}
+use Rattle.djq_lines.specs.declared.rest.QueryOutcome.TheVariants.{Registered, Cyclic, NotConnex}
+use Rattle.djq_lines.specs.declared.command.Command.{Command}
+use Rattle.djq_lines.specs.declared.command.Command.TheVariants.{Rel, Add, Del, Query as Register, Drop, Open, Next, Close, Has, Watch, Unwatch, Explain, Shape, Quit, Stop}
+use Rattle.djq_lines.specs.Grammar.{Reading, outside, past_limit, says as says_command, reading_of}
+use Rattle.djq_machine.specs.State.{Store, State, opening}
+use Rattle.djq_machine.specs.Keeping.{Keeping, no_line, the_line}
+use Rattle.djq_machine.specs.LineStep.{run}
+use Rattle.djq_machine.specs.Step.{Event, stepped}
+use Rattle.djq_machine.specs.Run.{Did, Run, Group, group_of, groups_of, lines_in}
+use Rattle.djq_laws.proofs.Apart.{nothing_apart}
+use Rattle.djq_kept.specs.Loading.{ran, refused_by, CommandLoads, ReadingLoads, LoadStep, Loads}
+use Rattle.djq_kept.specs.Kept.{Follows, LoadsTo, RunsReload, StoodAt, StopsReload}
+use Rattle.djq_kept.proofs.Respecting.{Respects, rel_respects, add_respects, same_respects, delete_respects, query_respects, drop_respects}
+use Rattle.djq_kept.proofs.Running.{LineRespects, line_respects, one_line, kept_lines_load}
+
+not_ran : (r : Refusal) → ran ≡ refused_by r → ⊥
+not_ran NoMemory e = absurd (cc (e))
+not_ran _ e = absurd (cc (e))
+
+-- A command that was loaded can be loaded again.
+command_loaded : (a to : Store) (c : Command) → CommandLoads a c ran to → (b : Store) → Follows a b → Respects b c to
+command_loaded a to (Rel name types) (Ok u, m, e) b f = rel_respects a b f name types u to m
+command_loaded a to (Rel name types) (Err r, m, e) b f = absurd (not_ran r e)
+command_loaded a to (Add name row) (Ok Added, m, e) b f = add_respects a b f name row to m
+command_loaded a to (Add name row) (Ok Same, m, e) b f = same_respects a b f name row to m
+command_loaded a to (Add name row) (Err r, m, e) b f = absurd (not_ran r e)
+command_loaded a to (Del name row) (Ok Removed, m, e) b f = delete_respects a b f name row to m
+command_loaded a to (Del name row) (Ok Absent, m, e) b f = absurd (cc (e))
+command_loaded a to (Del name row) (Err r, m, e) b f = absurd (not_ran r e)
+command_loaded a to (Register q) (Ok (Registered most), m, e) b f = query_respects a b f q most to m
+command_loaded a to (Register q) (Ok (Cyclic rest), m, e) b f = absurd (cc (e))
+command_loaded a to (Register q) (Ok (NotConnex rest), m, e) b f = absurd (cc (e))
+command_loaded a to (Register q) (Err r, m, e) b f = absurd (not_ran r e)
+command_loaded a to (Drop q) (Ok u, m, e) b f = drop_respects a b f false q u to m
+command_loaded a to (Drop q) (Err r, m, e) b f = absurd (not_ran r e)
+command_loaded a to (Open c q) h b f = let e = h.0 in absurd (cc (e))
+command_loaded a to (Next c n) h b f = let e = h.0 in absurd (cc (e))
+command_loaded a to (Close c) h b f = let e = h.0 in absurd (cc (e))
+command_loaded a to (Has q row) h b f = let e = h.0 in absurd (cc (e))
+command_loaded a to (Watch q) h b f = let e = h.0 in absurd (cc (e))
+command_loaded a to (Unwatch q) h b f = let e = h.0 in absurd (cc (e))
+command_loaded a to (Explain q) h b f = let e = h.0 in absurd (cc (e))
+command_loaded a to (Shape q) h b f = let e = h.0 in absurd (cc (e))
+command_loaded a to Quit h b f = let e = h.0 in absurd (cc (e))
+command_loaded a to Stop h b f = let e = h.0 in absurd (cc (e))
+
+line_loaded : (a : Store) (l : Bytes) (to : Store) → LoadStep a l ran to → (b : Store) → Follows a b → LineRespects b l to
+line_loaded a l to step b f = by (reading_of l) refl step.loads
+  where
+    by : (r : Reading) → reading_of l ≡ r → ReadingLoads a r ran step.mid → LineRespects b l to
+    by outside is h = let e = h.0 in absurd (cc (e))
+    by (past_limit c) is h = let e = h.0 in absurd (cc (e))
+    by (says_command c) is (inl h) =
+        subst (λ (st : Store). LineRespects b l st) (sym step.after)
+        (line_respects b l c step.mid step.relations is step.reordered (command_loaded a step.mid c h b f))
+    by (says_command c) is (inr h) = let e = h.1 in absurd (cc (e))
+
+-- Lines that were loaded load again, and further ones behind them.
+found_loads : (from : Store) (found : List Bytes) (mid : Store) → Loads from found mid → (other : Store) → Follows from other → (rest : List Bytes) (to : Store)
+    → ((b : Store) → Follows mid b → LoadsTo b rest to) → LoadsTo other (found ++ rest) to
+found_loads from [] mid w other f rest to more = more other (subst (λ (st : Store). Follows st other) (sym w) f)
+found_loads from (l ∷ ls) mid w other f rest to more =
+    one_line other l (ls ++ rest) w.0 to (line_loaded from l w.0 w.1 other f) (λ b k. found_loads w.0 ls mid w.2 b k rest to more)
+
+opening_follows : Follows opening.store opening.store
+opening_follows = record {
+  same = record { relations = tt; queries = refl; seq = refl };
+  among = λ t h. h;
+  once = nothing_apart (λ a b. a ≢ b);
+}
+
+pub runs_reload : RunsReload
+runs_reload found old loads done new w =
+    found_loads opening.store found old.store loads opening.store opening_follows (lines_in (groups_of done)) new.store
+    (λ b k. kept_lines_load old done new w b k)
+
+-- ---- stops
+
+group_cases : (event : Event) (k : Keeping) → (group_of event k ≡ []) ⊎ ((g : Group) × (group_of event k ≡ g ∷ []))
+group_cases (stepped s (run l)) the_line = inr (l ∷ [], refl)
+group_cases (stepped s (run l)) no_line = inl refl
+group_cases _ _ = inl refl
+
+at_start : (old : State) (done : List Did) (new : State) → Run old done new → StoodAt old done new []
+at_start old done new w = record { earlier = []; later = done; cut = refl; mid = old; before = refl; behind = w; kept = refl }
+
+group_first : (g h : Group) (gs hs : List Group) → g ∷ gs ≡ h ∷ hs → g ≡ h
+group_first g h gs hs e = cc
+
+group_rest : (g h : Group) (gs hs : List Group) → g ∷ gs ≡ h ∷ hs → gs ≡ hs
+group_rest g h gs hs e = cc
+
+-- a step in front that kept these groups
+did_more : (old : State) (d : Did) (done : List Did) (new : State) (w : Run old (d ∷ done) new) (first groups : List Group) → group_of d.event d.effect.kept ≡ first
+    → StoodAt w.0 done new groups → StoodAt old (d ∷ done) new (first ++ groups)
+did_more old d done new w first groups e at = record {
+  earlier = d ∷ at.earlier;
+  later = at.later;
+  cut = ap (λ (ds : List Did). d ∷ ds) at.cut;
+  mid = at.mid;
+  before = (w.0, w.1, at.before);
+  behind = at.behind;
+  kept = ap (λ (gs : List Group). gs ++ groups_of at.earlier) e ∙ ap (λ (gs : List Group). first ++ gs) at.kept;
+}
+
+stood_at : (old : State) (done : List Did) (new : State) → Run old done new → (whole later : List Group) → groups_of done ≡ whole ++ later → StoodAt old done new whole
+stood_at old done new w [] later e = at_start old done new w
+stood_at old [] new w (g ∷ gs) later e = absurd (cc (e))
+stood_at old (d ∷ done) new w (g ∷ gs) later e =
+    by (group_cases d.event d.effect.kept) (λ k. stood_at w.0 done new w.2 (g ∷ gs) later k) (λ k. stood_at w.0 done new w.2 gs later k)
+  where
+    by : (group_of d.event d.effect.kept ≡ []) ⊎ ((h : Group) × (group_of d.event d.effect.kept ≡ h ∷ []))
+        → (groups_of done ≡ g ∷ gs ++ later → StoodAt w.0 done new (g ∷ gs)) → (groups_of done ≡ gs ++ later → StoodAt w.0 done new gs)
+        → StoodAt old (d ∷ done) new (g ∷ gs)
+    by (inl k) same less = did_more old d done new w [] (g ∷ gs) k (same (sym (ap (λ (hs : List Group). hs ++ groups_of done) k) ∙ e))
+    by (inr (h, k)) same less =
+        let all : h ∷ groups_of done ≡ g ∷ (gs ++ later) = sym (ap (λ (hs : List Group). hs ++ groups_of done) k) ∙ e in
+        let first = group_first h g (groups_of done) (gs ++ later) all in
+        did_more old d done new w (g ∷ []) gs (k ∙ ap (λ (x : Group). x ∷ []) first) (less (group_rest h g (groups_of done) (gs ++ later) all))
+
+pub stops_reload : StopsReload
+stops_reload found old loads done new w whole later e =
+    let at = stood_at old done new w whole later e in (
+      at,
+      subst (λ (gs : List Group). LoadsTo opening.store (found ++ lines_in gs) at.mid.store) at.kept
+          (runs_reload found old loads at.earlier at.mid at.before),
+    )

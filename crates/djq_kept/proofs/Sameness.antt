@@ -1,0 +1,230 @@
+-- Stores with the same data.
+use Rattle.std.proofs.Common.{ℕ, List, [], ◌∷◌, ◌++◌, ◌≡◌, ◌||◌, Bool, true, false, cond, length, refl, sym, ap, ◌∙◌, subst, arith}
+use Rattle.std.specs.Prelude.{◌==◌, ◌&&◌, not, nat_le, nat_lt, Option, None, Some, is_some, is_none, IsPermutation}
+use Rattle.std.specs.List.{list_any}
+use Rattle.std.proofs.lemmas.List.Sorted.{IsPermutation-refl, IsPermutation-sym, IsPermutation-trans, length_permutation}
+use Rattle.djq_model.specs.declared.relation.Relation.{Relation}
+use Rattle.djq_model.specs.declared.relation.ColumnType.{ColumnType}
+use Rattle.djq_model.specs.declared.query.Query.{Query}
+use Rattle.djq_model.specs.declared.query.Atom.{Atom}
+use Rattle.djq_model.specs.declared.query.Term.{Term}
+use Rattle.djq_model.specs.Data.{Bytes, Tuple, bytes_eq, relation_of, rows_of, rows_in, has_row}
+use Rattle.djq_model.specs.Listed.{Listed, listed_of}
+use Rattle.djq_model.specs.Typed.{fits}
+use Rattle.djq_lines.specs.declared.limits.TheConstants.{COLUMNS, RELATIONS, ROWS, LAST_SEQ, QUERIES}
+use Rattle.djq_lines.specs.declared.answer.Refusal.{Refusal}
+use Rattle.djq_lines.specs.declared.answer.Refusal.TheVariants.{Taken, NoRelation, Arity, WrongType, VariableType, HeadRepeated, HeadUnbound, Limit}
+use Rattle.djq_lines.specs.Columns.{types_of, columns_of}
+use Rattle.djq_lines.specs.QueryFault.{any_column, any_place, is_misfit, is_clash, reads_unknown, has_wrong_arity, has_misfit, has_clash, repeats_head, has_unbound_head, is_too_large}
+use Rattle.djq_machine.specs.Conditions.{first_of}
+use Rattle.djq_machine.specs.State.{Store}
+use Rattle.djq_machine.specs.Store.{with_rows, rel_refusal, add_refusal, delete_refusal, query_refusal}
+use Rattle.djq_machine.specs.Step.{SameRelations}
+use Rattle.djq_kept.specs.Kept.{IsSameStore}
+use Rattle.djq_kept.proofs.Rows.{row_moved}
+
+-- ---- relations
+
+pub same_refl : (us : List Relation) → SameRelations us us
+same_refl [] = tt
+same_refl (a ∷ us) = (refl, refl, IsPermutation-refl a.rows, same_refl us)
+
+pub same_sym : (us bs : List Relation) → SameRelations us bs → SameRelations bs us
+same_sym [] [] h = tt
+same_sym (a ∷ us) (b ∷ bs) h = (sym h.0, sym h.1, IsPermutation-sym a.rows b.rows h.2, same_sym us bs h.3)
+same_sym [] (b ∷ bs) h = absurd h
+same_sym (a ∷ us) [] h = absurd h
+
+pub same_trans : (us bs cs : List Relation) → SameRelations us bs → SameRelations bs cs → SameRelations us cs
+same_trans [] [] [] h k = tt
+same_trans (a ∷ us) (b ∷ bs) (c ∷ cs) h k =
+    (k.0 ∙ h.0, k.1 ∙ h.1, IsPermutation-trans a.rows b.rows c.rows h.2 k.2, same_trans us bs cs h.3 k.3)
+same_trans [] [] (c ∷ cs) h k = absurd k
+same_trans (a ∷ us) (b ∷ bs) [] h k = absurd k
+same_trans [] (b ∷ bs) cs h k = absurd h
+same_trans (a ∷ us) [] cs h k = absurd h
+
+pub same_more : (us bs : List Relation) (r : Relation) → SameRelations us bs → SameRelations (us ++ r ∷ []) (bs ++ r ∷ [])
+same_more [] [] r h = (refl, refl, IsPermutation-refl r.rows, tt)
+same_more (a ∷ us) (b ∷ bs) r h = (h.0, h.1, h.2, same_more us bs r h.3)
+same_more [] (b ∷ bs) r h = absurd h
+same_more (a ∷ us) [] r h = absurd h
+
+same_length : (us bs : List Relation) → SameRelations us bs → length bs ≡ length us
+same_length [] [] h = refl
+same_length (a ∷ us) (b ∷ bs) h = let rest = same_length us bs h.3 in omega (arith, rest)
+same_length [] (b ∷ bs) h = absurd h
+same_length (a ∷ us) [] h = absurd h
+
+-- the same relation, where one is found
+abbrev IsSameFound : Option Relation → Option Relation → Type 0
+IsSameFound None None = Unit {0}
+IsSameFound (Some a) (Some b) = (b.name ≡ a.name) × (b.types ≡ a.types) × IsPermutation a.rows b.rows
+IsSameFound None (Some b) = ⊥
+IsSameFound (Some a) None = ⊥
+
+same_found : (us bs : List Relation) (n : Bytes) → SameRelations us bs → IsSameFound (relation_of us n) (relation_of bs n)
+same_found [] [] n h = tt
+same_found (a ∷ us) (b ∷ bs) n h =
+    subst (λ (c : Bool). IsSameFound (cond (bytes_eq a.name n) (Some a) (relation_of us n)) (cond c (Some b) (relation_of bs n)))
+    (ap (λ (x : Bytes). bytes_eq x n) (sym h.0)) (by (bytes_eq a.name n) (same_found us bs n h.3))
+  where
+    by : (c : Bool) → IsSameFound (relation_of us n) (relation_of bs n) → IsSameFound (cond c (Some a) (relation_of us n)) (cond c (Some b) (relation_of bs n))
+    by true rest = (h.0, h.1, h.2)
+    by false rest = rest
+same_found [] (b ∷ bs) n h = absurd h
+same_found (a ∷ us) [] n h = absurd h
+
+found_some : (o p : Option Relation) → IsSameFound o p → is_some p ≡ is_some o
+found_some None None h = refl
+found_some (Some a) (Some b) h = refl
+found_some None (Some b) h = absurd h
+found_some (Some a) None h = absurd h
+
+found_none : (o p : Option Relation) → IsSameFound o p → is_none p ≡ is_none o
+found_none None None h = refl
+found_none (Some a) (Some b) h = refl
+found_none None (Some b) h = absurd h
+found_none (Some a) None h = absurd h
+
+found_types : (o p : Option Relation) → IsSameFound o p → types_of p ≡ types_of o
+found_types None None h = refl
+found_types (Some a) (Some b) h = h.1
+found_types None (Some b) h = absurd h
+found_types (Some a) None h = absurd h
+
+found_rows : (o p : Option Relation) → IsSameFound o p → IsPermutation (rows_in o) (rows_in p)
+found_rows None None h = IsPermutation-refl []
+found_rows (Some a) (Some b) h = h.2
+found_rows None (Some b) h = absurd h
+found_rows (Some a) None h = absurd h
+
+pub same_rows : (us bs : List Relation) (n : Bytes) → SameRelations us bs → IsPermutation (rows_of us n) (rows_of bs n)
+same_rows us bs n h = found_rows (relation_of us n) (relation_of bs n) (same_found us bs n h)
+
+-- other rows in one of them
+pub same_with : (us bs : List Relation) (n : Bytes) (xs ys : List Tuple) → IsPermutation xs ys → SameRelations us bs
+    → SameRelations (with_rows us n xs) (with_rows bs n ys)
+same_with [] [] n xs ys p h = tt
+same_with (a ∷ us) (b ∷ bs) n xs ys p h =
+    subst (λ (c : Bool). SameRelations (with_rows (a ∷ us) n xs) (cond c (record b { rows = ys } ∷ bs) (b ∷ with_rows bs n ys)))
+    (ap (λ (x : Bytes). bytes_eq x n) (sym h.0)) (by (bytes_eq a.name n) (same_with us bs n xs ys p h.3))
+  where
+    by : (c : Bool) → SameRelations (with_rows us n xs) (with_rows bs n ys) → SameRelations (cond c (record a { rows = xs } ∷ us) (a ∷ with_rows us n xs)) (cond c (record b { rows = ys } ∷ bs) (b ∷ with_rows bs n ys))
+    by true rest = (h.0, h.1, p, h.3)
+    by false rest = (h.0, h.1, h.2, rest)
+same_with [] (b ∷ bs) n xs ys p h = absurd h
+same_with (a ∷ us) [] n xs ys p h = absurd h
+
+-- ---- conditions
+
+abbrev rel_by : Bool → ℕ → List ColumnType → Option Refusal
+rel_by taken long types = first_of ((taken, Taken) ∷ (nat_lt COLUMNS (length types), Limit) ∷ (nat_le RELATIONS long, Limit) ∷ [])
+
+pub rel_same : (a b : Store) (n : Bytes) (types : List ColumnType) → IsSameStore a b → rel_refusal b n types ≡ rel_refusal a n types
+rel_same a b n types h =
+    ap (λ (t : Bool). rel_by t (length b.relations) types) (found_some _ _ (same_found a.relations b.relations n h.relations))
+    ∙ ap (λ (k : ℕ). rel_by (is_some (relation_of a.relations n)) k types) (same_length a.relations b.relations h.relations)
+
+abbrev add_by : Bool → List ColumnType → Bool → ℕ → ℕ → Tuple → Option Refusal
+add_by none types has long seq row = first_of (
+    (none, NoRelation)
+    ∷ (not (length row == length types), Arity)
+    ∷ (not (fits types row), WrongType)
+    ∷ (not has && nat_le ROWS long, Limit)
+    ∷ (not has && nat_le LAST_SEQ seq, Limit)
+    ∷ [])
+
+pub same_has : (a b : Store) (n : Bytes) (row : Tuple) → IsSameStore a b → has_row (rows_of b.relations n) row ≡ has_row (rows_of a.relations n) row
+same_has a b n row h = row_moved (rows_of a.relations n) (rows_of b.relations n) row (same_rows a.relations b.relations n h.relations)
+
+pub add_same : (a b : Store) (n : Bytes) (row : Tuple) → IsSameStore a b → add_refusal b n row ≡ add_refusal a n row
+add_same a b n row h =
+    let f = same_found a.relations b.relations n h.relations in
+    let types = types_of (relation_of b.relations n) in
+    let has = has_row (rows_of b.relations n) row in
+    let long = length (rows_of b.relations n) in
+    ap (λ (x : Bool). add_by x types has long b.seq row) (found_none _ _ f)
+    ∙ ap (λ (x : List ColumnType). add_by (is_none (relation_of a.relations n)) x has long b.seq row) (found_types _ _ f)
+    ∙ ap (λ (x : Bool). add_by (is_none (relation_of a.relations n)) (types_of (relation_of a.relations n)) x long b.seq row) (same_has a b n row h)
+    ∙ ap (λ (x : ℕ). add_by (is_none (relation_of a.relations n)) (types_of (relation_of a.relations n)) (has_row (rows_of a.relations n) row) x b.seq row)
+    (length_permutation (rows_of a.relations n) (rows_of b.relations n) (same_rows a.relations b.relations n h.relations))
+    ∙ ap (λ (x : ℕ). add_by (is_none (relation_of a.relations n)) (types_of (relation_of a.relations n)) (has_row (rows_of a.relations n) row) (length (rows_of a.relations n)) x row) h.seq
+
+abbrev delete_by : Bool → List ColumnType → Bool → ℕ → Tuple → Option Refusal
+delete_by none types has seq row = first_of (
+    (none, NoRelation)
+    ∷ (not (length row == length types), Arity)
+    ∷ (not (fits types row), WrongType)
+    ∷ (has && nat_le LAST_SEQ seq, Limit)
+    ∷ [])
+
+pub delete_same : (a b : Store) (n : Bytes) (row : Tuple) → IsSameStore a b → delete_refusal b n row ≡ delete_refusal a n row
+delete_same a b n row h =
+    let f = same_found a.relations b.relations n h.relations in
+    let types = types_of (relation_of b.relations n) in
+    let has = has_row (rows_of b.relations n) row in
+    ap (λ (x : Bool). delete_by x types has b.seq row) (found_none _ _ f)
+    ∙ ap (λ (x : List ColumnType). delete_by (is_none (relation_of a.relations n)) x has b.seq row) (found_types _ _ f)
+    ∙ ap (λ (x : Bool). delete_by (is_none (relation_of a.relations n)) (types_of (relation_of a.relations n)) x b.seq row) (same_has a b n row h)
+    ∙ ap (λ (x : ℕ). delete_by (is_none (relation_of a.relations n)) (types_of (relation_of a.relations n)) (has_row (rows_of a.relations n) row) x row) h.seq
+
+-- the faults of a query
+any_same : {A : Type 0} (p q : A → Bool) (xs : List A) → ((x : A) → p x ≡ q x) → list_any p xs ≡ list_any q xs
+any_same p q [] h = refl
+any_same p q (x ∷ xs) h = ap (λ (b : Bool). b || list_any p xs) (h x) ∙ ap (λ (b : Bool). q x || b) (any_same p q xs h)
+
+any_column_same : (p q : Term → ColumnType → Bool) (ts : List Term) (cs : List ColumnType) → ((t : Term) (c : ColumnType) → p t c ≡ q t c)
+    → any_column p ts cs ≡ any_column q ts cs
+any_column_same p q [] cs h = refl
+any_column_same p q (t ∷ ts) [] h = refl
+any_column_same p q (t ∷ ts) (c ∷ cs) h =
+    ap (λ (b : Bool). b || any_column p ts cs) (h t c) ∙ ap (λ (b : Bool). q t c || b) (any_column_same p q ts cs h)
+
+module _ (us bs : List Relation) (h : SameRelations us bs) where
+  columns_same : (n : Bytes) → columns_of bs n ≡ columns_of us n
+  columns_same n = found_types _ _ (same_found us bs n h)
+
+  any_place_same : (p q : Term → ColumnType → Bool) (atoms : List Atom) → ((t : Term) (c : ColumnType) → p t c ≡ q t c)
+      → any_place p bs atoms ≡ any_place q us atoms
+  any_place_same p q atoms k =
+      any_same (λ (a : Atom). any_column p a.terms (columns_of bs a.relation)) (λ (a : Atom). any_column q a.terms (columns_of us a.relation)) atoms
+      (λ a. ap (any_column p a.terms) (columns_same a.relation) ∙ any_column_same p q a.terms (columns_of us a.relation) k)
+
+  unknown_same : (q : Query) → reads_unknown bs q ≡ reads_unknown us q
+  unknown_same q = any_same (λ (a : Atom). is_none (relation_of bs a.relation)) (λ (a : Atom). is_none (relation_of us a.relation)) q.atoms
+      (λ a. found_none _ _ (same_found us bs a.relation h))
+
+  arity_same : (q : Query) → has_wrong_arity bs q ≡ has_wrong_arity us q
+  arity_same q = any_same (λ (a : Atom). not (length a.terms == length (columns_of bs a.relation))) (λ (a : Atom). not (length a.terms == length (columns_of us a.relation))) q.atoms
+      (λ a. ap (λ (cs : List ColumnType). not (length a.terms == length cs)) (columns_same a.relation))
+
+  misfit_same : (q : Query) → has_misfit bs q ≡ has_misfit us q
+  misfit_same q = any_place_same is_misfit is_misfit q.atoms (λ t c. refl)
+
+  clash_same : (q : Query) → has_clash bs q ≡ has_clash us q
+  clash_same q = any_place_same (λ t c. any_place (is_clash t c) bs q.atoms) (λ t c. any_place (is_clash t c) us q.atoms) q.atoms
+      (λ t c. any_place_same (is_clash t c) (is_clash t c) q.atoms (λ u d. refl))
+
+abbrev query_by : List Listed → Bool → Bool → Bool → Bool → Query → Option Refusal
+query_by queries unknown arity misfits clash q = first_of (
+    (is_some (listed_of queries q.name), Taken)
+    ∷ (unknown, NoRelation)
+    ∷ (arity, Arity)
+    ∷ (misfits, WrongType)
+    ∷ (clash, VariableType)
+    ∷ (repeats_head q, HeadRepeated)
+    ∷ (has_unbound_head q, HeadUnbound)
+    ∷ (is_too_large q, Limit)
+    ∷ (nat_le QUERIES (length queries), Limit)
+    ∷ [])
+
+pub query_same : (a b : Store) (q : Query) → IsSameStore a b → query_refusal b q ≡ query_refusal a q
+query_same a b q h =
+    let us = a.relations in
+    let bs = b.relations in
+    ap (λ (qs : List Listed). query_by qs (reads_unknown bs q) (has_wrong_arity bs q) (has_misfit bs q) (has_clash bs q) q) h.queries
+    ∙ ap (λ (x : Bool). query_by a.queries x (has_wrong_arity bs q) (has_misfit bs q) (has_clash bs q) q) (unknown_same us bs h.relations q)
+    ∙ ap (λ (x : Bool). query_by a.queries (reads_unknown us q) x (has_misfit bs q) (has_clash bs q) q) (arity_same us bs h.relations q)
+    ∙ ap (λ (x : Bool). query_by a.queries (reads_unknown us q) (has_wrong_arity us q) x (has_clash bs q) q) (misfit_same us bs h.relations q)
+    ∙ ap (λ (x : Bool). query_by a.queries (reads_unknown us q) (has_wrong_arity us q) (has_misfit us q) x q) (clash_same us bs h.relations q)

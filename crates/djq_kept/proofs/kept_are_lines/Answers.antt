@@ -1,0 +1,5 @@
+use Rattle.djq_kept.proofs.Lines.{kept_are_lines}
+use Rattle.djq_kept.proofs.kept_are_lines.Goals as goal
+
+pub returns : goal.returns
+returns c = kept_are_lines

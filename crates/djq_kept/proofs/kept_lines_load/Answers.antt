@@ -1,0 +1,5 @@
+use Rattle.djq_kept.proofs.Running.{kept_lines_load}
+use Rattle.djq_kept.proofs.kept_lines_load.Goals as goal
+
+pub returns : goal.returns
+returns c = kept_lines_load

@@ -1,0 +1,82 @@
+-- The lines that a run kept, loaded, give what the run left.
+use Rattle.std.specs.Prelude.{List, [], ◌∷◌, ◌++◌, ◌≡◌, ◌≤◌, true, false, length, All}
+use Rattle.djq_model.specs.Data.{Bytes}
+use Rattle.djq_model.specs.Known.{knows}
+use Rattle.djq_lines.specs.declared.limits.TheConstants.{LINE_BYTES}
+use Rattle.djq_machine.specs.State.{Store, State, opening}
+use Rattle.djq_machine.specs.Step.{SameRelations}
+use Rattle.djq_machine.specs.Run.{Did, Run, Group, groups_of, lines_in}
+use Rattle.djq_laws.specs.Sound.{AreApart, IsStart}
+use Rattle.djq_kept.specs.Loading.{refused, LoadStep, Loads}
+
+-- Two stores have the same relations, each with its rows in any order, the same queries and number
+-- of changes.
+pub record IsSameStore (a b : Store) : Type 0 where
+  pub relations : SameRelations a.relations b.relations
+  pub queries : b.queries ≡ a.queries
+  pub seq : b.seq ≡ a.seq
+
+-- all texts that the first know, the second do
+abbrev pub AreKnown : List Bytes → List Bytes → Type 0
+AreKnown texts known = (t : Bytes) → knows texts t ≡ true → knows known t ≡ true
+
+-- A store follows another: it has the same data, and knows no other texts, each once.
+pub record Follows (a b : Store) : Type 0 where
+  pub same : IsSameStore a b
+  pub among : AreKnown b.texts a.texts
+  pub once : AreApart b.texts
+
+-- Lines can be loaded into a store, and none is refused; and whatever they are loaded to, where
+-- memory suffices, follows this store.
+pub record LoadsTo (from : Store) (lines : List Bytes) (to : Store) : Type 0 where
+  pub can : (b : Store) × Loads from lines b × Follows to b
+  pub each : (b : Store) → Loads from lines b → Follows to b
+  pub none_refused : (front : List Bytes) (line : Bytes) (behind : List Bytes)
+      → lines ≡ front ++ line ∷ behind → (mid : Store) → Loads from front mid → (new : Store)
+      → LoadStep mid line refused new → ⊥
+
+-- What lines, found at a start, give is a state to start from, where no session is open yet.
+abbrev pub FoundIsStart : Type 0
+FoundIsStart = (found : List Bytes) (st : State) → Loads opening.store found st.store
+    → st.sessions ≡ [] → st.stopped ≡ false → IsStart st
+
+-- The lines that a run kept, loaded into a store that follows the one it began with, give a store
+-- that follows the one it left.
+abbrev pub KeptLinesLoad : Type 0
+KeptLinesLoad = (old : State) (done : List Did) (new : State) → Run old done new
+    → (from : Store) → Follows old.store from → LoadsTo from (lines_in (groups_of done)) new.store
+
+-- So it is of a run that began with what lines, found at its start, gave: these lines and those that
+-- it kept give what it left.
+abbrev pub RunsReload : Type 0
+RunsReload = (found : List Bytes) (old : State) → Loads opening.store found old.store
+    → (done : List Did) (new : State) → Run old done new
+    → LoadsTo opening.store (found ++ lines_in (groups_of done)) new.store
+
+-- the point of a run at which it had kept just these groups
+pub record StoodAt (old : State) (done : List Did) (new : State) (groups : List Group) : Type 0 where
+  pub earlier : List Did
+  pub later : List Did
+  pub cut : done ≡ earlier ++ later
+  pub mid : State
+  pub before : Run old earlier mid
+  pub behind : Run mid later new
+  pub kept : groups_of earlier ≡ groups
+
+-- What a stop leaves: the first groups that a run kept, whole, behind the lines found at its start,
+-- give what it had where it had kept just these.
+abbrev pub StopsReload : Type 0
+StopsReload = (found : List Bytes) (old : State) → Loads opening.store found old.store
+    → (done : List Did) (new : State) → Run old done new
+    → (whole later : List Group) → groups_of done ≡ whole ++ later
+    → (at : StoodAt old done new whole) × LoadsTo opening.store (found ++ lines_in whole) at.mid.store
+
+-- a line as a session may say it
+abbrev pub IsLine : Bytes → Type 0
+IsLine l = (1 ≤ length l) × (length l ≤ LINE_BYTES)
+
+-- A group that a run keeps has a line at least, and each of its lines has a byte at least and no
+-- more than a line may have.
+abbrev pub KeptAreLines : Type 0
+KeptAreLines = (old : State) (done : List Did) (new : State) → Run old done new
+    → All (λ group. (1 ≤ length group) × All IsLine group) (groups_of done)

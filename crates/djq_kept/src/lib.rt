@@ -1,0 +1,60 @@
+//! Laws on the lines that a run of the join machine keeps: loaded, they give what the run left.
+//!
+//! Each function here is empty: its contract is the law, and its proof says nothing of code. A run
+//! keeps the lines of `rel`, `add` and `drop` that weren't refused, of `del` where a row went, and
+//! of `query` where it was registered (djq_machine, `specs/Keeping.antt`).
+//!
+//! ```text
+//! rel r int       kept          loaded into an empty store, the four kept lines give
+//! add r 7         kept          r with the row (8), no query, and 3 changes, as the
+//! add r 8         kept          run left it
+//! del r 9
+//! has q 7
+//! del r 7         kept
+//! ```
+//!
+//! What this crate is not: it writes no lines and reads none. It says what whoever writes them down
+//! and loads them at the next start may rest on.
+//!
+//! What surprises: what is kept is the line as it came, and loading it runs it anew. A store that
+//! is loaded *follows* the one that was left: rows may stand in another order, and texts that no
+//! row or query of it has may be unknown. Cursors, watches and sessions aren't kept. No kept line
+//! is refused as it is loaded, though memory may be wanting.
+//!
+//! Inside, `specs/Loading.antt` says what loading a line does to a store, and `specs/Kept.antt` the
+//! laws: [`kept_lines_load`] from any store that follows the first, [`runs_reload`] from lines that
+//! were there before, and [`stops_reload`] where a stop left the first groups of lines, whole.
+#![tactic(auto)]
+
+ghost use Rattle.djq_kept.specs.Kept.{FoundIsStart, KeptAreLines, KeptLinesLoad, RunsReload, StopsReload};
+
+/// What lines, found at a start, give is a state to start from: relations, queries and known texts
+/// are without repeats, rows are of their columns' types, and queries free-connex.
+pub fn found_is_start()
+    ensures { FoundIsStart }
+{}
+
+/// The lines that a run kept, loaded into a store that follows the one it began with, are refused
+/// nowhere, and give a store that follows the one it left: the same rows in some order, the same
+/// queries and number of changes.
+pub fn kept_lines_load()
+    ensures { KeptLinesLoad }
+{}
+
+/// A run that began with what lines, found at its start, gave: these lines and those that it kept
+/// give what it left.
+pub fn runs_reload()
+    ensures { RunsReload }
+{}
+
+/// What a stop leaves: the lines found at a run's start and the first groups that it kept, whole,
+/// give what it had where it had kept just these.
+pub fn stops_reload()
+    ensures { StopsReload }
+{}
+
+/// A group that a run keeps has a line at least, and each of its lines has a byte at least and no
+/// more than a line may have.
+pub fn kept_are_lines()
+    ensures { KeptAreLines }
+{}

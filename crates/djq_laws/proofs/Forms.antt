@@ -1,0 +1,478 @@
+-- Each command does what its form says.
+use Rattle.std.specs.Prelude.{
+  ℕ,
+  List,
+  [],
+  ◌∷◌,
+  ◌≡◌,
+  ◌≤◌,
+  ◌⊎◌,
+  ◌++◌,
+  Bool,
+  true,
+  false,
+  cond,
+  length,
+  nat_le,
+  nat_lt,
+  Option,
+  None,
+  Some,
+  is_some,
+  is_none,
+  IsSome,
+  IsSomeAnd,
+  MatchOption,
+  codes,
+  map,
+  Result,
+  Ok,
+  Err,
+  ⊤,
+}
+use Rattle.std.proofs.Common.{refl, sym, ap, ◌∙◌, subst, inl, inr, arith}
+use Rattle.djq_model.specs.declared.relation.ColumnType.{ColumnType}
+use Rattle.djq_model.specs.declared.query.Query.{Query}
+use Rattle.djq_model.specs.Data.{Bytes, bytes_eq, drop_first, relation_of}
+use Rattle.djq_model.specs.Listed.{Listed, a_query, listed_name, listed_of}
+use Rattle.djq_model.specs.Known.{texts_in}
+use Rattle.djq_lines.specs.Conditions.{first_of, Answers, OutOfMemoryWhere}
+use Rattle.djq_lines.specs.QueryFault.{query_faults}
+use Rattle.djq_lines.specs.Variables.{constants_of}
+use Rattle.djq_lines.specs.declared.limits.TheConstants.{COLUMNS, RELATIONS, QUERIES, CURSORS, TEXTS}
+use Rattle.djq_lines.specs.declared.rest.QueryOutcome.{QueryOutcome}
+use Rattle.djq_lines.specs.declared.rest.QueryOutcome.TheVariants.{Registered, Cyclic, NotConnex}
+use Rattle.djq_lines.specs.declared.answer.EndCause.TheVariants.{Quit as SaidQuit, Stop as SaidStop}
+use Rattle.djq_lines.specs.declared.answer.Refusal.{Refusal}
+use Rattle.djq_lines.specs.declared.answer.Refusal.TheVariants.{
+  Taken,
+  NoQuery,
+  NoCursor,
+  Limit,
+  NoMemory,
+  InUse,
+}
+use Rattle.djq_lines.specs.declared.command.Command.{Command}
+use Rattle.djq_lines.specs.declared.command.Command.TheVariants.{
+  Rel,
+  Add,
+  Del,
+  Query as Register,
+  Drop,
+  Open,
+  Next,
+  Close,
+  Has,
+  Watch,
+  Unwatch,
+  Explain,
+  Shape,
+  Quit,
+  Stop,
+}
+use Rattle.djq_lines.specs.Reply.{
+  line,
+  answer_line,
+  refusal_line,
+  ok_reply,
+  query_reply,
+  has_reply,
+  shape_reply,
+  watch_reply,
+  stale_line,
+  text_of,
+  listing_lines,
+  bye,
+  end_memory,
+}
+use Rattle.djq_machine.specs.State.{Store, State, Session, Cursor, Position, open_at, stale, with_session, cursor_of, with_position}
+use Rattle.djq_machine.specs.Keeping.{Keeping, no_line, kept_where, is_registration}
+use Rattle.djq_machine.specs.Effect.{Effect, says, answers, RefusedStep}
+use Rattle.djq_machine.specs.Store.{RefusedByTexts, RefusedLate, RegistersAs, MakesRelation, RegistersQuery, DropsQuery, rel_refusal, query_refusal, drop_refusal, has_steps}
+use Rattle.djq_machine.specs.Command.{
+  open_refusal,
+  OpensTo,
+  watch_refusal,
+  with_cursor,
+  BecomesWhere,
+  with_watch,
+  without_watch,
+  NextStepAt,
+  CloseStep,
+  CommandStep,
+  QueryStep,
+  QueryCutStep,
+  ExplainStepOf,
+  TellsLines,
+  explain_lines,
+}
+use Rattle.djq_laws.specs.Form.{
+  form_of,
+  Turn,
+  opens_cursor,
+  moves_cursor,
+  closes_cursor,
+  starts_watching,
+  stops_watching,
+  SaysAlone,
+  Replied,
+  is_whole,
+  is_cut,
+  Stored,
+  LearnsTexts,
+  learns_texts,
+  makes_relation,
+  registers,
+  drops_query,
+  in_use,
+  without_cursor,
+  Turned,
+  DoesStore,
+  DoesTurn,
+  is_turned,
+  is_refused,
+  Does,
+}
+use Rattle.djq_laws.proofs.Finding.{some_and}
+
+-- ---- what the conditions of a command tell, where it is done
+
+pub done_of : {A : Type 0} (o : Option Refusal) (a : A) (D : A → Type 0) (L : Refusal → Type 0) → Answers o (Ok a) D L
+    → D a
+done_of None a D L h = h
+done_of (Some r) a D L h = absurd h
+
+pub none_holds : {A : Type 0} (o : Option Refusal) (a : A) (D : A → Type 0) (L : Refusal → Type 0)
+    → Answers o (Ok a) D L → o ≡ None
+none_holds None a D L h = refl
+none_holds (Some r) a D L h = absurd h
+
+pub none_first : (a : Bool) (r : Refusal) (o : Option Refusal) → cond a (Some r) o ≡ None → a ≡ false
+none_first true r o h = absurd cc
+none_first false r o h = refl
+
+pub none_second : (a b : Bool) (r t : Refusal) (o : Option Refusal) → cond a (Some r) (cond b (Some t) o) ≡ None
+    → b ≡ false
+none_second true b r t o h = absurd cc
+none_second false true r t o h = absurd cc
+none_second false false r t o h = refl
+
+pub none_found : {A : Type 0} (o : Option A) → is_some o ≡ false → o ≡ None
+none_found None e = refl
+none_found (Some a) e = absurd cc
+
+some_found : {A : Type 0} (o : Option A) → is_none o ≡ false → IsSome o
+some_found None e = absurd cc
+some_found (Some a) e = refl
+
+-- ---- what is said
+
+text_alone : (s : ℕ) (text : Bytes) (cost : ℕ) (kept : Keeping) (e : Effect)
+    → e ≡ record { queued = (s, text) ∷ []; cost = cost; kept = kept } → SaysAlone s e
+text_alone s text cost kept e h = record { text = text; cost = cost; kept = kept; effect = h }
+
+says_alone : (s : ℕ) (text : Bytes) (e : Effect) → e ≡ says s text → SaysAlone s e
+says_alone s text e h = text_alone s text 0 no_line e h
+
+answers_alone : (s : ℕ) (text : Bytes) (test : Bool) (e : Effect) → e ≡ answers s text test → SaysAlone s e
+answers_alone s text test e h = text_alone s text 0 (kept_where test) e h
+
+-- ---- the store
+
+pub stays_learned : (old new : Store) → new ≡ old → LearnsTexts old new
+stays_learned old new e =
+    record { texts = []; few = λ few. subst (λ (st : Store). length st.texts ≤ TEXTS) (sym e) few; store = e }
+
+-- A late refusal changes no more than which texts are known.
+pub late_learned : (old : Store) (texts : List Bytes) (new : Store) (r : Refusal) → RefusedByTexts old texts new r
+    → LearnsTexts old new
+late_learned old texts new Limit h = record {
+  texts = (h.0).first;
+  few = λ few. let full = h.0.full in omega (arith, full);
+  store = h.1 ∙ ap (λ ts. record old { texts = ts }) h.0.learned;
+}
+late_learned old texts new NoMemory h = record {
+  texts = (h.0).first;
+  few = λ few. h.1;
+  store = h.2 ∙ ap (λ ts. record old { texts = ts }) h.0.learned;
+}
+late_learned old texts new _ h = absurd h
+
+-- what a refusal makes of the store: nothing by a condition, and what a late one does
+pub refused_learned : {A : Type 0} (o : Option Refusal) (r : Refusal) (D : A → Type 0) (L : Refusal → Type 0)
+    (old new : Store)
+    → Answers o (Err r) D L → (is_some o ≡ true → new ≡ old) → (L r → LearnsTexts old new) → LearnsTexts old new
+refused_learned None r D L old new h stays late = late h
+refused_learned (Some t) r D L old new h stays late = stays_learned old new (stays refl)
+
+module _ (used : Bytes → Bool) (old new : Store) where
+  keeps_store : new ≡ old → Stored used old new
+  keeps_store e = learns_texts (stays_learned old new e)
+
+  pub rel_stored : (name : Bytes) (types : List ColumnType) (r : Result ⊤ Refusal) → MakesRelation old name types r new
+      → Stored used old new
+  rel_stored name types (Err r) h = keeps_store h.stays
+  rel_stored name types (Ok u) h =
+      let none = none_holds (rel_refusal old name types) u
+      (λ _. new ≡ record old { relations = old.relations ++ record { name = name; types = types; rows = [] } ∷ [] })
+      (OutOfMemoryWhere ⊤) h.answer in
+      makes_relation name types
+      (none_found (relation_of old.relations name)
+      (none_first (is_some (relation_of old.relations name)) Taken
+      (first_of ((nat_lt COLUMNS (length types), Limit) ∷ (nat_le RELATIONS (length old.relations), Limit) ∷ [])) none))
+      (done_of (rel_refusal old name types) u _ (OutOfMemoryWhere ⊤) h.answer)
+
+  pub query_stored : (q : Query) (r : Result QueryOutcome Refusal) → RegistersQuery old q r new → Stored used old new
+  query_stored q (Ok (Cyclic rest)) h =
+      keeps_store (done_of (query_refusal old q) (Cyclic rest) (RegistersAs old q new) (RefusedLate old q new)
+      h.answer).1
+  query_stored q (Ok (NotConnex rest)) h =
+      keeps_store (done_of (query_refusal old q) (NotConnex rest) (RegistersAs old q new) (RefusedLate old q new)
+      h.answer).1
+  query_stored q (Err r) h =
+      learns_texts
+      (refused_learned (query_refusal old q) r (RegistersAs old q new) (RefusedLate old q new) old new h.answer
+      h.stays (λ late. by late))
+    where
+      by : RefusedLate old q new r → LearnsTexts old new
+      by (inl k) = late_learned old (texts_in (constants_of q.atoms)) new r k.1
+      by (inr k) = stays_learned old new k.1
+  query_stored q (Ok (Registered most)) h =
+      let none = none_holds (query_refusal old q) (Registered most) (RegistersAs old q new) (RefusedLate old q new)
+      h.answer in
+      let d = done_of (query_refusal old q) (Registered most) (RegistersAs old q new) (RefusedLate old q new) h.answer
+      in
+      registers (a_query q)
+      (none_found (listed_of old.queries q.name)
+      (none_first (is_some (listed_of old.queries q.name)) Taken
+      (first_of (query_faults old.relations q ++ (nat_le QUERIES (length old.queries), Limit) ∷ [])) none))
+      d.0 (λ _. d.2) d.3
+
+  pub drop_stored : (name : Bytes) (r : Result ⊤ Refusal) → DropsQuery old (used name) name r new → Stored used old new
+  drop_stored name (Err r) h = keeps_store h.stays
+  drop_stored name (Ok u) h =
+      let D = λ (_ : ⊤). new ≡ record old { queries = drop_first (λ q. bytes_eq (listed_name q) name) old.queries } in
+      let none = none_holds (drop_refusal old (used name) name) u D (OutOfMemoryWhere ⊥) h.answer in
+      drops_query name (none_second (is_none (listed_of old.queries name)) (used name) NoQuery InUse None none)
+      (done_of (drop_refusal old (used name) name) u D (OutOfMemoryWhere ⊥) h.answer)
+
+-- ---- commands of the store
+
+stored_whole : (old : State) (s : ℕ) (text : Bytes) (test : Bool) (store : Store) (e : Effect) (new : State)
+    → e ≡ answers s text test
+    → Stored (in_use old) old.store store → new ≡ record old { store = store } → SaysAlone s e × DoesStore old s new
+stored_whole old s text test store e new said stored after = (
+  answers_alone s text test e said,
+  record { store = store; stored = stored; replied = is_whole after },
+)
+
+query_does : (old : State) (s : ℕ) (q : Query) (e : Effect) (new : State)
+    → QueryStep old s q e new ⊎ QueryCutStep old s q e new → SaysAlone s e × DoesStore old s new
+query_does old s q e new (inl h) =
+    stored_whole old s (query_reply h.result) _ h.store e new h.effect
+    (query_stored (in_use old) old.store h.store q h.result h.done) h.state
+query_does old s q e new (inr h) = (
+  answers_alone s end_memory (is_registration h.result) e h.ends.0,
+  record {
+    store = h.store;
+    stored = query_stored (in_use old) old.store h.store q h.result h.done;
+    replied = is_cut h.ends.1;
+  },
+)
+
+-- ---- commands that ask
+
+refused_replied : (old : State) (s : ℕ) (r : Refusal) (e : Effect) (new : State) → RefusedStep old s r e new
+    → SaysAlone s e × Replied s old new
+refused_replied old s r e new h = (says_alone s (refusal_line r) e h.0, is_whole h.1)
+
+lines_replied : (old : State) (s : ℕ) (lines : List Bytes) (e : Effect) (new : State) → TellsLines old s lines e new
+    → SaysAlone s e × Replied s old new
+lines_replied old s lines e new (inl h) = (says_alone s (text_of lines) e h.0, is_whole h.1)
+lines_replied old s lines e new (inr (told, lacking, rest, parts, ends)) = (
+  says_alone s (text_of told ++ end_memory) e ends.0,
+  is_cut ends.1,
+)
+
+explain_does : (old : State) (s : ℕ) (o : Option Listed) (e : Effect) (new : State)
+    → MatchOption o (RefusedStep old s NoQuery e new) (λ q. ExplainStepOf old s q e new)
+    → SaysAlone s e × Replied s old new
+explain_does old s None e new h = refused_replied old s NoQuery e new h
+explain_does old s (Some (a_query q)) e new h = lines_replied old s (explain_lines q h.tree) e new h.tells
+
+-- ---- commands of the session
+
+open_does : (old : State) (s : ℕ) (x : Session) (c q : Bytes) (r : Result ⊤ Refusal) (new : State)
+    → Answers (open_refusal old.store x.cursors c q) r (λ _. ⊤) (OutOfMemoryWhere ⊤) → OpensTo old s c q new r
+    → DoesTurn old s x (opens_cursor c q) new
+open_does old s x c q (Err r) new answer after = is_refused (is_whole after)
+open_does old s x c q (Ok u) new answer after =
+    let none = none_holds (open_refusal old.store x.cursors c q) u (λ _. ⊤) (OutOfMemoryWhere ⊤) answer in
+    let rest = first_of ((nat_le CURSORS (length x.cursors), Limit) ∷ []) in
+    is_turned (
+      none_found (cursor_of x.cursors c)
+          (none_first (is_some (cursor_of x.cursors c)) Taken
+          (cond (is_none (listed_of old.store.queries q)) (Some NoQuery) rest) none),
+      some_found (listed_of old.store.queries q)
+          (none_second (is_some (cursor_of x.cursors c)) (is_none (listed_of old.store.queries q)) Taken NoQuery rest
+          none),
+      after,
+    )
+
+next_at_does : (old : State) (s : ℕ) (x : Session) (c : Bytes) (k : Cursor) (q : Listed) (count : ℕ) (p : Position)
+    (e : Effect) (new : State)
+    → cursor_of x.cursors c ≡ Some k → listed_of old.store.queries k.query ≡ Some q → k.position ≡ p
+    → NextStepAt old s c q count p e new → SaysAlone s e × DoesTurn old s x (moves_cursor c) new
+next_at_does old s x c k q count (stale relation n) e new is over stands h = (
+  says_alone s (stale_line c relation n) e h.0,
+  is_refused (is_whole h.1),
+)
+next_at_does old s x c k q count (open_at given finished) e new is over stands (inl h) = (
+  text_alone s (text_of (listing_lines h.told h.end)) _ _ e h.effect,
+  is_turned (record {
+    cursor = k;
+    is = is;
+    query = q;
+    over = over;
+    given = given;
+    finished = finished;
+    stands = stands;
+    count = count;
+    told = h.told;
+    end = h.end;
+    tells = h.tells;
+    state = h.state;
+  }),
+)
+next_at_does old s x c k q count (open_at given finished) e new is over stands (inr h) = (
+  text_alone s (text_of (map answer_line h.told) ++ end_memory) _ _ e h.effect,
+  is_refused (is_cut h.state),
+)
+
+pub next_does : (old : State) (s : ℕ) (x : Session) (c : Bytes) (count : ℕ) (o : Option Cursor) (e : Effect)
+    (new : State)
+    → cursor_of x.cursors c ≡ o
+    → MatchOption o (RefusedStep old s NoCursor e new)
+    (λ k. IsSomeAnd (listed_of old.store.queries k.query) (λ q. NextStepAt old s c q count k.position e new))
+    → SaysAlone s e × DoesTurn old s x (moves_cursor c) new
+next_does old s x c count None e new is h = (says_alone s (refusal_line NoCursor) e h.0, is_refused (is_whole h.1))
+next_does old s x c count (Some k) e new is h =
+    let f = some_and (listed_of old.store.queries k.query) (λ q. NextStepAt old s c q count k.position e new) h in
+    next_at_does old s x c k f.0 count k.position e new is f.1 refl f.2
+
+close_does : (old : State) (s : ℕ) (x : Session) (c : Bytes) (o : Option Cursor) (e : Effect) (new : State)
+    → MatchOption o (RefusedStep old s NoCursor e new) (λ k. CloseStep old s c e new)
+    → SaysAlone s e × DoesTurn old s x (closes_cursor c) new
+close_does old s x c None e new h = (says_alone s (refusal_line NoCursor) e h.0, is_refused (is_whole h.1))
+close_does old s x c (Some k) e new h = (says_alone s (line (codes "ok")) e h.0, is_turned h.1)
+
+watch_does : (old : State) (s : ℕ) (x : Session) (q : Bytes) (L : Refusal → Type 0) (r : Result ⊤ Refusal)
+    (new : State)
+    → Answers (watch_refusal old.store q) r (λ _. ⊤) L → BecomesWhere old s (with_watch q) new r
+    → DoesTurn old s x (starts_watching q) new
+watch_does old s x q L (Err r) new answer after = is_refused (is_whole after)
+watch_does old s x q L (Ok u) new answer after =
+    let none = none_holds (watch_refusal old.store q) u (λ _. ⊤) L answer in
+    is_turned (
+      some_found (listed_of old.store.queries q) (none_first (is_none (listed_of old.store.queries q)) NoQuery None none),
+      after,
+    )
+
+unwatch_does : (old : State) (s : ℕ) (x : Session) (q : Bytes) (r : Result ⊤ Refusal) (new : State)
+    → BecomesWhere old s (without_watch q) new r → DoesTurn old s x (stops_watching q) new
+unwatch_does old s x q (Err r) new after = is_refused (is_whole after)
+unwatch_does old s x q (Ok u) new after = is_turned after
+
+-- A change of one session, which leaves its bytes and its end.
+pub record OneSession (old : State) (s : ℕ) (new : State) : Type 0 where
+  pub change : Session → Session
+  pub id : (x : Session) → (change x).id ≡ x.id
+  pub pending : (x : Session) → (change x).pending ≡ x.pending
+  pub held : (x : Session) → (change x).held ≡ x.held
+  pub cause : (x : Session) → (change x).cause ≡ x.cause
+  pub state : new ≡ with_session old s change
+
+pub turned_one : (old : State) (s : ℕ) (x : Session) (t : Turn) (new : State) → Turned old s x t new
+    → OneSession old s new
+turned_one old s x (opens_cursor c q) new h = record {
+  change = with_cursor c q;
+  id = λ x. refl;
+  pending = λ x. refl;
+  held = λ x. refl;
+  cause = λ x. refl;
+  state = h.2;
+}
+turned_one old s x (moves_cursor c) new h = record {
+  change = λ y. record y { cursors = with_position y.cursors c (open_at (h.given ++ h.told) h.end) };
+  id = λ x. refl;
+  pending = λ x. refl;
+  held = λ x. refl;
+  cause = λ x. refl;
+  state = h.state;
+}
+turned_one old s x (closes_cursor c) new h = record {
+  change = without_cursor c;
+  id = λ x. refl;
+  pending = λ x. refl;
+  held = λ x. refl;
+  cause = λ x. refl;
+  state = h;
+}
+turned_one old s x (starts_watching q) new h = record {
+  change = with_watch q;
+  id = λ x. refl;
+  pending = λ x. refl;
+  held = λ x. refl;
+  cause = λ x. refl;
+  state = h.1;
+}
+turned_one old s x (stops_watching q) new h = record {
+  change = without_watch q;
+  id = λ x. refl;
+  pending = λ x. refl;
+  held = λ x. refl;
+  cause = λ x. refl;
+  state = h;
+}
+
+-- ---- all commands
+
+pub command_does : (old : State) (s : ℕ) (x : Session) (c : Command) (e : Effect) (new : State)
+    → CommandStep old s x c e new → Does (form_of c) old s x e new
+command_does old s x (Rel name types) e new h =
+    stored_whole old s (ok_reply (codes "ok") h.result) _ h.store e new h.effect
+    (rel_stored (in_use old) old.store h.store name types h.result h.done) h.state
+command_does old s x (Register q) e new h = query_does old s q e new h
+command_does old s x (Drop q) e new h =
+    stored_whole old s (ok_reply (codes "ok") h.result) _ h.store e new h.effect
+    (drop_stored (in_use old) old.store h.store q h.result h.done) h.state
+command_does old s x (Add name row) e new h = h
+command_does old s x (Del name row) e new h = h
+command_does old s x (Open c q) e new h = (
+  says_alone s (ok_reply (codes "ok open") h.result) e h.effect,
+  open_does old s x c q h.result new h.answer h.state,
+)
+command_does old s x (Next c count) e new h = next_does old s x c count (cursor_of x.cursors c) e new refl h
+command_does old s x (Close c) e new h = close_does old s x c (cursor_of x.cursors c) e new h
+command_does old s x (Watch q) e new h = (
+  says_alone s (watch_reply h.result old.store.seq) e h.effect,
+  watch_does old s x q _ h.result new h.answer h.state,
+)
+command_does old s x (Unwatch q) e new h = (
+  says_alone s (ok_reply (codes "ok") h.result) e h.effect,
+  unwatch_does old s x q h.result new h.state,
+)
+command_does old s x (Has q row) e new h = (
+  text_alone s (has_reply h.result) (has_steps (listed_of old.store.queries q)) no_line e h.effect,
+  is_whole h.state,
+)
+command_does old s x (Explain q) e new h = explain_does old s (listed_of old.store.queries q) e new h
+command_does old s x (Shape q) e new h = (says_alone s (shape_reply h.result) e h.effect, is_whole h.state)
+command_does old s x Quit e new h = (
+  says_alone s bye e h.0,
+  record { cause = SaidQuit; may = tt; stopped = old.stopped; state = h.1 },
+)
+command_does old s x Stop e new h = (
+  says_alone s bye e h.0,
+  record { cause = SaidStop; may = tt; stopped = true; state = h.1 },
+)

@@ -1,0 +1,5 @@
+use Rattle.djq_live.proofs.Costing.{flat_meets}
+use Rattle.djq_live.proofs.laws.flat_meets_are_equal.Goals as goal
+
+pub returns : goal.returns
+returns c = flat_meets

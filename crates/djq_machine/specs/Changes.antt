@@ -1,0 +1,91 @@
+-- What a change of rows is, and what comes of a command that may make one.
+use Rattle.std.specs.Prelude.{ℕ, List, [], ◌∷◌, ◌++◌, Bool, true, false, Option, None, Some, is_some, Result, Ok, Err}
+use Rattle.djq_model.specs.declared.relation.Relation.{Relation}
+use Rattle.djq_model.specs.Data.{Bytes, Tuple, bytes_eq, rows_of, without_row}
+use Rattle.djq_model.specs.Listed.{Listed}
+use Rattle.djq_lines.specs.declared.answer.Refusal.{Refusal}
+use Rattle.djq_lines.specs.declared.answer.Refusal.TheVariants.{NoMemory}
+use Rattle.djq_lines.specs.declared.answer.AddOutcome.{AddOutcome}
+use Rattle.djq_lines.specs.declared.answer.AddOutcome.TheVariants.{Added, Same}
+use Rattle.djq_lines.specs.declared.answer.DeleteOutcome.{DeleteOutcome}
+use Rattle.djq_lines.specs.declared.answer.DeleteOutcome.TheVariants.{Removed, Absent}
+use Rattle.djq_machine.specs.State.{Store, Session, State}
+use Rattle.djq_machine.specs.Store.{with_rows}
+use Rattle.djq_machine.specs.Stale.{by_relation, outdated_sessions}
+
+-- What a change of rows is, of one relation or of several.
+pub record RowsChange : Type 0 where
+  -- the relations behind it
+  pub after : List Relation
+  -- the relation whose change outdates a query, where one does
+  pub outdater : Listed → Option Bytes
+  -- whether it changes the rows of a relation of this name
+  pub touches : Bytes → Bool
+
+-- the change of one relation, with the relations behind it
+abbrev pub one_change : Bytes → List Relation → RowsChange
+one_change name after = record {
+  after = after;
+  outdater = by_relation name;
+  touches = λ relation. bytes_eq relation name;
+}
+
+-- the change by which one relation has other rows
+abbrev pub new_rows : List Relation → Bytes → List Tuple → RowsChange
+new_rows relations name rows = one_change name (with_rows relations name rows)
+
+-- the change by which a row comes, and that by which one goes
+abbrev pub row_in : List Relation → Bytes → Tuple → RowsChange
+row_in relations name row = new_rows relations name (rows_of relations name ++ row ∷ [])
+
+abbrev pub row_out : List Relation → Bytes → Tuple → RowsChange
+row_out relations name row = new_rows relations name (without_row (rows_of relations name) row)
+
+-- What comes of a command that may change rows.
+pub data RowsOutcome : Type 0 where
+  -- they change so
+  accepted : RowsChange → RowsOutcome
+  -- they were to change so, and memory was refused once the line was read
+  out_of_memory : RowsChange → RowsOutcome
+  -- nothing was to change, or the command was refused before
+  unchanged : RowsOutcome
+
+-- A row that came is a change.
+abbrev pub add_outcome : RowsChange → Result AddOutcome Refusal → RowsOutcome
+add_outcome change (Ok Added) = accepted change
+add_outcome change (Ok Same) = unchanged
+add_outcome change (Err NoMemory) = out_of_memory change
+add_outcome change (Err _) = unchanged
+
+-- A row that went is one, and a row goes without memory.
+abbrev pub delete_outcome : RowsChange → Result DeleteOutcome Refusal → RowsOutcome
+delete_outcome change (Ok Removed) = accepted change
+delete_outcome change (Ok Absent) = unchanged
+delete_outcome change (Err _) = unchanged
+
+-- whether rows changed
+abbrev pub is_accepted : RowsOutcome → Bool
+is_accepted (accepted change) = true
+is_accepted (out_of_memory change) = false
+is_accepted unchanged = false
+
+-- the change that was made or tried: it outdates cursors either way
+abbrev pub tried : RowsOutcome → Option RowsChange
+tried (accepted change) = Some change
+tried (out_of_memory change) = Some change
+tried unchanged = None
+
+-- whether a change outdates a query
+abbrev pub is_outdated : RowsChange → Listed → Bool
+is_outdated change q = is_some (change.outdater q)
+
+-- the sessions behind a change of this number that was made or tried, where there was one
+abbrev pub sessions_behind : State → Option RowsChange → ℕ → List Session
+sessions_behind old None n = old.sessions
+sessions_behind old (Some change) n =
+    outdated_sessions old.store.queries change.outdater n old.sessions
+
+-- the state behind it, with this store
+abbrev pub changed : State → Option RowsChange → Store → State
+changed old o store =
+    record old { store = store; sessions = sessions_behind old o store.seq }

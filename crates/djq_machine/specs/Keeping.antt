@@ -1,0 +1,36 @@
+-- Which lines are kept: those whose commands change the relations, their rows or the queries.
+use Rattle.std.specs.Prelude.{Bool, true, false, Result, Ok, Err}
+use Rattle.djq_lines.specs.declared.answer.Refusal.{Refusal}
+use Rattle.djq_lines.specs.declared.answer.DeleteOutcome.{DeleteOutcome}
+use Rattle.djq_lines.specs.declared.answer.DeleteOutcome.TheVariants.{Removed, Absent}
+use Rattle.djq_lines.specs.declared.rest.QueryOutcome.{QueryOutcome}
+use Rattle.djq_lines.specs.declared.rest.QueryOutcome.TheVariants.{Registered, Cyclic, NotConnex}
+
+-- What a step keeps of the line that it runs.
+pub data Keeping : Type 0 where
+  no_line : Keeping
+  the_line : Keeping
+
+-- The line is kept where this holds.
+abbrev pub kept_where : Bool → Keeping
+kept_where true = the_line
+kept_where false = no_line
+
+-- The lines of `rel`, `add` and `drop` are kept wherever they aren't refused; a further `add` of a
+-- row that is there too.
+abbrev pub is_done : {A : Type 0} → Result A Refusal → Bool
+is_done (Ok a) = true
+is_done (Err r) = false
+
+-- The line of `del` is kept where a row went.
+abbrev pub is_removal : Result DeleteOutcome Refusal → Bool
+is_removal (Ok Removed) = true
+is_removal (Ok Absent) = false
+is_removal (Err r) = false
+
+-- The line of `query` is kept where the query is registered.
+abbrev pub is_registration : Result QueryOutcome Refusal → Bool
+is_registration (Ok (Registered most)) = true
+is_registration (Ok (Cyclic rest)) = false
+is_registration (Ok (NotConnex rest)) = false
+is_registration (Err r) = false
