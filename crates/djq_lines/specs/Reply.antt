@@ -44,9 +44,9 @@ use Rattle.djq_lines.specs.declared.rest.NamedRest.{NamedRest}
 use Rattle.djq_lines.specs.declared.rest.QueryOutcome.{QueryOutcome}
 use Rattle.djq_lines.specs.declared.rest.QueryOutcome.TheVariants.{Registered, Cyclic, NotConnex}
 use Rattle.djq_lines.specs.declared.answer.AddOutcome.{AddOutcome}
-use Rattle.djq_lines.specs.declared.answer.AddOutcome.TheVariants.{Added, Same}
+use Rattle.djq_lines.specs.declared.answer.AddOutcome.TheVariants.{First, More}
 use Rattle.djq_lines.specs.declared.answer.DeleteOutcome.{DeleteOutcome}
-use Rattle.djq_lines.specs.declared.answer.DeleteOutcome.TheVariants.{Removed, Absent}
+use Rattle.djq_lines.specs.declared.answer.DeleteOutcome.TheVariants.{Last, Left, Absent}
 use Rattle.djq_lines.specs.declared.answer.Shape.{Shape}
 use Rattle.djq_lines.specs.declared.answer.Shape.TheVariants.{Flat, Linear}
 
@@ -130,14 +130,20 @@ abbrev pub ok_reply : {A : Type 0} → Bytes → Result A Refusal → Bytes
 ok_reply words (Ok a) = line words
 ok_reply words (Err r) = refusal_line r
 
--- what `add` answers, at a number of changes
+-- words, a number, a space, another number, LF
+abbrev pub numbered_twice : Bytes → ℕ → ℕ → Bytes
+numbered_twice words n m = line (words ++ decimal n ++ codes " " ++ decimal m)
+
+-- what `add` answers, at a number of changes: it, then the copies of the row
 abbrev pub add_reply : Result AddOutcome Refusal → ℕ → Bytes
-add_reply (Ok Added) n = numbered (codes "ok added ") n
-add_reply (Ok Same) n = numbered (codes "ok same ") n
+add_reply (Ok First) n = numbered_twice (codes "ok added ") n 1
+add_reply (Ok (More copies)) n = numbered_twice (codes "ok added ") n copies
 add_reply (Err r) n = refusal_line r
 
+-- what `del` answers, likewise; of a row that isn't there no copies
 abbrev pub delete_reply : Result DeleteOutcome Refusal → ℕ → Bytes
-delete_reply (Ok Removed) n = numbered (codes "ok removed ") n
+delete_reply (Ok Last) n = numbered_twice (codes "ok removed ") n 0
+delete_reply (Ok (Left copies)) n = numbered_twice (codes "ok removed ") n copies
 delete_reply (Ok Absent) n = numbered (codes "ok absent ") n
 delete_reply (Err r) n = refusal_line r
 

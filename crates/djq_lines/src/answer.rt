@@ -32,17 +32,19 @@ pub enum Refusal {
 /// What `add` did to a row that suits its relation.
 #[derive(Clone, Copy, Debug, PartialEq, Eq)]
 pub enum AddOutcome {
-    /// The row wasn't there, and is.
-    Added,
-    /// The row was there.
-    Same,
+    /// The row wasn't there, and is, with one copy.
+    First,
+    /// The row was there, and has so many copies now.
+    More(u32),
 }
 
 /// What `del` did to a row that suits its relation.
 #[derive(Clone, Copy, Debug, PartialEq, Eq)]
 pub enum DeleteOutcome {
-    /// The row was there, and isn't.
-    Removed,
+    /// The row was there with one copy, and isn't any more.
+    Last,
+    /// The row was there with several copies, and has so many left.
+    Left(u32),
     /// The row wasn't there.
     Absent,
 }

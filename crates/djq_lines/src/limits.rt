@@ -27,6 +27,9 @@ pub const HEAD_VARIABLES: usize = 16;
 /// The most rows of a relation.
 pub const ROWS: usize = 4_294_967_295;
 
+/// The most copies of a row.
+pub const COPIES: u32 = 4_294_967_295;
+
 /// The most texts that are known.
 pub const TEXTS: usize = 4_294_967_295;
 

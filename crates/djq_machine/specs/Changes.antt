@@ -1,19 +1,21 @@
 -- What a change of rows is, and what comes of a command that may make one.
-use Rattle.std.specs.Prelude.{ℕ, List, [], ◌∷◌, ◌++◌, Bool, true, false, Option, None, Some, is_some, Result, Ok, Err}
+use Rattle.std.specs.Prelude.{ℕ, List, [], ◌∷◌, Bool, true, false, Option, None, Some, is_some, Result, Ok, Err}
 use Rattle.djq_model.specs.declared.relation.Relation.{Relation}
-use Rattle.djq_model.specs.Data.{Bytes, Tuple, bytes_eq, rows_of, without_row}
+use Rattle.djq_model.specs.declared.relation.CountedRow.{CountedRow}
+use Rattle.djq_model.specs.Data.{Bytes, Tuple, bytes_eq, counted_of, with_row, without_copies}
 use Rattle.djq_model.specs.Listed.{Listed}
 use Rattle.djq_lines.specs.declared.answer.Refusal.{Refusal}
 use Rattle.djq_lines.specs.declared.answer.Refusal.TheVariants.{NoMemory}
 use Rattle.djq_lines.specs.declared.answer.AddOutcome.{AddOutcome}
-use Rattle.djq_lines.specs.declared.answer.AddOutcome.TheVariants.{Added, Same}
+use Rattle.djq_lines.specs.declared.answer.AddOutcome.TheVariants.{First, More}
 use Rattle.djq_lines.specs.declared.answer.DeleteOutcome.{DeleteOutcome}
-use Rattle.djq_lines.specs.declared.answer.DeleteOutcome.TheVariants.{Removed, Absent}
+use Rattle.djq_lines.specs.declared.answer.DeleteOutcome.TheVariants.{Last, Left, Absent}
 use Rattle.djq_machine.specs.State.{Store, Session, State}
 use Rattle.djq_machine.specs.Store.{with_rows}
 use Rattle.djq_machine.specs.Stale.{by_relation, outdated_sessions}
 
--- What a change of rows is, of one relation or of several.
+-- What a change of rows is, of one relation or of several: rows come that weren't there, or go with
+-- their last copy.
 pub record RowsChange : Type 0 where
   -- the relations behind it
   pub after : List Relation
@@ -31,15 +33,15 @@ one_change name after = record {
 }
 
 -- the change by which one relation has other rows
-abbrev pub new_rows : List Relation → Bytes → List Tuple → RowsChange
+abbrev pub new_rows : List Relation → Bytes → List CountedRow → RowsChange
 new_rows relations name rows = one_change name (with_rows relations name rows)
 
 -- the change by which a row comes, and that by which one goes
 abbrev pub row_in : List Relation → Bytes → Tuple → RowsChange
-row_in relations name row = new_rows relations name (rows_of relations name ++ row ∷ [])
+row_in relations name row = new_rows relations name (with_row (counted_of relations name) row)
 
 abbrev pub row_out : List Relation → Bytes → Tuple → RowsChange
-row_out relations name row = new_rows relations name (without_row (rows_of relations name) row)
+row_out relations name row = new_rows relations name (without_copies (counted_of relations name) row)
 
 -- What comes of a command that may change rows.
 pub data RowsOutcome : Type 0 where
@@ -50,16 +52,17 @@ pub data RowsOutcome : Type 0 where
   -- nothing was to change, or the command was refused before
   unchanged : RowsOutcome
 
--- A row that came is a change.
+-- A row that came is a change; a further copy of one is none.
 abbrev pub add_outcome : RowsChange → Result AddOutcome Refusal → RowsOutcome
-add_outcome change (Ok Added) = accepted change
-add_outcome change (Ok Same) = unchanged
+add_outcome change (Ok First) = accepted change
+add_outcome change (Ok (More copies)) = unchanged
 add_outcome change (Err NoMemory) = out_of_memory change
 add_outcome change (Err _) = unchanged
 
--- A row that went is one, and a row goes without memory.
+-- A row whose last copy went is one, and a row goes without memory.
 abbrev pub delete_outcome : RowsChange → Result DeleteOutcome Refusal → RowsOutcome
-delete_outcome change (Ok Removed) = accepted change
+delete_outcome change (Ok Last) = accepted change
+delete_outcome change (Ok (Left copies)) = unchanged
 delete_outcome change (Ok Absent) = unchanged
 delete_outcome change (Err _) = unchanged
 

@@ -2,7 +2,7 @@
 use Rattle.std.specs.Prelude.{Bool, true, false, Result, Ok, Err}
 use Rattle.djq_lines.specs.declared.answer.Refusal.{Refusal}
 use Rattle.djq_lines.specs.declared.answer.DeleteOutcome.{DeleteOutcome}
-use Rattle.djq_lines.specs.declared.answer.DeleteOutcome.TheVariants.{Removed, Absent}
+use Rattle.djq_lines.specs.declared.answer.DeleteOutcome.TheVariants.{Last, Left, Absent}
 use Rattle.djq_lines.specs.declared.rest.QueryOutcome.{QueryOutcome}
 use Rattle.djq_lines.specs.declared.rest.QueryOutcome.TheVariants.{Registered, Cyclic, NotConnex}
 
@@ -16,15 +16,16 @@ abbrev pub kept_where : Bool → Keeping
 kept_where true = the_line
 kept_where false = no_line
 
--- The lines of `rel`, `add` and `drop` are kept wherever they aren't refused; a further `add` of a
--- row that is there too.
+-- The lines of `rel`, `add` and `drop` are kept wherever they aren't refused; of `add` also where it
+-- makes a further copy.
 abbrev pub is_done : {A : Type 0} → Result A Refusal → Bool
 is_done (Ok a) = true
 is_done (Err r) = false
 
--- The line of `del` is kept where a row went.
+-- The line of `del` is kept where a copy went.
 abbrev pub is_removal : Result DeleteOutcome Refusal → Bool
-is_removal (Ok Removed) = true
+is_removal (Ok Last) = true
+is_removal (Ok (Left copies)) = true
 is_removal (Ok Absent) = false
 is_removal (Err r) = false
 

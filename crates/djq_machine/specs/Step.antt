@@ -67,7 +67,7 @@ Acts old (ended s) e new = IsSomeAnd (session_of old s) (λ x. EndedStep old s x
 Acts old (closed s bytes) e new = (e ≡ nothing) × IsSomeAnd (session_of old s) (λ x. x.pending ≡ bytes)
     × (new ≡ record old { sessions = filter (λ x. not (x.id == s)) old.sessions })
 
--- the same relations, each with its rows in any order
+-- the same relations, each with its rows and their copies in any order
 abbrev pub SameRelations : List Relation → List Relation → Type 0
 SameRelations [] [] = Unit {0}
 SameRelations (r ∷ rs) (q ∷ qs) = (q.name ≡ r.name) × (q.types ≡ r.types) × IsPermutation r.rows q.rows × SameRelations rs qs

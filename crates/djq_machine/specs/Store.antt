@@ -37,6 +37,7 @@ use Rattle.std.specs.Prelude.{
 use Rattle.djq_model.specs.declared.relation.ColumnType.{ColumnType}
 use Rattle.djq_model.specs.declared.relation.ColumnType.TheVariants.{Int as IntColumn}
 use Rattle.djq_model.specs.declared.relation.Relation.{Relation}
+use Rattle.djq_model.specs.declared.relation.CountedRow.{CountedRow}
 use Rattle.djq_model.specs.declared.query.Query.{Query}
 use Rattle.djq_model.specs.declared.query.Atom.{Atom}
 use Rattle.djq_model.specs.declared.query.Term.{Term}
@@ -48,15 +49,19 @@ use Rattle.djq_model.specs.Data.{
   change_first,
   drop_first,
   relation_of,
+  counted_of,
   rows_of,
   has_row,
-  without_row,
+  copies_among,
+  with_row,
+  with_copies,
+  without_copies,
 }
 use Rattle.djq_model.specs.Answer.{AreDifferent}
 use Rattle.djq_model.specs.Listed.{Listed, a_query, listed_name, AnswersOf, listed_of}
 pub use Rattle.djq_model.specs.Typed.{is_of, fits}
 use Rattle.djq_model.specs.Known.{knows, texts_in, all_learned}
-use Rattle.djq_lines.specs.declared.limits.TheConstants.{COLUMNS, RELATIONS, ROWS, LAST_SEQ, TEXTS}
+use Rattle.djq_lines.specs.declared.limits.TheConstants.{COLUMNS, RELATIONS, ROWS, COPIES, LAST_SEQ, TEXTS}
 use Rattle.djq_lines.specs.declared.answer.Refusal.{Refusal}
 use Rattle.djq_lines.specs.declared.answer.Refusal.TheVariants.{
   Taken,
@@ -69,9 +74,9 @@ use Rattle.djq_lines.specs.declared.answer.Refusal.TheVariants.{
   NoMemory,
 }
 use Rattle.djq_lines.specs.declared.answer.AddOutcome.{AddOutcome}
-use Rattle.djq_lines.specs.declared.answer.AddOutcome.TheVariants.{Added, Same}
+use Rattle.djq_lines.specs.declared.answer.AddOutcome.TheVariants.{First, More}
 use Rattle.djq_lines.specs.declared.answer.DeleteOutcome.{DeleteOutcome}
-use Rattle.djq_lines.specs.declared.answer.DeleteOutcome.TheVariants.{Removed, Absent}
+use Rattle.djq_lines.specs.declared.answer.DeleteOutcome.TheVariants.{Last, Left, Absent}
 use Rattle.djq_lines.specs.declared.answer.Shape.{Shape}
 use Rattle.djq_lines.specs.declared.answer.Shape.TheVariants.{Flat, Linear}
 use Rattle.djq_lines.specs.declared.rest.QueryOutcome.{QueryOutcome}
@@ -88,7 +93,7 @@ use Rattle.djq_machine.specs.State.{Store}
 use Rattle.djq_machine.specs.Conditions.{first_of, Answers, OutOfMemoryWhere}
 
 -- the relations with other rows in one
-abbrev pub with_rows : List Relation → Bytes → List Tuple → List Relation
+abbrev pub with_rows : List Relation → Bytes → List CountedRow → List Relation
 with_rows relations name rows =
     change_first (λ r. bytes_eq r.name name) (λ r. record r { rows = rows }) relations
 
@@ -153,24 +158,37 @@ row_refusals st name row = let types = types_of (relation_of st.relations name) 
     ∷ (not (fits types row), WrongType)
     ∷ []
 
+-- how many copies of a row a relation has
+abbrev pub copies_of : Store → Bytes → Tuple → ℕ
+copies_of st name row = copies_among (counted_of st.relations name) row
+
+-- the relations with another number of copies of a row that is there
+abbrev pub with_copies_of : List Relation → Bytes → Tuple → ℕ → List Relation
+with_copies_of relations name row n =
+    with_rows relations name (with_copies (counted_of relations name) row n)
+
 abbrev pub add_refusal : Store → Bytes → Tuple → Option Refusal
 add_refusal st name row = let rows = rows_of st.relations name in first_of (row_refusals st name row
-    ++ (not (has_row rows row) && nat_le ROWS (length rows), Limit)
+    ++ (nat_le COPIES (copies_of st name row), Limit)
+    ∷ (not (has_row rows row) && nat_le ROWS (length rows), Limit)
     ∷ (not (has_row rows row) && nat_le LAST_SEQ st.seq, Limit)
     ∷ [])
 
--- A row that isn't there goes in, as a further change, and its texts are known; one that is there
--- changes nothing.
+-- A row that isn't there goes in with one copy, as a further change, and its texts are known; one
+-- that is there has a copy more, and nothing else changes.
 abbrev pub AddsAs : Store → Bytes → Tuple → Store → AddOutcome → Type 0
-AddsAs old name row new Added = let rows = rows_of old.relations name in
-    (has_row rows row ≡ false)
+AddsAs old name row new First =
+    (has_row (rows_of old.relations name) row ≡ false)
     × (length new.texts ≤ TEXTS)
     × (new ≡ record old {
-      relations = with_rows old.relations name (rows ++ row ∷ []);
+      relations = with_rows old.relations name (with_row (counted_of old.relations name) row);
       texts = all_learned old.texts (texts_in row);
       seq = old.seq + 1;
     })
-AddsAs old name row new Same = (has_row (rows_of old.relations name) row ≡ true) × (new ≡ old)
+AddsAs old name row new (More copies) =
+    (has_row (rows_of old.relations name) row ≡ true)
+    × (copies ≡ copies_of old name row + 1)
+    × (new ≡ record old { relations = with_copies_of old.relations name row copies })
 
 -- Only a row that isn't there is refused late.
 pub record AddsRow (old : Store) (name : Bytes) (row : Tuple) (result : Result AddOutcome Refusal)
@@ -182,16 +200,24 @@ pub record AddsRow (old : Store) (name : Bytes) (row : Tuple) (result : Result A
 
 abbrev pub delete_refusal : Store → Bytes → Tuple → Option Refusal
 delete_refusal st name row = first_of (row_refusals st name row
-    ++ (has_row (rows_of st.relations name) row && nat_le LAST_SEQ st.seq, Limit)
+    ++ ((copies_of st name row == 1) && nat_le LAST_SEQ st.seq, Limit)
     ∷ [])
 
--- A row that is there goes out, as a further change; one that isn't changes nothing.
+-- A row with one copy goes out, as a further change; one with several has a copy less, and nothing
+-- else changes; one that isn't there changes nothing.
 abbrev pub DeletesAs : Store → Bytes → Tuple → Store → DeleteOutcome → Type 0
-DeletesAs old name row new Removed = let rows = rows_of old.relations name in
-    (has_row rows row ≡ true) × (new ≡ record old {
-      relations = with_rows old.relations name (without_row rows row);
+DeletesAs old name row new Last =
+    (has_row (rows_of old.relations name) row ≡ true)
+    × (copies_of old name row ≡ 1)
+    × (new ≡ record old {
+      relations = with_rows old.relations name (without_copies (counted_of old.relations name) row);
       seq = old.seq + 1;
     })
+DeletesAs old name row new (Left copies) =
+    (has_row (rows_of old.relations name) row ≡ true)
+    × (copies_of old name row ≡ copies + 1)
+    × (1 ≤ copies)
+    × (new ≡ record old { relations = with_copies_of old.relations name row copies })
 DeletesAs old name row new Absent = (has_row (rows_of old.relations name) row ≡ false) × (new ≡ old)
 
 -- Deleting takes no memory.

@@ -1,11 +1,12 @@
 -- Tests of equality on values, tuples and names, and look-ups by name.
-use Rattle.std.specs.Prelude.{ℕ, List, [], ◌∷◌, Bool, true, false, Option, None, Some, if◌then◌else◌, find, map, nat_eq, pos}
+use Rattle.std.specs.Prelude.{ℕ, List, [], ◌∷◌, ◌++◌, Bool, true, false, Option, None, Some, if◌then◌else◌, find, map, nat_eq, pos}
 use Rattle.std.specs.List.{slice_index_or}
 use Rattle.std.specs.Ordering.{int_eq}
 use Rattle.std.specs.Cmp.Lexicographic.{pointwise}
 use Rattle.djq_model.specs.declared.value.Value.{Value}
 use Rattle.djq_model.specs.declared.value.Value.TheVariants.{Int, Text}
 use Rattle.djq_model.specs.declared.relation.Relation.{Relation}
+use Rattle.djq_model.specs.declared.relation.CountedRow.{CountedRow}
 
 -- a text or a name
 abbrev pub Bytes : Type 0
@@ -54,18 +55,43 @@ drop_first p (x ∷ xs) = if p x then xs else x ∷ drop_first p xs
 abbrev pub relation_of : List Relation → Bytes → Option Relation
 relation_of relations name = find (λ r. bytes_eq r.name name) relations
 
+-- rows, without their copies
+abbrev pub tuples_of : List CountedRow → List Tuple
+tuples_of rows = map (λ (c : CountedRow). c.row) rows
+
 -- the relation's rows, each once
 abbrev pub tuples_in : Relation → List Tuple
-tuples_in r = r.rows
+tuples_in r = tuples_of r.rows
 
--- the rows of the relation that was found; none where none was
-abbrev pub rows_in : Option Relation → List Tuple
-rows_in None = []
-rows_in (Some r) = tuples_in r
+-- the rows of the relation that was found, with their copies; none where none was
+abbrev pub counted_in : Option Relation → List CountedRow
+counted_in None = []
+counted_in (Some r) = r.rows
 
--- its rows; none where there is no such relation
+-- its rows with their copies; none where there is no such relation
+abbrev pub counted_of : List Relation → Bytes → List CountedRow
+counted_of relations name = counted_in (relation_of relations name)
+
+-- its rows, each once
 abbrev pub rows_of : List Relation → Bytes → List Tuple
-rows_of relations name = rows_in (relation_of relations name)
+rows_of relations name = tuples_of (counted_of relations name)
+
+-- how many copies of a row are among these; none where it isn't there
+abbrev pub copies_among : List CountedRow → Tuple → ℕ
+copies_among [] row = 0
+copies_among (c ∷ cs) row = if tuple_eq c.row row then c.copies else copies_among cs row
+
+-- the rows behind which a row comes, with one copy
+abbrev pub with_row : List CountedRow → Tuple → List CountedRow
+with_row rows row = rows ++ record { row = row; copies = 1 } ∷ []
+
+-- the rows with another number of copies of one
+abbrev pub with_copies : List CountedRow → Tuple → ℕ → List CountedRow
+with_copies rows row n = change_first (λ c. tuple_eq c.row row) (λ c. record c { copies = n }) rows
+
+-- the rows without all copies of one
+abbrev pub without_copies : List CountedRow → Tuple → List CountedRow
+without_copies rows row = drop_first (λ c. tuple_eq c.row row) rows
 
 -- the cell of a row at a column
 abbrev pub cell_at : Tuple → ℕ → Value

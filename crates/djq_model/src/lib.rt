@@ -31,7 +31,7 @@ pub use lent::Lent;
 pub use memory::NoMem;
 pub use name::{NAME_BYTES, Name};
 pub use query::{Atom, Atoms, Names, Query, Term, Terms};
-pub use relation::{ColumnType, Relation, Types};
+pub use relation::{ColumnType, CountedRow, Relation, Types};
 pub use sequence::Sequence;
 pub use value::{Row, Rows, TEXT_BYTES, Text, Value};
 

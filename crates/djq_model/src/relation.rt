@@ -1,6 +1,6 @@
 use crate::name::Name;
 use crate::sequence::Sequence;
-use crate::value::Rows;
+use crate::value::Row;
 
 /// What the cells of a column hold.
 #[derive(Clone, Copy, Debug, PartialEq, Eq)]
@@ -14,6 +14,15 @@ pub enum ColumnType {
 /// The types of a relation's columns.
 pub type Types = Sequence<ColumnType>;
 
+/// A row of a relation, with how many copies of it are there.
+#[derive(Debug, Drop)]
+pub struct CountedRow {
+    /// The row.
+    pub row: Row,
+    /// How many copies of it are there, from 1 to 4,294,967,295.
+    pub copies: u32,
+}
+
 /// A relation: its name, the types of its columns, and its rows.
 #[derive(Debug, Drop)]
 pub struct Relation {
@@ -21,6 +30,6 @@ pub struct Relation {
     pub name: Name,
     /// The types of its columns, from 1 to 8.
     pub types: Types,
-    /// Its rows, without repeats.
-    pub rows: Rows,
+    /// Its rows, without repeats, each with its copies.
+    pub rows: Sequence<CountedRow>,
 }
