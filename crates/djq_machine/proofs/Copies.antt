@@ -20,12 +20,14 @@ use Rattle.djq_machine.specs.Store.{with_rows, with_copies_of}
 
 -- what is found under its name
 pub relation_here : (rs : List Relation) (name : Bytes) (rows : List CountedRow)
-    → relation_of (with_rows rs name rows) name ≡ option_map (λ (r : Relation). record r { rows = rows }) (relation_of rs name)
+    → relation_of (with_rows rs name rows) name
+    ≡ option_map (λ (r : Relation). record r { rows = rows }) (relation_of rs name)
 relation_here [] name rows = refl
 relation_here (r ∷ rs) name rows = by (bytes_eq r.name name) refl (relation_here rs name rows)
   where
     by : (b : Bool) → bytes_eq r.name name ≡ b
-        → relation_of (with_rows rs name rows) name ≡ option_map (λ (x : Relation). record x { rows = rows }) (relation_of rs name)
+        → relation_of (with_rows rs name rows) name
+        ≡ option_map (λ (x : Relation). record x { rows = rows }) (relation_of rs name)
         → relation_of (cond b (record r { rows = rows } ∷ rs) (r ∷ with_rows rs name rows)) name
         ≡ option_map (λ (x : Relation). record x { rows = rows }) (cond b (Some r) (relation_of rs name))
     by true e rest = ap (λ (b : Bool). cond b (Some (record r { rows = rows })) (relation_of rs name)) e
@@ -58,8 +60,8 @@ relation_apart (r ∷ rs) name rows n h = by (bytes_eq r.name name) refl (relati
         ∙ sym (ap (λ (b : Bool). cond b (Some r) (relation_of rs n)) other)
     by false e rest = ap (λ (o : Option Relation). cond (bytes_eq r.name n) (Some r) o) rest
 
-pub counted_here : (rs : List Relation) (name : Bytes) (rows : List CountedRow) (x : Relation) → relation_of rs name ≡ Some x
-    → counted_of (with_rows rs name rows) name ≡ rows
+pub counted_here : (rs : List Relation) (name : Bytes) (rows : List CountedRow) (x : Relation)
+    → relation_of rs name ≡ Some x → counted_of (with_rows rs name rows) name ≡ rows
 counted_here rs name rows x found =
     ap counted_in (relation_here rs name rows ∙ ap (option_map (λ (r : Relation). record r { rows = rows })) found)
 

@@ -49,7 +49,7 @@ pub data RowsOutcome : Type 0 where
   accepted : RowsChange → RowsOutcome
   -- they were to change so, and memory was refused once the line was read
   out_of_memory : RowsChange → RowsOutcome
-  -- nothing was to change, or the command was refused before
+  -- no row was to come or go, or the command was refused before
   unchanged : RowsOutcome
 
 -- A row that came is a change; a further copy of one is none.

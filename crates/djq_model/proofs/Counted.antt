@@ -1,6 +1,26 @@
 -- Rows with their copies: what a change of them does to the plain rows and to the copies of each, and
 -- the same rows in another order.
-use Rattle.std.proofs.Common.{ℕ, suc, List, [], ◌∷◌, ◌++◌, ◌≡◌, Bool, true, false, cond, length, refl, sym, ap, ap₂, ◌∙◌, subst, arith}
+use Rattle.std.proofs.Common.{
+  ℕ,
+  suc,
+  List,
+  [],
+  ◌∷◌,
+  ◌++◌,
+  ◌≡◌,
+  Bool,
+  true,
+  false,
+  cond,
+  length,
+  refl,
+  sym,
+  ap,
+  ap₂,
+  ◌∙◌,
+  subst,
+  arith,
+}
 use Rattle.std.specs.Prelude.{◌&&◌, ◌||◌, ◌==◌, sum_by, All, IsPermutation}
 use Rattle.std.specs.Bool.{Decides}
 use Rattle.std.specs.List.{list_any}
@@ -22,7 +42,17 @@ use Rattle.std.proofs.lemmas.List.Sorted.{
 use Rattle.std.proofs.lemmas.Map.Keys.{IsDistinct-IsPermutation}
 use Rattle.std.proofs.lemmas.Map.Made.{AllPairs-from_IsDistinct, IsDistinct-from_AllPairs}
 use Rattle.djq_model.specs.declared.relation.CountedRow.{CountedRow}
-use Rattle.djq_model.specs.Data.{Tuple, tuple_eq, has_row, without_row, tuples_of, copies_among, with_row, with_copies, without_copies}
+use Rattle.djq_model.specs.Data.{
+  Tuple,
+  tuple_eq,
+  has_row,
+  without_row,
+  tuples_of,
+  copies_among,
+  with_row,
+  with_copies,
+  without_copies,
+}
 use Rattle.djq_model.specs.Answer.{AreDifferent}
 use Rattle.djq_model.specs.Equality.{tuple_eq-decides}
 use Rattle.djq_model.proofs.Permuting.{front_exchanged, one_less}
@@ -65,7 +95,8 @@ tuples_length rows = length-map rows (λ (c : CountedRow). c.row)
 -- ---- the copies of a row
 
 -- None of a row that isn't there,
-pub no_copies : (rows : List CountedRow) (row : Tuple) → has_row (tuples_of rows) row ≡ false → copies_among rows row ≡ 0
+pub no_copies : (rows : List CountedRow) (row : Tuple) → has_row (tuples_of rows) row ≡ false
+    → copies_among rows row ≡ 0
 no_copies [] row h = refl
 no_copies (c ∷ rows) row h = by (tuple_eq c.row row) h (λ k. no_copies rows row k)
   where
@@ -83,7 +114,8 @@ copies_hold P (c ∷ rows) row h k =
     by (tuple_eq c.row row) k (λ e. copies_hold P rows row (All-tail (λ (c : CountedRow). P c.copies) c rows h) e)
   where
     by : (b : Bool) → cond b true (has_row (tuples_of rows) row) ≡ true
-        → (has_row (tuples_of rows) row ≡ true → P (copies_among rows row)) → P (cond b c.copies (copies_among rows row))
+        → (has_row (tuples_of rows) row ≡ true → P (copies_among rows row))
+        → P (cond b c.copies (copies_among rows row))
     by true e rest = All-head (λ (c : CountedRow). P c.copies) c rows h
     by false e rest = rest e
 
@@ -154,8 +186,8 @@ module _ (P : CountedRow → Type 0) where
       → All P (with_row rows row)
   all_with_row rows row h k = All-push P rows (record { row = row; copies = 1 }) h k
 
-  pub all_with_copies : (rows : List CountedRow) (row : Tuple) (n : ℕ) → All P rows → P (record { row = row; copies = n })
-      → All P (with_copies rows row n)
+  pub all_with_copies : (rows : List CountedRow) (row : Tuple) (n : ℕ) → All P rows
+      → P (record { row = row; copies = n }) → All P (with_copies rows row n)
   all_with_copies [] row n h k = h
   all_with_copies (c ∷ rows) row n h k =
       by (tuple_eq c.row row) refl (all_with_copies rows row n (All-tail P c rows h) k)
@@ -243,7 +275,8 @@ has_as_any (r ∷ rows) row = by (tuple_eq r row) (has_as_any rows row)
     by true rest = refl
     by false rest = rest
 
-pub has_moved : (rows moved : List Tuple) (row : Tuple) → IsPermutation rows moved → has_row moved row ≡ has_row rows row
+pub has_moved : (rows moved : List Tuple) (row : Tuple) → IsPermutation rows moved
+    → has_row moved row ≡ has_row rows row
 has_moved rows moved row p =
     has_as_any moved row
     ∙ sym (list_any-IsPermutation (λ r. tuple_eq r row) rows moved p)
@@ -304,8 +337,8 @@ differ_moved rows moved p h =
     AllPairs-from_IsDistinct tuple_eq-decides moved
     (IsDistinct-IsPermutation tuple_eq tuple_eq_back rows moved p (IsDistinct-from_AllPairs tuple_eq-decides rows h))
 
-pub copies_moved : (rows moved : List CountedRow) (row : Tuple) → AreDifferent (tuples_of rows) → IsPermutation rows moved
-    → copies_among moved row ≡ copies_among rows row
+pub copies_moved : (rows moved : List CountedRow) (row : Tuple) → AreDifferent (tuples_of rows)
+    → IsPermutation rows moved → copies_among moved row ≡ copies_among rows row
 copies_moved rows moved row h p =
     as_counts moved row (differ_moved (tuples_of rows) (tuples_of moved) (tuples_moved rows moved p) h)
     ∙ sum_by-IsPermutation (counts row) rows moved p
@@ -353,14 +386,16 @@ with_copies_moved rows moved row n h there p =
     IsPermutation-trans (with_copies rows row n) (it ∷ without_copies rows row) (with_copies moved row n)
     (changed_front rows row n there)
     (IsPermutation-trans (it ∷ without_copies rows row) (it ∷ without_copies moved row) (with_copies moved row n)
-    (IsPermutation-cons it (without_copies rows row) (without_copies moved row) (without_moved rows moved row h there p))
+    (IsPermutation-cons it (without_copies rows row) (without_copies moved row)
+    (without_moved rows moved row h there p))
     (IsPermutation-sym (with_copies moved row n) (it ∷ without_copies moved row) (changed_front moved row n has)))
 
 -- where no row stands twice, one that has gone has no copies
 pub gone_copies : (rows : List CountedRow) (row : Tuple) → AreDifferent (tuples_of rows)
     → copies_among (without_copies rows row) row ≡ 0
 gone_copies [] row h = refl
-gone_copies (c ∷ rows) row h = by (tuple_eq c.row row) refl (gone_copies rows row (rest_differ c.row (tuples_of rows) h))
+gone_copies (c ∷ rows) row h =
+    by (tuple_eq c.row row) refl (gone_copies rows row (rest_differ c.row (tuples_of rows) h))
   where
     by : (b : Bool) → tuple_eq c.row row ≡ b → copies_among (without_copies rows row) row ≡ 0
         → copies_among (cond b rows (c ∷ without_copies rows row)) row ≡ 0

@@ -41,7 +41,8 @@ module _ {A : Type 0} (eq : A → A → Bool) (decides : (x y : A) → Decides (
     where
       by : (b : Bool) → eq x t ≡ b → (1 ≤ times t xs → IsPermutation xs (t ∷ drop_first (λ y. eq y t) xs))
           → IsPermutation (x ∷ xs) (t ∷ cond b xs (x ∷ drop_first (λ y. eq y t) xs))
-      by true e rest = subst (λ (r : A). IsPermutation (x ∷ xs) (r ∷ xs)) ((decides x t).0 e) (IsPermutation-refl (x ∷ xs))
+      by true e rest =
+          subst (λ (r : A). IsPermutation (x ∷ xs) (r ∷ xs)) ((decides x t).0 e) (IsPermutation-refl (x ∷ xs))
       by false e rest =
           let first : one_of t x ≡ 0 = ap (λ (b : Bool). cond b 1 0) e in
           let more = times_more t x xs in
