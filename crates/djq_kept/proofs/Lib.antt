@@ -1,4 +1,3 @@
-mod Rows
 mod Knowing
 mod Sameness
 mod Respecting

@@ -71,10 +71,10 @@ pub fn line_is_taken()
 
 /// Each state that a run comes to from a state to start from is sound: relations, queries, known
 /// texts, the rows of a relation and the answers that an open cursor has given are without repeats;
-/// rows are of their columns' types, and queries free-connex; cursors and watches are of registered
-/// queries; a session that has ended has none of them; and texts and sessions are within their
-/// limits, sessions by rising id. Every run keeps it so. The state in which nothing has happened is
-/// one to start from.
+/// rows are of their columns' types, each with one copy at least, and queries free-connex; cursors
+/// and watches are of registered queries; a session that has ended has none of them; and copies,
+/// texts and sessions are within their limits, sessions by rising id. Every run keeps it so. The
+/// state in which nothing has happened is one to start from.
 pub fn states_are_sound()
     ensures kept { RunsKeepSound }
     ensures opening { OpeningIsStart }
