@@ -82,13 +82,13 @@ def base_bytes(base):
 
 
 def apply(base, changes):
-    """Gives SQLite the changes, one after another, and reads what its triggers logged; gives the seconds, and the log."""
+    """Gives SQLite the changes, one after another, and reads what its triggers logged; gives the seconds, and the log.
+    A row that is there has one copy more, or one less, and a trigger deletes it with its last."""
     words = {}
-    for table, row in {(table, len(row)) for _, table, row in changes}:
-        marks = ", ".join("?" * row)
-        names = [column[1] for column in base.execute(f"pragma table_info({table})")]
-        words["add", table] = f"insert into {table} values ({marks})"
-        words["del", table] = f"delete from {table} where " + " and ".join(f"{name} = ?" for name in names)
+    for table in {table for _, table, _ in changes}:
+        wanted = " and ".join(f"{name} = ?" for name in ("x", "y"))
+        words["add", table] = f"insert into {table}(x, y) values (?, ?) on conflict do update set copies = copies + 1"
+        words["del", table] = f"update {table} set copies = copies - 1 where {wanted}"
     base.execute("delete from log")
     begin = time.perf_counter()
     for word, table, row in changes:
@@ -143,7 +143,10 @@ def listing(cursor, query, answers):
 # The parts: each gives rows of (what, value, SQLite's value, unit) for a number of rows
 
 
-PAIR = "create table {0}(x, y, primary key (x, y)) without rowid; create index {0}y on {0}(y, x);"
+TABLE = """create table {0}(x, y, copies default 1, primary key (x, y)) without rowid;
+    create trigger {0}last after update of copies on {0} when new.copies = 0 begin
+      delete from {0} where x = new.x and y = new.y; end;"""
+PAIR = TABLE + "create index {0}y on {0}(y, x);"
 
 
 def pairs(count, groups, seed):
@@ -161,9 +164,9 @@ def load(program, count):
         session.feed(["rel r int int"])
         before = session.bytes()
         ours, told = session.feed(lines_of(changes))
-        same(told, [f"ok added {at + 1}" for at in range(count)], "load")
+        same(told, [f"ok added {at + 1} 1" for at in range(count)], "load")
         memory = (session.bytes() - before) / count
-    base = base_of("create table r(x, y, primary key (x, y)) without rowid;")
+    base = base_of(TABLE.format("r"))
     theirs, _ = apply(base, changes)
     yield "load: add a row, no query", ours / count, theirs / count, "ns"
     yield "load: memory", memory, base_bytes(base) / count, "bytes a row"
@@ -207,6 +210,23 @@ def join(program, count):
     yield "join: delete a row", our_removal / count, their_removal / count, "ns"
 
 
+def copies(program, count):
+    """Each row below a watched join comes a second time, and one of its two copies goes: nothing is told of either."""
+    half = count // 2
+    fill = [("add", "r", row) for row in pairs(half, half, 2)]
+    fill += [("add", "s", (w, z)) for z, w in pairs(half, half, 3)]
+    changes = fill + [("del", table, row) for _, table, row in fill]
+    with Session(program) as session:
+        session.feed(JOIN + lines_of(fill) + ["watch q"])
+        ours, told = session.feed(lines_of(changes))
+        same(told, [f"ok {what}" for what in [f"added {count} 2"] * count + [f"removed {count} 1"] * count], "copies")
+    base = base_of(JOIN_BASE)
+    apply(base, fill)
+    theirs, log = apply(base, changes)
+    same(log, [], "copies")
+    yield "copies: one copy more of a row, or one of two less", ours / len(changes), theirs / len(changes), "ns"
+
+
 def register(program, count):
     """A query over rows that are there already, which all sessions wait for; SQLite makes its two indexes over them."""
     half = count // 2
@@ -216,7 +236,7 @@ def register(program, count):
         session.feed(JOIN[:2] + lines_of(changes))
         ours, told = session.feed(JOIN[2:])
         same(told, ["ok query 7"], "register")
-    base = base_of("".join(f"create table {name}(x, y, primary key (x, y)) without rowid;" for name in "rs"))
+    base = base_of("".join(map(TABLE.format, "rs")))
     apply(base, changes)
     begin = time.perf_counter()
     base.executescript("create index ry on r(y, x); create index sx on s(y, x);")
@@ -363,7 +383,7 @@ def untouched(program, count):
             seconds, told = session.feed(lines_of(changes))
             same(len(told), count, "untouched")
             measured.append(seconds)
-    base = base_of(JOIN_BASE + "create table t(x, y, primary key (x, y)) without rowid;")
+    base = base_of(JOIN_BASE + TABLE.format("t"))
     theirs, log = apply(base, changes)
     same(log, [], "untouched")
     yield "untouched: add to a relation, no query", measured[0] / count, theirs / count, "ns"
@@ -373,6 +393,7 @@ def untouched(program, count):
 PARTS = {
     "load": load,
     "join": join,
+    "copies": copies,
     "register": register,
     "dead-ends": dead_ends,
     "fan-out": fan_out,

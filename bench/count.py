@@ -22,6 +22,7 @@ HERE = os.path.dirname(os.path.abspath(__file__))
 KEPT = os.path.join(HERE, "counted.json")
 PAGE = os.path.join(HERE, "..", "docs", "PERFORMANCE.md")
 TABLE = re.compile(r"(?<=<!-- begin: bench/count.py --write -->\n).*?(?=<!-- end -->)", re.DOTALL)
+NO_CHANGE = re.compile(r"err |no |stale |ok absent|ok added \d+ (?!1$)|ok removed \d+ (?!0$)")
 AT_ONCE = 3  # streams that are run side by side
 
 
@@ -49,9 +50,9 @@ def switch(session, state):
 
 
 def run(session, lines, answers):
-    """Runs lines, of which none may be refused, and which are told so many lines of answers."""
+    """Runs lines, of which none may be refused or change no row, and which are told so many lines of answers."""
     _, told = session.feed(lines)
-    refused = [line for line in told if line.startswith(("err ", "no ", "ok same", "ok absent", "stale "))]
+    refused = [line for line in told if NO_CHANGE.match(line)]
     number = sum(line.startswith(("= ", "+ ", "- ")) for line in told)
     if refused or number != answers:
         raise SystemExit(f"refused: {refused[:3]}; {number} answers, and there are {answers}")

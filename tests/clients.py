@@ -6,6 +6,7 @@ program on loopback.
 Runs all tests, or those of these names. Ends with a line `N passed, N failed`; a failure is exit status 1.
 """
 
+import collections
 import contextlib
 import os
 import random
@@ -58,12 +59,12 @@ def test_answers_there_and_back():
 
 def test_deltas_between_replies():
     protocol = djq.Protocol()
-    first = protocol.say("add r 1", djq.protocol.READ_UPDATE)
+    first = protocol.say("add r 1", djq.protocol.READ_ADDED)
     second = protocol.say("next c 2", djq.protocol.read_page)
     assert protocol.outgoing == b"add r 1\nnext c 2\n"
-    for byte in b'+ q 1 "a b"\n- q 2 "c"\nat q 5\nok added 5\nat q 6\n= 1 "x"\n=\nmore\n+ p\nat p 7\n':
+    for byte in b'+ q 1 "a b"\n- q 2 "c"\nat q 5\nok added 5 1\nat q 6\n= 1 "x"\n=\nmore\n+ p\nat p 7\n':
         protocol.feed(bytes([byte]))
-    assert first.result() == djq.Update(True, 5)
+    assert first.result() == djq.Added(5, 1)
     assert second.result() == djq.Page([(1, "x"), ()], False)
     assert protocol.due == 0
     changes = [change for _, change in protocol.changes["q"]]
@@ -123,12 +124,15 @@ def test_commands(server):
     with server.connect() as client:
         client.relation("a", int, int)
         assert client.query("qa(x,y) <- a(x,y)") == 5
-        assert client.add("a", 1, 2) == djq.Update(True, 1)
-        assert client.add("a", 1, 2) == djq.Update(False, 1)
-        assert client.delete("a", 3, 4) == djq.Update(False, 1)
+        assert client.add("a", 1, 2) == djq.Added(1, 1) and djq.Added(1, 1).changed
+        assert client.add("a", 1, 2) == djq.Added(1, 2) and not djq.Added(1, 2).changed
+        absent = client.delete("a", 3, 4)
+        assert absent == djq.Absent(1) and (absent.changed, absent.copies) == (False, 0)
         assert client.add("a", -(2**63), 2**63 - 1).changed
+        assert client.delete("a", 1, 2) == djq.Removed(2, 1) and not djq.Removed(2, 1).changed
         assert set(client.answers("qa")) == {(1, 2), (-(2**63), 2**63 - 1)}
-        assert client.delete("a", 1, 2).changed
+        assert client.delete("a", 1, 2) == djq.Removed(3, 0) and djq.Removed(3, 0).changed
+        assert djq.Added(3, 1) != djq.Removed(3, 1) and djq.Removed(3, 0) != djq.Absent(3)
         assert list(client.answers("qa", page=1)) == [(-(2**63), 2**63 - 1)]
         assert client.has("qa", -(2**63), 2**63 - 1) and not client.has("qa", 1, 2)
         client.drop("qa")
@@ -227,17 +231,21 @@ def test_random_rows_by_two_clients(server):
     with server.connect() as one, server.connect() as two:
         one.relation("d", int, int)
         two.query("qd(x,y) <- d(x,y)")
-        rows = set()
+        rows, seq = collections.Counter(), one.watch("qd")
         for turn in range(600):
             client, row = draw.choice((one, two)), (draw.randrange(6), draw.randrange(6))
-            if draw.random() < 0.6:
-                assert client.add("d", *row).changed == (row not in rows)
-                rows.add(row)
+            if draw.random() < 0.5:
+                rows[row] += 1
+                seq += rows[row] == 1
+                assert client.add("d", *row) == djq.Added(seq, rows[row])
+            elif rows[row]:
+                rows[row] -= 1
+                seq += rows[row] == 0
+                assert client.delete("d", *row) == djq.Removed(seq, rows[row])
             else:
-                assert client.delete("d", *row).changed == (row in rows)
-                rows.discard(row)
+                assert client.delete("d", *row) == djq.Absent(seq)
             if turn % 20 == 0:
-                assert set(draw.choice((one, two)).answers("qd")) == rows
+                assert set(draw.choice((one, two)).answers("qd")) == set(+rows)
 
 
 # Watches
@@ -520,6 +528,7 @@ def test_loads(server):
         assert told == sorted(told[: told.index(3000) + 1]) + sorted(told[told.index(3000) + 1 :]) and told[-1] == 5000
         assert client.snapshot("qm") == set(rows)
         assert len(list(client.changes("qm", 0))) == 5000
+        assert [client.delete("m", *rows[number]).copies for number in (0, 2999, 3000)] == [1, 1, 0]
         assert client.load("m", []) == 0
         # nothing is sent behind a refusal that has come
         error = raises(djq.SomeRefused, lambda: client.load("m", ((n, "x" if n != 700 else n) for n in range(10**9))))
@@ -549,6 +558,14 @@ def test_a_table_with_a_key(server):
         other.add("keyed", 9, 9, "new")
         table.upsert(9, 9, "last")
         assert {row for row in other.snapshot("keyed_rows") if row[0] == 9} == {(9, 9, "last")}
+        # a row goes with all copies that others gave it, and comes back with them where the new one is refused
+        assert other.load("keyed", [(9, 9, "last")] * 2500) == 0
+        raises(djq.WrongType, lambda: table.upsert(9, 9, 9))
+        assert other.add("keyed", 9, 9, "last").copies == 2502
+        assert table.upsert(9, 9, "very last") and other.delete("keyed", 9, 9, "last").copies == 0
+        assert table.get(9, 9) == (9, 9, "very last") and not other.has("keyed_rows", 9, 9, "last")
+        other.add("keyed", 9, 9, "very last")
+        assert table.remove(9, 9) and not other.has("keyed_rows", 9, 9, "very last")
         assert set(server.connect().table("keyed", int, int, str, key=2)) == set(table)
 
 

@@ -85,7 +85,7 @@ TABLE = [
     (b"quit\nrel r", b"bye\n", 0),
     (b"stop\n" + b"\xff" * 5000, b"bye\n", 0),
     # bytes that are nearly UTF-8
-    (b'rel r text\nadd r "\xc3\xa9"\nadd r "\xf4\x8f\xbf\xbf"\n', b"ok\nok added 1\nok added 2\n", 0),
+    (b'rel r text\nadd r "\xc3\xa9"\nadd r "\xf4\x8f\xbf\xbf"\n', b"ok\nok added 1 1\nok added 2 1\n", 0),
     (b'add r "\xc3"\n', SYNTAX, 0),
     (b'add r "\xc0\xaf"\n', SYNTAX, 0),
     (b'add r "\xe0\x80\xaf"\n', SYNTAX, 0),
@@ -93,12 +93,12 @@ TABLE = [
     (b'add r "\xf4\x90\x80\x80"\n', SYNTAX, 0),
     (b'add r "\xf8\x88\x80\x80\x80"\n', SYNTAX, 0),
     (b'add r 1 \x80\n', SYNTAX, 0),
-    (b'rel r text\nadd r "\x00\x01\t\r"\nadd r "\x7f"\n', b"ok\nok added 1\nok added 2\n", 0),
+    (b'rel r text\nadd r "\x00\x01\t\r"\nadd r "\x7f"\n', b"ok\nok added 1 1\nok added 2 1\n", 0),
     (b"\xef\xbb\xbfrel r int\n", SYNTAX, 0),
     # numbers
     (b"rel r int\nadd r 9223372036854775807\nadd r -9223372036854775808\nadd r 9223372036854775808\n"
      b"add r -9223372036854775809\nadd r 000000000000000000000000000000007\nadd r 7\nadd r -0\nadd r 0\n",
-     b"ok\nok added 1\nok added 2\nerr 7 type\nerr 7 type\nok added 3\nok same 3\nok added 4\nok same 4\n", 0),
+     b"ok\nok added 1 1\nok added 2 1\nerr 7 type\nerr 7 type\nok added 3 1\nok added 3 2\nok added 4 1\nok added 4 2\n", 0),
     (b"add r -\nadd r - 1\nadd r +1\nadd r 1.0\nadd r 1_0\nadd r 0x1\nadd r 1a\n", SYNTAX * 7, 0),
     (b"add r " + b"9" * 4090 + b"\n", b"err 7 type\n", 0),
     # the grammar's edges
@@ -111,9 +111,9 @@ TABLE = [
     (b"next c 0\nnext c 1001\nnext c 1000\nnext c 0001000\nnext c \"1\"\n",
      SYNTAX * 2 + b"err 5 no cursor\n" * 2 + SYNTAX, 0),
     (b'rel r text\nadd r "' + b"a" * 255 + b'"\nadd r "' + b"a" * 256 + b'"\nadd r "' + b"\\n" * 255 + b'"\n',
-     b"ok\nok added 1\nerr 7 type\nok added 2\n", 0),
+     b"ok\nok added 1 1\nerr 7 type\nok added 2 1\n", 0),
     (b'rel r text\nadd r "' + "é".encode() * 127 + b'"\nadd r "' + "é".encode() * 128 + b'"\n',
-     b"ok\nok added 1\nerr 7 type\n", 0),
+     b"ok\nok added 1 1\nerr 7 type\n", 0),
 ]
 
 
@@ -216,10 +216,10 @@ def a_megabyte_of_bytes_without_a_line_ends_the_session():
 # lines, each with how it is answered
 TALK = [
     (b"rel r int int\n", b"ok\n"),
-    (b"add r 1 2\n", b"ok added 1\n"),
-    (b"add r 3 4\n", b"ok added 2\n"),
-    (b"add r 1 2\n", b"ok same 2\n"),
-    (b"del r 3 4\n", b"ok removed 3\n"),
+    (b"add r 1 2\n", b"ok added 1 1\n"),
+    (b"add r 3 4\n", b"ok added 2 1\n"),
+    (b"add r 1 2\n", b"ok added 2 2\n"),
+    (b"del r 3 4\n", b"ok removed 3 0\n"),
     (b"query q(x,y) <- r(x,y)\n", b"ok query 5\n"),
     (b"open c q\n", b"ok open\n"),
     (b"next c 2\n", b"= 1 2\nend\n"),

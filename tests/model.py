@@ -1,6 +1,6 @@
 """A plain model of the join query server, written from the protocol page alone.
 
-Relations are sets of rows, a query's answers are computed anew from all rows, a query is admitted by the definition of
+Relations are bags of rows, a query's answers are computed anew from all rows, a query is admitted by the definition of
 free-connex, and what several sessions are sent is followed line by line. Where the order of lines is free, the model
 takes the program's: so it doesn't foretell an output, it follows one, and raises `Difference` at the first line that
 isn't allowed.
@@ -16,6 +16,7 @@ MOST_SESSIONS = 64
 MOST_COLUMNS, MOST_RELATIONS, MOST_QUERIES, MOST_CURSORS = 8, 256, 256, 16
 MOST_ATOMS, MOST_VARIABLES, MOST_HEAD = 16, 64, 16
 MOST_ANSWERS = 1000
+MOST_COPIES = (1 << 32) - 1
 
 SYNTAX, TAKEN, NO_RELATION, NO_QUERY = b"err 1 syntax", b"err 2 taken", b"err 3 no relation", b"err 4 no query"
 NO_CURSOR, ARITY, TYPE, UNBOUND = b"err 5 no cursor", b"err 6 arity", b"err 7 type", b"err 8 head unbound"
@@ -386,8 +387,17 @@ def assigned(places, row):
 
 
 class Relation:
+    """The types of its columns, and its rows, each with its number of copies."""
+
     def __init__(self, types):
-        self.types, self.rows, self.version = types, set(), 0
+        self.types, self.rows, self.version = types, {}, 0
+
+    def count(self, row, change):
+        """Gives a row one copy more, or one less, and answers how many it has then."""
+        copies = self.rows.pop(row, 0) + change
+        if copies:
+            self.rows[row] = copies
+        return copies
 
     def refuse(self, values):
         """The refusal of the values of a row, or None."""
@@ -569,12 +579,26 @@ class Machine:
         refusal = relation.refuse(values)
         if refusal:
             return session.say(refusal)
-        if (row in relation.rows) == comes:
-            return session.say(b"ok %s %d" % (b"same" if comes else b"absent", self.seq))
+        copies = relation.rows.get(row, 0)
+        if copies == 0 and not comes:
+            return session.say(b"ok absent %d" % self.seq)
+        if comes and copies == MOST_COPIES:
+            return session.say(LIMIT)
+        if copies == (0 if comes else 1):
+            self.changed(name, row, comes)
+        else:
+            relation.count(row, 1 if comes else -1)
+        if session.cause is None:
+            copies = relation.rows.get(row, 0)
+            session.say(b"ok %s %d %d" % (b"added" if comes else b"removed", self.seq, copies))
+
+    def changed(self, name, row, comes):
+        """A row's first copy comes, or its last one goes: this alone is a change."""
+        relation = self.relations[name]
         reading = [query for query in self.queries.values() if name in query.reads]
         watched = [query for query in reading if self.watchers(query)]
         before = [query.answers(self.relations) for query in watched]
-        relation.rows.symmetric_difference_update({row})
+        relation.count(row, 1 if comes else -1)
         relation.version += 1
         self.seq += 1
         for other in self.sessions.values():
@@ -583,8 +607,6 @@ class Machine:
                     cursor.stale = b"%s %d" % (name, self.seq)
         for query, answers in zip(watched, before):
             self.tell(query, answers, query.answers(self.relations))
-        if session.cause is None:
-            session.say(b"ok %s %d" % (b"added" if comes else b"removed", self.seq))
 
     def doubt(self, name, values, comes):
         """A row was refused for memory. Where that was behind reading its line, the relation's cursors are stale."""
@@ -914,7 +936,7 @@ def turn(machine, session, word, text):
 
 def summary_of_load(count, seed):
     """What `gen` writes for a number of changes and a seed: the load is a list of random changes of two relations."""
-    state, rows, changes = seed, {b"r": set(), b"s": set()}, 0
+    state, rows, changes = seed, {b"r": Relation([b"int"] * 2), b"s": Relation([b"int"] * 2)}, 0
 
     def draw():
         nonlocal state
@@ -927,12 +949,12 @@ def summary_of_load(count, seed):
         relation = rows[b"s" if choice % 2 else b"r"]
         removed = choice // 2 % 4 == 0
         row = (first % values, second % values)
-        if (row in relation) == removed:
-            relation ^= {row}
-            changes += 1
+        if row in relation.rows or not removed:
+            copies = relation.count(row, -1 if removed else 1)
+            changes += copies == (0 if removed else 1)
     seconds = {}
-    for y, z in rows[b"s"]:
+    for y, z in rows[b"s"].rows:
         seconds.setdefault(y, []).append(z)
-    answers = [(x, y, z) for x, y in rows[b"r"] for z in seconds.get(y, ())]
-    numbers = (len(rows[b"r"]), len(rows[b"s"]), changes, len(answers), sum(map(sum, answers)) % (1 << 64))
+    answers = [(x, y, z) for x, y in rows[b"r"].rows for z in seconds.get(y, ())]
+    numbers = (len(rows[b"r"].rows), len(rows[b"s"].rows), changes, len(answers), sum(map(sum, answers)) % (1 << 64))
     return b"rows %d %d\nchanges %d\nanswers %d\nsum %d\n" % numbers

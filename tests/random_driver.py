@@ -51,7 +51,8 @@ class World:
         # the fewer values there are, the more variables a query may have before its answers are too many
         self.variables = VARIABLES[:{2: 8, 3: 5, 4: 4, 30: 3}[self.values]]
         self.texts = chance.random() < 0.4
-        self.removals = chance.choice([0.2, 0.5, 0.8])
+        # above a half: else copies grow in number, and hardly a row's last one goes
+        self.removals = chance.choice([0.55, 0.67, 0.83])
         self.changes = chance.choice([10, 40, 80]) if self.values < 30 else 300
         # how many lines of a hundred are near the grammar, and not in it
         self.near = chance.choice([2, 5, 5, 5, 40])
@@ -64,7 +65,8 @@ class Author:
     def __init__(self, chance, world=None):
         self.chance, self.world = chance, world or World(chance)
         self.relations, self.heads, self.cursors, self.planned = self.world.relations, self.world.heads, {}, []
-        self.kinds = [self.rel] + [self.row] * self.world.changes + [self.query] * 14 + [self.open] * 6
+        self.kinds = [self.rel] + [self.row] * self.world.changes + [self.copies] * (self.world.changes // 10)
+        self.kinds += [self.query] * 14 + [self.open] * 6
         self.kinds += [self.listing] * 8 + [self.next] * 12 + [self.close] * 6 + [self.has] * 7 + [self.watch] * 6
         self.kinds += [self.explain] * 2 + [self.shape] * 4 + [self.drop] * 8
 
@@ -111,6 +113,17 @@ class Author:
         name = self.one(self.relations, RELATIONS)
         word = b"del" if self.chance.random() < self.world.removals else b"add"
         return word + b" " + name + self.values_for(self.relations.get(name, [b"int"]))
+
+    def copies(self):
+        """Several copies of one row, of which some go again, all, or one more than came."""
+        name = self.one(self.relations, RELATIONS)
+        row = name + self.values_for(self.relations.get(name, [b"int"]))
+        count = self.chance.choice([1, 2, 3, 3, 5, 9])
+        gone = max(0, count + self.chance.choice([-2, -1, 0, 0, 1]))
+        self.planned = [b"del " + row] * gone + [b"add " + row] * count
+        if self.chance.random() < 0.3:
+            self.chance.shuffle(self.planned)
+        return self.planned.pop()
 
     def query(self):
         if self.chance.random() < 0.02:

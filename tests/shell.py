@@ -145,10 +145,10 @@ def a_filter_writes_what_the_program_does(program):
 
 @test()
 def the_status_is_that_of_the_refusals(program):
-    expect(filtered("rel r int\nadd r 1\nadd r 1\n", program=program), ("ok\nok added 1\nok same 1\n", "", 0))
+    expect(filtered("rel r int\nadd r 1\nadd r 1\n", program=program), ("ok\nok added 1 1\nok added 1 2\n", "", 0))
     expect(filtered("", program=program), ("", "", 0))
     written, _, status = filtered("rel r int\nadd r x\nadd r 1\n", program=program)
-    expect((written, status), ("ok\nerr 1 syntax\nok added 1\n", 1))
+    expect((written, status), ("ok\nerr 1 syntax\nok added 1 1\n", 1))
     written, _, status = filtered("rel r int\nadd r x\nadd r 1\n", "--stop", program=program)
     expect((written, status), ("ok\nerr 1 syntax\n", 1))
     with socket.create_server(("127.0.0.1", 0)) as free:
@@ -163,7 +163,7 @@ def the_status_is_that_of_the_refusals(program):
 def what_a_server_would_end_a_session_for_is_refused_here(program):
     text = b"rel r text\nadd r \"\xff\"\nadd r \"" + b"x" * 5000 + b'"\nadd r "y"'
     written, told, status = filtered(text, program=program)
-    expect((written, status), ("ok\nok added 1\n", 1))
+    expect((written, status), ("ok\nok added 1 1\n", 1))
     assert "line 2: " in told and "line 3: a line of 5008 bytes" in told and "Traceback" not in told, told
 
 
@@ -195,7 +195,7 @@ def many_lines_go_through_a_filter(program):
     took = resource.getrusage(resource.RUSAGE_CHILDREN).ru_utime - before
     lines = written.splitlines()
     expect((told, status), ("", 0))
-    expect(lines[: count + 1], ["ok", *(f"ok added {number + 1}" for number in range(count))])
+    expect(lines[: count + 1], ["ok", *(f"ok added {number + 1} 1" for number in range(count))])
     expect({int(line[2:]) for line in lines if line.startswith("= ")}, set(range(count)))
     assert took < SECONDS / 2, took  # of processor time: some 1 s
 
@@ -393,7 +393,7 @@ def a_bad_line_is_told_and_nothing_is_sent(program):
         written, told, status = filtered(f"\\load {named} r header\n" * 2, server=server)
         first, second = written.splitlines()
         assert first.startswith("3,000 rows came to r") and status == 0, written + told
-        assert second.startswith("0 rows came to r, 3,000 were there already"), written
+        assert second.startswith("3,000 rows came to r, 3,000 of them were there and have one copy more"), written
         expect(len(client.snapshot("q")), 3000)
 
 
@@ -437,8 +437,9 @@ def a_load_that_is_refused_is_taken_back(program):
         expect(client.snapshot("q"), {(1,), (1500,), (90000,)})
         written, told, status = filtered(f"\\load {path} r\n", server=Refusing(server, 1700, hang_up=True))
         assert status in (1, 2) and "the connection was lost: the " in told and "load the file again" in told, told
+        expect([client.delete("r", number).copies for number in (1, 1500, 90000)], [1, 1, 0])
         expect(filtered(f"\\load {path} r\n", server=server)[2], 0)
-        expect(client.snapshot("q"), {(number,) for number in range(3000)} | {(90000,)})
+        expect(client.snapshot("q"), {(number,) for number in range(3000)})
 
 
 # In a terminal
@@ -517,8 +518,8 @@ class Terminal:
 def commands_are_typed(program):
     with Terminal("--local", "--program", program) as shell:
         shell.runs("rel r int text", "ok")
-        shell.runs('add r 1 "one"', "ok added 1")
-        shell.runs('add r 22 "t\\"wo"', "ok added 2")
+        shell.runs('add r 1 "one"', "ok added 1 1")
+        shell.runs('add r 22 "t\\"wo"', "ok added 2 1")
         shell.runs("query q(number,name) <- r(number,name)", "ok query 5")
         shown = shell.runs("\\show q", "2 answers, and these are the last")
         rows = [line.split() for line in shown.splitlines() if line.strip()]
@@ -617,7 +618,7 @@ def lines_are_pasted_completed_and_remembered(program):
             assert "\n> query joined(x,y,z) <- readings(x,y), names(x,z)" in shell.text()
             shell.waits("djq>", len(shell.text()) - 5)
             shell.completes("add rea")
-            shell.runs(" 1 2", "ok added 1")
+            shell.runs(" 1 2", "ok added 1 1")
             shell.completes("unw")
             shell.completes(" jo")
             shell.runs("", "ok")
@@ -670,11 +671,11 @@ def a_session_that_is_lost_is_begun_anew(program):
             shell.runs("add r 1", "[Errno 111] Connection refused")
             with Server(program, first.port):
                 assert "connected anew" in shell.runs("rel r int", "ok")
-                shell.runs("add r 1", "ok added 1")
+                shell.runs("add r 1", "ok added 1 1")
                 shell.types("stop\r")
                 shell.waits("Type yes", behind)
                 shell.types("no\r")
-                shell.runs("add r 2", "ok added 2")
+                shell.runs("add r 2", "ok added 2 1")
                 shell.types("stop\r")
                 shell.waits("Type yes", len(shell.text()) - 10)
                 shell.types("yes\r")
@@ -741,7 +742,7 @@ def the_package_is_installed_without_a_network(program):
         assert done.stdout.startswith(made) and "py.typed" in done.stdout, done.stdout + done.stderr
         shell = os.path.join(made, "bin", "djq-shell")
         done = run(shell, "--local", "--program", program, input="rel r int\nadd r 1\n")
-        expect((done.stdout, done.returncode), ("ok\nok added 1\n", 0), done.stderr)
+        expect((done.stdout, done.returncode), ("ok\nok added 1 1\n", 0), done.stderr)
         assert "--local" in run(shell, "--help").stdout
 
 

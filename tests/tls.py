@@ -107,7 +107,7 @@ def main():
             reach(inside).close()
             proxy = subprocess.Popen([stunnel, "djq.conf"], cwd=folder, stdout=subprocess.DEVNULL, stderr=subprocess.DEVNULL)
             reach(outside).close()
-            for name, want in ((None, None), ("stranger", None), ("one", b"ok\nok added 1\nbye\n")):
+            for name, want in ((None, None), ("stranger", None), ("one", b"ok\nok added 1 1\nbye\n")):
                 got = talk(folder, outside, name)
                 if got != want:
                     failed += 1

@@ -5,11 +5,14 @@
     with djq.connect("127.0.0.1", 7007) as server:
         server.relation("reading", int, int)
         server.query("q(x,y) <- reading(x,y)")
-        server.add("reading", 1, 20)
+        server.add("reading", 1, 20)                # Added(seq=1, copies=1)
         print(list(server.answers("q")))            # [(1, 20)]
         with server.live("q") as live:
             for change in live.changes():           # blocks until rows change
                 print(change.seq, change.came, change.went)
+
+A row has copies: each `add` brings one, each `delete` takes one, and only the first that comes and the last that goes
+change what is answered.
 
 One connection is one session of the server; it is used from one thread. Values are `int` (64 bits) and `str` (at most
 255 bytes of UTF-8). Each error that the server may answer is an exception of its own, under `Refused`.
@@ -26,13 +29,15 @@ from .errors import (
     Syntax, Taken, TooLong, Unanswered, VariableType, WrongType,
 )  # fmt: skip
 from .live import Live, Lives
-from .protocol import MOST_ANSWERS, Answer, Change, Page, Pending, Protocol, Update, Value, read_values, spell
+from .protocol import (
+    MOST_ANSWERS, Absent, Added, Answer, Change, Page, Pending, Protocol, Removed, Update, Value, read_values, spell,
+)  # fmt: skip
 from .table import Table
 
 __all__ = [
-    "MOST_ANSWERS", "REFUSALS", "Answer", "Arity", "BadName", "Change", "Connection", "Cursor", "Cyclic",
-    "Disconnected", "Ended", "Error", "HeadRepeated", "HeadUnbound", "InUse", "LimitReached", "Live", "Lives",
+    "MOST_ANSWERS", "REFUSALS", "Absent", "Added", "Answer", "Arity", "BadName", "Change", "Connection", "Cursor",
+    "Cyclic", "Disconnected", "Ended", "Error", "HeadRepeated", "HeadUnbound", "InUse", "LimitReached", "Live", "Lives",
     "NoCursor", "NoQuery", "NoRelation", "NotFreeConnex", "NotWatched", "OutOfMemory", "Overtaken", "Page", "Pending",
-    "Pipeline", "Protocol", "Refused", "SomeRefused", "Stale", "Syntax", "Table", "Taken", "TooLong", "Unanswered",
-    "Update", "Value", "VariableType", "WrongType", "connect", "read_values", "spell",
+    "Pipeline", "Protocol", "Refused", "Removed", "SomeRefused", "Stale", "Syntax", "Table", "Taken", "TooLong",
+    "Unanswered", "Update", "Value", "VariableType", "WrongType", "connect", "read_values", "spell",
 ]  # fmt: skip

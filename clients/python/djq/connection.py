@@ -12,7 +12,8 @@ from typing import TYPE_CHECKING, Any, Callable, Iterable, Iterator, Sequence, T
 from . import protocol
 from .errors import Disconnected, Error, NoCursor, NotWatched, Refused, SomeRefused
 from .listing import WITHIN, Said, list_whole
-from .protocol import FIRST_REFUSALS, MOST_ANSWERS, Answer, Change, Page, Pending, Protocol, Rows, Update, Value
+from .protocol import FIRST_REFUSALS, MOST_ANSWERS, Absent, Added, Answer, Change, Page, Pending, Protocol, Removed
+from .protocol import Rows, Value
 from .protocol import checked, column_type, fitting, spell, spell_line
 
 if TYPE_CHECKING:
@@ -80,13 +81,13 @@ class Connection:
         self._do(fitting(" ".join(["rel", checked(name), *columns])), protocol.READ_OK)
         self._protocol.columns[name] = columns
 
-    def add(self, relation: str, *values: Value) -> Update:
-        """Puts a row in."""
-        return self._do(spell_line("add", relation, values), protocol.READ_UPDATE)
+    def add(self, relation: str, *values: Value) -> Added:
+        """Gives a row one copy more; the first puts it in."""
+        return self._do(spell_line("add", relation, values), protocol.READ_ADDED)
 
-    def delete(self, relation: str, *values: Value) -> Update:
-        """Takes a row out."""
-        return self._do(spell_line("del", relation, values), protocol.READ_UPDATE)
+    def delete(self, relation: str, *values: Value) -> Removed | Absent:
+        """Takes one copy of a row; the last takes it out."""
+        return self._do(spell_line("del", relation, values), protocol.READ_REMOVED)
 
     def query(self, text: str) -> int:
         """Registers a query, as `q(x,y) <- r(x,z), s(z,y)`. Gives the most steps that one answer costs."""
@@ -199,7 +200,8 @@ class Connection:
     def load(
         self, relation: str, rows: Iterable[Sequence[Value]], progress: Callable[[int], None] | None = None
     ) -> int:
-        """Puts many rows in, and gives how many weren't there before. `progress` is told how many were answered.
+        """Gives each of many rows one copy more, and tells how many weren't there before. `progress` is told how many
+        were answered.
 
         At the first refusal no further rows are sent, and `SomeRefused` is raised once those that were are answered.
         """
@@ -454,13 +456,13 @@ class Pipeline:
         if self._refused and self._raises:
             raise SomeRefused(self._sent, self._refused, self._first)
 
-    def add(self, relation: str, *values: Value) -> Pending[Update]:
-        """Puts a row in."""
-        return self._say(spell_line("add", relation, values), protocol.READ_UPDATE)
+    def add(self, relation: str, *values: Value) -> Pending[Added]:
+        """Gives a row one copy more."""
+        return self._say(spell_line("add", relation, values), protocol.READ_ADDED)
 
-    def delete(self, relation: str, *values: Value) -> Pending[Update]:
-        """Takes a row out."""
-        return self._say(spell_line("del", relation, values), protocol.READ_UPDATE)
+    def delete(self, relation: str, *values: Value) -> Pending[Removed | Absent]:
+        """Takes one copy of a row."""
+        return self._say(spell_line("del", relation, values), protocol.READ_REMOVED)
 
     def has(self, query: str, *values: Value) -> Pending[bool]:
         """Whether this is an answer."""

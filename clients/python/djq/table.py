@@ -5,12 +5,14 @@ from __future__ import annotations
 from collections import deque
 from typing import TYPE_CHECKING, Iterable, Iterator, Sequence
 
-from .errors import Refused, Taken
+from .errors import Error, Refused, Taken
 from .listing import WITHIN, list_whole
-from .protocol import READ_UPDATE, Answer, Protocol, Value, spell_line
+from .protocol import READ_ADDED, READ_REMOVED, Absent, Answer, Pending, Protocol, Removed, Value, spell_line
 
 if TYPE_CHECKING:
     from .connection import Connection
+
+MOST_AT_ONCE = 1000  # copies of a row that are taken before it is looked how many are left
 
 
 class Keyed:
@@ -36,10 +38,8 @@ class Keyed:
         there = self._rows.get(row[: self.key], set())
         return there - {row}, [] if row in there else [row]
 
-    def _lines(self, old: Iterable[Answer], new: Iterable[Answer]) -> list[str]:
-        """What takes rows out and puts rows in."""
-        gone = [spell_line("del", self.relation, row) for row in old]
-        return gone + [spell_line("add", self.relation, row) for row in new]
+    def _lines(self, command: str, rows: Iterable[Answer]) -> list[str]:
+        return [spell_line(command, self.relation, row) for row in rows]
 
     def _take(self, protocol: Protocol, listed: int = 0) -> None:
         """Takes the changes that have come. Those before the line `listed` are in the rows already."""
@@ -59,14 +59,23 @@ class Keyed:
         self._rows.setdefault(row[: self.key], set()).add(row)
 
 
+def took(reply: Pending[Removed | Absent]) -> bool:
+    """Whether a copy of the row went."""
+    try:
+        return isinstance(reply.result(), Removed)
+    except Error:
+        return False
+
+
 class Table(Keyed):
     """A relation whose first columns are a key: at most one row for each.
 
     The server knows no keys, so the table watches the relation's rows and knows which row a key has; it registers the
     query `RELATION_rows` for that. A row that replaces another is sent behind the old one's `del` in one write, so no
     line of another session is run between, as long as the write comes in one read; who watches is told both changes.
-    Where other clients write the same key at the same time, both rows may come to stand there; the next `upsert` of the
-    key leaves its own row alone.
+    Where other clients write the same key at the same time, both rows may come to stand there, or one row with two
+    copies; the next `upsert` of the key leaves its own row alone. A row that has several copies is gone once all are
+    taken, behind a further round trip.
     """
 
     def __init__(self, connection: Connection, relation: str, types: Sequence[type | str], key: int = 1) -> None:
@@ -115,17 +124,30 @@ class Table(Keyed):
 
     # Inside
 
-    def _replace(self, old: set[Answer], new: list[Answer]) -> None:
+    def _replace(self, old: Iterable[Answer], new: list[Answer]) -> None:
         """Takes rows out and puts rows in, in one write. Where a new row is refused, the old ones come back."""
-        pending = [self._connection._say(line, READ_UPDATE) for line in self._lines(old, new)]
-        self._connection._settle()
+        old, own = list(old), self._connection
+        gone = [own._say(line, READ_REMOVED) for line in self._lines("del", old)]
+        came = [own._say(line, READ_ADDED) for line in self._lines("add", new)]
+        own._settle()
         try:
-            for reply in pending:
+            left = [reply.result().copies for reply in gone]
+            for reply in came:
                 reply.result()
         except Refused:
-            for row in old:
-                self._connection.add(self.relation, *row)
+            for row, reply in zip(old, gone):
+                if took(reply):
+                    own.add(self.relation, *row)
             raise
+        for row, copies in zip(old, left):
+            self._take_rest(row, copies)
+
+    def _take_rest(self, row: Answer, copies: int) -> None:
+        """Takes the copies that are left of a row, which others gave it."""
+        while copies > 0:
+            with self._connection.pipeline() as many:
+                replies = [many.delete(self.relation, *row) for _ in range(min(copies, MOST_AT_ONCE))]
+            copies = replies[-1].result().copies
 
     def _catch_up(self, listed: int = 0) -> None:
         """Takes the changes that have come."""

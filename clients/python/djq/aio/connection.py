@@ -10,7 +10,8 @@ from typing import TYPE_CHECKING, Any, AsyncIterator, Callable, Generator, Itera
 from .. import protocol
 from ..errors import Disconnected, Error, NoCursor, NotWatched, Refused, SomeRefused
 from ..listing import CLOSE, MOST_PAGES, WITHIN, Listing, Said
-from ..protocol import FIRST_REFUSALS, MOST_ANSWERS, Answer, Change, Page, Pending, Protocol, Update, Value
+from ..protocol import FIRST_REFUSALS, MOST_ANSWERS, Absent, Added, Answer, Change, Page, Pending, Protocol, Removed
+from ..protocol import Value
 from ..protocol import checked, column_type, fitting, spell_line
 
 if TYPE_CHECKING:
@@ -86,13 +87,13 @@ class Connection:
         await self._do(fitting(" ".join(["rel", checked(name), *columns])), protocol.READ_OK)
         self._protocol.columns[name] = columns
 
-    async def add(self, relation: str, *values: Value) -> Update:
-        """Puts a row in."""
-        return await self._do(spell_line("add", relation, values), protocol.READ_UPDATE)
+    async def add(self, relation: str, *values: Value) -> Added:
+        """Gives a row one copy more; the first puts it in."""
+        return await self._do(spell_line("add", relation, values), protocol.READ_ADDED)
 
-    async def delete(self, relation: str, *values: Value) -> Update:
-        """Takes a row out."""
-        return await self._do(spell_line("del", relation, values), protocol.READ_UPDATE)
+    async def delete(self, relation: str, *values: Value) -> Removed | Absent:
+        """Takes one copy of a row; the last takes it out."""
+        return await self._do(spell_line("del", relation, values), protocol.READ_REMOVED)
 
     async def query(self, text: str) -> int:
         """Registers a query. Gives the most steps that one answer costs."""
@@ -195,9 +196,10 @@ class Connection:
         return Pipeline(self, raises)
 
     async def load(self, relation: str, rows: Iterable[Sequence[Value]]) -> int:
-        """Puts many rows in, and gives how many weren't there before. Raises `SomeRefused` where some were refused."""
+        """Gives each of many rows one copy more, and tells how many weren't there before. Raises `SomeRefused` where
+        some were refused."""
         changed = 0
-        replies: deque[Pending[Update]] = deque()
+        replies: deque[Pending[Added]] = deque()
         async with self.pipeline() as many:
             for row in rows:
                 replies.append(await many.add(relation, *row))
@@ -425,13 +427,13 @@ class Pipeline:
         if self.refused and self._raises:
             raise SomeRefused(self.sent, self.refused, self.first)
 
-    async def add(self, relation: str, *values: Value) -> Pending[Update]:
-        """Puts a row in."""
-        return await self._say(spell_line("add", relation, values), protocol.READ_UPDATE)
+    async def add(self, relation: str, *values: Value) -> Pending[Added]:
+        """Gives a row one copy more."""
+        return await self._say(spell_line("add", relation, values), protocol.READ_ADDED)
 
-    async def delete(self, relation: str, *values: Value) -> Pending[Update]:
-        """Takes a row out."""
-        return await self._say(spell_line("del", relation, values), protocol.READ_UPDATE)
+    async def delete(self, relation: str, *values: Value) -> Pending[Removed | Absent]:
+        """Takes one copy of a row."""
+        return await self._say(spell_line("del", relation, values), protocol.READ_REMOVED)
 
     async def has(self, query: str, *values: Value) -> Pending[bool]:
         """Whether this is an answer."""

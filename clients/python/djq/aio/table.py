@@ -7,8 +7,8 @@ from typing import Iterator, Sequence
 
 from ..errors import Refused, Taken
 from ..listing import WITHIN
-from ..protocol import READ_UPDATE, Answer, Value
-from ..table import Keyed
+from ..protocol import READ_ADDED, READ_REMOVED, Answer, Value
+from ..table import MOST_AT_ONCE, Keyed, took
 from .connection import Connection, list_whole
 
 
@@ -68,21 +68,33 @@ class Table(Keyed):
         """Makes this the one row of a key, or none, in one write. Where it is refused, the old ones come back."""
         async with self._writing:
             self._catch_up()
-            old, new = self._replacing(row) if row is not None else (set(self._rows.get(key, ())), [])
-            connection = self._connection
+            there, new = self._replacing(row) if row is not None else (self._rows.get(key, set()), [])
+            old, connection = list(there), self._connection
             async with connection._order:
-                pending = [connection._say(line, READ_UPDATE) for line in self._lines(old, new)]
+                gone = [connection._say(line, READ_REMOVED) for line in self._lines("del", old)]
+                came = [connection._say(line, READ_ADDED) for line in self._lines("add", new)]
                 connection._flush()
-            for reply in pending:
+            for reply in (*gone, *came):
                 await connection._done(reply)
             try:
-                for reply in pending:
-                    reply.result()
+                left = [reply.result().copies for reply in gone]
+                for added in came:
+                    added.result()
             except Refused:
-                for gone in old:
-                    await connection.add(self.relation, *gone)
+                for away, reply in zip(old, gone):
+                    if took(reply):
+                        await connection.add(self.relation, *away)
                 raise
-            return bool(pending)
+            for away, copies in zip(old, left):
+                await self._take_rest(away, copies)
+            return bool(gone or came)
+
+    async def _take_rest(self, row: Answer, copies: int) -> None:
+        """Takes the copies that are left of a row, which others gave it."""
+        while copies > 0:
+            async with self._connection.pipeline() as many:
+                replies = [await many.delete(self.relation, *row) for _ in range(min(copies, MOST_AT_ONCE))]
+            copies = replies[-1].result().copies
 
     def _catch_up(self) -> None:
         """Takes the changes that have come."""

@@ -13,8 +13,8 @@ from .queries import Query, cures, read_query, ring
 
 FORMS = {
     "rel": "rel NAME int text ..              a relation with 1 to 8 columns",
-    "add": 'add NAME 1 "a text" ..            puts a row in',
-    "del": 'del NAME 1 "a text" ..            takes a row out',
+    "add": 'add NAME 1 "a text" ..            puts a row in, or gives it one copy more',
+    "del": 'del NAME 1 "a text" ..            takes a copy of a row; the last takes it out',
     "query": "query NAME(x,y) <- REL(x,z), REL(z,y,3)",
     "drop": "drop QUERY",
     "open": "open CURSOR QUERY                 then: next CURSOR 20",
@@ -31,7 +31,7 @@ FORMS = {
 
 LIMITS = {
     "rel": "a relation has at most 8 columns, and a server 256 relations",
-    "add": "a relation has at most 4,294,967,295 rows, and a server as many texts",
+    "add": "a row has at most 4,294,967,295 copies, a relation as many rows, and a server as many texts",
     "query": "a query has at most 16 atoms, 64 variables with each _ counted, and 16 variables in its head; a server"
     " has 256 queries: drop one that nobody needs",
     "open": "a session has at most 16 cursors: close one",

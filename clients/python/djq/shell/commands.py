@@ -21,8 +21,8 @@ from .session import Delta, Said, Session
 
 HELP = """\
 rel NAME int text ..              a relation with 1 to 8 columns
-add NAME 1 "a text" ..            puts a row in
-del NAME 1 "a text" ..            takes a row out
+add NAME 1 "a text" ..            puts a row in, or gives it one copy more
+del NAME 1 "a text" ..            takes a copy of a row; the last takes it out
 query NAME(x,y) <- REL(x,z), REL(z,y,3)
                                   registers a query: equal names stand for equal values, _ for any
 watch QUERY, unwatch QUERY        tells what comes (+) and goes (-) as rows change, or no more
@@ -44,7 +44,7 @@ quit, stop                        ends this session; ends the whole server
 \\?                                this page
 \\q                                ends the shell"""
 
-AGAIN = "; load the file again: rows that are there are left as they are"
+AGAIN = "; to load the file again gives what is there a further copy"
 SHOWN = 50  # answers that \show draws where it isn't told how many
 
 
@@ -195,10 +195,21 @@ class Shell:
         command = told.line.split()[0]
         if command == "next":
             self._tell_page(told)
+        elif command in ("add", "del"):
+            self.screen.line(told.reply[0])
+            self._tell_copies(told.reply[0])
         elif command == "explain":
             self.screen.line("\n".join(tree(told.reply[:-1])))
         else:
             self.screen.line(told.reply[0])
+
+    def _tell_copies(self, reply: str) -> None:
+        """Says why no answer has changed, where the row was there before and is still."""
+        _, done, *numbers = reply.split(" ")
+        if done == "absent" or (done, numbers[1]) in (("added", "1"), ("removed", "0")):
+            return
+        copies = int(numbers[1])
+        self.screen.line(f"the row has {copies:,} {'copy' if copies == 1 else 'copies'} now", "quiet")
 
     def _tell_page(self, told: Said) -> None:
         page = read_page(told.reply) or Page([], True)
@@ -340,17 +351,18 @@ class Shell:
 
         with Interrupts() as interrupts:
             try:
-                came = self._load_whole(path, relation, header, stamp, at)
+                new = self._load_whole(path, relation, header, stamp, at)
             finally:
                 took = progress.end()
         speed = f", {total / took:,.0f} rows a second" if total >= 1000 else ""
-        there = f", {total - came:,} were there already" if came < total else ""
-        self.screen.line(f"{came:,} rows came to {relation}{there}{speed}")
+        there = f", {total - new:,} of them were there and have one copy more" if new < total else ""
+        self.screen.line(f"{total:,} rows came to {relation}{there}{speed}")
 
     def _load_whole(
         self, path: str, relation: str, header: bool, stamp: object, progress: Callable[[int], None]
     ) -> int:
-        """Sends a file's rows, and gives how many came. Where that goes wrong it is taken back as far as it can."""
+        """Sends a file's rows, and gives how many weren't there before. Where that goes wrong it is taken back as far
+        as it can."""
         load = Load(self.session, relation)
         try:
             return load.run(read_rows(path, relation, self._kinds(relation), header), progress)
@@ -358,7 +370,7 @@ class Shell:
             told = str(error) or "interrupted"
             if self.session.ended is not None or _stamp(path) != stamp:
                 why = "the connection was lost" if self.session.ended is not None else f"{path} was changed"
-                became = f"{why}: the {sum(load.came):,} rows that came stay in {relation}{AGAIN}"
+                became = f"{why}: the {sum(load.came):,} rows that came stay in {relation}, and more may have come{AGAIN}"
             else:
                 became = self._undo(load, path, relation, header)
             raise BadFile(f"{told}\n{became}") from error

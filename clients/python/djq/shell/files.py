@@ -1,8 +1,8 @@
 """Rows from CSV files, and answers into them.
 
 A file is read twice: first each row is looked at, so that nothing is sent of a file with a row that doesn't fit; then
-the rows are sent. Where the server refuses one even so, or where it is interrupted, the rows that it had put in are
-taken out again.
+the rows are sent. Where the server refuses one even so, or where it is interrupted, the copies that it had added are
+taken again.
 """
 
 from __future__ import annotations
@@ -86,7 +86,7 @@ def _is_header(cells: list[str], kinds: Sequence[str]) -> str:
 
 
 class _Adds(Rows):
-    """Rows that were sent together, and for each whether it wasn't there before."""
+    """Rows that were sent together, and for each whether a copy of it came."""
 
     def __init__(self, lines: list[str], columns: dict[str, tuple[str, ...]], came: bytearray) -> None:
         super().__init__(lines, columns)
@@ -99,10 +99,11 @@ class _Adds(Rows):
 
 
 class Load:
-    """A file on its way into a relation: of each row that was answered, whether it came."""
+    """A file on its way into a relation: of each row that was answered, whether a copy of it came."""
 
     def __init__(self, session: Session, relation: str) -> None:
         self.came = bytearray()
+        self._new = 0  # rows that weren't there before
         self._session, self._relation = session, relation
         self._open: list[_Adds] = []
 
@@ -116,10 +117,10 @@ class Load:
                 lines = []
         self._send(lines, progress)
         self._settle(0, progress)
-        return sum(self.came)
+        return self._new
 
     def undo(self, rows: Iterator[list[Value]], progress: Callable[[int], None]) -> int:
-        """Takes out what came, and gives how many rows that were."""
+        """Takes a copy of each row of which one came, and gives how many that were."""
         with contextlib.suppress(SomeRefused):
             self._settle(0, lambda done: None)
         lines: list[str] = []
@@ -153,6 +154,7 @@ class Load:
             own._await(own.timeout)
             progress(len(self.came))
         refused = [adds for adds in self._open if adds.refused]
+        self._new += sum(adds.changed for adds in self._open if adds.done)
         self._open = [adds for adds in self._open if not adds.done and not adds.refused]
         if own._protocol.ended is not None:
             raise own._protocol.ended
