@@ -4,7 +4,7 @@ use Rattle.djq_index.specs.declared.place.Place.{Place}
 use Rattle.djq_index.specs.Tuple.{same, pick, one}
 use Rattle.djq_index.specs.Entries.{Entry, supp, cnt, many, marks, plain}
 use Rattle.djq_index.specs.Table.{AreApart, ArePlaced, AreSupported, IsAt}
-use Rattle.djq_index.specs.Changes.{Inserted, Removed, Touched, Supported}
+use Rattle.djq_index.specs.Changes.{Inserted, InsertedAs, Removed, Touched, Supported}
 use Rattle.djq_index.proofs.Counts.{cnt_middle, many_middle, supp_middle, cnt_split}
 use Rattle.djq_index.proofs.Apart.{apart_in, apart_out, apart_here, apart_same, supp_at, supported_in, supported_out}
 use Rattle.djq_index.proofs.Places.{at_in, at_out, at_same, at_here}
@@ -27,17 +27,17 @@ unfolding one
 cond_unit u v = refl
 
 -- an insertion
-pub inserted_cnt : (key : List ℕ) (old new : List Entry) (u : List ℕ) → Inserted key old new u → (v : List ℕ) → cnt new v ≡ cnt old v + one (same u v)
-inserted_cnt key old new u i v = rw (i.was, i.is) (omega (arith, cnt_middle i.front i.entry i.back v, one_of i.entry u v i.tuple))
+pub inserted_cnt : {m : Bool} (key : List ℕ) (old new : List Entry) (u : List ℕ) → InsertedAs m key old new u → (v : List ℕ) → cnt new v ≡ cnt old v + one (same u v)
+inserted_cnt {m} key old new u i v = rw (i.was, i.is) (omega (arith, cnt_middle i.front i.entry i.back v, one_of i.entry u v i.tuple))
 
-pub inserted_supp : (key : List ℕ) (old new : List Entry) (u : List ℕ) → Inserted key old new u → (v : List ℕ) → supp new v ≡ supp old v + one (same u v)
-inserted_supp key old new u i v = rw (i.was, i.is) (omega (arith, supp_middle i.front i.entry i.back v, cond_of i.entry u v 1 i.tuple i.supports, cond_unit u v))
+pub inserted_supp : {m : Bool} (key : List ℕ) (old new : List Entry) (u : List ℕ) → InsertedAs m key old new u → (v : List ℕ) → supp new v ≡ supp old v + one (same u v)
+inserted_supp {m} key old new u i v = rw (i.was, i.is) (omega (arith, supp_middle i.front i.entry i.back v, cond_of i.entry u v 1 i.tuple i.supports, cond_unit u v))
 
-pub inserted_many : (key : List ℕ) (old new : List Entry) (u : List ℕ) → Inserted key old new u → (columns w : List ℕ) → many columns new w ≡ many columns old w + one (same (pick columns u) w)
-inserted_many key old new u i columns w = rw (i.was, i.is) (omega (arith, many_middle columns i.front i.entry i.back w, one_key columns i.entry u w i.tuple))
+pub inserted_many : {m : Bool} (key : List ℕ) (old new : List Entry) (u : List ℕ) → InsertedAs m key old new u → (columns w : List ℕ) → many columns new w ≡ many columns old w + one (same (pick columns u) w)
+inserted_many {m} key old new u i columns w = rw (i.was, i.is) (omega (arith, many_middle columns i.front i.entry i.back w, one_key columns i.entry u w i.tuple))
 
-pub inserted_length : (key : List ℕ) (old new : List Entry) (u : List ℕ) → Inserted key old new u → length new ≡ length old + 1
-inserted_length key old new u i = rw (i.was, i.is) (length_middle i.front i.entry i.back)
+pub inserted_length : {m : Bool} (key : List ℕ) (old new : List Entry) (u : List ℕ) → InsertedAs m key old new u → length new ≡ length old + 1
+inserted_length {m} key old new u i = rw (i.was, i.is) (length_middle i.front i.entry i.back)
 
 pub inserted_plain : (key : List ℕ) (old new : List Entry) (u : List ℕ) → Inserted key old new u → plain new ≡ plain old
 inserted_plain key old new u i = rw (i.was, i.is) (plain_middle i.front i.entry i.back i.marked)
@@ -45,12 +45,12 @@ inserted_plain key old new u i = rw (i.was, i.is) (plain_middle i.front i.entry 
 pub inserted_marks : (key : List ℕ) (old new : List Entry) (u : List ℕ) → Inserted key old new u → (v : List ℕ) → cnt (marks new) v ≡ cnt (marks old) v + one (same u v)
 inserted_marks key old new u i v = omega (arith, inserted_cnt key old new u i v, cnt_split new v, cnt_split old v, ap (λ es. cnt es v) (inserted_plain key old new u i))
 
-pub inserted_apart : (key : List ℕ) (old new : List Entry) (u : List ℕ) → Inserted key old new u → AreApart old → cnt old u ≡ 0 → AreApart new
-inserted_apart key old new u i h none =
+pub inserted_apart : {m : Bool} (key : List ℕ) (old new : List Entry) (u : List ℕ) → InsertedAs m key old new u → AreApart old → cnt old u ≡ 0 → AreApart new
+inserted_apart {m} key old new u i h none =
     subst AreApart (sym i.is) (apart_in i.front i.entry i.back (subst AreApart i.was h) (subst (λ v. cnt (i.front ++ i.back) v ≡ 0) (sym i.tuple) (subst (λ es. cnt es u ≡ 0) i.was none)))
 
-pub inserted_supported : (key : List ℕ) (old new : List Entry) (u : List ℕ) → Inserted key old new u → AreSupported old → AreSupported new
-inserted_supported key old new u i h =
+pub inserted_supported : {m : Bool} (key : List ℕ) (old new : List Entry) (u : List ℕ) → InsertedAs m key old new u → AreSupported old → AreSupported new
+inserted_supported {m} key old new u i h =
     subst AreSupported (sym i.is) (supported_in i.front i.entry i.back (omega (arith, i.supports)) (subst AreSupported i.was h))
 
 -- a removal
@@ -132,8 +132,8 @@ touched_apart key old new u t h =
     subst AreApart (sym t.is) (apart_in t.fore t.after t.rest (subst AreApart t.between (apart_out t.front t.before t.back was)) (subst (λ es. cnt es t.after.tuple ≡ 0) t.between none))
 
 -- places stay valid
-pub inserted_at : (key : List ℕ) (old new : List Entry) (u : List ℕ) → Inserted key old new u → (p : Place) (v : List ℕ) → IsAt old p v → IsAt new p v
-inserted_at key old new u i p v a = subst (λ es. IsAt es p v) (sym i.is) (at_in i.front i.entry i.back p v (subst (λ es. IsAt es p v) i.was a))
+pub inserted_at : {m : Bool} (key : List ℕ) (old new : List Entry) (u : List ℕ) → InsertedAs m key old new u → (p : Place) (v : List ℕ) → IsAt old p v → IsAt new p v
+inserted_at {m} key old new u i p v a = subst (λ es. IsAt es p v) (sym i.is) (at_in i.front i.entry i.back p v (subst (λ es. IsAt es p v) i.was a))
 
 pub removed_at : (old new : List Entry) (u : List ℕ) → Removed old new u → ArePlaced old → (p : Place) (v : List ℕ) → (v ≡ u → ⊥) → IsAt old p v → IsAt new p v
 removed_at old new u r h p v other a =

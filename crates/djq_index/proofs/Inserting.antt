@@ -1,5 +1,5 @@
 -- A tuple comes into a table's parts.
-use Rattle.std.proofs.Common.{◌≡◌, ℕ, ◌≤◌, ◌<◌, List, [], ◌∷◌, ◌++◌, length, slice_set, Option, Some, None, Result, Ok, Err, refl, ap, ap₂, subst, sym, ◌∙◌, arith, true, inl, inr, length-set}
+use Rattle.std.proofs.Common.{◌≡◌, ℕ, Bool, false, cond, ◌≤◌, ◌<◌, List, [], ◌∷◌, ◌++◌, length, slice_set, Option, Some, None, Result, Ok, Err, refl, ap, ap₂, subst, sym, ◌∙◌, arith, true, inl, inr, length-set}
 use Rattle.std.specs.Result.{OnErr}
 use Rattle.std.proofs.lemmas.List.{append-nil}
 use Rattle.djq_arena.specs.declared.chain.Pair.{Pair}
@@ -14,12 +14,12 @@ use Rattle.djq_index.specs.declared.raw.Raw.{Raw}
 use Rattle.djq_index.specs.Tuple.{pick}
 use Rattle.djq_index.specs.Entries.{Entry, cnt, many, grp, marks}
 use Rattle.djq_index.specs.Table.{AreApart, IsAt}
-use Rattle.djq_index.specs.Changes.{Inserted}
+use Rattle.djq_index.specs.Changes.{InsertedAs}
 use Rattle.djq_index.specs.Raw.{note_at, entries_in, entries_of, slots_at, ends_at, AreGroups, IsBare, AreHeads, IsSeat, IsLaid, IsReady, IsNoted, IsSettled}
 use Rattle.djq_index.proofs.Apart.{apart_in}
 use Rattle.djq_index.proofs.Parts.{slots_are, row_at_row, row_below, entries_nil}
 use Rattle.djq_index.proofs.Grouping.{AreGroupsBut, but, join_groups, founded, group_below}
-use Rattle.djq_index.proofs.Keeping.{groups_like, entries_like, entries_set, slots_row, seated_out, seat_noted, trailing_push, mark_push, kind_kept}
+use Rattle.djq_index.proofs.Keeping.{groups_like, entries_like, entries_set, slots_row, seated_out, seat_noted, trailing_put, mark_put, kind_kept}
 
 slots_none : slots [] ≡ []
 unfolding slots
@@ -52,13 +52,13 @@ module _ (a : Raw) (rows : Rows) (notes : List Note) (i : ℕ) (u : List ℕ) (r
   slot_number = omega (arith, laid_room, r.rows_law.numbers)
 
 -- the tuple is there
-module _ (a b : Raw) (rows : Rows) (notes : List Note) (i h : ℕ) (u : List ℕ) (raw : IsBare a) (absent : cnt (entries_of a) u ≡ 0) (r : IsLaid a rows notes i u) (f : IsNoted a b rows notes i h) where
-  pub came_entries : entries_of b ≡ entries_of a ++ (record { at = record { slot = i }; tuple = u; supports = 1; marked = true }) ∷ []
+module _ (m : Bool) (a b : Raw) (rows : Rows) (notes : List Note) (i h : ℕ) (u : List ℕ) (raw : IsBare a) (plain : m ≡ false → marks (entries_of a) ≡ []) (absent : cnt (entries_of a) u ≡ 0) (r : IsLaid a rows notes i u) (f : IsNoted m a b rows notes i h) where
+  pub came_entries : entries_of b ≡ entries_of a ++ (record { at = record { slot = i }; tuple = u; supports = 1; marked = m }) ∷ []
   came_entries =
       ap₂ (λ (ns : List Note) (rs : Rows). entries_in ns rs.rows) f.notes_are f.rows_are
-      ∙ ap (λ (rs : List Row). entries_in (slice_set notes i (record { supports = 1; head = h; marked = true })) rs) r.laid
-      ∙ entries_set notes i (record { supports = 1; head = h; marked = true }) a.rows.rows (record { slot = i; cells = u }) [] refl (slot_notes a rows notes i u r) (subst (λ rs. AreDifferent (slots rs)) r.laid r.rows_law.different)
-      ∙ ap₂ (λ (xs ys : List Entry). xs ++ record { at = record { slot = i }; tuple = u; supports = 1; marked = true } ∷ ys) (entries_like a.notes.items notes a.rows.rows r.same_notes) (entries_nil notes)
+      ∙ ap (λ (rs : List Row). entries_in (slice_set notes i (record { supports = 1; head = h; marked = m })) rs) r.laid
+      ∙ entries_set notes i (record { supports = 1; head = h; marked = m }) a.rows.rows (record { slot = i; cells = u }) [] refl (slot_notes a rows notes i u r) (subst (λ rs. AreDifferent (slots rs)) r.laid r.rows_law.different)
+      ∙ ap₂ (λ (xs ys : List Entry). xs ++ record { at = record { slot = i }; tuple = u; supports = 1; marked = m } ∷ ys) (entries_like a.notes.items notes a.rows.rows r.same_notes) (entries_nil notes)
 
   pub came_bare : IsBare b
   came_bare = record {
@@ -66,16 +66,16 @@ module _ (a b : Raw) (rows : Rows) (notes : List Note) (i h : ℕ) (u : List ℕ
     columns = rw (f.rows_are, f.key, r.width) raw.columns;
     kind = kind_kept a.kind b.kind a.rows.width b.rows.width a.key.items b.key.items f.kind (ap (λ (rs : Rows). rs.width) f.rows_are ∙ r.width) f.key raw.kind;
     notes = rw (f.rows_are, f.notes_are, length-set) r.room_notes;
-    apart = rw came_entries (apart_in (entries_of a) (record { at = record { slot = i }; tuple = u; supports = 1; marked = true }) [] (subst AreApart (sym (append-nil (entries_of a))) raw.apart) (subst (λ es. cnt es u ≡ 0) (sym (append-nil (entries_of a))) absent));
-    trailing = rw came_entries (trailing_push (entries_of a) (record { at = record { slot = i }; tuple = u; supports = 1; marked = true }) raw.trailing refl);
-    marked = f.marked ∙ ap (λ (o : Option ℕ). beside o (Some i) o) raw.marked ∙ mark_push (entries_of a) (record { at = record { slot = i }; tuple = u; supports = 1; marked = true }) i refl refl ∙ ap (λ (es : List Entry). first_of (slots_at (marks es))) (sym came_entries);
+    apart = rw came_entries (apart_in (entries_of a) (record { at = record { slot = i }; tuple = u; supports = 1; marked = m }) [] (subst AreApart (sym (append-nil (entries_of a))) raw.apart) (subst (λ es. cnt es u ≡ 0) (sym (append-nil (entries_of a))) absent));
+    trailing = rw came_entries (trailing_put (entries_of a) (record { at = record { slot = i }; tuple = u; supports = 1; marked = m }) raw.trailing plain);
+    marked = f.marked ∙ ap (λ (o : Option ℕ). cond m (beside o (Some i) o) o) raw.marked ∙ mark_put (entries_of a) (record { at = record { slot = i }; tuple = u; supports = 1; marked = m }) i plain refl ∙ ap (λ (es : List Entry). first_of (slots_at (marks es))) (sym came_entries);
   }
 
-  pub came_inserted : Inserted a.key.items (entries_of a) (entries_of b) u
+  pub came_inserted : InsertedAs m a.key.items (entries_of a) (entries_of b) u
   came_inserted = record {
     front = entries_of a;
     back = [];
-    entry = (record { at = record { slot = i }; tuple = u; supports = 1; marked = true });
+    entry = (record { at = record { slot = i }; tuple = u; supports = 1; marked = m });
     was = sym (append-nil (entries_of a));
     is = came_entries;
     tuple = refl;
@@ -85,7 +85,7 @@ module _ (a b : Raw) (rows : Rows) (notes : List Note) (i h : ℕ) (u : List ℕ
   }
 
   pub came_at : IsAt (entries_of b) (record { slot = i }) u
-  came_at = record { front = entries_of a; back = []; entry = (record { at = record { slot = i }; tuple = u; supports = 1; marked = true }); is = came_entries; tuple = refl; at = refl }
+  came_at = record { front = entries_of a; back = []; entry = (record { at = record { slot = i }; tuple = u; supports = 1; marked = m }); is = came_entries; tuple = refl; at = refl }
 
 -- and its head
 module _ (a : Raw) (rows : Rows) (notes : List Note) (links : List Pair) (keys : Rows) (ends : List Ends) (i h : ℕ) (u : List ℕ) (hs : AreHeads a) (r : IsReady a rows notes links keys ends i h u) where
@@ -120,17 +120,17 @@ module _ (a : Raw) (rows : Rows) (notes : List Note) (links : List Pair) (keys :
   last_links = subst (IsWithin (length links)) (sym (ap (λ (v : Ends). v.last) (ready_but.headed h (pick a.key.items u) ready_but.mine)))
       (last_within (length links) None (slots_at (grp a.key.items (entries_of a) (pick a.key.items u))) tt (group_below (length links) a.key.items (entries_of a) (pick a.key.items u) old_below))
 
-module _ (a b : Raw) (rows : Rows) (notes : List Note) (links : List Pair) (keys : Rows) (ends : List Ends) (i h : ℕ) (u : List ℕ)
-    (raw : IsBare a) (hs : AreHeads a) (absent : cnt (entries_of a) u ≡ 0) (r : IsReady a rows notes links keys ends i h u) (f : IsSettled a b rows notes links keys ends i h) where
-  came_groups : AreGroups a.key.items (slice_set notes i (record { supports = 1; head = h; marked = true })) (entered (ends_at ends h).last i links) keys.rows (slice_set ends h (extended i (ends_at ends h))) (entries_of a ++ (record { at = record { slot = i }; tuple = u; supports = 1; marked = true }) ∷ [])
-  came_groups = join_groups a.key.items notes (slice_set notes i (record { supports = 1; head = h; marked = true })) links keys.rows ends (entries_of a) (pick a.key.items u) h
-      (record { at = record { slot = i }; tuple = u; supports = 1; marked = true }) i
+module _ (m : Bool) (a b : Raw) (rows : Rows) (notes : List Note) (links : List Pair) (keys : Rows) (ends : List Ends) (i h : ℕ) (u : List ℕ)
+    (raw : IsBare a) (plain : m ≡ false → marks (entries_of a) ≡ []) (hs : AreHeads a) (absent : cnt (entries_of a) u ≡ 0) (r : IsReady a rows notes links keys ends i h u) (f : IsSettled m a b rows notes links keys ends i h) where
+  came_groups : AreGroups a.key.items (slice_set notes i (record { supports = 1; head = h; marked = m })) (entered (ends_at ends h).last i links) keys.rows (slice_set ends h (extended i (ends_at ends h))) (entries_of a ++ (record { at = record { slot = i }; tuple = u; supports = 1; marked = m }) ∷ [])
+  came_groups = join_groups a.key.items notes (slice_set notes i (record { supports = 1; head = h; marked = m })) links keys.rows ends (entries_of a) (pick a.key.items u) h
+      (record { at = record { slot = i }; tuple = u; supports = 1; marked = m }) i
       (ready_but a rows notes links keys ends i h u hs r) refl refl
       (laid_out a rows notes i u r.laid)
       (different_front (slots_at (entries_of a)) (i ∷ []) (laid_different a rows notes i u r.laid))
       (old_below a rows notes links keys ends i h u hs r) (slot_links a rows notes links keys ends i h u hs r) (head_ends a rows notes links keys ends i h u hs r)
-      (seated_out a.key.items notes i (record { supports = 1; head = h; marked = true }) keys.rows (entries_of a) (laid_out a rows notes i u r.laid) (ready_but a rows notes links keys ends i h u hs r).seated)
-      (seat_noted notes i (record { supports = 1; head = h; marked = true }) (slot_notes a rows notes i u r.laid))
+      (seated_out a.key.items notes i (record { supports = 1; head = h; marked = m }) keys.rows (entries_of a) (laid_out a rows notes i u r.laid) (ready_but a rows notes links keys ends i h u hs r).seated)
+      (seat_noted notes i (record { supports = 1; head = h; marked = m }) (slot_notes a rows notes i u r.laid))
 
   pub came_heads : AreHeads b
   came_heads = record {
@@ -138,7 +138,7 @@ module _ (a b : Raw) (rows : Rows) (notes : List Note) (links : List Pair) (keys
     key_width = rw (f.keys_are, f.noted.key, r.keys_width) hs.key_width;
     links = rw (f.noted.rows_are, f.links_are, length-entered) r.room_links;
     ends = rw (f.keys_are, f.ends_are, length-set) r.room_ends;
-    groups = rw (came_entries a b rows notes i h u raw absent r.laid f.noted, f.noted.key, f.noted.notes_are, f.links_are, f.keys_are, f.ends_are) came_groups;
+    groups = rw (came_entries m a b rows notes i h u raw plain absent r.laid f.noted, f.noted.key, f.noted.notes_are, f.links_are, f.keys_are, f.ends_are) came_groups;
   }
 
 -- a refused insertion leaves all as it was

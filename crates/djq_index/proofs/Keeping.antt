@@ -184,6 +184,41 @@ mark_push es e i m at =
     ∙ ap first_of (ap (λ (j : ℕ). slots_at (marks es) ++ j ∷ []) (sym at) ∙ sym (ap (λ (zs : List ℕ). slots_at (marks es) ++ e.at.slot ∷ zs) slots_nil) ∙ sym (slots_at_middle (marks es) e []))
     ∙ ap (λ (ms : List Entry). first_of (slots_at ms)) (ap (λ (ms : List Entry). marks es ++ ms) (sym (marks_yes e [] m ∙ ap (λ (ms : List Entry). e ∷ ms) marks_none)) ∙ sym (marks-append es (e ∷ [])))
 
+-- an entry that comes unmarked, where none is marked
+no_marks_first : (e : Entry) (es : List Entry) → marks (e ∷ es) ≡ [] → (e.marked ≡ false) × (marks es ≡ [])
+no_marks_first e es h = elim (cases_Bool e.marked) [
+  | inl here ↦ absurd (cons_none e (marks es) (sym (marks_yes e es here) ∙ h))
+  | inr other ↦ (other, sym (marks_no e es other) ∙ h)
+]
+  where
+    cons_none : (x : Entry) (xs : List Entry) → x ∷ xs ≡ [] → ⊥
+    cons_none x xs k = cc
+
+trailing_none : (es : List Entry) → marks es ≡ [] → AreTrailing es
+unfolding AreTrailing
+trailing_none [] h = tt
+trailing_none (e ∷ es) h = let n = no_marks_first e es h in ((λ k. absurd (false≢true (sym n.0 ∙ k))), trailing_none es n.1)
+
+none_push : (es : List Entry) (e : Entry) → e.marked ≡ false → marks es ≡ [] → marks (es ++ e ∷ []) ≡ []
+none_push es e m h = marks-append es (e ∷ []) ∙ ap₂ (λ (xs ys : List Entry). xs ++ ys) h (marks_no e [] m ∙ marks_none)
+
+pub trailing_put : (es : List Entry) (e : Entry) → AreTrailing es → (e.marked ≡ false → marks es ≡ []) → AreTrailing (es ++ e ∷ [])
+trailing_put es e h plain = elim (cases_Bool e.marked) [
+  | inl here ↦ trailing_push es e h here
+  | inr other ↦ trailing_none (es ++ e ∷ []) (none_push es e other (plain other))
+]
+
+abbrev first_mark : List Entry → Option ℕ
+first_mark es = first_of (slots_at (marks es))
+
+pub mark_put : (es : List Entry) (e : Entry) (i : ℕ) → (e.marked ≡ false → marks es ≡ []) → e.at.slot ≡ i
+    → cond e.marked (beside (first_of (slots_at (marks es))) (Some i) (first_of (slots_at (marks es)))) (first_of (slots_at (marks es))) ≡ first_of (slots_at (marks (es ++ e ∷ [])))
+mark_put es e i plain at = elim (cases_Bool e.marked) [
+  | inl here ↦ ap (λ (b : Bool). cond b (beside (first_mark es) (Some i) (first_mark es)) (first_mark es)) here ∙ mark_push es e i here at
+  | inr other ↦ ap (λ (b : Bool). cond b (beside (first_mark es) (Some i) (first_mark es)) (first_mark es)) other
+      ∙ ap (λ (ms : List Entry). first_of (slots_at ms)) (plain other ∙ sym (none_push es e other (plain other)))
+]
+
 -- entries that differ in supports and marks alone
 unfoldable pub AreAlike : List Entry → List Entry → Type 0
 AreAlike [] [] = Unit {0}

@@ -1,11 +1,11 @@
 -- How one call changes the entries of a table. Where in the list an entry comes is said only as far as its
 -- group: behind all others of it.
-use Rattle.std.specs.Prelude.{◌≡◌, ℕ, true, false, List, ◌∷◌, ◌++◌}
+use Rattle.std.specs.Prelude.{◌≡◌, ℕ, Bool, true, false, List, ◌∷◌, ◌++◌}
 use Rattle.djq_index.specs.Tuple.{pick}
 use Rattle.djq_index.specs.Entries.{Entry, many}
 
--- the tuple u came, marked and with one support, as the last of its group
-pub record Inserted (key : List ℕ) (old new : List Entry) (u : List ℕ) : Type 0 where
+-- the tuple u came, marked or not and with one support, as the last of its group
+pub record InsertedAs (mark : Bool) (key : List ℕ) (old new : List Entry) (u : List ℕ) : Type 0 where
   pub front : List Entry
   pub back : List Entry
   pub entry : Entry
@@ -13,8 +13,12 @@ pub record Inserted (key : List ℕ) (old new : List Entry) (u : List ℕ) : Typ
   pub is : new ≡ front ++ entry ∷ back
   pub tuple : entry.tuple ≡ u
   pub supports : entry.supports ≡ 1
-  pub marked : entry.marked ≡ true
+  pub marked : entry.marked ≡ mark
   pub last : many key back (pick key u) ≡ 0
+
+-- it came marked
+abbrev pub Inserted : List ℕ → List Entry → List Entry → List ℕ → Type 0
+Inserted key old new u = InsertedAs true key old new u
 
 -- the tuple u went
 pub record Removed (old new : List Entry) (u : List ℕ) : Type 0 where

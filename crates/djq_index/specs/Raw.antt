@@ -1,5 +1,5 @@
 -- A table's parts: its tuples as the rows of an arena, a note for each slot, and for each group a head.
-use Rattle.std.specs.Prelude.{◌≡◌, ◌≢◌, ◌⊎◌, ⊤, ℕ, ◌<◌, ◌≤◌, ◌==◌, true, false, cond, List, [], ◌∷◌, ◌++◌, map, length, slice_index, slice_index_or, slice_set, vec_capacity, Option, Some, None}
+use Rattle.std.specs.Prelude.{◌≡◌, ◌≢◌, ◌⊎◌, ⊤, ℕ, ◌<◌, ◌≤◌, ◌==◌, Bool, true, false, cond, List, [], ◌∷◌, ◌++◌, map, length, slice_index, slice_index_or, slice_set, vec_capacity, Option, Some, None}
 use Rattle.djq_arena.specs.declared.chain.Pair.{Pair}
 use Rattle.djq_arena.specs.declared.chain.Ends.{Ends}
 use Rattle.djq_arena.specs.Rows.{Row, Rows, AreRows, IsAbsent, IsRow, IsFull}
@@ -141,17 +141,17 @@ pub record IsReady (a : Raw) (rows : Rows) (notes : List Note) (links : List Pai
   pub room_ends : keys.room ≤ length ends
   pub seat : IsSeat a.keys.rows keys.rows a.ends.items ends h (pick a.key.items u)
 
--- the tuple in slot i is there, marked and with one support; h stands for its group's head
-pub record IsNoted (a b : Raw) (rows : Rows) (notes : List Note) (i h : ℕ) : Type 0 where
+-- the tuple in slot i is there, marked or not and with one support; h stands for its group's head
+pub record IsNoted (mark : Bool) (a b : Raw) (rows : Rows) (notes : List Note) (i h : ℕ) : Type 0 where
   pub kind : b.kind ≡ a.kind
   pub key : b.key.items ≡ a.key.items
   pub rows_are : b.rows ≡ rows
-  pub notes_are : b.notes.items ≡ slice_set notes i (record { supports = 1; head = h; marked = true })
-  pub marked : b.marked ≡ beside a.marked (Some i) a.marked
+  pub notes_are : b.notes.items ≡ slice_set notes i (record { supports = 1; head = h; marked = mark })
+  pub marked : b.marked ≡ cond mark (beside a.marked (Some i) a.marked) a.marked
 
 -- and joins the group of head h
-pub record IsSettled (a b : Raw) (rows : Rows) (notes : List Note) (links : List Pair) (keys : Rows) (ends : List Ends) (i h : ℕ) : Type 0 where
-  pub noted : IsNoted a b rows notes i h
+pub record IsSettled (mark : Bool) (a b : Raw) (rows : Rows) (notes : List Note) (links : List Pair) (keys : Rows) (ends : List Ends) (i h : ℕ) : Type 0 where
+  pub noted : IsNoted mark a b rows notes i h
   pub links_are : b.links.items ≡ entered (ends_at ends h).last i links
   pub keys_are : b.keys ≡ keys
   pub ends_are : b.ends.items ≡ slice_set ends h (extended i (ends_at ends h))

@@ -1,10 +1,10 @@
-ghost use Rattle.std.specs.Prelude.{◌≡◌, ℕ, ◌+◌, ◌-◌, ◌<◌, ◌≤◌, ◌⊎◌, List, [], ◌∷◌, ◌++◌, length, max, slice_set, vec_len, vec_capacity, IfOk, OnErr, MatchOption, Some, None};
+ghost use Rattle.std.specs.Prelude.{◌≡◌, ℕ, ◌+◌, ◌-◌, ◌<◌, ◌≤◌, ◌⊎◌, false, cond, List, [], ◌∷◌, ◌++◌, length, max, slice_set, vec_len, vec_capacity, IfOk, OnErr, MatchOption, Some, None};
 ghost use Rattle.djq_arena.specs.Chains.{pair_at, IsWithin, first_of};
 ghost use Rattle.djq_arena.specs.Rows.{Row, AreRows, IsHeld, IsFull};
 ghost use Rattle.djq_index.specs.Tuple.{pick};
 ghost use Rattle.djq_index.specs.Entries.{Entry, supp, cnt, grp, marks, is_marked, unmarked, head_at, last_at};
 ghost use Rattle.djq_index.specs.Table.{IsAt, IsLive, IsUnmarked, IsRaisable, IsLowerable, AreColumns};
-ghost use Rattle.djq_index.specs.Changes.{Inserted, Removed, Touched, Supported};
+ghost use Rattle.djq_index.specs.Changes.{InsertedAs, Removed, Touched, Supported};
 ghost use Rattle.djq_index.specs.Raw.{IsRaw, IsBare, AreHeads, IsNoted, IsMarked, entries_of, slots_at, place_of, note_at, ends_at, IsSeat, IsSettled, passed, entries_in, AreTrailing, without_mark, HasNoRoom, HasNoRoomForHead};
 ghost use Rattle.djq_arena.specs.Store.{ends_of, beside};
 
@@ -281,10 +281,17 @@ fn renew(rows: &mut Arena, slot: u32)
     rows.laws();
 }
 
-/// Marks a laid tuple, and gives it one support.
-fn sign(raw: &mut Raw, slot: u32, head: u32)
+/// The first marked slot, where this one may be marked as the last of all.
+fn with_slot(first: Option<u32>, slot: u32, marked: bool) -> Option<u32>
+    ensures { result ≡ cond marked (beside first (Some slot) first) first }
+{
+    if marked { or_slot(first, slot) } else { first }
+}
+
+/// Gives a laid tuple one support, and its mark, if any.
+fn sign(raw: &mut Raw, slot: u32, head: u32, marked: bool)
     requires { slot < length raw.old.notes.items }
-    ensures noted { IsNoted raw.old raw.new raw.old.rows raw.old.notes.items slot head }
+    ensures noted { IsNoted marked raw.old raw.new raw.old.rows raw.old.notes.items slot head }
     ensures links { raw.new.links.items ≡ raw.old.links.items }
     ensures keys { raw.new.keys ≡ raw.old.keys }
     ensures ends { raw.new.ends.items ≡ raw.old.ends.items }
@@ -292,10 +299,10 @@ fn sign(raw: &mut Raw, slot: u32, head: u32)
     let note = Note {
         supports: 1,
         head,
-        marked: true,
+        marked,
     };
     set_note(&mut raw.notes, slot, note);
-    raw.marked = or_slot(raw.marked, slot);
+    raw.marked = with_slot(raw.marked, slot, marked);
 }
 
 /// Marks the tuple in a slot, which is the last of all.
@@ -313,29 +320,30 @@ fn mark(raw: &mut Raw, slot: u32)
     raw.marked = or_slot(raw.marked, slot);
 }
 
-/// Puts a laid tuple behind its group, marked and with one support.
-fn settle(raw: &mut Raw, slot: u32, head: u32)
+/// Puts a laid tuple behind its group, marked or not and with one support.
+fn settle(raw: &mut Raw, slot: u32, head: u32, marked: bool)
     requires notes { slot < length raw.old.notes.items }
     requires links { slot < length raw.old.links.items }
     requires number { slot < 4294967295 }
     requires head { head < length raw.old.ends.items }
     requires last { IsWithin (length raw.old.links.items) (ends_at raw.old.ends.items head).last }
-    ensures settled { IsSettled raw.old raw.new raw.old.rows raw.old.notes.items raw.old.links.items raw.old.keys raw.old.ends.items slot head }
+    ensures settled { IsSettled marked raw.old raw.new raw.old.rows raw.old.notes.items raw.old.links.items raw.old.keys raw.old.ends.items slot head }
 {
     join(&mut raw.links, &mut raw.ends, slot, head);
-    sign(raw, slot, head);
+    sign(raw, slot, head, marked);
 }
 
 /// Puts a tuple that isn't there behind the group of its head.
-fn insert_keyed(raw: &mut Raw, tuple: &[u64]) -> Result<Place, AllocError>
+fn insert_keyed(raw: &mut Raw, tuple: &[u64], marked: bool) -> Result<Place, AllocError>
     requires raw { IsBare raw.old }
     requires heads { AreHeads raw.old }
     requires absent { cnt (entries_of raw.old) tuple.now ≡ 0 }
     requires wide { length tuple.now ≡ raw.old.rows.width }
     requires few { length (entries_of raw.old) < 4294967295 }
+    requires plain { marked ≡ false → marks (entries_of raw.old) ≡ [] }
     ensures raw { IsBare raw.new }
     ensures heads { AreHeads raw.new }
-    ensures inserted { IfOk result (λ p. Inserted raw.old.key.items (entries_of raw.old) (entries_of raw.new) tuple.now) }
+    ensures inserted { IfOk result (λ p. InsertedAs marked raw.old.key.items (entries_of raw.old) (entries_of raw.new) tuple.now) }
     ensures at { IfOk result (λ p. IsAt (entries_of raw.new) p tuple.now) }
     ensures refused { OnErr result (entries_of raw.new ≡ entries_of raw.old) }
     ensures full { OnErr result (IsFull raw.old.rows ⊎ HasNoRoomForHead raw.old) }
@@ -356,20 +364,21 @@ fn insert_keyed(raw: &mut Raw, tuple: &[u64]) -> Result<Place, AllocError>
             Err(e)
         }
         Ok(head) => {
-            settle(raw, slot, head);
+            settle(raw, slot, head, marked);
             Ok(Place::new(slot))
         }
     }
 }
 
 /// Puts a tuple that isn't there behind all others: its group needs nothing.
-fn insert_bare(raw: &mut Raw, tuple: &[u64]) -> Result<Place, AllocError>
+fn insert_bare(raw: &mut Raw, tuple: &[u64], marked: bool) -> Result<Place, AllocError>
     requires raw { IsBare raw.old }
     requires absent { cnt (entries_of raw.old) tuple.now ≡ 0 }
     requires wide { length tuple.now ≡ raw.old.rows.width }
     requires few { length (entries_of raw.old) < 4294967295 }
+    requires plain { marked ≡ false → marks (entries_of raw.old) ≡ [] }
     ensures raw { IsBare raw.new }
-    ensures inserted { IfOk result (λ p. Inserted raw.old.key.items (entries_of raw.old) (entries_of raw.new) tuple.now) }
+    ensures inserted { IfOk result (λ p. InsertedAs marked raw.old.key.items (entries_of raw.old) (entries_of raw.new) tuple.now) }
     ensures at { IfOk result (λ p. IsAt (entries_of raw.new) p tuple.now) }
     ensures refused { OnErr result (entries_of raw.new ≡ entries_of raw.old) }
     ensures full { OnErr result (IsFull raw.old.rows) }
@@ -378,18 +387,20 @@ fn insert_bare(raw: &mut Raw, tuple: &[u64]) -> Result<Place, AllocError>
     ensures width { raw.new.rows.width ≡ raw.old.rows.width }
 {
     let slot = lay(&mut raw.rows, &mut raw.notes, tuple)?;
-    sign(raw, slot, 0);
+    sign(raw, slot, 0, marked);
     Ok(Place::new(slot))
 }
 
-/// Puts in a tuple that isn't there. Where there is no memory, the entries stay as they were.
-pub fn insert_in(raw: &mut Raw, tuple: &[u64]) -> Result<Place, AllocError>
+/// Puts in a tuple that isn't there, unmarked only where no tuple is marked. Where there is no memory, the
+/// entries stay as they were.
+pub fn insert_in(raw: &mut Raw, tuple: &[u64], marked: bool) -> Result<Place, AllocError>
     requires raw { IsRaw raw.old }
     requires absent { cnt (entries_of raw.old) tuple.now ≡ 0 }
     requires wide { length tuple.now ≡ raw.old.rows.width }
     requires few { length (entries_of raw.old) < 4294967295 }
+    requires plain { marked ≡ false → marks (entries_of raw.old) ≡ [] }
     ensures raw { IsRaw raw.new }
-    ensures inserted { IfOk result (λ p. Inserted raw.old.key.items (entries_of raw.old) (entries_of raw.new) tuple.now) }
+    ensures inserted { IfOk result (λ p. InsertedAs marked raw.old.key.items (entries_of raw.old) (entries_of raw.new) tuple.now) }
     ensures at { IfOk result (λ p. IsAt (entries_of raw.new) p tuple.now) }
     ensures refused { OnErr result (entries_of raw.new ≡ entries_of raw.old) }
     ensures full { OnErr result (HasNoRoom raw.old) }
@@ -397,8 +408,8 @@ pub fn insert_in(raw: &mut Raw, tuple: &[u64]) -> Result<Place, AllocError>
     ensures width { raw.new.rows.width ≡ raw.old.rows.width }
 {
     match raw.kind {
-        Kind::Keyed => insert_keyed(raw, tuple),
-        _ => insert_bare(raw, tuple),
+        Kind::Keyed => insert_keyed(raw, tuple, marked),
+        _ => insert_bare(raw, tuple, marked),
     }
 }
 

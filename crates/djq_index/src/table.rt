@@ -1,7 +1,7 @@
-ghost use Rattle.std.specs.Prelude.{◌≡◌, ℕ, ◌+◌, ◌-◌, ◌<◌, ◌≤◌, ◌==◌, List, [], ◌∷◌, ◌++◌, length, IfOk, OnErr, MatchOption};
+ghost use Rattle.std.specs.Prelude.{◌≡◌, ℕ, ◌+◌, ◌-◌, ◌<◌, ◌≤◌, ◌==◌, false, List, [], ◌∷◌, ◌++◌, length, IfOk, OnErr, MatchOption};
 ghost use Rattle.djq_index.specs.Entries.{Entry, supp, cnt, grp, marks, is_marked, unmarked, head_at, last_at};
 ghost use Rattle.djq_index.specs.Table.{IsTable, IsAt, IsLive, IsUnmarked, IsRaisable, IsLowerable, AreColumns};
-ghost use Rattle.djq_index.specs.Changes.{Inserted, Removed, Touched, Supported};
+ghost use Rattle.djq_index.specs.Changes.{Inserted, InsertedAs, Removed, Touched, Supported};
 
 use crate::place::Place;
 use crate::raw::{
@@ -200,8 +200,31 @@ impl Table {
         ensures counted { tally.new ≡ tally.old + 1 }
         ensures table { IsTable self.new }
     {
+        self.insert_as(tuple, true, tally)
+    }
+
+    /// The same as `insert`, where the tuple is to be marked; else it comes unmarked, and no tuple may
+    /// be marked.
+    pub fn insert_as<L: Ledger>(
+        &mut self,
+        tuple: &[u64],
+        marked: bool,
+        tally: &mut Tally<L>,
+    ) -> Result<Place, AllocError>
+        requires absent { cnt self.old.entries tuple.now ≡ 0 }
+        requires wide { length tuple.now ≡ self.old.width }
+        requires few { length self.old.entries < 4294967295 }
+        requires plain { marked ≡ false → marks self.old.entries ≡ [] }
+        ensures inserted { IfOk result (λ p. InsertedAs marked self.old.key self.old.entries self.new.entries tuple.now) }
+        ensures at { IfOk result (λ p. IsAt self.new.entries p tuple.now) }
+        ensures refused { OnErr result (self.new.entries ≡ self.old.entries) }
+        ensures key { self.new.key ≡ self.old.key }
+        ensures width { self.new.width ≡ self.old.width }
+        ensures counted { tally.new ≡ tally.old + 1 }
+        ensures table { IsTable self.new }
+    {
         tally.edit();
-        insert_in(&mut self.raw, tuple)
+        insert_in(&mut self.raw, tuple, marked)
     }
 
     /// Takes the tuple at a place out. Other places stay valid.

@@ -21,6 +21,8 @@ adds_up t small V n all some =
       removed = λ x. omega (arith, spread (paths t) n, path, each, over);
       undone = λ x. omega (arith, spread (paths t) n, path, each, over);
       refused = λ x. omega (arith, over);
+      added = λ x. omega (arith, over);
+      taken = λ x. omega (arith, over);
     }
   where
     few_paths : paths t ≤ t.leaves + length V

@@ -8,7 +8,7 @@ use Rattle.djq_index.specs.Table.{Table}
 use Rattle.djq_index.proofs.Tuples.{same_cases, same_is, true_from_one, one_same, one_le, one_other}
 use Rattle.djq_index.proofs.Counts.{cnt_cons, cnt_split, many_cons}
 use Rattle.djq_index.proofs.Apart.{cnt_supp, supp_none}
-use Rattle.djq_index.proofs.Changing.{inserted_cnt}
+use Rattle.djq_index.proofs.Changing.{inserted_cnt, removed_cnt}
 use Rattle.djq_index.proofs.Marks.{unmarked_marks}
 use Rattle.djq_tree.specs.declared.node.Node.{Node}
 use Rattle.djq_tree.specs.declared.node.Node.TheVariants.{Leaf, Trim, Meet}
@@ -19,7 +19,7 @@ use Rattle.djq_reduct.specs.Reducts.{IsReductOf, IsReducts, IsFamily}
 use Rattle.djq_reduct.specs.Tables.{entries_at, key_at}
 use Rattle.djq_propagate.specs.Touches.{IsTouched, IsTouchedUp, HaveFew, IsCovered, CanWalk, IsWalked, IsStep, reach, cost}
 use Rattle.djq_propagate.specs.Updates.{HasTaken}
-use Rattle.djq_propagate.specs.Walks.{Changed, Lived, SamePlain}
+use Rattle.djq_propagate.specs.Walks.{Changed, Lived, Died, CameAs}
 use Rattle.djq_propagate.proofs.Families.{once, tuples_same, reduced_same}
 use Rattle.djq_propagate.proofs.Marking.{reach_agrees, guard_some, new_supp, bare_mid, covered_mid}
 use Rattle.djq_propagate.proofs.Measuring.{length_less}
@@ -78,8 +78,17 @@ one_lived t old new a u l = record {
   ];
 }
 
+pub one_died : (t : Tree) (old new : List Table) (a : ℕ) (u : List ℕ) → Died t old new a u → OneMore (entries_at new a) (entries_at old a)
+one_died t old new a u d = record {
+  tuple = u;
+  only = λ v some none. elim (same_cases u v) [
+    | inl here ↦ sym here
+    | inr other ↦ absurd (omega (arith, removed_cnt (entries_at old a) (entries_at new a) u d.loses v, one_other u v other))
+  ];
+}
+
 -- what came is marked, and that is one tuple in each table
-pub few_lived : (t : Tree) (old new : List Table) (a : ℕ) (u : List ℕ) → HasEqualMeets t → IsReducts (both t old) → a < t.leaves → IsBare old → Lived t old new a u → SamePlain old new → HaveFew new
+pub few_lived : (t : Tree) (old new : List Table) (a : ℕ) (u : List ℕ) → HasEqualMeets t → IsReducts (both t old) → a < t.leaves → IsBare old → Lived t old new a u → CameAs true old new → HaveFew new
 few_lived t old new a u meets r leaf bare l p =
     let s = reducts_lived t old new a u r leaf l in
     let one_at = one_more t old new a meets r s (λ j v low apart. ap (λ (es : List Entry). cnt es v) (l.below j (leaf_below t a j r.family.is_tree low apart))) (one_lived t old new a u l) in

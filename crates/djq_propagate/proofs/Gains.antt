@@ -6,7 +6,7 @@ use Rattle.std.specs.Prelude.{slice_index}
 use Rattle.djq_index.specs.declared.place.Place.{Place}
 use Rattle.djq_index.specs.Tuple.{same, pick, one}
 use Rattle.djq_index.specs.Entries.{Entry, supp, cnt, many, grp}
-use Rattle.djq_index.specs.Changes.{Inserted, Removed, Supported}
+use Rattle.djq_index.specs.Changes.{InsertedAs, Removed, Supported}
 use Rattle.djq_index.specs.Table.{Table, IsAt}
 use Rattle.djq_index.proofs.Tuples.{same_cases, same_sym, one_same, one_other}
 use Rattle.djq_index.proofs.Counts.{many_length}
@@ -64,10 +64,10 @@ trim_few t ts j k f h u = let n = f.narrow.labels k in omega (arith, trim_key t 
 pub trim_wide : (t : Tree) (ts : List Table) (j k : ℕ) (v w : List ℕ) → IsFamily t ts → j < length t.nodes → IsUnder t k (Trim j) j → w ≡ pick (key_at ts j) v → length w ≡ width_at ts k
 trim_wide t ts j k v w f h u e = ap (λ (x : List ℕ). length x) e ∙ pick_length (key_at ts j) v ∙ trim_key t ts j k f h u ∙ sym (f.keyed k u.within).width
 
-trim_equation : (t : Tree) (was now new : List Table) (j k : ℕ) (u w : List ℕ) → Began t was now j → IsUnder t k (Trim j) j → IsFamily t new → entries_at new j ≡ entries_at now j
-    → Inserted (key_at was j) (entries_at was j) (entries_at now j) u → w ≡ pick (key_at now j) u → ((v : List ℕ) → supp (entries_at new k) v ≡ supp (entries_at now k) v + one (same w v)) → IsReductOf (Trim j) new k
+trim_equation : {m : Bool} (t : Tree) (was now new : List Table) (j k : ℕ) (u w : List ℕ) → Began t was now j → IsUnder t k (Trim j) j → IsFamily t new → entries_at new j ≡ entries_at now j
+    → InsertedAs m (key_at was j) (entries_at was j) (entries_at now j) u → w ≡ pick (key_at now j) u → ((v : List ℕ) → supp (entries_at new k) v ≡ supp (entries_at now k) v + one (same w v)) → IsReductOf (Trim j) new k
 unfolding IsReductOf
-trim_equation t was now new j k u w b x f stay i e gain v =
+trim_equation {m} t was now new j k u w b x f stay i e gain v =
     let keys : key_at new j ≡ key_at was j = same_keys t was new b.ready.family f j in
     let law = trim_law (Trim j) j was k refl (law_of t was now j k (Trim j) b x) v in
     let more = inserted_many (key_at was j) (entries_at was j) (entries_at now j) u i (key_at was j) v in
@@ -77,9 +77,9 @@ trim_equation t was now new j k u w b x f stay i e gain v =
     omega (arith, gain v)
 
 -- the projection was there
-pub trim_raised : (t : Tree) (was now new : List Table) (j k : ℕ) (u w : List ℕ) → Began t was now j → Inserted (key_at was j) (entries_at was j) (entries_at now j) u → IsUnder t k (Trim j) j → Changed now new k
+pub trim_raised : {m : Bool} (t : Tree) (was now new : List Table) (j k : ℕ) (u w : List ℕ) → Began t was now j → InsertedAs m (key_at was j) (entries_at was j) (entries_at now j) u → IsUnder t k (Trim j) j → Changed now new k
     → Supported (entries_at now k) (entries_at new k) w (supp (entries_at now k) w) (supp (entries_at now k) w + 1) → w ≡ pick (key_at now j) u → Righted t now new j
-trim_raised t was now new j k u w b i x c s e =
+trim_raised {m} t was now new j k u w b i x c s e =
     let low = lower_of t k (Trim j) j b.ready.family.is_tree x in
     let f = c.family t (now_family t was now j b) in
     righted t was now new j k (Trim j) b x f (λ y less. c.others y (omega arith))
@@ -90,8 +90,8 @@ lived_low : (t : Tree) (now new : List Table) (k : ℕ) (w : List ℕ) → IsTre
 lived_low t now new k w s l i less = l.below i (below_up t k i s less)
 
 -- it came
-pub trim_lived : (t : Tree) (was now new : List Table) (j k : ℕ) (u w : List ℕ) → Began t was now j → Inserted (key_at was j) (entries_at was j) (entries_at now j) u → IsUnder t k (Trim j) j → Lived t now new k w → w ≡ pick (key_at now j) u → Righted t now new j
-trim_lived t was now new j k u w b i x l e =
+pub trim_lived : {m : Bool} (t : Tree) (was now new : List Table) (j k : ℕ) (u w : List ℕ) → Began t was now j → InsertedAs m (key_at was j) (entries_at was j) (entries_at now j) u → IsUnder t k (Trim j) j → Lived t now new k w → w ≡ pick (key_at now j) u → Righted t now new j
+trim_lived {m} t was now new j k u w b i x l e =
     let s = b.ready.family.is_tree in
     let low = lower_of t k (Trim j) j s x in
     righted t was now new j k (Trim j) b x l.family (lived_low t now new k w s l)
@@ -99,9 +99,9 @@ trim_lived t was now new j k u w b i x l e =
     l.reduced
 
 -- a trim's tuple has no more supports than there is room for
-pub trim_room : (t : Tree) (was now : List Table) (j k : ℕ) (u w : List ℕ) → Began t was now j → Inserted (key_at was j) (entries_at was j) (entries_at now j) u → IsUnder t k (Trim j) j
+pub trim_room : {m : Bool} (t : Tree) (was now : List Table) (j k : ℕ) (u w : List ℕ) → Began t was now j → InsertedAs m (key_at was j) (entries_at was j) (entries_at now j) u → IsUnder t k (Trim j) j
     → length (entries_at now j) ≤ 4294967295 → supp (entries_at now k) w < 4294967295
-trim_room t was now j k u w b i x small =
+trim_room {m} t was now j k u w b i x small =
     omega (
       arith,
       ap (λ (es : List Entry). supp es w) (same_up t was now j k (Trim j) b x),
@@ -111,8 +111,8 @@ trim_room t was now j k u w b i x small =
     )
 
 -- a tuple that came wasn't there
-pub was_absent : (t : Tree) (was now : List Table) (j : ℕ) (u : List ℕ) → Began t was now j → Inserted (key_at was j) (entries_at was j) (entries_at now j) u → cnt (entries_at was j) u ≡ 0
-was_absent t was now j u b i =
+pub was_absent : {m : Bool} (t : Tree) (was now : List Table) (j : ℕ) (u : List ℕ) → Began t was now j → InsertedAs m (key_at was j) (entries_at was j) (entries_at now j) u → cnt (entries_at was j) u ≡ 0
+was_absent {m} t was now j u b i =
     omega (arith, inserted_cnt (key_at was j) (entries_at was j) (entries_at now j) u i u, one_same u, once t now (now_family t was now j b) j u)
 
 -- at a guard
@@ -122,8 +122,8 @@ guard_few t ts j s k f h u = let n = f.narrow.labels s in omega (arith, key_leng
 pub guard_wide : (t : Tree) (ts : List Table) (j s k : ℕ) → IsFamily t ts → j < length t.nodes → IsUnder t k (Meet j s) j → width_at ts k ≡ width_at ts j
 guard_wide t ts j s k f h u = (f.keyed k u.within).width ∙ ap (λ (l : List ℕ). length l) (f.is_tree.meet k j s u.node).guard ∙ sym (f.keyed j h).width
 
-pub guard_absent : (t : Tree) (was now : List Table) (j s k : ℕ) (u : List ℕ) → Began t was now j → Inserted (key_at was j) (entries_at was j) (entries_at now j) u → IsUnder t k (Meet j s) j → cnt (entries_at now k) u ≡ 0
-guard_absent t was now j s k u b i x =
+pub guard_absent : {m : Bool} (t : Tree) (was now : List Table) (j s k : ℕ) (u : List ℕ) → Began t was now j → InsertedAs m (key_at was j) (entries_at was j) (entries_at now j) u → IsUnder t k (Meet j s) j → cnt (entries_at now k) u ≡ 0
+guard_absent {m} t was now j s k u b i x =
     let law : supp (entries_at was k) u ≡ cnt (entries_at was j) u * cnt (entries_at was s) (pick (key_at was j) u) = meet_law (Meet j s) j s was k refl (law_of t was now j k (Meet j s) b x) u in
     let none : cnt (entries_at was j) u * cnt (entries_at was s) (pick (key_at was j) u) ≡ 0 * cnt (entries_at was s) (pick (key_at was j) u) = ap (λ (n : ℕ). n * cnt (entries_at was s) (pick (key_at was j) u)) (was_absent t was now j u b i) in
     let zero_supp : supp (entries_at was k) u ≡ 0 = omega arith in
@@ -139,10 +139,10 @@ times_one u v f n h =
       | inr other ↦ (let e = one_other u v other in rw e (omega arith))
     ]
 
-guard_equation : (t : Tree) (was now new : List Table) (j s k : ℕ) (u : List ℕ) (n : ℕ) → Began t was now j → IsUnder t k (Meet j s) j → IsFamily t new → entries_at new j ≡ entries_at now j → entries_at new s ≡ entries_at now s
-    → Inserted (key_at was j) (entries_at was j) (entries_at now j) u → cnt (entries_at now s) (pick (key_at now j) u) ≡ n → ((v : List ℕ) → supp (entries_at new k) v ≡ supp (entries_at now k) v + one (same u v) * n) → IsReductOf (Meet j s) new k
+guard_equation : {m : Bool} (t : Tree) (was now new : List Table) (j s k : ℕ) (u : List ℕ) (n : ℕ) → Began t was now j → IsUnder t k (Meet j s) j → IsFamily t new → entries_at new j ≡ entries_at now j → entries_at new s ≡ entries_at now s
+    → InsertedAs m (key_at was j) (entries_at was j) (entries_at now j) u → cnt (entries_at now s) (pick (key_at now j) u) ≡ n → ((v : List ℕ) → supp (entries_at new k) v ≡ supp (entries_at now k) v + one (same u v) * n) → IsReductOf (Meet j s) new k
 unfolding IsReductOf
-guard_equation t was now new j s k u n b x f stay side i has gain v =
+guard_equation {m} t was now new j s k u n b x f stay side i has gain v =
     let keys : key_at new j ≡ key_at was j = same_keys t was new b.ready.family f j in
     let law = meet_law (Meet j s) j s was k refl (law_of t was now j k (Meet j s) b x) v in
     let more = inserted_cnt (key_at was j) (entries_at was j) (entries_at now j) u i v in
@@ -160,9 +160,9 @@ guard_equation t was now new j s k u n b x f stay side i has gain v =
     distributes a b c = omega arith
 
 -- the side has the projection
-pub guard_lived : (t : Tree) (was now new : List Table) (j s k : ℕ) (u : List ℕ) (p : Place) → Began t was now j → Inserted (key_at was j) (entries_at was j) (entries_at now j) u → IsUnder t k (Meet j s) j → Lived t now new k u
+pub guard_lived : {m : Bool} (t : Tree) (was now new : List Table) (j s k : ℕ) (u : List ℕ) (p : Place) → Began t was now j → InsertedAs m (key_at was j) (entries_at was j) (entries_at now j) u → IsUnder t k (Meet j s) j → Lived t now new k u
     → IsAt (entries_at now s) p (pick (key_at now j) u) → Righted t now new j
-guard_lived t was now new j s k u p b i x l a =
+guard_lived {m} t was now new j s k u p b i x l a =
     let tree = b.ready.family.is_tree in
     let m = tree.meet k j s x.node in
     let low = lived_low t now new k u tree l in
@@ -172,8 +172,8 @@ guard_lived t was now new j s k u p b i x l a =
     l.reduced
 
 -- it doesn't
-pub guard_idle : (t : Tree) (was now : List Table) (j s k : ℕ) (u : List ℕ) → Began t was now j → Inserted (key_at was j) (entries_at was j) (entries_at now j) u → IsUnder t k (Meet j s) j → cnt (entries_at now s) (pick (key_at now j) u) ≡ 0 → Righted t now now j
-guard_idle t was now j s k u b i x none =
+pub guard_idle : {m : Bool} (t : Tree) (was now : List Table) (j s k : ℕ) (u : List ℕ) → Began t was now j → InsertedAs m (key_at was j) (entries_at was j) (entries_at now j) u → IsUnder t k (Meet j s) j → cnt (entries_at now s) (pick (key_at now j) u) ≡ 0 → Righted t now now j
+guard_idle {m} t was now j s k u b i x none =
     idle t was now j k (Meet j s) b x
     (guard_equation t was now now j s k u 0 b x (now_family t was now j b) refl refl i none (λ v. omega arith))
 
@@ -189,16 +189,16 @@ meet_high t k g s h e =
     differ x = cc
 
 -- at a side: none of the group that comes was there
-pub side_none : (t : Tree) (was now : List Table) (g j k : ℕ) (u v : List ℕ) → Began t was now j → Inserted (key_at was j) (entries_at was j) (entries_at now j) u → IsUnder t k (Meet g j) j → pick (key_at now g) v ≡ u → supp (entries_at now k) v ≡ 0
-side_none t was now g j k u v b i x here =
+pub side_none : {m : Bool} (t : Tree) (was now : List Table) (g j k : ℕ) (u v : List ℕ) → Began t was now j → InsertedAs m (key_at was j) (entries_at was j) (entries_at now j) u → IsUnder t k (Meet g j) j → pick (key_at now g) v ≡ u → supp (entries_at now k) v ≡ 0
+side_none {m} t was now g j k u v b i x here =
     let law : supp (entries_at was k) v ≡ cnt (entries_at was g) v * cnt (entries_at was j) (pick (key_at was g) v) = meet_law (Meet g j) g j was k refl (law_of t was now j k (Meet g j) b x) v in
     let part : cnt (entries_at was j) (pick (key_at was g) v) ≡ 0 = ap (λ (w : List ℕ). cnt (entries_at was j) w) (ap (λ (ks : List ℕ). pick ks v) (sym (keys_now t was now j b g)) ∙ here) ∙ was_absent t was now j u b i in
     let none : cnt (entries_at was g) v * cnt (entries_at was j) (pick (key_at was g) v) ≡ cnt (entries_at was g) v * 0 = ap (λ (n : ℕ). cnt (entries_at was g) v * n) part in
     ap (λ (es : List Entry). supp es v) (same_up t was now j k (Meet g j) b x) ∙ omega arith
 
-pub side_absent : (t : Tree) (was now mid : List Table) (g j k i : ℕ) (u : List ℕ) (e : Entry) → Began t was now j → Inserted (key_at was j) (entries_at was j) (entries_at now j) u → IsUnder t k (Meet g j) j
+pub side_absent : {m : Bool} (t : Tree) (was now mid : List Table) (g j k i : ℕ) (u : List ℕ) (e : Entry) → Began t was now j → InsertedAs m (key_at was j) (entries_at was j) (entries_at now j) u → IsUnder t k (Meet g j) j
     → IsGrown t now mid k (take i (grp (key_at now g) (entries_at now g) u)) → grp (key_at now g) (entries_at now g) u ≡ take i (grp (key_at now g) (entries_at now g) u) ++ e ∷ drop (i + 1) (grp (key_at now g) (entries_at now g) u) → cnt (entries_at mid k) e.tuple ≡ 0
-side_absent t was now mid g j k i u e b ins x grown cut =
+side_absent {m} t was now mid g j k i u e b ins x grown cut =
     let all = grp (key_at now g) (entries_at now g) u in
     let c = cut_new all i e (λ v. group_once (key_at now g) (entries_at now g) u v (apart_of t now (now_family t was now j b) g)) cut in
     let first = c.0 in
@@ -207,10 +207,10 @@ side_absent t was now mid g j k i u e b ins x grown cut =
     cnt_none (entries_at mid k) e.tuple (grown.family.supported k) (omega (arith, grown.came e.tuple, side_none t was now g j k u e.tuple b ins x has.1))
 
 -- the whole group came
-pub side_righted : (t : Tree) (was now new : List Table) (g j k i : ℕ) (u : List ℕ) → Began t was now j → Inserted (key_at was j) (entries_at was j) (entries_at now j) u → IsUnder t k (Meet g j) j
+pub side_righted : {mark : Bool} (t : Tree) (was now new : List Table) (g j k i : ℕ) (u : List ℕ) → Began t was now j → InsertedAs mark (key_at was j) (entries_at was j) (entries_at now j) u → IsUnder t k (Meet g j) j
     → IsGrown t now new k (take i (grp (key_at now g) (entries_at now g) u)) → drop i (grp (key_at now g) (entries_at now g) u) ≡ [] → Righted t now new j
 unfolding IsReductOf
-side_righted t was now new g j k i u b ins x grown ends = righted t was now new j k (Meet g j) b x grown.family grown.low equation grown.reduced
+side_righted {mark} t was now new g j k i u b ins x grown ends = righted t was now new j k (Meet g j) b x grown.family grown.low equation grown.reduced
   where
     m : IsMeet t.labels k g j
     m = b.ready.family.is_tree.meet k g j x.node
@@ -237,9 +237,9 @@ side_righted t was now new g j k i u b ins x grown ends = righted t was now new 
         omega (arith, grown.came v, take_all (grp (key_at now g) (entries_at now g) u) i v ends)
 
 -- a refusal above, and what came before it
-pub side_full : (t : Tree) (was now mid after : List Table) (g j k i : ℕ) (u : List ℕ) → Began t was now j → Inserted (key_at was j) (entries_at was j) (entries_at now j) u → IsUnder t k (Meet g j) j
+pub side_full : {m : Bool} (t : Tree) (was now mid after : List Table) (g j k i : ℕ) (u : List ℕ) → Began t was now j → InsertedAs m (key_at was j) (entries_at was j) (entries_at now j) u → IsUnder t k (Meet g j) j
     → IsGrown t now mid k (take i (grp (key_at now g) (entries_at now g) u)) → Refused t mid after k → IsFull (entries_at after k) (take i (grp (key_at now g) (entries_at now g) u))
-side_full t was now mid after g j k i u b ins x grown r = record {
+side_full {m} t was now mid after g j k i u b ins x grown r = record {
   each = λ v some.
       let all = grp (key_at now g) (entries_at now g) u in
       let most = group_once (key_at now g) (entries_at now g) u v (apart_of t now (now_family t was now j b) g) in
@@ -293,9 +293,9 @@ side_stayed t was now mid after new g j k i u b x grown r e = record {
         ]
 
 -- the table of the node itself, once its tuple is taken back
-pub refused_here : (t : Tree) (old mid after new : List Table) (j : ℕ) (u : List ℕ) → Ready t old j → cnt (entries_at old j) u ≡ 0 → Changed old mid j → Inserted (key_at old j) (entries_at old j) (entries_at mid j) u
+pub refused_here : {m : Bool} (t : Tree) (old mid after new : List Table) (j : ℕ) (u : List ℕ) → Ready t old j → cnt (entries_at old j) u ≡ 0 → Changed old mid j → InsertedAs m (key_at old j) (entries_at old j) (entries_at mid j) u
     → Stayed t mid after j → Changed after new j → Removed (entries_at after j) (entries_at new j) u → Refused t old new j
-refused_here t old mid after new j u r absent c i s d x = record {
+refused_here {m} t old mid after new j u r absent c i s d x = record {
   family = d.family t s.family;
   supports = supports;
   below = λ y h. d.others y h.0 ∙ s.below y h ∙ c.others y h.0;
@@ -315,10 +315,11 @@ refused_here t old mid after new j u r absent c i s d x = record {
         ]
 
 -- the node has gained it, and those above are right
-pub lived_here : (t : Tree) (old mid new : List Table) (j : ℕ) (u : List ℕ) → Changed old mid j → Inserted (key_at old j) (entries_at old j) (entries_at mid j) u → Righted t mid new j → Lived t old new j u
-lived_here t old mid new j u c i r = record {
+pub lived_here : {m : Bool} (t : Tree) (old mid new : List Table) (j : ℕ) (u : List ℕ) → Changed old mid j → InsertedAs m (key_at old j) (entries_at old j) (entries_at mid j) u → Righted t mid new j → Lived t old new j u
+lived_here {m} t old mid new j u c i r = record {
   family = r.family;
-  gains = subst (λ (es : List Entry). Inserted (key_at old j) (entries_at old j) es u) (sym r.at) i;
+  mark = m;
+  gains = subst (λ (es : List Entry). InsertedAs m (key_at old j) (entries_at old j) es u) (sym r.at) i;
   below = λ y h. r.below y h ∙ c.others y h.0;
   reduced = r.reduced;
 }

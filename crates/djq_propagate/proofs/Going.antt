@@ -15,7 +15,7 @@ use Rattle.djq_tree.specs.Tree.{Tree, IsTree, node_at, has_child, parent}
 use Rattle.djq_tree.proofs.Climbing.{parent_above, rising_of}
 use Rattle.djq_reduct.specs.Tables.{entries_at, key_at, width_at}
 use Rattle.djq_reduct.specs.Reducts.{IsFamily}
-use Rattle.djq_propagate.specs.Walks.{Changed, IsUnder, Refused, SamePlain}
+use Rattle.djq_propagate.specs.Walks.{Changed, IsUnder, Refused, CameAs, unlike}
 use Rattle.djq_propagate.proofs.Families.{same_keys}
 
 pub has_table : (t : Tree) (ts : List Table) (k : ℕ) → IsFamily t ts → k < length t.nodes → k < length ts
@@ -151,8 +151,8 @@ refused_none t old new j f c e = record {
     all : (i : ℕ) → entries_at new i ≡ entries_at old i
     all i = elim (cases_eq i j) [ inl here ↦ subst (λ (x : ℕ). entries_at new x ≡ entries_at old x) (sym here) e | inr apart ↦ c.others i apart ]
 
-pub plain_none : (old new : List Table) (j : ℕ) → Changed old new j → entries_at new j ≡ entries_at old j → SamePlain old new
-plain_none old new j c e = record { same = λ i v. ap (λ (es : List Entry). cnt (plain es) v) (all i) }
+pub plain_none : {m : Bool} (old new : List Table) (j : ℕ) → Changed old new j → entries_at new j ≡ entries_at old j → CameAs m old new
+plain_none {m} old new j c e = record { same = λ i v. ap (λ (es : List Entry). cnt (unlike m es) v) (all i) }
   where
     all : (i : ℕ) → entries_at new i ≡ entries_at old i
     all i = elim (cases_eq i j) [ inl here ↦ subst (λ (x : ℕ). entries_at new x ≡ entries_at old x) (sym here) e | inr apart ↦ c.others i apart ]

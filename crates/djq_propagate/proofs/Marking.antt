@@ -17,7 +17,7 @@ use Rattle.djq_reduct.specs.Tables.{entries_at, key_at}
 use Rattle.djq_reduct.specs.Reducts.{IsReductOf, IsFamily, IsReducts}
 use Rattle.djq_reduct.proofs.Family.{trim_law, meet_law}
 use Rattle.djq_reduct.specs.Marks.{path_at, on_path, IsOff, IsBare, agreeing, AgreeAt, ArePlainAt}
-use Rattle.djq_propagate.specs.Walks.{SamePlain}
+use Rattle.djq_propagate.specs.Walks.{CameAs}
 use Rattle.djq_propagate.specs.Touches.{IsTouched, IsTouchedUp, gate, reach, IsCovered, CanWalk, IsWalked}
 use Rattle.djq_propagate.proofs.Families.{once, same_keys, tuples_same, reduced_same, trim_has, guard_has, side_has}
 use Rattle.djq_propagate.proofs.Sides.{present}
@@ -356,11 +356,11 @@ walk_more t old mid new a k j removal f leaf can within up x at above below idle
     bare_off i off going v = ap (λ (es : List Entry). cnt (marks es) v) (up.off i off) ∙ can.bare going i off.0 v
 
 -- what came agrees with what came
-pub new_supp : (t : Tree) (old new : List Table) (k : ℕ) → IsReducts (record { tree = t; tables = old }) → IsReducts (record { tree = t; tables = new }) → IsBare old → SamePlain old new → (w : List ℕ) → 0 < cnt (marks (entries_at new k)) w → supp (entries_at old k) w ≡ 0
+pub new_supp : (t : Tree) (old new : List Table) (k : ℕ) → IsReducts (record { tree = t; tables = old }) → IsReducts (record { tree = t; tables = new }) → IsBare old → CameAs true old new → (w : List ℕ) → 0 < cnt (marks (entries_at new k)) w → supp (entries_at old k) w ≡ 0
 new_supp t old new k r s bare p w some =
     supp_none (entries_at old k) w (omega (arith, once t new s.family k w, cnt_split (entries_at new k) w, p.same k w, cnt_split (entries_at old k) w, bare.none k w))
 
-new_node : (t : Tree) (old new : List Table) (a j k : ℕ) (n : Node) → IsReducts (record { tree = t; tables = old }) → IsReducts (record { tree = t; tables = new }) → IsBare old → SamePlain old new → ((i : ℕ) (v : List ℕ) → i < t.leaves → i ≢ a → cnt (entries_at new i) v ≡ cnt (entries_at old i) v)
+new_node : (t : Tree) (old new : List Table) (a j k : ℕ) (n : Node) → IsReducts (record { tree = t; tables = old }) → IsReducts (record { tree = t; tables = new }) → IsBare old → CameAs true old new → ((i : ℕ) (v : List ℕ) → i < t.leaves → i ≢ a → cnt (entries_at new i) v ≡ cnt (entries_at old i) v)
     → node_at t.nodes k ≡ n → k < length t.nodes → j ≡ path_at t.nodes a k → has_child n j ≡ true → IsReductOf n old k → IsReductOf n new k → (w : List ℕ) → 0 < cnt (marks (entries_at new k)) w → 0 < agreeing n j new (marks (entries_at new j)) w
 unfolding agreeing
 new_node t old new a j k (Leaf b) r s bare p leaves e within at child ho hn w some = absurd (false≢true child)
@@ -404,7 +404,7 @@ new_node t old new a j k (Meet g d) r s bare p leaves e within at child ho hn w 
         let has : has_child (node_at t.nodes k) c ≡ true = subst (λ (m : Node). has_child m c ≡ true) (sym e) kid in
         tuples_same t old new r.family s.family c (off_same t old new a r.family s.family r.reduced s.reduced leaves (suc c) c (omega arith) (other_off t a k c r.family.is_tree has apart)) v
 
-pub covered_new : (t : Tree) (old new : List Table) (a k : ℕ) → IsReducts (record { tree = t; tables = old }) → IsReducts (record { tree = t; tables = new }) → IsBare old → SamePlain old new → ((i : ℕ) (v : List ℕ) → i < t.leaves → i ≢ a → cnt (entries_at new i) v ≡ cnt (entries_at old i) v)
+pub covered_new : (t : Tree) (old new : List Table) (a k : ℕ) → IsReducts (record { tree = t; tables = old }) → IsReducts (record { tree = t; tables = new }) → IsBare old → CameAs true old new → ((i : ℕ) (v : List ℕ) → i < t.leaves → i ≢ a → cnt (entries_at new i) v ≡ cnt (entries_at old i) v)
     → on_path t.nodes a k ≡ true → IsCovered (node_at t.nodes k) new (path_at t.nodes a k) k
 covered_new t old new a k r s bare p leaves on =
     let within = on_within t a k on in

@@ -23,7 +23,7 @@ use Rattle.djq_reduct.specs.Reducts.{IsReducts, IsReductOf, IsFamily}
 use Rattle.djq_reduct.proofs.Family.{entries_past, trim_law, meet_law}
 use Rattle.djq_reduct.specs.Marks.{on_path, IsOff}
 use Rattle.djq_propagate.specs.Sizes.{size}
-use Rattle.djq_propagate.specs.Updates.{steps, HasAtMost, HasTaken, paths}
+use Rattle.djq_propagate.specs.Updates.{steps, HasAtMost, HasTaken, HasGained, HasLost, paths}
 use Rattle.djq_index.proofs.Changing.{inserted_length}
 use Rattle.djq_index.proofs.Counts.{cnt_length, cnt_split}
 use Rattle.djq_propagate.specs.Walks.{Lived}
@@ -265,17 +265,44 @@ lengths_off : (t : Tree) (ts us : List Table) (a : ℕ) → IsReducts (both t ts
 lengths_off t ts us a r s leaves i off =
     length_even (entries_at us i) (entries_at ts i) (tuples_same t ts us r.family s.family i (off_same t ts us a r.family s.family r.reduced s.reduced leaves (suc i) i (omega arith) off))
 
+-- the tables of two families of one tree that differ in the leaf a alone, each by n tuples at most
+path_size : (t : Tree) (ts us : List Table) (a n : ℕ) → IsReducts (both t ts) → IsReducts (both t us) → ((j : ℕ) (v : List ℕ) → j < t.leaves → j ≢ a → cnt (entries_at us j) v ≡ cnt (entries_at ts j) v)
+    → ((i : ℕ) → length (entries_at us i) ≤ length (entries_at ts i) + n) → size us ≤ size ts + (1 + steps t.nodes a (length t.nodes)) * n
+path_size t ts us a n r s leaves grows =
+    let long = r.family.long in
+    let longer = s.family.long in
+    subst (λ (k : ℕ). size us ≤ size ts + (1 + steps t.nodes a k) * n) long (grown_size t.nodes a ts us n (longer ∙ sym long) (lengths_off t ts us a r s leaves) grows)
+
+-- what comes and goes without marks
+count_grown : (S P n c x y so sm : ℕ) → S + 1 ≤ P → y + c * so ≤ x + c * sm → sm ≤ so + (1 + S) * n → y ≤ x + c * (P * n)
+count_grown S P n c x y so sm short first grows =
+    let m = mul-le-mul_right n short in
+    let f : (1 + S) * n ≡ (S + 1) * n = ap (λ (k : ℕ). k * n) (omega arith) in
+    let l : c * sm ≤ c * (so + P * n) = mul-le-mul_left c (omega arith) in
+    let e : c * (so + P * n) ≡ c * so + c * (P * n) = spread_sum c so (P * n) in
+    omega arith
+  where
+    spread_sum : (p q r : ℕ) → p * (q + r) ≡ p * q + p * r
+    spread_sum p q r = omega arith
+
+pub add_by : (t : Tree) (old new : List Table) (a : ℕ) (u : List ℕ) (n x y : ℕ) → IsReducts (both t old) → HasGained (both t old) (both t new) a u → ((i : ℕ) → length (entries_at new i) ≤ length (entries_at old i) + n)
+    → y + 1 + 4 * size old ≤ x + 4 * size new → y ≤ x + 4 * (paths t * n)
+add_by t old new a u n x y r g grows first =
+    count_grown (steps t.nodes a (length t.nodes)) (paths t) n 4 x y (size old) (size new) (path_short t a r.family.is_tree) (omega arith)
+    (path_size t old new a n r g.sound g.others grows)
+
+pub drop_by : (t : Tree) (old new : List Table) (a : ℕ) (u : List ℕ) (n x y : ℕ) → IsReducts (both t old) → HasLost (both t old) (both t new) a u → ((i : ℕ) → length (entries_at old i) ≤ length (entries_at new i) + n)
+    → y + 1 + 5 * size new ≤ x + 5 * size old → y ≤ x + 5 * (paths t * n)
+drop_by t old new a u n x y r l grows first =
+    count_grown (steps t.nodes a (length t.nodes)) (paths t) n 5 x y (size new) (size old) (path_short t a r.family.is_tree) (omega arith)
+    (path_size t new old a n l.sound r (λ j v low apart. sym (l.others j v low apart)) grows)
+
 -- where no table has gained more than n tuples, and a step marks for so many
 pub put_by : (t : Tree) (old mid : List Table) (a : ℕ) (u : List ℕ) (n x y z : ℕ) → IsReducts (both t old) → a < t.leaves → Lived t old mid a u → 1 ≤ n → ((i : ℕ) → length (entries_at mid i) ≤ length (entries_at old i) + n)
     → y + 1 + 4 * size old ≤ x + 4 * size mid → z ≤ y + steps t.nodes a (length t.nodes) * (1 + 5 * n) → z ≤ x + 10 * (paths t * n)
 put_by t old mid a u n x y z r h l some grows first second =
-    let m = reducts_lived t old mid a u r h l in
-    let long = r.family.long in
-    let longer = l.family.long in
-    let grow = grown_size t.nodes a old mid n (longer ∙ sym long)
-    (lengths_off t old mid a r m (λ j v low apart. ap (λ (es : List Entry). cnt es v) (l.below j (leaf_below t a j r.family.is_tree low apart)))) grows in
     count_put (steps t.nodes a (length t.nodes)) (paths t) n x y z (size old) (size mid) (path_short t a r.family.is_tree) some first
-    (subst (λ (k : ℕ). size mid ≤ size old + (1 + steps t.nodes a k) * n) long grow) second
+    (path_size t old mid a n r (reducts_lived t old mid a u r h l) (λ j v low apart. ap (λ (es : List Entry). cnt es v) (l.below j (leaf_below t a j r.family.is_tree low apart))) grows) second
 
 pub put_counted : (t : Tree) (old mid new : List Table) (a : ℕ) (u : List ℕ) (n x y z : ℕ) → IsReducts (both t old) → a < t.leaves → Lived t old mid a u → IsTouchedUp t mid new a → IsReducts (both t new) → HasAtMost (both t new) n
     → y + 1 + 4 * size old ≤ x + 4 * size mid → ((m : ℕ) → ((i : ℕ) → length (entries_at mid i) ≤ m) → z ≤ y + steps t.nodes a (length t.nodes) * (1 + 5 * m)) → z ≤ x + 10 * (paths t * n)
@@ -304,11 +331,8 @@ keep_counted t old a n x z r few first = keep_by t a n x z r.family.is_tree (fir
 pub take_by : (t : Tree) (old mid : List Table) (a n x y z : ℕ) → IsReducts (both t old) → HasTaken (both t old) (both t mid) a → ((i : ℕ) → length (entries_at old i) ≤ length (entries_at mid i) + n) → y + 5 * size mid ≤ x + 1 + 5 * size old
     → z ≤ y + (1 + steps t.nodes a (length t.nodes)) * (1 + n) → z ≤ x + 1 + 5 * (paths t * n) + paths t * (1 + n)
 take_by t old mid a n x y z r w grows first second =
-    let long = w.sound.family.long in
-    let longer = r.family.long in
-    let grow = grown_size t.nodes a mid old n (longer ∙ sym long) (λ i off. sym (lengths_off t old mid a r w.sound w.without.others i off)) grows in
     count_take (steps t.nodes a (length t.nodes)) (paths t) n x y z (size old) (size mid) (path_short t a r.family.is_tree) first
-    (subst (λ (k : ℕ). size old ≤ size mid + (1 + steps t.nodes a k) * n) long grow) second
+    (path_size t mid old a n w.sound r (λ j v low apart. sym (w.without.others j v low apart)) grows) second
 
 pub take_counted : (t : Tree) (old mid : List Table) (a n x y z : ℕ) → IsReducts (both t old) → HasTaken (both t old) (both t mid) a → HasAtMost (both t old) n → y + 5 * size mid ≤ x + 1 + 5 * size old
     → ((m : ℕ) → ((i : ℕ) → length (entries_at mid i) ≤ m) → z ≤ y + (1 + steps t.nodes a (length t.nodes)) * (1 + m)) → z ≤ x + 1 + 5 * (paths t * n) + paths t * (1 + n)

@@ -1,24 +1,26 @@
 -- Marks while tuples come and go.
-use Rattle.std.proofs.Common.{◌≡◌, ℕ, ◌+◌, ◌≤◌, List, ◌∷◌, ◌++◌, refl, ap, subst, sym, ◌∙◌, arith, inl, inr}
-use Rattle.std.proofs.lemmas.Bool.{cases_eq, cases_Bool}
+use Rattle.std.proofs.Common.{◌≡◌, ℕ, ◌+◌, ◌≤◌, Bool, true, false, List, [], ◌∷◌, ◌++◌, refl, ap, subst, sym, ◌∙◌, arith, inl, inr}
+use Rattle.std.proofs.lemmas.Bool.{cases_eq, cases_Bool, false≢true}
 use Rattle.djq_index.specs.Tuple.{same, one}
 use Rattle.djq_index.specs.Entries.{Entry, supp, cnt, marks, plain}
-use Rattle.djq_index.specs.Changes.{Inserted, Removed, Supported}
+use Rattle.djq_index.specs.Changes.{InsertedAs, Removed, Supported}
 use Rattle.djq_index.specs.Table.{Table}
-use Rattle.djq_index.proofs.Counts.{cnt_split, cnt_middle}
+use Rattle.djq_index.proofs.Counts.{cnt_split, cnt_middle, cnt_cons}
+use Rattle.djq_index.proofs.Tuples.{one_same}
 use Rattle.djq_index.proofs.Changing.{inserted_plain, supported_cnt}
 use Rattle.djq_index.proofs.Marks.{marks_middle, plain_middle, plain-append, marks-append, plain_no, marks_yes}
 use Rattle.djq_tree.specs.Tree.{Tree}
 use Rattle.djq_reduct.specs.Tables.{entries_at, key_at}
 use Rattle.djq_reduct.specs.Reducts.{IsFamily}
-use Rattle.djq_propagate.specs.Walks.{Changed, SamePlain, Fewer}
+use Rattle.djq_reduct.specs.Marks.{IsBare}
+use Rattle.djq_propagate.specs.Walks.{Changed, CameAs, Fewer, unlike}
 use Rattle.djq_propagate.proofs.Families.{once, tuples_same}
 
-pub plain_refl : (ts : List Table) → SamePlain ts ts
-plain_refl ts = record { same = λ i v. refl }
+pub plain_refl : {m : Bool} (ts : List Table) → CameAs m ts ts
+plain_refl {m} ts = record { same = λ i v. refl }
 
-pub plain_trans : (ts us xs : List Table) → SamePlain ts us → SamePlain us xs → SamePlain ts xs
-plain_trans ts us xs a b = record { same = λ i v. b.same i v ∙ a.same i v }
+pub plain_trans : {m : Bool} (ts us xs : List Table) → CameAs m ts us → CameAs m us xs → CameAs m ts xs
+plain_trans {m} ts us xs a b = record { same = λ i v. b.same i v ∙ a.same i v }
 
 pub fewer_refl : (ts : List Table) → Fewer ts ts
 fewer_refl ts = record { unmarked = λ i v. omega arith; marked = λ i v. omega arith }
@@ -34,10 +36,14 @@ each P old new k c here stay i =
       | inr apart ↦ subst (λ (es : List Entry). P (entries_at old i) es) (sym (c.others i apart)) (stay (entries_at old i))
     ]
 
-pub inserted_same : (old new : List Table) (k : ℕ) (u : List ℕ) → Changed old new k → Inserted (key_at old k) (entries_at old k) (entries_at new k) u → SamePlain old new
-inserted_same old new k u c i = record {
-  same = each (λ ds es. (v : List ℕ) → cnt (plain es) v ≡ cnt (plain ds) v) old new k c
-      (λ v. ap (λ (es : List Entry). cnt es v) (inserted_plain (key_at old k) (entries_at old k) (entries_at new k) u i)) (λ es v. refl);
+inserted_unlike : (m : Bool) (key : List ℕ) (old new : List Entry) (u : List ℕ) → InsertedAs m key old new u → unlike m new ≡ unlike m old
+inserted_unlike true key old new u i = inserted_plain key old new u i
+inserted_unlike false key old new u i = ap marks i.is ∙ marks_middle i.front i.entry i.back i.marked ∙ sym (ap marks i.was)
+
+pub inserted_same : {m : Bool} (old new : List Table) (k : ℕ) (u : List ℕ) → Changed old new k → InsertedAs m (key_at old k) (entries_at old k) (entries_at new k) u → CameAs m old new
+inserted_same {m} old new k u c i = record {
+  same = each (λ ds es. (v : List ℕ) → cnt (unlike m es) v ≡ cnt (unlike m ds) v) old new k c
+      (λ v. ap (λ (es : List Entry). cnt es v) (inserted_unlike m (key_at old k) (entries_at old k) (entries_at new k) u i)) (λ es v. refl);
 }
 
 -- more supports or fewer
@@ -60,9 +66,13 @@ pub supported_marks : (old new : List Entry) (u : List ℕ) (from to : ℕ) → 
 supported_marks old new u from to s v =
     omega (arith, supported_plain old new u from to s v, supported_cnt old new u from to s v, cnt_split old v, cnt_split new v)
 
-pub raised_same : (old new : List Table) (k : ℕ) (u : List ℕ) (from to : ℕ) → Changed old new k → Supported (entries_at old k) (entries_at new k) u from to → SamePlain old new
-raised_same old new k u from to c s = record {
-  same = each (λ ds es. (v : List ℕ) → cnt (plain es) v ≡ cnt (plain ds) v) old new k c (supported_plain (entries_at old k) (entries_at new k) u from to s) (λ es v. refl);
+supported_unlike : (m : Bool) (old new : List Entry) (u : List ℕ) (from to : ℕ) → Supported old new u from to → (v : List ℕ) → cnt (unlike m new) v ≡ cnt (unlike m old) v
+supported_unlike true old new u from to s v = supported_plain old new u from to s v
+supported_unlike false old new u from to s v = supported_marks old new u from to s v
+
+pub raised_same : {m : Bool} (old new : List Table) (k : ℕ) (u : List ℕ) (from to : ℕ) → Changed old new k → Supported (entries_at old k) (entries_at new k) u from to → CameAs m old new
+raised_same {m} old new k u from to c s = record {
+  same = each (λ ds es. (v : List ℕ) → cnt (unlike m es) v ≡ cnt (unlike m ds) v) old new k c (supported_unlike m (entries_at old k) (entries_at new k) u from to s) (λ es v. refl);
 }
 
 pub lowered_fewer : (old new : List Table) (k : ℕ) (u : List ℕ) (from to : ℕ) → Changed old new k → Supported (entries_at old k) (entries_at new k) u from to → Fewer old new
@@ -98,8 +108,30 @@ removed_fewer old new k u c r = record {
 }
 
 -- what came in between is gone again, so the marks are the same
-pub back_same : (t : Tree) (ts us xs : List Table) → IsFamily t ts → IsFamily t us → IsFamily t xs → SamePlain ts us → Fewer us xs → ((i : ℕ) (v : List ℕ) → supp (entries_at xs i) v ≡ supp (entries_at ts i) v) → SamePlain ts xs
-back_same t ts us xs f g h a b s = record {
+back_as : (m : Bool) (t : Tree) (ts us xs : List Table) → IsFamily t ts → IsFamily t us → IsFamily t xs → CameAs m ts us → Fewer us xs → ((i : ℕ) (v : List ℕ) → supp (entries_at xs i) v ≡ supp (entries_at ts i) v) → CameAs m ts xs
+back_as true t ts us xs f g h a b s = record {
   same = λ i v.
       omega (arith, a.same i v, b.unmarked i v, b.marked i v, tuples_same t ts xs f h i (s i) v, once t us g i v, cnt_split (entries_at ts i) v, cnt_split (entries_at us i) v, cnt_split (entries_at xs i) v);
 }
+back_as false t ts us xs f g h a b s = record {
+  same = λ i v.
+      omega (arith, a.same i v, b.unmarked i v, b.marked i v, tuples_same t ts xs f h i (s i) v, once t us g i v, cnt_split (entries_at ts i) v, cnt_split (entries_at us i) v, cnt_split (entries_at xs i) v);
+}
+
+pub back_same : {m : Bool} (t : Tree) (ts us xs : List Table) → IsFamily t ts → IsFamily t us → IsFamily t xs → CameAs m ts us → Fewer us xs → ((i : ℕ) (v : List ℕ) → supp (entries_at xs i) v ≡ supp (entries_at ts i) v) → CameAs m ts xs
+back_same {m} t ts us xs f g h a b s = back_as m t ts us xs f g h a b s
+
+-- where nothing is marked, and what comes is not, nothing is
+no_entries : (es : List Entry) → ((v : List ℕ) → cnt es v ≡ 0) → es ≡ []
+no_entries [] h = refl
+no_entries (e ∷ es) h = absurd (omega (arith, h e.tuple, cnt_cons e es e.tuple, one_same e.tuple))
+
+pub bare_at : (ts : List Table) (k : ℕ) → IsBare ts → marks (entries_at ts k) ≡ []
+bare_at ts k b = no_entries (marks (entries_at ts k)) (b.none k)
+
+pub still_bare : (m : Bool) (old new : List Table) → CameAs m old new → (m ≡ false → IsBare old) → m ≡ false → IsBare new
+still_bare true old new c h e = absurd (false≢true (sym e))
+still_bare false old new c h e = record { none = λ i v. c.same i v ∙ (h refl).none i v }
+
+pub fewer_bare : (old new : List Table) → Fewer old new → IsBare old → IsBare new
+fewer_bare old new f b = record { none = λ i v. omega (arith, f.marked i v, b.none i v) }

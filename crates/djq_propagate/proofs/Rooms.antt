@@ -1,9 +1,9 @@
 -- How much a refused update counts: for each table at most nine times what it has room for.
-use Rattle.std.proofs.Common.{◌≡◌, ℕ, zero, suc, ◌+◌, ◌*◌, ◌<◌, ◌≤◌, List, ◌∷◌, ◌++◌, length, take, drop, refl, ap, subst, sym, ◌∙◌, arith, inl, inr, mul-le-mul_right}
+use Rattle.std.proofs.Common.{◌≡◌, Bool, ℕ, zero, suc, ◌+◌, ◌*◌, ◌<◌, ◌≤◌, List, ◌∷◌, ◌++◌, length, take, drop, refl, ap, subst, sym, ◌∙◌, arith, inl, inr, mul-le-mul_right}
 use Rattle.std.proofs.lemmas.Bool.{cases_eq, cases_lt}
 use Rattle.djq_index.specs.Tuple.{same, pick}
 use Rattle.djq_index.specs.Entries.{Entry, supp, cnt, grp}
-use Rattle.djq_index.specs.Changes.{Inserted}
+use Rattle.djq_index.specs.Changes.{InsertedAs}
 use Rattle.djq_index.specs.Table.{Table}
 use Rattle.djq_index.proofs.Tuples.{same_cases, one_le, one_other}
 use Rattle.djq_index.proofs.Counts.{cnt_cons}
@@ -64,8 +64,8 @@ room_size t ts n j f within h room =
     omega (arith, whole_size ts, turned (length t.nodes) n)
 
 -- a tuple comes to a table with room
-pub most_more : (old new : List Table) (n j : ℕ) (u : List ℕ) → Changed old new j → Inserted (key_at old j) (entries_at old j) (entries_at new j) u → AreAtMost old n → length (entries_at old j) < n → AreAtMost new n
-most_more old new n j u c i h room = record {
+pub most_more : {m : Bool} (old new : List Table) (n j : ℕ) (u : List ℕ) → Changed old new j → InsertedAs m (key_at old j) (entries_at old j) (entries_at new j) u → AreAtMost old n → length (entries_at old j) < n → AreAtMost new n
+most_more {m} old new n j u c i h room = record {
   each = λ k. elim (cases_eq k j) [
     | inl here ↦ subst (λ (x : ℕ). length (entries_at new x) ≤ n) (sym here) (omega (arith, inserted_length (key_at old j) (entries_at old j) (entries_at new j) u i))
     | inr apart ↦ omega (arith, ap (λ (es : List Entry). length es) (c.others k apart), h.each k)
@@ -73,8 +73,8 @@ most_more old new n j u c i h room = record {
 }
 
 -- then there is room above: at a trim, at a guard's meet
-pub trim_fits : (t : Tree) (was now : List Table) (j k n : ℕ) (u : List ℕ) → Began t was now j → Inserted (key_at was j) (entries_at was j) (entries_at now j) u → IsUnder t k (Trim j) j → length (entries_at now j) ≤ n → length (entries_at now k) < n
-trim_fits t was now j k n u b i x h =
+pub trim_fits : {m : Bool} (t : Tree) (was now : List Table) (j k n : ℕ) (u : List ℕ) → Began t was now j → InsertedAs m (key_at was j) (entries_at was j) (entries_at now j) u → IsUnder t k (Trim j) j → length (entries_at now j) ≤ n → length (entries_at now k) < n
+trim_fits {m} t was now j k n u b i x h =
     omega (
       arith,
       ap (λ (es : List Entry). length es) (same_up t was now j k (Trim j) b x),
@@ -83,8 +83,8 @@ trim_fits t was now j k n u b i x h =
       h,
     )
 
-pub guard_fits : (t : Tree) (was now : List Table) (j s k n : ℕ) (u : List ℕ) → Began t was now j → Inserted (key_at was j) (entries_at was j) (entries_at now j) u → IsUnder t k (Meet j s) j → length (entries_at now j) ≤ n → length (entries_at now k) < n
-guard_fits t was now j s k n u b i x h =
+pub guard_fits : {m : Bool} (t : Tree) (was now : List Table) (j s k n : ℕ) (u : List ℕ) → Began t was now j → InsertedAs m (key_at was j) (entries_at was j) (entries_at now j) u → IsUnder t k (Meet j s) j → length (entries_at now j) ≤ n → length (entries_at now k) < n
+guard_fits {m} t was now j s k n u b i x h =
     omega (
       arith,
       ap (λ (es : List Entry). length es) (same_up t was now j k (Meet j s) b x),
@@ -106,10 +106,10 @@ over t ts n from f r high low (suc m) k less =
     ]
 
 -- at a side's meet, for the next one of the guard's group
-pub next_fits : (t : Tree) (was now mid : List Table) (g j k i : ℕ) (u : List ℕ) (e : Entry) → Began t was now j → Inserted (key_at was j) (entries_at was j) (entries_at now j) u → IsUnder t k (Meet g j) j
+pub next_fits : {m : Bool} (t : Tree) (was now mid : List Table) (g j k i : ℕ) (u : List ℕ) (e : Entry) → Began t was now j → InsertedAs m (key_at was j) (entries_at was j) (entries_at now j) u → IsUnder t k (Meet g j) j
     → IsGrown t now mid k (take i (grp (key_at now g) (entries_at now g) u)) → grp (key_at now g) (entries_at now g) u ≡ take i (grp (key_at now g) (entries_at now g) u) ++ e ∷ drop (i + 1) (grp (key_at now g) (entries_at now g) u)
     → length (entries_at mid k) + 1 ≤ length (entries_at now g)
-next_fits t was now mid g j k i u e b ins x grown cut = let l = length_less (e ∷ entries_at mid k) (entries_at now g) within in omega arith
+next_fits {m} t was now mid g j k i u e b ins x grown cut = let l = length_less (e ∷ entries_at mid k) (entries_at now g) within in omega arith
   where
     guards : entries_at now g ≡ entries_at was g
     guards = b.changed.others g (b.ready.family.is_tree.meet k g j x.node).apart
@@ -150,10 +150,10 @@ next_fits t was now mid g j k i u e b ins x grown cut = let l = length_less (e �
               ]
         ]
 
-pub side_fits : (t : Tree) (was now mid : List Table) (g j k i n : ℕ) (u : List ℕ) (e : Entry) → Began t was now j → Inserted (key_at was j) (entries_at was j) (entries_at now j) u → IsUnder t k (Meet g j) j
+pub side_fits : {m : Bool} (t : Tree) (was now mid : List Table) (g j k i n : ℕ) (u : List ℕ) (e : Entry) → Began t was now j → InsertedAs m (key_at was j) (entries_at was j) (entries_at now j) u → IsUnder t k (Meet g j) j
     → IsGrown t now mid k (take i (grp (key_at now g) (entries_at now g) u)) → grp (key_at now g) (entries_at now g) u ≡ take i (grp (key_at now g) (entries_at now g) u) ++ e ∷ drop (i + 1) (grp (key_at now g) (entries_at now g) u)
     → AreAtMost now n → (length (entries_at mid k) < n) × AreAtMost mid n
-side_fits t was now mid g j k i n u e b ins x grown cut h =
+side_fits {m} t was now mid g j k i n u e b ins x grown cut h =
     let here = next_fits t was now mid g j k i u e b ins x grown cut in
     let most = h.each g in
     let low : (y : ℕ) → y ≤ k → length (entries_at mid y) ≤ n = (λ (y : ℕ) (less : y ≤ k). elim (cases_eq y k) [

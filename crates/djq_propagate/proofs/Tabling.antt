@@ -1,5 +1,5 @@
 -- One table changes among many.
-use Rattle.std.proofs.Common.{◌≡◌, ◌≢◌, ℕ, ◌+◌, ◌<◌, List, [], ◌∷◌, length, ap, subst, sym, ◌∙◌, arith, inl, inr}
+use Rattle.std.proofs.Common.{◌≡◌, ◌≢◌, ℕ, ◌+◌, ◌<◌, Bool, List, [], ◌∷◌, length, ap, subst, sym, ◌∙◌, arith, inl, inr}
 use Rattle.std.specs.Prelude.{slice_index_or, slice_set}
 use Rattle.std.proofs.lemmas.Bool.{cases_eq}
 use Rattle.std.specs.Prelude.{◌++◌}
@@ -8,7 +8,7 @@ use Rattle.std.proofs.lemmas.List.Sums.{sum_by-set}
 use Rattle.djq_index.specs.declared.place.Place.{Place}
 use Rattle.std.specs.Prelude.{Result, Ok, Err, IfOk, OnErr}
 use Rattle.djq_index.specs.Entries.{Entry, bare, unmarked}
-use Rattle.djq_index.specs.Changes.{Inserted, Touched, Supported}
+use Rattle.djq_index.specs.Changes.{InsertedAs, Touched, Supported}
 use Rattle.djq_index.proofs.Apart.{supported_in, supported_out}
 use Rattle.djq_index.proofs.Changing.{inserted_supported}
 use Rattle.djq_index.specs.Table.{Table, IsTable, AreSupported, AreWide, IsAt}
@@ -116,9 +116,9 @@ unfolding AreSupported
 supported_middle [] e ys h = h.0
 supported_middle (x ∷ xs) e ys h = supported_middle xs e ys h.1
 
-pub insert_supported : {A E : Type 0} (r : Result A E) (key : List ℕ) (old new : List Entry) (u : List ℕ) → IfOk r (λ p. Inserted key old new u) → OnErr r (new ≡ old) → AreSupported old → AreSupported new
-insert_supported (Ok p) key old new u i e h = inserted_supported key old new u i h
-insert_supported (Err x) key old new u i e h = subst AreSupported (sym e) h
+pub insert_supported : {A E : Type 0} (m : Bool) (r : Result A E) (key : List ℕ) (old new : List Entry) (u : List ℕ) → IfOk r (λ p. InsertedAs m key old new u) → OnErr r (new ≡ old) → AreSupported old → AreSupported new
+insert_supported m (Ok p) key old new u i e h = inserted_supported key old new u i h
+insert_supported m (Err x) key old new u i e h = subst AreSupported (sym e) h
 
 pub supports_supported : (old new : List Entry) (u : List ℕ) (from to : ℕ) → Supported old new u from to → 0 < to → AreSupported old → AreSupported new
 supports_supported old new u from to s pos h =

@@ -7,7 +7,7 @@ use Rattle.djq_index.specs.Entries.{Entry, supp, cnt, marks, plain, head_at}
 use Rattle.djq_index.specs.Table.{Table, IsAt}
 use Rattle.djq_index.proofs.Counts.{cnt_split, cnt_length}
 use Rattle.djq_index.proofs.Tuples.{same_cases, one_true, one_other, one_same, is_same}
-use Rattle.djq_index.proofs.Changing.{inserted_cnt, inserted_supp, inserted_marks, removed_cnt, removed_supp}
+use Rattle.djq_index.proofs.Changing.{inserted_cnt, inserted_supp, removed_cnt, removed_supp}
 use Rattle.djq_tree.specs.declared.node.Node.{Node}
 use Rattle.djq_tree.specs.declared.node.Node.TheVariants.{Leaf}
 use Rattle.djq_tree.specs.Tree.{Tree, IsTree, node_at}
@@ -15,9 +15,9 @@ use Rattle.djq_reduct.specs.Tables.{entries_at, key_at}
 use Rattle.djq_reduct.specs.Reducts.{Reducts, IsReducts, IsReductOf, IsFamily, AreReduced, SameTables}
 use Rattle.djq_reduct.proofs.Family.{leaf_law, one_family}
 use Rattle.djq_reduct.specs.Marks.{on_path, IsOff, IsBare, AreOnPath, IsWithout}
-use Rattle.djq_propagate.specs.Walks.{Ready, Lived, Died, Refused, Fewer, SamePlain, IsBelow}
+use Rattle.djq_propagate.specs.Walks.{Ready, Lived, Died, Refused, Fewer, CameAs, IsBelow}
 use Rattle.djq_propagate.specs.Touches.{IsTouched, IsTouchedUp, CanWalk, IsWalked}
-use Rattle.djq_propagate.specs.Updates.{HasInserted, HasMarked, HasKept, HasDropped, HasTaken, HasCleared}
+use Rattle.djq_propagate.specs.Updates.{HasInserted, HasMarked, HasKept, HasDropped, HasTaken, HasCleared, HasGained, HasLost}
 use Rattle.djq_propagate.proofs.Families.{once, apart_of, tuples_same, reduced_same}
 use Rattle.djq_propagate.proofs.Sides.{cond_one}
 use Rattle.djq_propagate.proofs.Plains.{fewer_refl, fewer_trans}
@@ -88,21 +88,40 @@ pub tables_same : (t : Tree) (old new : List Table) → IsFamily t old → IsFam
 tables_same t old new f g h = record { tuples = λ i v. tuples_same t old new f g i (h i) v; supports = h }
 
 -- marks of tuples that stay
-pub bare_same : (t : Tree) (old new : List Table) → IsFamily t old → IsFamily t new → ((i : ℕ) (v : List ℕ) → supp (entries_at new i) v ≡ supp (entries_at old i) v) → SamePlain old new → IsBare old → IsBare new
+pub bare_same : (t : Tree) (old new : List Table) → IsFamily t old → IsFamily t new → ((i : ℕ) (v : List ℕ) → supp (entries_at new i) v ≡ supp (entries_at old i) v) → CameAs true old new → IsBare old → IsBare new
 bare_same t old new f g h p b = record {
   none = λ i v. omega (arith, tuples_same t old new f g i (h i) v, p.same i v, b.none i v, cnt_split (entries_at old i) v, cnt_split (entries_at new i) v);
 }
 
-pub refused_kept : (t : Tree) (old new : List Table) (a : ℕ) → IsReducts (both t old) → Refused t old new a → SamePlain old new → IsBare old → HasKept (both t old) (both t new)
-refused_kept t old new a r x p b = record {
+pub refused_kept : (t : Tree) (old new : List Table) (a : ℕ) → IsReducts (both t old) → Refused t old new a → IsBare new → HasKept (both t old) (both t new)
+refused_kept t old new a r x b = record {
   sound = reducts_same t old new r x.family x.supports;
   tree = refl;
   tables = tables_same t old new r.family x.family x.supports;
-  bare = bare_same t old new r.family x.family x.supports p b;
+  bare = b;
+}
+
+-- an update without marks
+pub gained_all : (t : Tree) (old new : List Table) (a : ℕ) (u : List ℕ) → IsReducts (both t old) → a < t.leaves → IsBare new → Lived t old new a u → HasGained (both t old) (both t new) a u
+gained_all t old new a u r h b l = record {
+  sound = reducts_lived t old new a u r h l;
+  tree = refl;
+  leaf = inserted_cnt (key_at old a) (entries_at old a) (entries_at new a) u l.gains;
+  others = λ j v low apart. ap (λ (es : List Entry). cnt es v) (l.below j (leaf_below t a j r.family.is_tree low apart));
+  bare = b;
+}
+
+pub lost_all : (t : Tree) (old new : List Table) (a : ℕ) (u : List ℕ) → IsReducts (both t old) → a < t.leaves → IsBare new → Died t old new a u → HasLost (both t old) (both t new) a u
+lost_all t old new a u r h b d = record {
+  sound = reducts_died t old new a u r h d;
+  tree = refl;
+  leaf = removed_cnt (entries_at old a) (entries_at new a) u d.loses;
+  others = λ j v low apart. ap (λ (es : List Entry). cnt es v) (d.below j (leaf_below t a j r.family.is_tree low apart));
+  bare = b;
 }
 
 -- before the walk
-pub can_insert : (t : Tree) (old mid : List Table) (a : ℕ) (u : List ℕ) → IsReducts (both t old) → a < t.leaves → IsBare old → Lived t old mid a u → SamePlain old mid → CanWalk t mid a false
+pub can_insert : (t : Tree) (old mid : List Table) (a : ℕ) (u : List ℕ) → IsReducts (both t old) → a < t.leaves → IsBare old → Lived t old mid a u → CameAs true old mid → CanWalk t mid a false
 can_insert t old mid a u r h b l p = record {
   reduced = (reducts_lived t old mid a u r h l).reduced;
   covered = λ k high on.
@@ -121,7 +140,7 @@ can_remove t old mid a f r h b y = record {
 }
 
 -- an insertion
-pub inserted_all : (t : Tree) (old mid new : List Table) (a : ℕ) (u : List ℕ) → IsReducts (both t old) → a < t.leaves → IsBare old → Lived t old mid a u → SamePlain old mid → IsTouchedUp t mid new a → IsWalked t mid new a false (length t.nodes) → HasInserted (both t old) (both t new) a u
+pub inserted_all : (t : Tree) (old mid new : List Table) (a : ℕ) (u : List ℕ) → IsReducts (both t old) → a < t.leaves → IsBare old → Lived t old mid a u → CameAs true old mid → IsTouchedUp t mid new a → IsWalked t mid new a false (length t.nodes) → HasInserted (both t old) (both t new) a u
 inserted_all t old mid new a u r h b l p x walk = record {
   sound = reducts_same t mid new m x.family x.supports;
   without = record {
@@ -129,7 +148,7 @@ inserted_all t old mid new a u r h b l p x walk = record {
     leaf = λ v. omega (arith, ap (λ (es : List Entry). cnt (plain es) v) (x.leaves a h), p.same a v, b.none a v, cnt_split (entries_at old a) v);
     others = λ j v low apart. ap (λ (es : List Entry). cnt es v) (sym (x.leaves j low ∙ l.below j (leaf_below t a j r.family.is_tree low apart)));
   };
-  marked = λ v. omega (arith, ap (λ (es : List Entry). cnt (marks es) v) (x.leaves a h), inserted_marks (key_at old a) (entries_at old a) (entries_at mid a) u l.gains v, b.none a v);
+  marked = λ v. omega (arith, ap (λ (es : List Entry). cnt (marks es) v) (x.leaves a h), inserted_cnt (key_at old a) (entries_at old a) (entries_at mid a) u l.gains v, p.same a v, cnt_split (entries_at old a) v, cnt_split (entries_at mid a) v, b.none a v);
   are_marks = record {
     path = record {
       off = λ i off v.

@@ -26,6 +26,13 @@ after_keep t n x = x + paths t * (1 + n)
 abbrev pub after_drop : Tree → ℕ → ℕ → ℕ
 after_drop t n x = x + 1 + 5 * (paths t * n) + paths t * (1 + n)
 
+-- a tuple comes to a leaf, and goes from one, without a mark
+abbrev pub after_add : Tree → ℕ → ℕ → ℕ
+after_add t n x = x + 4 * (paths t * n)
+
+abbrev pub after_take : Tree → ℕ → ℕ → ℕ
+after_take t n x = x + 5 * (paths t * n)
+
 -- the bound of an update of one of m leaves over v variables: 16 (m + v) n
 abbrev pub update_bound : ℕ → ℕ → ℕ → ℕ
 update_bound m v n = 16 * ((m + v) * n)
@@ -40,3 +47,5 @@ pub record AddUp (t : Tree) (v n : ℕ) : Type 0 where
   pub removed : (x : ℕ) → after_drop t n (after_mark t n x) ≤ x + update_bound t.leaves v n
   pub undone : (x : ℕ) → after_drop t n (after_insert t n x) ≤ x + 2 * update_bound t.leaves v n
   pub refused : (x : ℕ) → after_refusal t n x ≤ x + 2 * update_bound t.leaves v n
+  pub added : (x : ℕ) → after_add t n x ≤ x + update_bound t.leaves v n
+  pub taken : (x : ℕ) → after_take t n x ≤ x + update_bound t.leaves v n

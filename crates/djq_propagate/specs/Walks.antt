@@ -1,7 +1,7 @@
 -- What a walk up a path of the tree does to the tables of its nodes.
-use Rattle.std.specs.Prelude.{◌≡◌, ◌≢◌, ℕ, ◌+◌, ◌<◌, ◌≤◌, true, List, length}
+use Rattle.std.specs.Prelude.{◌≡◌, ◌≢◌, ℕ, ◌+◌, ◌<◌, ◌≤◌, Bool, true, false, List, length}
 use Rattle.djq_index.specs.Entries.{Entry, supp, cnt, marks, plain}
-use Rattle.djq_index.specs.Changes.{Inserted, Removed}
+use Rattle.djq_index.specs.Changes.{InsertedAs, Removed}
 use Rattle.djq_index.specs.declared.place.Place.{Place}
 use Rattle.djq_index.specs.Table.{Table, IsAt}
 use Rattle.djq_tree.specs.declared.node.Node.{Node}
@@ -35,7 +35,8 @@ IsBelow t j i = (i ≢ j) × ((k : ℕ) → has_child (node_at t.nodes k) j ≡ 
 -- the node j has gained the tuple u, and those above it what it brings
 pub record Lived (t : Tree) (old new : List Table) (j : ℕ) (u : List ℕ) : Type 0 where
   pub family : IsFamily t new
-  pub gains : Inserted (key_at old j) (entries_at old j) (entries_at new j) u
+  pub mark : Bool
+  pub gains : InsertedAs mark (key_at old j) (entries_at old j) (entries_at new j) u
   pub below : (i : ℕ) → IsBelow t j i → entries_at new i ≡ entries_at old i
   pub reduced : AreReduced t new (j + 1)
 
@@ -60,7 +61,8 @@ pub record Began (t : Tree) (was now : List Table) (j : ℕ) : Type 0 where
 pub record Gaining (t : Tree) (now : List Table) (j : ℕ) (u : List ℕ) : Type 0 where
   pub was : List Table
   pub began : Began t was now j
-  pub gains : Inserted (key_at was j) (entries_at was j) (entries_at now j) u
+  pub mark : Bool
+  pub gains : InsertedAs mark (key_at was j) (entries_at was j) (entries_at now j) u
 
 pub record Losing (t : Tree) (now : List Table) (j : ℕ) (u : List ℕ) : Type 0 where
   pub was : List Table
@@ -105,9 +107,14 @@ pub record IsEmptied (t : Tree) (old new : List Table) (k : ℕ) (es : List Entr
   pub lost : (v : List ℕ) → supp (entries_at old k) v ≡ supp (entries_at new k) v + cnt es v
   pub reduced : AreReduced t new (k + 1)
 
--- what came is marked, and no mark changed
-pub record SamePlain (old new : List Table) : Type 0 where
-  pub same : (i : ℕ) (v : List ℕ) → cnt (plain (entries_at new i)) v ≡ cnt (plain (entries_at old i)) v
+-- the entries that don't have this mark
+abbrev pub unlike : Bool → List Entry → List Entry
+unlike true es = plain es
+unlike false es = marks es
+
+-- what came has this mark, and no mark changed
+pub record CameAs (mark : Bool) (old new : List Table) : Type 0 where
+  pub same : (i : ℕ) (v : List ℕ) → cnt (unlike mark (entries_at new i)) v ≡ cnt (unlike mark (entries_at old i)) v
 
 -- tuples went, none came, and no mark changed
 pub record Fewer (old new : List Table) : Type 0 where

@@ -177,7 +177,7 @@ pub(crate) fn empty_group<L: Ledger>(
 
 /// Takes a tuple out of the table of a node, as `kill` does.
 #[cycle(kill)]
-fn kill_tuple<L: Ledger>(
+pub(crate) fn kill_tuple<L: Ledger>(
     tree: &Tree,
     tables: &mut Vec<Table>,
     at: usize,

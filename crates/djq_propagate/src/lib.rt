@@ -18,11 +18,14 @@
 //! 0   leaf r(x,y)            1,5    2,7    3,5     as before: 2,7 is an answer now
 //! ```
 //!
+//! Where nobody wants to know what an update changes, [`add_leaf`] and [`drop_leaf`] do it at once,
+//! by the same steps, and mark nothing.
+//!
 //! It lists no answer, and it knows no relation: a self-join's row goes into its leaves one after
 //! another.
 //!
-//! What surprises: only [`insert_leaf`] asks for memory. Where it gets none, all tables hold what
-//! they held, though the order in groups may differ. A removal does nothing to the tables until it
+//! What surprises: only [`insert_leaf`] and [`add_leaf`] ask for memory. Where they get none, all
+//! tables hold what they held, though the order in groups may differ. A removal does nothing to the tables until it
 //! is finished. What an update counts is bounded by the tuples of the leaves ([`counts_add_up`]).
 //!
 //! Inside, one tuple goes up the path at a time, depth first. What comes to a trim raises a support
@@ -40,7 +43,8 @@ mod touch;
 mod update;
 
 pub use update::{
-    counts_add_up, finish_insertion, finish_removal, insert_leaf, mark_removal, undo_insertion,
+    add_leaf, counts_add_up, drop_leaf, finish_insertion, finish_removal, insert_leaf,
+    mark_removal, undo_insertion,
 };
 
 #[cfg(test)]

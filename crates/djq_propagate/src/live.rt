@@ -1,12 +1,13 @@
 //! A tuple comes to a node, and what it brings comes to the nodes above it.
 
-ghost use Rattle.std.specs.Prelude.{◌≡◌, ℕ, ◌+◌, ◌-◌, ◌*◌, ◌<◌, ◌≤◌, length, IfOk, OnErr};
+ghost use Rattle.std.specs.Prelude.{◌≡◌, ℕ, ◌+◌, ◌-◌, ◌*◌, ◌<◌, ◌≤◌, false, length, IfOk, OnErr};
 ghost use Rattle.djq_index.specs.Entries.{cnt};
 ghost use Rattle.djq_tree.specs.declared.node.Node.TheVariants.{Trim, Meet};
 ghost use Rattle.djq_tree.specs.Flat.{HasEqualMeets};
 ghost use Rattle.djq_reduct.specs.Tables.{entries_at, key_at, width_at};
+ghost use Rattle.djq_reduct.specs.Marks.{IsBare};
 ghost use Rattle.djq_propagate.specs.Sizes.{size, AreAtMost};
-ghost use Rattle.djq_propagate.specs.Walks.{Ready, Lived, Refused, Gaining, Righted, Stayed, SamePlain, IsUnder};
+ghost use Rattle.djq_propagate.specs.Walks.{Ready, Lived, Refused, Gaining, Righted, Stayed, CameAs, IsUnder};
 
 use crate::kill::empty_group;
 use crate::tables::{
@@ -19,29 +20,31 @@ use djq_tree::{Node, Tree};
 use std::alloc::AllocError;
 use std::sync::ledger::Ledger;
 
-/// Puts a tuple into the table of a node, and what it brings into the tables above. Where there is no
-/// memory, all tables hold the same tuples as before.
+/// Puts a tuple into the table of a node, and what it brings into the tables above; they come marked or
+/// not. Where there is no memory, all tables hold the same tuples as before.
 #[cycle(live)]
 pub(crate) fn live<L: Ledger>(
     tree: &Tree,
     tables: &mut Vec<Table>,
     at: usize,
     tuple: &[u64],
+    marked: bool,
     tally: &mut Tally<L>,
 ) -> Result<(), AllocError>
     requires ready { Ready tree.now tables.old.items at }
     requires absent { cnt (entries_at tables.old.items at) tuple.now ≡ 0 }
     requires wide { length tuple.now ≡ width_at tables.old.items at }
     requires few { length (entries_at tables.old.items at) < 4294967295 }
+    requires bare { marked ≡ false → IsBare tables.old.items }
     ensures ok { IfOk result (λ _. Lived tree.now tables.old.items tables.new.items at tuple.now) }
     ensures refused { OnErr result (Refused tree.now tables.old.items tables.new.items at) }
-    ensures plain { SamePlain tables.old.items tables.new.items }
+    ensures plain { CameAs marked tables.old.items tables.new.items }
     ensures counted { IfOk result (λ _. tally.new + 1 + 4 * size tables.old.items ≤ tally.old + 4 * size tables.new.items) }
     ensures bounded { OnErr result ((n : ℕ) → AreAtMost tables.old.items n → length (entries_at tables.old.items at) < n → tally.new + 9 * size tables.old.items ≤ tally.old + 9 * (n * length tree.now.nodes)) }
     ensures flat { OnErr result (HasEqualMeets tree.now → tally.new ≤ tally.old + 5 * (length tree.now.nodes - at)) }
 {
-    let place = insert_at(tables, at, tuple, tally)?;
-    match rise(tree, tables, at, tuple, tally) {
+    let place = insert_at(tables, at, tuple, marked, tally)?;
+    match rise(tree, tables, at, tuple, marked, tally) {
         Ok(()) => Ok(()),
         Err(error) => {
             remove_at(tables, at, place, tally);
@@ -57,13 +60,15 @@ fn rise<L: Ledger>(
     tables: &mut Vec<Table>,
     at: usize,
     tuple: &[u64],
+    marked: bool,
     tally: &mut Tally<L>,
 ) -> Result<(), AllocError>
     requires gaining { Gaining tree.now tables.old.items at tuple.now }
     requires wide { length tuple.now ≡ width_at tables.old.items at }
+    requires bare { marked ≡ false → IsBare tables.old.items }
     ensures ok { IfOk result (λ _. Righted tree.now tables.old.items tables.new.items at) }
     ensures refused { OnErr result (Stayed tree.now tables.old.items tables.new.items at) }
-    ensures plain { SamePlain tables.old.items tables.new.items }
+    ensures plain { CameAs marked tables.old.items tables.new.items }
     ensures counted { IfOk result (λ _. tally.new + 4 * size tables.old.items ≤ tally.old + 2 + 4 * size tables.new.items) }
     ensures bounded { OnErr result ((n : ℕ) → AreAtMost tables.old.items n → tally.new + 9 * size tables.old.items ≤ tally.old + 7 + 9 * (n * length tree.now.nodes)) }
     ensures flat { OnErr result (HasEqualMeets tree.now → tally.new + 2 ≤ tally.old + 5 * (length tree.now.nodes - at)) }
@@ -72,12 +77,12 @@ fn rise<L: Ledger>(
         None => Ok(()),
         Some(up) => match tree.node(up) {
             Node::Leaf { .. } => Ok(()),
-            Node::Trim { .. } => rise_trim(tree, tables, at, up, tuple, tally),
+            Node::Trim { .. } => rise_trim(tree, tables, at, up, tuple, marked, tally),
             Node::Meet { guard, side } => {
                 if guard == at {
-                    rise_guard(tree, tables, at, side, up, tuple, tally)
+                    rise_guard(tree, tables, at, side, up, tuple, marked, tally)
                 } else {
-                    rise_side(tree, tables, at, guard, up, tuple, tally)
+                    rise_side(tree, tables, at, guard, up, tuple, marked, tally)
                 }
             }
         },
@@ -92,14 +97,16 @@ fn rise_trim<L: Ledger>(
     at: usize,
     up: usize,
     tuple: &[u64],
+    marked: bool,
     tally: &mut Tally<L>,
 ) -> Result<(), AllocError>
     requires gaining { Gaining tree.now tables.old.items at tuple.now }
     requires wide { length tuple.now ≡ width_at tables.old.items at }
     requires under { IsUnder tree.now up (Trim at) at }
+    requires bare { marked ≡ false → IsBare tables.old.items }
     ensures ok { IfOk result (λ _. Righted tree.now tables.old.items tables.new.items at) }
     ensures refused { OnErr result (Stayed tree.now tables.old.items tables.new.items at) }
-    ensures plain { SamePlain tables.old.items tables.new.items }
+    ensures plain { CameAs marked tables.old.items tables.new.items }
     ensures counted { IfOk result (λ _. tally.new + 4 * size tables.old.items ≤ tally.old + 2 + 4 * size tables.new.items) }
     ensures bounded { OnErr result ((n : ℕ) → AreAtMost tables.old.items n → tally.new + 9 * size tables.old.items ≤ tally.old + 7 + 9 * (n * length tree.now.nodes)) }
     ensures flat { OnErr result (HasEqualMeets tree.now → tally.new + 2 ≤ tally.old + 5 * (length tree.now.nodes - at)) }
@@ -112,7 +119,7 @@ fn rise_trim<L: Ledger>(
             raise_at(tables, up, place, tally);
             Ok(())
         }
-        None => live(tree, tables, up, cells, tally),
+        None => live(tree, tables, up, cells, marked, tally),
     }
 }
 
@@ -125,14 +132,16 @@ fn rise_guard<L: Ledger>(
     side: usize,
     up: usize,
     tuple: &[u64],
+    marked: bool,
     tally: &mut Tally<L>,
 ) -> Result<(), AllocError>
     requires gaining { Gaining tree.now tables.old.items at tuple.now }
     requires wide { length tuple.now ≡ width_at tables.old.items at }
     requires under { IsUnder tree.now up (Meet at side) at }
+    requires bare { marked ≡ false → IsBare tables.old.items }
     ensures ok { IfOk result (λ _. Righted tree.now tables.old.items tables.new.items at) }
     ensures refused { OnErr result (Stayed tree.now tables.old.items tables.new.items at) }
-    ensures plain { SamePlain tables.old.items tables.new.items }
+    ensures plain { CameAs marked tables.old.items tables.new.items }
     ensures counted { IfOk result (λ _. tally.new + 4 * size tables.old.items ≤ tally.old + 2 + 4 * size tables.new.items) }
     ensures bounded { OnErr result ((n : ℕ) → AreAtMost tables.old.items n → tally.new + 9 * size tables.old.items ≤ tally.old + 7 + 9 * (n * length tree.now.nodes)) }
     ensures flat { OnErr result (HasEqualMeets tree.now → tally.new + 2 ≤ tally.old + 5 * (length tree.now.nodes - at)) }
@@ -140,7 +149,7 @@ fn rise_guard<L: Ledger>(
     is_small_at(tables, at);
     let part = part_of(tables, at, tuple);
     match find_at(tables, side, part.as_slice(), tally) {
-        Some(_place) => live(tree, tables, up, tuple, tally),
+        Some(_place) => live(tree, tables, up, tuple, marked, tally),
         None => Ok(()),
     }
 }
@@ -154,13 +163,15 @@ fn rise_side<L: Ledger>(
     guard: usize,
     up: usize,
     tuple: &[u64],
+    marked: bool,
     tally: &mut Tally<L>,
 ) -> Result<(), AllocError>
     requires gaining { Gaining tree.now tables.old.items at tuple.now }
     requires under { IsUnder tree.now up (Meet guard at) at }
+    requires bare { marked ≡ false → IsBare tables.old.items }
     ensures ok { IfOk result (λ _. Righted tree.now tables.old.items tables.new.items at) }
     ensures refused { OnErr result (Stayed tree.now tables.old.items tables.new.items at) }
-    ensures plain { SamePlain tables.old.items tables.new.items }
+    ensures plain { CameAs marked tables.old.items tables.new.items }
     ensures counted { IfOk result (λ _. tally.new + 4 * size tables.old.items ≤ tally.old + 2 + 4 * size tables.new.items) }
     ensures bounded { OnErr result ((n : ℕ) → AreAtMost tables.old.items n → tally.new + 9 * size tables.old.items ≤ tally.old + 7 + 9 * (n * length tree.now.nodes)) }
     ensures flat { OnErr result (HasEqualMeets tree.now → tally.new + 2 ≤ tally.old + 5 * (length tree.now.nodes - at)) }
@@ -172,7 +183,7 @@ fn rise_side<L: Ledger>(
         match next {
             Some(place) => {
                 let part = tuple_at(tables, guard, place);
-                match live(tree, tables, up, part.as_slice(), tally) {
+                match live(tree, tables, up, part.as_slice(), marked, tally) {
                     Ok(()) => {}
                     Err(error) => {
                         empty_group(tree, tables, guard, up, tuple, done, tally);

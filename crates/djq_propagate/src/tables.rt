@@ -1,10 +1,10 @@
 //! Calls on the table of one node, among the tables of all.
 
-ghost use Rattle.std.specs.Prelude.{◌≡◌, ℕ, ◌+◌, ◌-◌, ◌<◌, ◌≤◌, List, ◌∷◌, ◌++◌, length, nat_lt, IfOk, OnErr, MatchOption};
+ghost use Rattle.std.specs.Prelude.{◌≡◌, ℕ, ◌+◌, ◌-◌, ◌<◌, ◌≤◌, false, List, [], ◌∷◌, ◌++◌, length, nat_lt, IfOk, OnErr, MatchOption};
 ghost use Rattle.djq_index.specs.Tuple.{pick};
 ghost use Rattle.djq_index.specs.Entries.{Entry, supp, cnt, grp, marks, is_marked, unmarked, head_at};
 ghost use Rattle.djq_index.specs.Table.{IsTable, IsAt, IsLive, IsUnmarked, IsRaisable};
-ghost use Rattle.djq_index.specs.Changes.{Inserted, Removed, Touched, Supported};
+ghost use Rattle.djq_index.specs.Changes.{InsertedAs, Removed, Touched, Supported};
 ghost use Rattle.djq_reduct.specs.Tables.{table_at, entries_at, key_at, width_at};
 ghost use Rattle.djq_propagate.specs.Walks.{Changed, IsShared};
 
@@ -145,25 +145,27 @@ pub(crate) fn marked_at(tables: &Vec<Table>, at: usize, place: Place) -> bool
     table_of(tables, at).marked(place)
 }
 
-/// Puts a tuple into the table of a node.
+/// Puts a tuple into the table of a node, marked or not.
 pub(crate) fn insert_at<L: Ledger>(
     tables: &mut Vec<Table>,
     at: usize,
     tuple: &[u64],
+    marked: bool,
     tally: &mut Tally<L>,
 ) -> Result<Place, AllocError>
     requires within { at < length tables.old.items }
     requires absent { cnt (entries_at tables.old.items at) tuple.now ≡ 0 }
     requires wide { length tuple.now ≡ width_at tables.old.items at }
     requires few { length (entries_at tables.old.items at) < 4294967295 }
-    ensures inserted { IfOk result (λ p. Inserted (key_at tables.old.items at) (entries_at tables.old.items at) (entries_at tables.new.items at) tuple.now) }
+    requires plain { marked ≡ false → marks (entries_at tables.old.items at) ≡ [] }
+    ensures inserted { IfOk result (λ p. InsertedAs marked (key_at tables.old.items at) (entries_at tables.old.items at) (entries_at tables.new.items at) tuple.now) }
     ensures lies { IfOk result (λ p. IsAt (entries_at tables.new.items at) p tuple.now) }
     ensures refused { OnErr result (entries_at tables.new.items at ≡ entries_at tables.old.items at) }
     ensures changed { Changed tables.old.items tables.new.items at }
     ensures counted { tally.new ≡ tally.old + 1 }
 {
     let table = &mut tables[at];
-    table.insert(tuple, tally)
+    table.insert_as(tuple, marked, tally)
 }
 
 /// Takes the tuple at a place out of the table of a node.

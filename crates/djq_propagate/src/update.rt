@@ -10,9 +10,10 @@ ghost use Rattle.djq_reduct.specs.Reducts.{IsReducts, SameTables};
 ghost use Rattle.djq_reduct.specs.Reducts as spec;
 ghost use Rattle.djq_reduct.specs.Marks.{IsBare, AreOnPath, IsWithout};
 ghost use Rattle.djq_propagate.specs.Touches.{HaveFew};
-ghost use Rattle.djq_propagate.specs.Updates.{HasInserted, HasMarked, HasKept, HasDropped, HasAtMost};
-ghost use Rattle.djq_propagate.specs.Bounds.{after_insert, after_refusal, after_mark, after_keep, after_drop, HasVariables, AddUp};
+ghost use Rattle.djq_propagate.specs.Updates.{HasInserted, HasMarked, HasKept, HasDropped, HasGained, HasLost, HasAtMost};
+ghost use Rattle.djq_propagate.specs.Bounds.{after_insert, after_refusal, after_mark, after_keep, after_drop, after_add, after_take, HasVariables, AddUp};
 
+use crate::kill::kill_tuple;
 use crate::live::live;
 use crate::path::{clear_path, take_marked, touch_path};
 use crate::touch::touch_tuple;
@@ -70,9 +71,89 @@ fn put<L: Ledger>(
     ensures flat { IfOk result (λ _. HasEqualMeets tree.now → tally.new ≤ after_insert tree.now 1 tally.old) }
     ensures flat_refused { OnErr result (HasEqualMeets tree.now → tally.new ≤ after_refusal tree.now 1 tally.old) }
 {
-    live(tree, tables, leaf, tuple, tally)?;
+    live(tree, tables, leaf, tuple, true, tally)?;
     touch_path(tree, tables, leaf, false, tally);
     Ok(())
+}
+
+/// Puts a tuple into a leaf's table, and what it brings into the tables above, without marks: the update
+/// ends at once. It fails only for want of memory, and then all tables hold what they held.
+pub fn add_leaf<L: Ledger>(
+    reducts: &mut Reducts,
+    leaf: usize,
+    tuple: &[u64],
+    tally: &mut Tally<L>,
+) -> Result<(), AllocError>
+    requires leaf { leaf < reducts.old.tree.leaves }
+    requires wide { length tuple.now ≡ length (label_at reducts.old.tree.labels leaf) }
+    requires absent { cnt (entries_at reducts.old.tables leaf) tuple.now ≡ 0 }
+    requires few { length (entries_at reducts.old.tables leaf) < 4294967295 }
+    requires bare { IsBare reducts.old.tables }
+    ensures gained { IfOk result (λ _. HasGained reducts.old reducts.new leaf tuple.now) }
+    ensures refused { OnErr result (HasKept reducts.old reducts.new) }
+    ensures counted { IfOk result (λ _. (n : ℕ) → HasAtMost reducts.new n → tally.new ≤ after_add reducts.old.tree n tally.old) }
+    ensures bounded { OnErr result ((n : ℕ) → HasAtMost reducts.old n → length (entries_at reducts.old.tables leaf) < n → tally.new ≤ after_refusal reducts.old.tree n tally.old) }
+    ensures flat { IfOk result (λ _. HasEqualMeets reducts.old.tree → tally.new ≤ after_add reducts.old.tree 1 tally.old) }
+    ensures flat_refused { OnErr result (HasEqualMeets reducts.old.tree → tally.new ≤ after_refusal reducts.old.tree 1 tally.old) }
+{
+    let _tables = &reducts.tables;
+    put_plain(&reducts.tree, &mut reducts.tables, leaf, tuple, tally)
+}
+
+fn put_plain<L: Ledger>(
+    tree: &Tree,
+    tables: &mut Vec<Table>,
+    leaf: usize,
+    tuple: &[u64],
+    tally: &mut Tally<L>,
+) -> Result<(), AllocError>
+    requires reducts { IsReducts (record { tree = tree.now; tables = tables.old.items }) }
+    requires leaf { leaf < tree.now.leaves }
+    requires wide { length tuple.now ≡ length (label_at tree.now.labels leaf) }
+    requires absent { cnt (entries_at tables.old.items leaf) tuple.now ≡ 0 }
+    requires few { length (entries_at tables.old.items leaf) < 4294967295 }
+    requires bare { IsBare tables.old.items }
+    ensures gained { IfOk result (λ _. HasGained (record { tree = tree.now; tables = tables.old.items }) (record { tree = tree.now; tables = tables.new.items }) leaf tuple.now) }
+    ensures refused { OnErr result (HasKept (record { tree = tree.now; tables = tables.old.items }) (record { tree = tree.now; tables = tables.new.items })) }
+    ensures counted { IfOk result (λ _. (n : ℕ) → HasAtMost (record { tree = tree.now; tables = tables.new.items }) n → tally.new ≤ after_add tree.now n tally.old) }
+    ensures bounded { OnErr result ((n : ℕ) → HasAtMost (record { tree = tree.now; tables = tables.old.items }) n → length (entries_at tables.old.items leaf) < n → tally.new ≤ after_refusal tree.now n tally.old) }
+    ensures flat { IfOk result (λ _. HasEqualMeets tree.now → tally.new ≤ after_add tree.now 1 tally.old) }
+    ensures flat_refused { OnErr result (HasEqualMeets tree.now → tally.new ≤ after_refusal tree.now 1 tally.old) }
+{
+    live(tree, tables, leaf, tuple, false, tally)?;
+    Ok(())
+}
+
+/// Takes a tuple out of a leaf's table, and what goes with it out of the tables above, without marks: the
+/// update ends at once. It takes no memory.
+pub fn drop_leaf<L: Ledger>(reducts: &mut Reducts, leaf: usize, tuple: &[u64], tally: &mut Tally<L>)
+    requires leaf { leaf < reducts.old.tree.leaves }
+    requires there { 0 < cnt (entries_at reducts.old.tables leaf) tuple.now }
+    requires bare { IsBare reducts.old.tables }
+    ensures lost { HasLost reducts.old reducts.new leaf tuple.now }
+    ensures counted { (n : ℕ) → HasAtMost reducts.old n → tally.new ≤ after_take reducts.old.tree n tally.old }
+    ensures flat { HasEqualMeets reducts.old.tree → tally.new ≤ after_take reducts.old.tree 1 tally.old }
+{
+    let _tables = &reducts.tables;
+    take_plain(&reducts.tree, &mut reducts.tables, leaf, tuple, tally);
+}
+
+fn take_plain<L: Ledger>(
+    tree: &Tree,
+    tables: &mut Vec<Table>,
+    leaf: usize,
+    tuple: &[u64],
+    tally: &mut Tally<L>,
+)
+    requires reducts { IsReducts (record { tree = tree.now; tables = tables.old.items }) }
+    requires leaf { leaf < tree.now.leaves }
+    requires there { 0 < cnt (entries_at tables.old.items leaf) tuple.now }
+    requires bare { IsBare tables.old.items }
+    ensures lost { HasLost (record { tree = tree.now; tables = tables.old.items }) (record { tree = tree.now; tables = tables.new.items }) leaf tuple.now }
+    ensures counted { (n : ℕ) → HasAtMost (record { tree = tree.now; tables = tables.old.items }) n → tally.new ≤ after_take tree.now n tally.old }
+    ensures flat { HasEqualMeets tree.now → tally.new ≤ after_take tree.now 1 tally.old }
+{
+    kill_tuple(tree, tables, leaf, tuple, tally);
 }
 
 /// Marks a tuple of a leaf, and what goes with it, for a removal that [`finish_removal`] ends. It takes no
@@ -180,7 +261,7 @@ fn take_out<L: Ledger>(tree: &Tree, tables: &mut Vec<Table>, leaf: usize, tally:
 /// The law that the calls of an update of one leaf add up. With at most `n` tuples in each leaf, the one
 /// that comes or goes counted in, an insertion with its end, and a removal with its end, count at most 16
 /// times the leaves and the variables for each of the `n`; an insertion that is undone, or refused, at most
-/// twice that. It does nothing.
+/// twice that. So does an update without marks, at most that once. It does nothing.
 pub fn counts_add_up(tree: &Tree)
     ensures { (variables : List ℕ) (n : ℕ) → HasVariables tree.now variables → 0 < n → AddUp tree.now (length variables) n }
 {

@@ -93,7 +93,7 @@ returns-clause-raw c =
       same_notes = c.in_ok-slot.ensures.same_notes;
     } in
     let s = c.sign.ensures.noted in
-    let n : IsNoted c.args.raw.now c.sign.new.raw c.lay.new.rows c.lay.new.notes.items
+    let n : IsNoted c.args.marked c.args.raw.now c.sign.new.raw c.lay.new.rows c.lay.new.notes.items
     c.in_ok-slot.slot 0 = record {
       kind = s.kind;
       key = s.key;
@@ -101,8 +101,8 @@ returns-clause-raw c =
       notes_are = s.notes_are;
       marked = s.marked;
     } in
-    came_bare c.args.raw.now c.sign.new.raw c.lay.new.rows c.lay.new.notes.items
-    c.in_ok-slot.slot 0 c.args.tuple.now c.requires.raw c.requires.absent l n
+    came_bare c.args.marked c.args.raw.now c.sign.new.raw c.lay.new.rows c.lay.new.notes.items
+    c.in_ok-slot.slot 0 c.args.tuple.now c.requires.raw c.requires.plain c.requires.absent l n
 
 pub returns-clause-inserted : goal.returns-clause-inserted
 returns-clause-inserted c =
@@ -115,7 +115,7 @@ returns-clause-inserted c =
       same_notes = c.in_ok-slot.ensures.same_notes;
     } in
     let s = c.sign.ensures.noted in
-    let n : IsNoted c.args.raw.now c.sign.new.raw c.lay.new.rows c.lay.new.notes.items
+    let n : IsNoted c.args.marked c.args.raw.now c.sign.new.raw c.lay.new.rows c.lay.new.notes.items
     c.in_ok-slot.slot 0 = record {
       kind = s.kind;
       key = s.key;
@@ -123,8 +123,8 @@ returns-clause-inserted c =
       notes_are = s.notes_are;
       marked = s.marked;
     } in
-    came_inserted c.args.raw.now c.sign.new.raw c.lay.new.rows c.lay.new.notes.items
-    c.in_ok-slot.slot 0 c.args.tuple.now c.requires.raw c.requires.absent l n
+    came_inserted c.args.marked c.args.raw.now c.sign.new.raw c.lay.new.rows c.lay.new.notes.items
+    c.in_ok-slot.slot 0 c.args.tuple.now c.requires.raw c.requires.plain c.requires.absent l n
 
 pub returns-clause-at : goal.returns-clause-at
 returns-clause-at c =
@@ -137,7 +137,7 @@ returns-clause-at c =
       same_notes = c.in_ok-slot.ensures.same_notes;
     } in
     let s = c.sign.ensures.noted in
-    let n : IsNoted c.args.raw.now c.sign.new.raw c.lay.new.rows c.lay.new.notes.items
+    let n : IsNoted c.args.marked c.args.raw.now c.sign.new.raw c.lay.new.rows c.lay.new.notes.items
     c.in_ok-slot.slot 0 = record {
       kind = s.kind;
       key = s.key;
@@ -146,5 +146,5 @@ returns-clause-at c =
       marked = s.marked;
     } in
     subst (λ (p : Place). IsAt (entries_of c.sign.new.raw) p c.args.tuple.now) (sym c.new.ensures)
-    (came_at c.args.raw.now c.sign.new.raw c.lay.new.rows c.lay.new.notes.items
-    c.in_ok-slot.slot 0 c.args.tuple.now c.requires.raw c.requires.absent l n)
+    (came_at c.args.marked c.args.raw.now c.sign.new.raw c.lay.new.rows c.lay.new.notes.items
+    c.in_ok-slot.slot 0 c.args.tuple.now c.requires.raw c.requires.plain c.requires.absent l n)

@@ -341,7 +341,7 @@ returns-in-Ok-clause-raw c =
       same_notes = c.in_ok-slot.ensures.same_notes;
     } in
     let s = c.settle.ensures.settled in
-    let n : IsNoted c.args.raw.now c.settle.new.raw c.lay_linked.new.rows
+    let n : IsNoted c.args.marked c.args.raw.now c.settle.new.raw c.lay_linked.new.rows
     c.lay_linked.new.notes.items c.in_ok-slot.slot c.in-Ok.head =
     record {
       kind = s.noted.kind;
@@ -350,8 +350,8 @@ returns-in-Ok-clause-raw c =
       notes_are = s.noted.notes_are;
       marked = s.noted.marked;
     } in
-    came_bare c.args.raw.now c.settle.new.raw c.lay_linked.new.rows c.lay_linked.new.notes.items
-    c.in_ok-slot.slot c.in-Ok.head c.args.tuple.now c.requires.raw c.requires.absent l n
+    came_bare c.args.marked c.args.raw.now c.settle.new.raw c.lay_linked.new.rows c.lay_linked.new.notes.items
+    c.in_ok-slot.slot c.in-Ok.head c.args.tuple.now c.requires.raw c.requires.plain c.requires.absent l n
 
 pub returns-in-Ok-clause-heads : goal.returns-in-Ok-clause-heads
 returns-in-Ok-clause-heads c =
@@ -378,7 +378,7 @@ returns-in-Ok-clause-heads c =
           (pick key c.args.tuple.now)) c.as_slice.ensures.value c.in-Ok.ensures.seated;
     } in
     let s = c.settle.ensures.settled in
-    let n : IsNoted c.args.raw.now c.settle.new.raw c.lay_linked.new.rows
+    let n : IsNoted c.args.marked c.args.raw.now c.settle.new.raw c.lay_linked.new.rows
     c.lay_linked.new.notes.items c.in_ok-slot.slot c.in-Ok.head =
     record {
       kind = s.noted.kind;
@@ -387,9 +387,9 @@ returns-in-Ok-clause-heads c =
       notes_are = s.noted.notes_are;
       marked = s.noted.marked;
     } in
-    came_heads c.args.raw.now c.settle.new.raw c.lay_linked.new.rows c.lay_linked.new.notes.items
+    came_heads c.args.marked c.args.raw.now c.settle.new.raw c.lay_linked.new.rows c.lay_linked.new.notes.items
     c.lay_linked.new.links.items c.seat.new.keys c.seat.new.ends.items c.in_ok-slot.slot
-    c.in-Ok.head c.args.tuple.now c.requires.raw c.requires.heads c.requires.absent r
+    c.in-Ok.head c.args.tuple.now c.requires.raw c.requires.plain c.requires.heads c.requires.absent r
     (record {
       noted = n;
       links_are = s.links_are;
@@ -408,7 +408,7 @@ returns-in-Ok-clause-inserted c =
       same_notes = c.in_ok-slot.ensures.same_notes;
     } in
     let s = c.settle.ensures.settled in
-    let n : IsNoted c.args.raw.now c.settle.new.raw c.lay_linked.new.rows
+    let n : IsNoted c.args.marked c.args.raw.now c.settle.new.raw c.lay_linked.new.rows
     c.lay_linked.new.notes.items c.in_ok-slot.slot c.in-Ok.head =
     record {
       kind = s.noted.kind;
@@ -417,9 +417,9 @@ returns-in-Ok-clause-inserted c =
       notes_are = s.noted.notes_are;
       marked = s.noted.marked;
     } in
-    came_inserted c.args.raw.now c.settle.new.raw c.lay_linked.new.rows
+    came_inserted c.args.marked c.args.raw.now c.settle.new.raw c.lay_linked.new.rows
     c.lay_linked.new.notes.items c.in_ok-slot.slot c.in-Ok.head c.args.tuple.now
-    c.requires.raw c.requires.absent l n
+    c.requires.raw c.requires.plain c.requires.absent l n
 
 pub returns-in-Ok-clause-at : goal.returns-in-Ok-clause-at
 returns-in-Ok-clause-at c =
@@ -432,7 +432,7 @@ returns-in-Ok-clause-at c =
       same_notes = c.in_ok-slot.ensures.same_notes;
     } in
     let s = c.settle.ensures.settled in
-    let n : IsNoted c.args.raw.now c.settle.new.raw c.lay_linked.new.rows
+    let n : IsNoted c.args.marked c.args.raw.now c.settle.new.raw c.lay_linked.new.rows
     c.lay_linked.new.notes.items c.in_ok-slot.slot c.in-Ok.head =
     record {
       kind = s.noted.kind;
@@ -443,6 +443,6 @@ returns-in-Ok-clause-at c =
     } in
     subst (λ (p : Place). IsAt (entries_of c.settle.new.raw) p c.args.tuple.now)
     (sym c.new.ensures)
-    (came_at c.args.raw.now c.settle.new.raw c.lay_linked.new.rows
+    (came_at c.args.marked c.args.raw.now c.settle.new.raw c.lay_linked.new.rows
     c.lay_linked.new.notes.items c.in_ok-slot.slot c.in-Ok.head c.args.tuple.now
-    c.requires.raw c.requires.absent l n)
+    c.requires.raw c.requires.plain c.requires.absent l n)

@@ -9,7 +9,7 @@ use Rattle.djq_propagate.specs.Sizes.{size, AreAtMost}
 use Rattle.std.proofs.Common.{rules}
 use Rattle.djq_propagate.specs.Walks.{Lived, Refused, Righted, Stayed, IsFull}
 use Rattle.djq_propagate.proofs.Families.{lower_of, now_family, ready_up, topmost, stayed}
-use Rattle.djq_propagate.proofs.Plains.{plain_refl, plain_trans, inserted_same, raised_same, removed_fewer, back_same}
+use Rattle.djq_propagate.proofs.Plains.{bare_at, still_bare, plain_refl, plain_trans, inserted_same, raised_same, removed_fewer, back_same}
 use Rattle.djq_propagate.proofs.Sides.{head_none, drop_group, grown_none, grown_ready, grown_more}
 use Rattle.djq_propagate.proofs.Gains.{width_narrow, trim_few, trim_wide, trim_raised, trim_lived, trim_room, guard_few, guard_wide, guard_absent, guard_lived, guard_idle, side_absent, side_righted, side_full, refused_ready, same_group, side_stayed, refused_here, lived_here}
 use Rattle.djq_propagate.proofs.Going.{has_table, wide_now, under_leaf, under_trim, under_guard, under_side, guard_under, cut_of, cut_at, as_live, moved_at, group_still, on_err, ok_map, err_map, refused_none, plain_none}
@@ -28,6 +28,10 @@ live-insert_at-requires-clause-absent g t c =
 pub live-insert_at-requires-clause-wide : goal.live-insert_at-requires-clause-wide
 live-insert_at-requires-clause-wide g t c =
     c.requires.wide
+
+pub live-insert_at-requires-clause-plain : goal.live-insert_at-requires-clause-plain
+live-insert_at-requires-clause-plain g t c =
+    λ e. bare_at c.args.tables.now.items c.args.at (c.requires.bare e)
 
 pub live-insert_at-requires-clause-few : goal.live-insert_at-requires-clause-few
 live-insert_at-requires-clause-few g t c =
@@ -61,8 +65,11 @@ live-rise-requires g t c κs hκ =
       (
         hκ,
         (
-          record { was = c.args.tables.now.items; began = record { ready = c.requires.ready; changed = c.insert_at.ensures.changed }; gains = c.in_ok-place.ensures.inserted },
-          c.requires.wide ∙ sym (wide_now c.args.tree.now c.args.tables.now.items c.insert_at.new.tables.items c.args.at c.requires.ready.family (c.insert_at.ensures.changed.family c.args.tree.now c.requires.ready.family) c.requires.ready.within),
+          record { was = c.args.tables.now.items; began = record { ready = c.requires.ready; changed = c.insert_at.ensures.changed }; mark = c.args.marked; gains = c.in_ok-place.ensures.inserted },
+          (
+            c.requires.wide ∙ sym (wide_now c.args.tree.now c.args.tables.now.items c.insert_at.new.tables.items c.args.at c.requires.ready.family (c.insert_at.ensures.changed.family c.args.tree.now c.requires.ready.family) c.requires.ready.within),
+            still_bare c.args.marked c.args.tables.now.items c.insert_at.new.tables.items (inserted_same c.args.tables.now.items c.insert_at.new.tables.items c.args.at c.args.tuple.now c.insert_at.ensures.changed c.in_ok-place.ensures.inserted) c.requires.bare,
+          ),
         ),
       ),
     )
@@ -118,17 +125,17 @@ rise-node-requires g t c =
 pub rise-rise_trim-requires : goal.rise-rise_trim-requires
 rise-rise_trim-requires g t c κs hκ =
     let d = c.decreases in
-    (omega arith, (hκ, (c.requires.gaining, (c.requires.wide, (under_trim c.args.tree.now c.args.at c.in-Some.up c.in-Trim.child c.parent.result c.node.result c.requires.gaining.began.ready.family.is_tree c.parent.ensures.parent c.in-Some.is c.in-Some.ensures.above.1 c.node.ensures c.in-Trim.is)))))
+    (omega arith, (hκ, (c.requires.gaining, (c.requires.wide, (under_trim c.args.tree.now c.args.at c.in-Some.up c.in-Trim.child c.parent.result c.node.result c.requires.gaining.began.ready.family.is_tree c.parent.ensures.parent c.in-Some.is c.in-Some.ensures.above.1 c.node.ensures c.in-Trim.is, c.requires.bare)))))
 
 pub rise-rise_guard-requires : goal.rise-rise_guard-requires
 rise-rise_guard-requires g t c κs hκ =
     let d = c.decreases in
-    (omega arith, (hκ, (c.requires.gaining, (c.requires.wide, (under_guard c.args.tree.now c.args.at c.in-Some.up c.in-Meet.guard c.in-Meet.side c.parent.result c.node.result c.requires.gaining.began.ready.family.is_tree c.parent.ensures.parent c.in-Some.is c.in-Some.ensures.above.1 c.node.ensures c.in-Meet.is c.if-guard-at.true)))))
+    (omega arith, (hκ, (c.requires.gaining, (c.requires.wide, (under_guard c.args.tree.now c.args.at c.in-Some.up c.in-Meet.guard c.in-Meet.side c.parent.result c.node.result c.requires.gaining.began.ready.family.is_tree c.parent.ensures.parent c.in-Some.is c.in-Some.ensures.above.1 c.node.ensures c.in-Meet.is c.if-guard-at.true, c.requires.bare)))))
 
 pub rise-rise_side-requires : goal.rise-rise_side-requires
 rise-rise_side-requires g t c κs hκ =
     let d = c.decreases in
-    (omega arith, (hκ, (c.requires.gaining, (under_side c.args.tree.now c.args.at c.in-Some.up c.in-Meet.guard c.in-Meet.side c.parent.result c.node.result c.requires.gaining.began.ready.family.is_tree c.parent.ensures.parent c.in-Some.is c.in-Some.ensures.above.1 c.node.ensures c.in-Meet.is c.if-guard-at.false))))
+    (omega arith, (hκ, (c.requires.gaining, (under_side c.args.tree.now c.args.at c.in-Some.up c.in-Meet.guard c.in-Meet.side c.parent.result c.node.result c.requires.gaining.began.ready.family.is_tree c.parent.ensures.parent c.in-Some.is c.in-Some.ensures.above.1 c.node.ensures c.in-Meet.is c.if-guard-at.false, c.requires.bare))))
 
 pub rise-returns-in-None-clause-ok : goal.rise-returns-in-None-clause-ok
 rise-returns-in-None-clause-ok g t c =
@@ -246,7 +253,7 @@ rise_guard-live-requires g t c κs hκ =
     let low = lower_of c.args.tree.now c.args.up (Meet c.args.at c.args.side) c.args.at c.requires.gaining.began.ready.family.is_tree c.requires.under in
     let within = c.requires.under.within in
     let d = c.decreases in
-    (omega arith, (hκ, (ready_up c.args.tree.now c.requires.gaining.was c.args.tables.now.items c.args.at c.args.up (Meet c.args.at c.args.side) c.requires.gaining.began c.requires.under, (guard_absent c.args.tree.now c.requires.gaining.was c.args.tables.now.items c.args.at c.args.side c.args.up c.args.tuple.now c.requires.gaining.began c.requires.gaining.gains c.requires.under, (c.requires.wide ∙ sym (guard_wide c.args.tree.now c.args.tables.now.items c.args.at c.args.side c.args.up (now_family c.args.tree.now c.requires.gaining.was c.args.tables.now.items c.args.at c.requires.gaining.began) c.requires.gaining.began.ready.within c.requires.under), guard_fits c.args.tree.now c.requires.gaining.was c.args.tables.now.items c.args.at c.args.side c.args.up 4294967295 c.args.tuple.now c.requires.gaining.began c.requires.gaining.gains c.requires.under c.is_small_at.ensures)))))
+    (omega arith, (hκ, (ready_up c.args.tree.now c.requires.gaining.was c.args.tables.now.items c.args.at c.args.up (Meet c.args.at c.args.side) c.requires.gaining.began c.requires.under, (guard_absent c.args.tree.now c.requires.gaining.was c.args.tables.now.items c.args.at c.args.side c.args.up c.args.tuple.now c.requires.gaining.began c.requires.gaining.gains c.requires.under, (c.requires.wide ∙ sym (guard_wide c.args.tree.now c.args.tables.now.items c.args.at c.args.side c.args.up (now_family c.args.tree.now c.requires.gaining.was c.args.tables.now.items c.args.at c.requires.gaining.began) c.requires.gaining.began.ready.within c.requires.under), (guard_fits c.args.tree.now c.requires.gaining.was c.args.tables.now.items c.args.at c.args.side c.args.up 4294967295 c.args.tuple.now c.requires.gaining.began c.requires.gaining.gains c.requires.under c.is_small_at.ensures, c.requires.bare))))))
 
 pub rise_guard-returns-in-Some-clause-ok : goal.rise_guard-returns-in-Some-clause-ok
 rise_guard-returns-in-Some-clause-ok g t c =
@@ -319,7 +326,7 @@ rise_trim-live-requires g t c κs hκ =
     let low = lower_of c.args.tree.now c.args.up (Trim c.args.at) c.args.at c.requires.gaining.began.ready.family.is_tree c.requires.under in
     let within = c.requires.under.within in
     let d = c.decreases in
-    (omega arith, (hκ, (ready_up c.args.tree.now c.requires.gaining.was c.args.tables.now.items c.args.at c.args.up (Trim c.args.at) c.requires.gaining.began c.requires.under, (c.in-None.ensures.found, (trim_wide c.args.tree.now c.args.tables.now.items c.args.at c.args.up c.args.tuple.now c.as_slice-cells.result.now (now_family c.args.tree.now c.requires.gaining.was c.args.tables.now.items c.args.at c.requires.gaining.began) c.requires.gaining.began.ready.within c.requires.under (c.as_slice-cells.ensures ∙ c.part_of-part.ensures), trim_fits c.args.tree.now c.requires.gaining.was c.args.tables.now.items c.args.at c.args.up 4294967295 c.args.tuple.now c.requires.gaining.began c.requires.gaining.gains c.requires.under c.is_small_at.ensures)))))
+    (omega arith, (hκ, (ready_up c.args.tree.now c.requires.gaining.was c.args.tables.now.items c.args.at c.args.up (Trim c.args.at) c.requires.gaining.began c.requires.under, (c.in-None.ensures.found, (trim_wide c.args.tree.now c.args.tables.now.items c.args.at c.args.up c.args.tuple.now c.as_slice-cells.result.now (now_family c.args.tree.now c.requires.gaining.was c.args.tables.now.items c.args.at c.requires.gaining.began) c.requires.gaining.began.ready.within c.requires.under (c.as_slice-cells.ensures ∙ c.part_of-part.ensures), (trim_fits c.args.tree.now c.requires.gaining.was c.args.tables.now.items c.args.at c.args.up 4294967295 c.args.tuple.now c.requires.gaining.began c.requires.gaining.gains c.requires.under c.is_small_at.ensures, c.requires.bare))))))
 
 pub rise_trim-returns-in-Some-clause-ok : goal.rise_trim-returns-in-Some-clause-ok
 rise_trim-returns-in-Some-clause-ok g t c =
@@ -417,7 +424,10 @@ rise_side-live-requires g t c κs hκ =
             subst (λ (w : List ℕ). cnt (entries_at c.loop-done.tables.items c.args.up) w ≡ 0) (sym (c.as_slice.ensures ∙ c.tuple_at-part.ensures.tuple k.entry.tuple (moved_at (entries_at c.args.tables.now.items c.args.guard) (entries_at c.loop-done.tables.items c.args.guard) c.in-Some.place k.entry.tuple (c.loop-done.invariant.grown.low c.args.guard (c.requires.gaining.began.ready.family.is_tree.meet c.args.up c.args.guard c.args.at c.requires.under.node).guard_lower) (cut_at (key_at c.args.tables.now.items c.args.guard) (entries_at c.args.tables.now.items c.args.guard) c.args.tuple.now c.loop-done.done c.in-Some.place k)))) (side_absent c.args.tree.now c.requires.gaining.was c.args.tables.now.items c.loop-done.tables.items c.args.guard c.args.at c.args.up c.loop-done.done c.args.tuple.now k.entry c.requires.gaining.began c.requires.gaining.gains c.requires.under c.loop-done.invariant.grown k.is),
             (
               ap (λ (w : List ℕ). length w) c.as_slice.ensures ∙ c.tuple_at-part.ensures.wide ∙ sym (guard_wide c.args.tree.now c.loop-done.tables.items c.args.guard c.args.at c.args.up c.loop-done.invariant.grown.family (omega arith) (guard_under c.args.tree.now c.args.up c.args.guard c.args.at c.args.at c.requires.under)),
-              omega (arith, next_fits c.args.tree.now c.requires.gaining.was c.args.tables.now.items c.loop-done.tables.items c.args.guard c.args.at c.args.up c.loop-done.done c.args.tuple.now k.entry c.requires.gaining.began c.requires.gaining.gains c.requires.under c.loop-done.invariant.grown k.is, c.is_small_at.ensures),
+              (
+                omega (arith, next_fits c.args.tree.now c.requires.gaining.was c.args.tables.now.items c.loop-done.tables.items c.args.guard c.args.at c.args.up c.loop-done.done c.args.tuple.now k.entry c.requires.gaining.began c.requires.gaining.gains c.requires.under c.loop-done.invariant.grown k.is, c.is_small_at.ensures),
+                still_bare c.args.marked c.args.tables.now.items c.loop-done.tables.items c.loop-done.invariant.unchanged c.requires.bare,
+              ),
             ),
           ),
         ),

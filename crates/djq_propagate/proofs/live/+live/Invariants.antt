@@ -2,7 +2,7 @@ use Rattle.std.proofs.Common.{◌≡◌, ◌+◌, ◌-◌, ◌*◌, ◌≤◌, l
 use Rattle.djq_index.specs.Entries.{grp, head_at}
 use Rattle.djq_reduct.specs.Tables.{entries_at, key_at}
 use Rattle.djq_propagate.specs.Sizes.{size}
-use Rattle.djq_propagate.specs.Walks.{IsGrown, SamePlain}
+use Rattle.djq_propagate.specs.Walks.{IsGrown, CameAs}
 use Rattle.djq_propagate.proofs.live.+live.Given as goal
 
 abbrev pub decreases-live : goal.decreases-live
@@ -24,6 +24,6 @@ abbrev pub invariant-rise_side-loop-done : goal.invariant-rise_side-loop-done
 invariant-rise_side-loop-done g l = record {
   next : l.next ≡ head_at (drop l.done (grp (key_at l.fn.tables.items l.guard) (entries_at l.fn.tables.items l.guard) l.tuple));
   grown : IsGrown l.tree l.fn.tables.items l.tables.items l.up (take l.done (grp (key_at l.fn.tables.items l.guard) (entries_at l.fn.tables.items l.guard) l.tuple));
-  unchanged : SamePlain l.fn.tables.items l.tables.items;
+  unchanged : CameAs l.marked l.fn.tables.items l.tables.items;
   counted : l.tally + 4 * size l.fn.tables.items ≤ l.fn.tally + 1 + 4 * size l.tables.items;
 }

@@ -7,7 +7,7 @@ use Rattle.djq_propagate.proofs.Going.{on_err}
 use Rattle.djq_propagate.proofs.Fewing.{few_lived, one_lived}
 use Rattle.djq_propagate.proofs.Measuring.{put_by, put_counted}
 use Rattle.djq_propagate.proofs.Single.{more_length}
-use Rattle.djq_propagate.proofs.Updating.{both, leaf_within, leaf_below, reducts_lived, ready_leaf, refused_kept, inserted_all, can_insert}
+use Rattle.djq_propagate.proofs.Updating.{both, leaf_within, leaf_below, reducts_lived, ready_leaf, bare_same, refused_kept, inserted_all, can_insert}
 use Rattle.djq_propagate.proofs.Rooms.{few_nodes, put_bounded}
 use Rattle.djq_propagate.specs.Updates.{HasAtMost, paths}
 use Rattle.djq_propagate.proofs.update.put.Goals as goal
@@ -34,7 +34,7 @@ returns-in_err-live-clause-inserted g c =
 
 pub returns-in_err-live-clause-refused : goal.returns-in_err-live-clause-refused
 returns-in_err-live-clause-refused g c =
-    on_err c.from_residual.result (HasKept (both c.args.tree.now c.args.tables.now.items) (both c.args.tree.now c.live.new.tables.items)) (refused_kept c.args.tree.now c.args.tables.now.items c.live.new.tables.items c.args.leaf c.requires.reducts c.in_err-live.ensures.refused c.live.ensures.plain c.requires.bare)
+    on_err c.from_residual.result (HasKept (both c.args.tree.now c.args.tables.now.items) (both c.args.tree.now c.live.new.tables.items)) (refused_kept c.args.tree.now c.args.tables.now.items c.live.new.tables.items c.args.leaf c.requires.reducts c.in_err-live.ensures.refused (bare_same c.args.tree.now c.args.tables.now.items c.live.new.tables.items c.requires.reducts.family c.in_err-live.ensures.refused.family c.in_err-live.ensures.refused.supports c.live.ensures.plain c.requires.bare))
 
 pub returns-in_err-live-clause-bounded : goal.returns-in_err-live-clause-bounded
 returns-in_err-live-clause-bounded g c =
