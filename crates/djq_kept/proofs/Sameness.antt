@@ -10,7 +10,18 @@ use Rattle.djq_model.specs.declared.query.Query.{Query}
 use Rattle.djq_model.specs.declared.query.Atom.{Atom}
 use Rattle.djq_model.specs.declared.query.Term.{Term}
 use Rattle.djq_model.specs.declared.relation.CountedRow.{CountedRow}
-use Rattle.djq_model.specs.Data.{Bytes, Tuple, bytes_eq, relation_of, tuples_in, tuples_of, counted_in, counted_of, rows_of, has_row}
+use Rattle.djq_model.specs.Data.{
+  Bytes,
+  Tuple,
+  bytes_eq,
+  relation_of,
+  tuples_in,
+  tuples_of,
+  counted_in,
+  counted_of,
+  rows_of,
+  has_row,
+}
 use Rattle.djq_model.specs.Answer.{AreDifferent}
 use Rattle.djq_model.specs.Listed.{Listed, listed_of}
 use Rattle.djq_model.specs.Typed.{fits}
@@ -126,8 +137,8 @@ once_with us n rows differ once =
     (λ x found k. differ)
 
 -- other rows in one of them
-pub same_with : (us bs : List Relation) (n : Bytes) (xs ys : List CountedRow) → IsPermutation xs ys → SameRelations us bs
-    → SameRelations (with_rows us n xs) (with_rows bs n ys)
+pub same_with : (us bs : List Relation) (n : Bytes) (xs ys : List CountedRow) → IsPermutation xs ys
+    → SameRelations us bs → SameRelations (with_rows us n xs) (with_rows bs n ys)
 same_with [] [] n xs ys p h = tt
 same_with (a ∷ us) (b ∷ bs) n xs ys p h =
     subst (λ (c : Bool). SameRelations (with_rows (a ∷ us) n xs) (cond c (record b { rows = ys } ∷ bs) (b ∷ with_rows bs n ys)))
@@ -203,13 +214,15 @@ add_same a b n row h =
     ∙ ap (λ (x : ℕ). by (add_more (copies_of a n row) (has_row (rows_of a.relations n) row) x b.seq))
     (length_permutation (rows_of a.relations n) (rows_of b.relations n)
     (reordered_rows a.relations b.relations n h.same.relations))
-    ∙ ap (λ (x : ℕ). by (add_more (copies_of a n row) (has_row (rows_of a.relations n) row) (length (rows_of a.relations n)) x))
+    ∙ ap (λ (x : ℕ).
+    by (add_more (copies_of a n row) (has_row (rows_of a.relations n) row) (length (rows_of a.relations n)) x))
     h.same.seq
 
 abbrev delete_more : ℕ → ℕ → List (Bool × Refusal)
 delete_more copies seq = ((copies == 1) && nat_le LAST_SEQ seq, Limit) ∷ []
 
-pub delete_same : (a b : Store) (n : Bytes) (row : Tuple) → Follows a b → delete_refusal b n row ≡ delete_refusal a n row
+pub delete_same : (a b : Store) (n : Bytes) (row : Tuple) → Follows a b
+    → delete_refusal b n row ≡ delete_refusal a n row
 delete_same a b n row h =
     let left = relation_of a.relations n in
     let by : List (Bool × Refusal) → Option Refusal = row_by (is_none left) (types_of left) row in
