@@ -28,7 +28,8 @@ use Rattle.djq_laws.proofs.Forms.{done_of}
 use Rattle.djq_laws.proofs.Watching.{change_store}
 use Rattle.djq_kept.specs.Kept.{AreKnown, Follows}
 use Rattle.djq_kept.proofs.Knowing.{known_refl, first_known, full_known}
-use Rattle.djq_kept.proofs.Respecting.{Respects, rel_respects, add_respects, more_respects, delete_respects, left_respects, query_respects, drop_respects}
+use Rattle.djq_kept.proofs.Respecting.{Respects, rel_respects, query_respects, drop_respects}
+use Rattle.djq_kept.proofs.Copying.{add_respects, more_respects, delete_respects, left_respects}
 
 -- The data stay as they are, and no fewer texts are known.
 pub record Grows (a to : Store) : Type 0 where

@@ -1,6 +1,7 @@
 mod Knowing
 mod Sameness
 mod Respecting
+mod Copying
 mod Keeping
 mod Running
 mod Reloading

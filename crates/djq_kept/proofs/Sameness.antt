@@ -10,7 +10,18 @@ use Rattle.djq_model.specs.declared.query.Query.{Query}
 use Rattle.djq_model.specs.declared.query.Atom.{Atom}
 use Rattle.djq_model.specs.declared.query.Term.{Term}
 use Rattle.djq_model.specs.declared.relation.CountedRow.{CountedRow}
-use Rattle.djq_model.specs.Data.{Bytes, Tuple, bytes_eq, relation_of, tuples_in, tuples_of, counted_in, counted_of, rows_of, has_row}
+use Rattle.djq_model.specs.Data.{
+  Bytes,
+  Tuple,
+  bytes_eq,
+  relation_of,
+  tuples_in,
+  tuples_of,
+  counted_in,
+  counted_of,
+  rows_of,
+  has_row,
+}
 use Rattle.djq_model.specs.Answer.{AreDifferent}
 use Rattle.djq_model.specs.Listed.{Listed, listed_of}
 use Rattle.djq_model.specs.Typed.{fits}
@@ -27,7 +38,7 @@ use Rattle.djq_model.proofs.Counted.{tuples_moved, has_moved, differ_moved, copi
 use Rattle.djq_laws.proofs.Apart.{nothing_apart}
 use Rattle.djq_laws.proofs.Changing.{all_changed, all_found}
 use Rattle.djq_laws.proofs.Answering.{reordered_counted, reordered_rows}
-use Rattle.djq_kept.specs.Kept.{IsSameStore, HasRowsOnce, Follows}
+use Rattle.djq_kept.specs.Kept.{IsSameStore, HasRowsOnce, Follows, FollowersHaveCopies}
 
 -- ---- relations
 
@@ -126,8 +137,8 @@ once_with us n rows differ once =
     (λ x found k. differ)
 
 -- other rows in one of them
-pub same_with : (us bs : List Relation) (n : Bytes) (xs ys : List CountedRow) → IsPermutation xs ys → SameRelations us bs
-    → SameRelations (with_rows us n xs) (with_rows bs n ys)
+pub same_with : (us bs : List Relation) (n : Bytes) (xs ys : List CountedRow) → IsPermutation xs ys
+    → SameRelations us bs → SameRelations (with_rows us n xs) (with_rows bs n ys)
 same_with [] [] n xs ys p h = tt
 same_with (a ∷ us) (b ∷ bs) n xs ys p h =
     subst (λ (c : Bool). SameRelations (with_rows (a ∷ us) n xs) (cond c (record b { rows = ys } ∷ bs) (b ∷ with_rows bs n ys)))
@@ -168,6 +179,9 @@ module _ (a b : Store) (n : Bytes) (row : Tuple) (f : Follows a b) where
   pub same_copies : copies_of b n row ≡ copies_of a n row
   same_copies = copies_moved (counted_of a.relations n) (counted_of b.relations n) row before_once moved
 
+pub followers_have_copies : FollowersHaveCopies
+followers_have_copies a b f n row = same_copies a b n row f
+
 -- why a row doesn't suit a relation, and what else refuses it
 abbrev row_by : Bool → List ColumnType → Tuple → List (Bool × Refusal) → Option Refusal
 row_by none types row more = first_of (
@@ -203,13 +217,15 @@ add_same a b n row h =
     ∙ ap (λ (x : ℕ). by (add_more (copies_of a n row) (has_row (rows_of a.relations n) row) x b.seq))
     (length_permutation (rows_of a.relations n) (rows_of b.relations n)
     (reordered_rows a.relations b.relations n h.same.relations))
-    ∙ ap (λ (x : ℕ). by (add_more (copies_of a n row) (has_row (rows_of a.relations n) row) (length (rows_of a.relations n)) x))
+    ∙ ap (λ (x : ℕ).
+    by (add_more (copies_of a n row) (has_row (rows_of a.relations n) row) (length (rows_of a.relations n)) x))
     h.same.seq
 
 abbrev delete_more : ℕ → ℕ → List (Bool × Refusal)
 delete_more copies seq = ((copies == 1) && nat_le LAST_SEQ seq, Limit) ∷ []
 
-pub delete_same : (a b : Store) (n : Bytes) (row : Tuple) → Follows a b → delete_refusal b n row ≡ delete_refusal a n row
+pub delete_same : (a b : Store) (n : Bytes) (row : Tuple) → Follows a b
+    → delete_refusal b n row ≡ delete_refusal a n row
 delete_same a b n row h =
     let left = relation_of a.relations n in
     let by : List (Bool × Refusal) → Option Refusal = row_by (is_none left) (types_of left) row in

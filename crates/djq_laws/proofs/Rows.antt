@@ -61,7 +61,7 @@ use Rattle.djq_machine.specs.Changes.{
   delete_outcome,
 }
 use Rattle.djq_machine.specs.Watch.{ChangeStep}
-use Rattle.djq_laws.specs.Sound.{AreApart, AreCopies, IsSoundRelation}
+use Rattle.djq_laws.specs.Sound.{AreApart, IsCopyCount, IsSoundRelation}
 use Rattle.djq_laws.specs.Form.{RowCommand, row_comes, row_goes, LearnsTexts, Changed}
 use Rattle.djq_model.proofs.Counted.{
   tuples_with_row,
@@ -160,7 +160,7 @@ module _ (old : Store) (name : Bytes) (row : Tuple) (none : add_refusal old name
   row_fits : fits (types_of (relation_of old.relations name)) row ≡ true
   row_fits = row_suits.0
 
-  one_more : AreCopies (copies_of old name row + 1)
+  one_more : IsCopyCount (copies_of old name row + 1)
   one_more =
       let below = leb-false COPIES (copies_of old name row) row_suits.1 in
       (omega arith, omega (arith, below))
@@ -177,7 +177,7 @@ not_added old name row r new h =
 module _ (old : Store) (name : Bytes) (rows : List CountedRow) where
   abbrev Suits : Relation → List CountedRow → Type 0
   Suits x rows = All (λ t. fits x.types t ≡ true) (tuples_of rows) × AreDifferent (tuples_of rows)
-      × All (λ (c : CountedRow). AreCopies c.copies) rows
+      × All (λ (c : CountedRow). IsCopyCount c.copies) rows
 
   other_names : AreApart (map (λ (x : Relation). x.name) old.relations)
       → AreApart (map (λ (x : Relation). x.name) (with_rows old.relations name rows))
@@ -205,15 +205,15 @@ module _ (old : Store) (name : Bytes) (row : Tuple) where
         (All-push (λ t. fits x.types t ≡ true) (tuples_of before) row k.0
         (subst (λ (o : Option Relation). fits (types_of o) row ≡ true) found (row_fits old name row none))),
     subst AreDifferent (sym (tuples_with_row before row)) (rows_more (tuples_of before) row k.1 absent),
-    all_with_row (λ (c : CountedRow). AreCopies c.copies) before row k.2 (omega arith, omega arith),
+    all_with_row (λ (c : CountedRow). IsCopyCount c.copies) before row k.2 (omega arith, omega arith),
   )
 
-  suits_copies : (n : ℕ) → AreCopies n → (x : Relation) → relation_of old.relations name ≡ Some x
+  suits_copies : (n : ℕ) → IsCopyCount n → (x : Relation) → relation_of old.relations name ≡ Some x
       → Suits old name before x before → Suits old name before x (with_copies before row n)
   suits_copies n may x found k = (
     subst (λ ts. All (λ t. fits x.types t ≡ true) ts) (sym (tuples_with_copies before row n)) k.0,
     subst AreDifferent (sym (tuples_with_copies before row n)) k.1,
-    all_with_copies (λ (c : CountedRow). AreCopies c.copies) before row n k.2 may,
+    all_with_copies (λ (c : CountedRow). IsCopyCount c.copies) before row n k.2 may,
   )
 
   suits_less : (x : Relation) → relation_of old.relations name ≡ Some x → Suits old name before x before
@@ -222,14 +222,14 @@ module _ (old : Store) (name : Bytes) (row : Tuple) where
     subst (λ ts. All (λ t. fits x.types t ≡ true) ts) (sym (without_is))
         (all_dropped (λ t. fits x.types t ≡ true) (λ t. tuple_eq t row) (tuples_of before) k.0),
     subst AreDifferent (sym (tuples_without before row)) (rows_less (tuples_of before) row k.1),
-    all_without (λ (c : CountedRow). AreCopies c.copies) before row k.2,
+    all_without (λ (c : CountedRow). IsCopyCount c.copies) before row k.2,
   )
     where
       without_is : tuples_of (without_copies before row) ≡ drop_first (λ t. tuple_eq t row) (tuples_of before)
       without_is = tuples_without before row ∙ without_dropped (tuples_of before) row
 
   -- Of another number of copies each relation keeps its rows.
-  recounted : (n : ℕ) (new : Store) → (All IsSoundRelation old.relations → AreCopies n)
+  recounted : (n : ℕ) (new : Store) → (All IsSoundRelation old.relations → IsCopyCount n)
       → new ≡ record old { relations = with_copies_of old.relations name row n } → KeepsRows old new
   recounted n new may after = record {
     relations = with_copies_of old.relations name row n;
@@ -260,23 +260,23 @@ added old name row (Ok First) new h =
 added old name row (Ok (More copies)) new h =
     let d = done_of (add_refusal old name row) (More copies) (AddsAs old name row new) _ h.answer in
     let none = none_holds (add_refusal old name row) (More copies) (AddsAs old name row new) _ h.answer in
-    recounted old name row copies new (λ sound. subst AreCopies (sym d.1) (one_more old name row none)) d.2
+    recounted old name row copies new (λ sound. subst IsCopyCount (sym d.1) (one_more old name row none)) d.2
 added old name row (Err NoMemory) new h = not_added old name row NoMemory new h
 added old name row (Err r) new h = learns_keeps old new (not_added old name row r new h)
 
 -- how many copies each row of a relation has, where all are sound
-counted_sound : (rs : List Relation) (name : Bytes) (o : Option Relation) → relation_of rs name ≡ o
-    → All IsSoundRelation rs → All (λ (c : CountedRow). AreCopies c.copies) (counted_in o)
-counted_sound rs name None e sound = All-nil (λ (c : CountedRow). AreCopies c.copies)
+pub counted_sound : (rs : List Relation) (name : Bytes) (o : Option Relation) → relation_of rs name ≡ o
+    → All IsSoundRelation rs → All (λ (c : CountedRow). IsCopyCount c.copies) (counted_in o)
+counted_sound rs name None e sound = All-nil (λ (c : CountedRow). IsCopyCount c.copies)
 counted_sound rs name (Some x) e sound =
     (all_found IsSoundRelation (λ (r : Relation). bytes_eq r.name name) rs x sound e).copies
 
 -- one of several copies less
 one_less : (old : Store) (name : Bytes) (row : Tuple) (copies : ℕ) → has_row (rows_of old.relations name) row ≡ true
-    → copies_of old name row ≡ copies + 1 → 1 ≤ copies → All IsSoundRelation old.relations → AreCopies copies
+    → copies_of old name row ≡ copies + 1 → 1 ≤ copies → All IsSoundRelation old.relations → IsCopyCount copies
 one_less old name row copies there is some sound =
-    let held : AreCopies (copies_of old name row) =
-    copies_hold AreCopies (counted_of old.relations name) row
+    let held : IsCopyCount (copies_of old name row) =
+    copies_hold IsCopyCount (counted_of old.relations name) row
     (counted_sound old.relations name (relation_of old.relations name) refl sound) there in
     let most = held.1 in
     (some, omega (arith, is, most))

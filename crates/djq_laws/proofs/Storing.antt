@@ -12,7 +12,7 @@ use Rattle.djq_lines.specs.declared.limits.TheConstants.{TEXTS}
 use Rattle.djq_machine.specs.State.{Store}
 use Rattle.djq_machine.specs.Changes.{RowsOutcome, accepted, out_of_memory, unchanged}
 use Rattle.djq_machine.specs.Step.{SameRelations}
-use Rattle.djq_laws.specs.Sound.{AreApart, AreCopies, IsSoundRelation, IsConnex, IsSoundStore}
+use Rattle.djq_laws.specs.Sound.{AreApart, IsCopyCount, IsSoundRelation, IsConnex, IsSoundStore}
 use Rattle.djq_laws.specs.Form.{
   Stored,
   LearnsTexts,
@@ -49,7 +49,7 @@ stored_sound used old new (makes_relation name types none e) s =
           (record {
             typed = All-nil (λ t. fits types t ≡ true);
             once = nothing_apart (λ a b. a ≡ b → ⊥);
-            copies = All-nil (λ (c : CountedRow). AreCopies c.copies);
+            copies = All-nil (λ (c : CountedRow). IsCopyCount c.copies);
           });
       texts = s.texts;
       few = s.few;
@@ -113,7 +113,7 @@ moved_rows (r ∷ rs) (m ∷ ms) h s =
       typed = subst (λ types. All (λ t. fits types t ≡ true) (tuples_in m)) (sym h.1)
           (All-permutation (λ t. fits r.types t ≡ true) (tuples_in r) (tuples_in m) rows k.typed);
       once = differ_moved (tuples_in r) (tuples_in m) rows k.once;
-      copies = All-permutation (λ (c : CountedRow). AreCopies c.copies) r.rows m.rows h.2 k.copies;
+      copies = All-permutation (λ (c : CountedRow). IsCopyCount c.copies) r.rows m.rows h.2 k.copies;
     }) (moved_rows rs ms h.3 (All-tail IsSoundRelation r rs s))
 moved_rows [] (m ∷ ms) h s = absurd h
 moved_rows (r ∷ rs) [] h s = absurd h

@@ -16,15 +16,15 @@ use Rattle.djq_laws.specs.Rising.{AreRising}
 abbrev pub AreApart : List Bytes → Type 0
 AreApart names = AllPairs (λ a b. a ≢ b) names
 
--- as many copies as a row may have: one at least
-abbrev pub AreCopies : ℕ → Type 0
-AreCopies n = (1 ≤ n) × (n ≤ COPIES)
+-- a number of copies that a row may have: one at least
+abbrev pub IsCopyCount : ℕ → Type 0
+IsCopyCount n = (1 ≤ n) × (n ≤ COPIES)
 
 -- The rows of a relation are of its columns' types, and none stands twice; each has copies.
 pub record IsSoundRelation (r : Relation) : Type 0 where
   pub typed : All (λ row. fits r.types row ≡ true) (tuples_in r)
   pub once : AreDifferent (tuples_in r)
-  pub copies : All (λ c. AreCopies c.copies) r.rows
+  pub copies : All (λ c. IsCopyCount c.copies) r.rows
 
 -- What is registered is free-connex.
 abbrev pub IsConnex : Listed → Type 0
