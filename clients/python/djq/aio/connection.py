@@ -10,8 +10,7 @@ from typing import TYPE_CHECKING, Any, AsyncIterator, Callable, Generator, Itera
 from .. import protocol
 from ..errors import Disconnected, Error, NoCursor, NotWatched, Refused, SomeRefused
 from ..listing import CLOSE, MOST_PAGES, WITHIN, Listing, Said
-from ..protocol import FIRST_REFUSALS, MOST_ANSWERS, Absent, Added, Answer, Change, Page, Pending, Protocol, Removed
-from ..protocol import Value
+from ..protocol import FIRST_REFUSALS, MOST_ANSWERS, Added, Answer, Change, Page, Pending, Protocol, Update, Value
 from ..protocol import checked, column_type, fitting, spell_line
 
 if TYPE_CHECKING:
@@ -91,8 +90,8 @@ class Connection:
         """Gives a row one copy more; the first puts it in."""
         return await self._do(spell_line("add", relation, values), protocol.READ_ADDED)
 
-    async def delete(self, relation: str, *values: Value) -> Removed | Absent:
-        """Takes one copy of a row; the last takes it out."""
+    async def delete(self, relation: str, *values: Value) -> Update:
+        """Takes one copy of a row; the last takes it out. Gives `Removed`, or `Absent` where it wasn't there."""
         return await self._do(spell_line("del", relation, values), protocol.READ_REMOVED)
 
     async def query(self, text: str) -> int:
@@ -431,7 +430,7 @@ class Pipeline:
         """Gives a row one copy more."""
         return await self._say(spell_line("add", relation, values), protocol.READ_ADDED)
 
-    async def delete(self, relation: str, *values: Value) -> Pending[Removed | Absent]:
+    async def delete(self, relation: str, *values: Value) -> Pending[Update]:
         """Takes one copy of a row."""
         return await self._say(spell_line("del", relation, values), protocol.READ_REMOVED)
 

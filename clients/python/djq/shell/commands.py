@@ -370,7 +370,7 @@ class Shell:
             told = str(error) or "interrupted"
             if self.session.ended is not None or _stamp(path) != stamp:
                 why = "the connection was lost" if self.session.ended is not None else f"{path} was changed"
-                became = f"{why}: the {sum(load.came):,} rows that came stay in {relation}, and more may have come{AGAIN}"
+                became = f"{why}: the {sum(load.came):,} rows that came stay in {relation}, and further ones may{AGAIN}"
             else:
                 became = self._undo(load, path, relation, header)
             raise BadFile(f"{told}\n{became}") from error
