@@ -6,7 +6,7 @@
 As a filter it needs Python's standard library alone. Tests of the terminal need pexpect, prompt_toolkit and rich,
 in this Python or in /usr/bin/python3, that of the package setuptools, wheel and pip, and that of its types mypy: what
 isn't there is named, and its tests are skipped. One line is printed for each test that fails or is skipped, and last
-`N passed, N failed, N skipped`; the status is 0 where none failed.
+`N passed, N failed`, with `, N skipped` and what they were without; the status is 0 where none failed.
 """
 
 import contextlib
@@ -757,11 +757,13 @@ def a_checker_accepts_the_types(program):
 def main():
     program, names = os.path.abspath(sys.argv[1]), sys.argv[2:]
     passed = failed = skipped = 0
+    missed = set()
     for function, needs in TESTS:
         if names and function.__name__ not in names:
             continue
         if missing := lacks(needs):
             skipped += 1
+            missed.update(missing)
             print(f"{function.__name__}: skipped, without {', '.join(missing)}")
             continue
         try:
@@ -770,7 +772,7 @@ def main():
         except Exception:
             failed += 1
             print(f"{function.__name__}: {traceback.format_exc(limit=-2)}")
-    print(f"{passed} passed, {failed} failed" + (f", {skipped} skipped" if skipped else ""))
+    print(f"{passed} passed, {failed} failed" + (f", {skipped} skipped, without {', '.join(sorted(missed))}" if skipped else ""))
     return 1 if failed or not passed else 0
 
 
