@@ -656,6 +656,8 @@ def test_alarm(program):
         assert output(server, "alarm.py", "--once") == stands
         with example(server, "alarm.py", "--lines", "5") as process:
             hear(process, stands)
+            # a second gateway reports the same, and takes it back: nothing is told
+            assert client.add("readings", 7, "hot").copies == 2 and client.delete("readings", 7, "hot").copies == 1
             client.add("readings", 8, "fine")
             client.delete("oncall", "heating", "Ada")
             client.add("oncall", "heating", "Cai")
