@@ -8,6 +8,7 @@ and with 4N. README.md beside this file says how to read the table. Standard lib
 
 import argparse
 import contextlib
+import os
 import random
 import select
 import shutil
@@ -19,6 +20,10 @@ import sys
 import threading
 import time
 
+sys.path.insert(0, os.path.join(os.path.dirname(os.path.abspath(__file__)), "..", "clients", "python"))
+import djq  # noqa: E402
+
+REGISTERED = 2_000_000  # rows over which a query is registered while another session waits
 SENTINEL = b"has nothing_is_named_so"  # a line that is answered by LAST alone
 LAST = b"err 4 no query\n"
 
@@ -530,20 +535,36 @@ def latency(program, count):
         yield "  of a hundred, the slowest", statistics.quantiles(taken, n=100)[-1] * 1e6, "us"
 
 
-def registering(program, count):
-    """How long another session waits while a query over many rows is registered."""
+def registering(program, _count):
+    """How long another session waits while a query over many rows is registered, always over as many."""
     with Server(program) as server:
         one, two = server.clients[0], server.connect()
-        lines = b"".join(b"add r %d %d\nadd s %d %d\n" % (at, at, at, at) for at in range(2 * count))
+        lines = b"".join(b"add r %d %d\nadd s %d %d\n" % (at, at, at, at) for at in range(REGISTERED // 2))
         ask(one, b"rel r int int\nrel s int int\n", 2)
-        pour(one, lines, 4 * count)
+        pour(one, lines, REGISTERED)
         one.sendall(JOIN[2].encode() + b"\n")
         longest = 0.0
         while not select.select([one], [], [], 0)[0]:
             begin = time.perf_counter()
             ask(two, b"add r -1 -1\ndel r -1 -1\n", 2)
             longest = max(longest, time.perf_counter() - begin)
-        yield f"a round trip while a query over {4 * count:,} rows is registered", longest * 1e3, "ms at most"
+        yield f"a round trip while a query over {REGISTERED:,} rows is registered", longest * 1e3, "ms at most"
+
+
+def loading(program, count):
+    """The Python client's `load`, beside a socket over which the same lines go without a look at the replies."""
+    lines = [(at, at) for at in range(4 * count)]
+    with Server(program) as server:
+        ask(server.clients[0], b"rel r int int\nrel s int int\n", 2)
+        begin = time.perf_counter()
+        pour(server.clients[0], b"".join(b"add s %d %d\n" % row for row in lines), len(lines))
+        bare = len(lines) / (time.perf_counter() - begin)
+        with djq.connect("127.0.0.1", server.port) as client:
+            begin = time.perf_counter()
+            same(client.load("r", lines), len(lines), "load")
+            loaded = len(lines) / (time.perf_counter() - begin)
+    yield "the Python client's `load`", loaded, "rows a second"
+    yield "  of what a bare socket takes", 100 * loaded / bare, "%"
 
 
 def idle(program, _count):
@@ -561,7 +582,14 @@ def idle(program, _count):
             yield f"idle with {number} connections", share * 100, "% of a processor"
 
 
-LOOPBACK = {"waiting": waiting, "pipelining": pipelining, "latency": latency, "registering": registering, "idle": idle}
+LOOPBACK = {
+    "waiting": waiting,
+    "pipelining": pipelining,
+    "latency": latency,
+    "registering": registering,
+    "loading": loading,
+    "idle": idle,
+}
 
 
 # Beside Redis

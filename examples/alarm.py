@@ -13,6 +13,7 @@ In another terminal, `nc 127.0.0.1 7007` and then
     add oncall "heating" "Cai"
     del readings 7 "hot"
 
+Where two gateways report the same reading, its row has two copies, and the alarm is cleared once both took it back.
 Where the connection was lost, what was missed is told as one change. With `--once` it prints the alarms that stand and
 ends; with `--lines N` it ends after N lines.
 """

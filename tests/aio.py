@@ -97,7 +97,7 @@ def test_the_same_methods(program):
         own, other = getattr(djq, kind), getattr(djq.aio, kind)
         for name, method in inspect.getmembers(own, inspect.isfunction):
             if not name.startswith("_") and name != "fileno":  # what is waited for is the loop's business
-                words = [word for word in inspect.signature(method).parameters if word != "progress"]
+                words = list(inspect.signature(method).parameters)
                 assert words == list(inspect.signature(getattr(other, name)).parameters), (kind, name)
 
 
@@ -108,7 +108,9 @@ async def pipelines(server):
         async with client.pipeline() as many:
             replies = [await many.add("many", number // 2) for number in range(10000)]
         assert sum(reply.result().changed for reply in replies) == 5000
-        assert await client.load("many", ([number] for number in range(6000))) == 1000
+        told = []
+        assert await client.load("many", ([number] for number in range(6000)), told.append) == 1000
+        assert told == sorted(set(told)) and told[-1] == 6000 and told[0] <= 500
         try:
             async with client.pipeline() as many:
                 await many.add("many", 1)

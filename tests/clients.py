@@ -109,6 +109,23 @@ def test_refusals_by_their_lines():
             assert error.edges == [("x", "y"), ("x", "z"), ("y", "z")]
 
 
+def test_many_replies_are_counted():
+    """Of many commands that were sent as one: the first copies that came, and the last that went."""
+    for replies, changed in (
+        (["added 1 1", "added 2 1", "added 2 2", "added 3 1"], 3),
+        (["added 11 11", "added 1 1", "removed 1 1", "removed 2 0", "absent 2", "removed 10 10"], 2),
+        (["absent 0", "absent 1", "removed 1 0", "added 2 1"], 2),
+        (["absent 0"], 0),
+    ):
+        for size in (1, 7, 1000):
+            protocol = djq.Protocol()
+            rows = protocol.say_rows(["add r 1"] * len(replies), b"")
+            text = "".join(f"ok {reply}\n" for reply in replies).encode()
+            for at in range(0, len(text), size):
+                protocol.feed(text[at : at + size])
+            assert rows.done and (rows.changed, rows.replies) == (changed, len(replies)), (replies, rows.changed)
+
+
 def test_an_end_fails_what_is_due():
     protocol = djq.Protocol()
     pending = protocol.say("next c 1", djq.protocol.read_page)
@@ -639,6 +656,8 @@ def test_alarm(program):
         assert output(server, "alarm.py", "--once") == stands
         with example(server, "alarm.py", "--lines", "5") as process:
             hear(process, stands)
+            # a second gateway reports the same, and takes it back: nothing is told
+            assert client.add("readings", 7, "hot").copies == 2 and client.delete("readings", 7, "hot").copies == 1
             client.add("readings", 8, "fine")
             client.delete("oncall", "heating", "Ada")
             client.add("oncall", "heating", "Cai")
@@ -715,7 +734,7 @@ def test_stop(program):
 
 ALONE = [
     test_values_there_and_back, test_answers_there_and_back, test_deltas_between_replies, test_changes_up_to_one,
-    test_refusals_by_their_lines, test_an_end_fails_what_is_due,
+    test_refusals_by_their_lines, test_many_replies_are_counted, test_an_end_fails_what_is_due,
 ]  # fmt: skip
 SERVED = [
     test_commands, test_refusals, test_an_error_class_for_each_number, test_texts_and_joins, test_pipelines,

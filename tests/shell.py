@@ -6,7 +6,7 @@
 As a filter it needs Python's standard library alone. Tests of the terminal need pexpect, prompt_toolkit and rich,
 in this Python or in /usr/bin/python3, that of the package setuptools, wheel and pip, and that of its types mypy: what
 isn't there is named, and its tests are skipped. One line is printed for each test that fails or is skipped, and last
-`N passed, N failed, N skipped`; the status is 0 where none failed.
+`N passed, N failed`, with `, N skipped` and what they were without; the status is 0 where none failed.
 """
 
 import contextlib
@@ -381,7 +381,7 @@ def a_bad_line_is_told_and_nothing_is_sent(program):
             file.write("number,name\n" + good)
         whys = [why for _, why in bad]
         whys += ["write header behind the relation", "there is no relation none", "no such file"]
-        whys += ["it is written \\load FILE.csv RELATION [header]", "behind the relation comes header, or nothing"]
+        whys += ["it is written \\load FILE.csv RELATION [header]", "comes header, or new, or both"]
         named = f"{directory}/named.csv"
         lines += [f"\\load {named} r", f"\\load {named} none", f"\\load {directory} r", f"\\load {named}"]
         lines += [f"\\load {named} r heder"]
@@ -395,6 +395,12 @@ def a_bad_line_is_told_and_nothing_is_sent(program):
         assert first.startswith("3,000 rows came to r") and status == 0, written + told
         assert second.startswith("3,000 rows came to r, 3,000 of them were there and have one copy more"), written
         expect(len(client.snapshot("q")), 3000)
+        with open(named, "a") as file:
+            file.write("3000,more\n3000,more\n")
+        written, told, status = filtered(f"\\load {named} r new header\n", server=server)
+        assert written.startswith("1 row came to r, 3,001 were there already") and status == 0, written + told
+        expect([client.delete("r", number, "text").copies for number in (0, 2999)], [1, 1])
+        expect(client.delete("r", 3000, "more"), djq.Removed(3002, 0))
 
 
 class Refusing:
@@ -436,9 +442,11 @@ def a_load_that_is_refused_is_taken_back(program):
         assert status == 1 and "err 12 memory" in told and "rows that had come were taken out again" in told, told
         expect(client.snapshot("q"), {(1,), (1500,), (90000,)})
         written, told, status = filtered(f"\\load {path} r\n", server=Refusing(server, 1700, hang_up=True))
-        assert status in (1, 2) and "the connection was lost: the " in told and "load the file again" in told, told
+        assert status in (1, 2) and "the connection was lost: the " in told and f"\\load {path} r new" in told, told
         expect([client.delete("r", number).copies for number in (1, 1500, 90000)], [1, 1, 0])
-        expect(filtered(f"\\load {path} r\n", server=server)[2], 0)
+        expect(filtered(f"\\load {path} r new\n", server=server)[2], 0)
+        expect([client.delete("r", number).copies for number in (0, 1, 1000, 2999)], [0] * 4)
+        client.load("r", [(number,) for number in (0, 1, 1000, 2999)])
         expect(client.snapshot("q"), {(number,) for number in range(3000)})
 
 
@@ -520,6 +528,8 @@ def commands_are_typed(program):
         shell.runs("rel r int text", "ok")
         shell.runs('add r 1 "one"', "ok added 1 1")
         shell.runs('add r 22 "t\\"wo"', "ok added 2 1")
+        shell.runs('add r 1 "one"', "the row has 2 copies now")
+        shell.runs('del r 1 "one"', "the row has 1 copy now")
         shell.runs("query q(number,name) <- r(number,name)", "ok query 5")
         shown = shell.runs("\\show q", "2 answers, and these are the last")
         rows = [line.split() for line in shown.splitlines() if line.strip()]
@@ -757,11 +767,13 @@ def a_checker_accepts_the_types(program):
 def main():
     program, names = os.path.abspath(sys.argv[1]), sys.argv[2:]
     passed = failed = skipped = 0
+    missed = set()
     for function, needs in TESTS:
         if names and function.__name__ not in names:
             continue
         if missing := lacks(needs):
             skipped += 1
+            missed.update(missing)
             print(f"{function.__name__}: skipped, without {', '.join(missing)}")
             continue
         try:
@@ -770,7 +782,7 @@ def main():
         except Exception:
             failed += 1
             print(f"{function.__name__}: {traceback.format_exc(limit=-2)}")
-    print(f"{passed} passed, {failed} failed" + (f", {skipped} skipped" if skipped else ""))
+    print(f"{passed} passed, {failed} failed" + (f", {skipped} skipped, without {', '.join(sorted(missed))}" if skipped else ""))
     return 1 if failed or not passed else 0
 
 

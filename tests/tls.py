@@ -93,7 +93,7 @@ def main():
     stunnel = shutil.which("stunnel") or shutil.which("stunnel4")
     if stunnel is None or shutil.which("openssl") is None:
         print("skipped: stunnel or openssl isn't there")
-        print("0 passed, 0 failed, 3 skipped")
+        print("0 passed, 0 failed, 3 skipped, without stunnel or openssl")
         return 0
     failed = 0
     with tempfile.TemporaryDirectory() as folder:

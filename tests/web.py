@@ -7,7 +7,7 @@ Chromium where it is there.
 
 It needs Python's standard library; the tests in Chromium also the Debian packages chromium, chromium-driver and
 python3-selenium, and are skipped by name without them. A line is printed for each test that fails or is skipped, and
-last `N passed, N failed`, with `, N skipped`; the status is 0 where none failed. With TIMES=1 in the environment it
+last `N passed, N failed`, with `, N skipped` and what they were without; the status is 0 where none failed. With TIMES=1 in the environment it
 tells how long each took. The second form takes pictures of the demo's page after it has moved for a while.
 """
 
@@ -702,6 +702,9 @@ def take_pictures(program, paths, seconds=100):
         print(f"{path}: {os.path.getsize(path)} bytes")
 
 
+BROWSER_NEEDS = "chromium, chromium-driver, python3-selenium"
+
+
 def has_browser():
     try:
         import selenium  # noqa: F401
@@ -719,7 +722,7 @@ def main(program, names):
             begun = time.monotonic()
             if function in BROWSER_TESTS and not has_browser():
                 skipped += 1
-                print(f"{function.__name__}: skipped, needs chromium, chromium-driver and python3-selenium")
+                print(f"{function.__name__}: skipped, without {BROWSER_NEEDS}")
                 continue
             try:
                 if function in BROWSER_TESTS and browser is None:
@@ -732,7 +735,7 @@ def main(program, names):
             except Exception:
                 failed += 1
                 print(f"{function.__name__}: {traceback.format_exc(limit=-2)}")
-    print(f"{passed} passed, {failed} failed" + (f", {skipped} skipped" if skipped else ""))
+    print(f"{passed} passed, {failed} failed" + (f", {skipped} skipped, without {BROWSER_NEEDS}" if skipped else ""))
     return 1 if failed or not chosen else 0
 
 

@@ -12,8 +12,7 @@ from typing import TYPE_CHECKING, Any, Callable, Iterable, Iterator, Sequence, T
 from . import protocol
 from .errors import Disconnected, Error, NoCursor, NotWatched, Refused, SomeRefused
 from .listing import WITHIN, Said, list_whole
-from .protocol import FIRST_REFUSALS, MOST_ANSWERS, Absent, Added, Answer, Change, Page, Pending, Protocol, Removed
-from .protocol import Rows, Value
+from .protocol import FIRST_REFUSALS, MOST_ANSWERS, Added, Answer, Change, Page, Pending, Protocol, Rows, Update, Value
 from .protocol import checked, column_type, fitting, spell, spell_line
 
 if TYPE_CHECKING:
@@ -85,8 +84,8 @@ class Connection:
         """Gives a row one copy more; the first puts it in."""
         return self._do(spell_line("add", relation, values), protocol.READ_ADDED)
 
-    def delete(self, relation: str, *values: Value) -> Removed | Absent:
-        """Takes one copy of a row; the last takes it out."""
+    def delete(self, relation: str, *values: Value) -> Update:
+        """Takes one copy of a row; the last takes it out. Gives `Removed`, or `Absent` where it wasn't there."""
         return self._do(spell_line("del", relation, values), protocol.READ_REMOVED)
 
     def query(self, text: str) -> int:
@@ -460,7 +459,7 @@ class Pipeline:
         """Gives a row one copy more."""
         return self._say(spell_line("add", relation, values), protocol.READ_ADDED)
 
-    def delete(self, relation: str, *values: Value) -> Pending[Removed | Absent]:
+    def delete(self, relation: str, *values: Value) -> Pending[Update]:
         """Takes one copy of a row."""
         return self._say(spell_line("del", relation, values), protocol.READ_REMOVED)
 

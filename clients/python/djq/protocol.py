@@ -28,7 +28,7 @@ _NEEDS_ESCAPE = re.compile(r'["\\\n]')
 _VALUE = re.compile(r' *(?:(-?[0-9]+)|"((?:[^"\\]|\\.)*)")')
 _WORD = re.compile(r'"(?:[^"\\]|\\.)*"|[^ "]+')  # of a line: a text with its quotes, or what stands between spaces
 _NAME = re.compile(r"[a-z][a-z0-9_]{0,31}")
-_CHANGED = re.compile(r"^ok (?:added [0-9]+ 1|removed [0-9]+ 0)$", re.MULTILINE)  # of a row's copies the first, the last
+_CHANGED = re.compile(r"^ok (?:added [0-9]+ 1|removed [0-9]+ 0)$", re.MULTILINE)  # the first copy came, the last went
 
 
 def spell(value: Value) -> str:
@@ -348,15 +348,10 @@ def reader(**forms: Callable[[str], T]) -> Callable[[list[str]], T]:
     return lambda lines: _one_line(lines[0], spelled)
 
 
-def _two(rest: str) -> tuple[int, int]:
-    first, second = rest.split(" ")
-    return int(first), int(second)
-
-
 READ_OK = reader(ok=lambda rest: True)
-READ_ADDED: Callable[[list[str]], Added] = reader(ok_added=lambda rest: Added(*_two(rest)))
-READ_REMOVED: Callable[[list[str]], Removed | Absent] = reader(
-    ok_removed=lambda rest: Removed(*_two(rest)), ok_absent=lambda rest: Absent(int(rest))
+READ_ADDED = reader(ok_added=lambda rest: Added(*map(int, rest.split(" "))))
+READ_REMOVED: Callable[[list[str]], Update] = reader(
+    ok_removed=lambda rest: Removed(*map(int, rest.split(" "))), ok_absent=lambda rest: Absent(int(rest))
 )
 READ_HAS = reader(yes=lambda rest: True, no=lambda rest: False)
 READ_SHAPE = reader(flat=lambda rest: "flat", linear=lambda rest: "linear")

@@ -7,7 +7,7 @@ from typing import TYPE_CHECKING, Iterable, Iterator, Sequence
 
 from .errors import Error, Refused, Taken
 from .listing import WITHIN, list_whole
-from .protocol import READ_ADDED, READ_REMOVED, Absent, Answer, Pending, Protocol, Removed, Value, spell_line
+from .protocol import READ_ADDED, READ_REMOVED, Answer, Pending, Protocol, Removed, Update, Value, spell_line
 
 if TYPE_CHECKING:
     from .connection import Connection
@@ -59,7 +59,7 @@ class Keyed:
         self._rows.setdefault(row[: self.key], set()).add(row)
 
 
-def took(reply: Pending[Removed | Absent]) -> bool:
+def took(reply: Pending[Update]) -> bool:
     """Whether a copy of the row went."""
     try:
         return isinstance(reply.result(), Removed)
@@ -132,8 +132,8 @@ class Table(Keyed):
         own._settle()
         try:
             left = [reply.result().copies for reply in gone]
-            for reply in came:
-                reply.result()
+            for added in came:
+                added.result()
         except Refused:
             for row, reply in zip(old, gone):
                 if took(reply):

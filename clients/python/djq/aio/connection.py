@@ -10,8 +10,7 @@ from typing import TYPE_CHECKING, Any, AsyncIterator, Callable, Generator, Itera
 from .. import protocol
 from ..errors import Disconnected, Error, NoCursor, NotWatched, Refused, SomeRefused
 from ..listing import CLOSE, MOST_PAGES, WITHIN, Listing, Said
-from ..protocol import FIRST_REFUSALS, MOST_ANSWERS, Absent, Added, Answer, Change, Page, Pending, Protocol, Removed
-from ..protocol import Value
+from ..protocol import FIRST_REFUSALS, MOST_ANSWERS, Added, Answer, Change, Page, Pending, Protocol, Update, Value
 from ..protocol import checked, column_type, fitting, spell_line
 
 if TYPE_CHECKING:
@@ -21,6 +20,7 @@ if TYPE_CHECKING:
 T = TypeVar("T")
 
 MOST_DUE = 2000  # replies that are left due while a pipeline sends more
+ROWS_AT_ONCE = 500  # replies behind which a load tells its progress
 MOST_UNTAKEN = 10000  # changes that nobody took, above which no more is read while nobody waits
 
 
@@ -91,8 +91,8 @@ class Connection:
         """Gives a row one copy more; the first puts it in."""
         return await self._do(spell_line("add", relation, values), protocol.READ_ADDED)
 
-    async def delete(self, relation: str, *values: Value) -> Removed | Absent:
-        """Takes one copy of a row; the last takes it out."""
+    async def delete(self, relation: str, *values: Value) -> Update:
+        """Takes one copy of a row; the last takes it out. Gives `Removed`, or `Absent` where it wasn't there."""
         return await self._do(spell_line("del", relation, values), protocol.READ_REMOVED)
 
     async def query(self, text: str) -> int:
@@ -195,18 +195,25 @@ class Connection:
         """
         return Pipeline(self, raises)
 
-    async def load(self, relation: str, rows: Iterable[Sequence[Value]]) -> int:
-        """Gives each of many rows one copy more, and tells how many weren't there before. Raises `SomeRefused` where
-        some were refused."""
-        changed = 0
+    async def load(
+        self, relation: str, rows: Iterable[Sequence[Value]], progress: Callable[[int], None] | None = None
+    ) -> int:
+        """Gives each of many rows one copy more, and tells how many weren't there before. `progress` is told how many
+        were answered. Raises `SomeRefused` where some were refused."""
+        changed = answered = 0
         replies: deque[Pending[Added]] = deque()
         async with self.pipeline() as many:
             for row in rows:
                 replies.append(await many.add(relation, *row))
                 while replies and replies[0].done and not many.refused:
                     changed += replies.popleft().result().changed
+                    answered += 1
+                    if progress is not None and answered % ROWS_AT_ONCE == 0:
+                        progress(answered)
                 if many.refused:
                     break
+        if progress is not None and (replies or answered % ROWS_AT_ONCE):
+            progress(answered + len(replies))
         return changed + sum(reply.result().changed for reply in replies)
 
     async def changes(self, query: str, timeout: float | None = None) -> AsyncIterator[Change]:
@@ -431,7 +438,7 @@ class Pipeline:
         """Gives a row one copy more."""
         return await self._say(spell_line("add", relation, values), protocol.READ_ADDED)
 
-    async def delete(self, relation: str, *values: Value) -> Pending[Removed | Absent]:
+    async def delete(self, relation: str, *values: Value) -> Pending[Update]:
         """Takes one copy of a row."""
         return await self._say(spell_line("del", relation, values), protocol.READ_REMOVED)
 

@@ -7,7 +7,7 @@ from typing import Iterator, Sequence
 
 from ..errors import Refused, Taken
 from ..listing import WITHIN
-from ..protocol import READ_ADDED, READ_REMOVED, Answer, Value
+from ..protocol import READ_ADDED, READ_REMOVED, Answer, Pending, Value
 from ..table import MOST_AT_ONCE, Keyed, took
 from .connection import Connection, list_whole
 
@@ -74,15 +74,16 @@ class Table(Keyed):
                 gone = [connection._say(line, READ_REMOVED) for line in self._lines("del", old)]
                 came = [connection._say(line, READ_ADDED) for line in self._lines("add", new)]
                 connection._flush()
-            for reply in (*gone, *came):
+            pending: list[Pending] = [*gone, *came]
+            for reply in pending:
                 await connection._done(reply)
             try:
                 left = [reply.result().copies for reply in gone]
                 for added in came:
                     added.result()
             except Refused:
-                for away, reply in zip(old, gone):
-                    if took(reply):
+                for away, removed in zip(old, gone):
+                    if took(removed):
                         await connection.add(self.relation, *away)
                 raise
             for away, copies in zip(old, left):

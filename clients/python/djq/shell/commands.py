@@ -14,7 +14,7 @@ from ..errors import Disconnected, Ended, Error, Refused
 from ..listing import WITHIN, list_whole
 from ..protocol import MOST_ANSWERS, Page, read_page, spell
 from .advice import advice
-from .files import BadFile, Load, read_rows, write_answers
+from .files import FURTHER, BadFile, Load, read_rows, write_answers
 from .names import Names, find_columns
 from .screen import Screen, safe, tree
 from .session import Delta, Said, Session
@@ -35,7 +35,9 @@ quit, stop                        ends this session; ends the whole server
 
 \\show QUERY [COUNT]               answers of one moment, as a table
 \\explain QUERY                    draws how a query is kept
-\\load FILE.csv RELATION [header]  puts a file's rows in, all or none; header: its first line names the columns
+\\load FILE.csv RELATION [header] [new]
+                                  gives each of a file's rows a copy, all or none; header: its first line names the
+                                  columns; new: rows that are there are left as they are
 \\dump QUERY FILE.csv [header] [over]
                                   writes the answers; over: also where the file is there
 \\columns RELATION                 of which types its columns are
@@ -44,7 +46,7 @@ quit, stop                        ends this session; ends the whole server
 \\?                                this page
 \\q                                ends the shell"""
 
-AGAIN = "; to load the file again gives what is there a further copy"
+AGAIN = "; to load the rest: \\load {} {} new"
 SHOWN = 50  # answers that \show draws where it isn't told how many
 
 
@@ -336,9 +338,9 @@ class Shell:
         self.screen.line(f"{len(answers):,} answers written to {path}")
 
     def _load(self, path: str, relation: str, *further: str) -> None:
-        if further not in ((), ("header",)):
-            raise Usage("behind the relation comes header, or nothing")
-        kinds, header = self._kinds(relation), bool(further)
+        if not set(further) <= {"header", "new"}:
+            raise Usage("behind the relation comes header, or new, or both")
+        kinds, header, only_new = self._kinds(relation), "header" in further, "new" in further
         if not os.path.isfile(path):
             raise BadFile(f"{path}: no such file")
         stamp = _stamp(path)
@@ -351,36 +353,53 @@ class Shell:
 
         with Interrupts() as interrupts:
             try:
-                new = self._load_whole(path, relation, header, stamp, at)
+                load = self._load_whole(path, relation, header, stamp, at)
+                if only_new:
+                    self._leave(load, path, relation, header, stamp)
             finally:
                 took = progress.end()
         speed = f", {total / took:,.0f} rows a second" if total >= 1000 else ""
-        there = f", {total - new:,} of them were there and have one copy more" if new < total else ""
-        self.screen.line(f"{total:,} rows came to {relation}{there}{speed}")
+        further_copies = load.came.count(FURTHER)
+        became = "were there already" if only_new else "of them were there and have one copy more"
+        there = f", {further_copies:,} {became}" if further_copies else ""
+        came = total - further_copies * only_new
+        self.screen.line(f"{came:,} row{'' if came == 1 else 's'} came to {relation}{there}{speed}")
 
     def _load_whole(
         self, path: str, relation: str, header: bool, stamp: object, progress: Callable[[int], None]
-    ) -> int:
-        """Sends a file's rows, and gives how many weren't there before. Where that goes wrong it is taken back as far
-        as it can."""
+    ) -> Load:
+        """Sends a file's rows. Where that goes wrong it is taken back as far as it can."""
         load = Load(self.session, relation)
         try:
-            return load.run(read_rows(path, relation, self._kinds(relation), header), progress)
+            load.run(read_rows(path, relation, self._kinds(relation), header), progress)
+            return load
         except BaseException as error:
             told = str(error) or "interrupted"
             if self.session.ended is not None or _stamp(path) != stamp:
                 why = "the connection was lost" if self.session.ended is not None else f"{path} was changed"
-                became = f"{why}: the {sum(load.came):,} rows that came stay in {relation}, and more may have come{AGAIN}"
+                again = AGAIN.format(path, relation + " header" * header)
+                became = f"{why}: the {load.count():,} rows that came stay in {relation}, and further ones may{again}"
             else:
                 became = self._undo(load, path, relation, header)
             raise BadFile(f"{told}\n{became}") from error
 
+    def _leave(self, load: Load, path: str, relation: str, header: bool, stamp: object) -> None:
+        """Takes the further copies of rows that were there again."""
+        try:
+            if _stamp(path) != stamp:
+                raise BadFile(f"{path} was changed")
+            load.undo(read_rows(path, relation, self._kinds(relation), header), (FURTHER,))
+        except (Error, BadFile, KeyboardInterrupt) as error:
+            told = str(error) or "interrupted"
+            raise BadFile(f"{told}\nall rows are in {relation}; some that were there may have one copy more") from error
+
     def _undo(self, load: Load, path: str, relation: str, header: bool) -> str:
         """Takes out what a load had put in, and tells how that went."""
         try:
-            taken = load.undo(read_rows(path, relation, self._kinds(relation), header), lambda done: None)
+            taken = load.undo(read_rows(path, relation, self._kinds(relation), header))
         except (Error, KeyboardInterrupt):
-            return f"it couldn't be taken back whole: some of its rows stay in {relation}{AGAIN}"
+            again = AGAIN.format(path, relation + " header" * header)
+            return f"it couldn't be taken back whole: some of its rows stay in {relation}{again}"
         return f"the {taken:,} rows that had come were taken out again"
 
 

@@ -18,6 +18,7 @@ from ..errors import Error, SomeRefused
 from ..protocol import MOST_LINE, MOST_TEXT, Answer, Rows, Value, spell
 from .session import Session
 
+FIRST, FURTHER = 1, 2  # what became of a row: its first copy came, or one copy more
 ROWS_AT_ONCE = 500  # that are made lines of before they are sent
 MOST_DUE = 2000  # replies that are left due while more is sent
 _INTEGER = re.compile("-?[0-9]+")
@@ -86,7 +87,7 @@ def _is_header(cells: list[str], kinds: Sequence[str]) -> str:
 
 
 class _Adds(Rows):
-    """Rows that were sent together, and for each whether a copy of it came."""
+    """Rows that were sent together, and what became of each: `FIRST`, `FURTHER`, or 0 where it was refused."""
 
     def __init__(self, lines: list[str], columns: dict[str, tuple[str, ...]], came: bytearray) -> None:
         super().__init__(lines, columns)
@@ -94,21 +95,26 @@ class _Adds(Rows):
 
     def take(self, lines: list[str], at: int) -> int:
         end = super().take(lines, at)
-        self._came += bytes(lines[place].startswith("ok added") for place in range(at, end))
+        self._came += bytes(_became(line) for line in lines[at:end])
         return end
 
 
+def _became(reply: str) -> int:
+    if not reply.startswith("ok added "):
+        return 0
+    return FIRST if reply.endswith(" 1") else FURTHER
+
+
 class Load:
-    """A file on its way into a relation: of each row that was answered, whether a copy of it came."""
+    """A file on its way into a relation: of each row that was answered, what became of it."""
 
     def __init__(self, session: Session, relation: str) -> None:
         self.came = bytearray()
-        self._new = 0  # rows that weren't there before
         self._session, self._relation = session, relation
         self._open: list[_Adds] = []
 
-    def run(self, rows: Iterator[list[Value]], progress: Callable[[int], None]) -> int:
-        """Sends the rows, and gives how many weren't there before. Raises `SomeRefused` at a refusal."""
+    def run(self, rows: Iterator[list[Value]], progress: Callable[[int], None]) -> None:
+        """Sends the rows. Raises `SomeRefused` at a refusal."""
         lines: list[str] = []
         for row in rows:
             lines.append(f"add {self._relation} " + " ".join(map(spell, row)))
@@ -117,16 +123,20 @@ class Load:
                 lines = []
         self._send(lines, progress)
         self._settle(0, progress)
-        return self._new
 
-    def undo(self, rows: Iterator[list[Value]], progress: Callable[[int], None]) -> int:
-        """Takes a copy of each row of which one came, and gives how many that were."""
+    def count(self) -> int:
+        """How many rows were given a copy."""
+        return len(self.came) - self.came.count(0)
+
+    def undo(self, rows: Iterator[list[Value]], which: tuple[int, ...] = (FIRST, FURTHER)) -> int:
+        """Takes the copy again of each row of which this became, and gives how many that were."""
+        progress: Callable[[int], None] = lambda done: None
         with contextlib.suppress(SomeRefused):
-            self._settle(0, lambda done: None)
+            self._settle(0, progress)
         lines: list[str] = []
         taken = 0
         for came, row in zip(bytes(self.came), rows):
-            if came:
+            if came in which:
                 lines.append(f"del {self._relation} " + " ".join(map(spell, row)))
             if len(lines) == ROWS_AT_ONCE:
                 taken += len(lines)
@@ -154,7 +164,6 @@ class Load:
             own._await(own.timeout)
             progress(len(self.came))
         refused = [adds for adds in self._open if adds.refused]
-        self._new += sum(adds.changed for adds in self._open if adds.done)
         self._open = [adds for adds in self._open if not adds.done and not adds.refused]
         if own._protocol.ended is not None:
             raise own._protocol.ended

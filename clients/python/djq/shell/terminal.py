@@ -200,8 +200,8 @@ class Names(Completer):
             return list(names.cursors)
         if (command == "\\load" and place == 1) or (command == "\\dump" and place == 2):
             return _files(begun)
-        if command == "\\load" and place == 3:
-            return ["header"]
+        if command == "\\load" and place > 2:
+            return ["header", "new"]
         return ["header", "over"] if command == "\\dump" and place > 2 else []
 
 
