@@ -126,6 +126,7 @@ pub fails_down : (at : ℕ) (piece : List ℕ) (old new : History) → Writes Fa
 fails_down at piece old new writes =
     let kept = write_keeps Failed at piece old new writes in
     record {
+      paths = ap (λ (h : History). h.paths) kept.2;
       leaves = λ is. subst (λ (h : History). LeavesSince (Keeps (record { at = at; size = length piece }) old.file.bytes) old h) (sym kept.2) (write_leaves _ kept.0 old is kept.1);
       done = λ wrong. cc;
     }
@@ -133,6 +134,7 @@ fails_down at piece old new writes =
 -- a write that was done, and a sync
 pub writes_down : (did : DiskDid) (at : ℕ) (piece : List ℕ) (old mid new : History) → Writes Done at piece old mid → Syncs did mid new → WritesDown did at piece old new
 writes_down Failed at piece old mid new writes syncs = record {
+  paths = ap (λ (h : History). h.paths) (syncs ∙ writes);
   leaves = λ is. subst (λ (h : History). LeavesSince (Keeps (record { at = at; size = length piece }) old.file.bytes) old h) (sym (syncs ∙ writes)) (write_leaves _ (put at piece old.file.bytes) old is (put_keeps at piece old.file.bytes));
   done = λ wrong. cc;
 }
@@ -143,6 +145,7 @@ writes_down Done at piece old mid new writes syncs =
     let file : mid.file.bytes ≡ bytes = ap (λ (h : History). h.file.bytes) writes in
     let is_new : new ≡ moved_to (settled bytes) (moved_to (with_written span bytes old.file) old) = syncs ∙ ap (λ (h : History). moved_to (settled h.file.bytes) h) writes in
     record {
+      paths = ap (λ (h : History). h.paths) is_new;
       leaves = λ is. subst (λ (h : History). LeavesSince (Keeps span old.file.bytes) old h) (sym is_new)
           (leaves_move (Keeps span old.file.bytes) old (moved_to (with_written span bytes old.file) old) (settled bytes) (write_leaves span bytes old is keeps) (settled_leaves span old.file.bytes bytes keeps));
       done = λ _. ap (λ (h : History). h.file) is_new;

@@ -10,5 +10,6 @@ use Rattle.djq_disk.specs.declared.disk.DiskDid.TheVariants.{Done}
 -- leaves everything outside the piece's part, whatever the write and the sync answer; and once
 -- both were done, the file has the piece and all is synced.
 pub record WritesDown (did : DiskDid) (at : ℕ) (piece : List ℕ) (old new : History) : Type 0 where
+  pub paths : new.paths ≡ old.paths
   pub leaves : IsSettled old.file → LeavesSince (Keeps (record { at = at; size = length piece }) old.file.bytes) old new
   pub done : did ≡ Done → new.file ≡ settled (put at piece old.file.bytes)

@@ -1,0 +1,186 @@
+-- A group that is appended: its records behind the closed gate, and then the gate.
+use Rattle.std.proofs.Common.{◌≡◌, ◌≢◌, ℕ, zero, suc, ◌+◌, ◌<◌, ◌≤◌, ◌⊎◌, inl, inr, List, [], ◌∷◌, ◌++◌, length, take, drop, get_or, refl, sym, ap, ap₂, subst, ◌∙◌, arith, append_assoc, length-append, length-take}
+use Rattle.std.specs.List.{flat_map, AllByRecursion}
+use Rattle.std.proofs.Math.Seq.{take-append_seam, drop-append_seam}
+use Rattle.std.proofs.lemmas.List.{take-append-drop}
+use Rattle.djq_disk.specs.File.{Span, File, IsSettled, settled, with_written, put, Keeps}
+use Rattle.djq_disk.specs.History.{History, moved_to, Writes, Syncs}
+use Rattle.djq_disk.specs.Leaving.{LeavesOnly, LeavesSince}
+use Rattle.djq_disk.specs.WritingDown.{WritesDown}
+use Rattle.djq_disk.specs.declared.disk.DiskDid.{DiskDid}
+use Rattle.djq_disk.specs.declared.disk.DiskDid.TheVariants.{Done, Failed}
+use Rattle.djq_disk.proofs.Keeping.{all_append, leaves_none, leaves_move, leaves_more, leaves_so, write_keeps}
+use Rattle.djq_journal.specs.Format.{IsLine, body_of, record_of, front, OpensTo}
+use Rattle.djq_journal.specs.Standing.{IsIdle}
+use Rattle.djq_journal.specs.Appending.{gate_after, IsBeforeOrAfter}
+use Rattle.djq_journal.specs.Staging.{IsFirm, behind_gate, Stages, IsStaged, AppendsAt}
+use Rattle.djq_journal.proofs.Fronts.{put_there, put_one, kept_around, front_more, behind_more, length_behind, opened_gate}
+use Rattle.djq_journal.proofs.Firm.{firm_long, firm_settled, firm_written, firm_synced, firm_left, firm_leaves, gate_within}
+
+-- nothing is written yet
+pub staged_none : (lines : List (List ℕ)) (gate next : ℕ) (h : History) → IsIdle lines gate h.file → Stages lines [] gate next h h
+staged_none lines gate next h idle =
+    let firm = firm_settled (suc gate) h.file idle.still (gate_within lines gate h.file.bytes idle.opens idle.place) in
+    record {
+      firm = firm;
+      rest = drop (suc gate) h.file.bytes;
+      is = refl;
+      leaves = leaves_none (OpensTo lines) h (firm_leaves lines gate h.file.bytes h.file idle.opens idle.place firm);
+    }
+
+-- A write behind the gate, whatever it answers.
+pub staged_write : (did : DiskDid) (at : ℕ) (piece : List ℕ) (lines part : List (List ℕ)) (gate next : ℕ) (old mid new : History)
+    → IsIdle lines gate old.file → Stages lines part gate next old mid → suc gate ≤ at → Writes did at piece mid new
+    → IsFirm (suc gate) old.file.bytes new.file × LeavesSince (OpensTo lines) old new
+staged_write did at piece lines part gate next old mid new idle stages behind writes =
+    let kept = write_keeps did at piece mid new writes in
+    let span : Span = record { at = at; size = length piece } in
+    let file : File = with_written span kept.0 mid.file in
+    let firm : IsFirm (suc gate) old.file.bytes file = firm_written (suc gate) old.file.bytes kept.0 span mid.file stages.firm behind kept.1 in
+    let leaves : LeavesSince (OpensTo lines) old (moved_to file mid) =
+    leaves_move (OpensTo lines) old mid file stages.leaves (firm_leaves lines gate old.file.bytes file idle.opens idle.place firm) in
+    subst (λ (h : History). IsFirm (suc gate) old.file.bytes h.file × LeavesSince (OpensTo lines) old h) (sym kept.2) (firm, leaves)
+
+-- The next line's record is written.
+pub staged_more : (lines part : List (List ℕ)) (line : List ℕ) (gate next : ℕ) (old mid new : History)
+    → IsIdle lines gate old.file → Stages lines part gate 1 old mid
+    → Writes Done (suc (gate_after gate part)) (body_of line ++ next ∷ []) mid new → Stages lines (part ++ line ∷ []) gate next old new
+staged_more lines part line gate next old mid new idle stages writes =
+    let wrote = staged_write Done (suc (gate_after gate part)) piece lines part gate 1 old mid new idle stages (omega arith) writes in
+    record { firm = wrote.0; rest = drop (length piece) stages.rest; is = ap (λ (h : History). drop (suc gate) h.file.bytes) writes ∙ there; leaves = wrote.1 }
+  where
+    piece : List ℕ
+    piece = body_of line ++ next ∷ []
+
+    kept : List ℕ
+    kept = take (suc gate) mid.file.bytes
+
+    so_far : List ℕ
+    so_far = behind_gate part 1
+
+    later : List ℕ
+    later = drop (length piece) stages.rest
+
+    size : length kept ≡ suc gate
+    size = omega (arith, length-take (suc gate) mid.file.bytes, firm_long (suc gate) old.file.bytes mid.file stages.firm)
+
+    whole : mid.file.bytes ≡ (kept ++ so_far) ++ stages.rest
+    whole = sym (take-append-drop (suc gate) mid.file.bytes) ∙ ap (λ (xs : List ℕ). kept ++ xs) stages.is ∙ sym (append_assoc kept so_far stages.rest)
+
+    place : suc (gate_after gate part) ≡ length (kept ++ so_far)
+    place = omega (arith, size, length-append kept so_far, length_behind part 1)
+
+    written : put (suc (gate_after gate part)) piece mid.file.bytes ≡ (kept ++ so_far) ++ piece ++ later
+    written = ap₂ (λ (n : ℕ) (xs : List ℕ). put n piece xs) place whole ∙ put_there (kept ++ so_far) piece stages.rest
+
+    flat : (kept ++ so_far) ++ piece ++ later ≡ kept ++ (so_far ++ piece ++ later)
+    flat = ap (λ (xs : List ℕ). xs ++ later) (append_assoc kept so_far piece) ∙ append_assoc kept (so_far ++ piece) later
+
+    there : drop (suc gate) (put (suc (gate_after gate part)) piece mid.file.bytes) ≡ behind_gate (part ++ line ∷ []) next ++ later
+    there = ap₂ (λ (n : ℕ) (xs : List ℕ). drop n xs) (sym size) (written ∙ flat) ∙ drop-append_seam kept (so_far ++ piece ++ later)
+        ∙ ap (λ (xs : List ℕ). xs ++ later) (sym (behind_more part line next))
+
+-- What a file that was staged and synced is: the lines, the gate as it was, the group's records.
+pub staged_bytes : (lines group : List (List ℕ)) (gate : ℕ) (old new : History) → (idle : IsIdle lines gate old.file) → (stages : Stages lines group gate 0 old new)
+    → new.file.bytes ≡ front lines ++ idle.opens.gate ∷ (behind_gate group 0 ++ stages.rest)
+staged_bytes lines group gate old new idle stages =
+    sym (take-append-drop (suc gate) new.file.bytes)
+    ∙ ap₂ (λ (xs ys : List ℕ). xs ++ ys) (stages.firm.same ∙ cut) stages.is
+    ∙ append_assoc (front lines) (idle.opens.gate ∷ []) (behind_gate group 0 ++ stages.rest)
+  where
+    cut : take (suc gate) old.file.bytes ≡ front lines ++ idle.opens.gate ∷ []
+    cut = let size : length (front lines ++ idle.opens.gate ∷ []) ≡ suc gate = omega (arith, idle.place, length-append (front lines) (idle.opens.gate ∷ [])) in
+        ap₂ (λ (n : ℕ) (xs : List ℕ). take n xs) (sym size) (idle.opens.is ∙ sym (append_assoc (front lines) (idle.opens.gate ∷ []) idle.opens.behind))
+        ∙ take-append_seam (front lines ++ idle.opens.gate ∷ []) idle.opens.behind
+
+-- Behind an open gate stand the lines and the group.
+pub opened_all : (lines group : List (List ℕ)) (rest bytes : List ℕ) → AllByRecursion IsLine lines → AllByRecursion IsLine group → 1 ≤ length group
+    → bytes ≡ front lines ++ 1 ∷ (behind_gate group 0 ++ rest) → OpensTo (lines ++ group) bytes
+opened_all lines group rest bytes are_lines are_group some is = record {
+  are_lines = all_append IsLine lines group are_lines are_group;
+  gate = 0;
+  behind = rest;
+  is = is ∙ ap (λ (xs : List ℕ). front lines ++ xs) (opened_gate group rest some) ∙ sym (append_assoc (front lines) (flat_map record_of group) (0 ∷ rest)) ∙ ap (λ (xs : List ℕ). xs ++ 0 ∷ rest) (sym (front_more lines group));
+  shut = λ wrong. cc;
+}
+
+-- The gate alone was written: the file opens to the lines before, or to those and the whole group.
+pub opened_torn : (lines group : List (List ℕ)) (gate shut : ℕ) (rest bytes image : List ℕ) → AllByRecursion IsLine lines → AllByRecursion IsLine group → 1 ≤ length group
+    → gate ≡ length (front lines) → bytes ≡ front lines ++ shut ∷ (behind_gate group 0 ++ rest)
+    → Keeps (record { at = gate; size = 1 }) bytes image → IsBeforeOrAfter lines group image
+opened_torn lines group gate shut rest bytes image are_lines are_group some place is keeps = by_gate (get_or image gate 0) around
+  where
+    tail : List ℕ
+    tail = behind_gate group 0 ++ rest
+
+    extra : List ℕ
+    extra = drop (length bytes) image
+
+    before : take gate bytes ≡ front lines
+    before = ap₂ (λ (n : ℕ) (xs : List ℕ). take n xs) place is ∙ take-append_seam (front lines) (shut ∷ tail)
+
+    reach : length (front lines ++ shut ∷ []) ≡ suc gate
+    reach = omega (arith, place, length-append (front lines) (shut ∷ []))
+
+    behind : drop (suc gate) bytes ≡ tail
+    behind = ap₂ (λ (n : ℕ) (xs : List ℕ). drop n xs) (sym reach) (is ∙ sym (append_assoc (front lines) (shut ∷ []) tail)) ∙ drop-append_seam (front lines ++ shut ∷ []) tail
+
+    around : image ≡ front lines ++ get_or image gate 0 ∷ (tail ++ extra)
+    around = kept_around gate bytes image (omega (arith, place, ap length is, length-append (front lines) (shut ∷ tail))) keeps
+        ∙ ap₂ (λ (xs ys : List ℕ). xs ++ get_or image gate 0 ∷ (ys ++ extra)) before behind
+
+    by_gate : (x : ℕ) → image ≡ front lines ++ x ∷ (tail ++ extra) → IsBeforeOrAfter lines group image
+    by_gate zero e = inl (record { are_lines = are_lines; gate = 0; behind = tail ++ extra; is = e; shut = λ wrong. cc })
+    by_gate (suc zero) e = inr (opened_all lines group (rest ++ extra) image are_lines are_group some (e ∙ ap (λ (xs : List ℕ). front lines ++ 1 ∷ xs) (append_assoc (behind_gate group 0) rest extra)))
+    by_gate (suc (suc x)) e = inl (record { are_lines = are_lines; gate = suc (suc x); behind = tail ++ extra; is = e; shut = λ wrong. cc })
+
+-- the file up to the gate behind a group
+pub gate_behind : (lines group : List (List ℕ)) (gate : ℕ) → gate ≡ length (front lines) → gate_after gate group ≡ length (front (lines ++ group))
+gate_behind lines group gate place = omega (arith, place, ap length (front_more lines group), length-append (front lines) (flat_map record_of group))
+
+-- All was staged, and the sync failed.
+pub unsynced : (lines group : List (List ℕ)) (gate : ℕ) (old mid new : History) → IsStaged Done lines gate group old mid → Syncs Failed mid new → AppendsAt Failed lines gate group old new
+unsynced lines group gate old mid new stages syncs =
+    subst (λ (h : History). LeavesSince (IsBeforeOrAfter lines group) old h) (sym syncs)
+    (leaves_so (OpensTo lines) (IsBeforeOrAfter lines group) old mid (λ image opens. inl opens) stages.leaves)
+
+-- All was staged and synced, and the gate was written: done or failed.
+pub gate_opened : (did : DiskDid) (lines group : List (List ℕ)) (gate : ℕ) (old mid synced new : History)
+    → AllByRecursion IsLine group → 1 ≤ length group → IsIdle lines gate old.file → IsStaged Done lines gate group old mid
+    → Syncs Done mid synced → WritesDown did gate (1 ∷ []) synced new → AppendsAt did lines gate group old new
+gate_opened did lines group gate old mid synced new are_group some idle stages syncs writes = by_answer did writes
+  where
+    is_synced : synced ≡ moved_to (settled mid.file.bytes) mid
+    is_synced = syncs
+
+    bytes : synced.file.bytes ≡ front lines ++ idle.opens.gate ∷ (behind_gate group 0 ++ stages.rest)
+    bytes = ap (λ (h : History). h.file.bytes) is_synced ∙ staged_bytes lines group gate old mid idle stages
+
+    still : IsSettled synced.file
+    still = subst (λ (h : History). IsSettled h.file) (sym is_synced) refl
+
+    before : LeavesSince (IsBeforeOrAfter lines group) old synced
+    before = subst (λ (h : History). LeavesSince (IsBeforeOrAfter lines group) old h) (sym is_synced)
+        (leaves_so (OpensTo lines) (IsBeforeOrAfter lines group) old (moved_to (settled mid.file.bytes) mid) (λ image opens. inl opens)
+        (leaves_move (OpensTo lines) old mid (settled mid.file.bytes) stages.leaves
+        (firm_leaves lines gate old.file.bytes (settled mid.file.bytes) idle.opens idle.place (firm_synced (suc gate) old.file.bytes mid.file stages.firm))))
+
+    leaves : (d : DiskDid) → WritesDown d gate (1 ∷ []) synced new → LeavesSince (IsBeforeOrAfter lines group) old new
+    leaves d w = leaves_more (IsBeforeOrAfter lines group) old synced new before
+        (leaves_so (Keeps (record { at = gate; size = 1 }) synced.file.bytes) (IsBeforeOrAfter lines group) synced new
+        (λ image keeps. opened_torn lines group gate idle.opens.gate stages.rest synced.file.bytes image idle.opens.are_lines are_group some idle.place bytes keeps)
+        (w.leaves still))
+
+    by_answer : (d : DiskDid) → WritesDown d gate (1 ∷ []) synced new → AppendsAt d lines gate group old new
+    by_answer Failed w = leaves Failed w
+    by_answer Done w =
+        let file : new.file ≡ settled (put gate (1 ∷ []) synced.file.bytes) = w.done refl in
+        let after : put gate (1 ∷ []) synced.file.bytes ≡ front lines ++ 1 ∷ (behind_gate group 0 ++ stages.rest) =
+        ap₂ (λ (n : ℕ) (xs : List ℕ). put n (1 ∷ []) xs) idle.place bytes ∙ put_one (front lines) idle.opens.gate 1 (behind_gate group 0 ++ stages.rest) in (
+          record {
+            opens = opened_all lines group stages.rest new.file.bytes idle.opens.are_lines are_group some (ap (λ (f : File). f.bytes) file ∙ after);
+            place = gate_behind lines group gate idle.place;
+            still = subst (λ (f : File). IsSettled f) (sym file) refl;
+          },
+          leaves Done w,
+        )

@@ -1,0 +1,5 @@
+use Rattle.djq_journal.proofs.Once.{opens_once}
+use Rattle.djq_journal.proofs.a_file_opens_once.Goals as goal
+
+pub returns : goal.returns
+returns c = opens_once

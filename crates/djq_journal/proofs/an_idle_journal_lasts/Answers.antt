@@ -1,0 +1,5 @@
+use Rattle.djq_journal.proofs.Lasting.{idle_lasts}
+use Rattle.djq_journal.proofs.an_idle_journal_lasts.Goals as goal
+
+pub returns : goal.returns
+returns c = idle_lasts

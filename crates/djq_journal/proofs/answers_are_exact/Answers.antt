@@ -1,0 +1,8 @@
+use Rattle.djq_journal.proofs.Exactly.{opens_exactly, reads_exactly}
+use Rattle.djq_journal.proofs.answers_are_exact.Goals as goal
+
+pub returns-clause-opening : goal.returns-clause-opening
+returns-clause-opening c = opens_exactly
+
+pub returns-clause-reading : goal.returns-clause-reading
+returns-clause-reading c = reads_exactly

@@ -1,0 +1,38 @@
+-- What an append of a group leaves, at each moment and in the end.
+use Rattle.std.specs.Prelude.{◌≡◌, ℕ, ◌+◌, ◌<◌, ◌≤◌, ◌⊎◌, List, ◌++◌, length}
+use Rattle.std.specs.List.{flat_map}
+use Rattle.djq_io.specs.Faults.{Counted}
+use Rattle.djq_disk.specs.History.{History}
+use Rattle.djq_disk.specs.Leaving.{LeavesSince}
+use Rattle.djq_journal.specs.Format.{record_of, OpensTo}
+use Rattle.djq_journal.specs.Standing.{IsIdle}
+use Rattle.djq_journal.specs.declared.journal.Appended.{Appended}
+use Rattle.djq_journal.specs.declared.journal.Appended.TheVariants.{Done, Failed, Full}
+use Rattle.djq_journal.specs.declared.limits.TheConstants.{LAST_GATE}
+
+-- the place of the gate behind a group that is appended at this one
+abbrev pub gate_after : ℕ → List (List ℕ) → ℕ
+gate_after gate group = gate + length (flat_map record_of group)
+
+-- A file opens to the lines before an append or to those and the whole group.
+abbrev pub IsBeforeOrAfter : List (List ℕ) → List (List ℕ) → List ℕ → Type 0
+IsBeforeOrAfter lines group file = OpensTo lines file ⊎ OpensTo (lines ++ group) file
+
+-- What an append of a group makes of an idle journal: idle again, with the group; at each moment a
+-- stop leaves the lines before, or those and the whole group; and where it is full, nothing changes.
+abbrev pub Appends : Appended → List (List ℕ) → List (List ℕ) → History → History → Type 0
+Appends (Done gate) lines group old new = IsIdle (lines ++ group) gate new.file × LeavesSince (IsBeforeOrAfter lines group) old new
+Appends Failed lines group old new = LeavesSince (IsBeforeOrAfter lines group) old new
+Appends Full lines group old new = new ≡ old
+
+-- A journal is full exactly where the gate behind the group would stand past the last place.
+abbrev pub HasRoom : Appended → ℕ → List (List ℕ) → Type 0
+HasRoom (Done gate') gate group = (gate' ≡ gate_after gate group) × (gate_after gate group ≤ LAST_GATE)
+HasRoom Failed gate group = gate_after gate group ≤ LAST_GATE
+HasRoom Full gate group = LAST_GATE < gate_after gate group
+
+-- The disk's count of faults rises where an append fails, and stays elsewhere.
+abbrev pub CountsAppended : Appended → ℕ → ℕ → Type 0
+CountsAppended (Done gate) old new = new ≡ old
+CountsAppended Failed old new = Counted old new
+CountsAppended Full old new = new ≡ old

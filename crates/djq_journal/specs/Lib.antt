@@ -1,0 +1,7 @@
+pub mod Format
+pub mod Standing
+pub mod Calls
+pub mod Appending
+pub mod Staging
+pub mod Reading
+pub mod Keeping

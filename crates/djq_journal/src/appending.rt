@@ -1,0 +1,114 @@
+ghost use Rattle.std.specs.Prelude.{◌≡◌, ◌+◌, ◌<◌, ◌≤◌, ℕ, List, length, take, drop, ◌++◌, [], ◌∷◌, IfSome, IfNone};
+ghost use Rattle.std.specs.List.{AllByRecursion};
+ghost use Rattle.djq_disk.specs.History.{WhereTold, Writes};
+ghost use Rattle.djq_disk.specs.DiskFaults.{CountsDid};
+ghost use Rattle.djq_journal.specs.Format.{IsLine, body_of};
+ghost use Rattle.djq_journal.specs.Standing.{IsIdle};
+ghost use Rattle.djq_journal.specs.Appending.{gate_after};
+ghost use Rattle.djq_journal.specs.Staging.{gate_before, IsStaged, AppendsAt};
+
+use crate::group::Group;
+use crate::limits::LAST_GATE;
+use djq_disk::{Disk, DiskDid, write_down};
+
+/// The place of the gate behind a group that is appended at this one, or `None` where that is past
+/// the last place.
+pub(crate) fn end_of<G: Group>(gate: u64, group: &G) -> Option<u64>
+    requires { AllByRecursion IsLine (G.lines group.now) }
+    ensures some { IfSome result (λ end. (end ≡ gate_after gate (G.lines group.now)) × (end ≤ LAST_GATE)) }
+    ensures none { IfNone result (LAST_GATE < gate_after gate (G.lines group.now)) }
+{
+    if LAST_GATE < gate {
+        return None;
+    }
+    let mut end = gate;
+    let mut i = 0;
+    while let Some(line) = group.line(i) {
+        let size = 3 + line.len() as u64;
+        if LAST_GATE - end < size {
+            return None;
+        }
+        end += size;
+        i += 1;
+    }
+    Some(end)
+}
+
+/// Lays out what stands behind a gate: the line behind its length, and the next gate. Says how many
+/// bytes that are.
+fn lay_out(buf: &mut [u8], line: &[u8], gate: u8) -> usize
+    requires room { length buf.old ≡ 4099 }
+    requires short { length line.now ≤ 4096 }
+    ensures size { result ≡ length line.now + 3 }
+    ensures length { length buf.new ≡ 4099 }
+    ensures laid { take result buf.new ≡ body_of line.now ++ gate ∷ [] }
+{
+    let end = 2 + line.len();
+    buf[0] = (line.len() / 256) as u8;
+    buf[1] = (line.len() % 256) as u8;
+    buf[2..end].copy_from_slice(line);
+    buf[end] = gate;
+    end + 1
+}
+
+/// Writes what stands behind a gate: a line behind its length, and the next gate.
+fn write_record<D: Disk>(disk: &mut D, at: u64, line: &[u8], gate: u8) -> DiskDid
+    requires short { length line.now ≤ 4096 }
+    requires within { at + length line.now + 3 ≤ 18446744073709551615 }
+    ensures told { WhereTold (D.told disk.old) (D.told disk.new) (Writes result at (body_of line.now ++ gate ∷ [])) }
+    ensures faults { CountsDid result (D.faults disk.old) (D.faults disk.new) }
+{
+    let mut record = [0; 4099];
+    let size = lay_out(&mut record, line, gate);
+    disk.write_at(at, &record[..size])
+}
+
+/// The gate before the line with this number: open, or closed where there is no such line.
+fn gate_before<G: Group>(group: &G, i: usize) -> u8
+    ensures { result ≡ gate_before (drop i (G.lines group.now)) }
+{
+    match group.line(i) {
+        Some(_line) => 1,
+        None => 0,
+    }
+}
+
+/// Writes the records of a group behind the gate, which stays as it is.
+fn write_records<D: Disk, G: Group>(disk: &mut D, gate: u64, group: &G) -> DiskDid
+    requires lines { AllByRecursion IsLine (G.lines group.now) }
+    requires room { gate_after gate (G.lines group.now) ≤ LAST_GATE }
+    ensures told { (lines : List (List ℕ)) → WhereTold (D.told disk.old) (D.told disk.new)
+        (λ o n. IsIdle lines gate o.file → IsStaged result lines gate (G.lines group.now) o n) }
+    ensures faults { CountsDid result (D.faults disk.old) (D.faults disk.new) }
+{
+    let mut at = gate + 1;
+    let mut i = 0;
+    while let Some(line) = group.line(i) {
+        let next = gate_before(group, i + 1);
+        match write_record(disk, at, line, next) {
+            DiskDid::Done => at += 3 + line.len() as u64,
+            DiskDid::Failed => return DiskDid::Failed,
+        }
+        i += 1;
+    }
+    DiskDid::Done
+}
+
+/// Appends a group at a gate for which there is room: its records are written and synced behind the
+/// closed gate, and then the gate is opened and synced.
+pub(crate) fn append_at<D: Disk, G: Group>(disk: &mut D, gate: u64, group: &G) -> DiskDid
+    requires some { 1 ≤ length (G.lines group.now) }
+    requires lines { AllByRecursion IsLine (G.lines group.now) }
+    requires room { gate_after gate (G.lines group.now) ≤ LAST_GATE }
+    ensures told { (lines : List (List ℕ)) → WhereTold (D.told disk.old) (D.told disk.new)
+        (λ o n. IsIdle lines gate o.file → AppendsAt result lines gate (G.lines group.now) o n) }
+    ensures faults { CountsDid result (D.faults disk.old) (D.faults disk.new) }
+{
+    match write_records(disk, gate, group) {
+        DiskDid::Done => match disk.sync() {
+            DiskDid::Done => write_down(disk, gate, &[1]),
+            DiskDid::Failed => DiskDid::Failed,
+        },
+        DiskDid::Failed => DiskDid::Failed,
+    }
+}

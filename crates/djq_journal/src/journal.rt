@@ -1,0 +1,138 @@
+ghost use Rattle.std.specs.Prelude.{◌≡◌, ◌+◌, ◌≤◌, ℕ, List, length, [], ◌∷◌};
+ghost use Rattle.std.specs.List.{AllByRecursion};
+ghost use Rattle.djq_disk.specs.History.{WhereTold};
+ghost use Rattle.djq_journal.specs.Format.{IsLine};
+ghost use Rattle.djq_journal.specs.Standing.{IsAt, IsIdle};
+ghost use Rattle.djq_journal.specs.Calls.{Makes, Opens, Reads, LineFits, CountsMade, CountsOpened, CountsLine};
+ghost use Rattle.djq_journal.specs.Appending.{Appends, HasRoom, CountsAppended};
+
+use crate::appending::{append_at, end_of};
+use crate::group::Group;
+use crate::line::Line;
+use crate::one_line::OneLine;
+use crate::reading::{place_after, read_line};
+use djq_disk::{Disk, DiskDid, Filled, fill, write_down};
+use std::marker::Model;
+
+/// Whether a journal was made.
+#[derive(Clone, Copy, Debug, PartialEq, Eq)]
+pub enum Made {
+    Done,
+    Failed,
+}
+
+/// The answer to an opening.
+#[derive(Debug, Drop)]
+pub enum Opened {
+    /// The journal stands at its first gate.
+    Ready(Journal),
+    /// The file doesn't begin with a journal's header. The place is 0.
+    BadLog(u64),
+    Failed,
+}
+
+/// The answer to an append.
+#[derive(Debug, Drop)]
+pub enum Appended {
+    /// The group is kept, and outlives a stop from now on. The journal is idle again.
+    Done(Journal),
+    /// The disk failed. A stop leaves the whole group or nothing of it.
+    Failed,
+    /// The gate behind the group would stand past the last place. Nothing was written.
+    Full,
+}
+
+/// A journal, by the place of the gate at which it stands.
+#[derive(Debug, Drop)]
+pub struct Journal {
+    gate: u64,
+}
+
+impl Model for Journal {
+    ghost use Rattle.std.specs.Prelude.{ℕ};
+
+    ghost Value = { ℕ };
+
+    ghost view = { λ j. j.gate };
+}
+
+/// Makes a journal without lines at the start of the file, which has to be empty: bytes that stand
+/// behind it don't count.
+pub fn create<D: Disk>(disk: &mut D) -> Made
+    ensures told { WhereTold (D.told disk.old) (D.told disk.new) (Makes result) }
+    ensures faults { CountsMade result (D.faults disk.old) (D.faults disk.new) }
+{
+    match write_down(disk, 0, b"DJQLOG1\n\0") {
+        DiskDid::Done => Made::Done,
+        DiskDid::Failed => Made::Failed,
+    }
+}
+
+impl Journal {
+    /// Opens the journal that the file is, behind a sync.
+    pub fn open<D: Disk>(disk: &mut D) -> Opened
+        ensures told { WhereTold (D.told disk.old) (D.told disk.new) (Opens result) }
+        ensures faults { CountsOpened result (D.faults disk.old) (D.faults disk.new) }
+    {
+        match disk.sync() {
+            DiskDid::Done => {}
+            DiskDid::Failed => return Opened::Failed,
+        }
+        let mut found = [0; 8];
+        match fill(disk, 0, &mut found) {
+            Filled::Whole => {}
+            Filled::Short => return Opened::BadLog(0),
+            Filled::Failed => return Opened::Failed,
+        }
+        if found == *b"DJQLOG1\n" {
+            Opened::Ready(Journal { gate: 8 })
+        } else {
+            Opened::BadLog(0)
+        }
+    }
+
+    /// Reads the next line into the start of the buffer, and stands behind it then.
+    pub fn next_line<D: Disk>(&mut self, disk: &mut D, buf: &mut [u8; 4096]) -> Line
+        ensures told { (lines : List (List ℕ)) → WhereTold (D.told disk.old) (D.told disk.new)
+            (λ o n. (n ≡ o) × (IsAt lines self.old o.file → Reads result lines self.old self.new buf.new o.file)) }
+        ensures fits { LineFits result }
+        ensures faults { CountsLine result (D.faults disk.old) (D.faults disk.new) }
+    {
+        let line = read_line(disk, self.gate, buf);
+        self.gate = place_after(self.gate, line);
+        line
+    }
+
+    /// Appends a group of lines as a whole, with two syncs however many they are.
+    ///
+    /// The journal is idle on this disk: [`next_line`](Journal::next_line) answered `End`, or an append
+    /// gave it, and nothing was written since. A caller whose disk tells nothing is bound by the same.
+    pub fn append_all<D: Disk, G: Group>(self, disk: &mut D, group: &G) -> Appended
+        requires some { 1 ≤ length (G.lines group.now) }
+        requires lines { AllByRecursion IsLine (G.lines group.now) }
+        ensures room { HasRoom result self (G.lines group.now) }
+        ensures told { (lines : List (List ℕ)) → WhereTold (D.told disk.old) (D.told disk.new)
+            (λ o n. IsIdle lines self o.file → Appends result lines (G.lines group.now) o n) }
+        ensures faults { CountsAppended result (D.faults disk.old) (D.faults disk.new) }
+    {
+        match end_of(self.gate, group) {
+            None => Appended::Full,
+            Some(gate) => match append_at(disk, self.gate, group) {
+                DiskDid::Done => Appended::Done(Journal { gate }),
+                DiskDid::Failed => Appended::Failed,
+            },
+        }
+    }
+
+    /// Appends a line, as a group of one.
+    pub fn append<D: Disk>(self, disk: &mut D, line: &[u8]) -> Appended
+        requires some { 1 ≤ length line.now }
+        requires short { length line.now ≤ 4096 }
+        ensures room { HasRoom result self (line.now ∷ []) }
+        ensures told { (lines : List (List ℕ)) → WhereTold (D.told disk.old) (D.told disk.new)
+            (λ o n. IsIdle lines self o.file → Appends result lines (line.now ∷ []) o n) }
+        ensures faults { CountsAppended result (D.faults disk.old) (D.faults disk.new) }
+    {
+        self.append_all(disk, &OneLine { line })
+    }
+}

@@ -1,0 +1,5 @@
+/// How many bytes a line of a journal has at most.
+pub const LINE_BYTES: usize = 4096;
+
+/// The last place at which a gate may stand.
+pub const LAST_GATE: u64 = 4_611_686_018_427_387_904;

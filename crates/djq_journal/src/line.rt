@@ -1,0 +1,11 @@
+/// The answer to a question for the next line.
+#[derive(Clone, Copy, Debug, PartialEq, Eq)]
+pub enum Line {
+    /// So many bytes of the buffer are the line.
+    Got(usize),
+    /// There is no further line: the journal is idle.
+    End,
+    /// The file is bad at this place, where a gate has to stand and a record behind an open one.
+    BadLog(u64),
+    Failed,
+}
