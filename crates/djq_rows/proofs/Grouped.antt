@@ -29,7 +29,7 @@ use Rattle.std.proofs.lemmas.List.{append-nil, length-map, map-append}
 use Rattle.std.proofs.lemmas.List.Elements.{All-from_recursion}
 use Rattle.std.proofs.lemmas.List.Kept.{AllPairs-cons}
 use Rattle.djq_model.specs.declared.relation.ColumnType.{ColumnType}
-use Rattle.djq_model.specs.Data.{Bytes, Tuple, tuple_eq, has_row, without_row}
+use Rattle.djq_model.specs.Data.{Bytes, Tuple, tuple_eq, has_row}
 use Rattle.djq_model.specs.Answer.{AreDifferent}
 use Rattle.djq_model.specs.Equality.{tuple_eq-decides}
 use Rattle.djq_dict.specs.Known.{AllDifferent}
@@ -39,7 +39,7 @@ use Rattle.djq_index.specs.Entries.{Entry, cnt, many, grp}
 use Rattle.djq_index.specs.Table.{Table, IsAt, AreApart}
 use Rattle.djq_index.specs.Changes.{Inserted, Removed}
 use Rattle.djq_index.proofs.Tuples.{same_is, is_same, one_true, one_false}
-use Rattle.djq_index.proofs.Counts.{cnt_cons, many_cons, cnt_middle}
+use Rattle.djq_index.proofs.Counts.{cnt_cons, many_cons}
 use Rattle.djq_index.proofs.Apart.{there}
 use Rattle.djq_rows.specs.Parts.{row_of, tuples_of, AreWithin}
 use Rattle.djq_rows.specs.Tuples.{HasTuple, Appended, Dropped}
@@ -89,6 +89,7 @@ appended old new u key i =
     record {
       entry = i.entry;
       tuple = i.tuple;
+      single = i.supports;
       is = i.is ∙ ap₂ (λ (xs ys : List Entry). xs ++
           i.entry ∷ ys) (sym front) none;
     }
@@ -183,14 +184,21 @@ unfolding tuples_of
 within_out texts ts [] e ys h = h.1
 within_out texts ts (x ∷ xs) e ys h = (h.0, within_out texts ts xs e ys h.1)
 
+pub within_in : (texts : List Bytes) (ts : List ColumnType) (xs : List Entry) (d e : Entry) (ys :
+    List Entry) → e.tuple ≡ d.tuple → Within texts ts (xs ++ d ∷ ys) → Within texts ts (xs ++ e ∷
+    ys)
+unfolding tuples_of
+within_in texts ts [] d e ys t h = (subst (AreWithin texts ts) (sym t) h.0, h.1)
+within_in texts ts (x ∷ xs) d e ys t h = (h.0, within_in texts ts xs d e ys t h.1)
+
 -- a tuple and its row
 
-row_yes : (texts : List Bytes) (ts : List ColumnType) (u v : List ℕ) → u ≡ v → tuple_eq (row_of
+pub row_yes : (texts : List Bytes) (ts : List ColumnType) (u v : List ℕ) → u ≡ v → tuple_eq (row_of
     texts ts u) (row_of texts ts v) ≡ true
 row_yes texts ts u v e = (tuple_eq-decides (row_of texts ts u) (row_of texts ts v)).1 (ap (row_of
     texts ts) e)
 
-row_no : (texts : List Bytes) (ts : List ColumnType) (u v : List ℕ) → AllDifferent texts → AreWithin
+pub row_no : (texts : List Bytes) (ts : List ColumnType) (u v : List ℕ) → AllDifferent texts → AreWithin
     texts ts u → AreWithin texts ts v → (u ≡ v → ⊥) → tuple_eq (row_of texts ts u) (row_of texts ts
     v) ≡ false
 row_no texts ts u v d h k other = elim (cases_Bool (tuple_eq (row_of texts ts u) (row_of texts ts
@@ -240,39 +248,15 @@ present_row texts ts (e ∷ es) u n = elim (cases_Bool (same e.tuple u)) [
     by_test true k = refl
     by_test false k = k
 
--- the row of the entry that goes is the first like it
+-- apart from an entry its tuple is absent
 
-apart_first : (x : Entry) (es : List Entry) → AreApart (x ∷ es) → cnt es x.tuple ≡ 0
+pub apart_first : (x : Entry) (es : List Entry) → AreApart (x ∷ es) → cnt es x.tuple ≡ 0
 unfolding AreApart
 apart_first x es h = h.0
 
-apart_rest : (x : Entry) (es : List Entry) → AreApart (x ∷ es) → AreApart es
+pub apart_rest : (x : Entry) (es : List Entry) → AreApart (x ∷ es) → AreApart es
 unfolding AreApart
 apart_rest x es h = h.1
-
-pub dropped_row : (texts : List Bytes) (ts : List ColumnType) (xs : List Entry) (e : Entry) (ys :
-    List Entry) → AllDifferent texts → Within texts ts (xs ++ e ∷ ys) → AreApart (xs ++ e ∷ ys)
-    → without_row (rows_in texts ts (xs ++ e ∷ ys)) (row_of texts ts e.tuple) ≡ rows_in texts ts (xs
-    ++ ys)
-unfolding tuples_of
-dropped_row texts ts [] e ys d h a = rw (row_yes texts ts e.tuple e.tuple refl) refl
-dropped_row texts ts (x ∷ xs) e ys d h a =
-    let other : (x.tuple ≡ e.tuple) → ⊥ = (λ k. omega (
-      arith,
-      apart_first x (xs ++ e ∷ ys) a,
-      cnt_middle xs e ys x.tuple,
-      one_true (same e.tuple x.tuple) (is_same e.tuple x.tuple (sym
-          k)),
-    )) in
-    rw (row_no texts ts x.tuple e.tuple d h.0 (entry_within texts ts xs e ys h.1) other) (ap (λ (l :
-    List Tuple). row_of texts ts x.tuple ∷ l) (dropped_row texts ts xs e ys d h.1 (apart_rest x
-    (xs ++ e ∷ ys) a)))
-  where
-    entry_within : (texts : List Bytes) (ts : List ColumnType) (xs : List Entry) (e : Entry) (ys :
-        List Entry) → AllByRecursion (AreWithin texts ts) (map (λ (f : Entry). f.tuple) (xs ++ e ∷
-        ys)) → AreWithin texts ts e.tuple
-    entry_within texts ts [] e ys k = k.0
-    entry_within texts ts (x ∷ xs) e ys k = entry_within texts ts xs e ys k.1
 
 -- different tuples are different rows
 

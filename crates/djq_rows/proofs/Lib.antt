@@ -2,6 +2,7 @@ pub mod Learning
 pub mod Encoding
 pub mod Interning
 pub mod Grouped
+pub mod Copied
 pub mod Relations
 pub mod Standing
 pub mod Stepping

@@ -4,6 +4,7 @@ use Rattle.std.proofs.Common.{
   ℕ,
   zero,
   suc,
+  ◌+◌,
   ◌<◌,
   ◌≤◌,
   Bool,
@@ -18,13 +19,16 @@ use Rattle.std.proofs.Common.{
   refl,
   sym,
   ap,
+  ap₂,
   ◌∙◌,
   subst,
   arith,
   length-append,
 }
-use Rattle.std.specs.Prelude.{map, slice_get, Some, None, Result, Ok, Err}
+use Rattle.std.specs.Prelude.{map, slice_get, Some, None, Result, Ok, Err, ◌==◌, not, All}
 use Rattle.std.specs.List.{AllByRecursion}
+use Rattle.std.proofs.Math.Dec.{eqb-suc-zero}
+use Rattle.std.proofs.lemmas.Bool.{false≢true}
 use Rattle.std.proofs.lemmas.List.{get_or-map, length-map, map-set}
 use Rattle.std.proofs.lemmas.List.Elements.{
   All-from_recursion,
@@ -37,23 +41,45 @@ use Rattle.std.proofs.Math.Seq.{map-set_same}
 use Rattle.std.proofs.lemmas.Option.{slice_get_within, get_or_from_slice_get}
 use Rattle.djq_model.specs.declared.relation.ColumnType.{ColumnType}
 use Rattle.djq_model.specs.declared.relation.Relation.{Relation}
-use Rattle.djq_model.specs.Data.{Bytes, Tuple, tuples_in, bytes_eq, relation_of, has_row, without_row}
+use Rattle.djq_model.specs.declared.relation.CountedRow.{CountedRow}
+use Rattle.djq_model.specs.Data.{
+  Bytes,
+  Tuple,
+  tuples_in,
+  bytes_eq,
+  relation_of,
+  has_row,
+  copies_among,
+  with_row,
+  with_copies,
+  without_copies,
+}
+use Rattle.djq_model.specs.Answer.{AreDifferent}
 use Rattle.djq_model.specs.Typed.{fits}
-use Rattle.djq_lines.specs.declared.limits.TheConstants.{COLUMNS, ROWS}
+use Rattle.djq_lines.specs.declared.limits.TheConstants.{COLUMNS, ROWS, COPIES}
 use Rattle.djq_lines.specs.declared.answer.AddOutcome.{AddOutcome}
-use Rattle.djq_lines.specs.declared.answer.AddOutcome.TheVariants.{Added, Same}
+use Rattle.djq_lines.specs.declared.answer.AddOutcome.TheVariants.{First, More}
 use Rattle.djq_lines.specs.declared.answer.DeleteOutcome.{DeleteOutcome}
-use Rattle.djq_lines.specs.declared.answer.DeleteOutcome.TheVariants.{Removed, Absent}
+use Rattle.djq_lines.specs.declared.answer.DeleteOutcome.TheVariants.{Last, Left, Absent}
 use Rattle.djq_dict.specs.Known.{AllDifferent, IsUnknown}
-use Rattle.djq_index.specs.Entries.{Entry, cnt}
+use Rattle.djq_index.specs.Entries.{Entry, cnt, supp}
 use Rattle.djq_index.specs.Table.{AreApart}
-use Rattle.djq_index.proofs.Apart.{there}
+use Rattle.djq_index.specs.Changes.{Supported}
+use Rattle.djq_index.proofs.Apart.{there, stands, supp_at, cnt_none, supp_none}
 use Rattle.djq_rows.specs.declared.refusal.RowsRefusal.{RowsRefusal}
 use Rattle.djq_rows.specs.declared.refusal.RowsRefusal.TheVariants.{NameTaken, Full, NoMem}
 use Rattle.djq_rows.specs.declared.kept.Kept.{Kept}
 use Rattle.djq_rows.specs.Cells.{cells_of, HaveCells, StandFor}
-use Rattle.djq_rows.specs.Catalog.{no_relation, relation_at, rows_at, with_rows_at, IsKept}
-use Rattle.djq_rows.specs.Changes.{AddsRow, DeletesRow}
+use Rattle.djq_rows.specs.Catalog.{
+  no_relation,
+  relation_at,
+  counted_at,
+  rows_at,
+  with_rows_at,
+  IsCounted,
+  IsKept,
+}
+use Rattle.djq_rows.specs.Changes.{HasNoPlace, AddsRow, DeletesRow}
 use Rattle.djq_rows.specs.Parts.{
   row_of,
   tuples_of,
@@ -64,7 +90,15 @@ use Rattle.djq_rows.specs.Parts.{
   AreWithin,
   IsSound,
 }
-use Rattle.djq_rows.specs.Tuples.{HasTuple, Appended, Dropped, StaysTable, AddsTuple, DeletesTuple}
+use Rattle.djq_rows.specs.Tuples.{
+  HasTuple,
+  LacksPlace,
+  Appended,
+  Dropped,
+  StaysTable,
+  AddsTuple,
+  DeletesTuple,
+}
 use Rattle.djq_rows.proofs.Learning.{Grown, eq_refl, eq_other}
 use Rattle.djq_rows.proofs.Encoding.{
   stand_row,
@@ -77,14 +111,30 @@ use Rattle.djq_rows.proofs.Encoding.{
 use Rattle.djq_rows.proofs.Grouped.{
   rows_in,
   Within,
-  rows-append,
+  within_in,
   rows_long,
   within_push,
   within_out,
   absent_row,
   present_row,
-  dropped_row,
   rows_differ,
+}
+use Rattle.djq_rows.proofs.Copied.{
+  counted_in,
+  Copied,
+  plain_rows,
+  counted-append,
+  counted_one,
+  recounted,
+  dropped_row,
+  copies_row,
+  copied_push,
+  copied_out,
+  copied_in,
+  copied_here,
+  are_supported,
+  are_counted,
+  counted_grown,
 }
 
 -- one relation
@@ -100,50 +150,39 @@ in_types texts k = refl
 pub in_rows : (texts : List Bytes) (k : Kept) → tuples_in (relation_in texts k) ≡ rows_in texts k.types
     k.table.entries
 unfolding relation_in
-in_rows texts k = refl
+in_rows texts k = plain_rows texts k.types k.table.entries
+
+pub in_counted : (texts : List Bytes) (k : Kept) → (relation_in texts k).rows ≡ counted_in texts
+    k.types k.table.entries
+unfolding relation_in
+in_counted texts k = refl
 
 -- a relation with other rows
-with_rows : (texts : List Bytes) (j k : Kept) (rows : List Tuple) → k.name ≡ j.name → k.types ≡
-    j.types → rows_in texts k.types k.table.entries ≡ rows → relation_in texts k ≡ (let r =
+with_rows : (texts : List Bytes) (j k : Kept) (rows : List CountedRow) → k.name ≡ j.name → k.types ≡
+    j.types → counted_in texts k.types k.table.entries ≡ rows → relation_in texts k ≡ (let r =
     relation_in texts j in record r { rows = rows })
 unfolding relation_in
 with_rows texts j k rows n t e =
     ap (λ (m : Bytes). record {
       name = m;
       types = k.types;
-      rows = rows_in texts k.types
+      rows = counted_in texts k.types
           k.table.entries;
     }) n
     ∙ ap (λ (l : List ColumnType). record {
       name = j.name;
       types = l;
-      rows = rows_in texts k.types
+      rows = counted_in texts k.types
           k.table.entries;
     }) t
-    ∙ ap (λ (l : List Tuple). record { name = j.name; types = j.types; rows = l }) e
+    ∙ ap (λ (l : List CountedRow). record { name = j.name; types = j.types; rows = l }) e
 
 same_rows : (texts : List Bytes) (j k : Kept) → k.name ≡ j.name → k.types ≡ j.types →
     k.table.entries ≡ j.table.entries → relation_in texts k ≡ relation_in texts j
 unfolding relation_in
-same_rows texts j k n t e =
-    ap (λ (m : Bytes). record {
-      name = m;
-      types = k.types;
-      rows = rows_in texts k.types
-          k.table.entries;
-    }) n
-    ∙ ap (λ (l : List ColumnType). record {
-      name = j.name;
-      types = l;
-      rows = rows_in texts l
-          k.table.entries;
-    }) t
-    ∙ ap (λ (l : List Entry). record {
-      name = j.name;
-      types = j.types;
-      rows = rows_in texts j.types
-          l;
-    }) e
+same_rows texts j k n t e = with_rows texts j k (counted_in texts j.types j.table.entries) n t
+    (ap (λ (l : List ColumnType). counted_in texts l k.table.entries) t
+    ∙ ap (counted_in texts j.types) e)
 
 -- at a place
 
@@ -155,6 +194,12 @@ pub rows_is : (texts : List Bytes) (ks : List Kept) (at : ℕ) → at < length k
     (relations_of texts ks) at ≡ rows_in texts (kept_at ks at).types (kept_at ks at).table.entries
 rows_is texts ks at low = ap tuples_in (relation_is texts ks at low) ∙ in_rows
     texts (kept_at ks at)
+
+pub counted_is : (texts : List Bytes) (ks : List Kept) (at : ℕ) → at < length ks → counted_at
+    (relations_of texts ks) at ≡ counted_in texts (kept_at ks at).types (kept_at ks
+    at).table.entries
+counted_is texts ks at low = ap (λ (r : Relation). r.rows) (relation_is texts ks at low) ∙
+    in_counted texts (kept_at ks at)
 
 pub types_is : (texts : List Bytes) (ks : List Kept) (at : ℕ) → at < length ks → (relation_at
     (relations_of texts ks) at).types ≡ (kept_at ks at).types
@@ -197,10 +242,10 @@ stays : (texts : List Bytes) (ks : List Kept) (at : ℕ) (k : Kept) → k.name �
 stays texts ks at k n t e = map-set_same (relation_in texts) ks at k no_kept (same_rows texts
     (kept_at ks at) k n t e)
 
-changes : (texts : List Bytes) (ks : List Kept) (at : ℕ) (k : Kept) (rows : List Tuple) → at <
+changes : (texts : List Bytes) (ks : List Kept) (at : ℕ) (k : Kept) (rows : List CountedRow) → at <
     length ks → k.name ≡ (kept_at ks at).name → k.types ≡ (kept_at ks at).types
-    → rows_in texts k.types k.table.entries ≡ rows → relations_of texts (set ks at k) ≡ with_rows_at
-    (relations_of texts ks) at rows
+    → counted_in texts k.types k.table.entries ≡ rows → relations_of texts (set ks at k) ≡
+    with_rows_at (relations_of texts ks) at rows
 changes texts ks at k rows low n t e =
     map-set (relation_in texts) ks at k
     ∙ ap (λ (r : Relation). set (relations_of texts ks) at r)
@@ -211,11 +256,6 @@ changes texts ks at k rows low n t e =
     }) (sym (relation_is texts ks at low)))
 
 -- adding
-
-one_row : (texts : List Bytes) (ts : List ColumnType) (e : Entry) → rows_in texts ts (e ∷ []) ≡
-    row_of texts ts e.tuple ∷ []
-unfolding tuples_of
-one_row texts ts e = refl
 
 module _ (texts : List Bytes) (ks : List Kept) (at : ℕ) (k : Kept) (u : List ℕ) (row : Tuple) (d :
     AllDifferent texts) (low : at < length ks) (s : IsSound texts (kept_at ks at))
@@ -250,31 +290,79 @@ module _ (texts : List Bytes) (ks : List Kept) (at : ℕ) (k : Kept) (u : List �
   has true h = sym (present h)
   has false h = sym (absent h)
 
-  appended_rows : Appended (kept_at ks at).table k.table u → rows_in texts k.types k.table.entries ≡
-      rows_at (relations_of texts ks) at ++ row ∷ []
+  pub copies : copies_among (counted_at (relations_of texts ks) at) row ≡ supp was u
+  copies =
+      ap (λ (rows : List CountedRow). copies_among rows row) (counted_is texts ks at low)
+      ∙ ap (copies_among (counted_in texts types was)) (sym row_is)
+      ∙ copies_row texts types was u d s.within (stand_within texts types u row stand) s.table.apart
+
+  -- a test of the copies tells whether the row is there
+  pub copies_tell : (n : ℕ) → n ≡ supp was u
+      → has_row (rows_at (relations_of texts ks) at) row ≡ not (n == 0)
+  copies_tell zero e = absent (cnt_none was u (are_supported was s.copied) (sym e))
+  copies_tell (suc m) e =
+      present (there_once (cnt was u) refl) ∙ sym (ap not (eqb-suc-zero m))
+    where
+      there_once : (c : ℕ) → cnt was u ≡ c → 0 < cnt was u
+      there_once zero none = absurd (omega (arith, e, supp_none was u none))
+      there_once (suc c) some = omega (arith, some)
+
+  appended_rows : Appended (kept_at ks at).table k.table u → counted_in texts k.types
+      k.table.entries ≡ with_row (counted_at (relations_of texts ks) at) row
   appended_rows a =
-      ap (λ (l : List ColumnType). rows_in texts l k.table.entries) t ∙ ap (rows_in texts types)
-      a.is ∙ rows-append texts types was (a.entry ∷ [])
-      ∙ ap (λ (l : List Tuple). rows_in texts types was ++ l) (one_row texts types a.entry ∙ ap (λ
-      (r : Tuple). r ∷ []) (ap (row_of texts types) a.tuple ∙ row_is))
-      ∙ ap (λ (l : List Tuple). l ++ row ∷ []) (sym (rows_is texts ks at low))
+      ap (λ (l : List ColumnType). counted_in texts l k.table.entries) t
+      ∙ ap (counted_in texts types) a.is ∙ counted-append texts types was (a.entry ∷ [])
+      ∙ ap (λ (l : List CountedRow). counted_in texts types was ++ l)
+      (counted_one texts types a.entry a.single)
+      ∙ ap₂ (λ (l : List CountedRow) (r : Tuple). with_row l r)
+      (sym (counted_is texts ks at low)) (ap (row_of texts types) a.tuple ∙ row_is)
+
+  counted_rows : (from to : ℕ) → Supported was k.table.entries u from to → counted_in texts k.types
+      k.table.entries ≡ with_copies (counted_at (relations_of texts ks) at) row to
+  counted_rows from to c =
+      ap (λ (l : List ColumnType). counted_in texts l k.table.entries) t
+      ∙ ap (counted_in texts types) c.is
+      ∙ sym (recounted texts types c.front c.before c.after c.back to d
+      (subst (Within texts types) c.was s.within) (subst AreApart c.was s.table.apart)
+      (c.same_tuple ∙ sym c.tuple) c.has)
+      ∙ ap (λ (es : List Entry). with_copies (counted_in texts types es)
+      (row_of texts types c.before.tuple) to) (sym c.was)
+      ∙ ap₂ (λ (l : List CountedRow) (r : Tuple). with_copies l r to)
+      (sym (counted_is texts ks at low)) (ap (row_of texts types) c.tuple ∙ row_is)
+
+  no_place : LacksPlace (kept_at ks at).table u → HasNoPlace (relations_of texts ks) at row
+  no_place l = record {
+    copies = λ h. omega (arith, copies, l.copies (is_there (cnt was u) refl h));
+    rows = λ h. omega (arith, long, l.rows (is_absent (cnt was u) refl h));
+  }
+    where
+      is_there : (c : ℕ) → cnt was u ≡ c → has_row (rows_at (relations_of texts ks) at) row ≡ true
+          → 0 < cnt was u
+      is_there zero e h = absurd (false≢true (sym (absent e) ∙ h))
+      is_there (suc c) e h = omega (arith, e)
+
+      is_absent : (c : ℕ) → cnt was u ≡ c
+          → has_row (rows_at (relations_of texts ks) at) row ≡ false → cnt was u ≡ 0
+      is_absent zero e h = e
+      is_absent (suc c) e h = absurd (false≢true (sym h ∙ present (omega (arith, e))))
 
   pub added : (r : Result AddOutcome RowsRefusal) → AddsTuple (kept_at ks at).table u r k.table →
       AddsRow (relations_of texts ks) at row r (relations_of texts (set ks at k))
-  added (Ok Added) a = (
+  added (Ok First) a = (
     absent a.adds.0,
     omega (arith, a.adds.1, long),
-    changes texts ks at k (rows_at (relations_of
-        texts ks) at ++ row ∷ []) low n t (appended_rows a.adds.2),
+    changes texts ks at k (with_row (counted_at (relations_of texts ks) at) row) low n t
+        (appended_rows a.adds.2),
   )
-  added (Ok Same) a = (present a.adds.0, stays texts ks at k n t a.adds.1)
+  added (Ok (More m)) a = (
+    present a.adds.0,
+    omega (arith, a.adds.1, copies),
+    a.adds.2,
+    changes texts ks at k (with_copies (counted_at (relations_of texts ks) at) row m) low n t
+        (counted_rows (supp was u) m a.adds.3),
+  )
   added (Err NameTaken) a = a.adds
-  added (Err Full) a = (
-    absent a.adds.0,
-    omega (arith, a.adds.1, long),
-    stays texts ks at k n t
-        a.adds.2,
-  )
+  added (Err Full) a = (no_place a.adds.0, stays texts ks at k n t a.adds.1)
   added (Err NoMem) a = (
     absent a.adds.0,
     omega (arith, a.adds.1, long),
@@ -282,25 +370,32 @@ module _ (texts : List Bytes) (ks : List Kept) (at : ℕ) (k : Kept) (u : List �
         a.adds.2,
   )
 
-  dropped_rows : Dropped (kept_at ks at).table k.table u → rows_in texts k.types k.table.entries ≡
-      without_row (rows_at (relations_of texts ks) at) row
+  dropped_rows : Dropped (kept_at ks at).table k.table u → counted_in texts k.types k.table.entries
+      ≡ without_copies (counted_at (relations_of texts ks) at) row
   dropped_rows e =
-      ap (λ (l : List ColumnType). rows_in texts l k.table.entries) t ∙ ap (rows_in texts types)
-      e.is
+      ap (λ (l : List ColumnType). counted_in texts l k.table.entries) t
+      ∙ ap (counted_in texts types) e.is
       ∙ sym (dropped_row texts types e.front e.entry e.back d (subst (Within texts types) e.was
       s.within) (subst AreApart e.was s.table.apart))
-      ∙ ap (λ (l : List Entry). without_row (rows_in texts types l) (row_of texts types
+      ∙ ap (λ (l : List Entry). without_copies (counted_in texts types l) (row_of texts types
       e.entry.tuple)) (sym e.was)
-      ∙ ap (without_row (rows_in texts types was)) (ap (row_of texts types) e.tuple ∙ row_is)
-      ∙ ap (λ (l : List Tuple). without_row l row) (sym (rows_is texts ks at low))
+      ∙ ap₂ (λ (l : List CountedRow) (r : Tuple). without_copies l r)
+      (sym (counted_is texts ks at low)) (ap (row_of texts types) e.tuple ∙ row_is)
 
   pub deleted : (r : DeleteOutcome) → DeletesTuple (kept_at ks at).table u r k.table → DeletesRow
       (relations_of texts ks) at row r (relations_of texts (set ks at k))
-  deleted Removed e = (
-    present (there was e.deletes.front e.deletes.entry e.deletes.back u e.deletes.was
-        e.deletes.tuple),
-    changes texts ks at k (without_row (rows_at (relations_of texts ks) at) row) low n t
-        (dropped_rows e.deletes),
+  deleted Last e = let out = e.deletes.1 in (
+    present (there was out.front out.entry out.back u out.was out.tuple),
+    copies ∙ e.deletes.0,
+    changes texts ks at k (without_copies (counted_at (relations_of texts ks) at) row) low n t
+        (dropped_rows out),
+  )
+  deleted (Left m) e = (
+    present e.deletes.0,
+    copies ∙ e.deletes.1,
+    e.deletes.2,
+    changes texts ks at k (with_copies (counted_at (relations_of texts ks) at) row m) low n t
+        (counted_rows (supp was u) m e.deletes.3),
   )
   deleted Absent e = (absent e.deletes.0, stays texts ks at k n t e.deletes.1)
 
@@ -308,8 +403,8 @@ module _ (texts : List Bytes) (ks : List Kept) (at : ℕ) (k : Kept) (u : List �
 
 sound_as : (texts : List Bytes) (j k : Kept) → k.types ≡ j.types → StaysTable j.table k.table →
     IsSound texts j → Within texts j.types k.table.entries → length k.table.entries ≤ ROWS →
-    IsSound texts k
-sound_as texts j k t st s w few = record {
+    Copied k.table.entries → IsSound texts k
+sound_as texts j k t st s w few c = record {
   some = subst (λ (l : List ColumnType). 0 < length l) (sym t) s.some;
   narrow = subst (λ (l : List ColumnType). length l ≤ COLUMNS) (sym t) s.narrow;
   key = st.key ∙ s.key;
@@ -317,20 +412,34 @@ sound_as texts j k t st s w few = record {
   table = st.is;
   within = subst (λ (l : List ColumnType). Within texts l k.table.entries) (sym t) w;
   few = few;
+  copied = c;
 }
 
-same_within : (texts : List Bytes) (j k : Kept) → k.table.entries ≡ j.table.entries → IsSound texts
-    j → Within texts j.types k.table.entries
-same_within texts j k e s = subst (Within texts j.types) (sym e) s.within
+same_sound : (texts : List Bytes) (j k : Kept) → k.types ≡ j.types → StaysTable j.table k.table →
+    IsSound texts j → k.table.entries ≡ j.table.entries → IsSound texts k
+same_sound texts j k t st s e = sound_as texts j k t st s (subst (Within texts j.types) (sym e)
+    s.within) (subst (λ (es : List Entry). length es ≤ ROWS) (sym e) s.few) (subst Copied (sym e)
+    s.copied)
 
-same_few : (texts : List Bytes) (j k : Kept) → k.table.entries ≡ j.table.entries → IsSound texts j
-    → length k.table.entries ≤ ROWS
-same_few texts j k e s = subst (λ (es : List Entry). length es ≤ ROWS) (sym e) s.few
+counted_sound : (texts : List Bytes) (j k : Kept) (u : List ℕ) (from to : ℕ) → k.types ≡ j.types →
+    StaysTable j.table k.table → IsSound texts j → Supported j.table.entries k.table.entries u from
+    to → 1 ≤ to → to ≤ COPIES → IsSound texts k
+counted_sound texts j k u from to t st s c some few = sound_as texts j k t st s
+    (subst (Within texts j.types) (sym c.is) (within_in texts j.types c.front c.before c.after
+    c.back (c.same_tuple ∙ sym c.tuple) (subst (Within texts j.types) c.was s.within)))
+    (subst (λ (es : List Entry). length es ≤ ROWS) (sym c.is) (omega (
+      arith,
+      subst (λ (es : List Entry). length es ≤ ROWS) c.was s.few,
+      length-append c.front (c.before ∷ c.back),
+      length-append c.front (c.after ∷ c.back),
+    )))
+    (subst Copied (sym c.is) (copied_in c.front c.before c.after c.back
+    (subst Copied c.was s.copied) (omega (arith, c.has, some), omega (arith, c.has, few))))
 
 pub added_sound : (texts : List Bytes) (j k : Kept) (u : List ℕ) (r : Result AddOutcome RowsRefusal)
     → k.types ≡ j.types → AreWithin texts j.types u → IsSound texts j → AddsTuple j.table u r
     k.table → IsSound texts k
-added_sound texts j k u (Ok Added) t h s a =
+added_sound texts j k u (Ok First) t h s a =
     let p = a.adds.2 in
     sound_as texts j k t a.stays s (subst (Within texts j.types) (sym p.is) (within_push texts
     j.types j.table.entries p.entry s.within (subst (AreWithin texts j.types) (sym p.tuple) h)))
@@ -339,18 +448,27 @@ added_sound texts j k u (Ok Added) t h s a =
       a.adds.1,
       length-append j.table.entries (p.entry ∷ []),
     )))
-added_sound texts j k u (Ok Same) t h s a = sound_as texts j k t a.stays s (same_within texts j k
-    a.adds.1 s) (same_few texts j k a.adds.1 s)
+    (subst Copied (sym p.is) (copied_push j.table.entries p.entry s.copied
+    (omega (arith, p.single), omega (arith, p.single))))
+added_sound texts j k u (Ok (More n)) t h s a = counted_sound texts j k u (supp j.table.entries u) n
+    t a.stays s a.adds.3 (omega (arith, a.adds.1)) a.adds.2
 added_sound texts j k u (Err NameTaken) t h s a = absurd a.adds
-added_sound texts j k u (Err Full) t h s a = sound_as texts j k t a.stays s (same_within texts j k
-    a.adds.2 s) (same_few texts j k a.adds.2 s)
-added_sound texts j k u (Err NoMem) t h s a = sound_as texts j k t a.stays s (same_within texts j k
-    a.adds.2 s) (same_few texts j k a.adds.2 s)
+added_sound texts j k u (Err Full) t h s a = same_sound texts j k t a.stays s a.adds.1
+added_sound texts j k u (Err NoMem) t h s a = same_sound texts j k t a.stays s a.adds.2
+
+-- a tuple that is there has no more supports than a row may have copies
+most_copies : (es : List Entry) (u : List ℕ) → Copied es → AreApart es → 0 < cnt es u → supp
+    es u ≤ COPIES
+most_copies es u c a h = let s = stands es u h in omega (
+  arith,
+  supp_at es s.front s.entry s.back u a s.is s.tuple,
+  (copied_here s.front s.entry s.back (subst Copied s.is c)).1,
+)
 
 pub deleted_sound : (texts : List Bytes) (j k : Kept) (u : List ℕ) (r : DeleteOutcome) → k.types ≡
     j.types → IsSound texts j → DeletesTuple j.table u r k.table → IsSound texts k
-deleted_sound texts j k u Removed t s e =
-    let p = e.deletes in
+deleted_sound texts j k u Last t s e =
+    let p = e.deletes.1 in
     sound_as texts j k t e.stays s (subst (Within texts j.types) (sym p.is) (within_out texts
     j.types p.front p.entry p.back (subst (Within texts j.types) p.was s.within)))
     (subst (λ (es : List Entry). length es ≤ ROWS) (sym p.is) (omega (
@@ -359,8 +477,14 @@ deleted_sound texts j k u Removed t s e =
       length-append p.front (p.entry ∷ p.back),
       length-append p.front p.back,
     )))
-deleted_sound texts j k u Absent t s e = sound_as texts j k t e.stays s (same_within texts j k
-    e.deletes.1 s) (same_few texts j k e.deletes.1 s)
+    (subst Copied (sym p.is) (copied_out p.front p.entry p.back (subst Copied p.was s.copied)))
+deleted_sound texts j k u (Left n) t s e = counted_sound texts j k u (supp j.table.entries u) n t
+    e.stays s e.deletes.3 e.deletes.2 (omega (
+      arith,
+      e.deletes.1,
+      most_copies j.table.entries u s.copied s.table.apart e.deletes.0,
+    ))
+deleted_sound texts j k u Absent t s e = same_sound texts j k t e.stays s e.deletes.1
 
 -- more texts change nothing
 
@@ -373,21 +497,14 @@ tuples_grown old new ts (u ∷ us) g h = (
       g h.1,
 )
 
-rows_grown : (old new : List Bytes) (ts : List ColumnType) (us : List (List ℕ)) → Grown old new →
-    AllByRecursion (AreWithin old ts) us → map (row_of new ts) us ≡ map (row_of old ts) us
-rows_grown old new ts [] g h = refl
-rows_grown old new ts (u ∷ us) g h = ap (λ (r : Tuple). r ∷ map (row_of new ts) us) (row_grown old
-    new ts u g h.0) ∙ ap (λ (l : List Tuple). row_of old ts u ∷ l) (rows_grown old new ts us g h.1)
-
 relation_grown : (old new : List Bytes) (k : Kept) → Grown old new → IsSound old k → relation_in new
     k ≡ relation_in old k
 unfolding relation_in
-relation_grown old new k g s = ap (λ (l : List Tuple). record {
+relation_grown old new k g s = ap (λ (l : List CountedRow). record {
   name = k.name;
   types = k.types;
-  rows
-      = l;
-}) (rows_grown old new k.types (tuples_of k.table.entries) g s.within)
+  rows = l;
+}) (counted_grown old new k.types k.table.entries g s.within)
 
 pub relations_grown : (old new : List Bytes) (ks : List Kept) → Grown old new → AllByRecursion
     (IsSound old) ks → relations_of new ks ≡ relations_of old ks
@@ -406,6 +523,7 @@ sound_grown old new k g s = record {
       s.table;
   within = tuples_grown old new k.types (tuples_of k.table.entries) g s.within;
   few = s.few;
+  copied = s.copied;
 }
 
 pub sounds_grown : (old new : List Bytes) (ks : List Kept) → Grown old new → AllByRecursion (IsSound
@@ -435,28 +553,33 @@ within_have texts ts (u ∷ us) d h = (
       h.1,
 )
 
-tuples_long : (es : List Entry) → length (tuples_of es) ≡ length es
-unfolding tuples_of
-tuples_long es = length-map es (λ (e : Entry). e.tuple)
+rows_kept : (texts : List Bytes) (k : Kept) (P : List Tuple → Type 0) → P (rows_in texts k.types
+    k.table.entries) → P (tuples_in (relation_in texts k))
+rows_kept texts k P h = subst P (sym (in_rows texts k)) h
 
 pub sound_kept : (texts : List Bytes) (k : Kept) → AllDifferent texts → IsSound texts k → IsKept
     texts (relation_in texts k)
-unfolding relation_in
 sound_kept texts k d s = record {
-  some = s.some;
-  narrow = s.narrow;
-  typed = All-from_recursion (λ (row : Tuple). fits k.types row ≡ true) (map (row_of texts k.types)
-      (tuples_of k.table.entries)) (within_typed texts k.types (tuples_of k.table.entries) d
-      s.within);
-  differ = rows_differ texts k.types k.table.entries d s.within s.table.apart;
-  cells = All-from_recursion (HaveCells texts) (map (row_of texts k.types) (tuples_of
-      k.table.entries)) (within_have texts k.types (tuples_of k.table.entries) d s.within);
-  few = omega (
+  some = subst (λ (l : List ColumnType). 0 < length l) (sym (in_types texts k)) s.some;
+  narrow = subst (λ (l : List ColumnType). length l ≤ COLUMNS) (sym (in_types texts k)) s.narrow;
+  typed = subst (λ (l : List ColumnType). All (λ (row : Tuple). fits l row ≡ true) (tuples_in
+      (relation_in texts k))) (sym (in_types texts k)) (rows_kept texts k (All (λ (row : Tuple).
+      fits k.types row ≡ true)) (All-from_recursion (λ (row : Tuple). fits k.types row ≡ true)
+      (rows_in texts k.types k.table.entries) (within_typed texts k.types (tuples_of
+      k.table.entries) d s.within)));
+  differ = rows_kept texts k AreDifferent (rows_differ texts k.types k.table.entries d s.within
+      s.table.apart);
+  cells = rows_kept texts k (All (HaveCells texts)) (All-from_recursion (HaveCells texts) (rows_in
+      texts k.types k.table.entries) (within_have texts k.types (tuples_of k.table.entries) d
+      s.within));
+  few = rows_kept texts k (λ (l : List Tuple). length l ≤ ROWS) (omega (
     arith,
     s.few,
-    length-map (tuples_of k.table.entries) (row_of texts k.types),
-    tuples_long k.table.entries,
-  );
+    rows_long texts k.types k.table.entries,
+  ));
+  counted = subst (All IsCounted) (sym (in_counted texts k)) (All-from_recursion IsCounted
+      (counted_in texts k.types k.table.entries) (are_counted texts k.types k.table.entries
+      s.copied));
 }
 
 -- the cells of the rows are the tuples

@@ -35,6 +35,8 @@ use Rattle.std.specs.Prelude.{
   is_some,
   IfNone,
   ◌&&◌,
+  ◌==◌,
+  not,
   Result,
   Ok,
   Err,
@@ -53,7 +55,7 @@ use Rattle.std.proofs.lemmas.Option.{slice_get_within, get_or_from_slice_get}
 use Rattle.djq_model.specs.declared.value.Value.{Value}
 use Rattle.djq_model.specs.declared.relation.ColumnType.{ColumnType}
 use Rattle.djq_model.specs.declared.relation.Relation.{Relation}
-use Rattle.djq_model.specs.Data.{Bytes, Tuple, bytes_eq, relation_of, has_row}
+use Rattle.djq_model.specs.Data.{Bytes, Tuple, bytes_eq, relation_of, has_row, copies_among}
 use Rattle.djq_model.specs.Typed.{is_of, fits}
 use Rattle.djq_model.specs.Known.{texts_of, texts_in, all_learned}
 use Rattle.djq_lines.specs.declared.limits.TheConstants.{COLUMNS, RELATIONS, ROWS}
@@ -67,14 +69,22 @@ use Rattle.djq_dict.specs.declared.refusal.InternRefusal.TheVariants.{
       NoMemForTexts,
 }
 use Rattle.djq_dict.specs.Known.{AllDifferent, IsUnknown}
-use Rattle.djq_index.specs.Entries.{Entry}
+use Rattle.djq_index.specs.Entries.{Entry, supp}
 use Rattle.djq_index.specs.Table.{Table}
 use Rattle.djq_rows.specs.declared.refusal.RowsRefusal.{RowsRefusal}
 use Rattle.djq_rows.specs.declared.relation_id.RelationId.{RelationId}
 use Rattle.djq_rows.specs.declared.kept.Kept.{Kept}
 use Rattle.djq_rows.specs.declared.parts.Parts.{Parts}
 use Rattle.djq_rows.specs.Cells.{HaveCells, StandFor, AreCells}
-use Rattle.djq_rows.specs.Catalog.{Catalog, no_relation, relation_at, rows_at, IsKept, IsCatalog}
+use Rattle.djq_rows.specs.Catalog.{
+  Catalog,
+  no_relation,
+  relation_at,
+  counted_at,
+  rows_at,
+  IsKept,
+  IsCatalog,
+}
 use Rattle.djq_rows.specs.Changes.{
   FindsRelation,
   AddsRow,
@@ -84,14 +94,15 @@ use Rattle.djq_rows.specs.Changes.{
   TellsCells,
 }
 use Rattle.djq_rows.specs.Parts.{
-  row_of,
   tuples_of,
+  counted_row,
   relation_in,
   relations_of,
   kept_at,
   no_kept,
   catalog_of,
   AreWithin,
+  IsCopied,
   IsSound,
   IsParts,
   Pushes,
@@ -115,6 +126,8 @@ use Rattle.djq_rows.proofs.Relations.{
   found_named,
   none_named,
   has,
+  copies,
+  copies_tell,
   added,
   deleted,
   added_sound,
@@ -175,6 +188,24 @@ has_done texts ks at j u b d s low e h row stand =
     has texts ks at (kept_at ks at) u row d low (sound_at texts ks at s low) refl refl (subst (λ ts.
     StandFor texts ts u row) (types_is texts ks at low) stand) b (subst (λ (x : Kept). HasTuple
     x.table u b) e h)
+
+pub copies_done : (texts : List Bytes) (ks : List Kept) (at : ℕ) (j : Kept) (u : List ℕ) (n : ℕ) →
+    AllDifferent texts → AllByRecursion (IsSound texts) ks → at < length ks → j ≡ kept_at ks at →
+    n ≡ supp j.table.entries u → (row : Tuple) → StandFor texts (relation_at (relations_of texts ks)
+    at).types u row → n ≡ copies_among (counted_at (relations_of texts ks) at) row
+copies_done texts ks at j u n d s low e h row stand =
+    h ∙ ap (λ (x : Kept). supp x.table.entries u) e
+    ∙ sym (copies texts ks at (kept_at ks at) u row d low (sound_at texts ks at s low) refl refl
+    (subst (λ ts. StandFor texts ts u row) (types_is texts ks at low) stand))
+
+pub copies_has : (texts : List Bytes) (ks : List Kept) (at : ℕ) (j : Kept) (u : List ℕ) (n : ℕ) →
+    AllDifferent texts → AllByRecursion (IsSound texts) ks → at < length ks → j ≡ kept_at ks at →
+    n ≡ supp j.table.entries u → (row : Tuple) → StandFor texts (relation_at (relations_of texts ks)
+    at).types u row → has_row (rows_at (relations_of texts ks) at) row ≡ not (n == 0)
+copies_has texts ks at j u n d s low e h row stand =
+    copies_tell texts ks at (kept_at ks at) u row d low (sound_at texts ks at s low) refl refl
+    (subst (λ ts. StandFor texts ts u row) (types_is texts ks at low) stand) n
+    (h ∙ ap (λ (x : Kept). supp x.table.entries u) e)
 
 pub add_done : (texts : List Bytes) (ks : List Kept) (at : ℕ) (j k : Kept) (u : List ℕ) (r : Result
     AddOutcome RowsRefusal) → AllDifferent texts → AllByRecursion (IsSound texts) ks → at < length
@@ -329,11 +360,11 @@ empty_relation : (texts : List Bytes) (name : Bytes) (types : List ColumnType) (
       types = types;
       rows = [];
     }
-unfolding relation_in tuples_of
+unfolding relation_in
 empty_relation texts name types t e = ap (λ (es : List Entry). record {
   name = name;
   types = types;
-  rows = map (row_of texts types) (tuples_of es);
+  rows = map (counted_row texts types) es;
 }) e
 
 pub pushed_parts : (p q : Parts) (name : Bytes) (types : List ColumnType) → IsParts p → Pushes p
@@ -349,6 +380,7 @@ pushed_parts p q name types h u texts few some narrow =
       within = subst (λ (es : List Entry). AllByRecursion (AreWithin p.texts types) (tuples_of es))
           (sym (ap (λ (t : Table). t.entries) u.empty)) (no_within p.texts types);
       few = subst (λ (t : Table). length t.entries ≤ ROWS) (sym u.empty) (omega arith);
+      copied = subst (λ (t : Table). AllByRecursion IsCopied t.entries) (sym u.empty) tt;
     } in
     record {
       few = rw u.kept (omega (
@@ -493,6 +525,24 @@ pub delete_seen : (c d : Catalog) (at : ℕ) (cells : List ℕ) (r : DeleteOutco
     c.relations at row r new
 delete_seen c d at cells r new e h = subst (λ (k : Catalog). (row : Tuple) → StandFor k.texts
     (relation_at k.relations at).types cells row → DeletesRow k.relations at row r new) e h
+
+pub copies_seen : (c d : Catalog) (at : ℕ) (cells : List ℕ) (n : ℕ) → d ≡ c
+    → ((row : Tuple) → StandFor d.texts (relation_at d.relations at).types cells row → n ≡
+    copies_among (counted_at d.relations at) row)
+    → (row : Tuple) → StandFor c.texts (relation_at c.relations at).types cells row → n ≡
+    copies_among (counted_at c.relations at) row
+copies_seen c d at cells n e h = subst (λ (k : Catalog). (row : Tuple) → StandFor k.texts
+    (relation_at k.relations at).types cells row → n ≡ copies_among (counted_at k.relations at) row)
+    e h
+
+pub copies_has_seen : (c d : Catalog) (at : ℕ) (cells : List ℕ) (n : ℕ) → d ≡ c
+    → ((row : Tuple) → StandFor d.texts (relation_at d.relations at).types cells row → has_row
+    (rows_at d.relations at) row ≡ not (n == 0))
+    → (row : Tuple) → StandFor c.texts (relation_at c.relations at).types cells row → has_row
+    (rows_at c.relations at) row ≡ not (n == 0)
+copies_has_seen c d at cells n e h = subst (λ (k : Catalog). (row : Tuple) → StandFor k.texts
+    (relation_at k.relations at).types cells row → has_row (rows_at k.relations at) row ≡
+    not (n == 0)) e h
 
 pub has_seen : (c d : Catalog) (at : ℕ) (cells : List ℕ) (b : Bool) → d ≡ c
     → ((row : Tuple) → StandFor d.texts (relation_at d.relations at).types cells row → b ≡ has_row

@@ -15,10 +15,11 @@ use Rattle.std.specs.Prelude.{
   AllPairs,
 }
 use Rattle.djq_model.specs.declared.relation.Relation.{Relation}
+use Rattle.djq_model.specs.declared.relation.CountedRow.{CountedRow}
 use Rattle.djq_model.specs.Data.{Bytes, Tuple, tuples_in}
 use Rattle.djq_model.specs.Answer.{AreDifferent}
 use Rattle.djq_model.specs.Typed.{fits}
-use Rattle.djq_lines.specs.declared.limits.TheConstants.{COLUMNS, RELATIONS, ROWS}
+use Rattle.djq_lines.specs.declared.limits.TheConstants.{COLUMNS, RELATIONS, ROWS, COPIES}
 use Rattle.djq_dict.specs.declared.dict.TheConstants.{MOST_TEXTS}
 use Rattle.djq_rows.specs.Cells.{HaveCells, StandFor, AreCells}
 
@@ -36,7 +37,11 @@ no_relation = record { name = []; types = []; rows = [] }
 abbrev pub relation_at : List Relation → ℕ → Relation
 relation_at relations at = slice_index_or relations at no_relation
 
--- its rows
+-- its rows with their copies
+abbrev pub counted_at : List Relation → ℕ → List CountedRow
+counted_at relations at = (relation_at relations at).rows
+
+-- its rows, each once
 abbrev pub rows_at : List Relation → ℕ → List Tuple
 rows_at relations at = tuples_in (relation_at relations at)
 
@@ -49,12 +54,16 @@ abbrev pub AreCellsOf : Catalog → ℕ → List ℕ → Type 0
 AreCellsOf c at cells = AreCells c.texts (relation_at c.relations at).types cells
 
 -- the relations with other rows in the one at a place
-abbrev pub with_rows_at : List Relation → ℕ → List Tuple → List Relation
+abbrev pub with_rows_at : List Relation → ℕ → List CountedRow → List Relation
 with_rows_at relations at rows =
     slice_set relations at (let r = relation_at relations at in record r { rows = rows })
 
+-- A row has a copy at least, and no more than there may be.
+abbrev pub IsCounted : CountedRow → Type 0
+IsCounted c = (1 ≤ c.copies) × (c.copies ≤ COPIES)
+
 -- A relation has a column at least. Its rows suit its columns, differ, have cells, and are within
--- the limit.
+-- the limit, and so are the copies of each.
 pub record IsKept (texts : List Bytes) (r : Relation) : Type 0 where
   pub some : 0 < length r.types
   pub narrow : length r.types ≤ COLUMNS
@@ -62,6 +71,7 @@ pub record IsKept (texts : List Bytes) (r : Relation) : Type 0 where
   pub differ : AreDifferent (tuples_in r)
   pub cells : All (HaveCells texts) (tuples_in r)
   pub few : length (tuples_in r) ≤ ROWS
+  pub counted : All IsCounted r.rows
 
 -- what holds of every catalog
 pub record IsCatalog (c : Catalog) : Type 0 where

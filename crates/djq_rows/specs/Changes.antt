@@ -2,6 +2,7 @@
 use Rattle.std.specs.Prelude.{
   ◌≡◌,
   ℕ,
+  ◌+◌,
   ◌≤◌,
   ◌<◌,
   true,
@@ -22,13 +23,22 @@ use Rattle.std.specs.Prelude.{
 use Rattle.djq_model.specs.declared.value.Value.{Value}
 use Rattle.djq_model.specs.declared.relation.ColumnType.{ColumnType}
 use Rattle.djq_model.specs.declared.relation.Relation.{Relation}
-use Rattle.djq_model.specs.Data.{Bytes, Tuple, relation_of, has_row, without_row}
+use Rattle.djq_model.specs.Data.{
+  Bytes,
+  Tuple,
+  relation_of,
+  has_row,
+  copies_among,
+  with_row,
+  with_copies,
+  without_copies,
+}
 use Rattle.djq_model.specs.Known.{texts_of, texts_in, knows, knows_all, all_learned}
-use Rattle.djq_lines.specs.declared.limits.TheConstants.{RELATIONS, ROWS}
+use Rattle.djq_lines.specs.declared.limits.TheConstants.{RELATIONS, ROWS, COPIES}
 use Rattle.djq_lines.specs.declared.answer.AddOutcome.{AddOutcome}
-use Rattle.djq_lines.specs.declared.answer.AddOutcome.TheVariants.{Added, Same}
+use Rattle.djq_lines.specs.declared.answer.AddOutcome.TheVariants.{First, More}
 use Rattle.djq_lines.specs.declared.answer.DeleteOutcome.{DeleteOutcome}
-use Rattle.djq_lines.specs.declared.answer.DeleteOutcome.TheVariants.{Removed, Absent}
+use Rattle.djq_lines.specs.declared.answer.DeleteOutcome.TheVariants.{Last, Left, Absent}
 use Rattle.djq_dict.specs.declared.dict.TheConstants.{MOST_TEXTS}
 use Rattle.djq_dict.specs.declared.refusal.InternRefusal.{InternRefusal}
 use Rattle.djq_dict.specs.declared.refusal.InternRefusal.TheVariants.{
@@ -40,11 +50,10 @@ use Rattle.djq_rows.specs.declared.refusal.RowsRefusal.{RowsRefusal}
 use Rattle.djq_rows.specs.declared.refusal.RowsRefusal.TheVariants.{NameTaken, Full, NoMem}
 use Rattle.djq_rows.specs.declared.relation_id.RelationId.{RelationId}
 use Rattle.djq_rows.specs.Cells.{HasCell, HaveCells, cell_of, cells_of}
-use Rattle.djq_rows.specs.Catalog.{relation_at, rows_at, with_rows_at}
+use Rattle.djq_rows.specs.Catalog.{relation_at, counted_at, rows_at, with_rows_at}
 
 -- A relation without rows comes behind the others; or its name is taken, or, where it isn't, there
--- are
--- as many as there may be, or no memory, and nothing changes.
+-- are as many as there may be, or no memory, and nothing changes.
 abbrev pub MakesRelation : List Relation → Bytes → List ColumnType → Result RelationId RowsRefusal →
     List Relation → Type 0
 MakesRelation old name types (Ok id) new =
@@ -57,25 +66,38 @@ MakesRelation old name types (Err Full) new =
 MakesRelation old name types (Err NoMem) new =
     (relation_of old name ≡ None) × (length old < RELATIONS) × (new ≡ old)
 
--- A row that isn't there comes behind the others of its relation, and one that is changes nothing.
--- A new
--- one is refused where there are as many as there may be; else only for want of memory.
+-- There is no place for one more: the row has as many copies as there may be, or it isn't there and
+-- there are as many rows as there may be.
+pub record HasNoPlace (relations : List Relation) (at : ℕ) (row : Tuple) : Type 0 where
+  pub copies : has_row (rows_at relations at) row ≡ true
+      → COPIES ≤ copies_among (counted_at relations at) row
+  pub rows : has_row (rows_at relations at) row ≡ false → ROWS ≤ length (rows_at relations at)
+
+-- A row that isn't there comes behind the others of its relation, with one copy; one that is has a
+-- copy more, and nothing else changes. It is refused where there is no place; else only a new one,
+-- for want of memory.
 abbrev pub AddsRow : List Relation → ℕ → Tuple → Result AddOutcome RowsRefusal → List Relation →
     Type 0
-AddsRow old at row (Ok Added) new = let rows = rows_at old at in
-    (has_row rows row ≡ false) × (length rows < ROWS) × (new ≡ with_rows_at old at (rows ++ row ∷
-    []))
-AddsRow old at row (Ok Same) new = (has_row (rows_at old at) row ≡ true) × (new ≡ old)
+AddsRow old at row (Ok First) new =
+    (has_row (rows_at old at) row ≡ false) × (length (rows_at old at) < ROWS)
+    × (new ≡ with_rows_at old at (with_row (counted_at old at) row))
+AddsRow old at row (Ok (More n)) new =
+    (has_row (rows_at old at) row ≡ true) × (n ≡ copies_among (counted_at old at) row + 1)
+    × (n ≤ COPIES) × (new ≡ with_rows_at old at (with_copies (counted_at old at) row n))
 AddsRow old at row (Err NameTaken) new = ⊥
-AddsRow old at row (Err Full) new = let rows = rows_at old at in
-    (has_row rows row ≡ false) × (ROWS ≤ length rows) × (new ≡ old)
-AddsRow old at row (Err NoMem) new = let rows = rows_at old at in
-    (has_row rows row ≡ false) × (length rows < ROWS) × (new ≡ old)
+AddsRow old at row (Err Full) new = HasNoPlace old at row × (new ≡ old)
+AddsRow old at row (Err NoMem) new =
+    (has_row (rows_at old at) row ≡ false) × (length (rows_at old at) < ROWS) × (new ≡ old)
 
--- A row that is there goes, and one that isn't changes nothing.
+-- A row with one copy goes; one with several has a copy less, and nothing else changes; one that
+-- isn't there changes nothing.
 abbrev pub DeletesRow : List Relation → ℕ → Tuple → DeleteOutcome → List Relation → Type 0
-DeletesRow old at row Removed new = let rows = rows_at old at in
-    (has_row rows row ≡ true) × (new ≡ with_rows_at old at (without_row rows row))
+DeletesRow old at row Last new =
+    (has_row (rows_at old at) row ≡ true) × (copies_among (counted_at old at) row ≡ 1)
+    × (new ≡ with_rows_at old at (without_copies (counted_at old at) row))
+DeletesRow old at row (Left n) new =
+    (has_row (rows_at old at) row ≡ true) × (copies_among (counted_at old at) row ≡ n + 1)
+    × (1 ≤ n) × (new ≡ with_rows_at old at (with_copies (counted_at old at) row n))
 DeletesRow old at row Absent new = (has_row (rows_at old at) row ≡ false) × (new ≡ old)
 
 -- The first of these texts have become known, but not all.

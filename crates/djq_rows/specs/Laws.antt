@@ -2,6 +2,7 @@
 use Rattle.std.specs.Prelude.{◌≡◌, ◌≢◌, ℕ, ◌<◌, true, List, ◌++◌, length, AllPairs}
 use Rattle.djq_model.specs.declared.relation.ColumnType.{ColumnType}
 use Rattle.djq_model.specs.declared.relation.Relation.{Relation}
+use Rattle.djq_model.specs.declared.relation.CountedRow.{CountedRow}
 use Rattle.djq_model.specs.Data.{Bytes, Tuple, bytes_eq, change_first}
 use Rattle.djq_model.specs.Typed.{fits}
 use Rattle.djq_model.specs.Known.{all_learned}
@@ -26,7 +27,7 @@ TextsStay = (texts learned : List Bytes) → (more : List Bytes) × (all_learned
 
 -- where names differ, other rows for a name are other rows at its place
 abbrev pub NamesTell : Type 0
-NamesTell = (relations : List Relation) (at : ℕ) (rows : List Tuple) → AllPairs (λ r s. r.name ≢
+NamesTell = (relations : List Relation) (at : ℕ) (rows : List CountedRow) → AllPairs (λ r s. r.name ≢
     s.name) relations → at < length relations
     → change_first (λ r. bytes_eq r.name (relation_at relations at).name) (λ r. record r {
       rows =

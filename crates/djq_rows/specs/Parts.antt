@@ -25,8 +25,9 @@ use Rattle.djq_model.specs.declared.relation.ColumnType.TheVariants.{
       TextColumn,
 }
 use Rattle.djq_model.specs.declared.relation.Relation.{Relation}
+use Rattle.djq_model.specs.declared.relation.CountedRow.{CountedRow}
 use Rattle.djq_model.specs.Data.{Bytes, Tuple}
-use Rattle.djq_lines.specs.declared.limits.TheConstants.{COLUMNS, RELATIONS, ROWS}
+use Rattle.djq_lines.specs.declared.limits.TheConstants.{COLUMNS, RELATIONS, ROWS, COPIES}
 use Rattle.djq_dict.specs.Known.{AllDifferent}
 use Rattle.djq_index.specs.Entries.{Entry}
 use Rattle.djq_index.specs.Table.{Table, IsTable}
@@ -49,13 +50,17 @@ row_of texts (t ∷ ts) (c ∷ cs) = value_of texts t c ∷ row_of texts ts cs
 unfoldable pub tuples_of : List Entry → List (List ℕ)
 tuples_of es = map (λ e. e.tuple) es
 
+-- the row of an entry, whose supports are its copies
+unfoldable pub counted_row : List Bytes → List ColumnType → Entry → CountedRow
+counted_row texts types e = record { row = row_of texts types e.tuple; copies = e.supports }
+
 -- the relation that is kept so
 unfoldable pub relation_in : List Bytes → Kept → Relation
 relation_in texts k = record {
   name = k.name;
   types = k.types;
-  rows = map (row_of texts k.types)
-      (tuples_of k.table.entries);
+  rows = map (counted_row texts k.types)
+      k.table.entries;
 }
 
 -- the relations that are kept so
@@ -85,6 +90,10 @@ AreWithin texts (t ∷ ts) (c ∷ cs) = IsWithin texts t c × AreWithin texts ts
 AreWithin texts [] (c ∷ cs) = ⊥
 AreWithin texts (t ∷ ts) [] = ⊥
 
+-- an entry with a support at least, and no more than a row may have copies
+abbrev pub IsCopied : Entry → Type 0
+IsCopied e = (1 ≤ e.supports) × (e.supports ≤ COPIES)
+
 -- what holds of each relation that is kept: its rows are one group of its table
 pub record IsSound (texts : List Bytes) (k : Kept) : Type 0 where
   pub some : 0 < length k.types
@@ -94,6 +103,7 @@ pub record IsSound (texts : List Bytes) (k : Kept) : Type 0 where
   pub table : IsTable k.table
   pub within : AllByRecursion (AreWithin texts k.types) (tuples_of k.table.entries)
   pub few : length k.table.entries ≤ ROWS
+  pub copied : AllByRecursion IsCopied k.table.entries
 
 -- what holds of a catalog's parts
 pub record IsParts (p : Parts) : Type 0 where

@@ -4,6 +4,8 @@ ghost use Rattle.std.specs.Prelude.{
   ◌+◌,
   ◌<◌,
   ◌≤◌,
+  ◌==◌,
+  not,
   [],
   length,
   map,
@@ -11,12 +13,12 @@ ghost use Rattle.std.specs.Prelude.{
   IfNone,
   false,
 };
-ghost use Rattle.djq_model.specs.Data.{Tuple, Bytes, has_row};
+ghost use Rattle.djq_model.specs.Data.{Tuple, Bytes, has_row, copies_among};
 ghost use Rattle.djq_model.specs.Typed.{fits};
 ghost use Rattle.djq_model.specs.Lent.{value_lent};
 ghost use Rattle.djq_model.specs.declared.value.Value.{Value as Datum};
 ghost use Rattle.djq_rows.specs.Cells.{cells_of, StandsFor, IsCell};
-ghost use Rattle.djq_rows.specs.Catalog.{IsCatalog, StandForRow, AreCellsOf, relation_at, rows_at};
+ghost use Rattle.djq_rows.specs.Catalog.{IsCatalog, StandForRow, AreCellsOf, relation_at, counted_at, rows_at};
 ghost use Rattle.djq_rows.specs.Changes.{
   MakesRelation,
   FindsRelation,
@@ -30,8 +32,8 @@ ghost use Rattle.djq_rows.specs.Changes.{
 
 use crate::coding::{cell_in, cells_in, fits_in, value_in};
 use crate::parts::{
-    Parts, add_in, delete_in, empty_in, find_in, has_in, intern_all_in, intern_value_in, laws_in,
-    make_in, walk_in,
+    Parts, add_in, copies_in, delete_in, empty_in, find_in, has_in, intern_all_in, intern_value_in,
+    laws_in, make_in, walk_in,
 };
 use crate::refusal::RowsRefusal;
 use crate::relation_id::RelationId;
@@ -214,13 +216,28 @@ impl Catalog {
         has_in(&self.parts, id, cells, tally)
     }
 
-    /// Adds the row that cells stand for, where it isn't there. It counts two at most.
+    /// How many copies of the row that cells stand for are there; 0 exactly where the row isn't. It
+    /// takes no memory, and counts one look-up.
+    pub fn copies<L: Ledger>(&self, id: RelationId, cells: &[u64], tally: &mut Tally<L>) -> u32
+        requires { id.at < length self.now.relations }
+        ensures copies { (row : Tuple) → StandForRow self.now id.at cells.now row
+            → result ≡ copies_among (counted_at self.now.relations id.at) row }
+        ensures has { (row : Tuple) → StandForRow self.now id.at cells.now row
+            → has_row (rows_at self.now.relations id.at) row ≡ not (result == 0) }
+        ensures counted { tally.new ≡ tally.old + 1 }
+    {
+        copies_in(&self.parts, id, cells, tally)
+    }
+
+    /// Adds the row that cells stand for, or a copy of it where it is there, which takes no memory.
+    /// It counts two at most.
     ///
     /// # Errors
     ///
     /// [`RowsRefusal::Full`] exactly where the row isn't there and the relation has
-    /// [`ROWS`](djq_lines::limits::ROWS) rows; [`RowsRefusal::NoMem`] for want of memory, and then
-    /// too the row isn't there. Nothing has changed.
+    /// [`ROWS`](djq_lines::limits::ROWS) rows, or it is there with
+    /// [`COPIES`](djq_lines::limits::COPIES) copies; [`RowsRefusal::NoMem`] for want of memory, and
+    /// then the row isn't there. Nothing has changed.
     pub fn add_row<L: Ledger>(
         &mut self,
         id: RelationId,
@@ -237,8 +254,8 @@ impl Catalog {
         add_in(&mut self.parts, id, cells, tally)
     }
 
-    /// Deletes the row that cells stand for, where it is there. It takes no memory, and counts two
-    /// at most.
+    /// Deletes a copy of the row that cells stand for, where it is there, and the row with its last
+    /// copy. It takes no memory, and counts two at most.
     pub fn delete_row<L: Ledger>(
         &mut self,
         id: RelationId,

@@ -2,8 +2,8 @@
 //!
 //! A [`Catalog`] keeps each relation's rows in a table of `djq_index`, as cells: of an integer its
 //! 64 bits, of a text its number in the dictionary. Contracts see neither tables nor numbers, but
-//! the relations with lists of values as their rows, and the list of known texts: what the
-//! definitions of a query's answers speak of.
+//! the relations with lists of values as their rows, each with its copies, and the list of known
+//! texts: what the definitions of a query's answers speak of.
 //!
 //! It evaluates no query, and it checks no more of a row than [`Catalog::suits`] tells. It has no
 //! order of rows but the one in which they came, and no relation is ever dropped.
@@ -22,7 +22,8 @@
 //!
 //! Inside, the relations stand in a list in the order in which they were made. A second dictionary
 //! has their names, so that a name's number is the relation's place, and no name is looked for one
-//! by one. The rows of a relation are one group of its table.
+//! by one. The rows of a relation are one group of its table, and the copies of each are its
+//! supports there: a further copy takes no memory.
 #![tactic(auto)]
 
 mod catalog;

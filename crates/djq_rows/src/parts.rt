@@ -1,7 +1,21 @@
-ghost use Rattle.std.specs.Prelude.{◌≡◌, ℕ, ◌+◌, ◌<◌, ◌≤◌, [], length, map, IfOk, OnOk, OnErr};
-ghost use Rattle.djq_model.specs.Data.{Tuple, has_row};
+ghost use Rattle.std.specs.Prelude.{
+  ◌≡◌,
+  ℕ,
+  ◌+◌,
+  ◌<◌,
+  ◌≤◌,
+  ◌==◌,
+  not,
+  [],
+  length,
+  map,
+  IfOk,
+  OnOk,
+  OnErr,
+};
+ghost use Rattle.djq_model.specs.Data.{Tuple, has_row, copies_among};
 ghost use Rattle.djq_rows.specs.Cells.{cells_of};
-ghost use Rattle.djq_rows.specs.Catalog.{IsCatalog, StandForRow, AreCellsOf, rows_at};
+ghost use Rattle.djq_rows.specs.Catalog.{IsCatalog, StandForRow, AreCellsOf, counted_at, rows_at};
 ghost use Rattle.djq_rows.specs.Changes.{
   MakesRelation,
   FindsRelation,
@@ -133,6 +147,24 @@ pub fn has_in<L: Ledger>(parts: &Parts, id: RelationId, cells: &[u64], tally: &m
     ensures counted { tally.new ≡ tally.old + 1 }
 {
     parts.kept[id.at].has(cells, tally)
+}
+
+/// How many copies of the row that cells stand for are there.
+pub fn copies_in<L: Ledger>(
+    parts: &Parts,
+    id: RelationId,
+    cells: &[u64],
+    tally: &mut Tally<L>,
+) -> u32
+    requires parts { IsParts parts.now }
+    requires there { id.at < length (catalog_of parts.now).relations }
+    ensures copies { (row : Tuple) → StandForRow (catalog_of parts.now) id.at cells.now row
+        → result ≡ copies_among (counted_at (catalog_of parts.now).relations id.at) row }
+    ensures has { (row : Tuple) → StandForRow (catalog_of parts.now) id.at cells.now row
+        → has_row (rows_at (catalog_of parts.now).relations id.at) row ≡ not (result == 0) }
+    ensures counted { tally.new ≡ tally.old + 1 }
+{
+    parts.kept[id.at].copies(cells, tally)
 }
 
 /// Adds the row that cells stand for.

@@ -102,6 +102,25 @@ fn has<L: Ledger>(catalog: &Catalog, id: RelationId, row: &[Value], tally: &mut 
     }
 }
 
+/// How many copies of a row are there.
+fn copies<L: Ledger>(
+    catalog: &Catalog,
+    id: RelationId,
+    row: &[Value],
+    tally: &mut Tally<L>,
+) -> u32 {
+    if id.at >= catalog.len() {
+        return 0;
+    }
+    if row.len() > CELLS {
+        return 0;
+    }
+    match catalog.cells(row) {
+        Some(cells) => catalog.copies(id, cells.as_slice(), tally),
+        None => 0,
+    }
+}
+
 /// The cells of all rows, one after the other.
 fn all_cells<L: Ledger>(
     alloc: Global,
@@ -161,7 +180,12 @@ struct Kept {
     added: (Option<AddOutcome>, Option<AddOutcome>, Option<AddOutcome>),
     cells: Vec<u64>,
     there: (bool, bool),
-    deleted: (Option<DeleteOutcome>, Option<DeleteOutcome>),
+    copies: (u32, u32, u32),
+    deleted: (
+        Option<DeleteOutcome>,
+        Option<DeleteOutcome>,
+        Option<DeleteOutcome>,
+    ),
 }
 
 fn keep_rows<L: Ledger>(
@@ -178,7 +202,13 @@ fn keep_rows<L: Ledger>(
         has(catalog, ids.0, low.as_slice(), tally),
         has(catalog, ids.1, low.as_slice(), tally),
     );
+    let copies = (
+        copies(catalog, ids.0, low.as_slice(), tally),
+        copies(catalog, ids.0, high.as_slice(), tally),
+        copies(catalog, ids.1, low.as_slice(), tally),
+    );
     let deleted = (
+        delete(catalog, ids.0, low.as_slice(), tally),
         delete(catalog, ids.0, low.as_slice(), tally),
         delete(catalog, ids.0, low.as_slice(), tally),
     );
@@ -186,6 +216,7 @@ fn keep_rows<L: Ledger>(
         added,
         cells,
         there,
+        copies,
         deleted,
     })
 }
@@ -241,17 +272,17 @@ fn finds(catalog: &Catalog, name: &[u8], at: usize) -> bool {
     }
 }
 
-/// The rows that a relation should have, in order.
+/// The rows that a relation should have, in order, with their copies.
 #[derive(Drop)]
 struct Plain {
-    rows: Vec<(i64, u8)>,
+    rows: Vec<(i64, u8, u32)>,
 }
 
 impl Plain {
     /// Where a row stands.
     fn position(&self, number: i64, byte: u8) -> Option<usize> {
         for at in 0..self.rows.len() {
-            let (n, b) = self.rows[at];
+            let (n, b, _copies) = self.rows[at];
             if n == number && b == byte {
                 return Some(at);
             }
@@ -259,26 +290,34 @@ impl Plain {
         None
     }
 
-    /// Puts a row in that isn't there, and says whether it did.
+    /// Puts a row or a copy of it in, and says which.
     fn add(&mut self, number: i64, byte: u8) -> Result<AddOutcome, Fail> {
-        if self.position(number, byte).is_some() {
-            return Ok(AddOutcome::Same);
-        }
-        self.rows.push((number, byte))?;
-        Ok(AddOutcome::Added)
-    }
-
-    /// Takes a row out, and says whether it did.
-    fn delete(&mut self, number: i64, byte: u8) -> DeleteOutcome {
-        match self.position(number, byte) {
-            None => DeleteOutcome::Absent,
-            Some(at) => {
-                if at < self.rows.len() {
-                    let _row = self.rows.remove(at);
-                }
-                DeleteOutcome::Removed
+        if let Some(at) = self.position(number, byte) {
+            if at < self.rows.len() {
+                let more = self.rows[at].2.wrapping_add(1);
+                self.rows[at].2 = more;
+                return Ok(AddOutcome::More(more));
             }
         }
+        self.rows.push((number, byte, 1))?;
+        Ok(AddOutcome::First)
+    }
+
+    /// Takes a copy of a row out, and says what is left.
+    fn delete(&mut self, number: i64, byte: u8) -> DeleteOutcome {
+        let Some(at) = self.position(number, byte) else {
+            return DeleteOutcome::Absent;
+        };
+        if at >= self.rows.len() {
+            return DeleteOutcome::Absent;
+        }
+        let less = self.rows[at].2.wrapping_sub(1);
+        if less > 0 {
+            self.rows[at].2 = less;
+            return DeleteOutcome::Left(less);
+        }
+        let _row = self.rows.remove(at);
+        DeleteOutcome::Last
     }
 }
 
@@ -308,7 +347,7 @@ fn change<L: Ledger>(
     }
 }
 
-/// Whether a relation has exactly these rows, in order.
+/// Whether a relation has exactly these rows, in order, with these copies.
 fn agrees<L: Ledger>(
     alloc: Global,
     catalog: &Catalog,
@@ -318,8 +357,11 @@ fn agrees<L: Ledger>(
 ) -> Result<bool, Fail> {
     let mut cells = Vec::new(alloc);
     for at in 0..plain.rows.len() {
-        let (number, byte) = plain.rows[at];
+        let (number, byte, many) = plain.rows[at];
         let row = pair(alloc, number, byte)?;
+        if copies(catalog, id, row.as_slice(), tally) != many {
+            return Ok(false);
+        }
         if row.len() > CELLS {
             return Ok(false);
         }
@@ -393,14 +435,16 @@ fn on_ledgers<L: Ledgers>(
 fn keeps_rows_and_texts(rt: HostRuntime) -> Result<(), Fail> {
     let mut catalog = Catalog::new(rt.alloc())?;
     let seen = on_ledgers::<Brand>(&rt, &mut catalog, Blanks::new(&rt))?;
-    let added = Some(AddOutcome::Added);
-    assert!(rt; seen.kept.added == (added, added, Some(AddOutcome::Same)));
+    let added = Some(AddOutcome::First);
+    assert!(rt; seen.kept.added == (added, added, Some(AddOutcome::More(2))));
     assert_eq!(rt;
         seen.kept.cells.as_slice(),
         [0x8000_0000_0000_0000, 0, 0x7fff_ffff_ffff_ffff, 1].as_slice()
     );
     assert!(rt; seen.kept.there == (true, false));
-    assert!(rt; seen.kept.deleted == (Some(DeleteOutcome::Removed), Some(DeleteOutcome::Absent)));
+    assert!(rt; seen.kept.copies == (2, 1, 0));
+    let (left, last) = (DeleteOutcome::Left(1), DeleteOutcome::Last);
+    assert!(rt; seen.kept.deleted == (Some(left), Some(last), Some(DeleteOutcome::Absent)));
     assert!(rt; seen.text == (None, 2, Some(2)));
     assert!(rt; seen.long);
     Ok(())
