@@ -6,7 +6,8 @@
 //! not at all.
 //!
 //! ```text
-//! say_added      Ok(Added), at 7 changes      ok added 7
+//! say_added      Ok(More(2)), at 7 changes    ok added 7 2
+//! say_deleted    Ok(Last), at 8 changes       ok removed 8 0
 //! put_registered Registered(5)                ok query 5
 //! put_answer     the answer (1, "a")          = 1 "a"
 //! put_change     Came, q, the same            + q 1 "a"

@@ -1,8 +1,8 @@
 // Replies of at most 256 bytes, in room that was kept.
 ghost use Rattle.std.specs.Prelude.{◌≡◌, ◌+◌, ◌≤◌, codes, length};
 ghost use Rattle.djq_lines.specs.Reply.{add_reply, bye, delete_reply, has_reply, line, numbered};
-ghost use Rattle.djq_lines.specs.Reply.{ok_reply, refusal_line, shape_reply, stale_line};
-ghost use Rattle.djq_lines.specs.Reply.{watch_reply};
+ghost use Rattle.djq_lines.specs.Reply.{numbered_twice, ok_reply, refusal_line, shape_reply};
+ghost use Rattle.djq_lines.specs.Reply.{stale_line, watch_reply};
 ghost use Rattle.djq_lines.specs.declared.limits.TheConstants.{LAST_LINE_BYTES, REPLY_BYTES};
 ghost use Rattle.djq_value.specs.Output.{Says};
 
@@ -32,6 +32,19 @@ pub(crate) fn say_number(out: &mut BytesMut, words: &[u8], number: u64)
     out.extend_reserved(words);
     out.extend_reserved(digits);
     out.extend_reserved(b"\n");
+}
+
+// A line of words and two numbers, each of 20 digits at most.
+fn say_two_numbers(out: &mut BytesMut, words: &[u8], first: u64, second: u32)
+    requires { length words.now + 42 + LAST_LINE_BYTES ≤ out.old.spare }
+    ensures kept { LAST_LINE_BYTES ≤ out.new.spare }
+    ensures says { Says out.old out.new (numbered_twice words.now first second) }
+{
+    let mut buffer = Buffer::new();
+    let digits = buffer.format(first).as_bytes();
+    out.extend_reserved(words);
+    out.extend_reserved(digits);
+    say_number(out, b" ", u64::from(second));
 }
 
 /// Answers a refusal.
@@ -74,8 +87,8 @@ pub fn say_added(out: &mut BytesMut, outcome: Result<AddOutcome, Refusal>, seq: 
     ensures says { Says out.old out.new (add_reply outcome seq) }
 {
     match outcome {
-        Ok(AddOutcome::Added) => say_number(out, b"ok added ", seq),
-        Ok(AddOutcome::Same) => say_number(out, b"ok same ", seq),
+        Ok(AddOutcome::First) => say_two_numbers(out, b"ok added ", seq, 1),
+        Ok(AddOutcome::More(copies)) => say_two_numbers(out, b"ok added ", seq, copies),
         Err(refusal) => say_refused(out, refusal),
     }
 }
@@ -87,7 +100,8 @@ pub fn say_deleted(out: &mut BytesMut, outcome: Result<DeleteOutcome, Refusal>, 
     ensures says { Says out.old out.new (delete_reply outcome seq) }
 {
     match outcome {
-        Ok(DeleteOutcome::Removed) => say_number(out, b"ok removed ", seq),
+        Ok(DeleteOutcome::Last) => say_two_numbers(out, b"ok removed ", seq, 0),
+        Ok(DeleteOutcome::Left(copies)) => say_two_numbers(out, b"ok removed ", seq, copies),
         Ok(DeleteOutcome::Absent) => say_number(out, b"ok absent ", seq),
         Err(refusal) => say_refused(out, refusal),
     }

@@ -1,7 +1,7 @@
 use super::*;
 use bytes::BytesMut;
 use djq_hyper::{Edges, Names, VarSet};
-use djq_lines::limits::{LAST_LINE_BYTES, REPLY_BYTES};
+use djq_lines::limits::{COPIES, LAST_LINE_BYTES, REPLY_BYTES};
 use djq_lines::{
     AddOutcome, DeleteOutcome, EndLine, NamedRest, QueryOutcome, Refusal, Shape, Sign,
 };
@@ -43,11 +43,13 @@ fn answers_commands(rt: HostRuntime) -> Result<(), Fail> {
     out.reserve(REPLY_BYTES + LAST_LINE_BYTES)?;
     say_opened(&mut out, Ok(()));
     out.reserve(REPLY_BYTES + LAST_LINE_BYTES)?;
-    say_added(&mut out, Ok(AddOutcome::Added), most);
+    say_added(&mut out, Ok(AddOutcome::First), most);
     out.reserve(REPLY_BYTES + LAST_LINE_BYTES)?;
-    say_added(&mut out, Ok(AddOutcome::Same), 0);
+    say_added(&mut out, Ok(AddOutcome::More(COPIES)), 0);
     out.reserve(REPLY_BYTES + LAST_LINE_BYTES)?;
-    say_deleted(&mut out, Ok(DeleteOutcome::Removed), 3);
+    say_deleted(&mut out, Ok(DeleteOutcome::Last), 3);
+    out.reserve(REPLY_BYTES + LAST_LINE_BYTES)?;
+    say_deleted(&mut out, Ok(DeleteOutcome::Left(12)), 3);
     out.reserve(REPLY_BYTES + LAST_LINE_BYTES)?;
     say_deleted(&mut out, Ok(DeleteOutcome::Absent), 3);
     out.reserve(REPLY_BYTES + LAST_LINE_BYTES)?;
@@ -68,7 +70,7 @@ fn answers_commands(rt: HostRuntime) -> Result<(), Fail> {
     say_bye(&mut out);
     assert_eq!(rt;
         out.as_slice(),
-        b"ok\nok open\nok added 18446744073709551615\nok same 0\nok removed 3\nok absent 3\nok query 5\nyes\nno\nflat\nlinear\nok watch 33\nstale c rel 5\nbye\n".as_slice()
+        b"ok\nok open\nok added 18446744073709551615 1\nok added 0 4294967295\nok removed 3 0\nok removed 3 12\nok absent 3\nok query 5\nyes\nno\nflat\nlinear\nok watch 33\nstale c rel 5\nbye\n".as_slice()
     );
     Ok(())
 }

@@ -174,7 +174,7 @@ fn answers_changes(session: &mut Numbered) -> Result<(), NoMem> {
     session.keep(REPLY_BYTES)?;
     session.answer_done(Err(Refusal::Taken));
     session.keep(REPLY_BYTES)?;
-    session.answer_added(Ok(AddOutcome::Added), 7);
+    session.answer_added(Ok(AddOutcome::More(2)), 7);
     session.keep(REPLY_BYTES)?;
     session.answer_deleted(Ok(DeleteOutcome::Absent), 18_446_744_073_709_551_615);
     Ok(())
@@ -198,7 +198,7 @@ fn commands_are_answered(rt: HostRuntime) -> Result<(), Fail> {
     answers_changes(&mut session)?;
     assert_eq!(rt;
         session.pending(),
-        b"err 6 arity\nok\nerr 2 taken\nok added 7\nok absent 18446744073709551615\n".as_slice()
+        b"err 6 arity\nok\nerr 2 taken\nok added 7 2\nok absent 18446744073709551615\n".as_slice()
     );
     let mut session = Numbered::new(rt.alloc())?;
     answers_queries(&mut session)?;
