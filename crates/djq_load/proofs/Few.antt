@@ -1,15 +1,17 @@
 -- A load's query has few answers, and what a cursor has given is no more.
-use Rattle.std.specs.Prelude.{ℕ, suc, List, [], ◌∷◌, ◌++◌, ◌≡◌, ◌==◌, ◌+◌, ◌-◌, ◌*◌, ◌%◌, ◌^◌, ◌<◌, ◌≤◌, ◌⊎◌, Bool, true, false, cond, Option, None, Some, All, Contains, length, replicate, codes}
+use Rattle.std.specs.Prelude.{ℕ, suc, List, [], ◌∷◌, ◌≡◌, ◌==◌, ◌+◌, ◌-◌, ◌*◌, ◌%◌, ◌^◌, ◌<◌, ◌≤◌, ◌⊎◌, Bool, true, false, cond, Option, None, Some, All, Contains, length, replicate, codes}
 use Rattle.std.proofs.Common.{refl, sym, ap, ◌∙◌, subst, inl, inr, arith}
 use Rattle.std.proofs.lemmas.Nat.{mul-le}
+use Rattle.std.proofs.lemmas.List.{length-map}
 use Rattle.std.proofs.lemmas.List.Elements.{All-nil}
 use Rattle.djq_model.specs.declared.relation.Relation.{Relation}
+use Rattle.djq_model.specs.declared.relation.CountedRow.{CountedRow}
 use Rattle.djq_model.specs.declared.query.Atom.{Atom}
 use Rattle.djq_model.specs.declared.query.Term.TheVariants.{Variable}
-use Rattle.djq_model.specs.Data.{Bytes, Tuple, bytes_eq, relation_of, rows_in, rows_of}
+use Rattle.djq_model.specs.Data.{Bytes, Tuple, bytes_eq, relation_of, counted_in, counted_of, rows_of}
 use Rattle.djq_model.specs.Listed.{Listed, a_query, listed_name, AnswersOf, listed_of}
 use Rattle.djq_lines.specs.declared.limits.TheConstants.{ROWS}
-use Rattle.djq_machine.specs.State.{Store, State, Session, Cursor, open_at, session_of, cursor_of, opening}
+use Rattle.djq_machine.specs.State.{State, Session, Cursor, open_at, session_of, cursor_of, opening}
 use Rattle.djq_machine.specs.Call.{Counts, held_of}
 use Rattle.djq_machine.specs.Gives.{Gives, PositionGives, CursorsGive}
 use Rattle.djq_deltas.specs.Finite.{IsBound, IsInBody}
@@ -20,7 +22,7 @@ use Rattle.djq_laws.proofs.Finding.{some_and}
 use Rattle.djq_laws.proofs.Giving.{SessionGives, CursorGives}
 use Rattle.djq_gen.specs.Load.{load}
 use Rattle.djq_load.specs.declared.reading.Reading.{Reading}
-use Rattle.djq_load.specs.Joins.{join, most_answers, IsWithin, IsJoin, Joins, GivesFew}
+use Rattle.djq_load.specs.Joins.{join, most_answers, IsWithin, IsJoin, GivesFew}
 use Rattle.djq_load.specs.Lines.{Loads, IsIdle, cursors_in, cursor_at, Stands}
 use Rattle.djq_load.specs.Totals.{IsRead, open_line, next_line}
 use Rattle.djq_load.proofs.LoadLines.{load_ones}
@@ -96,9 +98,11 @@ join_bound x k = at_x (first_or_later (codes "x") (codes "y" ∷ codes "z" ∷ [
     at_x (inr c) = at_y (first_or_later (codes "y") (codes "z" ∷ []) x c)
 
 rows_within : (rs : List Relation) (name : Bytes) → All IsWithin rs → length (rows_of rs name) ≤ ROWS
-rows_within rs name h = by (relation_of rs name) refl
+rows_within rs name h =
+    let counted = by (relation_of rs name) refl in
+    omega (arith, counted, length-map (counted_of rs name) (λ (c : CountedRow). c.row))
   where
-    by : (o : Option Relation) → relation_of rs name ≡ o → length (rows_in o) ≤ ROWS
+    by : (o : Option Relation) → relation_of rs name ≡ o → length (counted_in o) ≤ ROWS
     by None e = omega arith
     by (Some r) e = all_found IsWithin (λ (x : Relation). bytes_eq x.name name) rs r h e
 

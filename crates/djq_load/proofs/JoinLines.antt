@@ -1,5 +1,5 @@
 -- No line that is fed registers a query but the load's.
-use Rattle.std.specs.Prelude.{ℕ, zero, suc, List, [], ◌∷◌, ◌++◌, ◌≡◌, ◌==◌, ◌+◌, ◌-◌, ◌/◌, ◌%◌, ◌≤◌, Bool, true, false, cond, Option, None, Some, option_map, All, length, take, slice_index, codes, decimal, replicate}
+use Rattle.std.specs.Prelude.{ℕ, zero, suc, List, [], ◌∷◌, ◌++◌, ◌≡◌, ◌==◌, ◌+◌, ◌-◌, ◌/◌, ◌%◌, Bool, true, false, cond, Option, None, Some, option_map, All, length, take, slice_index, codes, decimal, replicate}
 use Rattle.std.specs.List.{AllByRecursion}
 use Rattle.std.specs.Str.{is_utf8}
 use Rattle.std.proofs.Common.{refl, sym, ap, ◌∙◌, subst, append-nil, append_assoc, arith}
@@ -7,10 +7,10 @@ use Rattle.std.proofs.lemmas.List.Elements.{All-nil, All-cons}
 use Rattle.djq_model.specs.declared.query.Query.{Query}
 use Rattle.djq_model.specs.Data.{Bytes}
 use Rattle.djq_value.specs.Token.{tokens}
-use Rattle.djq_lines.specs.Line.{Front, a_line, before_lf, behind_lf, without_cr, front_of}
+use Rattle.djq_lines.specs.Line.{before_lf, behind_lf, without_cr}
 use Rattle.djq_lines.specs.declared.command.Command.{Command}
 use Rattle.djq_lines.specs.declared.command.Command.TheVariants.{Rel, Add, Del, Query as Register, Drop, Open, Next, Close, Has, Watch, Unwatch, Explain, Shape, Quit, Stop}
-use Rattle.djq_lines.specs.Grammar.{Reading, past_limit, says as says_command, reading_of, reading_in, command_of, command_in, is_in_range, atoms_in}
+use Rattle.djq_lines.specs.Grammar.{past_limit, says as says_command, reading_in, command_of, command_in, is_in_range, atoms_in}
 use Rattle.djq_machine.specs.State.{State}
 use Rattle.djq_machine.specs.LineStep.{LineOutcome, long, blank, slow, no_room, run}
 use Rattle.djq_machine.specs.Step.{Event, opened, fed, stepped, took, ended, closed}
@@ -18,13 +18,12 @@ use Rattle.djq_machine.specs.Run.{Did, Walk, all_fed, fed_by, pieces_of, piece_o
 use Rattle.djq_machine.specs.Call.{Counts, held_of}
 use Rattle.djq_laws.specs.Moved.{Spares}
 use Rattle.djq_laws.specs.Course.{MayRun, RunNext}
-use Rattle.djq_laws.specs.Lines.{TakesInOrder}
 use Rattle.djq_laws.proofs.Cutting.{in_order, line_in_front}
 use Rattle.djq_laws.proofs.Giving.{step_gives}
 use Rattle.djq_laws.proofs.Sending.{next_runs}
 use Rattle.djq_gen.specs.Draws.{next, drawn}
-use Rattle.djq_gen.specs.Load.{reading, verb, relation, change, pause, changes, values_of, load}
-use Rattle.djq_load.specs.Joins.{join, Joins, GivesFew}
+use Rattle.djq_gen.specs.Load.{reading, relation, change, pause, changes, values_of, load}
+use Rattle.djq_load.specs.Joins.{join, GivesFew}
 use Rattle.djq_load.specs.Lines.{Loads}
 use Rattle.djq_load.specs.Totals.{open_line, next_line}
 use Rattle.djq_load.proofs.Joining.{RegistersJoin, IsFine, step_joins}

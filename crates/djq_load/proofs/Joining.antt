@@ -1,37 +1,39 @@
 -- What a step leaves of it that no query but the load's is registered.
-use Rattle.std.specs.Prelude.{ℕ, List, [], ◌∷◌, ◌++◌, ◌≡◌, ◌==◌, ◌≤◌, ◌<◌, ◌⊎◌, ◌&&◌, Bool, true, false, cond, not, nat_le, Option, None, Some, is_none, IsSome, IsSomeAnd, MatchOption, Result, Ok, Err, All, length, ⊤}
+use Rattle.std.specs.Prelude.{ℕ, suc, List, [], ◌∷◌, ◌++◌, ◌≡◌, ◌==◌, ◌≤◌, ◌<◌, ◌⊎◌, ◌&&◌, Bool, true, false, cond, not, nat_le, Option, None, Some, is_none, MatchOption, Result, Ok, Err, All, length, ⊤}
 use Rattle.std.proofs.Common.{refl, sym, ap, ◌∙◌, subst, inl, inr, length-append, arith}
 use Rattle.std.proofs.lemmas.Bool.{leb-false}
-use Rattle.std.proofs.lemmas.List.Elements.{All-nil, All-cons, All-head, All-tail, All-push}
+use Rattle.std.proofs.lemmas.List.{length-map}
+use Rattle.std.proofs.lemmas.List.Elements.{All-cons, All-head, All-tail, All-push}
 use Rattle.std.proofs.lemmas.List.Sorted.{length_permutation}
 use Rattle.djq_model.specs.declared.relation.ColumnType.{ColumnType}
 use Rattle.djq_model.specs.declared.relation.Relation.{Relation}
+use Rattle.djq_model.specs.declared.relation.CountedRow.{CountedRow}
 use Rattle.djq_model.specs.declared.query.Query.{Query}
-use Rattle.djq_model.specs.Data.{Bytes, Tuple, bytes_eq, tuple_eq, relation_of, rows_of, rows_in, has_row, without_row, drop_first}
+use Rattle.djq_model.specs.Data.{Bytes, Tuple, bytes_eq, tuple_eq, relation_of, rows_of, counted_in, counted_of, has_row, change_first, drop_first, with_row, with_copies, without_copies}
 use Rattle.djq_model.specs.Listed.{Listed, a_query, listed_name}
 use Rattle.djq_model.specs.Typed.{fits}
 use Rattle.djq_lines.specs.Columns.{types_of}
 use Rattle.djq_lines.specs.declared.answer.EndCause.{EndCause}
 use Rattle.djq_lines.specs.declared.answer.EndCause.TheVariants.{Memory}
 use Rattle.djq_lines.specs.declared.answer.Refusal.{Refusal}
-use Rattle.djq_lines.specs.declared.answer.Refusal.TheVariants.{NoRelation, Arity, WrongType, Limit, NoMemory}
+use Rattle.djq_lines.specs.declared.answer.Refusal.TheVariants.{NoRelation, Arity, WrongType, Limit}
 use Rattle.djq_lines.specs.declared.answer.AddOutcome.{AddOutcome}
-use Rattle.djq_lines.specs.declared.answer.AddOutcome.TheVariants.{Added, Same}
+use Rattle.djq_lines.specs.declared.answer.AddOutcome.TheVariants.{First, More}
 use Rattle.djq_lines.specs.declared.answer.DeleteOutcome.{DeleteOutcome}
-use Rattle.djq_lines.specs.declared.answer.DeleteOutcome.TheVariants.{Removed, Absent}
+use Rattle.djq_lines.specs.declared.answer.DeleteOutcome.TheVariants.{Last, Left, Absent}
 use Rattle.djq_lines.specs.declared.rest.QueryOutcome.{QueryOutcome}
 use Rattle.djq_lines.specs.declared.rest.QueryOutcome.TheVariants.{Registered, Cyclic, NotConnex}
-use Rattle.djq_lines.specs.declared.limits.TheConstants.{ROWS, LAST_SEQ}
+use Rattle.djq_lines.specs.declared.limits.TheConstants.{ROWS, COPIES, LAST_SEQ}
 use Rattle.djq_lines.specs.declared.command.Command.{Command}
 use Rattle.djq_lines.specs.declared.command.Command.TheVariants.{Rel, Add, Del, Query as Register, Drop, Open, Next, Close, Has, Watch, Unwatch, Explain, Shape, Quit, Stop}
-use Rattle.djq_lines.specs.Conditions.{first_of, Answers, OutOfMemoryWhere}
+use Rattle.djq_lines.specs.Conditions.{first_of, OutOfMemoryWhere}
 use Rattle.djq_lines.specs.Grammar.{Reading, outside, past_limit, says as says_command, reading_of}
 use Rattle.djq_lines.specs.Reply.{end_memory}
 use Rattle.djq_lines.specs.Variables.{constants_of}
 use Rattle.djq_model.specs.Known.{texts_in}
 use Rattle.djq_machine.specs.State.{Store, State, Session, session_of, with_session}
 use Rattle.djq_machine.specs.Effect.{Effect, nothing, EndsWith}
-use Rattle.djq_machine.specs.Store.{MakesRelation, RegistersQuery, DropsQuery, AddsRow, AddsAs, DeletesRow, DeletesAs, RefusedByTexts, RefusedLate, RegistersAs, rel_refusal, add_refusal, delete_refusal, query_refusal, drop_refusal}
+use Rattle.djq_machine.specs.Store.{with_rows, copies_of, with_copies_of, MakesRelation, RegistersQuery, DropsQuery, AddsRow, AddsAs, DeletesRow, DeletesAs, RefusedByTexts, RefusedLate, RegistersAs, rel_refusal, add_refusal, delete_refusal, query_refusal, drop_refusal}
 use Rattle.djq_machine.specs.Command.{CommandStep, QueryStep, QueryCutStep}
 use Rattle.djq_machine.specs.LineStep.{LineOutcome, long, blank, slow, no_room, run, FrontStep, ReadStep, behind_line}
 use Rattle.djq_machine.specs.Step.{Event, opened, fed, stepped, took, ended, closed, FedStep, TookStep, EndedStep, Acts, SameRelations, with_relations, Step}
@@ -39,8 +41,6 @@ use Rattle.djq_laws.specs.Form.{Form, asking, storing, turning, changing, ending
 use Rattle.djq_laws.proofs.Changing.{all_changed, all_dropped}
 use Rattle.djq_laws.proofs.Finding.{some_and}
 use Rattle.djq_laws.proofs.Forms.{done_of, none_holds, refused_learned, late_learned, stays_learned, turned_one, command_does}
-use Rattle.djq_laws.proofs.Rows.{added}
-use Rattle.djq_laws.proofs.Apart.{without_dropped}
 use Rattle.djq_laws.proofs.Watching.{change_store, queued_store}
 use Rattle.djq_load.specs.Joins.{join, IsWithin, IsJoin, Joins}
 
@@ -52,42 +52,78 @@ learned_joins : (old new : Store) → LearnsTexts old new → Joins old → Join
 learned_joins old new h j = subst Joins (sym h.store) (record { rows = j.rows; queries = j.queries })
 
 -- `add` and `del`
-fourth_fails : (a b c d : Bool) (r t u v : Refusal) (o : Option Refusal)
-    → cond a (Some r) (cond b (Some t) (cond c (Some u) (cond d (Some v) o))) ≡ None → d ≡ false
-fourth_fails false false false false r t u v o h = refl
-fourth_fails true b c d r t u v o h = absurd cc
-fourth_fails false true c d r t u v o h = absurd cc
-fourth_fails false false true d r t u v o h = absurd cc
-fourth_fails false false false true r t u v o h = absurd cc
+fifth_fails : (a b c d e : Bool) (r t u v w : Refusal) (o : Option Refusal)
+    → cond a (Some r) (cond b (Some t) (cond c (Some u) (cond d (Some v) (cond e (Some w) o)))) ≡ None → e ≡ false
+fifth_fails false false false false false r t u v w o h = refl
+fifth_fails true b c d e r t u v w o h = absurd cc
+fifth_fails false true c d e r t u v w o h = absurd cc
+fifth_fails false false true d e r t u v w o h = absurd cc
+fifth_fails false false false true e r t u v w o h = absurd cc
+fifth_fails false false false false true r t u v w o h = absurd cc
 
 -- a row that isn't refused has its place
-has_place : (old : Store) (name : Bytes) (row : Tuple) → add_refusal old name row ≡ None → has_row (rows_of old.relations name) row ≡ false
-    → length (rows_of old.relations name) < ROWS
+has_place : (old : Store) (name : Bytes) (row : Tuple) → add_refusal old name row ≡ None
+    → has_row (rows_of old.relations name) row ≡ false → length (counted_of old.relations name) < ROWS
 has_place old name row none absent =
     let types = types_of (relation_of old.relations name) in
     let rows = rows_of old.relations name in
     let fails : (not (has_row rows row) && nat_le ROWS (length rows)) ≡ false =
-    fourth_fails (is_none (relation_of old.relations name)) (not (length row == length types)) (not (fits types row)) (not (has_row rows row) && nat_le ROWS (length rows))
-    NoRelation Arity WrongType Limit (first_of ((not (has_row rows row) && nat_le LAST_SEQ old.seq, Limit) ∷ [])) none in
-    leb-false ROWS (length rows) (ap (λ (b : Bool). not b && nat_le ROWS (length rows)) (sym absent) ∙ fails)
+    fifth_fails (is_none (relation_of old.relations name)) (not (length row == length types)) (not (fits types row))
+    (nat_le COPIES (copies_of old name row)) (not (has_row rows row) && nat_le ROWS (length rows))
+    NoRelation Arity WrongType Limit Limit (first_of ((not (has_row rows row) && nat_le LAST_SEQ old.seq, Limit) ∷ [])) none in
+    let below : length rows < ROWS =
+    leb-false ROWS (length rows) (ap (λ (b : Bool). not b && nat_le ROWS (length rows)) (sym absent) ∙ fails) in
+    omega (arith, below, length-map (counted_of old.relations name) (λ (c : CountedRow). c.row))
 
-in_relation : (P : List Tuple → Type 0) (o : Option Relation) (x : Relation) → o ≡ Some x → P (rows_in o) → P x.rows
-in_relation P o x e h = subst (λ (p : Option Relation). P (rows_in p)) e h
+-- other rows of one relation
+rows_joins : (old : Store) (name : Bytes) (rows : List CountedRow)
+    → (length (counted_of old.relations name) ≤ ROWS → length rows ≤ ROWS) → All IsWithin old.relations
+    → All IsWithin (with_rows old.relations name rows)
+rows_joins old name rows within all =
+    all_changed IsWithin (λ (x : Relation). bytes_eq x.name name) (λ (x : Relation). record x { rows = rows })
+    old.relations all
+    (λ x found k. within (subst (λ (o : Option Relation). length (counted_in o) ≤ ROWS) (sym found) k))
 
-add_joins : (old : Store) (name : Bytes) (row : Tuple) (r : Result AddOutcome Refusal) (new : Store) → AddsRow old name row r new → Joins old → Joins new
-add_joins old name row (Ok Added) new h j =
-    let d = done_of (add_refusal old name row) Added (AddsAs old name row new) _ h.answer in
-    let none = none_holds (add_refusal old name row) Added (AddsAs old name row new) _ h.answer in
-    let rows = rows_of old.relations name in
-    let more = length-append rows (row ∷ []) in
-    subst Joins (sym d.2) (record {
-      rows = all_changed IsWithin (λ (x : Relation). bytes_eq x.name name) (λ (x : Relation). record x { rows = rows ++ row ∷ [] }) old.relations j.rows
-          (λ x found k. omega (arith, has_place old name row none d.0, more));
+-- another number of copies of a row
+as_many : (p : CountedRow → Bool) (f : CountedRow → CountedRow) (rows : List CountedRow)
+    → length (change_first p f rows) ≡ length rows
+as_many p f [] = refl
+as_many p f (c ∷ rows) = by (p c) (as_many p f rows)
+  where
+    by : (b : Bool) → length (change_first p f rows) ≡ length rows
+        → length (cond b (f c ∷ rows) (c ∷ change_first p f rows)) ≡ length (c ∷ rows)
+    by true h = refl
+    by false h = ap suc h
+
+copies_join : (old new : Store) (name : Bytes) (row : Tuple) (n : ℕ)
+    → new ≡ record old { relations = with_copies_of old.relations name row n } → Joins old → Joins new
+copies_join old new name row n e j =
+    let rows = counted_of old.relations name in
+    let same = as_many (λ (c : CountedRow). tuple_eq c.row row) (λ (c : CountedRow). record c { copies = n }) rows in
+    subst Joins (sym e) (record {
+      rows = rows_joins old name (with_copies rows row n) (λ k. omega (arith, k, same)) j.rows;
       queries = j.queries;
     })
-add_joins old name row (Ok Same) new h j = same_joins old new (done_of (add_refusal old name row) Same (AddsAs old name row new) _ h.answer).1 j
-add_joins old name row (Err NoMemory) new h j = learned_joins old new (added old name row (Err NoMemory) new h) j
-add_joins old name row (Err r) new h j = learned_joins old new (added old name row (Err r) new h) j
+
+add_joins : (old : Store) (name : Bytes) (row : Tuple) (r : Result AddOutcome Refusal) (new : Store)
+    → AddsRow old name row r new → Joins old → Joins new
+add_joins old name row (Ok First) new h j =
+    let d = done_of (add_refusal old name row) First (AddsAs old name row new) _ h.answer in
+    let none = none_holds (add_refusal old name row) First (AddsAs old name row new) _ h.answer in
+    let rows = counted_of old.relations name in
+    let more = length-append rows (record { row = row; copies = 1 } ∷ []) in
+    subst Joins (sym d.2) (record {
+      rows = rows_joins old name (with_row rows row) (λ k. omega (arith, has_place old name row none d.0, more)) j.rows;
+      queries = j.queries;
+    })
+add_joins old name row (Ok (More copies)) new h j =
+    copies_join old new name row copies
+    (done_of (add_refusal old name row) (More copies) (AddsAs old name row new) _ h.answer).2 j
+add_joins old name row (Err r) new h j =
+    learned_joins old new
+    (refused_learned (add_refusal old name row) r (AddsAs old name row new)
+    (λ t. (has_row (rows_of old.relations name) row ≡ false) × RefusedByTexts old (texts_in row) new t)
+    old new h.answer h.stays (λ late. late_learned old (texts_in row) new r late.1)) j
 
 fewer : {A : Type 0} (p : A → Bool) (xs : List A) → length (drop_first p xs) ≤ length xs
 fewer p [] = omega arith
@@ -97,19 +133,22 @@ fewer p (x ∷ xs) = by (p x) (fewer p xs)
     by true h = omega arith
     by false h = omega (arith, h)
 
-delete_joins : (old : Store) (name : Bytes) (row : Tuple) (r : Result DeleteOutcome Refusal) (new : Store) → DeletesRow old name row r new → Joins old → Joins new
-delete_joins old name row (Ok Removed) new h j =
-    let d = done_of (delete_refusal old name row) Removed (DeletesAs old name row new) (OutOfMemoryWhere ⊥) h.answer in
-    let rows = rows_of old.relations name in
-    let less = fewer (λ (t : Tuple). tuple_eq t row) rows in
-    subst Joins (sym d.1) (record {
-      rows = all_changed IsWithin (λ (x : Relation). bytes_eq x.name name) (λ (x : Relation). record x { rows = without_row rows row }) old.relations j.rows
-          (λ x found k. let here : length rows ≡ length x.rows = ap (λ (o : Option Relation). length (rows_in o)) found in
-          omega (arith, k, here, less, ap length (without_dropped rows row)));
+delete_joins : (old : Store) (name : Bytes) (row : Tuple) (r : Result DeleteOutcome Refusal) (new : Store)
+    → DeletesRow old name row r new → Joins old → Joins new
+delete_joins old name row (Ok Last) new h j =
+    let d = done_of (delete_refusal old name row) Last (DeletesAs old name row new) (OutOfMemoryWhere ⊥) h.answer in
+    let rows = counted_of old.relations name in
+    let less = fewer (λ (c : CountedRow). tuple_eq c.row row) rows in
+    subst Joins (sym d.2) (record {
+      rows = rows_joins old name (without_copies rows row) (λ k. omega (arith, k, less)) j.rows;
       queries = j.queries;
     })
+delete_joins old name row (Ok (Left copies)) new h j =
+    copies_join old new name row copies
+    (done_of (delete_refusal old name row) (Left copies) (DeletesAs old name row new) (OutOfMemoryWhere ⊥) h.answer).3 j
 delete_joins old name row (Ok Absent) new h j =
-    same_joins old new (done_of (delete_refusal old name row) Absent (DeletesAs old name row new) (OutOfMemoryWhere ⊥) h.answer).1 j
+    same_joins old new
+    (done_of (delete_refusal old name row) Absent (DeletesAs old name row new) (OutOfMemoryWhere ⊥) h.answer).1 j
 delete_joins old name row (Err r) new h j = same_joins old new h.stays j
 
 -- `rel`, `query` and `drop`

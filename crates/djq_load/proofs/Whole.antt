@@ -1,31 +1,24 @@
 -- What the whole of a load comes to.
-use Rattle.std.specs.Prelude.{ℕ, List, [], ◌∷◌, ◌++◌, ◌≡◌, ◌≢◌, ◌==◌, ◌+◌, ◌*◌, ◌%◌, ◌^◌, ◌<◌, ◌≤◌, zero, suc, Bool, true, false, Option, None, Some, Result, Ok, Err, All, length, replicate, codes, ⊤, is_err, IfOk, OnOk, OnErr, ◌⊎◌}
+use Rattle.std.specs.Prelude.{ℕ, List, [], ◌∷◌, ◌++◌, ◌≡◌, ◌≢◌, ◌+◌, ◌*◌, ◌<◌, ◌≤◌, zero, suc, Bool, true, false, None, Result, Ok, Err, length, replicate, ⊤, is_err, IfOk, OnOk, OnErr, ◌⊎◌}
 use Rattle.std.proofs.Common.{refl, sym, ap, ap₂, ◌∙◌, subst, inl, inr, length-append, arith}
-use Rattle.std.proofs.lemmas.List.Elements.{All-nil}
 use Rattle.djq_model.specs.declared.memory.NoMem.{NoMem}
-use Rattle.djq_model.specs.Data.{Bytes, Tuple, bytes_eq}
-use Rattle.djq_model.specs.Listed.{Listed, AnswersOf, listed_of}
+use Rattle.djq_model.specs.Data.{Bytes}
 use Rattle.djq_lines.specs.declared.answer.Refusal.TheVariants.{NoMemory}
 use Rattle.djq_lines.specs.Reply.{refusal_line}
-use Rattle.djq_machine.specs.State.{State, Session, Cursor, open_at, session_of, cursor_of, fresh}
+use Rattle.djq_machine.specs.State.{State, Session, fresh}
 use Rattle.djq_machine.specs.Step.{opened}
 use Rattle.djq_machine.specs.Effect.{Effect}
 use Rattle.djq_lines.specs.declared.limits.TheConstants.{SESSIONS}
-use Rattle.djq_machine.specs.Run.{Did, Walk, to_session, pending_of}
+use Rattle.djq_machine.specs.Run.{to_session, pending_of}
 use Rattle.djq_machine.specs.Call.{IsOpen, Makes, Counts, OpenGives, cause_of, held_of}
-use Rattle.djq_machine.specs.Gives.{Gives, PositionGives, CursorsGive}
 use Rattle.djq_machine.specs.declared.machine.OpenRefusal.{OpenRefusal}
-use Rattle.djq_laws.specs.Course.{RunNext}
-use Rattle.djq_laws.proofs.Changing.{all_found}
-use Rattle.djq_laws.proofs.Finding.{some_and}
-use Rattle.djq_laws.proofs.Giving.{SessionGives, CursorGives, runs_give}
-use Rattle.djq_laws.proofs.Sending.{next_runs, step_bytes}
+use Rattle.djq_laws.proofs.Sending.{step_bytes}
 use Rattle.djq_laws.proofs.Queueing.{stepped_cause, stepped_held}
 use Rattle.djq_gen.specs.Load.{load}
 use Rattle.djq_load.specs.declared.loading.Totals.{Totals}
 use Rattle.djq_load.specs.declared.reading.Reading.{Reading}
 use Rattle.djq_load.specs.Replies.{read_bytes}
-use Rattle.djq_load.specs.Lines.{Loads, Feeds, BreaksOff, IsIdle, LineRuns, TakesAll, cursors_in, cursor_at, Stands}
+use Rattle.djq_load.specs.Lines.{Loads, Feeds, BreaksOff, IsIdle, LineRuns, TakesAll, Stands}
 use Rattle.djq_load.specs.Joins.{GivesFew}
 use Rattle.djq_load.specs.Totals.{so_far, reads_for, IsRead, IsTold, open_line, next_line, AreTotals, RunsLoad, BreaksReading, RunsOut}
 use Rattle.djq_load.proofs.Served.{quiet, listed}

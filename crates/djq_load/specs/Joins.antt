@@ -1,5 +1,5 @@
 -- The query of a load, and why it has few answers.
-use Rattle.std.specs.Prelude.{ℕ, List, [], ◌∷◌, ◌≡◌, ◌*◌, ◌≤◌, length, codes, All}
+use Rattle.std.specs.Prelude.{ℕ, [], ◌∷◌, ◌≡◌, ◌*◌, ◌≤◌, length, codes, All}
 use Rattle.djq_model.specs.declared.relation.Relation.{Relation}
 use Rattle.djq_model.specs.declared.query.Query.{Query}
 use Rattle.djq_model.specs.declared.query.Term.TheVariants.{Variable}
