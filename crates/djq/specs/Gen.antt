@@ -5,9 +5,9 @@ use Rattle.djq_model.specs.Data.{Bytes, rows_of}
 use Rattle.djq_machine.specs.State.{State}
 use Rattle.djq_machine.specs.Call.{Counts}
 use Rattle.djq_run.specs.declared.status.Status.{Status}
-use Rattle.djq_run.specs.declared.status.Status.TheVariants.{Done, NoMemory, TurnsUsed}
+use Rattle.djq_run.specs.declared.status.Status.TheVariants.{Done, NoMemory}
 use Rattle.djq_load.specs.declared.loading.Totals.{Totals}
-use Rattle.djq_load.specs.Totals.{RunsLoad, StopsShort, RunsOut}
+use Rattle.djq_load.specs.Totals.{RunsLoad, RunsOut}
 use Rattle.djq.specs.Replay.{Written}
 
 -- the number of rows of a relation
@@ -36,11 +36,6 @@ pub record Generates (start : State) (n seed : ℕ) (counted counted' : Counts) 
   pub runs : RunsLoad n seed totals start counted state counted'
   pub is : text ≡ summary state totals
 
--- From the start on, a run that stops short: its query has more answers than may be read.
-abbrev pub HasTooMany : State → ℕ → ℕ → Counts → Counts → Type 0
-HasTooMany start n seed counted counted' =
-    (state : State) × StopsShort n seed start counted state counted'
-
 -- From the start on, a run out of memory, which was fed a first part of the lines; or all of
 -- them, and no summary is made. It counted no more of listings than it may cost.
 abbrev pub LoadsUntold : State → ℕ → ℕ → Counts → Counts → Type 0
@@ -49,12 +44,11 @@ LoadsUntold start n seed counted counted' = (state : State)
     ⊎ ((totals : Totals) × RunsLoad n seed totals start counted state counted'))
 
 -- The summary was written; or a first part of it, where a write failed; or nothing was, as memory
--- was wanted, or as the answers are too many to read.
+-- was wanted.
 abbrev pub GenEnds : State → Status → ℕ → ℕ → Option (List Write) → ℕ → Counts → Option (List Write)
     → ℕ → Counts → Type 0
 GenEnds start status n seed writing faults counted writing' faults' counted' =
     ((text : Bytes) × Generates start n seed counted counted' text
     × Written status Done text writing faults writing' faults')
-    ⊎ ((((status ≡ NoMemory) × LoadsUntold start n seed counted counted')
-    ⊎ ((status ≡ TurnsUsed) × HasTooMany start n seed counted counted'))
+    ⊎ ((status ≡ NoMemory) × LoadsUntold start n seed counted counted'
     × (writing' ≡ writing) × (faults' ≡ faults))

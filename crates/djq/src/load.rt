@@ -1,14 +1,13 @@
-ghost use Rattle.std.specs.Prelude.{◌≡◌, ◌++◌, Err, IfOk, OnOk, decimal};
+ghost use Rattle.std.specs.Prelude.{◌≡◌, ◌++◌, IfOk, OnOk, OnErr, decimal};
 ghost use Rattle.djq_machine.specs.State.{opening};
 ghost use Rattle.djq_machine.specs.Call.{counts};
-ghost use Rattle.djq_load.specs.declared.loading.LoadRefusal.TheVariants.{NoMem, TooMany};
-ghost use Rattle.djq.specs.Gen.{summary, Generates, HasTooMany, LoadsUntold, GenEnds};
+ghost use Rattle.djq.specs.Gen.{summary, Generates, LoadsUntold, GenEnds};
 
 use crate::replay::write_text;
 use djq_core::Core;
 use djq_io::Sink;
-use djq_load::{LoadRefusal, Totals, run_load};
-use djq_model::Name;
+use djq_load::{Totals, run_load};
+use djq_model::{Name, NoMem};
 use djq_run::Status;
 use djq_steps::{Ledgers, Steps};
 use itoa::Buffer;
@@ -31,8 +30,7 @@ pub(crate) fn generate<K: Sink, L: Ledgers>(
 {
     match summarize(alloc, n, seed, steps) {
         Ok(text) => write_text(sink, &text, Status::Done),
-        Err(LoadRefusal::NoMem) => Status::NoMemory,
-        Err(LoadRefusal::TooMany) => Status::TurnsUsed,
+        Err(NoMem) => Status::NoMemory,
     }
 }
 
@@ -42,24 +40,21 @@ fn summarize<L: Ledgers>(
     n: u32,
     seed: u32,
     steps: &mut Steps<L>,
-) -> Result<Vec<u8>, LoadRefusal>
+) -> Result<Vec<u8>, NoMem>
     ensures text { IfOk result (λ text. Generates opening n seed
         (counts steps.old.listing steps.old.update steps.old.rows)
         (counts steps.new.listing steps.new.update steps.new.rows) text.items) }
-    ensures short { result ≡ Err TooMany → HasTooMany opening n seed
+    ensures memory { OnErr result (LoadsUntold opening n seed
         (counts steps.old.listing steps.old.update steps.old.rows)
-        (counts steps.new.listing steps.new.update steps.new.rows) }
-    ensures memory { result ≡ Err NoMem → LoadsUntold opening n seed
-        (counts steps.old.listing steps.old.update steps.old.rows)
-        (counts steps.new.listing steps.new.update steps.new.rows) }
+        (counts steps.new.listing steps.new.update steps.new.rows)) }
 {
     let Ok(mut machine) = Core::new(alloc) else {
-        return Err(LoadRefusal::NoMem);
+        return Err(NoMem);
     };
     let totals = run_load(&mut machine, n, seed, steps)?;
     match summary_text(alloc, &machine, totals) {
         Ok(text) => Ok(text),
-        Err(_) => Err(LoadRefusal::NoMem),
+        Err(_) => Err(NoMem),
     }
 }
 

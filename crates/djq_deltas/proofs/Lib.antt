@@ -2,3 +2,4 @@ pub mod Lists
 pub mod Deciding
 pub mod Naive
 pub mod Finite
+pub mod Choosing

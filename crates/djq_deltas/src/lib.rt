@@ -28,6 +28,7 @@
 
 ghost use Rattle.djq_deltas.specs.Decided.{AnswersAreDecided};
 ghost use Rattle.djq_deltas.specs.Finite.{AnswersAreFinite, DeltasExist};
+ghost use Rattle.djq_deltas.specs.Bounded.{AnswersAreBounded};
 
 /// A tuple is an answer of what is registered over some relations, or it isn't.
 pub fn answers_are_decided()
@@ -43,4 +44,9 @@ pub fn answers_are_finite()
 /// So each change of relations has a delta: the answers that came and those that went, each once.
 pub fn deltas_exist()
     ensures { DeltasExist }
+{}
+
+/// It has no more answers than there are choices of a row for each of its atoms.
+pub fn answers_are_bounded()
+    ensures { AnswersAreBounded }
 {}

@@ -4,4 +4,7 @@ mod Left
 mod Cursors
 mod Listing
 mod LoadLines
+mod Joining
+mod JoinLines
+mod Few
 mod Whole

@@ -1,37 +1,31 @@
 -- What the whole of a load comes to.
-use Rattle.std.specs.Prelude.{ℕ, List, [], ◌∷◌, ◌++◌, ◌≡◌, ◌≢◌, ◌==◌, ◌+◌, ◌*◌, ◌%◌, ◌^◌, ◌<◌, ◌≤◌, zero, suc, Bool, true, false, Option, None, Some, Result, Ok, Err, All, length, replicate, codes, ⊤, is_err, IfOk, OnOk, ◌⊎◌}
+use Rattle.std.specs.Prelude.{ℕ, List, [], ◌∷◌, ◌++◌, ◌≡◌, ◌≢◌, ◌+◌, ◌*◌, ◌<◌, ◌≤◌, zero, suc, Bool, true, false, None, Result, Ok, Err, length, replicate, ⊤, is_err, IfOk, OnOk, OnErr, ◌⊎◌}
 use Rattle.std.proofs.Common.{refl, sym, ap, ap₂, ◌∙◌, subst, inl, inr, length-append, arith}
-use Rattle.std.proofs.lemmas.List.Elements.{All-nil}
-use Rattle.djq_model.specs.Data.{Bytes, Tuple, bytes_eq}
-use Rattle.djq_model.specs.Listed.{Listed, AnswersOf, listed_of}
+use Rattle.djq_model.specs.declared.memory.NoMem.{NoMem}
+use Rattle.djq_model.specs.Data.{Bytes}
 use Rattle.djq_lines.specs.declared.answer.Refusal.TheVariants.{NoMemory}
 use Rattle.djq_lines.specs.Reply.{refusal_line}
-use Rattle.djq_machine.specs.State.{State, Session, Cursor, open_at, session_of, cursor_of, fresh}
+use Rattle.djq_machine.specs.State.{State, Session, fresh}
 use Rattle.djq_machine.specs.Step.{opened}
 use Rattle.djq_machine.specs.Effect.{Effect}
 use Rattle.djq_lines.specs.declared.limits.TheConstants.{SESSIONS}
-use Rattle.djq_machine.specs.Run.{Did, Walk, to_session, pending_of}
+use Rattle.djq_machine.specs.Run.{to_session, pending_of}
 use Rattle.djq_machine.specs.Call.{IsOpen, Makes, Counts, OpenGives, cause_of, held_of}
-use Rattle.djq_machine.specs.Gives.{Gives, PositionGives, CursorsGive}
 use Rattle.djq_machine.specs.declared.machine.OpenRefusal.{OpenRefusal}
-use Rattle.djq_laws.specs.Course.{RunNext}
-use Rattle.djq_laws.proofs.Changing.{all_found}
-use Rattle.djq_laws.proofs.Finding.{some_and}
-use Rattle.djq_laws.proofs.Giving.{SessionGives, CursorGives, runs_give}
-use Rattle.djq_laws.proofs.Sending.{next_runs, step_bytes}
+use Rattle.djq_laws.proofs.Sending.{step_bytes}
 use Rattle.djq_laws.proofs.Queueing.{stepped_cause, stepped_held}
 use Rattle.djq_gen.specs.Load.{load}
-use Rattle.djq_load.specs.declared.loading.TheConstants.{MOST_READS}
 use Rattle.djq_load.specs.declared.loading.Totals.{Totals}
-use Rattle.djq_load.specs.declared.loading.LoadRefusal.{LoadRefusal}
 use Rattle.djq_load.specs.declared.reading.Reading.{Reading}
 use Rattle.djq_load.specs.Replies.{read_bytes}
-use Rattle.djq_load.specs.Lines.{Loads, Feeds, BreaksOff, IsIdle, LineRuns, TakesAll, cursors_in, cursor_at, Stands}
-use Rattle.djq_load.specs.Totals.{so_far, reads_for, IsRead, IsTold, IsCut, open_line, next_line, AreTotals, RunsLoad, StopsShort, BreaksReading, RunsOut}
+use Rattle.djq_load.specs.Lines.{Loads, Feeds, BreaksOff, IsIdle, LineRuns, TakesAll, Stands}
+use Rattle.djq_load.specs.Joins.{GivesFew}
+use Rattle.djq_load.specs.Totals.{so_far, reads_for, IsRead, IsTold, open_line, next_line, AreTotals, RunsLoad, BreaksReading, RunsOut}
 use Rattle.djq_load.proofs.Served.{quiet, listed}
 use Rattle.djq_load.proofs.Idle.{loads_one, loads_then, breaks_at, breaks_behind, breaks_before}
 use Rattle.djq_load.proofs.Cursors.{next_tells, stands_on, took_left}
 use Rattle.djq_load.proofs.Listing.{listing_read}
+use Rattle.djq_load.proofs.Few.{has_given, answers_are, all_few}
 
 -- What is pending as the cursor was read.
 pub read_served : (old : State) (before : Counts) (mid : State) (now : Counts) (r : Reading) → IsIdle old → LineRuns next_line old before mid now → ((reads : ℕ) × IsRead old r reads) → pending_of mid 1 ≢ refusal_line NoMemory
@@ -76,29 +70,14 @@ read_none st r e stands = record {
     not_ended : true ≡ false → ⊥
     not_ended k = cc
 
-small : (n : ℕ) → n < 2 ^ 64 → n % 2 ^ 64 ≡ n
-small n h = omega (arith, h)
-
--- so many answers were read by as many reads as they take
-few : (n reads : ℕ) → reads ≡ reads_for n → n ≤ 1000 * reads
-few n reads h = omega (arith, h)
-
 -- it was read to its end
-pub read_all : (st : State) (r : Reading) (reads : ℕ) → IsRead st r reads → r.ended ≡ true → 1000 * reads < 2 ^ 64 → IsTold st (record { answers = r.answers; sum = r.sum }) reads
-read_all st r reads h ended below = record {
+pub read_all : (st : State) (r : Reading) (reads : ℕ) → GivesFew st → IsRead st r reads → r.ended ≡ true → IsTold st (record { answers = r.answers; sum = r.sum }) reads
+read_all st r reads few h ended = record {
   given = h.given;
   stands = subst (λ (b : Bool). Stands st h.given b) ended h.stands;
   reads_are = h.last ended;
-  answers = ap (λ (x : Reading). x.answers) h.is ∙ small (length h.given) (omega (arith, few (length h.given) reads (h.last ended), below));
+  answers = answers_are st r reads few h;
   sum = ap (λ (x : Reading). x.sum) h.is;
-}
-
--- it was read as often as may be, and not to its end
-pub read_cut : (st : State) (r : Reading) (reads : ℕ) → IsRead st r reads → r.ended ≡ false → IsCut st (1000 * reads)
-read_cut st r reads h going = record {
-  given = h.given;
-  stands = subst (λ (b : Bool). Stands st h.given b) going h.stands;
-  are = h.full going;
 }
 
 -- it was read so many times, and memory is wanting at the next
@@ -115,39 +94,9 @@ read_breaks r reads old before mid between new now loads h going feeds = record 
   feeds = feeds;
 }
 
--- What the cursor has given are answers of its query, each once.
-record Found (st : State) (given : List Tuple) (ended : Bool) : Type 0 where
-  session : Session
-  is : session_of st 1 ≡ Some session
-  cursor : cursor_of session.cursors (codes "c") ≡ Some (cursor_at given ended)
-
-found_in : (st : State) (given : List Tuple) (ended : Bool) (o : Option Session) → session_of st 1 ≡ o → cursor_of (cursors_in o) (codes "c") ≡ Some (cursor_at given ended) → Found st given ended
-found_in st given ended None e h = absurd cc
-found_in st given ended (Some x) e h = record { session = x; is = e; cursor = h }
-
-none_give : (st : State) → st.sessions ≡ [] → CursorsGive st
-none_give st none = subst (λ (xs : List Session). All (SessionGives st.store.relations st.store.queries) xs) (sym none) (All-nil (SessionGives st.store.relations st.store.queries))
-
-record HasGiven (st : State) (given : List Tuple) (ended : Bool) : Type 0 where
-  query : Listed
-  registered : listed_of st.store.queries (codes "q") ≡ Some query
-  gives : Gives (AnswersOf st.store.relations query) given ended
-
-has_given : (start : State) (done : List Did) (st : State) (given : List Tuple) (ended : Bool) → Walk RunNext start done st → start.sessions ≡ [] → Stands st given ended → HasGiven st given ended
-has_given start done st given ended walk none stands =
-    let give : CursorsGive st = runs_give start done st (next_runs start done st walk) (none_give start none) in
-    let rs = st.store.relations in
-    let qs = st.store.queries in
-    let f = found_in st given ended (session_of st 1) refl stands in
-    let of_session : SessionGives rs qs f.session = all_found (SessionGives rs qs) (λ (x : Session). x.id == 1) st.sessions f.session give f.is in
-    let of_cursor : PositionGives rs (listed_of qs (codes "q")) (open_at given ended) =
-    all_found (CursorGives rs qs) (λ (c : Cursor). bytes_eq c.name (codes "c")) (f.session).cursors (cursor_at given ended) of_session f.cursor in
-    let q = some_and (listed_of qs (codes "q")) (λ (q : Listed). Gives (AnswersOf rs q) given ended) of_cursor in
-    record { query = q.0; registered = q.1; gives = q.2 }
-
-totals_are : (start : State) (done : List Did) (st : State) (totals : Totals) (reads : ℕ) → Walk RunNext start done st → start.sessions ≡ [] → (h : IsTold st totals reads) → AreTotals st h.given totals
-totals_are start done st totals reads walk none h =
-    let q = has_given start done st h.given true walk none h.stands in
+totals_are : (st : State) (totals : Totals) (reads : ℕ) → GivesFew st → (h : IsTold st totals reads) → AreTotals st h.given totals
+totals_are st totals reads few h =
+    let q = has_given st h.given true few.give h.stands in
     record {
       query = q.query;
       registered = q.registered;
@@ -201,28 +150,24 @@ all_loads n seed k start a before b at_b c at_c d now opens feeds points reads =
     loads_then (load n seed) (open_line ∷ replicate k next_line) start before b at_b d now begun rest
 
 -- to its end, where the totals are answered
-pub answers_load : (n seed : ℕ) (r : Result Totals LoadRefusal) (start a : State) (before : Counts) (b : State) (at_b : Counts) (c : State) (at_c : Counts) (d : State) (now : Counts)
-    → start.sessions ≡ [] → Loads [] start before a before → Loads (load n seed) a before b at_b → Loads (open_line ∷ []) b at_b c at_c
+pub answers_load : (n seed : ℕ) (r : Result Totals NoMem) (start a : State) (before : Counts) (b : State) (at_b : Counts) (c : State) (at_c : Counts) (d : State) (now : Counts)
+    → GivesFew c → IsIdle c → Loads [] start before a before → Loads (load n seed) a before b at_b → Loads (open_line ∷ []) b at_b c at_c
     → IfOk r (λ totals. (k : ℕ) × Loads (replicate k next_line) c at_c d now × IsTold d totals k) → OnOk r (cause_of d 1 ≡ None) → IfOk r (λ totals. RunsLoad n seed totals start before d now)
-answers_load n seed (Ok totals) start a before b at_b c at_c d now none opens feeds points (k, reads, told) running =
+answers_load n seed (Ok totals) start a before b at_b c at_c d now few idle opens feeds points (k, reads, told) running =
     let whole = all_loads n seed k start a before b at_b c at_c d now opens feeds points reads in
     record {
       answers = told.given;
       loads = subst (λ (m : ℕ). Loads (load n seed ++ open_line ∷ replicate m next_line) start before d now) told.reads_are whole;
       stands = told.stands;
       running = running;
-      totals_are = totals_are start whole.done d totals k whole.walk none told;
+      totals_are = totals_are d totals k (all_few k c at_c d now idle reads few) told;
     }
-answers_load n seed (Err r) start a before b at_b c at_c d now none opens feeds points told running = tt
+answers_load n seed (Err r) start a before b at_b c at_c d now few idle opens feeds points told running = tt
 
--- and not to its end
-pub stops_short : (n seed : ℕ) (start a : State) (before : Counts) (b : State) (at_b : Counts) (c : State) (at_c : Counts) (d : State) (now : Counts)
-    → start.sessions ≡ [] → Loads [] start before a before → Loads (load n seed) a before b at_b → Loads (open_line ∷ []) b at_b c at_c
-    → (k : ℕ) × (k ≡ MOST_READS) × Loads (replicate k next_line) c at_c d now × IsCut d (1000 * k) → StopsShort n seed start before d now
-stops_short n seed start a before b at_b c at_c d now none opens feeds points (k, most, reads, cut) =
-    let whole = all_loads n seed k start a before b at_b c at_c d now opens feeds points reads in
-    let q = has_given start whole.done d cut.given false whole.walk none cut.stands in
-    record { nexts = k; most = most; loads = whole; given = cut.given; stands = cut.stands; many = cut.are; query = q.query; registered = q.registered; gives = q.gives }
+-- what holds, holds where there is an error
+pub where_err : {A E P : Type 0} (r : Result A E) → P → OnErr r P
+where_err (Ok a) p = tt
+where_err (Err e) p = p
 
 -- Memory is wanting: at a line of the load,
 pub breaks_feeding : (n seed : ℕ) (start a : State) (before : Counts) (d : State) (now : Counts)

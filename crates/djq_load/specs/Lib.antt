@@ -1,3 +1,4 @@
 pub mod Replies
 pub mod Lines
+pub mod Joins
 pub mod Totals

@@ -9,9 +9,7 @@ use Rattle.djq_value.specs.ValueText.{value_text}
 use Rattle.djq_machine.specs.State.{Store, State}
 use Rattle.djq_machine.specs.Store.{IsLeft}
 use Rattle.djq_machine.specs.Call.{Counts, cause_of}
-use Rattle.djq_machine.specs.Gives.{Gives}
 use Rattle.djq_gen.specs.Load.{load}
-use Rattle.djq_load.specs.declared.loading.TheConstants.{MOST_READS}
 use Rattle.djq_load.specs.declared.loading.Totals.{Totals}
 use Rattle.djq_load.specs.declared.reading.Place.TheVariants.{Front}
 use Rattle.djq_load.specs.declared.reading.Reading.{Reading}
@@ -66,12 +64,6 @@ pub record IsTold (st : State) (totals : Totals) (reads : ℕ) : Type 0 where
   pub answers : totals.answers ≡ length given
   pub sum : totals.sum ≡ amount_of given % 2 ^ 64
 
--- A cursor that wasn't told the end has given so many answers.
-pub record IsCut (st : State) (count : ℕ) : Type 0 where
-  pub given : List Tuple
-  pub stands : Stands st given false
-  pub are : length given ≡ count
-
 -- the line that opens the cursor of a load, and the one that reads it
 abbrev pub open_line : Bytes
 open_line = codes "open c q\n"
@@ -100,21 +92,6 @@ pub record RunsLoad (n seed : ℕ) (totals : Totals) (old : State) (before : Cou
   pub stands : Stands new answers true
   pub running : cause_of new 1 ≡ None
   pub totals_are : AreTotals new answers totals
-
--- **How a load stops short.** Session 1 was fed the load's lines, then one that opens a cursor over
--- the query, and then as many that read it as may be; and the cursor still stands before its end:
--- each line that read it was answered a thousand answers of the query, each of them once.
-pub record StopsShort (n seed : ℕ) (old : State) (before : Counts) (new : State)
-    (now : Counts) : Type 0 where
-  pub nexts : ℕ
-  pub most : nexts ≡ MOST_READS
-  pub loads : Loads (load n seed ++ open_line ∷ replicate nexts next_line) old before new now
-  pub given : List Tuple
-  pub stands : Stands new given false
-  pub many : length given ≡ 1000 * nexts
-  pub query : Listed
-  pub registered : listed_of new.store.queries (codes "q") ≡ Some query
-  pub gives : Gives (AnswersOf new.store.relations query) given false
 
 -- **How reading stops out of memory.** Session 1 was fed these lines, and then some that read the
 -- cursor: each was answered a thousand answers, each of them once, and the cursor stands before its

@@ -29,4 +29,4 @@
 mod loading;
 mod reading;
 
-pub use loading::{LoadRefusal, Totals, run_load};
+pub use loading::{Totals, run_load};

@@ -1,25 +1,22 @@
-ghost use Rattle.std.specs.Prelude.{◌≡◌, ℕ, [], ◌∷◌, ◌+◌, ◌*◌, ◌<◌, ◌≤◌, true, false, None, Some, Err, IfOk, OnOk, IfErr, OnErr, length, replicate};
+ghost use Rattle.std.specs.Prelude.{◌≡◌, ℕ, [], ◌∷◌, ◌+◌, ◌*◌, ◌<◌, ◌≤◌, true, false, None, Some, IfOk, OnOk, OnErr, length, replicate};
 ghost use Rattle.djq_gen.specs.Load.{load};
 ghost use Rattle.djq_lines.specs.Line.{behind_lf};
+ghost use Rattle.djq_machine.specs.State.{opening};
 ghost use Rattle.djq_machine.specs.Call.{IsOpen, cause_of, counts};
 ghost use Rattle.djq_machine.specs.Run.{pending_of};
 ghost use Rattle.djq_laws.specs.declared.limits.TheConstants.{READ_BYTES};
-ghost use Rattle.djq_load.specs.declared.loading.TheConstants.{MOST_READS};
-ghost use Rattle.djq_load.specs.declared.loading.LoadRefusal.TheVariants.{NoMem, TooMany};
 ghost use Rattle.djq_load.specs.Lines.{Loads, Feeds, BreaksOff, IsIdle, LineRuns, TakesAll, Stands};
-ghost use Rattle.djq_load.specs.Totals.{IsRead, IsTold, IsCut, open_line, next_line, RunsLoad, StopsShort, BreaksReading, RunsOut};
+ghost use Rattle.djq_load.specs.Joins.{GivesFew};
+ghost use Rattle.djq_load.specs.Totals.{IsRead, IsTold, open_line, next_line, RunsLoad, BreaksReading, RunsOut};
 
 use crate::reading::Reading;
 use djq_gen::{LINE_BYTES, Load};
 use djq_machine::{Fed, Machine, Stepped};
+use djq_model::NoMem;
 use djq_steps::{Ledgers, Steps};
-use thiserror::Error;
 
 /// The id of the session of a load.
 const ID: u64 = 1;
-
-/// The most times that the cursor is read. Each read that isn't the last gives 1000 answers.
-const MOST_READS: u64 = 18_014_398_509_481_984;
 
 /// What a load comes to.
 #[derive(Clone, Copy, Debug, PartialEq, Eq)]
@@ -30,46 +27,33 @@ pub struct Totals {
     pub sum: u64,
 }
 
-/// Why a load isn't run to its end.
-#[derive(Clone, Copy, Debug, PartialEq, Eq, Error)]
-pub enum LoadRefusal {
-    /// The session was told so, or couldn't be opened.
-    #[error("out of memory")]
-    NoMem,
-    /// The cursor was read as many times as may be: there are more than 2^63 answers.
-    #[error("too many answers")]
-    TooMany,
-}
-
 /// Opens session 1 of a machine, feeds it the load of so many changes with a seed, line by line,
 /// and reads the answers of its query through a cursor, a thousand at a time, until it is told the
-/// end and no further. The session is open then and hasn't ended. No session of the machine is open
-/// before.
+/// end and no further. The session is open then and hasn't ended. Nothing has happened to the
+/// machine before. So the answers are no more than the square of the most rows of a relation, and
+/// the end comes.
 ///
 /// # Errors
 ///
 /// `NoMem` where the machine is out of memory: nothing was done, or one of these lines was the last
-/// that came, with each before it answered. `TooMany` where the answers are too many to read. In each
-/// case no more is counted of listings than the lines that came may cost.
+/// that came, with each before it answered. No more is counted of listings than the lines that came
+/// may cost.
 pub fn run_load<M: Machine, L: Ledgers>(
     machine: &mut M,
     n: u32,
     seed: u32,
     steps: &mut Steps<L>,
-) -> Result<Totals, LoadRefusal>
-    requires { (M.state machine.old).sessions ≡ [] }
+) -> Result<Totals, NoMem>
+    requires { M.state machine.old ≡ opening }
     ensures totals { IfOk result (λ totals. RunsLoad n seed totals
         (M.state machine.old) (counts steps.old.listing steps.old.update steps.old.rows)
         (M.state machine.new) (counts steps.new.listing steps.new.update steps.new.rows)) }
-    ensures short { result ≡ Err TooMany → StopsShort n seed
+    ensures memory { OnErr result (RunsOut n seed
         (M.state machine.old) (counts steps.old.listing steps.old.update steps.old.rows)
-        (M.state machine.new) (counts steps.new.listing steps.new.update steps.new.rows) }
-    ensures memory { result ≡ Err NoMem → RunsOut n seed
-        (M.state machine.old) (counts steps.old.listing steps.old.update steps.old.rows)
-        (M.state machine.new) (counts steps.new.listing steps.new.update steps.new.rows) }
+        (M.state machine.new) (counts steps.new.listing steps.new.update steps.new.rows)) }
 {
     if machine.open_session(ID).is_err() {
-        return Err(LoadRefusal::NoMem);
+        return Err(NoMem);
     }
     feed_load(machine, n, seed, steps)?;
     open_cursor(machine, steps)?;
@@ -82,13 +66,12 @@ fn feed_load<M: Machine, L: Ledgers>(
     n: u32,
     seed: u32,
     steps: &mut Steps<L>,
-) -> Result<(), LoadRefusal>
+) -> Result<(), NoMem>
     requires { IsIdle (M.state machine.old) }
     ensures loads { OnOk result (Loads (load n seed)
         (M.state machine.old) (counts steps.old.listing steps.old.update steps.old.rows)
         (M.state machine.new) (counts steps.new.listing steps.new.update steps.new.rows)) }
     ensures idle { OnOk result (IsIdle (M.state machine.new)) }
-    ensures memory { IfErr result (λ refusal. refusal ≡ NoMem) }
     ensures breaks { OnErr result (BreaksOff (load n seed)
         (M.state machine.old) (counts steps.old.listing steps.old.update steps.old.rows)
         (M.state machine.new) (counts steps.new.listing steps.new.update steps.new.rows)) }
@@ -106,7 +89,7 @@ fn feed_line<M: Machine, L: Ledgers>(
     machine: &mut M,
     line: &[u8],
     steps: &mut Steps<L>,
-) -> Result<(), LoadRefusal>
+) -> Result<(), NoMem>
     requires idle { IsIdle (M.state machine.old) }
     requires one { behind_lf line.now ≡ Some [] }
     requires short { length line.now ≤ READ_BYTES }
@@ -114,38 +97,33 @@ fn feed_line<M: Machine, L: Ledgers>(
         (M.state machine.old) (counts steps.old.listing steps.old.update steps.old.rows)
         (M.state machine.new) (counts steps.new.listing steps.new.update steps.new.rows)) }
     ensures idle { OnOk result (IsIdle (M.state machine.new)) }
-    ensures memory { IfErr result (λ refusal. refusal ≡ NoMem) }
     ensures breaks { OnErr result (Feeds (line.now ∷ [])
         (M.state machine.old) (counts steps.old.listing steps.old.update steps.old.rows)
         (M.state machine.new) (counts steps.new.listing steps.new.update steps.new.rows)) }
 {
     run_line(machine, line, steps)?;
     if machine.pending(ID) == b"err 12 memory\n".as_slice() {
-        return Err(LoadRefusal::NoMem);
+        return Err(NoMem);
     }
     take_reply(machine);
     Ok(())
 }
 
 /// Opens the cursor.
-fn open_cursor<M: Machine, L: Ledgers>(
-    machine: &mut M,
-    steps: &mut Steps<L>,
-) -> Result<(), LoadRefusal>
+fn open_cursor<M: Machine, L: Ledgers>(machine: &mut M, steps: &mut Steps<L>) -> Result<(), NoMem>
     requires { IsIdle (M.state machine.old) }
     ensures loads { OnOk result (Loads (open_line ∷ [])
         (M.state machine.old) (counts steps.old.listing steps.old.update steps.old.rows)
         (M.state machine.new) (counts steps.new.listing steps.new.update steps.new.rows)) }
     ensures idle { OnOk result (IsIdle (M.state machine.new)) }
     ensures stands { OnOk result (Stands (M.state machine.new) [] false) }
-    ensures memory { IfErr result (λ refusal. refusal ≡ NoMem) }
     ensures breaks { OnErr result (Feeds (open_line ∷ [])
         (M.state machine.old) (counts steps.old.listing steps.old.update steps.old.rows)
         (M.state machine.new) (counts steps.new.listing steps.new.update steps.new.rows)) }
 {
     run_line(machine, b"open c q\n", steps)?;
     if machine.pending(ID) != b"ok open\n".as_slice() {
-        return Err(LoadRefusal::NoMem);
+        return Err(NoMem);
     }
     take_reply(machine);
     Ok(())
@@ -155,33 +133,27 @@ fn open_cursor<M: Machine, L: Ledgers>(
 fn list_answers<M: Machine, L: Ledgers>(
     machine: &mut M,
     steps: &mut Steps<L>,
-) -> Result<Totals, LoadRefusal>
+) -> Result<Totals, NoMem>
     requires idle { IsIdle (M.state machine.old) }
     requires stands { Stands (M.state machine.old) [] false }
+    requires few { GivesFew (M.state machine.old) }
     ensures told { IfOk result (λ totals. (k : ℕ) × Loads (replicate k next_line)
         (M.state machine.old) (counts steps.old.listing steps.old.update steps.old.rows)
         (M.state machine.new) (counts steps.new.listing steps.new.update steps.new.rows)
         × IsTold (M.state machine.new) totals k) }
     ensures running { OnOk result (cause_of (M.state machine.new) 1 ≡ None) }
-    ensures short { result ≡ Err TooMany → (k : ℕ) × (k ≡ MOST_READS) × Loads (replicate k next_line)
+    ensures breaks { OnErr result (BreaksReading []
         (M.state machine.old) (counts steps.old.listing steps.old.update steps.old.rows)
-        (M.state machine.new) (counts steps.new.listing steps.new.update steps.new.rows)
-        × IsCut (M.state machine.new) (1000 * k) }
-    ensures breaks { result ≡ Err NoMem → BreaksReading []
-        (M.state machine.old) (counts steps.old.listing steps.old.update steps.old.rows)
-        (M.state machine.new) (counts steps.new.listing steps.new.update steps.new.rows) }
+        (M.state machine.new) (counts steps.new.listing steps.new.update steps.new.rows)) }
 {
     let mut reading = Reading::new();
-    for _ in 0..MOST_READS {
+    'reads: while !reading.ended {
         reading = read_more(machine, reading, steps)?;
-        if reading.ended {
-            return Ok(Totals {
-                answers: reading.answers,
-                sum: reading.sum,
-            });
-        }
     }
-    Err(LoadRefusal::TooMany)
+    Ok(Totals {
+        answers: reading.answers,
+        sum: reading.sum,
+    })
 }
 
 /// Reads the cursor once.
@@ -189,7 +161,7 @@ fn read_more<M: Machine, L: Ledgers>(
     machine: &mut M,
     reading: Reading,
     steps: &mut Steps<L>,
-) -> Result<Reading, LoadRefusal>
+) -> Result<Reading, NoMem>
     requires idle { IsIdle (M.state machine.old) }
     requires going { reading.ended ≡ false }
     requires reads { (reads : ℕ) × IsRead (M.state machine.old) reading reads }
@@ -199,7 +171,6 @@ fn read_more<M: Machine, L: Ledgers>(
     ensures idle { OnOk result (IsIdle (M.state machine.new)) }
     ensures read { IfOk result (λ after. (reads : ℕ) → IsRead (M.state machine.old) reading reads
         → IsRead (M.state machine.new) after (reads + 1)) }
-    ensures memory { IfErr result (λ refusal. refusal ≡ NoMem) }
     ensures breaks { OnErr result (Feeds (next_line ∷ [])
         (M.state machine.old) (counts steps.old.listing steps.old.update steps.old.rows)
         (M.state machine.new) (counts steps.new.listing steps.new.update steps.new.rows)) }
@@ -216,7 +187,7 @@ fn run_line<M: Machine, L: Ledgers>(
     machine: &mut M,
     line: &[u8],
     steps: &mut Steps<L>,
-) -> Result<(), LoadRefusal>
+) -> Result<(), NoMem>
     requires idle { IsIdle (M.state machine.old) }
     requires some { 0 < length line.now }
     requires short { length line.now ≤ READ_BYTES }
@@ -224,20 +195,19 @@ fn run_line<M: Machine, L: Ledgers>(
         (M.state machine.old) (counts steps.old.listing steps.old.update steps.old.rows)
         (M.state machine.new) (counts steps.new.listing steps.new.update steps.new.rows)) }
     ensures open { OnOk result (IsOpen (M.state machine.new) 1) }
-    ensures memory { IfErr result (λ refusal. refusal ≡ NoMem) }
     ensures breaks { OnErr result (Feeds (line.now ∷ [])
         (M.state machine.old) (counts steps.old.listing steps.old.update steps.old.rows)
         (M.state machine.new) (counts steps.new.listing steps.new.update steps.new.rows)) }
 {
     let Fed::Held = machine.feed(ID, line) else {
-        return Err(LoadRefusal::NoMem);
+        return Err(NoMem);
     };
     let Stepped::Ran { .. } = machine.step(ID, steps) else {
-        return Err(LoadRefusal::NoMem);
+        return Err(NoMem);
     };
     match machine.cause(ID) {
         None => Ok(()),
-        Some(_) => Err(LoadRefusal::NoMem),
+        Some(_) => Err(NoMem),
     }
 }
 

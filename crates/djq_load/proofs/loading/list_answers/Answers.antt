@@ -1,36 +1,33 @@
-use Rattle.std.proofs.Common.{◌+◌, ap, arith}
-use Rattle.djq_load.specs.declared.reading.Reading.{Reading}
+use Rattle.std.proofs.Common.{◌+◌, rules}
 use Rattle.djq_load.specs.Totals.{next_line}
-use Rattle.djq_load.proofs.Idle.{loads_none, loads_again}
-use Rattle.djq_load.proofs.Whole.{read_none, read_all, read_cut}
+use Rattle.djq_load.proofs.Few.{read_few, fewer_left}
+use Rattle.djq_load.proofs.Idle.{loads_again}
+use Rattle.djq_load.proofs.Whole.{read_all}
 use Rattle.djq_load.proofs.loading.list_answers.Goals as goal
 
-pub loop-init : goal.loop-init
-loop-init g c = record {
-  idle = c.requires.idle;
-  loads = loads_none _ _;
-  going = ap (λ (r : Reading). r.ended) c.new-reading.ensures;
-  read = read_none _ _ c.new-reading.ensures c.requires.stands;
-}
+pub reads-smaller : goal.reads-smaller
+reads-smaller g c =
+    let so_far = c.reads.invariant.read in
+    let few = read_few _ _ _ _ c.reads.invariant.idle c.in_ok-reading.ensures.loads c.reads.invariant.few in
+    fewer_left _ _ c.reads.reading c.in_ok-reading.reading so_far.0 c.reads.invariant.few few (search rules) so_far.2 (c.in_ok-reading.ensures.read so_far.0 so_far.2)
 
-pub read_more-requires-clause-reads : goal.read_more-requires-clause-reads
-read_more-requires-clause-reads g c = (c.loop.counter, c.loop.invariant.read)
+pub reads-preserved : goal.reads-preserved
+reads-preserved g c =
+    let so_far = c.reads.invariant.read in
+    record {
+      idle = c.in_ok-reading.ensures.idle;
+      few = read_few _ _ _ _ c.reads.invariant.idle c.in_ok-reading.ensures.loads c.reads.invariant.few;
+      read = (
+        so_far.0 + 1,
+        loads_again next_line so_far.0 _ _ _ _ _ _ so_far.1 c.in_ok-reading.ensures.loads,
+        c.in_ok-reading.ensures.read so_far.0 so_far.2,
+      );
+    }
 
-pub returns-then-reading-clause-told : goal.returns-then-reading-clause-told
-returns-then-reading-clause-told g c = (
-  c.loop.counter + 1,
-  loads_again next_line c.loop.counter _ _ _ _ _ _ c.loop.invariant.loads c.in_ok-reading.ensures.loads,
-  read_all _ c.in_ok-reading.reading (c.loop.counter + 1) (c.in_ok-reading.ensures.read c.loop.counter c.loop.invariant.read) c.if-reading.true (omega (arith, c.loop-test.true)),
-)
-
-pub loop-preserved : goal.loop-preserved
-loop-preserved g c = record {
-  idle = c.in_ok-reading.ensures.idle;
-  loads = loads_again next_line c.loop.counter _ _ _ _ _ _ c.loop.invariant.loads c.in_ok-reading.ensures.loads;
-  going = c.if-reading.false;
-  read = c.in_ok-reading.ensures.read c.loop.counter c.loop.invariant.read;
-}
-
-pub returns-clause-short : goal.returns-clause-short
-returns-clause-short g c e =
-    (c.loop.counter, omega (arith, c.loop-test.false, c.loop.auto.counter-end), c.loop.invariant.loads, read_cut _ c.loop.reading c.loop.counter c.loop.invariant.read c.loop.invariant.going)
+pub returns-clause-told : goal.returns-clause-told
+returns-clause-told g c =
+    let so_far = c.reads.invariant.read in (
+      so_far.0,
+      so_far.1,
+      read_all _ c.reads.reading so_far.0 c.reads.invariant.few so_far.2 (search rules),
+    )

@@ -1,17 +1,22 @@
-use Rattle.std.proofs.Common.{◌≡◌, false, replicate}
+use Rattle.std.proofs.Common.{ℕ, replicate}
 use Rattle.djq_machine.specs.Call.{counts}
+use Rattle.djq_load.specs.Joins.{GivesFew}
 use Rattle.djq_load.specs.Lines.{Loads, IsIdle}
 use Rattle.djq_load.specs.Totals.{IsRead, next_line}
+use Rattle.djq_load.proofs.Few.{reads_left}
 use Rattle.djq_load.proofs.loading.list_answers.Given as goal
 
--- The cursor was read so many times, and not to its end; what was read is what it has given.
-abbrev pub invariant-loop : goal.invariant-loop
-invariant-loop g l =
+-- The cursor was read so many times; what was read is what it has given.
+abbrev pub invariant-reads : goal.invariant-reads
+invariant-reads g l =
     let state = g.M.Machine.state in
     record {
       idle : IsIdle (state l.machine);
-      loads : Loads (replicate l.counter next_line) (state l.fn.machine) (counts l.fn.steps.listing l.fn.steps.update l.fn.steps.rows)
-          (state l.machine) (counts l.steps.listing l.steps.update l.steps.rows);
-      going : l.reading.ended ≡ false;
-      read : IsRead (state l.machine) l.reading l.counter;
+      few : GivesFew (state l.machine);
+      read : (k : ℕ) × Loads (replicate k next_line) (state l.fn.machine) (counts l.fn.steps.listing l.fn.steps.update l.fn.steps.rows)
+          (state l.machine) (counts l.steps.listing l.steps.update l.steps.rows) × IsRead (state l.machine) l.reading k;
     }
+
+-- Each read but the last gives a thousand answers more.
+abbrev pub decreases-reads : goal.decreases-reads
+decreases-reads g l = reads_left l.reading

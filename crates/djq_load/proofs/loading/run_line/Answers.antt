@@ -1,4 +1,3 @@
-use Rattle.std.proofs.Common.{refl}
 use Rattle.djq_machine.specs.declared.machine.Stepped.TheVariants.{Ran}
 use Rattle.djq_load.proofs.Idle.{fed_open, ran_open, comes_feeds, stepped_feeds}
 use Rattle.djq_load.proofs.loading.run_line.Goals as goal
@@ -19,7 +18,6 @@ pub returns-in_default-step : goal.returns-in_default-step
 returns-in_default-step g c = record {
   runs = tt;
   «open» = tt;
-  memory = refl;
   breaks = stepped_feeds _ _ _ _ c.step.result _ _ c.requires.idle c.requires.some c.requires.short c.in-Held.ensures.makes c.in-Held.ensures.answer c.step.ensures;
 }
 

@@ -1,0 +1,40 @@
+-- The query of a load, and why it has few answers.
+use Rattle.std.specs.Prelude.{ℕ, [], ◌∷◌, ◌≡◌, ◌*◌, ◌≤◌, length, codes, All}
+use Rattle.djq_model.specs.declared.relation.Relation.{Relation}
+use Rattle.djq_model.specs.declared.query.Query.{Query}
+use Rattle.djq_model.specs.declared.query.Term.TheVariants.{Variable}
+use Rattle.djq_model.specs.Listed.{Listed, a_query}
+use Rattle.djq_lines.specs.declared.limits.TheConstants.{ROWS}
+use Rattle.djq_machine.specs.State.{Store, State}
+use Rattle.djq_machine.specs.Gives.{CursorsGive}
+
+-- the query that a load's lines say
+abbrev pub join : Query
+join = record {
+  name = codes "q";
+  head = codes "x" ∷ codes "y" ∷ codes "z" ∷ [];
+  atoms = record { relation = codes "r"; terms = Variable (codes "x") ∷ Variable (codes "y") ∷ [] }
+      ∷ record { relation = codes "s"; terms = Variable (codes "y") ∷ Variable (codes "z") ∷ [] }
+      ∷ [];
+}
+
+-- the most answers that it may have: one for each row of the one relation and each of the other
+abbrev pub most_answers : ℕ
+most_answers = ROWS * ROWS
+
+-- A relation has no more rows than may be.
+abbrev pub IsWithin : Relation → Type 0
+IsWithin r = length r.rows ≤ ROWS
+
+abbrev pub IsJoin : Listed → Type 0
+IsJoin q = q ≡ a_query join
+
+-- Each relation is within its limit, and no other query is registered.
+pub record Joins (st : Store) : Type 0 where
+  pub rows : All IsWithin st.relations
+  pub queries : All IsJoin st.queries
+
+-- And cursors have given what they should: so none has given more answers than there may be.
+pub record GivesFew (st : State) : Type 0 where
+  pub store : Joins st.store
+  pub give : CursorsGive st
