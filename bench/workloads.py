@@ -172,8 +172,9 @@ def listing_of_texts(rows):
 
 def moved(rows):
     """A change that makes as many tuples join as there are rows, or stop to."""
-    lines = relations("rs") + ["rel t int", "query q(x,y,z) <- r(x,y), s(y,z), t(y)"]
-    lines += [add("r", at, 1) for at in range(rows)] + [add("s", 1, 1)]
+    lines = relations("rs") + ["rel t int", "query q(x,y,z) <- r(x,y), s(y,z), t(z)"]
+    for at in range(rows):
+        lines += [add("r", at, at), add("s", at, 1)]
     return Stream(lines, [add("t", 1), delete("t", 1)] * 10, 20)
 
 
