@@ -34,6 +34,7 @@ mod group;
 mod journal;
 mod limits;
 mod line;
+mod log;
 mod one_line;
 mod reading;
 #[cfg(test)]
@@ -49,6 +50,7 @@ pub use group::Group;
 pub use journal::{Appended, Journal, Made, Opened, create};
 pub use limits::{LAST_GATE, LINE_BYTES};
 pub use line::Line;
+pub use log::{Kept, Log};
 
 /// A file opens to one list of lines.
 pub fn a_file_opens_once()
