@@ -7,3 +7,4 @@ pub mod Once
 pub mod Exactly
 pub mod Lasting
 pub mod Going
+pub mod Logged

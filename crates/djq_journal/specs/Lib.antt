@@ -5,3 +5,4 @@ pub mod Appending
 pub mod Staging
 pub mod Reading
 pub mod Keeping
+pub mod Logging

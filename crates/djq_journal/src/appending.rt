@@ -58,9 +58,9 @@ fn write_record<D: Disk>(disk: &mut D, at: u64, line: &[u8], gate: u8) -> DiskDi
     ensures told { WhereTold (D.told disk.old) (D.told disk.new) (Writes result at (body_of line.now ++ gate ∷ [])) }
     ensures faults { CountsDid result (D.faults disk.old) (D.faults disk.new) }
 {
-    let mut record = [0; 4099];
-    let size = lay_out(&mut record, line, gate);
-    disk.write_at(at, &record[..size])
+    let mut buf = [0; 4099];
+    let size = lay_out(&mut buf, line, gate);
+    disk.write_at(at, &buf[..size])
 }
 
 /// The gate before the line with this number: open, or closed where there is no such line.

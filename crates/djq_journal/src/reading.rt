@@ -4,6 +4,7 @@ ghost use Rattle.djq_journal.specs.Standing.{IsAt};
 ghost use Rattle.djq_journal.specs.Calls.{Reads, LineFits, CountsLine};
 ghost use Rattle.djq_journal.specs.Reading.{IsHead, HeadFits, CountsHead, place_after, EndsWithin};
 
+use crate::limits::LINE_BYTES;
 use crate::line::Line;
 use djq_disk::{Disk, Filled, fill};
 
@@ -49,7 +50,7 @@ pub(crate) fn read_head<D: Disk>(disk: &mut D, at: u64) -> Head
         Filled::Failed => return Head::Failed,
     }
     let n = number_of(size[0], size[1]);
-    if n < 1 || 4096 < n {
+    if n < 1 || LINE_BYTES < n {
         Head::Bad
     } else {
         Head::Open(n)

@@ -1,0 +1,75 @@
+-- Lines that a log keeps.
+use Rattle.std.proofs.Common.{◌≡◌, ℕ, ◌+◌, ◌<◌, ◌≤◌, List, [], ◌∷◌, ◌++◌, length, refl, sym, subst, arith, append-nil}
+use Rattle.std.specs.Prelude.{Option, None, Some, slice_get}
+use Rattle.djq_disk.specs.History.{History, WhereTold}
+use Rattle.djq_journal.specs.Standing.{IsIdle}
+use Rattle.djq_journal.specs.Appending.{Appends, HasRoom, gate_after}
+use Rattle.djq_journal.specs.Keeping.{lines_in, IsKeeping, WasKeeping}
+use Rattle.djq_journal.specs.Logging.{groups_of, HasKept, HasLost, Keeps, Overfull, FillsLog}
+use Rattle.djq_journal.specs.declared.journal.Appended.{Appended}
+use Rattle.djq_journal.specs.declared.journal.Appended.TheVariants.{Done, Failed as Unappended, Full as Overflows}
+use Rattle.djq_journal.specs.declared.limits.TheConstants.{LAST_GATE}
+use Rattle.djq_journal.specs.declared.log.Kept.{Kept}
+use Rattle.djq_journal.specs.declared.log.Kept.TheVariants.{All, Failed, Full}
+use Rattle.djq_journal.proofs.Going.{keeps_on}
+
+-- a group without a first line has none, and one with it has some
+pub without_lines : (lines : List (List ℕ)) → None ≡ slice_get lines 0 → lines ≡ []
+without_lines [] is = refl
+without_lines (line ∷ lines) is = cc
+
+pub with_lines : (lines : List (List ℕ)) (line : List ℕ) → Some line ≡ slice_get lines 0 → 1 ≤ length lines
+with_lines [] line is = cc
+with_lines (l ∷ ls) line is = omega arith
+
+group_one : (lines : List (List ℕ)) → 1 ≤ length lines → groups_of lines ≡ lines ∷ []
+group_one [] some = let wrong : ⊥ = omega arith in absurd wrong
+group_one (line ∷ lines) some = refl
+
+-- what is told of each is told of all
+pub told_all : {X : Type 0} (x : X) (old new : Option History) (P : X → History → History → Type 0) → ((y : X) → WhereTold old new (P y))
+    → WhereTold old new (λ o n. (y : X) → P y o n)
+told_all x old None P each = tt
+told_all x None (Some n) P each = absurd (each x)
+told_all x (Some o) (Some n) P each = each
+
+-- no lines are kept without the disk
+pub keeps_none : (gate : Option ℕ) (lines : List (List ℕ)) (h : History) → lines ≡ [] → Keeps All gate gate lines h h
+keeps_none gate lines h none found groups start kept =
+    subst (λ (ls : List (List ℕ)). HasKept gate found (groups ++ groups_of ls) start h) (sym none)
+    (subst (λ (gs : List (List (List ℕ))). HasKept gate found gs start h) (sym (append-nil groups)) kept)
+
+-- and without a journal
+pub keeps_nowhere : (lines : List (List ℕ)) (h : History) → Keeps All None None lines h h
+keeps_nowhere lines h found groups start kept = kept
+
+-- what an append to an idle journal does is done to whatever was kept before
+pub keeps_all : (gate next : ℕ) (group : List (List ℕ)) (old new : History) → 1 ≤ length group
+    → ((lines : List (List ℕ)) → IsIdle lines gate old.file → Appends (Done next) lines group old new) → Keeps All (Some gate) (Some next) group old new
+keeps_all gate next group old new some appends found groups start kept =
+    subst (λ (gs : List (List (List ℕ))). IsKeeping found (groups ++ gs) next start new) (sym (group_one group some))
+    ((keeps_on.more found groups gate start old kept).done group next new (appends (found ++ lines_in groups) kept.idle))
+
+pub keeps_failed : (gate : ℕ) (gate' : Option ℕ) (group : List (List ℕ)) (old new : History)
+    → ((lines : List (List ℕ)) → IsIdle lines gate old.file → Appends Unappended lines group old new) → Keeps Failed (Some gate) gate' group old new
+keeps_failed gate gate' group old new appends found groups start kept =
+    (keeps_on.more found groups gate start old kept).failed group new (appends (found ++ lines_in groups) kept.idle)
+
+pub keeps_full : (gate : ℕ) (gate' : Option ℕ) (group : List (List ℕ)) (old new : History)
+    → ((lines : List (List ℕ)) → IsIdle lines gate old.file → Appends Overflows lines group old new) → Keeps Full (Some gate) gate' group old new
+keeps_full gate gate' group old new appends found groups start kept =
+    (keeps_on.more found groups gate start old kept).full group new (appends (found ++ lines_in groups) kept.idle)
+
+-- when a journal has no room
+pub overfull_some : (gate : ℕ) (lines : List (List ℕ)) → 1 ≤ length lines → LAST_GATE < gate_after gate lines → Overfull (Some gate) lines
+overfull_some gate [] some past = let wrong : ⊥ = omega arith in absurd wrong
+overfull_some gate (line ∷ lines) some past = past
+
+pub overfull_past : (gate : ℕ) (lines : List (List ℕ)) → Overfull (Some gate) lines → LAST_GATE < gate_after gate lines
+overfull_past gate [] over = absurd over
+overfull_past gate (line ∷ lines) over = over
+
+pub never_overfull : (gate : Option ℕ) (lines : List (List ℕ)) → lines ≡ [] → Overfull gate lines → ⊥
+never_overfull None lines none over = over
+never_overfull (Some gate) [] none over = over
+never_overfull (Some gate) (line ∷ lines) none over = cc

@@ -1,0 +1,80 @@
+ghost use Rattle.std.specs.Prelude.{◌≡◌, ◌≤◌, ℕ, List, None, Some, length};
+ghost use Rattle.std.specs.List.{AllByRecursion};
+ghost use Rattle.djq_disk.specs.History.{WhereTold};
+ghost use Rattle.djq_journal.specs.Format.{IsLine};
+ghost use Rattle.djq_journal.specs.Logging.{Keeps, FillsLog, CountsKept};
+
+use crate::group::Group;
+use crate::journal::{Appended, Journal};
+use djq_disk::Disk;
+use std::marker::Model;
+
+/// Whether a group was kept.
+#[derive(Clone, Copy, Debug, PartialEq, Eq)]
+pub enum Kept {
+    /// All of it is, or lines are kept nowhere.
+    All,
+    /// The disk failed. A stop leaves the whole group or nothing of it.
+    Failed,
+    /// The journal is full. Nothing was written.
+    Full,
+}
+
+/// Where lines are kept: in a journal, or nowhere. It is seen as the place of the journal's gate.
+#[derive(Debug, Drop)]
+pub struct Log {
+    journal: Option<Journal>,
+}
+
+impl Model for Log {
+    ghost use Rattle.std.specs.Prelude.{ℕ, Option};
+
+    ghost Value = { Option ℕ };
+
+    ghost view = { λ l. l.journal };
+}
+
+impl Log {
+    /// Lines are kept nowhere.
+    pub fn nowhere() -> Self
+        ensures { result ≡ None }
+    {
+        Log { journal: None }
+    }
+
+    /// Lines are kept in this journal, which is idle.
+    pub fn of(journal: Journal) -> Self
+        ensures { result ≡ Some journal }
+    {
+        Log {
+            journal: Some(journal),
+        }
+    }
+
+    /// Keeps a group of lines, as a whole. A group without lines asks nothing of the disk.
+    ///
+    /// Where it isn't kept the journal is gone, and lines are kept nowhere from then on: who wants them
+    /// kept doesn't go on.
+    pub fn keep<D: Disk, G: Group>(&mut self, disk: &mut D, group: &G) -> Kept
+        requires { AllByRecursion IsLine (G.lines group.now) }
+        ensures nowhere { self.old ≡ None → (result ≡ Kept.All) × (self.new ≡ None) }
+        ensures room { FillsLog result self.old (G.lines group.now) }
+        ensures told { WhereTold (D.told disk.old) (D.told disk.new) (Keeps result self.old self.new (G.lines group.now)) }
+        ensures faults { CountsKept result (D.faults disk.old) (D.faults disk.new) }
+    {
+        let Some(_first) = group.line(0) else {
+            return Kept::All;
+        };
+        let Some(journal) = self.journal.take() else {
+            return Kept::All;
+        };
+        match journal.append_all(disk, group) {
+            Appended::Done(next) => {
+                self.journal = Some(next);
+                Kept::All
+            }
+            Appended::Failed => Kept::Failed,
+            Appended::Full => Kept::Full,
+        }
+    }
+}
