@@ -113,13 +113,15 @@ fn put<L: Ledgers>(
     ensures live { OnOk result (IsLive catalog.new live.new) }
 {
     added_came();
+    copies_keep_rows();
+    live_stays();
     let cells = cells(catalog, id, row)?;
     catalog.laws();
     let outcome = catalog.add_row(id, cells.as_slice(), &mut steps.rows)?;
     catalog.laws();
     match outcome {
-        AddOutcome::Same => Ok(vec![in alloc; 0]?),
-        AddOutcome::Added => come(alloc, catalog, live, id, cells.as_slice(), steps),
+        AddOutcome::More(_copies) => Ok(vec![in alloc; 0]?),
+        AddOutcome::First => come(alloc, catalog, live, id, cells.as_slice(), steps),
     }
 }
 
@@ -157,13 +159,16 @@ fn take<L: Ledgers>(
     ensures live { OnOk result (IsLive catalog.new live.new) }
 {
     deleted_went();
+    copies_keep_rows();
+    live_stays();
     let cells = cells(catalog, id, row)?;
     catalog.laws();
     let outcome = catalog.delete_row(id, cells.as_slice(), &mut steps.rows);
     catalog.laws();
     match outcome {
         DeleteOutcome::Absent => Ok(vec![in alloc; 0]?),
-        DeleteOutcome::Removed => go(alloc, catalog, live, id, cells.as_slice(), steps),
+        DeleteOutcome::Left(_copies) => Ok(vec![in alloc; 0]?),
+        DeleteOutcome::Last => go(alloc, catalog, live, id, cells.as_slice(), steps),
     }
 }
 
