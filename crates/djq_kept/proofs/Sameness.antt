@@ -38,7 +38,7 @@ use Rattle.djq_model.proofs.Counted.{tuples_moved, has_moved, differ_moved, copi
 use Rattle.djq_laws.proofs.Apart.{nothing_apart}
 use Rattle.djq_laws.proofs.Changing.{all_changed, all_found}
 use Rattle.djq_laws.proofs.Answering.{reordered_counted, reordered_rows}
-use Rattle.djq_kept.specs.Kept.{IsSameStore, HasRowsOnce, Follows}
+use Rattle.djq_kept.specs.Kept.{IsSameStore, HasRowsOnce, Follows, FollowersHaveCopies}
 
 -- ---- relations
 
@@ -178,6 +178,9 @@ module _ (a b : Store) (n : Bytes) (row : Tuple) (f : Follows a b) where
 
   pub same_copies : copies_of b n row ≡ copies_of a n row
   same_copies = copies_moved (counted_of a.relations n) (counted_of b.relations n) row before_once moved
+
+pub followers_have_copies : FollowersHaveCopies
+followers_have_copies a b f n row = same_copies a b n row f
 
 -- why a row doesn't suit a relation, and what else refuses it
 abbrev row_by : Bool → List ColumnType → Tuple → List (Bool × Refusal) → Option Refusal

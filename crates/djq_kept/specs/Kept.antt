@@ -1,11 +1,12 @@
 -- The lines that a run kept, loaded, give what the run left.
 use Rattle.std.specs.Prelude.{List, [], ◌∷◌, ◌++◌, ◌≡◌, ◌≤◌, true, false, length, All}
 use Rattle.djq_model.specs.declared.relation.Relation.{Relation}
-use Rattle.djq_model.specs.Data.{Bytes, tuples_in}
+use Rattle.djq_model.specs.Data.{Bytes, Tuple, tuples_in}
 use Rattle.djq_model.specs.Answer.{AreDifferent}
 use Rattle.djq_model.specs.Known.{knows}
 use Rattle.djq_lines.specs.declared.limits.TheConstants.{LINE_BYTES}
 use Rattle.djq_machine.specs.State.{Store, State, opening}
+use Rattle.djq_machine.specs.Store.{copies_of}
 use Rattle.djq_machine.specs.Step.{SameRelations}
 use Rattle.djq_machine.specs.Run.{Did, Run, Group, groups_of, lines_in}
 use Rattle.djq_laws.specs.Sound.{AreApart, IsStart}
@@ -33,6 +34,11 @@ pub record Follows (a b : Store) : Type 0 where
   pub rows : All HasRowsOnce b.relations
   pub among : AreKnown b.texts a.texts
   pub once : AreApart b.texts
+
+-- So it has as many copies of each row.
+abbrev pub FollowersHaveCopies : Type 0
+FollowersHaveCopies = (a b : Store) → Follows a b → (name : Bytes) (row : Tuple)
+    → copies_of b name row ≡ copies_of a name row
 
 -- Lines can be loaded into a store, and none is refused; and whatever they are loaded to, where
 -- memory suffices, follows this store.

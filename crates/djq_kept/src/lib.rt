@@ -27,7 +27,8 @@
 //! were there before, and [`stops_reload`] where a stop left the first groups of lines, whole.
 #![tactic(auto)]
 
-ghost use Rattle.djq_kept.specs.Kept.{FoundIsStart, KeptAreLines, KeptLinesLoad, RunsReload, StopsReload};
+ghost use Rattle.djq_kept.specs.Kept.{FoundIsStart, KeptLinesLoad, FollowersHaveCopies};
+ghost use Rattle.djq_kept.specs.Kept.{RunsReload, StopsReload, KeptAreLines};
 
 /// What lines, found at a start, give is a state to start from: relations, queries and known texts
 /// are without repeats, and so are the rows of a relation; these are of its columns' types, each
@@ -41,6 +42,11 @@ pub fn found_is_start()
 /// some order, the same queries and number of changes.
 pub fn kept_lines_load()
     ensures { KeptLinesLoad }
+{}
+
+/// A store that follows another has as many copies of each row.
+pub fn followers_have_copies()
+    ensures { FollowersHaveCopies }
 {}
 
 /// A run that began with what lines, found at its start, gave: these lines and those that it kept

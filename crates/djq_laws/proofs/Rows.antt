@@ -265,7 +265,7 @@ added old name row (Err NoMemory) new h = not_added old name row NoMemory new h
 added old name row (Err r) new h = learns_keeps old new (not_added old name row r new h)
 
 -- how many copies each row of a relation has, where all are sound
-counted_sound : (rs : List Relation) (name : Bytes) (o : Option Relation) → relation_of rs name ≡ o
+pub counted_sound : (rs : List Relation) (name : Bytes) (o : Option Relation) → relation_of rs name ≡ o
     → All IsSoundRelation rs → All (λ (c : CountedRow). IsCopyCount c.copies) (counted_in o)
 counted_sound rs name None e sound = All-nil (λ (c : CountedRow). IsCopyCount c.copies)
 counted_sound rs name (Some x) e sound =

@@ -38,6 +38,7 @@ ghost use Rattle.djq_laws.specs.Watched.{WatchersHaveAnswers};
 ghost use Rattle.djq_laws.specs.Staying.{WatchersStay};
 ghost use Rattle.djq_laws.specs.Live.{ListingsStayLive};
 ghost use Rattle.djq_laws.specs.Sound.{RunsKeepSound, OpeningIsStart, StatesAreSound};
+ghost use Rattle.djq_laws.specs.Copies.{RowsHaveCopies, AddsCopy, TakesCopy};
 ghost use Rattle.djq_laws.specs.Listed.{GivenIsTold, ListedIsTold};
 
 /// A session that is open stays so in every step that doesn't close it.
@@ -79,6 +80,16 @@ pub fn states_are_sound()
     ensures kept { RunsKeepSound }
     ensures opening { OpeningIsStart }
     ensures reached { StatesAreSound }
+{}
+
+/// Relations are bags. A row is there exactly where it has a copy. An `add` that is done makes one
+/// copy of its row more, a `del` one less where there is one, and each tells how many there are
+/// then; every other row has as many as before. A change is counted exactly where a row gets its
+/// first copy or loses its last.
+pub fn copies_are_counted()
+    ensures there { RowsHaveCopies }
+    ensures added { AddsCopy }
+    ensures taken { TakesCopy }
 {}
 
 /// The open sessions stay by rising id, along every run.
