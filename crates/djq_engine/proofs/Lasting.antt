@@ -1,6 +1,6 @@
 -- What the last change told, and whom it affected, once a relation is made or a query comes or goes.
-use Rattle.std.proofs.Common.{ℕ, zero, suc, List, [], ◌∷◌, ◌++◌, ◌≡◌, ◌≢◌, ◌<◌, ◌≤◌, ◌⊎◌, inl, inr, Bool, false, refl, sym, ap, ap₂, ◌∙◌, subst, length, set, arith}
-use Rattle.std.specs.Prelude.{◌==◌, Option, None, Some, IsSomeAnd, All, map, filter, slice_index_or}
+use Rattle.std.proofs.Common.{ℕ, zero, suc, List, [], ◌∷◌, ◌++◌, ◌≡◌, ◌≢◌, ◌<◌, ◌≤◌, ◌⊎◌, inl, inr, false, refl, sym, ap, ap₂, ◌∙◌, subst, length, set, arith}
+use Rattle.std.specs.Prelude.{Option, None, Some, All, map, filter, slice_index_or}
 use Rattle.std.proofs.lemmas.Bool.{cases_lt, eq-eqb, false≢true}
 use Rattle.std.proofs.lemmas.List.{get_or-set_other, get_or-set_same, get_or_past}
 use Rattle.djq_model.specs.declared.relation.Relation.{Relation}
@@ -11,7 +11,7 @@ use Rattle.djq_cursor.specs.Log.{Log}
 use Rattle.djq_rows.specs.Catalog.{Catalog, relation_at}
 use Rattle.djq_live.specs.Live.{Live, IsShowable, ShowableStays}
 use Rattle.djq_engine.specs.declared.cursor.QueryId.{QueryId}
-use Rattle.djq_engine.specs.Kept.{Kept, Registered, same_query, told_at, SameTellings, AffectedAre, TellsOf}
+use Rattle.djq_engine.specs.Kept.{Registered, same_query, told_at, SameTellings, TellsOf}
 use Rattle.djq_engine.specs.Places.{place_at, readers_at, id_at, no_log, log_at, told_of, told_from, registered_as, registered_in, Watches, kept_of}
 use Rattle.djq_engine.specs.Placing.{SameLogs}
 use Rattle.djq_engine.specs.Sound.{IsSound}

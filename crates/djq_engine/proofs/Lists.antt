@@ -5,7 +5,7 @@ use Rattle.std.proofs.lemmas.List.{get_or-set_same, get_or-set_other, get_or_def
 use Rattle.std.specs.Prelude.{Option, None, Some}
 use Rattle.djq_cursor.specs.Log.{Log}
 use Rattle.djq_live.specs.Live.{Live}
-use Rattle.djq_engine.specs.Places.{place_at, readers_at, left, log_at, no_log}
+use Rattle.djq_engine.specs.Places.{place_at, readers_at, left, no_log}
 use Rattle.djq_model.specs.declared.relation.Relation.{Relation}
 use Rattle.djq_model.specs.declared.query.Query.{Query}
 use Rattle.djq_machine.specs.Stale.{reads}

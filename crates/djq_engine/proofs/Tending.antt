@@ -1,5 +1,5 @@
 -- What is done to the logs of the queries in places, one after another, and what listing counts.
-use Rattle.std.proofs.Common.{ℕ, zero, suc, List, [], ◌∷◌, ◌++◌, ◌+◌, ◌≡◌, ◌≢◌, ◌<◌, ◌≤◌, ◌⊎◌, inl, inr, Bool, true, false, refl, sym, ap, ◌∙◌, subst, length, get_or, set, take, arith, length-set}
+use Rattle.std.proofs.Common.{ℕ, zero, suc, List, [], ◌∷◌, ◌++◌, ◌+◌, ◌≡◌, ◌≢◌, ◌<◌, ◌≤◌, inl, inr, Bool, true, false, refl, sym, ap, ◌∙◌, subst, length, get_or, set, take, arith, length-set}
 use Rattle.std.specs.Prelude.{◌==◌, ◌||◌, ◌&&◌, Option, None, Some, IsSomeAnd, cond, map, nat_lt, sum_by, All, Result, Ok, Err, OnOk, OnErr}
 use Rattle.std.proofs.lemmas.Bool.{eqb-true, eq-eqb, false≢true}
 use Rattle.std.proofs.lemmas.List.{get_or-set_same, get_or-set_other, take_more, get_or_default}
@@ -82,6 +82,10 @@ on_both (Err e) f h k = tt
 pub on_err : {A E : Type 0} {P Q : Type 0} (r : Result A E) → (P → Q) → OnErr r P → OnErr r Q
 on_err (Ok a) f h = tt
 on_err (Err e) f h = f h
+
+pub on_refused : {A E : Type 0} {P Q R : Type 0} (r : Result A E) → (P → Q → R) → OnErr r P → OnErr r Q → OnErr r R
+on_refused (Ok a) f h k = tt
+on_refused (Err e) f h k = f h k
 
 -- a place that is to be reached is there
 pub place_within : (places : List ℕ) (k d : ℕ) (gs : List (Option Live)) (P : Live → Type 0) → k < length places → AllAt places gs P → get_or places k d < length gs

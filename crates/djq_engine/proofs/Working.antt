@@ -1,6 +1,6 @@
 -- How much updates of the queries in places count, one after another.
 use Rattle.std.proofs.Common.{ℕ, List, [], ◌∷◌, ◌++◌, ◌+◌, ◌*◌, ◌≡◌, ◌<◌, ◌≤◌, Bool, true, false, refl, sym, ap, ap₂, ◌∙◌, subst, length, get_or, take, arith, mul-le-mul_left}
-use Rattle.std.specs.Prelude.{◌==◌, ◌||◌, Option, None, Some, IsSomeAnd, is_some, cond, Contains, filter, map, sum_by}
+use Rattle.std.specs.Prelude.{◌==◌, ◌||◌, Option, None, Some, IsSomeAnd, is_some, cond, min, filter, map, sum_by}
 use Rattle.std.proofs.lemmas.Bool.{eqb-true, eq-eqb, false≢true}
 use Rattle.std.proofs.lemmas.List.{take_more, length-map}
 use Rattle.std.proofs.lemmas.List.Sums.{sum_by-cons, sum_by-append, sum_by-take-le, sum_by_more}
@@ -9,27 +9,31 @@ use Rattle.djq_model.specs.Data.{Bytes, bytes_eq}
 use Rattle.djq_model.specs.declared.relation.Relation.{Relation}
 use Rattle.djq_model.specs.declared.query.Query.{Query}
 use Rattle.djq_model.specs.declared.query.Atom.{Atom}
+use Rattle.djq_model.specs.Listed.{Listed, a_query}
+use Rattle.djq_hyper.specs.Flat.{IsFlat}
+use Rattle.djq_lines.specs.Hypergraph.{edges_of, head_of}
 use Rattle.djq_lines.specs.Variables.{Label, variables_of}
+use Rattle.djq_lines.specs.declared.answer.Shape.TheVariants.{Flat}
 use Rattle.djq_machine.specs.Stale.{reads, listed_reads, by_relation}
 use Rattle.djq_machine.specs.Changes.{one_change}
+use Rattle.djq_machine.specs.Store.{IsShapeOf}
 use Rattle.djq_machine.proofs.Reading.{reads_atom}
-use Rattle.djq_propagate.specs.Updates.{HasAtMost}
 use Rattle.djq_query.specs.declared.numbered.Variable.{Variable}
 use Rattle.djq_query.specs.declared.numbered.NumberedAtom.{NumberedAtom}
 use Rattle.djq_query.specs.Numbered.{Numbered}
 use Rattle.djq_rows.specs.Catalog.{Catalog, relation_at}
 use Rattle.djq_live.specs.Asked.{AreAtomsOf}
 use Rattle.djq_live.specs.Live.{Live, IsKept}
-use Rattle.djq_live.specs.Updating.{CountsUpdate, LeavesAreSmall, atoms_over, update_bound}
+use Rattle.djq_live.specs.Updating.{LeavesAreSmall, atoms_over, flat_bound, update_bound}
 use Rattle.djq_live.proofs.Sizing.{all_grown}
 use Rattle.djq_engine.specs.declared.parts.Parts.{Parts}
 use Rattle.djq_engine.specs.Kept.{Registered, registered_at, readers_of}
 use Rattle.djq_engine.specs.Places.{place_at, is_live, is_reader, readers_at, query_in, id_at, registered_as}
 use Rattle.djq_engine.specs.Sound.{AreOnce}
-use Rattle.djq_engine.specs.Reaching.{DoneAt, Reach, AllAt, TakesIn, Remains}
-use Rattle.djq_engine.specs.Tending.{Works, work_of, work_at}
+use Rattle.djq_engine.specs.Reaching.{DoneAt, Reach, TakesIn, Remains}
+use Rattle.djq_engine.specs.Tending.{IsBounded, CountsEither, Works, work_of, work_at}
 use Rattle.djq_engine.specs.Changing.{WorksRows}
-use Rattle.djq_engine.specs.Watching.{AreFew, CountsUpdates, update_steps}
+use Rattle.djq_engine.specs.Watching.{AreBounded, CountsUpdates, IsBoundedBy, bounded_steps}
 use Rattle.djq_engine.specs.Whole.{kept_in, IsWhole}
 use Rattle.djq_engine.proofs.Listing.{apart, reader_more, or_true}
 use Rattle.djq_engine.proofs.Carrying.{reader_is, reader_reads}
@@ -58,58 +62,56 @@ sums_le f g h (x ∷ xs) k =
     let rest = sums_le f g h xs (λ i e. k i (behind x xs i e)) in
     omega (arith, k x (here x xs), rest, sum_by-cons f x xs, sum_by-cons g (h x) (map h xs))
 
-sums_twice : (f g : ℕ → ℕ) (xs : List ℕ) → ((i : ℕ) → is_reader xs i ≡ true → f i ≤ 2 * g i)
-    → sum_by f xs ≤ 2 * sum_by g xs
-sums_twice f g [] k = omega arith
-sums_twice f g (x ∷ xs) k =
-    let rest = sums_twice f g xs (λ i e. k i (behind x xs i e)) in
-    omega (arith, k x (here x xs), rest, sum_by-cons f x xs, sum_by-cons g x xs)
+sums_both : (f g h : ℕ → ℕ) (xs : List ℕ) → ((i : ℕ) → is_reader xs i ≡ true → f i + g i ≤ h i)
+    → sum_by f xs + sum_by g xs ≤ sum_by h xs
+sums_both f g h [] k = omega arith
+sums_both f g h (x ∷ xs) k =
+    let rest = sums_both f g h xs (λ i e. k i (behind x xs i e)) in
+    omega (arith, k x (here x xs), rest, sum_by-cons f x xs, sum_by-cons g x xs, sum_by-cons h x xs)
 
 -- ---- places one after another
 
 pub works_none : (gs : List (Option Live)) (at times x : ℕ) → Works [] gs at times x x
-works_none gs at times x n few = omega arith
+works_none gs at times x n flat few = omega arith
 
 pub works_one : (gs : List (Option Live)) (at times i : ℕ) (l : Live) (x y : ℕ)
-    → place_at gs i ≡ Some l → CountsUpdate times l at x y → Works (i ∷ []) gs at times x y
-works_one gs at times i l x y there h n few =
-    let k : HasAtMost l.reducts n =
-    subst (λ (o : Option Live). IsSomeAnd o (λ m. HasAtMost m.reducts n)) there
+    → place_at gs i ≡ Some l → CountsEither times l at x y → Works (i ∷ []) gs at times x y
+works_one gs at times i l x y there h n flat few =
+    let k : IsBounded n (flat i) l =
+    subst (λ (o : Option Live). IsSomeAnd o (IsBounded n (flat i))) there
     (few i (only i i ∙ eq-eqb i i refl)) in
-    let single : sum_by (work_at gs at n) (i ∷ []) ≡ work_at gs at n i =
-    omega (arith, sum_by-cons (work_at gs at n) i []) in
-    subst (λ (w : ℕ). y ≤ x + times * w) (sym (single ∙ ap (work_of at n) there)) (h n k)
+    let single : sum_by (work_at gs at times n flat) (i ∷ []) ≡ work_at gs at times n flat i =
+    omega (arith, sum_by-cons (work_at gs at times n flat) i []) in
+    subst (λ (w : ℕ). y ≤ x + w) (sym (single ∙ ap (work_of at times n (flat i)) there))
+    (chosen (flat i) k)
+  where
+    chosen : (b : Bool) → IsBounded n b l → y ≤ x + work_of at times n b (Some l)
+    chosen true flat_one = h.1 flat_one
+    chosen false small = h.0 n small
 
-add_up : (t s w x y z : ℕ) → y ≤ x + t * s → z ≤ y + t * w → z ≤ x + t * (s + w)
-add_up t s w x y z first second =
-    let product : t * (s + w) ≡ t * s + t * w = omega arith in
-    omega (arith, first, second, product)
-
-works_more : (done : List ℕ) (i : ℕ) (gs hs : List (Option Live)) (at times x y z : ℕ)
+pub works_more : (done : List ℕ) (i : ℕ) (gs hs : List (Option Live)) (at times x y z : ℕ)
     → place_at hs i ≡ place_at gs i → Works done gs at times x y → Works (i ∷ []) hs at times y z
     → Works (done ++ i ∷ []) gs at times x z
-works_more done i gs hs at times x y z same a b n few =
-    let first = a n (λ j e. few j (reader_more done i j ∙ ap (λ t. t || (i == j)) e)) in
+works_more done i gs hs at times x y z same a b n flat few =
+    let first = a n flat (λ j e. few j (reader_more done i j ∙ ap (λ t. t || (i == j)) e)) in
     let at_end : is_reader (done ++ i ∷ []) i ≡ true =
     reader_more done i i ∙ ap (λ t. is_reader done i || t) (eq-eqb i i refl)
     ∙ or_true (is_reader done i) in
-    let second = b n (λ j e.
-    subst (λ (k : ℕ). IsSomeAnd (place_at hs k) (λ l. HasAtMost l.reducts n))
+    let second = b n flat (λ j e.
+    subst (λ (k : ℕ). IsSomeAnd (place_at hs k) (IsBounded n (flat k)))
     (eqb-true i j (sym (only i j) ∙ e))
-    (subst (λ (o : Option Live). IsSomeAnd o (λ l. HasAtMost l.reducts n)) (sym same)
+    (subst (λ (o : Option Live). IsSomeAnd o (IsBounded n (flat i))) (sym same)
     (few i at_end))) in
-    let one : sum_by (work_at hs at n) (i ∷ []) ≡ work_at gs at n i =
-    omega (arith, sum_by-cons (work_at hs at n) i [], ap (work_of at n) same) in
-    let all : sum_by (work_at gs at n) (done ++ i ∷ [])
-    ≡ sum_by (work_at gs at n) done + work_at gs at n i =
+    let one : sum_by (work_at hs at times n flat) (i ∷ []) ≡ work_at gs at times n flat i =
+    omega (arith, sum_by-cons (work_at hs at times n flat) i [], ap (work_of at times n (flat i)) same) in
     omega (
       arith,
-      sum_by-append (work_at gs at n) done (i ∷ []),
-      sum_by-cons (work_at gs at n) i [],
-    ) in
-    subst (λ (w : ℕ). z ≤ x + times * w) (sym all)
-    (add_up times (sum_by (work_at gs at n) done) (work_at gs at n i) x y z first
-    (subst (λ (w : ℕ). z ≤ y + times * w) one second))
+      first,
+      second,
+      one,
+      sum_by-append (work_at gs at times n flat) done (i ∷ []),
+      sum_by-cons (work_at gs at times n flat) i [],
+    )
 
 pub works_next : (R : Live → Live → Type 0) (places : List ℕ) (k d : ℕ)
     (gs hs : List (Option Live)) (at times x y z : ℕ) → AreOnce places → k < length places
@@ -123,10 +125,9 @@ works_next R places k d gs hs at times x y z o low r a b =
 -- the front of the places counts no more than all
 pub works_front : (places : List ℕ) (k : ℕ) (gs : List (Option Live)) (at times x y : ℕ)
     → Works (take k places) gs at times x y → Works places gs at times x y
-works_front places k gs at times x y h n few =
-    let part = h n (λ j e. few j (reader_front places k j e)) in
-    let product = mul-le-mul_left times (sum_by-take-le (work_at gs at n) places k) in
-    omega (arith, part, product)
+works_front places k gs at times x y h n flat few =
+    let part = h n flat (λ j e. few j (reader_front places k j e)) in
+    omega (arith, part, sum_by-take-le (work_at gs at times n flat) places k)
 
 -- ---- rows that are given back
 
@@ -143,19 +144,28 @@ twice p n =
     let b : p * (n + 1 + 1) ≡ p * n + 2 * p = omega arith in
     omega arith
 
-taken_work : (at : ℕ) (cells : List ℕ) (n : ℕ) (p q : Option Live)
-    → DoneAt (TakesIn at cells) true p q → IsSomeAnd p (λ l. HasAtMost l.reducts n)
-    → IsSomeAnd q (λ l. HasAtMost l.reducts (n + 1)) × (work_of at (n + 1) q ≤ 2 * work_of at n p)
-taken_work at cells n None None t h = absurd h
-taken_work at cells n None (Some m) t h = absurd h
-taken_work at cells n (Some l) None t h = absurd t
-taken_work at cells n (Some l) (Some m) t h = (
+-- a query that took a row in and gives it back counts three times its bound at most; a flat one twice
+taken_work : (at : ℕ) (cells : List ℕ) (n : ℕ) (b : Bool) (p q : Option Live)
+    → DoneAt (TakesIn at cells) true p q → IsSomeAnd p (IsBounded n b)
+    → IsSomeAnd q (IsBounded (n + 1) b)
+    × (work_of at 1 n b p + work_of at 1 (n + 1) b q ≤ work_of at 3 n b p)
+taken_work at cells n b None None t h = absurd h
+taken_work at cells n b None (Some m) t h = absurd h
+taken_work at cells n b (Some l) None t h = absurd t
+taken_work at cells n true (Some l) (Some m) t h = (
+  subst (λ (q : Query). IsFlat (edges_of q) (head_of q)) (sym t.same.query) h,
+  subst (λ (x : Numbered). 1 * (atoms_over l at * flat_bound l)
+      + 1 * (length (filter (λ a. a.relation == at) x.atoms) * (16 * (length x.atoms + length x.variables)))
+      ≤ 2 * (atoms_over l at * flat_bound l)) (sym t.same.numbered) (omega arith),
+)
+taken_work at cells n false (Some l) (Some m) t h = (
   all_grown l.reducts m.reducts n t.same.tree t.grows h,
-  subst (λ (x : Numbered). length (filter (λ a. a.relation == at) x.atoms)
-      * (16 * ((length x.atoms + length x.variables) * (n + 1 + 1)))
-      ≤ 2 * (atoms_over l at * update_bound l n)) (sym t.same.numbered)
-      (double (atoms_over l at) (update_bound l (n + 1)) (update_bound l n)
-      (twice (length (l.numbered).atoms + length (l.numbered).variables) n)),
+  subst (λ (x : Numbered). 1 * (atoms_over l at * update_bound l n)
+      + 1 * (length (filter (λ a. a.relation == at) x.atoms)
+      * (16 * ((length x.atoms + length x.variables) * (n + 1 + 1))))
+      ≤ 3 * (atoms_over l at * update_bound l n)) (sym t.same.numbered)
+      (let d = double (atoms_over l at) (update_bound l (n + 1)) (update_bound l n)
+      (twice (length (l.numbered).atoms + length (l.numbered).variables) n) in omega arith),
 )
 
 pub works_back : (at : ℕ) (cells places : List ℕ) (k d : ℕ) (old now mid : List (Option Live))
@@ -164,31 +174,31 @@ pub works_back : (at : ℕ) (cells places : List ℕ) (k d : ℕ) (old now mid :
     → Reach (get_or places k d ∷ []) Remains now mid → Works (take k places) old at 1 x y
     → Works (get_or places k d ∷ []) now at 3 y z → Works (take k places) mid at 1 z u
     → Works places old at 3 x u
-works_back at cells places k d old now mid x y z u o low took last first second third n few =
+works_back at cells places k d old now mid x y z u o low took last first second third n flat few =
+    let i = get_or places k d in
     let same = unreached (TakesIn at cells) places k d old now o low took in
-    let a = first n (λ j e. few j (reader_front places k j e)) in
-    let b = second n (λ j e.
-    subst (λ (i : ℕ). IsSomeAnd (place_at now i) (λ l. HasAtMost l.reducts n))
-    (eqb-true (get_or places k d) j (sym (only (get_or places k d) j) ∙ e))
-    (subst (λ (q : Option Live). IsSomeAnd q (λ l. HasAtMost l.reducts n)) (sym same)
-    (few (get_or places k d) (reader_there places k d low)))) in
-    let c = third (n + 1) (λ j e. (grown j e).0) in
-    let front = sums_twice (work_at mid at (n + 1)) (work_at old at n) (take k places)
-    (λ j e. (grown j e).1) in
-    let one : sum_by (work_at now at n) (get_or places k d ∷ [])
-    ≡ work_at old at n (get_or places k d) =
+    let a = first n flat (λ j e. few j (reader_front places k j e)) in
+    let b = second n flat (λ j e.
+    subst (λ (q : ℕ). IsSomeAnd (place_at now q) (IsBounded n (flat q)))
+    (eqb-true i j (sym (only i j) ∙ e))
+    (subst (λ (q : Option Live). IsSomeAnd q (IsBounded n (flat i))) (sym same)
+    (few i (reader_there places k d low)))) in
+    let c = third (n + 1) flat (λ j e. (grown j e).0) in
+    let front = sums_both (work_at old at 1 n flat) (work_at mid at 1 (n + 1) flat)
+    (work_at old at 3 n flat) (take k places) (λ j e. (grown j e).1) in
+    let one : sum_by (work_at now at 3 n flat) (i ∷ []) ≡ work_at old at 3 n flat i =
     omega (
       arith,
-      sum_by-cons (work_at now at n) (get_or places k d) [],
-      ap (work_of at n) same,
+      sum_by-cons (work_at now at 3 n flat) i [],
+      ap (work_of at 3 n (flat i)) same,
     ) in
-    let more = sum_by_more (work_at old at n) places k d low in
-    let all = sum_by-take-le (work_at old at n) places (k + 1) in
+    let more = sum_by_more (work_at old at 3 n flat) places k d low in
+    let all = sum_by-take-le (work_at old at 3 n flat) places (k + 1) in
     omega (arith, a, b, c, front, one, more, all)
   where
     grown : (j : ℕ) → is_reader (take k places) j ≡ true
-        → IsSomeAnd (place_at mid j) (λ l. HasAtMost l.reducts (n + 1))
-        × (work_at mid at (n + 1) j ≤ 2 * work_at old at n j)
+        → IsSomeAnd (place_at mid j) (IsBounded (n + 1) (flat j))
+        × (work_at old at 1 n flat j + work_at mid at 1 (n + 1) flat j ≤ work_at old at 3 n flat j)
     grown j e =
         let other : (get_or places k d == j) ≡ false = apart (get_or places k d) j (λ s.
         false≢true
@@ -196,9 +206,9 @@ works_back at cells places k d old now mid x y z u o low took last first second 
         let middle : place_at mid j ≡ place_at now j =
         subst (λ (b : Bool). DoneAt Remains b (place_at now j) (place_at mid j))
         (only (get_or places k d) j ∙ other) (last.each j) in
-        subst (λ (q : Option Live). IsSomeAnd q (λ l. HasAtMost l.reducts (n + 1))
-        × (work_of at (n + 1) q ≤ 2 * work_at old at n j)) (sym middle)
-        (taken_work at cells n (place_at old j) (place_at now j)
+        subst (λ (q : Option Live). IsSomeAnd q (IsBounded (n + 1) (flat j))
+        × (work_at old at 1 n flat j + work_of at 1 (n + 1) (flat j) q ≤ work_at old at 3 n flat j)) (sym middle)
+        (taken_work at cells n (flat j) (place_at old j) (place_at now j)
         (subst (λ (b : Bool). DoneAt (TakesIn at cells) b (place_at old j) (place_at now j)) e
         (took.each j)) (few j (reader_front places k j e)))
 
@@ -213,16 +223,20 @@ atoms_many c vs (a ∷ atoms) (m ∷ ms) h =
     let more = atoms_many c vs atoms ms h.1 in
     omega (arith, more)
 
-abbrev text_bound : Query → ℕ → ℕ
-text_bound q n = 16 * ((length q.atoms + length (variables_of q.atoms)) * (n + 1))
+abbrev text_size : Query → ℕ
+text_size q = length q.atoms + length (variables_of q.atoms)
 
-bound_of_text : (c : Catalog) (l : Live) (n : ℕ) → IsKept c l → update_bound l n ≡ text_bound l.query n
-bound_of_text c l n k =
+size_of_text : (c : Catalog) (l : Live) → IsKept c l
+    → length (l.numbered).atoms + length (l.numbered).variables ≡ text_size l.query
+size_of_text c l k =
     let asked = k.over.asked in
-    ap₂ (λ (m v : ℕ). 16 * ((m + v) * (n + 1)))
+    ap₂ (λ (m v : ℕ). m + v)
     (atoms_many c (l.numbered).variables (l.query).atoms (l.numbered).atoms asked.atoms)
     (sym (length-map (l.numbered).variables (λ (v : Variable). v.name))
     ∙ ap (λ (ls : List Label). length ls) asked.variables)
+
+bounds : {x y : ℕ} (f : ℕ → ℕ) → x ≡ y → f x ≤ f y
+bounds {x} {y} f e = subst (λ (z : ℕ). f x ≤ f z) e (omega arith)
 
 -- ---- as contracts see it
 
@@ -256,23 +270,36 @@ module _ (old : Parts) (s : IsWhole old) (at : ℕ) (low : at < length (old.cata
       ∙ ap (λ b. cond b (Some (registered_as old.queries.items old.watchers.items i)) None)
       (ap is_some (reads_there i e).is)
 
-  small : (n : ℕ) → AreFew (kept_in old) (one_change name after) n
-      → AllAt (readers_at old.readers.items at) old.queries.items (λ l. HasAtMost l.reducts n)
-  small n few i e =
-      let t = reads_there i e in
-      subst (λ (o : Option Live). IsSomeAnd o (λ l. HasAtMost l.reducts n)) (sym t.is)
-      (law old.catalog t.query n (s.live i t.query t.is).kept (record {
-        each = λ a has.
-            few (id_at i) (registered_as old.queries.items old.watchers.items i)
-            (registered_here i e) (reads_name i e) a.relation
-            (subst (λ (o : Option Live). listed_reads (query_in o) a.relation ≡ true) (sym t.is)
-            (reads_atom t.query.query a has));
-      }))
+  -- what is registered in a place
+  abbrev seen : ℕ → Listed
+  seen i = query_in (place_at old.queries.items i)
 
-  steps_of : (n i : ℕ) → is_reader (readers_at old.readers.items at) i ≡ true
-      → work_at old.queries.items at n i
-      ≤ update_steps (one_change name after) n (query_in (place_at old.queries.items i))
-  steps_of n i e =
+  bounded : (n : ℕ) (as_flat : Listed → Bool) → AreBounded (kept_in old) (one_change name after) n as_flat
+      → (i : ℕ) → is_reader (readers_at old.readers.items at) i ≡ true
+      → IsSomeAnd (place_at old.queries.items i) (IsBounded n (as_flat (seen i)))
+  bounded n as_flat few i e =
+      let t = reads_there i e in
+      subst (λ (o : Option Live). IsSomeAnd o (IsBounded n (as_flat (seen i)))) (sym t.is)
+      (chosen (as_flat (seen i)) (few (id_at i) (registered_as old.queries.items old.watchers.items i)
+      (registered_here i e) (reads_name i e)))
+    where
+      chosen : (b : Bool) → IsBoundedBy (old.catalog).relations n b (seen i) → IsBounded n b (reads_there i e).query
+      chosen true flat =
+          subst (λ (o : Option Live). IsShapeOf (query_in o) Flat) (reads_there i e).is flat
+      chosen false few =
+          let t = reads_there i e in
+          law old.catalog t.query n (s.live i t.query t.is).kept (record {
+            each = λ a has.
+                few a.relation
+                (subst (λ (o : Option Live). listed_reads (query_in o) a.relation ≡ true) (sym t.is)
+                (reads_atom t.query.query a has));
+          })
+
+  steps_of : (times n : ℕ) (as_flat : Listed → Bool) (i : ℕ)
+      → is_reader (readers_at old.readers.items at) i ≡ true
+      → work_at old.queries.items at times n (λ j. as_flat (seen j)) i
+      ≤ bounded_steps (one_change name after) times n (as_flat (seen i)) (seen i)
+  steps_of times n as_flat i e =
       let t = reads_there i e in
       let l = t.query in
       let kept = (s.live i l t.is).kept in
@@ -282,26 +309,40 @@ module _ (old : Parts) (s : IsWhole old) (at : ℕ) (low : at < length (old.cata
       ≤ length (filter (λ a. bytes_eq a.relation x) (l.query).atoms)) named
       (atoms_of old.catalog at (l.numbered).variables (l.query).atoms (l.numbered).atoms
       kept.over.asked.atoms) in
-      subst (λ (o : Option Live). work_of at n o
-      ≤ update_steps (one_change name after) n (query_in o)) (sym t.is)
-      (mul-le (atoms_over l at) (update_bound l n)
-      (length (filter (λ a. bytes_eq a.relation name) (l.query).atoms)) (text_bound l.query n) fewer
-      (subst (λ (b : ℕ). update_bound l n ≤ b) (bound_of_text old.catalog l n kept) (omega arith)))
+      subst (λ (o : Option Live). work_of at times n (as_flat (seen i)) o
+      ≤ bounded_steps (one_change name after) times n (as_flat (seen i)) (query_in o))
+      (sym t.is)
+      (chosen (as_flat (seen i)) l kept fewer)
+    where
+      over : Query → ℕ
+      over q = length (filter (λ a. bytes_eq a.relation name) q.atoms)
+
+      chosen : (b : Bool) (l : Live) → IsKept old.catalog l → atoms_over l at ≤ over l.query
+          → work_of at times n b (Some l) ≤ bounded_steps (one_change name after) times n b (a_query l.query)
+      chosen true l kept fewer =
+          mul-le-mul_left (min times 2) (mul-le (atoms_over l at) (flat_bound l) (over l.query) (16 * text_size l.query)
+          fewer (bounds (λ size. 16 * size) (size_of_text old.catalog l kept)))
+      chosen false l kept fewer =
+          mul-le-mul_left times (mul-le (atoms_over l at) (update_bound l n) (over l.query)
+          (16 * (text_size l.query * (n + 1)))
+          fewer (bounds (λ size. 16 * (size * (n + 1))) (size_of_text old.catalog l kept)))
 
   pub counts_updates : (times before now : ℕ) → WorksRows at times old before now
       → CountsUpdates times (kept_in old) (one_change name after) before now
   counts_updates times before now works = record {
-    counted = λ n few.
-        let a = works n (small n few) in
-        let b = sums_le (work_at old.queries.items at n) (λ (r : Registered). update_steps (one_change name after) n r.query)
+    counted = λ n as_flat few.
+        let chosen : ℕ → Bool = λ i. as_flat (seen i) in
+        let steps : Registered → ℕ = λ r.
+        bounded_steps (one_change name after) times n (as_flat r.query) r.query in
+        let a = works n chosen (bounded n as_flat few) in
+        let b = sums_le (work_at old.queries.items at times n chosen) steps
         (registered_as old.queries.items old.watchers.items) (readers_at old.readers.items at)
-        (steps_of n) in
+        (steps_of times n as_flat) in
         let same = ap (λ (x : Bytes). readers_of (kept_in old).registered (one_change x after)) (sym named)
         ∙ readers_are old.catalog old.queries.items old.order old.readers.items
         old.watchers.items s at low after in
-        let c = mul-le-mul_left times
-        (subst (λ (rs : List Registered). sum_by (work_at old.queries.items at n)
-        (readers_at old.readers.items at) ≤ sum_by (λ r. update_steps (one_change name after) n r.query) rs)
-        (sym same) b) in
+        let c = subst (λ (rs : List Registered). sum_by (work_at old.queries.items at times n chosen)
+        (readers_at old.readers.items at) ≤ sum_by steps rs)
+        (sym same) b in
         omega (arith, a, c);
   }

@@ -1,5 +1,5 @@
 -- What contracts see of an engine, and what its calls do to its cursors.
-use Rattle.std.specs.Prelude.{ℕ, List, [], ◌∷◌, ◌==◌, ◌≡◌, ◌≤◌, ◌+◌, ◌++◌, ◌&&◌, ◌⊎◌, Bool, true, false, not, Option, None, Some, is_none, IsSome, IsSomeAnd, IfSome, Result, Ok, Err, if◌then◌else◌, map, filter, find, length, nat_lt, slice_index_or, ⊤}
+use Rattle.std.specs.Prelude.{ℕ, List, [], ◌∷◌, ◌==◌, ◌≡◌, ◌≤◌, ◌+◌, ◌++◌, ◌&&◌, ◌⊎◌, Bool, true, false, not, Option, None, Some, is_none, IsSome, IsSomeAnd, IfSome, Result, Ok, Err, map, filter, find, nat_lt, slice_index_or, ⊤}
 use Rattle.djq_model.specs.declared.query.Query.{Query}
 use Rattle.djq_model.specs.Data.{Bytes, Tuple, bytes_eq, change_first}
 use Rattle.djq_model.specs.Listed.{Listed, a_query, listed_name, AnswersOf, listed_of}

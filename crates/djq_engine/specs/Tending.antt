@@ -1,12 +1,14 @@
 -- What a change does to the logs of the queries that read its relation, and what listing counts.
-use Rattle.std.specs.Prelude.{ℕ, List, [], ◌≡◌, ◌<◌, ◌≤◌, ◌+◌, ◌*◌, ◌⊎◌, Bool, true, false, Option, None, Some, if◌then◌else◌, length, map, sum_by, All, ⊤}
+use Rattle.std.specs.Prelude.{ℕ, List, [], ◌≡◌, ◌<◌, ◌≤◌, ◌+◌, ◌*◌, ◌⊎◌, Bool, true, false, Option, None, Some, IsSomeAnd, min, if◌then◌else◌, length, map, sum_by, All, ⊤}
 use Rattle.djq_model.specs.Data.{Bytes, Tuple}
 use Rattle.djq_machine.specs.Delta.{Change}
+use Rattle.djq_hyper.specs.Flat.{IsFlat}
+use Rattle.djq_lines.specs.Hypergraph.{edges_of, head_of}
 use Rattle.djq_propagate.specs.Updates.{HasAtMost}
 use Rattle.djq_cursor.specs.Log.{Log}
 use Rattle.djq_rows.specs.Catalog.{Catalog}
 use Rattle.djq_live.specs.Live.{Live, IsKept, IsShowable}
-use Rattle.djq_live.specs.Updating.{change_of, IsDeltaOf, IsEmpty, atoms_over, delta_bound, update_bound}
+use Rattle.djq_live.specs.Updating.{change_of, CountsFlat, CountsUpdate, IsDeltaOf, IsEmpty, atoms_over, delta_bound, flat_bound, update_bound}
 use Rattle.djq_engine.specs.Places.{place_at, is_reader, log_at, watched_at}
 use Rattle.djq_engine.specs.Reaching.{AllAt}
 
@@ -89,15 +91,33 @@ Costs Changed places watchers gs at before now = (c d : Catalog) (row : Tuple)
     (f : ℕ → List Change) → Changed c d row → AllAt places gs (λ l. IsKept c l)
     → DeltasOf places watchers gs c d f → now ≤ before + sum_by (cost_at watchers gs at f) places
 
--- what an update of the query in a place counts at most, where no leaf has more than n tuples before
-abbrev pub work_of : ℕ → ℕ → Option Live → ℕ
-work_of at n None = 0
-work_of at n (Some l) = atoms_over l at * update_bound l n
+-- what bounds an update of a query: that it is flat, where this is chosen, or that no leaf has more
+-- than n tuples before it
+abbrev pub IsBounded : ℕ → Bool → Live → Type 0
+IsBounded n true l = IsFlat (edges_of l.query) (head_of l.query)
+IsBounded n false l = HasAtMost l.reducts n
 
-abbrev pub work_at : List (Option Live) → ℕ → ℕ → ℕ → ℕ
-work_at gs at n i = work_of at n (place_at gs i)
+-- how often the bound of an update counts; of a flat query at most twice
+abbrev pub so_often : ℕ → Bool → ℕ → ℕ → ℕ
+so_often times true flat bound = min times 2 * flat
+so_often times false flat bound = times * bound
 
--- Updates of the queries in these places count so many times that at most.
+-- what so many updates of the query in a place count at most, by the one bound or the other
+abbrev pub work_of : ℕ → ℕ → ℕ → Bool → Option Live → ℕ
+work_of at times n flat None = 0
+work_of at times n flat (Some l) =
+    so_often times flat (atoms_over l at * flat_bound l) (atoms_over l at * update_bound l n)
+
+abbrev pub work_at : List (Option Live) → ℕ → ℕ → ℕ → (ℕ → Bool) → ℕ → ℕ
+work_at gs at times n flat i = work_of at times n (flat i) (place_at gs i)
+
+-- Updates of the queries in these places count that at most, whichever bounds are chosen.
 abbrev pub Works : List ℕ → List (Option Live) → ℕ → ℕ → ℕ → ℕ → Type 0
-Works places gs at times before now = (n : ℕ) → AllAt places gs (λ l. HasAtMost l.reducts n)
-    → now ≤ before + times * sum_by (work_at gs at n) places
+Works places gs at times before now = (n : ℕ) (flat : ℕ → Bool)
+    → ((i : ℕ) → is_reader places i ≡ true → IsSomeAnd (place_at gs i) (IsBounded n (flat i)))
+    → now ≤ before + sum_by (work_at gs at times n flat) places
+
+-- An update of one query counts so many times either bound at most.
+abbrev pub CountsEither : ℕ → Live → ℕ → ℕ → ℕ → Type 0
+CountsEither times l at before now =
+    CountsUpdate times l at before now × CountsFlat (min times 2) l at before now

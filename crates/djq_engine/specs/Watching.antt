@@ -1,7 +1,7 @@
 -- What an engine says of the queries that sessions watch.
-use Rattle.std.specs.Prelude.{ℕ, List, [], ◌∷◌, ◌++◌, ◌≡◌, ◌≤◌, ◌+◌, ◌*◌, ◌⊎◌, ◌&&◌, ◌||◌, Bool, true, false, not, Option, None, Some, IsSomeAnd, Result, Ok, Err, if◌then◌else◌, Contains, filter, length, map, sum_by, ⊤}
+use Rattle.std.specs.Prelude.{ℕ, List, [], ◌∷◌, ◌++◌, ◌≡◌, ◌≤◌, ◌+◌, ◌*◌, ◌⊎◌, ◌&&◌, Bool, true, false, None, Some, IsSomeAnd, Result, Ok, Err, min, filter, length, map, sum_by, ⊤}
 use Rattle.djq_model.specs.declared.query.Query.{Query}
-use Rattle.djq_model.specs.declared.query.Atom.{Atom}
+use Rattle.djq_model.specs.declared.relation.Relation.{Relation}
 use Rattle.djq_model.specs.Data.{Bytes, rows_of}
 use Rattle.djq_model.specs.Listed.{Listed, a_query}
 use Rattle.djq_lines.specs.Variables.{variables_of}
@@ -11,10 +11,12 @@ use Rattle.djq_lines.specs.declared.answer.DeleteOutcome.{DeleteOutcome}
 use Rattle.djq_lines.specs.declared.answer.DeleteOutcome.TheVariants.{Removed, Absent}
 use Rattle.djq_lines.specs.declared.answer.Refusal.{Refusal}
 use Rattle.djq_lines.specs.declared.answer.Refusal.TheVariants.{NoMemory}
+use Rattle.djq_lines.specs.declared.answer.Shape.TheVariants.{Flat}
 use Rattle.djq_lines.specs.declared.rest.QueryOutcome.{QueryOutcome}
 use Rattle.djq_lines.specs.declared.rest.QueryOutcome.TheVariants.{Registered as HasRegistered}
 use Rattle.djq_machine.specs.Stale.{listed_reads}
 use Rattle.djq_machine.specs.Changes.{RowsChange, RowsOutcome, accepted, out_of_memory, unchanged, tried, is_outdated}
+use Rattle.djq_machine.specs.Store.{IsShapeOf}
 use Rattle.djq_machine.specs.Watch.{Delta, ListsDeltas, deltas_steps}
 use Rattle.djq_engine.specs.declared.cursor.QueryId.{QueryId}
 use Rattle.djq_engine.specs.Kept.{Kept, Registered, registered_at, registered_of, TellsOf, is_watched, readers_of, affected_of, told_at}
@@ -95,17 +97,36 @@ abbrev pub update_steps : RowsChange → ℕ → Listed → ℕ
 update_steps change n (a_query q) = length (filter (λ a. change.touches a.relation) q.atoms)
     * (16 * ((length q.atoms + length (variables_of q.atoms)) * (n + 1)))
 
--- No relation has more than n rows that is read by a query that a change outdates.
-abbrev pub AreFew : Kept → RowsChange → ℕ → Type 0
-AreFew k change n = (id : QueryId) (r : Registered) → registered_at k.registered id ≡ Some r
-    → is_outdated change r.query ≡ true → (relation : Bytes) → listed_reads r.query relation ≡ true
-    → length (rows_of (k.store).relations relation) ≤ n
+-- What an update of a flat query counts at most, whatever the rows: 16(m + v) for each such atom.
+abbrev pub flat_steps : RowsChange → Listed → ℕ
+flat_steps change (a_query q) = length (filter (λ a. change.touches a.relation) q.atoms)
+    * (16 * (length q.atoms + length (variables_of q.atoms)))
 
--- A change counts so many times at most what the updates of the queries do that it outdates.
+-- What so many updates of a query count at most, as a flat one or by its rows. Of a flat query two
+-- count at most.
+abbrev pub bounded_steps : RowsChange → ℕ → ℕ → Bool → Listed → ℕ
+bounded_steps change times n true q = min times 2 * flat_steps change q
+bounded_steps change times n false q = times * update_steps change n q
+
+-- The query is flat; or no relation that it reads has more than n rows.
+abbrev pub IsBoundedBy : List Relation → ℕ → Bool → Listed → Type 0
+IsBoundedBy relations n true q = IsShapeOf q Flat
+IsBoundedBy relations n false q = (relation : Bytes) → listed_reads q relation ≡ true
+    → length (rows_of relations relation) ≤ n
+
+-- So it is of each query that a change outdates, as it is chosen for the query.
+abbrev pub AreBounded : Kept → RowsChange → ℕ → (Listed → Bool) → Type 0
+AreBounded k change n as_flat = (id : QueryId) (r : Registered)
+    → registered_at k.registered id ≡ Some r → is_outdated change r.query ≡ true
+    → IsBoundedBy (k.store).relations n (as_flat r.query) r.query
+
+-- A change counts so many times at most what the updates of the queries do that it outdates, each of
+-- them bounded as a flat one or by its rows, as one likes.
 pub record CountsUpdates (times : ℕ) (old : Kept) (change : RowsChange) (before now : ℕ) : Type 0
   where
-    pub counted : (n : ℕ) → AreFew old change n → now ≤ before + times
-        * sum_by (λ r. update_steps change n r.query) (readers_of old.registered change)
+    pub counted : (n : ℕ) (as_flat : Listed → Bool) → AreBounded old change n as_flat → now ≤ before
+        + sum_by (λ r. bounded_steps change times n (as_flat r.query) r.query)
+        (readers_of old.registered change)
 
 -- how often: where memory is refused, rows that were taken in are given back
 abbrev pub add_times : Result AddOutcome Refusal → ℕ

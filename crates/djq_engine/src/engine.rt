@@ -224,7 +224,8 @@ impl Engine {
     ///
     /// For each atom over the relation of each query the update count rises by at most
     /// 16(m + v)(n + 1), where the query has m atoms and v variables, holes counted in, and no
-    /// relation that it reads more than n rows before; out of memory by three times that.
+    /// relation that it reads more than n rows before; out of memory by three times that. A query
+    /// that is flat counts at most 16(m + v) for each, whatever the rows; out of memory twice that.
     ///
     /// # Errors
     ///

@@ -2,10 +2,10 @@
 //! looked at.
 ghost use Rattle.std.specs.Prelude.{◌≡◌, ◌<◌, [], ◌∷◌, ⊤, IsSomeAnd, OnOk, OnErr, length};
 ghost use Rattle.djq_live.specs.Changes.{Came, Went};
-ghost use Rattle.djq_live.specs.Updating.{CanAdd, CanDelete, CountsDelta, CountsUpdate};
+ghost use Rattle.djq_live.specs.Updating.{CanAdd, CanDelete, CountsDelta};
 ghost use Rattle.djq_engine.specs.Places.{place_at};
 ghost use Rattle.djq_engine.specs.Tending.{Readies, TellsWhere, Tends, TellsAt, Shows, Costs};
-ghost use Rattle.djq_engine.specs.Tending.{HaveLogs, Empties, Works};
+ghost use Rattle.djq_engine.specs.Tending.{CountsEither, HaveLogs, Empties, Works};
 ghost use Rattle.djq_engine.specs.Sound.{AreOnce};
 ghost use Rattle.djq_engine.specs.Reaching.{Reach, AllAt, CanCome, CanGo};
 ghost use Rattle.djq_engine.specs.Reaching.{TakesIn, LetsOut, Remains, GivesBack, Ages};
@@ -43,9 +43,9 @@ fn take_one<L: Ledgers>(
     ensures none { OnErr result (log.new.lines ≡ []) }
     ensures counted { CountsDelta wanted (λ c d. Came c d relation.at cells.now)
         query.old relation.at steps.old.listing steps.new.listing }
-    ensures updates { OnOk result (CountsUpdate 1 query.old relation.at
+    ensures updates { OnOk result (CountsEither 1 query.old relation.at
         steps.old.update steps.new.update) }
-    ensures refusal { OnErr result (CountsUpdate 3 query.old relation.at
+    ensures refusal { OnErr result (CountsEither 3 query.old relation.at
         steps.old.update steps.new.update) }
 {
     ready(log, wanted);
@@ -67,7 +67,7 @@ fn let_one<L: Ledgers>(
         query.old log.old log.new }
     ensures counted { CountsDelta wanted (λ c d. Went c d relation.at cells.now)
         query.old relation.at steps.old.listing steps.new.listing }
-    ensures updates { CountsUpdate 1 query.old relation.at steps.old.update steps.new.update }
+    ensures updates { CountsEither 1 query.old relation.at steps.old.update steps.new.update }
 {
     ready(log, wanted);
     query.delete(relation, cells, wanted, log, steps);
@@ -176,7 +176,8 @@ fn age_at(queries: &mut Vec<Option<LiveQuery>>, at: usize, relation: Name, seq: 
 ///
 /// # Errors
 ///
-/// `NoMem` out of memory; answers are as before. What was counted is at most three times as much.
+/// `NoMem` out of memory; answers are as before. What was counted is at most three times as much, and
+/// of flat queries twice.
 pub fn take_in<L: Ledgers>(
     queries: &mut Vec<Option<LiveQuery>>,
     watchers: &[u32],

@@ -23,6 +23,7 @@ use Rattle.std.proofs.Common.{
   append_assoc,
 }
 use Rattle.std.specs.Prelude.{slice_index_or, slice_get, Some, Err, ◌&&◌, Contains}
+use Rattle.std.proofs.lemmas.Bool.{false≢true}
 use Rattle.std.proofs.lemmas.List.{take_more, take-append-drop, get_or_default}
 use Rattle.std.proofs.lemmas.Option.{get_or_from_slice_get}
 use Rattle.djq_model.specs.declared.value.Value.{Value}
@@ -41,6 +42,7 @@ use Rattle.djq_rows.specs.Parts.{IsWithin, value_of}
 use Rattle.djq_rows.proofs.Learning.{
   Grown,
   knows_at,
+  knows_more,
   place_at,
   unknown,
   learns_is,
@@ -242,6 +244,30 @@ refused_row old now new row at v Full c was h = (
 refused_row old now new row at v NoMem c was h = learns_some old now new row at v c was h.0 h.1
 
 -- a text that is lent
+
+-- a text that isn't known later wasn't known before
+unknown_then : (old now : List Bytes) (v : Value) → Grown old now → knows_all now (texts_of v) ≡
+    false → knows_all old (texts_of v) ≡ false
+unknown_then old now (Int i) g h = absurd cc
+unknown_then old now (Text t) g h = by_test (knows old t) refl
+  where
+    by_test : (b : Bool) → knows old t ≡ b → (b && true) ≡ false
+    by_test false e = refl
+    by_test true e = absurd (false≢true (sym h ∙ ap (λ (k : Bool). k && true) (ap (λ (l : List
+        Bytes). knows l t) g.is ∙ knows_more old g.more t e)))
+
+-- a row that is refused has a text that wasn't known
+pub row_unknown : (old now new : List Bytes) (row : Tuple) (at : ℕ) (v : Value) (r : InternRefusal)
+    → Cut row at v → now ≡ all_learned old (texts_in (take at row)) → InternsValue now v (Err r) new
+    → knows_all old (texts_in row) ≡ false
+row_unknown old now new row at v r c was h =
+    unknown_in old row at v c
+    (unknown_then old now v (grown_is old now (all_learned old (texts_in (take at row))) was
+    (all_grown old (texts_in (take at row)))) (why r h))
+  where
+    why : (r : InternRefusal) → InternsValue now v (Err r) new → knows_all now (texts_of v) ≡ false
+    why Full k = k.0
+    why NoMem k = k.0
 
 pub text_below : (texts : List Bytes) (column : ColumnType) (cell : ℕ) → column ≡ TextColumn →
     IsWithin texts column cell → cell < length texts

@@ -34,6 +34,7 @@ use Rattle.std.specs.Prelude.{
   None,
   is_some,
   IfNone,
+  OnErr,
   ◌&&◌,
   ◌==◌,
   not,
@@ -57,7 +58,7 @@ use Rattle.djq_model.specs.declared.relation.ColumnType.{ColumnType}
 use Rattle.djq_model.specs.declared.relation.Relation.{Relation}
 use Rattle.djq_model.specs.Data.{Bytes, Tuple, bytes_eq, relation_of, has_row, copies_among}
 use Rattle.djq_model.specs.Typed.{is_of, fits}
-use Rattle.djq_model.specs.Known.{texts_of, texts_in, all_learned}
+use Rattle.djq_model.specs.Known.{texts_of, texts_in, knows_all, all_learned}
 use Rattle.djq_lines.specs.declared.limits.TheConstants.{COLUMNS, RELATIONS, ROWS}
 use Rattle.djq_lines.specs.declared.answer.AddOutcome.{AddOutcome}
 use Rattle.djq_lines.specs.declared.answer.DeleteOutcome.{DeleteOutcome}
@@ -474,6 +475,13 @@ nowhere p c row None h e t = subst (λ (k : Catalog). (at : ℕ) → at < length
     (rows_at k.relations at) row ≡ false) e
     (λ at low. lacking p.texts (rows_at (relations_of p.texts p.kept.items) at) row (have_at p.texts
     p.kept.items at h.different h.sound low) (unknown_row p.texts row t))
+
+-- nor is a row that is refused, since a text of it isn't known
+pub refused_nowhere : (p : Parts) (c : Catalog) (row : Tuple) (r : Result (List ℕ) InternRefusal) →
+    IsParts p → catalog_of p ≡ c → OnErr r (knows_all p.texts (texts_in row) ≡ false) → OnErr r ((at
+    : ℕ) → at < length c.relations → has_row (rows_at c.relations at) row ≡ false)
+refused_nowhere p c row (Ok cells) h e t = tt
+refused_nowhere p c row (Err r) h e t = nowhere p c row None h e t
 
 -- what a method reads
 

@@ -11,6 +11,7 @@ ghost use Rattle.std.specs.Prelude.{
   map,
   IfOk,
   IfNone,
+  OnErr,
   false,
 };
 ghost use Rattle.djq_model.specs.Data.{Tuple, Bytes, has_row, copies_among};
@@ -197,10 +198,13 @@ impl Catalog {
     ///
     /// [`InternRefusal::Full`] exactly where there would be more texts than
     /// [`MOST_TEXTS`](djq_dict::MOST_TEXTS); [`InternRefusal::NoMem`] for want of memory. The texts
-    /// before the one that was refused are known.
+    /// before the one that was refused are known. Since a text of it wasn't, the row is in no
+    /// relation.
     pub fn intern_row(&mut self, row: &[Value]) -> Result<Cells, InternRefusal>
         requires { length row.now ≤ CELLS }
         ensures interns { InternsRow self.old.texts row.now result self.new.texts }
+        ensures absent { OnErr result ((at : ℕ) → at < length self.old.relations
+            → has_row (rows_at self.old.relations at) row.now ≡ false) }
         ensures relations { self.new.relations ≡ self.old.relations }
     {
         intern_all_in(&mut self.parts, row)

@@ -1,6 +1,7 @@
-ghost use Rattle.std.specs.Prelude.{◌≡◌, ◌<◌, ◌≤◌, length};
+ghost use Rattle.std.specs.Prelude.{◌≡◌, ◌<◌, ◌≤◌, false, length, OnErr};
 ghost use Rattle.std.specs.List.{list_all, zip};
 ghost use Rattle.djq_model.specs.Typed.{is_of, fits};
+ghost use Rattle.djq_model.specs.Known.{knows_all, texts_in};
 ghost use Rattle.djq_model.specs.Lent.{value_lent};
 ghost use Rattle.djq_dict.specs.Known.{AllDifferent};
 ghost use Rattle.djq_rows.specs.Parts.{IsWithin, value_of};
@@ -54,7 +55,8 @@ pub fn intern_in(texts: &mut Dict, value: &Value) -> Result<u64, InternRefusal>
 /// The cells of a row, whose texts become known, in order.
 pub fn intern_row_in(texts: &mut Dict, row: &[Value]) -> Result<Cells, InternRefusal>
     requires { length row.now ≤ CELLS }
-    ensures { InternsRow texts.old row.now result texts.new }
+    ensures interns { InternsRow texts.old row.now result texts.new }
+    ensures unknown { OnErr result (knows_all texts.old (texts_in row.now) ≡ false) }
 {
     let mut cells = Cells::new(0);
     for at in 0..row.len() {

@@ -6,6 +6,7 @@ ghost use Rattle.std.specs.Prelude.{
   ◌≤◌,
   ◌==◌,
   not,
+  false,
   [],
   length,
   map,
@@ -14,6 +15,7 @@ ghost use Rattle.std.specs.Prelude.{
   OnErr,
 };
 ghost use Rattle.djq_model.specs.Data.{Tuple, has_row, copies_among};
+ghost use Rattle.djq_model.specs.Known.{knows_all, texts_in};
 ghost use Rattle.djq_rows.specs.Cells.{cells_of};
 ghost use Rattle.djq_rows.specs.Catalog.{IsCatalog, StandForRow, AreCellsOf, counted_at, rows_at};
 ghost use Rattle.djq_rows.specs.Changes.{
@@ -223,6 +225,7 @@ pub fn intern_all_in(parts: &mut Parts, row: &[Value]) -> Result<Cells, InternRe
     requires short { length row.now ≤ CELLS }
     ensures parts { IsParts parts.new }
     ensures interns { InternsRow parts.old.texts row.now result parts.new.texts }
+    ensures unknown { OnErr result (knows_all parts.old.texts (texts_in row.now) ≡ false) }
     ensures relations { (catalog_of parts.new).relations ≡ (catalog_of parts.old).relations }
 {
     intern_row_in(&mut parts.texts, row)

@@ -252,6 +252,14 @@ fn tells_what_goes_from_a_self_join(rt: HostRuntime) -> Result<(), Fail> {
     Ok(())
 }
 
+#[test]
+fn tells_nothing_of_further_copies(rt: HostRuntime) -> Result<(), Fail> {
+    let told = trace::<Brand>(&rt, &[12, 23, 23, -23, -23], Blanks::new(&rt))?;
+    let want: &[i64] = &[0, 123, 0, 0, 0, 1123, 0];
+    assert_eq!(rt; told.as_slice(), want);
+    Ok(())
+}
+
 /// Whether three digits are an answer.
 fn holds<L: Ledgers>(
     alloc: Global,

@@ -19,4 +19,4 @@ returns-clause-updates g c =
     (place_read c.args.queries.now.items c.args.at c.index_mut.result.now c.in-Some.query
     (below_some c.args.queries.now.items c.args.at (λ l. CanDelete l c.args.relation.at c.args.cells.now) c.requires)
     c.index_mut.ensures.value c.in-Some.is)
-    c.give_back.ensures.updates
+    (c.give_back.ensures.updates, c.give_back.ensures.flat)

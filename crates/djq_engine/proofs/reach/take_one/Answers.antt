@@ -1,5 +1,5 @@
 use Rattle.djq_live.specs.Changes.{Came}
-use Rattle.djq_engine.proofs.Tending.{on_both, on_err, on_ok, tells_where}
+use Rattle.djq_engine.proofs.Tending.{on_both, on_err, on_ok, on_refused, tells_where}
 use Rattle.djq_engine.proofs.reach.take_one.Goals as goal
 
 pub returns-clause-taken : goal.returns-clause-taken
@@ -19,3 +19,9 @@ returns-clause-tells g c =
 
 pub returns-clause-none : goal.returns-clause-none
 returns-clause-none g c = on_err c.add.result (λ h. h.lines) c.add.ensures.emptied
+
+pub returns-clause-updates : goal.returns-clause-updates
+returns-clause-updates g c = on_both c.add.result (λ h k. (h, k)) c.add.ensures.updates c.add.ensures.flat
+
+pub returns-clause-refusal : goal.returns-clause-refusal
+returns-clause-refusal g c = on_refused c.add.result (λ h k. (h, k)) c.add.ensures.refusal c.add.ensures.flat_refusal

@@ -1,5 +1,4 @@
 use Rattle.std.proofs.Common.{ℕ, List, ◌+◌, ◌++◌, ◌∷◌, [], ◌∙◌, ap, arith, refl, subst, sym, rules, ◌≡◌}
-use Rattle.djq_model.specs.Data.{rows_of}
 use Rattle.std.specs.Prelude.{IfErr, Option, Some}
 use Rattle.djq_lines.specs.declared.answer.Refusal.{Refusal}
 use Rattle.djq_machine.specs.Store.{add_refusal}
@@ -271,16 +270,16 @@ empty_logs-requires g c =
     c.put_row.ensures.rest)
 
 pub returns-in_err-judged-clause-updates : goal.returns-in_err-judged-clause-updates
-returns-in_err-judged-clause-updates g c = record { counted = λ n few. omega arith }
+returns-in_err-judged-clause-updates g c = record { counted = λ n flat few. omega arith }
 
 pub returns-in_default-clause-updates : goal.returns-in_default-clause-updates
-returns-in_default-clause-updates g c = record { counted = λ n few. omega arith }
+returns-in_default-clause-updates g c = record { counted = λ n flat few. omega arith }
 
 pub returns-in-Err-Full-clause-updates : goal.returns-in-Err-Full-clause-updates
 returns-in-Err-Full-clause-updates g c =
     let still = subst (λ (r : InternRefusal). Idles c.args.steps.now.update c.put_row.new.steps.update r)
     c.in-Err-Full.field-0-is c.in-Err-Full.ensures.unmoved in
-    record { counted = λ n few. omega (arith, still) }
+    record { counted = λ n flat few. omega (arith, still) }
 
 pub returns-in-Err-NoMem-clause-updates : goal.returns-in-Err-NoMem-clause-updates
 returns-in-Err-NoMem-clause-updates g c =

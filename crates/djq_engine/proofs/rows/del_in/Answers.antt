@@ -1,6 +1,6 @@
 use Rattle.std.proofs.Common.{ℕ, List, ◌+◌, ◌∙◌, ap, arith, refl, sym, subst}
 use Rattle.std.specs.Prelude.{Option}
-use Rattle.djq_model.specs.Data.{rows_of, without_row}
+use Rattle.djq_model.specs.Data.{without_row}
 use Rattle.djq_engine.specs.Whole.{kept_in}
 use Rattle.djq_rows.specs.Catalog.{rows_at}
 use Rattle.djq_engine.specs.declared.judge.Deletion.{Deletion}
@@ -132,10 +132,10 @@ returns-clause-tells g c =
     (old_row c.args.parts.now c.args.name.now c.args.row.now c.in-Some.found (subst (λ (j : Option Deletion). JudgesDelete c.args.parts.now.catalog c.args.name.now c.args.row.now c.args.parts.now.seq j) c.in-Some.is c.in_ok-judged.ensures.ok))))
 
 pub returns-in_err-judged-clause-updates : goal.returns-in_err-judged-clause-updates
-returns-in_err-judged-clause-updates g c = record { counted = λ n few. omega arith }
+returns-in_err-judged-clause-updates g c = record { counted = λ n flat few. omega arith }
 
 pub returns-in_default-clause-updates : goal.returns-in_default-clause-updates
-returns-in_default-clause-updates g c = record { counted = λ n few. omega arith }
+returns-in_default-clause-updates g c = record { counted = λ n flat few. omega arith }
 
 pub returns-clause-updates : goal.returns-clause-updates
 returns-clause-updates g c =

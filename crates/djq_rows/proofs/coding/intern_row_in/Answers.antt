@@ -7,14 +7,22 @@ use Rattle.djq_rows.proofs.Interning.{
   now_grown,
   cells_upto,
   refused_row,
+  row_unknown,
 }
 use Rattle.djq_rows.proofs.coding.intern_row_in.Goals as goal
 
-pub returns-in-Err : goal.returns-in-Err
-returns-in-Err c =
+pub returns-in-Err-clause-interns : goal.returns-in-Err-clause-interns
+returns-in-Err-clause-interns c =
     let k = cut c.args.row.now c.loop-at.at c.index-row-at.result c.loop-at-test.true
     c.index-row-at.is in
     refused_row c.args.texts.now c.loop-at.texts c.intern_in.new.texts c.args.row.now c.loop-at.at
+    c.index-row-at.result c.in-Err.refusal k c.loop-at.invariant.learned c.in-Err.ensures
+
+pub returns-in-Err-clause-unknown : goal.returns-in-Err-clause-unknown
+returns-in-Err-clause-unknown c =
+    let k = cut c.args.row.now c.loop-at.at c.index-row-at.result c.loop-at-test.true
+    c.index-row-at.is in
+    row_unknown c.args.texts.now c.loop-at.texts c.intern_in.new.texts c.args.row.now c.loop-at.at
     c.index-row-at.result c.in-Err.refusal k c.loop-at.invariant.learned c.in-Err.ensures
 
 pub loop-at-preserved : goal.loop-at-preserved
