@@ -1,5 +1,5 @@
 -- The headline of the program's run, from the state that it starts from.
-use Rattle.std.specs.Prelude.{ℕ, List, [], ◌≡◌, Option}
+use Rattle.std.specs.Prelude.{ℕ, List, [], ◌≡◌, Option, Result, Ok, Err, OnErr}
 use Rattle.std.proofs.Common.{refl, subst, inl}
 use Rattle.djq_io.specs.declared.hub.Listened.TheVariants.{Ready}
 use Rattle.djq_model.specs.Data.{Bytes}
@@ -49,3 +49,8 @@ faults_from answer a b c same h = subst (λ (n : ℕ). FaultsCount answer n c) s
 -- what the words ask for, by what was read
 pub asks_for : (words : List Bytes) (o p : Option Asked) → o ≡ p → Answers words o → Answers words p
 asks_for words o p e h = subst (λ (k : Option Asked). Answers words k) e h
+
+-- what holds, holds where there is an error
+pub where_err : {A E P : Type 0} (r : Result A E) → P → OnErr r P
+where_err (Ok a) p = tt
+where_err (Err e) p = p

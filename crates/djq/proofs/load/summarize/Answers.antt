@@ -2,6 +2,7 @@ use Rattle.std.proofs.Common.{refl, subst, inl}
 use Rattle.djq_machine.specs.State.{State, opening}
 use Rattle.djq_machine.specs.Call.{counts}
 use Rattle.djq_load.specs.Totals.{RunsOut}
+use Rattle.djq.proofs.Running.{where_err}
 use Rattle.djq.proofs.load.summarize.Goals as goal
 
 pub returns-in_default-clause-memory : goal.returns-in_default-clause-memory
@@ -11,7 +12,8 @@ pub returns-in_err-totals-clause-memory : goal.returns-in_err-totals-clause-memo
 returns-in_err-totals-clause-memory g c =
     let before = c.args.steps.now in
     let now = c.run_load.new.steps in
-    let new = c.run_load.new.machine in (
+    let new = c.run_load.new.machine in
+    where_err c.from_residual.result (
       new,
       inl (subst
           (λ (st : State). RunsOut c.args.n c.args.seed st (counts before.listing before.update before.rows) new (counts now.listing now.update now.rows))
