@@ -75,74 +75,84 @@ returns-in-Err-Full-clause-adds g c =
 
 pub age_readers-requires-clause-once : goal.age_readers-requires-clause-once
 age_readers-requires-clause-once g c =
+    let lacks = subst (λ (r : InternRefusal). AddsTo c.in_ok-id.id.at c.args.row.now c.args.parts.now (Err r) c.put_row.new.parts) c.in-Err-NoMem.field-0-is c.in-Err-NoMem.ensures.adds in
     mid_once c.args.parts.now (record c.put_row.new.parts { logs = c.empty_logs.new.logs }) c.requires.whole
     c.in_ok-id.id.at c.in_ok-id.ensures.ok.relation.below
-    (subst (λ (r : InternRefusal). AddsTo c.in_ok-id.id.at c.args.row.now c.args.parts.now (Err r) c.put_row.new.parts) c.in-Err-NoMem.field-0-is c.in-Err-NoMem.ensures.adds).1.carries c.put_row.ensures.rest.readers c.put_row.ensures.rest.order
-    (names_kept c.args.parts.now.catalog c.put_row.new.parts.catalog (subst (λ (r : InternRefusal). AddsTo c.in_ok-id.id.at c.args.row.now c.args.parts.now (Err r) c.put_row.new.parts) c.in-Err-NoMem.field-0-is c.in-Err-NoMem.ensures.adds).1.relations)
+    lacks.1.carries c.put_row.ensures.rest.readers c.put_row.ensures.rest.order
+    (names_kept c.args.parts.now.catalog c.put_row.new.parts.catalog lacks.1.relations)
 
 pub age_readers-requires-clause-there : goal.age_readers-requires-clause-there
 age_readers-requires-clause-there g c =
+    let lacks = subst (λ (r : InternRefusal). AddsTo c.in_ok-id.id.at c.args.row.now c.args.parts.now (Err r) c.put_row.new.parts) c.in-Err-NoMem.field-0-is c.in-Err-NoMem.ensures.adds in
     mid_there c.args.parts.now (record c.put_row.new.parts { logs = c.empty_logs.new.logs }) c.requires.whole
     c.in_ok-id.id.at c.in_ok-id.ensures.ok.relation.below
-    (subst (λ (r : InternRefusal). AddsTo c.in_ok-id.id.at c.args.row.now c.args.parts.now (Err r) c.put_row.new.parts) c.in-Err-NoMem.field-0-is c.in-Err-NoMem.ensures.adds).1.carries c.put_row.ensures.rest.readers c.put_row.ensures.rest.order
-    (names_kept c.args.parts.now.catalog c.put_row.new.parts.catalog (subst (λ (r : InternRefusal). AddsTo c.in_ok-id.id.at c.args.row.now c.args.parts.now (Err r) c.put_row.new.parts) c.in-Err-NoMem.field-0-is c.in-Err-NoMem.ensures.adds).1.relations)
+    lacks.1.carries c.put_row.ensures.rest.readers c.put_row.ensures.rest.order
+    (names_kept c.args.parts.now.catalog c.put_row.new.parts.catalog lacks.1.relations)
 
 pub returns-in-Err-NoMem-clause-whole : goal.returns-in-Err-NoMem-clause-whole
 returns-in-Err-NoMem-clause-whole g c =
+    let lacks = subst (λ (r : InternRefusal). AddsTo c.in_ok-id.id.at c.args.row.now c.args.parts.now (Err r) c.put_row.new.parts) c.in-Err-NoMem.field-0-is c.in-Err-NoMem.ensures.adds in
     (aged c.args.parts.now (record c.put_row.new.parts { logs = c.empty_logs.new.logs }) c.requires.whole
     c.in_ok-id.id.at c.in_ok-id.ensures.ok.relation.below
-    (subst (λ (r : InternRefusal). AddsTo c.in_ok-id.id.at c.args.row.now c.args.parts.now (Err r) c.put_row.new.parts) c.in-Err-NoMem.field-0-is c.in-Err-NoMem.ensures.adds).1.carries c.put_row.ensures.rest.readers c.put_row.ensures.rest.order
-    (names_kept c.args.parts.now.catalog c.put_row.new.parts.catalog (subst (λ (r : InternRefusal). AddsTo c.in_ok-id.id.at c.args.row.now c.args.parts.now (Err r) c.put_row.new.parts) c.in-Err-NoMem.field-0-is c.in-Err-NoMem.ensures.adds).1.relations) c.age_readers.new.parts c.args.name.now c.in_ok-id.ensures.ok.relation.named c.age_readers.ensures).whole
+    lacks.1.carries c.put_row.ensures.rest.readers c.put_row.ensures.rest.order
+    (names_kept c.args.parts.now.catalog c.put_row.new.parts.catalog lacks.1.relations) c.age_readers.new.parts c.args.name.now c.in_ok-id.ensures.ok.relation.named c.age_readers.ensures).whole
 
 pub returns-in-Err-NoMem-clause-outdates : goal.returns-in-Err-NoMem-clause-outdates
 returns-in-Err-NoMem-clause-outdates g c =
+    let lacks = subst (λ (r : InternRefusal). AddsTo c.in_ok-id.id.at c.args.row.now c.args.parts.now (Err r) c.put_row.new.parts) c.in-Err-NoMem.field-0-is c.in-Err-NoMem.ensures.adds in
     (aged c.args.parts.now (record c.put_row.new.parts { logs = c.empty_logs.new.logs }) c.requires.whole
     c.in_ok-id.id.at c.in_ok-id.ensures.ok.relation.below
-    (subst (λ (r : InternRefusal). AddsTo c.in_ok-id.id.at c.args.row.now c.args.parts.now (Err r) c.put_row.new.parts) c.in-Err-NoMem.field-0-is c.in-Err-NoMem.ensures.adds).1.carries c.put_row.ensures.rest.readers c.put_row.ensures.rest.order
-    (names_kept c.args.parts.now.catalog c.put_row.new.parts.catalog (subst (λ (r : InternRefusal). AddsTo c.in_ok-id.id.at c.args.row.now c.args.parts.now (Err r) c.put_row.new.parts) c.in-Err-NoMem.field-0-is c.in-Err-NoMem.ensures.adds).1.relations) c.age_readers.new.parts c.args.name.now c.in_ok-id.ensures.ok.relation.named c.age_readers.ensures).cursors
+    lacks.1.carries c.put_row.ensures.rest.readers c.put_row.ensures.rest.order
+    (names_kept c.args.parts.now.catalog c.put_row.new.parts.catalog lacks.1.relations) c.age_readers.new.parts c.args.name.now c.in_ok-id.ensures.ok.relation.named c.age_readers.ensures).cursors
 
 pub age_readers-requires-2-clause-once : goal.age_readers-requires-2-clause-once
 age_readers-requires-2-clause-once g c =
+    let came = subst (λ (o : AddOutcome). AddsTo c.in_ok-id.id.at c.args.row.now c.args.parts.now (Ok o) c.put_row.new.parts) c.in-Ok-First.field-0-is c.in-Ok-First.ensures.adds in
     mid_once c.args.parts.now (record c.put_row.new.parts { seq = c.put_row.new.parts.seq + 1; changed = c.in_ok-id.id.at }) c.requires.whole c.in_ok-id.id.at c.in_ok-id.ensures.ok.relation.below
-    (subst (λ (o : AddOutcome). AddsTo c.in_ok-id.id.at c.args.row.now c.args.parts.now (Ok o) c.put_row.new.parts) c.in-Ok-First.field-0-is c.in-Ok-First.ensures.adds).1.has.carries c.put_row.ensures.rest.readers c.put_row.ensures.rest.order
-    (same_names c.args.parts.now.catalog c.put_row.new.parts.catalog c.in_ok-id.id.at (with_row (counted_at c.args.parts.now.catalog.relations c.in_ok-id.id.at) c.args.row.now) c.in_ok-id.ensures.ok.relation.below (subst (λ (o : AddOutcome). AddsTo c.in_ok-id.id.at c.args.row.now c.args.parts.now (Ok o) c.put_row.new.parts) c.in-Ok-First.field-0-is c.in-Ok-First.ensures.adds).1.has.relations)
+    came.1.has.carries c.put_row.ensures.rest.readers c.put_row.ensures.rest.order
+    (same_names c.args.parts.now.catalog c.put_row.new.parts.catalog c.in_ok-id.id.at (with_row (counted_at c.args.parts.now.catalog.relations c.in_ok-id.id.at) c.args.row.now) c.in_ok-id.ensures.ok.relation.below came.1.has.relations)
 
 pub age_readers-requires-2-clause-there : goal.age_readers-requires-2-clause-there
 age_readers-requires-2-clause-there g c =
+    let came = subst (λ (o : AddOutcome). AddsTo c.in_ok-id.id.at c.args.row.now c.args.parts.now (Ok o) c.put_row.new.parts) c.in-Ok-First.field-0-is c.in-Ok-First.ensures.adds in
     mid_there c.args.parts.now (record c.put_row.new.parts { seq = c.put_row.new.parts.seq + 1; changed = c.in_ok-id.id.at }) c.requires.whole c.in_ok-id.id.at c.in_ok-id.ensures.ok.relation.below
-    (subst (λ (o : AddOutcome). AddsTo c.in_ok-id.id.at c.args.row.now c.args.parts.now (Ok o) c.put_row.new.parts) c.in-Ok-First.field-0-is c.in-Ok-First.ensures.adds).1.has.carries c.put_row.ensures.rest.readers c.put_row.ensures.rest.order
-    (same_names c.args.parts.now.catalog c.put_row.new.parts.catalog c.in_ok-id.id.at (with_row (counted_at c.args.parts.now.catalog.relations c.in_ok-id.id.at) c.args.row.now) c.in_ok-id.ensures.ok.relation.below (subst (λ (o : AddOutcome). AddsTo c.in_ok-id.id.at c.args.row.now c.args.parts.now (Ok o) c.put_row.new.parts) c.in-Ok-First.field-0-is c.in-Ok-First.ensures.adds).1.has.relations)
+    came.1.has.carries c.put_row.ensures.rest.readers c.put_row.ensures.rest.order
+    (same_names c.args.parts.now.catalog c.put_row.new.parts.catalog c.in_ok-id.id.at (with_row (counted_at c.args.parts.now.catalog.relations c.in_ok-id.id.at) c.args.row.now) c.in_ok-id.ensures.ok.relation.below came.1.has.relations)
 
 pub returns-clause-whole : goal.returns-clause-whole
 returns-clause-whole g c =
+    let came = subst (λ (o : AddOutcome). AddsTo c.in_ok-id.id.at c.args.row.now c.args.parts.now (Ok o) c.put_row.new.parts) c.in-Ok-First.field-0-is c.in-Ok-First.ensures.adds in
     (aged c.args.parts.now (record c.put_row.new.parts { seq = c.put_row.new.parts.seq + 1; changed = c.in_ok-id.id.at }) c.requires.whole c.in_ok-id.id.at c.in_ok-id.ensures.ok.relation.below
-    (subst (λ (o : AddOutcome). AddsTo c.in_ok-id.id.at c.args.row.now c.args.parts.now (Ok o) c.put_row.new.parts) c.in-Ok-First.field-0-is c.in-Ok-First.ensures.adds).1.has.carries c.put_row.ensures.rest.readers c.put_row.ensures.rest.order
-    (same_names c.args.parts.now.catalog c.put_row.new.parts.catalog c.in_ok-id.id.at (with_row (counted_at c.args.parts.now.catalog.relations c.in_ok-id.id.at) c.args.row.now) c.in_ok-id.ensures.ok.relation.below (subst (λ (o : AddOutcome). AddsTo c.in_ok-id.id.at c.args.row.now c.args.parts.now (Ok o) c.put_row.new.parts) c.in-Ok-First.field-0-is c.in-Ok-First.ensures.adds).1.has.relations) c.age_readers-2.new.parts c.args.name.now c.in_ok-id.ensures.ok.relation.named c.age_readers-2.ensures).whole
+    came.1.has.carries c.put_row.ensures.rest.readers c.put_row.ensures.rest.order
+    (same_names c.args.parts.now.catalog c.put_row.new.parts.catalog c.in_ok-id.id.at (with_row (counted_at c.args.parts.now.catalog.relations c.in_ok-id.id.at) c.args.row.now) c.in_ok-id.ensures.ok.relation.below came.1.has.relations) c.age_readers-2.new.parts c.args.name.now c.in_ok-id.ensures.ok.relation.named c.age_readers-2.ensures).whole
 
 pub returns-clause-outdates : goal.returns-clause-outdates
 returns-clause-outdates g c =
+    let came = subst (λ (o : AddOutcome). AddsTo c.in_ok-id.id.at c.args.row.now c.args.parts.now (Ok o) c.put_row.new.parts) c.in-Ok-First.field-0-is c.in-Ok-First.ensures.adds in
     (aged c.args.parts.now (record c.put_row.new.parts { seq = c.put_row.new.parts.seq + 1; changed = c.in_ok-id.id.at }) c.requires.whole c.in_ok-id.id.at c.in_ok-id.ensures.ok.relation.below
-    (subst (λ (o : AddOutcome). AddsTo c.in_ok-id.id.at c.args.row.now c.args.parts.now (Ok o) c.put_row.new.parts) c.in-Ok-First.field-0-is c.in-Ok-First.ensures.adds).1.has.carries c.put_row.ensures.rest.readers c.put_row.ensures.rest.order
-    (same_names c.args.parts.now.catalog c.put_row.new.parts.catalog c.in_ok-id.id.at (with_row (counted_at c.args.parts.now.catalog.relations c.in_ok-id.id.at) c.args.row.now) c.in_ok-id.ensures.ok.relation.below (subst (λ (o : AddOutcome). AddsTo c.in_ok-id.id.at c.args.row.now c.args.parts.now (Ok o) c.put_row.new.parts) c.in-Ok-First.field-0-is c.in-Ok-First.ensures.adds).1.has.relations) c.age_readers-2.new.parts c.args.name.now c.in_ok-id.ensures.ok.relation.named c.age_readers-2.ensures).cursors
+    came.1.has.carries c.put_row.ensures.rest.readers c.put_row.ensures.rest.order
+    (same_names c.args.parts.now.catalog c.put_row.new.parts.catalog c.in_ok-id.id.at (with_row (counted_at c.args.parts.now.catalog.relations c.in_ok-id.id.at) c.args.row.now) c.in_ok-id.ensures.ok.relation.below came.1.has.relations) c.age_readers-2.new.parts c.args.name.now c.in_ok-id.ensures.ok.relation.named c.age_readers-2.ensures).cursors
 
 pub returns-clause-adds : goal.returns-clause-adds
 returns-clause-adds g c =
+    let came = subst (λ (o : AddOutcome). AddsTo c.in_ok-id.id.at c.args.row.now c.args.parts.now (Ok o) c.put_row.new.parts) c.in-Ok-First.field-0-is c.in-Ok-First.ensures.adds in
     add_done c.args.parts.now c.args.name.now c.args.row.now c.in_ok-id.id.at c.in_ok-id.ensures.ok c.names_tell.ensures c.laws.ensures.names c.put_row.new.parts c.age_readers-2.new.parts
-    (subst (λ (o : AddOutcome). AddsTo c.in_ok-id.id.at c.args.row.now c.args.parts.now (Ok o) c.put_row.new.parts) c.in-Ok-First.field-0-is c.in-Ok-First.ensures.adds).0
-    (subst (λ (o : AddOutcome). AddsTo c.in_ok-id.id.at c.args.row.now c.args.parts.now (Ok o) c.put_row.new.parts) c.in-Ok-First.field-0-is c.in-Ok-First.ensures.adds).1 c.age_readers-2.ensures.catalog (c.age_readers-2.ensures.rest.seq ∙ ap (λ n. n + 1) c.put_row.ensures.rest.seq)
+    came.0
+    came.1 c.age_readers-2.ensures.catalog (c.age_readers-2.ensures.rest.seq ∙ ap (λ n. n + 1) c.put_row.ensures.rest.seq)
     (aged c.args.parts.now (record c.put_row.new.parts { seq = c.put_row.new.parts.seq + 1; changed = c.in_ok-id.id.at }) c.requires.whole c.in_ok-id.id.at c.in_ok-id.ensures.ok.relation.below
-    (subst (λ (o : AddOutcome). AddsTo c.in_ok-id.id.at c.args.row.now c.args.parts.now (Ok o) c.put_row.new.parts) c.in-Ok-First.field-0-is c.in-Ok-First.ensures.adds).1.has.carries c.put_row.ensures.rest.readers c.put_row.ensures.rest.order
-    (same_names c.args.parts.now.catalog c.put_row.new.parts.catalog c.in_ok-id.id.at (with_row (counted_at c.args.parts.now.catalog.relations c.in_ok-id.id.at) c.args.row.now) c.in_ok-id.ensures.ok.relation.below (subst (λ (o : AddOutcome). AddsTo c.in_ok-id.id.at c.args.row.now c.args.parts.now (Ok o) c.put_row.new.parts) c.in-Ok-First.field-0-is c.in-Ok-First.ensures.adds).1.has.relations) c.age_readers-2.new.parts c.args.name.now c.in_ok-id.ensures.ok.relation.named c.age_readers-2.ensures).queries
+    came.1.has.carries c.put_row.ensures.rest.readers c.put_row.ensures.rest.order
+    (same_names c.args.parts.now.catalog c.put_row.new.parts.catalog c.in_ok-id.id.at (with_row (counted_at c.args.parts.now.catalog.relations c.in_ok-id.id.at) c.args.row.now) c.in_ok-id.ensures.ok.relation.below came.1.has.relations) c.age_readers-2.new.parts c.args.name.now c.in_ok-id.ensures.ok.relation.named c.age_readers-2.ensures).queries
 
 pub returns-in-Err-NoMem-clause-adds : goal.returns-in-Err-NoMem-clause-adds
 returns-in-Err-NoMem-clause-adds g c =
+    let lacks = subst (λ (r : InternRefusal). AddsTo c.in_ok-id.id.at c.args.row.now c.args.parts.now (Err r) c.put_row.new.parts) c.in-Err-NoMem.field-0-is c.in-Err-NoMem.ensures.adds in
     add_lacking c.args.parts.now c.args.name.now c.args.row.now c.in_ok-id.id.at c.in_ok-id.ensures.ok c.put_row.new.parts c.age_readers.new.parts
-    (subst (λ (r : InternRefusal). AddsTo c.in_ok-id.id.at c.args.row.now c.args.parts.now (Err r) c.put_row.new.parts) c.in-Err-NoMem.field-0-is c.in-Err-NoMem.ensures.adds).0
-    (subst (λ (r : InternRefusal). AddsTo c.in_ok-id.id.at c.args.row.now c.args.parts.now (Err r) c.put_row.new.parts) c.in-Err-NoMem.field-0-is c.in-Err-NoMem.ensures.adds).1 c.age_readers.ensures.catalog (c.age_readers.ensures.rest.seq ∙ c.put_row.ensures.rest.seq)
+    lacks.0
+    lacks.1 c.age_readers.ensures.catalog (c.age_readers.ensures.rest.seq ∙ c.put_row.ensures.rest.seq)
     (aged c.args.parts.now (record c.put_row.new.parts { logs = c.empty_logs.new.logs }) c.requires.whole
     c.in_ok-id.id.at c.in_ok-id.ensures.ok.relation.below
-    (subst (λ (r : InternRefusal). AddsTo c.in_ok-id.id.at c.args.row.now c.args.parts.now (Err r) c.put_row.new.parts) c.in-Err-NoMem.field-0-is c.in-Err-NoMem.ensures.adds).1.carries c.put_row.ensures.rest.readers c.put_row.ensures.rest.order
-    (names_kept c.args.parts.now.catalog c.put_row.new.parts.catalog (subst (λ (r : InternRefusal). AddsTo c.in_ok-id.id.at c.args.row.now c.args.parts.now (Err r) c.put_row.new.parts) c.in-Err-NoMem.field-0-is c.in-Err-NoMem.ensures.adds).1.relations) c.age_readers.new.parts c.args.name.now c.in_ok-id.ensures.ok.relation.named c.age_readers.ensures).queries
+    lacks.1.carries c.put_row.ensures.rest.readers c.put_row.ensures.rest.order
+    (names_kept c.args.parts.now.catalog c.put_row.new.parts.catalog lacks.1.relations) c.age_readers.new.parts c.args.name.now c.in_ok-id.ensures.ok.relation.named c.age_readers.ensures).queries
 
 pub returns-in_err-id-clause-tells : goal.returns-in_err-id-clause-tells
 returns-in_err-id-clause-tells g c =
@@ -224,6 +234,7 @@ returns-clause-watches g c =
 
 pub returns-clause-tells : goal.returns-clause-tells
 returns-clause-tells g c =
+    let came = subst (λ (o : AddOutcome). AddsTo c.in_ok-id.id.at c.args.row.now c.args.parts.now (Ok o) c.put_row.new.parts) c.in-Ok-First.field-0-is c.in-Ok-First.ensures.adds in
     adds_done c.args.parts.now c.requires.whole c.args.name.now c.args.row.now c.in_ok-id.id.at c.in_ok-id.ensures.ok.relation c.deltas_exist.ensures c.heads_are_bound.ensures c.names_tell.ensures c.laws.ensures.names
     c.args.steps.now.listing c.put_row.new.steps.listing
     (record c.put_row.new.parts { seq = c.put_row.new.parts.seq + 1; changed = c.in_ok-id.id.at }) c.age_readers-2.new.parts c.age_readers-2.ensures.logs c.age_readers-2.ensures.catalog
@@ -231,18 +242,18 @@ returns-clause-tells g c =
       seq = c.put_row.new.parts.seq + 1;
       changed = c.in_ok-id.id.at;
     }) c.age_readers-2.new.parts c.in_ok-id.id.at c.args.name.now
-    (subst (λ (o : AddOutcome). AddsTo c.in_ok-id.id.at c.args.row.now c.args.parts.now (Ok o) c.put_row.new.parts) c.in-Ok-First.field-0-is c.in-Ok-First.ensures.adds).1.has.carries
+    came.1.has.carries
     c.put_row.ensures.rest.watchers c.put_row.ensures.rest.order c.put_row.ensures.rest.long c.age_readers-2.ensures)
     (c.age_readers-2.ensures.rest.readers ∙ c.put_row.ensures.rest.readers) c.age_readers-2.ensures.rest.changed
     (subst (λ (o : AddOutcome). IfCame (Ok o) (KeepsLogs (tells_at c.args.parts.now c.in_ok-id.id.at) c.args.parts.now c.put_row.new.parts)) c.in-Ok-First.field-0-is c.in-Ok-First.ensures.quiet)
     (told_put c.showable_stays.ensures c.texts_stay.ensures c.args.parts.now c.put_row.new.parts
-    c.age_readers-2.new.parts c.in_ok-id.id.at c.args.row.now (subst (λ (o : AddOutcome). AddsTo c.in_ok-id.id.at c.args.row.now c.args.parts.now (Ok o) c.put_row.new.parts) c.in-Ok-First.field-0-is c.in-Ok-First.ensures.adds).1 c.age_readers-2.ensures.catalog
+    c.age_readers-2.new.parts c.in_ok-id.id.at c.args.row.now came.1 c.age_readers-2.ensures.catalog
     c.requires.tended
     (alike_now c.args.parts.now (record c.put_row.new.parts {
       seq = c.put_row.new.parts.seq + 1;
       changed = c.in_ok-id.id.at;
     }) c.age_readers-2.new.parts c.in_ok-id.id.at c.args.name.now
-    (subst (λ (o : AddOutcome). AddsTo c.in_ok-id.id.at c.args.row.now c.args.parts.now (Ok o) c.put_row.new.parts) c.in-Ok-First.field-0-is c.in-Ok-First.ensures.adds).1.has.carries
+    came.1.has.carries
     c.put_row.ensures.rest.watchers c.put_row.ensures.rest.order c.put_row.ensures.rest.long c.age_readers-2.ensures))
     (subst (λ (o : AddOutcome). IfCame (Ok o) (CountsRows c.in_ok-id.id.at (with_row (counted_at c.args.parts.now.catalog.relations c.in_ok-id.id.at) c.args.row.now) c.args.parts.now c.args.steps.now.listing c.put_row.new.steps.listing)) c.in-Ok-First.field-0-is c.in-Ok-First.ensures.counted) (subst (λ (o : AddOutcome). IfCame (Ok o) (TellsRows c.in_ok-id.id.at (with_row (counted_at c.args.parts.now.catalog.relations c.in_ok-id.id.at) c.args.row.now) c.args.parts.now c.put_row.new.parts)) c.in-Ok-First.field-0-is c.in-Ok-First.ensures.tells)
 

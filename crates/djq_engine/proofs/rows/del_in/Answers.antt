@@ -50,44 +50,50 @@ use Rattle.djq_engine.proofs.rows.del_in.Goals as goal
 
 pub age_readers-requires-clause-once : goal.age_readers-requires-clause-once
 age_readers-requires-clause-once g c =
-    mid_once c.args.parts.now (record c.drop_cells.new.parts { seq = c.drop_cells.new.parts.seq + 1; changed = c.in-Some.found.relation.at }) c.requires.whole c.in-Some.found.relation.at (subst (λ (j : Option Deletion). JudgesDelete c.args.parts.now.catalog c.args.name.now c.args.row.now c.args.parts.now.seq j) c.in-Some.is c.in_ok-judged.ensures.ok).relation.below
-    (subst (λ (o : DeleteOutcome). DeletesFrom c.in-Some.found.relation.at c.args.row.now c.args.parts.now o c.drop_cells.new.parts) c.in-Last.is (c.drop_cells.ensures.deletes c.args.row.now (subst (λ (cells : List ℕ). StandForRow c.args.parts.now.catalog c.in-Some.found.relation.at cells c.args.row.now) (sym c.as_slice.ensures)
-    (stands c.args.parts.now c.args.name.now c.args.row.now c.in-Some.found (subst (λ (j : Option Deletion). JudgesDelete c.args.parts.now.catalog c.args.name.now c.args.row.now c.args.parts.now.seq j) c.in-Some.is c.in_ok-judged.ensures.ok))))).2.has.carries c.drop_cells.ensures.rest.readers c.drop_cells.ensures.rest.order
-    (same_names c.args.parts.now.catalog c.drop_cells.new.parts.catalog c.in-Some.found.relation.at (without_copies (counted_at c.args.parts.now.catalog.relations c.in-Some.found.relation.at) c.args.row.now) (subst (λ (j : Option Deletion). JudgesDelete c.args.parts.now.catalog c.args.name.now c.args.row.now c.args.parts.now.seq j) c.in-Some.is c.in_ok-judged.ensures.ok).relation.below (subst (λ (o : DeleteOutcome). DeletesFrom c.in-Some.found.relation.at c.args.row.now c.args.parts.now o c.drop_cells.new.parts) c.in-Last.is (c.drop_cells.ensures.deletes c.args.row.now (subst (λ (cells : List ℕ). StandForRow c.args.parts.now.catalog c.in-Some.found.relation.at cells c.args.row.now) (sym c.as_slice.ensures)
-    (stands c.args.parts.now c.args.name.now c.args.row.now c.in-Some.found (subst (λ (j : Option Deletion). JudgesDelete c.args.parts.now.catalog c.args.name.now c.args.row.now c.args.parts.now.seq j) c.in-Some.is c.in_ok-judged.ensures.ok))))).2.has.relations)
+    let may = subst (λ (j : Option Deletion). JudgesDelete c.args.parts.now.catalog c.args.name.now c.args.row.now c.args.parts.now.seq j) c.in-Some.is c.in_ok-judged.ensures.ok in
+    let stand = subst (λ (cells : List ℕ). StandForRow c.args.parts.now.catalog c.in-Some.found.relation.at cells c.args.row.now) (sym c.as_slice.ensures) (stands c.args.parts.now c.args.name.now c.args.row.now c.in-Some.found may) in
+    let went = subst (λ (o : DeleteOutcome). DeletesFrom c.in-Some.found.relation.at c.args.row.now c.args.parts.now o c.drop_cells.new.parts) c.in-Last.is (c.drop_cells.ensures.deletes c.args.row.now stand) in
+    mid_once c.args.parts.now (record c.drop_cells.new.parts { seq = c.drop_cells.new.parts.seq + 1; changed = c.in-Some.found.relation.at }) c.requires.whole c.in-Some.found.relation.at may.relation.below
+    went.2.has.carries c.drop_cells.ensures.rest.readers c.drop_cells.ensures.rest.order
+    (same_names c.args.parts.now.catalog c.drop_cells.new.parts.catalog c.in-Some.found.relation.at (without_copies (counted_at c.args.parts.now.catalog.relations c.in-Some.found.relation.at) c.args.row.now) may.relation.below went.2.has.relations)
 
 pub age_readers-requires-clause-there : goal.age_readers-requires-clause-there
 age_readers-requires-clause-there g c =
-    mid_there c.args.parts.now (record c.drop_cells.new.parts { seq = c.drop_cells.new.parts.seq + 1; changed = c.in-Some.found.relation.at }) c.requires.whole c.in-Some.found.relation.at (subst (λ (j : Option Deletion). JudgesDelete c.args.parts.now.catalog c.args.name.now c.args.row.now c.args.parts.now.seq j) c.in-Some.is c.in_ok-judged.ensures.ok).relation.below
-    (subst (λ (o : DeleteOutcome). DeletesFrom c.in-Some.found.relation.at c.args.row.now c.args.parts.now o c.drop_cells.new.parts) c.in-Last.is (c.drop_cells.ensures.deletes c.args.row.now (subst (λ (cells : List ℕ). StandForRow c.args.parts.now.catalog c.in-Some.found.relation.at cells c.args.row.now) (sym c.as_slice.ensures)
-    (stands c.args.parts.now c.args.name.now c.args.row.now c.in-Some.found (subst (λ (j : Option Deletion). JudgesDelete c.args.parts.now.catalog c.args.name.now c.args.row.now c.args.parts.now.seq j) c.in-Some.is c.in_ok-judged.ensures.ok))))).2.has.carries c.drop_cells.ensures.rest.readers c.drop_cells.ensures.rest.order
-    (same_names c.args.parts.now.catalog c.drop_cells.new.parts.catalog c.in-Some.found.relation.at (without_copies (counted_at c.args.parts.now.catalog.relations c.in-Some.found.relation.at) c.args.row.now) (subst (λ (j : Option Deletion). JudgesDelete c.args.parts.now.catalog c.args.name.now c.args.row.now c.args.parts.now.seq j) c.in-Some.is c.in_ok-judged.ensures.ok).relation.below (subst (λ (o : DeleteOutcome). DeletesFrom c.in-Some.found.relation.at c.args.row.now c.args.parts.now o c.drop_cells.new.parts) c.in-Last.is (c.drop_cells.ensures.deletes c.args.row.now (subst (λ (cells : List ℕ). StandForRow c.args.parts.now.catalog c.in-Some.found.relation.at cells c.args.row.now) (sym c.as_slice.ensures)
-    (stands c.args.parts.now c.args.name.now c.args.row.now c.in-Some.found (subst (λ (j : Option Deletion). JudgesDelete c.args.parts.now.catalog c.args.name.now c.args.row.now c.args.parts.now.seq j) c.in-Some.is c.in_ok-judged.ensures.ok))))).2.has.relations)
+    let may = subst (λ (j : Option Deletion). JudgesDelete c.args.parts.now.catalog c.args.name.now c.args.row.now c.args.parts.now.seq j) c.in-Some.is c.in_ok-judged.ensures.ok in
+    let stand = subst (λ (cells : List ℕ). StandForRow c.args.parts.now.catalog c.in-Some.found.relation.at cells c.args.row.now) (sym c.as_slice.ensures) (stands c.args.parts.now c.args.name.now c.args.row.now c.in-Some.found may) in
+    let went = subst (λ (o : DeleteOutcome). DeletesFrom c.in-Some.found.relation.at c.args.row.now c.args.parts.now o c.drop_cells.new.parts) c.in-Last.is (c.drop_cells.ensures.deletes c.args.row.now stand) in
+    mid_there c.args.parts.now (record c.drop_cells.new.parts { seq = c.drop_cells.new.parts.seq + 1; changed = c.in-Some.found.relation.at }) c.requires.whole c.in-Some.found.relation.at may.relation.below
+    went.2.has.carries c.drop_cells.ensures.rest.readers c.drop_cells.ensures.rest.order
+    (same_names c.args.parts.now.catalog c.drop_cells.new.parts.catalog c.in-Some.found.relation.at (without_copies (counted_at c.args.parts.now.catalog.relations c.in-Some.found.relation.at) c.args.row.now) may.relation.below went.2.has.relations)
 
 pub returns-clause-whole : goal.returns-clause-whole
-returns-clause-whole g c = (aged c.args.parts.now (record c.drop_cells.new.parts { seq = c.drop_cells.new.parts.seq + 1; changed = c.in-Some.found.relation.at }) c.requires.whole c.in-Some.found.relation.at (subst (λ (j : Option Deletion). JudgesDelete c.args.parts.now.catalog c.args.name.now c.args.row.now c.args.parts.now.seq j) c.in-Some.is c.in_ok-judged.ensures.ok).relation.below
-    (subst (λ (o : DeleteOutcome). DeletesFrom c.in-Some.found.relation.at c.args.row.now c.args.parts.now o c.drop_cells.new.parts) c.in-Last.is (c.drop_cells.ensures.deletes c.args.row.now (subst (λ (cells : List ℕ). StandForRow c.args.parts.now.catalog c.in-Some.found.relation.at cells c.args.row.now) (sym c.as_slice.ensures)
-    (stands c.args.parts.now c.args.name.now c.args.row.now c.in-Some.found (subst (λ (j : Option Deletion). JudgesDelete c.args.parts.now.catalog c.args.name.now c.args.row.now c.args.parts.now.seq j) c.in-Some.is c.in_ok-judged.ensures.ok))))).2.has.carries c.drop_cells.ensures.rest.readers c.drop_cells.ensures.rest.order
-    (same_names c.args.parts.now.catalog c.drop_cells.new.parts.catalog c.in-Some.found.relation.at (without_copies (counted_at c.args.parts.now.catalog.relations c.in-Some.found.relation.at) c.args.row.now) (subst (λ (j : Option Deletion). JudgesDelete c.args.parts.now.catalog c.args.name.now c.args.row.now c.args.parts.now.seq j) c.in-Some.is c.in_ok-judged.ensures.ok).relation.below (subst (λ (o : DeleteOutcome). DeletesFrom c.in-Some.found.relation.at c.args.row.now c.args.parts.now o c.drop_cells.new.parts) c.in-Last.is (c.drop_cells.ensures.deletes c.args.row.now (subst (λ (cells : List ℕ). StandForRow c.args.parts.now.catalog c.in-Some.found.relation.at cells c.args.row.now) (sym c.as_slice.ensures)
-    (stands c.args.parts.now c.args.name.now c.args.row.now c.in-Some.found (subst (λ (j : Option Deletion). JudgesDelete c.args.parts.now.catalog c.args.name.now c.args.row.now c.args.parts.now.seq j) c.in-Some.is c.in_ok-judged.ensures.ok))))).2.has.relations) c.age_readers.new.parts c.args.name.now (subst (λ (j : Option Deletion). JudgesDelete c.args.parts.now.catalog c.args.name.now c.args.row.now c.args.parts.now.seq j) c.in-Some.is c.in_ok-judged.ensures.ok).relation.named c.age_readers.ensures).whole
+returns-clause-whole g c =
+    let may = subst (λ (j : Option Deletion). JudgesDelete c.args.parts.now.catalog c.args.name.now c.args.row.now c.args.parts.now.seq j) c.in-Some.is c.in_ok-judged.ensures.ok in
+    let stand = subst (λ (cells : List ℕ). StandForRow c.args.parts.now.catalog c.in-Some.found.relation.at cells c.args.row.now) (sym c.as_slice.ensures) (stands c.args.parts.now c.args.name.now c.args.row.now c.in-Some.found may) in
+    let went = subst (λ (o : DeleteOutcome). DeletesFrom c.in-Some.found.relation.at c.args.row.now c.args.parts.now o c.drop_cells.new.parts) c.in-Last.is (c.drop_cells.ensures.deletes c.args.row.now stand) in
+    (aged c.args.parts.now (record c.drop_cells.new.parts { seq = c.drop_cells.new.parts.seq + 1; changed = c.in-Some.found.relation.at }) c.requires.whole c.in-Some.found.relation.at may.relation.below
+    went.2.has.carries c.drop_cells.ensures.rest.readers c.drop_cells.ensures.rest.order
+    (same_names c.args.parts.now.catalog c.drop_cells.new.parts.catalog c.in-Some.found.relation.at (without_copies (counted_at c.args.parts.now.catalog.relations c.in-Some.found.relation.at) c.args.row.now) may.relation.below went.2.has.relations) c.age_readers.new.parts c.args.name.now may.relation.named c.age_readers.ensures).whole
 
 pub returns-clause-deletes : goal.returns-clause-deletes
 returns-clause-deletes g c =
-    delete_done c.args.parts.now c.args.name.now c.args.row.now c.in-Some.found (subst (λ (j : Option Deletion). JudgesDelete c.args.parts.now.catalog c.args.name.now c.args.row.now c.args.parts.now.seq j) c.in-Some.is c.in_ok-judged.ensures.ok) c.names_tell.ensures c.laws.ensures.names c.drop_cells.new.parts c.age_readers.new.parts
-    (subst (λ (o : DeleteOutcome). DeletesFrom c.in-Some.found.relation.at c.args.row.now c.args.parts.now o c.drop_cells.new.parts) c.in-Last.is (c.drop_cells.ensures.deletes c.args.row.now (subst (λ (cells : List ℕ). StandForRow c.args.parts.now.catalog c.in-Some.found.relation.at cells c.args.row.now) (sym c.as_slice.ensures)
-    (stands c.args.parts.now c.args.name.now c.args.row.now c.in-Some.found (subst (λ (j : Option Deletion). JudgesDelete c.args.parts.now.catalog c.args.name.now c.args.row.now c.args.parts.now.seq j) c.in-Some.is c.in_ok-judged.ensures.ok))))) c.age_readers.ensures.catalog (c.age_readers.ensures.rest.seq ∙ ap (λ n. n + 1) c.drop_cells.ensures.rest.seq)
-    (aged c.args.parts.now (record c.drop_cells.new.parts { seq = c.drop_cells.new.parts.seq + 1; changed = c.in-Some.found.relation.at }) c.requires.whole c.in-Some.found.relation.at (subst (λ (j : Option Deletion). JudgesDelete c.args.parts.now.catalog c.args.name.now c.args.row.now c.args.parts.now.seq j) c.in-Some.is c.in_ok-judged.ensures.ok).relation.below
-    (subst (λ (o : DeleteOutcome). DeletesFrom c.in-Some.found.relation.at c.args.row.now c.args.parts.now o c.drop_cells.new.parts) c.in-Last.is (c.drop_cells.ensures.deletes c.args.row.now (subst (λ (cells : List ℕ). StandForRow c.args.parts.now.catalog c.in-Some.found.relation.at cells c.args.row.now) (sym c.as_slice.ensures)
-    (stands c.args.parts.now c.args.name.now c.args.row.now c.in-Some.found (subst (λ (j : Option Deletion). JudgesDelete c.args.parts.now.catalog c.args.name.now c.args.row.now c.args.parts.now.seq j) c.in-Some.is c.in_ok-judged.ensures.ok))))).2.has.carries c.drop_cells.ensures.rest.readers c.drop_cells.ensures.rest.order
-    (same_names c.args.parts.now.catalog c.drop_cells.new.parts.catalog c.in-Some.found.relation.at (without_copies (counted_at c.args.parts.now.catalog.relations c.in-Some.found.relation.at) c.args.row.now) (subst (λ (j : Option Deletion). JudgesDelete c.args.parts.now.catalog c.args.name.now c.args.row.now c.args.parts.now.seq j) c.in-Some.is c.in_ok-judged.ensures.ok).relation.below (subst (λ (o : DeleteOutcome). DeletesFrom c.in-Some.found.relation.at c.args.row.now c.args.parts.now o c.drop_cells.new.parts) c.in-Last.is (c.drop_cells.ensures.deletes c.args.row.now (subst (λ (cells : List ℕ). StandForRow c.args.parts.now.catalog c.in-Some.found.relation.at cells c.args.row.now) (sym c.as_slice.ensures)
-    (stands c.args.parts.now c.args.name.now c.args.row.now c.in-Some.found (subst (λ (j : Option Deletion). JudgesDelete c.args.parts.now.catalog c.args.name.now c.args.row.now c.args.parts.now.seq j) c.in-Some.is c.in_ok-judged.ensures.ok))))).2.has.relations) c.age_readers.new.parts c.args.name.now (subst (λ (j : Option Deletion). JudgesDelete c.args.parts.now.catalog c.args.name.now c.args.row.now c.args.parts.now.seq j) c.in-Some.is c.in_ok-judged.ensures.ok).relation.named c.age_readers.ensures).queries
+    let may = subst (λ (j : Option Deletion). JudgesDelete c.args.parts.now.catalog c.args.name.now c.args.row.now c.args.parts.now.seq j) c.in-Some.is c.in_ok-judged.ensures.ok in
+    let stand = subst (λ (cells : List ℕ). StandForRow c.args.parts.now.catalog c.in-Some.found.relation.at cells c.args.row.now) (sym c.as_slice.ensures) (stands c.args.parts.now c.args.name.now c.args.row.now c.in-Some.found may) in
+    let went = subst (λ (o : DeleteOutcome). DeletesFrom c.in-Some.found.relation.at c.args.row.now c.args.parts.now o c.drop_cells.new.parts) c.in-Last.is (c.drop_cells.ensures.deletes c.args.row.now stand) in
+    delete_done c.args.parts.now c.args.name.now c.args.row.now c.in-Some.found may c.names_tell.ensures c.laws.ensures.names c.drop_cells.new.parts c.age_readers.new.parts
+    went c.age_readers.ensures.catalog (c.age_readers.ensures.rest.seq ∙ ap (λ n. n + 1) c.drop_cells.ensures.rest.seq)
+    (aged c.args.parts.now (record c.drop_cells.new.parts { seq = c.drop_cells.new.parts.seq + 1; changed = c.in-Some.found.relation.at }) c.requires.whole c.in-Some.found.relation.at may.relation.below
+    went.2.has.carries c.drop_cells.ensures.rest.readers c.drop_cells.ensures.rest.order
+    (same_names c.args.parts.now.catalog c.drop_cells.new.parts.catalog c.in-Some.found.relation.at (without_copies (counted_at c.args.parts.now.catalog.relations c.in-Some.found.relation.at) c.args.row.now) may.relation.below went.2.has.relations) c.age_readers.new.parts c.args.name.now may.relation.named c.age_readers.ensures).queries
 
 pub returns-clause-outdates : goal.returns-clause-outdates
-returns-clause-outdates g c = (aged c.args.parts.now (record c.drop_cells.new.parts { seq = c.drop_cells.new.parts.seq + 1; changed = c.in-Some.found.relation.at }) c.requires.whole c.in-Some.found.relation.at (subst (λ (j : Option Deletion). JudgesDelete c.args.parts.now.catalog c.args.name.now c.args.row.now c.args.parts.now.seq j) c.in-Some.is c.in_ok-judged.ensures.ok).relation.below
-    (subst (λ (o : DeleteOutcome). DeletesFrom c.in-Some.found.relation.at c.args.row.now c.args.parts.now o c.drop_cells.new.parts) c.in-Last.is (c.drop_cells.ensures.deletes c.args.row.now (subst (λ (cells : List ℕ). StandForRow c.args.parts.now.catalog c.in-Some.found.relation.at cells c.args.row.now) (sym c.as_slice.ensures)
-    (stands c.args.parts.now c.args.name.now c.args.row.now c.in-Some.found (subst (λ (j : Option Deletion). JudgesDelete c.args.parts.now.catalog c.args.name.now c.args.row.now c.args.parts.now.seq j) c.in-Some.is c.in_ok-judged.ensures.ok))))).2.has.carries c.drop_cells.ensures.rest.readers c.drop_cells.ensures.rest.order
-    (same_names c.args.parts.now.catalog c.drop_cells.new.parts.catalog c.in-Some.found.relation.at (without_copies (counted_at c.args.parts.now.catalog.relations c.in-Some.found.relation.at) c.args.row.now) (subst (λ (j : Option Deletion). JudgesDelete c.args.parts.now.catalog c.args.name.now c.args.row.now c.args.parts.now.seq j) c.in-Some.is c.in_ok-judged.ensures.ok).relation.below (subst (λ (o : DeleteOutcome). DeletesFrom c.in-Some.found.relation.at c.args.row.now c.args.parts.now o c.drop_cells.new.parts) c.in-Last.is (c.drop_cells.ensures.deletes c.args.row.now (subst (λ (cells : List ℕ). StandForRow c.args.parts.now.catalog c.in-Some.found.relation.at cells c.args.row.now) (sym c.as_slice.ensures)
-    (stands c.args.parts.now c.args.name.now c.args.row.now c.in-Some.found (subst (λ (j : Option Deletion). JudgesDelete c.args.parts.now.catalog c.args.name.now c.args.row.now c.args.parts.now.seq j) c.in-Some.is c.in_ok-judged.ensures.ok))))).2.has.relations) c.age_readers.new.parts c.args.name.now (subst (λ (j : Option Deletion). JudgesDelete c.args.parts.now.catalog c.args.name.now c.args.row.now c.args.parts.now.seq j) c.in-Some.is c.in_ok-judged.ensures.ok).relation.named c.age_readers.ensures).cursors
+returns-clause-outdates g c =
+    let may = subst (λ (j : Option Deletion). JudgesDelete c.args.parts.now.catalog c.args.name.now c.args.row.now c.args.parts.now.seq j) c.in-Some.is c.in_ok-judged.ensures.ok in
+    let stand = subst (λ (cells : List ℕ). StandForRow c.args.parts.now.catalog c.in-Some.found.relation.at cells c.args.row.now) (sym c.as_slice.ensures) (stands c.args.parts.now c.args.name.now c.args.row.now c.in-Some.found may) in
+    let went = subst (λ (o : DeleteOutcome). DeletesFrom c.in-Some.found.relation.at c.args.row.now c.args.parts.now o c.drop_cells.new.parts) c.in-Last.is (c.drop_cells.ensures.deletes c.args.row.now stand) in
+    (aged c.args.parts.now (record c.drop_cells.new.parts { seq = c.drop_cells.new.parts.seq + 1; changed = c.in-Some.found.relation.at }) c.requires.whole c.in-Some.found.relation.at may.relation.below
+    went.2.has.carries c.drop_cells.ensures.rest.readers c.drop_cells.ensures.rest.order
+    (same_names c.args.parts.now.catalog c.drop_cells.new.parts.catalog c.in-Some.found.relation.at (without_copies (counted_at c.args.parts.now.catalog.relations c.in-Some.found.relation.at) c.args.row.now) may.relation.below went.2.has.relations) c.age_readers.new.parts c.args.name.now may.relation.named c.age_readers.ensures).cursors
 
 pub returns-in_err-judged-clause-tells : goal.returns-in_err-judged-clause-tells
 returns-in_err-judged-clause-tells g c =
@@ -114,32 +120,30 @@ returns-clause-watches g c =
 
 pub returns-clause-tells : goal.returns-clause-tells
 returns-clause-tells g c =
-    deletes_done c.args.parts.now c.requires.whole c.args.name.now c.args.row.now c.in-Some.found.relation.at (subst (λ (j : Option Deletion). JudgesDelete c.args.parts.now.catalog c.args.name.now c.args.row.now c.args.parts.now.seq j) c.in-Some.is c.in_ok-judged.ensures.ok).relation c.deltas_exist.ensures c.heads_are_bound.ensures c.names_tell.ensures c.laws.ensures.names
+    let may = subst (λ (j : Option Deletion). JudgesDelete c.args.parts.now.catalog c.args.name.now c.args.row.now c.args.parts.now.seq j) c.in-Some.is c.in_ok-judged.ensures.ok in
+    let stand = subst (λ (cells : List ℕ). StandForRow c.args.parts.now.catalog c.in-Some.found.relation.at cells c.args.row.now) (sym c.as_slice.ensures) (stands c.args.parts.now c.args.name.now c.args.row.now c.in-Some.found may) in
+    let went = subst (λ (o : DeleteOutcome). DeletesFrom c.in-Some.found.relation.at c.args.row.now c.args.parts.now o c.drop_cells.new.parts) c.in-Last.is (c.drop_cells.ensures.deletes c.args.row.now stand) in
+    deletes_done c.args.parts.now c.requires.whole c.args.name.now c.args.row.now c.in-Some.found.relation.at may.relation c.deltas_exist.ensures c.heads_are_bound.ensures c.names_tell.ensures c.laws.ensures.names
     c.args.steps.now.listing c.drop_cells.new.steps.listing
     (record c.drop_cells.new.parts { seq = c.drop_cells.new.parts.seq + 1; changed = c.in-Some.found.relation.at }) c.age_readers.new.parts c.age_readers.ensures.logs c.age_readers.ensures.catalog
     (alike_now c.args.parts.now (record c.drop_cells.new.parts {
       seq = c.drop_cells.new.parts.seq + 1;
       changed = c.in-Some.found.relation.at;
     }) c.age_readers.new.parts c.in-Some.found.relation.at c.args.name.now
-    (subst (λ (o : DeleteOutcome). DeletesFrom c.in-Some.found.relation.at c.args.row.now c.args.parts.now o c.drop_cells.new.parts) c.in-Last.is (c.drop_cells.ensures.deletes c.args.row.now (subst (λ (cells : List ℕ). StandForRow c.args.parts.now.catalog c.in-Some.found.relation.at cells c.args.row.now) (sym c.as_slice.ensures)
-    (stands c.args.parts.now c.args.name.now c.args.row.now c.in-Some.found (subst (λ (j : Option Deletion). JudgesDelete c.args.parts.now.catalog c.args.name.now c.args.row.now c.args.parts.now.seq j) c.in-Some.is c.in_ok-judged.ensures.ok))))).2.has.carries
+    went.2.has.carries
     c.drop_cells.ensures.rest.watchers c.drop_cells.ensures.rest.order c.drop_cells.ensures.rest.long c.age_readers.ensures)
     (c.age_readers.ensures.rest.readers ∙ c.drop_cells.ensures.rest.readers) c.age_readers.ensures.rest.changed
     (subst (λ (o : DeleteOutcome). IfWent o (KeepsLogs (tells_at c.args.parts.now c.in-Some.found.relation.at) c.args.parts.now c.drop_cells.new.parts)) c.in-Last.is c.drop_cells.ensures.quiet)
     (told_drop c.showable_stays.ensures c.args.parts.now c.drop_cells.new.parts c.age_readers.new.parts
-    c.in-Some.found.relation.at c.args.row.now (subst (λ (o : DeleteOutcome). DeletesFrom c.in-Some.found.relation.at c.args.row.now c.args.parts.now o c.drop_cells.new.parts) c.in-Last.is (c.drop_cells.ensures.deletes c.args.row.now (subst (λ (cells : List ℕ). StandForRow c.args.parts.now.catalog c.in-Some.found.relation.at cells c.args.row.now) (sym c.as_slice.ensures)
-    (stands c.args.parts.now c.args.name.now c.args.row.now c.in-Some.found (subst (λ (j : Option Deletion). JudgesDelete c.args.parts.now.catalog c.args.name.now c.args.row.now c.args.parts.now.seq j) c.in-Some.is c.in_ok-judged.ensures.ok))))).2 c.age_readers.ensures.catalog c.requires.tended
+    c.in-Some.found.relation.at c.args.row.now went.2 c.age_readers.ensures.catalog c.requires.tended
     (alike_now c.args.parts.now (record c.drop_cells.new.parts {
       seq = c.drop_cells.new.parts.seq + 1;
       changed = c.in-Some.found.relation.at;
     }) c.age_readers.new.parts c.in-Some.found.relation.at c.args.name.now
-    (subst (λ (o : DeleteOutcome). DeletesFrom c.in-Some.found.relation.at c.args.row.now c.args.parts.now o c.drop_cells.new.parts) c.in-Last.is (c.drop_cells.ensures.deletes c.args.row.now (subst (λ (cells : List ℕ). StandForRow c.args.parts.now.catalog c.in-Some.found.relation.at cells c.args.row.now) (sym c.as_slice.ensures)
-    (stands c.args.parts.now c.args.name.now c.args.row.now c.in-Some.found (subst (λ (j : Option Deletion). JudgesDelete c.args.parts.now.catalog c.args.name.now c.args.row.now c.args.parts.now.seq j) c.in-Some.is c.in_ok-judged.ensures.ok))))).2.has.carries
+    went.2.has.carries
     c.drop_cells.ensures.rest.watchers c.drop_cells.ensures.rest.order c.drop_cells.ensures.rest.long
     c.age_readers.ensures))
-    ((subst (λ (o : DeleteOutcome). IfWent o ((r : Tuple) → StandForRow c.args.parts.now.catalog c.in-Some.found.relation.at c.as_slice.result.now r → CountsRows c.in-Some.found.relation.at (without_copies (counted_at c.args.parts.now.catalog.relations c.in-Some.found.relation.at) r) c.args.parts.now c.args.steps.now.listing c.drop_cells.new.steps.listing)) c.in-Last.is c.drop_cells.ensures.counted) c.args.row.now (subst (λ (cells : List ℕ). StandForRow c.args.parts.now.catalog c.in-Some.found.relation.at cells c.args.row.now) (sym c.as_slice.ensures)
-    (stands c.args.parts.now c.args.name.now c.args.row.now c.in-Some.found (subst (λ (j : Option Deletion). JudgesDelete c.args.parts.now.catalog c.args.name.now c.args.row.now c.args.parts.now.seq j) c.in-Some.is c.in_ok-judged.ensures.ok)))) ((subst (λ (o : DeleteOutcome). IfWent o ((r : Tuple) → StandForRow c.args.parts.now.catalog c.in-Some.found.relation.at c.as_slice.result.now r → TellsRows c.in-Some.found.relation.at (without_copies (counted_at c.args.parts.now.catalog.relations c.in-Some.found.relation.at) r) c.args.parts.now c.drop_cells.new.parts)) c.in-Last.is c.drop_cells.ensures.tells) c.args.row.now (subst (λ (cells : List ℕ). StandForRow c.args.parts.now.catalog c.in-Some.found.relation.at cells c.args.row.now) (sym c.as_slice.ensures)
-    (stands c.args.parts.now c.args.name.now c.args.row.now c.in-Some.found (subst (λ (j : Option Deletion). JudgesDelete c.args.parts.now.catalog c.args.name.now c.args.row.now c.args.parts.now.seq j) c.in-Some.is c.in_ok-judged.ensures.ok))))
+    ((subst (λ (o : DeleteOutcome). IfWent o ((r : Tuple) → StandForRow c.args.parts.now.catalog c.in-Some.found.relation.at c.as_slice.result.now r → CountsRows c.in-Some.found.relation.at (without_copies (counted_at c.args.parts.now.catalog.relations c.in-Some.found.relation.at) r) c.args.parts.now c.args.steps.now.listing c.drop_cells.new.steps.listing)) c.in-Last.is c.drop_cells.ensures.counted) c.args.row.now stand) ((subst (λ (o : DeleteOutcome). IfWent o ((r : Tuple) → StandForRow c.args.parts.now.catalog c.in-Some.found.relation.at c.as_slice.result.now r → TellsRows c.in-Some.found.relation.at (without_copies (counted_at c.args.parts.now.catalog.relations c.in-Some.found.relation.at) r) c.args.parts.now c.drop_cells.new.parts)) c.in-Last.is c.drop_cells.ensures.tells) c.args.row.now stand)
 
 pub returns-in_err-judged-clause-updates : goal.returns-in_err-judged-clause-updates
 returns-in_err-judged-clause-updates g c = record { counted = λ n flat few. omega arith }
@@ -156,9 +160,10 @@ returns-clause-updates g c =
 
 pub returns-in-Left-clause-whole : goal.returns-in-Left-clause-whole
 returns-in-Left-clause-whole g c =
+    let may = subst (λ (j : Option Deletion). JudgesDelete c.args.parts.now.catalog c.args.name.now c.args.row.now c.args.parts.now.seq j) c.in-Some.is c.in_ok-judged.ensures.ok in
     let gone = (subst (λ (o : DeleteOutcome). DeletesFrom c.in-Some.found.relation.at c.args.row.now c.args.parts.now o c.drop_cells.new.parts) c.in-Left.is (c.drop_cells.ensures.deletes c.args.row.now (subst (λ (cells : List ℕ). StandForRow c.args.parts.now.catalog c.in-Some.found.relation.at cells c.args.row.now) (sym c.as_slice.ensures)
-    (stands c.args.parts.now c.args.name.now c.args.row.now c.in-Some.found (subst (λ (j : Option Deletion). JudgesDelete c.args.parts.now.catalog c.args.name.now c.args.row.now c.args.parts.now.seq j) c.in-Some.is c.in_ok-judged.ensures.ok))))) in
-    copied_whole c.args.parts.now c.drop_cells.new.parts c.in-Some.found.relation.at c.args.row.now c.in-Left.copies c.requires.whole (subst (λ (j : Option Deletion). JudgesDelete c.args.parts.now.catalog c.args.name.now c.args.row.now c.args.parts.now.seq j) c.in-Some.is c.in_ok-judged.ensures.ok).relation.below gone.3 c.drop_cells.ensures.rest
+    (stands c.args.parts.now c.args.name.now c.args.row.now c.in-Some.found may)))) in
+    copied_whole c.args.parts.now c.drop_cells.new.parts c.in-Some.found.relation.at c.args.row.now c.in-Left.copies c.requires.whole may.relation.below gone.3 c.drop_cells.ensures.rest
 
 pub returns-in-Left-clause-tended : goal.returns-in-Left-clause-tended
 returns-in-Left-clause-tended g c =
@@ -168,9 +173,10 @@ returns-in-Left-clause-tended g c =
 
 pub returns-in-Left-clause-deletes : goal.returns-in-Left-clause-deletes
 returns-in-Left-clause-deletes g c =
+    let may = subst (λ (j : Option Deletion). JudgesDelete c.args.parts.now.catalog c.args.name.now c.args.row.now c.args.parts.now.seq j) c.in-Some.is c.in_ok-judged.ensures.ok in
     let gone = (subst (λ (o : DeleteOutcome). DeletesFrom c.in-Some.found.relation.at c.args.row.now c.args.parts.now o c.drop_cells.new.parts) c.in-Left.is (c.drop_cells.ensures.deletes c.args.row.now (subst (λ (cells : List ℕ). StandForRow c.args.parts.now.catalog c.in-Some.found.relation.at cells c.args.row.now) (sym c.as_slice.ensures)
-    (stands c.args.parts.now c.args.name.now c.args.row.now c.in-Some.found (subst (λ (j : Option Deletion). JudgesDelete c.args.parts.now.catalog c.args.name.now c.args.row.now c.args.parts.now.seq j) c.in-Some.is c.in_ok-judged.ensures.ok))))) in
-    delete_one c.args.parts.now c.args.name.now c.args.row.now c.in-Some.found (subst (λ (j : Option Deletion). JudgesDelete c.args.parts.now.catalog c.args.name.now c.args.row.now c.args.parts.now.seq j) c.in-Some.is c.in_ok-judged.ensures.ok) c.names_tell.ensures c.laws.ensures.names c.drop_cells.new.parts c.in-Left.copies gone c.drop_cells.ensures.rest.order c.drop_cells.ensures.rest.seq
+    (stands c.args.parts.now c.args.name.now c.args.row.now c.in-Some.found may)))) in
+    delete_one c.args.parts.now c.args.name.now c.args.row.now c.in-Some.found may c.names_tell.ensures c.laws.ensures.names c.drop_cells.new.parts c.in-Left.copies gone c.drop_cells.ensures.rest.order c.drop_cells.ensures.rest.seq
 
 pub returns-in-Left-clause-outdates : goal.returns-in-Left-clause-outdates
 returns-in-Left-clause-outdates g c =
@@ -212,9 +218,10 @@ returns-in-Absent-clause-tended g c =
 
 pub returns-in-Absent-clause-deletes : goal.returns-in-Absent-clause-deletes
 returns-in-Absent-clause-deletes g c =
+    let may = subst (λ (j : Option Deletion). JudgesDelete c.args.parts.now.catalog c.args.name.now c.args.row.now c.args.parts.now.seq j) c.in-Some.is c.in_ok-judged.ensures.ok in
     let gone = (subst (λ (o : DeleteOutcome). DeletesFrom c.in-Some.found.relation.at c.args.row.now c.args.parts.now o c.drop_cells.new.parts) c.in-Absent.is (c.drop_cells.ensures.deletes c.args.row.now (subst (λ (cells : List ℕ). StandForRow c.args.parts.now.catalog c.in-Some.found.relation.at cells c.args.row.now) (sym c.as_slice.ensures)
-    (stands c.args.parts.now c.args.name.now c.args.row.now c.in-Some.found (subst (λ (j : Option Deletion). JudgesDelete c.args.parts.now.catalog c.args.name.now c.args.row.now c.args.parts.now.seq j) c.in-Some.is c.in_ok-judged.ensures.ok))))) in
-    delete_none c.args.parts.now c.args.name.now c.args.row.now c.in-Some.found (subst (λ (j : Option Deletion). JudgesDelete c.args.parts.now.catalog c.args.name.now c.args.row.now c.args.parts.now.seq j) c.in-Some.is c.in_ok-judged.ensures.ok) c.drop_cells.new.parts gone c.drop_cells.ensures.rest.order c.drop_cells.ensures.rest.seq
+    (stands c.args.parts.now c.args.name.now c.args.row.now c.in-Some.found may)))) in
+    delete_none c.args.parts.now c.args.name.now c.args.row.now c.in-Some.found may c.drop_cells.new.parts gone c.drop_cells.ensures.rest.order c.drop_cells.ensures.rest.seq
 
 pub returns-in-Absent-clause-outdates : goal.returns-in-Absent-clause-outdates
 returns-in-Absent-clause-outdates g c =
