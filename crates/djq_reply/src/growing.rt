@@ -100,11 +100,12 @@ pub fn put_at(query: &Name, seq: u64, out: &mut BytesMut) -> Result<(), NoMem>
     ensures { Puts out.old out.new (at_line query.now seq) result }
 {
     let name = query.as_bytes();
-    out.reserve(name.len() + digit_count(seq) + 5 + KEPT)?;
+    let count = digit_count(seq);
+    out.reserve(name.len() + count + 5 + KEPT)?;
     out.extend_reserved(b"at ");
     out.extend_reserved(name);
     out.extend_reserved(b" ");
-    extend_digits(seq, out);
+    extend_digits(seq, count, out);
     out.extend_reserved(b"\n");
     Ok(())
 }

@@ -10,7 +10,7 @@ use crate::refusal::refusal_words;
 use bytes::BytesMut;
 use djq_lines::{AddOutcome, DeleteOutcome, Refusal, Shape};
 use djq_model::Name;
-use djq_value::extend_digits;
+use djq_value::{digit_count, extend_digits};
 
 // A line of words.
 pub(crate) fn say(out: &mut BytesMut, words: &[u8])
@@ -29,7 +29,7 @@ pub(crate) fn say_number(out: &mut BytesMut, words: &[u8], number: u64)
     ensures says { Says out.old out.new (numbered words.now number) }
 {
     out.extend_reserved(words);
-    extend_digits(number, out);
+    extend_digits(number, digit_count(number), out);
     out.extend_reserved(b"\n");
 }
 
@@ -41,7 +41,7 @@ fn say_two_numbers(out: &mut BytesMut, words: &[u8], first: u64, second: u32)
     ensures says { Says out.old out.new (numbered_twice words.now first second) }
 {
     out.extend_reserved(words);
-    extend_digits(first, out);
+    extend_digits(first, digit_count(first), out);
     say_number(out, b" ", u64::from(second));
 }
 

@@ -34,12 +34,13 @@ fn short_count(number: u64) -> usize
     }
 }
 
-/// Appends the digits of a number, in the room that there is.
-pub fn extend_digits(number: u64, out: &mut BytesMut)
-    requires { length (decimal number) ≤ out.old.spare }
+/// Appends the digits of a number, of which there are so many, in the room that there is.
+pub fn extend_digits(number: u64, count: usize, out: &mut BytesMut)
+    requires count { count ≡ length (decimal number) }
+    requires room { count ≤ out.old.spare }
     ensures { Says out.old out.new (decimal number) }
 {
-    out.advance_mut(digit_count(number));
+    out.advance_mut(count);
     let end = out.len();
     let _start = write_digits(number, out.as_mut_slice(), end);
 }

@@ -31,14 +31,15 @@ fn print_integer(number: i64, out: &mut BytesMut) -> Result<(), NoMem>
     ensures { Puts out.old out.new (32 ∷ signed_decimal number) result }
 {
     let size = number.unsigned_abs();
+    let count = digit_count(size);
     if number < 0 {
-        out.reserve(digit_count(size) + 2 + KEPT)?;
+        out.reserve(count + 2 + KEPT)?;
         out.extend_reserved(b" -");
     } else {
-        out.reserve(digit_count(size) + 1 + KEPT)?;
+        out.reserve(count + 1 + KEPT)?;
         out.extend_reserved(b" ");
     }
-    extend_digits(size, out);
+    extend_digits(size, count, out);
     Ok(())
 }
 
@@ -78,7 +79,7 @@ fn escape_count(text: &[u8]) -> usize
 fn is_escaped(byte: u8) -> bool
     ensures { result ≡ is_escaped_of byte }
 {
-    matches!(byte, b'"' | b'\\' | b'\n')
+    (byte == b'"') | (byte == b'\\') | (byte == b'\n')
 }
 
 // The bytes of a text with their escapes, in one piece where there is none.
