@@ -1,15 +1,11 @@
 -- How a line is printed piece by piece.
-use Rattle.std.proofs.Common.{◌≡◌, ◌+◌, ◌<◌, ◌∷◌, ◌++◌, ℕ, suc, List, length, take, drop, get_or, refl, sym, ap, subst, ◌∙◌, arith, append_assoc, length-append}
-use Rattle.std.proofs.lemmas.List.{take_at, take-take}
+use Rattle.std.proofs.Common.{◌≡◌, ◌+◌, ◌<◌, ◌++◌, ℕ, suc, List, length, take, drop, get_or, refl, sym, ap, subst, ◌∙◌, arith, append_assoc, length-append}
+use Rattle.std.proofs.lemmas.List.{take_at, take-take, take_all}
 use Rattle.std.specs.List.{flat_map}
 use Rattle.std.specs.Prelude.{Result, Ok, Err, IsErr}
-use Rattle.std.proofs.lemmas.List.Folds.{flat_map-map}
 use Rattle.bytes.specs.Filled.{Filled}
-use Rattle.djq_model.specs.Data.{Bytes, Tuple, cell_at, cells_at}
-use Rattle.djq_model.specs.declared.value.Value.{Value}
-use Rattle.djq_lines.specs.Reply.{cells_text}
-use Rattle.djq_value.specs.Output.{Put}
-use Rattle.djq_value.specs.ValueText.{value_text}
+use Rattle.djq_model.specs.Data.{Bytes}
+use Rattle.djq_value.specs.Output.{Put, Lacks}
 use Rattle.djq_value.proofs.Putting.{texts_at, texts_more}
 use Rattle.djq_reply.specs.Adding.{Cut, Adds}
 
@@ -34,6 +30,15 @@ cut_behind old mid new text more rest p h =
       room = omega (arith, long, h.room, p.room);
       lacks = omega (arith, p.room, h.lacks, length-append text more, length-append (text ++ more) rest);
     }
+
+-- a text of which nothing was put
+pub cut_whole : (old new : Filled) (text : Bytes) → Lacks old new text → Cut old new text
+cut_whole old new text h = record {
+  stays = ap (take (length old.items)) h.items ∙ take_all (length old.items) old.items (omega arith);
+  within = omega (arith, ap length h.items);
+  room = omega (arith, ap length h.items, h.room);
+  lacks = h.lacks;
+}
 
 -- the item at which a list of texts was cut
 pub cut_at_item : {A : Type 0} (text : A → Bytes) (old mid new : Filled) (xs : List A) (k : ℕ) (x : A)

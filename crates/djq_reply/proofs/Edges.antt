@@ -1,5 +1,5 @@
 -- How an edge is printed, a variable at a time.
-use Rattle.std.proofs.Common.{◌≡◌, ◌∷◌, ◌++◌, ℕ, List, [], sym, ap, subst, ◌∙◌, append_assoc}
+use Rattle.std.proofs.Common.{◌≡◌, ◌∷◌, ◌++◌, ℕ, List, sym, ap, subst, ◌∙◌, append_assoc}
 use Rattle.bytes.specs.Filled.{Filled}
 use Rattle.djq_model.specs.Data.{Bytes}
 use Rattle.djq_hyper.specs.Naming.{listed, name_at}

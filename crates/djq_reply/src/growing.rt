@@ -2,19 +2,16 @@
 //
 // A line is printed piece by piece. Out of memory its pieces are taken back, once for the whole
 // line.
-ghost use Rattle.std.specs.Prelude.{◌≡◌, ◌≤◌, ◌∷◌, ◌++◌, codes};
-ghost use Rattle.djq_model.specs.Lent.{value_lent};
+ghost use Rattle.std.specs.Prelude.{◌≡◌, ◌≤◌, ◌++◌, codes};
 ghost use Rattle.djq_lines.specs.Reply.{answer_line, at_line, cells_text, change_line, last_line};
 ghost use Rattle.djq_lines.specs.Reply.{sign_text as sign_text_of};
 ghost use Rattle.djq_reply.specs.Adding.{Adds};
 ghost use Rattle.djq_value.specs.Output.{Puts};
-ghost use Rattle.djq_value.specs.ValueText.{value_text};
 
 use bytes::BytesMut;
 use djq_lines::Sign;
-use djq_model::{Answered, Lent, Name, NoMem};
-use djq_value::{KEPT, print_lent, put};
-use itoa::Buffer;
+use djq_model::{Answered, Name, NoMem};
+use djq_value::{KEPT, digit_count, extend_digits, print_cell, put};
 
 /// Appends an answer that `next` lists.
 ///
@@ -69,10 +66,19 @@ fn add_change<A: Answered>(
 ) -> Result<(), NoMem>
     ensures { Adds out.old out.new (change_line sign query.now (A.values answer.now)) result }
 {
-    put(out, sign_text(sign))?;
-    put(out, query.as_bytes())?;
+    add_front(sign, query.as_bytes(), out)?;
     add_cells(answer, out)?;
     put(out, b"\n")
+}
+
+// What stands in front of the values.
+fn add_front(sign: Sign, query: &[u8], out: &mut BytesMut) -> Result<(), NoMem>
+    ensures { Puts out.old out.new (sign_text_of sign ++ query.now) result }
+{
+    out.reserve(query.len() + 2 + KEPT)?;
+    out.extend_reserved(sign_text(sign));
+    out.extend_reserved(query);
+    Ok(())
 }
 
 fn sign_text(sign: Sign) -> &'static [u8]
@@ -93,24 +99,15 @@ fn sign_text(sign: Sign) -> &'static [u8]
 pub fn put_at(query: &Name, seq: u64, out: &mut BytesMut) -> Result<(), NoMem>
     ensures { Puts out.old out.new (at_line query.now seq) result }
 {
-    let start = out.len();
-    let outcome = add_at(query, seq, out);
-    if outcome.is_err() {
-        out.truncate(start);
-    }
-    outcome
-}
-
-fn add_at(query: &Name, seq: u64, out: &mut BytesMut) -> Result<(), NoMem>
-    ensures { Adds out.old out.new (at_line query.now seq) result }
-{
-    let mut buffer = Buffer::new();
-    let digits = buffer.format(seq).as_bytes();
-    put(out, b"at ")?;
-    put(out, query.as_bytes())?;
-    put(out, b" ")?;
-    put(out, digits)?;
-    put(out, b"\n")
+    let name = query.as_bytes();
+    let count = digit_count(seq);
+    out.reserve(name.len() + count + 5 + KEPT)?;
+    out.extend_reserved(b"at ");
+    out.extend_reserved(name);
+    out.extend_reserved(b" ");
+    extend_digits(seq, count, out);
+    out.extend_reserved(b"\n");
+    Ok(())
 }
 
 /// Appends the lines that explain the tree of a query, each with its line end, and `end` behind
@@ -149,15 +146,7 @@ fn add_cells<A: Answered>(answer: &A, out: &mut BytesMut) -> Result<(), NoMem>
     ensures { Adds out.old out.new (cells_text (A.values answer.now)) result }
 {
     for at in 0..answer.len() {
-        add_cell(answer.value(at), out)?;
+        print_cell(answer.value(at), out)?;
     }
     Ok(())
-}
-
-// A value behind a space.
-fn add_cell(cell: Lent<'_>, out: &mut BytesMut) -> Result<(), NoMem>
-    ensures { Adds out.old out.new (32 ∷ value_text (value_lent cell.entry)) result }
-{
-    put(out, b" ")?;
-    print_lent(cell, out)
 }

@@ -10,7 +10,7 @@ use crate::refusal::refusal_words;
 use bytes::BytesMut;
 use djq_lines::{AddOutcome, DeleteOutcome, Refusal, Shape};
 use djq_model::Name;
-use itoa::Buffer;
+use djq_value::{digit_count, extend_digits};
 
 // A line of words.
 pub(crate) fn say(out: &mut BytesMut, words: &[u8])
@@ -22,28 +22,26 @@ pub(crate) fn say(out: &mut BytesMut, words: &[u8])
 }
 
 // A line of words and a number, which has 20 digits at most.
+#[tactic(auto, using(crate::proofs::Digits::few_digits))]
 pub(crate) fn say_number(out: &mut BytesMut, words: &[u8], number: u64)
     requires { length words.now + 21 + LAST_LINE_BYTES ≤ out.old.spare }
     ensures kept { LAST_LINE_BYTES ≤ out.new.spare }
     ensures says { Says out.old out.new (numbered words.now number) }
 {
-    let mut buffer = Buffer::new();
-    let digits = buffer.format(number).as_bytes();
     out.extend_reserved(words);
-    out.extend_reserved(digits);
+    extend_digits(number, digit_count(number), out);
     out.extend_reserved(b"\n");
 }
 
 // A line of words and two numbers, each of 20 digits at most.
+#[tactic(auto, using(crate::proofs::Digits::few_digits))]
 fn say_two_numbers(out: &mut BytesMut, words: &[u8], first: u64, second: u32)
     requires { length words.now + 42 + LAST_LINE_BYTES ≤ out.old.spare }
     ensures kept { LAST_LINE_BYTES ≤ out.new.spare }
     ensures says { Says out.old out.new (numbered_twice words.now first second) }
 {
-    let mut buffer = Buffer::new();
-    let digits = buffer.format(first).as_bytes();
     out.extend_reserved(words);
-    out.extend_reserved(digits);
+    extend_digits(first, digit_count(first), out);
     say_number(out, b" ", u64::from(second));
 }
 

@@ -4,7 +4,6 @@ ghost use Rattle.djq_session.specs.Dialog.{IsFresh};
 use crate::named::NamedCursor;
 use bytes::BytesMut;
 use djq_lines::EndCause;
-use djq_lines::limits::LAST_LINE_BYTES;
 use djq_model::NoMem;
 use std::alloc::Global;
 use std::marker::Model;
@@ -18,6 +17,10 @@ mod watches;
 
 // A buffer above this size that is empty is given back.
 const IDLE_BYTES: usize = 16_384;
+
+// What a session begins with: room for its last line, and for so many short replies before it that
+// room is made new for one in hundreds alone.
+const OUTPUT_BYTES: usize = 4_096;
 
 /// What is kept of a session. `C` is kept for each of its cursors, and `Q` names a query that it
 /// watches. Contracts see a record, `Dialog`.
@@ -49,7 +52,7 @@ impl<C, Q> Model for Session<C, Q> {
 }
 
 impl<C: Copy, Q: Copy + PartialEq> Session<C, Q> {
-    /// A session as it opens. It takes the room that is kept for its last line.
+    /// A session as it opens. It takes a first buffer of output, in which its last line has room.
     ///
     /// # Errors
     ///
@@ -59,7 +62,7 @@ impl<C: Copy, Q: Copy + PartialEq> Session<C, Q> {
     {
         Ok(Session {
             input: BytesMut::new(alloc),
-            output: BytesMut::with_capacity(alloc, LAST_LINE_BYTES)?,
+            output: BytesMut::with_capacity(alloc, OUTPUT_BYTES)?,
             cause: None,
             cursors: Vec::new(alloc),
             watches: Vec::new(alloc),

@@ -1,8 +1,8 @@
 //! Tokens and literals: what the words of a line are, and how values are printed.
 //!
 //! [`Lexer`] gives the tokens of a line, [`read_literal`] and [`read_name`] say what a token is,
-//! and [`print_value`] appends the text of a value. [`read_value`] reads one in front of bytes that
-//! go on behind it.
+//! and [`print_cell`] appends the text of a value behind a space. [`read_value`] reads one in front
+//! of bytes that go on behind it.
 //!
 //! ```text
 //! add r -20 "a\"b"     the words add, r and -20, and a text
@@ -26,16 +26,18 @@
 //! spelled.
 #![tactic(auto)]
 
+pub use digits::{digit_count, extend_digits};
 pub use laws::{tokens_are_spelled, values_are_read_back, values_are_spelled};
 pub use lexer::{Lexer, Token};
 pub use literal::{LiteralRefusal, read_literal};
 pub use number::read_natural;
 pub use output::{KEPT, put};
-pub use print::{print_lent, print_value};
+pub use print::print_cell;
 pub use quoted::Quoted;
 pub use reading::{ValueRefusal, read_value};
 pub use word::{is_name, is_text, next_name, next_word, read_name};
 
+mod digits;
 mod laws;
 mod lexer;
 mod literal;

@@ -1,55 +1,61 @@
-ghost use Rattle.std.specs.Prelude.{◌≡◌, ◌*◌, ◌≤◌, count_by, length};
+ghost use Rattle.std.specs.Prelude.{◌≡◌, ◌*◌, ◌∷◌, ◌≤◌, count_by, length};
+ghost use Rattle.std.specs.Fmt.{signed_decimal};
 ghost use Rattle.std.specs.List.{flat_map};
 ghost use Rattle.djq_model.specs.Lent.{value_lent};
 ghost use Rattle.djq_value.specs.Output.{Puts, Says};
 ghost use Rattle.djq_value.specs.ValueText.{escaped, is_escaped as is_escaped_of, quoted};
 ghost use Rattle.djq_value.specs.ValueText.{value_text};
 
-use crate::output::{KEPT, put};
+use crate::digits::{digit_count, extend_digits};
+use crate::output::KEPT;
 use bytes::BytesMut;
-use djq_model::{Lent, NoMem, Value};
-use itoa::Buffer;
+use djq_model::{Lent, NoMem};
 
-/// Appends a value as it is printed: an integer in decimal, a text in quotes with its escapes.
+/// Appends a space and a value as it is printed: an integer in decimal, a text in quotes with its
+/// escapes.
 ///
 /// # Errors
 ///
 /// `NoMem` comes only where the room is too small and can't grow; the output is then as before.
-pub fn print_value(value: &Value, out: &mut BytesMut) -> Result<(), NoMem>
-    ensures { Puts out.old out.new (value_text value.now) result }
-{
-    print_lent(value.lend(), out)
-}
-
-/// Appends a value that is lent, as it is printed.
-///
-/// # Errors
-///
-/// `NoMem` comes only where the room is too small and can't grow; the output is then as before.
-pub fn print_lent(value: Lent<'_>, out: &mut BytesMut) -> Result<(), NoMem>
-    ensures { Puts out.old out.new (value_text (value_lent value.entry)) result }
+pub fn print_cell(value: Lent<'_>, out: &mut BytesMut) -> Result<(), NoMem>
+    ensures { Puts out.old out.new (32 ∷ value_text (value_lent value.entry)) result }
 {
     match value {
-        Lent::Int(number) => {
-            let mut buffer = Buffer::new();
-            put(out, buffer.format(number).as_bytes())
-        }
+        Lent::Int(number) => print_integer(number, out),
         Lent::Text(text) => print_text(text, out),
     }
 }
 
-// A text in quotes. Room for the whole of it is taken at once.
+// A space and an integer.
+fn print_integer(number: i64, out: &mut BytesMut) -> Result<(), NoMem>
+    ensures { Puts out.old out.new (32 ∷ signed_decimal number) result }
+{
+    let size = number.unsigned_abs();
+    let count = digit_count(size);
+    if number < 0 {
+        out.reserve(count + 2 + KEPT)?;
+        out.extend_reserved(b" -");
+    } else {
+        out.reserve(count + 1 + KEPT)?;
+        out.extend_reserved(b" ");
+    }
+    extend_digits(size, count, out);
+    Ok(())
+}
+
+// A space and a text in quotes. Room for the whole of it is taken at once.
 fn print_text(text: &[u8], out: &mut BytesMut) -> Result<(), NoMem>
-    ensures { Puts out.old out.new (quoted text.now) result }
+    ensures { Puts out.old out.new (32 ∷ quoted text.now) result }
 {
     // no output has room for more bytes than can be counted
     let _most = out.capacity();
-    let Some(room) = escaped_len(text).checked_add(2 + KEPT) else {
+    let len = escaped_len(text);
+    let Some(room) = len.checked_add(3 + KEPT) else {
         return Err(NoMem);
     };
     out.reserve(room)?;
-    out.extend_reserved(b"\"");
-    extend_escaped(text, out);
+    out.extend_reserved(b" \"");
+    extend_escaped(text, len, out);
     out.extend_reserved(b"\"");
     Ok(())
 }
@@ -73,11 +79,24 @@ fn escape_count(text: &[u8]) -> usize
 fn is_escaped(byte: u8) -> bool
     ensures { result ≡ is_escaped_of byte }
 {
-    matches!(byte, b'"' | b'\\' | b'\n')
+    (byte == b'"') | (byte == b'\\') | (byte == b'\n')
 }
 
-// The bytes of a text with their escapes.
-fn extend_escaped(text: &[u8], out: &mut BytesMut)
+// The bytes of a text with their escapes, in one piece where there is none.
+fn extend_escaped(text: &[u8], len: usize, out: &mut BytesMut)
+    requires len { len ≡ length (flat_map escaped text.now) }
+    requires room { len ≤ out.old.spare }
+    ensures { Says out.old out.new (flat_map escaped text.now) }
+{
+    if len == text.len() {
+        out.extend_reserved(text);
+    } else {
+        extend_bytes(text, out);
+    }
+}
+
+// The bytes of a text with their escapes, one by one.
+fn extend_bytes(text: &[u8], out: &mut BytesMut)
     requires { length (flat_map escaped text.now) ≤ out.old.spare }
     ensures { Says out.old out.new (flat_map escaped text.now) }
 {

@@ -2,7 +2,7 @@ ghost use Rattle.std.specs.Prelude.{◌≡◌, ◌+◌, ◌≤◌, drop, length}
 ghost use Rattle.djq_lines.specs.declared.limits.TheConstants.{LAST_LINE_BYTES};
 ghost use Rattle.djq_session.specs.Dialog.{KeepsFor, MayQueue};
 
-use super::{IDLE_BYTES, Session};
+use super::{IDLE_BYTES, OUTPUT_BYTES, Session};
 use bytes::BytesMut;
 use djq_lines::limits::LAST_LINE_BYTES;
 use djq_model::NoMem;
@@ -62,7 +62,7 @@ impl<C: Copy, Q: Copy + PartialEq> Session<C, Q> {
         requires { length self.old.pending ≡ 0 }
         ensures { self.new ≡ record self.old { room = self.new.room } }
     {
-        if let Ok(small) = BytesMut::with_capacity(self.alloc, LAST_LINE_BYTES) {
+        if let Ok(small) = BytesMut::with_capacity(self.alloc, OUTPUT_BYTES) {
             self.output = small;
         }
     }

@@ -1,9 +1,11 @@
-use Rattle.std.proofs.Common.{arith}
-use Rattle.std.proofs.lemmas.List.Folds.{length-flat_map-take}
+use Rattle.std.proofs.Common.{◌≡◌, arith}
+use Rattle.std.specs.List.{flat_map}
 use Rattle.djq_value.specs.ValueText.{escaped}
+use Rattle.djq_value.proofs.Escapes.{length-flat_map-escaped, plain_text}
 use Rattle.djq_value.proofs.print.extend_escaped.Goals as goal
 
-pub extend_byte-requires : goal.extend_byte-requires
-extend_byte-requires c =
-    let fits = length-flat_map-take escaped c.args.text.now c.loop-byte.byte-index 0 c.loop-byte-test.true in
-    omega (arith, fits, c.requires, c.loop-byte.invariant.spare)
+pub returns-then-len-text : goal.returns-then-len-text
+returns-then-len-text c =
+    let text = c.args.text.now in
+    let plain : flat_map escaped text ≡ text = plain_text text (omega (arith, length-flat_map-escaped text, c.requires.len, c.if-len-text.true)) in
+    rw plain (record { items = c.extend_reserved.ensures.items; spare = c.extend_reserved.ensures.spare })

@@ -1,0 +1,46 @@
+// The digits of a number, written where they stand.
+ghost use Rattle.std.specs.Prelude.{◌≡◌, ◌<◌, ◌≤◌, length};
+ghost use Rattle.std.specs.Fmt.{decimal};
+ghost use Rattle.djq_value.specs.Output.{Says};
+
+use bytes::BytesMut;
+use itoa::write_digits;
+
+/// How many digits a number has.
+pub fn digit_count(number: u64) -> usize
+    ensures value { result ≡ length (decimal number) }
+    ensures few { result ≤ 20 }
+{
+    let mut left = number;
+    let mut count = 0;
+    while left >= 10_000 {
+        left /= 10_000;
+        count += 4;
+    }
+    count + short_count(left)
+}
+
+// How many digits a number below 10,000 has.
+fn short_count(number: u64) -> usize
+    requires { number < 10000 }
+    ensures { result ≡ length (decimal number) }
+{
+    if number < 100 {
+        if number < 10 { 1 } else { 2 }
+    } else if number < 1000 {
+        3
+    } else {
+        4
+    }
+}
+
+/// Appends the digits of a number, of which there are so many, in the room that there is.
+pub fn extend_digits(number: u64, count: usize, out: &mut BytesMut)
+    requires count { count ≡ length (decimal number) }
+    requires room { count ≤ out.old.spare }
+    ensures { Says out.old out.new (decimal number) }
+{
+    out.advance_mut(count);
+    let end = out.len();
+    let _start = write_digits(number, out.as_mut_slice(), end);
+}
