@@ -348,11 +348,12 @@ async def keyed(server):
         there = {row for row in await other.snapshot("keyed_rows") if row[0] == 9}
         assert len(there) == 1 and there == {table.get(9, 9)}, there
         # what is refused leaves the old row
-        try:
-            await table.upsert(8, 8, 8)
-            raise AssertionError("not raised")
-        except djq.WrongType:
-            pass
+        for value, kind in ((8, djq.WrongType), (0.5, TypeError), ("\ud800", UnicodeError)):
+            try:
+                await table.upsert(8, 8, value)
+                raise AssertionError("not raised")
+            except kind:
+                pass
         assert table.get(8, 8) == (8, 8, "last") and await other.has("keyed_rows", 8, 8, "last")
         # rows of others are seen, and two of a key become one
         await other.add("keyed", 8, 8, "new")

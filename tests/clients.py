@@ -570,6 +570,8 @@ def test_a_table_with_a_key(server):
         # what is refused leaves the old row
         table.upsert(9, 9, "old")
         raises(djq.WrongType, lambda: table.upsert(9, 9, 9))
+        raises(TypeError, lambda: table.upsert(9, 9, 0.5))
+        raises(UnicodeError, lambda: table.upsert(9, 9, "\ud800"))
         assert table.get(9, 9) == (9, 9, "old") and other.has("keyed_rows", 9, 9, "old")
         # rows of others are seen, and two of a key become one
         other.add("keyed", 9, 9, "new")

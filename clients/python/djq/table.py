@@ -39,7 +39,10 @@ class Keyed:
         return there - {row}, [] if row in there else [row]
 
     def _lines(self, command: str, rows: Iterable[Answer]) -> list[str]:
-        return [spell_line(command, self.relation, row) for row in rows]
+        """The lines of rows. What can't be said fails here, where nothing is half done."""
+        lines = [spell_line(command, self.relation, row) for row in rows]
+        "\n".join(lines).encode()
+        return lines
 
     def _take(self, protocol: Protocol, listed: int = 0) -> None:
         """Takes the changes that have come. Those before the line `listed` are in the rows already."""
@@ -127,8 +130,9 @@ class Table(Keyed):
     def _replace(self, old: Iterable[Answer], new: list[Answer]) -> None:
         """Takes rows out and puts rows in, in one write. Where a new row is refused, the old ones come back."""
         old, own = list(old), self._connection
-        gone = [own._say(line, READ_REMOVED) for line in self._lines("del", old)]
-        came = [own._say(line, READ_ADDED) for line in self._lines("add", new)]
+        dels, adds = self._lines("del", old), self._lines("add", new)
+        gone = [own._say(line, READ_REMOVED) for line in dels]
+        came = [own._say(line, READ_ADDED) for line in adds]
         own._settle()
         try:
             left = [reply.result().copies for reply in gone]

@@ -70,9 +70,10 @@ class Table(Keyed):
             self._catch_up()
             there, new = self._replacing(row) if row is not None else (self._rows.get(key, set()), [])
             old, connection = list(there), self._connection
+            dels, adds = self._lines("del", old), self._lines("add", new)
             async with connection._order:
-                gone = [connection._say(line, READ_REMOVED) for line in self._lines("del", old)]
-                came = [connection._say(line, READ_ADDED) for line in self._lines("add", new)]
+                gone = [connection._say(line, READ_REMOVED) for line in dels]
+                came = [connection._say(line, READ_ADDED) for line in adds]
                 connection._flush()
             pending: list[Pending] = [*gone, *came]
             for reply in pending:
