@@ -9,9 +9,9 @@ use Rattle.djq_model.specs.Known.{texts_in}
 use Rattle.djq_lines.specs.declared.answer.Refusal.{Refusal}
 use Rattle.djq_lines.specs.declared.answer.Refusal.TheVariants.{NoQuery, NoCursor, Limit, NoMemory}
 use Rattle.djq_lines.specs.declared.answer.AddOutcome.{AddOutcome}
-use Rattle.djq_lines.specs.declared.answer.AddOutcome.TheVariants.{Added, Same}
+use Rattle.djq_lines.specs.declared.answer.AddOutcome.TheVariants.{First, More}
 use Rattle.djq_lines.specs.declared.answer.DeleteOutcome.{DeleteOutcome}
-use Rattle.djq_lines.specs.declared.answer.DeleteOutcome.TheVariants.{Removed, Absent}
+use Rattle.djq_lines.specs.declared.answer.DeleteOutcome.TheVariants.{Last, Left, Absent}
 use Rattle.djq_lines.specs.declared.rest.QueryOutcome.{QueryOutcome}
 use Rattle.djq_lines.specs.declared.rest.QueryOutcome.TheVariants.{Registered, Cyclic, NotConnex}
 use Rattle.djq_lines.specs.declared.command.Command.{Command}
@@ -28,7 +28,8 @@ use Rattle.djq_laws.proofs.Forms.{done_of}
 use Rattle.djq_laws.proofs.Watching.{change_store}
 use Rattle.djq_kept.specs.Kept.{AreKnown, Follows}
 use Rattle.djq_kept.proofs.Knowing.{known_refl, first_known, full_known}
-use Rattle.djq_kept.proofs.Respecting.{Respects, rel_respects, add_respects, same_respects, delete_respects, query_respects, drop_respects}
+use Rattle.djq_kept.proofs.Respecting.{Respects, rel_respects, query_respects, drop_respects}
+use Rattle.djq_kept.proofs.Copying.{add_respects, more_respects, delete_respects, left_respects}
 
 -- The data stay as they are, and no fewer texts are known.
 pub record Grows (a to : Store) : Type 0 where
@@ -69,13 +70,14 @@ module _ (a : Store) (k : Keeping) (to : Store) where
   rel_keeps name types (Err r) m e = is_left e (grows_same a to m.stays)
 
   add_keeps : (name : Bytes) (row : Tuple) (r : Result AddOutcome Refusal) → AddsRow a name row r to → k ≡ kept_where (is_done r) → Keeps a (Add name row) k to
-  add_keeps name row (Ok Added) m e = is_kept e (λ b f. add_respects a b f name row to m)
-  add_keeps name row (Ok Same) m e = is_kept e (λ b f. same_respects a b f name row to m)
+  add_keeps name row (Ok First) m e = is_kept e (λ b f. add_respects a b f name row to m)
+  add_keeps name row (Ok (More copies)) m e = is_kept e (λ b f. more_respects a b f name row copies to m)
   add_keeps name row (Err r) m e =
       is_left e (grows_late a to (add_refusal a name row) r (AddsAs a name row to) _ m.answer m.stays (λ l. grows_refused a to (texts_in row) r l.1))
 
   delete_keeps : (name : Bytes) (row : Tuple) (r : Result DeleteOutcome Refusal) → DeletesRow a name row r to → k ≡ kept_where (is_removal r) → Keeps a (Del name row) k to
-  delete_keeps name row (Ok Removed) m e = is_kept e (λ b f. delete_respects a b f name row to m)
+  delete_keeps name row (Ok Last) m e = is_kept e (λ b f. delete_respects a b f name row to m)
+  delete_keeps name row (Ok (Left copies)) m e = is_kept e (λ b f. left_respects a b f name row copies to m)
   delete_keeps name row (Ok Absent) m e =
       let d = done_of (delete_refusal a name row) Absent (DeletesAs a name row to) (OutOfMemoryWhere ⊥) m.answer in
       is_left e (grows_same a to d.1)

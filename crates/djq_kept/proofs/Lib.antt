@@ -1,7 +1,7 @@
-mod Rows
 mod Knowing
 mod Sameness
 mod Respecting
+mod Copying
 mod Keeping
 mod Running
 mod Reloading

@@ -1,18 +1,18 @@
 -- A line that is kept is no longer than a line may be, and isn't empty.
-use Rattle.std.proofs.Common.{ℕ, List, [], ◌∷◌, ◌++◌, ◌+◌, ◌-◌, ◌≡◌, ◌≤◌, ◌<◌, ◌||◌, Bool, true, false, cond, length, refl, sym, ap, ◌∙◌, subst, arith}
+use Rattle.std.proofs.Common.{ℕ, List, [], ◌∷◌, ◌+◌, ◌-◌, ◌≡◌, ◌≤◌, ◌||◌, Bool, true, false, cond, length, refl, sym, ap, ◌∙◌, subst, arith}
 use Rattle.std.specs.Prelude.{◌==◌, ◌&&◌, not, nat_le, None, All, take, slice_index}
-use Rattle.std.proofs.lemmas.Bool.{leb-true, leb-false, eq-eqb, false≢true}
+use Rattle.std.proofs.lemmas.Bool.{leb-true, leb-false, false≢true}
 use Rattle.std.proofs.lemmas.List.{length-take-le}
 use Rattle.std.proofs.lemmas.List.Elements.{All-nil, All-cons, All-append}
 use Rattle.djq_model.specs.Data.{Bytes}
 use Rattle.djq_lines.specs.declared.limits.TheConstants.{LINE_BYTES}
-use Rattle.djq_lines.specs.Line.{a_line, front_of, before_lf, is_long, is_blank, without_cr}
-use Rattle.djq_machine.specs.State.{State, Session, session_of}
+use Rattle.djq_lines.specs.Line.{before_lf, is_long, is_blank, without_cr}
+use Rattle.djq_machine.specs.State.{State, session_of}
 use Rattle.djq_machine.specs.Keeping.{Keeping, no_line, the_line}
 use Rattle.djq_machine.specs.Effect.{Effect}
 use Rattle.djq_machine.specs.LineStep.{run, FrontStep}
-use Rattle.djq_machine.specs.Step.{Event, stepped, Acts, Step}
-use Rattle.djq_machine.specs.Run.{Did, Run, Group, group_of, groups_of}
+use Rattle.djq_machine.specs.Step.{Event, stepped, Acts}
+use Rattle.djq_machine.specs.Run.{Group, group_of, groups_of}
 use Rattle.djq_laws.proofs.Finding.{some_and}
 use Rattle.djq_laws.proofs.Cutting.{line_in_front}
 use Rattle.djq_kept.specs.Kept.{IsLine, KeptAreLines}

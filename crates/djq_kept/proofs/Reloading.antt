@@ -1,11 +1,12 @@
 -- Lines that were found and loaded, and what a run kept behind them.
 use Rattle.std.proofs.Common.{List, [], ◌∷◌, ◌++◌, ◌≡◌, ◌≢◌, ◌⊎◌, inl, inr, false, refl, sym, ap, ◌∙◌, subst}
 use Rattle.std.specs.Prelude.{Ok, Err}
+use Rattle.std.proofs.lemmas.List.Elements.{All-nil}
 use Rattle.djq_model.specs.Data.{Bytes}
 use Rattle.djq_lines.specs.declared.answer.Refusal.{Refusal}
 use Rattle.djq_lines.specs.declared.answer.Refusal.TheVariants.{NoMemory}
-use Rattle.djq_lines.specs.declared.answer.AddOutcome.TheVariants.{Added, Same}
-use Rattle.djq_lines.specs.declared.answer.DeleteOutcome.TheVariants.{Removed, Absent}
+use Rattle.djq_lines.specs.declared.answer.AddOutcome.TheVariants.{First, More}
+use Rattle.djq_lines.specs.declared.answer.DeleteOutcome.TheVariants.{Last, Left, Absent}
 use Rattle.djq_lines.specs.declared.rest.QueryOutcome.TheVariants.{Registered, Cyclic, NotConnex}
 use Rattle.djq_lines.specs.declared.command.Command.{Command}
 use Rattle.djq_lines.specs.declared.command.Command.TheVariants.{Rel, Add, Del, Query as Register, Drop, Open, Next, Close, Has, Watch, Unwatch, Explain, Shape, Quit, Stop}
@@ -17,8 +18,9 @@ use Rattle.djq_machine.specs.Step.{Event, stepped}
 use Rattle.djq_machine.specs.Run.{Did, Run, Group, group_of, groups_of, lines_in}
 use Rattle.djq_laws.proofs.Apart.{nothing_apart}
 use Rattle.djq_kept.specs.Loading.{ran, refused_by, CommandLoads, ReadingLoads, LoadStep, Loads}
-use Rattle.djq_kept.specs.Kept.{Follows, LoadsTo, RunsReload, StoodAt, StopsReload}
-use Rattle.djq_kept.proofs.Respecting.{Respects, rel_respects, add_respects, same_respects, delete_respects, query_respects, drop_respects}
+use Rattle.djq_kept.specs.Kept.{HasRowsOnce, Follows, LoadsTo, RunsReload, StoodAt, StopsReload}
+use Rattle.djq_kept.proofs.Respecting.{Respects, rel_respects, query_respects, drop_respects}
+use Rattle.djq_kept.proofs.Copying.{add_respects, more_respects, delete_respects, left_respects}
 use Rattle.djq_kept.proofs.Running.{LineRespects, line_respects, one_line, kept_lines_load}
 
 not_ran : (r : Refusal) → ran ≡ refused_by r → ⊥
@@ -29,10 +31,11 @@ not_ran _ e = absurd (cc (e))
 command_loaded : (a to : Store) (c : Command) → CommandLoads a c ran to → (b : Store) → Follows a b → Respects b c to
 command_loaded a to (Rel name types) (Ok u, m, e) b f = rel_respects a b f name types u to m
 command_loaded a to (Rel name types) (Err r, m, e) b f = absurd (not_ran r e)
-command_loaded a to (Add name row) (Ok Added, m, e) b f = add_respects a b f name row to m
-command_loaded a to (Add name row) (Ok Same, m, e) b f = same_respects a b f name row to m
+command_loaded a to (Add name row) (Ok First, m, e) b f = add_respects a b f name row to m
+command_loaded a to (Add name row) (Ok (More copies), m, e) b f = more_respects a b f name row copies to m
 command_loaded a to (Add name row) (Err r, m, e) b f = absurd (not_ran r e)
-command_loaded a to (Del name row) (Ok Removed, m, e) b f = delete_respects a b f name row to m
+command_loaded a to (Del name row) (Ok Last, m, e) b f = delete_respects a b f name row to m
+command_loaded a to (Del name row) (Ok (Left copies), m, e) b f = left_respects a b f name row copies to m
 command_loaded a to (Del name row) (Ok Absent, m, e) b f = absurd (cc (e))
 command_loaded a to (Del name row) (Err r, m, e) b f = absurd (not_ran r e)
 command_loaded a to (Register q) (Ok (Registered most), m, e) b f = query_respects a b f q most to m
@@ -73,6 +76,7 @@ found_loads from (l ∷ ls) mid w other f rest to more =
 opening_follows : Follows opening.store opening.store
 opening_follows = record {
   same = record { relations = tt; queries = refl; seq = refl };
+  rows = All-nil HasRowsOnce;
   among = λ t h. h;
   once = nothing_apart (λ a b. a ≢ b);
 }

@@ -1,66 +1,50 @@
 -- A command that a run did, done to a store that follows the one it was done to.
-use Rattle.std.proofs.Common.{ℕ, List, [], ◌∷◌, ◌++◌, ◌+◌, ◌≡◌, ◌≤◌, ◌⊎◌, inl, inr, Bool, true, false, length, refl, sym, ap, ◌∙◌, subst}
+use Rattle.std.proofs.Common.{ℕ, List, [], ◌∷◌, ◌++◌, ◌≡◌, ◌≤◌, ◌⊎◌, inl, inr, Bool, true, false, length, refl, sym, ap, ◌∙◌, subst}
 use Rattle.std.specs.Prelude.{Option, None, Some, is_none, is_some, Ok, Err, cond, ⊤}
 use Rattle.std.proofs.lemmas.Bool.{false≢true}
-use Rattle.std.proofs.lemmas.List.Sorted.{IsPermutation-append_left}
+use Rattle.std.proofs.lemmas.List.Elements.{All-push}
 use Rattle.djq_model.specs.declared.relation.ColumnType.{ColumnType}
 use Rattle.djq_model.specs.declared.query.Query.{Query}
-use Rattle.djq_model.specs.Data.{Bytes, Tuple, bytes_eq, drop_first, rows_of, has_row, without_row}
+use Rattle.djq_model.specs.Data.{Bytes, Tuple, bytes_eq, drop_first}
 use Rattle.djq_model.specs.Listed.{Listed, a_query, listed_name, listed_of}
 use Rattle.djq_model.specs.Known.{texts_in, all_learned}
 use Rattle.djq_lines.specs.declared.limits.TheConstants.{TEXTS}
 use Rattle.djq_lines.specs.declared.answer.Refusal.{Refusal}
 use Rattle.djq_lines.specs.declared.answer.Refusal.TheVariants.{NoQuery, InUse, Limit, NoMemory}
-use Rattle.djq_lines.specs.declared.answer.AddOutcome.TheVariants.{Added, Same}
-use Rattle.djq_lines.specs.declared.answer.DeleteOutcome.TheVariants.{Removed, Absent}
 use Rattle.djq_lines.specs.declared.rest.QueryOutcome.TheVariants.{Registered, Cyclic, NotConnex}
 use Rattle.djq_lines.specs.declared.command.Command.{Command}
-use Rattle.djq_lines.specs.declared.command.Command.TheVariants.{Rel, Add, Del, Query as Register, Drop}
+use Rattle.djq_lines.specs.declared.command.Command.TheVariants.{Rel, Query as Register, Drop}
 use Rattle.djq_lines.specs.Variables.{constants_of}
 use Rattle.djq_machine.specs.Conditions.{first_of, Answers, OutOfMemoryWhere}
 use Rattle.djq_machine.specs.State.{Store}
-use Rattle.djq_machine.specs.Store.{
-  with_rows,
-  RefusedByTexts,
-  rel_refusal,
-  MakesRelation,
-  add_refusal,
-  AddsAs,
-  AddsRow,
-  delete_refusal,
-  DeletesAs,
-  DeletesRow,
-  query_refusal,
-  RegistersAs,
-  RefusedLate,
-  RegistersQuery,
-  drop_refusal,
-  DropsQuery,
-}
+use Rattle.djq_machine.specs.Store.{RefusedByTexts, rel_refusal, MakesRelation, query_refusal, RegistersAs, RefusedLate, RegistersQuery, drop_refusal, DropsQuery}
 use Rattle.djq_laws.proofs.Forms.{done_of}
-use Rattle.djq_laws.proofs.Apart.{texts_apart}
+use Rattle.djq_laws.proofs.Apart.{nothing_apart, texts_apart}
 use Rattle.djq_kept.specs.Loading.{Loaded, ran, no_memory, refused_by, CommandLoads}
-use Rattle.djq_kept.specs.Kept.{Follows}
-use Rattle.djq_kept.proofs.Rows.{row_less}
+use Rattle.djq_kept.specs.Kept.{HasRowsOnce, Follows}
 use Rattle.djq_kept.proofs.Knowing.{among_all, room_too, place_too}
-use Rattle.djq_kept.proofs.Sameness.{same_more, same_rows, same_with, same_has, rel_same, add_same, delete_same, query_same}
+use Rattle.djq_kept.proofs.Sameness.{same_more, rel_same, query_same}
 
--- It can be done there, and whatever comes of it, it is done or memory lacks.
+-- It is done, and what it leaves follows that store; or memory lacks.
+abbrev pub EndsWell : Loaded → Store → Store → Type 0
+EndsWell how to n = ((how ≡ ran) × Follows to n) ⊎ (how ≡ no_memory)
+
+-- It can be done there, and whatever comes of it, it ends well.
 pub record Respects (b : Store) (c : Command) (to : Store) : Type 0 where
   pub can : (n : Store) × CommandLoads b c ran n × Follows to n
-  pub each : (how : Loaded) (n : Store) → CommandLoads b c how n → ((how ≡ ran) × Follows to n) ⊎ (how ≡ no_memory)
+  pub each : (how : Loaded) (n : Store) → CommandLoads b c how n → EndsWell how to n
 
 -- ---- what answers say
 
-none_of : {A : Type 0} (o : Option Refusal) (a : A) (D : A → Type 0) (L : Refusal → Type 0) → Answers o (Ok a) D L → o ≡ None
+pub none_of : {A : Type 0} (o : Option Refusal) (a : A) (D : A → Type 0) (L : Refusal → Type 0) → Answers o (Ok a) D L → o ≡ None
 none_of None a D L h = refl
 none_of (Some r) a D L h = absurd h
 
-give : {A : Type 0} (o : Option Refusal) (a : A) (D : A → Type 0) (L : Refusal → Type 0) → o ≡ None → D a → Answers o (Ok a) D L
+pub give : {A : Type 0} (o : Option Refusal) (a : A) (D : A → Type 0) (L : Refusal → Type 0) → o ≡ None → D a → Answers o (Ok a) D L
 give None a D L e d = d
 give (Some r) a D L e d = absurd (cc (e))
 
-late_of : {A : Type 0} (o : Option Refusal) (r : Refusal) (D : A → Type 0) (L : Refusal → Type 0) → o ≡ None → Answers o (Err r) D L → L r
+pub late_of : {A : Type 0} (o : Option Refusal) (r : Refusal) (D : A → Type 0) (L : Refusal → Type 0) → o ≡ None → Answers o (Err r) D L → L r
 late_of None r D L e h = h
 late_of (Some s) r D L e h = absurd (cc (e))
 
@@ -68,13 +52,13 @@ only_memory : (P : Type 0) (r : Refusal) (how : Loaded) → OutOfMemoryWhere P r
 only_memory P NoMemory how h e = e
 only_memory P _ how h e = absurd h
 
-where_memory : (P : Type 0) (r : Refusal) → OutOfMemoryWhere P r → P
+pub where_memory : (P : Type 0) (r : Refusal) → OutOfMemoryWhere P r → P
 where_memory P NoMemory h = h
 where_memory P _ h = absurd h
 
 module _ (a b : Store) (f : Follows a b) where
   -- where the texts found a place before
-  by_texts : (ts : List Bytes) (n : Store) (r : Refusal) (how : Loaded) → length (all_learned a.texts ts) ≤ TEXTS → RefusedByTexts b ts n r
+  pub by_texts : (ts : List Bytes) (n : Store) (r : Refusal) (how : Loaded) → length (all_learned a.texts ts) ≤ TEXTS → RefusedByTexts b ts n r
       → how ≡ refused_by r → how ≡ no_memory
   by_texts ts n Limit how room h e = absurd (place_too b.texts a.texts ts n.texts f.among f.once room h.0)
   by_texts ts n NoMemory how room h e = e
@@ -93,6 +77,8 @@ module _ (a b : Store) (f : Follows a b) where
 
     made_follows : Follows to (made b)
     made_follows = subst (λ (st : Store). Follows st (made b)) (sym made_is) (record {
+      rows = All-push HasRowsOnce b.relations (record { name = name; types = types; rows = [] }) f.rows
+          (nothing_apart (λ (s t : Tuple). s ≡ t → ⊥));
       same = record {
         relations = same_more a.relations b.relations (record { name = name; types = types; rows = [] }) f.same.relations;
         queries = f.same.queries;
@@ -108,170 +94,11 @@ module _ (a b : Store) (f : Follows a b) where
       each = each;
     }
       where
-        each : (how : Loaded) (n : Store) → CommandLoads b (Rel name types) how n → ((how ≡ ran) × Follows to n) ⊎ (how ≡ no_memory)
+        each : (how : Loaded) (n : Store) → CommandLoads b (Rel name types) how n → EndsWell how to n
         each how n (Ok v, k, e) =
             let is = done_of (rel_refusal b name types) v (λ _. n ≡ made b) (OutOfMemoryWhere ⊤) k.answer in
             inl (e, subst (λ (st : Store). Follows to st) (sym is) made_follows)
         each how n (Err r, k, e) = inr (only_memory ⊤ r how (late_of (rel_refusal b name types) r (λ _. n ≡ made b) (OutOfMemoryWhere ⊤) made_free k.answer) e)
-
-  -- a row that comes
-  module _ (name : Bytes) (row : Tuple) (to : Store) (m : AddsRow a name row (Ok Added) to) where
-    abbrev LateAdd : Store → Store → Refusal → Type 0
-    LateAdd st n r = (has_row (rows_of st.relations name) row ≡ false) × RefusedByTexts st (texts_in row) n r
-
-    abbrev added : Store → Store
-    added st = record st {
-      relations = with_rows st.relations name (rows_of st.relations name ++ row ∷ []);
-      texts = all_learned st.texts (texts_in row);
-      seq = st.seq + 1;
-    }
-
-    added_as : AddsAs a name row to Added
-    added_as = done_of (add_refusal a name row) Added (AddsAs a name row to) (LateAdd a to) m.answer
-
-    added_free : add_refusal b name row ≡ None
-    added_free = add_same a b name row f.same ∙ none_of (add_refusal a name row) Added (AddsAs a name row to) (LateAdd a to) m.answer
-
-    added_room : length (all_learned a.texts (texts_in row)) ≤ TEXTS
-    added_room = subst (λ (ts : List Bytes). length ts ≤ TEXTS) (ap (λ (st : Store). st.texts) added_as.2) added_as.1
-
-    added_absent : has_row (rows_of b.relations name) row ≡ false
-    added_absent = same_has a b name row f.same ∙ added_as.0
-
-    added_follows : Follows to (added b)
-    added_follows = subst (λ (st : Store). Follows st (added b)) (sym added_as.2) (record {
-      same = record {
-        relations = same_with a.relations b.relations name (rows_of a.relations name ++ row ∷ []) (rows_of b.relations name ++ row ∷ [])
-            (IsPermutation-append_left (row ∷ []) (rows_of a.relations name) (rows_of b.relations name) (same_rows a.relations b.relations name f.same.relations)) f.same.relations;
-        queries = f.same.queries;
-        seq = ap (λ (n : ℕ). n + 1) f.same.seq;
-      };
-      among = among_all b.texts a.texts (texts_in row) f.among;
-      once = texts_apart b.texts (texts_in row) f.once;
-    })
-
-    pub add_respects : Respects b (Add name row) to
-    add_respects = record {
-      can = (
-        added b,
-        (
-          Ok Added,
-          record {
-            answer = give (add_refusal b name row) Added (AddsAs b name row (added b)) (LateAdd b (added b)) added_free
-                (added_absent, room_too b.texts a.texts (texts_in row) f.among f.once added_room, refl);
-            stays = λ h. absurd (false≢true (sym (ap is_some added_free) ∙ h));
-          },
-          refl,
-        ),
-        added_follows,
-      );
-      each = each;
-    }
-      where
-        each : (how : Loaded) (n : Store) → CommandLoads b (Add name row) how n → ((how ≡ ran) × Follows to n) ⊎ (how ≡ no_memory)
-        each how n (Ok Added, k, e) =
-            let d = done_of (add_refusal b name row) Added (AddsAs b name row n) (LateAdd b n) k.answer in
-            inl (e, subst (λ (st : Store). Follows to st) (sym d.2) added_follows)
-        each how n (Ok Same, k, e) =
-            let d = done_of (add_refusal b name row) Same (AddsAs b name row n) (LateAdd b n) k.answer in
-            absurd (false≢true (sym added_absent ∙ d.0))
-        each how n (Err r, k, e) =
-            let l = late_of (add_refusal b name row) r (AddsAs b name row n) (LateAdd b n) added_free k.answer in
-            inr (by_texts (texts_in row) n r how added_room l.1 e)
-
-  -- one that is there
-  module _ (name : Bytes) (row : Tuple) (to : Store) (m : AddsRow a name row (Ok Same) to) where
-    abbrev LateSame : Store → Store → Refusal → Type 0
-    LateSame st n r = (has_row (rows_of st.relations name) row ≡ false) × RefusedByTexts st (texts_in row) n r
-
-    same_as : AddsAs a name row to Same
-    same_as = done_of (add_refusal a name row) Same (AddsAs a name row to) (LateSame a to) m.answer
-
-    same_free : add_refusal b name row ≡ None
-    same_free = add_same a b name row f.same ∙ none_of (add_refusal a name row) Same (AddsAs a name row to) (LateSame a to) m.answer
-
-    same_there : has_row (rows_of b.relations name) row ≡ true
-    same_there = same_has a b name row f.same ∙ same_as.0
-
-    pub same_respects : Respects b (Add name row) to
-    same_respects = record {
-      can = (
-        b,
-        (
-          Ok Same,
-          record {
-            answer = give (add_refusal b name row) Same (AddsAs b name row b) (LateSame b b) same_free (same_there, refl);
-            stays = λ h. refl;
-          },
-          refl,
-        ),
-        subst (λ (st : Store). Follows st b) (sym same_as.1) f,
-      );
-      each = each;
-    }
-      where
-        each : (how : Loaded) (n : Store) → CommandLoads b (Add name row) how n → ((how ≡ ran) × Follows to n) ⊎ (how ≡ no_memory)
-        each how n (Ok Added, k, e) =
-            let d = done_of (add_refusal b name row) Added (AddsAs b name row n) (LateSame b n) k.answer in
-            absurd (false≢true (sym d.0 ∙ same_there))
-        each how n (Ok Same, k, e) =
-            let d = done_of (add_refusal b name row) Same (AddsAs b name row n) (LateSame b n) k.answer in
-            inl (e, subst (λ (st : Store). Follows to st) (sym d.1) (subst (λ (st : Store). Follows st b) (sym same_as.1) f))
-        each how n (Err r, k, e) =
-            let l = late_of (add_refusal b name row) r (AddsAs b name row n) (LateSame b n) same_free k.answer in
-            absurd (false≢true (sym l.0 ∙ same_there))
-
-  -- a row that goes
-  module _ (name : Bytes) (row : Tuple) (to : Store) (m : DeletesRow a name row (Ok Removed) to) where
-    abbrev removed : Store → Store
-    removed st = record st { relations = with_rows st.relations name (without_row (rows_of st.relations name) row); seq = st.seq + 1 }
-
-    removed_as : DeletesAs a name row to Removed
-    removed_as = done_of (delete_refusal a name row) Removed (DeletesAs a name row to) (OutOfMemoryWhere ⊥) m.answer
-
-    removed_free : delete_refusal b name row ≡ None
-    removed_free = delete_same a b name row f.same ∙ none_of (delete_refusal a name row) Removed (DeletesAs a name row to) (OutOfMemoryWhere ⊥) m.answer
-
-    removed_there : has_row (rows_of b.relations name) row ≡ true
-    removed_there = same_has a b name row f.same ∙ removed_as.0
-
-    removed_follows : Follows to (removed b)
-    removed_follows = subst (λ (st : Store). Follows st (removed b)) (sym removed_as.1) (record {
-      same = record {
-        relations = same_with a.relations b.relations name (without_row (rows_of a.relations name) row) (without_row (rows_of b.relations name) row)
-            (row_less (rows_of a.relations name) (rows_of b.relations name) row removed_as.0 (same_rows a.relations b.relations name f.same.relations)) f.same.relations;
-        queries = f.same.queries;
-        seq = ap (λ (n : ℕ). n + 1) f.same.seq;
-      };
-      among = f.among;
-      once = f.once;
-    })
-
-    pub delete_respects : Respects b (Del name row) to
-    delete_respects = record {
-      can = (
-        removed b,
-        (
-          Ok Removed,
-          record {
-            answer = give (delete_refusal b name row) Removed (DeletesAs b name row (removed b)) (OutOfMemoryWhere ⊥) removed_free (removed_there, refl);
-            stays = tt;
-          },
-          refl,
-        ),
-        removed_follows,
-      );
-      each = each;
-    }
-      where
-        each : (how : Loaded) (n : Store) → CommandLoads b (Del name row) how n → ((how ≡ ran) × Follows to n) ⊎ (how ≡ no_memory)
-        each how n (Ok Removed, k, e) =
-            let d = done_of (delete_refusal b name row) Removed (DeletesAs b name row n) (OutOfMemoryWhere ⊥) k.answer in
-            inl (e, subst (λ (st : Store). Follows to st) (sym d.1) removed_follows)
-        each how n (Ok Absent, k, e) =
-            let d = done_of (delete_refusal b name row) Absent (DeletesAs b name row n) (OutOfMemoryWhere ⊥) k.answer in
-            absurd (false≢true (sym d.0 ∙ removed_there))
-        each how n (Err r, k, e) = absurd (where_memory ⊥ r (late_of (delete_refusal b name row) r (DeletesAs b name row n) (OutOfMemoryWhere ⊥) removed_free k.answer))
 
   -- `query`
   module _ (q : Query) (most : ℕ) (to : Store) (m : RegistersQuery a q (Ok (Registered most)) to) where
@@ -294,6 +121,7 @@ module _ (a b : Store) (f : Follows a b) where
         queries = ap (λ (qs : List Listed). qs ++ a_query q ∷ []) f.same.queries;
         seq = f.same.seq;
       };
+      rows = f.rows;
       among = among_all b.texts a.texts (texts_in (constants_of q.atoms)) f.among;
       once = texts_apart b.texts (texts_in (constants_of q.atoms)) f.once;
     })
@@ -320,7 +148,7 @@ module _ (a b : Store) (f : Follows a b) where
         late how n r e (inl h) = by_texts (texts_in (constants_of q.atoms)) n r how listed_room h.1 e
         late how n r e (inr h) = e ∙ ap refused_by h.0
 
-        each : (how : Loaded) (n : Store) → CommandLoads b (Register q) how n → ((how ≡ ran) × Follows to n) ⊎ (how ≡ no_memory)
+        each : (how : Loaded) (n : Store) → CommandLoads b (Register q) how n → EndsWell how to n
         each how n (Ok (Registered k), j, e) =
             let d = done_of (query_refusal b q) (Registered k) (RegistersAs b q n) (RefusedLate b q n) j.answer in
             inl (e, subst (λ (st : Store). Follows to st) (sym d.3) listed_follows)
@@ -356,6 +184,7 @@ module _ (a b : Store) (f : Follows a b) where
         queries = ap (λ (qs : List Listed). drop_first (λ (p : Listed). bytes_eq (listed_name p) q) qs) f.same.queries;
         seq = f.same.seq;
       };
+      rows = f.rows;
       among = f.among;
       once = f.once;
     })
@@ -366,7 +195,7 @@ module _ (a b : Store) (f : Follows a b) where
       each = each;
     }
       where
-        each : (how : Loaded) (n : Store) → CommandLoads b (Drop q) how n → ((how ≡ ran) × Follows to n) ⊎ (how ≡ no_memory)
+        each : (how : Loaded) (n : Store) → CommandLoads b (Drop q) how n → EndsWell how to n
         each how n (Ok v, k, e) =
             let is = done_of (drop_refusal b false q) v (λ _. n ≡ dropped b) (OutOfMemoryWhere ⊥) k.answer in
             inl (e, subst (λ (st : Store). Follows to st) (sym is) dropped_follows)

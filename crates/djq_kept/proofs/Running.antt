@@ -18,7 +18,7 @@ use Rattle.djq_laws.proofs.Watching.{queued_store}
 use Rattle.djq_kept.specs.Loading.{Loaded, ran, refused, no_memory, ReadingLoads, LoadStep, Loads}
 use Rattle.djq_kept.specs.Kept.{Follows, LoadsTo, KeptLinesLoad}
 use Rattle.djq_kept.proofs.Knowing.{known_trans}
-use Rattle.djq_kept.proofs.Sameness.{same_refl, same_sym, same_trans}
+use Rattle.djq_kept.proofs.Sameness.{same_refl, same_sym, same_trans, once_moved}
 use Rattle.djq_kept.proofs.Respecting.{Respects}
 use Rattle.djq_kept.proofs.Keeping.{Grows, Keeps, is_kept, is_left, grows_same, command_keeps}
 
@@ -31,6 +31,7 @@ follows_left mid n rs h f = record {
     queries = f.same.queries;
     seq = f.same.seq;
   };
+  rows = f.rows;
   among = f.among;
   once = f.once;
 }
@@ -42,6 +43,7 @@ follows_right to n rs h f = record {
     queries = f.same.queries;
     seq = f.same.seq;
   };
+  rows = once_moved n.relations rs h f.rows;
   among = f.among;
   once = f.once;
 }
@@ -53,6 +55,7 @@ follows_grown a to b g f = record {
     queries = f.same.queries ∙ sym g.queries;
     seq = f.same.seq ∙ sym g.seq;
   };
+  rows = f.rows;
   among = known_trans b.texts a.texts to.texts f.among g.among;
   once = f.once;
 }

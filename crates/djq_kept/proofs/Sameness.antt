@@ -1,27 +1,44 @@
 -- Stores with the same data.
 use Rattle.std.proofs.Common.{ℕ, List, [], ◌∷◌, ◌++◌, ◌≡◌, ◌||◌, Bool, true, false, cond, length, refl, sym, ap, ◌∙◌, subst, arith}
-use Rattle.std.specs.Prelude.{◌==◌, ◌&&◌, not, nat_le, nat_lt, Option, None, Some, is_some, is_none, IsPermutation}
+use Rattle.std.specs.Prelude.{◌==◌, ◌&&◌, not, nat_le, nat_lt, Option, None, Some, is_some, is_none, IsPermutation, All}
 use Rattle.std.specs.List.{list_any}
+use Rattle.std.proofs.lemmas.List.Elements.{All-cons, All-head, All-tail}
 use Rattle.std.proofs.lemmas.List.Sorted.{IsPermutation-refl, IsPermutation-sym, IsPermutation-trans, length_permutation}
 use Rattle.djq_model.specs.declared.relation.Relation.{Relation}
 use Rattle.djq_model.specs.declared.relation.ColumnType.{ColumnType}
 use Rattle.djq_model.specs.declared.query.Query.{Query}
 use Rattle.djq_model.specs.declared.query.Atom.{Atom}
 use Rattle.djq_model.specs.declared.query.Term.{Term}
-use Rattle.djq_model.specs.Data.{Bytes, Tuple, bytes_eq, relation_of, rows_of, rows_in, has_row}
+use Rattle.djq_model.specs.declared.relation.CountedRow.{CountedRow}
+use Rattle.djq_model.specs.Data.{
+  Bytes,
+  Tuple,
+  bytes_eq,
+  relation_of,
+  tuples_in,
+  tuples_of,
+  counted_in,
+  counted_of,
+  rows_of,
+  has_row,
+}
+use Rattle.djq_model.specs.Answer.{AreDifferent}
 use Rattle.djq_model.specs.Listed.{Listed, listed_of}
 use Rattle.djq_model.specs.Typed.{fits}
-use Rattle.djq_lines.specs.declared.limits.TheConstants.{COLUMNS, RELATIONS, ROWS, LAST_SEQ, QUERIES}
+use Rattle.djq_lines.specs.declared.limits.TheConstants.{COLUMNS, RELATIONS, ROWS, COPIES, LAST_SEQ, QUERIES}
 use Rattle.djq_lines.specs.declared.answer.Refusal.{Refusal}
 use Rattle.djq_lines.specs.declared.answer.Refusal.TheVariants.{Taken, NoRelation, Arity, WrongType, VariableType, HeadRepeated, HeadUnbound, Limit}
 use Rattle.djq_lines.specs.Columns.{types_of, columns_of}
 use Rattle.djq_lines.specs.QueryFault.{any_column, any_place, is_misfit, is_clash, reads_unknown, has_wrong_arity, has_misfit, has_clash, repeats_head, has_unbound_head, is_too_large}
 use Rattle.djq_machine.specs.Conditions.{first_of}
 use Rattle.djq_machine.specs.State.{Store}
-use Rattle.djq_machine.specs.Store.{with_rows, rel_refusal, add_refusal, delete_refusal, query_refusal}
+use Rattle.djq_machine.specs.Store.{with_rows, copies_of, rel_refusal, add_refusal, delete_refusal, query_refusal}
 use Rattle.djq_machine.specs.Step.{SameRelations}
-use Rattle.djq_kept.specs.Kept.{IsSameStore}
-use Rattle.djq_kept.proofs.Rows.{row_moved}
+use Rattle.djq_model.proofs.Counted.{tuples_moved, has_moved, differ_moved, copies_moved}
+use Rattle.djq_laws.proofs.Apart.{nothing_apart}
+use Rattle.djq_laws.proofs.Changing.{all_changed, all_found}
+use Rattle.djq_laws.proofs.Answering.{reordered_counted, reordered_rows}
+use Rattle.djq_kept.specs.Kept.{IsSameStore, HasRowsOnce, Follows, FollowersHaveCopies}
 
 -- ---- relations
 
@@ -93,18 +110,35 @@ found_types (Some a) (Some b) h = h.1
 found_types None (Some b) h = absurd h
 found_types (Some a) None h = absurd h
 
-found_rows : (o p : Option Relation) → IsSameFound o p → IsPermutation (rows_in o) (rows_in p)
-found_rows None None h = IsPermutation-refl []
-found_rows (Some a) (Some b) h = h.2
-found_rows None (Some b) h = absurd h
-found_rows (Some a) None h = absurd h
+-- no row twice in any of them, in any order
+pub once_moved : (us bs : List Relation) → SameRelations us bs → All HasRowsOnce us → All HasRowsOnce bs
+once_moved [] [] h once = once
+once_moved (a ∷ us) (b ∷ bs) h once =
+    All-cons HasRowsOnce b bs
+    (differ_moved (tuples_in a) (tuples_in b) (tuples_moved a.rows b.rows h.2) (All-head HasRowsOnce a us once))
+    (once_moved us bs h.3 (All-tail HasRowsOnce a us once))
+once_moved [] (b ∷ bs) h once = absurd h
+once_moved (a ∷ us) [] h once = absurd h
 
-pub same_rows : (us bs : List Relation) (n : Bytes) → SameRelations us bs → IsPermutation (rows_of us n) (rows_of bs n)
-same_rows us bs n h = found_rows (relation_of us n) (relation_of bs n) (same_found us bs n h)
+-- in the one of a name
+once_found : (us : List Relation) (n : Bytes) (o : Option Relation) → relation_of us n ≡ o → All HasRowsOnce us
+    → AreDifferent (tuples_of (counted_in o))
+once_found us n None e once = nothing_apart (λ (s t : Tuple). s ≡ t → ⊥)
+once_found us n (Some a) e once = all_found HasRowsOnce (λ (r : Relation). bytes_eq r.name n) us a once e
+
+pub rows_once : (us : List Relation) (n : Bytes) → All HasRowsOnce us → AreDifferent (rows_of us n)
+rows_once us n once = once_found us n (relation_of us n) refl once
+
+-- with other rows in one of them
+pub once_with : (us : List Relation) (n : Bytes) (rows : List CountedRow) → AreDifferent (tuples_of rows)
+    → All HasRowsOnce us → All HasRowsOnce (with_rows us n rows)
+once_with us n rows differ once =
+    all_changed HasRowsOnce (λ (r : Relation). bytes_eq r.name n) (λ (r : Relation). record r { rows = rows }) us once
+    (λ x found k. differ)
 
 -- other rows in one of them
-pub same_with : (us bs : List Relation) (n : Bytes) (xs ys : List Tuple) → IsPermutation xs ys → SameRelations us bs
-    → SameRelations (with_rows us n xs) (with_rows bs n ys)
+pub same_with : (us bs : List Relation) (n : Bytes) (xs ys : List CountedRow) → IsPermutation xs ys
+    → SameRelations us bs → SameRelations (with_rows us n xs) (with_rows bs n ys)
 same_with [] [] n xs ys p h = tt
 same_with (a ∷ us) (b ∷ bs) n xs ys p h =
     subst (λ (c : Bool). SameRelations (with_rows (a ∷ us) n xs) (cond c (record b { rows = ys } ∷ bs) (b ∷ with_rows bs n ys)))
@@ -126,48 +160,78 @@ rel_same a b n types h =
     ap (λ (t : Bool). rel_by t (length b.relations) types) (found_some _ _ (same_found a.relations b.relations n h.relations))
     ∙ ap (λ (k : ℕ). rel_by (is_some (relation_of a.relations n)) k types) (same_length a.relations b.relations h.relations)
 
-abbrev add_by : Bool → List ColumnType → Bool → ℕ → ℕ → Tuple → Option Refusal
-add_by none types has long seq row = first_of (
+-- the rows of a relation, and the copies of each
+module _ (a b : Store) (n : Bytes) (row : Tuple) (f : Follows a b) where
+  pub moved : IsPermutation (counted_of a.relations n) (counted_of b.relations n)
+  moved = reordered_counted a.relations b.relations n f.same.relations
+
+  pub before_once : AreDifferent (rows_of a.relations n)
+  before_once =
+      differ_moved (rows_of b.relations n) (rows_of a.relations n)
+      (IsPermutation-sym (rows_of a.relations n) (rows_of b.relations n)
+      (reordered_rows a.relations b.relations n f.same.relations))
+      (rows_once b.relations n f.rows)
+
+  pub same_has : has_row (rows_of b.relations n) row ≡ has_row (rows_of a.relations n) row
+  same_has = has_moved (rows_of a.relations n) (rows_of b.relations n) row
+      (reordered_rows a.relations b.relations n f.same.relations)
+
+  pub same_copies : copies_of b n row ≡ copies_of a n row
+  same_copies = copies_moved (counted_of a.relations n) (counted_of b.relations n) row before_once moved
+
+pub followers_have_copies : FollowersHaveCopies
+followers_have_copies a b f n row = same_copies a b n row f
+
+-- why a row doesn't suit a relation, and what else refuses it
+abbrev row_by : Bool → List ColumnType → Tuple → List (Bool × Refusal) → Option Refusal
+row_by none types row more = first_of (
     (none, NoRelation)
     ∷ (not (length row == length types), Arity)
     ∷ (not (fits types row), WrongType)
+    ∷ more)
+
+row_same : (a b : Store) (n : Bytes) (row : Tuple) (more : List (Bool × Refusal)) → Follows a b
+    → row_by (is_none (relation_of b.relations n)) (types_of (relation_of b.relations n)) row more
+    ≡ row_by (is_none (relation_of a.relations n)) (types_of (relation_of a.relations n)) row more
+row_same a b n row more h =
+    let f = same_found a.relations b.relations n h.same.relations in
+    ap (λ (x : Bool). row_by x (types_of (relation_of b.relations n)) row more) (found_none _ _ f)
+    ∙ ap (λ (x : List ColumnType). row_by (is_none (relation_of a.relations n)) x row more) (found_types _ _ f)
+
+abbrev add_more : ℕ → Bool → ℕ → ℕ → List (Bool × Refusal)
+add_more copies has long seq =
+    (nat_le COPIES copies, Limit)
     ∷ (not has && nat_le ROWS long, Limit)
     ∷ (not has && nat_le LAST_SEQ seq, Limit)
-    ∷ [])
+    ∷ []
 
-pub same_has : (a b : Store) (n : Bytes) (row : Tuple) → IsSameStore a b → has_row (rows_of b.relations n) row ≡ has_row (rows_of a.relations n) row
-same_has a b n row h = row_moved (rows_of a.relations n) (rows_of b.relations n) row (same_rows a.relations b.relations n h.relations)
-
-pub add_same : (a b : Store) (n : Bytes) (row : Tuple) → IsSameStore a b → add_refusal b n row ≡ add_refusal a n row
+pub add_same : (a b : Store) (n : Bytes) (row : Tuple) → Follows a b → add_refusal b n row ≡ add_refusal a n row
 add_same a b n row h =
-    let f = same_found a.relations b.relations n h.relations in
-    let types = types_of (relation_of b.relations n) in
+    let left = relation_of a.relations n in
     let has = has_row (rows_of b.relations n) row in
     let long = length (rows_of b.relations n) in
-    ap (λ (x : Bool). add_by x types has long b.seq row) (found_none _ _ f)
-    ∙ ap (λ (x : List ColumnType). add_by (is_none (relation_of a.relations n)) x has long b.seq row) (found_types _ _ f)
-    ∙ ap (λ (x : Bool). add_by (is_none (relation_of a.relations n)) (types_of (relation_of a.relations n)) x long b.seq row) (same_has a b n row h)
-    ∙ ap (λ (x : ℕ). add_by (is_none (relation_of a.relations n)) (types_of (relation_of a.relations n)) (has_row (rows_of a.relations n) row) x b.seq row)
-    (length_permutation (rows_of a.relations n) (rows_of b.relations n) (same_rows a.relations b.relations n h.relations))
-    ∙ ap (λ (x : ℕ). add_by (is_none (relation_of a.relations n)) (types_of (relation_of a.relations n)) (has_row (rows_of a.relations n) row) (length (rows_of a.relations n)) x row) h.seq
+    let by : List (Bool × Refusal) → Option Refusal = row_by (is_none left) (types_of left) row in
+    row_same a b n row (add_more (copies_of b n row) has long b.seq) h
+    ∙ ap (λ (x : ℕ). by (add_more x has long b.seq)) (same_copies a b n row h)
+    ∙ ap (λ (x : Bool). by (add_more (copies_of a n row) x long b.seq)) (same_has a b n row h)
+    ∙ ap (λ (x : ℕ). by (add_more (copies_of a n row) (has_row (rows_of a.relations n) row) x b.seq))
+    (length_permutation (rows_of a.relations n) (rows_of b.relations n)
+    (reordered_rows a.relations b.relations n h.same.relations))
+    ∙ ap (λ (x : ℕ).
+    by (add_more (copies_of a n row) (has_row (rows_of a.relations n) row) (length (rows_of a.relations n)) x))
+    h.same.seq
 
-abbrev delete_by : Bool → List ColumnType → Bool → ℕ → Tuple → Option Refusal
-delete_by none types has seq row = first_of (
-    (none, NoRelation)
-    ∷ (not (length row == length types), Arity)
-    ∷ (not (fits types row), WrongType)
-    ∷ (has && nat_le LAST_SEQ seq, Limit)
-    ∷ [])
+abbrev delete_more : ℕ → ℕ → List (Bool × Refusal)
+delete_more copies seq = ((copies == 1) && nat_le LAST_SEQ seq, Limit) ∷ []
 
-pub delete_same : (a b : Store) (n : Bytes) (row : Tuple) → IsSameStore a b → delete_refusal b n row ≡ delete_refusal a n row
+pub delete_same : (a b : Store) (n : Bytes) (row : Tuple) → Follows a b
+    → delete_refusal b n row ≡ delete_refusal a n row
 delete_same a b n row h =
-    let f = same_found a.relations b.relations n h.relations in
-    let types = types_of (relation_of b.relations n) in
-    let has = has_row (rows_of b.relations n) row in
-    ap (λ (x : Bool). delete_by x types has b.seq row) (found_none _ _ f)
-    ∙ ap (λ (x : List ColumnType). delete_by (is_none (relation_of a.relations n)) x has b.seq row) (found_types _ _ f)
-    ∙ ap (λ (x : Bool). delete_by (is_none (relation_of a.relations n)) (types_of (relation_of a.relations n)) x b.seq row) (same_has a b n row h)
-    ∙ ap (λ (x : ℕ). delete_by (is_none (relation_of a.relations n)) (types_of (relation_of a.relations n)) (has_row (rows_of a.relations n) row) x row) h.seq
+    let left = relation_of a.relations n in
+    let by : List (Bool × Refusal) → Option Refusal = row_by (is_none left) (types_of left) row in
+    row_same a b n row (delete_more (copies_of b n row) b.seq) h
+    ∙ ap (λ (x : ℕ). by (delete_more x b.seq)) (same_copies a b n row h)
+    ∙ ap (λ (x : ℕ). by (delete_more (copies_of a n row) x)) h.same.seq
 
 -- the faults of a query
 any_same : {A : Type 0} (p q : A → Bool) (xs : List A) → ((x : A) → p x ≡ q x) → list_any p xs ≡ list_any q xs

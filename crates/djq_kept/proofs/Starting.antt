@@ -1,5 +1,5 @@
 -- What is loaded into a sound store leaves a sound one.
-use Rattle.std.specs.Prelude.{List, ◌≡◌, false}
+use Rattle.std.specs.Prelude.{◌≡◌, false}
 use Rattle.std.proofs.Common.{sym, subst, inl, inr}
 use Rattle.djq_model.specs.Data.{Bytes}
 use Rattle.djq_lines.specs.declared.command.Command.{Command}

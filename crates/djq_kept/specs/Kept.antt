@@ -1,16 +1,19 @@
 -- The lines that a run kept, loaded, give what the run left.
 use Rattle.std.specs.Prelude.{List, [], ◌∷◌, ◌++◌, ◌≡◌, ◌≤◌, true, false, length, All}
-use Rattle.djq_model.specs.Data.{Bytes}
+use Rattle.djq_model.specs.declared.relation.Relation.{Relation}
+use Rattle.djq_model.specs.Data.{Bytes, Tuple, tuples_in}
+use Rattle.djq_model.specs.Answer.{AreDifferent}
 use Rattle.djq_model.specs.Known.{knows}
 use Rattle.djq_lines.specs.declared.limits.TheConstants.{LINE_BYTES}
 use Rattle.djq_machine.specs.State.{Store, State, opening}
+use Rattle.djq_machine.specs.Store.{copies_of}
 use Rattle.djq_machine.specs.Step.{SameRelations}
 use Rattle.djq_machine.specs.Run.{Did, Run, Group, groups_of, lines_in}
 use Rattle.djq_laws.specs.Sound.{AreApart, IsStart}
 use Rattle.djq_kept.specs.Loading.{refused, LoadStep, Loads}
 
--- Two stores have the same relations, each with its rows in any order, the same queries and number
--- of changes.
+-- Two stores have the same relations, each with its rows and their copies in any order, the same
+-- queries and number of changes.
 pub record IsSameStore (a b : Store) : Type 0 where
   pub relations : SameRelations a.relations b.relations
   pub queries : b.queries ≡ a.queries
@@ -20,11 +23,22 @@ pub record IsSameStore (a b : Store) : Type 0 where
 abbrev pub AreKnown : List Bytes → List Bytes → Type 0
 AreKnown texts known = (t : Bytes) → knows texts t ≡ true → knows known t ≡ true
 
--- A store follows another: it has the same data, and knows no other texts, each once.
+-- no row of a relation stands in it twice
+abbrev pub HasRowsOnce : Relation → Type 0
+HasRowsOnce r = AreDifferent (tuples_in r)
+
+-- A store follows another: it has the same data, each row once with its copies, and knows no other
+-- texts, each once.
 pub record Follows (a b : Store) : Type 0 where
   pub same : IsSameStore a b
+  pub rows : All HasRowsOnce b.relations
   pub among : AreKnown b.texts a.texts
   pub once : AreApart b.texts
+
+-- So it has as many copies of each row.
+abbrev pub FollowersHaveCopies : Type 0
+FollowersHaveCopies = (a b : Store) → Follows a b → (name : Bytes) (row : Tuple)
+    → copies_of b name row ≡ copies_of a name row
 
 -- Lines can be loaded into a store, and none is refused; and whatever they are loaded to, where
 -- memory suffices, follows this store.
@@ -41,7 +55,7 @@ FoundIsStart = (found : List Bytes) (st : State) → Loads opening.store found s
     → st.sessions ≡ [] → st.stopped ≡ false → IsStart st
 
 -- The lines that a run kept, loaded into a store that follows the one it began with, give a store
--- that follows the one it left.
+-- that follows the one it left: the same rows with the same copies.
 abbrev pub KeptLinesLoad : Type 0
 KeptLinesLoad = (old : State) (done : List Did) (new : State) → Run old done new
     → (from : Store) → Follows old.store from → LoadsTo from (lines_in (groups_of done)) new.store

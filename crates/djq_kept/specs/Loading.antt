@@ -56,7 +56,7 @@ ReadingLoads old (past_limit c) how new = (how ≡ refused) × (new ≡ old)
 ReadingLoads old (says_command c) how new = CommandLoads old c how new
     ⊎ ((takes_memory_to_read c ≡ true) × (how ≡ no_memory) × (new ≡ old))
 
--- A line is loaded. The rows may be kept in another order from then on.
+-- A line is loaded. The rows, each with its copies, may be kept in another order from then on.
 pub record LoadStep (old : Store) (line : Bytes) (how : Loaded) (new : Store) : Type 0 where
   pub mid : Store
   pub loads : ReadingLoads old (reading_of line) how mid

@@ -1,13 +1,14 @@
 //! Laws on the lines that a run of the join machine keeps: loaded, they give what the run left.
 //!
 //! Each function here is empty: its contract is the law, and its proof says nothing of code. A run
-//! keeps the lines of `rel`, `add` and `drop` that weren't refused, of `del` where a row went, and
+//! keeps the lines of `rel`, `add` and `drop` that weren't refused, of `del` where a copy went, and
 //! of `query` where it was registered (djq_machine, `specs/Keeping.antt`).
 //!
 //! ```text
-//! rel r int       kept          loaded into an empty store, the four kept lines give
-//! add r 7         kept          r with the row (8), no query, and 3 changes, as the
-//! add r 8         kept          run left it
+//! rel r int       kept          loaded into an empty store, the five kept lines give
+//! add r 7         kept          r with two copies of the row (8), no query, and 3
+//! add r 8         kept          changes, as the run left it
+//! add r 8         kept
 //! del r 9
 //! has q 7
 //! del r 7         kept
@@ -17,28 +18,35 @@
 //! and loads them at the next start may rest on.
 //!
 //! What surprises: what is kept is the line as it came, and loading it runs it anew. A store that
-//! is loaded *follows* the one that was left: rows may stand in another order, and texts that no
-//! row or query of it has may be unknown. Cursors, watches and sessions aren't kept. No kept line
-//! is refused as it is loaded, though memory may be wanting.
+//! is loaded *follows* the one that was left: rows, each with its copies, may stand in another
+//! order, and texts that no row or query of it has may be unknown. Cursors, watches and sessions
+//! aren't kept. No kept line is refused as it is loaded, though memory may be wanting.
 //!
 //! Inside, `specs/Loading.antt` says what loading a line does to a store, and `specs/Kept.antt` the
 //! laws: [`kept_lines_load`] from any store that follows the first, [`runs_reload`] from lines that
 //! were there before, and [`stops_reload`] where a stop left the first groups of lines, whole.
 #![tactic(auto)]
 
-ghost use Rattle.djq_kept.specs.Kept.{FoundIsStart, KeptAreLines, KeptLinesLoad, RunsReload, StopsReload};
+ghost use Rattle.djq_kept.specs.Kept.{FoundIsStart, KeptLinesLoad, FollowersHaveCopies};
+ghost use Rattle.djq_kept.specs.Kept.{RunsReload, StopsReload, KeptAreLines};
 
 /// What lines, found at a start, give is a state to start from: relations, queries and known texts
-/// are without repeats, rows are of their columns' types, and queries free-connex.
+/// are without repeats, and so are the rows of a relation; these are of its columns' types, each
+/// with one copy at least and no more than may be; and queries are free-connex.
 pub fn found_is_start()
     ensures { FoundIsStart }
 {}
 
 /// The lines that a run kept, loaded into a store that follows the one it began with, are refused
-/// nowhere, and give a store that follows the one it left: the same rows in some order, the same
-/// queries and number of changes.
+/// nowhere, and give a store that follows the one it left: the same rows with the same copies, in
+/// some order, the same queries and number of changes.
 pub fn kept_lines_load()
     ensures { KeptLinesLoad }
+{}
+
+/// A store that follows another has as many copies of each row.
+pub fn followers_have_copies()
+    ensures { FollowersHaveCopies }
 {}
 
 /// A run that began with what lines, found at its start, gave: these lines and those that it kept

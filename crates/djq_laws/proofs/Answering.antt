@@ -6,7 +6,8 @@ use Rattle.std.proofs.lemmas.List.Elements.{All-nil, All-cons, Contains-get_or}
 use Rattle.std.proofs.lemmas.List.Sorted.{Contains-permutation, IsPermutation-sym, IsPermutation-refl}
 use Rattle.djq_model.specs.declared.relation.Relation.{Relation}
 use Rattle.djq_model.specs.declared.relation.ColumnType.{ColumnType}
-use Rattle.djq_model.specs.Data.{Bytes, Tuple, bytes_eq, relation_of, rows_of, rows_in}
+use Rattle.djq_model.specs.declared.relation.CountedRow.{CountedRow}
+use Rattle.djq_model.specs.Data.{Bytes, Tuple, bytes_eq, relation_of, tuples_of, counted_in, counted_of, rows_of}
 use Rattle.djq_model.specs.Listed.{Listed, a_query, AnswersOf}
 use Rattle.djq_model.specs.Equality.{bytes_eq-decides}
 use Rattle.djq_machine.specs.Store.{with_rows}
@@ -15,7 +16,8 @@ use Rattle.djq_machine.specs.Changes.{RowsChange, new_rows}
 use Rattle.djq_machine.specs.Step.{SameRelations}
 use Rattle.djq_machine.specs.Gives.{Gives}
 use Rattle.djq_machine.proofs.Reading.{reads_atom}
-use Rattle.djq_laws.proofs.Finding.{find_other}
+use Rattle.djq_model.proofs.Counted.{tuples_moved}
+use Rattle.djq_machine.proofs.Copies.{rows_apart}
 
 pub apart_from : (r name n : Bytes) (b : Bool) → bytes_eq r n ≡ b → bytes_eq n name ≡ false → bytes_eq r name ≡ true → b ≡ false
 apart_from r name n false e ne same = refl
@@ -60,21 +62,30 @@ gives_kept rs rs' q given finished same h = record {
 }
 
 -- A new relation has no rows, so each name has the rows that it had.
-new_step : (n name : Bytes) (types : List ColumnType) (b : Bool) → rows_in (cond b (Some (record { name = name; types = types; rows = [] })) None) ≡ []
-new_step n name types true = refl
-new_step n name types false = refl
+new_step : (name : Bytes) (types : List ColumnType) (b : Bool)
+    → counted_in (cond b (Some (record { name = name; types = types; rows = [] })) None) ≡ []
+new_step name types true = refl
+new_step name types false = refl
 
-first_step : (n : Bytes) (r : Relation) (o p : Option Relation) (b : Bool) → rows_in o ≡ rows_in p → rows_in (cond b (Some r) o) ≡ rows_in (cond b (Some r) p)
-first_step n r o p true h = refl
-first_step n r o p false h = h
+first_step : (r : Relation) (o p : Option Relation) (b : Bool) → counted_in o ≡ counted_in p
+    → counted_in (cond b (Some r) o) ≡ counted_in (cond b (Some r) p)
+first_step r o p true h = refl
+first_step r o p false h = h
+
+counted_of_new : (rs : List Relation) (name : Bytes) (types : List ColumnType) (n : Bytes)
+    → counted_of (rs ++ record { name = name; types = types; rows = [] } ∷ []) n ≡ counted_of rs n
+counted_of_new [] name types n = new_step name types (bytes_eq name n)
+counted_of_new (r ∷ rs) name types n =
+    first_step r (relation_of (rs ++ record { name = name; types = types; rows = [] } ∷ []) n) (relation_of rs n)
+    (bytes_eq r.name n) (counted_of_new rs name types n)
 
 pub rows_of_new : (rs : List Relation) (name : Bytes) (types : List ColumnType) (n : Bytes)
     → rows_of (rs ++ record { name = name; types = types; rows = [] } ∷ []) n ≡ rows_of rs n
-rows_of_new [] name types n = new_step n name types (bytes_eq name n)
-rows_of_new (r ∷ rs) name types n =
-    first_step n r (relation_of (rs ++ record { name = name; types = types; rows = [] } ∷ []) n) (relation_of rs n) (bytes_eq r.name n) (rows_of_new rs name types n)
+rows_of_new rs name types n = ap tuples_of (counted_of_new rs name types n)
 
-rows_same : (rs rs' : List Relation) (q : Listed) → ((n : Bytes) → rows_of rs' n ≡ rows_of rs n) → SameAnswers rs rs' q
+-- Where each name has the rows that it had, answers are the same.
+pub rows_same : (rs rs' : List Relation) (q : Listed) → ((n : Bytes) → rows_of rs' n ≡ rows_of rs n)
+    → SameAnswers rs rs' q
 rows_same rs rs' q e = same_within rs rs' q
     (λ n r row h. rw e h)
     (λ n r row h. rw e at h)
@@ -84,27 +95,31 @@ pub new_relation_same : (rs : List Relation) (name : Bytes) (types : List Column
 new_relation_same rs name types q = rows_same rs (rs ++ record { name = name; types = types; rows = [] } ∷ []) q (rows_of_new rs name types)
 
 -- The same relations with their rows in another order.
-order_step : (n : Bytes) (r s : Relation) (o p : Option Relation) (b : Bool) → bytes_eq r.name n ≡ b → s.name ≡ r.name → IsPermutation r.rows s.rows
-    → IsPermutation (rows_in o) (rows_in p) → IsPermutation (rows_in (cond b (Some r) o)) (rows_in (cond (bytes_eq s.name n) (Some s) p))
-order_step n r s o p true e name rows h = let k : bytes_eq s.name n ≡ true = ap (λ m. bytes_eq m n) name ∙ e in rw k rows
-order_step n r s o p false e name rows h = let k : bytes_eq s.name n ≡ false = ap (λ m. bytes_eq m n) name ∙ e in rw k h
+order_step : (n : Bytes) (r s : Relation) (o p : Option Relation) (b : Bool) → bytes_eq r.name n ≡ b → s.name ≡ r.name
+    → IsPermutation r.rows s.rows → IsPermutation (counted_in o) (counted_in p)
+    → IsPermutation (counted_in (cond b (Some r) o)) (counted_in (cond (bytes_eq s.name n) (Some s) p))
+order_step n r s o p true e name rows h =
+    let k : bytes_eq s.name n ≡ true = ap (λ m. bytes_eq m n) name ∙ e in rw k rows
+order_step n r s o p false e name rows h =
+    let k : bytes_eq s.name n ≡ false = ap (λ m. bytes_eq m n) name ∙ e in rw k h
 
-pub reordered_rows : (rs rs' : List Relation) (n : Bytes) → SameRelations rs rs' → IsPermutation (rows_of rs n) (rows_of rs' n)
-reordered_rows [] [] n h = IsPermutation-refl []
-reordered_rows (r ∷ rs) (s ∷ rs') n h = order_step n r s (relation_of rs n) (relation_of rs' n) (bytes_eq r.name n) refl h.0 h.2 (reordered_rows rs rs' n h.3)
-reordered_rows [] (s ∷ rs') n h = absurd h
-reordered_rows (r ∷ rs) [] n h = absurd h
+pub reordered_counted : (rs rs' : List Relation) (n : Bytes) → SameRelations rs rs'
+    → IsPermutation (counted_of rs n) (counted_of rs' n)
+reordered_counted [] [] n h = IsPermutation-refl []
+reordered_counted (r ∷ rs) (s ∷ rs') n h =
+    order_step n r s (relation_of rs n) (relation_of rs' n) (bytes_eq r.name n) refl h.0 h.2
+    (reordered_counted rs rs' n h.3)
+reordered_counted [] (s ∷ rs') n h = absurd h
+reordered_counted (r ∷ rs) [] n h = absurd h
+
+pub reordered_rows : (rs rs' : List Relation) (n : Bytes) → SameRelations rs rs'
+    → IsPermutation (rows_of rs n) (rows_of rs' n)
+reordered_rows rs rs' n h = tuples_moved (counted_of rs n) (counted_of rs' n) (reordered_counted rs rs' n h)
 
 pub reordered_same : (rs rs' : List Relation) (q : Listed) → SameRelations rs rs' → SameAnswers rs rs' q
 reordered_same rs rs' q h = same_within rs rs' q
     (λ n r row c. Contains-permutation _ _ row (reordered_rows rs rs' n h) c)
     (λ n r row c. Contains-permutation _ _ row (IsPermutation-sym _ _ (reordered_rows rs rs' n h)) c)
-
--- A change of a relation that isn't read.
-pub rows_apart : (rs : List Relation) (name : Bytes) (rows : List Tuple) (n : Bytes) → bytes_eq n name ≡ false → rows_of (with_rows rs name rows) n ≡ rows_of rs n
-rows_apart rs name rows n ne =
-    ap rows_in (find_other (λ (r : Relation). bytes_eq r.name name) (λ (r : Relation). bytes_eq r.name n) (λ (r : Relation). record r { rows = rows }) (λ r. refl)
-    (λ r e. apart_from r.name name n (bytes_eq r.name n) refl ne e) rs)
 
 pub none_or : (a b : Bool) → (a || b) ≡ false → (a ≡ false) × (b ≡ false)
 none_or false false h = (refl, refl)
@@ -115,7 +130,8 @@ pub none_pass : {A : Type 0} (p : A → Bool) (xs : List A) → list_any p xs �
 none_pass p [] h = All-nil (λ x. p x ≡ false)
 none_pass p (x ∷ xs) h = let n = none_or (p x) (list_any p xs) h in All-cons (λ y. p y ≡ false) x xs n.0 (none_pass p xs n.1)
 
-unread_same : (rs : List Relation) (name : Bytes) (rows : List Tuple) (q : Listed) → listed_reads q name ≡ false
+-- A change of a relation that isn't read.
+unread_same : (rs : List Relation) (name : Bytes) (rows : List CountedRow) (q : Listed) → listed_reads q name ≡ false
     → SameAnswers rs (with_rows rs name rows) q
 unread_same rs name rows q h =
     same_within rs (with_rows rs name rows) q
@@ -136,7 +152,7 @@ abbrev pub Spares : List Relation → RowsChange → Type 0
 Spares rs change = (q : Listed) → change.outdater q ≡ None → SameAnswers rs change.after q
 
 -- So does a change of one relation.
-pub one_spares : (rs : List Relation) (name : Bytes) (rows : List Tuple) → Spares rs (new_rows rs name rows)
+pub one_spares : (rs : List Relation) (name : Bytes) (rows : List CountedRow) → Spares rs (new_rows rs name rows)
 one_spares rs name rows q h = unread_same rs name rows q (unread (listed_reads q name) h)
   where
     unread : (b : Bool) → cond b (Some name) None ≡ None → b ≡ false

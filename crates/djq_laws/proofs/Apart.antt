@@ -17,14 +17,11 @@ use Rattle.std.specs.Prelude.{
   All,
   AllPairs,
 }
-use Rattle.std.specs.List.Sorted.{IsPermutation}
 use Rattle.std.proofs.Common.{refl, sym, ap, ◌∙◌, subst, arith}
 use Rattle.std.proofs.lemmas.List.{map-append}
 use Rattle.std.proofs.lemmas.List.Elements.{All-nil, All-cons}
 use Rattle.std.proofs.lemmas.List.Kept.{AllPairs-cons}
 use Rattle.std.proofs.lemmas.List.Quantifiers.{all_pairs_push}
-use Rattle.std.proofs.lemmas.Map.Keys.{IsDistinct-IsPermutation}
-use Rattle.std.proofs.lemmas.Map.Made.{AllPairs-from_IsDistinct, IsDistinct-from_AllPairs}
 use Rattle.djq_model.specs.Data.{Bytes, Tuple, bytes_eq, tuple_eq, change_first, drop_first, has_row, without_row}
 use Rattle.djq_model.specs.Answer.{AreDifferent}
 use Rattle.djq_model.specs.Equality.{bytes_eq-decides, tuple_eq-decides}
@@ -165,19 +162,3 @@ without_dropped (r ∷ rows) row = ap (λ rest. cond (tuple_eq r row) rows (r �
 pub rows_less : (rows : List Tuple) (row : Tuple) → AreDifferent rows → AreDifferent (without_row rows row)
 rows_less rows row h = subst AreDifferent (sym (without_dropped rows row))
     (pairs_dropped (λ s t. s ≡ t → ⊥) (λ r. tuple_eq r row) rows h)
-
-same_back : (s t : Tuple) → tuple_eq s t ≡ tuple_eq t s
-same_back s t = by (tuple_eq s t) (tuple_eq t s) refl refl
-  where
-    by : (a b : Bool) → tuple_eq s t ≡ a → tuple_eq t s ≡ b → a ≡ b
-    by true true e f = refl
-    by false false e f = refl
-    by true false e f = let back : tuple_eq t s ≡ true = (tuple_eq-decides t s).1 (sym ((tuple_eq-decides s t).0 e)) in
-        absurd (cc (back, f))
-    by false true e f = let back : tuple_eq s t ≡ true = (tuple_eq-decides s t).1 (sym ((tuple_eq-decides t s).0 f)) in
-        absurd (cc (back, e))
-
-pub rows_moved : (rows moved : List Tuple) → IsPermutation rows moved → AreDifferent rows → AreDifferent moved
-rows_moved rows moved p h =
-    AllPairs-from_IsDistinct tuple_eq-decides moved
-    (IsDistinct-IsPermutation tuple_eq same_back rows moved p (IsDistinct-from_AllPairs tuple_eq-decides rows h))

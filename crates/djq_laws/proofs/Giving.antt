@@ -31,7 +31,7 @@ use Rattle.djq_laws.specs.Form.{form_of, Form, asking, storing, turning, changin
 use Rattle.djq_laws.proofs.Forms.{command_does}
 use Rattle.djq_laws.proofs.Rows.{RowsMade, outdater_by, rows_do}
 use Rattle.djq_laws.proofs.Changing.{all_changed, all_found, all_dropped, all_mapped}
-use Rattle.djq_laws.proofs.Answering.{SameAnswers, gives_kept, new_relation_same, reordered_same, apart_from, none_or, none_pass}
+use Rattle.djq_laws.proofs.Answering.{SameAnswers, gives_kept, rows_same, new_relation_same, reordered_same, apart_from, none_or, none_pass}
 
 -- a cursor gives what it should, over these relations and queries
 abbrev pub CursorGives : List Relation → List Listed → Cursor → Type 0
@@ -122,7 +122,9 @@ made_gives outdater old (out_of_memory change) store h g =
     subst (λ (st : Store). CursorsGive (changed old (Some change) st)) (sym h.store)
     (outdated_give rs rs old.store.queries change.outdater old.store.seq old.sessions (λ q apart. same_itself rs q) g)
 made_gives outdater old unchanged store h g =
-    subst (λ (st : Store). CursorsGive (record old { store = st })) (sym h.store) g
+    subst (λ (st : Store). CursorsGive (record old { store = st })) (sym h.store)
+    (relations_give old.store.relations h.relations old.store.queries old.sessions
+    (λ q. rows_same old.store.relations h.relations q h.same) g)
 
 -- A query that no session uses is no cursor's.
 pub dropped_query : (qs : List Listed) (name other : Bytes) → bytes_eq other name ≡ false → listed_of (drop_first (λ p. bytes_eq (listed_name p) name) qs) other ≡ listed_of qs other

@@ -4,6 +4,7 @@ mod Told
 pub mod Changing
 pub mod Forms
 pub mod Rows
+pub mod Counting
 pub mod Alike
 pub mod Touching
 pub mod Moving

@@ -4,6 +4,7 @@ use Rattle.std.proofs.Common.{refl, sym, ap, ◌∙◌, subst}
 use Rattle.std.proofs.lemmas.List.Sorted.{All-permutation}
 use Rattle.std.proofs.lemmas.List.Elements.{All-nil, All-cons, All-head, All-tail, All-push}
 use Rattle.djq_model.specs.declared.relation.Relation.{Relation}
+use Rattle.djq_model.specs.declared.relation.CountedRow.{CountedRow}
 use Rattle.djq_model.specs.Data.{Bytes, tuples_in, bytes_eq}
 use Rattle.djq_model.specs.Listed.{Listed, listed_name}
 use Rattle.djq_model.specs.Typed.{fits}
@@ -11,7 +12,7 @@ use Rattle.djq_lines.specs.declared.limits.TheConstants.{TEXTS}
 use Rattle.djq_machine.specs.State.{Store}
 use Rattle.djq_machine.specs.Changes.{RowsOutcome, accepted, out_of_memory, unchanged}
 use Rattle.djq_machine.specs.Step.{SameRelations}
-use Rattle.djq_laws.specs.Sound.{AreApart, IsSoundRelation, IsConnex, IsSoundStore}
+use Rattle.djq_laws.specs.Sound.{AreApart, IsCopyCount, IsSoundRelation, IsConnex, IsSoundStore}
 use Rattle.djq_laws.specs.Form.{
   Stored,
   LearnsTexts,
@@ -21,8 +22,9 @@ use Rattle.djq_laws.specs.Form.{
   registers,
   drops_query,
 }
+use Rattle.djq_model.proofs.Counted.{tuples_moved, differ_moved}
 use Rattle.djq_laws.proofs.Changing.{all_dropped}
-use Rattle.djq_laws.proofs.Apart.{names_push, names_dropped, texts_apart, rows_moved, nothing_apart}
+use Rattle.djq_laws.proofs.Apart.{names_push, names_dropped, texts_apart, nothing_apart}
 use Rattle.djq_laws.proofs.Rows.{RowsMade}
 
 -- Where no more than texts become known.
@@ -44,7 +46,11 @@ stored_sound used old new (makes_relation name types none e) s =
     subst IsSoundStore (sym e) (record {
       relations = names_push (λ (x : Relation). x.name) old.relations made s.relations none;
       rows = All-push IsSoundRelation old.relations made s.rows
-          (record { typed = All-nil (λ t. fits types t ≡ true); once = nothing_apart (λ a b. a ≡ b → ⊥) });
+          (record {
+            typed = All-nil (λ t. fits types t ≡ true);
+            once = nothing_apart (λ a b. a ≡ b → ⊥);
+            copies = All-nil (λ (c : CountedRow). IsCopyCount c.copies);
+          });
       texts = s.texts;
       few = s.few;
       queries = s.queries;
@@ -80,7 +86,14 @@ made_sound outdater old (accepted change) new h s = subst IsSoundStore (sym h.st
   connex = s.connex;
 })
 made_sound outdater old (out_of_memory change) new h s = learned_sound old new h s
-made_sound outdater old unchanged new h s = learned_sound old new h s
+made_sound outdater old unchanged new h s = subst IsSoundStore (sym h.store) (record {
+  relations = h.names s.relations;
+  rows = h.rows s.rows;
+  texts = texts_apart old.texts h.texts s.texts;
+  few = subst (λ (st : Store). length st.texts ≤ TEXTS) h.store (h.few s.few);
+  queries = s.queries;
+  connex = s.connex;
+})
 
 -- The rows in another order.
 moved_names : (rs moved : List Relation) → SameRelations rs moved
@@ -95,10 +108,12 @@ moved_rows : (rs moved : List Relation) → SameRelations rs moved → All IsSou
 moved_rows [] [] h s = s
 moved_rows (r ∷ rs) (m ∷ ms) h s =
     let k = All-head IsSoundRelation r rs s in
+    let rows = tuples_moved r.rows m.rows h.2 in
     All-cons IsSoundRelation m ms (record {
       typed = subst (λ types. All (λ t. fits types t ≡ true) (tuples_in m)) (sym h.1)
-          (All-permutation (λ t. fits r.types t ≡ true) r.rows m.rows h.2 k.typed);
-      once = rows_moved r.rows m.rows h.2 k.once;
+          (All-permutation (λ t. fits r.types t ≡ true) (tuples_in r) (tuples_in m) rows k.typed);
+      once = differ_moved (tuples_in r) (tuples_in m) rows k.once;
+      copies = All-permutation (λ (c : CountedRow). IsCopyCount c.copies) r.rows m.rows h.2 k.copies;
     }) (moved_rows rs ms h.3 (All-tail IsSoundRelation r rs s))
 moved_rows [] (m ∷ ms) h s = absurd h
 moved_rows (r ∷ rs) [] h s = absurd h

@@ -52,7 +52,7 @@ use Rattle.djq_laws.specs.Form.{
 }
 use Rattle.djq_laws.proofs.Finding.{some_and, and_some}
 use Rattle.djq_laws.proofs.Forms.{turned_one, command_does}
-use Rattle.djq_laws.proofs.Rows.{RowsMade, outdater_by, rows_do}
+use Rattle.djq_laws.proofs.Rows.{RowsMade, kept_answers, outdater_by, rows_do}
 use Rattle.djq_laws.proofs.Told.{change_keeps}
 use Rattle.djq_laws.proofs.Queueing.{session_changed, session_other, stepped_cause}
 use Rattle.djq_laws.proofs.Answering.{SameAnswers, new_relation_same, reordered_same, Spares}
@@ -150,7 +150,7 @@ module _ (q : Listed) (s : ℕ) (old : State) (registered : listed_of old.store.
   made_tells outdater t (out_of_memory change) store reply e new running m h =
       learned_stays q s e.queued (is_some (outdater q)) old.store store m
   made_tells outdater t unchanged store reply e new running m h =
-      learned_stays q s e.queued (is_some (outdater q)) old.store store m
+      is_quiet (kept_answers old.store store q m) (inl (ap (λ (st : Store). st.seq) m.store))
 
   form_tells : (f : Form) (t : ℕ) (x : Session) (e : Effect) (new : State) → cause_of new s ≡ None
       → Does f old t x e new → StepTells q s old.store new.store e.queued (is_some (form_outdater f q))

@@ -71,9 +71,9 @@ pub data Turn : Type 0 where
 
 -- What a command of rows may bring.
 pub data RowCommand : Type 0 where
-  -- a row comes
+  -- a copy of a row comes
   row_comes : Bytes → Tuple → RowCommand
-  -- a row goes
+  -- one goes
   row_goes : Bytes → Tuple → RowCommand
 
 -- A command asks; or it is of the store, of the session that says it, or of rows; or it ends the

@@ -11,3 +11,4 @@ pub mod Staying
 pub mod Live
 pub mod Sound
 pub mod Listed
+pub mod Copies

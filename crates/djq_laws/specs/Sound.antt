@@ -1,11 +1,11 @@
 -- What holds of every state that the machine comes to.
-use Rattle.std.specs.Prelude.{List, [], ◌≡◌, ◌≢◌, ◌≤◌, true, false, IsSome, length, map, All, AllPairs}
+use Rattle.std.specs.Prelude.{ℕ, List, [], ◌≡◌, ◌≢◌, ◌≤◌, true, false, IsSome, length, map, All, AllPairs}
 use Rattle.djq_model.specs.declared.relation.Relation.{Relation}
 use Rattle.djq_model.specs.Data.{Bytes, tuples_in}
 use Rattle.djq_model.specs.Answer.{AreDifferent}
 use Rattle.djq_model.specs.Listed.{Listed, a_query, listed_name, listed_of}
 use Rattle.djq_model.specs.Typed.{fits}
-use Rattle.djq_lines.specs.declared.limits.TheConstants.{SESSIONS, TEXTS}
+use Rattle.djq_lines.specs.declared.limits.TheConstants.{SESSIONS, TEXTS, COPIES}
 use Rattle.djq_lines.specs.Hypergraph.{edges_of, head_of}
 use Rattle.djq_machine.specs.Store.{IsFreeConnex}
 use Rattle.djq_machine.specs.State.{Store, State, Session, Cursor, Position, open_at, stale, opening}
@@ -16,10 +16,15 @@ use Rattle.djq_laws.specs.Rising.{AreRising}
 abbrev pub AreApart : List Bytes → Type 0
 AreApart names = AllPairs (λ a b. a ≢ b) names
 
--- The rows of a relation are of its columns' types, and none stands twice.
+-- a number of copies that a row may have: one at least
+abbrev pub IsCopyCount : ℕ → Type 0
+IsCopyCount n = (1 ≤ n) × (n ≤ COPIES)
+
+-- The rows of a relation are of its columns' types, and none stands twice; each has copies.
 pub record IsSoundRelation (r : Relation) : Type 0 where
   pub typed : All (λ row. fits r.types row ≡ true) (tuples_in r)
   pub once : AreDifferent (tuples_in r)
+  pub copies : All (λ c. IsCopyCount c.copies) r.rows
 
 -- What is registered is free-connex.
 abbrev pub IsConnex : Listed → Type 0

@@ -31,13 +31,13 @@ pub record WatchesStep (q : Listed) (s : ℕ) (old : State) (d : Did) (new : Sta
 abbrev pub WatchesAlong : Listed → ℕ → State → List Did → State → Type 0
 WatchesAlong q s = Walk (WatchesStep q s)
 
--- the relation whose change by a line of a session outdates a query, where the line is to change one
+-- the relation whose change by a line of a session outdates a query, where the line may change one
 abbrev pub line_outdater : State → ℕ → Reading → Listed → Option Bytes
 line_outdater old t (says_command (Add name row)) q = by_relation name q
 line_outdater old t (says_command (Del name row)) q = by_relation name q
 line_outdater old t _ q = None
 
--- whether an event runs a line that is to change rows of a relation that a query reads
+-- whether an event runs a line that may change rows of a relation that a query reads
 abbrev pub event_changes : Listed → State → Event → Bool
 event_changes q old (stepped t (run l)) = is_some (line_outdater old t (reading_of l) q)
 event_changes q old _ = false

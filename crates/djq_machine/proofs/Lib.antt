@@ -1,3 +1,4 @@
 pub mod Walks
 pub mod Explaining
 pub mod Reading
+pub mod Copies

@@ -1,5 +1,5 @@
 -- What a change of rows is, and what comes of a command that may make one.
-use Rattle.std.specs.Prelude.{ℕ, List, [], ◌∷◌, Bool, true, false, Option, None, Some, is_some, Result, Ok, Err}
+use Rattle.std.specs.Prelude.{ℕ, List, Bool, true, false, Option, None, Some, is_some, Result, Ok, Err}
 use Rattle.djq_model.specs.declared.relation.Relation.{Relation}
 use Rattle.djq_model.specs.declared.relation.CountedRow.{CountedRow}
 use Rattle.djq_model.specs.Data.{Bytes, Tuple, bytes_eq, counted_of, with_row, without_copies}
@@ -49,7 +49,7 @@ pub data RowsOutcome : Type 0 where
   accepted : RowsChange → RowsOutcome
   -- they were to change so, and memory was refused once the line was read
   out_of_memory : RowsChange → RowsOutcome
-  -- nothing was to change, or the command was refused before
+  -- no row was to come or go, or the command was refused before
   unchanged : RowsOutcome
 
 -- A row that came is a change; a further copy of one is none.

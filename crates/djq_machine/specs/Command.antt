@@ -129,7 +129,7 @@ pub record RelStep (old : State) (s : ℕ) (makes : Store → Result ⊤ Refusal
   pub effect : e ≡ answers s (ok_reply (codes "ok") result) (is_done result)
   pub state : new ≡ record old { store = store }
 
--- `add`: a row goes in, and that is told those who watch.
+-- `add`: a copy of a row goes in, and the first one is told those who watch.
 pub record AddStep (old : State) (s : ℕ) (name : Bytes) (row : Tuple) (e : Effect)
     (new : State) : Type 0 where
   pub result : Result AddOutcome Refusal
@@ -139,7 +139,7 @@ pub record AddStep (old : State) (s : ℕ) (name : Bytes) (row : Tuple) (e : Eff
       (add_reply result store.seq) e new
   pub kept : e.kept ≡ kept_where (is_done result)
 
--- `del`: a row goes out, likewise.
+-- `del`: a copy goes out, and the last one is told them.
 pub record DeleteStep (old : State) (s : ℕ) (name : Bytes) (row : Tuple) (e : Effect)
     (new : State) : Type 0 where
   pub result : Result DeleteOutcome Refusal

@@ -1,4 +1,4 @@
--- Which lines are kept: those whose commands change the relations, their rows or the queries.
+-- Which lines are kept: those whose commands change the relations, their rows or copies, or the queries.
 use Rattle.std.specs.Prelude.{Bool, true, false, Result, Ok, Err}
 use Rattle.djq_lines.specs.declared.answer.Refusal.{Refusal}
 use Rattle.djq_lines.specs.declared.answer.DeleteOutcome.{DeleteOutcome}

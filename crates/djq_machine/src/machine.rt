@@ -8,7 +8,7 @@ pub enum Stepped {
     /// It was run, or dropped where it is blank.
     Ran {
         /// Whether it is kept: loaded again, it does what it did to the relations, their rows and
-        /// the queries.
+        /// copies, and the queries.
         kept: bool,
     },
     /// No whole line is held.

@@ -15,9 +15,9 @@
 //! ```text
 //! read    rel r int, add r 7, add      at most as many bytes as the buffer has
 //! write   ok                           once rel r int is run
-//! write   ok added 1                   once add r 7 is run; add waits for its end
+//! write   ok added 1 1                 once add r 7 is run; add waits for its end
 //! read    r 8, quit
-//! write   ok added 2
+//! write   ok added 2 1
 //! write   bye                          and nothing is read behind it: the status is Done
 //! ```
 //!

@@ -16,7 +16,7 @@
 //! ```text
 //! turn   1 opens                       let in
 //! turn   1 brings rel r int, add r     the line is run and ok sent; what has no end waits
-//! turn   1 brings 7                    add r 7 is run, and ok added 1 sent
+//! turn   1 brings 7                    add r 7 is run, and ok added 1 1 sent
 //! turn   2 opens                       let in
 //! turn   2 brings stop                 bye is sent, and no line is run behind it
 //!                                      both are closed, and the answer is Stopped

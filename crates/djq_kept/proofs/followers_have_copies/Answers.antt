@@ -1,0 +1,5 @@
+use Rattle.djq_kept.proofs.Sameness.{followers_have_copies}
+use Rattle.djq_kept.proofs.followers_have_copies.Goals as goal
+
+pub returns : goal.returns
+returns c = followers_have_copies

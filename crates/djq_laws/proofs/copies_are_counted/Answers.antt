@@ -1,0 +1,11 @@
+use Rattle.djq_laws.proofs.Counting.{rows_have_copies, adds_copy, takes_copy}
+use Rattle.djq_laws.proofs.copies_are_counted.Goals as goal
+
+pub returns-clause-there : goal.returns-clause-there
+returns-clause-there c = rows_have_copies
+
+pub returns-clause-added : goal.returns-clause-added
+returns-clause-added c = adds_copy
+
+pub returns-clause-taken : goal.returns-clause-taken
+returns-clause-taken c = takes_copy

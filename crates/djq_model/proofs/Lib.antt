@@ -1,0 +1,2 @@
+pub mod Permuting
+pub mod Counted
