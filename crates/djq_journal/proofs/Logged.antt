@@ -5,7 +5,7 @@ use Rattle.djq_disk.specs.History.{History, WhereTold}
 use Rattle.djq_journal.specs.Standing.{IsIdle}
 use Rattle.djq_journal.specs.Appending.{Appends, HasRoom, gate_after}
 use Rattle.djq_journal.specs.Keeping.{lines_in, IsKeeping, WasKeeping}
-use Rattle.djq_journal.specs.Logging.{groups_of, HasKept, HasLost, Keeps, Overfull, FillsLog}
+use Rattle.djq_journal.specs.Logging.{grouped, HasKept, HasLost, Keeps, Overfull, FillsLog}
 use Rattle.djq_journal.specs.declared.journal.Appended.{Appended}
 use Rattle.djq_journal.specs.declared.journal.Appended.TheVariants.{Done, Failed as Unappended, Full as Overflows}
 use Rattle.djq_journal.specs.declared.limits.TheConstants.{LAST_GATE}
@@ -22,7 +22,7 @@ pub with_lines : (lines : List (List ℕ)) (line : List ℕ) → Some line ≡ s
 with_lines [] line is = cc
 with_lines (l ∷ ls) line is = omega arith
 
-group_one : (lines : List (List ℕ)) → 1 ≤ length lines → groups_of lines ≡ lines ∷ []
+group_one : (lines : List (List ℕ)) → 1 ≤ length lines → grouped lines ≡ lines ∷ []
 group_one [] some = let wrong : ⊥ = omega arith in absurd wrong
 group_one (line ∷ lines) some = refl
 
@@ -36,7 +36,7 @@ told_all x (Some o) (Some n) P each = each
 -- no lines are kept without the disk
 pub keeps_none : (gate : Option ℕ) (lines : List (List ℕ)) (h : History) → lines ≡ [] → Keeps All gate gate lines h h
 keeps_none gate lines h none found groups start kept =
-    subst (λ (ls : List (List ℕ)). HasKept gate found (groups ++ groups_of ls) start h) (sym none)
+    subst (λ (ls : List (List ℕ)). HasKept gate found (groups ++ grouped ls) start h) (sym none)
     (subst (λ (gs : List (List (List ℕ))). HasKept gate found gs start h) (sym (append-nil groups)) kept)
 
 -- and without a journal

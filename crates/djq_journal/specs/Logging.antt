@@ -9,9 +9,9 @@ use Rattle.djq_journal.specs.declared.log.Kept.{Kept}
 use Rattle.djq_journal.specs.declared.log.Kept.TheVariants.{All, Failed, Full}
 
 -- the group that these lines are: none where there is none
-abbrev pub groups_of : List (List ℕ) → List (List (List ℕ))
-groups_of [] = []
-groups_of (line ∷ lines) = (line ∷ lines) ∷ []
+abbrev pub grouped : List (List ℕ) → List (List (List ℕ))
+grouped [] = []
+grouped (line ∷ lines) = (line ∷ lines) ∷ []
 
 -- Since this history all these groups are kept; or no disk was asked, where lines are kept nowhere.
 abbrev pub HasKept : Option ℕ → List (List ℕ) → List (List (List ℕ)) → History → History → Type 0
@@ -28,7 +28,7 @@ HasLost (Some gate) found groups last old new = WasKeeping found groups last old
 -- no room.
 abbrev pub Keeps : Kept → Option ℕ → Option ℕ → List (List ℕ) → History → History → Type 0
 Keeps All gate gate' lines old new = (found : List (List ℕ)) (groups : List (List (List ℕ))) (start : History)
-    → HasKept gate found groups start old → HasKept gate' found (groups ++ groups_of lines) start new
+    → HasKept gate found groups start old → HasKept gate' found (groups ++ grouped lines) start new
 Keeps Failed gate gate' lines old new = (found : List (List ℕ)) (groups : List (List (List ℕ))) (start : History)
     → HasKept gate found groups start old → HasLost gate found groups lines start new
 Keeps Full gate gate' lines old new = (found : List (List ℕ)) (groups : List (List (List ℕ))) (start : History)
