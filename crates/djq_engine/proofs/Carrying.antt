@@ -3,11 +3,12 @@ use Rattle.std.proofs.Common.{ℕ, zero, suc, List, [], ◌∷◌, ◌++◌, ◌
 use Rattle.std.specs.Prelude.{◌==◌, ◌&&◌, Option, None, Some, IsSomeAnd, is_some, filter, cond, Contains}
 use Rattle.std.proofs.lemmas.Bool.{false≢true, eqb-true, eq-eqb}
 use Rattle.std.proofs.lemmas.List.{get_or-set_same, get_or-set_other, set-get_or}
-use Rattle.djq_model.specs.Data.{Tuple, tuples_in, tuple_eq, has_row, without_row}
+use Rattle.djq_model.specs.Data.{Bytes, Tuple, tuples_of, tuple_eq, has_row, with_row, without_copies}
 use Rattle.djq_model.specs.Equality.{tuple_eq-decides}
 use Rattle.djq_model.specs.declared.relation.Relation.{Relation}
+use Rattle.djq_model.specs.declared.relation.CountedRow.{CountedRow}
 use Rattle.djq_machine.specs.Stale.{reads}
-use Rattle.djq_rows.specs.Catalog.{Catalog, no_relation, relation_at, rows_at, with_rows_at}
+use Rattle.djq_rows.specs.Catalog.{Catalog, no_relation, relation_at, counted_at, with_rows_at}
 use Rattle.djq_live.specs.Changes.{Came, Went}
 use Rattle.djq_live.specs.Live.{Live, IsKept, IsLive, SameQuery}
 use Rattle.djq_live.specs.Staying.{StaysOver, CamePasses, WentPasses}
@@ -27,14 +28,14 @@ has_contains (r ∷ rs) row e = by_test (tuple_eq r row) refl e (has_contains rs
     by_test true f h more = subst (λ (x : Tuple). Contains (r ∷ rs) x) ((tuple_eq-decides r row).0 f) (in_first r rs)
     by_test false f h more = in_rest r row rs (more h)
 
-pub without_last : (rows : List Tuple) (row : Tuple) → has_row rows row ≡ false → without_row (rows ++ row ∷ []) row ≡ rows
-without_last [] row e = ap (λ (b : Bool). cond b [] (row ∷ [])) ((tuple_eq-decides row row).1 refl)
-without_last (r ∷ rs) row e = by_test (tuple_eq r row) e (without_last rs row)
+pub without_last : (rows : List CountedRow) (row : Tuple) → has_row (tuples_of rows) row ≡ false → without_copies (with_row rows row) row ≡ rows
+without_last [] row e = ap (λ (b : Bool). cond b [] (record { row = row; copies = 1 } ∷ [])) ((tuple_eq-decides row row).1 refl)
+without_last (r ∷ rs) row e = by_test (tuple_eq r.row row) e (without_last rs row)
   where
-    by_test : (b : Bool) → cond b true (has_row rs row) ≡ false → (has_row rs row ≡ false → without_row (rs ++ row ∷ []) row ≡ rs)
-        → cond b (rs ++ row ∷ []) (r ∷ without_row (rs ++ row ∷ []) row) ≡ r ∷ rs
+    by_test : (b : Bool) → cond b true (has_row (tuples_of rs) row) ≡ false → (has_row (tuples_of rs) row ≡ false → without_copies (with_row rs row) row ≡ rs)
+        → cond b (with_row rs row) (r ∷ without_copies (with_row rs row) row) ≡ r ∷ rs
     by_test true h more = absurd (false≢true (sym h))
-    by_test false h more = ap (λ (xs : List Tuple). r ∷ xs) (more h)
+    by_test false h more = ap (λ (xs : List CountedRow). r ∷ xs) (more h)
 
 pub last_there : (rows : List Tuple) (row : Tuple) → has_row (rows ++ row ∷ []) row ≡ true
 last_there [] row = ap (λ (b : Bool). cond b true false) ((tuple_eq-decides row row).1 refl)
@@ -46,10 +47,10 @@ last_there (r ∷ rs) row = by_test (tuple_eq r row) (last_there rs row)
 
 -- ---- relations with other rows
 
-pub rows_with : (rs : List Relation) (at : ℕ) (rows : List Tuple) → at < length rs → rows_at (with_rows_at rs at rows) at ≡ rows
-rows_with rs at rows low = ap tuples_in (get_or-set_same rs at (let r = relation_at rs at in record r { rows = rows }) no_relation low)
+pub rows_with : (rs : List Relation) (at : ℕ) (rows : List CountedRow) → at < length rs → counted_at (with_rows_at rs at rows) at ≡ rows
+rows_with rs at rows low = ap (λ (r : Relation). r.rows) (get_or-set_same rs at (let r = relation_at rs at in record r { rows = rows }) no_relation low)
 
-pub field_with : {A : Type 0} (f : Relation → A) (rs : List Relation) (at : ℕ) (rows : List Tuple) → at < length rs → f (let r = relation_at rs at in record r { rows = rows }) ≡ f (relation_at rs at)
+pub field_with : {A : Type 0} (f : Relation → A) (rs : List Relation) (at : ℕ) (rows : List CountedRow) → at < length rs → f (let r = relation_at rs at in record r { rows = rows }) ≡ f (relation_at rs at)
     → (k : ℕ) → f (relation_at (with_rows_at rs at rows) k) ≡ f (relation_at rs k)
 field_with f rs at rows low e k = by_place (k == at) refl
   where
@@ -60,12 +61,12 @@ field_with f rs at rows low e k = by_place (k == at) refl
         ∙ ap f (get_or-set_same rs at (let r = relation_at rs at in record r { rows = rows }) no_relation low) ∙ e ∙ ap (λ (j : ℕ). f (relation_at rs j)) (sym s)
     by_place false h = ap f (get_or-set_other rs at k (let r = relation_at rs at in record r { rows = rows }) no_relation (λ s. false≢true (sym h ∙ eq-eqb k at s)))
 
-pub long_with : (rs : List Relation) (at : ℕ) (rows : List Tuple) → length (with_rows_at rs at rows) ≡ length rs
+pub long_with : (rs : List Relation) (at : ℕ) (rows : List CountedRow) → length (with_rows_at rs at rows) ≡ length rs
 long_with rs at rows = length-set rs at (let r = relation_at rs at in record r { rows = rows })
 
-pub back_with : (rs : List Relation) (at : ℕ) (rows : List Tuple) → at < length rs → with_rows_at (with_rows_at rs at rows) at (rows_at rs at) ≡ rs
+pub back_with : (rs : List Relation) (at : ℕ) (rows : List CountedRow) → at < length rs → with_rows_at (with_rows_at rs at rows) at (counted_at rs at) ≡ rs
 back_with rs at rows low =
-    ap (λ (r : Relation). set (with_rows_at rs at rows) at (record r { rows = rows_at rs at })) (get_or-set_same rs at (let r = relation_at rs at in record r { rows = rows }) no_relation low)
+    ap (λ (r : Relation). set (with_rows_at rs at rows) at (record r { rows = counted_at rs at })) (get_or-set_same rs at (let r = relation_at rs at in record r { rows = rows }) no_relation low)
     ∙ set_twice rs at (let r = relation_at rs at in record r { rows = rows }) (relation_at rs at)
     ∙ set-get_or rs at no_relation
   where
@@ -189,4 +190,19 @@ sound_texts c d gs order readers same stay s = record {
   long = s.long ∙ ap (λ (rs : List Relation). length rs) (sym same);
   reading = λ r low. s.reading r (subst (λ (rs : List Relation). r < length rs) same low)
       ∙ ap (λ (rs : List Relation). filter (λ i. reads_place (relation_at rs r).name (place_at gs i)) order) (sym same);
+}
+
+-- relations with other copies have the names they had
+pub sound_rows : (c d : Catalog) (gs : List (Option Live)) (order : List ℕ) (readers : List (List ℕ)) → length d.relations ≡ length c.relations
+    → ((r : ℕ) → (relation_at d.relations r).name ≡ (relation_at c.relations r).name) → ((i : ℕ) (l : Live) → place_at gs i ≡ Some l → StaysOver c d l)
+    → IsSound c gs order readers → IsSound d gs order readers
+sound_rows c d gs order readers long names stay s = record {
+  live = λ i l e. (stay i l e).live;
+  named = s.named;
+  listed = s.listed;
+  once = s.once;
+  few = s.few;
+  long = s.long ∙ sym long;
+  reading = λ r low. s.reading r (subst (λ (n : ℕ). r < n) long low)
+      ∙ ap (λ (x : Bytes). filter (λ i. reads_place x (place_at gs i)) order) (sym (names r));
 }

@@ -4,15 +4,17 @@ use Rattle.std.specs.Prelude.{◌==◌, ◌&&◌, not, nat_le, Option, None, Som
 use Rattle.std.proofs.lemmas.Bool.{eq-eqb, le-leb, lt-leb}
 use Rattle.djq_model.specs.declared.relation.Relation.{Relation}
 use Rattle.djq_model.specs.declared.relation.ColumnType.{ColumnType}
-use Rattle.djq_model.specs.Data.{Bytes, Tuple, relation_of, rows_of, rows_in, has_row}
+use Rattle.djq_model.specs.declared.relation.CountedRow.{CountedRow}
+use Rattle.djq_model.specs.Data.{Bytes, Tuple, relation_of, tuples_of, counted_in, counted_of, rows_of, has_row, copies_among}
+use Rattle.djq_model.proofs.Counted.{no_copies}
 use Rattle.djq_model.specs.Typed.{is_of, fits}
-use Rattle.djq_lines.specs.declared.limits.TheConstants.{ROWS, LAST_SEQ}
+use Rattle.djq_lines.specs.declared.limits.TheConstants.{ROWS, COPIES, LAST_SEQ}
 use Rattle.djq_lines.specs.declared.answer.Refusal.{Refusal}
 use Rattle.djq_lines.specs.declared.answer.Refusal.TheVariants.{NoRelation, Arity, WrongType, Limit}
 use Rattle.djq_lines.specs.Columns.{types_of}
 use Rattle.djq_machine.specs.Conditions.{first_of}
 use Rattle.djq_machine.specs.Store.{row_refusals, add_refusal, delete_refusal}
-use Rattle.djq_rows.specs.Catalog.{relation_at, rows_at}
+use Rattle.djq_rows.specs.Catalog.{relation_at, counted_at, rows_at}
 use Rattle.djq_engine.specs.Judging.{bare, Suits}
 use Rattle.djq_engine.proofs.Conditions.{front_refuses, front_passes}
 use Rattle.djq_engine.proofs.Listing.{apart}
@@ -43,34 +45,53 @@ module _ (rs : List Relation) (name : Bytes) (row : Tuple) where
   pub suited_type : (r : Relation) → relation_of rs name ≡ Some r → length row ≡ length r.types → fits r.types row ≡ false → first_of (row_refusals (bare rs 0) name row) ≡ Some WrongType
   suited_type r e l f = by_parts r true false e (eq-eqb (length row) (length r.types) l) f
 
+  -- the conditions behind them
+  abbrev adding : List CountedRow → ℕ → List (Bool × Refusal)
+  adding rows seq = (nat_le COPIES (copies_among rows row), Limit)
+      ∷ (not (has_row (tuples_of rows) row) && nat_le ROWS (length (tuples_of rows)), Limit)
+      ∷ (not (has_row (tuples_of rows) row) && nat_le LAST_SEQ seq, Limit) ∷ []
+
+  abbrev deleting : List CountedRow → ℕ → List (Bool × Refusal)
+  deleting rows seq = ((copies_among rows row == 1) && nat_le LAST_SEQ seq, Limit) ∷ []
+
   module _ (seq : ℕ) where
     pub add_unsuited : (x : Refusal) → first_of (row_refusals (bare rs 0) name row) ≡ Some x → add_refusal (bare rs seq) name row ≡ Some x
-    add_unsuited x e = front_refuses (row_refusals (bare rs 0) name row) ((not (has_row (rows_of rs name) row) && nat_le ROWS (length (rows_of rs name)), Limit) ∷ (not (has_row (rows_of rs name) row) && nat_le LAST_SEQ seq, Limit) ∷ []) x e
+    add_unsuited x e = front_refuses (row_refusals (bare rs 0) name row) (adding (counted_of rs name) seq) x e
 
     pub delete_unsuited : (x : Refusal) → first_of (row_refusals (bare rs 0) name row) ≡ Some x → delete_refusal (bare rs seq) name row ≡ Some x
-    delete_unsuited x e = front_refuses (row_refusals (bare rs 0) name row) ((has_row (rows_of rs name) row && nat_le LAST_SEQ seq, Limit) ∷ []) x e
+    delete_unsuited x e = front_refuses (row_refusals (bare rs 0) name row) (deleting (counted_of rs name) seq) x e
 
     module _ (at : ℕ) (s : Suits rs name row at) where
+      pub counted_found : counted_of rs name ≡ counted_at rs at
+      counted_found = ap counted_in s.found
+
       pub rows_found : rows_of rs name ≡ rows_at rs at
-      rows_found = ap rows_in s.found
+      rows_found = ap tuples_of counted_found
 
       passes : first_of (row_refusals (bare rs 0) name row) ≡ None
       passes = by_parts (relation_at rs at) true true s.found
           (eq-eqb (length row) (length (relation_at rs at).types) (fits_length (relation_at rs at).types row s.suits)) s.suits
 
-      add_by : (there full last : Bool) → has_row (rows_at rs at) row ≡ there → nat_le ROWS (length (rows_at rs at)) ≡ full → nat_le LAST_SEQ seq ≡ last
-          → add_refusal (bare rs seq) name row ≡ cond (not there && full) (Some Limit) (cond (not there && last) (Some Limit) None)
-      add_by there full last e f h =
-          front_passes (row_refusals (bare rs 0) name row) ((not (has_row (rows_of rs name) row) && nat_le ROWS (length (rows_of rs name)), Limit) ∷ (not (has_row (rows_of rs name) row) && nat_le LAST_SEQ seq, Limit) ∷ []) passes
-          ∙ ap (λ (rows : List Tuple). cond (not (has_row rows row) && nat_le ROWS (length rows)) (Some Limit) (cond (not (has_row rows row) && nat_le LAST_SEQ seq) (Some Limit) None)) rows_found
-          ∙ ap (λ (b : Bool). cond (not b && nat_le ROWS (length (rows_at rs at))) (Some Limit) (cond (not b && nat_le LAST_SEQ seq) (Some Limit) None)) e
-          ∙ ap₂ (λ x y. cond (not there && x) (Some Limit) (cond (not there && y) (Some Limit) None)) f h
+      add_by : (many there full last : Bool) → nat_le COPIES (copies_among (counted_at rs at) row) ≡ many
+          → has_row (rows_at rs at) row ≡ there → nat_le ROWS (length (rows_at rs at)) ≡ full → nat_le LAST_SEQ seq ≡ last
+          → add_refusal (bare rs seq) name row
+          ≡ cond many (Some Limit) (cond (not there && full) (Some Limit) (cond (not there && last) (Some Limit) None))
+      add_by many there full last m e f h =
+          front_passes (row_refusals (bare rs 0) name row) (adding (counted_of rs name) seq) passes
+          ∙ ap (λ (rows : List CountedRow). first_of (adding rows seq)) counted_found
+          ∙ ap (λ (b : Bool). cond b (Some Limit) (cond (not (has_row (rows_at rs at) row) && nat_le ROWS (length (rows_at rs at))) (Some Limit) (cond (not (has_row (rows_at rs at) row) && nat_le LAST_SEQ seq) (Some Limit) None))) m
+          ∙ ap (λ (b : Bool). cond many (Some Limit) (cond (not b && nat_le ROWS (length (rows_at rs at))) (Some Limit) (cond (not b && nat_le LAST_SEQ seq) (Some Limit) None))) e
+          ∙ ap₂ (λ x y. cond many (Some Limit) (cond (not there && x) (Some Limit) (cond (not there && y) (Some Limit) None))) f h
 
-      pub add_there : has_row (rows_at rs at) row ≡ true → (add_refusal (bare rs seq) name row ≡ None) × (has_row (rows_of rs name) row ≡ true)
-      add_there e = (
-        add_by true (nat_le ROWS (length (rows_at rs at))) (nat_le LAST_SEQ seq) e refl refl,
-        ap (λ (rows : List Tuple). has_row rows row) rows_found ∙ e,
-      )
+      -- a row that is there may have a copy more, where it has fewer than there may be
+      pub add_more : has_row (rows_at rs at) row ≡ true → copies_among (counted_at rs at) row < COPIES → add_refusal (bare rs seq) name row ≡ None
+      add_more e l = add_by false true (nat_le ROWS (length (rows_at rs at))) (nat_le LAST_SEQ seq) (lt-leb COPIES (copies_among (counted_at rs at) row) l) e refl refl
+
+      pub add_most : COPIES ≤ copies_among (counted_at rs at) row → add_refusal (bare rs seq) name row ≡ Some Limit
+      add_most l = add_by true (has_row (rows_at rs at) row) (nat_le ROWS (length (rows_at rs at))) (nat_le LAST_SEQ seq) (le-leb COPIES (copies_among (counted_at rs at) row) l) refl refl refl
+
+      none_yet : has_row (rows_at rs at) row ≡ false → nat_le COPIES (copies_among (counted_at rs at) row) ≡ false
+      none_yet e = lt-leb COPIES (copies_among (counted_at rs at) row) (let none = no_copies (counted_at rs at) row e in omega (arith, none))
 
       limits : (full last : Bool) → (full ≡ true) ⊎ (last ≡ true) → cond full (Some Limit) (cond last (Some Limit) None) ≡ Some Limit
       limits true last h = refl
@@ -80,7 +101,7 @@ module _ (rs : List Relation) (name : Bytes) (row : Tuple) where
 
       pub add_limited : has_row (rows_at rs at) row ≡ false → (ROWS ≤ length (rows_at rs at)) ⊎ (seq ≡ LAST_SEQ) → add_refusal (bare rs seq) name row ≡ Some Limit
       add_limited e h =
-          add_by false (nat_le ROWS (length (rows_at rs at))) (nat_le LAST_SEQ seq) e refl refl
+          add_by false false (nat_le ROWS (length (rows_at rs at))) (nat_le LAST_SEQ seq) (none_yet e) e refl refl
           ∙ limits (nat_le ROWS (length (rows_at rs at))) (nat_le LAST_SEQ seq) (by_limit h)
         where
           by_limit : (ROWS ≤ length (rows_at rs at)) ⊎ (seq ≡ LAST_SEQ) → (nat_le ROWS (length (rows_at rs at)) ≡ true) ⊎ (nat_le LAST_SEQ seq ≡ true)
@@ -88,19 +109,30 @@ module _ (rs : List Relation) (name : Bytes) (row : Tuple) where
           by_limit (inr l) = inr (le-leb LAST_SEQ seq (omega (arith, l)))
 
       pub add_passes : has_row (rows_at rs at) row ≡ false → length (rows_at rs at) < ROWS → seq < LAST_SEQ → add_refusal (bare rs seq) name row ≡ None
-      add_passes e l m = add_by false false false e (lt-leb ROWS (length (rows_at rs at)) l) (lt-leb LAST_SEQ seq m)
+      add_passes e l m = add_by false false false false (none_yet e) e (lt-leb ROWS (length (rows_at rs at)) l) (lt-leb LAST_SEQ seq m)
 
-      delete_by : (there last : Bool) → has_row (rows_at rs at) row ≡ there → nat_le LAST_SEQ seq ≡ last → delete_refusal (bare rs seq) name row ≡ cond (there && last) (Some Limit) None
-      delete_by there last e h =
-          front_passes (row_refusals (bare rs 0) name row) ((has_row (rows_of rs name) row && nat_le LAST_SEQ seq, Limit) ∷ []) passes
-          ∙ ap (λ (rows : List Tuple). cond (has_row rows row && nat_le LAST_SEQ seq) (Some Limit) None) rows_found
+      delete_by : (one last : Bool) → (copies_among (counted_at rs at) row == 1) ≡ one → nat_le LAST_SEQ seq ≡ last → delete_refusal (bare rs seq) name row ≡ cond (one && last) (Some Limit) None
+      delete_by one last e h =
+          front_passes (row_refusals (bare rs 0) name row) (deleting (counted_of rs name) seq) passes
+          ∙ ap (λ (rows : List CountedRow). first_of (deleting rows seq)) counted_found
           ∙ ap₂ (λ x y. cond (x && y) (Some Limit) None) e h
 
       pub delete_absent : has_row (rows_at rs at) row ≡ false → (delete_refusal (bare rs seq) name row ≡ None) × (has_row (rows_of rs name) row ≡ false)
-      delete_absent e = (delete_by false (nat_le LAST_SEQ seq) e refl, ap (λ (rows : List Tuple). has_row rows row) rows_found ∙ e)
+      delete_absent e = (
+        delete_by false (nat_le LAST_SEQ seq) (ap (λ (n : ℕ). n == 1) (no_copies (counted_at rs at) row e)) refl,
+        ap (λ (rows : List Tuple). has_row rows row) rows_found ∙ e,
+      )
 
-      pub delete_limited : has_row (rows_at rs at) row ≡ true → seq ≡ LAST_SEQ → delete_refusal (bare rs seq) name row ≡ Some Limit
-      delete_limited e l = delete_by true true e (le-leb LAST_SEQ seq (omega (arith, l)))
+      pub delete_limited : copies_among (counted_at rs at) row ≡ 1 → seq ≡ LAST_SEQ → delete_refusal (bare rs seq) name row ≡ Some Limit
+      delete_limited e l = delete_by true true (eq-eqb (copies_among (counted_at rs at) row) 1 e) (le-leb LAST_SEQ seq (omega (arith, l)))
 
-      pub delete_passes : has_row (rows_at rs at) row ≡ true → seq < LAST_SEQ → delete_refusal (bare rs seq) name row ≡ None
-      delete_passes e m = delete_by true false e (lt-leb LAST_SEQ seq m)
+      pub delete_passes : seq < LAST_SEQ → delete_refusal (bare rs seq) name row ≡ None
+      delete_passes m = delete_by (copies_among (counted_at rs at) row == 1) false refl (lt-leb LAST_SEQ seq m) ∙ never (copies_among (counted_at rs at) row == 1)
+        where
+          never : (b : Bool) → cond (b && false) (Some Limit) None ≡ None
+          never true = refl
+          never false = refl
+
+      -- one of several copies, or none
+      pub delete_several : (copies_among (counted_at rs at) row ≡ 1 → ⊥) → delete_refusal (bare rs seq) name row ≡ None
+      delete_several d = delete_by false (nat_le LAST_SEQ seq) (apart (copies_among (counted_at rs at) row) 1 d) refl

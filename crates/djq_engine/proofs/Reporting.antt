@@ -7,10 +7,11 @@ use Rattle.std.proofs.lemmas.List.Sums.{sum_by-cons}
 use Rattle.std.proofs.lemmas.Nat.{mul-le}
 use Rattle.djq_model.specs.declared.relation.Relation.{Relation}
 use Rattle.djq_model.specs.declared.query.Atom.{Atom}
-use Rattle.djq_model.specs.Data.{Bytes, Tuple, bytes_eq, change_first, relation_of, has_row, rows_of, without_row}
+use Rattle.djq_model.specs.declared.relation.CountedRow.{CountedRow}
+use Rattle.djq_model.specs.Data.{Bytes, Tuple, bytes_eq, change_first, relation_of, has_row, copies_among, counted_of, rows_of, with_row, without_copies}
 use Rattle.djq_model.specs.Typed.{fits}
 use Rattle.djq_lines.specs.Columns.{types_of}
-use Rattle.djq_lines.specs.declared.limits.TheConstants.{ROWS, LAST_SEQ}
+use Rattle.djq_lines.specs.declared.limits.TheConstants.{ROWS, COPIES, LAST_SEQ}
 use Rattle.djq_lines.specs.declared.answer.Refusal.{Refusal}
 use Rattle.djq_lines.specs.declared.answer.Refusal.TheVariants.{NoRelation, Arity, WrongType, Limit}
 use Rattle.djq_lines.specs.declared.answer.AddOutcome.{AddOutcome}
@@ -28,7 +29,7 @@ use Rattle.djq_query.specs.declared.numbered.Variable.{Variable}
 use Rattle.djq_cursor.specs.Log.{Log}
 use Rattle.djq_rows.specs.Laws.{NamesTell, TextsStay}
 use Rattle.djq_model.specs.Known.{texts_in, all_learned}
-use Rattle.djq_rows.specs.Catalog.{Catalog, relation_at, rows_at, with_rows_at}
+use Rattle.djq_rows.specs.Catalog.{Catalog, relation_at, counted_at, with_rows_at}
 use Rattle.djq_deltas.specs.Finite.{DeltasExist}
 use Rattle.djq_live.specs.Asked.{AreAtomsOf}
 use Rattle.djq_live.specs.Body.{HeadsAreBound}
@@ -42,11 +43,11 @@ use Rattle.djq_engine.specs.Tending.{AreShown, Empties, HaveLogs, cost_of, cost_
 use Rattle.djq_engine.proofs.Tending.{shown_alike}
 use Rattle.djq_engine.specs.declared.parts.Parts.{Parts}
 use Rattle.djq_engine.specs.Reaching.{Carries}
-use Rattle.djq_engine.specs.Changing.{IsDeltaWith, TellsRows, CountsRows, KeepsRest, KeepsLogs, AgesReaders, LacksMemory, LacksPlace, PutsRow, Drops, reads_at, tells_at}
+use Rattle.djq_engine.specs.Changing.{IsDeltaWith, TellsRows, CountsRows, KeepsRest, KeepsLogs, AgesReaders, LacksMemory, NoPlace, for_copies, for_texts, LacksPlace, PutsRow, Drops, reads_at, tells_at}
 use Rattle.djq_engine.specs.Watching.{LogTells, LogsTell, TellsChange, queries_affected, reaches}
 use Rattle.djq_engine.specs.Whole.{kept_in, IsWhole, IsTended}
 use Rattle.djq_engine.specs.Judging.{bare, Suits}
-use Rattle.djq_engine.proofs.Judged.{rows_found}
+use Rattle.djq_engine.proofs.Judged.{counted_found}
 use Rattle.djq_engine.proofs.Listing.{reader_filter}
 use Rattle.djq_engine.proofs.Carrying.{reader_is, reader_reads}
 use Rattle.djq_engine.proofs.Enlisted.{outdated_reads, map_mapped, readers_are, affected_are, registered_has, registered_same}
@@ -301,13 +302,24 @@ told_by : ShowableStays → TextsStay → (old new : Parts) (learned : List Byte
 told_by law texts old new learned e t alike = let k = texts (old.catalog).texts learned in told_stay law old new k.0
     (e ∙ k.1) t alike
 
-pub told_full : ShowableStays → TextsStay → (old new : Parts) (row : Tuple) → LacksPlace row old new → IsTended old
+-- the same is told by the same logs
+pub told_same : (old new : Parts) → (new.catalog).texts ≡ (old.catalog).texts → new.queries.items ≡ old.queries.items → new.logs.items ≡ old.logs.items
     → (i : ℕ) → told_at (kept_in new) (id_at i) ≡ told_at (kept_in old) (id_at i)
-told_full law texts old new row l t i =
-    told_by law texts old new l.finds.first l.finds.learned t
-    (λ j. alike_same (place_at old.queries.items j) (place_at new.queries.items j)
-    (ap (λ (gs : List (Option Live)). place_at gs j) l.rests.queries)) i
-    (ap (λ (ls : List Log). log_at ls i) l.logs)
+told_same old new texts queries logs i =
+    ap (λ (ts : List Bytes). slice_index_or (told_from ts new.queries.items new.logs.items) i None) texts
+    ∙ ap₂ (λ (gs : List (Option Live)) (ls : List Log). slice_index_or (told_from (old.catalog).texts gs ls) i None) queries logs
+
+pub told_full : ShowableStays → TextsStay → (old new : Parts) (at : ℕ) (row : Tuple) → LacksPlace at row old new → IsTended old
+    → (i : ℕ) → told_at (kept_in new) (id_at i) ≡ told_at (kept_in old) (id_at i)
+told_full law texts old new at row l t i = by_cause l.why
+  where
+    by_cause : NoPlace at row old new → told_at (kept_in new) (id_at i) ≡ told_at (kept_in old) (id_at i)
+    by_cause (for_copies many same) = told_same old new same l.rests.queries l.logs i
+    by_cause (for_texts absent finds) =
+        told_by law texts old new finds.first finds.learned t
+        (λ j. alike_same (place_at old.queries.items j) (place_at new.queries.items j)
+        (ap (λ (gs : List (Option Live)). place_at gs j) l.rests.queries)) i
+        (ap (λ (ls : List Log). log_at ls i) l.logs)
 
 pub told_lacking : ShowableStays → TextsStay → (old mid new : Parts) (at : ℕ) (row : Tuple)
     → LacksMemory at row old mid → new.catalog ≡ mid.catalog → IsTended old
@@ -347,7 +359,7 @@ tells_nothing old new before now h affected stays = record {
   stays = stays;
 }
 
-module _ (old : Parts) (s : IsWhole old) (at : ℕ) (low : at < length (old.catalog).relations) (name : Bytes) (named : (relation_at (old.catalog).relations at).name ≡ name) (rows : List Tuple)
+module _ (old : Parts) (s : IsWhole old) (at : ℕ) (low : at < length (old.catalog).relations) (name : Bytes) (named : (relation_at (old.catalog).relations at).name ≡ name) (rows : List CountedRow)
     (law : NamesTell) (differ : AllPairs (λ r s. r.name ≢ s.name) (old.catalog).relations)
     (have : (i : ℕ) (l : Live) → place_at old.queries.items i ≡ Some l → (changes : List Change)
     × IsDelta (IsAnswer (old.catalog).relations l.query) (IsAnswer (with_rows_at (old.catalog).relations at rows) l.query) changes) (before now : ℕ) (counts : CountsRows at rows old before now) where
@@ -472,27 +484,27 @@ registered_still old new k q =
 
 module _ (old : Parts) (s : IsWhole old) (name : Bytes) (row : Tuple) (at : ℕ) (m : Suits (old.catalog).relations name row at) (exist : DeltasExist) (bound : HeadsAreBound) (law : NamesTell)
     (differ : AllPairs (λ r s. r.name ≢ s.name) (old.catalog).relations) (before now : ℕ) where
-  have : (rows : List Tuple) (i : ℕ) (l : Live) → place_at old.queries.items i ≡ Some l → (changes : List Change)
+  have : (rows : List CountedRow) (i : ℕ) (l : Live) → place_at old.queries.items i ≡ Some l → (changes : List Change)
       × IsDelta (IsAnswer (old.catalog).relations l.query) (IsAnswer (with_rows_at (old.catalog).relations at rows) l.query) changes
   have rows i l there = exist (old.catalog).relations (with_rows_at (old.catalog).relations at rows) (a_query l.query) (bound old.catalog l (s.live i l there).kept)
 
-  rows_are : rows_of (old.catalog).relations name ≡ rows_at (old.catalog).relations at
-  rows_are = rows_found (old.catalog).relations name row old.seq at m
+  rows_are : counted_of (old.catalog).relations name ≡ counted_at (old.catalog).relations at
+  rows_are = counted_found (old.catalog).relations name row old.seq at m
 
-  pub adds_refused : CountsRows at (rows_at (old.catalog).relations at ++ row ∷ []) old before now → (new : Parts)
+  pub adds_refused : CountsRows at (with_row (counted_at (old.catalog).relations at) row) old before now → (new : Parts)
       → (kept_in new).affected ≡ (kept_in old).affected → Discards old at new → ToldStay old new
       → TellsChange (kept_in old) (out_of_memory (row_in (old.catalog).relations name row)) (kept_in new) before now
   adds_refused counts new affected empty told =
-      subst (λ (rows : List Tuple). TellsChange (kept_in old) (out_of_memory (new_rows (old.catalog).relations name
-      (rows ++ row ∷ []))) (kept_in new) before now) (sym rows_are)
-      (tells_refused old s at m.below name m.named (rows_at (old.catalog).relations at ++ row ∷ []) law differ
-      (have (rows_at (old.catalog).relations at ++ row ∷ [])) before now counts new affected empty told)
+      subst (λ (rows : List CountedRow). TellsChange (kept_in old) (out_of_memory (new_rows (old.catalog).relations name
+      (with_row rows row))) (kept_in new) before now) (sym rows_are)
+      (tells_refused old s at m.below name m.named (with_row (counted_at (old.catalog).relations at) row) law differ
+      (have (with_row (counted_at (old.catalog).relations at) row)) before now counts new affected empty told)
 
   module _ (mid new : Parts) (logs : new.logs.items ≡ mid.logs.items) (catalog : new.catalog ≡ mid.catalog)
       (alike : AreAlike old.queries.items new.queries.items) (readers : new.readers.items ≡ old.readers.items)
       (changed : new.changed ≡ at)
       (quiet : KeepsLogs (tells_at old at) old mid) (told : ToldStay old new) where
-    done : (rows : List Tuple) → CountsRows at rows old before now → TellsRows at rows old mid
+    done : (rows : List CountedRow) → CountsRows at rows old before now → TellsRows at rows old mid
         → TellsChange (kept_in old) (accepted (new_rows (old.catalog).relations name rows)) (kept_in new) before now
     done rows counts tells = tells_done old s at m.below name m.named rows law differ (have rows) before now counts new
         (λ i l r w there. subst (λ (ls : List Log). (log_at ls i).lost ≡ false → IsDeltaWith at rows (old.catalog).relations l (map (change_of (new.catalog).texts l) (log_at ls i).lines)) (sym logs)
@@ -500,17 +512,17 @@ module _ (old : Parts) (s : IsWhole old) (name : Bytes) (row : Tuple) (at : ℕ)
         alike readers changed
         (λ i l there e. ap (λ (ls : List Log). log_at ls i) logs ∙ quiet i l there e) told
 
-    pub adds_done : CountsRows at (rows_at (old.catalog).relations at ++ row ∷ []) old before now → TellsRows at (rows_at (old.catalog).relations at ++ row ∷ []) old mid
+    pub adds_done : CountsRows at (with_row (counted_at (old.catalog).relations at) row) old before now → TellsRows at (with_row (counted_at (old.catalog).relations at) row) old mid
         → TellsChange (kept_in old) (accepted (row_in (old.catalog).relations name row)) (kept_in new) before now
-    adds_done counts tells = subst (λ (rows : List Tuple). TellsChange (kept_in old)
-        (accepted (new_rows (old.catalog).relations name (rows ++ row ∷ []))) (kept_in new) before now) (sym rows_are)
-        (done (rows_at (old.catalog).relations at ++ row ∷ []) counts tells)
+    adds_done counts tells = subst (λ (rows : List CountedRow). TellsChange (kept_in old)
+        (accepted (new_rows (old.catalog).relations name (with_row rows row))) (kept_in new) before now) (sym rows_are)
+        (done (with_row (counted_at (old.catalog).relations at) row) counts tells)
 
-    pub deletes_done : CountsRows at (without_row (rows_at (old.catalog).relations at) row) old before now → TellsRows at (without_row (rows_at (old.catalog).relations at) row) old mid
+    pub deletes_done : CountsRows at (without_copies (counted_at (old.catalog).relations at) row) old before now → TellsRows at (without_copies (counted_at (old.catalog).relations at) row) old mid
         → TellsChange (kept_in old) (accepted (row_out (old.catalog).relations name row)) (kept_in new) before now
-    deletes_done counts tells = subst (λ (rows : List Tuple). TellsChange (kept_in old)
-        (accepted (new_rows (old.catalog).relations name (without_row rows row))) (kept_in new) before now) (sym rows_are)
-        (done (without_row (rows_at (old.catalog).relations at) row) counts tells)
+    deletes_done counts tells = subst (λ (rows : List CountedRow). TellsChange (kept_in old)
+        (accepted (new_rows (old.catalog).relations name (without_copies rows row))) (kept_in new) before now) (sym rows_are)
+        (done (without_copies (counted_at (old.catalog).relations at) row) counts tells)
 
 -- a row that is refused by a condition changes nothing
 
@@ -524,15 +536,17 @@ unfolding outcome_by
 refused_quietly change relations name row seq r e =
     sym (ap (outcome_by change) e)
     ∙ by_tests (is_none (relation_of relations name)) (not (length row == length (types_of (relation_of relations name)))) (not (fits (types_of (relation_of relations name)) row))
+    (nat_le COPIES (copies_among (counted_of relations name) row))
     (not (has_row (rows_of relations name) row) && nat_le ROWS (length (rows_of relations name))) (not (has_row (rows_of relations name) row) && nat_le LAST_SEQ seq)
   where
-    by_tests : (a b c d f : Bool) → outcome_by change (cond a (Some NoRelation) (cond b (Some Arity) (cond c (Some WrongType) (cond d (Some Limit) (cond f (Some Limit) None))))) ≡ unchanged
-    by_tests true b c d f = refl
-    by_tests false true c d f = refl
-    by_tests false false true d f = refl
-    by_tests false false false true f = refl
-    by_tests false false false false true = refl
-    by_tests false false false false false = refl
+    by_tests : (a b c d f g : Bool) → outcome_by change (cond a (Some NoRelation) (cond b (Some Arity) (cond c (Some WrongType) (cond d (Some Limit) (cond f (Some Limit) (cond g (Some Limit) None)))))) ≡ unchanged
+    by_tests true b c d f g = refl
+    by_tests false true c d f g = refl
+    by_tests false false true d f g = refl
+    by_tests false false false true f g = refl
+    by_tests false false false false true g = refl
+    by_tests false false false false false true = refl
+    by_tests false false false false false false = refl
 
 abbrev pub TellsAdd : Parts → Bytes → Tuple → Result AddOutcome Refusal → ℕ → Type 0
 TellsAdd old name row result n =

@@ -1,26 +1,27 @@
 -- A row goes into the catalog and the queries, or out of them.
-use Rattle.std.proofs.Common.{ℕ, List, [], ◌∷◌, ◌++◌, ◌≡◌, ◌<◌, ◌≤◌, true, false, refl, sym, ap, ap₂, ◌∙◌, subst, length, get_or, arith}
+use Rattle.std.proofs.Common.{ℕ, Bool, List, [], ◌∷◌, ◌++◌, ◌≡◌, ◌<◌, ◌≤◌, true, false, refl, sym, ap, ap₂, ◌∙◌, subst, length, get_or, arith}
 use Rattle.std.specs.Prelude.{Option, Some, Result, Ok, Err, Contains}
 use Rattle.std.proofs.lemmas.Bool.{false≢true}
 use Rattle.std.proofs.lemmas.List.{get_or_default, append-nil}
 use Rattle.djq_model.specs.declared.relation.Relation.{Relation}
 use Rattle.djq_model.specs.declared.relation.ColumnType.{ColumnType}
-use Rattle.djq_model.specs.Data.{Bytes, Tuple, has_row, without_row}
-use Rattle.djq_model.specs.Known.{texts_in, all_learned}
+use Rattle.djq_model.specs.declared.relation.CountedRow.{CountedRow}
+use Rattle.djq_model.specs.declared.value.Value.TheVariants.{Int, Text}
+use Rattle.djq_model.specs.Data.{Bytes, Tuple, tuples_of, has_row, copies_among, with_row, with_copies, without_copies}
+use Rattle.djq_model.specs.Known.{knows, texts_in, learned, all_learned}
+use Rattle.djq_model.proofs.Counted.{tuples_with_row, came_copies}
 use Rattle.djq_lines.specs.declared.answer.AddOutcome.{AddOutcome}
-use Rattle.djq_lines.specs.declared.answer.AddOutcome.TheVariants.{Added, Same}
+use Rattle.djq_lines.specs.declared.answer.AddOutcome.TheVariants.{First, More}
 use Rattle.djq_lines.specs.declared.answer.DeleteOutcome.{DeleteOutcome}
-use Rattle.djq_lines.specs.declared.answer.DeleteOutcome.TheVariants.{Removed, Absent}
+use Rattle.djq_lines.specs.declared.answer.DeleteOutcome.TheVariants.{Last, Left, Absent}
 use Rattle.djq_dict.specs.declared.refusal.InternRefusal.{InternRefusal}
 use Rattle.djq_dict.specs.declared.refusal.InternRefusal.TheVariants.{Full as TextsFull, NoMem as NoMemForTexts}
-use Rattle.djq_rows.specs.declared.refusal.RowsRefusal.{RowsRefusal}
-use Rattle.djq_rows.specs.declared.refusal.RowsRefusal.TheVariants.{NameTaken, Full, NoMem}
 use Rattle.djq_rows.specs.Cells.{StandFor, HaveCells, cells_of}
 use Rattle.djq_model.specs.Typed.{fits}
-use Rattle.djq_rows.specs.Catalog.{Catalog, IsCatalog, StandForRow, relation_at, rows_at, with_rows_at}
-use Rattle.djq_rows.specs.Changes.{AddsRow, DeletesRow, InternsRow}
+use Rattle.djq_rows.specs.Catalog.{Catalog, IsCatalog, StandForRow, no_relation, relation_at, counted_at, rows_at, with_rows_at}
+use Rattle.djq_rows.specs.Changes.{AddsRow, DeletesRow, HasNoPlace, InternsRow}
 use Rattle.djq_rows.specs.Laws.{TextsStay}
-use Rattle.djq_live.specs.Changes.{HasSameRows, Came, Went, AddedCame, DeletedWent}
+use Rattle.djq_live.specs.Changes.{HasSameRows, Came, Went, AddedCame, DeletedWent, CopiesKeepRows}
 use Rattle.djq_live.specs.Live.{Live, IsKept}
 use Rattle.djq_live.specs.Staying.{StaysOver, LiveStays, CamePasses, WentPasses}
 use Rattle.djq_live.proofs.Members.{in_last}
@@ -28,8 +29,8 @@ use Rattle.djq_engine.specs.declared.parts.Parts.{Parts}
 use Rattle.djq_engine.specs.Places.{place_at, readers_at}
 use Rattle.djq_engine.specs.Sound.{IsSound, AreOnce}
 use Rattle.djq_engine.specs.Reaching.{Reach, AllAt, CanCome, CanGo, TakesIn, LetsOut, GivesBack, Carries}
-use Rattle.djq_engine.specs.Changing.{IsNew, IsOld, Lacks, LacksMemory, Puts, Waits, PutsRow}
-use Rattle.djq_lines.specs.declared.limits.TheConstants.{TEXTS, ROWS}
+use Rattle.djq_engine.specs.Changing.{IsNew, IsOld, LacksMemory, Puts, Waits, PutsRow, NoPlace, for_copies, for_texts, HasCopies, HasMore, AddsCells, AddsTo, IfCame, IfLacking, IfStill}
+use Rattle.djq_lines.specs.declared.limits.TheConstants.{TEXTS, ROWS, COPIES}
 use Rattle.djq_engine.proofs.Carrying.{has_contains, without_last, last_there, rows_with, field_with, long_with, back_with, readers_once, readers_kept, came_carries, went_carries, back_carries, idle_carries, stays_itself, texts_then}
 
 -- the readers of a relation, as the code reads them
@@ -67,11 +68,13 @@ pub all_stay : LiveStays → (c d : Catalog) (gs : List (Option Live)) (order : 
     → (i : ℕ) (l : Live) → place_at gs i ≡ Some l → StaysOver c d l
 all_stay law c d gs order readers s h i l e = law c d l h (s.live i l e)
 
+-- a row that is refused for a text
 pub lacks_of : (at : ℕ) (row : Tuple) (old new : Parts) (r : InternRefusal) → InternsRow (old.catalog).texts row (Err r) (new.catalog).texts → (new.catalog).relations ≡ (old.catalog).relations → new.queries.items ≡ old.queries.items
     → new.logs.items ≡ old.logs.items → length (new.catalog).texts ≤ TEXTS
-    → ((i : ℕ) (l : Live) → place_at old.queries.items i ≡ Some l → StaysOver old.catalog new.catalog l) → Lacks at row old new r
-lacks_of at row old new TextsFull h e q logs many stay = record {
-  finds = record {
+    → ((i : ℕ) (l : Live) → place_at old.queries.items i ≡ Some l → StaysOver old.catalog new.catalog l)
+    → has_row (rows_at (old.catalog).relations at) row ≡ false → AddsTo at row old (Err r) new
+lacks_of at row old new TextsFull h e q logs many stay absent = record {
+  why = for_texts absent (record {
     first = h.1.first;
     next = h.1.next;
     rest = h.1.rest;
@@ -79,40 +82,47 @@ lacks_of at row old new TextsFull h e q logs many stay = record {
     learned = h.1.learned;
     unknown = h.1.unknown;
     full = h.1.full;
-  };
+  });
   rests = record { queries = q; relations = e; stay = stay };
   logs = logs;
 }
-lacks_of at row old new NoMemForTexts h e q logs many stay = record {
-  learns = record { first = h.first; rest = h.rest; parts = h.parts; learned = h.learned };
-  many = many;
-  relations = e;
-  carries = subst (λ (hs : List (Option Live)). Carries (readers_at old.readers.items at) old.catalog old.queries.items new.catalog hs) (sym q)
-      (idle_carries old.catalog new.catalog old.queries.items (readers_at old.readers.items at) stay);
-}
+lacks_of at row old new NoMemForTexts h e q logs many stay absent = (
+  absent,
+  record {
+    learns = record { first = h.first; rest = h.rest; parts = h.parts; learned = h.learned };
+    many = many;
+    relations = e;
+    carries = subst (λ (hs : List (Option Live)). Carries (readers_at old.readers.items at) old.catalog old.queries.items new.catalog hs) (sym q)
+        (idle_carries old.catalog new.catalog old.queries.items (readers_at old.readers.items at) stay);
+  },
+)
 
 -- ---- a row more
 
-pub added_is : (rs new : List Relation) (at : ℕ) (row : Tuple) (o : AddOutcome) → AddsRow rs at row (Ok o) new → has_row (rows_at rs at) row ≡ false → new ≡ with_rows_at rs at (rows_at rs at ++ row ∷ [])
-added_is rs new at row Added h e = h.2
-added_is rs new at row Same h e = absurd (false≢true (sym e ∙ h.0))
+-- the cells of a row that came stand for one that wasn't there
+pub came_new : (c : Catalog) (at : ℕ) (cells : List ℕ) (row : Tuple) (new : List Relation) → StandForRow c at cells row → AddsRow c.relations at row (Ok First) new → IsNew c at cells row
+came_new c at cells row new stand h = record { stand = stand; absent = h.0; room = h.1 }
 
-pub refused_is : (rs new : List Relation) (at : ℕ) (row : Tuple) (r : RowsRefusal) → AddsRow rs at row (Err r) new → new ≡ rs
-refused_is rs new at row NameTaken h = absurd h
-refused_is rs new at row Full h = h.2
-refused_is rs new at row NoMem h = h.2
-
-pub deleted_is : (rs new : List Relation) (at : ℕ) (row : Tuple) (o : DeleteOutcome) → DeletesRow rs at row o new → has_row (rows_at rs at) row ≡ true → new ≡ with_rows_at rs at (without_row (rows_at rs at) row)
-deleted_is rs new at row Removed h e = h.1
-deleted_is rs new at row Absent h e = absurd (false≢true (sym h.0 ∙ e))
+-- a row with one copy goes
+pub deleted_is : (rs new : List Relation) (at : ℕ) (row : Tuple) (o : DeleteOutcome) → DeletesRow rs at row o new → has_row (rows_at rs at) row ≡ true → copies_among (counted_at rs at) row ≡ 1
+    → new ≡ with_rows_at rs at (without_copies (counted_at rs at) row)
+deleted_is rs new at row Last h e one = h.2
+deleted_is rs new at row (Left n) h e one = absurd (omega (arith, h.1, h.2, one))
+deleted_is rs new at row Absent h e one = absurd (false≢true (sym h.0 ∙ e))
 
 module _ (c d : Catalog) (at : ℕ) (low : at < length c.relations) (cells : List ℕ) (row : Tuple) (new : IsNew c at cells row) (ic : IsCatalog c) (id : IsCatalog d) (texts : d.texts ≡ c.texts)
-    (is : d.relations ≡ with_rows_at c.relations at (rows_at c.relations at ++ row ∷ [])) where
+    (is : d.relations ≡ with_rows_at c.relations at (with_row (counted_at c.relations at) row)) where
   pub came : AddedCame → Came c d at cells row
   came law = law c d at cells row id low new.stand texts is
 
+  counted_now : counted_at d.relations at ≡ with_row (counted_at c.relations at) row
+  counted_now = ap (λ (rs : List Relation). counted_at rs at) is ∙ rows_with c.relations at (with_row (counted_at c.relations at) row) low
+
   pub rows_now : rows_at d.relations at ≡ rows_at c.relations at ++ row ∷ []
-  rows_now = ap (λ (rs : List Relation). rows_at rs at) is ∙ rows_with c.relations at (rows_at c.relations at ++ row ∷ []) low
+  rows_now = ap tuples_of counted_now ∙ tuples_with_row (counted_at c.relations at) row
+
+  one_now : copies_among (counted_at d.relations at) row ≡ 1
+  one_now = ap (λ (rows : List CountedRow). copies_among rows row) counted_now ∙ came_copies (counted_at c.relations at) row new.absent
 
   pub there_now : Contains (rows_at d.relations at) row
   there_now = subst (λ (rows : List Tuple). Contains rows row) (sym rows_now) (in_last row (rows_at c.relations at))
@@ -121,28 +131,28 @@ module _ (c d : Catalog) (at : ℕ) (low : at < length c.relations) (cells : Lis
   has_now = ap (λ (rows : List Tuple). has_row rows row) rows_now ∙ last_there (rows_at c.relations at) row
 
   pub low_now : at < length d.relations
-  low_now = subst (λ (rs : List Relation). at < length rs) (sym is) (omega (arith, low, long_with c.relations at (rows_at c.relations at ++ row ∷ [])))
+  low_now = subst (λ (rs : List Relation). at < length rs) (sym is) (omega (arith, low, long_with c.relations at (with_row (counted_at c.relations at) row)))
 
   types_now : (relation_at d.relations at).types ≡ (relation_at c.relations at).types
-  types_now = ap (λ (rs : List Relation). (relation_at rs at).types) is ∙ field_with (λ r. r.types) c.relations at (rows_at c.relations at ++ row ∷ []) low refl at
+  types_now = ap (λ (rs : List Relation). (relation_at rs at).types) is ∙ field_with (λ r. r.types) c.relations at (with_row (counted_at c.relations at) row) low refl at
 
   pub stand_now : StandForRow d at cells row
   stand_now = subst (λ (ts : List Bytes). StandFor ts (relation_at d.relations at).types cells row) (sym texts)
       (subst (λ (cs : List ColumnType). StandFor c.texts cs cells row) (sym types_now) new.stand)
 
-  back_is : with_rows_at d.relations at (without_row (rows_at d.relations at) row) ≡ c.relations
+  back_is : with_rows_at d.relations at (without_copies (counted_at d.relations at) row) ≡ c.relations
   back_is =
-      ap (λ (rows : List Tuple). with_rows_at d.relations at (without_row rows row)) rows_now
-      ∙ ap (with_rows_at d.relations at) (without_last (rows_at c.relations at) row new.absent)
-      ∙ ap (λ (rs : List Relation). with_rows_at rs at (rows_at c.relations at)) is
-      ∙ back_with c.relations at (rows_at c.relations at ++ row ∷ []) low
+      ap (λ (rows : List CountedRow). with_rows_at d.relations at (without_copies rows row)) counted_now
+      ∙ ap (with_rows_at d.relations at) (without_last (counted_at c.relations at) row new.absent)
+      ∙ ap (λ (rs : List Relation). with_rows_at rs at (counted_at c.relations at)) is
+      ∙ back_with c.relations at (with_row (counted_at c.relations at) row) low
 
   pub went_back : DeletedWent → Went d c at cells row
   went_back law = law d c at cells row ic low_now stand_now (sym texts) (sym back_is)
 
   -- the catalog once the row has gone again
   pub catalog_back : (e : Catalog) (o : DeleteOutcome) → DeletesRow d.relations at row o e.relations → e.texts ≡ d.texts → e ≡ c
-  catalog_back e o h f = catalog_same c e (deleted_is d.relations e.relations at row o h has_now ∙ back_is) (f ∙ texts)
+  catalog_back e o h f = catalog_same c e (deleted_is d.relations e.relations at row o h has_now one_now ∙ back_is) (f ∙ texts)
 
   module _ (gs : List (Option Live)) (order : List ℕ) (readers : List (List ℕ)) (s : IsSound c gs order readers) (places : List ℕ) (read : places ≡ readers_at readers at) where
     pub places_once : AreOnce places
@@ -177,7 +187,7 @@ unput_carries c e gs order readers at s same =
 -- ---- a row less
 
 module _ (c d : Catalog) (at : ℕ) (low : at < length c.relations) (cells : List ℕ) (row : Tuple) (old : IsOld c at cells row) (id : IsCatalog d) (texts : d.texts ≡ c.texts)
-    (is : d.relations ≡ with_rows_at c.relations at (without_row (rows_at c.relations at) row)) (law : DeletedWent)
+    (is : d.relations ≡ with_rows_at c.relations at (without_copies (counted_at c.relations at) row)) (law : DeletedWent)
     (gs : List (Option Live)) (order : List ℕ) (readers : List (List ℕ)) (s : IsSound c gs order readers) (places : List ℕ) (read : places ≡ readers_at readers at) where
   pub went : Went c d at cells row
   went = law c d at cells row id low old.stand texts is
@@ -206,7 +216,7 @@ pub puts_row : (at : ℕ) (row : Tuple) (old new : Parts) (c1 : Catalog) → c1.
 puts_row at row old new c1 rel learn many stay p = record {
   learns = (p.texts ∙ learn, subst (λ (ts : List Bytes). length ts ≤ TEXTS) (sym p.texts) many);
   has = record {
-    relations = p.has.relations ∙ ap (λ (rs : List Relation). with_rows_at rs at (rows_at rs at ++ row ∷ [])) rel;
+    relations = p.has.relations ∙ ap (λ (rs : List Relation). with_rows_at rs at (with_row (counted_at rs at) row)) rel;
     carries = texts_then old.catalog c1 new.catalog old.queries.items new.queries.items (readers_at old.readers.items at) stay p.has.carries;
   };
 }
@@ -226,15 +236,98 @@ waits_row at row old new c1 rel learn many stay w = record {
   carries = texts_then old.catalog c1 new.catalog old.queries.items new.queries.items (readers_at old.readers.items at) stay w.carries;
 }
 
--- a row that isn't there, by its cells, once its texts are known
-pub same_new : (c d : Catalog) (at : ℕ) (cells : List ℕ) (row : Tuple) → d.relations ≡ c.relations → fits (relation_at c.relations at).types row ≡ true → HaveCells d.texts row → cells ≡ cells_of d.texts row
-    → has_row (rows_at c.relations at) row ≡ false → length (rows_at c.relations at) < ROWS → IsNew d at cells row
-same_new c d at cells row e of have are absent room = record {
-  stand = record {
-    of = ap (λ (rs : List Relation). fits (relation_at rs at).types row) e ∙ of;
-    have = have;
-    are = are;
-  };
-  absent = ap (λ (rs : List Relation). has_row (rows_at rs at) row) e ∙ absent;
-  room = subst (λ (rs : List Relation). length (rows_at rs at) < ROWS) (sym e) room;
+-- the cells stand for the row once its texts are known
+pub same_stand : (c d : Catalog) (at : ℕ) (cells : List ℕ) (row : Tuple) → d.relations ≡ c.relations → fits (relation_at c.relations at).types row ≡ true → HaveCells d.texts row → cells ≡ cells_of d.texts row
+    → StandForRow d at cells row
+same_stand c d at cells row e of have are = record {
+  of = ap (λ (rs : List Relation). fits (relation_at rs at).types row) e ∙ of;
+  have = have;
+  are = are;
 }
+
+-- ---- a row with other copies
+
+pub has_copies : CopiesKeepRows → LiveStays → (old new : Parts) (at : ℕ) (row : Tuple) (n : ℕ) → IsSound old.catalog old.queries.items old.order old.readers.items
+    → IsCatalog new.catalog → at < length (old.catalog).relations → (new.catalog).texts ≡ (old.catalog).texts
+    → (new.catalog).relations ≡ with_rows_at (old.catalog).relations at (with_copies (counted_at (old.catalog).relations at) row n)
+    → new.queries.items ≡ old.queries.items → new.logs.items ≡ old.logs.items → HasCopies at row n old new
+has_copies law stays old new at row n s sound low texts rel queries logs = record {
+  relations = rel;
+  texts = texts;
+  queries = queries;
+  logs = logs;
+  stay = all_stay stays old.catalog new.catalog old.queries.items old.order old.readers.items s (law old.catalog new.catalog at row n sound low texts rel);
+}
+
+-- ---- a row whose texts were known before learns none
+
+learned_known : (texts : List Bytes) (t : Bytes) → knows texts t ≡ true → learned texts t ≡ texts
+learned_known texts t h = rw h refl
+
+none_learned : (texts : List Bytes) (row : Tuple) → HaveCells texts row → all_learned texts (texts_in row) ≡ texts
+none_learned texts [] h = refl
+none_learned texts (Int i ∷ vs) h = none_learned texts vs h.1
+none_learned texts (Text t ∷ vs) h =
+    ap (λ (known : List Bytes). all_learned known (texts_in vs)) (learned_known texts t h.0) ∙ none_learned texts vs h.1
+
+pub known_there : (c : Catalog) (at : ℕ) (row : Tuple) → IsCatalog c → at < length c.relations → has_row (rows_at c.relations at) row ≡ true → HaveCells c.texts row
+known_there c at row ic low e =
+    let h = has_contains (rows_at c.relations at) row e in
+    subst (HaveCells c.texts) h.2 ((ic.kept at no_relation low).cells h.0 row h.1)
+
+module _ (old new : Parts) (c1 : Catalog) (at : ℕ) (row : Tuple) (ic : IsCatalog old.catalog) (low : at < length (old.catalog).relations)
+    (rel : c1.relations ≡ (old.catalog).relations) (learn : c1.texts ≡ all_learned (old.catalog).texts (texts_in row)) (many : length c1.texts ≤ TEXTS)
+    (stay : (i : ℕ) (l : Live) → place_at old.queries.items i ≡ Some l → StaysOver old.catalog c1 l)
+    (room : has_row (rows_at (old.catalog).relations at) row ≡ false → length (rows_at (old.catalog).relations at) < ROWS) where
+  has_is : has_row (rows_at c1.relations at) row ≡ has_row (rows_at (old.catalog).relations at) row
+  has_is = ap (λ (rs : List Relation). has_row (rows_at rs at) row) rel
+
+  -- the row is there, so that its texts were known
+  same_catalog : has_row (rows_at (old.catalog).relations at) row ≡ true → c1 ≡ old.catalog
+  same_catalog e = catalog_same old.catalog c1 rel (learn ∙ none_learned (old.catalog).texts row (known_there old.catalog at row ic low e))
+
+  no_place : HasNoPlace c1.relations at row → new.catalog ≡ c1 → NoPlace at row old new
+  no_place h same = by_test (has_row (rows_at (old.catalog).relations at) row) refl
+    where
+      by_test : (b : Bool) → has_row (rows_at (old.catalog).relations at) row ≡ b → NoPlace at row old new
+      by_test true e =
+          for_copies (subst (λ (rs : List Relation). COPIES ≤ copies_among (counted_at rs at) row) rel (h.copies (has_is ∙ e)))
+          (ap (λ (x : Catalog). x.texts) (same ∙ same_catalog e))
+      by_test false e =
+          absurd (let many_rows = subst (λ (rs : List Relation). ROWS ≤ length (rows_at rs at)) rel (h.rows (has_is ∙ e)) in
+          let few = room e in omega (arith, many_rows, few))
+
+  pub adds_to : (r : Result AddOutcome InternRefusal) → AddsCells at row (record old { catalog = c1 }) r new → AddsTo at row old r new
+  adds_to (Ok First) h = (sym has_is ∙ h.0, puts_row at row old new c1 rel learn many stay h.1)
+  adds_to (Ok (More n)) h = subst (λ (x : Catalog). HasMore at row n (record old { catalog = x }) new) (same_catalog (sym has_is ∙ h.there)) h
+  adds_to (Err TextsFull) h = record {
+    why = no_place h.0 h.1;
+    rests = record {
+      queries = h.2;
+      relations = ap (λ (x : Catalog). x.relations) h.1 ∙ rel;
+      stay = λ i l e. subst (λ (x : Catalog). StaysOver old.catalog x l) (sym h.1) (stay i l e);
+    };
+    logs = h.3;
+  }
+  adds_to (Err NoMemForTexts) h = (sym has_is ∙ h.0, waits_row at row old new c1 rel learn many stay h.1)
+
+-- ---- what holds of each outcome
+
+pub if_came : {P Q : Type 0} (r : Result AddOutcome InternRefusal) → (P → Q) → IfCame r P → IfCame r Q
+if_came (Ok First) f h = f h
+if_came (Ok (More n)) f h = tt
+if_came (Err x) f h = tt
+
+pub if_lacking : {P Q : Type 0} (r : Result AddOutcome InternRefusal) → (P → Q) → IfLacking r P → IfLacking r Q
+if_lacking (Ok o) f h = tt
+if_lacking (Err TextsFull) f h = tt
+if_lacking (Err NoMemForTexts) f h = f h
+
+-- a row that is refused before it is looked up lists and updates nothing
+pub idle_lacking : {P : Type 0} (r : InternRefusal) → P → IfLacking (Err r) P
+idle_lacking TextsFull h = tt
+idle_lacking NoMemForTexts h = h
+
+pub idle_still : {P : Type 0} (r : InternRefusal) → P → IfStill (Err r) P
+idle_still TextsFull h = h
+idle_still NoMemForTexts h = tt

@@ -5,6 +5,7 @@ use Rattle.std.proofs.lemmas.Bool.{eqb-true, eq-eqb, false≢true}
 use Rattle.std.proofs.lemmas.List.{get_or-set_same, get_or-set_other, take_more, get_or_default}
 use Rattle.std.proofs.lemmas.List.Sums.{sum_by-cons, sum_by-append, sum_by-take-le}
 use Rattle.djq_model.specs.declared.relation.Relation.{Relation}
+use Rattle.djq_model.specs.declared.relation.CountedRow.{CountedRow}
 use Rattle.djq_model.specs.Data.{Bytes, Tuple}
 use Rattle.djq_model.specs.Answer.{IsAnswer}
 use Rattle.djq_machine.specs.Delta.{Change, IsDelta}
@@ -348,7 +349,7 @@ module _ (Changed : Catalog → Catalog → Tuple → Type 0) (ws : List ℕ) (a
 -- ---- the readers of a relation
 
 module _ (Changed : Catalog → Catalog → Tuple → Type 0) (c d : Catalog) (gs : List (Option Live)) (order : List ℕ) (readers : List (List ℕ)) (s : IsSound c gs order readers) (at : ℕ) (low : at < length c.relations)
-    (ws places : List ℕ) (are : places ≡ readers_at readers at) (row : Tuple) (changed : Changed c d row) (rows : List Tuple) (rel : d.relations ≡ with_rows_at c.relations at rows) where
+    (ws places : List ℕ) (are : places ≡ readers_at readers at) (row : Tuple) (changed : Changed c d row) (rows : List CountedRow) (rel : d.relations ≡ with_rows_at c.relations at rows) where
   pub tells_rows : (old new : List Log) → Tends places (TellsAt ws Changed) gs old new → (i : ℕ) (l : Live) → is_reader (readers_at readers at) i ≡ true → watched_at ws i ≡ true
       → place_at gs i ≡ Some l → (log_at new i).lost ≡ false → IsDeltaWith at rows c.relations l (map (change_of d.texts l) (log_at new i).lines)
   tells_rows old new t i l reads watched there kept =

@@ -1,14 +1,20 @@
 -- What the parts of a change of rows do.
-use Rattle.std.specs.Prelude.{ℕ, List, [], ◌∷◌, ◌++◌, ◌+◌, ◌≡◌, ◌<◌, ◌≤◌, ◌&&◌, Bool, true, false, Some, length, map, sum_by, ⊤}
-use Rattle.djq_model.specs.Data.{Bytes, Tuple, has_row, without_row}
+use Rattle.std.specs.Prelude.{ℕ, List, ◌+◌, ◌≡◌, ◌<◌, ◌≤◌, ◌&&◌, Bool, true, false, Some, Result, Ok, Err, length, map, sum_by, ⊤}
+use Rattle.djq_model.specs.Data.{Bytes, Tuple, has_row, copies_among, with_row, with_copies, without_copies}
 use Rattle.djq_model.specs.declared.relation.Relation.{Relation}
+use Rattle.djq_model.specs.declared.relation.CountedRow.{CountedRow}
 use Rattle.djq_model.specs.Answer.{IsAnswer}
 use Rattle.djq_model.specs.Known.{texts_in}
-use Rattle.djq_lines.specs.declared.limits.TheConstants.{ROWS, TEXTS}
+use Rattle.djq_lines.specs.declared.answer.AddOutcome.{AddOutcome}
+use Rattle.djq_lines.specs.declared.answer.AddOutcome.TheVariants.{First, More}
+use Rattle.djq_lines.specs.declared.answer.DeleteOutcome.{DeleteOutcome}
+use Rattle.djq_lines.specs.declared.answer.DeleteOutcome.TheVariants.{Last, Left, Absent}
+use Rattle.djq_lines.specs.declared.limits.TheConstants.{ROWS, COPIES, TEXTS}
 use Rattle.djq_machine.specs.Store.{LearnsAll, LearnsFirst, FindsNoPlace}
 use Rattle.djq_dict.specs.declared.refusal.InternRefusal.{InternRefusal}
 use Rattle.djq_dict.specs.declared.refusal.InternRefusal.TheVariants.{Full, NoMem}
-use Rattle.djq_rows.specs.Catalog.{Catalog, StandForRow, rows_at, with_rows_at}
+use Rattle.djq_rows.specs.Catalog.{Catalog, StandForRow, counted_at, rows_at, with_rows_at}
+use Rattle.djq_rows.specs.Changes.{HasNoPlace}
 use Rattle.djq_machine.specs.Delta.{Change, IsDelta}
 use Rattle.djq_live.specs.Live.{Live}
 use Rattle.djq_live.specs.Updating.{change_of}
@@ -18,22 +24,20 @@ use Rattle.djq_engine.specs.Places.{place_at, is_reader, readers_at, watched_at,
 use Rattle.djq_engine.specs.Reaching.{Reach, Ages, Carries}
 use Rattle.djq_engine.specs.Tending.{Works, cost_at}
 
+-- The cells stand for a row.
+abbrev pub HasRow : Catalog → ℕ → List ℕ → Type 0
+HasRow c at cells = (row : Tuple) × StandForRow c at cells row
+
 -- The cells stand for a row that isn't there, and there is room for it.
 pub record IsNew (c : Catalog) (at : ℕ) (cells : List ℕ) (row : Tuple) : Type 0 where
   pub stand : StandForRow c at cells row
   pub absent : has_row (rows_at c.relations at) row ≡ false
   pub room : length (rows_at c.relations at) < ROWS
 
-abbrev pub HasNew : Catalog → ℕ → List ℕ → Type 0
-HasNew c at cells = (row : Tuple) × IsNew c at cells row
-
 -- The cells stand for a row that is there.
 pub record IsOld (c : Catalog) (at : ℕ) (cells : List ℕ) (row : Tuple) : Type 0 where
   pub stand : StandForRow c at cells row
   pub there : has_row (rows_at c.relations at) row ≡ true
-
-abbrev pub HasOld : Catalog → ℕ → List ℕ → Type 0
-HasOld c at cells = (row : Tuple) × IsOld c at cells row
 
 -- Nothing but the catalog, the queries and the logs changes.
 pub record KeepsRest (old new : Parts) : Type 0 where
@@ -58,14 +62,14 @@ pub record RestsOver (old new : Parts) : Type 0 where
       → StaysOver old.catalog new.catalog l
 
 -- A relation has other rows, and its readers know.
-pub record HasRows (at : ℕ) (rows : List Tuple) (old new : Parts) : Type 0 where
+pub record HasRows (at : ℕ) (rows : List CountedRow) (old new : Parts) : Type 0 where
   pub relations : (new.catalog).relations ≡ with_rows_at (old.catalog).relations at rows
   pub carries : CarriesReaders at old new
 
 -- A row came, whose texts were known.
 pub record Puts (at : ℕ) (row : Tuple) (old new : Parts) : Type 0 where
   pub texts : (new.catalog).texts ≡ (old.catalog).texts
-  pub has : HasRows at (rows_at (old.catalog).relations at ++ row ∷ []) old new
+  pub has : HasRows at (with_row (counted_at (old.catalog).relations at) row) old new
 
 -- Out of memory: the catalog is as before, and readers were reached.
 pub record Waits (at : ℕ) (old new : Parts) : Type 0 where
@@ -75,12 +79,12 @@ pub record Waits (at : ℕ) (old new : Parts) : Type 0 where
 -- A row went.
 pub record Drops (at : ℕ) (row : Tuple) (old new : Parts) : Type 0 where
   pub texts : (new.catalog).texts ≡ (old.catalog).texts
-  pub has : HasRows at (without_row (rows_at (old.catalog).relations at) row) old new
+  pub has : HasRows at (without_copies (counted_at (old.catalog).relations at) row) old new
 
 -- A row came, whose texts are known now.
 pub record PutsRow (at : ℕ) (row : Tuple) (old new : Parts) : Type 0 where
   pub learns : LearnsAll (old.catalog).texts (texts_in row) (new.catalog).texts
-  pub has : HasRows at (rows_at (old.catalog).relations at ++ row ∷ []) old new
+  pub has : HasRows at (with_row (counted_at (old.catalog).relations at) row) old new
 
 -- The relations are as before, no more texts are known than may be, and readers were reached.
 pub record LacksMemory (at : ℕ) (row : Tuple) (old new : Parts) : Type 0 where
@@ -89,15 +93,99 @@ pub record LacksMemory (at : ℕ) (row : Tuple) (old new : Parts) : Type 0 where
   pub relations : (new.catalog).relations ≡ (old.catalog).relations
   pub carries : CarriesReaders at old new
 
+-- Why there is no place for one more: the row has as many copies as there may be, and then no text is
+-- new; or it isn't there, and a text of it finds no place.
+pub data NoPlace (at : ℕ) (row : Tuple) (old new : Parts) : Type 0 where
+  for_copies : COPIES ≤ copies_among (counted_at (old.catalog).relations at) row
+      → (new.catalog).texts ≡ (old.catalog).texts → NoPlace at row old new
+  for_texts : has_row (rows_at (old.catalog).relations at) row ≡ false
+      → FindsNoPlace (old.catalog).texts (texts_in row) (new.catalog).texts → NoPlace at row old new
+
 -- The relations, the queries and the logs are as before.
-pub record LacksPlace (row : Tuple) (old new : Parts) : Type 0 where
-  pub finds : FindsNoPlace (old.catalog).texts (texts_in row) (new.catalog).texts
+pub record LacksPlace (at : ℕ) (row : Tuple) (old new : Parts) : Type 0 where
+  pub why : NoPlace at row old new
   pub rests : RestsOver old new
   pub logs : new.logs.items ≡ old.logs.items
 
-abbrev pub Lacks : ℕ → Tuple → Parts → Parts → InternRefusal → Type 0
-Lacks at row old new Full = LacksPlace row old new
-Lacks at row old new NoMem = LacksMemory at row old new
+-- A row has another number of copies, and nothing else changes.
+pub record HasCopies (at : ℕ) (row : Tuple) (n : ℕ) (old new : Parts) : Type 0 where
+  pub relations : (new.catalog).relations
+      ≡ with_rows_at (old.catalog).relations at (with_copies (counted_at (old.catalog).relations at) row n)
+  pub texts : (new.catalog).texts ≡ (old.catalog).texts
+  pub queries : new.queries.items ≡ old.queries.items
+  pub logs : new.logs.items ≡ old.logs.items
+  pub stay : (i : ℕ) (l : Live) → place_at old.queries.items i ≡ Some l
+      → StaysOver old.catalog new.catalog l
+
+-- A row that is there has a copy more.
+pub record HasMore (at : ℕ) (row : Tuple) (n : ℕ) (old new : Parts) : Type 0 where
+  pub there : has_row (rows_at (old.catalog).relations at) row ≡ true
+  pub more : n ≡ copies_among (counted_at (old.catalog).relations at) row + 1
+  pub few : n ≤ COPIES
+  pub has : HasCopies at row n old new
+
+-- What became of a row that was to be added by its cells, all of whose texts were known.
+abbrev pub AddsCells : ℕ → Tuple → Parts → Result AddOutcome InternRefusal → Parts → Type 0
+AddsCells at row old (Ok First) new =
+    (has_row (rows_at (old.catalog).relations at) row ≡ false) × Puts at row old new
+AddsCells at row old (Ok (More n)) new = HasMore at row n old new
+AddsCells at row old (Err Full) new = HasNoPlace (old.catalog).relations at row
+    × (new.catalog ≡ old.catalog) × (new.queries.items ≡ old.queries.items)
+    × (new.logs.items ≡ old.logs.items)
+AddsCells at row old (Err NoMem) new =
+    (has_row (rows_at (old.catalog).relations at) row ≡ false) × Waits at old new
+
+-- What became of a row that was to be added.
+abbrev pub AddsTo : ℕ → Tuple → Parts → Result AddOutcome InternRefusal → Parts → Type 0
+AddsTo at row old (Ok First) new =
+    (has_row (rows_at (old.catalog).relations at) row ≡ false) × PutsRow at row old new
+AddsTo at row old (Ok (More n)) new = HasMore at row n old new
+AddsTo at row old (Err Full) new = LacksPlace at row old new
+AddsTo at row old (Err NoMem) new =
+    (has_row (rows_at (old.catalog).relations at) row ≡ false) × LacksMemory at row old new
+
+-- What became of a row that was to be deleted.
+abbrev pub DeletesFrom : ℕ → Tuple → Parts → DeleteOutcome → Parts → Type 0
+DeletesFrom at row old Last new =
+    (has_row (rows_at (old.catalog).relations at) row ≡ true)
+    × (copies_among (counted_at (old.catalog).relations at) row ≡ 1) × Drops at row old new
+DeletesFrom at row old (Left n) new =
+    (has_row (rows_at (old.catalog).relations at) row ≡ true)
+    × (copies_among (counted_at (old.catalog).relations at) row ≡ n + 1)
+    × (1 ≤ n) × HasCopies at row n old new
+DeletesFrom at row old Absent new =
+    (has_row (rows_at (old.catalog).relations at) row ≡ false)
+    × (new.catalog ≡ old.catalog) × (new.queries.items ≡ old.queries.items)
+    × (new.logs.items ≡ old.logs.items)
+
+-- What holds where a row came, and where memory was refused for it.
+abbrev pub IfCame : Result AddOutcome InternRefusal → Type 0 → Type 0
+IfCame (Ok First) Holds = Holds
+IfCame (Ok (More n)) Holds = ⊤
+IfCame (Err refusal) Holds = ⊤
+
+abbrev pub IfLacking : Result AddOutcome InternRefusal → Type 0 → Type 0
+IfLacking (Ok outcome) Holds = ⊤
+IfLacking (Err Full) Holds = ⊤
+IfLacking (Err NoMem) Holds = Holds
+
+-- where neither was
+abbrev pub IfStill : Result AddOutcome InternRefusal → Type 0 → Type 0
+IfStill (Ok First) Holds = ⊤
+IfStill (Ok (More n)) Holds = Holds
+IfStill (Err Full) Holds = Holds
+IfStill (Err NoMem) Holds = ⊤
+
+-- where a row went, and where none did
+abbrev pub IfWent : DeleteOutcome → Type 0 → Type 0
+IfWent Last Holds = Holds
+IfWent (Left n) Holds = ⊤
+IfWent Absent Holds = ⊤
+
+abbrev pub IfNoneWent : DeleteOutcome → Type 0 → Type 0
+IfNoneWent Last Holds = ⊤
+IfNoneWent (Left n) Holds = Holds
+IfNoneWent Absent Holds = Holds
 
 -- The open cursors over a relation became stale, by a change of the present number.
 pub record AgesReaders (at : ℕ) (name : Bytes) (old new : Parts) : Type 0 where
@@ -108,12 +196,12 @@ pub record AgesReaders (at : ℕ) (name : Bytes) (old new : Parts) : Type 0 wher
   pub rest : KeepsRest old new
 
 -- These answers of a query come or go where a relation has other rows.
-abbrev pub IsDeltaWith : ℕ → List Tuple → List Relation → Live → List Change → Type 0
+abbrev pub IsDeltaWith : ℕ → List CountedRow → List Relation → Live → List Change → Type 0
 IsDeltaWith at rows relations l changes =
     IsDelta (IsAnswer relations l.query) (IsAnswer (with_rows_at relations at rows) l.query) changes
 
 -- Unless it is lost, the log of a watched query that reads the relation tells them.
-abbrev pub TellsRows : ℕ → List Tuple → Parts → Parts → Type 0
+abbrev pub TellsRows : ℕ → List CountedRow → Parts → Parts → Type 0
 TellsRows at rows old new = (i : ℕ) (l : Live)
     → is_reader (readers_at old.readers.items at) i ≡ true → watched_at old.watchers.items i ≡ true
     → place_at old.queries.items i ≡ Some l → (log_at new.logs.items i).lost ≡ false
@@ -121,7 +209,7 @@ TellsRows at rows old new = (i : ℕ) (l : Live)
     (map (change_of (new.catalog).texts l) (log_at new.logs.items i).lines)
 
 -- These are such deltas of the watched queries that read the relation.
-abbrev pub DeltasWith : ℕ → List Tuple → Parts → (ℕ → List Change) → Type 0
+abbrev pub DeltasWith : ℕ → List CountedRow → Parts → (ℕ → List Change) → Type 0
 DeltasWith at rows old f = (i : ℕ) (l : Live)
     → is_reader (readers_at old.readers.items at) i ≡ true → watched_at old.watchers.items i ≡ true
     → place_at old.queries.items i ≡ Some l → IsDeltaWith at rows (old.catalog).relations l (f i)
@@ -139,7 +227,7 @@ abbrev pub tells_at : Parts → ℕ → ℕ → Bool
 tells_at p at i = reads_at p at i && watched_at p.watchers.items i
 
 -- What listing them counts at most, whatever deltas they have.
-abbrev pub CountsRows : ℕ → List Tuple → Parts → ℕ → ℕ → Type 0
+abbrev pub CountsRows : ℕ → List CountedRow → Parts → ℕ → ℕ → Type 0
 CountsRows at rows old before now = (f : ℕ → List Change) → DeltasWith at rows old f
     → now ≤ before + sum_by (cost_at old.watchers.items old.queries.items at f)
     (readers_at old.readers.items at)
@@ -149,8 +237,3 @@ CountsRows at rows old before now = (f : ℕ → List Change) → DeltasWith at 
 abbrev pub WorksRows : ℕ → ℕ → Parts → ℕ → ℕ → Type 0
 WorksRows at times old before now =
     Works (readers_at old.readers.items at) old.queries.items at times before now
-
--- Where a text finds no place, nothing is listed and nothing updated.
-abbrev pub Idles : ℕ → ℕ → InternRefusal → Type 0
-Idles before now Full = now ≤ before
-Idles before now NoMem = ⊤

@@ -6,9 +6,9 @@ use Rattle.djq_model.specs.Data.{Bytes, rows_of}
 use Rattle.djq_model.specs.Listed.{Listed, a_query}
 use Rattle.djq_lines.specs.Variables.{variables_of}
 use Rattle.djq_lines.specs.declared.answer.AddOutcome.{AddOutcome}
-use Rattle.djq_lines.specs.declared.answer.AddOutcome.TheVariants.{Added, Same}
+use Rattle.djq_lines.specs.declared.answer.AddOutcome.TheVariants.{First, More}
 use Rattle.djq_lines.specs.declared.answer.DeleteOutcome.{DeleteOutcome}
-use Rattle.djq_lines.specs.declared.answer.DeleteOutcome.TheVariants.{Removed, Absent}
+use Rattle.djq_lines.specs.declared.answer.DeleteOutcome.TheVariants.{Last, Left, Absent}
 use Rattle.djq_lines.specs.declared.answer.Refusal.{Refusal}
 use Rattle.djq_lines.specs.declared.answer.Refusal.TheVariants.{NoMemory}
 use Rattle.djq_lines.specs.declared.answer.Shape.TheVariants.{Flat}
@@ -128,14 +128,16 @@ pub record CountsUpdates (times : ℕ) (old : Kept) (change : RowsChange) (befor
         + sum_by (λ r. bounded_steps change times n (as_flat r.query) r.query)
         (readers_of old.registered change)
 
--- how often: where memory is refused, rows that were taken in are given back
+-- how often: a further copy of a row reaches no query; where memory is refused, rows that were taken
+-- in are given back
 abbrev pub add_times : Result AddOutcome Refusal → ℕ
-add_times (Ok Added) = 1
-add_times (Ok Same) = 0
+add_times (Ok First) = 1
+add_times (Ok (More copies)) = 0
 add_times (Err NoMemory) = 3
 add_times (Err _) = 0
 
 abbrev pub delete_times : Result DeleteOutcome Refusal → ℕ
-delete_times (Ok Removed) = 1
+delete_times (Ok Last) = 1
+delete_times (Ok (Left copies)) = 0
 delete_times (Ok Absent) = 0
 delete_times (Err _) = 0

@@ -1,12 +1,12 @@
 //! A change of a relation's rows, in the catalog and in the queries that read it.
-ghost use Rattle.std.specs.Prelude.{◌≡◌, ◌<◌, [], ◌∷◌, ◌++◌, true, false, OnOk, OnErr, IfErr, length};
-ghost use Rattle.djq_model.specs.Data.{Tuple, has_row, without_row};
+ghost use Rattle.std.specs.Prelude.{◌≡◌, ◌<◌, ◌≤◌, true, false, length};
+ghost use Rattle.djq_model.specs.Data.{Tuple, has_row, with_row, without_copies};
 ghost use Rattle.djq_model.specs.Typed.{fits};
 ghost use Rattle.djq_lines.specs.declared.limits.TheConstants.{ROWS};
-ghost use Rattle.djq_rows.specs.Catalog.{relation_at, rows_at};
-ghost use Rattle.djq_engine.specs.Changing.{IsNew, HasNew, IsOld, HasOld, KeepsRest};
-ghost use Rattle.djq_engine.specs.Changing.{Puts, Waits, Drops, PutsRow, Lacks};
-ghost use Rattle.djq_engine.specs.Changing.{TellsRows, CountsRows, Idles};
+ghost use Rattle.djq_rows.specs.Catalog.{StandForRow, relation_at, counted_at, rows_at};
+ghost use Rattle.djq_engine.specs.Changing.{HasRow, AddsCells, AddsTo, DeletesFrom, KeepsRest};
+ghost use Rattle.djq_engine.specs.Changing.{IfCame, IfLacking, IfStill, IfWent, IfNoneWent};
+ghost use Rattle.djq_engine.specs.Changing.{TellsRows, CountsRows};
 ghost use Rattle.djq_engine.specs.Changing.{KeepsLogs, WorksRows, reads_at, tells_at};
 ghost use Rattle.djq_engine.specs.Tending.{AreShown};
 ghost use Rattle.djq_engine.specs.Whole.{IsWhole, IsTended};
@@ -14,47 +14,70 @@ ghost use Rattle.djq_engine.specs.Whole.{IsWhole, IsTended};
 use crate::parts::Parts;
 use crate::reach::{let_out, take_in};
 use djq_dict::InternRefusal;
-use djq_live::{added_came, came_passes, deleted_went, live_stays, showable_stays, went_passes};
-use djq_model::{NoMem, Value};
-use djq_rows::{RelationId, texts_stay};
+use djq_lines::{AddOutcome, DeleteOutcome};
+use djq_live::{
+    added_came, came_passes, copies_keep_rows, deleted_went, live_stays, showable_stays,
+    went_passes,
+};
+use djq_model::Value;
+use djq_rows::{RelationId, RowsRefusal, texts_stay};
 use djq_steps::{Ledgers, Steps};
 
-// Adds a row by its cells, or, out of memory, none.
+// Adds a row by its cells, or a copy of it where it is there. The queries that read the relation take
+// in a row that came.
+//
+// # Errors
+//
+// `Full` where there is no place for one more; `NoMem` out of memory, and no row has changed.
 fn put_cells<L: Ledgers>(
     parts: &mut Parts,
     id: RelationId,
     cells: &[u64],
     steps: &mut Steps<L>,
-) -> Result<(), NoMem>
+) -> Result<AddOutcome, InternRefusal>
     requires whole { IsWhole parts.old }
     requires tended { IsTended parts.old }
     requires there { id.at < length parts.old.catalog.relations }
-    requires new { HasNew parts.old.catalog id.at cells.now }
-    ensures ok { OnOk result ((row : Tuple) → IsNew parts.old.catalog id.at cells.now row
-        → Puts id.at row parts.old parts.new) }
-    ensures err { OnErr result (Waits id.at parts.old parts.new) }
+    requires row { HasRow parts.old.catalog id.at cells.now }
+    ensures adds { (row : Tuple) → StandForRow parts.old.catalog id.at cells.now row
+        → AddsCells id.at row parts.old result parts.new }
     ensures rest { KeepsRest parts.old parts.new }
-    ensures quiet { OnOk result (KeepsLogs (tells_at parts.old id.at) parts.old parts.new) }
-    ensures apart { OnErr result (KeepsLogs (reads_at parts.old id.at) parts.old parts.new) }
+    ensures quiet { IfCame result (KeepsLogs (tells_at parts.old id.at) parts.old parts.new) }
+    ensures apart { IfLacking result (KeepsLogs (reads_at parts.old id.at) parts.old parts.new) }
     ensures shown { AreShown parts.new.catalog.texts parts.old.queries.items parts.new.logs.items }
-    ensures tells { OnOk result ((row : Tuple) → IsNew parts.old.catalog id.at cells.now row
-        → TellsRows id.at (rows_at parts.old.catalog.relations id.at ++ row ∷ []) parts.old
+    ensures tells { IfCame result ((row : Tuple) → StandForRow parts.old.catalog id.at cells.now row
+        → TellsRows id.at (with_row (counted_at parts.old.catalog.relations id.at) row) parts.old
         parts.new) }
-    ensures counted { (row : Tuple) → IsNew parts.old.catalog id.at cells.now row
-        → CountsRows id.at (rows_at parts.old.catalog.relations id.at ++ row ∷ []) parts.old
-        steps.old.listing steps.new.listing }
-    ensures updates { OnOk result (WorksRows id.at 1 parts.old
+    ensures counted { IfCame result ((row : Tuple)
+        → StandForRow parts.old.catalog id.at cells.now row
+        → CountsRows id.at (with_row (counted_at parts.old.catalog.relations id.at) row) parts.old
+        steps.old.listing steps.new.listing) }
+    ensures listed { IfLacking result ((row : Tuple)
+        → StandForRow parts.old.catalog id.at cells.now row
+        → CountsRows id.at (with_row (counted_at parts.old.catalog.relations id.at) row) parts.old
+        steps.old.listing steps.new.listing) }
+    ensures idle { IfStill result (steps.new.listing ≤ steps.old.listing) }
+    ensures updates { IfCame result (WorksRows id.at 1 parts.old
         steps.old.update steps.new.update) }
-    ensures refusal { OnErr result (WorksRows id.at 3 parts.old
+    ensures refusal { IfLacking result (WorksRows id.at 3 parts.old
         steps.old.update steps.new.update) }
+    ensures unmoved { IfStill result (steps.new.update ≤ steps.old.update) }
 {
     added_came();
     deleted_went();
+    copies_keep_rows();
+    live_stays();
     came_passes();
     parts.catalog.laws();
     match parts.catalog.add_row(id, cells, &mut steps.rows) {
-        Ok(_outcome) => {}
-        Err(_refusal) => return Err(NoMem),
+        Ok(AddOutcome::First) => {}
+        Ok(AddOutcome::More(copies)) => {
+            parts.catalog.laws();
+            return Ok(AddOutcome::More(copies));
+        }
+        Err(RowsRefusal::NameTaken) => unreachable!(),
+        Err(RowsRefusal::Full) => return Err(InternRefusal::Full),
+        Err(RowsRefusal::NoMem) => return Err(InternRefusal::NoMem),
     }
     parts.catalog.laws();
     let places = parts.readers[id.at].as_slice();
@@ -68,49 +91,52 @@ fn put_cells<L: Ledgers>(
         cells,
         steps,
     ) {
-        Ok(()) => Ok(()),
-        Err(error) => {
+        Ok(()) => Ok(AddOutcome::First),
+        Err(_error) => {
             let _ = parts.catalog.delete_row(id, cells, &mut steps.rows);
-            Err(error)
+            Err(InternRefusal::NoMem)
         }
     }
 }
 
-/// Adds a row that suits a relation and isn't there, whose texts become known.
+/// Adds a row that suits a relation, or a copy of it where it is there. Where it isn't, its texts
+/// become known.
 ///
 /// # Errors
 ///
-/// `Full` where a text is unknown and as many are known as may be; `NoMem` out of memory, and then
-/// cursors over the relation are to be outdated.
+/// `Full` where the row has as many copies as there may be, or where a text is unknown and as many are
+/// known as may be; `NoMem` out of memory, and then cursors over the relation are to be outdated.
 pub fn put_row<L: Ledgers>(
     parts: &mut Parts,
     id: RelationId,
     row: &[Value],
     steps: &mut Steps<L>,
-) -> Result<(), InternRefusal>
+) -> Result<AddOutcome, InternRefusal>
     requires whole { IsWhole parts.old }
     requires tended { IsTended parts.old }
     requires there { id.at < length parts.old.catalog.relations }
     requires suits { fits (relation_at parts.old.catalog.relations id.at).types row.now ≡ true }
-    requires absent { has_row (rows_at parts.old.catalog.relations id.at) row.now ≡ false }
-    requires room { length (rows_at parts.old.catalog.relations id.at) < ROWS }
-    ensures ok { OnOk result (PutsRow id.at row.now parts.old parts.new) }
-    ensures err { IfErr result (Lacks id.at row.now parts.old parts.new) }
+    requires room { has_row (rows_at parts.old.catalog.relations id.at) row.now ≡ false
+        → length (rows_at parts.old.catalog.relations id.at) < ROWS }
+    ensures adds { AddsTo id.at row.now parts.old result parts.new }
     ensures rest { KeepsRest parts.old parts.new }
-    ensures quiet { OnOk result (KeepsLogs (tells_at parts.old id.at) parts.old parts.new) }
-    ensures apart { OnErr result (KeepsLogs (reads_at parts.old id.at) parts.old parts.new) }
+    ensures quiet { IfCame result (KeepsLogs (tells_at parts.old id.at) parts.old parts.new) }
+    ensures apart { IfLacking result (KeepsLogs (reads_at parts.old id.at) parts.old parts.new) }
     ensures shown { AreShown parts.new.catalog.texts parts.old.queries.items parts.new.logs.items }
-    ensures tells { OnOk result (TellsRows id.at
-        (rows_at parts.old.catalog.relations id.at ++ row.now ∷ []) parts.old parts.new) }
-    ensures counted { CountsRows id.at
-        (rows_at parts.old.catalog.relations id.at ++ row.now ∷ []) parts.old
-        steps.old.listing steps.new.listing }
-    ensures idle { IfErr result (Idles steps.old.listing steps.new.listing) }
-    ensures updates { OnOk result (WorksRows id.at 1 parts.old
+    ensures tells { IfCame result (TellsRows id.at
+        (with_row (counted_at parts.old.catalog.relations id.at) row.now) parts.old parts.new) }
+    ensures counted { IfCame result (CountsRows id.at
+        (with_row (counted_at parts.old.catalog.relations id.at) row.now) parts.old
+        steps.old.listing steps.new.listing) }
+    ensures listed { IfLacking result (CountsRows id.at
+        (with_row (counted_at parts.old.catalog.relations id.at) row.now) parts.old
+        steps.old.listing steps.new.listing) }
+    ensures idle { IfStill result (steps.new.listing ≤ steps.old.listing) }
+    ensures updates { IfCame result (WorksRows id.at 1 parts.old
         steps.old.update steps.new.update) }
-    ensures refusal { OnErr result (WorksRows id.at 3 parts.old
+    ensures refusal { IfLacking result (WorksRows id.at 3 parts.old
         steps.old.update steps.new.update) }
-    ensures unmoved { IfErr result (Idles steps.old.update steps.new.update) }
+    ensures unmoved { IfStill result (steps.new.update ≤ steps.old.update) }
 {
     live_stays();
     texts_stay();
@@ -124,40 +150,52 @@ pub fn put_row<L: Ledgers>(
         }
     };
     parts.catalog.laws();
-    match put_cells(parts, id, cells.as_slice(), steps) {
-        Ok(()) => Ok(()),
-        Err(_error) => Err(InternRefusal::NoMem),
-    }
+    put_cells(parts, id, cells.as_slice(), steps)
 }
 
-/// Deletes a row that is there, by its cells. It takes no memory but the logs'.
+/// Deletes a copy of a row by its cells, and the row with its last one. The queries that read the
+/// relation let out a row that went. It takes no memory but the logs'.
 pub fn drop_cells<L: Ledgers>(
     parts: &mut Parts,
     id: RelationId,
     cells: &[u64],
     steps: &mut Steps<L>,
-)
+) -> DeleteOutcome
     requires whole { IsWhole parts.old }
     requires tended { IsTended parts.old }
     requires there { id.at < length parts.old.catalog.relations }
-    requires old { HasOld parts.old.catalog id.at cells.now }
-    ensures drops { (row : Tuple) → IsOld parts.old.catalog id.at cells.now row
-        → Drops id.at row parts.old parts.new }
+    requires row { HasRow parts.old.catalog id.at cells.now }
+    ensures deletes { (row : Tuple) → StandForRow parts.old.catalog id.at cells.now row
+        → DeletesFrom id.at row parts.old result parts.new }
     ensures rest { KeepsRest parts.old parts.new }
-    ensures quiet { KeepsLogs (tells_at parts.old id.at) parts.old parts.new }
+    ensures quiet { IfWent result (KeepsLogs (tells_at parts.old id.at) parts.old parts.new) }
     ensures shown { AreShown parts.new.catalog.texts parts.old.queries.items parts.new.logs.items }
-    ensures tells { (row : Tuple) → IsOld parts.old.catalog id.at cells.now row
-        → TellsRows id.at (without_row (rows_at parts.old.catalog.relations id.at) row) parts.old
-        parts.new }
-    ensures counted { (row : Tuple) → IsOld parts.old.catalog id.at cells.now row
-        → CountsRows id.at (without_row (rows_at parts.old.catalog.relations id.at) row) parts.old
-        steps.old.listing steps.new.listing }
-    ensures updates { WorksRows id.at 1 parts.old steps.old.update steps.new.update }
+    ensures tells { IfWent result ((row : Tuple)
+        → StandForRow parts.old.catalog id.at cells.now row
+        → TellsRows id.at (without_copies (counted_at parts.old.catalog.relations id.at) row)
+        parts.old parts.new) }
+    ensures counted { IfWent result ((row : Tuple)
+        → StandForRow parts.old.catalog id.at cells.now row
+        → CountsRows id.at (without_copies (counted_at parts.old.catalog.relations id.at) row)
+        parts.old steps.old.listing steps.new.listing) }
+    ensures idle { IfNoneWent result (steps.new.listing ≤ steps.old.listing) }
+    ensures updates { IfWent result (WorksRows id.at 1 parts.old
+        steps.old.update steps.new.update) }
+    ensures unmoved { IfNoneWent result (steps.new.update ≤ steps.old.update) }
 {
     deleted_went();
+    copies_keep_rows();
+    live_stays();
     went_passes();
     parts.catalog.laws();
-    let _ = parts.catalog.delete_row(id, cells, &mut steps.rows);
+    match parts.catalog.delete_row(id, cells, &mut steps.rows) {
+        DeleteOutcome::Last => {}
+        DeleteOutcome::Left(copies) => {
+            parts.catalog.laws();
+            return DeleteOutcome::Left(copies);
+        }
+        DeleteOutcome::Absent => return DeleteOutcome::Absent,
+    }
     parts.catalog.laws();
     let places = parts.readers[id.at].as_slice();
     let watchers = parts.watchers.as_slice();
@@ -170,4 +208,5 @@ pub fn drop_cells<L: Ledgers>(
         cells,
         steps,
     );
+    DeleteOutcome::Last
 }

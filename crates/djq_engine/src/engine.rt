@@ -219,8 +219,9 @@ impl Engine {
         rel_in(&mut self.parts, name, types)
     }
 
-    /// Adds a row to a relation, whose texts become known. Where the row is there already, nothing
-    /// changes; where it wasn't, cursors over the relation become stale.
+    /// Adds a row to a relation, and tells how many copies of it are there. Where it wasn't there, its
+    /// texts become known, and cursors over the relation become stale. Where it was, it has a further
+    /// copy: that takes no memory, is no change, and goes into no query.
     ///
     /// For each atom over the relation of each query the update count rises by at most
     /// 16(m + v)(n + 1), where the query has m atoms and v variables, holes counted in, and no
@@ -230,8 +231,8 @@ impl Engine {
     /// # Errors
     ///
     /// `NoRelation` where none has the name; `Arity` and `WrongType` where the row doesn't suit its
-    /// columns; `Limit` where the relation, the number of changes or that of known texts is at its
-    /// limit; `NoMemory` out of memory, and cursors over the relation are stale, and nothing is told
+    /// columns; `Limit` where the row's copies, the relation, the number of changes or that of known
+    /// texts are at their limit; `NoMemory` out of memory, and cursors over the relation are stale, and nothing is told
     /// of the queries that read it. Texts that became known stay so, and no row has changed.
     pub fn add<L: Ledgers>(
         &mut self,
@@ -254,14 +255,15 @@ impl Engine {
         add_in(&mut self.parts, name, row, steps)
     }
 
-    /// Deletes a row from a relation. Where it isn't there, nothing changes; where it was, cursors
-    /// over the relation become stale. It takes no memory, and its update count is bounded as that of
-    /// [`add`](Engine::add).
+    /// Deletes a copy of a row from a relation, and tells how many are left. Where it isn't there,
+    /// nothing changes; where its last copy goes, the row does, and cursors over the relation become
+    /// stale; one of several is no change, and goes out of no query. It takes no memory, and its update
+    /// count is bounded as that of [`add`](Engine::add).
     ///
     /// # Errors
     ///
     /// `NoRelation` where none has the name; `Arity` and `WrongType` where the row doesn't suit its
-    /// columns; `Limit` where the number of changes is at its limit.
+    /// columns; `Limit` where the last copy is to go and the number of changes is at its limit.
     pub fn del<L: Ledgers>(
         &mut self,
         name: &Name,

@@ -5,7 +5,7 @@ ghost use Rattle.djq_model.specs.Typed.{fits};
 ghost use Rattle.djq_machine.specs.Conditions.{first_of};
 ghost use Rattle.djq_machine.specs.Store.{row_refusals, add_refusal, delete_refusal};
 ghost use Rattle.djq_rows.specs.Catalog.{relation_at, rows_at};
-ghost use Rattle.djq_engine.specs.Judging.{bare, Suits, JudgesAdd, JudgesDelete};
+ghost use Rattle.djq_engine.specs.Judging.{bare, Suits, MayCome, JudgesDelete};
 
 use djq_index::Cells;
 use djq_lines::Refusal;
@@ -15,7 +15,7 @@ use djq_rows::{Catalog, RelationId};
 use djq_steps::Tally;
 use std::sync::ledger::Ledger;
 
-/// A row that may be deleted, by its cells.
+/// A row of which a copy may be deleted, by its cells.
 #[derive(Debug, Drop)]
 pub struct Deletion {
     pub relation: RelationId,
@@ -58,7 +58,8 @@ fn is_there<L: Ledger>(
     }
 }
 
-/// The relation to which a row may be added, and none where the row is there.
+/// The relation to which a row may be added, unless it has as many copies as there may be. Where no
+/// row may come, a further copy of one may.
 ///
 /// # Errors
 ///
@@ -69,22 +70,23 @@ pub fn judge_add<L: Ledger>(
     row: &[Value],
     seq: u64,
     tally: &mut Tally<L>,
-) -> Result<Option<RelationId>, Refusal>
-    ensures ok { IfOk result (JudgesAdd catalog.now.relations name.now row.now seq) }
+) -> Result<RelationId, Refusal>
+    ensures ok { IfOk result (λ id. MayCome catalog.now.relations name.now row.now seq id.at) }
     ensures err { IfErr result (λ r.
         add_refusal (bare catalog.now.relations seq) name.now row.now ≡ Some r) }
 {
     let id = suited(catalog, name, row)?;
-    if is_there(catalog, id, row, tally) {
-        return Ok(None);
+    if catalog.row_count(id) < ROWS && seq != LAST_SEQ {
+        return Ok(id);
     }
-    if catalog.row_count(id) >= ROWS || seq == LAST_SEQ {
+    if !is_there(catalog, id, row, tally) {
         return Err(Refusal::Limit);
     }
-    Ok(Some(id))
+    Ok(id)
 }
 
-/// The cells of a row that may be deleted, and none where the row isn't there.
+/// The cells of a row of which a copy may be deleted, where it is there; none where a text of it isn't
+/// known, so that it isn't.
 ///
 /// # Errors
 ///
@@ -105,10 +107,10 @@ pub fn judge_delete<L: Ledger>(
     let Some(cells) = catalog.cells(row) else {
         return Ok(None);
     };
-    if !catalog.has_row(relation, cells.as_slice(), tally) {
-        return Ok(None);
+    if seq != LAST_SEQ {
+        return Ok(Some(Deletion { relation, cells }));
     }
-    if seq == LAST_SEQ {
+    if catalog.copies(relation, cells.as_slice(), tally) == 1 {
         return Err(Refusal::Limit);
     }
     Ok(Some(Deletion { relation, cells }))

@@ -36,7 +36,7 @@ fn age_readers(parts: &mut Parts, id: RelationId, name: &Name)
     age(&mut parts.queries, places, *name, parts.seq);
 }
 
-/// Adds a row to a relation. Where it is there already, nothing changes.
+/// Adds a row to a relation, or a further copy of it where it is there.
 pub fn add_in<L: Ledgers>(
     parts: &mut Parts,
     name: &Name,
@@ -68,12 +68,10 @@ pub fn add_in<L: Ledgers>(
     texts_stay();
     showable_stays();
     parts.catalog.laws();
-    let judged = judge_add(&parts.catalog, name, row, parts.seq, &mut steps.rows)?;
-    let Some(id) = judged else {
-        return Ok(AddOutcome::Same);
-    };
+    let id = judge_add(&parts.catalog, name, row, parts.seq, &mut steps.rows)?;
     match put_row(parts, id, row, steps) {
-        Ok(()) => {}
+        Ok(AddOutcome::First) => {}
+        Ok(AddOutcome::More(copies)) => return Ok(AddOutcome::More(copies)),
         Err(InternRefusal::Full) => return Err(Refusal::Limit),
         Err(InternRefusal::NoMem) => {
             empty_logs(&mut parts.logs, parts.readers[id.at].as_slice());
@@ -84,11 +82,11 @@ pub fn add_in<L: Ledgers>(
     parts.seq += 1;
     parts.changed = id.at;
     age_readers(parts, id, name);
-    Ok(AddOutcome::Added)
+    Ok(AddOutcome::First)
 }
 
-/// Deletes a row from a relation. Where it isn't there, nothing changes. It takes no memory
-/// but the logs'.
+/// Deletes a copy of a row from a relation, and the row with its last one. It takes no memory but the
+/// logs'.
 pub fn del_in<L: Ledgers>(
     parts: &mut Parts,
     name: &Name,
@@ -123,11 +121,15 @@ pub fn del_in<L: Ledgers>(
     let Some(found) = judged else {
         return Ok(DeleteOutcome::Absent);
     };
-    drop_cells(parts, found.relation, found.cells.as_slice(), steps);
+    match drop_cells(parts, found.relation, found.cells.as_slice(), steps) {
+        DeleteOutcome::Last => {}
+        DeleteOutcome::Left(copies) => return Ok(DeleteOutcome::Left(copies)),
+        DeleteOutcome::Absent => return Ok(DeleteOutcome::Absent),
+    }
     parts.seq += 1;
     parts.changed = found.relation.at;
     age_readers(parts, found.relation, name);
-    Ok(DeleteOutcome::Removed)
+    Ok(DeleteOutcome::Last)
 }
 
 /// Makes a relation without rows.

@@ -1,7 +1,10 @@
-use Rattle.std.proofs.Common.{◌∙◌, ◌++◌, ◌∷◌, [], ℕ, List, ap, arith, refl, subst, sym}
-use Rattle.std.specs.Prelude.{◌&&◌}
-use Rattle.djq_model.specs.Data.{Bytes}
-use Rattle.djq_rows.specs.Catalog.{rows_at}
+use Rattle.std.proofs.Common.{◌∙◌, ℕ, List, ap, arith, refl, subst, sym}
+use Rattle.std.specs.Prelude.{◌&&◌, Ok, Err}
+use Rattle.djq_model.specs.Data.{Bytes, with_row}
+use Rattle.djq_lines.specs.declared.answer.AddOutcome.{AddOutcome}
+use Rattle.djq_rows.specs.declared.refusal.RowsRefusal.{RowsRefusal}
+use Rattle.djq_rows.specs.Catalog.{counted_at}
+use Rattle.djq_rows.specs.Changes.{AddsRow}
 use Rattle.djq_live.specs.Changes.{Came}
 use Rattle.djq_live.specs.Live.{IsKept}
 use Rattle.djq_engine.specs.Places.{is_reader, watched_at}
@@ -10,225 +13,270 @@ use Rattle.djq_engine.specs.Tending.{AreShown, Costs, Shows, Tends, TellsAt, Wor
 use Rattle.djq_engine.proofs.Carrying.{readers_kept}
 use Rattle.djq_engine.proofs.Tending.{counts_rows, shown_tended, tells_rows, tends_apart, tends_quiet}
 use Rattle.djq_engine.proofs.Storing.{
-  added_is,
   came,
+  came_new,
   can_come,
   catalog_back,
   catalog_same,
+  has_copies,
   places_once,
   places_read,
   put_carries,
-  refused_is,
   stand_now,
   unput_carries,
   wait_carries,
 }
 use Rattle.djq_engine.proofs.change.put_cells.Goals as goal
 
-pub returns-in-Err-clause-err : goal.returns-in-Err-clause-err
-returns-in-Err-clause-err g c = record {
-  catalog = catalog_same c.args.parts.now.catalog c.add_row.new.self
-      (refused_is c.args.parts.now.catalog.relations c.add_row.new.self.relations c.args.id.at c.requires.new.0
-      c.in-Err._refusal (c.in-Err.ensures.adds c.requires.new.0 c.requires.new.1.stand)) c.add_row.ensures.texts;
-  carries = unput_carries c.args.parts.now.catalog c.add_row.new.self c.args.parts.now.queries.items c.args.parts.now.order c.args.parts.now.readers.items c.args.id.at c.requires.whole
-      (catalog_same c.args.parts.now.catalog c.add_row.new.self
-      (refused_is c.args.parts.now.catalog.relations c.add_row.new.self.relations c.args.id.at c.requires.new.0
-      c.in-Err._refusal (c.in-Err.ensures.adds c.requires.new.0 c.requires.new.1.stand)) c.add_row.ensures.texts);
-}
+pub unreachable-requires : goal.unreachable-requires
+unreachable-requires g c =
+    subst (λ (r : RowsRefusal). AddsRow c.args.parts.now.catalog.relations c.args.id.at c.requires.row.0 (Err r)
+    c.add_row.new.self.relations) c.in-Err-NameTaken.field-0-is
+    (c.in-Err-NameTaken.ensures.adds c.requires.row.0 c.requires.row.1)
+
+pub returns-in-Ok-More-clause-adds : goal.returns-in-Ok-More-clause-adds
+returns-in-Ok-More-clause-adds g c row stand =
+    let old = c.args.parts.now in
+    let adds = subst (λ (o : AddOutcome). AddsRow old.catalog.relations c.args.id.at row (Ok o)
+    c.add_row.new.self.relations) c.in-Ok-More.field-0-is (c.in-Ok-More.ensures.adds row stand) in
+    record {
+      there = adds.0;
+      more = adds.1;
+      few = adds.2;
+      has = has_copies c.copies_keep_rows.ensures c.live_stays.ensures old _ c.args.id.at row c.in-Ok-More.copies
+          c.requires.whole c.laws-in-Ok-More.ensures c.requires.there c.add_row.ensures.texts adds.3 refl refl;
+    }
+
+pub returns-in-Ok-More-clause-shown : goal.returns-in-Ok-More-clause-shown
+returns-in-Ok-More-clause-shown g c =
+    subst (λ (ts : List Bytes). AreShown ts c.args.parts.now.queries.items c.args.parts.now.logs.items)
+    (sym c.add_row.ensures.texts) c.requires.tended.shown
+
+pub returns-in-Err-Full-clause-adds : goal.returns-in-Err-Full-clause-adds
+returns-in-Err-Full-clause-adds g c row stand =
+    let old = c.args.parts.now in
+    let adds = subst (λ (r : RowsRefusal). AddsRow old.catalog.relations c.args.id.at row (Err r)
+    c.add_row.new.self.relations) c.in-Err-Full.field-0-is (c.in-Err-Full.ensures.adds row stand) in
+    (adds.0, catalog_same old.catalog c.add_row.new.self adds.1 c.add_row.ensures.texts, refl, refl)
+
+pub returns-in-Err-Full-clause-shown : goal.returns-in-Err-Full-clause-shown
+returns-in-Err-Full-clause-shown g c =
+    subst (λ (ts : List Bytes). AreShown ts c.args.parts.now.queries.items c.args.parts.now.logs.items)
+    (sym c.add_row.ensures.texts) c.requires.tended.shown
+
+pub returns-in-Err-NoMem-clause-adds : goal.returns-in-Err-NoMem-clause-adds
+returns-in-Err-NoMem-clause-adds g c row stand =
+    let old = c.args.parts.now in
+    let adds = subst (λ (r : RowsRefusal). AddsRow old.catalog.relations c.args.id.at row (Err r)
+    c.add_row.new.self.relations) c.in-Err-NoMem.field-0-is (c.in-Err-NoMem.ensures.adds row stand) in
+    let same = catalog_same old.catalog c.add_row.new.self adds.2 c.add_row.ensures.texts in (
+      adds.0,
+      record {
+        catalog = same;
+        carries = unput_carries old.catalog c.add_row.new.self old.queries.items old.order old.readers.items c.args.id.at
+            c.requires.whole same;
+      },
+    )
+
+pub returns-in-Err-NoMem-clause-shown : goal.returns-in-Err-NoMem-clause-shown
+returns-in-Err-NoMem-clause-shown g c =
+    subst (λ (ts : List Bytes). AreShown ts c.args.parts.now.queries.items c.args.parts.now.logs.items)
+    (sym c.add_row.ensures.texts) c.requires.tended.shown
+
+pub returns-in-Err-NoMem-clause-apart : goal.returns-in-Err-NoMem-clause-apart
+returns-in-Err-NoMem-clause-apart g c i l there e = refl
+
+pub returns-in-Err-NoMem-clause-listed : goal.returns-in-Err-NoMem-clause-listed
+returns-in-Err-NoMem-clause-listed g c row stand f deltas = omega arith
+
+pub returns-in-Err-NoMem-clause-refusal : goal.returns-in-Err-NoMem-clause-refusal
+returns-in-Err-NoMem-clause-refusal g c n flat few = omega arith
 
 pub take_in-requires-clause-once : goal.take_in-requires-clause-once
 take_in-requires-clause-once g c =
-    places_once c.args.parts.now.catalog c.add_row.new.self c.args.id.at c.requires.there c.args.cells.now c.requires.new.0 c.requires.new.1 c.laws.ensures c.laws-2.ensures
-    c.add_row.ensures.texts
-    (added_is c.args.parts.now.catalog.relations c.add_row.new.self.relations c.args.id.at c.requires.new.0
-    c.in-Ok._outcome (c.in-Ok.ensures.adds c.requires.new.0 c.requires.new.1.stand) c.requires.new.1.absent)
-    c.args.parts.now.queries.items c.args.parts.now.order c.args.parts.now.readers.items c.requires.whole c.as_slice-places.result.now
-    (places_read c.args.parts.now.readers.items c.args.id.at c.index.result.now
-    c.as_slice-places.result.now (omega (arith, c.requires.there, c.requires.whole.long)) c.index.ensures
-    c.as_slice-places.ensures)
+    let old = c.args.parts.now in
+    let d = c.add_row.new.self in
+    let row = c.requires.row.0 in
+    let adds = (subst (λ (o : AddOutcome). AddsRow old.catalog.relations c.args.id.at c.requires.row.0 (Ok o) d.relations)
+    c.in-Ok-First.field-0-is (c.in-Ok-First.ensures.adds c.requires.row.0 c.requires.row.1)) in
+    let new = came_new old.catalog c.args.id.at c.args.cells.now row d.relations c.requires.row.1 adds in
+    places_once old.catalog d c.args.id.at c.requires.there c.args.cells.now row new c.laws.ensures c.laws-2.ensures c.add_row.ensures.texts adds.2
+    old.queries.items old.order old.readers.items c.requires.whole c.as_slice-places.result.now
+    (places_read old.readers.items c.args.id.at c.index.result.now c.as_slice-places.result.now
+    (omega (arith, c.requires.there, c.requires.whole.long)) c.index.ensures c.as_slice-places.ensures)
 
 pub take_in-requires-clause-can : goal.take_in-requires-clause-can
 take_in-requires-clause-can g c =
-    can_come c.args.parts.now.catalog c.add_row.new.self c.args.id.at c.requires.there c.args.cells.now c.requires.new.0 c.requires.new.1 c.laws.ensures c.laws-2.ensures
-    c.add_row.ensures.texts
-    (added_is c.args.parts.now.catalog.relations c.add_row.new.self.relations c.args.id.at c.requires.new.0
-    c.in-Ok._outcome (c.in-Ok.ensures.adds c.requires.new.0 c.requires.new.1.stand) c.requires.new.1.absent)
-    c.args.parts.now.queries.items c.args.parts.now.order c.args.parts.now.readers.items c.requires.whole c.as_slice-places.result.now
-    (places_read c.args.parts.now.readers.items c.args.id.at c.index.result.now
-    c.as_slice-places.result.now (omega (arith, c.requires.there, c.requires.whole.long)) c.index.ensures
-    c.as_slice-places.ensures)
-    c.added_came.ensures c.deleted_went.ensures
-
-pub returns-in-Ok-take_in-clause-ok : goal.returns-in-Ok-take_in-clause-ok
-returns-in-Ok-take_in-clause-ok g c row new = record {
-  texts = c.add_row.ensures.texts;
-  has = record {
-    relations = added_is c.args.parts.now.catalog.relations c.add_row.new.self.relations c.args.id.at row
-        c.in-Ok._outcome (c.in-Ok.ensures.adds row new.stand) new.absent;
-    carries = put_carries c.args.parts.now.catalog c.add_row.new.self c.args.id.at c.requires.there c.args.cells.now row new c.laws.ensures c.laws-2.ensures
-        c.add_row.ensures.texts
-        (added_is c.args.parts.now.catalog.relations c.add_row.new.self.relations c.args.id.at row
-        c.in-Ok._outcome (c.in-Ok.ensures.adds row new.stand) new.absent)
-        c.args.parts.now.queries.items c.args.parts.now.order c.args.parts.now.readers.items c.requires.whole c.as_slice-places.result.now
-        (places_read c.args.parts.now.readers.items c.args.id.at c.index.result.now
-        c.as_slice-places.result.now (omega (arith, c.requires.there, c.requires.whole.long)) c.index.ensures c.as_slice-places.ensures)
-        c.added_came.ensures c.came_passes.ensures c.take_in.new.queries.items
-        c.in-Ok-take_in.ensures.taken;
-  };
-}
-
-pub returns-in-Err-take_in-clause-err : goal.returns-in-Err-take_in-clause-err
-returns-in-Err-take_in-clause-err g c =
-    let back = catalog_back c.args.parts.now.catalog c.add_row.new.self c.args.id.at c.requires.there c.args.cells.now c.requires.new.0 c.requires.new.1 c.laws.ensures c.laws-2.ensures
-    c.add_row.ensures.texts
-    (added_is c.args.parts.now.catalog.relations c.add_row.new.self.relations c.args.id.at c.requires.new.0
-    c.in-Ok._outcome (c.in-Ok.ensures.adds c.requires.new.0 c.requires.new.1.stand) c.requires.new.1.absent)
-    c.delete_row.new.self c.delete_row.result
-    (c.delete_row.ensures.deletes c.requires.new.0 (stand_now c.args.parts.now.catalog c.add_row.new.self c.args.id.at c.requires.there c.args.cells.now c.requires.new.0 c.requires.new.1 c.laws.ensures c.laws-2.ensures
-    c.add_row.ensures.texts
-    (added_is c.args.parts.now.catalog.relations c.add_row.new.self.relations c.args.id.at c.requires.new.0
-    c.in-Ok._outcome (c.in-Ok.ensures.adds c.requires.new.0 c.requires.new.1.stand) c.requires.new.1.absent)))
-    c.delete_row.ensures.texts in
-    record {
-      catalog = back;
-      carries = wait_carries c.args.parts.now.catalog c.add_row.new.self c.args.id.at c.requires.there c.args.cells.now c.requires.new.0 c.requires.new.1 c.laws.ensures c.laws-2.ensures
-          c.add_row.ensures.texts
-          (added_is c.args.parts.now.catalog.relations c.add_row.new.self.relations c.args.id.at c.requires.new.0
-          c.in-Ok._outcome (c.in-Ok.ensures.adds c.requires.new.0 c.requires.new.1.stand) c.requires.new.1.absent)
-          c.args.parts.now.queries.items c.args.parts.now.order c.args.parts.now.readers.items c.requires.whole c.as_slice-places.result.now
-          (places_read c.args.parts.now.readers.items c.args.id.at c.index.result.now
-          c.as_slice-places.result.now (omega (arith, c.requires.there, c.requires.whole.long)) c.index.ensures c.as_slice-places.ensures)
-          c.added_came.ensures c.deleted_went.ensures c.take_in.new.queries.items
-          c.in-Err-take_in.ensures.given c.delete_row.new.self back;
-    }
-
-pub returns-in-Ok-take_in-clause-tells : goal.returns-in-Ok-take_in-clause-tells
-returns-in-Ok-take_in-clause-tells g c row new =
     let old = c.args.parts.now in
     let d = c.add_row.new.self in
-    let is = (added_is old.catalog.relations d.relations c.args.id.at row
-    c.in-Ok._outcome (c.in-Ok.ensures.adds row new.stand) new.absent) in
+    let row = c.requires.row.0 in
+    let adds = (subst (λ (o : AddOutcome). AddsRow old.catalog.relations c.args.id.at c.requires.row.0 (Ok o) d.relations)
+    c.in-Ok-First.field-0-is (c.in-Ok-First.ensures.adds c.requires.row.0 c.requires.row.1)) in
+    let new = came_new old.catalog c.args.id.at c.args.cells.now row d.relations c.requires.row.1 adds in
+    can_come old.catalog d c.args.id.at c.requires.there c.args.cells.now row new c.laws.ensures c.laws-2.ensures c.add_row.ensures.texts adds.2
+    old.queries.items old.order old.readers.items c.requires.whole c.as_slice-places.result.now
+    (places_read old.readers.items c.args.id.at c.index.result.now c.as_slice-places.result.now
+    (omega (arith, c.requires.there, c.requires.whole.long)) c.index.ensures c.as_slice-places.ensures)
+    c.added_came.ensures c.deleted_went.ensures
+
+pub returns-in-Ok-clause-adds : goal.returns-in-Ok-clause-adds
+returns-in-Ok-clause-adds g c row stand =
+    let old = c.args.parts.now in
+    let d = c.add_row.new.self in
+    let adds = (subst (λ (o : AddOutcome). AddsRow old.catalog.relations c.args.id.at row (Ok o) d.relations)
+    c.in-Ok-First.field-0-is (c.in-Ok-First.ensures.adds row stand)) in
+    let new = came_new old.catalog c.args.id.at c.args.cells.now row d.relations stand adds in (
+      adds.0,
+      record {
+        texts = c.add_row.ensures.texts;
+        has = record {
+          relations = adds.2;
+          carries = put_carries old.catalog d c.args.id.at c.requires.there c.args.cells.now row new c.laws.ensures c.laws-2.ensures c.add_row.ensures.texts adds.2
+              old.queries.items old.order old.readers.items c.requires.whole c.as_slice-places.result.now
+              (places_read old.readers.items c.args.id.at c.index.result.now c.as_slice-places.result.now
+              (omega (arith, c.requires.there, c.requires.whole.long)) c.index.ensures c.as_slice-places.ensures)
+              c.added_came.ensures c.came_passes.ensures c.take_in.new.queries.items c.in-Ok.ensures.taken;
+        };
+      },
+    )
+
+pub returns-in-Err-clause-adds : goal.returns-in-Err-clause-adds
+returns-in-Err-clause-adds g c row stand =
+    let old = c.args.parts.now in
+    let d = c.add_row.new.self in
+    let adds = (subst (λ (o : AddOutcome). AddsRow old.catalog.relations c.args.id.at row (Ok o) d.relations)
+    c.in-Ok-First.field-0-is (c.in-Ok-First.ensures.adds row stand)) in
+    let new = came_new old.catalog c.args.id.at c.args.cells.now row d.relations stand adds in
+    let back = catalog_back old.catalog d c.args.id.at c.requires.there c.args.cells.now row new c.laws.ensures c.laws-2.ensures c.add_row.ensures.texts adds.2
+    c.delete_row.new.self c.delete_row.result
+    (c.delete_row.ensures.deletes row (stand_now old.catalog d c.args.id.at c.requires.there c.args.cells.now row new c.laws.ensures c.laws-2.ensures c.add_row.ensures.texts adds.2)) c.delete_row.ensures.texts in (
+      adds.0,
+      record {
+        catalog = back;
+        carries = wait_carries old.catalog d c.args.id.at c.requires.there c.args.cells.now row new c.laws.ensures c.laws-2.ensures c.add_row.ensures.texts adds.2
+            old.queries.items old.order old.readers.items c.requires.whole c.as_slice-places.result.now
+            (places_read old.readers.items c.args.id.at c.index.result.now c.as_slice-places.result.now
+            (omega (arith, c.requires.there, c.requires.whole.long)) c.index.ensures c.as_slice-places.ensures)
+            c.added_came.ensures c.deleted_went.ensures c.take_in.new.queries.items c.in-Err.ensures.given
+            c.delete_row.new.self back;
+      },
+    )
+
+pub returns-in-Ok-clause-tells : goal.returns-in-Ok-clause-tells
+returns-in-Ok-clause-tells g c row stand =
+    let old = c.args.parts.now in
+    let d = c.add_row.new.self in
+    let adds = (subst (λ (o : AddOutcome). AddsRow old.catalog.relations c.args.id.at row (Ok o) d.relations)
+    c.in-Ok-First.field-0-is (c.in-Ok-First.ensures.adds row stand)) in
+    let new = came_new old.catalog c.args.id.at c.args.cells.now row d.relations stand adds in
     tells_rows (λ x y. Came x y c.args.id.at c.args.cells.now) old.catalog d old.queries.items old.order old.readers.items c.requires.whole c.args.id.at c.requires.there
     old.watchers.items c.as_slice-places.result.now
-    (places_read old.readers.items c.args.id.at c.index.result.now
-    c.as_slice-places.result.now (omega (arith, c.requires.there, c.requires.whole.long)) c.index.ensures
-    c.as_slice-places.ensures)
-    row (came old.catalog d c.args.id.at c.requires.there c.args.cells.now row new c.laws.ensures c.laws-2.ensures c.add_row.ensures.texts is c.added_came.ensures)
-    (rows_at old.catalog.relations c.args.id.at ++ row ∷ []) is old.logs.items c.take_in.new.logs.items
+    (places_read old.readers.items c.args.id.at c.index.result.now c.as_slice-places.result.now
+    (omega (arith, c.requires.there, c.requires.whole.long)) c.index.ensures c.as_slice-places.ensures)
+    row (came old.catalog d c.args.id.at c.requires.there c.args.cells.now row new c.laws.ensures c.laws-2.ensures c.add_row.ensures.texts adds.2 c.added_came.ensures)
+    (with_row (counted_at old.catalog.relations c.args.id.at) row) adds.2 old.logs.items c.take_in.new.logs.items
     (subst (λ (ws : List ℕ). Tends c.as_slice-places.result.now
     (TellsAt ws (λ x y. Came x y c.args.id.at c.args.cells.now)) old.queries.items old.logs.items
     c.take_in.new.logs.items) c.as_slice-watchers.ensures.value
-    c.in-Ok-take_in.ensures.tells)
+    c.in-Ok.ensures.tells)
 
-pub returns-in-Ok-take_in-clause-counted : goal.returns-in-Ok-take_in-clause-counted
-returns-in-Ok-take_in-clause-counted g c row new =
+pub returns-in-Ok-clause-counted : goal.returns-in-Ok-clause-counted
+returns-in-Ok-clause-counted g c row stand =
     let old = c.args.parts.now in
     let d = c.add_row.new.self in
-    let is = (added_is old.catalog.relations d.relations c.args.id.at row
-    c.in-Ok._outcome (c.in-Ok.ensures.adds row new.stand) new.absent) in
+    let adds = (subst (λ (o : AddOutcome). AddsRow old.catalog.relations c.args.id.at row (Ok o) d.relations)
+    c.in-Ok-First.field-0-is (c.in-Ok-First.ensures.adds row stand)) in
+    let new = came_new old.catalog c.args.id.at c.args.cells.now row d.relations stand adds in
     counts_rows (λ x y. Came x y c.args.id.at c.args.cells.now) old.catalog d old.queries.items old.order old.readers.items c.requires.whole c.args.id.at c.requires.there
     old.watchers.items c.as_slice-places.result.now
-    (places_read old.readers.items c.args.id.at c.index.result.now
-    c.as_slice-places.result.now (omega (arith, c.requires.there, c.requires.whole.long)) c.index.ensures
-    c.as_slice-places.ensures)
-    row (came old.catalog d c.args.id.at c.requires.there c.args.cells.now row new c.laws.ensures c.laws-2.ensures c.add_row.ensures.texts is c.added_came.ensures)
-    (rows_at old.catalog.relations c.args.id.at ++ row ∷ []) is c.args.steps.now.listing c.take_in.new.steps.listing
+    (places_read old.readers.items c.args.id.at c.index.result.now c.as_slice-places.result.now
+    (omega (arith, c.requires.there, c.requires.whole.long)) c.index.ensures c.as_slice-places.ensures)
+    row (came old.catalog d c.args.id.at c.requires.there c.args.cells.now row new c.laws.ensures c.laws-2.ensures c.add_row.ensures.texts adds.2 c.added_came.ensures)
+    (with_row (counted_at old.catalog.relations c.args.id.at) row) adds.2 c.args.steps.now.listing c.take_in.new.steps.listing
     (subst (λ (ws : List ℕ). Costs (λ x y. Came x y c.args.id.at c.args.cells.now) c.as_slice-places.result.now ws old.queries.items c.args.id.at c.args.steps.now.listing c.take_in.new.steps.listing) c.as_slice-watchers.ensures.value
     c.take_in.ensures.counted)
 
-pub returns-in-Err-take_in-clause-counted : goal.returns-in-Err-take_in-clause-counted
-returns-in-Err-take_in-clause-counted g c row new =
+pub returns-in-Err-clause-listed : goal.returns-in-Err-clause-listed
+returns-in-Err-clause-listed g c row stand =
     let old = c.args.parts.now in
     let d = c.add_row.new.self in
-    let is = (added_is old.catalog.relations d.relations c.args.id.at row
-    c.in-Ok._outcome (c.in-Ok.ensures.adds row new.stand) new.absent) in
+    let adds = (subst (λ (o : AddOutcome). AddsRow old.catalog.relations c.args.id.at row (Ok o) d.relations)
+    c.in-Ok-First.field-0-is (c.in-Ok-First.ensures.adds row stand)) in
+    let new = came_new old.catalog c.args.id.at c.args.cells.now row d.relations stand adds in
     counts_rows (λ x y. Came x y c.args.id.at c.args.cells.now) old.catalog d old.queries.items old.order old.readers.items c.requires.whole c.args.id.at c.requires.there
     old.watchers.items c.as_slice-places.result.now
-    (places_read old.readers.items c.args.id.at c.index.result.now
-    c.as_slice-places.result.now (omega (arith, c.requires.there, c.requires.whole.long)) c.index.ensures
-    c.as_slice-places.ensures)
-    row (came old.catalog d c.args.id.at c.requires.there c.args.cells.now row new c.laws.ensures c.laws-2.ensures c.add_row.ensures.texts is c.added_came.ensures)
-    (rows_at old.catalog.relations c.args.id.at ++ row ∷ []) is c.args.steps.now.listing c.take_in.new.steps.listing
+    (places_read old.readers.items c.args.id.at c.index.result.now c.as_slice-places.result.now
+    (omega (arith, c.requires.there, c.requires.whole.long)) c.index.ensures c.as_slice-places.ensures)
+    row (came old.catalog d c.args.id.at c.requires.there c.args.cells.now row new c.laws.ensures c.laws-2.ensures c.add_row.ensures.texts adds.2 c.added_came.ensures)
+    (with_row (counted_at old.catalog.relations c.args.id.at) row) adds.2 c.args.steps.now.listing c.take_in.new.steps.listing
     (subst (λ (ws : List ℕ). Costs (λ x y. Came x y c.args.id.at c.args.cells.now) c.as_slice-places.result.now ws old.queries.items c.args.id.at c.args.steps.now.listing c.take_in.new.steps.listing) c.as_slice-watchers.ensures.value
     c.take_in.ensures.counted)
+
+pub returns-in-Ok-clause-shown : goal.returns-in-Ok-clause-shown
+returns-in-Ok-clause-shown g c =
+    let old = c.args.parts.now in
+    let d = c.add_row.new.self in
+    let row = c.requires.row.0 in
+    let adds = (subst (λ (o : AddOutcome). AddsRow old.catalog.relations c.args.id.at c.requires.row.0 (Ok o) d.relations)
+    c.in-Ok-First.field-0-is (c.in-Ok-First.ensures.adds c.requires.row.0 c.requires.row.1)) in
+    let new = came_new old.catalog c.args.id.at c.args.cells.now row d.relations c.requires.row.1 adds in
+    subst (λ (ts : List Bytes). AreShown ts old.queries.items c.take_in.new.logs.items) (sym c.add_row.ensures.texts)
+    (shown_tended (λ x y. Came x y c.args.id.at c.args.cells.now) old.catalog d old.queries.items c.as_slice-places.result.now old.logs.items c.take_in.new.logs.items row
+    (subst (λ (ps : List ℕ). AllAt ps old.queries.items (λ l. IsKept old.catalog l))
+    (sym (places_read old.readers.items c.args.id.at c.index.result.now c.as_slice-places.result.now
+    (omega (arith, c.requires.there, c.requires.whole.long)) c.index.ensures c.as_slice-places.ensures))
+    (readers_kept old.catalog old.queries.items old.order old.readers.items c.requires.whole c.args.id.at c.requires.there))
+    (came old.catalog d c.args.id.at c.requires.there c.args.cells.now row new c.laws.ensures c.laws-2.ensures c.add_row.ensures.texts adds.2 c.added_came.ensures) c.add_row.ensures.texts c.take_in.ensures.shows c.requires.tended.shown)
 
 pub returns-in-Err-clause-shown : goal.returns-in-Err-clause-shown
 returns-in-Err-clause-shown g c =
-    subst (λ (ts : List Bytes). AreShown ts c.args.parts.now.queries.items c.args.parts.now.logs.items) (sym c.add_row.ensures.texts) c.requires.tended.shown
-
-pub returns-in-Ok-take_in-clause-shown : goal.returns-in-Ok-take_in-clause-shown
-returns-in-Ok-take_in-clause-shown g c =
     let old = c.args.parts.now in
     let d = c.add_row.new.self in
-    let row = c.requires.new.0 in
-    let new = c.requires.new.1 in
-    let is = (added_is old.catalog.relations d.relations c.args.id.at row
-    c.in-Ok._outcome (c.in-Ok.ensures.adds row new.stand) new.absent) in
-    subst (λ (ts : List Bytes). AreShown ts old.queries.items c.take_in.new.logs.items) (sym c.add_row.ensures.texts)
-    (shown_tended (λ x y. Came x y c.args.id.at c.args.cells.now) old.catalog d old.queries.items c.as_slice-places.result.now old.logs.items c.take_in.new.logs.items row
-    (subst (λ (ps : List ℕ). AllAt ps old.queries.items (λ l. IsKept old.catalog l)) (sym (places_read old.readers.items c.args.id.at c.index.result.now
-    c.as_slice-places.result.now (omega (arith, c.requires.there, c.requires.whole.long)) c.index.ensures c.as_slice-places.ensures))
-    (readers_kept old.catalog old.queries.items old.order old.readers.items c.requires.whole c.args.id.at c.requires.there))
-    (came old.catalog d c.args.id.at c.requires.there c.args.cells.now row new c.laws.ensures c.laws-2.ensures c.add_row.ensures.texts is c.added_came.ensures) c.add_row.ensures.texts c.take_in.ensures.shows c.requires.tended.shown)
-
-pub returns-in-Err-take_in-clause-shown : goal.returns-in-Err-take_in-clause-shown
-returns-in-Err-take_in-clause-shown g c =
-    let old = c.args.parts.now in
-    let d = c.add_row.new.self in
-    let row = c.requires.new.0 in
-    let new = c.requires.new.1 in
-    let is = (added_is old.catalog.relations d.relations c.args.id.at row
-    c.in-Ok._outcome (c.in-Ok.ensures.adds row new.stand) new.absent) in
+    let row = c.requires.row.0 in
+    let adds = (subst (λ (o : AddOutcome). AddsRow old.catalog.relations c.args.id.at c.requires.row.0 (Ok o) d.relations)
+    c.in-Ok-First.field-0-is (c.in-Ok-First.ensures.adds c.requires.row.0 c.requires.row.1)) in
+    let new = came_new old.catalog c.args.id.at c.args.cells.now row d.relations c.requires.row.1 adds in
     subst (λ (ts : List Bytes). AreShown ts old.queries.items c.take_in.new.logs.items) (sym (c.delete_row.ensures.texts ∙ c.add_row.ensures.texts))
     (shown_tended (λ x y. Came x y c.args.id.at c.args.cells.now) old.catalog d old.queries.items c.as_slice-places.result.now old.logs.items c.take_in.new.logs.items row
-    (subst (λ (ps : List ℕ). AllAt ps old.queries.items (λ l. IsKept old.catalog l)) (sym (places_read old.readers.items c.args.id.at c.index.result.now
-    c.as_slice-places.result.now (omega (arith, c.requires.there, c.requires.whole.long)) c.index.ensures c.as_slice-places.ensures))
+    (subst (λ (ps : List ℕ). AllAt ps old.queries.items (λ l. IsKept old.catalog l))
+    (sym (places_read old.readers.items c.args.id.at c.index.result.now c.as_slice-places.result.now
+    (omega (arith, c.requires.there, c.requires.whole.long)) c.index.ensures c.as_slice-places.ensures))
     (readers_kept old.catalog old.queries.items old.order old.readers.items c.requires.whole c.args.id.at c.requires.there))
-    (came old.catalog d c.args.id.at c.requires.there c.args.cells.now row new c.laws.ensures c.laws-2.ensures c.add_row.ensures.texts is c.added_came.ensures) c.add_row.ensures.texts c.take_in.ensures.shows c.requires.tended.shown)
+    (came old.catalog d c.args.id.at c.requires.there c.args.cells.now row new c.laws.ensures c.laws-2.ensures c.add_row.ensures.texts adds.2 c.added_came.ensures) c.add_row.ensures.texts c.take_in.ensures.shows c.requires.tended.shown)
 
-pub returns-in-Err-clause-apart : goal.returns-in-Err-clause-apart
-returns-in-Err-clause-apart g c i l there e = refl
-
-pub returns-in-Ok-take_in-clause-quiet : goal.returns-in-Ok-take_in-clause-quiet
-returns-in-Ok-take_in-clause-quiet g c i l there e =
+pub returns-in-Ok-clause-quiet : goal.returns-in-Ok-clause-quiet
+returns-in-Ok-clause-quiet g c i l there e =
     let old = c.args.parts.now in
     tends_quiet (λ x y. Came x y c.args.id.at c.args.cells.now) old.watchers.items c.as_slice-places.result.now
     old.queries.items old.logs.items c.take_in.new.logs.items
     (subst (λ (ws : List ℕ). Tends c.as_slice-places.result.now
     (TellsAt ws (λ x y. Came x y c.args.id.at c.args.cells.now)) old.queries.items old.logs.items
     c.take_in.new.logs.items) c.as_slice-watchers.ensures.value
-    c.in-Ok-take_in.ensures.tells) i l there
+    c.in-Ok.ensures.tells) i l there
     (ap (λ (ps : List ℕ). is_reader ps i && watched_at old.watchers.items i)
-    (places_read old.readers.items c.args.id.at c.index.result.now
-    c.as_slice-places.result.now (omega (arith, c.requires.there, c.requires.whole.long)) c.index.ensures
-    c.as_slice-places.ensures) ∙ e)
+    (places_read old.readers.items c.args.id.at c.index.result.now c.as_slice-places.result.now
+    (omega (arith, c.requires.there, c.requires.whole.long)) c.index.ensures c.as_slice-places.ensures) ∙ e)
 
-pub returns-in-Err-take_in-clause-apart : goal.returns-in-Err-take_in-clause-apart
-returns-in-Err-take_in-clause-apart g c i l there e =
+pub returns-in-Err-clause-apart : goal.returns-in-Err-clause-apart
+returns-in-Err-clause-apart g c i l there e =
     let old = c.args.parts.now in
     tends_apart (Shows (λ x y. Came x y c.args.id.at c.args.cells.now)) c.as_slice-places.result.now old.queries.items
     old.logs.items c.take_in.new.logs.items c.take_in.ensures.shows i
-    (ap (λ (ps : List ℕ). is_reader ps i) (places_read old.readers.items c.args.id.at c.index.result.now
-    c.as_slice-places.result.now (omega (arith, c.requires.there, c.requires.whole.long)) c.index.ensures
-    c.as_slice-places.ensures) ∙ e)
+    (ap (λ (ps : List ℕ). is_reader ps i) (places_read old.readers.items c.args.id.at c.index.result.now c.as_slice-places.result.now
+    (omega (arith, c.requires.there, c.requires.whole.long)) c.index.ensures c.as_slice-places.ensures) ∙ e)
 
-pub returns-in-Err-clause-refusal : goal.returns-in-Err-clause-refusal
-returns-in-Err-clause-refusal g c n few = omega arith
-
-pub returns-in-Ok-take_in-clause-updates : goal.returns-in-Ok-take_in-clause-updates
-returns-in-Ok-take_in-clause-updates g c =
+pub returns-in-Ok-clause-updates : goal.returns-in-Ok-clause-updates
+returns-in-Ok-clause-updates g c =
     let old = c.args.parts.now in
     subst (λ (ps : List ℕ). Works ps old.queries.items c.args.id.at 1 c.args.steps.now.update
-    c.take_in.new.steps.update) (places_read old.readers.items c.args.id.at c.index.result.now
-    c.as_slice-places.result.now (omega (arith, c.requires.there, c.requires.whole.long)) c.index.ensures
-    c.as_slice-places.ensures)
-    c.in-Ok-take_in.ensures.updates
+    c.take_in.new.steps.update) (places_read old.readers.items c.args.id.at c.index.result.now c.as_slice-places.result.now
+    (omega (arith, c.requires.there, c.requires.whole.long)) c.index.ensures c.as_slice-places.ensures)
+    c.in-Ok.ensures.updates
 
-pub returns-in-Err-take_in-clause-refusal : goal.returns-in-Err-take_in-clause-refusal
-returns-in-Err-take_in-clause-refusal g c =
+pub returns-in-Err-clause-refusal : goal.returns-in-Err-clause-refusal
+returns-in-Err-clause-refusal g c =
     let old = c.args.parts.now in
     subst (λ (ps : List ℕ). Works ps old.queries.items c.args.id.at 3 c.args.steps.now.update
-    c.take_in.new.steps.update) (places_read old.readers.items c.args.id.at c.index.result.now
-    c.as_slice-places.result.now (omega (arith, c.requires.there, c.requires.whole.long)) c.index.ensures
-    c.as_slice-places.ensures)
-    c.in-Err-take_in.ensures.refusal
+    c.take_in.new.steps.update) (places_read old.readers.items c.args.id.at c.index.result.now c.as_slice-places.result.now
+    (omega (arith, c.requires.there, c.requires.whole.long)) c.index.ensures c.as_slice-places.ensures)
+    c.in-Err.ensures.refusal

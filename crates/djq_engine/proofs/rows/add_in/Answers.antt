@@ -1,18 +1,33 @@
-use Rattle.std.proofs.Common.{ℕ, List, ◌+◌, ◌++◌, ◌∷◌, [], ◌∙◌, ap, arith, refl, subst, sym, rules, ◌≡◌}
-use Rattle.std.specs.Prelude.{IfErr, Option, Some}
+use Rattle.std.proofs.Common.{ℕ, List, ◌+◌, ◌≤◌, ◌∙◌, ap, arith, subst, sym, rules, ◌≡◌}
+use Rattle.std.specs.Prelude.{IfErr, Some, Ok, Err}
+use Rattle.djq_model.specs.Data.{with_row}
 use Rattle.djq_lines.specs.declared.answer.Refusal.{Refusal}
+use Rattle.djq_lines.specs.declared.answer.AddOutcome.{AddOutcome}
 use Rattle.djq_machine.specs.Store.{add_refusal}
 use Rattle.djq_dict.specs.declared.refusal.InternRefusal.{InternRefusal}
-use Rattle.djq_rows.specs.declared.relation_id.RelationId.{RelationId}
-use Rattle.djq_rows.specs.Catalog.{rows_at}
-use Rattle.djq_engine.specs.Judging.{JudgesAdd, bare}
-use Rattle.djq_engine.specs.Changing.{Idles, Lacks}
+use Rattle.djq_rows.specs.Catalog.{counted_at}
+use Rattle.djq_engine.specs.Judging.{bare}
+use Rattle.djq_engine.specs.Changing.{
+  AddsTo,
+  CountsRows,
+  IfCame,
+  IfLacking,
+  IfStill,
+  KeepsLogs,
+  TellsRows,
+  WorksRows,
+  reads_at,
+  tells_at,
+}
 use Rattle.djq_engine.specs.Whole.{kept_in}
 use Rattle.djq_engine.proofs.Adding.{
   add_done,
+  add_further,
   add_lacking,
   add_limited,
   aged,
+  copied_cursors,
+  copied_whole,
   mid_once,
   mid_there,
   names_kept,
@@ -31,6 +46,7 @@ use Rattle.djq_engine.proofs.Reporting.{
   told_full,
   told_lacking,
   told_put,
+  told_same,
   registered_now,
   registered_still,
   affected_same,
@@ -48,124 +64,113 @@ use Rattle.djq_engine.proofs.rows.add_in.Goals as goal
 
 pub returns-in-Err-Full-clause-whole : goal.returns-in-Err-Full-clause-whole
 returns-in-Err-Full-clause-whole g c =
-    rested_whole c.args.parts.now c.put_row.new.parts c.requires.whole (subst (λ (r : InternRefusal). Lacks c.in-Some.id.at c.args.row.now c.args.parts.now c.put_row.new.parts r) c.in-Err-Full.field-0-is c.in-Err-Full.ensures.err).rests c.put_row.ensures.rest
+    rested_whole c.args.parts.now c.put_row.new.parts c.requires.whole (subst (λ (r : InternRefusal). AddsTo c.in_ok-id.id.at c.args.row.now c.args.parts.now (Err r) c.put_row.new.parts) c.in-Err-Full.field-0-is c.in-Err-Full.ensures.adds).rests c.put_row.ensures.rest
 
 pub returns-in-Err-Full-clause-outdates : goal.returns-in-Err-Full-clause-outdates
-returns-in-Err-Full-clause-outdates g c = rested_cursors c.args.parts.now c.put_row.new.parts (subst (λ (r : InternRefusal). Lacks c.in-Some.id.at c.args.row.now c.args.parts.now c.put_row.new.parts r) c.in-Err-Full.field-0-is c.in-Err-Full.ensures.err).rests
+returns-in-Err-Full-clause-outdates g c = rested_cursors c.args.parts.now c.put_row.new.parts (subst (λ (r : InternRefusal). AddsTo c.in_ok-id.id.at c.args.row.now c.args.parts.now (Err r) c.put_row.new.parts) c.in-Err-Full.field-0-is c.in-Err-Full.ensures.adds).rests
 
 pub returns-in-Err-Full-clause-adds : goal.returns-in-Err-Full-clause-adds
 returns-in-Err-Full-clause-adds g c =
-    add_limited c.args.parts.now c.args.name.now c.args.row.now c.in-Some.id.at (subst (λ (j : Option RelationId). JudgesAdd c.args.parts.now.catalog.relations c.args.name.now c.args.row.now c.args.parts.now.seq j) c.in-Some.is c.in_ok-judged.ensures.ok) c.put_row.new.parts (subst (λ (r : InternRefusal). Lacks c.in-Some.id.at c.args.row.now c.args.parts.now c.put_row.new.parts r) c.in-Err-Full.field-0-is c.in-Err-Full.ensures.err) c.put_row.ensures.rest.order c.put_row.ensures.rest.seq
+    add_limited c.args.parts.now c.args.name.now c.args.row.now c.in_ok-id.id.at c.in_ok-id.ensures.ok c.put_row.new.parts (subst (λ (r : InternRefusal). AddsTo c.in_ok-id.id.at c.args.row.now c.args.parts.now (Err r) c.put_row.new.parts) c.in-Err-Full.field-0-is c.in-Err-Full.ensures.adds) c.put_row.ensures.rest.order c.put_row.ensures.rest.seq
 
 pub age_readers-requires-clause-once : goal.age_readers-requires-clause-once
 age_readers-requires-clause-once g c =
     mid_once c.args.parts.now (record c.put_row.new.parts { logs = c.empty_logs.new.logs }) c.requires.whole
-    c.in-Some.id.at (subst (λ (j : Option RelationId). JudgesAdd c.args.parts.now.catalog.relations
-    c.args.name.now c.args.row.now c.args.parts.now.seq j) c.in-Some.is c.in_ok-judged.ensures.ok).relation.below
-    (subst (λ (r : InternRefusal). Lacks c.in-Some.id.at c.args.row.now c.args.parts.now c.put_row.new.parts r) c.in-Err-NoMem.field-0-is c.in-Err-NoMem.ensures.err).carries c.put_row.ensures.rest.readers c.put_row.ensures.rest.order
-    (names_kept c.args.parts.now.catalog c.put_row.new.parts.catalog (subst (λ (r : InternRefusal). Lacks c.in-Some.id.at c.args.row.now c.args.parts.now c.put_row.new.parts r) c.in-Err-NoMem.field-0-is c.in-Err-NoMem.ensures.err).relations)
+    c.in_ok-id.id.at c.in_ok-id.ensures.ok.relation.below
+    (subst (λ (r : InternRefusal). AddsTo c.in_ok-id.id.at c.args.row.now c.args.parts.now (Err r) c.put_row.new.parts) c.in-Err-NoMem.field-0-is c.in-Err-NoMem.ensures.adds).1.carries c.put_row.ensures.rest.readers c.put_row.ensures.rest.order
+    (names_kept c.args.parts.now.catalog c.put_row.new.parts.catalog (subst (λ (r : InternRefusal). AddsTo c.in_ok-id.id.at c.args.row.now c.args.parts.now (Err r) c.put_row.new.parts) c.in-Err-NoMem.field-0-is c.in-Err-NoMem.ensures.adds).1.relations)
 
 pub age_readers-requires-clause-there : goal.age_readers-requires-clause-there
 age_readers-requires-clause-there g c =
     mid_there c.args.parts.now (record c.put_row.new.parts { logs = c.empty_logs.new.logs }) c.requires.whole
-    c.in-Some.id.at (subst (λ (j : Option RelationId). JudgesAdd c.args.parts.now.catalog.relations
-    c.args.name.now c.args.row.now c.args.parts.now.seq j) c.in-Some.is c.in_ok-judged.ensures.ok).relation.below
-    (subst (λ (r : InternRefusal). Lacks c.in-Some.id.at c.args.row.now c.args.parts.now c.put_row.new.parts r) c.in-Err-NoMem.field-0-is c.in-Err-NoMem.ensures.err).carries c.put_row.ensures.rest.readers c.put_row.ensures.rest.order
-    (names_kept c.args.parts.now.catalog c.put_row.new.parts.catalog (subst (λ (r : InternRefusal). Lacks c.in-Some.id.at c.args.row.now c.args.parts.now c.put_row.new.parts r) c.in-Err-NoMem.field-0-is c.in-Err-NoMem.ensures.err).relations)
+    c.in_ok-id.id.at c.in_ok-id.ensures.ok.relation.below
+    (subst (λ (r : InternRefusal). AddsTo c.in_ok-id.id.at c.args.row.now c.args.parts.now (Err r) c.put_row.new.parts) c.in-Err-NoMem.field-0-is c.in-Err-NoMem.ensures.adds).1.carries c.put_row.ensures.rest.readers c.put_row.ensures.rest.order
+    (names_kept c.args.parts.now.catalog c.put_row.new.parts.catalog (subst (λ (r : InternRefusal). AddsTo c.in_ok-id.id.at c.args.row.now c.args.parts.now (Err r) c.put_row.new.parts) c.in-Err-NoMem.field-0-is c.in-Err-NoMem.ensures.adds).1.relations)
 
 pub returns-in-Err-NoMem-clause-whole : goal.returns-in-Err-NoMem-clause-whole
 returns-in-Err-NoMem-clause-whole g c =
     (aged c.args.parts.now (record c.put_row.new.parts { logs = c.empty_logs.new.logs }) c.requires.whole
-    c.in-Some.id.at (subst (λ (j : Option RelationId). JudgesAdd c.args.parts.now.catalog.relations c.args.name.now
-    c.args.row.now c.args.parts.now.seq j) c.in-Some.is c.in_ok-judged.ensures.ok).relation.below
-    (subst (λ (r : InternRefusal). Lacks c.in-Some.id.at c.args.row.now c.args.parts.now c.put_row.new.parts r) c.in-Err-NoMem.field-0-is c.in-Err-NoMem.ensures.err).carries c.put_row.ensures.rest.readers c.put_row.ensures.rest.order
-    (names_kept c.args.parts.now.catalog c.put_row.new.parts.catalog (subst (λ (r : InternRefusal). Lacks c.in-Some.id.at c.args.row.now c.args.parts.now c.put_row.new.parts r) c.in-Err-NoMem.field-0-is c.in-Err-NoMem.ensures.err).relations) c.age_readers.new.parts c.args.name.now (subst (λ (j : Option RelationId). JudgesAdd c.args.parts.now.catalog.relations c.args.name.now c.args.row.now c.args.parts.now.seq j) c.in-Some.is c.in_ok-judged.ensures.ok).relation.named c.age_readers.ensures).whole
+    c.in_ok-id.id.at c.in_ok-id.ensures.ok.relation.below
+    (subst (λ (r : InternRefusal). AddsTo c.in_ok-id.id.at c.args.row.now c.args.parts.now (Err r) c.put_row.new.parts) c.in-Err-NoMem.field-0-is c.in-Err-NoMem.ensures.adds).1.carries c.put_row.ensures.rest.readers c.put_row.ensures.rest.order
+    (names_kept c.args.parts.now.catalog c.put_row.new.parts.catalog (subst (λ (r : InternRefusal). AddsTo c.in_ok-id.id.at c.args.row.now c.args.parts.now (Err r) c.put_row.new.parts) c.in-Err-NoMem.field-0-is c.in-Err-NoMem.ensures.adds).1.relations) c.age_readers.new.parts c.args.name.now c.in_ok-id.ensures.ok.relation.named c.age_readers.ensures).whole
 
 pub returns-in-Err-NoMem-clause-outdates : goal.returns-in-Err-NoMem-clause-outdates
 returns-in-Err-NoMem-clause-outdates g c =
     (aged c.args.parts.now (record c.put_row.new.parts { logs = c.empty_logs.new.logs }) c.requires.whole
-    c.in-Some.id.at (subst (λ (j : Option RelationId). JudgesAdd c.args.parts.now.catalog.relations c.args.name.now
-    c.args.row.now c.args.parts.now.seq j) c.in-Some.is c.in_ok-judged.ensures.ok).relation.below
-    (subst (λ (r : InternRefusal). Lacks c.in-Some.id.at c.args.row.now c.args.parts.now c.put_row.new.parts r) c.in-Err-NoMem.field-0-is c.in-Err-NoMem.ensures.err).carries c.put_row.ensures.rest.readers c.put_row.ensures.rest.order
-    (names_kept c.args.parts.now.catalog c.put_row.new.parts.catalog (subst (λ (r : InternRefusal). Lacks c.in-Some.id.at c.args.row.now c.args.parts.now c.put_row.new.parts r) c.in-Err-NoMem.field-0-is c.in-Err-NoMem.ensures.err).relations) c.age_readers.new.parts c.args.name.now (subst (λ (j : Option RelationId). JudgesAdd c.args.parts.now.catalog.relations c.args.name.now c.args.row.now c.args.parts.now.seq j) c.in-Some.is c.in_ok-judged.ensures.ok).relation.named c.age_readers.ensures).cursors
+    c.in_ok-id.id.at c.in_ok-id.ensures.ok.relation.below
+    (subst (λ (r : InternRefusal). AddsTo c.in_ok-id.id.at c.args.row.now c.args.parts.now (Err r) c.put_row.new.parts) c.in-Err-NoMem.field-0-is c.in-Err-NoMem.ensures.adds).1.carries c.put_row.ensures.rest.readers c.put_row.ensures.rest.order
+    (names_kept c.args.parts.now.catalog c.put_row.new.parts.catalog (subst (λ (r : InternRefusal). AddsTo c.in_ok-id.id.at c.args.row.now c.args.parts.now (Err r) c.put_row.new.parts) c.in-Err-NoMem.field-0-is c.in-Err-NoMem.ensures.adds).1.relations) c.age_readers.new.parts c.args.name.now c.in_ok-id.ensures.ok.relation.named c.age_readers.ensures).cursors
 
 pub age_readers-requires-2-clause-once : goal.age_readers-requires-2-clause-once
 age_readers-requires-2-clause-once g c =
-    mid_once c.args.parts.now (record c.put_row.new.parts { seq = c.put_row.new.parts.seq + 1; changed = c.in-Some.id.at }) c.requires.whole c.in-Some.id.at (subst (λ (j : Option RelationId). JudgesAdd c.args.parts.now.catalog.relations c.args.name.now c.args.row.now c.args.parts.now.seq j) c.in-Some.is c.in_ok-judged.ensures.ok).relation.below
-    c.in-Ok.ensures.ok.has.carries c.put_row.ensures.rest.readers c.put_row.ensures.rest.order
-    (same_names c.args.parts.now.catalog c.put_row.new.parts.catalog c.in-Some.id.at (rows_at c.args.parts.now.catalog.relations c.in-Some.id.at ++ c.args.row.now ∷ []) (subst (λ (j : Option RelationId). JudgesAdd c.args.parts.now.catalog.relations c.args.name.now c.args.row.now c.args.parts.now.seq j) c.in-Some.is c.in_ok-judged.ensures.ok).relation.below c.in-Ok.ensures.ok.has.relations)
+    mid_once c.args.parts.now (record c.put_row.new.parts { seq = c.put_row.new.parts.seq + 1; changed = c.in_ok-id.id.at }) c.requires.whole c.in_ok-id.id.at c.in_ok-id.ensures.ok.relation.below
+    (subst (λ (o : AddOutcome). AddsTo c.in_ok-id.id.at c.args.row.now c.args.parts.now (Ok o) c.put_row.new.parts) c.in-Ok-First.field-0-is c.in-Ok-First.ensures.adds).1.has.carries c.put_row.ensures.rest.readers c.put_row.ensures.rest.order
+    (same_names c.args.parts.now.catalog c.put_row.new.parts.catalog c.in_ok-id.id.at (with_row (counted_at c.args.parts.now.catalog.relations c.in_ok-id.id.at) c.args.row.now) c.in_ok-id.ensures.ok.relation.below (subst (λ (o : AddOutcome). AddsTo c.in_ok-id.id.at c.args.row.now c.args.parts.now (Ok o) c.put_row.new.parts) c.in-Ok-First.field-0-is c.in-Ok-First.ensures.adds).1.has.relations)
 
 pub age_readers-requires-2-clause-there : goal.age_readers-requires-2-clause-there
 age_readers-requires-2-clause-there g c =
-    mid_there c.args.parts.now (record c.put_row.new.parts { seq = c.put_row.new.parts.seq + 1; changed = c.in-Some.id.at }) c.requires.whole c.in-Some.id.at (subst (λ (j : Option RelationId). JudgesAdd c.args.parts.now.catalog.relations c.args.name.now c.args.row.now c.args.parts.now.seq j) c.in-Some.is c.in_ok-judged.ensures.ok).relation.below
-    c.in-Ok.ensures.ok.has.carries c.put_row.ensures.rest.readers c.put_row.ensures.rest.order
-    (same_names c.args.parts.now.catalog c.put_row.new.parts.catalog c.in-Some.id.at (rows_at c.args.parts.now.catalog.relations c.in-Some.id.at ++ c.args.row.now ∷ []) (subst (λ (j : Option RelationId). JudgesAdd c.args.parts.now.catalog.relations c.args.name.now c.args.row.now c.args.parts.now.seq j) c.in-Some.is c.in_ok-judged.ensures.ok).relation.below c.in-Ok.ensures.ok.has.relations)
+    mid_there c.args.parts.now (record c.put_row.new.parts { seq = c.put_row.new.parts.seq + 1; changed = c.in_ok-id.id.at }) c.requires.whole c.in_ok-id.id.at c.in_ok-id.ensures.ok.relation.below
+    (subst (λ (o : AddOutcome). AddsTo c.in_ok-id.id.at c.args.row.now c.args.parts.now (Ok o) c.put_row.new.parts) c.in-Ok-First.field-0-is c.in-Ok-First.ensures.adds).1.has.carries c.put_row.ensures.rest.readers c.put_row.ensures.rest.order
+    (same_names c.args.parts.now.catalog c.put_row.new.parts.catalog c.in_ok-id.id.at (with_row (counted_at c.args.parts.now.catalog.relations c.in_ok-id.id.at) c.args.row.now) c.in_ok-id.ensures.ok.relation.below (subst (λ (o : AddOutcome). AddsTo c.in_ok-id.id.at c.args.row.now c.args.parts.now (Ok o) c.put_row.new.parts) c.in-Ok-First.field-0-is c.in-Ok-First.ensures.adds).1.has.relations)
 
 pub returns-clause-whole : goal.returns-clause-whole
 returns-clause-whole g c =
-    (aged c.args.parts.now (record c.put_row.new.parts { seq = c.put_row.new.parts.seq + 1; changed = c.in-Some.id.at }) c.requires.whole c.in-Some.id.at (subst (λ (j : Option RelationId). JudgesAdd c.args.parts.now.catalog.relations c.args.name.now c.args.row.now c.args.parts.now.seq j) c.in-Some.is c.in_ok-judged.ensures.ok).relation.below
-    c.in-Ok.ensures.ok.has.carries c.put_row.ensures.rest.readers c.put_row.ensures.rest.order
-    (same_names c.args.parts.now.catalog c.put_row.new.parts.catalog c.in-Some.id.at (rows_at c.args.parts.now.catalog.relations c.in-Some.id.at ++ c.args.row.now ∷ []) (subst (λ (j : Option RelationId). JudgesAdd c.args.parts.now.catalog.relations c.args.name.now c.args.row.now c.args.parts.now.seq j) c.in-Some.is c.in_ok-judged.ensures.ok).relation.below c.in-Ok.ensures.ok.has.relations) c.age_readers-2.new.parts c.args.name.now (subst (λ (j : Option RelationId). JudgesAdd c.args.parts.now.catalog.relations c.args.name.now c.args.row.now c.args.parts.now.seq j) c.in-Some.is c.in_ok-judged.ensures.ok).relation.named c.age_readers-2.ensures).whole
+    (aged c.args.parts.now (record c.put_row.new.parts { seq = c.put_row.new.parts.seq + 1; changed = c.in_ok-id.id.at }) c.requires.whole c.in_ok-id.id.at c.in_ok-id.ensures.ok.relation.below
+    (subst (λ (o : AddOutcome). AddsTo c.in_ok-id.id.at c.args.row.now c.args.parts.now (Ok o) c.put_row.new.parts) c.in-Ok-First.field-0-is c.in-Ok-First.ensures.adds).1.has.carries c.put_row.ensures.rest.readers c.put_row.ensures.rest.order
+    (same_names c.args.parts.now.catalog c.put_row.new.parts.catalog c.in_ok-id.id.at (with_row (counted_at c.args.parts.now.catalog.relations c.in_ok-id.id.at) c.args.row.now) c.in_ok-id.ensures.ok.relation.below (subst (λ (o : AddOutcome). AddsTo c.in_ok-id.id.at c.args.row.now c.args.parts.now (Ok o) c.put_row.new.parts) c.in-Ok-First.field-0-is c.in-Ok-First.ensures.adds).1.has.relations) c.age_readers-2.new.parts c.args.name.now c.in_ok-id.ensures.ok.relation.named c.age_readers-2.ensures).whole
 
 pub returns-clause-outdates : goal.returns-clause-outdates
 returns-clause-outdates g c =
-    (aged c.args.parts.now (record c.put_row.new.parts { seq = c.put_row.new.parts.seq + 1; changed = c.in-Some.id.at }) c.requires.whole c.in-Some.id.at (subst (λ (j : Option RelationId). JudgesAdd c.args.parts.now.catalog.relations c.args.name.now c.args.row.now c.args.parts.now.seq j) c.in-Some.is c.in_ok-judged.ensures.ok).relation.below
-    c.in-Ok.ensures.ok.has.carries c.put_row.ensures.rest.readers c.put_row.ensures.rest.order
-    (same_names c.args.parts.now.catalog c.put_row.new.parts.catalog c.in-Some.id.at (rows_at c.args.parts.now.catalog.relations c.in-Some.id.at ++ c.args.row.now ∷ []) (subst (λ (j : Option RelationId). JudgesAdd c.args.parts.now.catalog.relations c.args.name.now c.args.row.now c.args.parts.now.seq j) c.in-Some.is c.in_ok-judged.ensures.ok).relation.below c.in-Ok.ensures.ok.has.relations) c.age_readers-2.new.parts c.args.name.now (subst (λ (j : Option RelationId). JudgesAdd c.args.parts.now.catalog.relations c.args.name.now c.args.row.now c.args.parts.now.seq j) c.in-Some.is c.in_ok-judged.ensures.ok).relation.named c.age_readers-2.ensures).cursors
+    (aged c.args.parts.now (record c.put_row.new.parts { seq = c.put_row.new.parts.seq + 1; changed = c.in_ok-id.id.at }) c.requires.whole c.in_ok-id.id.at c.in_ok-id.ensures.ok.relation.below
+    (subst (λ (o : AddOutcome). AddsTo c.in_ok-id.id.at c.args.row.now c.args.parts.now (Ok o) c.put_row.new.parts) c.in-Ok-First.field-0-is c.in-Ok-First.ensures.adds).1.has.carries c.put_row.ensures.rest.readers c.put_row.ensures.rest.order
+    (same_names c.args.parts.now.catalog c.put_row.new.parts.catalog c.in_ok-id.id.at (with_row (counted_at c.args.parts.now.catalog.relations c.in_ok-id.id.at) c.args.row.now) c.in_ok-id.ensures.ok.relation.below (subst (λ (o : AddOutcome). AddsTo c.in_ok-id.id.at c.args.row.now c.args.parts.now (Ok o) c.put_row.new.parts) c.in-Ok-First.field-0-is c.in-Ok-First.ensures.adds).1.has.relations) c.age_readers-2.new.parts c.args.name.now c.in_ok-id.ensures.ok.relation.named c.age_readers-2.ensures).cursors
 
 pub returns-clause-adds : goal.returns-clause-adds
 returns-clause-adds g c =
-    add_done c.args.parts.now c.args.name.now c.args.row.now c.in-Some.id.at (subst (λ (j : Option RelationId). JudgesAdd c.args.parts.now.catalog.relations c.args.name.now c.args.row.now c.args.parts.now.seq j) c.in-Some.is c.in_ok-judged.ensures.ok) c.names_tell.ensures c.laws.ensures.names c.put_row.new.parts c.age_readers-2.new.parts
-    c.in-Ok.ensures.ok c.age_readers-2.ensures.catalog (c.age_readers-2.ensures.rest.seq ∙ ap (λ n. n + 1) c.put_row.ensures.rest.seq)
-    (aged c.args.parts.now (record c.put_row.new.parts { seq = c.put_row.new.parts.seq + 1; changed = c.in-Some.id.at }) c.requires.whole c.in-Some.id.at (subst (λ (j : Option RelationId). JudgesAdd c.args.parts.now.catalog.relations c.args.name.now c.args.row.now c.args.parts.now.seq j) c.in-Some.is c.in_ok-judged.ensures.ok).relation.below
-    c.in-Ok.ensures.ok.has.carries c.put_row.ensures.rest.readers c.put_row.ensures.rest.order
-    (same_names c.args.parts.now.catalog c.put_row.new.parts.catalog c.in-Some.id.at (rows_at c.args.parts.now.catalog.relations c.in-Some.id.at ++ c.args.row.now ∷ []) (subst (λ (j : Option RelationId). JudgesAdd c.args.parts.now.catalog.relations c.args.name.now c.args.row.now c.args.parts.now.seq j) c.in-Some.is c.in_ok-judged.ensures.ok).relation.below c.in-Ok.ensures.ok.has.relations) c.age_readers-2.new.parts c.args.name.now (subst (λ (j : Option RelationId). JudgesAdd c.args.parts.now.catalog.relations c.args.name.now c.args.row.now c.args.parts.now.seq j) c.in-Some.is c.in_ok-judged.ensures.ok).relation.named c.age_readers-2.ensures).queries
+    add_done c.args.parts.now c.args.name.now c.args.row.now c.in_ok-id.id.at c.in_ok-id.ensures.ok c.names_tell.ensures c.laws.ensures.names c.put_row.new.parts c.age_readers-2.new.parts
+    (subst (λ (o : AddOutcome). AddsTo c.in_ok-id.id.at c.args.row.now c.args.parts.now (Ok o) c.put_row.new.parts) c.in-Ok-First.field-0-is c.in-Ok-First.ensures.adds).0
+    (subst (λ (o : AddOutcome). AddsTo c.in_ok-id.id.at c.args.row.now c.args.parts.now (Ok o) c.put_row.new.parts) c.in-Ok-First.field-0-is c.in-Ok-First.ensures.adds).1 c.age_readers-2.ensures.catalog (c.age_readers-2.ensures.rest.seq ∙ ap (λ n. n + 1) c.put_row.ensures.rest.seq)
+    (aged c.args.parts.now (record c.put_row.new.parts { seq = c.put_row.new.parts.seq + 1; changed = c.in_ok-id.id.at }) c.requires.whole c.in_ok-id.id.at c.in_ok-id.ensures.ok.relation.below
+    (subst (λ (o : AddOutcome). AddsTo c.in_ok-id.id.at c.args.row.now c.args.parts.now (Ok o) c.put_row.new.parts) c.in-Ok-First.field-0-is c.in-Ok-First.ensures.adds).1.has.carries c.put_row.ensures.rest.readers c.put_row.ensures.rest.order
+    (same_names c.args.parts.now.catalog c.put_row.new.parts.catalog c.in_ok-id.id.at (with_row (counted_at c.args.parts.now.catalog.relations c.in_ok-id.id.at) c.args.row.now) c.in_ok-id.ensures.ok.relation.below (subst (λ (o : AddOutcome). AddsTo c.in_ok-id.id.at c.args.row.now c.args.parts.now (Ok o) c.put_row.new.parts) c.in-Ok-First.field-0-is c.in-Ok-First.ensures.adds).1.has.relations) c.age_readers-2.new.parts c.args.name.now c.in_ok-id.ensures.ok.relation.named c.age_readers-2.ensures).queries
 
 pub returns-in-Err-NoMem-clause-adds : goal.returns-in-Err-NoMem-clause-adds
 returns-in-Err-NoMem-clause-adds g c =
-    add_lacking c.args.parts.now c.args.name.now c.args.row.now c.in-Some.id.at (subst (λ (j : Option RelationId). JudgesAdd c.args.parts.now.catalog.relations c.args.name.now c.args.row.now c.args.parts.now.seq j) c.in-Some.is c.in_ok-judged.ensures.ok) c.put_row.new.parts c.age_readers.new.parts
-    (subst (λ (r : InternRefusal). Lacks c.in-Some.id.at c.args.row.now c.args.parts.now c.put_row.new.parts r) c.in-Err-NoMem.field-0-is c.in-Err-NoMem.ensures.err) c.age_readers.ensures.catalog (c.age_readers.ensures.rest.seq ∙ c.put_row.ensures.rest.seq)
+    add_lacking c.args.parts.now c.args.name.now c.args.row.now c.in_ok-id.id.at c.in_ok-id.ensures.ok c.put_row.new.parts c.age_readers.new.parts
+    (subst (λ (r : InternRefusal). AddsTo c.in_ok-id.id.at c.args.row.now c.args.parts.now (Err r) c.put_row.new.parts) c.in-Err-NoMem.field-0-is c.in-Err-NoMem.ensures.adds).0
+    (subst (λ (r : InternRefusal). AddsTo c.in_ok-id.id.at c.args.row.now c.args.parts.now (Err r) c.put_row.new.parts) c.in-Err-NoMem.field-0-is c.in-Err-NoMem.ensures.adds).1 c.age_readers.ensures.catalog (c.age_readers.ensures.rest.seq ∙ c.put_row.ensures.rest.seq)
     (aged c.args.parts.now (record c.put_row.new.parts { logs = c.empty_logs.new.logs }) c.requires.whole
-    c.in-Some.id.at (subst (λ (j : Option RelationId). JudgesAdd c.args.parts.now.catalog.relations c.args.name.now
-    c.args.row.now c.args.parts.now.seq j) c.in-Some.is c.in_ok-judged.ensures.ok).relation.below
-    (subst (λ (r : InternRefusal). Lacks c.in-Some.id.at c.args.row.now c.args.parts.now c.put_row.new.parts r) c.in-Err-NoMem.field-0-is c.in-Err-NoMem.ensures.err).carries c.put_row.ensures.rest.readers c.put_row.ensures.rest.order
-    (names_kept c.args.parts.now.catalog c.put_row.new.parts.catalog (subst (λ (r : InternRefusal). Lacks c.in-Some.id.at c.args.row.now c.args.parts.now c.put_row.new.parts r) c.in-Err-NoMem.field-0-is c.in-Err-NoMem.ensures.err).relations) c.age_readers.new.parts c.args.name.now (subst (λ (j : Option RelationId). JudgesAdd c.args.parts.now.catalog.relations c.args.name.now c.args.row.now c.args.parts.now.seq j) c.in-Some.is c.in_ok-judged.ensures.ok).relation.named c.age_readers.ensures).queries
+    c.in_ok-id.id.at c.in_ok-id.ensures.ok.relation.below
+    (subst (λ (r : InternRefusal). AddsTo c.in_ok-id.id.at c.args.row.now c.args.parts.now (Err r) c.put_row.new.parts) c.in-Err-NoMem.field-0-is c.in-Err-NoMem.ensures.adds).1.carries c.put_row.ensures.rest.readers c.put_row.ensures.rest.order
+    (names_kept c.args.parts.now.catalog c.put_row.new.parts.catalog (subst (λ (r : InternRefusal). AddsTo c.in_ok-id.id.at c.args.row.now c.args.parts.now (Err r) c.put_row.new.parts) c.in-Err-NoMem.field-0-is c.in-Err-NoMem.ensures.adds).1.relations) c.age_readers.new.parts c.args.name.now c.in_ok-id.ensures.ok.relation.named c.age_readers.ensures).queries
 
-pub returns-in_err-judged-clause-tells : goal.returns-in_err-judged-clause-tells
-returns-in_err-judged-clause-tells g c =
+pub returns-in_err-id-clause-tells : goal.returns-in_err-id-clause-tells
+returns-in_err-id-clause-tells g c =
     let old = c.args.parts.now in
     let h : IfErr c.from_residual.result (λ (r : Refusal). add_refusal (bare old.catalog.relations old.seq) c.args.name.now c.args.row.now ≡ Some r) = search rules in
     add_refused_tells old c.args.name.now c.args.row.now c.from_residual.result c.from_residual.ensures.0 h c.args.steps.now.listing
 
-pub returns-in_default-clause-tells : goal.returns-in_default-clause-tells
-returns-in_default-clause-tells g c =
-    let old = c.args.parts.now in
-    tells_nothing (kept_in old) (kept_in old) c.args.steps.now.listing
-    c.args.steps.now.listing (omega arith) refl (λ id h. refl)
-
 pub returns-in-Err-Full-clause-tended : goal.returns-in-Err-Full-clause-tended
 returns-in-Err-Full-clause-tended g c =
-    tended_still c.args.parts.now c.put_row.new.parts c.requires.tended c.put_row.ensures.rest (subst (λ (r : InternRefusal). Lacks c.in-Some.id.at c.args.row.now c.args.parts.now c.put_row.new.parts r) c.in-Err-Full.field-0-is c.in-Err-Full.ensures.err).rests.queries c.put_row.ensures.shown
+    tended_still c.args.parts.now c.put_row.new.parts c.requires.tended c.put_row.ensures.rest (subst (λ (r : InternRefusal). AddsTo c.in_ok-id.id.at c.args.row.now c.args.parts.now (Err r) c.put_row.new.parts) c.in-Err-Full.field-0-is c.in-Err-Full.ensures.adds).rests.queries c.put_row.ensures.shown
 
 pub returns-in-Err-Full-clause-watches : goal.returns-in-Err-Full-clause-watches
 returns-in-Err-Full-clause-watches g c =
-    registered_still c.args.parts.now c.put_row.new.parts c.put_row.ensures.rest (subst (λ (r : InternRefusal). Lacks c.in-Some.id.at c.args.row.now c.args.parts.now c.put_row.new.parts r) c.in-Err-Full.field-0-is c.in-Err-Full.ensures.err).rests.queries
+    registered_still c.args.parts.now c.put_row.new.parts c.put_row.ensures.rest (subst (λ (r : InternRefusal). AddsTo c.in_ok-id.id.at c.args.row.now c.args.parts.now (Err r) c.put_row.new.parts) c.in-Err-Full.field-0-is c.in-Err-Full.ensures.adds).rests.queries
 
 pub returns-in-Err-Full-clause-tells : goal.returns-in-Err-Full-clause-tells
 returns-in-Err-Full-clause-tells g c =
     let old = c.args.parts.now in
     tells_nothing (kept_in old) (kept_in c.put_row.new.parts) c.args.steps.now.listing c.put_row.new.steps.listing
-    (subst (λ (r : InternRefusal). Idles c.args.steps.now.listing c.put_row.new.steps.listing r) c.in-Err-Full.field-0-is c.in-Err-Full.ensures.idle)
+    (subst (λ (r : InternRefusal). IfStill (Err r) (c.put_row.new.steps.listing ≤ c.args.steps.now.listing)) c.in-Err-Full.field-0-is c.in-Err-Full.ensures.idle)
     (affected_same old c.put_row.new.parts c.put_row.ensures.rest.readers c.put_row.ensures.rest.changed)
-    (λ id h. told_full c.showable_stays.ensures c.texts_stay.ensures old c.put_row.new.parts c.args.row.now
-    (subst (λ (r : InternRefusal). Lacks c.in-Some.id.at c.args.row.now c.args.parts.now c.put_row.new.parts r)
-    c.in-Err-Full.field-0-is c.in-Err-Full.ensures.err) c.requires.tended id.at)
+    (λ id h. told_full c.showable_stays.ensures c.texts_stay.ensures old c.put_row.new.parts c.in_ok-id.id.at c.args.row.now
+    (subst (λ (r : InternRefusal). AddsTo c.in_ok-id.id.at c.args.row.now c.args.parts.now (Err r) c.put_row.new.parts) c.in-Err-Full.field-0-is c.in-Err-Full.ensures.adds) c.requires.tended id.at)
 
 pub returns-in-Err-NoMem-clause-tended : goal.returns-in-Err-NoMem-clause-tended
 returns-in-Err-NoMem-clause-tended g c =
     tended_now c.args.parts.now (record c.put_row.new.parts { logs = c.empty_logs.new.logs }) c.age_readers.new.parts
-    c.in-Some.id.at c.args.name.now (subst (λ (r : InternRefusal). Lacks c.in-Some.id.at c.args.row.now
-    c.args.parts.now c.put_row.new.parts r) c.in-Err-NoMem.field-0-is c.in-Err-NoMem.ensures.err).carries
+    c.in_ok-id.id.at c.args.name.now (subst (λ (r : InternRefusal). AddsTo c.in_ok-id.id.at c.args.row.now c.args.parts.now (Err r) c.put_row.new.parts) c.in-Err-NoMem.field-0-is c.in-Err-NoMem.ensures.adds).1.carries
     c.put_row.ensures.rest.watchers c.put_row.ensures.rest.order (c.empty_logs.ensures.long
     ∙ c.put_row.ensures.rest.long) c.age_readers.ensures c.requires.tended
     (shown_emptied c.put_row.new.parts.catalog.texts c.args.parts.now.queries.items c.as_slice.result.now
@@ -174,9 +179,8 @@ returns-in-Err-NoMem-clause-tended g c =
 pub returns-in-Err-NoMem-clause-watches : goal.returns-in-Err-NoMem-clause-watches
 returns-in-Err-NoMem-clause-watches g c =
     registered_now c.args.parts.now (record c.put_row.new.parts { logs = c.empty_logs.new.logs })
-    c.age_readers.new.parts c.in-Some.id.at c.args.name.now
-    (subst (λ (r : InternRefusal). Lacks c.in-Some.id.at c.args.row.now c.args.parts.now c.put_row.new.parts r)
-    c.in-Err-NoMem.field-0-is c.in-Err-NoMem.ensures.err).carries
+    c.age_readers.new.parts c.in_ok-id.id.at c.args.name.now
+    (subst (λ (r : InternRefusal). AddsTo c.in_ok-id.id.at c.args.row.now c.args.parts.now (Err r) c.put_row.new.parts) c.in-Err-NoMem.field-0-is c.in-Err-NoMem.ensures.adds).1.carries
     c.put_row.ensures.rest.watchers c.put_row.ensures.rest.order (c.empty_logs.ensures.long
     ∙ c.put_row.ensures.rest.long) c.age_readers.ensures
 
@@ -185,71 +189,68 @@ returns-in-Err-NoMem-clause-tells g c =
     let old = c.args.parts.now in
     let mid = c.put_row.new.parts in
     let new = c.age_readers.new.parts in
-    let lacks = (subst (λ (r : InternRefusal). Lacks c.in-Some.id.at c.args.row.now c.args.parts.now
-    c.put_row.new.parts r) c.in-Err-NoMem.field-0-is c.in-Err-NoMem.ensures.err) in
-    let m = (subst (λ (j : Option RelationId). JudgesAdd c.args.parts.now.catalog.relations c.args.name.now
-    c.args.row.now c.args.parts.now.seq j) c.in-Some.is c.in_ok-judged.ensures.ok) in
-    let alike = alike_now old (record mid { logs = c.empty_logs.new.logs }) new c.in-Some.id.at c.args.name.now
+    let lacks = (subst (λ (r : InternRefusal). AddsTo c.in_ok-id.id.at c.args.row.now c.args.parts.now (Err r) c.put_row.new.parts) c.in-Err-NoMem.field-0-is c.in-Err-NoMem.ensures.adds).1 in
+    let m = c.in_ok-id.ensures.ok in
+    let alike = alike_now old (record mid { logs = c.empty_logs.new.logs }) new c.in_ok-id.id.at c.args.name.now
     lacks.carries
     c.put_row.ensures.rest.watchers c.put_row.ensures.rest.order (c.empty_logs.ensures.long
     ∙ c.put_row.ensures.rest.long) c.age_readers.ensures in
-    let places = places_read mid.readers.items c.in-Some.id.at c.index.result.now c.as_slice.result.now
-    (readers_within old mid c.requires.whole c.in-Some.id.at m.relation.below c.put_row.ensures.rest.readers)
+    let places = places_read mid.readers.items c.in_ok-id.id.at c.index.result.now c.as_slice.result.now
+    (readers_within old mid c.requires.whole c.in_ok-id.id.at m.relation.below c.put_row.ensures.rest.readers)
     c.index.ensures c.as_slice.ensures in
     let empties = subst (λ (ps : List ℕ). Empties ps mid.logs.items c.empty_logs.new.logs.items) places
     c.empty_logs.ensures in
-    adds_refused old c.requires.whole c.args.name.now c.args.row.now c.in-Some.id.at m.relation c.deltas_exist.ensures
+    adds_refused old c.requires.whole c.args.name.now c.args.row.now c.in_ok-id.id.at m.relation c.deltas_exist.ensures
     c.heads_are_bound.ensures c.names_tell.ensures c.laws.ensures.names
-    c.args.steps.now.listing c.put_row.new.steps.listing c.put_row.ensures.counted new
+    c.args.steps.now.listing c.put_row.new.steps.listing (subst (λ (r : InternRefusal). IfLacking (Err r) (CountsRows c.in_ok-id.id.at (with_row (counted_at c.args.parts.now.catalog.relations c.in_ok-id.id.at) c.args.row.now) c.args.parts.now c.args.steps.now.listing c.put_row.new.steps.listing)) c.in-Err-NoMem.field-0-is c.in-Err-NoMem.ensures.listed) new
     (affected_same old new (c.age_readers.ensures.rest.readers ∙ c.put_row.ensures.rest.readers)
     (c.age_readers.ensures.rest.changed ∙ c.put_row.ensures.rest.changed))
-    (discards_by old mid new c.requires.whole c.in-Some.id.at m.relation.below c.put_row.ensures.rest.readers
-    c.in-Err-NoMem.ensures.apart
-    (subst (λ (ls : List Log). Empties (readers_at mid.readers.items c.in-Some.id.at) mid.logs.items ls)
+    (discards_by old mid new c.requires.whole c.in_ok-id.id.at m.relation.below c.put_row.ensures.rest.readers
+    (subst (λ (r : InternRefusal). IfLacking (Err r) (KeepsLogs (reads_at c.args.parts.now c.in_ok-id.id.at) c.args.parts.now c.put_row.new.parts)) c.in-Err-NoMem.field-0-is c.in-Err-NoMem.ensures.apart)
+    (subst (λ (ls : List Log). Empties (readers_at mid.readers.items c.in_ok-id.id.at) mid.logs.items ls)
     (sym c.age_readers.ensures.logs) empties) alike)
-    (told_lacking c.showable_stays.ensures c.texts_stay.ensures old mid new c.in-Some.id.at c.args.row.now lacks
+    (told_lacking c.showable_stays.ensures c.texts_stay.ensures old mid new c.in_ok-id.id.at c.args.row.now lacks
     c.age_readers.ensures.catalog c.requires.tended alike)
 
 pub returns-clause-tended : goal.returns-clause-tended
 returns-clause-tended g c =
-    tended_now c.args.parts.now (record c.put_row.new.parts { seq = c.put_row.new.parts.seq + 1; changed = c.in-Some.id.at }) c.age_readers-2.new.parts c.in-Some.id.at c.args.name.now c.in-Ok.ensures.ok.has.carries
+    tended_now c.args.parts.now (record c.put_row.new.parts { seq = c.put_row.new.parts.seq + 1; changed = c.in_ok-id.id.at }) c.age_readers-2.new.parts c.in_ok-id.id.at c.args.name.now (subst (λ (o : AddOutcome). AddsTo c.in_ok-id.id.at c.args.row.now c.args.parts.now (Ok o) c.put_row.new.parts) c.in-Ok-First.field-0-is c.in-Ok-First.ensures.adds).1.has.carries
     c.put_row.ensures.rest.watchers c.put_row.ensures.rest.order c.put_row.ensures.rest.long c.age_readers-2.ensures c.requires.tended c.put_row.ensures.shown
 
 pub returns-clause-watches : goal.returns-clause-watches
 returns-clause-watches g c =
-    registered_now c.args.parts.now (record c.put_row.new.parts { seq = c.put_row.new.parts.seq + 1; changed = c.in-Some.id.at }) c.age_readers-2.new.parts c.in-Some.id.at c.args.name.now c.in-Ok.ensures.ok.has.carries
+    registered_now c.args.parts.now (record c.put_row.new.parts { seq = c.put_row.new.parts.seq + 1; changed = c.in_ok-id.id.at }) c.age_readers-2.new.parts c.in_ok-id.id.at c.args.name.now (subst (λ (o : AddOutcome). AddsTo c.in_ok-id.id.at c.args.row.now c.args.parts.now (Ok o) c.put_row.new.parts) c.in-Ok-First.field-0-is c.in-Ok-First.ensures.adds).1.has.carries
     c.put_row.ensures.rest.watchers c.put_row.ensures.rest.order c.put_row.ensures.rest.long c.age_readers-2.ensures
 
 pub returns-clause-tells : goal.returns-clause-tells
 returns-clause-tells g c =
-    adds_done c.args.parts.now c.requires.whole c.args.name.now c.args.row.now c.in-Some.id.at (subst (λ (j : Option RelationId). JudgesAdd c.args.parts.now.catalog.relations c.args.name.now c.args.row.now c.args.parts.now.seq j) c.in-Some.is c.in_ok-judged.ensures.ok).relation c.deltas_exist.ensures c.heads_are_bound.ensures c.names_tell.ensures c.laws.ensures.names
+    adds_done c.args.parts.now c.requires.whole c.args.name.now c.args.row.now c.in_ok-id.id.at c.in_ok-id.ensures.ok.relation c.deltas_exist.ensures c.heads_are_bound.ensures c.names_tell.ensures c.laws.ensures.names
     c.args.steps.now.listing c.put_row.new.steps.listing
-    (record c.put_row.new.parts { seq = c.put_row.new.parts.seq + 1; changed = c.in-Some.id.at }) c.age_readers-2.new.parts c.age_readers-2.ensures.logs c.age_readers-2.ensures.catalog
+    (record c.put_row.new.parts { seq = c.put_row.new.parts.seq + 1; changed = c.in_ok-id.id.at }) c.age_readers-2.new.parts c.age_readers-2.ensures.logs c.age_readers-2.ensures.catalog
     (alike_now c.args.parts.now (record c.put_row.new.parts {
       seq = c.put_row.new.parts.seq + 1;
-      changed = c.in-Some.id.at;
-    }) c.age_readers-2.new.parts c.in-Some.id.at c.args.name.now
-    c.in-Ok.ensures.ok.has.carries
+      changed = c.in_ok-id.id.at;
+    }) c.age_readers-2.new.parts c.in_ok-id.id.at c.args.name.now
+    (subst (λ (o : AddOutcome). AddsTo c.in_ok-id.id.at c.args.row.now c.args.parts.now (Ok o) c.put_row.new.parts) c.in-Ok-First.field-0-is c.in-Ok-First.ensures.adds).1.has.carries
     c.put_row.ensures.rest.watchers c.put_row.ensures.rest.order c.put_row.ensures.rest.long c.age_readers-2.ensures)
     (c.age_readers-2.ensures.rest.readers ∙ c.put_row.ensures.rest.readers) c.age_readers-2.ensures.rest.changed
-    c.in-Ok.ensures.quiet
+    (subst (λ (o : AddOutcome). IfCame (Ok o) (KeepsLogs (tells_at c.args.parts.now c.in_ok-id.id.at) c.args.parts.now c.put_row.new.parts)) c.in-Ok-First.field-0-is c.in-Ok-First.ensures.quiet)
     (told_put c.showable_stays.ensures c.texts_stay.ensures c.args.parts.now c.put_row.new.parts
-    c.age_readers-2.new.parts c.in-Some.id.at c.args.row.now c.in-Ok.ensures.ok c.age_readers-2.ensures.catalog
+    c.age_readers-2.new.parts c.in_ok-id.id.at c.args.row.now (subst (λ (o : AddOutcome). AddsTo c.in_ok-id.id.at c.args.row.now c.args.parts.now (Ok o) c.put_row.new.parts) c.in-Ok-First.field-0-is c.in-Ok-First.ensures.adds).1 c.age_readers-2.ensures.catalog
     c.requires.tended
     (alike_now c.args.parts.now (record c.put_row.new.parts {
       seq = c.put_row.new.parts.seq + 1;
-      changed = c.in-Some.id.at;
-    }) c.age_readers-2.new.parts c.in-Some.id.at c.args.name.now
-    c.in-Ok.ensures.ok.has.carries
+      changed = c.in_ok-id.id.at;
+    }) c.age_readers-2.new.parts c.in_ok-id.id.at c.args.name.now
+    (subst (λ (o : AddOutcome). AddsTo c.in_ok-id.id.at c.args.row.now c.args.parts.now (Ok o) c.put_row.new.parts) c.in-Ok-First.field-0-is c.in-Ok-First.ensures.adds).1.has.carries
     c.put_row.ensures.rest.watchers c.put_row.ensures.rest.order c.put_row.ensures.rest.long c.age_readers-2.ensures))
-    c.put_row.ensures.counted c.in-Ok.ensures.tells
+    (subst (λ (o : AddOutcome). IfCame (Ok o) (CountsRows c.in_ok-id.id.at (with_row (counted_at c.args.parts.now.catalog.relations c.in_ok-id.id.at) c.args.row.now) c.args.parts.now c.args.steps.now.listing c.put_row.new.steps.listing)) c.in-Ok-First.field-0-is c.in-Ok-First.ensures.counted) (subst (λ (o : AddOutcome). IfCame (Ok o) (TellsRows c.in_ok-id.id.at (with_row (counted_at c.args.parts.now.catalog.relations c.in_ok-id.id.at) c.args.row.now) c.args.parts.now c.put_row.new.parts)) c.in-Ok-First.field-0-is c.in-Ok-First.ensures.tells)
 
 pub index-requires : goal.index-requires
 index-requires g c = omega (
   arith,
   readers_within c.args.parts.now c.put_row.new.parts c.requires.whole
-      c.in-Some.id.at (subst (λ (j : Option RelationId). JudgesAdd c.args.parts.now.catalog.relations c.args.name.now
-      c.args.row.now c.args.parts.now.seq j) c.in-Some.is c.in_ok-judged.ensures.ok).relation.below
+      c.in_ok-id.id.at c.in_ok-id.ensures.ok.relation.below
       c.put_row.ensures.rest.readers,
   c.put_row.new.parts.readers.ok.0,
 )
@@ -259,40 +260,75 @@ empty_logs-requires g c =
     let old = c.args.parts.now in
     let mid = c.put_row.new.parts in
     subst (λ (ps : List ℕ). HaveLogs ps mid.logs.items)
-    (sym (places_read mid.readers.items c.in-Some.id.at c.index.result.now c.as_slice.result.now
-    (readers_within old mid c.requires.whole c.in-Some.id.at
-    (subst (λ (j : Option RelationId). JudgesAdd c.args.parts.now.catalog.relations c.args.name.now c.args.row.now
-    c.args.parts.now.seq j) c.in-Some.is c.in_ok-judged.ensures.ok).relation.below c.put_row.ensures.rest.readers)
+    (sym (places_read mid.readers.items c.in_ok-id.id.at c.index.result.now c.as_slice.result.now
+    (readers_within old mid c.requires.whole c.in_ok-id.id.at
+    c.in_ok-id.ensures.ok.relation.below c.put_row.ensures.rest.readers)
     c.index.ensures c.as_slice.ensures))
-    (have_logs old mid c.requires.whole c.in-Some.id.at
-    (subst (λ (j : Option RelationId). JudgesAdd c.args.parts.now.catalog.relations c.args.name.now c.args.row.now
-    c.args.parts.now.seq j) c.in-Some.is c.in_ok-judged.ensures.ok).relation.below c.requires.tended
+    (have_logs old mid c.requires.whole c.in_ok-id.id.at
+    c.in_ok-id.ensures.ok.relation.below c.requires.tended
     c.put_row.ensures.rest)
 
-pub returns-in_err-judged-clause-updates : goal.returns-in_err-judged-clause-updates
-returns-in_err-judged-clause-updates g c = record { counted = λ n flat few. omega arith }
-
-pub returns-in_default-clause-updates : goal.returns-in_default-clause-updates
-returns-in_default-clause-updates g c = record { counted = λ n flat few. omega arith }
+pub returns-in_err-id-clause-updates : goal.returns-in_err-id-clause-updates
+returns-in_err-id-clause-updates g c = record { counted = λ n flat few. omega arith }
 
 pub returns-in-Err-Full-clause-updates : goal.returns-in-Err-Full-clause-updates
 returns-in-Err-Full-clause-updates g c =
-    let still = subst (λ (r : InternRefusal). Idles c.args.steps.now.update c.put_row.new.steps.update r)
-    c.in-Err-Full.field-0-is c.in-Err-Full.ensures.unmoved in
+    let still = subst (λ (r : InternRefusal). IfStill (Err r) (c.put_row.new.steps.update ≤ c.args.steps.now.update)) c.in-Err-Full.field-0-is c.in-Err-Full.ensures.unmoved in
     record { counted = λ n flat few. omega (arith, still) }
 
 pub returns-in-Err-NoMem-clause-updates : goal.returns-in-Err-NoMem-clause-updates
 returns-in-Err-NoMem-clause-updates g c =
-    let m = (subst (λ (j : Option RelationId). JudgesAdd c.args.parts.now.catalog.relations c.args.name.now
-    c.args.row.now c.args.parts.now.seq j) c.in-Some.is c.in_ok-judged.ensures.ok) in
-    counts_updates c.args.parts.now c.requires.whole c.in-Some.id.at m.relation.below c.args.name.now m.relation.named
+    let m = c.in_ok-id.ensures.ok in
+    counts_updates c.args.parts.now c.requires.whole c.in_ok-id.id.at m.relation.below c.args.name.now m.relation.named
     _ c.leaves_are_small.ensures
-    3 c.args.steps.now.update c.put_row.new.steps.update c.in-Err-NoMem.ensures.refusal
+    3 c.args.steps.now.update c.put_row.new.steps.update (subst (λ (r : InternRefusal). IfLacking (Err r) (WorksRows c.in_ok-id.id.at 3 c.args.parts.now c.args.steps.now.update c.put_row.new.steps.update)) c.in-Err-NoMem.field-0-is c.in-Err-NoMem.ensures.refusal)
 
 pub returns-clause-updates : goal.returns-clause-updates
 returns-clause-updates g c =
-    let m = (subst (λ (j : Option RelationId). JudgesAdd c.args.parts.now.catalog.relations c.args.name.now
-    c.args.row.now c.args.parts.now.seq j) c.in-Some.is c.in_ok-judged.ensures.ok) in
-    counts_updates c.args.parts.now c.requires.whole c.in-Some.id.at m.relation.below c.args.name.now m.relation.named
+    let m = c.in_ok-id.ensures.ok in
+    counts_updates c.args.parts.now c.requires.whole c.in_ok-id.id.at m.relation.below c.args.name.now m.relation.named
     _ c.leaves_are_small.ensures
-    1 c.args.steps.now.update c.put_row.new.steps.update c.in-Ok.ensures.updates
+    1 c.args.steps.now.update c.put_row.new.steps.update (subst (λ (o : AddOutcome). IfCame (Ok o) (WorksRows c.in_ok-id.id.at 1 c.args.parts.now c.args.steps.now.update c.put_row.new.steps.update)) c.in-Ok-First.field-0-is c.in-Ok-First.ensures.updates)
+
+pub returns-in-Ok-More-clause-whole : goal.returns-in-Ok-More-clause-whole
+returns-in-Ok-More-clause-whole g c =
+    let more = (subst (λ (o : AddOutcome). AddsTo c.in_ok-id.id.at c.args.row.now c.args.parts.now (Ok o) c.put_row.new.parts) c.in-Ok-More.field-0-is c.in-Ok-More.ensures.adds) in
+    copied_whole c.args.parts.now c.put_row.new.parts c.in_ok-id.id.at c.args.row.now c.in-Ok-More.copies c.requires.whole
+    c.in_ok-id.ensures.ok.relation.below more.has c.put_row.ensures.rest
+
+pub returns-in-Ok-More-clause-tended : goal.returns-in-Ok-More-clause-tended
+returns-in-Ok-More-clause-tended g c =
+    let more = (subst (λ (o : AddOutcome). AddsTo c.in_ok-id.id.at c.args.row.now c.args.parts.now (Ok o) c.put_row.new.parts) c.in-Ok-More.field-0-is c.in-Ok-More.ensures.adds) in
+    tended_still c.args.parts.now c.put_row.new.parts c.requires.tended c.put_row.ensures.rest more.has.queries
+    c.put_row.ensures.shown
+
+pub returns-in-Ok-More-clause-adds : goal.returns-in-Ok-More-clause-adds
+returns-in-Ok-More-clause-adds g c =
+    let more = (subst (λ (o : AddOutcome). AddsTo c.in_ok-id.id.at c.args.row.now c.args.parts.now (Ok o) c.put_row.new.parts) c.in-Ok-More.field-0-is c.in-Ok-More.ensures.adds) in
+    add_further c.args.parts.now c.args.name.now c.args.row.now c.in_ok-id.id.at c.in_ok-id.ensures.ok
+    c.names_tell.ensures c.laws.ensures.names c.put_row.new.parts c.in-Ok-More.copies more
+    c.put_row.ensures.rest.order c.put_row.ensures.rest.seq
+
+pub returns-in-Ok-More-clause-outdates : goal.returns-in-Ok-More-clause-outdates
+returns-in-Ok-More-clause-outdates g c =
+    let more = (subst (λ (o : AddOutcome). AddsTo c.in_ok-id.id.at c.args.row.now c.args.parts.now (Ok o) c.put_row.new.parts) c.in-Ok-More.field-0-is c.in-Ok-More.ensures.adds) in
+    copied_cursors c.args.parts.now c.put_row.new.parts c.in_ok-id.id.at c.args.row.now c.in-Ok-More.copies more.has
+
+pub returns-in-Ok-More-clause-watches : goal.returns-in-Ok-More-clause-watches
+returns-in-Ok-More-clause-watches g c =
+    let more = (subst (λ (o : AddOutcome). AddsTo c.in_ok-id.id.at c.args.row.now c.args.parts.now (Ok o) c.put_row.new.parts) c.in-Ok-More.field-0-is c.in-Ok-More.ensures.adds) in
+    registered_still c.args.parts.now c.put_row.new.parts c.put_row.ensures.rest more.has.queries
+
+pub returns-in-Ok-More-clause-tells : goal.returns-in-Ok-More-clause-tells
+returns-in-Ok-More-clause-tells g c =
+    let more = (subst (λ (o : AddOutcome). AddsTo c.in_ok-id.id.at c.args.row.now c.args.parts.now (Ok o) c.put_row.new.parts) c.in-Ok-More.field-0-is c.in-Ok-More.ensures.adds) in
+    let new = c.put_row.new.parts in
+    tells_nothing (kept_in c.args.parts.now) (kept_in new) c.args.steps.now.listing c.put_row.new.steps.listing
+    (subst (λ (o : AddOutcome). IfStill (Ok o) (c.put_row.new.steps.listing ≤ c.args.steps.now.listing)) c.in-Ok-More.field-0-is c.in-Ok-More.ensures.idle)
+    (affected_same c.args.parts.now new c.put_row.ensures.rest.readers c.put_row.ensures.rest.changed)
+    (λ id h. told_same c.args.parts.now new more.has.texts more.has.queries more.has.logs id.at)
+
+pub returns-in-Ok-More-clause-updates : goal.returns-in-Ok-More-clause-updates
+returns-in-Ok-More-clause-updates g c =
+    let still = (subst (λ (o : AddOutcome). IfStill (Ok o) (c.put_row.new.steps.update ≤ c.args.steps.now.update)) c.in-Ok-More.field-0-is c.in-Ok-More.ensures.unmoved) in
+    record { counted = λ n flat few. omega (arith, still) }

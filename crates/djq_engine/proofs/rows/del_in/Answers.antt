@@ -1,67 +1,93 @@
-use Rattle.std.proofs.Common.{ℕ, List, ◌+◌, ◌∙◌, ap, arith, refl, sym, subst}
+use Rattle.std.proofs.Common.{ℕ, zero, List, ◌+◌, ◌≤◌, ◌∙◌, ap, ap₂, arith, refl, sym, subst}
 use Rattle.std.specs.Prelude.{Option}
-use Rattle.djq_model.specs.Data.{without_row}
-use Rattle.djq_engine.specs.Whole.{kept_in}
-use Rattle.djq_rows.specs.Catalog.{rows_at}
+use Rattle.djq_model.specs.Data.{Tuple, without_copies}
+use Rattle.djq_lines.specs.declared.answer.DeleteOutcome.{DeleteOutcome}
+use Rattle.djq_rows.specs.Catalog.{Catalog, StandForRow, counted_at}
+use Rattle.djq_live.specs.Live.{Live}
 use Rattle.djq_engine.specs.declared.judge.Deletion.{Deletion}
+use Rattle.djq_engine.specs.Kept.{held_at}
+use Rattle.djq_engine.specs.Places.{held_from}
 use Rattle.djq_engine.specs.Judging.{JudgesDelete}
-use Rattle.djq_engine.specs.Changing.{IsOld}
-use Rattle.djq_engine.proofs.Adding.{aged, delete_done, mid_once, mid_there, old_row, same_names}
-use Rattle.djq_engine.proofs.Reporting.{alike_now, delete_refused_tells, deletes_done, registered_now, tells_nothing, tended_now, told_drop}
+use Rattle.djq_engine.specs.Changing.{
+  CountsRows,
+  DeletesFrom,
+  IfNoneWent,
+  IfWent,
+  KeepsLogs,
+  TellsRows,
+  WorksRows,
+  tells_at,
+}
+use Rattle.djq_engine.specs.Whole.{kept_in}
+use Rattle.djq_engine.proofs.Adding.{
+  aged,
+  copied_cursors,
+  copied_whole,
+  delete_done,
+  delete_none,
+  delete_one,
+  mid_once,
+  mid_there,
+  same_names,
+  same_whole,
+  stands,
+}
+use Rattle.djq_engine.proofs.Reporting.{
+  affected_same,
+  alike_now,
+  delete_refused_tells,
+  deletes_done,
+  registered_now,
+  registered_still,
+  tells_nothing,
+  tended_now,
+  tended_still,
+  told_drop,
+  told_same,
+}
 use Rattle.djq_engine.proofs.Working.{counts_updates}
 use Rattle.djq_engine.proofs.rows.del_in.Goals as goal
 
 pub age_readers-requires-clause-once : goal.age_readers-requires-clause-once
 age_readers-requires-clause-once g c =
     mid_once c.args.parts.now (record c.drop_cells.new.parts { seq = c.drop_cells.new.parts.seq + 1; changed = c.in-Some.found.relation.at }) c.requires.whole c.in-Some.found.relation.at (subst (λ (j : Option Deletion). JudgesDelete c.args.parts.now.catalog c.args.name.now c.args.row.now c.args.parts.now.seq j) c.in-Some.is c.in_ok-judged.ensures.ok).relation.below
-    (c.drop_cells.ensures.drops c.args.row.now
-    (subst (λ (cells : List ℕ). IsOld c.args.parts.now.catalog c.in-Some.found.relation.at cells c.args.row.now) (sym c.as_slice.ensures)
-    (old_row c.args.parts.now c.args.name.now c.args.row.now c.in-Some.found (subst (λ (j : Option Deletion). JudgesDelete c.args.parts.now.catalog c.args.name.now c.args.row.now c.args.parts.now.seq j) c.in-Some.is c.in_ok-judged.ensures.ok)))).has.carries c.drop_cells.ensures.rest.readers c.drop_cells.ensures.rest.order
-    (same_names c.args.parts.now.catalog c.drop_cells.new.parts.catalog c.in-Some.found.relation.at (without_row (rows_at c.args.parts.now.catalog.relations c.in-Some.found.relation.at) c.args.row.now) (subst (λ (j : Option Deletion). JudgesDelete c.args.parts.now.catalog c.args.name.now c.args.row.now c.args.parts.now.seq j) c.in-Some.is c.in_ok-judged.ensures.ok).relation.below (c.drop_cells.ensures.drops c.args.row.now
-    (subst (λ (cells : List ℕ). IsOld c.args.parts.now.catalog c.in-Some.found.relation.at cells c.args.row.now) (sym c.as_slice.ensures)
-    (old_row c.args.parts.now c.args.name.now c.args.row.now c.in-Some.found (subst (λ (j : Option Deletion). JudgesDelete c.args.parts.now.catalog c.args.name.now c.args.row.now c.args.parts.now.seq j) c.in-Some.is c.in_ok-judged.ensures.ok)))).has.relations)
+    (subst (λ (o : DeleteOutcome). DeletesFrom c.in-Some.found.relation.at c.args.row.now c.args.parts.now o c.drop_cells.new.parts) c.in-Last.is (c.drop_cells.ensures.deletes c.args.row.now (subst (λ (cells : List ℕ). StandForRow c.args.parts.now.catalog c.in-Some.found.relation.at cells c.args.row.now) (sym c.as_slice.ensures)
+    (stands c.args.parts.now c.args.name.now c.args.row.now c.in-Some.found (subst (λ (j : Option Deletion). JudgesDelete c.args.parts.now.catalog c.args.name.now c.args.row.now c.args.parts.now.seq j) c.in-Some.is c.in_ok-judged.ensures.ok))))).2.has.carries c.drop_cells.ensures.rest.readers c.drop_cells.ensures.rest.order
+    (same_names c.args.parts.now.catalog c.drop_cells.new.parts.catalog c.in-Some.found.relation.at (without_copies (counted_at c.args.parts.now.catalog.relations c.in-Some.found.relation.at) c.args.row.now) (subst (λ (j : Option Deletion). JudgesDelete c.args.parts.now.catalog c.args.name.now c.args.row.now c.args.parts.now.seq j) c.in-Some.is c.in_ok-judged.ensures.ok).relation.below (subst (λ (o : DeleteOutcome). DeletesFrom c.in-Some.found.relation.at c.args.row.now c.args.parts.now o c.drop_cells.new.parts) c.in-Last.is (c.drop_cells.ensures.deletes c.args.row.now (subst (λ (cells : List ℕ). StandForRow c.args.parts.now.catalog c.in-Some.found.relation.at cells c.args.row.now) (sym c.as_slice.ensures)
+    (stands c.args.parts.now c.args.name.now c.args.row.now c.in-Some.found (subst (λ (j : Option Deletion). JudgesDelete c.args.parts.now.catalog c.args.name.now c.args.row.now c.args.parts.now.seq j) c.in-Some.is c.in_ok-judged.ensures.ok))))).2.has.relations)
 
 pub age_readers-requires-clause-there : goal.age_readers-requires-clause-there
 age_readers-requires-clause-there g c =
     mid_there c.args.parts.now (record c.drop_cells.new.parts { seq = c.drop_cells.new.parts.seq + 1; changed = c.in-Some.found.relation.at }) c.requires.whole c.in-Some.found.relation.at (subst (λ (j : Option Deletion). JudgesDelete c.args.parts.now.catalog c.args.name.now c.args.row.now c.args.parts.now.seq j) c.in-Some.is c.in_ok-judged.ensures.ok).relation.below
-    (c.drop_cells.ensures.drops c.args.row.now
-    (subst (λ (cells : List ℕ). IsOld c.args.parts.now.catalog c.in-Some.found.relation.at cells c.args.row.now) (sym c.as_slice.ensures)
-    (old_row c.args.parts.now c.args.name.now c.args.row.now c.in-Some.found (subst (λ (j : Option Deletion). JudgesDelete c.args.parts.now.catalog c.args.name.now c.args.row.now c.args.parts.now.seq j) c.in-Some.is c.in_ok-judged.ensures.ok)))).has.carries c.drop_cells.ensures.rest.readers c.drop_cells.ensures.rest.order
-    (same_names c.args.parts.now.catalog c.drop_cells.new.parts.catalog c.in-Some.found.relation.at (without_row (rows_at c.args.parts.now.catalog.relations c.in-Some.found.relation.at) c.args.row.now) (subst (λ (j : Option Deletion). JudgesDelete c.args.parts.now.catalog c.args.name.now c.args.row.now c.args.parts.now.seq j) c.in-Some.is c.in_ok-judged.ensures.ok).relation.below (c.drop_cells.ensures.drops c.args.row.now
-    (subst (λ (cells : List ℕ). IsOld c.args.parts.now.catalog c.in-Some.found.relation.at cells c.args.row.now) (sym c.as_slice.ensures)
-    (old_row c.args.parts.now c.args.name.now c.args.row.now c.in-Some.found (subst (λ (j : Option Deletion). JudgesDelete c.args.parts.now.catalog c.args.name.now c.args.row.now c.args.parts.now.seq j) c.in-Some.is c.in_ok-judged.ensures.ok)))).has.relations)
+    (subst (λ (o : DeleteOutcome). DeletesFrom c.in-Some.found.relation.at c.args.row.now c.args.parts.now o c.drop_cells.new.parts) c.in-Last.is (c.drop_cells.ensures.deletes c.args.row.now (subst (λ (cells : List ℕ). StandForRow c.args.parts.now.catalog c.in-Some.found.relation.at cells c.args.row.now) (sym c.as_slice.ensures)
+    (stands c.args.parts.now c.args.name.now c.args.row.now c.in-Some.found (subst (λ (j : Option Deletion). JudgesDelete c.args.parts.now.catalog c.args.name.now c.args.row.now c.args.parts.now.seq j) c.in-Some.is c.in_ok-judged.ensures.ok))))).2.has.carries c.drop_cells.ensures.rest.readers c.drop_cells.ensures.rest.order
+    (same_names c.args.parts.now.catalog c.drop_cells.new.parts.catalog c.in-Some.found.relation.at (without_copies (counted_at c.args.parts.now.catalog.relations c.in-Some.found.relation.at) c.args.row.now) (subst (λ (j : Option Deletion). JudgesDelete c.args.parts.now.catalog c.args.name.now c.args.row.now c.args.parts.now.seq j) c.in-Some.is c.in_ok-judged.ensures.ok).relation.below (subst (λ (o : DeleteOutcome). DeletesFrom c.in-Some.found.relation.at c.args.row.now c.args.parts.now o c.drop_cells.new.parts) c.in-Last.is (c.drop_cells.ensures.deletes c.args.row.now (subst (λ (cells : List ℕ). StandForRow c.args.parts.now.catalog c.in-Some.found.relation.at cells c.args.row.now) (sym c.as_slice.ensures)
+    (stands c.args.parts.now c.args.name.now c.args.row.now c.in-Some.found (subst (λ (j : Option Deletion). JudgesDelete c.args.parts.now.catalog c.args.name.now c.args.row.now c.args.parts.now.seq j) c.in-Some.is c.in_ok-judged.ensures.ok))))).2.has.relations)
 
 pub returns-clause-whole : goal.returns-clause-whole
 returns-clause-whole g c = (aged c.args.parts.now (record c.drop_cells.new.parts { seq = c.drop_cells.new.parts.seq + 1; changed = c.in-Some.found.relation.at }) c.requires.whole c.in-Some.found.relation.at (subst (λ (j : Option Deletion). JudgesDelete c.args.parts.now.catalog c.args.name.now c.args.row.now c.args.parts.now.seq j) c.in-Some.is c.in_ok-judged.ensures.ok).relation.below
-    (c.drop_cells.ensures.drops c.args.row.now
-    (subst (λ (cells : List ℕ). IsOld c.args.parts.now.catalog c.in-Some.found.relation.at cells c.args.row.now) (sym c.as_slice.ensures)
-    (old_row c.args.parts.now c.args.name.now c.args.row.now c.in-Some.found (subst (λ (j : Option Deletion). JudgesDelete c.args.parts.now.catalog c.args.name.now c.args.row.now c.args.parts.now.seq j) c.in-Some.is c.in_ok-judged.ensures.ok)))).has.carries c.drop_cells.ensures.rest.readers c.drop_cells.ensures.rest.order
-    (same_names c.args.parts.now.catalog c.drop_cells.new.parts.catalog c.in-Some.found.relation.at (without_row (rows_at c.args.parts.now.catalog.relations c.in-Some.found.relation.at) c.args.row.now) (subst (λ (j : Option Deletion). JudgesDelete c.args.parts.now.catalog c.args.name.now c.args.row.now c.args.parts.now.seq j) c.in-Some.is c.in_ok-judged.ensures.ok).relation.below (c.drop_cells.ensures.drops c.args.row.now
-    (subst (λ (cells : List ℕ). IsOld c.args.parts.now.catalog c.in-Some.found.relation.at cells c.args.row.now) (sym c.as_slice.ensures)
-    (old_row c.args.parts.now c.args.name.now c.args.row.now c.in-Some.found (subst (λ (j : Option Deletion). JudgesDelete c.args.parts.now.catalog c.args.name.now c.args.row.now c.args.parts.now.seq j) c.in-Some.is c.in_ok-judged.ensures.ok)))).has.relations) c.age_readers.new.parts c.args.name.now (subst (λ (j : Option Deletion). JudgesDelete c.args.parts.now.catalog c.args.name.now c.args.row.now c.args.parts.now.seq j) c.in-Some.is c.in_ok-judged.ensures.ok).relation.named c.age_readers.ensures).whole
+    (subst (λ (o : DeleteOutcome). DeletesFrom c.in-Some.found.relation.at c.args.row.now c.args.parts.now o c.drop_cells.new.parts) c.in-Last.is (c.drop_cells.ensures.deletes c.args.row.now (subst (λ (cells : List ℕ). StandForRow c.args.parts.now.catalog c.in-Some.found.relation.at cells c.args.row.now) (sym c.as_slice.ensures)
+    (stands c.args.parts.now c.args.name.now c.args.row.now c.in-Some.found (subst (λ (j : Option Deletion). JudgesDelete c.args.parts.now.catalog c.args.name.now c.args.row.now c.args.parts.now.seq j) c.in-Some.is c.in_ok-judged.ensures.ok))))).2.has.carries c.drop_cells.ensures.rest.readers c.drop_cells.ensures.rest.order
+    (same_names c.args.parts.now.catalog c.drop_cells.new.parts.catalog c.in-Some.found.relation.at (without_copies (counted_at c.args.parts.now.catalog.relations c.in-Some.found.relation.at) c.args.row.now) (subst (λ (j : Option Deletion). JudgesDelete c.args.parts.now.catalog c.args.name.now c.args.row.now c.args.parts.now.seq j) c.in-Some.is c.in_ok-judged.ensures.ok).relation.below (subst (λ (o : DeleteOutcome). DeletesFrom c.in-Some.found.relation.at c.args.row.now c.args.parts.now o c.drop_cells.new.parts) c.in-Last.is (c.drop_cells.ensures.deletes c.args.row.now (subst (λ (cells : List ℕ). StandForRow c.args.parts.now.catalog c.in-Some.found.relation.at cells c.args.row.now) (sym c.as_slice.ensures)
+    (stands c.args.parts.now c.args.name.now c.args.row.now c.in-Some.found (subst (λ (j : Option Deletion). JudgesDelete c.args.parts.now.catalog c.args.name.now c.args.row.now c.args.parts.now.seq j) c.in-Some.is c.in_ok-judged.ensures.ok))))).2.has.relations) c.age_readers.new.parts c.args.name.now (subst (λ (j : Option Deletion). JudgesDelete c.args.parts.now.catalog c.args.name.now c.args.row.now c.args.parts.now.seq j) c.in-Some.is c.in_ok-judged.ensures.ok).relation.named c.age_readers.ensures).whole
 
 pub returns-clause-deletes : goal.returns-clause-deletes
 returns-clause-deletes g c =
     delete_done c.args.parts.now c.args.name.now c.args.row.now c.in-Some.found (subst (λ (j : Option Deletion). JudgesDelete c.args.parts.now.catalog c.args.name.now c.args.row.now c.args.parts.now.seq j) c.in-Some.is c.in_ok-judged.ensures.ok) c.names_tell.ensures c.laws.ensures.names c.drop_cells.new.parts c.age_readers.new.parts
-    (c.drop_cells.ensures.drops c.args.row.now
-    (subst (λ (cells : List ℕ). IsOld c.args.parts.now.catalog c.in-Some.found.relation.at cells c.args.row.now) (sym c.as_slice.ensures)
-    (old_row c.args.parts.now c.args.name.now c.args.row.now c.in-Some.found (subst (λ (j : Option Deletion). JudgesDelete c.args.parts.now.catalog c.args.name.now c.args.row.now c.args.parts.now.seq j) c.in-Some.is c.in_ok-judged.ensures.ok)))) c.age_readers.ensures.catalog (c.age_readers.ensures.rest.seq ∙ ap (λ n. n + 1) c.drop_cells.ensures.rest.seq)
+    (subst (λ (o : DeleteOutcome). DeletesFrom c.in-Some.found.relation.at c.args.row.now c.args.parts.now o c.drop_cells.new.parts) c.in-Last.is (c.drop_cells.ensures.deletes c.args.row.now (subst (λ (cells : List ℕ). StandForRow c.args.parts.now.catalog c.in-Some.found.relation.at cells c.args.row.now) (sym c.as_slice.ensures)
+    (stands c.args.parts.now c.args.name.now c.args.row.now c.in-Some.found (subst (λ (j : Option Deletion). JudgesDelete c.args.parts.now.catalog c.args.name.now c.args.row.now c.args.parts.now.seq j) c.in-Some.is c.in_ok-judged.ensures.ok))))) c.age_readers.ensures.catalog (c.age_readers.ensures.rest.seq ∙ ap (λ n. n + 1) c.drop_cells.ensures.rest.seq)
     (aged c.args.parts.now (record c.drop_cells.new.parts { seq = c.drop_cells.new.parts.seq + 1; changed = c.in-Some.found.relation.at }) c.requires.whole c.in-Some.found.relation.at (subst (λ (j : Option Deletion). JudgesDelete c.args.parts.now.catalog c.args.name.now c.args.row.now c.args.parts.now.seq j) c.in-Some.is c.in_ok-judged.ensures.ok).relation.below
-    (c.drop_cells.ensures.drops c.args.row.now
-    (subst (λ (cells : List ℕ). IsOld c.args.parts.now.catalog c.in-Some.found.relation.at cells c.args.row.now) (sym c.as_slice.ensures)
-    (old_row c.args.parts.now c.args.name.now c.args.row.now c.in-Some.found (subst (λ (j : Option Deletion). JudgesDelete c.args.parts.now.catalog c.args.name.now c.args.row.now c.args.parts.now.seq j) c.in-Some.is c.in_ok-judged.ensures.ok)))).has.carries c.drop_cells.ensures.rest.readers c.drop_cells.ensures.rest.order
-    (same_names c.args.parts.now.catalog c.drop_cells.new.parts.catalog c.in-Some.found.relation.at (without_row (rows_at c.args.parts.now.catalog.relations c.in-Some.found.relation.at) c.args.row.now) (subst (λ (j : Option Deletion). JudgesDelete c.args.parts.now.catalog c.args.name.now c.args.row.now c.args.parts.now.seq j) c.in-Some.is c.in_ok-judged.ensures.ok).relation.below (c.drop_cells.ensures.drops c.args.row.now
-    (subst (λ (cells : List ℕ). IsOld c.args.parts.now.catalog c.in-Some.found.relation.at cells c.args.row.now) (sym c.as_slice.ensures)
-    (old_row c.args.parts.now c.args.name.now c.args.row.now c.in-Some.found (subst (λ (j : Option Deletion). JudgesDelete c.args.parts.now.catalog c.args.name.now c.args.row.now c.args.parts.now.seq j) c.in-Some.is c.in_ok-judged.ensures.ok)))).has.relations) c.age_readers.new.parts c.args.name.now (subst (λ (j : Option Deletion). JudgesDelete c.args.parts.now.catalog c.args.name.now c.args.row.now c.args.parts.now.seq j) c.in-Some.is c.in_ok-judged.ensures.ok).relation.named c.age_readers.ensures).queries
+    (subst (λ (o : DeleteOutcome). DeletesFrom c.in-Some.found.relation.at c.args.row.now c.args.parts.now o c.drop_cells.new.parts) c.in-Last.is (c.drop_cells.ensures.deletes c.args.row.now (subst (λ (cells : List ℕ). StandForRow c.args.parts.now.catalog c.in-Some.found.relation.at cells c.args.row.now) (sym c.as_slice.ensures)
+    (stands c.args.parts.now c.args.name.now c.args.row.now c.in-Some.found (subst (λ (j : Option Deletion). JudgesDelete c.args.parts.now.catalog c.args.name.now c.args.row.now c.args.parts.now.seq j) c.in-Some.is c.in_ok-judged.ensures.ok))))).2.has.carries c.drop_cells.ensures.rest.readers c.drop_cells.ensures.rest.order
+    (same_names c.args.parts.now.catalog c.drop_cells.new.parts.catalog c.in-Some.found.relation.at (without_copies (counted_at c.args.parts.now.catalog.relations c.in-Some.found.relation.at) c.args.row.now) (subst (λ (j : Option Deletion). JudgesDelete c.args.parts.now.catalog c.args.name.now c.args.row.now c.args.parts.now.seq j) c.in-Some.is c.in_ok-judged.ensures.ok).relation.below (subst (λ (o : DeleteOutcome). DeletesFrom c.in-Some.found.relation.at c.args.row.now c.args.parts.now o c.drop_cells.new.parts) c.in-Last.is (c.drop_cells.ensures.deletes c.args.row.now (subst (λ (cells : List ℕ). StandForRow c.args.parts.now.catalog c.in-Some.found.relation.at cells c.args.row.now) (sym c.as_slice.ensures)
+    (stands c.args.parts.now c.args.name.now c.args.row.now c.in-Some.found (subst (λ (j : Option Deletion). JudgesDelete c.args.parts.now.catalog c.args.name.now c.args.row.now c.args.parts.now.seq j) c.in-Some.is c.in_ok-judged.ensures.ok))))).2.has.relations) c.age_readers.new.parts c.args.name.now (subst (λ (j : Option Deletion). JudgesDelete c.args.parts.now.catalog c.args.name.now c.args.row.now c.args.parts.now.seq j) c.in-Some.is c.in_ok-judged.ensures.ok).relation.named c.age_readers.ensures).queries
 
 pub returns-clause-outdates : goal.returns-clause-outdates
 returns-clause-outdates g c = (aged c.args.parts.now (record c.drop_cells.new.parts { seq = c.drop_cells.new.parts.seq + 1; changed = c.in-Some.found.relation.at }) c.requires.whole c.in-Some.found.relation.at (subst (λ (j : Option Deletion). JudgesDelete c.args.parts.now.catalog c.args.name.now c.args.row.now c.args.parts.now.seq j) c.in-Some.is c.in_ok-judged.ensures.ok).relation.below
-    (c.drop_cells.ensures.drops c.args.row.now
-    (subst (λ (cells : List ℕ). IsOld c.args.parts.now.catalog c.in-Some.found.relation.at cells c.args.row.now) (sym c.as_slice.ensures)
-    (old_row c.args.parts.now c.args.name.now c.args.row.now c.in-Some.found (subst (λ (j : Option Deletion). JudgesDelete c.args.parts.now.catalog c.args.name.now c.args.row.now c.args.parts.now.seq j) c.in-Some.is c.in_ok-judged.ensures.ok)))).has.carries c.drop_cells.ensures.rest.readers c.drop_cells.ensures.rest.order
-    (same_names c.args.parts.now.catalog c.drop_cells.new.parts.catalog c.in-Some.found.relation.at (without_row (rows_at c.args.parts.now.catalog.relations c.in-Some.found.relation.at) c.args.row.now) (subst (λ (j : Option Deletion). JudgesDelete c.args.parts.now.catalog c.args.name.now c.args.row.now c.args.parts.now.seq j) c.in-Some.is c.in_ok-judged.ensures.ok).relation.below (c.drop_cells.ensures.drops c.args.row.now
-    (subst (λ (cells : List ℕ). IsOld c.args.parts.now.catalog c.in-Some.found.relation.at cells c.args.row.now) (sym c.as_slice.ensures)
-    (old_row c.args.parts.now c.args.name.now c.args.row.now c.in-Some.found (subst (λ (j : Option Deletion). JudgesDelete c.args.parts.now.catalog c.args.name.now c.args.row.now c.args.parts.now.seq j) c.in-Some.is c.in_ok-judged.ensures.ok)))).has.relations) c.age_readers.new.parts c.args.name.now (subst (λ (j : Option Deletion). JudgesDelete c.args.parts.now.catalog c.args.name.now c.args.row.now c.args.parts.now.seq j) c.in-Some.is c.in_ok-judged.ensures.ok).relation.named c.age_readers.ensures).cursors
+    (subst (λ (o : DeleteOutcome). DeletesFrom c.in-Some.found.relation.at c.args.row.now c.args.parts.now o c.drop_cells.new.parts) c.in-Last.is (c.drop_cells.ensures.deletes c.args.row.now (subst (λ (cells : List ℕ). StandForRow c.args.parts.now.catalog c.in-Some.found.relation.at cells c.args.row.now) (sym c.as_slice.ensures)
+    (stands c.args.parts.now c.args.name.now c.args.row.now c.in-Some.found (subst (λ (j : Option Deletion). JudgesDelete c.args.parts.now.catalog c.args.name.now c.args.row.now c.args.parts.now.seq j) c.in-Some.is c.in_ok-judged.ensures.ok))))).2.has.carries c.drop_cells.ensures.rest.readers c.drop_cells.ensures.rest.order
+    (same_names c.args.parts.now.catalog c.drop_cells.new.parts.catalog c.in-Some.found.relation.at (without_copies (counted_at c.args.parts.now.catalog.relations c.in-Some.found.relation.at) c.args.row.now) (subst (λ (j : Option Deletion). JudgesDelete c.args.parts.now.catalog c.args.name.now c.args.row.now c.args.parts.now.seq j) c.in-Some.is c.in_ok-judged.ensures.ok).relation.below (subst (λ (o : DeleteOutcome). DeletesFrom c.in-Some.found.relation.at c.args.row.now c.args.parts.now o c.drop_cells.new.parts) c.in-Last.is (c.drop_cells.ensures.deletes c.args.row.now (subst (λ (cells : List ℕ). StandForRow c.args.parts.now.catalog c.in-Some.found.relation.at cells c.args.row.now) (sym c.as_slice.ensures)
+    (stands c.args.parts.now c.args.name.now c.args.row.now c.in-Some.found (subst (λ (j : Option Deletion). JudgesDelete c.args.parts.now.catalog c.args.name.now c.args.row.now c.args.parts.now.seq j) c.in-Some.is c.in_ok-judged.ensures.ok))))).2.has.relations) c.age_readers.new.parts c.args.name.now (subst (λ (j : Option Deletion). JudgesDelete c.args.parts.now.catalog c.args.name.now c.args.row.now c.args.parts.now.seq j) c.in-Some.is c.in_ok-judged.ensures.ok).relation.named c.age_readers.ensures).cursors
 
 pub returns-in_err-judged-clause-tells : goal.returns-in_err-judged-clause-tells
 returns-in_err-judged-clause-tells g c =
@@ -76,18 +102,14 @@ returns-in_default-clause-tells g c =
 
 pub returns-clause-tended : goal.returns-clause-tended
 returns-clause-tended g c =
-    tended_now c.args.parts.now (record c.drop_cells.new.parts { seq = c.drop_cells.new.parts.seq + 1; changed = c.in-Some.found.relation.at }) c.age_readers.new.parts c.in-Some.found.relation.at c.args.name.now (c.drop_cells.ensures.drops c.args.row.now (subst (λ (cells : List ℕ). IsOld c.args.parts.now.catalog c.in-Some.found.relation.at cells c.args.row.now) (sym c.as_slice.ensures)
-    (old_row c.args.parts.now c.args.name.now c.args.row.now c.in-Some.found
-    (subst (λ (j : Option Deletion). JudgesDelete c.args.parts.now.catalog c.args.name.now c.args.row.now
-    c.args.parts.now.seq j) c.in-Some.is c.in_ok-judged.ensures.ok)))).has.carries
+    tended_now c.args.parts.now (record c.drop_cells.new.parts { seq = c.drop_cells.new.parts.seq + 1; changed = c.in-Some.found.relation.at }) c.age_readers.new.parts c.in-Some.found.relation.at c.args.name.now (subst (λ (o : DeleteOutcome). DeletesFrom c.in-Some.found.relation.at c.args.row.now c.args.parts.now o c.drop_cells.new.parts) c.in-Last.is (c.drop_cells.ensures.deletes c.args.row.now (subst (λ (cells : List ℕ). StandForRow c.args.parts.now.catalog c.in-Some.found.relation.at cells c.args.row.now) (sym c.as_slice.ensures)
+    (stands c.args.parts.now c.args.name.now c.args.row.now c.in-Some.found (subst (λ (j : Option Deletion). JudgesDelete c.args.parts.now.catalog c.args.name.now c.args.row.now c.args.parts.now.seq j) c.in-Some.is c.in_ok-judged.ensures.ok))))).2.has.carries
     c.drop_cells.ensures.rest.watchers c.drop_cells.ensures.rest.order c.drop_cells.ensures.rest.long c.age_readers.ensures c.requires.tended c.drop_cells.ensures.shown
 
 pub returns-clause-watches : goal.returns-clause-watches
 returns-clause-watches g c =
-    registered_now c.args.parts.now (record c.drop_cells.new.parts { seq = c.drop_cells.new.parts.seq + 1; changed = c.in-Some.found.relation.at }) c.age_readers.new.parts c.in-Some.found.relation.at c.args.name.now (c.drop_cells.ensures.drops c.args.row.now (subst (λ (cells : List ℕ). IsOld c.args.parts.now.catalog c.in-Some.found.relation.at cells c.args.row.now) (sym c.as_slice.ensures)
-    (old_row c.args.parts.now c.args.name.now c.args.row.now c.in-Some.found
-    (subst (λ (j : Option Deletion). JudgesDelete c.args.parts.now.catalog c.args.name.now c.args.row.now
-    c.args.parts.now.seq j) c.in-Some.is c.in_ok-judged.ensures.ok)))).has.carries
+    registered_now c.args.parts.now (record c.drop_cells.new.parts { seq = c.drop_cells.new.parts.seq + 1; changed = c.in-Some.found.relation.at }) c.age_readers.new.parts c.in-Some.found.relation.at c.args.name.now (subst (λ (o : DeleteOutcome). DeletesFrom c.in-Some.found.relation.at c.args.row.now c.args.parts.now o c.drop_cells.new.parts) c.in-Last.is (c.drop_cells.ensures.deletes c.args.row.now (subst (λ (cells : List ℕ). StandForRow c.args.parts.now.catalog c.in-Some.found.relation.at cells c.args.row.now) (sym c.as_slice.ensures)
+    (stands c.args.parts.now c.args.name.now c.args.row.now c.in-Some.found (subst (λ (j : Option Deletion). JudgesDelete c.args.parts.now.catalog c.args.name.now c.args.row.now c.args.parts.now.seq j) c.in-Some.is c.in_ok-judged.ensures.ok))))).2.has.carries
     c.drop_cells.ensures.rest.watchers c.drop_cells.ensures.rest.order c.drop_cells.ensures.rest.long c.age_readers.ensures
 
 pub returns-clause-tells : goal.returns-clause-tells
@@ -99,37 +121,25 @@ returns-clause-tells g c =
       seq = c.drop_cells.new.parts.seq + 1;
       changed = c.in-Some.found.relation.at;
     }) c.age_readers.new.parts c.in-Some.found.relation.at c.args.name.now
-    (c.drop_cells.ensures.drops c.args.row.now (subst
-    (λ (cells : List ℕ). IsOld c.args.parts.now.catalog c.in-Some.found.relation.at cells c.args.row.now)
-    (sym c.as_slice.ensures)
-    (old_row c.args.parts.now c.args.name.now c.args.row.now c.in-Some.found
-    (subst (λ (j : Option Deletion). JudgesDelete c.args.parts.now.catalog c.args.name.now c.args.row.now
-    c.args.parts.now.seq j) c.in-Some.is c.in_ok-judged.ensures.ok)))).has.carries
+    (subst (λ (o : DeleteOutcome). DeletesFrom c.in-Some.found.relation.at c.args.row.now c.args.parts.now o c.drop_cells.new.parts) c.in-Last.is (c.drop_cells.ensures.deletes c.args.row.now (subst (λ (cells : List ℕ). StandForRow c.args.parts.now.catalog c.in-Some.found.relation.at cells c.args.row.now) (sym c.as_slice.ensures)
+    (stands c.args.parts.now c.args.name.now c.args.row.now c.in-Some.found (subst (λ (j : Option Deletion). JudgesDelete c.args.parts.now.catalog c.args.name.now c.args.row.now c.args.parts.now.seq j) c.in-Some.is c.in_ok-judged.ensures.ok))))).2.has.carries
     c.drop_cells.ensures.rest.watchers c.drop_cells.ensures.rest.order c.drop_cells.ensures.rest.long c.age_readers.ensures)
     (c.age_readers.ensures.rest.readers ∙ c.drop_cells.ensures.rest.readers) c.age_readers.ensures.rest.changed
-    c.drop_cells.ensures.quiet
+    (subst (λ (o : DeleteOutcome). IfWent o (KeepsLogs (tells_at c.args.parts.now c.in-Some.found.relation.at) c.args.parts.now c.drop_cells.new.parts)) c.in-Last.is c.drop_cells.ensures.quiet)
     (told_drop c.showable_stays.ensures c.args.parts.now c.drop_cells.new.parts c.age_readers.new.parts
-    c.in-Some.found.relation.at c.args.row.now (c.drop_cells.ensures.drops c.args.row.now
-    (subst (λ (cells : List ℕ). IsOld c.args.parts.now.catalog c.in-Some.found.relation.at cells c.args.row.now)
-    (sym c.as_slice.ensures)
-    (old_row c.args.parts.now c.args.name.now c.args.row.now c.in-Some.found
-    (subst (λ (j : Option Deletion). JudgesDelete c.args.parts.now.catalog c.args.name.now c.args.row.now
-    c.args.parts.now.seq j) c.in-Some.is c.in_ok-judged.ensures.ok)))) c.age_readers.ensures.catalog c.requires.tended
+    c.in-Some.found.relation.at c.args.row.now (subst (λ (o : DeleteOutcome). DeletesFrom c.in-Some.found.relation.at c.args.row.now c.args.parts.now o c.drop_cells.new.parts) c.in-Last.is (c.drop_cells.ensures.deletes c.args.row.now (subst (λ (cells : List ℕ). StandForRow c.args.parts.now.catalog c.in-Some.found.relation.at cells c.args.row.now) (sym c.as_slice.ensures)
+    (stands c.args.parts.now c.args.name.now c.args.row.now c.in-Some.found (subst (λ (j : Option Deletion). JudgesDelete c.args.parts.now.catalog c.args.name.now c.args.row.now c.args.parts.now.seq j) c.in-Some.is c.in_ok-judged.ensures.ok))))).2 c.age_readers.ensures.catalog c.requires.tended
     (alike_now c.args.parts.now (record c.drop_cells.new.parts {
       seq = c.drop_cells.new.parts.seq + 1;
       changed = c.in-Some.found.relation.at;
     }) c.age_readers.new.parts c.in-Some.found.relation.at c.args.name.now
-    (c.drop_cells.ensures.drops c.args.row.now (subst
-    (λ (cells : List ℕ). IsOld c.args.parts.now.catalog c.in-Some.found.relation.at cells c.args.row.now)
-    (sym c.as_slice.ensures)
-    (old_row c.args.parts.now c.args.name.now c.args.row.now c.in-Some.found
-    (subst (λ (j : Option Deletion). JudgesDelete c.args.parts.now.catalog c.args.name.now c.args.row.now
-    c.args.parts.now.seq j) c.in-Some.is c.in_ok-judged.ensures.ok)))).has.carries
+    (subst (λ (o : DeleteOutcome). DeletesFrom c.in-Some.found.relation.at c.args.row.now c.args.parts.now o c.drop_cells.new.parts) c.in-Last.is (c.drop_cells.ensures.deletes c.args.row.now (subst (λ (cells : List ℕ). StandForRow c.args.parts.now.catalog c.in-Some.found.relation.at cells c.args.row.now) (sym c.as_slice.ensures)
+    (stands c.args.parts.now c.args.name.now c.args.row.now c.in-Some.found (subst (λ (j : Option Deletion). JudgesDelete c.args.parts.now.catalog c.args.name.now c.args.row.now c.args.parts.now.seq j) c.in-Some.is c.in_ok-judged.ensures.ok))))).2.has.carries
     c.drop_cells.ensures.rest.watchers c.drop_cells.ensures.rest.order c.drop_cells.ensures.rest.long
     c.age_readers.ensures))
-    (c.drop_cells.ensures.counted c.args.row.now (subst (λ (cells : List ℕ). IsOld c.args.parts.now.catalog c.in-Some.found.relation.at cells c.args.row.now) (sym c.as_slice.ensures)
-    (old_row c.args.parts.now c.args.name.now c.args.row.now c.in-Some.found (subst (λ (j : Option Deletion). JudgesDelete c.args.parts.now.catalog c.args.name.now c.args.row.now c.args.parts.now.seq j) c.in-Some.is c.in_ok-judged.ensures.ok)))) (c.drop_cells.ensures.tells c.args.row.now (subst (λ (cells : List ℕ). IsOld c.args.parts.now.catalog c.in-Some.found.relation.at cells c.args.row.now) (sym c.as_slice.ensures)
-    (old_row c.args.parts.now c.args.name.now c.args.row.now c.in-Some.found (subst (λ (j : Option Deletion). JudgesDelete c.args.parts.now.catalog c.args.name.now c.args.row.now c.args.parts.now.seq j) c.in-Some.is c.in_ok-judged.ensures.ok))))
+    ((subst (λ (o : DeleteOutcome). IfWent o ((r : Tuple) → StandForRow c.args.parts.now.catalog c.in-Some.found.relation.at c.as_slice.result.now r → CountsRows c.in-Some.found.relation.at (without_copies (counted_at c.args.parts.now.catalog.relations c.in-Some.found.relation.at) r) c.args.parts.now c.args.steps.now.listing c.drop_cells.new.steps.listing)) c.in-Last.is c.drop_cells.ensures.counted) c.args.row.now (subst (λ (cells : List ℕ). StandForRow c.args.parts.now.catalog c.in-Some.found.relation.at cells c.args.row.now) (sym c.as_slice.ensures)
+    (stands c.args.parts.now c.args.name.now c.args.row.now c.in-Some.found (subst (λ (j : Option Deletion). JudgesDelete c.args.parts.now.catalog c.args.name.now c.args.row.now c.args.parts.now.seq j) c.in-Some.is c.in_ok-judged.ensures.ok)))) ((subst (λ (o : DeleteOutcome). IfWent o ((r : Tuple) → StandForRow c.args.parts.now.catalog c.in-Some.found.relation.at c.as_slice.result.now r → TellsRows c.in-Some.found.relation.at (without_copies (counted_at c.args.parts.now.catalog.relations c.in-Some.found.relation.at) r) c.args.parts.now c.drop_cells.new.parts)) c.in-Last.is c.drop_cells.ensures.tells) c.args.row.now (subst (λ (cells : List ℕ). StandForRow c.args.parts.now.catalog c.in-Some.found.relation.at cells c.args.row.now) (sym c.as_slice.ensures)
+    (stands c.args.parts.now c.args.name.now c.args.row.now c.in-Some.found (subst (λ (j : Option Deletion). JudgesDelete c.args.parts.now.catalog c.args.name.now c.args.row.now c.args.parts.now.seq j) c.in-Some.is c.in_ok-judged.ensures.ok))))
 
 pub returns-in_err-judged-clause-updates : goal.returns-in_err-judged-clause-updates
 returns-in_err-judged-clause-updates g c = record { counted = λ n flat few. omega arith }
@@ -139,8 +149,95 @@ returns-in_default-clause-updates g c = record { counted = λ n flat few. omega 
 
 pub returns-clause-updates : goal.returns-clause-updates
 returns-clause-updates g c =
-    let m = (subst (λ (j : Option Deletion). JudgesDelete c.args.parts.now.catalog c.args.name.now c.args.row.now
-    c.args.parts.now.seq j) c.in-Some.is c.in_ok-judged.ensures.ok) in
+    let m = (subst (λ (j : Option Deletion). JudgesDelete c.args.parts.now.catalog c.args.name.now c.args.row.now c.args.parts.now.seq j) c.in-Some.is c.in_ok-judged.ensures.ok) in
     counts_updates c.args.parts.now c.requires.whole c.in-Some.found.relation.at m.relation.below c.args.name.now
     m.relation.named _ c.leaves_are_small.ensures
-    1 c.args.steps.now.update c.drop_cells.new.steps.update c.drop_cells.ensures.updates
+    1 c.args.steps.now.update c.drop_cells.new.steps.update (subst (λ (o : DeleteOutcome). IfWent o (WorksRows c.in-Some.found.relation.at 1 c.args.parts.now c.args.steps.now.update c.drop_cells.new.steps.update)) c.in-Last.is c.drop_cells.ensures.updates)
+
+pub returns-in-Left-clause-whole : goal.returns-in-Left-clause-whole
+returns-in-Left-clause-whole g c =
+    let gone = (subst (λ (o : DeleteOutcome). DeletesFrom c.in-Some.found.relation.at c.args.row.now c.args.parts.now o c.drop_cells.new.parts) c.in-Left.is (c.drop_cells.ensures.deletes c.args.row.now (subst (λ (cells : List ℕ). StandForRow c.args.parts.now.catalog c.in-Some.found.relation.at cells c.args.row.now) (sym c.as_slice.ensures)
+    (stands c.args.parts.now c.args.name.now c.args.row.now c.in-Some.found (subst (λ (j : Option Deletion). JudgesDelete c.args.parts.now.catalog c.args.name.now c.args.row.now c.args.parts.now.seq j) c.in-Some.is c.in_ok-judged.ensures.ok))))) in
+    copied_whole c.args.parts.now c.drop_cells.new.parts c.in-Some.found.relation.at c.args.row.now c.in-Left.copies c.requires.whole (subst (λ (j : Option Deletion). JudgesDelete c.args.parts.now.catalog c.args.name.now c.args.row.now c.args.parts.now.seq j) c.in-Some.is c.in_ok-judged.ensures.ok).relation.below gone.3 c.drop_cells.ensures.rest
+
+pub returns-in-Left-clause-tended : goal.returns-in-Left-clause-tended
+returns-in-Left-clause-tended g c =
+    let gone = (subst (λ (o : DeleteOutcome). DeletesFrom c.in-Some.found.relation.at c.args.row.now c.args.parts.now o c.drop_cells.new.parts) c.in-Left.is (c.drop_cells.ensures.deletes c.args.row.now (subst (λ (cells : List ℕ). StandForRow c.args.parts.now.catalog c.in-Some.found.relation.at cells c.args.row.now) (sym c.as_slice.ensures)
+    (stands c.args.parts.now c.args.name.now c.args.row.now c.in-Some.found (subst (λ (j : Option Deletion). JudgesDelete c.args.parts.now.catalog c.args.name.now c.args.row.now c.args.parts.now.seq j) c.in-Some.is c.in_ok-judged.ensures.ok))))) in
+    tended_still c.args.parts.now c.drop_cells.new.parts c.requires.tended c.drop_cells.ensures.rest gone.3.queries c.drop_cells.ensures.shown
+
+pub returns-in-Left-clause-deletes : goal.returns-in-Left-clause-deletes
+returns-in-Left-clause-deletes g c =
+    let gone = (subst (λ (o : DeleteOutcome). DeletesFrom c.in-Some.found.relation.at c.args.row.now c.args.parts.now o c.drop_cells.new.parts) c.in-Left.is (c.drop_cells.ensures.deletes c.args.row.now (subst (λ (cells : List ℕ). StandForRow c.args.parts.now.catalog c.in-Some.found.relation.at cells c.args.row.now) (sym c.as_slice.ensures)
+    (stands c.args.parts.now c.args.name.now c.args.row.now c.in-Some.found (subst (λ (j : Option Deletion). JudgesDelete c.args.parts.now.catalog c.args.name.now c.args.row.now c.args.parts.now.seq j) c.in-Some.is c.in_ok-judged.ensures.ok))))) in
+    delete_one c.args.parts.now c.args.name.now c.args.row.now c.in-Some.found (subst (λ (j : Option Deletion). JudgesDelete c.args.parts.now.catalog c.args.name.now c.args.row.now c.args.parts.now.seq j) c.in-Some.is c.in_ok-judged.ensures.ok) c.names_tell.ensures c.laws.ensures.names c.drop_cells.new.parts c.in-Left.copies gone c.drop_cells.ensures.rest.order c.drop_cells.ensures.rest.seq
+
+pub returns-in-Left-clause-outdates : goal.returns-in-Left-clause-outdates
+returns-in-Left-clause-outdates g c =
+    let gone = (subst (λ (o : DeleteOutcome). DeletesFrom c.in-Some.found.relation.at c.args.row.now c.args.parts.now o c.drop_cells.new.parts) c.in-Left.is (c.drop_cells.ensures.deletes c.args.row.now (subst (λ (cells : List ℕ). StandForRow c.args.parts.now.catalog c.in-Some.found.relation.at cells c.args.row.now) (sym c.as_slice.ensures)
+    (stands c.args.parts.now c.args.name.now c.args.row.now c.in-Some.found (subst (λ (j : Option Deletion). JudgesDelete c.args.parts.now.catalog c.args.name.now c.args.row.now c.args.parts.now.seq j) c.in-Some.is c.in_ok-judged.ensures.ok))))) in
+    copied_cursors c.args.parts.now c.drop_cells.new.parts c.in-Some.found.relation.at c.args.row.now c.in-Left.copies gone.3
+
+pub returns-in-Left-clause-watches : goal.returns-in-Left-clause-watches
+returns-in-Left-clause-watches g c =
+    let gone = (subst (λ (o : DeleteOutcome). DeletesFrom c.in-Some.found.relation.at c.args.row.now c.args.parts.now o c.drop_cells.new.parts) c.in-Left.is (c.drop_cells.ensures.deletes c.args.row.now (subst (λ (cells : List ℕ). StandForRow c.args.parts.now.catalog c.in-Some.found.relation.at cells c.args.row.now) (sym c.as_slice.ensures)
+    (stands c.args.parts.now c.args.name.now c.args.row.now c.in-Some.found (subst (λ (j : Option Deletion). JudgesDelete c.args.parts.now.catalog c.args.name.now c.args.row.now c.args.parts.now.seq j) c.in-Some.is c.in_ok-judged.ensures.ok))))) in
+    registered_still c.args.parts.now c.drop_cells.new.parts c.drop_cells.ensures.rest gone.3.queries
+
+pub returns-in-Left-clause-tells : goal.returns-in-Left-clause-tells
+returns-in-Left-clause-tells g c =
+    let gone = (subst (λ (o : DeleteOutcome). DeletesFrom c.in-Some.found.relation.at c.args.row.now c.args.parts.now o c.drop_cells.new.parts) c.in-Left.is (c.drop_cells.ensures.deletes c.args.row.now (subst (λ (cells : List ℕ). StandForRow c.args.parts.now.catalog c.in-Some.found.relation.at cells c.args.row.now) (sym c.as_slice.ensures)
+    (stands c.args.parts.now c.args.name.now c.args.row.now c.in-Some.found (subst (λ (j : Option Deletion). JudgesDelete c.args.parts.now.catalog c.args.name.now c.args.row.now c.args.parts.now.seq j) c.in-Some.is c.in_ok-judged.ensures.ok))))) in
+    tells_nothing (kept_in c.args.parts.now) (kept_in c.drop_cells.new.parts) c.args.steps.now.listing c.drop_cells.new.steps.listing
+    (subst (λ (o : DeleteOutcome). IfNoneWent o (c.drop_cells.new.steps.listing ≤ c.args.steps.now.listing)) c.in-Left.is c.drop_cells.ensures.idle)
+    (affected_same c.args.parts.now c.drop_cells.new.parts c.drop_cells.ensures.rest.readers c.drop_cells.ensures.rest.changed)
+    (λ id h. told_same c.args.parts.now c.drop_cells.new.parts gone.3.texts gone.3.queries gone.3.logs id.at)
+
+pub returns-in-Left-clause-updates : goal.returns-in-Left-clause-updates
+returns-in-Left-clause-updates g c =
+    let still = (subst (λ (o : DeleteOutcome). IfNoneWent o (c.drop_cells.new.steps.update ≤ c.args.steps.now.update)) c.in-Left.is c.drop_cells.ensures.unmoved) in
+    record { counted = λ n flat few. omega (arith, still) }
+
+pub returns-in-Absent-clause-whole : goal.returns-in-Absent-clause-whole
+returns-in-Absent-clause-whole g c =
+    let gone = (subst (λ (o : DeleteOutcome). DeletesFrom c.in-Some.found.relation.at c.args.row.now c.args.parts.now o c.drop_cells.new.parts) c.in-Absent.is (c.drop_cells.ensures.deletes c.args.row.now (subst (λ (cells : List ℕ). StandForRow c.args.parts.now.catalog c.in-Some.found.relation.at cells c.args.row.now) (sym c.as_slice.ensures)
+    (stands c.args.parts.now c.args.name.now c.args.row.now c.in-Some.found (subst (λ (j : Option Deletion). JudgesDelete c.args.parts.now.catalog c.args.name.now c.args.row.now c.args.parts.now.seq j) c.in-Some.is c.in_ok-judged.ensures.ok))))) in
+    same_whole c.args.parts.now c.drop_cells.new.parts c.requires.whole gone.1 gone.2 c.drop_cells.ensures.rest
+
+pub returns-in-Absent-clause-tended : goal.returns-in-Absent-clause-tended
+returns-in-Absent-clause-tended g c =
+    let gone = (subst (λ (o : DeleteOutcome). DeletesFrom c.in-Some.found.relation.at c.args.row.now c.args.parts.now o c.drop_cells.new.parts) c.in-Absent.is (c.drop_cells.ensures.deletes c.args.row.now (subst (λ (cells : List ℕ). StandForRow c.args.parts.now.catalog c.in-Some.found.relation.at cells c.args.row.now) (sym c.as_slice.ensures)
+    (stands c.args.parts.now c.args.name.now c.args.row.now c.in-Some.found (subst (λ (j : Option Deletion). JudgesDelete c.args.parts.now.catalog c.args.name.now c.args.row.now c.args.parts.now.seq j) c.in-Some.is c.in_ok-judged.ensures.ok))))) in
+    tended_still c.args.parts.now c.drop_cells.new.parts c.requires.tended c.drop_cells.ensures.rest gone.2 c.drop_cells.ensures.shown
+
+pub returns-in-Absent-clause-deletes : goal.returns-in-Absent-clause-deletes
+returns-in-Absent-clause-deletes g c =
+    let gone = (subst (λ (o : DeleteOutcome). DeletesFrom c.in-Some.found.relation.at c.args.row.now c.args.parts.now o c.drop_cells.new.parts) c.in-Absent.is (c.drop_cells.ensures.deletes c.args.row.now (subst (λ (cells : List ℕ). StandForRow c.args.parts.now.catalog c.in-Some.found.relation.at cells c.args.row.now) (sym c.as_slice.ensures)
+    (stands c.args.parts.now c.args.name.now c.args.row.now c.in-Some.found (subst (λ (j : Option Deletion). JudgesDelete c.args.parts.now.catalog c.args.name.now c.args.row.now c.args.parts.now.seq j) c.in-Some.is c.in_ok-judged.ensures.ok))))) in
+    delete_none c.args.parts.now c.args.name.now c.args.row.now c.in-Some.found (subst (λ (j : Option Deletion). JudgesDelete c.args.parts.now.catalog c.args.name.now c.args.row.now c.args.parts.now.seq j) c.in-Some.is c.in_ok-judged.ensures.ok) c.drop_cells.new.parts gone c.drop_cells.ensures.rest.order c.drop_cells.ensures.rest.seq
+
+pub returns-in-Absent-clause-outdates : goal.returns-in-Absent-clause-outdates
+returns-in-Absent-clause-outdates g c =
+    let gone = (subst (λ (o : DeleteOutcome). DeletesFrom c.in-Some.found.relation.at c.args.row.now c.args.parts.now o c.drop_cells.new.parts) c.in-Absent.is (c.drop_cells.ensures.deletes c.args.row.now (subst (λ (cells : List ℕ). StandForRow c.args.parts.now.catalog c.in-Some.found.relation.at cells c.args.row.now) (sym c.as_slice.ensures)
+    (stands c.args.parts.now c.args.name.now c.args.row.now c.in-Some.found (subst (λ (j : Option Deletion). JudgesDelete c.args.parts.now.catalog c.args.name.now c.args.row.now c.args.parts.now.seq j) c.in-Some.is c.in_ok-judged.ensures.ok))))) in
+    λ id. ap₂ (λ (x : Catalog) (qs : List (Option Live)). held_at (held_from x.texts zero qs) id) gone.1 gone.2
+
+pub returns-in-Absent-clause-watches : goal.returns-in-Absent-clause-watches
+returns-in-Absent-clause-watches g c =
+    let gone = (subst (λ (o : DeleteOutcome). DeletesFrom c.in-Some.found.relation.at c.args.row.now c.args.parts.now o c.drop_cells.new.parts) c.in-Absent.is (c.drop_cells.ensures.deletes c.args.row.now (subst (λ (cells : List ℕ). StandForRow c.args.parts.now.catalog c.in-Some.found.relation.at cells c.args.row.now) (sym c.as_slice.ensures)
+    (stands c.args.parts.now c.args.name.now c.args.row.now c.in-Some.found (subst (λ (j : Option Deletion). JudgesDelete c.args.parts.now.catalog c.args.name.now c.args.row.now c.args.parts.now.seq j) c.in-Some.is c.in_ok-judged.ensures.ok))))) in
+    registered_still c.args.parts.now c.drop_cells.new.parts c.drop_cells.ensures.rest gone.2
+
+pub returns-in-Absent-clause-tells : goal.returns-in-Absent-clause-tells
+returns-in-Absent-clause-tells g c =
+    let gone = (subst (λ (o : DeleteOutcome). DeletesFrom c.in-Some.found.relation.at c.args.row.now c.args.parts.now o c.drop_cells.new.parts) c.in-Absent.is (c.drop_cells.ensures.deletes c.args.row.now (subst (λ (cells : List ℕ). StandForRow c.args.parts.now.catalog c.in-Some.found.relation.at cells c.args.row.now) (sym c.as_slice.ensures)
+    (stands c.args.parts.now c.args.name.now c.args.row.now c.in-Some.found (subst (λ (j : Option Deletion). JudgesDelete c.args.parts.now.catalog c.args.name.now c.args.row.now c.args.parts.now.seq j) c.in-Some.is c.in_ok-judged.ensures.ok))))) in
+    tells_nothing (kept_in c.args.parts.now) (kept_in c.drop_cells.new.parts) c.args.steps.now.listing c.drop_cells.new.steps.listing
+    (subst (λ (o : DeleteOutcome). IfNoneWent o (c.drop_cells.new.steps.listing ≤ c.args.steps.now.listing)) c.in-Absent.is c.drop_cells.ensures.idle)
+    (affected_same c.args.parts.now c.drop_cells.new.parts c.drop_cells.ensures.rest.readers c.drop_cells.ensures.rest.changed)
+    (λ id h. told_same c.args.parts.now c.drop_cells.new.parts (ap (λ (x : Catalog). x.texts) gone.1) gone.2 gone.3 id.at)
+
+pub returns-in-Absent-clause-updates : goal.returns-in-Absent-clause-updates
+returns-in-Absent-clause-updates g c =
+    let still = (subst (λ (o : DeleteOutcome). IfNoneWent o (c.drop_cells.new.steps.update ≤ c.args.steps.now.update)) c.in-Absent.is c.drop_cells.ensures.unmoved) in
+    record { counted = λ n flat few. omega (arith, still) }
