@@ -10,11 +10,11 @@ use Rattle.djq_load.specs.declared.loading.Totals.{Totals}
 use Rattle.djq_load.specs.Totals.{RunsLoad, RunsOut}
 use Rattle.djq.specs.Replay.{Written}
 
--- the number of rows of a relation
+-- the number of different rows of a relation
 abbrev pub row_count : State → Bytes → ℕ
 row_count st name = length (rows_of st.store.relations name)
 
--- The summary: the rows of r and of s, the changes, the answers of the query, and the sum of their
+-- The summary: the different rows of r and of s, the changes, the answers of the query, and the sum of their
 -- integers.
 abbrev pub summary : State → Totals → Bytes
 summary st totals =

@@ -32,7 +32,7 @@ fn sessions_are_served_turn_by_turn(rt: HostRuntime) -> Result<(), Fail> {
     let schedules = [
         (
             b"open 1\nopen 2\nsay 1 rel r int\nsay 1 query q(x) <- r(x)\nsay 1 add r 1\nsay 2 open c q\npart 2 ne\nsay 1 open c q\nsay 2 xt c 1\nsay 1 add r 2\nsay 1 next c 1\nend 1\nend 2".as_slice(),
-            b"1< ok\n1< ok query 3\n1< ok added 1\n2< ok open\n1< ok open\n2< = 1\n2< end\n1< ok added 2\n1< stale c r 2\n".as_slice(),
+            b"1< ok\n1< ok query 3\n1< ok added 1 1\n2< ok open\n1< ok open\n2< = 1\n2< end\n1< ok added 2 1\n1< stale c r 2\n".as_slice(),
         ),
         (b"open 1\nopen 2\nsay 1 stop\nsay 2 quit\n", b"1< bye\n"),
         (
@@ -41,7 +41,7 @@ fn sessions_are_served_turn_by_turn(rt: HostRuntime) -> Result<(), Fail> {
         ),
         (
             b"open 1\nagain 1\nsay 1 rel r int\nsay 1 add r 7\nfree 1\n",
-            b"1< ok\n1< ok added 1\n",
+            b"1< ok\n1< ok added 1 1\n",
         ),
         (
             b"open 1\nsay 1 rel r int\npart 1 add r 7\nend 1\n",
@@ -109,7 +109,7 @@ fn a_failed_send_ends_its_session(rt: HostRuntime) -> Result<(), Fail> {
     let lines = lines_served(&rt, hub, Status::Done)?;
     assert_eq!(rt;
         lines.as_slice(),
-        b"1< ok\n1< ok query 3\n1< ok added 1\n1< ok open\n1< = 1\n1< end\n1< end\n".as_slice()
+        b"1< ok\n1< ok query 3\n1< ok added 1 1\n1< ok open\n1< = 1\n1< end\n1< end\n".as_slice()
     );
     Ok(())
 }

@@ -14,9 +14,9 @@ use itoa::Buffer;
 use std::alloc::{AllocError, Global};
 
 /// Runs the load of so many changes with a seed through one session of a machine, lists the answers
-/// of its query to their end, and writes what it comes to: how many rows there are, how many changes
-/// there were, how many answers there are, and what their integers add up to. Out of memory nothing
-/// is written, and no more is counted of listings than the lines that came may cost.
+/// of its query to their end, and writes what it comes to: how many different rows there are, how
+/// many changes there were, how many answers there are, and what their integers add up to. Out of
+/// memory nothing is written, and no more is counted of listings than the lines that came may cost.
 pub(crate) fn generate<K: Sink, L: Ledgers>(
     alloc: Global,
     n: u32,

@@ -13,9 +13,9 @@ use Rattle.djq_lines.specs.declared.command.Command.TheVariants.{Rel, Add, Del, 
 use Rattle.djq_lines.specs.declared.answer.Refusal.{Refusal}
 use Rattle.djq_lines.specs.declared.answer.Refusal.TheVariants.{NoMemory}
 use Rattle.djq_lines.specs.declared.answer.AddOutcome.{AddOutcome}
-use Rattle.djq_lines.specs.declared.answer.AddOutcome.TheVariants.{Added as WasAdded, Same}
+use Rattle.djq_lines.specs.declared.answer.AddOutcome.TheVariants.{First, More}
 use Rattle.djq_lines.specs.declared.answer.DeleteOutcome.{DeleteOutcome}
-use Rattle.djq_lines.specs.declared.answer.DeleteOutcome.TheVariants.{Removed, Absent}
+use Rattle.djq_lines.specs.declared.answer.DeleteOutcome.TheVariants.{Last, Left, Absent}
 use Rattle.djq_lines.specs.Grammar.{Reading, says as says_command, reading_of}
 use Rattle.djq_lines.specs.Reply.{add_reply, delete_reply}
 use Rattle.djq_machine.specs.Keeping.{Keeping, kept_where, is_done, is_removal}
@@ -207,13 +207,14 @@ change_step old mid new stopped xs ys s outcome reply kept was now c sound t =
 
 -- A change is accepted for the code where it is for the machine.
 pub add_made : (change : RowsChange) (result : Result AddOutcome Refusal) → is_accepted (Added result) ≡ is_made (add_outcome change result)
-add_made change (Ok WasAdded) = refl
-add_made change (Ok Same) = refl
+add_made change (Ok First) = refl
+add_made change (Ok (More copies)) = refl
 add_made change (Err NoMemory) = refl
 add_made change (Err _) = refl
 
 pub delete_made : (change : RowsChange) (result : Result DeleteOutcome Refusal) → is_accepted (Deleted result) ≡ is_made (delete_outcome change result)
-delete_made change (Ok Removed) = refl
+delete_made change (Ok Last) = refl
+delete_made change (Ok (Left copies)) = refl
 delete_made change (Ok Absent) = refl
 delete_made change (Err r) = refl
 

@@ -5,9 +5,9 @@ use Rattle.std.specs.Prelude.{List}
 use Rattle.djq_lines.specs.declared.limits.TheConstants.{PENDING_BYTES, REPLY_BYTES, LAST_LINE_BYTES}
 use Rattle.djq_lines.specs.declared.answer.Refusal.{Refusal}
 use Rattle.djq_lines.specs.declared.answer.AddOutcome.{AddOutcome}
-use Rattle.djq_lines.specs.declared.answer.AddOutcome.TheVariants.{Added as HasAdded, Same}
+use Rattle.djq_lines.specs.declared.answer.AddOutcome.TheVariants.{First, More}
 use Rattle.djq_lines.specs.declared.answer.DeleteOutcome.{DeleteOutcome}
-use Rattle.djq_lines.specs.declared.answer.DeleteOutcome.TheVariants.{Removed, Absent}
+use Rattle.djq_lines.specs.declared.answer.DeleteOutcome.TheVariants.{Last, Left, Absent}
 use Rattle.djq_lines.specs.declared.command.Command.{Command}
 use Rattle.djq_lines.specs.declared.command.Command.TheVariants.{Add, Del}
 use Rattle.djq_lines.specs.Line.{a_line, front_of, is_blank}
@@ -23,12 +23,13 @@ use Rattle.djq_core.specs.declared.change.Outcome.{Outcome}
 use Rattle.djq_core.specs.declared.change.Outcome.TheVariants.{Added, Deleted}
 use Rattle.djq_core.specs.Views.{Talk}
 
--- whether the change was accepted
+-- whether the change was accepted; a copy of a row that stays is none
 abbrev pub is_accepted : Outcome → Bool
-is_accepted (Added (Ok HasAdded)) = true
-is_accepted (Added (Ok Same)) = false
+is_accepted (Added (Ok First)) = true
+is_accepted (Added (Ok (More copies))) = false
 is_accepted (Added (Err r)) = false
-is_accepted (Deleted (Ok Removed)) = true
+is_accepted (Deleted (Ok Last)) = true
+is_accepted (Deleted (Ok (Left copies))) = false
 is_accepted (Deleted (Ok Absent)) = false
 is_accepted (Deleted (Err r)) = false
 

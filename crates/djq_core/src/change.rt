@@ -20,7 +20,8 @@ impl Outcome {
         ensures { result ≡ is_kept self.now }
     {
         match *self {
-            Outcome::Added(Ok(_)) | Outcome::Deleted(Ok(DeleteOutcome::Removed)) => true,
+            Outcome::Added(Ok(_)) => true,
+            Outcome::Deleted(Ok(DeleteOutcome::Last | DeleteOutcome::Left(_))) => true,
             Outcome::Added(Err(_)) => false,
             Outcome::Deleted(Ok(DeleteOutcome::Absent) | Err(_)) => false,
         }

@@ -14,7 +14,7 @@
 //! 2 says  watch q                                                 ok watch 0
 //! 1 says  add r 7                                                 + q 7
 //!                                                                 at q 1
-//!                                 ok added 1
+//!                                 ok added 1 1
 //! ```
 //!
 //! Every command is a command of *a session among others*. Each function that runs one is handed

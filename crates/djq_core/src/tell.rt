@@ -29,18 +29,18 @@ use djq_model::Name;
 use djq_reply::{put_at, put_change};
 use djq_session::Session;
 
-// Whether a change was accepted.
+// Whether a change was accepted: a row came that wasn't there, or went with its last copy.
 fn is_accepted(outcome: Outcome) -> bool
     ensures { result ≡ is_accepted outcome }
 {
     match outcome {
         Outcome::Added(Ok(added)) => match added {
-            AddOutcome::Added => true,
-            AddOutcome::Same => false,
+            AddOutcome::First => true,
+            AddOutcome::More(_) => false,
         },
         Outcome::Deleted(Ok(deleted)) => match deleted {
-            DeleteOutcome::Removed => true,
-            DeleteOutcome::Absent => false,
+            DeleteOutcome::Last => true,
+            DeleteOutcome::Left(_) | DeleteOutcome::Absent => false,
         },
         Outcome::Added(Err(_)) | Outcome::Deleted(Err(_)) => false,
     }

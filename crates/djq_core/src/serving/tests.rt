@@ -73,7 +73,11 @@ fn say_join<L: Ledgers>(core: &mut Core, steps: &mut Steps<L>, id: u64) -> bool 
     say(core, steps, id, b"rel r int text\nrel s text int\n");
     say(core, steps, id, b"add r 1 \"a\"\nadd s \"a\" 2\n");
     say(core, steps, id, b"query q(x,t,y) <- r(x,t), s(t,y)\n");
-    is_told(core, id, b"ok\nok\nok added 1\nok added 2\nok query 7\n")
+    is_told(
+        core,
+        id,
+        b"ok\nok\nok added 1 1\nok added 2 1\nok query 7\n",
+    )
 }
 
 // A cursor lists the answers of a join with its texts, and becomes stale by a row of either
@@ -89,7 +93,7 @@ fn lists_a_join<L: Ledgers>(rt: &HostRuntime, blanks: Blanks) -> Result<bool, No
     say(&mut core, &mut steps, 1, b"open c q\nnext c 2\n");
     let listed = is_told(&mut core, 1, b"ok open\n= 1 \"a\" 2\nend\n");
     say(&mut core, &mut steps, 1, b"add s \"b\" 3\nnext c 1\n");
-    let stale = is_told(&mut core, 1, b"ok added 3\nstale c s 3\n");
+    let stale = is_told(&mut core, 1, b"ok added 3 1\nstale c s 3\n");
     say(
         &mut core,
         &mut steps,
@@ -171,7 +175,7 @@ fn shares_an_engine<L: Ledgers>(rt: &HostRuntime, blanks: Blanks) -> Result<bool
     let first = is_told(
         &mut core,
         1,
-        b"ok\nok query 3\nok added 1\nok added 2\nok open\n= 1\nmore\n",
+        b"ok\nok query 3\nok added 1 1\nok added 2 1\nok open\n= 1\nmore\n",
     );
     let second = is_told(&mut core, 4, b"ok open\n= 1\n= 2\nend\n");
     close(&mut core, 4);
@@ -221,7 +225,7 @@ fn drops_and_has<L: Ledgers>(rt: &HostRuntime, blanks: Blanks) -> Result<bool, N
     let first = is_told(
         &mut core,
         1,
-        b"ok\nok query 5\nok query 5\nok open\nok added 1\n",
+        b"ok\nok query 5\nok query 5\nok open\nok added 1 1\n",
     );
     say(
         &mut core,
@@ -365,7 +369,7 @@ fn tells_a_self_join<L: Ledgers>(rt: &HostRuntime, blanks: Blanks) -> Result<boo
     let own = is_told(
         &mut core,
         1,
-        b"+ q 1 1 1\nat q 1\nok added 1\n+ q 1 1 2\nat q 2\nok added 2\n",
+        b"+ q 1 1 1\nat q 1\nok added 1 1\n+ q 1 1 2\nat q 2\nok added 2 1\n",
     );
     let other = is_told(
         &mut core,
@@ -392,13 +396,13 @@ fn tells_what_goes<L: Ledgers>(rt: &HostRuntime, blanks: Blanks) -> Result<bool,
     let opened = open(&mut core, 1) && open(&mut core, 2);
     let watched = watch_self_join(&mut core, &mut steps, 1);
     say(&mut core, &mut steps, 2, b"add r 1 1\nadd r 1 2\nwatch q\n");
-    let before = is_told(&mut core, 2, b"ok added 1\nok added 2\nok watch 2\n");
+    let before = is_told(&mut core, 2, b"ok added 1 1\nok added 2 1\nok watch 2\n");
     say(&mut core, &mut steps, 2, b"del r 1 1\n");
     let gone = is_told_either(
         &mut core,
         2,
-        b"- q 1 1 1\n- q 1 1 2\nat q 3\nok removed 3\n",
-        b"- q 1 1 2\n- q 1 1 1\nat q 3\nok removed 3\n",
+        b"- q 1 1 1\n- q 1 1 2\nat q 3\nok removed 3 0\n",
+        b"- q 1 1 2\n- q 1 1 1\nat q 3\nok removed 3 0\n",
     );
     Ok(opened && watched && before && gone)
 }
@@ -451,7 +455,7 @@ fn tells_in_order<L: Ledgers>(rt: &HostRuntime, blanks: Blanks) -> Result<bool, 
         2,
         b"ok watch 0\nok watch 0\n+ q 1\nat q 1\n+ p 2\nat p 1\nat q 2\n+ p 3\nat p 2\n",
     );
-    let third = is_told(&mut core, 3, b"ok added 1\nok added 2\n");
+    let third = is_told(&mut core, 3, b"ok added 1 1\nok added 2 1\n");
     Ok(ready && first && second && third)
 }
 
@@ -476,7 +480,11 @@ fn tells_changes_alone<L: Ledgers>(rt: &HostRuntime, blanks: Blanks) -> Result<b
         2,
         b"del r 9 9\nadd r 1\nrel s int\nadd s 1\n",
     );
-    let changed = is_told(&mut core, 2, b"ok absent 0\nerr 6 arity\nok\nok added 1\n");
+    let changed = is_told(
+        &mut core,
+        2,
+        b"ok absent 0\nerr 6 arity\nok\nok added 1 1\n",
+    );
     let nothing = is_told(&mut core, 1, b"");
     Ok(ready && changed && nothing)
 }
@@ -484,6 +492,46 @@ fn tells_changes_alone<L: Ledgers>(rt: &HostRuntime, blanks: Blanks) -> Result<b
 #[test]
 fn changes_alone_are_told(rt: HostRuntime) -> Result<(), NoMem> {
     assert!(rt; tells_changes_alone::<Brand>(&rt, Blanks::new(&rt))?);
+    Ok(())
+}
+
+// Session 1 makes a query and watches it.
+fn watch_rows<L: Ledgers>(core: &mut Core, steps: &mut Steps<L>) -> bool {
+    say(core, steps, 1, b"rel r int\nquery q(x) <- r(x)\nwatch q\n");
+    is_told(core, 1, b"ok\nok query 3\nok watch 0\n")
+}
+
+// A first copy of a row comes and a last one goes: both are told, and make a cursor stale. Further
+// copies that come and go between them aren't, and the cursor goes on.
+fn tells_first_and_last<L: Ledgers>(rt: &HostRuntime, blanks: Blanks) -> Result<bool, NoMem>
+    requires listing { blanks.listing.name ≡ L.listing }
+    requires update { blanks.update.name ≡ L.update }
+    requires rows { blanks.rows.name ≡ L.rows }
+{
+    let mut steps = Steps::<L>::new(rt, blanks);
+    let mut core = Core::new(rt.alloc())?;
+    let ready = open_three(&mut core) && watch_rows(&mut core, &mut steps);
+    say(
+        &mut core,
+        &mut steps,
+        2,
+        b"add r 5\nopen c q\nadd r 5\nnext c 1\ndel r 5\n",
+    );
+    let copied = is_told(
+        &mut core,
+        2,
+        b"ok added 1 1\nok open\nok added 1 2\n= 5\nend\nok removed 1 1\n",
+    );
+    let came = is_told(&mut core, 1, b"+ q 5\nat q 1\n");
+    say(&mut core, &mut steps, 2, b"del r 5\nnext c 1\ndel r 5\n");
+    let removed = is_told(&mut core, 2, b"ok removed 2 0\nstale c r 2\nok absent 2\n");
+    let went = is_told(&mut core, 1, b"- q 5\nat q 2\n");
+    Ok(ready && copied && came && removed && went)
+}
+
+#[test]
+fn first_and_last_copies_are_told(rt: HostRuntime) -> Result<(), NoMem> {
+    assert!(rt; tells_first_and_last::<Brand>(&rt, Blanks::new(&rt))?);
     Ok(())
 }
 
@@ -522,7 +570,7 @@ fn ends_a_watch<L: Ledgers>(rt: &HostRuntime, blanks: Blanks) -> Result<bool, No
     let ended = is_told(
         &mut core,
         1,
-        b"+ q 1\nat q 1\nok added 1\nok\nok added 2\nok\nerr 4 no query\n",
+        b"+ q 1\nat q 1\nok added 1 1\nok\nok added 2 1\nok\nerr 4 no query\n",
     );
     Ok(ready && refused && ended)
 }
@@ -547,7 +595,7 @@ fn ends_by_leaving<L: Ledgers>(rt: &HostRuntime, blanks: Blanks) -> Result<bool,
     let left = is_told(&mut core, 2, b"ok watch 0\nbye\n");
     close(&mut core, 1);
     say(&mut core, &mut steps, 3, b"drop q\n");
-    let dropped = is_told(&mut core, 3, b"ok added 1\nerr 14 in use\nok\n");
+    let dropped = is_told(&mut core, 3, b"ok added 1 1\nerr 14 in use\nok\n");
     Ok(ready && left && dropped)
 }
 
@@ -614,8 +662,12 @@ fn ends_the_slow<L: Ledgers>(rt: &HostRuntime, blanks: Blanks) -> Result<bool, N
     let listed = list_texts(&mut core, &mut steps, 2);
     say(&mut core, &mut steps, 3, b"add r 5\n");
     let slow = is_slow(&core, 2);
-    let first = is_told_last(&core, 1, b"ok added 10\n+ q 5\nat q 11\n");
-    let third = is_told(&mut core, 3, b"ok watch 10\n+ q 5\nat q 11\nok added 11\n");
+    let first = is_told_last(&core, 1, b"ok added 10 1\n+ q 5\nat q 11\n");
+    let third = is_told(
+        &mut core,
+        3,
+        b"ok watch 10\n+ q 5\nat q 11\nok added 11 1\n",
+    );
     Ok(ready && listed && slow && first && third)
 }
 
