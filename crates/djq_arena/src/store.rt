@@ -73,13 +73,28 @@ fn class_at(store: &Store, slot: u32) -> usize
     class_of(store.heads.len(), cells_of(store, slot))
 }
 
+/// Whether these cells are the same. Rows are short, so that a loop costs less than a call.
+fn are_same(cells: &[u64], others: &[u64]) -> bool
+    ensures { IsTrue result ↔ (cells.now ≡ others.now) }
+{
+    if cells.len() != others.len() {
+        return false;
+    }
+    for at in 0..cells.len() {
+        if cells[at] != others[at] {
+            return false;
+        }
+    }
+    true
+}
+
 /// Whether the row in a slot has these cells.
 fn reads(store: &Store, slot: u32, cells: &[u64]) -> bool
     requires cells { length store.now.cells.items ≡ length store.now.order.items * store.now.width }
     requires slot { slot < length store.now.order.items }
     ensures { IsTrue result ↔ (cells_at store.now.width store.now.cells.items slot ≡ cells.now) }
 {
-    cells_of(store, slot) == cells
+    are_same(cells_of(store, slot), cells)
 }
 
 /// The head of the bucket that a row with these cells is in.
@@ -198,6 +213,18 @@ fn overwrite(cells: &mut Vec<u64>, from: usize, new: &[u64])
     cells[from..from + new.len()].copy_from_slice(new);
 }
 
+/// Puts cells behind others. Where there is no memory, all stays as it was.
+fn append(cells: &mut Vec<u64>, more: &[u64]) -> Result<(), AllocError>
+    ensures behind { IfOk result (λ _. cells.new.items ≡ cells.old.items ++ more.now) }
+    ensures refused { OnErr result (cells.new.items ≡ cells.old.items) }
+{
+    cells.reserve(more.len())?;
+    for cell in more {
+        cells.push_reserved(*cell);
+    }
+    Ok(())
+}
+
 /// Writes a row into a new slot, which is loose. Where there is no memory, all stays as it was.
 fn fresh(store: &mut Store, cells: &[u64]) -> Result<u32, AllocError>
     requires sound { IsSound store.old }
@@ -209,7 +236,7 @@ fn fresh(store: &mut Store, cells: &[u64]) -> Result<u32, AllocError>
     let slot = store.order.len();
     store.order.reserve(1)?;
     store.bucket.reserve(1)?;
-    store.cells.extend_from_slice(cells)?;
+    append(&mut store.cells, cells)?;
     store.order.push_reserved(Pair {
         prev: Link::none(),
         next: Link::none(),
