@@ -1,6 +1,8 @@
 ghost use Rattle.std.specs.Prelude.{◌≡◌, ℕ, ◌<◌, [], length, IfOk};
 ghost use Rattle.djq_index.specs.Table.{IsTable};
+ghost use Rattle.djq_tree.specs.Labels.{label_at};
 ghost use Rattle.djq_tree.specs.Tree.{node_at};
+ghost use Rattle.djq_reduct.specs.Columns.{columns};
 ghost use Rattle.djq_reduct.specs.Tables.{entries_at, key_at, width_at};
 ghost use Rattle.djq_reduct.specs.Reducts as spec;
 ghost use Rattle.djq_reduct.specs.Reducts.{
@@ -12,6 +14,7 @@ ghost use Rattle.djq_reduct.specs.Reducts.{
 };
 
 use crate::columns::empty_table;
+use crate::heads::{HeadColumns, head_columns};
 use djq_index::Table;
 use djq_tree::Tree;
 use std::alloc::{AllocError, Global};
@@ -25,6 +28,8 @@ use std::marker::Model;
 pub struct Reducts {
     pub tree: Tree,
     pub tables: Vec<Table>,
+    // for each node, where its label's variables stand in an answer
+    pub(crate) columns: Vec<HeadColumns>,
 }
 
 impl Model for Reducts {
@@ -34,7 +39,11 @@ impl Model for Reducts {
 
     ghost view = { λ r. record { tree = r.tree; tables = r.tables.items } };
 
-    ghost invariant = { λ r. spec.IsReducts (record { tree = r.tree; tables = r.tables.items }) };
+    ghost use Rattle.std.specs.Prelude.{◌≡◌, length};
+    ghost use Rattle.djq_reduct.specs.Heads.{head_columns};
+
+    ghost invariant = { λ r. spec.IsReducts (record { tree = r.tree; tables = r.tables.items })
+        × (r.columns.items ≡ head_columns r.tree (length r.tree.nodes)) };
 }
 
 impl Reducts {
@@ -48,7 +57,12 @@ impl Reducts {
         for node in 0..tree.len() {
             tables.push(empty_table(alloc, &tree, node)?)?;
         }
-        Ok(Reducts { tree, tables })
+        let columns = head_columns(alloc, &tree)?;
+        Ok(Reducts {
+            tree,
+            tables,
+            columns,
+        })
     }
 
     /// The tree.
@@ -67,6 +81,15 @@ impl Reducts {
         ensures reduct { IsReductOf (node_at self.now.tree.nodes node) self.now.tables node }
     {
         &self.tables[node]
+    }
+
+    /// Where the variables of a node's label stand in an answer. They were found once, as the reducts
+    /// were made.
+    pub fn columns(&self, node: usize) -> &[usize]
+        requires { node < length self.now.tree.nodes }
+        ensures { result.now ≡ columns self.now.tree.head (label_at self.now.tree.labels node) }
+    {
+        self.columns[node].as_slice()
     }
 
     /// What holds of all reducts; and that tables with these laws are known once the leaves' tuples are.
