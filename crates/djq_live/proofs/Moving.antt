@@ -4,13 +4,13 @@ use Rattle.std.specs.Prelude.{All, Contains, Ok, slice_index_or}
 use Rattle.std.proofs.lemmas.Bool.{cases_Bool, false≢true}
 use Rattle.std.proofs.lemmas.List.{append-nil}
 use Rattle.djq_model.specs.declared.relation.Relation.{Relation}
-use Rattle.djq_model.specs.Data.{Bytes, Tuple, tuple_eq, has_row}
+use Rattle.djq_model.specs.Data.{Bytes, Tuple, tuple_eq, has_row, with_row, with_copies}
 use Rattle.djq_model.specs.Equality.{tuple_eq-decides}
 use Rattle.djq_lines.specs.declared.answer.AddOutcome.{AddOutcome}
-use Rattle.djq_lines.specs.declared.answer.AddOutcome.TheVariants.{Added, Same}
+use Rattle.djq_lines.specs.declared.answer.AddOutcome.TheVariants.{First, More}
 use Rattle.djq_cursor.specs.declared.log.Line.{Line}
 use Rattle.djq_cursor.specs.Log.{Log}
-use Rattle.djq_rows.specs.Catalog.{Catalog, rows_at, with_rows_at}
+use Rattle.djq_rows.specs.Catalog.{Catalog, counted_at, with_rows_at}
 use Rattle.djq_rows.specs.Changes.{AddsRow}
 use Rattle.djq_live.specs.Live.{Live, IsKept, IsShowable}
 use Rattle.djq_live.specs.Updating.{Logs}
@@ -32,15 +32,16 @@ has_contains (r ∷ rows) row h =
     ]
 
 pub row_added : (old : List Relation) (at : ℕ) (row : Tuple) (outcome : AddOutcome)
-    (new : List Relation) → outcome ≡ Added → AddsRow old at row (Ok outcome) new
-    → new ≡ with_rows_at old at (rows_at old at ++ row ∷ [])
+    (new : List Relation) → outcome ≡ First → AddsRow old at row (Ok outcome) new
+    → new ≡ with_rows_at old at (with_row (counted_at old at) row)
 row_added old at row outcome new e h =
     (subst (λ (o : AddOutcome). AddsRow old at row (Ok o) new) e h).2
 
-pub none_added : (old : List Relation) (at : ℕ) (row : Tuple) (outcome : AddOutcome)
-    (new : List Relation) → outcome ≡ Same → AddsRow old at row (Ok outcome) new → new ≡ old
-none_added old at row outcome new e h =
-    (subst (λ (o : AddOutcome). AddsRow old at row (Ok o) new) e h).1
+pub copy_added : (old : List Relation) (at : ℕ) (row : Tuple) (outcome : AddOutcome) (n : ℕ)
+    (new : List Relation) → outcome ≡ More n → AddsRow old at row (Ok outcome) new
+    → new ≡ with_rows_at old at (with_copies (counted_at old at) row n)
+copy_added old at row outcome n new e h =
+    (subst (λ (o : AddOutcome). AddsRow old at row (Ok o) new) e h).3
 
 -- the lines of a log that was empty can be shown by the query as it is now
 pub lines_show_now : (Changed : Catalog → Catalog → Tuple → Type 0) (c d : Catalog) (row : Tuple)

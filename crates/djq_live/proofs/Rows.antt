@@ -18,10 +18,18 @@ use Rattle.std.proofs.Common.{
   ◌∙◌,
   arith,
 }
-use Rattle.std.specs.Prelude.{Some, All, AllPairs, Contains, ◌≢◌}
+use Rattle.std.specs.Prelude.{Option, Some, All, AllPairs, Contains, ◌≢◌}
 use Rattle.djq_model.specs.declared.relation.Relation.{Relation}
 use Rattle.djq_model.specs.declared.query.Atom.{Atom}
-use Rattle.djq_model.specs.Data.{Bytes, Tuple, bytes_eq, relation_of, rows_of, rows_in}
+use Rattle.djq_model.specs.Data.{
+  Bytes,
+  Tuple,
+  bytes_eq,
+  relation_of,
+  tuples_of,
+  counted_in,
+  rows_of,
+}
 use Rattle.djq_model.specs.Typed.{fits}
 use Rattle.djq_query.specs.declared.numbered.Variable.{Variable}
 use Rattle.djq_query.specs.declared.numbered.NumberedAtom.{NumberedAtom}
@@ -48,7 +56,8 @@ found_at (r ∷ rs) name (suc at) d low e =
 pub rows_are : (c : Catalog) (vs : List Variable) (a : Atom) (m : NumberedAtom) → IsCatalog c
     → IsAtomOf c vs a m → rows_of c.relations a.relation ≡ rows_at c.relations m.relation
 rows_are c vs a m h is =
-    ap rows_in (found_at c.relations a.relation m.relation h.names is.below is.named)
+    ap (λ (o : Option Relation). tuples_of (counted_in o))
+    (found_at c.relations a.relation m.relation h.names is.below is.named)
 
 pub all_in : {A : Type 0} (P : A → Type 0) (xs : List A) (x : A) → All P xs → Contains xs x → P x
 all_in P xs x h c = subst P c.2 (h c.0 x c.1)

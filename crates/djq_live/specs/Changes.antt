@@ -19,7 +19,7 @@ use Rattle.std.specs.Prelude.{
   slice_get,
 }
 use Rattle.djq_model.specs.declared.query.Query.{Query}
-use Rattle.djq_model.specs.Data.{Bytes, Tuple, without_row}
+use Rattle.djq_model.specs.Data.{Bytes, Tuple, without_row, with_row, with_copies, without_copies}
 use Rattle.djq_index.specs.Entries.{Entry, cnt}
 use Rattle.djq_reduct.specs.Tables.{entries_at}
 use Rattle.djq_reduct.specs.Reducts.{Reducts, IsReducts}
@@ -32,6 +32,7 @@ use Rattle.djq_rows.specs.Catalog.{
   IsCatalog,
   StandForRow,
   relation_at,
+  counted_at,
   rows_at,
   with_rows_at,
 }
@@ -127,18 +128,25 @@ OverLoses = (c d : Catalog) (q : Query) (n : Numbered) (ps : List Shape) (r s : 
     (cells : List ℕ) (row : Tuple) → IsOver c q n ps r → Went c d at cells row
     → LeavesChange (λ p old new. Loses p cells old new) at n ps r s → IsOver d q n ps s
 
--- A row that is added to a catalog came, and one that is deleted went.
+-- A row that is added to a catalog, where it wasn't, came; one whose copies are deleted went.
 abbrev pub AddedCame : Type 0
 AddedCame = (c d : Catalog) (at : ℕ) (cells : List ℕ) (row : Tuple) → IsCatalog d
     → at < length c.relations → StandForRow c at cells row → d.texts ≡ c.texts
-    → d.relations ≡ with_rows_at c.relations at (rows_at c.relations at ++ row ∷ [])
+    → d.relations ≡ with_rows_at c.relations at (with_row (counted_at c.relations at) row)
     → Came c d at cells row
 
 abbrev pub DeletedWent : Type 0
 DeletedWent = (c d : Catalog) (at : ℕ) (cells : List ℕ) (row : Tuple) → IsCatalog d
     → at < length c.relations → StandForRow c at cells row → d.texts ≡ c.texts
-    → d.relations ≡ with_rows_at c.relations at (without_row (rows_at c.relations at) row)
+    → d.relations ≡ with_rows_at c.relations at (without_copies (counted_at c.relations at) row)
     → Went c d at cells row
+
+-- Where a row only has another number of copies, no relation has other rows.
+abbrev pub CopiesKeepRows : Type 0
+CopiesKeepRows = (c d : Catalog) (at : ℕ) (row : Tuple) (n : ℕ) → IsCatalog d
+    → at < length c.relations → d.texts ≡ c.texts
+    → d.relations ≡ with_rows_at c.relations at (with_copies (counted_at c.relations at) row n)
+    → HasSameRows c d
 
 -- a leaf's entries hold exactly the tuples that put into the atom give one of these rows of cells
 abbrev pub HoldsThese : List (List ℕ) → Shape → List Entry → Type 0

@@ -1,5 +1,5 @@
 ghost use Rattle.djq_live.specs.Changes.{OverStays, OverGains, OverLoses};
-ghost use Rattle.djq_live.specs.Changes.{AddedCame, DeletedWent};
+ghost use Rattle.djq_live.specs.Changes.{AddedCame, DeletedWent, CopiesKeepRows};
 ghost use Rattle.djq_live.specs.Changes.{LeafIsEmpty, LeafGains, LeafIsFilled};
 
 /// Where no rows change, the reducts stay those of the query, however many texts and relations more
@@ -19,14 +19,20 @@ pub fn over_loses()
     ensures { OverLoses }
 {}
 
-/// A row that a catalog added came.
+/// A row that a catalog added, with one copy, came.
 pub fn added_came()
     ensures { AddedCame }
 {}
 
-/// A row that a catalog deleted went.
+/// A row that a catalog deleted, with its last copy, went.
 pub fn deleted_went()
     ensures { DeletedWent }
+{}
+
+/// Where a catalog added a further copy of a row, or deleted one of several, no relation has other
+/// rows.
+pub fn copies_keep_rows()
+    ensures { CopiesKeepRows }
 {}
 
 /// A leaf without tuples holds those of no rows.

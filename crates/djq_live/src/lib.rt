@@ -35,8 +35,8 @@
 
 pub use build::intern_constants;
 pub use changes::{
-    added_came, deleted_went, leaf_gains, leaf_is_empty, leaf_is_filled, over_gains, over_loses,
-    over_stays,
+    added_came, copies_keep_rows, deleted_went, leaf_gains, leaf_is_empty, leaf_is_filled,
+    over_gains, over_loses, over_stays,
 };
 pub use cursors::Progress;
 pub use fault::query_fault_of;

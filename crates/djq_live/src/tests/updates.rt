@@ -113,13 +113,15 @@ fn put<L: Ledgers>(
     ensures live { OnOk result (IsLive catalog.new live.new) }
 {
     added_came();
+    copies_keep_rows();
+    live_stays();
     let cells = cells(catalog, id, row)?;
     catalog.laws();
     let outcome = catalog.add_row(id, cells.as_slice(), &mut steps.rows)?;
     catalog.laws();
     match outcome {
-        AddOutcome::Same => Ok(vec![in alloc; 0]?),
-        AddOutcome::Added => come(alloc, catalog, live, id, cells.as_slice(), steps),
+        AddOutcome::More(_copies) => Ok(vec![in alloc; 0]?),
+        AddOutcome::First => come(alloc, catalog, live, id, cells.as_slice(), steps),
     }
 }
 
@@ -157,13 +159,16 @@ fn take<L: Ledgers>(
     ensures live { OnOk result (IsLive catalog.new live.new) }
 {
     deleted_went();
+    copies_keep_rows();
+    live_stays();
     let cells = cells(catalog, id, row)?;
     catalog.laws();
     let outcome = catalog.delete_row(id, cells.as_slice(), &mut steps.rows);
     catalog.laws();
     match outcome {
         DeleteOutcome::Absent => Ok(vec![in alloc; 0]?),
-        DeleteOutcome::Removed => go(alloc, catalog, live, id, cells.as_slice(), steps),
+        DeleteOutcome::Left(_copies) => Ok(vec![in alloc; 0]?),
+        DeleteOutcome::Last => go(alloc, catalog, live, id, cells.as_slice(), steps),
     }
 }
 
@@ -243,6 +248,14 @@ fn tells_what_comes_to_a_self_join(rt: HostRuntime) -> Result<(), Fail> {
 fn tells_what_goes_from_a_self_join(rt: HostRuntime) -> Result<(), Fail> {
     let told = trace::<Brand>(&rt, &[12, 22, 23, -23, -99, -22], Blanks::new(&rt))?;
     let want: &[i64] = &[0, 122, 222, 0, 123, 223, 0, 1123, 1223, 0, 0, 1122, 1222, 0];
+    assert_eq!(rt; told.as_slice(), want);
+    Ok(())
+}
+
+#[test]
+fn tells_nothing_of_further_copies(rt: HostRuntime) -> Result<(), Fail> {
+    let told = trace::<Brand>(&rt, &[12, 23, 23, -23, -23], Blanks::new(&rt))?;
+    let want: &[i64] = &[0, 123, 0, 0, 0, 1123, 0];
     assert_eq!(rt; told.as_slice(), want);
     Ok(())
 }

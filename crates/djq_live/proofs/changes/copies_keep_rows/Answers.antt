@@ -1,0 +1,5 @@
+use Rattle.djq_live.proofs.Placing.{copies_keep_rows}
+use Rattle.djq_live.proofs.changes.copies_keep_rows.Goals as goal
+
+pub returns : goal.returns
+returns c = copies_keep_rows
