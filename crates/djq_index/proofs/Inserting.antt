@@ -1,5 +1,5 @@
 -- A tuple comes into a table's parts.
-use Rattle.std.proofs.Common.{◌≡◌, ℕ, Bool, false, cond, ◌≤◌, ◌<◌, List, [], ◌∷◌, ◌++◌, length, slice_set, Option, Some, None, Result, Ok, Err, refl, ap, ap₂, subst, sym, ◌∙◌, arith, true, inl, inr, length-set}
+use Rattle.std.proofs.Common.{◌≡◌, ℕ, Bool, false, cond, ◌≤◌, ◌<◌, List, [], ◌∷◌, ◌++◌, length, slice_set, Option, Some, None, Result, Ok, Err, refl, ap, ap₂, subst, sym, ◌∙◌, arith, inl, inr, length-set}
 use Rattle.std.specs.Result.{OnErr}
 use Rattle.std.proofs.lemmas.List.{append-nil}
 use Rattle.djq_arena.specs.declared.chain.Pair.{Pair}

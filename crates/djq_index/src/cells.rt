@@ -75,12 +75,18 @@ impl Cells {
         requires { length tuple.now ≤ 16 }
         ensures { result ≡ tuple.now }
     {
-        let mut cells = [0; CELLS];
-        cells[..tuple.len()].copy_from_slice(tuple);
-        Cells {
-            cells,
-            len: tuple.len(),
-        }
+        let mut cells = Cells::new(0);
+        cells.take_all(tuple);
+        cells
+    }
+
+    /// Takes the cells of a tuple in place of what it had.
+    pub fn take_all(&mut self, tuple: &[u64])
+        requires { length tuple.now ≤ 16 }
+        ensures { self.new ≡ tuple.now }
+    {
+        self.cells[..tuple.len()].copy_from_slice(tuple);
+        self.len = tuple.len();
     }
 
     /// The same cells once more.
@@ -93,18 +99,24 @@ impl Cells {
         }
     }
 
-    /// The cells of a tuple at these columns.
-    pub fn pick(tuple: &[u64], columns: &[usize]) -> Cells
+    /// Takes the cells of a tuple at these columns in place of what it had.
+    pub fn take_part(&mut self, tuple: &[u64], columns: &[usize])
         requires few { length columns.now ≤ 16 }
         requires small { length tuple.now ≤ 16 }
         requires within { AreColumns (length tuple.now) columns.now }
-        ensures { result ≡ pick columns.now tuple.now }
+        ensures { self.new ≡ pick columns.now tuple.now }
     {
-        let mut picked = Cells::new(0);
+        self.clear();
         for column in columns {
-            picked.push(tuple[*column]);
+            self.push(tuple[*column]);
         }
-        picked
+    }
+
+    /// Takes all cells away.
+    pub fn clear(&mut self)
+        ensures { self.new ≡ [] }
+    {
+        self.len = 0;
     }
 }
 
@@ -122,7 +134,9 @@ mod tests {
         cells.push(9);
         let copy = Cells::from_slice(cells.as_slice());
         assert_eq!(rt; copy.as_slice(), [0, 5, 7, 9].as_slice());
-        let picked = Cells::pick(&[0, 5, 7], &[2, 0]);
-        assert_eq!(rt; picked.as_slice(), [7, 0].as_slice());
+        cells.take_part(&[0, 5, 7], &[2, 0]);
+        assert_eq!(rt; cells.as_slice(), [7, 0].as_slice());
+        cells.take_all(&[4]);
+        assert_eq!(rt; cells.as_slice(), [4].as_slice());
     }
 }

@@ -4,7 +4,6 @@ use Rattle.std.proofs.Common.{
   ℕ,
   ◌+◌,
   ◌*◌,
-  ◌<◌,
   ◌≤◌,
   Bool,
   true,
@@ -23,11 +22,11 @@ use Rattle.std.proofs.Common.{
   arith,
 }
 use Rattle.std.specs.Prelude.{◌↔◌, Option, None, Some}
+use Rattle.std.proofs.lemmas.Bool.{false≢true}
 use Rattle.std.proofs.lemmas.Option.{same_Some, none-some}
 use Rattle.std.proofs.lemmas.List.{length-append}
 use Rattle.djq_machine.specs.Store.{most_steps}
 use Rattle.djq_index.specs.Tuple.{same}
-use Rattle.djq_index.proofs.Counts.{cnt_split}
 use Rattle.djq_index.proofs.Apart.{cnt_once}
 use Rattle.djq_index.proofs.Tuples.{same_cases, is_same, one_true, one_other}
 use Rattle.djq_tree.specs.Tree.{Tree}
@@ -35,13 +34,13 @@ use Rattle.djq_reduct.specs.Tables.{entries_at}
 use Rattle.djq_reduct.specs.Reducts.{Reducts, IsReducts}
 use Rattle.djq_reduct.specs.Marks.{IsBare}
 use Rattle.djq_reduct.proofs.Family.{apart_at}
-use Rattle.djq_propagate.specs.Updates.{HasInserted, HasMarked, HasKept, HasDropped}
+use Rattle.djq_propagate.specs.Updates.{HasInserted, HasMarked, HasKept, HasGained, HasLost}
 use Rattle.djq_cursor.specs.Listing.{IsListing}
 use Rattle.djq_cursor.specs.Changed.{IsGained}
 use Rattle.djq_cursor.specs.Log.{Log}
 use Rattle.djq_query.specs.Pattern.{Shape, Gives}
 use Rattle.djq_live.specs.Changes.{Gains, Loses}
-use Rattle.djq_live.specs.Stepping.{ChangesAt, ListsWhere}
+use Rattle.djq_live.specs.Stepping.{ChangesAt, ListsAll, ListsWhere}
 use Rattle.djq_live.proofs.Giving.{one_of, only_one}
 use Rattle.djq_live.proofs.Gaining.{gained_none, gained_same, listing_as, same_more}
 use Rattle.djq_live.proofs.Telling.{tells_none, tells_both, counts_none, counts_both}
@@ -54,23 +53,17 @@ pub only_as : (p : Shape) (cells u v : List ℕ) → v ≡ u → IsOnly (Some u)
     → IsOnly (Some v) p cells
 only_as p cells u v e only = subst (λ (w : List ℕ). IsOnly (Some w) p cells) (sym e) only
 
-lower : (r s : Reducts) (i : ℕ) → s.tree ≡ r.tree → i < r.tree.leaves → i < s.tree.leaves
-lower r s i e low = subst (λ (t : Tree). i < t.leaves) (sym e) low
-
 -- ---- what comes
 
-pub inserted_gains : (cells u : List ℕ) (p : Shape) (j : ℕ) (old mid new : Reducts)
-    → IsOnly (Some u) p cells → HasInserted old mid j u → HasKept mid new
+pub gained_gains : (cells u : List ℕ) (p : Shape) (j : ℕ) (old new : Reducts)
+    → IsOnly (Some u) p cells → HasGained old new j u
     → ChangesAt (λ q es fs. Gains q cells es fs) p j old new
-inserted_gains cells u p j old mid new only came kept = record {
-  sound = kept.sound;
-  tree = kept.tree ∙ sym came.without.tree;
-  bare = kept.bare;
+gained_gains cells u p j old new only came = record {
+  sound = came.sound;
+  tree = came.tree;
+  bare = came.bare;
   leaf = λ v.
-      let a = kept.tables.tuples j v in
-      let s = cnt_split (entries_at mid.tables j) v in
-      let l = came.without.leaf v in
-      let m = came.marked v in (
+      let l = came.leaf v in (
         λ there.
             elim (same_cases u v) [
               | inl is ↦ inr (one_of p v cells ((only v).0 (ap (λ (w : List ℕ). Some w) is)))
@@ -85,10 +78,7 @@ inserted_gains cells u p j old mid new only came kept = record {
                   omega arith
             ],
       );
-  others = λ i low apart v.
-      kept.tables.tuples i v
-      ∙ sym (came.without.others i v (subst (λ (t : Tree). i < t.leaves) came.without.tree low)
-      apart);
+  others = λ i low apart v. came.others i v low apart;
 }
 
 pub unmatched_gains : (cells : List ℕ) (p : Shape) (j : ℕ) (r : Reducts) → IsOnly None p cells
@@ -110,18 +100,15 @@ unmatched_gains cells p j r only sound bare = record {
 
 -- ---- what goes
 
-pub marked_loses : (cells u : List ℕ) (p : Shape) (j : ℕ) (old mid new : Reducts)
-    → IsOnly (Some u) p cells → IsReducts old → HasMarked old mid j u → HasDropped mid new j
+pub lost_loses : (cells u : List ℕ) (p : Shape) (j : ℕ) (old new : Reducts)
+    → IsOnly (Some u) p cells → IsReducts old → HasLost old new j u
     → ChangesAt (λ q es fs. Loses q cells es fs) p j old new
-marked_loses cells u p j old mid new only sound marked went = record {
+lost_loses cells u p j old new only sound went = record {
   sound = went.sound;
-  tree = went.without.tree ∙ marked.tree;
+  tree = went.tree;
   bare = went.bare;
   leaf = λ v.
-      let a = marked.tables.tuples j v in
-      let s = cnt_split (entries_at mid.tables j) v in
-      let l = went.without.leaf v in
-      let m = marked.marked v in
+      let l = went.leaf v in
       let once = cnt_once (entries_at old.tables j) v
       (apart_at old.tables j (sound.family.sound j)) in (
         λ there. (
@@ -140,9 +127,7 @@ marked_loses cells u p j old mid new only sound marked went = record {
                   omega arith
             ],
       );
-  others = λ i low apart v.
-      went.without.others i v (lower old mid i marked.tree low) apart
-      ∙ marked.tables.tuples i v;
+  others = λ i low apart v. went.others i v low apart;
 }
 
 pub unmatched_loses : (cells : List ℕ) (p : Shape) (j : ℕ) (r : Reducts) → IsOnly None p cells
@@ -199,12 +184,12 @@ lists_both true came P Q R h c d old mid new x y z both l k = record {
 lists_both false came P Q R h c d old mid new x y z both l k = (k.0 ∙ l.0, k.1 ∙ l.1)
 
 -- the listing of the marks, once they are cleared
-pub inserted_lists : (wanted came : Bool) (j : ℕ) (u : List ℕ) (old mid new : Reducts)
+pub inserted_lists : (came : Bool) (j : ℕ) (u : List ℕ) (old mid new : Reducts)
     (log told : Log) (before now : ℕ) → HasInserted old mid j u → HasKept mid new
-    → ListsWhere wanted came (IsGained mid old) (length mid.tree.head) 1 log told before now
-    → ListsWhere wanted came (IsGained new old) (length old.tree.head) 1 log told before now
-inserted_lists wanted came j u old mid new log told before now came_in kept l =
-    lists_as wanted came (IsGained mid old) (IsGained new old) (length mid.tree.head)
+    → ListsAll came (IsGained mid old) (length mid.tree.head) 1 log told before now
+    → ListsAll came (IsGained new old) (length old.tree.head) 1 log told before now
+inserted_lists came j u old mid new log told before now came_in kept l =
+    lists_as true came (IsGained mid old) (IsGained new old) (length mid.tree.head)
     (length old.tree.head) 1 log told before now
     (ap (λ (t : Tree). length t.head) (sym came_in.without.tree))
     (λ v. gained_same old mid new v came_in.sound kept.sound
@@ -212,15 +197,27 @@ inserted_lists wanted came j u old mid new log told before now came_in kept l =
     (same_more new mid (sym kept.tree) (λ k w. sym (kept.tables.tuples k w))))
     l
 
-pub marked_lists : (wanted came : Bool) (j : ℕ) (u : List ℕ) (old mid new : Reducts)
+pub marked_lists : (came : Bool) (j : ℕ) (u : List ℕ) (old mid new : Reducts)
     (log told : Log) (before now : ℕ) → IsReducts old → HasMarked old mid j u
-    → ListsWhere wanted came (IsGained mid new) (length mid.tree.head) 1 log told before now
-    → ListsWhere wanted came (IsGained old new) (length old.tree.head) 1 log told before now
-marked_lists wanted came j u old mid new log told before now sound marked l =
-    lists_as wanted came (IsGained mid new) (IsGained old new) (length mid.tree.head)
+    → ListsAll came (IsGained mid new) (length mid.tree.head) 1 log told before now
+    → ListsAll came (IsGained old new) (length old.tree.head) 1 log told before now
+marked_lists came j u old mid new log told before now sound marked l =
+    lists_as true came (IsGained mid new) (IsGained old new) (length mid.tree.head)
     (length old.tree.head) 1 log told before now
     (ap (λ (t : Tree). length t.head) marked.tree)
     (λ v. gained_same new mid old v marked.sound sound
     (same_more mid old (sym marked.tree) (λ k w. sym (marked.tables.tuples k w)))
     (same_more old mid marked.tree marked.tables.tuples))
     l
+
+-- where the delta is wanted, and where it isn't
+pub lists_wanted : (wanted came : Bool) (P : List ℕ → Type 0) (h calls : ℕ) (old new : Log)
+    (before now : ℕ) → wanted ≡ true → ListsAll came P h calls old new before now
+    → ListsWhere wanted came P h calls old new before now
+lists_wanted true came P h calls old new before now e l = l
+lists_wanted false came P h calls old new before now e l = absurd (false≢true e)
+
+pub lists_nothing : (wanted came : Bool) (P : List ℕ → Type 0) (h calls : ℕ) (log : Log) (n : ℕ)
+    → wanted ≡ false → ListsWhere wanted came P h calls log log n n
+lists_nothing true came P h calls log n e = absurd (false≢true (sym e))
+lists_nothing false came P h calls log n e = (refl, refl)

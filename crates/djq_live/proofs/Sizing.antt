@@ -5,7 +5,7 @@ use Rattle.std.proofs.lemmas.Bool.{cases_eq, cases_lt}
 use Rattle.std.proofs.Math.Seq.{take-length}
 use Rattle.djq_index.specs.Tuple.{same, one}
 use Rattle.djq_index.specs.Entries.{Entry, cnt}
-use Rattle.djq_index.proofs.Counts.{cnt_cons, cnt_split}
+use Rattle.djq_index.proofs.Counts.{cnt_cons}
 use Rattle.djq_index.proofs.Apart.{cnt_once, stands}
 use Rattle.djq_index.proofs.Tuples.{one_same}
 use Rattle.djq_tree.specs.Flat.{HasEqualMeets}
@@ -14,7 +14,8 @@ use Rattle.djq_reduct.specs.Tables.{entries_at}
 use Rattle.djq_reduct.specs.Reducts.{Reducts, IsReducts}
 use Rattle.djq_reduct.proofs.Family.{apart_at}
 use Rattle.djq_propagate.specs.Touches.{HaveFew}
-use Rattle.djq_propagate.specs.Updates.{HasInserted, HasMarked, HasKept, HasAtMost, paths}
+use Rattle.djq_propagate.specs.Updates.{HasInserted, HasMarked, HasKept, HasGained, HasAtMost, paths}
+use Rattle.djq_propagate.proofs.Updating.{inserted_gained}
 use Rattle.djq_propagate.proofs.Measuring.{length_even, length_less}
 use Rattle.djq_query.specs.declared.numbered.NumberedAtom.{NumberedAtom}
 use Rattle.djq_query.specs.Pattern.{Shape}
@@ -33,47 +34,34 @@ use Rattle.djq_live.proofs.Passing.{counts_over, part_few}
 
 -- ---- a tuple comes
 
-longer_leaf : (j : ℕ) (u : List ℕ) (old mid : Reducts) → HasInserted old mid j u
-    → length (entries_at mid.tables j) ≤ length (entries_at old.tables j) + 1
-longer_leaf j u old mid came =
-    let es = entries_at mid.tables j in
+longer_leaf : (j : ℕ) (u : List ℕ) (old new : Reducts) → HasGained old new j u
+    → length (entries_at new.tables j) ≤ length (entries_at old.tables j) + 1
+longer_leaf j u old new came =
+    let es = entries_at new.tables j in
     let ds = entries_at old.tables j in
-    let split = cnt_split es u in
-    let marked = came.marked u in
-    let here = one_same u in
-    let s = stands es u (omega arith) in
+    let s = stands es u (let c = came.leaf u in let here = one_same u in omega arith) in
     let more : length es ≤ length (s.entry ∷ ds) =
     length_less es (s.entry ∷ ds)
     (λ v.
     let first = cnt_cons s.entry ds v in
     let is : one (same s.entry.tuple v) ≡ one (same u v) =
     ap (λ (w : List ℕ). one (same w v)) s.tuple in
-    let parts = cnt_split es v in
-    let plain = came.without.leaf v in
-    let mark = came.marked v in
+    let leaf = came.leaf v in
     omega arith) in
     omega arith
 
-same_leaf : (j : ℕ) (u : List ℕ) (old mid : Reducts) (i : ℕ) → HasInserted old mid j u
+same_leaf : (j : ℕ) (u : List ℕ) (old new : Reducts) (i : ℕ) → HasGained old new j u
     → i < old.tree.leaves → i ≢ j
-    → length (entries_at mid.tables i) ≡ length (entries_at old.tables i)
-same_leaf j u old mid i came low apart =
-    length_even (entries_at mid.tables i) (entries_at old.tables i)
-    (λ v. sym
-    (came.without.others i v (subst (λ (t : Tree). i < t.leaves) came.without.tree low) apart))
+    → length (entries_at new.tables i) ≡ length (entries_at old.tables i)
+same_leaf j u old new i came low apart =
+    length_even (entries_at new.tables i) (entries_at old.tables i)
+    (λ v. came.others i v low apart)
 
-pub inserted_grows : (j : ℕ) (u : List ℕ) (old mid new : Reducts) → HasInserted old mid j u
-    → HasKept mid new → GrowsAt j old new
-inserted_grows j u old mid new came kept = record {
-  leaf = (let a = longer_leaf j u old mid came in
-      let b = length_even (entries_at new.tables j) (entries_at mid.tables j)
-      (kept.tables.tuples j) in
-      omega arith);
-  others = λ i low apart.
-      let a = same_leaf j u old mid i came low apart in
-      let b = length_even (entries_at new.tables i) (entries_at mid.tables i)
-      (kept.tables.tuples i) in
-      omega arith;
+pub gained_grows : (j : ℕ) (u : List ℕ) (old new : Reducts) → HasGained old new j u
+    → GrowsAt j old new
+gained_grows j u old new came = record {
+  leaf = longer_leaf j u old new came;
+  others = λ i low apart. (let a = same_leaf j u old new i came low apart in omega arith);
 }
 
 -- ---- what it counts
@@ -92,34 +80,43 @@ sum_removed p n b x y z some bounds first second =
     let b : p * (1 + n) ≡ p * n + p = omega arith in
     omega arith
 
-room_after : (j : ℕ) (u : List ℕ) (n : ℕ) (old mid : Reducts) → HasInserted old mid j u
-    → HasRoom old j n → HasAtMost mid (n + 1)
-room_after j u n old mid came room = record {
+room_after : (j : ℕ) (u : List ℕ) (n : ℕ) (old new : Reducts) → HasGained old new j u
+    → HasRoom old j n → HasAtMost new (n + 1)
+room_after j u n old new came room = record {
   each = λ i low.
-      let lower : i < old.tree.leaves =
-      subst (λ (t : Tree). i < t.leaves) (sym came.without.tree) low in
+      let lower : i < old.tree.leaves = subst (λ (t : Tree). i < t.leaves) came.tree low in
       elim (cases_eq i j) [
         | inl here ↦
-            subst (λ (k : ℕ). length (entries_at mid.tables k) ≤ n + 1) (sym here)
-            (let a = longer_leaf j u old mid came in let b = room.leaf in omega arith)
+            subst (λ (k : ℕ). length (entries_at new.tables k) ≤ n + 1) (sym here)
+            (let a = longer_leaf j u old new came in let b = room.leaf in omega arith)
         | inr apart ↦
-            let a = same_leaf j u old mid i came lower apart in
+            let a = same_leaf j u old new i came lower apart in
             let b = room.all.each i lower in
             omega arith
       ];
 }
 
-pub insertion_counts : (j : ℕ) (u : List ℕ) (old mid : Reducts) (x y z : ℕ)
-    → HasInserted old mid j u
+kept_most : (old new : Reducts) (n : ℕ) → HasKept old new → HasAtMost new n → HasAtMost old n
+kept_most old new n kept few = record {
+  each = λ i low.
+      let a = few.each i (subst (λ (t : Tree). i < t.leaves) (sym kept.tree) low) in
+      let b = length_even (entries_at new.tables i) (entries_at old.tables i)
+      (kept.tables.tuples i) in
+      omega arith;
+}
+
+pub insertion_counts : (j : ℕ) (u : List ℕ) (old mid new : Reducts) (x y z : ℕ)
+    → HasInserted old mid j u → HasKept mid new
     → ((n : ℕ) → HasAtMost mid n → y ≤ x + 10 * (paths old.tree * n))
     → ((n : ℕ) → HasAtMost mid n → z ≤ y + paths mid.tree * (1 + n))
     → (HasEqualMeets old.tree → HaveFew mid.tables)
     → (HasEqualMeets old.tree → y ≤ x + 10 * (paths old.tree * 1))
     → (HaveFew mid.tables → z ≤ y + paths mid.tree * (1 + 1)) → CountsLeaf old j 1 x z
-insertion_counts j u old mid x y z came first second marked flat cleared = λ n b room bounds.
+insertion_counts j u old mid new x y z came kept first second marked flat cleared = λ n b room bounds.
     elim bounds [
       | inl linear ↦
-          let few = room_after j u n old mid came room in
+          let few = kept_most mid new (n + 1) kept
+          (room_after j u n old new (inserted_gained old mid new j u came kept) room) in
           sum_inserted (paths old.tree) n b x y z linear (first (n + 1) few)
           (subst (λ (t : Tree). z ≤ y + paths t * (1 + (n + 1))) (sym came.without.tree)
           (second (n + 1) few))
@@ -130,6 +127,31 @@ insertion_counts j u old mid x y z came first second marked flat cleared = λ n 
           (cleared (marked even.0)) in
           let d = even.1 in
           omega arith
+    ]
+
+-- without marks
+pub addition_counts : (j : ℕ) (u : List ℕ) (old new : Reducts) (x z : ℕ)
+    → HasGained old new j u
+    → ((n : ℕ) → HasAtMost new n → z ≤ x + 4 * (paths old.tree * n))
+    → (HasEqualMeets old.tree → z ≤ x + 4 * (paths old.tree * 1)) → CountsLeaf old j 1 x z
+addition_counts j u old new x z came counted flat = λ n b room bounds.
+    elim bounds [
+      | inl linear ↦ (let a = counted (n + 1) (room_after j u n old new came room) in omega arith)
+      | inr even ↦ (let a = flat even.0 in let d = even.1 in omega arith)
+    ]
+
+sum_dropped : (p n b x z : ℕ) → 16 * (p * (n + 1)) ≤ b → z ≤ x + 5 * (p * n) → z ≤ x + 1 * b
+sum_dropped p n b x z bounds counted =
+    let a : p * (n + 1) ≡ p * n + p = omega arith in
+    omega arith
+
+pub dropping_counts : (old : Reducts) (x z : ℕ)
+    → ((n : ℕ) → HasAtMost old n → z ≤ x + 5 * (paths old.tree * n))
+    → (HasEqualMeets old.tree → z ≤ x + 5 * (paths old.tree * 1)) → CountsLeaves old 1 x z
+dropping_counts old x z counted flat = λ n b few bounds.
+    elim bounds [
+      | inl linear ↦ sum_dropped (paths old.tree) n b x z linear (counted n few)
+      | inr even ↦ (let a = flat even.0 in let d = even.1 in omega arith)
     ]
 
 -- a leaf that is refused counts at most twice a bound

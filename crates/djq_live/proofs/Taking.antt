@@ -11,13 +11,12 @@ use Rattle.djq_model.specs.Typed.{fits, is_of}
 use Rattle.djq_model.specs.declared.relation.ColumnType.{ColumnType}
 use Rattle.djq_index.specs.Tuple.{same, one}
 use Rattle.djq_index.specs.Entries.{Entry, cnt}
-use Rattle.djq_index.proofs.Counts.{cnt_split}
 use Rattle.djq_index.proofs.Tuples.{same_cases, same_refl}
 use Rattle.djq_tree.specs.Tree.{Tree}
 use Rattle.djq_reduct.specs.Tables.{entries_at}
 use Rattle.djq_reduct.specs.Reducts.{Reducts}
 use Rattle.djq_reduct.specs.Marks.{IsBare}
-use Rattle.djq_propagate.specs.Updates.{HasInserted, HasKept}
+use Rattle.djq_propagate.specs.Updates.{HasGained}
 use Rattle.djq_propagate.proofs.Measuring.{length_less}
 use Rattle.djq_query.specs.declared.numbered.NumberedAtom.{NumberedAtom}
 use Rattle.djq_query.specs.Pattern.{Shape}
@@ -33,7 +32,7 @@ use Rattle.djq_live.proofs.Terms.{both}
 use Rattle.djq_live.proofs.Giving.{one_is, one_of, only_one}
 use Rattle.djq_live.proofs.Filled.{leaf_empty, leaf_gains, leaf_filled}
 use Rattle.djq_live.proofs.Leafing.{IsOnly}
-use Rattle.djq_live.proofs.Sizing.{inserted_grows}
+use Rattle.djq_live.proofs.Sizing.{gained_grows}
 
 -- ---- one row
 
@@ -45,25 +44,13 @@ one_isnt : (u v : List ℕ) → same u v ≡ false → one (same u v) ≡ 0
 unfolding one
 one_isnt u v e = rw e refl
 
--- what a leaf holds once a tuple came, and its marks are cleared
-came_count : (old mid new : Reducts) (leaf : ℕ) (u v : List ℕ) → HasInserted old mid leaf u
-    → HasKept mid new
-    → cnt (entries_at new.tables leaf) v ≡ cnt (entries_at old.tables leaf) v + one (same u v)
-came_count old mid new leaf u v i k =
-    let kept = k.tables.tuples leaf v in
-    let split = cnt_split (entries_at mid.tables leaf) v in
-    let plain = i.without.leaf v in
-    let marked = i.marked v in
-    omega arith
-
-pub took_row : (p : Shape) (leaf : ℕ) (cells u : List ℕ) (old mid new : Reducts)
-    → HasInserted old mid leaf u → HasKept mid new → IsOnly (Some u) p cells
-    → TakesRow p leaf cells old new
-took_row p leaf cells u old mid new i k exact = record {
-  tree = k.tree ∙ sym i.without.tree;
-  bare = k.bare;
+pub took_row : (p : Shape) (leaf : ℕ) (cells u : List ℕ) (old new : Reducts)
+    → HasGained old new leaf u → IsOnly (Some u) p cells → TakesRow p leaf cells old new
+took_row p leaf cells u old new came exact = record {
+  tree = came.tree;
+  bare = came.bare;
   gains = λ v.
-      let count = came_count old mid new leaf u v i k in (
+      let count = came.leaf v in (
         λ there. elim (same_cases u v) [
           | inl is ↦ inr (one_of p v cells ((exact v).0 (ap (λ (w : List ℕ). Some w) is)))
           | inr isnt ↦ inl (let none = one_isnt u v isnt in omega arith)
@@ -77,11 +64,8 @@ took_row p leaf cells u old mid new i k exact = record {
               omega arith
         ],
       );
-  grows = (inserted_grows leaf u old mid new i k).leaf;
-  others = λ j low other v.
-      k.tables.tuples j v
-      ∙ sym (i.without.others j v
-      (let e = ap (λ (t : Tree). t.leaves) i.without.tree in omega arith) other);
+  grows = (gained_grows leaf u old new came).leaf;
+  others = λ j low other v. came.others j v low other;
 }
 
 -- ---- a relation's rows

@@ -14,7 +14,7 @@ ghost use Rattle.djq_live.specs.Building.{
 ghost use Rattle.djq_live.specs.Stepping.{Lacks};
 
 use djq_model::NoMem;
-use djq_propagate::{finish_insertion, insert_leaf};
+use djq_propagate::add_leaf;
 use djq_query::{NumberedAtom, Pattern};
 use djq_reduct::Reducts;
 use djq_rows::{Catalog, RelationId};
@@ -40,8 +40,7 @@ fn insert_row<U: Ledger>(
     let Some(tuple) = pattern.matches(row) else {
         return Ok(());
     };
-    insert_leaf(reducts, leaf, tuple.as_slice(), update)?;
-    finish_insertion(reducts, leaf, update);
+    add_leaf(reducts, leaf, tuple.as_slice(), update)?;
     Ok(())
 }
 

@@ -1,11 +1,12 @@
 //! What an update does to reducts, leaf after leaf.
 ghost use Rattle.std.specs.Prelude.{◌≡◌, ◌+◌, ◌<◌, ◌≤◌, true, false, length, OnOk, OnErr};
 ghost use Rattle.djq_tree.specs.Labels.{label_at};
+ghost use Rattle.djq_index.specs.Entries.{cnt};
 ghost use Rattle.djq_reduct.specs.Tables.{entries_at};
 ghost use Rattle.djq_reduct.specs.Reducts as spec;
 ghost use Rattle.djq_reduct.specs.Reducts.{IsReducts};
 ghost use Rattle.djq_reduct.specs.Marks.{AreMarks, IsBare, IsWithout};
-ghost use Rattle.djq_propagate.specs.Updates.{HasKept};
+ghost use Rattle.djq_propagate.specs.Updates.{HasGained, HasKept, HasLost};
 ghost use Rattle.djq_cursor.specs.Changed.{IsGained};
 ghost use Rattle.djq_live.specs.Changes.{Gains, Loses};
 ghost use Rattle.djq_live.specs.Stepping.{
@@ -27,7 +28,9 @@ ghost use Rattle.djq_live.specs.Stepping.{
 
 use djq_cursor::{DeltaCursor, DeltaLog, changes_are};
 use djq_model::NoMem;
-use djq_propagate::{finish_insertion, finish_removal, insert_leaf, mark_removal};
+use djq_propagate::{
+    add_leaf, drop_leaf, finish_insertion, finish_removal, insert_leaf, mark_removal,
+};
 use djq_query::{NumberedAtom, Pattern};
 use djq_reduct::{Answer, Reducts};
 use djq_steps::{Ledgers, Steps, Tally};
@@ -56,24 +59,59 @@ fn list_changes<L: Ledger>(
     }
 }
 
-// The same where the delta is wanted; else it does nothing.
-fn list_where<L: Ledger>(
-    reducts: &Reducts,
+// Puts a tuple into a leaf that lacks it, and tells of the answers that come.
+fn add_and_tell<L: Ledgers>(
+    reducts: &mut Reducts,
     leaf: usize,
-    came: bool,
-    wanted: bool,
+    tuple: &[u64],
     log: &mut DeltaLog,
-    listing: &mut Tally<L>,
-)
-    requires leaf { leaf < reducts.now.tree.leaves }
-    requires marks { AreMarks reducts.now.tree reducts.now.tables leaf }
-    ensures { (small : spec.Reducts) → IsReducts small → IsWithout reducts.now small leaf
-        → ListsWhere wanted came (IsGained reducts.now small) (length reducts.now.tree.head) 1
-        log.old log.new listing.old listing.new }
+    steps: &mut Steps<L>,
+) -> Result<(), NoMem>
+    requires leaf { leaf < reducts.old.tree.leaves }
+    requires wide { length tuple.now ≡ length (label_at reducts.old.tree.labels leaf) }
+    requires absent { cnt (entries_at reducts.old.tables leaf) tuple.now ≡ 0 }
+    requires few { length (entries_at reducts.old.tables leaf) < 4294967295 }
+    requires bare { IsBare reducts.old.tables }
+    ensures gained { OnOk result (HasGained reducts.old reducts.new leaf tuple.now) }
+    ensures listed { OnOk result (ListsAll true (IsGained reducts.new reducts.old)
+        (length reducts.old.tree.head) 1 log.old log.new steps.old.listing steps.new.listing) }
+    ensures refused { OnErr result (HasKept reducts.old reducts.new) }
+    ensures log { OnErr result (log.new ≡ log.old) }
+    ensures listing { OnErr result (steps.new.listing ≡ steps.old.listing) }
+    ensures updates { OnOk result (CountsLeaf reducts.old leaf 1
+        steps.old.update steps.new.update) }
+    ensures refusal { OnErr result (CountsLeaf reducts.old leaf 2
+        steps.old.update steps.new.update) }
+    ensures rows { steps.new.rows ≡ steps.old.rows }
 {
-    if wanted {
-        list_changes(reducts, leaf, came, log, listing);
-    }
+    reducts.laws();
+    insert_leaf(reducts, leaf, tuple, &mut steps.update)?;
+    list_changes(reducts, leaf, true, log, &mut steps.listing);
+    finish_insertion(reducts, leaf, &mut steps.update);
+    Ok(())
+}
+
+// Takes a tuple out of a leaf that has it, and tells of the answers that go.
+fn take_and_tell<L: Ledgers>(
+    reducts: &mut Reducts,
+    leaf: usize,
+    tuple: &[u64],
+    log: &mut DeltaLog,
+    steps: &mut Steps<L>,
+)
+    requires leaf { leaf < reducts.old.tree.leaves }
+    requires there { 0 < cnt (entries_at reducts.old.tables leaf) tuple.now }
+    requires bare { IsBare reducts.old.tables }
+    ensures lost { HasLost reducts.old reducts.new leaf tuple.now }
+    ensures listed { ListsAll false (IsGained reducts.old reducts.new)
+        (length reducts.old.tree.head) 1 log.old log.new steps.old.listing steps.new.listing }
+    ensures updates { CountsLeaves reducts.old 1 steps.old.update steps.new.update }
+    ensures rows { steps.new.rows ≡ steps.old.rows }
+{
+    reducts.laws();
+    mark_removal(reducts, leaf, tuple, &mut steps.update);
+    list_changes(reducts, leaf, false, log, &mut steps.listing);
+    finish_removal(reducts, leaf, &mut steps.update);
 }
 
 // Puts the tuple of a row, where there is one, into a leaf that lacks it.
@@ -110,9 +148,11 @@ fn add_to_leaf<L: Ledgers>(
     let Some(tuple) = pattern.matches(cells) else {
         return Ok(());
     };
-    insert_leaf(reducts, leaf, tuple.as_slice(), &mut steps.update)?;
-    list_where(reducts, leaf, true, wanted, log, &mut steps.listing);
-    finish_insertion(reducts, leaf, &mut steps.update);
+    if wanted {
+        add_and_tell(reducts, leaf, tuple.as_slice(), log, steps)?;
+        return Ok(());
+    }
+    add_leaf(reducts, leaf, tuple.as_slice(), &mut steps.update)?;
     Ok(())
 }
 
@@ -142,9 +182,11 @@ fn take_from_leaf<L: Ledgers>(
     let Some(tuple) = pattern.matches(cells) else {
         return;
     };
-    mark_removal(reducts, leaf, tuple.as_slice(), &mut steps.update);
-    list_where(reducts, leaf, false, wanted, log, &mut steps.listing);
-    finish_removal(reducts, leaf, &mut steps.update);
+    if wanted {
+        take_and_tell(reducts, leaf, tuple.as_slice(), log, steps);
+        return;
+    }
+    drop_leaf(reducts, leaf, tuple.as_slice(), &mut steps.update);
 }
 
 /// Puts the tuples of a row into the leaves over a relation, leaf after leaf, and says how many
@@ -256,8 +298,7 @@ fn give_from_leaf<L: Ledgers>(
     let Some(tuple) = pattern.matches(cells) else {
         return;
     };
-    mark_removal(reducts, leaf, tuple.as_slice(), &mut steps.update);
-    finish_removal(reducts, leaf, &mut steps.update);
+    drop_leaf(reducts, leaf, tuple.as_slice(), &mut steps.update);
 }
 
 /// Gives the tuples of a row back out of the leaves over a relation, leaf after leaf, up to a leaf.

@@ -4,7 +4,7 @@ use Rattle.std.specs.Prelude.{nat_lt, ◌||◌, ◌==◌, Result, Ok, Err, OnErr
 use Rattle.std.proofs.lemmas.Bool.{cases_eq, cases_Bool, ltb-true, ltb-false, eqb-true, eq-eqb, ne_eqb, false≢true}
 use Rattle.djq_index.specs.declared.place.Place.{Place}
 use Rattle.djq_index.specs.Tuple.{same, pick}
-use Rattle.djq_index.specs.Entries.{Entry, supp, cnt, grp, marks, plain, head_at}
+use Rattle.djq_index.specs.Entries.{Entry, supp, cnt, grp, marks, head_at}
 use Rattle.djq_index.specs.Table.{Table, IsAt, IsLive}
 use Rattle.djq_index.proofs.Groups.{grp_yes, grp_no}
 use Rattle.djq_index.proofs.Marks.{marks_yes, marks_no}

@@ -12,6 +12,7 @@ use Rattle.djq_index.specs.Changes.{InsertedAs, Touched, Supported}
 use Rattle.djq_index.proofs.Apart.{supported_in, supported_out}
 use Rattle.djq_index.proofs.Changing.{inserted_supported}
 use Rattle.djq_index.specs.Table.{Table, IsTable, AreSupported, AreWide, IsAt}
+use Rattle.djq_tree.specs.Tree.{Tree}
 use Rattle.djq_reduct.specs.Tables.{no_table, table_at, entries_at, key_at, width_at}
 use Rattle.djq_reduct.specs.Reducts.{IsFamily}
 use Rattle.djq_propagate.specs.Sizes.{size}
@@ -153,3 +154,7 @@ wide_middle width (x ∷ xs) e ys h = wide_middle width xs e ys h.1
 
 pub wide_at : (width : ℕ) (es : List Entry) (p : Place) (u : List ℕ) → AreWide width es → IsAt es p u → length u ≡ width
 wide_at width es p u h a = ap (λ (v : List ℕ). length v) (sym a.tuple) ∙ wide_middle width a.front a.entry a.back (subst (λ (xs : List Entry). AreWide width xs) a.is h)
+
+pub wide_family : (t : Tree) (ts : List Table) (k : ℕ) (p : Place) (u : List ℕ) → IsFamily t ts → IsAt (entries_at ts k) p u → length u ≡ width_at ts k
+unfolding entries_at width_at
+wide_family t ts k p u f a = wide_at (table_at ts k).width (table_at ts k).entries p u (f.sound k).wide a

@@ -310,6 +310,25 @@ undone before middle after a r s x y = one_family before after r s (record {
   ];
 })
 
+-- an update with marks leaves what one without them does, once it is ended
+pub inserted_gained : (old mid new : Reducts) (a : ℕ) (u : List ℕ) → HasInserted old mid a u → HasKept mid new → HasGained old new a u
+inserted_gained old mid new a u x k = record {
+  sound = k.sound;
+  tree = k.tree ∙ sym x.without.tree;
+  leaf = λ v. omega (arith, k.tables.tuples a v, cnt_split (entries_at mid.tables a) v, x.without.leaf v, x.marked v);
+  others = λ j v low apart. k.tables.tuples j v ∙ sym (x.without.others j v (subst (λ (t : Tree). j < t.leaves) x.without.tree low) apart);
+  bare = k.bare;
+}
+
+pub marked_lost : (old mid new : Reducts) (a : ℕ) (u : List ℕ) → HasMarked old mid a u → HasDropped mid new a → HasLost old new a u
+marked_lost old mid new a u x d = record {
+  sound = d.sound;
+  tree = d.without.tree ∙ x.tree;
+  leaf = λ v. omega (arith, x.tables.tuples a v, cnt_split (entries_at mid.tables a) v, d.without.leaf v, x.marked v);
+  others = λ j v low apart. d.without.others j v (subst (λ (t : Tree). j < t.leaves) (sym x.tree) low) apart ∙ x.tables.tuples j v;
+  bare = d.bare;
+}
+
 -- reducts without tuples have no marks
 pub bare_empty : (ts : List Table) → ((k : ℕ) → entries_at ts k ≡ []) → IsBare ts
 unfolding cnt marks

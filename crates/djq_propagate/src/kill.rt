@@ -1,22 +1,23 @@
 //! A tuple goes from a node, and what it took along goes from the nodes above it. This takes no memory.
 
-ghost use Rattle.std.specs.Prelude.{◌≡◌, ℕ, ◌+◌, ◌*◌, ◌<◌, ◌≤◌, List, length, take};
+ghost use Rattle.std.specs.Prelude.{◌≡◌, ◌+◌, ◌*◌, ◌<◌, ◌≤◌, length, take};
 ghost use Rattle.djq_index.specs.Entries.{cnt, grp};
-ghost use Rattle.djq_index.specs.Table.{IsAt, IsLive};
+ghost use Rattle.djq_index.specs.Table.{IsAt};
 ghost use Rattle.djq_tree.specs.declared.node.Node.TheVariants.{Trim, Meet};
 ghost use Rattle.djq_reduct.specs.Tables.{entries_at, key_at, width_at};
 ghost use Rattle.djq_propagate.specs.Sizes.{size};
 ghost use Rattle.djq_propagate.specs.Walks.{Ready, Died, Losing, Righted, Fewer, IsUnder, IsEmptied, IsFull};
 
 use crate::tables::{
-    find_at, first_at, is_shared_at, len_at, lower_at, next_at, part_of, remove_at, tuple_at,
+    find_at, first_at, is_shared_at, len_at, lower_at, next_at, part_of, read_at, remove_at,
 };
 use djq_index::{Place, Table};
+use djq_reduct::Cells;
 use djq_steps::Tally;
 use djq_tree::{Node, Tree};
 use std::sync::ledger::Ledger;
 
-/// Takes the tuple at a place out of the table of a node, and out of the tables above what stands by it
+/// Takes a tuple out of the table of a node, at its place, and out of the tables above what stands by it
 /// alone.
 #[cycle(kill)]
 pub(crate) fn kill<L: Ledger>(
@@ -24,17 +25,17 @@ pub(crate) fn kill<L: Ledger>(
     tables: &mut Vec<Table>,
     at: usize,
     place: Place,
+    tuple: &[u64],
     tally: &mut Tally<L>,
 )
     requires ready { Ready tree.now tables.old.items at }
-    requires live { IsLive (entries_at tables.old.items at) place }
-    ensures died { (u : List ℕ) → IsAt (entries_at tables.old.items at) place u → Died tree.now tables.old.items tables.new.items at u }
+    requires lies { IsAt (entries_at tables.old.items at) place tuple.now }
+    ensures died { Died tree.now tables.old.items tables.new.items at tuple.now }
     ensures fewer { Fewer tables.old.items tables.new.items }
     ensures counted { tally.new + 2 + 5 * size tables.new.items ≤ tally.old + 5 * size tables.old.items }
 {
-    let tuple = tuple_at(tables, at, place);
     remove_at(tables, at, place, tally);
-    fall(tree, tables, at, tuple.as_slice(), tally);
+    fall(tree, tables, at, tuple, tally);
 }
 
 /// The same for a tuple that its node's table has lost already.
@@ -85,13 +86,15 @@ fn fall_trim<L: Ledger>(
     ensures fewer { Fewer tables.old.items tables.new.items }
     ensures counted { tally.new + 5 * size tables.new.items ≤ tally.old + 2 + 5 * size tables.old.items }
 {
-    let part = part_of(tables, at, tuple);
-    match find_at(tables, up, part.as_slice(), tally) {
+    let mut part = Cells::new(0);
+    part_of(tables, at, tuple, &mut part);
+    let cells = part.as_slice();
+    match find_at(tables, up, cells, tally) {
         Some(place) => {
             if is_shared_at(tables, up, place) {
                 lower_at(tables, up, place, tally);
             } else {
-                kill(tree, tables, up, place, tally);
+                kill(tree, tables, up, place, cells, tally);
             }
         }
         None => {}
@@ -116,7 +119,7 @@ fn fall_guard<L: Ledger>(
     ensures counted { tally.new + 5 * size tables.new.items ≤ tally.old + 2 + 5 * size tables.old.items }
 {
     match find_at(tables, up, tuple, tally) {
-        Some(place) => kill(tree, tables, up, place, tally),
+        Some(place) => kill(tree, tables, up, place, tuple, tally),
         None => {}
     }
 }
@@ -160,11 +163,12 @@ pub(crate) fn empty_group<L: Ledger>(
     ensures fewer { Fewer tables.old.items tables.new.items }
     ensures counted { tally.new + 5 * size tables.new.items ≤ tally.old + 1 + 5 * size tables.old.items }
 {
+    let mut part = Cells::new(0);
     let mut next = first_at(tables, guard, cells, tally);
     for _done in 0..count {
         match next {
             Some(place) => {
-                let part = tuple_at(tables, guard, place);
+                read_at(tables, guard, place, &mut part);
                 kill_tuple(tree, tables, up, part.as_slice(), tally);
                 next = next_at(tables, guard, place, tally);
             }
@@ -191,7 +195,7 @@ pub(crate) fn kill_tuple<L: Ledger>(
     ensures counted { tally.new + 1 + 5 * size tables.new.items ≤ tally.old + 5 * size tables.old.items }
 {
     match find_at(tables, at, tuple, tally) {
-        Some(place) => kill(tree, tables, at, place, tally),
+        Some(place) => kill(tree, tables, at, place, tuple, tally),
         None => {}
     }
 }

@@ -11,10 +11,11 @@ ghost use Rattle.djq_propagate.specs.Walks.{Ready, Lived, Refused, Gaining, Righ
 
 use crate::kill::empty_group;
 use crate::tables::{
-    find_at, first_at, insert_at, is_small_at, len_at, next_at, part_of, raise_at, remove_at,
-    tuple_at,
+    find_at, first_at, insert_at, is_small_at, len_at, next_at, part_of, raise_at, read_at,
+    remove_at,
 };
 use djq_index::Table;
+use djq_reduct::Cells;
 use djq_steps::Tally;
 use djq_tree::{Node, Tree};
 use std::alloc::AllocError;
@@ -112,7 +113,8 @@ fn rise_trim<L: Ledger>(
     ensures flat { OnErr result (HasEqualMeets tree.now → tally.new + 2 ≤ tally.old + 5 * (length tree.now.nodes - at)) }
 {
     is_small_at(tables, at);
-    let part = part_of(tables, at, tuple);
+    let mut part = Cells::new(0);
+    part_of(tables, at, tuple, &mut part);
     let cells = part.as_slice();
     match find_at(tables, up, cells, tally) {
         Some(place) => {
@@ -147,7 +149,8 @@ fn rise_guard<L: Ledger>(
     ensures flat { OnErr result (HasEqualMeets tree.now → tally.new + 2 ≤ tally.old + 5 * (length tree.now.nodes - at)) }
 {
     is_small_at(tables, at);
-    let part = part_of(tables, at, tuple);
+    let mut part = Cells::new(0);
+    part_of(tables, at, tuple, &mut part);
     match find_at(tables, side, part.as_slice(), tally) {
         Some(_place) => live(tree, tables, up, tuple, marked, tally),
         None => Ok(()),
@@ -178,11 +181,12 @@ fn rise_side<L: Ledger>(
 {
     is_small_at(tables, guard);
     let count = len_at(tables, guard);
+    let mut part = Cells::new(0);
     let mut next = first_at(tables, guard, tuple, tally);
     for done in 0..count {
         match next {
             Some(place) => {
-                let part = tuple_at(tables, guard, place);
+                read_at(tables, guard, place, &mut part);
                 match live(tree, tables, up, part.as_slice(), marked, tally) {
                     Ok(()) => {}
                     Err(error) => {

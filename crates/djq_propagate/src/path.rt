@@ -13,9 +13,10 @@ ghost use Rattle.djq_propagate.specs.Walks.{Changed};
 ghost use Rattle.djq_propagate.specs.Updates.{HasCleared, HasTaken, steps};
 
 use crate::kill::kill;
-use crate::tables::{clear_at, first_marked_at, len_at};
+use crate::tables::{clear_at, first_marked_at, len_at, read_at};
 use crate::touch::touch_step;
 use djq_index::Table;
+use djq_reduct::Cells;
 use djq_steps::Tally;
 use djq_tree::Tree;
 use std::sync::ledger::Ledger;
@@ -134,9 +135,13 @@ pub(crate) fn take_marked<L: Ledger>(
     ensures counted { tally.new + 5 * size tables.new.items ≤ tally.old + 1 + 5 * size tables.old.items }
 {
     let count = len_at(tables, leaf);
+    let mut tuple = Cells::new(0);
     for _done in 0..count {
         match first_marked_at(tables, leaf, tally) {
-            Some(place) => kill(tree, tables, leaf, place, tally),
+            Some(place) => {
+                read_at(tables, leaf, place, &mut tuple);
+                kill(tree, tables, leaf, place, tuple.as_slice(), tally);
+            }
             None => {
                 return;
             }

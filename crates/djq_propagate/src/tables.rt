@@ -101,30 +101,30 @@ pub(crate) fn next_marked_at<L: Ledger>(
     table_of(tables, at).next_marked(place, tally)
 }
 
-/// The tuple at a place of the table of a node.
-pub(crate) fn tuple_at(tables: &Vec<Table>, at: usize, place: Place) -> Cells
+/// Reads the tuple at a place of the table of a node.
+pub(crate) fn read_at(tables: &Vec<Table>, at: usize, place: Place, cells: &mut Cells)
     requires within { at < length tables.now.items }
     requires narrow { width_at tables.now.items at ≤ 16 }
     requires live { IsLive (entries_at tables.now.items at) place }
-    ensures tuple { (u : List ℕ) → IsAt (entries_at tables.now.items at) place u → result ≡ u }
-    ensures wide { length result ≡ width_at tables.now.items at }
+    ensures tuple { (u : List ℕ) → IsAt (entries_at tables.now.items at) place u → cells.new ≡ u }
+    ensures wide { length cells.new ≡ width_at tables.now.items at }
 {
     let table = table_of(tables, at);
     table.laws();
-    Cells::from_slice(table.tuple(place))
+    cells.take_all(table.tuple(place));
 }
 
-/// The cells of a tuple at the columns of a node's key.
-pub(crate) fn part_of(tables: &Vec<Table>, at: usize, tuple: &[u64]) -> Cells
+/// Reads the cells of a tuple at the columns of a node's key.
+pub(crate) fn part_of(tables: &Vec<Table>, at: usize, tuple: &[u64], cells: &mut Cells)
     requires within { at < length tables.now.items }
     requires narrow { width_at tables.now.items at ≤ 16 }
     requires few { length (key_at tables.now.items at) ≤ 16 }
     requires wide { length tuple.now ≡ width_at tables.now.items at }
-    ensures { result ≡ pick (key_at tables.now.items at) tuple.now }
+    ensures { cells.new ≡ pick (key_at tables.now.items at) tuple.now }
 {
     let table = table_of(tables, at);
     table.laws();
-    Cells::pick(tuple, table.key())
+    cells.take_part(tuple, table.key());
 }
 
 /// Whether the tuple at a place of the table of a node has more than one support.

@@ -13,9 +13,10 @@ ghost use Rattle.djq_propagate.specs.Walks.{IsUnder};
 
 use crate::tables::{
     find_at, first_at, first_marked_at, len_at, marked_at, next_at, next_marked_at, part_of,
-    touch_at, tuple_at,
+    read_at, touch_at,
 };
 use djq_index::Table;
+use djq_reduct::Cells;
 use djq_steps::Tally;
 use djq_tree::{Node, Tree};
 use std::sync::ledger::Ledger;
@@ -85,7 +86,8 @@ fn touch_part<L: Ledger>(
     ensures touched { IsTouched tree.now tables.old.items tables.new.items up (λ v. reach_one (Trim at) going at tables.old.items tuple.now v) }
     ensures counted { tally.new ≤ tally.old + 3 }
 {
-    let part = part_of(tables, at, tuple);
+    let mut part = Cells::new(0);
+    part_of(tables, at, tuple, &mut part);
     let cells = part.as_slice();
     if is_going(tree, tables, at, cells, going, tally) {
         touch_tuple(tree, tables, up, cells, tally);
@@ -108,11 +110,12 @@ fn touch_group<L: Ledger>(
     ensures counted { tally.new ≤ tally.old + 1 + 3 * many (key_at tables.old.items guard) (entries_at tables.old.items guard) cells.now }
 {
     let count = len_at(tables, guard);
+    let mut part = Cells::new(0);
     let mut next = first_at(tables, guard, cells, tally);
     for done in 0..count {
         match next {
             Some(place) => {
-                let part = tuple_at(tables, guard, place);
+                read_at(tables, guard, place, &mut part);
                 touch_tuple(tree, tables, up, part.as_slice(), tally);
                 next = next_at(tables, guard, place, tally);
             }
@@ -167,11 +170,12 @@ pub(crate) fn touch_step<L: Ledger>(
     ensures flat { HasEqualMeets tree.now → length (marks (entries_at tables.old.items at)) ≤ 1 → tally.new ≤ tally.old + 6 }
 {
     let count = len_at(tables, at);
+    let mut tuple = Cells::new(0);
     let mut next = first_marked_at(tables, at, tally);
     for done in 0..count {
         match next {
             Some(place) => {
-                let tuple = tuple_at(tables, at, place);
+                read_at(tables, at, place, &mut tuple);
                 touch_from(tree, tables, at, up, tuple.as_slice(), going, tally);
                 next = next_marked_at(tables, at, place, tally);
             }

@@ -5,7 +5,6 @@ use Rattle.djq_live.proofs.fill.insert_row.Goals as goal
 pub returns : goal.returns
 returns g c =
     took_row c.args.pattern.now c.args.leaf c.args.row.now c.as_slice.result.now
-    c.args.reducts.now c.insert_leaf.new.reducts c.finish_insertion.new.reducts
-    c.in_ok-insert_leaf.ensures.inserted c.finish_insertion.ensures.kept
+    c.args.reducts.now c.add_leaf.new.reducts c.in_ok-add_leaf.ensures.gained
     (only_as c.args.pattern.now c.args.row.now c.in-Some.tuple c.as_slice.result.now
     c.as_slice.ensures c.in-Some.ensures.exact)

@@ -1,29 +1,16 @@
-use Rattle.std.proofs.Common.{false}
-use Rattle.djq_live.proofs.Leafing.{marked_loses, marked_lists, only_as}
-use Rattle.djq_live.proofs.Sizing.{removal_counts}
+use Rattle.djq_live.proofs.Leafing.{lost_loses, only_as}
 use Rattle.djq_live.proofs.stepping.take_from_leaf.Goals as goal
+
+pub returns-then-wanted-clause-lost : goal.returns-then-wanted-clause-lost
+returns-then-wanted-clause-lost g c =
+    lost_loses c.args.cells.now c.as_slice.result.now c.args.pattern.now c.args.leaf
+    c.args.reducts.now c.take_and_tell.new.reducts
+    (only_as c.args.pattern.now c.args.cells.now c.in-Some.tuple c.as_slice.result.now
+    c.as_slice.ensures c.in-Some.ensures.exact) c.laws.ensures.sound c.take_and_tell.ensures.lost
 
 pub returns-clause-lost : goal.returns-clause-lost
 returns-clause-lost g c =
-    marked_loses c.args.cells.now c.as_slice.result.now c.args.pattern.now c.args.leaf
-    c.args.reducts.now c.mark_removal.new.reducts c.finish_removal.new.reducts
-    (only_as c.args.pattern.now c.args.cells.now c.in-Some.tuple c.as_slice.result.now
-    c.as_slice.ensures c.in-Some.ensures.exact) c.laws.ensures.sound c.mark_removal.ensures.marked
-    c.finish_removal.ensures.dropped
-
-pub returns-clause-listed : goal.returns-clause-listed
-returns-clause-listed g c =
-    marked_lists c.args.wanted false c.args.leaf c.as_slice.result.now c.args.reducts.now
-    c.mark_removal.new.reducts c.finish_removal.new.reducts c.args.log.now c.list_where.new.log
-    c.args.steps.now.listing c.list_where.new.listing c.laws.ensures.sound
-    c.mark_removal.ensures.marked
-    (c.list_where.ensures c.finish_removal.new.reducts c.finish_removal.ensures.dropped.sound
-    c.finish_removal.ensures.dropped.without)
-
-pub returns-clause-updates : goal.returns-clause-updates
-returns-clause-updates g c =
-    removal_counts c.args.leaf c.as_slice.result.now c.args.reducts.now
-    c.mark_removal.new.reducts c.args.steps.now.update c.mark_removal.new.tally
-    c.finish_removal.new.tally c.laws.ensures.sound c.mark_removal.ensures.marked
-    c.mark_removal.ensures.counted c.finish_removal.ensures.counted
-    c.mark_removal.ensures.few c.mark_removal.ensures.flat c.finish_removal.ensures.flat
+    lost_loses c.args.cells.now c.as_slice-2.result.now c.args.pattern.now c.args.leaf
+    c.args.reducts.now c.drop_leaf.new.reducts
+    (only_as c.args.pattern.now c.args.cells.now c.in-Some.tuple c.as_slice-2.result.now
+    c.as_slice-2.ensures c.in-Some.ensures.exact) c.laws.ensures.sound c.drop_leaf.ensures.lost

@@ -11,19 +11,8 @@ use Rattle.djq_propagate.proofs.Sides.{group_once, head_none, drop_group, presen
 use Rattle.djq_propagate.proofs.Gains.{width_narrow, trim_few}
 use Rattle.djq_propagate.proofs.Losses.{trim_lowered, trim_died, trim_missing, guard_died, guard_idle, side_full, side_righted, died_here}
 use Rattle.djq_propagate.proofs.Going.{has_table, wide_now, under_leaf, under_trim, under_guard, under_side, shared_more, shared_less, cut_of, cut_at, as_live, moved_at, group_still}
+use Rattle.djq_propagate.proofs.Tabling.{wide_family}
 use Rattle.djq_propagate.proofs.kill.+kill.Goals as goal
-
-pub kill-tuple_at-tuple-requires-clause-within : goal.kill-tuple_at-tuple-requires-clause-within
-kill-tuple_at-tuple-requires-clause-within g t c =
-    has_table c.args.tree.now c.args.tables.now.items c.args.at c.requires.ready.family c.requires.ready.within
-
-pub kill-tuple_at-tuple-requires-clause-narrow : goal.kill-tuple_at-tuple-requires-clause-narrow
-kill-tuple_at-tuple-requires-clause-narrow g t c =
-    width_narrow c.args.tree.now c.args.tables.now.items c.args.at c.requires.ready.family c.requires.ready.within
-
-pub kill-tuple_at-tuple-requires-clause-live : goal.kill-tuple_at-tuple-requires-clause-live
-kill-tuple_at-tuple-requires-clause-live g t c =
-    c.requires.live
 
 pub kill-remove_at-requires-clause-within : goal.kill-remove_at-requires-clause-within
 kill-remove_at-requires-clause-within g t c =
@@ -31,7 +20,7 @@ kill-remove_at-requires-clause-within g t c =
 
 pub kill-remove_at-requires-clause-live : goal.kill-remove_at-requires-clause-live
 kill-remove_at-requires-clause-live g t c =
-    c.requires.live
+    as_live (entries_at c.args.tables.now.items c.args.at) c.args.place c.args.tuple.now c.requires.lies
 
 pub kill-fall-requires : goal.kill-fall-requires
 kill-fall-requires g t c κs hκ =
@@ -40,23 +29,24 @@ kill-fall-requires g t c κs hκ =
       (
         hκ,
         (
-          record { was = c.args.tables.now.items; began = record { ready = c.requires.ready; changed = c.remove_at.ensures.changed }; loses = subst (λ (w : List ℕ). Removed (entries_at c.args.tables.now.items c.args.at) (entries_at c.remove_at.new.tables.items c.args.at) w) (sym (c.as_slice.ensures ∙ c.tuple_at-tuple.ensures.tuple c.requires.live.tuple c.requires.live.is_at)) (c.remove_at.ensures.removed c.requires.live.tuple c.requires.live.is_at) },
-          ap (λ (w : List ℕ). length w) c.as_slice.ensures ∙ c.tuple_at-tuple.ensures.wide ∙ sym (wide_now c.args.tree.now c.args.tables.now.items c.remove_at.new.tables.items c.args.at c.requires.ready.family (c.remove_at.ensures.changed.family c.args.tree.now c.requires.ready.family) c.requires.ready.within),
+          record { was = c.args.tables.now.items; began = record { ready = c.requires.ready; changed = c.remove_at.ensures.changed }; loses = c.remove_at.ensures.removed c.args.tuple.now c.requires.lies },
+          wide_family c.args.tree.now c.args.tables.now.items c.args.at c.args.place c.args.tuple.now c.requires.ready.family c.requires.lies
+              ∙ sym (wide_now c.args.tree.now c.args.tables.now.items c.remove_at.new.tables.items c.args.at c.requires.ready.family (c.remove_at.ensures.changed.family c.args.tree.now c.requires.ready.family) c.requires.ready.within),
         ),
       ),
     )
 
 pub kill-returns-clause-died : goal.kill-returns-clause-died
 kill-returns-clause-died g t c =
-    λ u at. died_here c.args.tree.now c.args.tables.now.items c.remove_at.new.tables.items c.fall.new.tables.items c.args.at u c.remove_at.ensures.changed (c.remove_at.ensures.removed u at) c.fall.ensures.righted
+    died_here c.args.tree.now c.args.tables.now.items c.remove_at.new.tables.items c.fall.new.tables.items c.args.at c.args.tuple.now c.remove_at.ensures.changed (c.remove_at.ensures.removed c.args.tuple.now c.requires.lies) c.fall.ensures.righted
 
 pub kill-returns-clause-fewer : goal.kill-returns-clause-fewer
 kill-returns-clause-fewer g t c =
-    fewer_trans c.args.tables.now.items c.remove_at.new.tables.items c.fall.new.tables.items (removed_fewer c.args.tables.now.items c.remove_at.new.tables.items c.args.at c.requires.live.tuple c.remove_at.ensures.changed (c.remove_at.ensures.removed c.requires.live.tuple c.requires.live.is_at)) c.fall.ensures.fewer
+    fewer_trans c.args.tables.now.items c.remove_at.new.tables.items c.fall.new.tables.items (removed_fewer c.args.tables.now.items c.remove_at.new.tables.items c.args.at c.args.tuple.now c.remove_at.ensures.changed (c.remove_at.ensures.removed c.args.tuple.now c.requires.lies)) c.fall.ensures.fewer
 
 pub kill-returns-clause-counted : goal.kill-returns-clause-counted
 kill-returns-clause-counted g t c =
-    omega (arith, c.remove_at.ensures.counted, c.remove_at.ensures.changed.size, removed_length (entries_at c.args.tables.now.items c.args.at) (entries_at c.remove_at.new.tables.items c.args.at) c.requires.live.tuple (c.remove_at.ensures.removed c.requires.live.tuple c.requires.live.is_at), c.fall.ensures.counted)
+    omega (arith, c.remove_at.ensures.counted, c.remove_at.ensures.changed.size, removed_length (entries_at c.args.tables.now.items c.args.at) (entries_at c.remove_at.new.tables.items c.args.at) c.args.tuple.now (c.remove_at.ensures.removed c.args.tuple.now c.requires.lies), c.fall.ensures.counted)
 
 pub fall-parent-requires : goal.fall-parent-requires
 fall-parent-requires g t c =
@@ -150,11 +140,11 @@ fall_guard-kill-requires g t c κs hκ =
     let low = lower_of c.args.tree.now c.args.up (Meet c.args.at c.args.side) c.args.at c.requires.losing.began.ready.family.is_tree c.requires.under in
     let within = c.requires.under.within in
     let d = c.decreases in
-    (omega arith, (hκ, (ready_up c.args.tree.now c.requires.losing.was c.args.tables.now.items c.args.at c.args.up (Meet c.args.at c.args.side) c.requires.losing.began c.requires.under, as_live (entries_at c.args.tables.now.items c.args.up) c.in-Some.place c.args.tuple.now c.in-Some.ensures.found)))
+    (omega arith, (hκ, (ready_up c.args.tree.now c.requires.losing.was c.args.tables.now.items c.args.at c.args.up (Meet c.args.at c.args.side) c.requires.losing.began c.requires.under, c.in-Some.ensures.found)))
 
 pub fall_guard-returns-in-Some-clause-righted : goal.fall_guard-returns-in-Some-clause-righted
 fall_guard-returns-in-Some-clause-righted g t c =
-    guard_died c.args.tree.now c.requires.losing.was c.args.tables.now.items c.kill.new.tables.items c.args.at c.args.side c.args.up c.args.tuple.now c.requires.losing.began c.requires.losing.loses c.requires.under (c.kill.ensures.died c.args.tuple.now c.in-Some.ensures.found)
+    guard_died c.args.tree.now c.requires.losing.was c.args.tables.now.items c.kill.new.tables.items c.args.at c.args.side c.args.up c.args.tuple.now c.requires.losing.began c.requires.losing.loses c.requires.under c.kill.ensures.died
 
 pub fall_guard-returns-in-Some-clause-fewer : goal.fall_guard-returns-in-Some-clause-fewer
 fall_guard-returns-in-Some-clause-fewer g t c =
@@ -206,20 +196,20 @@ pub fall_side-returns-clause-counted : goal.fall_side-returns-clause-counted
 fall_side-returns-clause-counted g t c =
     omega (arith, c.empty_group.ensures.counted)
 
-pub fall_trim-part_of-part-requires-clause-within : goal.fall_trim-part_of-part-requires-clause-within
-fall_trim-part_of-part-requires-clause-within g t c =
+pub fall_trim-part_of-requires-clause-within : goal.fall_trim-part_of-requires-clause-within
+fall_trim-part_of-requires-clause-within g t c =
     has_table c.args.tree.now c.args.tables.now.items c.args.at (now_family c.args.tree.now c.requires.losing.was c.args.tables.now.items c.args.at c.requires.losing.began) c.requires.losing.began.ready.within
 
-pub fall_trim-part_of-part-requires-clause-narrow : goal.fall_trim-part_of-part-requires-clause-narrow
-fall_trim-part_of-part-requires-clause-narrow g t c =
+pub fall_trim-part_of-requires-clause-narrow : goal.fall_trim-part_of-requires-clause-narrow
+fall_trim-part_of-requires-clause-narrow g t c =
     width_narrow c.args.tree.now c.args.tables.now.items c.args.at (now_family c.args.tree.now c.requires.losing.was c.args.tables.now.items c.args.at c.requires.losing.began) c.requires.losing.began.ready.within
 
-pub fall_trim-part_of-part-requires-clause-few : goal.fall_trim-part_of-part-requires-clause-few
-fall_trim-part_of-part-requires-clause-few g t c =
+pub fall_trim-part_of-requires-clause-few : goal.fall_trim-part_of-requires-clause-few
+fall_trim-part_of-requires-clause-few g t c =
     trim_few c.args.tree.now c.args.tables.now.items c.args.at c.args.up (now_family c.args.tree.now c.requires.losing.was c.args.tables.now.items c.args.at c.requires.losing.began) c.requires.losing.began.ready.within c.requires.under
 
-pub fall_trim-part_of-part-requires-clause-wide : goal.fall_trim-part_of-part-requires-clause-wide
-fall_trim-part_of-part-requires-clause-wide g t c =
+pub fall_trim-part_of-requires-clause-wide : goal.fall_trim-part_of-requires-clause-wide
+fall_trim-part_of-requires-clause-wide g t c =
     c.requires.wide
 
 pub fall_trim-find_at-requires : goal.fall_trim-find_at-requires
@@ -232,7 +222,7 @@ fall_trim-is_shared_at-requires-clause-within g t c =
 
 pub fall_trim-is_shared_at-requires-clause-live : goal.fall_trim-is_shared_at-requires-clause-live
 fall_trim-is_shared_at-requires-clause-live g t c =
-    as_live (entries_at c.args.tables.now.items c.args.up) c.in-Some.place c.as_slice.result.now c.in-Some.ensures.found
+    as_live (entries_at c.args.tables.now.items c.args.up) c.in-Some.place c.as_slice-cells.result.now c.in-Some.ensures.found
 
 pub fall_trim-lower_at-requires-clause-within : goal.fall_trim-lower_at-requires-clause-within
 fall_trim-lower_at-requires-clause-within g t c =
@@ -240,30 +230,30 @@ fall_trim-lower_at-requires-clause-within g t c =
 
 pub fall_trim-lower_at-requires-clause-shared : goal.fall_trim-lower_at-requires-clause-shared
 fall_trim-lower_at-requires-clause-shared g t c =
-    record { tuple = c.as_slice.result.now; is_at = c.in-Some.ensures.found; more = shared_more c.is_shared_at.result (supp (entries_at c.args.tables.now.items c.args.up) c.as_slice.result.now) (c.is_shared_at.ensures c.as_slice.result.now c.in-Some.ensures.found) c.if-is_shared_at.true }
+    record { tuple = c.as_slice-cells.result.now; is_at = c.in-Some.ensures.found; more = shared_more c.is_shared_at.result (supp (entries_at c.args.tables.now.items c.args.up) c.as_slice-cells.result.now) (c.is_shared_at.ensures c.as_slice-cells.result.now c.in-Some.ensures.found) c.if-is_shared_at.true }
 
 pub fall_trim-kill-requires : goal.fall_trim-kill-requires
 fall_trim-kill-requires g t c κs hκ =
     let low = lower_of c.args.tree.now c.args.up (Trim c.args.at) c.args.at c.requires.losing.began.ready.family.is_tree c.requires.under in
     let within = c.requires.under.within in
     let d = c.decreases in
-    (omega arith, (hκ, (ready_up c.args.tree.now c.requires.losing.was c.args.tables.now.items c.args.at c.args.up (Trim c.args.at) c.requires.losing.began c.requires.under, as_live (entries_at c.args.tables.now.items c.args.up) c.in-Some.place c.as_slice.result.now c.in-Some.ensures.found)))
+    (omega arith, (hκ, (ready_up c.args.tree.now c.requires.losing.was c.args.tables.now.items c.args.at c.args.up (Trim c.args.at) c.requires.losing.began c.requires.under, c.in-Some.ensures.found)))
 
 pub fall_trim-returns-then-is_shared_at-clause-righted : goal.fall_trim-returns-then-is_shared_at-clause-righted
 fall_trim-returns-then-is_shared_at-clause-righted g t c =
-    trim_lowered c.args.tree.now c.requires.losing.was c.args.tables.now.items c.lower_at.new.tables.items c.args.at c.args.up c.args.tuple.now c.as_slice.result.now c.requires.losing.began c.requires.losing.loses c.requires.under c.lower_at.ensures.changed (c.lower_at.ensures.lowered c.as_slice.result.now c.in-Some.ensures.found) (c.as_slice.ensures ∙ c.part_of-part.ensures)
+    trim_lowered c.args.tree.now c.requires.losing.was c.args.tables.now.items c.lower_at.new.tables.items c.args.at c.args.up c.args.tuple.now c.as_slice-cells.result.now c.requires.losing.began c.requires.losing.loses c.requires.under c.lower_at.ensures.changed (c.lower_at.ensures.lowered c.as_slice-cells.result.now c.in-Some.ensures.found) (c.as_slice-cells.ensures ∙ c.part_of.ensures)
 
 pub fall_trim-returns-then-is_shared_at-clause-fewer : goal.fall_trim-returns-then-is_shared_at-clause-fewer
 fall_trim-returns-then-is_shared_at-clause-fewer g t c =
-    lowered_fewer c.args.tables.now.items c.lower_at.new.tables.items c.args.up c.as_slice.result.now (supp (entries_at c.args.tables.now.items c.args.up) c.as_slice.result.now) ((supp (entries_at c.args.tables.now.items c.args.up) c.as_slice.result.now) - 1) c.lower_at.ensures.changed (c.lower_at.ensures.lowered c.as_slice.result.now c.in-Some.ensures.found)
+    lowered_fewer c.args.tables.now.items c.lower_at.new.tables.items c.args.up c.as_slice-cells.result.now (supp (entries_at c.args.tables.now.items c.args.up) c.as_slice-cells.result.now) ((supp (entries_at c.args.tables.now.items c.args.up) c.as_slice-cells.result.now) - 1) c.lower_at.ensures.changed (c.lower_at.ensures.lowered c.as_slice-cells.result.now c.in-Some.ensures.found)
 
 pub fall_trim-returns-then-is_shared_at-clause-counted : goal.fall_trim-returns-then-is_shared_at-clause-counted
 fall_trim-returns-then-is_shared_at-clause-counted g t c =
-    omega (arith, c.find_at.ensures.counted, c.lower_at.ensures.counted, c.lower_at.ensures.changed.size, supported_length (entries_at c.args.tables.now.items c.args.up) (entries_at c.lower_at.new.tables.items c.args.up) c.as_slice.result.now (supp (entries_at c.args.tables.now.items c.args.up) c.as_slice.result.now) ((supp (entries_at c.args.tables.now.items c.args.up) c.as_slice.result.now) - 1) (c.lower_at.ensures.lowered c.as_slice.result.now c.in-Some.ensures.found))
+    omega (arith, c.find_at.ensures.counted, c.lower_at.ensures.counted, c.lower_at.ensures.changed.size, supported_length (entries_at c.args.tables.now.items c.args.up) (entries_at c.lower_at.new.tables.items c.args.up) c.as_slice-cells.result.now (supp (entries_at c.args.tables.now.items c.args.up) c.as_slice-cells.result.now) ((supp (entries_at c.args.tables.now.items c.args.up) c.as_slice-cells.result.now) - 1) (c.lower_at.ensures.lowered c.as_slice-cells.result.now c.in-Some.ensures.found))
 
 pub fall_trim-returns-else-is_shared_at-clause-righted : goal.fall_trim-returns-else-is_shared_at-clause-righted
 fall_trim-returns-else-is_shared_at-clause-righted g t c =
-    trim_died c.args.tree.now c.requires.losing.was c.args.tables.now.items c.kill.new.tables.items c.args.at c.args.up c.args.tuple.now c.as_slice.result.now c.requires.losing.began c.requires.losing.loses c.requires.under (c.kill.ensures.died c.as_slice.result.now c.in-Some.ensures.found) (c.as_slice.ensures ∙ c.part_of-part.ensures) (shared_less c.is_shared_at.result (supp (entries_at c.args.tables.now.items c.args.up) c.as_slice.result.now) (c.is_shared_at.ensures c.as_slice.result.now c.in-Some.ensures.found) c.if-is_shared_at.false)
+    trim_died c.args.tree.now c.requires.losing.was c.args.tables.now.items c.kill.new.tables.items c.args.at c.args.up c.args.tuple.now c.as_slice-cells.result.now c.requires.losing.began c.requires.losing.loses c.requires.under c.kill.ensures.died (c.as_slice-cells.ensures ∙ c.part_of.ensures) (shared_less c.is_shared_at.result (supp (entries_at c.args.tables.now.items c.args.up) c.as_slice-cells.result.now) (c.is_shared_at.ensures c.as_slice-cells.result.now c.in-Some.ensures.found) c.if-is_shared_at.false)
 
 pub fall_trim-returns-else-is_shared_at-clause-fewer : goal.fall_trim-returns-else-is_shared_at-clause-fewer
 fall_trim-returns-else-is_shared_at-clause-fewer g t c =
@@ -275,7 +265,7 @@ fall_trim-returns-else-is_shared_at-clause-counted g t c =
 
 pub fall_trim-returns-in-None-clause-righted : goal.fall_trim-returns-in-None-clause-righted
 fall_trim-returns-in-None-clause-righted g t c =
-    absurd (trim_missing c.args.tree.now c.requires.losing.was c.args.tables.now.items c.args.at c.args.up c.args.tuple.now c.as_slice.result.now c.requires.losing.began c.requires.losing.loses c.requires.under (c.as_slice.ensures ∙ c.part_of-part.ensures) c.in-None.ensures.found)
+    absurd (trim_missing c.args.tree.now c.requires.losing.was c.args.tables.now.items c.args.at c.args.up c.args.tuple.now c.as_slice-cells.result.now c.requires.losing.began c.requires.losing.loses c.requires.under (c.as_slice-cells.ensures ∙ c.part_of.ensures) c.in-None.ensures.found)
 
 pub fall_trim-returns-in-None-clause-fewer : goal.fall_trim-returns-in-None-clause-fewer
 fall_trim-returns-in-None-clause-fewer g t c =
@@ -292,11 +282,11 @@ kill_tuple-find_at-requires g t c =
 pub kill_tuple-kill-requires : goal.kill_tuple-kill-requires
 kill_tuple-kill-requires g t c κs hκ =
     let d = c.decreases in
-    (omega arith, (hκ, (c.requires.ready, as_live (entries_at c.args.tables.now.items c.args.at) c.in-Some.place c.args.tuple.now c.in-Some.ensures.found)))
+    (omega arith, (hκ, (c.requires.ready, c.in-Some.ensures.found)))
 
 pub kill_tuple-returns-in-Some-clause-died : goal.kill_tuple-returns-in-Some-clause-died
 kill_tuple-returns-in-Some-clause-died g t c =
-    c.kill.ensures.died c.args.tuple.now c.in-Some.ensures.found
+    c.kill.ensures.died
 
 pub kill_tuple-returns-in-Some-clause-fewer : goal.kill_tuple-returns-in-Some-clause-fewer
 kill_tuple-returns-in-Some-clause-fewer g t c =
@@ -328,20 +318,20 @@ pub empty_group-loop-done-init : goal.empty_group-loop-done-init
 empty_group-loop-done-init g t c =
     record { next = c.first_at-next.ensures.found; emptied = emptied_none c.args.tree.now c.args.tables.now.items c.args.up (grp (key_at c.args.tables.now.items c.args.guard) (entries_at c.args.tables.now.items c.args.guard) c.args.cells.now) c.requires.ready; lesser = fewer_refl c.args.tables.now.items; counted = omega (arith, c.first_at-next.ensures.counted) }
 
-pub empty_group-tuple_at-part-requires-clause-within : goal.empty_group-tuple_at-part-requires-clause-within
-empty_group-tuple_at-part-requires-clause-within g t c =
+pub empty_group-read_at-requires-clause-within : goal.empty_group-read_at-requires-clause-within
+empty_group-read_at-requires-clause-within g t c =
     let glow = c.requires.lower in
     let within = c.requires.ready.within in
     has_table c.args.tree.now c.loop-done.tables.items c.args.guard c.loop-done.invariant.emptied.family (omega arith)
 
-pub empty_group-tuple_at-part-requires-clause-narrow : goal.empty_group-tuple_at-part-requires-clause-narrow
-empty_group-tuple_at-part-requires-clause-narrow g t c =
+pub empty_group-read_at-requires-clause-narrow : goal.empty_group-read_at-requires-clause-narrow
+empty_group-read_at-requires-clause-narrow g t c =
     let glow = c.requires.lower in
     let within = c.requires.ready.within in
     width_narrow c.args.tree.now c.loop-done.tables.items c.args.guard c.loop-done.invariant.emptied.family (omega arith)
 
-pub empty_group-tuple_at-part-requires-clause-live : goal.empty_group-tuple_at-part-requires-clause-live
-empty_group-tuple_at-part-requires-clause-live g t c =
+pub empty_group-read_at-requires-clause-live : goal.empty_group-read_at-requires-clause-live
+empty_group-read_at-requires-clause-live g t c =
     let k = cut_of (grp (key_at c.args.tables.now.items c.args.guard) (entries_at c.args.tables.now.items c.args.guard) c.args.cells.now) c.loop-done._done c.loop-done.next c.in-Some.place c.loop-done.invariant.next c.in-Some.is in
     as_live (entries_at c.loop-done.tables.items c.args.guard) c.in-Some.place k.entry.tuple (moved_at (entries_at c.args.tables.now.items c.args.guard) (entries_at c.loop-done.tables.items c.args.guard) c.in-Some.place k.entry.tuple (c.loop-done.invariant.emptied.low c.args.guard c.requires.lower) (cut_at (key_at c.args.tables.now.items c.args.guard) (entries_at c.args.tables.now.items c.args.guard) c.args.cells.now c.loop-done._done c.in-Some.place k))
 
@@ -354,7 +344,7 @@ empty_group-kill_tuple-requires g t c κs hκ =
         hκ,
         (
           emptied_ready c.args.tree.now c.args.tables.now.items c.loop-done.tables.items c.args.up (take c.loop-done._done (grp (key_at c.args.tables.now.items c.args.guard) (entries_at c.args.tables.now.items c.args.guard) c.args.cells.now)) c.requires.ready.within c.loop-done.invariant.emptied,
-          subst (λ (w : List ℕ). 0 < cnt (entries_at c.loop-done.tables.items c.args.up) w) (sym (c.as_slice.ensures ∙ c.tuple_at-part.ensures.tuple k.entry.tuple (moved_at (entries_at c.args.tables.now.items c.args.guard) (entries_at c.loop-done.tables.items c.args.guard) c.in-Some.place k.entry.tuple (c.loop-done.invariant.emptied.low c.args.guard c.requires.lower) (cut_at (key_at c.args.tables.now.items c.args.guard) (entries_at c.args.tables.now.items c.args.guard) c.args.cells.now c.loop-done._done c.in-Some.place k)))) (present (entries_at c.loop-done.tables.items c.args.up) k.entry.tuple (let s = (still_there c.args.tree.now c.args.tables.now.items c.loop-done.tables.items c.args.up (grp (key_at c.args.tables.now.items c.args.guard) (entries_at c.args.tables.now.items c.args.guard) c.args.cells.now) c.loop-done._done c.args.count k.entry c.loop-done.invariant.emptied c.requires.full c.loop-done-test.true (λ v. group_once (key_at c.args.tables.now.items c.args.guard) (entries_at c.args.tables.now.items c.args.guard) c.args.cells.now v (apart_of c.args.tree.now c.args.tables.now.items c.requires.ready.family c.args.guard)) k.is) in omega arith)),
+          subst (λ (w : List ℕ). 0 < cnt (entries_at c.loop-done.tables.items c.args.up) w) (sym (c.as_slice.ensures ∙ c.read_at.ensures.tuple k.entry.tuple (moved_at (entries_at c.args.tables.now.items c.args.guard) (entries_at c.loop-done.tables.items c.args.guard) c.in-Some.place k.entry.tuple (c.loop-done.invariant.emptied.low c.args.guard c.requires.lower) (cut_at (key_at c.args.tables.now.items c.args.guard) (entries_at c.args.tables.now.items c.args.guard) c.args.cells.now c.loop-done._done c.in-Some.place k)))) (present (entries_at c.loop-done.tables.items c.args.up) k.entry.tuple (let s = (still_there c.args.tree.now c.args.tables.now.items c.loop-done.tables.items c.args.up (grp (key_at c.args.tables.now.items c.args.guard) (entries_at c.args.tables.now.items c.args.guard) c.args.cells.now) c.loop-done._done c.args.count k.entry c.loop-done.invariant.emptied c.requires.full c.loop-done-test.true (λ v. group_once (key_at c.args.tables.now.items c.args.guard) (entries_at c.args.tables.now.items c.args.guard) c.args.cells.now v (apart_of c.args.tree.now c.args.tables.now.items c.requires.ready.family c.args.guard)) k.is) in omega arith)),
         ),
       ),
     )
@@ -368,7 +358,7 @@ empty_group-next_at-next-requires-clause-within g t c =
 pub empty_group-next_at-next-requires-clause-live : goal.empty_group-next_at-next-requires-clause-live
 empty_group-next_at-next-requires-clause-live g t c =
     let k = cut_of (grp (key_at c.args.tables.now.items c.args.guard) (entries_at c.args.tables.now.items c.args.guard) c.args.cells.now) c.loop-done._done c.loop-done.next c.in-Some.place c.loop-done.invariant.next c.in-Some.is in
-    let n = (emptied_more c.args.tree.now c.args.tables.now.items c.loop-done.tables.items c.kill_tuple.new.tables.items c.args.up (grp (key_at c.args.tables.now.items c.args.guard) (entries_at c.args.tables.now.items c.args.guard) c.args.cells.now) c.loop-done._done k.entry c.loop-done.invariant.emptied (subst (λ (w : List ℕ). Died c.args.tree.now c.loop-done.tables.items c.kill_tuple.new.tables.items c.args.up w) (c.as_slice.ensures ∙ c.tuple_at-part.ensures.tuple k.entry.tuple (moved_at (entries_at c.args.tables.now.items c.args.guard) (entries_at c.loop-done.tables.items c.args.guard) c.in-Some.place k.entry.tuple (c.loop-done.invariant.emptied.low c.args.guard c.requires.lower) (cut_at (key_at c.args.tables.now.items c.args.guard) (entries_at c.args.tables.now.items c.args.guard) c.args.cells.now c.loop-done._done c.in-Some.place k))) c.kill_tuple.ensures.died) (still_there c.args.tree.now c.args.tables.now.items c.loop-done.tables.items c.args.up (grp (key_at c.args.tables.now.items c.args.guard) (entries_at c.args.tables.now.items c.args.guard) c.args.cells.now) c.loop-done._done c.args.count k.entry c.loop-done.invariant.emptied c.requires.full c.loop-done-test.true (λ v. group_once (key_at c.args.tables.now.items c.args.guard) (entries_at c.args.tables.now.items c.args.guard) c.args.cells.now v (apart_of c.args.tree.now c.args.tables.now.items c.requires.ready.family c.args.guard)) k.is) k.is) in
+    let n = (emptied_more c.args.tree.now c.args.tables.now.items c.loop-done.tables.items c.kill_tuple.new.tables.items c.args.up (grp (key_at c.args.tables.now.items c.args.guard) (entries_at c.args.tables.now.items c.args.guard) c.args.cells.now) c.loop-done._done k.entry c.loop-done.invariant.emptied (subst (λ (w : List ℕ). Died c.args.tree.now c.loop-done.tables.items c.kill_tuple.new.tables.items c.args.up w) (c.as_slice.ensures ∙ c.read_at.ensures.tuple k.entry.tuple (moved_at (entries_at c.args.tables.now.items c.args.guard) (entries_at c.loop-done.tables.items c.args.guard) c.in-Some.place k.entry.tuple (c.loop-done.invariant.emptied.low c.args.guard c.requires.lower) (cut_at (key_at c.args.tables.now.items c.args.guard) (entries_at c.args.tables.now.items c.args.guard) c.args.cells.now c.loop-done._done c.in-Some.place k))) c.kill_tuple.ensures.died) (still_there c.args.tree.now c.args.tables.now.items c.loop-done.tables.items c.args.up (grp (key_at c.args.tables.now.items c.args.guard) (entries_at c.args.tables.now.items c.args.guard) c.args.cells.now) c.loop-done._done c.args.count k.entry c.loop-done.invariant.emptied c.requires.full c.loop-done-test.true (λ v. group_once (key_at c.args.tables.now.items c.args.guard) (entries_at c.args.tables.now.items c.args.guard) c.args.cells.now v (apart_of c.args.tree.now c.args.tables.now.items c.requires.ready.family c.args.guard)) k.is) k.is) in
     as_live (entries_at c.kill_tuple.new.tables.items c.args.guard) c.in-Some.place k.entry.tuple (moved_at (entries_at c.args.tables.now.items c.args.guard) (entries_at c.kill_tuple.new.tables.items c.args.guard) c.in-Some.place k.entry.tuple (n.low c.args.guard c.requires.lower) (cut_at (key_at c.args.tables.now.items c.args.guard) (entries_at c.args.tables.now.items c.args.guard) c.args.cells.now c.loop-done._done c.in-Some.place k))
 
 pub empty_group-loop-done-smaller : goal.empty_group-loop-done-smaller
@@ -379,7 +369,7 @@ empty_group-loop-done-smaller g t c =
 pub empty_group-loop-done-preserved : goal.empty_group-loop-done-preserved
 empty_group-loop-done-preserved g t c =
     let k = cut_of (grp (key_at c.args.tables.now.items c.args.guard) (entries_at c.args.tables.now.items c.args.guard) c.args.cells.now) c.loop-done._done c.loop-done.next c.in-Some.place c.loop-done.invariant.next c.in-Some.is in
-    let n = (emptied_more c.args.tree.now c.args.tables.now.items c.loop-done.tables.items c.kill_tuple.new.tables.items c.args.up (grp (key_at c.args.tables.now.items c.args.guard) (entries_at c.args.tables.now.items c.args.guard) c.args.cells.now) c.loop-done._done k.entry c.loop-done.invariant.emptied (subst (λ (w : List ℕ). Died c.args.tree.now c.loop-done.tables.items c.kill_tuple.new.tables.items c.args.up w) (c.as_slice.ensures ∙ c.tuple_at-part.ensures.tuple k.entry.tuple (moved_at (entries_at c.args.tables.now.items c.args.guard) (entries_at c.loop-done.tables.items c.args.guard) c.in-Some.place k.entry.tuple (c.loop-done.invariant.emptied.low c.args.guard c.requires.lower) (cut_at (key_at c.args.tables.now.items c.args.guard) (entries_at c.args.tables.now.items c.args.guard) c.args.cells.now c.loop-done._done c.in-Some.place k))) c.kill_tuple.ensures.died) (still_there c.args.tree.now c.args.tables.now.items c.loop-done.tables.items c.args.up (grp (key_at c.args.tables.now.items c.args.guard) (entries_at c.args.tables.now.items c.args.guard) c.args.cells.now) c.loop-done._done c.args.count k.entry c.loop-done.invariant.emptied c.requires.full c.loop-done-test.true (λ v. group_once (key_at c.args.tables.now.items c.args.guard) (entries_at c.args.tables.now.items c.args.guard) c.args.cells.now v (apart_of c.args.tree.now c.args.tables.now.items c.requires.ready.family c.args.guard)) k.is) k.is) in
+    let n = (emptied_more c.args.tree.now c.args.tables.now.items c.loop-done.tables.items c.kill_tuple.new.tables.items c.args.up (grp (key_at c.args.tables.now.items c.args.guard) (entries_at c.args.tables.now.items c.args.guard) c.args.cells.now) c.loop-done._done k.entry c.loop-done.invariant.emptied (subst (λ (w : List ℕ). Died c.args.tree.now c.loop-done.tables.items c.kill_tuple.new.tables.items c.args.up w) (c.as_slice.ensures ∙ c.read_at.ensures.tuple k.entry.tuple (moved_at (entries_at c.args.tables.now.items c.args.guard) (entries_at c.loop-done.tables.items c.args.guard) c.in-Some.place k.entry.tuple (c.loop-done.invariant.emptied.low c.args.guard c.requires.lower) (cut_at (key_at c.args.tables.now.items c.args.guard) (entries_at c.args.tables.now.items c.args.guard) c.args.cells.now c.loop-done._done c.in-Some.place k))) c.kill_tuple.ensures.died) (still_there c.args.tree.now c.args.tables.now.items c.loop-done.tables.items c.args.up (grp (key_at c.args.tables.now.items c.args.guard) (entries_at c.args.tables.now.items c.args.guard) c.args.cells.now) c.loop-done._done c.args.count k.entry c.loop-done.invariant.emptied c.requires.full c.loop-done-test.true (λ v. group_once (key_at c.args.tables.now.items c.args.guard) (entries_at c.args.tables.now.items c.args.guard) c.args.cells.now v (apart_of c.args.tree.now c.args.tables.now.items c.requires.ready.family c.args.guard)) k.is) k.is) in
     record {
       next = c.next_at-next.ensures.found c.args.cells.now (take c.loop-done._done (grp (key_at c.args.tables.now.items c.args.guard) (entries_at c.args.tables.now.items c.args.guard) c.args.cells.now)) k.entry (drop (c.loop-done._done + 1) (grp (key_at c.args.tables.now.items c.args.guard) (entries_at c.args.tables.now.items c.args.guard) c.args.cells.now)) (group_still c.args.tree.now c.args.tables.now.items c.kill_tuple.new.tables.items c.args.guard c.args.cells.now c.requires.ready.family n.family (n.low c.args.guard c.requires.lower) ∙ k.is) k.at;
       emptied = n;

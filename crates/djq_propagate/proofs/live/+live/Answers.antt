@@ -225,20 +225,20 @@ pub rise_guard-is_small_at-requires : goal.rise_guard-is_small_at-requires
 rise_guard-is_small_at-requires g t c =
     has_table c.args.tree.now c.args.tables.now.items c.args.at (now_family c.args.tree.now c.requires.gaining.was c.args.tables.now.items c.args.at c.requires.gaining.began) c.requires.gaining.began.ready.within
 
-pub rise_guard-part_of-part-requires-clause-within : goal.rise_guard-part_of-part-requires-clause-within
-rise_guard-part_of-part-requires-clause-within g t c =
+pub rise_guard-part_of-requires-clause-within : goal.rise_guard-part_of-requires-clause-within
+rise_guard-part_of-requires-clause-within g t c =
     has_table c.args.tree.now c.args.tables.now.items c.args.at (now_family c.args.tree.now c.requires.gaining.was c.args.tables.now.items c.args.at c.requires.gaining.began) c.requires.gaining.began.ready.within
 
-pub rise_guard-part_of-part-requires-clause-narrow : goal.rise_guard-part_of-part-requires-clause-narrow
-rise_guard-part_of-part-requires-clause-narrow g t c =
+pub rise_guard-part_of-requires-clause-narrow : goal.rise_guard-part_of-requires-clause-narrow
+rise_guard-part_of-requires-clause-narrow g t c =
     width_narrow c.args.tree.now c.args.tables.now.items c.args.at (now_family c.args.tree.now c.requires.gaining.was c.args.tables.now.items c.args.at c.requires.gaining.began) c.requires.gaining.began.ready.within
 
-pub rise_guard-part_of-part-requires-clause-few : goal.rise_guard-part_of-part-requires-clause-few
-rise_guard-part_of-part-requires-clause-few g t c =
+pub rise_guard-part_of-requires-clause-few : goal.rise_guard-part_of-requires-clause-few
+rise_guard-part_of-requires-clause-few g t c =
     guard_few c.args.tree.now c.args.tables.now.items c.args.at c.args.side c.args.up (now_family c.args.tree.now c.requires.gaining.was c.args.tables.now.items c.args.at c.requires.gaining.began) c.requires.gaining.began.ready.within c.requires.under
 
-pub rise_guard-part_of-part-requires-clause-wide : goal.rise_guard-part_of-part-requires-clause-wide
-rise_guard-part_of-part-requires-clause-wide g t c =
+pub rise_guard-part_of-requires-clause-wide : goal.rise_guard-part_of-requires-clause-wide
+rise_guard-part_of-requires-clause-wide g t c =
     c.requires.wide
 
 pub rise_guard-find_at-requires : goal.rise_guard-find_at-requires
@@ -257,7 +257,7 @@ rise_guard-live-requires g t c κs hκ =
 
 pub rise_guard-returns-in-Some-clause-ok : goal.rise_guard-returns-in-Some-clause-ok
 rise_guard-returns-in-Some-clause-ok g t c =
-    ok_map c.live.result (Lived c.args.tree.now c.args.tables.now.items c.live.new.tables.items c.args.up c.args.tuple.now) (Righted c.args.tree.now c.args.tables.now.items c.live.new.tables.items c.args.at) (λ l. guard_lived c.args.tree.now c.requires.gaining.was c.args.tables.now.items c.live.new.tables.items c.args.at c.args.side c.args.up c.args.tuple.now c.in-Some._place c.requires.gaining.began c.requires.gaining.gains c.requires.under l (subst (λ (w : List ℕ). IsAt (entries_at c.args.tables.now.items c.args.side) c.in-Some._place w) (c.as_slice.ensures ∙ c.part_of-part.ensures) c.in-Some.ensures.found)) c.live.ensures.ok
+    ok_map c.live.result (Lived c.args.tree.now c.args.tables.now.items c.live.new.tables.items c.args.up c.args.tuple.now) (Righted c.args.tree.now c.args.tables.now.items c.live.new.tables.items c.args.at) (λ l. guard_lived c.args.tree.now c.requires.gaining.was c.args.tables.now.items c.live.new.tables.items c.args.at c.args.side c.args.up c.args.tuple.now c.in-Some._place c.requires.gaining.began c.requires.gaining.gains c.requires.under l (subst (λ (w : List ℕ). IsAt (entries_at c.args.tables.now.items c.args.side) c.in-Some._place w) (c.as_slice.ensures ∙ c.part_of.ensures) c.in-Some.ensures.found)) c.live.ensures.ok
 
 pub rise_guard-returns-in-Some-clause-refused : goal.rise_guard-returns-in-Some-clause-refused
 rise_guard-returns-in-Some-clause-refused g t c =
@@ -279,7 +279,7 @@ rise_guard-returns-in-Some-clause-bounded g t c =
 
 pub rise_guard-returns-in-None-clause-ok : goal.rise_guard-returns-in-None-clause-ok
 rise_guard-returns-in-None-clause-ok g t c =
-    guard_idle c.args.tree.now c.requires.gaining.was c.args.tables.now.items c.args.at c.args.side c.args.up c.args.tuple.now c.requires.gaining.began c.requires.gaining.gains c.requires.under (subst (λ (w : List ℕ). cnt (entries_at c.args.tables.now.items c.args.side) w ≡ 0) (c.as_slice.ensures ∙ c.part_of-part.ensures) c.in-None.ensures.found)
+    guard_idle c.args.tree.now c.requires.gaining.was c.args.tables.now.items c.args.at c.args.side c.args.up c.args.tuple.now c.requires.gaining.began c.requires.gaining.gains c.requires.under (subst (λ (w : List ℕ). cnt (entries_at c.args.tables.now.items c.args.side) w ≡ 0) (c.as_slice.ensures ∙ c.part_of.ensures) c.in-None.ensures.found)
 
 pub rise_guard-returns-in-None-clause-plain : goal.rise_guard-returns-in-None-clause-plain
 rise_guard-returns-in-None-clause-plain g t c =
@@ -289,20 +289,20 @@ pub rise_guard-returns-in-None-clause-counted : goal.rise_guard-returns-in-None-
 rise_guard-returns-in-None-clause-counted g t c =
     omega (arith, c.find_at.ensures.counted)
 
-pub rise_trim-part_of-part-requires-clause-within : goal.rise_trim-part_of-part-requires-clause-within
-rise_trim-part_of-part-requires-clause-within g t c =
+pub rise_trim-part_of-requires-clause-within : goal.rise_trim-part_of-requires-clause-within
+rise_trim-part_of-requires-clause-within g t c =
     has_table c.args.tree.now c.args.tables.now.items c.args.at (now_family c.args.tree.now c.requires.gaining.was c.args.tables.now.items c.args.at c.requires.gaining.began) c.requires.gaining.began.ready.within
 
-pub rise_trim-part_of-part-requires-clause-narrow : goal.rise_trim-part_of-part-requires-clause-narrow
-rise_trim-part_of-part-requires-clause-narrow g t c =
+pub rise_trim-part_of-requires-clause-narrow : goal.rise_trim-part_of-requires-clause-narrow
+rise_trim-part_of-requires-clause-narrow g t c =
     width_narrow c.args.tree.now c.args.tables.now.items c.args.at (now_family c.args.tree.now c.requires.gaining.was c.args.tables.now.items c.args.at c.requires.gaining.began) c.requires.gaining.began.ready.within
 
-pub rise_trim-part_of-part-requires-clause-few : goal.rise_trim-part_of-part-requires-clause-few
-rise_trim-part_of-part-requires-clause-few g t c =
+pub rise_trim-part_of-requires-clause-few : goal.rise_trim-part_of-requires-clause-few
+rise_trim-part_of-requires-clause-few g t c =
     trim_few c.args.tree.now c.args.tables.now.items c.args.at c.args.up (now_family c.args.tree.now c.requires.gaining.was c.args.tables.now.items c.args.at c.requires.gaining.began) c.requires.gaining.began.ready.within c.requires.under
 
-pub rise_trim-part_of-part-requires-clause-wide : goal.rise_trim-part_of-part-requires-clause-wide
-rise_trim-part_of-part-requires-clause-wide g t c =
+pub rise_trim-part_of-requires-clause-wide : goal.rise_trim-part_of-requires-clause-wide
+rise_trim-part_of-requires-clause-wide g t c =
     c.requires.wide
 
 pub rise_trim-find_at-requires : goal.rise_trim-find_at-requires
@@ -326,11 +326,11 @@ rise_trim-live-requires g t c κs hκ =
     let low = lower_of c.args.tree.now c.args.up (Trim c.args.at) c.args.at c.requires.gaining.began.ready.family.is_tree c.requires.under in
     let within = c.requires.under.within in
     let d = c.decreases in
-    (omega arith, (hκ, (ready_up c.args.tree.now c.requires.gaining.was c.args.tables.now.items c.args.at c.args.up (Trim c.args.at) c.requires.gaining.began c.requires.under, (c.in-None.ensures.found, (trim_wide c.args.tree.now c.args.tables.now.items c.args.at c.args.up c.args.tuple.now c.as_slice-cells.result.now (now_family c.args.tree.now c.requires.gaining.was c.args.tables.now.items c.args.at c.requires.gaining.began) c.requires.gaining.began.ready.within c.requires.under (c.as_slice-cells.ensures ∙ c.part_of-part.ensures), (trim_fits c.args.tree.now c.requires.gaining.was c.args.tables.now.items c.args.at c.args.up 4294967295 c.args.tuple.now c.requires.gaining.began c.requires.gaining.gains c.requires.under c.is_small_at.ensures, c.requires.bare))))))
+    (omega arith, (hκ, (ready_up c.args.tree.now c.requires.gaining.was c.args.tables.now.items c.args.at c.args.up (Trim c.args.at) c.requires.gaining.began c.requires.under, (c.in-None.ensures.found, (trim_wide c.args.tree.now c.args.tables.now.items c.args.at c.args.up c.args.tuple.now c.as_slice-cells.result.now (now_family c.args.tree.now c.requires.gaining.was c.args.tables.now.items c.args.at c.requires.gaining.began) c.requires.gaining.began.ready.within c.requires.under (c.as_slice-cells.ensures ∙ c.part_of.ensures), (trim_fits c.args.tree.now c.requires.gaining.was c.args.tables.now.items c.args.at c.args.up 4294967295 c.args.tuple.now c.requires.gaining.began c.requires.gaining.gains c.requires.under c.is_small_at.ensures, c.requires.bare))))))
 
 pub rise_trim-returns-in-Some-clause-ok : goal.rise_trim-returns-in-Some-clause-ok
 rise_trim-returns-in-Some-clause-ok g t c =
-    trim_raised c.args.tree.now c.requires.gaining.was c.args.tables.now.items c.raise_at.new.tables.items c.args.at c.args.up c.args.tuple.now c.as_slice-cells.result.now c.requires.gaining.began c.requires.gaining.gains c.requires.under c.raise_at.ensures.changed (c.raise_at.ensures.raised c.as_slice-cells.result.now c.in-Some.ensures.found) (c.as_slice-cells.ensures ∙ c.part_of-part.ensures)
+    trim_raised c.args.tree.now c.requires.gaining.was c.args.tables.now.items c.raise_at.new.tables.items c.args.at c.args.up c.args.tuple.now c.as_slice-cells.result.now c.requires.gaining.began c.requires.gaining.gains c.requires.under c.raise_at.ensures.changed (c.raise_at.ensures.raised c.as_slice-cells.result.now c.in-Some.ensures.found) (c.as_slice-cells.ensures ∙ c.part_of.ensures)
 
 pub rise_trim-returns-in-Some-clause-plain : goal.rise_trim-returns-in-Some-clause-plain
 rise_trim-returns-in-Some-clause-plain g t c =
@@ -342,7 +342,7 @@ rise_trim-returns-in-Some-clause-counted g t c =
 
 pub rise_trim-returns-in-None-clause-ok : goal.rise_trim-returns-in-None-clause-ok
 rise_trim-returns-in-None-clause-ok g t c =
-    ok_map c.live.result (Lived c.args.tree.now c.args.tables.now.items c.live.new.tables.items c.args.up c.as_slice-cells.result.now) (Righted c.args.tree.now c.args.tables.now.items c.live.new.tables.items c.args.at) (λ l. trim_lived c.args.tree.now c.requires.gaining.was c.args.tables.now.items c.live.new.tables.items c.args.at c.args.up c.args.tuple.now c.as_slice-cells.result.now c.requires.gaining.began c.requires.gaining.gains c.requires.under l (c.as_slice-cells.ensures ∙ c.part_of-part.ensures)) c.live.ensures.ok
+    ok_map c.live.result (Lived c.args.tree.now c.args.tables.now.items c.live.new.tables.items c.args.up c.as_slice-cells.result.now) (Righted c.args.tree.now c.args.tables.now.items c.live.new.tables.items c.args.at) (λ l. trim_lived c.args.tree.now c.requires.gaining.was c.args.tables.now.items c.live.new.tables.items c.args.at c.args.up c.args.tuple.now c.as_slice-cells.result.now c.requires.gaining.began c.requires.gaining.gains c.requires.under l (c.as_slice-cells.ensures ∙ c.part_of.ensures)) c.live.ensures.ok
 
 pub rise_trim-returns-in-None-clause-refused : goal.rise_trim-returns-in-None-clause-refused
 rise_trim-returns-in-None-clause-refused g t c =
@@ -387,22 +387,22 @@ pub rise_side-loop-done-init : goal.rise_side-loop-done-init
 rise_side-loop-done-init g t c =
     record { next = c.first_at-next.ensures.found; grown = grown_none c.args.tree.now c.args.tables.now.items c.args.up (grp (key_at c.args.tables.now.items c.args.guard) (entries_at c.args.tables.now.items c.args.guard) c.args.tuple.now) (ready_up c.args.tree.now c.requires.gaining.was c.args.tables.now.items c.args.at c.args.up (Meet c.args.guard c.args.at) c.requires.gaining.began c.requires.under); unchanged = plain_refl c.args.tables.now.items; counted = omega (arith, c.first_at-next.ensures.counted) }
 
-pub rise_side-tuple_at-part-requires-clause-within : goal.rise_side-tuple_at-part-requires-clause-within
-rise_side-tuple_at-part-requires-clause-within g t c =
+pub rise_side-read_at-requires-clause-within : goal.rise_side-read_at-requires-clause-within
+rise_side-read_at-requires-clause-within g t c =
     let m = c.requires.gaining.began.ready.family.is_tree.meet c.args.up c.args.guard c.args.at c.requires.under.node in
     let mg = m.guard_lower in
     let within = c.requires.under.within in
     has_table c.args.tree.now c.loop-done.tables.items c.args.guard c.loop-done.invariant.grown.family (omega arith)
 
-pub rise_side-tuple_at-part-requires-clause-narrow : goal.rise_side-tuple_at-part-requires-clause-narrow
-rise_side-tuple_at-part-requires-clause-narrow g t c =
+pub rise_side-read_at-requires-clause-narrow : goal.rise_side-read_at-requires-clause-narrow
+rise_side-read_at-requires-clause-narrow g t c =
     let m = c.requires.gaining.began.ready.family.is_tree.meet c.args.up c.args.guard c.args.at c.requires.under.node in
     let mg = m.guard_lower in
     let within = c.requires.under.within in
     width_narrow c.args.tree.now c.loop-done.tables.items c.args.guard c.loop-done.invariant.grown.family (omega arith)
 
-pub rise_side-tuple_at-part-requires-clause-live : goal.rise_side-tuple_at-part-requires-clause-live
-rise_side-tuple_at-part-requires-clause-live g t c =
+pub rise_side-read_at-requires-clause-live : goal.rise_side-read_at-requires-clause-live
+rise_side-read_at-requires-clause-live g t c =
     let k = cut_of (grp (key_at c.args.tables.now.items c.args.guard) (entries_at c.args.tables.now.items c.args.guard) c.args.tuple.now) c.loop-done.done c.loop-done.next c.in-Some.place c.loop-done.invariant.next c.in-Some.is in
     as_live (entries_at c.loop-done.tables.items c.args.guard) c.in-Some.place k.entry.tuple (moved_at (entries_at c.args.tables.now.items c.args.guard) (entries_at c.loop-done.tables.items c.args.guard) c.in-Some.place k.entry.tuple (c.loop-done.invariant.grown.low c.args.guard (c.requires.gaining.began.ready.family.is_tree.meet c.args.up c.args.guard c.args.at c.requires.under.node).guard_lower) (cut_at (key_at c.args.tables.now.items c.args.guard) (entries_at c.args.tables.now.items c.args.guard) c.args.tuple.now c.loop-done.done c.in-Some.place k))
 
@@ -421,9 +421,9 @@ rise_side-live-requires g t c κs hκ =
         (
           grown_ready c.args.tree.now c.args.tables.now.items c.loop-done.tables.items c.args.up (take c.loop-done.done (grp (key_at c.args.tables.now.items c.args.guard) (entries_at c.args.tables.now.items c.args.guard) c.args.tuple.now)) c.requires.under.within c.loop-done.invariant.grown,
           (
-            subst (λ (w : List ℕ). cnt (entries_at c.loop-done.tables.items c.args.up) w ≡ 0) (sym (c.as_slice.ensures ∙ c.tuple_at-part.ensures.tuple k.entry.tuple (moved_at (entries_at c.args.tables.now.items c.args.guard) (entries_at c.loop-done.tables.items c.args.guard) c.in-Some.place k.entry.tuple (c.loop-done.invariant.grown.low c.args.guard (c.requires.gaining.began.ready.family.is_tree.meet c.args.up c.args.guard c.args.at c.requires.under.node).guard_lower) (cut_at (key_at c.args.tables.now.items c.args.guard) (entries_at c.args.tables.now.items c.args.guard) c.args.tuple.now c.loop-done.done c.in-Some.place k)))) (side_absent c.args.tree.now c.requires.gaining.was c.args.tables.now.items c.loop-done.tables.items c.args.guard c.args.at c.args.up c.loop-done.done c.args.tuple.now k.entry c.requires.gaining.began c.requires.gaining.gains c.requires.under c.loop-done.invariant.grown k.is),
+            subst (λ (w : List ℕ). cnt (entries_at c.loop-done.tables.items c.args.up) w ≡ 0) (sym (c.as_slice.ensures ∙ c.read_at.ensures.tuple k.entry.tuple (moved_at (entries_at c.args.tables.now.items c.args.guard) (entries_at c.loop-done.tables.items c.args.guard) c.in-Some.place k.entry.tuple (c.loop-done.invariant.grown.low c.args.guard (c.requires.gaining.began.ready.family.is_tree.meet c.args.up c.args.guard c.args.at c.requires.under.node).guard_lower) (cut_at (key_at c.args.tables.now.items c.args.guard) (entries_at c.args.tables.now.items c.args.guard) c.args.tuple.now c.loop-done.done c.in-Some.place k)))) (side_absent c.args.tree.now c.requires.gaining.was c.args.tables.now.items c.loop-done.tables.items c.args.guard c.args.at c.args.up c.loop-done.done c.args.tuple.now k.entry c.requires.gaining.began c.requires.gaining.gains c.requires.under c.loop-done.invariant.grown k.is),
             (
-              ap (λ (w : List ℕ). length w) c.as_slice.ensures ∙ c.tuple_at-part.ensures.wide ∙ sym (guard_wide c.args.tree.now c.loop-done.tables.items c.args.guard c.args.at c.args.up c.loop-done.invariant.grown.family (omega arith) (guard_under c.args.tree.now c.args.up c.args.guard c.args.at c.args.at c.requires.under)),
+              ap (λ (w : List ℕ). length w) c.as_slice.ensures ∙ c.read_at.ensures.wide ∙ sym (guard_wide c.args.tree.now c.loop-done.tables.items c.args.guard c.args.at c.args.up c.loop-done.invariant.grown.family (omega arith) (guard_under c.args.tree.now c.args.up c.args.guard c.args.at c.args.at c.requires.under)),
               (
                 omega (arith, next_fits c.args.tree.now c.requires.gaining.was c.args.tables.now.items c.loop-done.tables.items c.args.guard c.args.at c.args.up c.loop-done.done c.args.tuple.now k.entry c.requires.gaining.began c.requires.gaining.gains c.requires.under c.loop-done.invariant.grown k.is, c.is_small_at.ensures),
                 still_bare c.args.marked c.args.tables.now.items c.loop-done.tables.items c.loop-done.invariant.unchanged c.requires.bare,
@@ -475,7 +475,7 @@ rise_side-next_at-next-requires-clause-within g t c =
 pub rise_side-next_at-next-requires-clause-live : goal.rise_side-next_at-next-requires-clause-live
 rise_side-next_at-next-requires-clause-live g t c =
     let k = cut_of (grp (key_at c.args.tables.now.items c.args.guard) (entries_at c.args.tables.now.items c.args.guard) c.args.tuple.now) c.loop-done.done c.loop-done.next c.in-Some.place c.loop-done.invariant.next c.in-Some.is in
-    let n = (grown_more c.args.tree.now c.args.tables.now.items c.loop-done.tables.items c.live.new.tables.items c.args.up (grp (key_at c.args.tables.now.items c.args.guard) (entries_at c.args.tables.now.items c.args.guard) c.args.tuple.now) c.loop-done.done k.entry c.loop-done.invariant.grown (subst (λ (w : List ℕ). Lived c.args.tree.now c.loop-done.tables.items c.live.new.tables.items c.args.up w) (c.as_slice.ensures ∙ c.tuple_at-part.ensures.tuple k.entry.tuple (moved_at (entries_at c.args.tables.now.items c.args.guard) (entries_at c.loop-done.tables.items c.args.guard) c.in-Some.place k.entry.tuple (c.loop-done.invariant.grown.low c.args.guard (c.requires.gaining.began.ready.family.is_tree.meet c.args.up c.args.guard c.args.at c.requires.under.node).guard_lower) (cut_at (key_at c.args.tables.now.items c.args.guard) (entries_at c.args.tables.now.items c.args.guard) c.args.tuple.now c.loop-done.done c.in-Some.place k))) c.in-Ok.ensures.ok) k.is) in
+    let n = (grown_more c.args.tree.now c.args.tables.now.items c.loop-done.tables.items c.live.new.tables.items c.args.up (grp (key_at c.args.tables.now.items c.args.guard) (entries_at c.args.tables.now.items c.args.guard) c.args.tuple.now) c.loop-done.done k.entry c.loop-done.invariant.grown (subst (λ (w : List ℕ). Lived c.args.tree.now c.loop-done.tables.items c.live.new.tables.items c.args.up w) (c.as_slice.ensures ∙ c.read_at.ensures.tuple k.entry.tuple (moved_at (entries_at c.args.tables.now.items c.args.guard) (entries_at c.loop-done.tables.items c.args.guard) c.in-Some.place k.entry.tuple (c.loop-done.invariant.grown.low c.args.guard (c.requires.gaining.began.ready.family.is_tree.meet c.args.up c.args.guard c.args.at c.requires.under.node).guard_lower) (cut_at (key_at c.args.tables.now.items c.args.guard) (entries_at c.args.tables.now.items c.args.guard) c.args.tuple.now c.loop-done.done c.in-Some.place k))) c.in-Ok.ensures.ok) k.is) in
     as_live (entries_at c.live.new.tables.items c.args.guard) c.in-Some.place k.entry.tuple (moved_at (entries_at c.args.tables.now.items c.args.guard) (entries_at c.live.new.tables.items c.args.guard) c.in-Some.place k.entry.tuple (n.low c.args.guard (c.requires.gaining.began.ready.family.is_tree.meet c.args.up c.args.guard c.args.at c.requires.under.node).guard_lower) (cut_at (key_at c.args.tables.now.items c.args.guard) (entries_at c.args.tables.now.items c.args.guard) c.args.tuple.now c.loop-done.done c.in-Some.place k))
 
 pub rise_side-loop-done-smaller : goal.rise_side-loop-done-smaller
@@ -486,7 +486,7 @@ rise_side-loop-done-smaller g t c =
 pub rise_side-loop-done-preserved : goal.rise_side-loop-done-preserved
 rise_side-loop-done-preserved g t c =
     let k = cut_of (grp (key_at c.args.tables.now.items c.args.guard) (entries_at c.args.tables.now.items c.args.guard) c.args.tuple.now) c.loop-done.done c.loop-done.next c.in-Some.place c.loop-done.invariant.next c.in-Some.is in
-    let n = (grown_more c.args.tree.now c.args.tables.now.items c.loop-done.tables.items c.live.new.tables.items c.args.up (grp (key_at c.args.tables.now.items c.args.guard) (entries_at c.args.tables.now.items c.args.guard) c.args.tuple.now) c.loop-done.done k.entry c.loop-done.invariant.grown (subst (λ (w : List ℕ). Lived c.args.tree.now c.loop-done.tables.items c.live.new.tables.items c.args.up w) (c.as_slice.ensures ∙ c.tuple_at-part.ensures.tuple k.entry.tuple (moved_at (entries_at c.args.tables.now.items c.args.guard) (entries_at c.loop-done.tables.items c.args.guard) c.in-Some.place k.entry.tuple (c.loop-done.invariant.grown.low c.args.guard (c.requires.gaining.began.ready.family.is_tree.meet c.args.up c.args.guard c.args.at c.requires.under.node).guard_lower) (cut_at (key_at c.args.tables.now.items c.args.guard) (entries_at c.args.tables.now.items c.args.guard) c.args.tuple.now c.loop-done.done c.in-Some.place k))) c.in-Ok.ensures.ok) k.is) in
+    let n = (grown_more c.args.tree.now c.args.tables.now.items c.loop-done.tables.items c.live.new.tables.items c.args.up (grp (key_at c.args.tables.now.items c.args.guard) (entries_at c.args.tables.now.items c.args.guard) c.args.tuple.now) c.loop-done.done k.entry c.loop-done.invariant.grown (subst (λ (w : List ℕ). Lived c.args.tree.now c.loop-done.tables.items c.live.new.tables.items c.args.up w) (c.as_slice.ensures ∙ c.read_at.ensures.tuple k.entry.tuple (moved_at (entries_at c.args.tables.now.items c.args.guard) (entries_at c.loop-done.tables.items c.args.guard) c.in-Some.place k.entry.tuple (c.loop-done.invariant.grown.low c.args.guard (c.requires.gaining.began.ready.family.is_tree.meet c.args.up c.args.guard c.args.at c.requires.under.node).guard_lower) (cut_at (key_at c.args.tables.now.items c.args.guard) (entries_at c.args.tables.now.items c.args.guard) c.args.tuple.now c.loop-done.done c.in-Some.place k))) c.in-Ok.ensures.ok) k.is) in
     record {
       next = c.next_at-next.ensures.found c.args.tuple.now (take c.loop-done.done (grp (key_at c.args.tables.now.items c.args.guard) (entries_at c.args.tables.now.items c.args.guard) c.args.tuple.now)) k.entry (drop (c.loop-done.done + 1) (grp (key_at c.args.tables.now.items c.args.guard) (entries_at c.args.tables.now.items c.args.guard) c.args.tuple.now)) (group_still c.args.tree.now c.args.tables.now.items c.live.new.tables.items c.args.guard c.args.tuple.now (now_family c.args.tree.now c.requires.gaining.was c.args.tables.now.items c.args.at c.requires.gaining.began) n.family (n.low c.args.guard (c.requires.gaining.began.ready.family.is_tree.meet c.args.up c.args.guard c.args.at c.requires.under.node).guard_lower) ∙ k.is) k.at;
       grown = n;

@@ -1,7 +1,10 @@
-use Rattle.std.proofs.Common.{sym, ◌∙◌, arith}
+use Rattle.std.proofs.Common.{ℕ, List, sym, subst, ◌∙◌, arith}
+use Rattle.djq_index.specs.Table.{IsAt}
 use Rattle.djq_index.specs.Entries.{marks}
 use Rattle.djq_index.proofs.Changing.{removed_length}
 use Rattle.djq_reduct.specs.Tables.{entries_at}
+use Rattle.djq_propagate.specs.Walks.{Died}
+use Rattle.djq_propagate.proofs.Gains.{width_narrow}
 use Rattle.djq_propagate.proofs.Sides.{head_none}
 use Rattle.djq_propagate.proofs.Going.{has_table, as_live}
 use Rattle.djq_propagate.proofs.Updating.{leaf_within, ready_leaf, taking_none, taking_more, taking_done, no_mark, no_entry, first_mark}
@@ -23,10 +26,23 @@ pub kill-requires-clause-ready : goal.kill-requires-clause-ready
 kill-requires-clause-ready g c =
     ready_leaf c.args.tree.now c.loop-done.tables.items c.args.leaf c.loop-done.invariant.taking.sound c.requires.leaf
 
-pub kill-requires-clause-live : goal.kill-requires-clause-live
-kill-requires-clause-live g c =
+pub read_at-requires-clause-within : goal.read_at-requires-clause-within
+read_at-requires-clause-within g c =
+    has_table c.args.tree.now c.loop-done.tables.items c.args.leaf c.loop-done.invariant.taking.sound.family (leaf_within c.args.tree.now c.args.leaf c.requires.reducts.family.is_tree c.requires.leaf)
+
+pub read_at-requires-clause-narrow : goal.read_at-requires-clause-narrow
+read_at-requires-clause-narrow g c =
+    width_narrow c.args.tree.now c.loop-done.tables.items c.args.leaf c.loop-done.invariant.taking.sound.family (leaf_within c.args.tree.now c.args.leaf c.requires.reducts.family.is_tree c.requires.leaf)
+
+pub read_at-requires-clause-live : goal.read_at-requires-clause-live
+read_at-requires-clause-live g c =
     let m = first_mark (entries_at c.loop-done.tables.items c.args.leaf) c.in-Some.place (sym c.first_marked_at.ensures.found ∙ c.in-Some.is) in
     as_live (entries_at c.loop-done.tables.items c.args.leaf) c.in-Some.place m.tuple m.is_at
+
+pub kill-requires-clause-lies : goal.kill-requires-clause-lies
+kill-requires-clause-lies g c =
+    let m = first_mark (entries_at c.loop-done.tables.items c.args.leaf) c.in-Some.place (sym c.first_marked_at.ensures.found ∙ c.in-Some.is) in
+    subst (λ (u : List ℕ). IsAt (entries_at c.loop-done.tables.items c.args.leaf) c.in-Some.place u) (sym (c.as_slice.ensures ∙ c.read_at.ensures.tuple m.tuple m.is_at)) m.is_at
 
 pub loop-done-smaller : goal.loop-done-smaller
 loop-done-smaller g c =
@@ -36,9 +52,10 @@ loop-done-smaller g c =
 pub loop-done-preserved : goal.loop-done-preserved
 loop-done-preserved g c =
     let m = first_mark (entries_at c.loop-done.tables.items c.args.leaf) c.in-Some.place (sym c.first_marked_at.ensures.found ∙ c.in-Some.is) in
+    let died = subst (λ (u : List ℕ). Died c.args.tree.now c.loop-done.tables.items c.kill.new.tables.items c.args.leaf u) (c.as_slice.ensures ∙ c.read_at.ensures.tuple m.tuple m.is_at) c.kill.ensures.died in
     record {
-      taking = taking_more c.args.tree.now c.args.tables.now.items c.loop-done.tables.items c.kill.new.tables.items c.args.leaf m.tuple c.requires.leaf c.loop-done.invariant.taking (c.kill.ensures.died m.tuple m.is_at) c.kill.ensures.fewer m.some;
-      few = omega (arith, c.loop-done.invariant.few, removed_length (entries_at c.loop-done.tables.items c.args.leaf) (entries_at c.kill.new.tables.items c.args.leaf) m.tuple (c.kill.ensures.died m.tuple m.is_at).loses);
+      taking = taking_more c.args.tree.now c.args.tables.now.items c.loop-done.tables.items c.kill.new.tables.items c.args.leaf m.tuple c.requires.leaf c.loop-done.invariant.taking died c.kill.ensures.fewer m.some;
+      few = omega (arith, c.loop-done.invariant.few, removed_length (entries_at c.loop-done.tables.items c.args.leaf) (entries_at c.kill.new.tables.items c.args.leaf) m.tuple died.loses);
       counted = omega (arith, c.loop-done.invariant.counted, c.kill.ensures.counted, c.first_marked_at.ensures.counted);
     }
 

@@ -25,20 +25,20 @@ pub loop-done-init : goal.loop-done-init
 loop-done-init g c =
     record { next = c.first_at-next.ensures.found; touched = touched_none c.args.tree.now c.args.tables.now.items c.args.up (λ v. cnt (take 0 (grp (key_at c.args.tables.now.items c.args.guard) (entries_at c.args.tables.now.items c.args.guard) c.args.cells.now)) v) c.requires.family (λ v there some. absurd (omega (arith, take_zero (grp (key_at c.args.tables.now.items c.args.guard) (entries_at c.args.tables.now.items c.args.guard) c.args.cells.now) v))); bound = omega arith; counted = omega (arith, c.first_at-next.ensures.counted) }
 
-pub tuple_at-part-requires-clause-within : goal.tuple_at-part-requires-clause-within
-tuple_at-part-requires-clause-within g c =
+pub read_at-requires-clause-within : goal.read_at-requires-clause-within
+read_at-requires-clause-within g c =
     let glow = c.requires.lower in
     let within = c.requires.within in
     has_table c.args.tree.now c.loop-done.tables.items c.args.guard c.loop-done.invariant.touched.family (omega arith)
 
-pub tuple_at-part-requires-clause-narrow : goal.tuple_at-part-requires-clause-narrow
-tuple_at-part-requires-clause-narrow g c =
+pub read_at-requires-clause-narrow : goal.read_at-requires-clause-narrow
+read_at-requires-clause-narrow g c =
     let glow = c.requires.lower in
     let within = c.requires.within in
     width_narrow c.args.tree.now c.loop-done.tables.items c.args.guard c.loop-done.invariant.touched.family (omega arith)
 
-pub tuple_at-part-requires-clause-live : goal.tuple_at-part-requires-clause-live
-tuple_at-part-requires-clause-live g c =
+pub read_at-requires-clause-live : goal.read_at-requires-clause-live
+read_at-requires-clause-live g c =
     let k = cut_of (grp (key_at c.args.tables.now.items c.args.guard) (entries_at c.args.tables.now.items c.args.guard) c.args.cells.now) c.loop-done.done c.loop-done.next c.in-Some.place c.loop-done.invariant.next c.in-Some.is in
     let glow = c.requires.lower in
     let within = c.requires.within in
@@ -63,7 +63,7 @@ next_at-next-requires-clause-live g c =
     let k = cut_of (grp (key_at c.args.tables.now.items c.args.guard) (entries_at c.args.tables.now.items c.args.guard) c.args.cells.now) c.loop-done.done c.loop-done.next c.in-Some.place c.loop-done.invariant.next c.in-Some.is in
     let glow = c.requires.lower in
     let within = c.requires.within in
-    let n = touched_more c.args.tree.now c.args.tables.now.items c.loop-done.tables.items c.touch_tuple.new.tables.items c.args.up (λ v. cnt (take c.loop-done.done (grp (key_at c.args.tables.now.items c.args.guard) (entries_at c.args.tables.now.items c.args.guard) c.args.cells.now)) v) (λ v. one (same c.as_slice.result.now v)) (λ v. cnt (take (c.loop-done.done + 1) (grp (key_at c.args.tables.now.items c.args.guard) (entries_at c.args.tables.now.items c.args.guard) c.args.cells.now)) v) c.requires.family c.loop-done.invariant.touched c.touch_tuple.ensures.touched (λ v. (cut_cnt (grp (key_at c.args.tables.now.items c.args.guard) (entries_at c.args.tables.now.items c.args.guard) c.args.cells.now) c.loop-done.done k.entry v k.is).1 ∙ ap (λ (w : List ℕ). cnt (take c.loop-done.done (grp (key_at c.args.tables.now.items c.args.guard) (entries_at c.args.tables.now.items c.args.guard) c.args.cells.now)) v + one (same w v)) (sym (c.as_slice.ensures ∙ c.tuple_at-part.ensures.tuple k.entry.tuple (moved_at (entries_at c.args.tables.now.items c.args.guard) (entries_at c.loop-done.tables.items c.args.guard) c.in-Some.place k.entry.tuple (c.loop-done.invariant.touched.others c.args.guard (omega arith)) (cut_at (key_at c.args.tables.now.items c.args.guard) (entries_at c.args.tables.now.items c.args.guard) c.args.cells.now c.loop-done.done c.in-Some.place k))))) in
+    let n = touched_more c.args.tree.now c.args.tables.now.items c.loop-done.tables.items c.touch_tuple.new.tables.items c.args.up (λ v. cnt (take c.loop-done.done (grp (key_at c.args.tables.now.items c.args.guard) (entries_at c.args.tables.now.items c.args.guard) c.args.cells.now)) v) (λ v. one (same c.as_slice.result.now v)) (λ v. cnt (take (c.loop-done.done + 1) (grp (key_at c.args.tables.now.items c.args.guard) (entries_at c.args.tables.now.items c.args.guard) c.args.cells.now)) v) c.requires.family c.loop-done.invariant.touched c.touch_tuple.ensures.touched (λ v. (cut_cnt (grp (key_at c.args.tables.now.items c.args.guard) (entries_at c.args.tables.now.items c.args.guard) c.args.cells.now) c.loop-done.done k.entry v k.is).1 ∙ ap (λ (w : List ℕ). cnt (take c.loop-done.done (grp (key_at c.args.tables.now.items c.args.guard) (entries_at c.args.tables.now.items c.args.guard) c.args.cells.now)) v + one (same w v)) (sym (c.as_slice.ensures ∙ c.read_at.ensures.tuple k.entry.tuple (moved_at (entries_at c.args.tables.now.items c.args.guard) (entries_at c.loop-done.tables.items c.args.guard) c.in-Some.place k.entry.tuple (c.loop-done.invariant.touched.others c.args.guard (omega arith)) (cut_at (key_at c.args.tables.now.items c.args.guard) (entries_at c.args.tables.now.items c.args.guard) c.args.cells.now c.loop-done.done c.in-Some.place k))))) in
     as_live (entries_at c.touch_tuple.new.tables.items c.args.guard) c.in-Some.place k.entry.tuple (moved_at (entries_at c.args.tables.now.items c.args.guard) (entries_at c.touch_tuple.new.tables.items c.args.guard) c.in-Some.place k.entry.tuple (n.others c.args.guard (omega arith)) (cut_at (key_at c.args.tables.now.items c.args.guard) (entries_at c.args.tables.now.items c.args.guard) c.args.cells.now c.loop-done.done c.in-Some.place k))
 
 pub loop-done-smaller : goal.loop-done-smaller
@@ -76,7 +76,7 @@ loop-done-preserved g c =
     let k = cut_of (grp (key_at c.args.tables.now.items c.args.guard) (entries_at c.args.tables.now.items c.args.guard) c.args.cells.now) c.loop-done.done c.loop-done.next c.in-Some.place c.loop-done.invariant.next c.in-Some.is in
     let glow = c.requires.lower in
     let within = c.requires.within in
-    let n = touched_more c.args.tree.now c.args.tables.now.items c.loop-done.tables.items c.touch_tuple.new.tables.items c.args.up (λ v. cnt (take c.loop-done.done (grp (key_at c.args.tables.now.items c.args.guard) (entries_at c.args.tables.now.items c.args.guard) c.args.cells.now)) v) (λ v. one (same c.as_slice.result.now v)) (λ v. cnt (take (c.loop-done.done + 1) (grp (key_at c.args.tables.now.items c.args.guard) (entries_at c.args.tables.now.items c.args.guard) c.args.cells.now)) v) c.requires.family c.loop-done.invariant.touched c.touch_tuple.ensures.touched (λ v. (cut_cnt (grp (key_at c.args.tables.now.items c.args.guard) (entries_at c.args.tables.now.items c.args.guard) c.args.cells.now) c.loop-done.done k.entry v k.is).1 ∙ ap (λ (w : List ℕ). cnt (take c.loop-done.done (grp (key_at c.args.tables.now.items c.args.guard) (entries_at c.args.tables.now.items c.args.guard) c.args.cells.now)) v + one (same w v)) (sym (c.as_slice.ensures ∙ c.tuple_at-part.ensures.tuple k.entry.tuple (moved_at (entries_at c.args.tables.now.items c.args.guard) (entries_at c.loop-done.tables.items c.args.guard) c.in-Some.place k.entry.tuple (c.loop-done.invariant.touched.others c.args.guard (omega arith)) (cut_at (key_at c.args.tables.now.items c.args.guard) (entries_at c.args.tables.now.items c.args.guard) c.args.cells.now c.loop-done.done c.in-Some.place k))))) in
+    let n = touched_more c.args.tree.now c.args.tables.now.items c.loop-done.tables.items c.touch_tuple.new.tables.items c.args.up (λ v. cnt (take c.loop-done.done (grp (key_at c.args.tables.now.items c.args.guard) (entries_at c.args.tables.now.items c.args.guard) c.args.cells.now)) v) (λ v. one (same c.as_slice.result.now v)) (λ v. cnt (take (c.loop-done.done + 1) (grp (key_at c.args.tables.now.items c.args.guard) (entries_at c.args.tables.now.items c.args.guard) c.args.cells.now)) v) c.requires.family c.loop-done.invariant.touched c.touch_tuple.ensures.touched (λ v. (cut_cnt (grp (key_at c.args.tables.now.items c.args.guard) (entries_at c.args.tables.now.items c.args.guard) c.args.cells.now) c.loop-done.done k.entry v k.is).1 ∙ ap (λ (w : List ℕ). cnt (take c.loop-done.done (grp (key_at c.args.tables.now.items c.args.guard) (entries_at c.args.tables.now.items c.args.guard) c.args.cells.now)) v + one (same w v)) (sym (c.as_slice.ensures ∙ c.read_at.ensures.tuple k.entry.tuple (moved_at (entries_at c.args.tables.now.items c.args.guard) (entries_at c.loop-done.tables.items c.args.guard) c.in-Some.place k.entry.tuple (c.loop-done.invariant.touched.others c.args.guard (omega arith)) (cut_at (key_at c.args.tables.now.items c.args.guard) (entries_at c.args.tables.now.items c.args.guard) c.args.cells.now c.loop-done.done c.in-Some.place k))))) in
     record {
       next = c.next_at-next.ensures.found c.args.cells.now (take c.loop-done.done (grp (key_at c.args.tables.now.items c.args.guard) (entries_at c.args.tables.now.items c.args.guard) c.args.cells.now)) k.entry (drop (c.loop-done.done + 1) (grp (key_at c.args.tables.now.items c.args.guard) (entries_at c.args.tables.now.items c.args.guard) c.args.cells.now)) (group_still c.args.tree.now c.args.tables.now.items c.touch_tuple.new.tables.items c.args.guard c.args.cells.now c.requires.family n.family (n.others c.args.guard (omega arith)) ∙ k.is) k.at;
       touched = n;

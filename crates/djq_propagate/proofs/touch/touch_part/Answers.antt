@@ -7,20 +7,20 @@ use Rattle.djq_propagate.proofs.Going.{has_table}
 use Rattle.djq_propagate.proofs.Touching.{touched_none, touched_as, reach_yes, reach_no}
 use Rattle.djq_propagate.proofs.touch.touch_part.Goals as goal
 
-pub part_of-part-requires-clause-within : goal.part_of-part-requires-clause-within
-part_of-part-requires-clause-within g c =
+pub part_of-requires-clause-within : goal.part_of-requires-clause-within
+part_of-requires-clause-within g c =
     has_table c.args.tree.now c.args.tables.now.items c.args.at c.requires.family c.requires.within
 
-pub part_of-part-requires-clause-narrow : goal.part_of-part-requires-clause-narrow
-part_of-part-requires-clause-narrow g c =
+pub part_of-requires-clause-narrow : goal.part_of-requires-clause-narrow
+part_of-requires-clause-narrow g c =
     width_narrow c.args.tree.now c.args.tables.now.items c.args.at c.requires.family c.requires.within
 
-pub part_of-part-requires-clause-few : goal.part_of-part-requires-clause-few
-part_of-part-requires-clause-few g c =
+pub part_of-requires-clause-few : goal.part_of-requires-clause-few
+part_of-requires-clause-few g c =
     trim_few c.args.tree.now c.args.tables.now.items c.args.at c.args.up c.requires.family c.requires.within c.requires.under
 
-pub part_of-part-requires-clause-wide : goal.part_of-part-requires-clause-wide
-part_of-part-requires-clause-wide g c =
+pub part_of-requires-clause-wide : goal.part_of-requires-clause-wide
+part_of-requires-clause-wide g c =
     c.requires.wide
 
 pub is_going-requires-clause-family : goal.is_going-requires-clause-family
@@ -41,7 +41,7 @@ touch_tuple-requires-clause-within g c =
 
 pub returns-then-is_going-clause-touched : goal.returns-then-is_going-clause-touched
 returns-then-is_going-clause-touched g c =
-    touched_as c.args.tree.now c.args.tables.now.items c.touch_tuple.new.tables.items c.args.up (λ v. one (same c.as_slice-cells.result.now v)) (λ v. reach_one (Trim c.args.at) c.args.going c.args.at c.args.tables.now.items c.args.tuple.now v) c.touch_tuple.ensures.touched (λ v. reach_yes c.args.at c.args.tables.now.items c.args.tuple.now v c.as_slice-cells.result.now c.args.going c.is_going.result (c.as_slice-cells.ensures ∙ c.part_of-part.ensures) c.is_going.ensures.going c.if-is_going.true)
+    touched_as c.args.tree.now c.args.tables.now.items c.touch_tuple.new.tables.items c.args.up (λ v. one (same c.as_slice-cells.result.now v)) (λ v. reach_one (Trim c.args.at) c.args.going c.args.at c.args.tables.now.items c.args.tuple.now v) c.touch_tuple.ensures.touched (λ v. reach_yes c.args.at c.args.tables.now.items c.args.tuple.now v c.as_slice-cells.result.now c.args.going c.is_going.result (c.as_slice-cells.ensures ∙ c.part_of.ensures) c.is_going.ensures.going c.if-is_going.true)
 
 pub returns-then-is_going-clause-counted : goal.returns-then-is_going-clause-counted
 returns-then-is_going-clause-counted g c =
@@ -49,7 +49,7 @@ returns-then-is_going-clause-counted g c =
 
 pub returns-else-is_going-clause-touched : goal.returns-else-is_going-clause-touched
 returns-else-is_going-clause-touched g c =
-    touched_none c.args.tree.now c.args.tables.now.items c.args.up (λ v. reach_one (Trim c.args.at) c.args.going c.args.at c.args.tables.now.items c.args.tuple.now v) c.requires.family (λ v there some. absurd (omega (arith, reach_no c.args.at c.args.tables.now.items c.args.tuple.now v c.as_slice-cells.result.now c.args.going c.is_going.result (c.as_slice-cells.ensures ∙ c.part_of-part.ensures) c.is_going.ensures.going c.if-is_going.false)))
+    touched_none c.args.tree.now c.args.tables.now.items c.args.up (λ v. reach_one (Trim c.args.at) c.args.going c.args.at c.args.tables.now.items c.args.tuple.now v) c.requires.family (λ v there some. absurd (omega (arith, reach_no c.args.at c.args.tables.now.items c.args.tuple.now v c.as_slice-cells.result.now c.args.going c.is_going.result (c.as_slice-cells.ensures ∙ c.part_of.ensures) c.is_going.ensures.going c.if-is_going.false)))
 
 pub returns-else-is_going-clause-counted : goal.returns-else-is_going-clause-counted
 returns-else-is_going-clause-counted g c =

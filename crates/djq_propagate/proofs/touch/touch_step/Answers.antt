@@ -27,20 +27,20 @@ pub loop-done-init : goal.loop-done-init
 loop-done-init g c =
     record { next = c.first_marked_at-next.ensures.found; touched = touched_none c.args.tree.now c.args.tables.now.items c.args.up (λ v. reach (node_at c.args.tree.now.nodes c.args.up) c.args.going c.args.at c.args.tables.now.items [] v) c.requires.step.family (λ v there some. absurd (omega (arith, reach_nothing (node_at c.args.tree.now.nodes c.args.up) c.args.going c.args.at c.args.tables.now.items v))); counted = omega (arith, c.first_marked_at-next.ensures.counted, cost_none (node_at c.args.tree.now.nodes c.args.up) c.args.at c.args.tables.now.items) }
 
-pub tuple_at-tuple-requires-clause-within : goal.tuple_at-tuple-requires-clause-within
-tuple_at-tuple-requires-clause-within g c =
+pub read_at-requires-clause-within : goal.read_at-requires-clause-within
+read_at-requires-clause-within g c =
     let low = step_lower c.args.tree.now c.args.tables.now.items c.args.at c.args.up c.requires.step in
     let within = c.requires.step.within in
     has_table c.args.tree.now c.loop-done.tables.items c.args.at c.loop-done.invariant.touched.family (omega arith)
 
-pub tuple_at-tuple-requires-clause-narrow : goal.tuple_at-tuple-requires-clause-narrow
-tuple_at-tuple-requires-clause-narrow g c =
+pub read_at-requires-clause-narrow : goal.read_at-requires-clause-narrow
+read_at-requires-clause-narrow g c =
     let low = step_lower c.args.tree.now c.args.tables.now.items c.args.at c.args.up c.requires.step in
     let within = c.requires.step.within in
     width_narrow c.args.tree.now c.loop-done.tables.items c.args.at c.loop-done.invariant.touched.family (omega arith)
 
-pub tuple_at-tuple-requires-clause-live : goal.tuple_at-tuple-requires-clause-live
-tuple_at-tuple-requires-clause-live g c =
+pub read_at-requires-clause-live : goal.read_at-requires-clause-live
+read_at-requires-clause-live g c =
     let k = cut_of (marks (entries_at c.args.tables.now.items c.args.at)) c.loop-done.done c.loop-done.next c.in-Some.place c.loop-done.invariant.next c.in-Some.is in
     let low = step_lower c.args.tree.now c.args.tables.now.items c.args.at c.args.up c.requires.step in
     let within = c.requires.step.within in
@@ -52,7 +52,7 @@ touch_from-requires-clause-step g c =
 
 pub touch_from-requires-clause-wide : goal.touch_from-requires-clause-wide
 touch_from-requires-clause-wide g c =
-    ap (λ (w : List ℕ). length w) c.as_slice.ensures ∙ c.tuple_at-tuple.ensures.wide
+    ap (λ (w : List ℕ). length w) c.as_slice.ensures ∙ c.read_at.ensures.wide
 
 pub next_marked_at-next-requires-clause-within : goal.next_marked_at-next-requires-clause-within
 next_marked_at-next-requires-clause-within g c =
@@ -66,7 +66,7 @@ next_marked_at-next-requires-clause-live g c =
     let low = step_lower c.args.tree.now c.args.tables.now.items c.args.at c.args.up c.requires.step in
     let within = c.requires.step.within in
     let n = touched_more c.args.tree.now c.args.tables.now.items c.loop-done.tables.items c.touch_from.new.tables.items c.args.up (λ v. reach (node_at c.args.tree.now.nodes c.args.up) c.args.going c.args.at c.args.tables.now.items (take c.loop-done.done (marks (entries_at c.args.tables.now.items c.args.at))) v) (λ v. reach_one (node_at c.args.tree.now.nodes c.args.up) c.args.going c.args.at c.loop-done.tables.items c.as_slice.result.now v) (λ v. reach (node_at c.args.tree.now.nodes c.args.up) c.args.going c.args.at c.args.tables.now.items (take (c.loop-done.done + 1) (marks (entries_at c.args.tables.now.items c.args.at))) v) c.requires.step.family c.loop-done.invariant.touched c.touch_from.ensures.touched
-    (λ v. reach_more (node_at c.args.tree.now.nodes c.args.up) c.args.going c.args.at c.args.tables.now.items (marks (entries_at c.args.tables.now.items c.args.at)) c.loop-done.done k.entry v k.is ∙ ap (λ (x : ℕ). reach (node_at c.args.tree.now.nodes c.args.up) c.args.going c.args.at c.args.tables.now.items (take c.loop-done.done (marks (entries_at c.args.tables.now.items c.args.at))) v + x) (sym (ap (λ (w : List ℕ). reach_one (node_at c.args.tree.now.nodes c.args.up) c.args.going c.args.at c.loop-done.tables.items w v) (c.as_slice.ensures ∙ c.tuple_at-tuple.ensures.tuple k.entry.tuple (moved_at (entries_at c.args.tables.now.items c.args.at) (entries_at c.loop-done.tables.items c.args.at) c.in-Some.place k.entry.tuple (c.loop-done.invariant.touched.others c.args.at (omega arith)) (cut_mark (entries_at c.args.tables.now.items c.args.at) c.loop-done.done c.in-Some.place k))) ∙ reach_still (node_at c.args.tree.now.nodes c.args.up) c.args.going c.args.at c.args.tables.now.items c.loop-done.tables.items k.entry.tuple v (same_keys c.args.tree.now c.args.tables.now.items c.loop-done.tables.items c.requires.step.family c.loop-done.invariant.touched.family) (kids_still c.args.tree.now c.args.tables.now.items c.loop-done.tables.items c.args.up (λ v. reach (node_at c.args.tree.now.nodes c.args.up) c.args.going c.args.at c.args.tables.now.items (take c.loop-done.done (marks (entries_at c.args.tables.now.items c.args.at))) v) c.requires.step.family.is_tree c.loop-done.invariant.touched)))) in
+    (λ v. reach_more (node_at c.args.tree.now.nodes c.args.up) c.args.going c.args.at c.args.tables.now.items (marks (entries_at c.args.tables.now.items c.args.at)) c.loop-done.done k.entry v k.is ∙ ap (λ (x : ℕ). reach (node_at c.args.tree.now.nodes c.args.up) c.args.going c.args.at c.args.tables.now.items (take c.loop-done.done (marks (entries_at c.args.tables.now.items c.args.at))) v + x) (sym (ap (λ (w : List ℕ). reach_one (node_at c.args.tree.now.nodes c.args.up) c.args.going c.args.at c.loop-done.tables.items w v) (c.as_slice.ensures ∙ c.read_at.ensures.tuple k.entry.tuple (moved_at (entries_at c.args.tables.now.items c.args.at) (entries_at c.loop-done.tables.items c.args.at) c.in-Some.place k.entry.tuple (c.loop-done.invariant.touched.others c.args.at (omega arith)) (cut_mark (entries_at c.args.tables.now.items c.args.at) c.loop-done.done c.in-Some.place k))) ∙ reach_still (node_at c.args.tree.now.nodes c.args.up) c.args.going c.args.at c.args.tables.now.items c.loop-done.tables.items k.entry.tuple v (same_keys c.args.tree.now c.args.tables.now.items c.loop-done.tables.items c.requires.step.family c.loop-done.invariant.touched.family) (kids_still c.args.tree.now c.args.tables.now.items c.loop-done.tables.items c.args.up (λ v. reach (node_at c.args.tree.now.nodes c.args.up) c.args.going c.args.at c.args.tables.now.items (take c.loop-done.done (marks (entries_at c.args.tables.now.items c.args.at))) v) c.requires.step.family.is_tree c.loop-done.invariant.touched)))) in
     as_live (entries_at c.touch_from.new.tables.items c.args.at) c.in-Some.place k.entry.tuple (moved_at (entries_at c.args.tables.now.items c.args.at) (entries_at c.touch_from.new.tables.items c.args.at) c.in-Some.place k.entry.tuple (n.others c.args.at (omega arith)) (cut_mark (entries_at c.args.tables.now.items c.args.at) c.loop-done.done c.in-Some.place k))
 
 pub loop-done-smaller : goal.loop-done-smaller
@@ -80,11 +80,11 @@ loop-done-preserved g c =
     let low = step_lower c.args.tree.now c.args.tables.now.items c.args.at c.args.up c.requires.step in
     let within = c.requires.step.within in
     let n = touched_more c.args.tree.now c.args.tables.now.items c.loop-done.tables.items c.touch_from.new.tables.items c.args.up (λ v. reach (node_at c.args.tree.now.nodes c.args.up) c.args.going c.args.at c.args.tables.now.items (take c.loop-done.done (marks (entries_at c.args.tables.now.items c.args.at))) v) (λ v. reach_one (node_at c.args.tree.now.nodes c.args.up) c.args.going c.args.at c.loop-done.tables.items c.as_slice.result.now v) (λ v. reach (node_at c.args.tree.now.nodes c.args.up) c.args.going c.args.at c.args.tables.now.items (take (c.loop-done.done + 1) (marks (entries_at c.args.tables.now.items c.args.at))) v) c.requires.step.family c.loop-done.invariant.touched c.touch_from.ensures.touched
-    (λ v. reach_more (node_at c.args.tree.now.nodes c.args.up) c.args.going c.args.at c.args.tables.now.items (marks (entries_at c.args.tables.now.items c.args.at)) c.loop-done.done k.entry v k.is ∙ ap (λ (x : ℕ). reach (node_at c.args.tree.now.nodes c.args.up) c.args.going c.args.at c.args.tables.now.items (take c.loop-done.done (marks (entries_at c.args.tables.now.items c.args.at))) v + x) (sym (ap (λ (w : List ℕ). reach_one (node_at c.args.tree.now.nodes c.args.up) c.args.going c.args.at c.loop-done.tables.items w v) (c.as_slice.ensures ∙ c.tuple_at-tuple.ensures.tuple k.entry.tuple (moved_at (entries_at c.args.tables.now.items c.args.at) (entries_at c.loop-done.tables.items c.args.at) c.in-Some.place k.entry.tuple (c.loop-done.invariant.touched.others c.args.at (omega arith)) (cut_mark (entries_at c.args.tables.now.items c.args.at) c.loop-done.done c.in-Some.place k))) ∙ reach_still (node_at c.args.tree.now.nodes c.args.up) c.args.going c.args.at c.args.tables.now.items c.loop-done.tables.items k.entry.tuple v (same_keys c.args.tree.now c.args.tables.now.items c.loop-done.tables.items c.requires.step.family c.loop-done.invariant.touched.family) (kids_still c.args.tree.now c.args.tables.now.items c.loop-done.tables.items c.args.up (λ v. reach (node_at c.args.tree.now.nodes c.args.up) c.args.going c.args.at c.args.tables.now.items (take c.loop-done.done (marks (entries_at c.args.tables.now.items c.args.at))) v) c.requires.step.family.is_tree c.loop-done.invariant.touched)))) in
+    (λ v. reach_more (node_at c.args.tree.now.nodes c.args.up) c.args.going c.args.at c.args.tables.now.items (marks (entries_at c.args.tables.now.items c.args.at)) c.loop-done.done k.entry v k.is ∙ ap (λ (x : ℕ). reach (node_at c.args.tree.now.nodes c.args.up) c.args.going c.args.at c.args.tables.now.items (take c.loop-done.done (marks (entries_at c.args.tables.now.items c.args.at))) v + x) (sym (ap (λ (w : List ℕ). reach_one (node_at c.args.tree.now.nodes c.args.up) c.args.going c.args.at c.loop-done.tables.items w v) (c.as_slice.ensures ∙ c.read_at.ensures.tuple k.entry.tuple (moved_at (entries_at c.args.tables.now.items c.args.at) (entries_at c.loop-done.tables.items c.args.at) c.in-Some.place k.entry.tuple (c.loop-done.invariant.touched.others c.args.at (omega arith)) (cut_mark (entries_at c.args.tables.now.items c.args.at) c.loop-done.done c.in-Some.place k))) ∙ reach_still (node_at c.args.tree.now.nodes c.args.up) c.args.going c.args.at c.args.tables.now.items c.loop-done.tables.items k.entry.tuple v (same_keys c.args.tree.now c.args.tables.now.items c.loop-done.tables.items c.requires.step.family c.loop-done.invariant.touched.family) (kids_still c.args.tree.now c.args.tables.now.items c.loop-done.tables.items c.args.up (λ v. reach (node_at c.args.tree.now.nodes c.args.up) c.args.going c.args.at c.args.tables.now.items (take c.loop-done.done (marks (entries_at c.args.tables.now.items c.args.at))) v) c.requires.step.family.is_tree c.loop-done.invariant.touched)))) in
     record {
       next = c.next_marked_at-next.ensures.found (take c.loop-done.done (marks (entries_at c.args.tables.now.items c.args.at))) k.entry (drop (c.loop-done.done + 1) (marks (entries_at c.args.tables.now.items c.args.at))) (ap (λ (es : List Entry). marks es) (n.others c.args.at (omega arith)) ∙ k.is) k.at;
       touched = n;
-      counted = omega (arith, c.loop-done.invariant.counted, c.touch_from.ensures.counted, c.next_marked_at-next.ensures.counted, cost_more (node_at c.args.tree.now.nodes c.args.up) c.args.at c.args.tables.now.items (marks (entries_at c.args.tables.now.items c.args.at)) c.loop-done.done k.entry k.is, ap (λ (w : List ℕ). cost_one (node_at c.args.tree.now.nodes c.args.up) c.args.at c.loop-done.tables.items w) (c.as_slice.ensures ∙ c.tuple_at-tuple.ensures.tuple k.entry.tuple (moved_at (entries_at c.args.tables.now.items c.args.at) (entries_at c.loop-done.tables.items c.args.at) c.in-Some.place k.entry.tuple (c.loop-done.invariant.touched.others c.args.at (omega arith)) (cut_mark (entries_at c.args.tables.now.items c.args.at) c.loop-done.done c.in-Some.place k))), cost_still (node_at c.args.tree.now.nodes c.args.up) c.args.at c.args.tables.now.items c.loop-done.tables.items k.entry.tuple (same_keys c.args.tree.now c.args.tables.now.items c.loop-done.tables.items c.requires.step.family c.loop-done.invariant.touched.family) (kids_still c.args.tree.now c.args.tables.now.items c.loop-done.tables.items c.args.up (λ v. reach (node_at c.args.tree.now.nodes c.args.up) c.args.going c.args.at c.args.tables.now.items (take c.loop-done.done (marks (entries_at c.args.tables.now.items c.args.at))) v) c.requires.step.family.is_tree c.loop-done.invariant.touched));
+      counted = omega (arith, c.loop-done.invariant.counted, c.touch_from.ensures.counted, c.next_marked_at-next.ensures.counted, cost_more (node_at c.args.tree.now.nodes c.args.up) c.args.at c.args.tables.now.items (marks (entries_at c.args.tables.now.items c.args.at)) c.loop-done.done k.entry k.is, ap (λ (w : List ℕ). cost_one (node_at c.args.tree.now.nodes c.args.up) c.args.at c.loop-done.tables.items w) (c.as_slice.ensures ∙ c.read_at.ensures.tuple k.entry.tuple (moved_at (entries_at c.args.tables.now.items c.args.at) (entries_at c.loop-done.tables.items c.args.at) c.in-Some.place k.entry.tuple (c.loop-done.invariant.touched.others c.args.at (omega arith)) (cut_mark (entries_at c.args.tables.now.items c.args.at) c.loop-done.done c.in-Some.place k))), cost_still (node_at c.args.tree.now.nodes c.args.up) c.args.at c.args.tables.now.items c.loop-done.tables.items k.entry.tuple (same_keys c.args.tree.now c.args.tables.now.items c.loop-done.tables.items c.requires.step.family c.loop-done.invariant.touched.family) (kids_still c.args.tree.now c.args.tables.now.items c.loop-done.tables.items c.args.up (λ v. reach (node_at c.args.tree.now.nodes c.args.up) c.args.going c.args.at c.args.tables.now.items (take c.loop-done.done (marks (entries_at c.args.tables.now.items c.args.at))) v) c.requires.step.family.is_tree c.loop-done.invariant.touched));
     }
 
 pub returns-in-None-clause-touched : goal.returns-in-None-clause-touched

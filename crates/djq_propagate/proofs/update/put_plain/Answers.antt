@@ -1,7 +1,7 @@
 use Rattle.std.proofs.Common.{false, ℕ, ◌+◌, ◌*◌, ◌<◌, ◌≤◌, length, sym, ◌∙◌, refl, rules, arith}
 use Rattle.djq_tree.specs.Flat.{HasEqualMeets}
 use Rattle.djq_reduct.specs.Tables.{entries_at}
-use Rattle.djq_propagate.specs.Updates.{HasKept, HasGained, HasAtMost, paths}
+use Rattle.djq_propagate.specs.Updates.{HasKept, HasAtMost, paths}
 use Rattle.djq_propagate.proofs.Fewing.{one_lived}
 use Rattle.djq_propagate.proofs.Going.{on_err}
 use Rattle.djq_propagate.proofs.Measuring.{add_by, sized}

@@ -1,4 +1,4 @@
-use Rattle.std.proofs.Common.{◌≤◌, sym, arith}
+use Rattle.std.proofs.Common.{sym, arith}
 use Rattle.djq_propagate.proofs.Fewing.{one_died}
 use Rattle.djq_propagate.proofs.Measuring.{drop_by, sized}
 use Rattle.djq_propagate.proofs.Plains.{fewer_bare}

@@ -2,6 +2,6 @@ use Rattle.std.proofs.Common.{arith}
 use Rattle.djq_index.specs.Table.{AreColumns}
 use Rattle.djq_index.proofs.cells.tests.writes_cells.Goals as goal
 
-pub pick-picked-requires-clause-within : goal.pick-picked-requires-clause-within
+pub take_part-requires-clause-within : goal.take_part-requires-clause-within
 unfolding AreColumns
-pick-picked-requires-clause-within g c = (omega arith, (omega arith, tt))
+take_part-requires-clause-within g c = (omega arith, (omega arith, tt))

@@ -2,10 +2,10 @@ use Rattle.std.proofs.Common.{ℕ, List, ◌∷◌, ◌++◌, [], length, take, 
 use Rattle.std.specs.Prelude.{slice_index_or}
 use Rattle.std.proofs.lemmas.List.{length-take-le}
 use Rattle.djq_index.proofs.Columns.{pick_nil, pick_more, length_pick, column_below}
-use Rattle.djq_index.proofs.cells.Cells.pick.Goals as goal
+use Rattle.djq_index.proofs.cells.Cells.take_part.Goals as goal
 
 pub loop-column-init : goal.loop-column-init
-loop-column-init c = c.new-picked.ensures ∙ sym (pick_nil c.args.tuple.now)
+loop-column-init c = c.clear.ensures ∙ sym (pick_nil c.args.tuple.now)
 
 pub offset_bounds-tuple-column : goal.offset_bounds-tuple-column
 offset_bounds-tuple-column c =
