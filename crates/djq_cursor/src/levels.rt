@@ -59,14 +59,14 @@ pub fn source(tree: &Tree, level: usize) -> usize
     child_of(tree.node(level))
 }
 
-/// The projection of an answer on a node of `out`.
-pub(crate) fn project(reducts: &Reducts, node: usize, answer: &Answer) -> Cells
+/// Puts the projection of an answer on a node of `out` into cells.
+pub(crate) fn project(reducts: &Reducts, node: usize, answer: &Answer, cells: &mut Cells)
     requires out { is_out reducts.now.tree.out node ≡ true }
     requires wide { length answer.now ≡ length reducts.now.tree.head }
-    ensures { result ≡ on_node reducts.now.tree node answer.now }
+    ensures { cells.new ≡ on_node reducts.now.tree node answer.now }
 {
     reducts.laws();
-    Cells::pick(answer.as_slice(), reducts.columns(node))
+    cells.take_part(answer.as_slice(), reducts.columns(node));
 }
 
 /// Writes cells at these columns of an answer.

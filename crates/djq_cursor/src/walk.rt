@@ -22,7 +22,7 @@ use crate::choices::Choices;
 use crate::cursor::{Cursor, State};
 use crate::levels::{level_below, project, write_choice};
 use crate::places::{Choice, Places};
-use djq_reduct::{Answer, Reducts};
+use djq_reduct::{Answer, Cells, Reducts};
 use djq_steps::Tally;
 use std::sync::ledger::Ledger;
 
@@ -47,9 +47,10 @@ fn fill<C: Choices, L: Ledger>(
 {
     reducts.laws();
     reducts.tree().is_small();
+    let mut key = Cells::new(0);
     let mut number = from;
     while let Some(level) = level_below(reducts.tree(), number) {
-        let key = project(reducts, level, answer);
+        project(reducts, level, answer, &mut key);
         let Some(place) = choices.first(reducts, level, key.as_slice(), listing) else {
             return;
         };

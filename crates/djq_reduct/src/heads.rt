@@ -1,7 +1,8 @@
 ghost use Rattle.std.specs.Prelude.{◌≡◌, length, IfOk};
-ghost use Rattle.djq_reduct.specs.Heads.{head_columns};
+ghost use Rattle.djq_reduct.specs.Heads.{head_columns, head_places};
 
-use crate::columns::columns_of;
+use crate::columns::{column_of, columns_of};
+use djq_hyper::{VARIABLES, VarSet};
 use djq_tree::Tree;
 use std::alloc::{AllocError, Global};
 use std::marker::Model;
@@ -40,4 +41,15 @@ pub(crate) fn head_columns(alloc: Global, tree: &Tree) -> Result<Vec<HeadColumns
         all.push(HeadColumns { columns })?;
     }
     Ok(all)
+}
+
+/// For each variable that there may be, its place in a head.
+pub(crate) fn head_places(alloc: Global, head: VarSet) -> Result<Vec<usize>, AllocError>
+    ensures { IfOk result (λ v. v.items ≡ head_places head VARIABLES) }
+{
+    let mut places = Vec::new(alloc);
+    for variable in 0..VARIABLES {
+        places.push(column_of(head, variable))?;
+    }
+    Ok(places)
 }

@@ -2,7 +2,7 @@ ghost use Rattle.std.specs.Prelude.{◌≡◌, ℕ, ◌<◌, [], length, IfOk};
 ghost use Rattle.djq_index.specs.Table.{IsTable};
 ghost use Rattle.djq_tree.specs.Labels.{label_at};
 ghost use Rattle.djq_tree.specs.Tree.{node_at};
-ghost use Rattle.djq_reduct.specs.Columns.{columns};
+ghost use Rattle.djq_reduct.specs.Columns.{column, columns};
 ghost use Rattle.djq_reduct.specs.Tables.{entries_at, key_at, width_at};
 ghost use Rattle.djq_reduct.specs.Reducts as spec;
 ghost use Rattle.djq_reduct.specs.Reducts.{
@@ -13,8 +13,8 @@ ghost use Rattle.djq_reduct.specs.Reducts.{
   SameTables,
 };
 
-use crate::columns::empty_table;
-use crate::heads::{HeadColumns, head_columns};
+use crate::columns::{column_of, empty_table};
+use crate::heads::{HeadColumns, head_columns, head_places};
 use djq_index::Table;
 use djq_tree::Tree;
 use std::alloc::{AllocError, Global};
@@ -30,6 +30,8 @@ pub struct Reducts {
     pub tables: Vec<Table>,
     // for each node, where its label's variables stand in an answer
     pub(crate) columns: Vec<HeadColumns>,
+    // for each variable, its place in an answer
+    pub(crate) places: Vec<usize>,
 }
 
 impl Model for Reducts {
@@ -40,10 +42,11 @@ impl Model for Reducts {
     ghost view = { λ r. record { tree = r.tree; tables = r.tables.items } };
 
     ghost use Rattle.std.specs.Prelude.{◌≡◌, length};
-    ghost use Rattle.djq_reduct.specs.Heads.{head_columns};
+    ghost use Rattle.djq_reduct.specs.Heads.{head_columns, head_places};
 
     ghost invariant = { λ r. spec.IsReducts (record { tree = r.tree; tables = r.tables.items })
-        × (r.columns.items ≡ head_columns r.tree (length r.tree.nodes)) };
+        × (r.columns.items ≡ head_columns r.tree (length r.tree.nodes))
+        × (r.places.items ≡ head_places r.tree.head 64) };
 }
 
 impl Reducts {
@@ -58,10 +61,12 @@ impl Reducts {
             tables.push(empty_table(alloc, &tree, node)?)?;
         }
         let columns = head_columns(alloc, &tree)?;
+        let places = head_places(alloc, tree.head())?;
         Ok(Reducts {
             tree,
             tables,
             columns,
+            places,
         })
     }
 
@@ -90,6 +95,16 @@ impl Reducts {
         ensures { result.now ≡ columns self.now.tree.head (label_at self.now.tree.labels node) }
     {
         self.columns[node].as_slice()
+    }
+
+    /// Where a variable stands in an answer; where it isn't in the head, how long that is.
+    pub fn column(&self, variable: usize) -> usize
+        ensures { result ≡ column self.now.tree.head variable }
+    {
+        if variable < self.places.len() {
+            return self.places[variable];
+        }
+        column_of(self.tree.head(), variable)
     }
 
     /// What holds of all reducts; and that tables with these laws are known once the leaves' tuples are.

@@ -5,23 +5,23 @@ use Rattle.djq_reduct.specs.Answers.{on_node}
 use Rattle.djq_cursor.proofs.Seeking.{label_columns, length_columns}
 use Rattle.djq_cursor.proofs.levels.project.Goals as goal
 
-pub pick-requires-clause-few : goal.pick-requires-clause-few
-pick-requires-clause-few c =
+pub take_part-requires-clause-few : goal.take_part-requires-clause-few
+take_part-requires-clause-few c =
     let t = c.args.reducts.now.tree in
     let narrow = c.laws.ensures.sound.family.narrow.labels c.args.node in
     let long = length_columns t.head (label_at t.labels c.args.node) c.columns.result.now
     c.columns.ensures in
     omega arith
 
-pub pick-requires-clause-small : goal.pick-requires-clause-small
-pick-requires-clause-small c =
+pub take_part-requires-clause-small : goal.take_part-requires-clause-small
+take_part-requires-clause-small c =
     let narrow = c.laws.ensures.sound.family.narrow.head in
     let wide = c.requires.wide in
     let slice = ap (λ (l : List ℕ). length l) c.as_slice.ensures in
     omega arith
 
-pub pick-requires-clause-within : goal.pick-requires-clause-within
-pick-requires-clause-within c =
+pub take_part-requires-clause-within : goal.take_part-requires-clause-within
+take_part-requires-clause-within c =
     let t = c.args.reducts.now.tree in
     label_columns t.head (label_at t.labels c.args.node) c.columns.result.now c.as_slice.result.now
     c.columns.ensures
@@ -30,5 +30,5 @@ pick-requires-clause-within c =
 
 pub returns : goal.returns
 unfolding on_node
-returns c = c.pick.ensures
+returns c = c.take_part.ensures
     ∙ ap₂ (λ (cs s : List ℕ). pick cs s) c.columns.ensures c.as_slice.ensures
