@@ -1,67 +1,18 @@
 -- What the walk meets on its way.
-use Rattle.std.proofs.Common.{
-  ◌≡◌,
-  ℕ,
-  zero,
-  suc,
-  ◌+◌,
-  ◌<◌,
-  ◌≤◌,
-  Bool,
-  true,
-  false,
-  cond,
-  List,
-  [],
-  ◌∷◌,
-  ◌++◌,
-  length,
-  drop,
-  refl,
-  ap,
-  sym,
-  subst,
-  ◌∙◌,
-  arith,
-}
-use Rattle.std.specs.Prelude.{All, nat_le, slice_index_or}
+use Rattle.std.proofs.Common.{◌≡◌, ℕ, zero, suc, ◌<◌, ◌≤◌, Bool, true, false, cond, List, [], ◌∷◌, length, refl, ap, sym, subst, ◌∙◌, arith}
+use Rattle.std.specs.Prelude.{nat_le}
 use Rattle.std.proofs.lemmas.Bool.{leb-true}
-use Rattle.std.proofs.lemmas.List.{drop_more}
-use Rattle.std.proofs.lemmas.List.Elements.{All-nil, All-cons}
 use Rattle.djq_tree.specs.declared.node.Node.{Node}
 use Rattle.djq_tree.specs.declared.node.Node.TheVariants.{Leaf, Trim, Meet}
 use Rattle.djq_tree.specs.Counts.{is_trim, IsSmall}
 use Rattle.djq_tree.specs.Tree.{Tree, node_at}
-use Rattle.djq_tree.specs.Levels.{levels, levels_below, level_on}
+use Rattle.djq_tree.specs.Levels.{levels_below, level_on}
 use Rattle.djq_reduct.specs.Reducts.{Reducts, IsReducts}
 use Rattle.djq_cursor.specs.declared.places.Choice.{Choice}
-use Rattle.djq_cursor.specs.Menus.{IsFirst}
 use Rattle.djq_cursor.specs.Levels.{IsLevel, IsNextLevel, step}
-use Rattle.djq_cursor.specs.Walk.{
-  Menu,
-  menu_at,
-  chosen,
-  here,
-  before,
-  reached,
-  Follows,
-  IsOpen,
-  IsAlive,
-  IsFirstAt,
-  Stands,
-  blank,
-}
+use Rattle.djq_cursor.specs.Walk.{Menu, chosen, here, reached, Follows, Stands, blank}
 use Rattle.djq_cursor.proofs.Stepping.{step_wide}
-use Rattle.djq_cursor.proofs.Leaves.{blank_wide}
-use Rattle.djq_cursor.proofs.Walking.{
-  joins_first,
-  follows_push,
-  here_push,
-  before_first,
-  reached_push,
-  next_filled,
-  length_levels,
-}
+use Rattle.djq_cursor.proofs.Walking.{length_levels}
 
 -- ---- levels
 
@@ -102,77 +53,12 @@ reached_within r menu n s (c ∷ cs) high f =
     f.3 in
     omega arith
 
-pub all_alive : (r : Reducts) (menu : Menu) (n : ℕ) (s : List ℕ) (cs : List Choice)
-    → n ≤ length r.tree.nodes → Follows r menu n s cs → All (IsAlive r) cs
-all_alive r menu n s [] high f = All-nil (IsAlive r)
-all_alive r menu n s (c ∷ cs) high f =
-    let next = next_is r.tree n c.level (levels_below r.tree c.level) high f.0 in
-    let low = next.0 in
-    All-cons (IsAlive r) c cs (record { level = next.1; live = f.1 })
-    (all_alive r menu c.level (step r.tree c.level s (chosen r c)) cs (omega arith) f.3)
-
 pub here_wide : (r : Reducts) (s : List ℕ) (cs : List Choice) → length (here r s cs) ≡ length s
 here_wide r s [] = refl
 here_wide r s (c ∷ cs) = here_wide r (step r.tree c.level s (chosen r c)) cs
     ∙ step_wide r.tree c.level s (chosen r c)
 
--- ---- choices are written one after another
-
-pub written_on : (r : Reducts) (xs cs : List Choice) (i : ℕ) (d : Choice) (s next : List ℕ)
-    → xs ≡ cs → i < length xs
-    → next ≡ step r.tree (slice_index_or xs i d).level s (chosen r (slice_index_or xs i d))
-    → here r next (drop (i + 1) cs) ≡ here r s (drop i cs)
-written_on r xs cs i d s next same low e =
-    subst (λ (ds : List Choice). here r next (drop (i + 1) ds) ≡ here r s (drop i ds)) same
-    (ap (λ (a : List ℕ). here r a (drop (i + 1) xs)) e
-    ∙ sym (ap (λ (ds : List Choice). here r s ds) (drop_more xs i d low)))
-
-pub written_wide : (r : Reducts) (c : Choice) (s next : List ℕ)
-    → next ≡ step r.tree c.level s (chosen r c) → length next ≡ length s
-written_wide r c s next e = ap (λ (a : List ℕ). length a) e
-    ∙ step_wide r.tree c.level s (chosen r c)
-
 -- ---- the first tuple of the next level is chosen
-
--- there is one
-pub some_first : (r : Reducts) (menu : Menu) (n k : ℕ) (cs : List Choice) (a : List ℕ)
-    → Stands r menu cs a → n ≡ reached (length r.tree.nodes) cs
-    → IsOpen r.tree menu (levels r.tree) (blank r.tree) → IsNextLevel r.tree n k
-    → menu_at r.tree menu k a ≡ [] → ⊥
-some_first r menu n k cs a st is opened next none =
-    next_filled r menu (length r.tree.nodes) k (blank r.tree) cs st.follows opened
-    (subst (λ (i : ℕ). IsNextLevel r.tree i k) is next)
-    (ap (λ (s : List ℕ). menu_at r.tree menu k s) (sym st.answer) ∙ none)
-
-pub record Chosen (r : Reducts) (menu : Menu) (cs new : List Choice) (a : List ℕ) (c : Choice) :
-    Type 0 where
-  pub stands : Stands r menu new a
-  pub before : before r menu (blank r.tree) new ≡ before r menu (blank r.tree) cs
-  pub reached : c.level ≡ reached (length r.tree.nodes) new
-
-pub chosen_first : (r : Reducts) (menu : Menu) (n : ℕ) (cs new : List Choice) (a b : List ℕ)
-    (c : Choice) → Stands r menu cs a → n ≡ reached (length r.tree.nodes) cs
-    → IsNextLevel r.tree n c.level
-    → IsFirstAt r (menu_at r.tree menu c.level a) c → b ≡ step r.tree c.level a (chosen r c)
-    → new ≡ cs ++ c ∷ [] → Chosen r menu cs new b c
-chosen_first r menu n cs new a b c st is next f e pushed =
-    let top = length r.tree.nodes in
-    let s = blank r.tree in
-    let first : IsFirst (menu_at r.tree menu c.level (here r s cs)) (chosen r c) = subst
-    (λ (x : List ℕ). IsFirst (menu_at r.tree menu c.level x) (chosen r c)) st.answer f.first in
-    let j = joins_first r menu top s cs c (subst (λ (i : ℕ). IsNextLevel r.tree i c.level) is next)
-    f.live first in
-    record {
-      stands = record {
-        follows = subst (λ (ds : List Choice). Follows r menu top s ds) (sym pushed)
-            (follows_push r menu top s cs c st.follows j);
-        answer = e ∙ ap (λ (x : List ℕ). step r.tree c.level x (chosen r c)) st.answer
-            ∙ sym (here_push r s cs c) ∙ ap (λ (ds : List Choice). here r s ds) (sym pushed);
-      };
-      before = ap (λ (ds : List Choice). before r menu s ds) pushed
-          ∙ before_first r menu s cs c first;
-      reached = sym (ap (λ (ds : List Choice). reached top ds) pushed ∙ reached_push top cs c);
-    }
 
 -- there is room for it
 pub room_for : (r : Reducts) (menu : Menu) (n k : ℕ) (cs : List Choice) (a : List ℕ) → IsReducts r
@@ -188,11 +74,6 @@ room_for r menu n k cs a h small st is next =
     omega arith
 
 -- ---- the same in the words of the code, which reads a tree of its own
-
-pub stands_wide : (r : Reducts) (menu : Menu) (cs : List Choice) (a : List ℕ) → Stands r menu cs a
-    → length a ≡ length r.tree.head
-stands_wide r menu cs a st = ap (λ (s : List ℕ). length s) st.answer ∙ here_wide r (blank r.tree) cs
-    ∙ blank_wide r.tree
 
 pub next_in : (t u : Tree) (n k : ℕ) → u ≡ t → IsNextLevel u n k → IsNextLevel t n k
 next_in t u n k e h = subst (λ (v : Tree). IsNextLevel v n k) e h

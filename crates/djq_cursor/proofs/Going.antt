@@ -37,22 +37,13 @@ use Rattle.djq_cursor.specs.Walk.{
   Follows,
   IsAlive,
   IsFirstAt,
+  AreGroups,
   Stands,
   blank,
 }
-use Rattle.djq_cursor.proofs.Walking.{
-  Joins,
-  joins_next,
-  follows_push,
-  follows_pop,
-  here_push,
-  reached_push,
-  length_levels,
-  given_to,
-  given_last,
-  given_next,
-}
+use Rattle.djq_cursor.proofs.Walking.{Joins, joins_next, follows_pop, reached_push, length_levels, given_to, given_last, given_next}
 use Rattle.djq_cursor.proofs.Filling.{reached_within, next_is}
+use Rattle.djq_cursor.proofs.Keeping.{stands_push, stands_pop}
 
 pub pop_is : (old new : List Choice) (o : Option Choice) (c : Choice)
     → old ≡ new ++ option_to_list o → o ≡ Some c → old ≡ new ++ c ∷ []
@@ -108,28 +99,25 @@ pub record Advances (r : Reducts) (menu : Menu) (all : List (List ℕ)) (new : L
   pub long : length new + length (levels_below r.tree d.level) ≡ length (levels r.tree)
 
 pub advances : (r : Reducts) (menu : Menu) (old mid new : List Choice) (c d : Choice) (a b : List ℕ)
-    (all : List (List ℕ)) → Retreats r menu old mid c → old ≡ mid ++ c ∷ []
+    (all : List (List ℕ)) → IsReducts r → AreGroups r menu → Stands r menu old a
+    → Retreats r menu old mid c → old ≡ mid ++ c ∷ []
     → ((k : ℕ) (w : List ℕ) → AreOnce (menu k w))
     → d.level ≡ c.level
     → ((w : List ℕ) → has (menu c.level w) (chosen r c) ≡ true
     → IsFirstAt r (behind (menu c.level w) (chosen r c)) d)
-    → a ≡ here r (blank r.tree) mid → b ≡ step r.tree d.level a (chosen r d) → new ≡ mid ++ d ∷ []
+    → b ≡ step r.tree d.level a (chosen r d) → new ≡ mid ++ d ∷ []
     → given_to r menu (length r.tree.nodes) (blank r.tree) old ≡ all → Advances r menu all new b d
-advances r menu old mid new c d a b all t e once same next at is pushed given =
+advances r menu old mid new c d a b all h group st t e once same next is pushed given =
     let n = length r.tree.nodes in
     let s = blank r.tree in
     let f = next (on_node r.tree c.level (here r s mid)) t.joins.on in
     let j = joins_next r menu n s mid c d t.joins same f.first f.live in
-    let follows = subst (λ (cs : List Choice). Follows r menu n s cs) (sym pushed)
-    (follows_push r menu n s mid d t.follows j) in
+    let stands = stands_push r menu mid new d a b h
+    (stands_pop r menu old mid c a h group st e) j is pushed in
     let reach : d.level ≡ reached n new = sym
     (ap (λ (cs : List Choice). reached n cs) pushed ∙ reached_push n mid d) in
     record {
-      stands = record {
-        follows = follows;
-        answer = is ∙ ap (λ (x : List ℕ). step r.tree d.level x (chosen r d)) at
-            ∙ sym (here_push r s mid d) ∙ ap (λ (cs : List Choice). here r s cs) (sym pushed);
-      };
+      stands = stands;
       before =
           ap (λ (cs : List Choice). before r menu s cs) pushed
           ∙ sym (given_next r menu n s mid c d
@@ -138,7 +126,7 @@ advances r menu old mid new c d a b all t e once same next at is pushed given =
           ∙ given;
       reached = reach;
       long = ap (λ (k : ℕ). length new + length (levels_below r.tree k)) reach
-          ∙ length_levels r menu n s new follows;
+          ∙ length_levels r menu n s new stands.follows;
     }
 
 -- as many choices as levels, where all have one

@@ -40,6 +40,7 @@ use Rattle.djq_reduct.specs.Reducts.{Reducts, IsReducts}
 use Rattle.djq_reduct.proofs.Family.{trim_law, meet_law}
 use Rattle.djq_reduct.proofs.Placing.{columns_none}
 use Rattle.djq_reduct.specs.Answers.{on_node}
+use Rattle.djq_cursor.specs.Walk.{AreAlike}
 use Rattle.djq_cursor.proofs.Columns.{Within, within_of, cell, cells_same, pick_same, pick_pick}
 use Rattle.djq_cursor.proofs.Outs.{root_or_parent}
 use Rattle.djq_cursor.proofs.Groups.{many_of, both_positive, product_positive}
@@ -178,11 +179,6 @@ pub record IsGood (r : Reducts) (k : ℕ) (s : List ℕ) : Type 0 where
   pub wide : length s ≡ length r.tree.head
   pub root : 0 < cnt (entries_at r.tables (length r.tree.nodes - 1)) []
   pub below : (i j : ℕ) → k ≤ i → has_child (node_at r.tree.nodes i) j ≡ true → IsIn r j s
-
--- two states have the same projections there
-pub record AreAlike (t : Tree) (k : ℕ) (s a : List ℕ) : Type 0 where
-  pub below : (i j : ℕ) → k ≤ i → has_child (node_at t.nodes i) j ≡ true
-      → on_node t j s ≡ on_node t j a
 
 pub root_in : (r : Reducts) (j : ℕ) (s : List ℕ) → IsReducts r
     → 0 < cnt (entries_at r.tables (length r.tree.nodes - 1)) [] → j ≡ length r.tree.nodes - 1

@@ -39,11 +39,11 @@ use Rattle.djq_reduct.specs.Reducts.{Reducts, IsReducts}
 use Rattle.djq_reduct.specs.Answers.{on_node, IsAnswerOf}
 use Rattle.djq_cursor.specs.Menus.{has, AreOnce}
 use Rattle.djq_cursor.specs.Levels.{IsLevel, source, group_at, step}
-use Rattle.djq_cursor.specs.Walk.{Menu, menu_at, leaves, IsOpen, blank}
+use Rattle.djq_cursor.specs.Walk.{Menu, menu_at, leaves, IsOpen, AreAlike, blank}
 use Rattle.djq_cursor.proofs.Menus.{has_here, branch_of, has_branch, once_flat}
 use Rattle.djq_cursor.proofs.Walking.{branch, leaves_next}
 use Rattle.djq_cursor.proofs.Outs.{trim_level}
-use Rattle.djq_cursor.proofs.Good.{IsGood, AreAlike, alike_meet}
+use Rattle.djq_cursor.proofs.Good.{IsGood, alike_meet}
 use Rattle.djq_cursor.proofs.Stepping.{joins, alike_back, alike_tuple, alike_step, alike_same}
 
 -- menus that lead to answers: which states are good, and which answers there are

@@ -10,6 +10,7 @@ pub mod Listed
 pub mod Seeking
 pub mod Tuples
 pub mod Filling
+pub mod Keeping
 pub mod Going
 pub mod Placing
 pub mod Checking

@@ -77,8 +77,9 @@ pub record IsEntered (r : Reducts) (Good : ℕ → List ℕ → Type 0) (Answer 
 
 pub clear_of : (r : Reducts) (menu : Menu) (Good : ℕ → List ℕ → Type 0) (Answer : List ℕ → Type 0)
     (entered : Bool) → IsReducts r → IsGuide r menu Good Answer → IsEntered r Good Answer entered
-    → IsClear r.tree menu entered
+    → IsClear r menu entered
 clear_of r menu Good Answer entered h g e = record {
+  group = g.group;
   once = g.once;
   filled = λ is. (lists r menu Good Answer (blank r.tree) h g (e.good is)).opened;
 }
@@ -131,10 +132,10 @@ front_some Answer all front rest w e = record {
       (λ a m. w.answers a (ap (λ (l : List (List ℕ)). has l a) e ∙ has_left front rest a m));
 }
 
-given_front : (r : Reducts) (menu : Menu) (entered : Bool) (cs : List Choice)
-    → FitsBy r menu entered At cs → (rest : List (List ℕ))
+given_front : (r : Reducts) (menu : Menu) (entered : Bool) (cs : List Choice) (a : List ℕ)
+    → FitsBy r menu entered At cs a → (rest : List (List ℕ))
     × (all_given r menu entered ≡ given_by r menu entered At cs ++ rest)
-given_front r menu entered cs f =
+given_front r menu entered cs a f =
     let n = length r.tree.nodes in
     let p = leaves_split r menu n (blank r.tree) cs f.1 in (
       p.rest,
@@ -145,15 +146,15 @@ given_front r menu entered cs f =
 
 -- what was given is different answers
 pub given_some : (r : Reducts) (menu : Menu) (Answer : List ℕ → Type 0) (entered : Bool)
-    (state : State) (cs : List Choice) → Whole Answer (all_given r menu entered)
-    → FitsBy r menu entered state cs
+    (state : State) (cs : List Choice) (a : List ℕ) → Whole Answer (all_given r menu entered)
+    → FitsBy r menu entered state cs a
     → AreSome Answer (given_by r menu entered state cs)
-given_some r menu Answer entered Start cs w f =
+given_some r menu Answer entered Start cs a w f =
     record { different = different_of [] tt; all = All-nil Answer }
-given_some r menu Answer entered At cs w f =
-    let p = given_front r menu entered cs f in
+given_some r menu Answer entered At cs a w f =
+    let p = given_front r menu entered cs a f in
     front_some Answer (all_given r menu entered) (given_by r menu entered At cs) p.0 w p.1
-given_some r menu Answer entered End cs w f =
+given_some r menu Answer entered End cs a w f =
     record {
       different = different_of (all_given r menu entered) w.once;
       all = all_of Answer
@@ -204,7 +205,7 @@ whole_entered r h = record {
       (answer.there (length r.tree.nodes - 1) h.family.is_tree.root_out));
 }
 
-pub whole_clear : (r : Reducts) → IsReducts r → IsClear r.tree (group_at r) (has_root r)
+pub whole_clear : (r : Reducts) → IsReducts r → IsClear r (group_at r) (has_root r)
 whole_clear r h = clear_of r (group_at r) (IsGood r) (IsAnswerOf r) (has_root r) h (whole_guide r h)
     (whole_entered r h)
 
@@ -215,23 +216,23 @@ whole_answers r h = whole_of r (group_at r) (IsGood r) (IsAnswerOf r) (has_root 
 
 -- ---- a cursor over reducts
 
-pub start_fits : (r : Reducts) (cs : List Choice) → cs ≡ []
-    → Fits r (record { places = cs; state = Start })
+pub start_fits : (r : Reducts) (cs : List Choice) (a : List ℕ) → cs ≡ []
+    → Fits r (record { places = cs; state = Start; answer = a })
 unfolding Fits
-start_fits r cs e = e
+start_fits r cs a e = e
 
-pub start_given : (r : Reducts) (cs : List Choice)
-    → given r (record { places = cs; state = Start }) ≡ []
+pub start_given : (r : Reducts) (cs : List Choice) (a : List ℕ)
+    → given r (record { places = cs; state = Start; answer = a }) ≡ []
 unfolding given
-start_given r cs = refl
+start_given r cs a = refl
 
 pub fits_by : (r : Reducts) (c : Cursor) → Fits r c
-    → FitsBy r (group_at r) (has_root r) c.state c.places
+    → FitsBy r (group_at r) (has_root r) c.state c.places c.answer
 unfolding Fits
 fits_by r c f = f
 
-pub by_fits : (r : Reducts) (c : Cursor) → FitsBy r (group_at r) (has_root r) c.state c.places
-    → Fits r c
+pub by_fits : (r : Reducts) (c : Cursor)
+    → FitsBy r (group_at r) (has_root r) c.state c.places c.answer → Fits r c
 unfolding Fits
 by_fits r c f = f
 
@@ -244,7 +245,7 @@ pub cursor_answers : (r : Reducts) (c : Cursor) → IsReducts r → Fits r c
     → AreSome (IsAnswerOf r) (given r c)
 unfolding given Fits
 cursor_answers r c h f = given_some r (group_at r) (IsAnswerOf r) (has_root r) c.state c.places
-    (whole_answers r h) f
+    c.answer (whole_answers r h) f
 
 pub cursor_one : (r : Reducts) (old new : Cursor) (a : List ℕ) (b : Bool)
     → OnTrue b

@@ -14,34 +14,29 @@ use Rattle.std.proofs.Common.{
   List,
   [],
   ◌∷◌,
-  ◌++◌,
   length,
   drop,
-  Option,
-  Some,
   refl,
   ap,
+  ap₂,
   sym,
   subst,
   ◌∙◌,
   arith,
-  append_assoc,
 }
-use Rattle.std.specs.Prelude.{option_to_list, slice_index, slice_set}
-use Rattle.std.proofs.lemmas.Bool.{false≢true, le-leb, lt-leb, and_parts}
-use Rattle.std.proofs.lemmas.List.{drop_more, append-nil}
-use Rattle.djq_hyper.specs.Hypergraph.{member, subset}
-use Rattle.djq_index.specs.Tuple.{pick}
+use Rattle.std.specs.Prelude.{slice_index_or, slice_set}
+use Rattle.std.proofs.lemmas.Bool.{false≢true, le-leb, lt-leb}
+use Rattle.std.proofs.lemmas.List.{drop_more, drop_all, length-map}
+use Rattle.djq_hyper.specs.Hypergraph.{subset}
+use Rattle.djq_index.specs.Table.{AreColumns}
 use Rattle.djq_tree.specs.declared.node.Node.{Node}
 use Rattle.djq_tree.specs.declared.node.Node.TheVariants.{Leaf, Trim, Meet}
 use Rattle.djq_tree.specs.Tree.{Tree, node_at}
 use Rattle.djq_tree.specs.Levels.{levels_below, level_on}
 use Rattle.djq_tree.specs.Counts.{is_trim}
 use Rattle.djq_reduct.specs.Columns.{column, columns}
-use Rattle.djq_reduct.proofs.Placing.{columns_on, columns_none}
-use Rattle.djq_index.proofs.Columns.{pick_nil}
-use Rattle.djq_cursor.specs.Levels.{IsNextLevel, written}
-use Rattle.djq_cursor.proofs.Columns.{cell}
+use Rattle.djq_reduct.proofs.Placing.{columns_within}
+use Rattle.djq_cursor.specs.Levels.{IsNextLevel, written, put}
 
 -- ---- the next level
 
@@ -88,45 +83,35 @@ no_level t number n same low = same ∙ none t n low
     none t zero low = refl
     none t (suc k) low = rw (lt-leb t.second_stage k (omega arith)) refl
 
--- ---- the lowest variable is taken out of a label
+-- ---- cells are written at columns, one after another
 
-pub popped : (o : Option ℕ) (old new : List ℕ) (x : ℕ) → old ≡ option_to_list o ++ new → o ≡ Some x
-    → old ≡ x ∷ new
-popped o old new x taken some = taken ∙ ap (λ (p : Option ℕ). option_to_list p ++ new) some
+pub put_next : (cs tuple s : List ℕ) (at c u : ℕ) → at < length cs → at < length tuple
+    → c ≡ slice_index_or cs at 0 → u ≡ slice_index_or tuple at 0
+    → put (drop (at + 1) cs) (drop (at + 1) tuple) (slice_set s c u)
+    ≡ put (drop at cs) (drop at tuple) s
+put_next cs tuple s at c u low also here value =
+    ap₂ (λ (i v : ℕ). put (drop (at + 1) cs) (drop (at + 1) tuple) (slice_set s i v)) here value
+    ∙ sym (ap₂ (λ (ds us : List ℕ). put ds us s) (drop_more cs at 0 low)
+    (drop_more tuple at 0 also))
 
-pub pop_within : (F old new : List ℕ) (x : ℕ) → old ≡ x ∷ new → subset old F ≡ true
-    → (member x F ≡ true) × (subset new F ≡ true)
-pop_within F old new x e h = and_parts (member x F) (subset new F)
-    (ap (λ (l : List ℕ). subset l F) (sym e) ∙ h)
+pub put_end : (cs us s : List ℕ) (at : ℕ) → length cs ≤ at → put (drop at cs) us s ≡ s
+put_end cs us s at past = ap (λ (ds : List ℕ). put ds us s) (drop_all at cs past)
 
--- a cell is read
-pub picked_next : (F old new s cells all : List ℕ) (x u : ℕ) → old ≡ x ∷ new
-    → cells ++ pick (columns F old) s ≡ all → u ≡ cell F s x
-    → (cells ++ u ∷ []) ++ pick (columns F new) s ≡ all
-unfolding pick
-picked_next F old new s cells all x u e h is =
-    append_assoc cells (u ∷ []) (pick (columns F new) s)
-    ∙ ap (λ (v : ℕ). cells ++ (v ∷ pick (columns F new) s)) is
-    ∙ ap (λ (l : List ℕ). cells ++ pick l s) (sym (columns_on F x new))
-    ∙ ap (λ (l : List ℕ). cells ++ pick (columns F l) s) (sym e)
-    ∙ h
+-- so is a tuple over a label
+pub written_put : (F l us s : List ℕ) → written F l us s ≡ put (columns F l) us s
+unfolding columns
+written_put F [] us s = refl
+written_put F (x ∷ l) [] s = refl
+written_put F (x ∷ l) (u ∷ us) s = written_put F l us (slice_set s (column F x) u)
 
-pub picked_all : (F old s cells all : List ℕ) → old ≡ [] → cells ++ pick (columns F old) s ≡ all
-    → cells ≡ all
-picked_all F old s cells all e h = sym (append-nil cells)
-    ∙ ap (λ (l : List ℕ). cells ++ l)
-    (sym (ap (λ (l : List ℕ). pick (columns F l) s) e
-    ∙ ap (λ (l : List ℕ). pick l s) (columns_none F) ∙ pick_nil s)) ∙ h
+-- ---- the columns of a label in the head
 
--- a cell is written
-pub written_next : (F old new tuple s : List ℕ) (x at u : ℕ) → old ≡ x ∷ new → at < length tuple
-    → u ≡ slice_index tuple at
-    → written F old (drop at tuple) s ≡ written F new (drop (at + 1) tuple)
-    (slice_set s (column F x) u)
-written_next F old new tuple s x at u e low is =
-    ap (λ (l : List ℕ). written F l (drop at tuple) s) e
-    ∙ ap (λ (us : List ℕ). written F (x ∷ new) us s) (drop_more tuple at 0 low)
-    ∙ ap (λ (v : ℕ). written F new (drop (at + 1) tuple) (slice_set s (column F x) v)) (sym is)
+pub label_columns : (F l cs s : List ℕ) → cs ≡ columns F l → subset l F ≡ true
+    → length s ≡ length F → AreColumns (length s) cs
+label_columns F l cs s is within wide = subst (λ (n : ℕ). AreColumns n cs) (sym wide)
+    (subst (λ (ds : List ℕ). AreColumns (length F) ds) (sym is) (columns_within F l within))
 
-pub written_all : (F old us s : List ℕ) → old ≡ [] → written F old us s ≡ s
-written_all F old us s e = ap (λ (l : List ℕ). written F l us s) e
+pub length_columns : (F l cs : List ℕ) → cs ≡ columns F l → length cs ≡ length l
+unfolding columns
+length_columns F l cs is = ap (λ (ds : List ℕ). length ds) is
+    ∙ length-map l (λ (x : ℕ). column F x)

@@ -19,7 +19,7 @@ use Rattle.std.proofs.Common.{
   inr,
   arith,
 }
-use Rattle.std.proofs.lemmas.Bool.{cases_Bool, cases_eq}
+use Rattle.std.proofs.lemmas.Bool.{cases_Bool, cases_eq, false≢true}
 use Rattle.djq_hyper.specs.Hypergraph.{member}
 use Rattle.djq_index.specs.Tuple.{same, pick, one}
 use Rattle.djq_index.specs.Entries.{Entry, cnt}
@@ -36,6 +36,7 @@ use Rattle.djq_reduct.proofs.Family.{apart_at}
 use Rattle.djq_reduct.specs.Answers.{on_node, IsAnswerOf}
 use Rattle.djq_cursor.specs.Menus.{has, AreOnce}
 use Rattle.djq_cursor.specs.Levels.{IsLevel, source, group_at, step}
+use Rattle.djq_cursor.specs.Walk.{AreAlike}
 use Rattle.djq_cursor.proofs.Columns.{
   Within,
   within_of,
@@ -62,7 +63,6 @@ use Rattle.djq_cursor.proofs.Groups.{group_says, group_has, group_once, group_fi
 use Rattle.djq_cursor.proofs.Good.{
   IsIn,
   IsGood,
-  AreAlike,
   root_in,
   node_alike,
   node_same,
@@ -277,6 +277,37 @@ alike_step r k s u a h j e alike =
           (step_child r k s u h j ∙ e)
           (λ i n above child. step_else r k i n s u h j (omega arith) child
           (not_source t k i n tree j.level above child) ∙ alike.below i n (omega arith) child);
+    }
+
+-- where the same tuple is written into both, whatever it is
+pub same_step : (t : Tree) (k : ℕ) (s a u : List ℕ) → IsTree t → IsLevel t k
+    → length u ≡ length (label_at t.labels (source t k)) → length s ≡ length t.head
+    → length a ≡ length t.head → AreAlike t (suc k) s a
+    → AreAlike t k (step t k s u) (step t k a u)
+unfolding step
+same_step t k s a u h l long wide too alike =
+    let c = source t k in
+    let m = label_at t.labels c in
+    let F = t.head in
+    let low = source_head t k h l in
+    let late = l.late in
+    record {
+      below = λ i j from child.
+          node_same t j (step t k s u) (step t k a u)
+          (λ x on. elim (cases_Bool (member x m)) [
+            | inl is ↦ written_there F m u s x (label_simple t c h) low long wide is
+                ∙ sym (written_there F m u a x (label_simple t c h) low long too is)
+            | inr isnt ↦ (
+                let inside = head_within t j h (child_out t i j h (omega arith) child) x on in
+                written_else F m u s x low inside isnt
+                ∙ (elim (cases_eq i k) [
+                  | inl here ↦ absurd (false≢true (sym isnt ∙ ap (λ (n : ℕ). member x (label_at t.labels n))
+                      (trim_only t k c j (level_trim t k l)
+                      (ap (λ (n : ℕ). has_child (node_at t.nodes n) j) (sym here) ∙ child)) ∙ on))
+                  | inr other ↦ node_cells t j s a (alike.below i j (omega arith) child) x on
+                ])
+                ∙ sym (written_else F m u a x low inside isnt))
+          ]);
     }
 
 -- an answer's projection is in the group

@@ -35,10 +35,10 @@ use Rattle.djq_reduct.proofs.Family.{apart_at}
 use Rattle.djq_reduct.specs.Answers.{on_node, IsAnswerOf}
 use Rattle.djq_cursor.specs.Menus.{has, AreOnce}
 use Rattle.djq_cursor.specs.Levels.{IsLevel, source, group_at}
-use Rattle.djq_cursor.specs.Walk.{blank, IsClear, all_given}
+use Rattle.djq_cursor.specs.Walk.{blank, AreAlike, IsClear, all_given}
 use Rattle.djq_cursor.proofs.Outs.{child_out, level_trim}
 use Rattle.djq_cursor.proofs.Groups.{has_cnt}
-use Rattle.djq_cursor.proofs.Good.{AreAlike, node_in, root_node, trim_down}
+use Rattle.djq_cursor.proofs.Good.{node_in, root_node, trim_down}
 use Rattle.djq_cursor.proofs.Stepping.{source_child, joins, group_in, answer_in, good_answer}
 use Rattle.djq_cursor.proofs.Leaves.{IsGuide, blank_wide, good_top}
 use Rattle.djq_cursor.proofs.Listed.{IsEntered, Whole, clear_of, whole_of}
@@ -215,7 +215,7 @@ changed_entered r a h m = record {
 }
 
 pub changed_clear : (r : Reducts) (a : ℕ) → IsReducts r → IsUpdated r a
-    → IsClear r.tree (changed_at r) (root_marked r)
+    → IsClear r (changed_at r) (root_marked r)
 changed_clear r a h m = clear_of r (changed_at r) (IsMarkedGood r a) (IsChanged r a) (root_marked r)
     h (changed_guide r a h m) (changed_entered r a h m)
 

@@ -16,33 +16,34 @@ use Rattle.djq_cursor.specs.Changed.{IsChanged}
 use Rattle.djq_cursor.specs.Told.{changed_at, root_marked, told, DeltaFits}
 use Rattle.djq_cursor.proofs.Telling.{changed_answers}
 
-pub start_fits : (r : Reducts) (a : ℕ) (cs : List Choice) → cs ≡ []
-    → DeltaFits r (record { leaf = a; cursor = record { places = cs; state = Start } })
+pub start_fits : (r : Reducts) (a : ℕ) (cs : List Choice) (x : List ℕ) → cs ≡ []
+    → DeltaFits r (record { leaf = a; cursor = record { places = cs; state = Start; answer = x } })
 unfolding DeltaFits
-start_fits r a cs e = e
+start_fits r a cs x e = e
 
-pub start_told : (r : Reducts) (a : ℕ) (cs : List Choice)
-    → told r (record { leaf = a; cursor = record { places = cs; state = Start } }) ≡ []
+pub start_told : (r : Reducts) (a : ℕ) (cs : List Choice) (x : List ℕ)
+    → told r (record { leaf = a; cursor = record { places = cs; state = Start; answer = x } }) ≡ []
 unfolding told
-start_told r a cs = refl
+start_told r a cs x = refl
 
 pub fits_by : (r : Reducts) (d : DeltaCursor) → DeltaFits r d
     → FitsBy r (changed_at r) (root_marked r) (d.cursor).state (d.cursor).places
+    (d.cursor).answer
 unfolding DeltaFits
 fits_by r d f = f
 
 pub by_fits : (r : Reducts) (a : ℕ) (c : Cursor)
-    → FitsBy r (changed_at r) (root_marked r) c.state c.places
+    → FitsBy r (changed_at r) (root_marked r) c.state c.places c.answer
     → DeltaFits r (record { leaf = a; cursor = c })
 unfolding DeltaFits
 by_fits r a c f = f
 
 pub told_some : (r : Reducts) (a b : ℕ) (c : Cursor) → IsReducts r → IsUpdated r a
-    → FitsBy r (changed_at r) (root_marked r) c.state c.places
+    → FitsBy r (changed_at r) (root_marked r) c.state c.places c.answer
     → AreSome (IsChanged r a) (told r (record { leaf = b; cursor = c }))
 unfolding told
 told_some r a b c h m f = given_some r (changed_at r) (IsChanged r a) (root_marked r) c.state
-    c.places (changed_answers r a h m) f
+    c.places c.answer (changed_answers r a h m) f
 
 pub told_one : (r : Reducts) (old : DeltaCursor) (a : ℕ) (new : Cursor) (x : List ℕ) (b : Bool)
     → OnTrue b (given_by r (changed_at r) (root_marked r) new.state new.places ≡ given_by r
@@ -66,7 +67,7 @@ told_same r old a new b p q =
     (all_given r (changed_at r) (root_marked r)) p q
 
 pub told_end : (r : Reducts) (old : DeltaCursor) (a : ℕ) (new : Cursor) (x : List ℕ) (b : Bool)
-    → IsReducts r → IsUpdated r a → FitsBy r (changed_at r) (root_marked r) new.state new.places
+    → IsReducts r → IsUpdated r a → FitsBy r (changed_at r) (root_marked r) new.state new.places new.answer
     → OnTrue b (given_by r (changed_at r) (root_marked r) new.state new.places ≡ given_by r
     (changed_at r) (root_marked r) (old.cursor).state (old.cursor).places ++ x ∷ [])
     → OnFalse b (given_by r (changed_at r) (root_marked r) (old.cursor).state
@@ -79,7 +80,7 @@ told_end r old a new x true h m f one all = (
       (one_left (IsChanged r a) (told r old)
       (given_by r (changed_at r) (root_marked r) new.state new.places) x one
       (given_some r (changed_at r) (IsChanged r a) (root_marked r) new.state new.places
-      (changed_answers r a h m) f) listing),
+      new.answer (changed_answers r a h m) f) listing),
 )
 told_end r old a new x false h m f one all = (
   λ e. given_listing (IsChanged r a) (all_given r (changed_at r) (root_marked r)) (told r old)

@@ -13,6 +13,7 @@ use Rattle.std.proofs.Common.{
   length,
   refl,
   ap,
+  ap₂,
   sym,
   subst,
   ◌∙◌,
@@ -26,12 +27,14 @@ use Rattle.djq_index.proofs.Apart.{there}
 use Rattle.djq_index.proofs.Places.{elsewhere_middle}
 use Rattle.djq_tree.specs.Labels.{label_at}
 use Rattle.djq_tree.specs.Tree.{Tree, IsTree}
+use Rattle.djq_reduct.specs.Columns.{columns}
 use Rattle.djq_reduct.specs.Tables.{entries_at}
 use Rattle.djq_reduct.specs.Reducts.{Reducts, IsReducts}
 use Rattle.djq_cursor.specs.declared.places.Choice.{Choice}
-use Rattle.djq_cursor.specs.Levels.{IsLevel, source, tuple_at, written, step}
+use Rattle.djq_cursor.specs.Levels.{IsLevel, source, tuple_at, put, step}
 use Rattle.djq_cursor.specs.Walk.{IsAlive, chosen}
 use Rattle.djq_cursor.proofs.Outs.{source_within, child_out}
+use Rattle.djq_cursor.proofs.Seeking.{written_put}
 use Rattle.djq_cursor.proofs.Stepping.{tuple_wide, source_child}
 
 here_at : (e : Entry) (es : List Entry) (p : Place) → e.at ≡ p → tuple_at (e ∷ es) p ≡ e.tuple
@@ -101,28 +104,25 @@ read_chosen r c es n u l h e at says =
     (subst (λ (fs : List Entry). IsAt fs c.place l.live.tuple) (sym same) l.live.is_at)
     ∙ sym (chosen_at r c l h)
 
-pub written_chosen : (r : Reducts) (c : Choice) (F label u old new : List ℕ) → F ≡ r.tree.head
-    → label ≡ label_at r.tree.labels (source r.tree c.level) → u ≡ chosen r c
-    → new ≡ written F label u old → new ≡ step r.tree c.level old (chosen r c)
+pub put_chosen : (r : Reducts) (c : Choice) (cs u old new : List ℕ)
+    → cs ≡ columns r.tree.head (label_at r.tree.labels (source r.tree c.level)) → u ≡ chosen r c
+    → new ≡ put cs u old → new ≡ step r.tree c.level old (chosen r c)
 unfolding step
-written_chosen r c F label u old new head is same e =
-    e ∙ ap (λ (l : List ℕ). written l label u old) head
-    ∙ ap (λ (l : List ℕ). written r.tree.head l u old) is
-    ∙ ap (λ (v : List ℕ). written r.tree.head (label_at r.tree.labels (source r.tree c.level)) v
-    old) same
+put_chosen r c cs u old new is same e =
+    let l = label_at r.tree.labels (source r.tree c.level) in
+    e ∙ ap₂ (λ (ds v : List ℕ). put ds v old) is same
+    ∙ sym (written_put r.tree.head l (chosen r c) old)
 
 -- ---- what is read of a tree
-
-pub head_is : (t u : Tree) (F : List ℕ) → u ≡ t → F ≡ u.head → F ≡ t.head
-head_is t u F same e = e ∙ ap (λ (v : Tree). v.head) same
 
 pub node_is : (t u : Tree) (k n : ℕ) → u ≡ t → n ≡ source u k → n ≡ source t k
 node_is t u k n same e = e ∙ ap (λ (v : Tree). source v k) same
 
-pub label_is : (t u : Tree) (k n : ℕ) (l : List ℕ) → u ≡ t → l ≡ label_at u.labels n
-    → n ≡ source t k → l ≡ label_at t.labels (source t k)
-label_is t u k n l same e at = e ∙ ap (λ (v : Tree). label_at v.labels n) same
-    ∙ ap (λ (i : ℕ). label_at t.labels i) at
+pub columns_are : (t : Tree) (k n : ℕ) (cs : List ℕ) → n ≡ source t k
+    → cs ≡ columns t.head (label_at t.labels n)
+    → cs ≡ columns t.head (label_at t.labels (source t k))
+columns_are t k n cs at is = is
+    ∙ ap (λ (i : ℕ). columns t.head (label_at t.labels i)) at
 
 pub source_subset : (t : Tree) (k : ℕ) → IsTree t → IsLevel t k
     → subset (label_at t.labels (source t k)) t.head ≡ true

@@ -15,6 +15,7 @@ has_root r = nat_lt 0 (cnt (entries_at r.tables (length r.tree.nodes - 1)) [])
 unfoldable pub given : Reducts → Cursor → List (List ℕ)
 given r c = given_by r (group_at r) (has_root r) c.state c.places
 
--- the cursor fits the reducts: its places are live, each in the group that those before it choose
+-- the cursor fits the reducts: its places are live, each in the group that those before it choose,
+-- and it holds the answer that they make
 unfoldable pub Fits : Reducts → Cursor → Type 0
-Fits r c = FitsBy r (group_at r) (has_root r) c.state c.places
+Fits r c = FitsBy r (group_at r) (has_root r) c.state c.places c.answer

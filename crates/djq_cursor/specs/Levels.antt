@@ -63,6 +63,12 @@ written F [] us s = s
 written F (x ∷ l) [] s = s
 written F (x ∷ l) (u ∷ us) s = written F l us (slice_set s (column F x) u)
 
+-- cells, once the cells us are put at these columns
+abbrev pub put : List ℕ → List ℕ → List ℕ → List ℕ
+put [] us s = s
+put (c ∷ cs) [] s = s
+put (c ∷ cs) (u ∷ us) s = put cs us (slice_set s c u)
+
 -- an answer, once the tuple u is chosen at the level k
 unfoldable pub step : Tree → ℕ → List ℕ → List ℕ → List ℕ
 step t k s u = written t.head (label_at t.labels (source t k)) u s

@@ -52,3 +52,4 @@ told r d = given_by r (changed_at r) (root_marked r) (d.cursor).state (d.cursor)
 -- the cursor fits the reducts and their marks
 unfoldable pub DeltaFits : Reducts → DeltaCursor → Type 0
 DeltaFits r d = FitsBy r (changed_at r) (root_marked r) (d.cursor).state (d.cursor).places
+    (d.cursor).answer

@@ -5,6 +5,7 @@ use Rattle.std.specs.Prelude.{
   ◌≡◌,
   ⊤,
   ℕ,
+  ◌≤◌,
   Bool,
   true,
   cond,
@@ -17,7 +18,7 @@ use Rattle.std.specs.Prelude.{
   flat_map,
 }
 use Rattle.djq_index.specs.Table.{IsLive}
-use Rattle.djq_tree.specs.Tree.{Tree}
+use Rattle.djq_tree.specs.Tree.{Tree, node_at, has_child}
 use Rattle.djq_tree.specs.Levels.{levels, levels_below}
 use Rattle.djq_reduct.specs.Tables.{entries_at}
 use Rattle.djq_reduct.specs.Reducts.{Reducts}
@@ -26,7 +27,7 @@ use Rattle.djq_cursor.specs.declared.cursor.State.{State}
 use Rattle.djq_cursor.specs.declared.cursor.State.TheVariants.{Start, At, End}
 use Rattle.djq_reduct.specs.Answers.{on_node}
 use Rattle.djq_cursor.specs.Menus.{has, ahead, AreOnce, IsFirst}
-use Rattle.djq_cursor.specs.Levels.{IsLevel, IsNextLevel, source, tuple_at, step}
+use Rattle.djq_cursor.specs.Levels.{IsLevel, IsNextLevel, source, tuple_at, group_at, step}
 
 -- the tuples to choose from, by the level and the cells of its label
 abbrev pub Menu : Type 0
@@ -110,16 +111,29 @@ pub record IsAlive (r : Reducts) (c : Choice) : Type 0 where
   pub level : IsLevel r.tree c.level
   pub live : IsLive (entries_at r.tables (source r.tree c.level)) c.place
 
--- the choices go down from the root, and the answer is what they make
+-- two answers have the same projections on the children of the nodes from k on
+pub record AreAlike (t : Tree) (k : ℕ) (s a : List ℕ) : Type 0 where
+  pub below : (i j : ℕ) → k ≤ i → has_child (node_at t.nodes i) j ≡ true
+      → on_node t j s ≡ on_node t j a
+
+-- the choices go down from the root, and the answer is what they make as far as they come; whatever
+-- cells it has elsewhere
 pub record Stands (r : Reducts) (menu : Menu) (cs : List Choice) (a : List ℕ) : Type 0 where
   pub follows : Descends r menu cs
-  pub answer : a ≡ made_by r cs
+  pub wide : length a ≡ length r.tree.head
+  pub alike : AreAlike r.tree (reached (length r.tree.nodes) cs) a (made_by r cs)
 
--- what is known of menus: none has a tuple twice, and where the listing may be entered none is
--- empty
-pub record IsClear (t : Tree) (menu : Menu) (entered : Bool) : Type 0 where
+-- the menus are parts of the levels' groups
+abbrev pub AreGroups : Reducts → Menu → Type 0
+AreGroups r menu = (k : ℕ) (w u : List ℕ) → has (menu k w) u ≡ true
+    → has (group_at r k w) u ≡ true
+
+-- what is known of menus: they are parts of groups, none has a tuple twice, and where the listing
+-- may be entered none is empty
+pub record IsClear (r : Reducts) (menu : Menu) (entered : Bool) : Type 0 where
+  pub group : AreGroups r menu
   pub once : (k : ℕ) (w : List ℕ) → AreOnce (menu k w)
-  pub filled : entered ≡ true → IsOpen t menu (levels t) (blank t)
+  pub filled : entered ≡ true → IsOpen r.tree menu (levels r.tree) (blank r.tree)
 
 -- all answers, in the order in which they are given
 abbrev pub all_given : Reducts → Menu → Bool → List (List ℕ)
@@ -131,8 +145,10 @@ given_by r menu entered Start cs = []
 given_by r menu entered At cs = ahead_of r menu cs ++ made_by r cs ∷ []
 given_by r menu entered End cs = all_given r menu entered
 
--- the state and the choices fit: there are none at the start, and later one at each level
-abbrev pub FitsBy : Reducts → Menu → Bool → State → List Choice → Type 0
-FitsBy r menu entered Start cs = cs ≡ []
-FitsBy r menu entered At cs = (entered ≡ true) × Descends r menu cs × IsComplete r cs
-FitsBy r menu entered End cs = ⊤
+-- the state, the choices and the answer fit: there is no choice at the start, and later one at each
+-- level, and the answer is what they make
+abbrev pub FitsBy : Reducts → Menu → Bool → State → List Choice → List ℕ → Type 0
+FitsBy r menu entered Start cs a = cs ≡ []
+FitsBy r menu entered At cs a =
+    (entered ≡ true) × Descends r menu cs × IsComplete r cs × (a ≡ made_by r cs)
+FitsBy r menu entered End cs a = ⊤

@@ -31,6 +31,8 @@ pub enum State {
 pub struct Cursor {
     pub places: Places,
     pub state: State,
+    /// The answer that was given last, of which a step writes what it changes.
+    pub answer: Answer,
 }
 
 impl Cursor {
@@ -42,6 +44,7 @@ impl Cursor {
         Cursor {
             places: Places::new(),
             state: State::Start,
+            answer: Answer::new(0),
         }
     }
 
@@ -52,11 +55,30 @@ impl Cursor {
         Cursor {
             places: self.places.copy(),
             state: self.state,
+            answer: self.answer.copy(),
         }
     }
 
-    /// Gives one answer that is left, and says so; false exactly where none is. Each call counts at
-    /// most two look-ups and links for each variable of the head, and one.
+    /// Goes on to one answer that is left, which the cursor holds then, and says so; false exactly
+    /// where none is. Each call counts at most two look-ups and links for each variable of the head,
+    /// and one.
+    pub fn step<L: Ledger>(&mut self, reducts: &Reducts, listing: &mut Tally<L>) -> bool
+        requires { Fits reducts.now self.old }
+        ensures fits { Fits reducts.now self.new }
+        ensures one { OnTrue result
+            (given reducts.now self.new ≡ given reducts.now self.old ++ self.new.answer ∷ []) }
+        ensures same { OnFalse result (given reducts.now self.new ≡ given reducts.now self.old) }
+        ensures answers { AreSome (IsAnswerOf reducts.now) (given reducts.now self.new) }
+        ensures end { result ≡ false
+            ↔ IsListing (IsAnswerOf reducts.now) (given reducts.now self.old) }
+        ensures counted { listing.new ≤ listing.old + (2 * length reducts.now.tree.head + 1) }
+    {
+        reducts.laws();
+        advance_by(&Whole, reducts, self, listing)
+    }
+
+    /// Gives one answer that is left, and says so; false exactly where none is. It is a
+    /// [`step`](Cursor::step) and a copy of the answer.
     pub fn advance<L: Ledger>(
         &mut self,
         reducts: &Reducts,
@@ -73,7 +95,10 @@ impl Cursor {
             ↔ IsListing (IsAnswerOf reducts.now) (given reducts.now self.old) }
         ensures counted { listing.new ≤ listing.old + (2 * length reducts.now.tree.head + 1) }
     {
-        reducts.laws();
-        advance_by(&Whole, reducts, self, answer, listing)
+        if !self.step(reducts, listing) {
+            return false;
+        }
+        *answer = self.answer.copy();
+        true
     }
 }

@@ -36,12 +36,36 @@ impl DeltaCursor {
             cursor: Cursor {
                 places: Places::new(),
                 state: State::Start,
+                answer: Answer::new(0),
             },
         }
     }
 
-    /// Gives one changed answer that is left, and says so; false exactly where none is. Each call
-    /// counts at most two look-ups and links for each variable of the head, and one.
+    /// Goes on to one changed answer that is left, which the cursor holds then, and says so; false
+    /// exactly where none is. Each call counts at most two look-ups and links for each variable of
+    /// the head, and one.
+    pub fn step<L: Ledger>(&mut self, reducts: &Reducts, listing: &mut Tally<L>) -> bool
+        requires leaf { self.old.leaf < reducts.now.tree.leaves }
+        requires marks { AreMarks reducts.now.tree reducts.now.tables self.old.leaf }
+        requires fits { DeltaFits reducts.now self.old }
+        ensures leaf { self.new.leaf ≡ self.old.leaf }
+        ensures fits { DeltaFits reducts.now self.new }
+        ensures one { OnTrue result
+            (told reducts.now self.new ≡ told reducts.now self.old
+            ++ (self.new.cursor).answer ∷ []) }
+        ensures same { OnFalse result (told reducts.now self.new ≡ told reducts.now self.old) }
+        ensures answers { AreSome (IsChanged reducts.now self.old.leaf)
+            (told reducts.now self.new) }
+        ensures end { result ≡ false
+            ↔ IsListing (IsChanged reducts.now self.old.leaf) (told reducts.now self.old) }
+        ensures counted { listing.new ≤ listing.old + (2 * length reducts.now.tree.head + 1) }
+    {
+        reducts.laws();
+        advance_by(&Marked, reducts, &mut self.cursor, listing)
+    }
+
+    /// Gives one changed answer that is left, and says so; false exactly where none is. It is a
+    /// [`step`](DeltaCursor::step) and a copy of the answer.
     pub fn advance<L: Ledger>(
         &mut self,
         reducts: &Reducts,
@@ -62,8 +86,11 @@ impl DeltaCursor {
             ↔ IsListing (IsChanged reducts.now self.old.leaf) (told reducts.now self.old) }
         ensures counted { listing.new ≤ listing.old + (2 * length reducts.now.tree.head + 1) }
     {
-        reducts.laws();
-        advance_by(&Marked, reducts, &mut self.cursor, answer, listing)
+        if !self.step(reducts, listing) {
+            return false;
+        }
+        *answer = self.cursor.answer.copy();
+        true
     }
 }
 

@@ -1,15 +1,14 @@
 ghost use Rattle.std.specs.Prelude.{◌≡◌, ◌<◌, ◌≤◌, true, [], length, IfSome, IfNone};
-ghost use Rattle.djq_hyper.specs.Hypergraph.{subset};
+ghost use Rattle.djq_index.specs.Table.{AreColumns};
 ghost use Rattle.djq_tree.specs.Counts.{is_trim};
 ghost use Rattle.djq_tree.specs.Levels.{levels_below};
 ghost use Rattle.djq_tree.specs.Tree.{is_out};
 ghost use Rattle.djq_reduct.specs.Answers.{on_node};
-ghost use Rattle.djq_cursor.specs.Levels.{IsLevel, IsNextLevel, child_of, source, step, written};
+ghost use Rattle.djq_cursor.specs.Levels.{IsLevel, IsNextLevel, child_of, put, source, step};
 ghost use Rattle.djq_cursor.specs.Walk.{IsAlive, chosen};
 
 use crate::places::Choice;
-use djq_hyper::VarSet;
-use djq_reduct::{Answer, Cells, Reducts, column_of};
+use djq_reduct::{Answer, Cells, Reducts};
 use djq_tree::{Node, Tree};
 
 fn is_trim(node: Node) -> bool
@@ -60,35 +59,24 @@ pub fn source(tree: &Tree, level: usize) -> usize
     child_of(tree.node(level))
 }
 
-/// The projection of an answer on a node of `out`.
-pub(crate) fn project(reducts: &Reducts, node: usize, answer: &Answer) -> Cells
+/// Puts the projection of an answer on a node of `out` into cells.
+pub(crate) fn project(reducts: &Reducts, node: usize, answer: &Answer, cells: &mut Cells)
     requires out { is_out reducts.now.tree.out node ≡ true }
     requires wide { length answer.now ≡ length reducts.now.tree.head }
-    ensures { result ≡ on_node reducts.now.tree node answer.now }
+    ensures { cells.new ≡ on_node reducts.now.tree node answer.now }
 {
     reducts.laws();
-    let tree = reducts.tree();
-    let head = tree.head();
-    let mut rest = tree.label(node);
-    let mut cells = Cells::new(0);
-    while let Some(variable) = rest.pop() {
-        cells.push(answer.as_slice()[column_of(head, variable)]);
-    }
-    cells
+    cells.take_part(answer.as_slice(), reducts.columns(node));
 }
 
-/// Writes the cells of a tuple over a label into an answer over the head.
-fn write_tuple(head: VarSet, label: VarSet, tuple: &[u64], answer: &mut Answer)
-    requires long { length tuple.now ≡ length label }
-    requires within { subset label head ≡ true }
-    requires wide { length answer.old ≡ length head }
-    ensures { answer.new ≡ written head label tuple.now answer.old }
+/// Writes cells at these columns of an answer.
+fn write_tuple(columns: &[usize], tuple: &[u64], answer: &mut Answer)
+    requires long { length tuple.now ≡ length columns.now }
+    requires within { AreColumns (length answer.old) columns.now }
+    ensures { answer.new ≡ put columns.now tuple.now answer.old }
 {
-    let mut rest = label;
-    let mut at = 0;
-    while let Some(variable) = rest.pop() {
-        answer.set(column_of(head, variable), tuple[at]);
-        at += 1;
+    for at in 0..columns.len() {
+        answer.set(columns[at], tuple[at]);
     }
 }
 
@@ -100,8 +88,7 @@ pub(crate) fn write_choice(reducts: &Reducts, choice: Choice, answer: &mut Answe
         ≡ step reducts.now.tree choice.level answer.old (chosen reducts.now choice) }
 {
     reducts.laws();
-    let tree = reducts.tree();
-    let node = source(tree, choice.level);
+    let node = source(reducts.tree(), choice.level);
     let tuple = reducts.table(node).tuple(choice.place);
-    write_tuple(tree.head(), tree.label(node), tuple, answer);
+    write_tuple(reducts.columns(node), tuple, answer);
 }

@@ -6,7 +6,7 @@ ghost use Rattle.djq_reduct.specs.Tables.{entries_at};
 ghost use Rattle.djq_reduct.specs.Answers.{IsAnswerOf, on_node};
 
 use crate::levels::project;
-use djq_reduct::{Answer, Reducts};
+use djq_reduct::{Answer, Cells, Reducts};
 use djq_steps::Tally;
 use std::sync::ledger::Ledger;
 
@@ -28,7 +28,8 @@ fn allows<L: Ledger>(
     if !reducts.tree().is_out(node) {
         return true;
     }
-    let tuple = project(reducts, node, answer);
+    let mut tuple = Cells::new(0);
+    project(reducts, node, answer, &mut tuple);
     reducts
         .table(node)
         .find(tuple.as_slice(), listing)

@@ -1,11 +1,10 @@
-ghost use Rattle.std.specs.Prelude.{◌≡◌, ◌+◌, ◌*◌, ◌≤◌, [], ◌∷◌, ◌++◌, length, All, ℕ, List};
+ghost use Rattle.std.specs.Prelude.{◌≡◌, ◌+◌, ◌*◌, ◌≤◌, [], ◌∷◌, ◌++◌, length, ℕ, List};
 ghost use Rattle.std.specs.Bool.{OnTrue, OnFalse};
 ghost use Rattle.djq_tree.specs.Levels.{levels, levels_below};
 ghost use Rattle.djq_cursor.specs.Menus.{AreOnce};
 ghost use Rattle.djq_cursor.specs.Walk.{
-  Descends,
+  AreGroups,
   FitsBy,
-  IsAlive,
   IsClear,
   IsComplete,
   IsOpen,
@@ -23,7 +22,7 @@ use crate::choices::Choices;
 use crate::cursor::{Cursor, State};
 use crate::levels::{level_below, project, write_choice};
 use crate::places::{Choice, Places};
-use djq_reduct::{Answer, Reducts};
+use djq_reduct::{Answer, Cells, Reducts};
 use djq_steps::Tally;
 use std::sync::ledger::Ledger;
 
@@ -48,9 +47,10 @@ fn fill<C: Choices, L: Ledger>(
 {
     reducts.laws();
     reducts.tree().is_small();
+    let mut key = Cells::new(0);
     let mut number = from;
     while let Some(level) = level_below(reducts.tree(), number) {
-        let key = project(reducts, level, answer);
+        project(reducts, level, answer, &mut key);
         let Some(place) = choices.first(reducts, level, key.as_slice(), listing) else {
             return;
         };
@@ -61,20 +61,8 @@ fn fill<C: Choices, L: Ledger>(
     }
 }
 
-/// Writes the tuples of choices into an answer of which nothing is known.
-fn rewrite(reducts: &Reducts, places: &Places, answer: &mut Answer)
-    requires { All (IsAlive reducts.now) places.now }
-    ensures { answer.new ≡ made_by reducts.now places.now }
-{
-    reducts.laws();
-    *answer = Answer::new(reducts.tree().head().len());
-    for choice in places.as_slice() {
-        write_choice(reducts, *choice, answer);
-    }
-}
-
 /// Goes on to the next answer: the last choice that has a next tuple takes it, and every later one
-/// starts again.
+/// starts again. What earlier choices wrote into the answer stays.
 fn go_on<C: Choices, L: Ledger>(
     choices: &C,
     reducts: &Reducts,
@@ -82,10 +70,11 @@ fn go_on<C: Choices, L: Ledger>(
     answer: &mut Answer,
     listing: &mut Tally<L>,
 ) -> bool
+    requires group { AreGroups reducts.now (C.menu choices.now reducts.now) }
     requires once { (k : ℕ) (w : List ℕ) → AreOnce (C.menu choices.now reducts.now k w) }
     requires opened { IsOpen reducts.now.tree (C.menu choices.now reducts.now)
         (levels reducts.now.tree) (blank reducts.now.tree) }
-    requires follows { Descends reducts.now (C.menu choices.now reducts.now) places.old }
+    requires stands { Stands reducts.now (C.menu choices.now reducts.now) places.old answer.old }
     requires whole { IsComplete reducts.now places.old }
     ensures stands { OnTrue result
         (Stands reducts.now (C.menu choices.now reducts.now) places.new answer.new) }
@@ -106,7 +95,6 @@ fn go_on<C: Choices, L: Ledger>(
                 level: choice.level,
                 place,
             };
-            rewrite(reducts, places, answer);
             write_choice(reducts, next, answer);
             places.push(next);
             fill(choices, reducts, next.level, places, answer, listing);
@@ -121,17 +109,17 @@ fn begin<C: Choices, L: Ledger>(
     choices: &C,
     reducts: &Reducts,
     cursor: &mut Cursor,
-    answer: &mut Answer,
     listing: &mut Tally<L>,
 ) -> bool
-    requires clear { IsClear reducts.now.tree (C.menu choices.now reducts.now)
+    requires clear { IsClear reducts.now (C.menu choices.now reducts.now)
         (C.entered choices.now reducts.now) }
     requires none { cursor.old.places ≡ [] }
     ensures fits { FitsBy reducts.now (C.menu choices.now reducts.now)
-        (C.entered choices.now reducts.now) cursor.new.state cursor.new.places }
+        (C.entered choices.now reducts.now) cursor.new.state cursor.new.places
+        cursor.new.answer }
     ensures one { OnTrue result
         (given_by reducts.now (C.menu choices.now reducts.now) (C.entered choices.now reducts.now)
-        cursor.new.state cursor.new.places ≡ answer.new ∷ []) }
+        cursor.new.state cursor.new.places ≡ cursor.new.answer ∷ []) }
     ensures none { OnFalse result
         (all_given reducts.now (C.menu choices.now reducts.now)
         (C.entered choices.now reducts.now) ≡ []) }
@@ -143,38 +131,41 @@ fn begin<C: Choices, L: Ledger>(
         cursor.state = State::End;
         return false;
     }
-    *answer = Answer::new(reducts.tree().head().len());
+    cursor.answer = Answer::new(reducts.tree().head().len());
     fill(
         choices,
         reducts,
         reducts.tree().len(),
         &mut cursor.places,
-        answer,
+        &mut cursor.answer,
         listing,
     );
     cursor.state = State::At;
     true
 }
 
-/// Gives one answer more of a listing: true with one that is left, false exactly where none is. It
-/// counts at most two look-ups and links for each variable of the head, and one.
+/// Makes one answer more of a listing: true with one that is left, which the cursor holds then, false
+/// exactly where none is. It counts at most two look-ups and links for each variable of the head, and
+/// one.
 pub fn advance_by<C: Choices, L: Ledger>(
     choices: &C,
     reducts: &Reducts,
     cursor: &mut Cursor,
-    answer: &mut Answer,
     listing: &mut Tally<L>,
 ) -> bool
-    requires clear { IsClear reducts.now.tree (C.menu choices.now reducts.now)
+    requires clear { IsClear reducts.now (C.menu choices.now reducts.now)
         (C.entered choices.now reducts.now) }
     requires fits { FitsBy reducts.now (C.menu choices.now reducts.now)
-        (C.entered choices.now reducts.now) cursor.old.state cursor.old.places }
+        (C.entered choices.now reducts.now) cursor.old.state cursor.old.places
+        cursor.old.answer }
     ensures fits { FitsBy reducts.now (C.menu choices.now reducts.now)
-        (C.entered choices.now reducts.now) cursor.new.state cursor.new.places }
+        (C.entered choices.now reducts.now) cursor.new.state cursor.new.places
+        cursor.new.answer }
     ensures one { OnTrue result
         (given_by reducts.now (C.menu choices.now reducts.now) (C.entered choices.now reducts.now)
         cursor.new.state cursor.new.places ≡ given_by reducts.now (C.menu choices.now reducts.now)
-        (C.entered choices.now reducts.now) cursor.old.state cursor.old.places ++ answer.new ∷ []) }
+        (C.entered choices.now reducts.now) cursor.old.state cursor.old.places
+        ++ cursor.new.answer ∷ []) }
     ensures all { OnFalse result
         (given_by reducts.now (C.menu choices.now reducts.now) (C.entered choices.now reducts.now)
         cursor.old.state cursor.old.places ≡ all_given reducts.now (C.menu choices.now reducts.now)
@@ -185,11 +176,18 @@ pub fn advance_by<C: Choices, L: Ledger>(
         (C.entered choices.now reducts.now)) }
     ensures counted { listing.new ≤ listing.old + (2 * length reducts.now.tree.head + 1) }
 {
+    reducts.laws();
     reducts.tree().is_small();
     match cursor.state {
-        State::Start => begin(choices, reducts, cursor, answer, listing),
+        State::Start => begin(choices, reducts, cursor, listing),
         State::At => {
-            if go_on(choices, reducts, &mut cursor.places, answer, listing) {
+            if go_on(
+                choices,
+                reducts,
+                &mut cursor.places,
+                &mut cursor.answer,
+                listing,
+            ) {
                 return true;
             }
             cursor.state = State::End;

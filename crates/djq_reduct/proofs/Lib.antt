@@ -2,4 +2,5 @@ pub mod Placing
 pub mod Readings
 pub mod Family
 pub mod Making
+pub mod Heading
 pub mod Paths

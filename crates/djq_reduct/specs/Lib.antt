@@ -1,4 +1,5 @@
 pub mod Columns
+pub mod Heads
 pub mod Tables
 pub mod Reducts
 pub mod Marks

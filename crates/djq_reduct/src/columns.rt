@@ -21,7 +21,11 @@ pub fn column_of(label: VarSet, variable: usize) -> usize
 }
 
 /// The places of a key's variables in a label.
-fn columns_of(alloc: Global, label: VarSet, key: VarSet) -> Result<Vec<usize>, AllocError>
+pub(crate) fn columns_of(
+    alloc: Global,
+    label: VarSet,
+    key: VarSet,
+) -> Result<Vec<usize>, AllocError>
     ensures { IfOk result (λ v. v.items ≡ columns label key) }
 {
     let mut columns = Vec::new(alloc);

@@ -29,6 +29,7 @@
 #![tactic(auto)]
 
 mod columns;
+mod heads;
 mod narrow;
 mod reducts;
 

@@ -1,6 +1,8 @@
 ghost use Rattle.std.specs.Prelude.{◌≡◌, ℕ, ◌<◌, [], length, IfOk};
 ghost use Rattle.djq_index.specs.Table.{IsTable};
+ghost use Rattle.djq_tree.specs.Labels.{label_at};
 ghost use Rattle.djq_tree.specs.Tree.{node_at};
+ghost use Rattle.djq_reduct.specs.Columns.{column, columns};
 ghost use Rattle.djq_reduct.specs.Tables.{entries_at, key_at, width_at};
 ghost use Rattle.djq_reduct.specs.Reducts as spec;
 ghost use Rattle.djq_reduct.specs.Reducts.{
@@ -11,7 +13,8 @@ ghost use Rattle.djq_reduct.specs.Reducts.{
   SameTables,
 };
 
-use crate::columns::empty_table;
+use crate::columns::{column_of, empty_table};
+use crate::heads::{HeadColumns, head_columns, head_places};
 use djq_index::Table;
 use djq_tree::Tree;
 use std::alloc::{AllocError, Global};
@@ -25,6 +28,10 @@ use std::marker::Model;
 pub struct Reducts {
     pub tree: Tree,
     pub tables: Vec<Table>,
+    // for each node, where its label's variables stand in an answer
+    pub(crate) columns: Vec<HeadColumns>,
+    // for each variable, its place in an answer
+    pub(crate) places: Vec<usize>,
 }
 
 impl Model for Reducts {
@@ -34,7 +41,12 @@ impl Model for Reducts {
 
     ghost view = { λ r. record { tree = r.tree; tables = r.tables.items } };
 
-    ghost invariant = { λ r. spec.IsReducts (record { tree = r.tree; tables = r.tables.items }) };
+    ghost use Rattle.std.specs.Prelude.{◌≡◌, length};
+    ghost use Rattle.djq_reduct.specs.Heads.{head_columns, head_places};
+
+    ghost invariant = { λ r. spec.IsReducts (record { tree = r.tree; tables = r.tables.items })
+        × (r.columns.items ≡ head_columns r.tree (length r.tree.nodes))
+        × (r.places.items ≡ head_places r.tree.head 64) };
 }
 
 impl Reducts {
@@ -48,7 +60,14 @@ impl Reducts {
         for node in 0..tree.len() {
             tables.push(empty_table(alloc, &tree, node)?)?;
         }
-        Ok(Reducts { tree, tables })
+        let columns = head_columns(alloc, &tree)?;
+        let places = head_places(alloc, tree.head())?;
+        Ok(Reducts {
+            tree,
+            tables,
+            columns,
+            places,
+        })
     }
 
     /// The tree.
@@ -67,6 +86,25 @@ impl Reducts {
         ensures reduct { IsReductOf (node_at self.now.tree.nodes node) self.now.tables node }
     {
         &self.tables[node]
+    }
+
+    /// Where the variables of a node's label stand in an answer. They were found once, as the reducts
+    /// were made.
+    pub fn columns(&self, node: usize) -> &[usize]
+        requires { node < length self.now.tree.nodes }
+        ensures { result.now ≡ columns self.now.tree.head (label_at self.now.tree.labels node) }
+    {
+        self.columns[node].as_slice()
+    }
+
+    /// Where a variable stands in an answer; where it isn't in the head, how long that is.
+    pub fn column(&self, variable: usize) -> usize
+        ensures { result ≡ column self.now.tree.head variable }
+    {
+        if variable < self.places.len() {
+            return self.places[variable];
+        }
+        column_of(self.tree.head(), variable)
     }
 
     /// What holds of all reducts; and that tables with these laws are known once the leaves' tuples are.

@@ -1,16 +1,10 @@
-use Rattle.std.proofs.Common.{◌≡◌, ◌+◌, true, length, drop}
-use Rattle.djq_hyper.specs.Hypergraph.{subset}
-use Rattle.djq_cursor.specs.Levels.{written}
+use Rattle.std.proofs.Common.{◌≡◌, length, drop}
+use Rattle.djq_cursor.specs.Levels.{put}
 use Rattle.djq_cursor.proofs.levels.write_tuple.Given as goal
 
-abbrev pub invariant-loop-variable : goal.invariant-loop-variable
-invariant-loop-variable l = record {
-  written : written l.head l.rest (drop l.at l.tuple) l.answer ≡ written l.head l.fn.label l.tuple
+abbrev pub invariant-loop-at : goal.invariant-loop-at
+invariant-loop-at l = record {
+  written : put (drop l.at l.columns) (drop l.at l.tuple) l.answer ≡ put l.columns l.tuple
       l.fn.answer;
-  long : l.at + length l.rest ≡ length l.tuple;
-  within : subset l.rest l.head ≡ true;
-  wide : length l.answer ≡ length l.head;
+  wide : length l.answer ≡ length l.fn.answer;
 }
-
-abbrev pub decreases-loop-variable : goal.decreases-loop-variable
-decreases-loop-variable l = length l.rest

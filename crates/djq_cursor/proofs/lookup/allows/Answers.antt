@@ -8,7 +8,7 @@ pub returns-clause-exact : goal.returns-clause-exact
 returns-clause-exact g c =
     let r = c.args.reducts.now in
     let out : is_out r.tree.out c.args.node ≡ true = search rules in
-    let tuple = c.as_slice.ensures ∙ c.project-tuple.ensures in (
+    let tuple = c.as_slice.ensures ∙ c.project.ensures in (
       λ e _. looked_up r c.args.node c.table.result.now.entries c.as_slice.result.now
           c.args.answer.now c.find.result c.table.ensures.entries tuple c.find.ensures.found
           (sym c.is_some.ensures ∙ e),

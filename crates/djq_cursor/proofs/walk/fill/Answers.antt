@@ -4,15 +4,13 @@ use Rattle.djq_cursor.specs.Walk.{IsFirstAt}
 use Rattle.djq_cursor.proofs.Outs.{late_out}
 use Rattle.djq_cursor.proofs.Filling.{
   reached_within,
-  some_first,
-  chosen_first,
   room_for,
-  stands_wide,
   next_in,
   level_in,
   small_in,
   next_count,
 }
+use Rattle.djq_cursor.proofs.Keeping.{some_first, chosen_first}
 use Rattle.djq_cursor.proofs.walk.fill.Goals as goal
 
 pub loop-level-init : goal.loop-level-init
@@ -30,17 +28,15 @@ loop-level-init g c =
       counted = omega arith;
     }
 
-pub project-key-requires-clause-out : goal.project-key-requires-clause-out
-project-key-requires-clause-out g c =
+pub project-requires-clause-out : goal.project-requires-clause-out
+project-requires-clause-out g c =
     let r = c.args.reducts.now in
     let l = level_in r.tree c.tree-in-loop-level.result.now c.in-Some.level
     c.tree-in-loop-level.ensures c.in-Some.ensures.level in
     late_out r.tree c.in-Some.level c.laws.ensures.sound.family.is_tree l.late l.within
 
-pub project-key-requires-clause-wide : goal.project-key-requires-clause-wide
-project-key-requires-clause-wide g c = stands_wide c.args.reducts.now
-    (g.C.Choices.menu c.args.choices.now c.args.reducts.now) c.loop-level.places c.loop-level.answer
-    c.loop-level.invariant.stands
+pub project-requires-clause-wide : goal.project-requires-clause-wide
+project-requires-clause-wide g c = c.loop-level.invariant.stands.wide
 
 pub returns-in_default-first-clause-whole : goal.returns-in_default-first-clause-whole
 returns-in_default-first-clause-whole g c =
@@ -49,10 +45,11 @@ returns-in_default-first-clause-whole g c =
     let k = c.in-Some.level in
     absurd
     (some_first r menu c.loop-level.number k c.loop-level.places c.loop-level.answer
+    c.laws.ensures.sound
     c.loop-level.invariant.stands c.loop-level.invariant.is c.requires.opened
     (next_in r.tree c.tree-in-loop-level.result.now c.loop-level.number k
     c.tree-in-loop-level.ensures c.in-Some.ensures.next)
-    (ap (λ (w : List ℕ). menu k w) (sym (c.as_slice.ensures ∙ c.project-key.ensures))
+    (ap (λ (w : List ℕ). menu k w) (sym (c.as_slice.ensures ∙ c.project.ensures))
     ∙ c.in_default-first.ensures.none))
 
 pub returns-in_default-first-clause-counted : goal.returns-in_default-first-clause-counted
@@ -62,16 +59,15 @@ returns-in_default-first-clause-counted g c =
     let k = c.in-Some.level in
     absurd
     (some_first r menu c.loop-level.number k c.loop-level.places c.loop-level.answer
+    c.laws.ensures.sound
     c.loop-level.invariant.stands c.loop-level.invariant.is c.requires.opened
     (next_in r.tree c.tree-in-loop-level.result.now c.loop-level.number k
     c.tree-in-loop-level.ensures c.in-Some.ensures.next)
-    (ap (λ (w : List ℕ). menu k w) (sym (c.as_slice.ensures ∙ c.project-key.ensures))
+    (ap (λ (w : List ℕ). menu k w) (sym (c.as_slice.ensures ∙ c.project.ensures))
     ∙ c.in_default-first.ensures.none))
 
 pub write_choice-requires-clause-wide : goal.write_choice-requires-clause-wide
-write_choice-requires-clause-wide g c = stands_wide c.args.reducts.now
-    (g.C.Choices.menu c.args.choices.now c.args.reducts.now) c.loop-level.places c.loop-level.answer
-    c.loop-level.invariant.stands
+write_choice-requires-clause-wide g c = c.loop-level.invariant.stands.wide
 
 pub push-requires : goal.push-requires
 push-requires g c =
@@ -94,9 +90,10 @@ loop-level-preserved g c =
     let level = level_in r.tree c.tree-in-loop-level.result.now k c.tree-in-loop-level.ensures
     c.in-Some.ensures.level in
     let first = subst (λ (w : List ℕ). IsFirstAt r (menu k w) choice)
-    (c.as_slice.ensures ∙ c.project-key.ensures) c.in-Some-first.ensures.some in
+    (c.as_slice.ensures ∙ c.project.ensures) c.in-Some-first.ensures.some in
     let made = chosen_first r menu c.loop-level.number c.loop-level.places c.push.new.self
-    c.loop-level.answer c.write_choice.new.answer choice c.loop-level.invariant.stands
+    c.loop-level.answer c.write_choice.new.answer choice c.laws.ensures.sound
+    c.loop-level.invariant.stands
     c.loop-level.invariant.is next first c.write_choice.ensures c.push.ensures in
     let count = next_count r.tree c.loop-level.number k next in
     let within = level.within in

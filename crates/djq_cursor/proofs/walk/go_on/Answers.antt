@@ -1,9 +1,9 @@
-use Rattle.std.proofs.Common.{◌∙◌, List, ℕ, [], ◌∷◌, ◌++◌, length, refl, ap, arith}
+use Rattle.std.proofs.Common.{◌∙◌, [], ◌∷◌, ◌++◌, length, refl, arith}
 use Rattle.djq_cursor.specs.declared.places.Choice.{Choice}
 use Rattle.djq_cursor.specs.Walk.{before, here, blank}
 use Rattle.djq_cursor.proofs.Walking.{given_whole}
-use Rattle.djq_cursor.proofs.Leaves.{blank_wide}
-use Rattle.djq_cursor.proofs.Filling.{all_alive, here_wide, small_in}
+use Rattle.djq_cursor.proofs.Keeping.{stands_pop}
+use Rattle.djq_cursor.proofs.Filling.{small_in}
 use Rattle.djq_cursor.proofs.Going.{
   pop_is,
   retreat,
@@ -18,9 +18,9 @@ pub loop-choice-init : goal.loop-choice-init
 loop-choice-init g c =
     let r = c.args.reducts.now in
     let menu = g.C.Choices.menu c.args.choices.now r in
-    let many = all_levels r menu c.args.places.now c.requires.follows c.requires.whole in
+    let many = all_levels r menu c.args.places.now c.requires.stands.follows c.requires.whole in
     record {
-      follows = c.requires.follows;
+      stands = c.requires.stands;
       given = given_whole r menu (length r.tree.nodes)
           (blank r.tree) c.args.places.now c.requires.whole;
       counted = omega arith;
@@ -33,17 +33,7 @@ next-requires g c =
     let e = pop_is c.loop-choice.places c.pop.new.self c.pop.result c.in-Some.choice
     c.pop.ensures.taken c.in-Some.is in
     (retreat r menu c.loop-choice.places c.pop.new.self c.in-Some.choice
-    c.loop-choice.invariant.follows e).alive
-
-pub rewrite-requires : goal.rewrite-requires
-rewrite-requires g c =
-    let r = c.args.reducts.now in
-    let menu = g.C.Choices.menu c.args.choices.now r in
-    let e = pop_is c.loop-choice.places c.pop.new.self c.pop.result c.in-Some.choice
-    c.pop.ensures.taken c.in-Some.is in
-    let t = retreat r menu c.loop-choice.places c.pop.new.self c.in-Some.choice
-    c.loop-choice.invariant.follows e in
-    all_alive r menu (length r.tree.nodes) (blank r.tree) c.pop.new.self (omega arith) t.follows
+    c.loop-choice.invariant.stands.follows e).alive
 
 pub write_choice-requires-clause-alive : goal.write_choice-requires-clause-alive
 write_choice-requires-clause-alive g c =
@@ -52,14 +42,11 @@ write_choice-requires-clause-alive g c =
     let e = pop_is c.loop-choice.places c.pop.new.self c.pop.result c.in-Some.choice
     c.pop.ensures.taken c.in-Some.is in
     let t = retreat r menu c.loop-choice.places c.pop.new.self c.in-Some.choice
-    c.loop-choice.invariant.follows e in
+    c.loop-choice.invariant.stands.follows e in
     record { level = t.alive.level; live = (c.in-Some-next.ensures.some _ t.joins.on).live }
 
 pub write_choice-requires-clause-wide : goal.write_choice-requires-clause-wide
-write_choice-requires-clause-wide g c =
-    let r = c.args.reducts.now in
-    ap (λ (s : List ℕ). length s) c.rewrite.ensures ∙ here_wide r (blank r.tree) c.pop.new.self
-    ∙ blank_wide r.tree
+write_choice-requires-clause-wide g c = c.loop-choice.invariant.stands.wide
 
 pub push-requires : goal.push-requires
 push-requires g c =
@@ -68,10 +55,10 @@ push-requires g c =
     let e = pop_is c.loop-choice.places c.pop.new.self c.pop.result c.in-Some.choice
     c.pop.ensures.taken c.in-Some.is in
     let t = retreat r menu c.loop-choice.places c.pop.new.self c.in-Some.choice
-    c.loop-choice.invariant.follows e in
+    c.loop-choice.invariant.stands.follows e in
     let few = few_choices r menu c.loop-choice.places c.laws.ensures.sound
     (small_in r.tree c.tree.result.now c.tree.ensures c.is_small.ensures)
-    c.loop-choice.invariant.follows in
+    c.loop-choice.invariant.stands.follows in
     let shorter = t.shorter in
     omega arith
 
@@ -85,10 +72,11 @@ fill-requires-clause-from g c =
     let e = pop_is c.loop-choice.places c.pop.new.self c.pop.result c.in-Some.choice
     c.pop.ensures.taken c.in-Some.is in
     let t = retreat r menu c.loop-choice.places c.pop.new.self c.in-Some.choice
-    c.loop-choice.invariant.follows e in
+    c.loop-choice.invariant.stands.follows e in
     (advances r menu c.loop-choice.places c.pop.new.self c.push.new.self c.in-Some.choice d
-    c.rewrite.new.answer c.write_choice.new.answer all t e c.requires.once refl
-    c.in-Some-next.ensures.some c.rewrite.ensures c.write_choice.ensures c.push.ensures
+    c.loop-choice.answer c.write_choice.new.answer all c.laws.ensures.sound c.requires.group
+    c.loop-choice.invariant.stands t e c.requires.once refl c.in-Some-next.ensures.some
+    c.write_choice.ensures c.push.ensures
     c.loop-choice.invariant.given).reached
 
 pub fill-requires-clause-stands : goal.fill-requires-clause-stands
@@ -101,10 +89,11 @@ fill-requires-clause-stands g c =
     let e = pop_is c.loop-choice.places c.pop.new.self c.pop.result c.in-Some.choice
     c.pop.ensures.taken c.in-Some.is in
     let t = retreat r menu c.loop-choice.places c.pop.new.self c.in-Some.choice
-    c.loop-choice.invariant.follows e in
+    c.loop-choice.invariant.stands.follows e in
     (advances r menu c.loop-choice.places c.pop.new.self c.push.new.self c.in-Some.choice d
-    c.rewrite.new.answer c.write_choice.new.answer all t e c.requires.once refl
-    c.in-Some-next.ensures.some c.rewrite.ensures c.write_choice.ensures c.push.ensures
+    c.loop-choice.answer c.write_choice.new.answer all c.laws.ensures.sound c.requires.group
+    c.loop-choice.invariant.stands t e c.requires.once refl c.in-Some-next.ensures.some
+    c.write_choice.ensures c.push.ensures
     c.loop-choice.invariant.given).stands
 
 pub returns-in-Some-next-clause-before : goal.returns-in-Some-next-clause-before
@@ -117,10 +106,11 @@ returns-in-Some-next-clause-before g c =
     let e = pop_is c.loop-choice.places c.pop.new.self c.pop.result c.in-Some.choice
     c.pop.ensures.taken c.in-Some.is in
     let t = retreat r menu c.loop-choice.places c.pop.new.self c.in-Some.choice
-    c.loop-choice.invariant.follows e in
+    c.loop-choice.invariant.stands.follows e in
     let a = advances r menu c.loop-choice.places c.pop.new.self c.push.new.self c.in-Some.choice d
-    c.rewrite.new.answer c.write_choice.new.answer all t e c.requires.once refl
-    c.in-Some-next.ensures.some c.rewrite.ensures c.write_choice.ensures c.push.ensures
+    c.loop-choice.answer c.write_choice.new.answer all c.laws.ensures.sound c.requires.group
+    c.loop-choice.invariant.stands t e c.requires.once refl c.in-Some-next.ensures.some
+    c.write_choice.ensures c.push.ensures
     c.loop-choice.invariant.given in
     c.fill.ensures.before ∙ a.before
 
@@ -134,10 +124,11 @@ returns-in-Some-next-clause-counted g c =
     let e = pop_is c.loop-choice.places c.pop.new.self c.pop.result c.in-Some.choice
     c.pop.ensures.taken c.in-Some.is in
     let t = retreat r menu c.loop-choice.places c.pop.new.self c.in-Some.choice
-    c.loop-choice.invariant.follows e in
+    c.loop-choice.invariant.stands.follows e in
     let a = advances r menu c.loop-choice.places c.pop.new.self c.push.new.self c.in-Some.choice d
-    c.rewrite.new.answer c.write_choice.new.answer all t e c.requires.once refl
-    c.in-Some-next.ensures.some c.rewrite.ensures c.write_choice.ensures c.push.ensures
+    c.loop-choice.answer c.write_choice.new.answer all c.laws.ensures.sound c.requires.group
+    c.loop-choice.invariant.stands t e c.requires.once refl c.in-Some-next.ensures.some
+    c.write_choice.ensures c.push.ensures
     c.loop-choice.invariant.given in
     let long = a.long in
     let shorter = t.shorter in
@@ -155,12 +146,13 @@ loop-choice-preserved g c =
     let e = pop_is c.loop-choice.places c.pop.new.self c.pop.result c.in-Some.choice
     c.pop.ensures.taken c.in-Some.is in
     let t = retreat r menu c.loop-choice.places c.pop.new.self c.in-Some.choice
-    c.loop-choice.invariant.follows e in
+    c.loop-choice.invariant.stands.follows e in
     let shorter = t.shorter in
     let counted = c.loop-choice.invariant.counted in
     let link = c.next.ensures.counted in
     record {
-      follows = t.follows;
+      stands = stands_pop r menu c.loop-choice.places c.pop.new.self c.in-Some.choice
+          c.loop-choice.answer c.laws.ensures.sound c.requires.group c.loop-choice.invariant.stands e;
       given = given_without r menu c.loop-choice.places c.pop.new.self c.in-Some.choice all t e
           c.in_default-next.ensures.none c.loop-choice.invariant.given;
       counted = omega arith;

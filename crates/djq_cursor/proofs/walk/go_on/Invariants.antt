@@ -1,13 +1,12 @@
 use Rattle.std.proofs.Common.{◌≡◌, ◌+◌, ◌++◌, ◌∷◌, [], length}
 use Rattle.djq_tree.specs.Levels.{levels}
-use Rattle.djq_cursor.specs.Walk.{Follows, before, here, blank}
+use Rattle.djq_cursor.specs.Walk.{Stands, before, here, blank}
 use Rattle.djq_cursor.proofs.Walking.{given_to}
 use Rattle.djq_cursor.proofs.walk.go_on.Given as goal
 
 abbrev pub invariant-loop-choice : goal.invariant-loop-choice
 invariant-loop-choice g l = record {
-  follows : Follows l.reducts (g.C.Choices.menu l.choices l.reducts) (length l.reducts.tree.nodes)
-      (blank l.reducts.tree) l.places;
+  stands : Stands l.reducts (g.C.Choices.menu l.choices l.reducts) l.places l.answer;
   given : given_to l.reducts (g.C.Choices.menu l.choices l.reducts) (length l.reducts.tree.nodes)
       (blank l.reducts.tree) l.places
       ≡ before l.reducts (g.C.Choices.menu l.choices l.reducts) (blank l.reducts.tree)

@@ -2,7 +2,7 @@ use Rattle.djq_cursor.proofs.Listed.{start_fits, start_given}
 use Rattle.djq_cursor.proofs.cursor.Cursor.start.Goals as goal
 
 pub returns-clause-fits : goal.returns-clause-fits
-returns-clause-fits c = λ r. start_fits r c.new.result c.new.ensures
+returns-clause-fits c = λ r. start_fits r c.new.result c.new-2.result c.new.ensures
 
 pub returns-clause-none : goal.returns-clause-none
-returns-clause-none c = λ r. start_given r c.new.result
+returns-clause-none c = λ r. start_given r c.new.result c.new-2.result

@@ -1,6 +1,7 @@
 use Rattle.std.proofs.Common.{◌≡◌, ℕ, List, ◌++◌, ◌∷◌, [], length, subst, sym, ap, arith, ◌∙◌}
 use Rattle.djq_index.specs.Table.{Table}
 use Rattle.djq_reduct.specs.Tables.{entries_at}
+use Rattle.djq_reduct.specs.Heads.{head_places}
 use Rattle.djq_reduct.specs.Reducts.{IsReducts}
 use Rattle.djq_reduct.proofs.Making.{empty_tables, made_reducts, made_none, made_on, made_entries}
 use Rattle.djq_reduct.proofs.reducts.Reducts.new.Goals as goal
@@ -20,9 +21,12 @@ invariant_of-result c =
     let count = c.len-node-end.ensures.count in
     let test = c.loop-node-test.false in
     let low = c.loop-node.auto.node-end in
-    let all : c.loop-node.node ≡ length c.args.tree.nodes = omega arith in
-    subst (λ (ts : List Table). IsReducts (record { tree = c.args.tree; tables = ts })) (sym (c.loop-node.invariant ∙ ap (λ (n : ℕ). empty_tables c.args.tree n) all))
-    (made_reducts c.args.tree c.len-node-end.ensures.tree c.requires)
+    let all : c.loop-node.node ≡ length c.args.tree.nodes = omega arith in (
+      subst (λ (ts : List Table). IsReducts (record { tree = c.args.tree; tables = ts })) (sym (c.loop-node.invariant ∙ ap (λ (n : ℕ). empty_tables c.args.tree n) all))
+          (made_reducts c.args.tree c.len-node-end.ensures.tree c.requires),
+      c.in_ok-columns.ensures,
+      c.in_ok-places.ensures ∙ ap (λ (F : List ℕ). head_places F 64) c.head.ensures,
+    )
 
 pub returns-clause-empty : goal.returns-clause-empty
 returns-clause-empty c k = ap (λ (ts : List Table). entries_at ts k) c.loop-node.invariant ∙ made_entries c.args.tree c.loop-node.node k

@@ -7,7 +7,7 @@ use Rattle.djq_reduct.proofs.reducts.Reducts.table.Goals as goal
 read : (c : goal.After-index) → c.index.result.now ≡ table_at c.args.self.now.tables c.args.node
 read c =
     let within = c.requires in
-    let long = c.self.invariant.family.long in
+    let long = c.self.invariant.0.family.long in
     let nodes = ap (λ (r : Reducts). length r.tree.nodes) c.self.view_is in
     read_at _ c.args.self.now c.args.node c.index.result.now c.self.view_is (omega arith) c.index.ensures
 

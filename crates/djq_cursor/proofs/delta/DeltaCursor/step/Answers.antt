@@ -1,7 +1,7 @@
 use Rattle.djq_cursor.proofs.Updates.{updated}
 use Rattle.djq_cursor.proofs.Telling.{changed_clear}
 use Rattle.djq_cursor.proofs.Told.{fits_by, by_fits, told_some, told_one, told_same, told_end}
-use Rattle.djq_cursor.proofs.delta.DeltaCursor.advance.Goals as goal
+use Rattle.djq_cursor.proofs.delta.DeltaCursor.step.Goals as goal
 
 pub advance_by-requires-clause-clear : goal.advance_by-requires-clause-clear
 advance_by-requires-clause-clear g c = changed_clear c.args.reducts.now c.args.self.now.leaf
@@ -17,7 +17,7 @@ returns-clause-fits g c = by_fits c.args.reducts.now c.args.self.now.leaf c.adva
 
 pub returns-clause-one : goal.returns-clause-one
 returns-clause-one g c = told_one c.args.reducts.now c.args.self.now c.args.self.now.leaf
-    c.advance_by.new.cursor c.advance_by.new.answer c.advance_by.result c.advance_by.ensures.one
+    c.advance_by.new.cursor c.advance_by.new.cursor.answer c.advance_by.result c.advance_by.ensures.one
 
 pub returns-clause-same : goal.returns-clause-same
 returns-clause-same g c = told_same c.args.reducts.now c.args.self.now c.args.self.now.leaf
@@ -31,6 +31,6 @@ returns-clause-answers g c = told_some c.args.reducts.now c.args.self.now.leaf c
 pub returns-clause-end : goal.returns-clause-end
 returns-clause-end g c =
     told_end c.args.reducts.now c.args.self.now c.args.self.now.leaf c.advance_by.new.cursor
-    c.advance_by.new.answer c.advance_by.result c.laws.ensures.sound
+    c.advance_by.new.cursor.answer c.advance_by.result c.laws.ensures.sound
     (updated c.args.reducts.now c.args.self.now.leaf c.laws.ensures.sound c.requires.leaf c.requires.marks)
     c.advance_by.ensures.fits c.advance_by.ensures.one c.advance_by.ensures.all

@@ -7,7 +7,7 @@ use Rattle.djq_cursor.proofs.Listed.{
   cursor_same,
   cursor_end,
 }
-use Rattle.djq_cursor.proofs.cursor.Cursor.advance.Goals as goal
+use Rattle.djq_cursor.proofs.cursor.Cursor.step.Goals as goal
 
 pub advance_by-requires-clause-clear : goal.advance_by-requires-clause-clear
 advance_by-requires-clause-clear g c = whole_clear c.args.reducts.now c.laws.ensures.sound
@@ -21,7 +21,7 @@ returns-clause-fits g c = by_fits c.args.reducts.now c.advance_by.new.cursor
 
 pub returns-clause-one : goal.returns-clause-one
 returns-clause-one g c = cursor_one c.args.reducts.now c.args.self.now c.advance_by.new.cursor
-    c.advance_by.new.answer c.advance_by.result c.advance_by.ensures.one
+    c.advance_by.new.cursor.answer c.advance_by.result c.advance_by.ensures.one
 
 pub returns-clause-same : goal.returns-clause-same
 returns-clause-same g c = cursor_same c.args.reducts.now c.args.self.now c.advance_by.new.cursor
@@ -34,7 +34,7 @@ returns-clause-answers g c = cursor_answers c.args.reducts.now c.advance_by.new.
 
 pub returns-clause-end : goal.returns-clause-end
 returns-clause-end g c =
-    cursor_end c.args.reducts.now c.args.self.now c.advance_by.new.cursor c.advance_by.new.answer
+    cursor_end c.args.reducts.now c.args.self.now c.advance_by.new.cursor c.advance_by.new.cursor.answer
     c.advance_by.result c.laws.ensures.sound
     (by_fits c.args.reducts.now c.advance_by.new.cursor c.advance_by.ensures.fits)
     c.advance_by.ensures.one c.advance_by.ensures.all

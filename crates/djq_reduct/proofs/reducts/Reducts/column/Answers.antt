@@ -1,0 +1,19 @@
+use Rattle.std.proofs.Common.{ℕ, List, ap, arith, ◌∙◌}
+use Rattle.djq_reduct.specs.Reducts.{Reducts}
+use Rattle.djq_reduct.specs.Columns.{column}
+use Rattle.djq_reduct.proofs.Heading.{place_read}
+use Rattle.djq_reduct.proofs.reducts.Reducts.column.Goals as goal
+
+pub returns-then-variable-len : goal.returns-then-variable-len
+returns-then-variable-len c =
+    let len = c.len.ensures in
+    let items = c.self.inside.places.ok.0 in
+    let test = c.if-variable-len.true in
+    c.index.ensures ∙ place_read c.self.inside.places.items c.self.inside.tree.head c.args.self.now.tree.head 64
+    c.args.variable c.index.result.now c.self.invariant.2
+    (ap (λ (r : Reducts). r.tree.head) c.self.view_is) (omega arith)
+
+pub returns : goal.returns
+returns c = c.column_of.ensures
+    ∙ ap (λ (F : List ℕ). column F c.args.variable)
+    (c.head.ensures ∙ ap (λ (r : Reducts). r.tree.head) c.self.view_is)
