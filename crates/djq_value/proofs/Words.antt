@@ -1,8 +1,10 @@
 -- Names and numbers, byte by byte.
-use Rattle.std.proofs.Common.{◌≡◌, ℕ, ◌+◌, ◌-◌, ◌*◌, ◌<◌, ◌≤◌, true, false, cond, ◌&&◌, [], ◌∷◌, ◌++◌, length, get_or, take, drop, min, Some, None, refl, sym, ap, ◌∙◌, arith}
+use Rattle.std.proofs.Common.{◌≡◌, ℕ, ◌+◌, ◌-◌, ◌*◌, ◌^◌, ◌<◌, ◌≤◌, true, false, cond, ◌&&◌, [], ◌∷◌, ◌++◌, length, get_or, take, drop, min, Some, None, refl, sym, ap, ◌∙◌, arith}
 use Rattle.std.specs.List.{list_all}
 use Rattle.std.proofs.lemmas.List.{take_more, take_rest, take_all}
 use Rattle.std.proofs.lemmas.List.Folds.{list_all_more}
+use Rattle.std.proofs.Math.Nat.{pow-le-pow_right}
+use Rattle.std.proofs.lemmas.Nat.{pow-add}
 use Rattle.std.proofs.lemmas.Bool.{cond-true, and_from, le-leb}
 use Rattle.djq_model.specs.Data.{Bytes}
 use Rattle.djq_value.specs.Literal.{is_digit, is_lower, is_name, digits_value, natural_of}
@@ -26,6 +28,14 @@ digits_value-push n (x ∷ xs) d = digits_value-push (n * 10 + (x - 48)) xs d
 
 pub digits_value-more : (ds : Bytes) (i : ℕ) → i < length ds → digits_value 0 (take (i + 1) ds) ≡ digits_value 0 (take i ds) * 10 + (get_or ds i 0 - 48)
 digits_value-more ds i h = ap (digits_value 0) (take_more ds i 0 h) ∙ digits_value-push 0 (take i ds) (get_or ds i 0)
+
+-- one more digit at a number that has so many
+pub small-step : (v d i : ℕ) → v < 10 ^ i → d ≤ 9 → v * 10 + d < 10 ^ (i + 1)
+small-step v d i h l = let e : 10 ^ (i + 1) ≡ 10 ^ i * 10 = pow-add 10 i 1 in omega (arith, h, l, e)
+
+-- a number of at most 18 digits
+pub below_18 : (v i : ℕ) → v < 10 ^ i → i ≤ 18 → v < 1000000000000000000
+below_18 v i h l = let most : 10 ^ i ≤ 1000000000000000000 = pow-le-pow_right {n = 10} (omega arith) {i = i} {j = 18} l in omega (arith, h, most)
 
 -- one more digit at a number that stops at the greatest
 pub capped-step : (n d v m w : ℕ) → v ≡ capped n → m ≡ min (v * 10) 18446744073709551615 → w ≡ min (m + d) 18446744073709551615 → w ≡ capped (n * 10 + d)

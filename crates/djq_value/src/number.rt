@@ -1,5 +1,5 @@
 // What number a word is.
-ghost use Rattle.std.specs.Prelude.{◌≡◌, Some, pos, option_map};
+ghost use Rattle.std.specs.Prelude.{◌≡◌, ◌<◌, ◌≤◌, Some, length, pos, option_map};
 ghost use Rattle.djq_value.specs.Literal.{integer_of, minus, natural_of};
 ghost use Rattle.djq_value.specs.Number.{capped, number_of};
 
@@ -20,8 +20,35 @@ pub fn read_natural(digits: &[u8]) -> Option<u64>
     ensures { result ≡ option_map capped (natural_of digits.now) }
 {
     if digits.is_empty() {
-        return None;
+        None
+    } else if digits.len() <= 18 {
+        read_short(digits)
+    } else {
+        read_long(digits)
     }
+}
+
+// Of so few digits: 18 can't go past 64 bits.
+fn read_short(digits: &[u8]) -> Option<u64>
+    requires some { 0 < length digits.now }
+    requires few { length digits.now ≤ 18 }
+    ensures { result ≡ option_map capped (natural_of digits.now) }
+{
+    let mut value: u64 = 0;
+    for digit in digits {
+        if *digit < b'0' || *digit > b'9' {
+            return None;
+        }
+        value = value * 10 + (*digit - b'0') as u64;
+    }
+    Some(value)
+}
+
+// Of any number of digits.
+fn read_long(digits: &[u8]) -> Option<u64>
+    requires { 0 < length digits.now }
+    ensures { result ≡ option_map capped (natural_of digits.now) }
+{
     let mut value: u64 = 0;
     for digit in digits {
         if *digit < b'0' || *digit > b'9' {

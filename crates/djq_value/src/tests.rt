@@ -51,8 +51,10 @@ fn quoted(alloc: Global, count: usize) -> Result<Vec<u8>, AllocError> {
 #[test]
 fn values_are_read_back_as_printed(rt: HostRuntime) -> Result<(), Fail> {
     let long = quoted(rt.alloc(), 255)?;
-    let cases: [&[u8]; 9] = [
+    let cases: [&[u8]; 11] = [
         b"-9223372036854775808",
+        b"-999999999999999999",
+        b"1000000000000000000",
         b"-1",
         b"0",
         b"9223372036854775807",

@@ -2,7 +2,7 @@ use Rattle.std.proofs.Common.{◌≡◌, take, true}
 use Rattle.std.specs.List.{list_all}
 use Rattle.djq_value.specs.Literal.{is_digit, digits_value}
 use Rattle.djq_value.specs.Number.{capped}
-use Rattle.djq_value.proofs.number.read_natural.Given as goal
+use Rattle.djq_value.proofs.number.read_long.Given as goal
 
 abbrev pub invariant-loop-digit : goal.invariant-loop-digit
 invariant-loop-digit l = record {

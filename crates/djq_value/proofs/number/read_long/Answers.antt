@@ -1,8 +1,7 @@
 use Rattle.std.proofs.Common.{◌∙◌, sym, ap, arith, option_map, Some}
-use Rattle.std.proofs.lemmas.Bool.{eqb-false}
 use Rattle.djq_value.specs.Number.{capped}
 use Rattle.djq_value.proofs.Words.{digits-more, digits_value-more, capped-step, natural_of-digits}
-use Rattle.djq_value.proofs.number.read_natural.Goals as goal
+use Rattle.djq_value.proofs.number.read_long.Goals as goal
 
 pub loop-digit-preserved : goal.loop-digit-preserved
 loop-digit-preserved c =
@@ -18,5 +17,4 @@ pub returns : goal.returns
 returns c =
     let ds = c.args.digits.now in
     let i = c.loop-digit.digit-index in
-    let some = eqb-false _ 0 (sym c.is_empty.ensures ∙ c.if-is_empty.false) in
-    ap Some c.loop-digit.invariant.value ∙ sym (ap (option_map capped) (natural_of-digits ds i (omega (arith, some)) (omega arith) c.loop-digit.invariant.digits))
+    ap Some c.loop-digit.invariant.value ∙ sym (ap (option_map capped) (natural_of-digits ds i c.requires (omega arith) c.loop-digit.invariant.digits))

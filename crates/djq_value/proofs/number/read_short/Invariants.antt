@@ -1,0 +1,11 @@
+use Rattle.std.proofs.Common.{◌≡◌, ◌<◌, ◌^◌, take, true}
+use Rattle.std.specs.List.{list_all}
+use Rattle.djq_value.specs.Literal.{is_digit, digits_value}
+use Rattle.djq_value.proofs.number.read_short.Given as goal
+
+abbrev pub invariant-loop-digit : goal.invariant-loop-digit
+invariant-loop-digit l = record {
+  digits : list_all is_digit (take l.digit-index l.digits) ≡ true;
+  value : l.value ≡ digits_value 0 (take l.digit-index l.digits);
+  small : l.value < 10 ^ l.digit-index;
+}
