@@ -28,7 +28,7 @@ use crate::lookup::{column_at, has_cells, suits_head};
 use djq_cursor::Cursor;
 use djq_lines::Refusal;
 use djq_model::{Lent, Name, NoMem, Value};
-use djq_reduct::{Answer, column_of};
+use djq_reduct::Answer;
 use djq_rows::Catalog;
 use djq_steps::{Ledgers, Listing, Tally};
 
@@ -183,7 +183,7 @@ impl LiveQuery {
         self.numbered.within();
         let variable = self.numbered.head()[at];
         let column = column_at(self.numbered.variables(), variable);
-        let cell = answer.as_slice()[column_of(self.reducts.tree().head(), variable)];
+        let cell = answer.as_slice()[self.reducts.column(variable)];
         catalog.value(column, cell)
     }
 }

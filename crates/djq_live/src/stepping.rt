@@ -32,7 +32,7 @@ use djq_propagate::{
     add_leaf, drop_leaf, finish_insertion, finish_removal, insert_leaf, mark_removal,
 };
 use djq_query::{NumberedAtom, Pattern};
-use djq_reduct::{Answer, Reducts};
+use djq_reduct::Reducts;
 use djq_steps::{Ledgers, Steps, Tally};
 use std::sync::ledger::Ledger;
 
@@ -53,9 +53,8 @@ fn list_changes<L: Ledger>(
     changes_are(reducts, leaf);
     reducts.laws();
     let mut cursor = DeltaCursor::start(leaf);
-    let mut answer = Answer::new(0);
-    'answers: while cursor.advance(reducts, &mut answer, listing) {
-        log.push(came, &answer);
+    'answers: while cursor.step(reducts, listing) {
+        log.push(came, &cursor.cursor.answer);
     }
 }
 

@@ -12,28 +12,28 @@ use Rattle.djq_live.proofs.stepping.list_changes.Goals as goal
 
 pub answers-smaller : goal.answers-smaller
 answers-smaller g c = told_fewer c.args.reducts.now c.args.leaf
-    (told c.args.reducts.now c.answers.cursor) (told c.args.reducts.now c.advance.new.self)
-    c.advance.new.answer c.laws.ensures.sound c.requires.leaf c.requires.marks
+    (told c.args.reducts.now c.answers.cursor) (told c.args.reducts.now c.step.new.self)
+    (c.step.new.self.cursor).answer c.laws.ensures.sound c.requires.leaf c.requires.marks
     c.answers-test.ensures.one
     (subst (λ (a : ℕ). AreSome (IsChanged c.args.reducts.now a) (told c.args.reducts.now
-    c.advance.new.self))
-    c.answers.invariant.leaf c.advance.ensures.answers)
+    c.step.new.self))
+    c.answers.invariant.leaf c.step.ensures.answers)
 
 pub answers-preserved : goal.answers-preserved
 answers-preserved g c = record {
-  leaf = c.advance.ensures.leaf ∙ c.answers.invariant.leaf;
-  fits = c.advance.ensures.fits;
+  leaf = c.step.ensures.leaf ∙ c.answers.invariant.leaf;
+  fits = c.step.ensures.fits;
   tells = subst (λ (us : List (List ℕ)). TellsOf c.args.came us c.args.log.now c.push.new.self)
       (sym c.answers-test.ensures.one)
       (tells_both c.args.came (told c.args.reducts.now c.answers.cursor)
-      (c.advance.new.answer ∷ []) c.args.log.now c.answers.log c.push.new.self
+      ((c.step.new.self.cursor).answer ∷ []) c.args.log.now c.answers.log c.push.new.self
       c.answers.invariant.tells
-      (tells_one c.args.came c.advance.new.answer c.answers.log c.push.new.self c.push.ensures.kept
+      (tells_one c.args.came (c.step.new.self.cursor).answer c.answers.log c.push.new.self c.push.ensures.kept
       c.push.ensures.lost));
-  counted = counts_more c.args.listing.now c.answers.listing c.advance.new.listing
-      (told c.args.reducts.now c.answers.cursor) (told c.args.reducts.now c.advance.new.self)
-      c.advance.new.answer (most_steps (length c.args.reducts.now.tree.head))
-      c.answers-test.ensures.one c.answers.invariant.counted c.advance.ensures.counted;
+  counted = counts_more c.args.listing.now c.answers.listing c.step.new.listing
+      (told c.args.reducts.now c.answers.cursor) (told c.args.reducts.now c.step.new.self)
+      (c.step.new.self.cursor).answer (most_steps (length c.args.reducts.now.tree.head))
+      c.answers-test.ensures.one c.answers.invariant.counted c.step.ensures.counted;
 }
 
 pub returns : goal.returns
@@ -44,10 +44,10 @@ returns g c = λ small sound without. record {
       (c.changes_are.ensures small sound without)
       (subst (λ (a : ℕ). IsListing (IsChanged c.args.reducts.now a)
       (told c.args.reducts.now c.answers.cursor)) c.answers.invariant.leaf
-      (c.advance.ensures.end.0 c.answers-test.false));
+      (c.step.ensures.end.0 c.answers-test.false));
   tells = c.answers.invariant.tells;
-  counted = counts_one c.args.listing.now c.answers.listing c.advance.new.listing
+  counted = counts_one c.args.listing.now c.answers.listing c.step.new.listing
       (length (told c.args.reducts.now c.answers.cursor))
       (most_steps (length c.args.reducts.now.tree.head))
-      c.answers.invariant.counted c.advance.ensures.counted;
+      c.answers.invariant.counted c.step.ensures.counted;
 }
