@@ -1,5 +1,12 @@
-use Rattle.std.proofs.Common.{◌∙◌, refl, sym, ap, ap₂, ℕ, List, length}
+use Rattle.std.proofs.Common.{◌∙◌, ◌<◌, None, Some, refl, sym, ap, ap₂, subst, arith, ℕ, List, length}
+use Rattle.std.proofs.lemmas.List.{get_or-set_same, get_or-set_other, length-set}
 use Rattle.std.specs.Prelude.{remove}
+use Rattle.djq_model.specs.declared.query.Query.{Query}
+use Rattle.djq_cursor.specs.Log.{Log}
+use Rattle.djq_live.specs.Updating.{IsEmpty}
+use Rattle.djq_engine.specs.Places.{no_log}
+use Rattle.djq_engine.specs.Placing.{JoinsReaders}
+use Rattle.djq_engine.proofs.Lists.{logs_cleared}
 use Rattle.djq_engine.proofs.Enrolling.{lists_once, lists_without, joined_once, joined_left}
 use Rattle.djq_engine.proofs.Unseating.{remove_last, last_place}
 use Rattle.djq_engine.proofs.registering.register.Goals as goal
@@ -35,4 +42,35 @@ returns-in-Err-join_readers-clause-err c =
       changed = refl;
       watched = c.vacant_place.ensures.watched;
       logged = c.vacant_place.ensures.logged;
+    }
+
+-- the context is too long for `search` to find the parts of what is registered
+pub returns-in-Ok-join_readers-clause-ok : goal.returns-in-Ok-join_readers-clause-ok
+returns-in-Ok-join_readers-clause-ok c =
+    let at = c.in-Ok.at in
+    let gs = c.vacant_place.new.queries.items in
+    let ws = c.vacant_place.new.watchers.items in
+    let ls = c.vacant_place.new.logs.items in
+    let q = c.args.query in
+    record {
+      place = at;
+      vacant = sym (c.in-Ok.ensures.same at) ∙ c.in-Ok.ensures.vacant;
+      here = get_or-set_same gs at (Some q) None c.in-Ok.ensures.place;
+      others = λ i d. get_or-set_other gs at i (Some q) None d ∙ c.in-Ok.ensures.same i;
+      last = c.in-Ok-push.ensures.ok;
+      readers = subst (λ (x : Query). JoinsReaders (c.args.parts.now.catalog).relations x at
+          c.args.parts.now.readers.items c.join_readers.new.lists.items) c.query-2.ensures
+          c.in-Ok-join_readers.ensures.ok;
+      catalog = refl;
+      seq = refl;
+      unwatched = get_or-set_same ws at 0 0 (omega (arith, c.in-Ok.ensures.place, c.in-Ok.ensures.watched));
+      watchers = λ i d. get_or-set_other ws at i 0 0 d ∙ c.in-Ok.ensures.watchers i;
+      empty = subst (λ (x : Log). IsEmpty x)
+          (sym (get_or-set_same ls at c.clear.new.self no_log (omega (arith, c.in-Ok.ensures.place, c.in-Ok.ensures.logged))))
+          (record { lines = c.clear.ensures.lines; kept = c.clear.ensures.kept });
+      logs = logs_cleared c.args.parts.now.queries.items c.args.parts.now.logs.items ls at c.clear.new.self
+          (sym (c.in-Ok.ensures.same at) ∙ c.in-Ok.ensures.vacant) c.in-Ok.ensures.logs;
+      changed = refl;
+      watched = length-set ws at 0 ∙ c.in-Ok.ensures.watched ∙ sym (length-set gs at (Some q));
+      logged = length-set ls at c.clear.new.self ∙ c.in-Ok.ensures.logged ∙ sym (length-set gs at (Some q));
     }
