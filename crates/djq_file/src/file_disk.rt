@@ -55,7 +55,11 @@ fn sync_folder<R: Files<File = fs::File>>(rt: &R, path: &str) -> io::Result<()> 
         Some(folder) => folder,
         None => Path::new("/"),
     };
-    let folder = if folder == Path::new("") { Path::new(".") } else { folder };
+    let folder = if folder == Path::new("") {
+        Path::new(".")
+    } else {
+        folder
+    };
     OpenOptions::new().read(true).open(rt, folder)?.sync_all()
 }
 

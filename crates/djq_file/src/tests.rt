@@ -7,7 +7,9 @@ use std::{env, fs, process};
 #[test]
 fn a_file_is_written_and_read_by_one_at_a_time(rt: HostRuntime) -> Result<(), Fail> {
     let name = format!(in rt.alloc(); "djq-file-{}", process::id(rt.process()))?;
-    let path = env::temp_dir(&rt)?.join(rt.alloc(), name.as_str())?.into_string();
+    let path = env::temp_dir(&rt)?
+        .join(rt.alloc(), name.as_str())?
+        .into_string();
     let mut disk = FileDisk::new(rt);
     assert_eq!(rt; disk.sync(), DiskDid::Failed, "no file is open");
     assert_eq!(rt; disk.open(path.as_str()), DiskOpen::Ready);

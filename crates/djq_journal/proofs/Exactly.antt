@@ -1,15 +1,13 @@
 -- Each answer comes exactly where its cause holds.
-use Rattle.std.proofs.Common.{◌≡◌, ◌≢◌, ◌↔◌, ℕ, ◌+◌, List, [], ◌∷◌, ◌++◌, length, take, drop, refl, sym, ap, ap₂, subst, ◌∙◌, arith, append_assoc, append-nil}
-use Rattle.std.specs.List.{flat_map, AllByRecursion}
+use Rattle.std.proofs.Common.{◌≡◌, ℕ, List, [], ◌∷◌, ◌++◌, take, drop, refl, sym, ap, ap₂, subst, ◌∙◌, append_assoc, append-nil}
+use Rattle.std.specs.List.{AllByRecursion}
 use Rattle.std.proofs.Math.Seq.{drop-append_seam}
-use Rattle.djq_disk.specs.File.{File, settled}
-use Rattle.djq_disk.specs.History.{History, moved_to}
-use Rattle.djq_journal.specs.Format.{header, IsLine, record_of, front, IsEnd, IsRecord, IsBad}
+use Rattle.djq_disk.specs.File.{File}
+use Rattle.djq_disk.specs.History.{History}
+use Rattle.djq_journal.specs.Format.{IsLine, record_of, front, IsEnd, IsRecord}
 use Rattle.djq_journal.specs.Standing.{IsAt, IsIdle}
-use Rattle.djq_journal.specs.Calls.{Opens, Reads, OpensExactly, ReadsExactly}
-use Rattle.djq_journal.specs.declared.journal.Opened.{Opened}
+use Rattle.djq_journal.specs.Calls.{OpensExactly, ReadsExactly}
 use Rattle.djq_journal.specs.declared.journal.Opened.TheVariants.{Ready, BadLog, Failed as Unopened}
-use Rattle.djq_journal.specs.declared.line.Line.{Line}
 use Rattle.djq_journal.specs.declared.line.Line.TheVariants.{Got, End, BadLog as BadLine, Failed as Unread}
 use Rattle.djq_journal.proofs.Fronts.{front_more}
 use Rattle.djq_journal.proofs.Once.{one_of_three}

@@ -1,6 +1,5 @@
 -- What is found in a file: a journal that was made, one that is opened, its next line.
-use Rattle.std.proofs.Common.{◌≡◌, ℕ, ◌+◌, ◌/◌, ◌%◌, ◌<◌, ◌≤◌, List, [], ◌∷◌, ◌++◌, length, take, drop, refl, sym, ap, ap₂, subst, ◌∙◌, arith, append_assoc, append-nil, length-append, length-take}
-use Rattle.std.specs.List.{flat_map, AllByRecursion}
+use Rattle.std.proofs.Common.{◌≡◌, ℕ, ◌+◌, ◌/◌, ◌%◌, ◌≤◌, List, [], ◌∷◌, ◌++◌, length, take, drop, refl, sym, ap, ap₂, subst, ◌∙◌, arith, append_assoc, append-nil, length-append}
 use Rattle.std.proofs.Math.Seq.{drop-append_seam, drop-drop}
 use Rattle.std.proofs.lemmas.List.{take-append-drop}
 use Rattle.djq_disk.specs.File.{File, IsSettled, settled, put}
@@ -11,7 +10,7 @@ use Rattle.djq_disk.specs.declared.disk.DiskDid.TheVariants.{Done}
 use Rattle.djq_disk.specs.declared.filling.Filled.TheVariants.{Whole}
 use Rattle.djq_disk.proofs.Keeping.{all_append}
 use Rattle.djq_journal.specs.Format.{header, IsLine, record_of, front}
-use Rattle.djq_journal.specs.Standing.{IsAt, IsIdle}
+use Rattle.djq_journal.specs.Standing.{IsAt}
 use Rattle.djq_journal.specs.Calls.{Makes, Opens}
 use Rattle.djq_journal.specs.declared.journal.Made.TheVariants.{Done as Made}
 use Rattle.djq_journal.specs.declared.journal.Opened.TheVariants.{Ready}

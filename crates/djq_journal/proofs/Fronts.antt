@@ -1,10 +1,10 @@
 -- Lists of bytes that begin alike, and the records of lines.
-use Rattle.std.proofs.Common.{◌≡◌, ◌≢◌, ℕ, suc, ◌+◌, ◌-◌, ◌<◌, ◌≤◌, inl, inr, List, [], ◌∷◌, ◌++◌, length, take, drop, get_or, replicate, refl, sym, ap, ap₂, ◌∙◌, arith, append_assoc, append-nil, length-append, length-take, length-drop}
-use Rattle.std.specs.List.{flat_map, AllByRecursion}
-use Rattle.std.proofs.Math.Seq.{take-append_seam, take-append-add, drop-append_seam, drop-append-add, drop-cons, drop-drop}
+use Rattle.std.proofs.Common.{◌≡◌, ℕ, suc, ◌+◌, ◌-◌, ◌<◌, ◌≤◌, inl, inr, List, [], ◌∷◌, ◌++◌, length, take, drop, get_or, replicate, sym, ap, ap₂, ◌∙◌, arith, append_assoc, append-nil, length-append, length-take, length-drop}
+use Rattle.std.specs.List.{flat_map}
+use Rattle.std.proofs.Math.Seq.{take-append_seam, drop-append-add, drop-cons, drop-drop}
 use Rattle.std.proofs.lemmas.List.{ext_get_or, take-append-drop, drop-append-le, get_or-take, get_or-drop}
 use Rattle.std.proofs.lemmas.Grind.{flat_map-append}
-use Rattle.djq_disk.specs.File.{Span, Keeps, put}
+use Rattle.djq_disk.specs.File.{Keeps, put}
 use Rattle.djq_journal.specs.Format.{header, body_of, record_of, front}
 use Rattle.djq_journal.specs.Staging.{behind_gate}
 

@@ -1,16 +1,14 @@
 -- Groups that are kept one after another.
-use Rattle.std.proofs.Common.{◌≡◌, ℕ, ◌+◌, ◌≤◌, inl, inr, List, [], ◌∷◌, ◌++◌, length, refl, sym, ap, subst, ◌∙◌, arith, append_assoc, append-nil, length-append}
-use Rattle.std.specs.List.{flat_map}
+use Rattle.std.proofs.Common.{◌≡◌, ℕ, ◌≤◌, inl, inr, List, [], ◌∷◌, ◌++◌, length, refl, sym, ap, subst, ◌∙◌, arith, append_assoc, append-nil, length-append}
 use Rattle.std.proofs.lemmas.Grind.{flat_map-append}
-use Rattle.djq_disk.specs.File.{File, IsImage}
+use Rattle.djq_disk.specs.File.{File}
 use Rattle.djq_disk.specs.History.{History}
 use Rattle.djq_disk.specs.Leaving.{LeavesOnly, LeavesSince}
 use Rattle.djq_disk.proofs.Keeping.{leaves_none, leaves_more, leaves_so}
 use Rattle.djq_journal.specs.Format.{OpensTo}
 use Rattle.djq_journal.specs.Standing.{IsIdle}
-use Rattle.djq_journal.specs.Appending.{IsBeforeOrAfter, Appends}
-use Rattle.djq_journal.specs.Keeping.{lines_in, OpensWithin, IsKeeping, WasKeeping, AppendsKeep, KeepsOn}
-use Rattle.djq_journal.specs.declared.journal.Appended.TheVariants.{Done, Failed, Full}
+use Rattle.djq_journal.specs.Appending.{IsBeforeOrAfter}
+use Rattle.djq_journal.specs.Keeping.{lines_in, OpensWithin, IsKeeping, KeepsOn}
 use Rattle.djq_journal.proofs.Lasting.{idle_lasts}
 
 -- the lines of some groups and one more

@@ -1,5 +1,5 @@
 -- An idle journal outlives a stop.
-use Rattle.std.proofs.Common.{◌≡◌, ℕ, suc, List, length}
+use Rattle.std.proofs.Common.{ℕ, suc, List}
 use Rattle.djq_disk.specs.File.{File, IsImage}
 use Rattle.djq_journal.specs.Format.{OpensTo}
 use Rattle.djq_journal.specs.Standing.{IsIdle}

@@ -1,15 +1,13 @@
 -- Lines that a log keeps.
-use Rattle.std.proofs.Common.{◌≡◌, ℕ, ◌+◌, ◌<◌, ◌≤◌, List, [], ◌∷◌, ◌++◌, length, refl, sym, subst, arith, append-nil}
+use Rattle.std.proofs.Common.{◌≡◌, ℕ, ◌<◌, ◌≤◌, List, [], ◌∷◌, ◌++◌, length, refl, sym, subst, arith, append-nil}
 use Rattle.std.specs.Prelude.{Option, None, Some, slice_get}
 use Rattle.djq_disk.specs.History.{History, WhereTold}
 use Rattle.djq_journal.specs.Standing.{IsIdle}
-use Rattle.djq_journal.specs.Appending.{Appends, HasRoom, gate_after}
-use Rattle.djq_journal.specs.Keeping.{lines_in, IsKeeping, WasKeeping}
-use Rattle.djq_journal.specs.Logging.{grouped, HasKept, HasLost, Keeps, Overfull, FillsLog}
-use Rattle.djq_journal.specs.declared.journal.Appended.{Appended}
+use Rattle.djq_journal.specs.Appending.{Appends, gate_after}
+use Rattle.djq_journal.specs.Keeping.{lines_in, IsKeeping}
+use Rattle.djq_journal.specs.Logging.{grouped, HasKept, Keeps, Overfull}
 use Rattle.djq_journal.specs.declared.journal.Appended.TheVariants.{Done, Failed as Unappended, Full as Overflows}
 use Rattle.djq_journal.specs.declared.limits.TheConstants.{LAST_GATE}
-use Rattle.djq_journal.specs.declared.log.Kept.{Kept}
 use Rattle.djq_journal.specs.declared.log.Kept.TheVariants.{All, Failed, Full}
 use Rattle.djq_journal.proofs.Going.{keeps_on}
 

@@ -1,10 +1,10 @@
 -- A file opens to one list of lines, and a place is one thing.
-use Rattle.std.proofs.Common.{◌≡◌, ◌≢◌, ℕ, suc, ◌+◌, ◌*◌, ◌/◌, ◌%◌, ◌<◌, ◌≤◌, inl, inr, List, [], ◌∷◌, ◌++◌, length, take, drop, get_or, refl, sym, ap, ap₂, subst, ◌∙◌, arith, append_assoc, length-append}
-use Rattle.std.specs.List.{flat_map, AllByRecursion}
+use Rattle.std.proofs.Common.{◌≡◌, ◌≢◌, ℕ, ◌+◌, ◌*◌, ◌/◌, ◌%◌, inl, inr, List, [], ◌∷◌, ◌++◌, length, take, drop, get_or, refl, sym, ap, ap₂, subst, ◌∙◌, arith, append_assoc, length-append}
+use Rattle.std.specs.List.{flat_map}
 use Rattle.std.proofs.Math.Nat.{div-add-mod}
 use Rattle.std.proofs.Math.Seq.{take-append_seam}
 use Rattle.std.proofs.lemmas.List.{append_cancel_left}
-use Rattle.djq_journal.specs.Format.{IsLine, body_of, record_of, front, OpensTo, IsEnd, IsRecord, IsBad, OneOfThree}
+use Rattle.djq_journal.specs.Format.{IsLine, body_of, record_of, OpensTo, IsEnd, IsBad, OneOfThree}
 
 head_same : (a b : ℕ) (xs ys : List ℕ) → a ∷ xs ≡ b ∷ ys → a ≡ b
 head_same a b xs ys e = ap (λ (zs : List ℕ). get_or zs 0 0) e

@@ -1,11 +1,11 @@
 -- A group that is appended: its records behind the closed gate, and then the gate.
-use Rattle.std.proofs.Common.{◌≡◌, ◌≢◌, ℕ, zero, suc, ◌+◌, ◌<◌, ◌≤◌, ◌⊎◌, inl, inr, List, [], ◌∷◌, ◌++◌, length, take, drop, get_or, refl, sym, ap, ap₂, subst, ◌∙◌, arith, append_assoc, length-append, length-take}
+use Rattle.std.proofs.Common.{◌≡◌, ℕ, zero, suc, ◌≤◌, inl, inr, List, [], ◌∷◌, ◌++◌, length, take, drop, get_or, refl, sym, ap, ap₂, subst, ◌∙◌, arith, append_assoc, length-append, length-take}
 use Rattle.std.specs.List.{flat_map, AllByRecursion}
 use Rattle.std.proofs.Math.Seq.{take-append_seam, drop-append_seam}
 use Rattle.std.proofs.lemmas.List.{take-append-drop}
 use Rattle.djq_disk.specs.File.{Span, File, IsSettled, settled, with_written, put, Keeps}
 use Rattle.djq_disk.specs.History.{History, moved_to, Writes, Syncs}
-use Rattle.djq_disk.specs.Leaving.{LeavesOnly, LeavesSince}
+use Rattle.djq_disk.specs.Leaving.{LeavesSince}
 use Rattle.djq_disk.specs.WritingDown.{WritesDown}
 use Rattle.djq_disk.specs.declared.disk.DiskDid.{DiskDid}
 use Rattle.djq_disk.specs.declared.disk.DiskDid.TheVariants.{Done, Failed}
@@ -15,7 +15,7 @@ use Rattle.djq_journal.specs.Standing.{IsIdle}
 use Rattle.djq_journal.specs.Appending.{gate_after, IsBeforeOrAfter}
 use Rattle.djq_journal.specs.Staging.{IsFirm, behind_gate, Stages, IsStaged, AppendsAt}
 use Rattle.djq_journal.proofs.Fronts.{put_there, put_one, kept_around, front_more, behind_more, length_behind, opened_gate}
-use Rattle.djq_journal.proofs.Firm.{firm_long, firm_settled, firm_written, firm_synced, firm_left, firm_leaves, gate_within}
+use Rattle.djq_journal.proofs.Firm.{firm_long, firm_settled, firm_written, firm_synced, firm_leaves, gate_within}
 
 -- nothing is written yet
 pub staged_none : (lines : List (List ℕ)) (gate next : ℕ) (h : History) → IsIdle lines gate h.file → Stages lines [] gate next h h

@@ -1,5 +1,5 @@
 -- What the calls of a journal that make, open and read it answer, and what they make of the disk.
-use Rattle.std.specs.Prelude.{◌≡◌, ◌≢◌, ◌↔◌, ℕ, ◌≤◌, ◌⊎◌, List, [], ◌∷◌, ◌++◌, length, take, drop}
+use Rattle.std.specs.Prelude.{◌≡◌, ◌≢◌, ◌↔◌, ℕ, ◌≤◌, ◌⊎◌, List, [], ◌∷◌, ◌++◌, take, drop}
 use Rattle.djq_io.specs.Faults.{Counted}
 use Rattle.djq_disk.specs.File.{File, settled}
 use Rattle.djq_disk.specs.History.{History, moved_to}

@@ -1,6 +1,5 @@
-use Rattle.std.proofs.Common.{◌≡◌, inl, [], ◌∷◌}
+use Rattle.std.proofs.Common.{inl, [], ◌∷◌}
 use Rattle.djq_disk.specs.History.{History, Syncs}
-use Rattle.djq_disk.specs.Leaving.{LeavesSince}
 use Rattle.djq_disk.specs.WritingDown.{WritesDown}
 use Rattle.djq_disk.specs.declared.disk.DiskDid.TheVariants.{Done, Failed}
 use Rattle.djq_disk.proofs.Telling.{told_so, told_both}

@@ -1,4 +1,4 @@
-use Rattle.std.proofs.Common.{rules, ◌≡◌, ℕ, suc, ◌+◌, ◌<◌, ◌≤◌, [], ◌∷◌, ◌++◌, length, take, drop, sym, subst, ap, ◌∙◌, arith}
+use Rattle.std.proofs.Common.{rules, ◌+◌, [], ◌∷◌, ◌++◌, take, drop, sym, subst, ◌∙◌, arith}
 use Rattle.std.proofs.lemmas.Option.{slice_get_within}
 use Rattle.djq_disk.specs.History.{Writes}
 use Rattle.djq_disk.specs.Leaving.{LeavesSince}
@@ -6,7 +6,6 @@ use Rattle.djq_disk.specs.declared.disk.DiskDid.TheVariants.{Done, Failed}
 use Rattle.djq_disk.proofs.Telling.{told_none, told_so, told_both}
 use Rattle.djq_journal.specs.Format.{body_of, OpensTo}
 use Rattle.djq_journal.specs.Standing.{IsIdle}
-use Rattle.djq_journal.specs.Appending.{gate_after}
 use Rattle.djq_journal.specs.Staging.{gate_before, Stages}
 use Rattle.djq_journal.proofs.Staged.{staged_none, staged_write}
 use Rattle.djq_journal.proofs.Groups.{line_at, gate_next, gate_most, past_lines, staged_line}
