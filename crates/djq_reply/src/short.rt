@@ -1,5 +1,6 @@
 // Replies of at most 256 bytes, in room that was kept.
-ghost use Rattle.std.specs.Prelude.{◌≡◌, ◌+◌, ◌≤◌, codes, length};
+ghost use Rattle.std.specs.Prelude.{◌≡◌, ◌+◌, ◌<◌, ◌≤◌, ◌++◌, codes, length};
+ghost use Rattle.std.specs.Fmt.{decimal};
 ghost use Rattle.djq_lines.specs.Reply.{add_reply, bye, delete_reply, has_reply, line, numbered};
 ghost use Rattle.djq_lines.specs.Reply.{numbered_twice, ok_reply, refusal_line, shape_reply};
 ghost use Rattle.djq_lines.specs.Reply.{stale_line, watch_reply};
@@ -21,16 +22,35 @@ pub(crate) fn say(out: &mut BytesMut, words: &[u8])
     out.extend_reserved(b"\n");
 }
 
-// A line of words and a number, which has 20 digits at most.
+// Words, a number of 20 digits at most, and what stands behind it.
 #[tactic(auto, using(crate::proofs::Digits::few_digits))]
+fn say_digits(out: &mut BytesMut, words: &[u8], number: u64, behind: &[u8])
+    requires { length words.now + 20 + length behind.now + LAST_LINE_BYTES ≤ out.old.spare }
+    ensures kept { LAST_LINE_BYTES ≤ out.new.spare }
+    ensures says { Says out.old out.new (words.now ++ decimal number ++ behind.now) }
+{
+    out.extend_reserved(words);
+    extend_digits(number, digit_count(number), out);
+    out.extend_reserved(behind);
+}
+
+// A line of words and a number.
 pub(crate) fn say_number(out: &mut BytesMut, words: &[u8], number: u64)
     requires { length words.now + 21 + LAST_LINE_BYTES ≤ out.old.spare }
     ensures kept { LAST_LINE_BYTES ≤ out.new.spare }
     ensures says { Says out.old out.new (numbered words.now number) }
 {
-    out.extend_reserved(words);
-    extend_digits(number, digit_count(number), out);
-    out.extend_reserved(b"\n");
+    say_digits(out, words, number, b"\n");
+}
+
+// A line of words, a number and one of a single digit.
+fn say_with_digit(out: &mut BytesMut, words: &[u8], number: u64, digit: u8)
+    requires room { length words.now + 23 + LAST_LINE_BYTES ≤ out.old.spare }
+    requires digit { digit < 10 }
+    ensures kept { LAST_LINE_BYTES ≤ out.new.spare }
+    ensures says { Says out.old out.new (numbered_twice words.now number digit) }
+{
+    say_digits(out, words, number, &[b' ', b'0' + digit, b'\n']);
 }
 
 // A line of words and two numbers, each of 20 digits at most.
@@ -85,7 +105,7 @@ pub fn say_added(out: &mut BytesMut, outcome: Result<AddOutcome, Refusal>, seq: 
     ensures says { Says out.old out.new (add_reply outcome seq) }
 {
     match outcome {
-        Ok(AddOutcome::First) => say_two_numbers(out, b"ok added ", seq, 1),
+        Ok(AddOutcome::First) => say_with_digit(out, b"ok added ", seq, 1),
         Ok(AddOutcome::More(copies)) => say_two_numbers(out, b"ok added ", seq, copies),
         Err(refusal) => say_refused(out, refusal),
     }
@@ -98,7 +118,7 @@ pub fn say_deleted(out: &mut BytesMut, outcome: Result<DeleteOutcome, Refusal>, 
     ensures says { Says out.old out.new (delete_reply outcome seq) }
 {
     match outcome {
-        Ok(DeleteOutcome::Last) => say_two_numbers(out, b"ok removed ", seq, 0),
+        Ok(DeleteOutcome::Last) => say_with_digit(out, b"ok removed ", seq, 0),
         Ok(DeleteOutcome::Left(copies)) => say_two_numbers(out, b"ok removed ", seq, copies),
         Ok(DeleteOutcome::Absent) => say_number(out, b"ok absent ", seq),
         Err(refusal) => say_refused(out, refusal),

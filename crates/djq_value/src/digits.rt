@@ -7,6 +7,7 @@ use bytes::BytesMut;
 use itoa::write_digits;
 
 /// How many digits a number has.
+#[inline]
 pub fn digit_count(number: u64) -> usize
     ensures value { result ≡ length (decimal number) }
     ensures few { result ≤ 20 }
@@ -35,6 +36,7 @@ fn short_count(number: u64) -> usize
 }
 
 /// Appends the digits of a number, of which there are so many, in the room that there is.
+#[inline]
 pub fn extend_digits(number: u64, count: usize, out: &mut BytesMut)
     requires count { count ≡ length (decimal number) }
     requires room { count ≤ out.old.spare }
