@@ -10,16 +10,17 @@ use Rattle.djq_io.specs.declared.hub.Told.{Told}
 use Rattle.djq_io.specs.declared.hub.Told.TheVariants.{Turning, Closing}
 use Rattle.djq_model.specs.Data.{Bytes}
 use Rattle.djq_machine.specs.State.{State}
+use Rattle.djq_machine.specs.Keeping.{Keeping}
 use Rattle.djq_machine.specs.LineStep.{LineOutcome, long, blank, slow, no_room, run}
 use Rattle.djq_machine.specs.Step.{Event, took, closed}
-use Rattle.djq_machine.specs.Run.{Did, Walk, pending_of}
+use Rattle.djq_machine.specs.Run.{Did, Group, Walk, pending_of}
 use Rattle.djq_machine.specs.Call.{first_due}
 use Rattle.djq_laws.proofs.Finding.{some_and}
 use Rattle.djq_laws.proofs.Stopping.{IsNoLine, step_stopped}
 use Rattle.djq_serve.specs.declared.served.Served.{Served}
-use Rattle.djq_serve.specs.declared.served.Served.TheVariants.{Stopped, TurnsUsed, HubFault}
+use Rattle.djq_serve.specs.declared.served.Served.TheVariants.{Stopped, Over, TurnsUsed, HubFault, DiskFault, LogFull}
 use Rattle.djq_serve.specs.Told.{by_turn, turn_is_over, turn_is_failed, has_over, has_failed}
-use Rattle.djq_serve.specs.Server.{Next, more_lines, next_turn, no_turn, Phase, waiting, lines, flushing, closing, Server, server, Move, all_told, Happens, Stays, LetsIn, Brings, may_run, behind_front, SendsSome, Leaves, Visits, after, first_open, Passes, LinesAt, FlushesAt, ServesAt, Serves}
+use Rattle.djq_serve.specs.Server.{Next, more_lines, next_turn, no_turn, Phase, waiting, lines, keeping, flushing, closing, Server, server, Move, all_told, Happens, Stays, LetsIn, Brings, may_run, behind_front, SendsSome, Leaves, Visits, after, first_open, Passes, LinesAt, KeepsAt, FlushesAt, ServesAt, Serves}
 use Rattle.djq_serve.specs.Ends.{says_stopped, says_over, says_fault, IsCaused}
 
 -- whether a session said `stop`, a turn was over, and a turn failed
@@ -37,8 +38,9 @@ Behind no_turn st told = Flags st told false true false
 abbrev Stands : Phase → State → List Told → Type 0
 Stands waiting st told = Flags st told false false false
 Stands (lines s) st told = Flags st told st.stopped false false
+Stands (keeping s groups) st told = Flags st told st.stopped false false
 Stands (flushing from next) st told = Behind next st told
-Stands (closing answer) st told = Flags st told (says_stopped answer) (says_over answer) (says_fault answer)
+Stands (closing answer) st told = Flags st told (says_stopped answer st) (says_over answer) (says_fault answer)
 
 -- flags behind further calls
 flags_more : (old new : State) (told more : List Told) (a a' b c b' c' : Bool) → Flags old told a b c → new.stopped ≡ a' → has_over more ≡ b' → has_failed more ≡ c' → Flags new (told ++ more) a' (b || b') (c || c')
@@ -108,17 +110,17 @@ turn_stands Failed piece st more done new next told (stays, none, phase) f =
     (flags_more st new told (Turning Failed piece ∷ more) false false false false false true f (kept_still st new done stays ∙ f.stopped)
     (ap (λ (ts : List Told). has_over (Turning Failed piece ∷ ts)) none) (ap (λ (ts : List Told). has_failed (Turning Failed piece ∷ ts)) none))
 
-line_stands : (s : ℕ) (outcome : LineOutcome) (st : State) (told : List Told) → Flags st told st.stopped false false → Stands (behind_front s outcome) st told
-line_stands s long st told f = f
-line_stands s (blank l) st told f = f
-line_stands s (slow l) st told f = f
-line_stands s (no_room l) st told f = f
-line_stands s (run l) st told f = f
+line_stands : (s : ℕ) (outcome : LineOutcome) (k : Keeping) (st : State) (told : List Told) → Flags st told st.stopped false false → Stands (behind_front s outcome k) st told
+line_stands s long k st told f = f
+line_stands s (blank l) k st told f = f
+line_stands s (slow l) k st told f = f
+line_stands s (no_room l) k st told f = f
+line_stands s (run l) k st told f = f
 
 lines_stand : (s : ℕ) (st : State) (m : Move) (new : Server) (b : Bool) (told : List Told) → LinesAt s st m new b → Flags st told st.stopped false false → Stands new.phase new.state (told ++ m.told)
 lines_stand s st m new true told (none, (outcome, happens, phase)) f =
-    phase_as (behind_front s outcome) new.phase new.state _ phase
-    (line_stands s outcome new.state _
+    phase_as (behind_front s outcome (happens.0).kept) new.phase new.state _ phase
+    (line_stands s outcome (happens.0).kept new.state _
     (flags_more st new.state told m.told st.stopped (new.state).stopped false false false false f refl (ap has_over none) (ap has_failed none)))
 lines_stand s st m new false told passes f = stands_unchanged st (flushing 0 next_turn) m new told (unchanged st (flushing 0 next_turn) m new passes) f
 
@@ -160,9 +162,18 @@ flush_stands next st m new (Some s) told (to, visits, phase) f =
     let q = visits_quiet s st m.told m.done new.state to visits in
     phase_as (flushing to next) new.phase new.state _ phase (quiet_flags next st new.state told m.told f q.stopped q.over q.failed)
 
-close_flags : (a b c : Bool) (old new : State) (told more : List Told) → Flags old told a b c → new.stopped ≡ old.stopped → has_over more ≡ false → has_failed more ≡ false → Flags new (told ++ more) a b c
-close_flags a b c old new told more f same over failed = record {
-  stopped = same ∙ f.stopped;
+stop_stays : (answer : Served) (old new : State) → new.stopped ≡ old.stopped → old.stopped ≡ says_stopped answer old → new.stopped ≡ says_stopped answer new
+stop_stays Stopped old new same is = same ∙ is
+stop_stays Over old new same is = same ∙ is
+stop_stays TurnsUsed old new same is = same ∙ is
+stop_stays HubFault old new same is = same ∙ is
+stop_stays DiskFault old new same is = refl
+stop_stays LogFull old new same is = refl
+
+close_flags : (answer : Served) (b c : Bool) (old new : State) (told more : List Told) → Flags old told (says_stopped answer old) b c → new.stopped ≡ old.stopped → has_over more ≡ false → has_failed more ≡ false
+    → Flags new (told ++ more) (says_stopped answer new) b c
+close_flags answer b c old new told more f same over failed = record {
+  stopped = stop_stays answer old new same f.stopped;
   over = list_any-append (by_turn turn_is_over) told more ∙ ap₂ (λ (x y : Bool). x || y) f.over over ∙ or_false b;
   failed = list_any-append (by_turn turn_is_failed) told more ∙ ap₂ (λ (x y : Bool). x || y) f.failed failed ∙ or_false c;
 }
@@ -171,16 +182,22 @@ close_flags a b c old new told more f same over failed = record {
     or_false true = refl
     or_false false = refl
 
+keeps_stand : (s : ℕ) (groups : List Group) (st : State) (m : Move) (new : Server) (told : List Told) → KeepsAt s groups st m new → Flags st told st.stopped false false → Stands new.phase new.state (told ++ m.told)
+keeps_stand s groups st m new told (inl passes) f = stands_unchanged st (flushing 0 (more_lines s)) m new told (unchanged st (flushing 0 (more_lines s)) m new passes) f
+keeps_stand s groups st m new told (inr (some, inl passes)) f = stands_unchanged st (closing DiskFault) m new told (unchanged st (closing DiskFault) m new passes) f
+keeps_stand s groups st m new told (inr (some, inr passes)) f = stands_unchanged st (closing LogFull) m new told (unchanged st (closing LogFull) m new passes) f
+
 move_stands : (p : Phase) (st : State) (m : Move) (new : Server) (told : List Told) → ServesAt p st m new → Stands p st told → Stands new.phase new.state (told ++ m.told)
 move_stands waiting st m new told (inl passes) f = stands_unchanged st (closing TurnsUsed) m new told (unchanged st (closing TurnsUsed) m new passes) f
 move_stands waiting st m new told (inr (turn, piece, more, is, brings)) f =
     subst (λ (ts : List Told). Stands new.phase new.state (told ++ ts)) (sym is) (turn_stands turn piece st more m.done new.state new.phase told brings f)
 move_stands (lines s) st m new told g f = lines_stand s st m new (may_run st s) told g f
+move_stands (keeping s groups) st m new told g f = keeps_stand s groups st m new told g f
 move_stands (flushing from next) st m new told g f = flush_stands next st m new (first_due st from) told g f
 move_stands (closing answer) st m new told g f =
     let k = some_and (first_open st) (λ s. (m.told ≡ Closing s ∷ []) × Happens (closed s (pending_of st s)) st m.done new.state × (new.phase ≡ closing answer)) g in
     phase_as (closing answer) new.phase new.state _ k.2.2
-    (close_flags (says_stopped answer) (says_over answer) (says_fault answer) st new.state told m.told f (kept_stop (closed k.0 (pending_of st k.0)) st new.state m.done tt k.2.1)
+    (close_flags answer (says_over answer) (says_fault answer) st new.state told m.told f (kept_stop (closed k.0 (pending_of st k.0)) st new.state m.done tt k.2.1)
     (ap has_over k.2.0) (ap has_failed k.2.0))
 
 walk_stands : (old : Server) (moves : List Move) (new : Server) (told : List Told) → Walk Serves old moves new → Stands old.phase old.state told → Stands new.phase new.state (told ++ all_told moves)

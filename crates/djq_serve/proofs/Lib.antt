@@ -6,6 +6,8 @@ pub mod Moving
 pub mod Fronting
 pub mod Visiting
 pub mod Nearing
+pub mod Accepting
+pub mod Keeping
 pub mod Lining
 pub mod Bringing
 pub mod Ending

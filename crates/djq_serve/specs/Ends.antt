@@ -5,17 +5,17 @@ use Rattle.djq_io.specs.declared.hub.Turn.TheVariants.{Opened}
 use Rattle.djq_io.specs.declared.hub.Told.{Told}
 use Rattle.djq_io.specs.declared.hub.Told.TheVariants.{Turning, Sending}
 use Rattle.djq_machine.specs.State.{State}
-use Rattle.djq_machine.specs.Run.{Did, Run, out, all_taken, pending_of}
+use Rattle.djq_machine.specs.Run.{Did, Run, Group, out, all_taken, pending_of}
 use Rattle.djq_machine.specs.Call.{Counts, ids_of}
 use Rattle.djq_machine.specs.Gives.{CursorsGive}
 use Rattle.djq_laws.specs.Moved.{Spares}
 use Rattle.djq_laws.specs.Lines.{TakesInOrder}
 use Rattle.djq_laws.specs.Sent.{all_dropped, all_opened}
 use Rattle.djq_serve.specs.declared.served.Served.{Served}
-use Rattle.djq_serve.specs.declared.served.Served.TheVariants.{Stopped, Over, TurnsUsed, HubFault}
+use Rattle.djq_serve.specs.declared.served.Served.TheVariants.{Stopped, Over, TurnsUsed, HubFault, DiskFault, LogFull}
 use Rattle.djq_serve.specs.Told.{Shown, sent_to, has_over, has_failed}
 use Rattle.djq_serve.specs.Server.{Move, waiting, closing, server, all_told, all_done}
-use Rattle.djq_serve.specs.Goes.{seen, Goes}
+use Rattle.djq_serve.specs.Goes.{far, seen, Goes}
 
 -- All turns were taken, or fewer, as the answer says.
 abbrev pub HasTaken : Served → ℕ → ℕ → Type 0
@@ -39,9 +39,12 @@ pub record IsSent (old : State) (moves : List Move) (new : State) (s : ℕ) : Ty
   pub whole : all_taken s (all_done moves) ++ (all_dropped s (all_done moves) ++ pending_of new s)
       ≡ pending_of old s ++ out s (all_done moves)
 
-abbrev pub says_stopped : Served → Bool
-says_stopped Stopped = true
-says_stopped _ = false
+-- whether a session said `stop`, as far as the answer tells: one that comes of the disk doesn't
+abbrev pub says_stopped : Served → State → Bool
+says_stopped Stopped st = true
+says_stopped DiskFault st = st.stopped
+says_stopped LogFull st = st.stopped
+says_stopped _ st = false
 
 abbrev pub says_over : Served → Bool
 says_over Over = true
@@ -51,10 +54,10 @@ abbrev pub says_fault : Served → Bool
 says_fault HubFault = true
 says_fault _ = false
 
--- `Stopped` comes exactly where a session said `stop`, `Over` exactly where a turn said so, and
--- `HubFault` exactly where a turn failed.
+-- `Stopped` comes exactly where a session said `stop` and the disk took all lines, `Over` exactly
+-- where a turn said so, and `HubFault` exactly where a turn failed.
 pub record IsCaused (answer : Served) (told : List Told) (st : State) : Type 0 where
-  pub stopped : st.stopped ≡ says_stopped answer
+  pub stopped : st.stopped ≡ says_stopped answer st
   pub over : has_over told ≡ says_over answer
   pub failed : has_failed told ≡ says_fault answer
 
@@ -86,7 +89,8 @@ pub record Moments (start : State) (done : List Did) (state : State) : Type 0 wh
 pub record ServeEnds (answer : Served) (turns : ℕ) (hub : Shown) (counted : Counts) (old : State)
     (hub' : Shown) (counted' : Counts) (new : State) : Type 0 where
   pub taken : ℕ
-  pub goes : Goes (seen hub counted 0) (server old waiting) (seen hub' counted' taken)
+  pub kept : List Group
+  pub goes : Goes (seen hub counted (far 0 [])) (server old waiting) (seen hub' counted' (far taken kept))
       (server new (closing answer))
   pub run : Run old (all_done goes.moves) new
   pub rising : AllPairs (λ s t. s < t) (all_opened (all_done goes.moves))

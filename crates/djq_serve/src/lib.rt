@@ -7,6 +7,10 @@
 //! server went, move after move, from its first turn to its answer, and [`Served`] says exactly why
 //! it ended.
 //!
+//! [`serve_logged`] does the same with a log: what a line did is kept before anything is sent behind it,
+//! and where it can't be kept serving ends, without another byte. [`serve`] is one call of it, with a log
+//! that is nowhere and a disk that keeps nothing.
+//!
 //! What this crate is not: it buffers nothing, allocates nothing, knows no command and no socket.
 //!
 //! What surprises: a line is run in the turn that brings its end, so no turn leaves a line behind;
@@ -24,12 +28,14 @@
 //!
 //! To read first: `specs/Server.antt`, from `Serves` at its end backwards. It is a relation of one
 //! move: where the server stands, what it asks the hub, which step the machine makes, and where the
-//! server stands then. All that holds of whole runs are laws over these moves (`specs/Ends.antt`).
+//! server stands then. All that holds of whole runs are laws over these moves (`specs/Ends.antt`); what a log keeps
+//! of them is said in `specs/Logged.antt`.
 //!
 //! How it works inside: `flushing` sends to sessions and closes them, `running` runs the lines of
 //! one, `turning` takes a turn, `serving` takes them all and closes what is left.
 #![tactic(auto)]
 
+mod accepted;
 mod flushing;
 mod running;
 mod served;
@@ -37,4 +43,4 @@ mod serving;
 mod turning;
 
 pub use served::Served;
-pub use serving::serve;
+pub use serving::{serve, serve_logged};
