@@ -72,7 +72,8 @@ def table(counts):
     for name, (small, large) in counts.items():
         work = WORKLOADS[name]
         cells = [name, work.what, f"{work.rows:,}", f"{small:,}", f"{large:,}"]
-        lines.append(f"| {' | '.join(cells)} | {work.by_hand:,} | {small / work.by_hand:.2f} |")
+        cells += [f"{work.by_hand:,}", f"{small / work.by_hand:.2f}"] if work.by_hand else ["", ""]
+        lines.append(f"| {' | '.join(cells)} |")
     return "\n".join(lines) + "\n"
 
 

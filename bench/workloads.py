@@ -1,4 +1,4 @@
-"""The streams whose instructions `count.py` counts: thirteen kinds of work, each made for a number of rows.
+"""The streams whose instructions `count.py` counts: fifteen kinds of work, each made for a number of rows.
 
 The letters name them in what `count.py` tells. Each stream is the same on every machine.
 """
@@ -178,15 +178,27 @@ def moved(rows):
     return Stream(lines, [add("t", 1), delete("t", 1)] * 10, 20)
 
 
+def passed_over(rows, into):
+    """Adds to a relation beside 64 watched joins, of which no comparison lets a row of `r` through."""
+    chance, keys = random.Random(8), rows // 2
+    lines = relations("rsu")
+    lines += [f"{JOIN.replace('q(', f'q{at}(')}, x < {rows}, y != {-1 - at}" for at in range(64)]
+    for at in range(rows):
+        lines += [add("r", at, chance.randrange(keys)), add("s", chance.randrange(keys), at)]
+    lines += [f"watch q{at}" for at in range(64)]
+    counted = [add(into, rows + at, chance.randrange(keys)) for at in range(200)]
+    return Stream(lines, counted, len(counted))
+
+
 @dataclass
 class Workload:
     """A kind of work, how it is made for a number of rows, that number, and the instructions that an operation takes in
-    a program for the same protocol that was written by hand, on a stream of the same kind."""
+    a program for the same protocol that was written by hand, on a stream of the same kind; 0 where there is none."""
 
     what: str
     make: object
     rows: int
-    by_hand: int
+    by_hand: int = 0
 
 
 WORKLOADS = {
@@ -203,4 +215,6 @@ WORKLOADS = {
     "I": Workload("an add of an integer and a text", below_a_join_of_texts, 2000, 2_654),
     "I2": Workload("an answer of two texts", listing_of_texts, 2000, 740),
     "J": Workload("a change that moves N tuples", moved, 500, 359_804),
+    "K": Workload("an add that no comparison lets through, 64 watched queries", lambda rows: passed_over(rows, "r"), 400),
+    "K0": Workload("an add that no query reads, beside them", lambda rows: passed_over(rows, "u"), 400),
 }

@@ -1,17 +1,18 @@
 #!/usr/bin/env python3
-"""An alarm rule as a join: which sensor is in a state that some team minds, and who of the team is on call.
+"""An alarm rule as a join with a threshold: which sensor reads too high, and who of the team that minds it is on call.
 
     crates/djq/out/djq serve 127.0.0.1:7007 &
     python3 examples/alarm.py 127.0.0.1:7007
 
-An answer that comes raises an alarm, and one that goes clears it; SEQ is the number of the change that did it. The
-rule looks at three relations, so an alarm also moves when somebody else goes on call or a team minds another state.
+An answer that comes raises an alarm, and one that goes clears it; SEQ is the number of the change that did it. What a
+sensor reads is told in percent of what is safe, and from 90 on the server has an answer: below, it sends nothing. The
+rule looks at three relations, so an alarm also moves when somebody else goes on call or a team minds something else.
 In another terminal, `nc 127.0.0.1 7007` and then
 
-    add readings 7 "hot"
+    add readings 7 "heat" 95
     del oncall "heating" "Ada"
     add oncall "heating" "Cai"
-    del readings 7 "hot"
+    del readings 7 "heat" 95
 
 Where two gateways report the same reading, its row has two copies, and the alarm is cleared once both took it back.
 Where the connection was lost, what was missed is told as one change. With `--once` it prints the alarms that stand and
@@ -25,10 +26,13 @@ import sys
 sys.path.insert(0, os.path.join(os.path.dirname(os.path.abspath(__file__)), "..", "clients", "python"))
 import djq
 
-RULE = "alarm(sensor,state,team,person) <- readings(sensor,state), limits(state,team), oncall(team,person)"
+RULE = (
+    "alarm(sensor,kind,level,team,person)"
+    " <- readings(sensor,kind,level), level >= 90, minds(kind,team), oncall(team,person)"
+)
 RELATIONS = [
-    ("readings", (int, str), [(7, "fine")]),
-    ("limits", (str, str), [("hot", "heating"), ("wet", "plumbing")]),
+    ("readings", (int, str, int), [(7, "heat", 40)]),
+    ("minds", (str, str), [("heat", "heating"), ("damp", "plumbing")]),
     ("oncall", (str, str), [("heating", "Ada"), ("plumbing", "Bo")]),
 ]
 
@@ -61,8 +65,8 @@ def lines(live):
 
 
 def tell(word, seq, answer):
-    sensor, state, team, person = answer
-    return f"{word} {seq}: sensor {sensor} is {state}, {team} calls {person}"
+    sensor, kind, level, team, person = answer
+    return f"{word} {seq}: sensor {sensor} has {kind} at {level} %, {team} calls {person}"
 
 
 def main():

@@ -139,7 +139,7 @@ def test_live_after_a_start_that_failed(program):
         client.query("q(x) <- r(x)")
         client.add("r", 7)
         change = live.next(SECONDS)
-        assert change == djq.Change(1, frozenset({(7,)}), frozenset({(0,), (1,), (2,)}), restarted=True), change
+        assert change == djq.Change(1, frozenset({(7,)}), frozenset({(0,), (1,), (2,)}), True, True), change
         client.add("r", 8)
         assert live.next(SECONDS) == djq.Change(2, frozenset({(8,)}), frozenset())
         # each failed start gave its session up
@@ -170,7 +170,7 @@ def test_live_reconnects(program):
         client.add("r", 2)
         client.query("q(x) <- r(x)")
         reader.join(SECONDS)
-        assert told == [djq.Change(1, frozenset(), frozenset({(1,)}), restarted=True)], told
+        assert told == [djq.Change(1, frozenset(), frozenset({(1,)}), True, True)], told
         assert live.answers == {(2,)} and live.seq == 1
         live.close()
 

@@ -15,6 +15,7 @@ import selectors
 import signal
 import subprocess
 import sys
+import tempfile
 import threading
 import time
 import traceback
@@ -97,6 +98,7 @@ def test_refusals_by_their_lines():
         ("err 10 variable type", djq.VariableType),
         ("err 12 memory", djq.OutOfMemory),
         ("err 14 in use", djq.InUse),
+        ("err 16 unbound", djq.ComparisonUnbound),
         ("err 99 else", djq.Refused),
         ("no cyclic x,y x,z y,z", djq.Cyclic),
         ("no connex x,y x,z y,z", djq.NotFreeConnex),
@@ -168,7 +170,7 @@ def test_refusals(server):
         raises(djq.Arity, lambda: client.add("b", 1, 2))
         raises(djq.WrongType, lambda: client.add("b", 2**63))
         raises(djq.Syntax, lambda: client.query("qb(x) <- "))
-        raises(djq.LimitReached, lambda: client.relation("wide", *[int] * 9))
+        raises(djq.LimitReached, lambda: client.relation("wide", *[int] * 17))
         with client.cursor("qb") as cursor:
             raises(djq.InUse, lambda: client.drop("qb"))
             client.add("b", 1)
@@ -183,7 +185,7 @@ def test_refusals(server):
 
 def test_an_error_class_for_each_number(server):
     # 12 needs a machine without memory; 13 comes only behind bytes without a line end, which this client doesn't send
-    assert set(djq.REFUSALS) == set(range(1, 15)) - {13}
+    assert set(djq.REFUSALS) == set(range(1, 17)) - {13, 15}
     with server.connect() as client:
         client.relation("n", int, str)
         client.query("qn(x) <- n(x,_)")
@@ -199,12 +201,28 @@ def test_an_error_class_for_each_number(server):
             (8, lambda: client.query("qm(y) <- n(x,_)")),
             (9, lambda: client.query("qm(x,x) <- n(x,_)")),
             (10, lambda: client.query("qm(x) <- n(x,x)")),
-            (11, lambda: client.query("qm(x) <- " + ", ".join(["n(x,_)"] * 17))),
+            (11, lambda: client.query("qm(x) <- " + ", ".join(["n(x,_)"] * 33))),
             (14, lambda: client.drop("qn")),
+            (16, lambda: client.query("qm(x) <- n(x,_), y < 5")),
         ):
             error = raises(djq.Refused, call)
             assert type(error) is djq.REFUSALS[number] and error.number == number, (number, error)
         cursor.close()
+
+
+def test_comparisons(server):
+    with server.connect() as client:
+        client.relation("gauge", int, str, int)
+        client.query('hot(machine,reading) <- gauge(machine,kind,reading), kind = "heat", reading >= 80')
+        with client.live("hot") as live:
+            for row in ((1, "heat", 79), (1, "heat", 80), (2, "load", 99), (2, "heat", 2**63 - 1), (3, "heat", -(2**63))):
+                client.add("gauge", *row)
+            client.delete("gauge", 1, "heat", 80)
+            seen = [(change.came, change.went) for change in live.changes(timeout=0.5)]
+        assert [told for told in seen if told != (set(), set())] \
+            == [({(1, 80)}, set()), ({(2, 2**63 - 1)}, set()), (set(), {(1, 80)})]
+        assert client.snapshot("hot") == {(2, 2**63 - 1)}
+        raises(djq.WrongType, lambda: client.query('cold(machine) <- gauge(machine,kind,_), kind < "heat"'))
 
 
 def test_texts_and_joins(server):
@@ -471,6 +489,28 @@ def test_a_reply_that_doesnt_come(program):
             assert live.next(SECONDS).restarted and live.answers == {(1,)}
 
 
+def test_a_server_that_is_started_again_with_its_log(program):
+    with tempfile.TemporaryDirectory() as folder:
+        log = os.path.join(folder, "log")
+        with Server(program, log=log) as server, server.connect() as client:
+            client.relation("r", int)
+            client.query("q(x) <- r(x)")
+            client.add("r", 1)
+            client.add("r", 2)
+            live = client.live("q", reconnect=True)
+            port = server.port
+        with Server(program, port, log) as server, server.connect() as client:
+            change = live.next(SECONDS)
+            assert change == djq.Change(2, frozenset(), frozenset(), True, False), change
+            assert client.add("r", 3).seq == 3 and live.next(SECONDS).came == {(3,)}
+        with Server(program, port) as server, server.connect() as client:
+            client.relation("r", int)
+            client.query("q(x) <- r(x)")
+            change = live.next(SECONDS)
+            assert change == djq.Change(0, frozenset(), frozenset({(1,), (2,), (3,)}), True, True), change
+        live.close()
+
+
 # Many sets, many rows
 
 
@@ -653,19 +693,23 @@ def test_dashboard(program):
 def test_alarm(program):
     with Server(program) as server, server.connect() as client:
         assert output(server, "alarm.py", "--once") == ""
-        client.add("readings", 7, "hot")
-        stands = "stands 6: sensor 7 is hot, heating calls Ada\n"
+        client.add("readings", 7, "heat", 95)
+        stands = "stands 6: sensor 7 has heat at 95 %, heating calls Ada\n"
         assert output(server, "alarm.py", "--once") == stands
         with example(server, "alarm.py", "--lines", "5") as process:
             hear(process, stands)
             # a second gateway reports the same, and takes it back: nothing is told
-            assert client.add("readings", 7, "hot").copies == 2 and client.delete("readings", 7, "hot").copies == 1
-            client.add("readings", 8, "fine")
+            row = ("readings", 7, "heat", 95)
+            assert client.add(*row).copies == 2 and client.delete(*row).copies == 1
+            client.add("readings", 8, "heat", 89)  # below the threshold
             client.delete("oncall", "heating", "Ada")
             client.add("oncall", "heating", "Cai")
-            client.add("limits", "fine", "plumbing")
-            hear(process, "cleared 8: sensor 7 is hot, heating calls Ada\nraised 9: sensor 7 is hot, heating calls Cai")
-            hear(process, "raised 10: sensor 7 is fine, plumbing calls Bo\nraised 10: sensor 8 is fine, plumbing calls Bo")
+            client.add("minds", "heat", "plumbing")
+            client.add("readings", 9, "damp", 90)
+            said = "sensor 7 has heat at 95 %, heating calls"
+            hear(process, f"cleared 8: {said} Ada\nraised 9: {said} Cai")
+            hear(process, "raised 10: sensor 7 has heat at 95 %, plumbing calls Bo")
+            hear(process, "raised 11: sensor 9 has damp at 90 %, plumbing calls Bo")
             assert process.wait(SECONDS) == 0
 
 

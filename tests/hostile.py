@@ -41,7 +41,8 @@ def expect(got, want, what=""):
 
 # ---------------------------------------------------------------- hostile bytes
 
-SIXTEEN_ATOMS = b", ".join([b"r(x)"] * 16)
+MOST_ATOMS = b", ".join([b"r(x)"] * 32)
+MOST_COMPARISONS = b", ".join([b"x>0"] * 32)
 EIGHT_HOLES = b"k(" + b",".join([b"_"] * 8) + b")"
 SYNTAX = b"err 1 syntax\n"
 
@@ -64,10 +65,13 @@ TABLE = [
     (b"next c -1\n", SYNTAX, 0),
     (b"next c 99999999999999999999\n", SYNTAX, 0),
     (b"rel r int\nquery q() <- r()\n", b"ok\nerr 6 arity\n", 0),
-    (b"rel r int\nquery q(x) <- %s\nquery p(x) <- %s, r(x)\n" % (SIXTEEN_ATOMS, SIXTEEN_ATOMS),
+    (b"rel r int\nquery q(x) <- %s\nquery p(x) <- %s, r(x)\n" % (MOST_ATOMS, MOST_ATOMS),
      b"ok\nok query 3\nerr 11 limit\n", 0),
+    (b"rel r int\nquery q(x) <- %s,r(x)\nquery p(x) <- x<9, r(x), %s\n" % (MOST_COMPARISONS, MOST_COMPARISONS),
+     b"ok\nok query 3\nerr 11 limit\n", 0),
+    (b"rel k" + b" int" * 17 + b"\nrel k" + b" int" * 16 + b"\n", b"err 11 limit\nok\n", 0),
     (b"rel k" + b" int" * 8 + b"\nquery q() <- %s\nquery p() <- %s\n" % (
-        b", ".join([EIGHT_HOLES] * 8), b", ".join([EIGHT_HOLES] * 9)), b"ok\nok query 1\nerr 11 limit\n", 0),
+        b", ".join([EIGHT_HOLES] * 16), b", ".join([EIGHT_HOLES] * 17)), b"ok\nok query 1\nerr 11 limit\n", 0),
     # the end of the input, and the length of a line
     (b"quit" + b" " * 4092 + b"\r", b"err 13 cut\n", 0),
     (b"quit" + b" " * 4092 + b"\r ", b"end long\n", 8),
@@ -107,6 +111,21 @@ TABLE = [
     (b"query q(x) < - r(x)\nquery q(x) <- r(x),\nquery q(x) <- , r(x)\n", SYNTAX * 3, 0),
     (b"query q(x,) <- r(x)\nquery q(_) <- r(x)\nquery q(1) <- r(x)\n", SYNTAX * 3, 0),
     (b"query q(x)) <- r(x)\nquery (x) <- r(x)\nquery q(x) <- r(x) s(x)\n", SYNTAX * 3, 0),
+    # the signs of comparisons, each as long as it can be
+    (b"query q(x) <- r(x), x<-5\nquery q(x) <- r(x), x < - 5\nquery q(x) <- r(x), x ! = 5\n", SYNTAX * 3, 0),
+    (b"query q(x) <- r(x), x == 5\nquery q(x) <- r(x), x => 5\nquery q(x) <- r(x), x <> 5\n", SYNTAX * 3, 0),
+    (b"query q(x) <- r(x), x !5\nquery q(x) <- r(x), x !! 5\nquery q(x) <- r(x), x =! 5\n", SYNTAX * 3, 0),
+    (b"query q(x) <- r(x), x <\nquery q(x) <- r(x), < 5\nquery q(x) <- r(x), x < 5,\n", SYNTAX * 3, 0),
+    (b"query q(x) <- r(x), x < y\nquery q(x) <- r(x), 5 < x\nquery q(x) <- r(x), _ < 5\n", SYNTAX * 3, 0),
+    (b"query q(x) <- r(x), x < 5 6\nquery q(x) <- r(x), 1 < x < 5\nquery q(x) <- r(x), x < (5)\n", SYNTAX * 3, 0),
+    (b'query q(x) <- x < 5\nquery q(x) <- r(x) x < 5\nquery q(x) <- r(x), x = "a"b\n', SYNTAX * 3, 0),
+    (b"rel = int\nadd r =1\nadd r <5\nopen c!=q\nhas q>1\nr=1\n=\n", SYNTAX * 7, 0),
+    (b"rel r int\nquery q(x)<-x>-5,r(x),x<=5,x!=-0,x=3\nquery p(x) <-  x  >=  -9223372036854775808 , r ( x )\n",
+     b"ok\nok query 3\nok query 3\n", 0),
+    (b'rel r text\nquery q(x)<-r(x),x!="a",x="b <= \\"c"\nquery p(x) <- r(x), x <= "a"\n',
+     b"ok\nok query 3\nerr 7 type\n", 0),
+    (b"query q(x) <- r(x), y < 9223372036854775808\nquery q(x) <- r(x), y > -9223372036854775809\n"
+     b'query q(x) <- r(x), y = "' + b"a" * 256 + b'"\n', b"err 7 type\n" * 3, 0),
     (b"rel rel int\nquery query(x)<-rel(x)\nopen next query\nnext next 1\n", b"ok\nok query 3\nok open\nend\n", 0),
     (b"next c 0\nnext c 1001\nnext c 1000\nnext c 0001000\nnext c \"1\"\n",
      SYNTAX * 2 + b"err 5 no cursor\n" * 2 + SYNTAX, 0),

@@ -193,6 +193,14 @@ add t 5 5
 add t "b\\"\\\\\\n" "b"
 query p(x) <- t(x,_), t(_,"b")
 query w(x,y) <- t("new",x), t("other",y), t(x,y)
+query v(x) <- x != "first", t(x,_), x != "second", t(_,"third"), x != "first"
+query u(x) <- n(x), x >= -7, x < 9223372036854775807
+query z(x) <- x != "fourth", t(x,_), y < 1
+query z(x) <- x != "fourth", t(x,_), x < "fifth"
+watch v
+watch u
+add n 5
+add n 9223372036854775807
 watch p
 has p "b\\"\\\\\\n"
 has p "z"
@@ -209,7 +217,7 @@ next e 5
 REFUSALS = lines(b"""
 rel r int text
 rel r int
-rel k int int int int int int int int int
+rel k int int int int int int int int int int int int int int int int int
 rel
 add z 1
 add r 1
@@ -232,7 +240,7 @@ has q "a"
 close c
 drop q
 """) + b"".join(b"rel r%d int\n" % at for at in range(4)) \
-    + b"query q(x) <- r0(x)" + b", r0(x)" * 16 + b"\n" + b"query q(x) <- r0(x)" + b", r0(x)" * 15 + b"\n" \
+    + b"query q(x) <- r0(x)" + b", r0(x)" * 32 + b"\n" + b"query q(x) <- r0(x)" + b", r0(x)" * 31 + b"\n" \
     + b"".join(b"query q%d(x) <- r1(x)\n" % at for at in range(6)) \
     + b"".join(b"open c%d q\n" % at for at in range(17)) \
     + b"add r0 1\nadd r1 1\nnext c0 1\nnext c15 1\n"
@@ -242,7 +250,9 @@ LONG_REPLIES = b"rel r int int\nquery q(x,y) <- r(x,y)\nwatch q\n" \
     + b"unwatch q\nopen c q\nnext c 10\nnext c 1000\nnext c 1\n" \
     + b"query p(x) <- r(x,_), r(_,y)\nwatch p\nadd r 0 0\n" \
     + b"query w(" + b",".join(b"v%d" % at for at in range(16)) + b") <- " \
-    + b", ".join(b"r(v%d,v%d)" % (at, (at + 1) % 16) for at in range(16)) + b"\nexplain q\n"
+    + b", ".join(b"r(v%d,v%d)" % (at, (at + 1) % 16) for at in range(16)) + b"\nexplain q\n" \
+    + b"query c(x) <- r(x,y)" + b", y != 7" * 33 + b"\nquery c(x) <- r(x,y)" + b", y != 7" * 32 + b"\n" \
+    + b"add r 7 7\nopen e c\nnext e 1\n"
 
 
 SCHEDULE = lines(b"""

@@ -6,6 +6,7 @@ takes the program's: so it doesn't foretell an output, it follows one, and raise
 isn't allowed.
 """
 
+import operator
 import re
 
 LINE_BYTES = 4096
@@ -13,8 +14,8 @@ SCHEDULE_LINE_BYTES = 8192
 PENDING_BYTES = 1 << 20
 TEXT_BYTES = 255
 MOST_SESSIONS = 64
-MOST_COLUMNS, MOST_RELATIONS, MOST_QUERIES, MOST_CURSORS = 8, 256, 256, 16
-MOST_ATOMS, MOST_VARIABLES, MOST_HEAD = 16, 64, 16
+MOST_COLUMNS, MOST_RELATIONS, MOST_QUERIES, MOST_CURSORS = 16, 256, 256, 16
+MOST_ATOMS, MOST_VARIABLES, MOST_HEAD, MOST_COMPARISONS = 32, 128, 16, 32
 MOST_ANSWERS = 1000
 MOST_COPIES = (1 << 32) - 1
 
@@ -22,6 +23,7 @@ SYNTAX, TAKEN, NO_RELATION, NO_QUERY = b"err 1 syntax", b"err 2 taken", b"err 3 
 NO_CURSOR, ARITY, TYPE, UNBOUND = b"err 5 no cursor", b"err 6 arity", b"err 7 type", b"err 8 head unbound"
 REPEATED, VARIABLE_TYPE, LIMIT = b"err 9 head repeated", b"err 10 variable type", b"err 11 limit"
 MEMORY, CUT, IN_USE = b"err 12 memory", b"err 13 cut", b"err 14 in use"
+COMPARES_UNBOUND = b"err 16 unbound"
 END_MEMORY = b"end memory"
 
 # bytes of a reply that are kept before its line is run
@@ -44,11 +46,19 @@ class OutOfMemory(Difference):
 
 TOKEN = re.compile(
     rb"(?P<spaces> +)|(?P<name>[a-z][a-z0-9_]*)|(?P<hole>_)|(?P<integer>-?[0-9]+)"
-    rb'|(?P<text>"(?:[^"\\\n]|\\["\\n])*")|(?P<sign>\(|\)|,|<-)',
+    rb'|(?P<text>"(?:[^"\\\n]|\\["\\n])*")|(?P<sign>\(|\)|,|<-)|(?P<operator><=|<|>=|>|=|!=)',
     re.DOTALL,
 )
+# what may touch what stands before it and behind it
+SIGNS = ("sign", "operator")
 ESCAPE = re.compile(rb"\\(.)")
 UNESCAPED = {b'"': b'"', b"\\": b"\\", b"n": b"\n"}
+
+# how a comparison's variable stands to its constant
+OPERATORS = {b"<": operator.lt, b"<=": operator.le, b">": operator.gt, b">=": operator.ge, b"=": operator.eq,
+             b"!=": operator.ne}
+# those that a text may stand to a constant by
+OF_TEXTS = (b"=", b"!=")
 
 
 def tokens_of(line):
@@ -66,11 +76,11 @@ def tokens_of(line):
         if kind == "spaces":
             apart = True
             continue
-        if kind != "sign" and not apart:
+        if kind not in SIGNS and not apart:
             raise Syntax
         if kind == "name" and len(text) > 32:
             raise Syntax
-        apart = kind == "sign"
+        apart = kind in SIGNS
         tokens.append((kind, value_of(kind, text), text))
     return tokens
 
@@ -139,14 +149,22 @@ class Reader:
     def query(self):
         name, head = self.name(), self.listed(self.name)
         self.sign(b"<-")
-        atoms = [self.atom()]
+        atoms, comparisons = [], []
+        self.item(atoms, comparisons)
         while self.rest():
             self.sign(b",")
-            atoms.append(self.atom())
-        return name, head, atoms
+            self.item(atoms, comparisons)
+        if not atoms:
+            raise Syntax
+        return name, head, atoms, comparisons
 
-    def atom(self):
-        return self.name(), self.listed(lambda: self.take("name", "hole", "integer", "text")[:2])
+    def item(self, atoms, comparisons):
+        """An atom or a comparison: what stands behind its first name tells which."""
+        name = self.name()
+        if self.rest() and self.tokens[self.at][0] == "operator":
+            comparisons.append((name, self.take("operator")[1], self.take("integer", "text")[1]))
+        else:
+            atoms.append((name, self.listed(lambda: self.take("name", "hole", "integer", "text")[:2])))
 
 
 def command_of(line):
@@ -266,7 +284,7 @@ class Tree:
 class Query:
     """A query of the grammar over known relations; its variables are numbered as they come."""
 
-    def __init__(self, name, head, atoms):
+    def __init__(self, name, head, atoms, comparisons):
         self.name, self.variables, self.types = name, [], {}
         numbers, self.atoms = {}, []
         for relation, terms in atoms:
@@ -284,7 +302,7 @@ class Query:
                     number = numbers[value]
                 places.append((number, None))
             self.atoms.append((relation, places))
-        self.head_names, self.numbers = head, numbers
+        self.head_names, self.numbers, self.comparisons = head, numbers, comparisons
         self.reads = {relation for relation, _ in atoms}
 
     def edges(self):
@@ -297,6 +315,10 @@ class Query:
             for (number, _), kind in zip(places, relations[relation].types):
                 self.types[number] = kind
         self.head_types = [self.types[number] for number in self.head]
+        # for each variable that is compared what has to hold of it
+        self.compared = {}
+        for name, sign, constant in self.comparisons:
+            self.compared.setdefault(self.numbers[name], []).append((OPERATORS[sign], constant))
         self.version, self.known = None, None
 
     def answers(self, relations):
@@ -315,7 +337,7 @@ class Query:
             matched = {}
             for row in relations[relation].rows:
                 values = assigned(places, row)
-                if values is not None:
+                if values is not None and all(self.passes(number, values[number]) for number in fresh):
                     key = tuple(values[number] for number in shared)
                     matched.setdefault(key, set()).add(tuple(values[number] for number in fresh if number in needed))
             where = [bound.index(number) for number in shared]
@@ -330,8 +352,13 @@ class Query:
         order = [bound.index(number) for number in self.head]
         return {tuple(part[place] for place in order) for part in parts}
 
+    def passes(self, number, value):
+        """Whether each comparison of a variable holds of a value."""
+        return all(stands(value, constant) for stands, constant in self.compared.get(number, ()))
+
     def by_definition(self, relations, domain):
-        """The answers by the definition: of all assignments, those under which each atom's row is there."""
+        """The answers by the definition: of all assignments, those under which each atom's row is there and each
+        comparison holds."""
         answers = set()
 
         def grow(values):
@@ -342,6 +369,9 @@ class Query:
             for relation, places in self.atoms:
                 row = tuple(value if number is None else values[number] for number, value in places)
                 if row not in relations[relation].rows:
+                    return
+            for name, sign, constant in self.comparisons:
+                if not OPERATORS[sign](values[self.numbers[name]], constant):
                     return
             answers.add(tuple(values[number] for number in self.head))
 
@@ -643,14 +673,15 @@ class Machine:
             other.say_one_of(left)
         other.say(b"at %s %d" % (name, self.seq))
 
-    def query(self, session, name, head, atoms):
-        if any(kind in ("integer", "text") and value is None for _, terms in atoms for kind, value in terms):
+    def query(self, session, name, head, atoms, comparisons):
+        literals = [value for _, terms in atoms for kind, value in terms if kind in ("integer", "text")]
+        if None in literals or any(constant is None for _, _, constant in comparisons):
             return session.say(TYPE)
         if session.refused():
             return
         if name in self.queries:
             return session.say(TAKEN)
-        query = Query(name, head, atoms)
+        query = Query(name, head, atoms, comparisons)
         refusal = self.refuse(query)
         if refusal is None:
             query.settle(self.relations)
@@ -670,16 +701,26 @@ class Machine:
         types = {(place, kind) for terms in typed for (place, _), kind in terms if place is not None}
         if len(types) > len({place for place, _ in types}):
             return VARIABLE_TYPE
+        if any(name not in query.numbers for name, _, _ in query.comparisons):
+            return COMPARES_UNBOUND
+        if any(self.miscompared(dict(types)[query.numbers[name]], sign, constant)
+               for name, sign, constant in query.comparisons):
+            return TYPE
         if len(set(query.head_names)) < len(query.head_names):
             return REPEATED
         if any(name not in query.numbers for name in query.head_names):
             return UNBOUND
-        sizes = (len(query.atoms), len(query.variables), len(query.head_names))
-        if any(size > most for size, most in zip(sizes, (MOST_ATOMS, MOST_VARIABLES, MOST_HEAD))):
+        sizes = (len(query.atoms), len(query.variables), len(query.head_names), len(query.comparisons))
+        if any(size > most for size, most in zip(sizes, (MOST_ATOMS, MOST_VARIABLES, MOST_HEAD, MOST_COMPARISONS))):
             return LIMIT
         if len(self.queries) >= MOST_QUERIES:
             return LIMIT
         return self.not_admitted(query)
+
+    @staticmethod
+    def miscompared(kind, sign, constant):
+        """Whether a comparison doesn't suit a variable of a type."""
+        return isinstance(constant, int) != (kind == b"int") or kind == b"text" and sign not in OF_TEXTS
 
     def not_admitted(self, query):
         edges, head = query.edges(), {query.numbers[name] for name in query.head_names}

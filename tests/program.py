@@ -24,7 +24,7 @@ from reasons import fits  # noqa: E402
 # the most seconds that a reply or an end is waited for
 PATIENCE = 20
 
-USAGE = b"usage: djq run | serve ADDR [--turns N] | replay | gen N SEED\n"
+USAGE = b"usage: djq run | serve ADDR [--turns N] [--log PATH] | replay [--log PATH] | gen N SEED\n"
 
 # A session with each command, and what it is answered.
 SESSION = [
@@ -275,12 +275,80 @@ def each_refusal_of_a_query_comes_in_its_order():
         (b"query q(x,x) <- r(\"a\",x), s(x)", b"err 7 type"),
         (b"query q(y,y) <- r(x,x)", b"err 10 variable type"),
         (b"query q(z,z) <- r(x,_)", b"err 9 head repeated"),
-        (b"query q(z) <- " + b", ".join([b"s(x)"] * 17), b"err 8 head unbound"),
-        (b"query q(x) <- " + b", ".join([b"s(x)"] * 17), b"err 11 limit"),
-        (b"query q(x) <- " + b", ".join([b"s(x)"] * 16), b"ok query 3"),
+        (b"query q(z) <- " + b", ".join([b"s(x)"] * 33), b"err 8 head unbound"),
+        (b"query q(x) <- " + b", ".join([b"s(x)"] * 33), b"err 11 limit"),
+        (b"query q(x) <- " + b", ".join([b"s(x)"] * 32), b"ok query 3"),
     ]
     lines += [line for line, _ in asked]
     replies = [b"ok", b"ok", b"ok query 3"] + [reply for _, reply in asked]
+    expect_run(texts_of_lines(lines), texts_of_lines(replies))
+
+
+@test
+def each_refusal_of_a_comparison_comes_in_its_order():
+    lines = [b"rel r int text", b"rel s int", b"rel k" + b" int" * 17, b"rel k" + b" int" * 16]
+    replies = [b"ok", b"ok", b"err 11 limit", b"ok"]
+    many = b", x > 0" * 31
+    holes = b"k(" + b",".join([b"_"] * 16) + b")"
+    asked = [
+        (b"query q(y) <- s(x), x = 9223372036854775808", b"err 7 type"),
+        (b"query q(y) <- z(x), n < 1", b"err 3 no relation"),
+        (b"query q(y) <- s(x,y), n < 1", b"err 6 arity"),
+        (b"query q(y) <- s(\"a\"), n < 1", b"err 7 type"),
+        (b"query q(y,y) <- r(x,x), n < 1", b"err 10 variable type"),
+        (b"query q(z,z) <- x < \"a\", r(x,_), n < 1", b"err 16 unbound"),
+        (b"query q(z,z) <- r(x,_), x < \"a\"", b"err 7 type"),
+        (b"query q(z,z) <- r(_,y), y >= \"a\"", b"err 7 type"),
+        (b"query q(z,z) <- r(_,y), y != 1", b"err 7 type"),
+        (b"query q(z,z) <- r(_,y), y != \"a\"", b"err 9 head repeated"),
+        (b"query q(z) <- r(x,_), x != 1", b"err 8 head unbound"),
+        (b"query q(x) <- s(x), x < 5, x >= -5" + many, b"err 11 limit"),
+        (b"query q() <- " + b", ".join([holes] * 9), b"err 11 limit"),
+        (b"query p() <- " + b", ".join([holes] * 8), b"ok query 1"),
+        (b"query q(x) <- x >= -5, s(x)" + many, b"ok query 3"),
+        # none of these is in the grammar
+        (b"query w(x) <- x = 1", b"err 1 syntax"),
+        (b"query w(x) <- s(x), x<-5", b"err 1 syntax"),
+        (b"query w(x) <- r(x,y), x < y", b"err 1 syntax"),
+        (b"query w(x) <- s(x), 1 < x", b"err 1 syntax"),
+        (b"query w(x) <- s(x), _ < 1", b"err 1 syntax"),
+        (b"query w(x) <- s(x), x == 1, x <> 1, x => 1", b"err 1 syntax"),
+        (b"query w(x) <- s(x) x < 1", b"err 1 syntax"),
+        (b"query w(x)<-s(x),x<5,x>-5,x!=0", b"ok query 3"),
+    ]
+    lines += [line for line, _ in asked]
+    expect_run(texts_of_lines(lines), texts_of_lines(replies + [reply for _, reply in asked]))
+
+
+@test
+def comparisons_let_rows_through_by_their_variables():
+    lines = [b"rel r int text", b"query q(x,y) <- r(x,y), x >= 2, x < 4, y != \"b\""]
+    lines += [b'add r %d "%s"' % (at, b"abaa"[at - 1:at]) for at in range(1, 5)]
+    lines += [b"open c q", b"next c 9", b"rel e int", b"watch p"]
+    replies = [b"ok", b"ok query 5"] + [b"ok added %d 1" % at for at in range(1, 5)]
+    replies += [b"ok open", b'= 3 "a"', b"end", b"ok", b"err 4 no query"]
+    # the order of numbers, at both ends of their range too
+    values = [-(1 << 63), -(1 << 63) + 1, -1, 0, 1, (1 << 63) - 2, (1 << 63) - 1]
+    seq = 4
+    for value in values:
+        seq += 1
+        lines.append(b"add e %d" % value)
+        replies.append(b"ok added %d 1" % seq)
+    holds = {b"<": lambda v, c: v < c, b"<=": lambda v, c: v <= c, b">": lambda v, c: v > c,
+             b">=": lambda v, c: v >= c, b"=": lambda v, c: v == c, b"!=": lambda v, c: v != c}
+    for sign, stands in holds.items():
+        for constant in values:
+            lines.append(b"query p(x) <- x %s %d, e(x)" % (sign, constant))
+            replies.append(b"ok query 3")
+            for value in values:
+                lines.append(b"has p %d" % value)
+                replies.append(b"yes" if stands(value, constant) else b"no")
+            lines.append(b"drop p")
+            replies.append(b"ok")
+    # a row that no comparison lets through is still a change
+    lines += [b"query p(x) <- e(x), x > 5, x < 9", b"watch p", b"open d p", b"add e 5", b"next d 1", b"add e 7"]
+    replies += [b"ok query 3", b"ok watch 11", b"ok open", b"at p 12", b"ok added 12 1", b"stale d e 12",
+                b"+ p 7", b"at p 13", b"ok added 13 1"]
     expect_run(texts_of_lines(lines), texts_of_lines(replies))
 
 
@@ -319,7 +387,19 @@ def count(bag, row, change):
     return copies
 
 
-def brute(head, atoms, rows):
+# Queries with comparisons: what has to hold of an assignment stands last.
+COMPARED = [
+    (b"a(x,y,z) <- r(x,y), y >= 1, s(y,z), y < 3", "xyz", [("r", "xy"), ("s", "yz")], lambda v: 1 <= v["y"] < 3),
+    (b"b(x,y,z) <- y != 2, r(x,y), r(y,z), x <= 3", "xyz", [("r", "xy"), ("r", "yz")],
+     lambda v: v["y"] != 2 and v["x"] <= 3),
+    (b"c(y) <- r(x,y), s(y,z), x = 1, z > 0, z != 3", "y", [("r", "xy"), ("s", "yz")],
+     lambda v: v["x"] == 1 and v["z"] > 0 and v["z"] != 3),
+    (b"d(x) <- r(x,x), t(x), x > 9", "x", [("r", "xx"), ("t", "x")], lambda v: v["x"] > 9),
+    (b"e() <- t(x), s(x,y), x >= 2, y <= 2", "", [("t", "x"), ("s", "xy")], lambda v: v["x"] >= 2 and v["y"] <= 2),
+]
+
+
+def brute(head, atoms, rows, holds=lambda values: True):
     """The answers of a query by trying every row for every atom."""
     found = [{}]
     for relation, terms in atoms:
@@ -339,7 +419,7 @@ def brute(head, atoms, rows):
                 else:
                     further.append(new)
         found = further
-    return {tuple(bound[name] for name in head) for bound in found}
+    return {tuple(bound[name] for name in head) for bound in found if holds(bound)}
 
 
 def listed(talk, cursor, query):
@@ -388,6 +468,40 @@ def joins_are_listed_as_by_brute_force():
             if turn % 20 == 19:
                 for text, head, atoms in JOINS[:len(JOINS) - len(late)]:
                     expect(listed(talk, b"k", text[:1]), brute(head, atoms, rows), text)
+
+
+@test
+def joins_with_comparisons_are_listed_and_told_as_by_brute_force():
+    chance = random.Random(7)
+    rows = {"r": {}, "s": {}, "t": {}}
+    with Talk() as talk:
+        talk.say(b"rel r int int\nrel s int int\nrel t int\n")
+        for _ in range(3):
+            expect(talk.line(), b"ok")
+        answers = {}
+        for text, head, _, _ in COMPARED:
+            talk.say(b"query %s\nwatch %s\n" % (text, text[:1]))
+            expect(talk.line(), b"ok query %d" % (2 * len(head) + 1))
+            expect(talk.line(), b"ok watch 0")
+            answers[text[:1]] = set()
+        for turn in range(300):
+            relation = chance.choice("rrssst")
+            row = tuple(chance.randrange(5) for _ in range(1 if relation == "t" else 2))
+            goes = row in rows[relation] and chance.random() < 0.7
+            talk.say(b"%s %s %s\n" % (b"del" if goes else b"add", relation.encode(), b" ".join(b"%d" % v for v in row)))
+            count(rows[relation], row, -1 if goes else 1)
+            while not (line := talk.line()).startswith(b"ok "):
+                word, _, rest = line.partition(b" ")
+                query, _, values = rest.partition(b" ")
+                if word != b"at":
+                    answer = tuple(int(value) for value in values.split())
+                    expect(answer in answers[query], word == b"-", line)
+                    answers[query] ^= {answer}
+            for text, head, atoms, holds in COMPARED:
+                wanted = brute(head, atoms, rows, holds)
+                expect(answers[text[:1]], wanted, text)
+                if turn % 20 == 19:
+                    expect(listed(talk, b"k", text[:1]), wanted, text)
 
 
 @test

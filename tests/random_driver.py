@@ -37,8 +37,11 @@ CURSORS = [b"c", b"d", b"e", b"q", b"next"] + [b"c%d" % at for at in range(15)]
 VARIABLES = [b"x", b"y", b"z", b"v", b"w", b"a", b"b", b"r"]
 TEXTS = [b'""', b'"a"', b'"b\\"\\\\\\n"', b'"\xc3\xa9 _"', b'"' + b"l" * 255 + b'"']
 EXTREMES = [b"-9223372036854775808", b"9223372036854775807", b"-0", b"007", b"-1"]
+# integers near both ends, and one between them
+ENDS = [b"%d" % value for value in (-(1 << 63), -(1 << 63) + 1, -1, (1 << 63) - 2, (1 << 63) - 1)]
 PAST_LIMITS = [b"9223372036854775808", b"-9223372036854775809", b"9" * 40, b'"' + b"l" * 256 + b'"']
-PIECE = re.compile(rb'"(?:[^"\\]|\\.)*"|[a-z0-9_]+|<-| +|.', re.DOTALL)
+SIGNS = list(model.OPERATORS)
+PIECE = re.compile(rb'"(?:[^"\\]|\\.)*"|[a-z0-9_]+|<-|[<>!]=| +|.', re.DOTALL)
 
 
 # ---------------------------------------------------------------- streams
@@ -51,6 +54,12 @@ class World:
         # the fewer values there are, the more variables a query may have before its answers are too many
         self.variables = VARIABLES[:{2: 8, 3: 5, 4: 4, 30: 3}[self.values]]
         self.texts = chance.random() < 0.4
+        # the integers are near zero, or near the ends of their range
+        self.integers = [b"%d" % value for value in range(self.values)]
+        if self.values <= len(ENDS) and chance.random() < 0.2:
+            self.integers = chance.sample(ENDS, self.values)
+        # how many queries of a hundred have comparisons
+        self.compared = chance.choice([0, 30, 60])
         # above a half: else copies grow in number, and hardly a row's last one goes
         self.removals = chance.choice([0.55, 0.67, 0.83])
         self.changes = chance.choice([10, 40, 80]) if self.values < 30 else 300
@@ -91,7 +100,7 @@ class Author:
             return b'"t%d"' % self.chance.randrange(30)
         if kind == b"text":
             return self.chance.choice(TEXTS[:self.world.values + 1])
-        return self.chance.choice(EXTREMES) if odd > 0.97 else b"%d" % self.chance.randrange(self.world.values)
+        return self.chance.choice(EXTREMES if odd > 0.97 else self.world.integers)
 
     def values_for(self, kinds):
         kinds = list(kinds)
@@ -103,7 +112,7 @@ class Author:
         name = self.chance.choice(RELATIONS)
         columns = self.chance.choice([1, 1, 2, 2, 2, 2, 2, 3, 3, 4]) if self.world.values < 30 else 2
         if self.chance.random() < 0.03:
-            columns = self.chance.choice([8, 9, 12])
+            columns = self.chance.choice([8, 9, 15, 16, 17])
         kinds = [b"text" if self.world.texts and self.chance.random() < 0.4 else b"int" for _ in range(columns)]
         if columns <= model.MOST_COLUMNS:
             self.relations.setdefault(name, kinds)
@@ -144,7 +153,25 @@ class Author:
         edges = [{term for term in terms if term in types} for _, terms in atoms]
         if name not in self.heads and not model.reduced(edges) and not model.reduced([set(head)] + edges):
             self.heads[name] = [types.get(term, b"int") for term in head]
-        return self.said_query(name, head, atoms)
+        return self.said_query(name, head, atoms, self.comparisons(types))
+
+    def comparisons(self, types):
+        """Comparisons of the variables of some atoms, by their types; at times of another one."""
+        if self.chance.random() * 100 >= self.world.compared or not types:
+            return []
+        some = []
+        for _ in range(self.chance.choice([1, 1, 1, 2, 2, 3, 5])):
+            variable = self.chance.choice(sorted(types) if self.chance.random() < 0.98 else VARIABLES + [b"n", b"_"])
+            some.append(self.comparison(variable, types.get(variable, b"int")))
+        return some
+
+    def comparison(self, variable, kind):
+        signs = SIGNS if kind == b"int" or self.chance.random() < 0.03 else sorted(model.OF_TEXTS)
+        # `=` leaves few answers, and the others more
+        sign = self.chance.choice(signs + [sign for sign in signs if sign != b"="])
+        space = b" " * (self.chance.random() < 0.9)
+        constant = self.value(kind) if self.chance.random() < 0.9 or kind == b"text" else self.chance.choice(ENDS)
+        return variable + space + sign + space + constant
 
     def term(self, kind, pool, types):
         odd = self.chance.random()
@@ -169,22 +196,33 @@ class Author:
             head.append(self.chance.choice(VARIABLES))
         return head
 
-    def said_query(self, name, head, atoms):
-        body = b", ".join(b"%s(%s)" % (relation, b",".join(terms)) for relation, terms in atoms)
-        return b"query %s(%s) <- %s" % (name, b",".join(head), body)
+    def said_query(self, name, head, atoms, comparisons=()):
+        items = [b"%s(%s)" % (relation, b",".join(terms)) for relation, terms in atoms]
+        for comparison in comparisons:
+            items.insert(self.chance.randrange(len(items) + 1), comparison)
+        return b"query %s(%s) <- %s" % (name, b",".join(head), b", ".join(items))
 
     def large_query(self):
-        """A query at the limits of atoms, of variables and of head variables, or past them."""
+        """A query at the limits of atoms, of variables, of head variables and of comparisons, or past them."""
         relation = self.one(self.relations, RELATIONS)
-        width = len(self.relations.get(relation, [b"int"]))
-        count = self.chance.choice([15, 16, 17, 22])
+        kinds = list(self.relations.get(relation, [b"int"]))
+        width, most = len(kinds), model.MOST_ATOMS
+        count = self.chance.choice([most - 1, most, most, most + 1])
         if self.chance.random() < 0.5:
-            atoms = [(relation, [b"_"] * width)] * count
-            return self.said_query(self.chance.choice(QUERIES), [], atoms)
+            # each hole is a variable of its own
+            count = min(count, model.MOST_VARIABLES // width + self.chance.choice([0, 0, 1]))
+            return self.said_query(self.free(self.heads, QUERIES), [], [(relation, [b"_"] * width)] * count)
         first = [b"v%d" % at for at in range(width)]
-        atoms = [(relation, first)] * (count - 6) + [(relation, [b"w%d" % at] * width) for at in range(count // 4)]
-        head = first if self.chance.random() < 0.8 else [b"v%d" % at for at in range(17)]
-        return self.said_query(self.chance.choice(QUERIES), head, atoms)
+        atoms = [(relation, first)] * (count - count // 4) + [(relation, [b"w%d" % at] * width) for at in range(count // 4)]
+        head = list(first)
+        if self.chance.random() < 0.4:
+            head += [b"w%d" % at for at in range(min(count // 4, model.MOST_HEAD + self.chance.choice([0, 1]) - width))]
+        comparisons = []
+        if self.chance.random() < 0.5:
+            of = self.chance.randrange(width)
+            many = model.MOST_COMPARISONS + self.chance.choice([-1, 0, 0, 1])
+            comparisons = [self.comparison(first[of], kinds[of]) for _ in range(many)]
+        return self.said_query(self.free(self.heads, QUERIES), head, atoms, comparisons)
 
     def open(self):
         cursor, query = self.free(self.cursors, CURSORS), self.one(self.heads, QUERIES)
@@ -243,7 +281,7 @@ class Author:
 
 
 def random_bytes(chance):
-    few = chance.choice([b'rq(),<- _"\\01ab', bytes(range(256)), b"\xc3\xa9\xe2\x82\xac\xf0\x9f\xff\xed\xa0 \"a"])
+    few = chance.choice([b'rq(),<- _"\\01ab', b"r(x),<>=!- 1", bytes(range(256)), b"\xc3\xa9\xe2\x82\xac\xf0\x9f\xff\xed\xa0 \"a"])
     length = chance.choice([1, 2, 5, 20, 60])
     return bytes(chance.choice(few) for _ in range(length)).replace(b"\n", b"")
 
@@ -261,7 +299,7 @@ def mutated(chance, line):
         other = chance.randrange(len(pieces))
         pieces[at], pieces[other] = pieces[other], pieces[at]
     elif kind == 3:
-        pieces[at] = chance.choice([b"_", b"(", b")", b",", b"<-", b"<", b"x", b"-1", b'"a"', b'"', b"\t", b"", b"Q"])
+        pieces[at] = chance.choice([b"_", b"(", b")", b",", b"<-", b"<", b"x", b"-1", b"!", b">=", b'"a"', b'"', b"\t", b"", b"Q"])
     elif kind == 4:
         pieces.insert(at, chance.choice(PAST_LIMITS + [b"n" * 32, b"n" * 33, b"\r", b"\xff", b'"\\t"', b"--1", b"01"]))
     else:
@@ -277,7 +315,8 @@ def spaced(chance, line):
     if chance.random() < 0.2:
         return line + b"\r" * chance.choice([1, 1, 2])
     pieces = [b" " * chance.randrange(1, 4) if piece.startswith(b" ") else piece for piece in PIECE.findall(line)]
-    pieces = [b" " + piece + b" " if piece in (b"(", b")", b",", b"<-") else piece for piece in pieces]
+    signs = (b"(", b")", b",", b"<-", *SIGNS)
+    pieces = [b" " + piece + b" " if piece in signs else piece for piece in pieces]
     return b" " * chance.randrange(3) + b"".join(pieces) + b" " * chance.randrange(3)
 
 
@@ -444,7 +483,8 @@ def check_model(chance):
     """The model's answers are those of the definition, over all assignments, on small cases."""
     for _ in range(100):
         author = Author(chance)
-        author.world.values, author.world.texts, author.world.variables = 2, False, VARIABLES[:4]
+        author.world.values, author.world.variables = 2, VARIABLES[:4]
+        author.world.integers, author.world.compared = author.world.integers[:2], chance.choice([0, 60])
         machine = model.Machine()
         session = model.Session(1, [])
         session.blocked = True

@@ -15,14 +15,15 @@ SECONDS = 20  # that a reply may take
 
 
 class Server:
-    """The built program on a free port of loopback, or on a port that is given."""
+    """The built program on a free port of loopback, or on a port that is given; with a log, where one is."""
 
-    def __init__(self, program, port=None):
+    def __init__(self, program, port=None, log=None):
         if port is None:
             with socket.create_server(("127.0.0.1", 0)) as free:
                 port = free.getsockname()[1]
         self.port = port
-        self.process = subprocess.Popen([program, "serve", f"127.0.0.1:{self.port}"], stderr=subprocess.DEVNULL)
+        words = [program, "serve", f"127.0.0.1:{self.port}", *(["--log", log] if log else [])]
+        self.process = subprocess.Popen(words, stderr=subprocess.DEVNULL)
 
     def __enter__(self):
         until = time.monotonic() + SECONDS

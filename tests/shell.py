@@ -571,7 +571,13 @@ def refusals_say_what_to_do(program):
             ("query q(x,w) <- r(x,_)", "err 8 head unbound", "no atom has w"),
             ("query q(x,x) <- r(x,_)", "err 9 head repeated", "name x once"),
             ("query q(x) <- s(x,x)", "err 10 variable type", "x stands in column 1 of s, of ints, and in column 2"),
-            ("rel w int int int int int int int int int", "err 11 limit", "a relation has at most 8 columns"),
+            ("rel w" + " int" * 17, "err 11 limit", "a relation has at most 16 columns"),
+            ("query q(x) <- r(x,_), x < z", "err 1 syntax", "a variable is compared with a constant alone"),
+            ("query q(x) <- r(x,_), x<-5", "err 1 syntax", "less than -5 is < -5"),
+            ("query q(x) <- x > 5", "err 1 syntax", "an atom stands in the body too"),
+            ('query q(x) <- s(x,y), y > "a"', "err 7 type", "texts have no order"),
+            ('query q(x) <- s(x,y), x = "a"', "err 7 type", "x stands in column 1 of s, of ints"),
+            ("query q(x) <- r(x,_), z > 5", "err 16 unbound", "no atom has z"),
         ):
             if advice.endswith("q_has"):
                 advice = "query q_has(x,z) <- r(z,x)"
@@ -754,6 +760,16 @@ def the_package_is_installed_without_a_network(program):
         done = run(shell, "--local", "--program", program, input="rel r int\nadd r 1\n")
         expect((done.stdout, done.returncode), ("ok\nok added 1 1\n", 0), done.stderr)
         assert "--local" in run(shell, "--help").stdout
+
+
+@test()
+def a_server_of_its_own_keeps_its_rows(program):
+    with tempfile.TemporaryDirectory() as folder:
+        log = ("--log", os.path.join(folder, "rows.log"))
+        expect(filtered("rel r int\nadd r 1\n", *log, program=program), ("ok\nok added 1 1\n", "", 0))
+        expect(filtered("del r 1\n", *log, program=program), ("ok removed 2 0\n", "", 0))
+        told = filtered("add r 2\n", "--log", folder, program=program)
+        assert told[2] == 2 and "its log can't be opened" in told[1], told
 
 
 @test("mypy")

@@ -24,9 +24,9 @@ rows by key.
 
 from .connection import Connection, Cursor, Pipeline, connect
 from .errors import (
-    REFUSALS, Arity, BadName, Cyclic, Disconnected, Ended, Error, HeadRepeated, HeadUnbound, InUse, LimitReached,
-    NoCursor, NoQuery, NoRelation, NotFreeConnex, NotWatched, OutOfMemory, Overtaken, Refused, SomeRefused, Stale,
-    Syntax, Taken, TooLong, Unanswered, VariableType, WrongType,
+    REFUSALS, Arity, BadName, ComparisonUnbound, Cyclic, Disconnected, Ended, Error, HeadRepeated, HeadUnbound, InUse,
+    LimitReached, NoCursor, NoQuery, NoRelation, NotFreeConnex, NotWatched, OutOfMemory, Overtaken, Refused,
+    SomeRefused, Stale, Syntax, Taken, TooLong, Unanswered, VariableType, WrongType,
 )  # fmt: skip
 from .live import Live, Lives
 from .protocol import (
@@ -35,9 +35,10 @@ from .protocol import (
 from .table import Table
 
 __all__ = [
-    "MOST_ANSWERS", "REFUSALS", "Absent", "Added", "Answer", "Arity", "BadName", "Change", "Connection", "Cursor",
-    "Cyclic", "Disconnected", "Ended", "Error", "HeadRepeated", "HeadUnbound", "InUse", "LimitReached", "Live", "Lives",
-    "NoCursor", "NoQuery", "NoRelation", "NotFreeConnex", "NotWatched", "OutOfMemory", "Overtaken", "Page", "Pending",
-    "Pipeline", "Protocol", "Refused", "Removed", "SomeRefused", "Stale", "Syntax", "Table", "Taken", "TooLong",
-    "Unanswered", "Update", "Value", "VariableType", "WrongType", "connect", "read_values", "spell",
+    "MOST_ANSWERS", "REFUSALS", "Absent", "Added", "Answer", "Arity", "BadName", "Change", "ComparisonUnbound",
+    "Connection", "Cursor", "Cyclic", "Disconnected", "Ended", "Error", "HeadRepeated", "HeadUnbound", "InUse",
+    "LimitReached", "Live", "Lives", "NoCursor", "NoQuery", "NoRelation", "NotFreeConnex", "NotWatched", "OutOfMemory",
+    "Overtaken", "Page", "Pending", "Pipeline", "Protocol", "Refused", "Removed", "SomeRefused", "Stale", "Syntax",
+    "Table", "Taken", "TooLong", "Unanswered", "Update", "Value", "VariableType", "WrongType", "connect", "read_values",
+    "spell",
 ]  # fmt: skip

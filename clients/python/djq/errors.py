@@ -113,7 +113,7 @@ class Arity(Refused):
 
 
 class WrongType(Refused):
-    """A value isn't of its column's type, or is too large for any."""
+    """A value isn't of its column's type, or is too large for any; or texts are asked for their order."""
 
     number = 7
 
@@ -152,6 +152,12 @@ class InUse(Refused):
     """A cursor or a watch is on the query."""
 
     number = 14
+
+
+class ComparisonUnbound(Refused):
+    """A variable that is compared isn't in an atom."""
+
+    number = 16
 
 
 class NotFreeConnex(Refused):
@@ -204,6 +210,6 @@ REFUSALS: dict[int, type[Refused]] = {
     kind.number: kind
     for kind in (
         Syntax, Taken, NoRelation, NoQuery, NoCursor, Arity, WrongType, HeadUnbound,
-        HeadRepeated, VariableType, LimitReached, OutOfMemory, InUse,
+        HeadRepeated, VariableType, LimitReached, OutOfMemory, InUse, ComparisonUnbound,
     )
 }  # fmt: skip

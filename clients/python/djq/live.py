@@ -41,7 +41,7 @@ class Kept:
         """What the new listing brings, as one change."""
         answers, seq = self._anew or (self.answers, self.seq)
         came, went = frozenset(answers - self.answers), frozenset(self.answers - answers)
-        change = Change(seq, came, went, restarted=True)
+        change = Change(seq, came, went, restarted=True, lost=seq < self.seq)
         self.answers, self.seq, self._anew = answers, seq, None
         return change
 

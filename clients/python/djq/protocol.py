@@ -163,12 +163,17 @@ class Absent(Update):
 
 @dataclass(frozen=True)
 class Change:
-    """One change of a watched query's answers. After a new start `restarted` is true, and `seq` that of the listing."""
+    """One change of a watched query's answers. After a new start `restarted` is true, and `seq` that of the listing.
+
+    Then `lost` is true where the server counts fewer changes than were told before: it isn't the one that it was, or
+    has begun anew without a log. One that loaded its log goes on counting.
+    """
 
     seq: int
     came: frozenset[Answer]
     went: frozenset[Answer]
     restarted: bool = False
+    lost: bool = False
 
 
 @dataclass(frozen=True)

@@ -1,3 +1,6 @@
+pub mod Opening
+pub mod Logging
+pub mod Reopening
 pub mod Running
 pub mod Finishing
 pub mod Living

@@ -1,8 +1,9 @@
 -- A schedule's hub has no more turns than its lines, so that one turn more finds it over; and it never fails.
-use Rattle.std.specs.Prelude.{ℕ, List, [], ◌∷◌, ◌++◌, ◌≡◌, ◌+◌, ◌<◌, ◌≤◌, ◌⊎◌, ◌||◌, Bool, true, false, Option, Some, Result, Ok, Err, OnErr, IfSome, length, take}
+use Rattle.std.specs.Prelude.{ℕ, List, [], ◌∷◌, ◌++◌, ◌≡◌, ◌+◌, ◌<◌, ◌≤◌, ◌⊎◌, ◌||◌, Bool, true, false, Option, None, Some, Result, Ok, Err, MatchResult, IfSome, length, take}
 use Rattle.std.specs.Option.{option_map}
 use Rattle.std.proofs.Common.{refl, sym, ap, ◌∙◌, subst, inl, inr, arith, length-append, length-take}
 use Rattle.std.proofs.lemmas.List.Sums.{sum_by-cons}
+use Rattle.std.specs.Borrow.{Bor}
 use Rattle.djq_io.specs.Hub.{Ids, no_ids}
 use Rattle.djq_io.specs.MemHub.{Recorded}
 use Rattle.djq_io.specs.Script.{Script, Passes, Cuts, Sends}
@@ -18,19 +19,25 @@ use Rattle.djq_io.specs.declared.hub.Told.{Told}
 use Rattle.djq_io.specs.declared.hub.Told.TheVariants.{Listening, Turning, Sending, Closing}
 use Rattle.djq_model.specs.Data.{Bytes}
 use Rattle.djq_machine.specs.State.{State}
-use Rattle.djq_machine.specs.Run.{Walk}
+use Rattle.djq_machine.specs.Run.{Walk, groups_of}
 use Rattle.djq_machine.specs.Call.{Counts}
 use Rattle.djq_laws.specs.declared.limits.TheConstants.{READ_BYTES}
+use Rattle.djq_run.specs.declared.status.Status.{Status}
+use Rattle.djq_run.specs.declared.status.Status.TheVariants.{NoMemory}
 use Rattle.djq_schedule.specs.Schedule.{lines_of}
 use Rattle.djq_schedule.specs.Made.{IsMade}
 use Rattle.djq_schedule.specs.Sent.{sent_text}
 use Rattle.djq_schedule.proofs.Counting.{AllShort, turn_for_each_line, turns_are_short}
 use Rattle.djq_serve.specs.declared.served.Served.{Served}
-use Rattle.djq_serve.specs.declared.served.Served.TheVariants.{Stopped, Over, TurnsUsed as AllTaken, HubFault as HubFailed}
+use Rattle.djq_serve.specs.declared.served.Served.TheVariants.{Stopped, Over, TurnsUsed as AllTaken, HubFault as HubFailed, DiskFault as DiskFailed, LogFull}
 use Rattle.djq_serve.specs.Told.{Shown, shown, Place, place, Answers as IsAnswered, turn_is_over, turn_is_failed, by_turn, has_over, has_failed, turn_in, turns_in}
-use Rattle.djq_serve.specs.Server.{all_told}
+use Rattle.djq_serve.specs.Server.{all_told, all_done}
+use Rattle.djq_serve.specs.Logged.{UnkeptIsSilent}
 use Rattle.djq_serve.specs.Ends.{FaultsCount, ServeEnds}
-use Rattle.djq.specs.Replay.{hub_of, IsWhole, Plays, Replays, LacksMemory}
+use Rattle.djq.specs.Logged.{DiskSeen, LogSeen, log_seen, IsUnasked, status_of, Begins, Logs}
+use Rattle.djq.specs.Replay.{hub_of, IsWhole, Plays, ComesTo, ComesToNothing, first_fault}
+use Rattle.djq.specs.Parts.{TellsAll, TellsNone}
+use Rattle.djq.proofs.Logging.{never_began}
 
 -- the next turn of a script is gone, and those that are left are short too
 record OneLess (old new : List Coming) : Type 0 where
@@ -112,12 +119,14 @@ no_fault : FaultsCount HubFailed 0 0 → ⊥
 no_fault (least, inl rose) = absurd (omega (arith, rose))
 no_fault (least, inr top) = absurd (omega (arith, top))
 
--- Serving such a hub, which tells its turns to the end, ends as it is over, or a session says `stop`.
+-- Serving such a hub, which tells its turns to the end, ends as it is over, a session says `stop`, or the log fails.
 is_whole : (answer : Served) (turns : List Coming) (most : ℕ) (counted counted' : Counts) (start state : State) (past : Option (List Told)) (left : Script) (ids : Ids)
     → ServeEnds answer most (hub_of turns) counted start (shown past (Some left) ids) counted' state
     → FaultsCount answer 0 0 → AllShort turns → length turns < most → IsWhole answer
 is_whole Stopped turns most counted counted' start state past left ids ends faults all fewer = tt
 is_whole Over turns most counted counted' start state past left ids ends faults all fewer = tt
+is_whole DiskFailed turns most counted counted' start state past left ids ends faults all fewer = tt
+is_whole LogFull turns most counted counted' start state past left ids ends faults all fewer = tt
 is_whole HubFailed turns most counted counted' start state past left ids ends faults all fewer = no_fault faults
 is_whole AllTaken turns most counted counted' start state past left ids ends faults all fewer =
     let begin = place (record { blocked = []; turns = turns }) no_ids in
@@ -143,44 +152,95 @@ made_steady bytes hub made = record {
   past = subst (λ (past : Option (List Told)). IfSome past (λ told. has_gone told ≡ false)) (sym made.past) refl;
 }
 
+-- How serving ended, and what of it is in the log.
+pub record EndsKept (log : Option LogSeen) (found : List Bytes) (answer : Served) (most : ℕ) (hub : Shown) (loaded : Counts) (start : State) (hub' : Shown)
+    (counted' : Counts) (state : State) : Type 0 where
+  pub ends : ServeEnds answer most hub loaded start hub' counted' state
+  pub logs : Logs log found answer (groups_of (all_done ends.goes.moves))
+  pub silent : UnkeptIsSilent answer ends.goes.moves
+
 -- The hub of a schedule was served.
-pub plays : (bytes : Bytes) (made hub hub' : Recorded) (answer : Served) (most : ℕ) (counted counted' : Counts) (machine start state : State) → IsMade bytes made → hub ≡ made
-    → most ≡ length (lines_of bytes) + 1 → machine ≡ start → ServeEnds answer most (steady hub) counted machine (steady hub') counted' state
-    → FaultsCount answer 0 0 → Plays start made.script.turns (length (lines_of bytes) + 1) counted counted' hub'.past
-plays bytes made hub hub' answer most counted counted' machine start state is_made same is_most is_start ends faults =
+pub plays : (log : Option LogSeen) (found : List Bytes) (bytes : Bytes) (made hub hub' : Recorded) (answer : Served) (most : ℕ) (counted loaded counted' : Counts) (start state : State)
+    → Begins log found counted start loaded → IsMade bytes made → hub ≡ made → most ≡ length (lines_of bytes) + 1
+    → EndsKept log found answer most (steady hub) loaded start (steady hub') counted' state
+    → FaultsCount answer 0 0 → Plays log made.script.turns (length (lines_of bytes) + 1) counted counted' hub'.past
+plays log found bytes made hub hub' answer most counted loaded counted' start state begins is_made same is_most ends faults =
     let turns = made.script.turns in
     let lines = length (lines_of bytes) in
     let of_made = ap steady same ∙ made_hub bytes made is_made in
-    let from_start : ServeEnds answer most (hub_of turns) counted start (steady hub') counted' state =
-    subst (λ (st : State). ServeEnds answer most (hub_of turns) counted st (steady hub') counted' state) is_start
-    (subst (λ (h : Shown). ServeEnds answer most h counted machine (steady hub') counted' state) of_made ends) in
-    let served = subst (λ (n : ℕ). ServeEnds answer n (hub_of turns) counted start (steady hub') counted' state) is_most from_start in
+    let of_turns : EndsKept log found answer most (hub_of turns) loaded start (steady hub') counted' state =
+    subst (λ (h : Shown). EndsKept log found answer most h loaded start (steady hub') counted' state) of_made ends in
+    let served : EndsKept log found answer (lines + 1) (hub_of turns) loaded start (steady hub') counted' state =
+    subst (λ (n : ℕ). EndsKept log found answer n (hub_of turns) loaded start (steady hub') counted' state) is_most of_turns in
     let more = turn_for_each_line bytes turns is_made.turns in
     record {
+      found = found;
+      start = start;
+      loaded = loaded;
+      begins = begins;
       left = hub'.script;
       ids = hub'.ids;
       state = state;
       answer = answer;
-      ends = served;
-      whole = is_whole answer turns (lines + 1) counted counted' start state hub'.past hub'.script hub'.ids served faults (turns_are_short bytes turns is_made.turns) (omega (arith, more));
+      ends = served.ends;
+      logs = served.logs;
+      silent = served.silent;
+      whole = is_whole answer turns (lines + 1) loaded counted' start state hub'.past hub'.script hub'.ids served.ends faults (turns_are_short bytes turns is_made.turns) (omega (arith, more));
     }
 
--- Its past is told at the end.
-pub replays : (start : State) (turns : List Coming) (most : ℕ) (counted counted' : Counts) (hub' : Recorded) (told : List Told) (text : Bytes) → Plays start turns most counted counted' hub'.past
-    → Some told ≡ hub'.past → NeverFails hub' → text ≡ sent_text told → Replays start turns most counted counted' text
-replays start turns most counted counted' hub' told text played past quiet is_text = record {
+-- What becomes of a result.
+pub match_so : {A E : Type 0} (r : Result A E) (P Q : A → Type 0) (M N : E → Type 0) → ((a : A) → P a → Q a) → ((e : E) → M e → N e)
+    → MatchResult r P M → MatchResult r Q N
+match_so (Ok a) P Q M N ok err h = ok a h
+match_so (Err e) P Q M N ok err h = err e h
+
+-- Its past is told at the end, or there is no memory for it.
+pub comes_to : (log : Option LogSeen) (bytes : Bytes) (turns : List Coming) (counted counted' : Counts) (past : Option (List Told)) (whole : Status)
+    (p : Plays log turns (length (lines_of bytes) + 1) counted counted' past) → whole ≡ status_of p.answer
+    → (text : Bytes) (status : Status) → TellsAll text status past whole → ComesTo log (Ok turns) bytes counted counted' text status
+comes_to log bytes turns counted counted' past whole p is text status tells =
+    let both = subst (λ (o : Option (List Told)). (q : Plays log turns (length (lines_of bytes) + 1) counted counted' o) × (whole ≡ status_of q.answer)) tells.is_told (p, is) in
+    record { told = tells.told; plays = both.0; none_gone = tells.none_gone; sent = tells.sent; is = tells.is ∙ both.1 }
+
+pub comes_to_nothing : (log : Option LogSeen) (bytes : Bytes) (turns : List Coming) (counted counted' : Counts) (past : Option (List Told)) (whole : Status)
+    (p : Plays log turns (length (lines_of bytes) + 1) counted counted' past) → whole ≡ status_of p.answer
+    → (status : Status) → TellsNone status whole → ComesToNothing log status (Ok turns) bytes counted counted'
+comes_to_nothing log bytes turns counted counted' past whole p is status none =
+    inr (record { past = past; plays = p; is = none ∙ ap (λ (s : Status). first_fault s NoMemory) is })
+
+-- The hub was served, and its past is told, or there is no memory for it.
+pub schedule_served : {A : Type 0} (r : Result A Status) (text : A → Bytes) (answered : A → Status) (log : Option LogSeen) (found : List Bytes) (bytes : Bytes) (made hub hub' : Recorded)
+    (answer : Served) (most : ℕ) (counted loaded counted' : Counts) (start state : State) (whole : Status)
+    → Begins log found counted start loaded → IsMade bytes made → hub ≡ made → most ≡ length (lines_of bytes) + 1
+    → EndsKept log found answer most (steady hub) loaded start (steady hub') counted' state
+    → FaultsCount answer 0 0 → whole ≡ status_of answer
+    → MatchResult r (λ a. TellsAll (text a) (answered a) hub'.past whole) (λ status. TellsNone status whole)
+    → MatchResult r (λ a. ComesTo log (Ok made.script.turns) bytes counted counted' (text a) (answered a)) (λ status. ComesToNothing log status (Ok made.script.turns) bytes counted counted')
+unfolding plays
+schedule_served (Ok a) text answered log found bytes made hub hub' answer most counted loaded counted' start state whole begins is_made same is_most ends faults is tells =
+    comes_to log bytes made.script.turns counted counted' hub'.past whole
+    (plays log found bytes made hub hub' answer most counted loaded counted' start state begins is_made same is_most ends faults) is (text a) (answered a) tells
+schedule_served (Err status) text answered log found bytes made hub hub' answer most counted loaded counted' start state whole begins is_made same is_most ends faults is none =
+    comes_to_nothing log bytes made.script.turns counted counted' hub'.past whole
+    (plays log found bytes made hub hub' answer most counted loaded counted' start state begins is_made same is_most ends faults) is status none
+
+-- A hub in memory tells its past.
+pub tells_past : (told : List Told) (past : Option (List Told)) (text : Bytes) (whole : Status) → past ≡ Some told → IfSome past (λ p. has_gone p ≡ false) → text ≡ sent_text told → TellsAll text whole past whole
+tells_past told past text whole is steady sent = record {
   told = told;
-  plays = subst (λ (p : Option (List Told)). Plays start turns most counted counted' p) (sym past) played;
-  none_gone = subst (λ (p : Option (List Told)). IfSome p (λ t. has_gone t ≡ false)) (sym past) quiet.past;
-  sent = is_text;
+  is_told = is;
+  none_gone = subst (λ (p : Option (List Told)). IfSome p (λ t. has_gone t ≡ false)) is steady;
+  sent = sent;
+  is = refl;
 }
 
--- Nothing was counted.
-pub none_counted : (start : State) (r : Result (List Coming) ℕ) (bytes : Bytes) (counted : Counts) → LacksMemory start r bytes counted counted
-none_counted start (Err n) bytes counted = refl
-none_counted start (Ok turns) bytes counted = inl refl
+-- Where nothing was asked of the disk nothing was asked of a log.
+pub unasked : (path : Option (Bor Bytes)) (disk : DiskSeen) → IsUnasked (log_seen path disk disk)
+unasked None disk = tt
+unasked (Some path) disk = refl
 
--- what holds in any case
-pub on_err : {A E : Type 0} (r : Result A E) (P : Type 0) → P → OnErr r P
-on_err (Ok a) P h = tt
-on_err (Err e) P h = h
+-- Out of memory as the schedule was read.
+pub nothing_comes : (path : Option (Bor Bytes)) (disk : DiskSeen) (r : Result (List Coming) ℕ) (bytes : Bytes) (counted : Counts)
+    → ComesToNothing (log_seen path disk disk) NoMemory r bytes counted counted
+nothing_comes path disk (Err n) bytes counted = (refl, refl, unasked path disk)
+nothing_comes path disk (Ok turns) bytes counted = inl (never_began path disk counted)

@@ -1,10 +1,8 @@
 -- The headline of the program's run, from the state that it starts from.
 use Rattle.std.specs.Prelude.{ℕ, List, [], ◌≡◌, Option, Result, Ok, Err, OnErr}
 use Rattle.std.proofs.Common.{refl, subst, inl}
-use Rattle.djq_io.specs.declared.hub.Listened.TheVariants.{Ready}
 use Rattle.djq_model.specs.Data.{Bytes}
 use Rattle.djq_machine.specs.State.{State, opening}
-use Rattle.djq_machine.specs.Call.{Counts}
 use Rattle.djq_laws.specs.Course.{Outside}
 use Rattle.djq_laws.proofs.Heading.{headline}
 use Rattle.djq_run.specs.declared.status.Status.{Status}
@@ -12,11 +10,10 @@ use Rattle.djq_run.specs.declared.status.Status.TheVariants.{NoMemory}
 use Rattle.djq_run.specs.Ends.{RunEnds}
 use Rattle.djq_run.proofs.Ending.{not_begun}
 use Rattle.djq_serve.specs.declared.served.Served.{Served}
-use Rattle.djq_serve.specs.Told.{Shown}
-use Rattle.djq_serve.specs.Ends.{ServeEnds, FaultsCount}
+use Rattle.djq_serve.specs.Ends.{FaultsCount}
 use Rattle.djq_words.specs.declared.commands.Asked.{Asked}
 use Rattle.djq_words.specs.Asks.{Answers}
-use Rattle.djq.specs.Ends.{Serves, HubSeen, Listens, HubEnds, status_of}
+use Rattle.djq.specs.Ends.{Serves}
 
 -- The machine was at the start, and no session is open there.
 pub serves : (status : Status) (before now : Outside) (machine start state : State) → machine ≡ start → start.sessions ≡ [] → RunEnds status before now machine state → Serves start status before now
@@ -27,20 +24,6 @@ serves status before now machine start state e none run =
 -- out of memory before anything was done
 pub serves_nothing : (o : Outside) → Serves opening NoMemory o o
 serves_nothing o = serves NoMemory o o opening opening opening refl refl (not_begun o opening opening refl)
-
--- The hub listened, and the loop served it.
-pub served_hub : (answer : Served) (status : Status) (addr : Bytes) (turns : ℕ) (hub : HubSeen) (ready : Shown) (counted : Counts) (hub' : HubSeen) (counted' : Counts) (machine start state : State) → machine ≡ start
-    → Listens addr Ready hub.shown ready → ServeEnds answer turns ready counted machine hub'.shown counted' state → FaultsCount answer hub.faults hub'.faults → status ≡ status_of answer
-    → HubEnds start status addr turns hub counted hub' counted'
-served_hub answer status addr turns hub ready counted hub' counted' machine start state e listens ends faults is = inl (record {
-  ready = ready;
-  listens = listens;
-  state = state;
-  answer = answer;
-  ends = subst (λ (st : State). ServeEnds answer turns ready counted st hub'.shown counted' state) e ends;
-  faults = faults;
-  is = is;
-})
 
 -- a fault of the hub over both calls
 pub faults_from : (answer : Served) (a b c : ℕ) → b ≡ a → FaultsCount answer b c → FaultsCount answer a c

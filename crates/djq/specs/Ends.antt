@@ -1,5 +1,5 @@
 -- How the program ends: what its status says of the run of the join machine that it made.
-use Rattle.std.specs.Prelude.{ℕ, List, [], ◌∷◌, ◌≡◌, ◌<◌, ◌⊎◌, Bool, true, false, Option, None, Some, length, take, drop, codes}
+use Rattle.std.specs.Prelude.{ℕ, List, [], ◌∷◌, ◌≡◌, ◌<◌, ◌⊎◌, Bool, true, false, Option, None, Some, is_some, length, take, drop, codes}
 use Rattle.djq_io.specs.Faults.{Counted}
 use Rattle.djq_io.specs.Sink.{Gains}
 use Rattle.djq_io.specs.Written.{GainsBytes, FailsBehind}
@@ -10,25 +10,28 @@ use Rattle.djq_io.specs.declared.hub.Told.TheVariants.{Listening}
 use Rattle.djq_model.specs.Data.{Bytes}
 use Rattle.djq_lines.specs.Reply.{line}
 use Rattle.djq_machine.specs.State.{State, opening}
+use Rattle.djq_machine.specs.Run.{groups_of}
 use Rattle.djq_machine.specs.Call.{Counts}
 use Rattle.djq_laws.specs.Course.{Outside}
 use Rattle.djq_laws.specs.Given.{Headline}
 use Rattle.djq_run.specs.declared.status.Status.{Status}
-use Rattle.djq_run.specs.declared.status.Status.TheVariants.{Done, Usage, WriteFault, HubFault, TurnsUsed, NoMemory}
+use Rattle.djq_run.specs.declared.status.Status.TheVariants.{Usage, WriteFault, HubFault, NoMemory}
 use Rattle.djq_run.specs.Ends.{RunEnds}
 use Rattle.djq_serve.specs.declared.served.Served.{Served}
-use Rattle.djq_serve.specs.declared.served.Served.TheVariants.{Stopped, Over, TurnsUsed as AllTaken, HubFault as HubFailed}
 use Rattle.djq_serve.specs.Told.{Shown}
+use Rattle.djq_serve.specs.Server.{all_done}
+use Rattle.djq_serve.specs.Logged.{UnkeptIsSilent}
 use Rattle.djq_serve.specs.Ends.{ServeEnds, FaultsCount}
 use Rattle.djq_words.specs.declared.commands.Asked.{Asked}
 use Rattle.djq_words.specs.declared.commands.Asked.TheVariants.{Run, Serve, Replay, Gen}
 use Rattle.djq_words.specs.Asks.{Asks, Answers}
+use Rattle.djq.specs.Logged.{DiskSeen, LogSeen, log_seen, status_of, Begins, Logs, FoundIn, NeverBegins}
 use Rattle.djq.specs.Gen.{GenEnds}
 use Rattle.djq.specs.Replay.{ReplayEnds}
 
 -- the line that tells the commands
 abbrev pub usage_line : Bytes
-usage_line = line (codes "usage: djq run | serve ADDR [--turns N] | replay | gen N SEED")
+usage_line = line (codes "usage: djq run | serve ADDR [--turns N] [--log PATH] | replay [--log PATH] | gen N SEED")
 
 -- **The theorem of `run`.** There is a run of the join machine from the start to this state.
 -- The pieces that it was fed are those that were read, in order, and what was read is run and
@@ -56,45 +59,44 @@ pub record Listens (addr : Bytes) (answer : Listened) (old new : Shown) : Type 0
   pub script : WhereTold old.script new.script (λ a b. b ≡ a)
   pub ids : new.ids ≡ old.ids
 
--- the status that the answer of the loop comes to
-abbrev pub status_of : Served → Status
-status_of Stopped = Done
-status_of Over = Done
-status_of AllTaken = TurnsUsed
-status_of HubFailed = HubFault
-
--- **The theorem of `serve`.** The hub listened at the address, and then the server served it from
--- the start on: by moves that are a run of the join machine, of which the hub tells, with each
--- session sent what is its; and the status says exactly why it ended.
-pub record ServesHub (start : State) (status : Status) (addr : Bytes) (turns : ℕ) (hub : HubSeen)
+-- **The theorem of `serve`.** The lines of the log were loaded, the hub listened at the address, and
+-- then the server served it from what they gave on: by moves that are a run of the join machine, of
+-- which the hub tells, with each session sent what is its. What the run keeps is in the log, before
+-- anything is sent behind it. And the status says exactly why it ended.
+pub record ServesHub (log : Option LogSeen) (status : Status) (addr : Bytes) (turns : ℕ) (hub : HubSeen)
     (counted : Counts) (hub' : HubSeen) (counted' : Counts) : Type 0 where
+  pub found : List Bytes
+  pub start : State
+  pub loaded : Counts
+  pub begins : Begins log found counted start loaded
   pub ready : Shown
   pub listens : Listens addr Ready hub.shown ready
   pub state : State
   pub answer : Served
-  pub ends : ServeEnds answer turns ready counted start hub'.shown counted' state
+  pub ends : ServeEnds answer turns ready loaded start hub'.shown counted' state
   pub faults : FaultsCount answer hub.faults hub'.faults
+  pub logs : Logs log found answer (groups_of (all_done ends.goes.moves))
+  pub silent : UnkeptIsSilent answer ends.goes.moves
   pub is : status ≡ status_of answer
 
--- The hub failed to listen.
-pub record Unheard (status : Status) (addr : Bytes) (hub : HubSeen) (counted : Counts)
+-- The lines of the log were loaded, and the hub failed to listen.
+pub record Unheard (log : Option LogSeen) (status : Status) (addr : Bytes) (hub : HubSeen) (counted : Counts)
     (hub' : HubSeen) (counted' : Counts) : Type 0 where
+  pub found : List Bytes
+  pub start : State
+  pub begins : Begins log found counted start counted'
+  pub gate : Option ℕ
+  pub lines : FoundIn log found gate
   pub listens : Listens addr Failed hub.shown hub'.shown
   pub faults : Counted hub.faults hub'.faults
-  pub none_counted : counted' ≡ counted
   pub is : status ≡ HubFault
 
--- Out of memory before anything was done.
-abbrev pub NothingServed : Status → HubSeen → Counts → HubSeen → Counts → Type 0
-NothingServed status hub counted hub' counted' = (status ≡ NoMemory) × (hub' ≡ hub)
-    × (counted' ≡ counted)
-
--- How `serve` ends.
-abbrev pub HubEnds : State → Status → Bytes → ℕ → HubSeen → Counts → HubSeen → Counts → Type 0
-HubEnds start status addr turns hub counted hub' counted' =
-    ServesHub start status addr turns hub counted hub' counted'
-    ⊎ (Unheard status addr hub counted hub' counted'
-    ⊎ NothingServed status hub counted hub' counted')
+-- How `serve` ends: it served, it wasn't heard, or nothing began.
+abbrev pub HubEnds : Option LogSeen → Status → Bytes → ℕ → HubSeen → Counts → HubSeen → Counts → Type 0
+HubEnds log status addr turns hub counted hub' counted' =
+    ServesHub log status addr turns hub counted hub' counted'
+    ⊎ (Unheard log status addr hub counted hub' counted'
+    ⊎ (NeverBegins log status counted counted' × (hub' ≡ hub)))
 
 -- nothing was read or counted
 pub record OnlyWrites (before now : Outside) : Type 0 where
@@ -126,29 +128,38 @@ pub record NoneRead (before now : Outside) : Type 0 where
 
 -- The words ask for the sessions of the hub.
 abbrev pub is_serve : Asked → Bool
-is_serve (Serve addr turns) = true
+is_serve (Serve addr turns log) = true
 is_serve _ = false
 
 abbrev pub AsksToServe : List Bytes → Type 0
 AsksToServe words = (asked : Asked) × (is_serve asked ≡ true) × Asks words asked
 
--- How the program ends, by what its words ask for and by the state that it starts from.
-abbrev pub EndsAs : State → Option Asked → Status → Outside → HubSeen → Outside → HubSeen → Type 0
-EndsAs start None status before hub now hub' = Explains status before now × (hub' ≡ hub)
-EndsAs start (Some Run) status before hub now hub' =
-    Serves start status before now × (hub' ≡ hub)
-EndsAs start (Some (Serve addr turns)) status before hub now hub' =
-    HubEnds start status addr.now turns hub before.counted hub' now.counted × NoTransfer before now
-EndsAs start (Some Replay) status before hub now hub' =
-    ReplayEnds start status before now × (hub' ≡ hub)
-EndsAs start (Some (Gen n seed)) status before hub now hub' =
-    GenEnds start status n seed before.writing before.write_faults before.counted now.writing
+-- The words ask for a log.
+abbrev pub has_log : Asked → Bool
+has_log (Serve addr turns log) = is_some log
+has_log (Replay log) = is_some log
+has_log _ = false
+
+abbrev pub AsksForLog : List Bytes → Type 0
+AsksForLog words = (asked : Asked) × (has_log asked ≡ true) × Asks words asked
+
+-- How the program ends, by what its words ask for. What it starts from is the state in which nothing
+-- has happened, or what lines found in a log give.
+abbrev pub EndsAs : Option Asked → Status → Outside → HubSeen → DiskSeen → Outside → HubSeen → DiskSeen → Type 0
+EndsAs None status before hub disk now hub' disk' = Explains status before now × (hub' ≡ hub)
+EndsAs (Some Run) status before hub disk now hub' disk' =
+    Serves opening status before now × (hub' ≡ hub)
+EndsAs (Some (Serve addr turns log)) status before hub disk now hub' disk' =
+    HubEnds (log_seen log disk disk') status addr.now turns hub before.counted hub' now.counted × NoTransfer before now
+EndsAs (Some (Replay log)) status before hub disk now hub' disk' =
+    ReplayEnds (log_seen log disk disk') status before now × (hub' ≡ hub)
+EndsAs (Some (Gen n seed)) status before hub disk now hub' disk' =
+    GenEnds opening status n seed before.writing before.write_faults before.counted now.writing
     now.write_faults now.counted × NoneRead before now × (hub' ≡ hub)
 
--- How the program ends, by the words of its command line: as what they ask for, from the state in
--- which nothing has happened, and as no command where they ask for nothing; or out of memory before
--- they were read.
-abbrev pub ProgramEnds : Status → List Bytes → Outside → HubSeen → Outside → HubSeen → Type 0
-ProgramEnds status words before hub now hub' =
-    ((asked : Option Asked) × Answers words asked × EndsAs opening asked status before hub now hub')
+-- How the program ends, by the words of its command line: as what they ask for, and as no command
+-- where they ask for nothing; or out of memory before they were read.
+abbrev pub ProgramEnds : Status → List Bytes → Outside → HubSeen → DiskSeen → Outside → HubSeen → DiskSeen → Type 0
+ProgramEnds status words before hub disk now hub' disk' =
+    ((asked : Option Asked) × Answers words asked × EndsAs asked status before hub disk now hub' disk')
     ⊎ ((status ≡ NoMemory) × (now ≡ before) × (hub' ≡ hub))

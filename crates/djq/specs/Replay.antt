@@ -12,19 +12,23 @@ use Rattle.djq_io.specs.declared.hub.Coming.{Coming}
 use Rattle.djq_io.specs.declared.hub.Told.{Told}
 use Rattle.djq_model.specs.Data.{Bytes}
 use Rattle.djq_machine.specs.State.{State}
+use Rattle.djq_machine.specs.Run.{groups_of}
 use Rattle.djq_machine.specs.Call.{Counts}
 use Rattle.djq_laws.specs.declared.limits.TheConstants.{MOST_READS}
 use Rattle.djq_laws.specs.Course.{Outside}
 use Rattle.djq_run.specs.declared.status.Status.{Status}
-use Rattle.djq_run.specs.declared.status.Status.TheVariants.{Done, ReadFault, WriteFault, TurnsUsed, NoMemory, Schedule}
+use Rattle.djq_run.specs.declared.status.Status.TheVariants.{ReadFault, WriteFault, TurnsUsed, NoMemory, Schedule, DiskFault, LogFull}
 use Rattle.djq_run.specs.Ends.{IsAtEnd}
 use Rattle.djq_schedule.specs.Schedule.{lines_of}
 use Rattle.djq_schedule.specs.Made.{turns_of}
 use Rattle.djq_schedule.specs.Sent.{sent_text, outside_line}
 use Rattle.djq_serve.specs.declared.served.Served.{Served}
-use Rattle.djq_serve.specs.declared.served.Served.TheVariants.{Stopped, Over, TurnsUsed as AllTaken, HubFault as HubFailed}
+use Rattle.djq_serve.specs.declared.served.Served.TheVariants.{TurnsUsed as AllTaken, HubFault as HubFailed}
 use Rattle.djq_serve.specs.Told.{Shown, shown}
+use Rattle.djq_serve.specs.Server.{all_done}
+use Rattle.djq_serve.specs.Logged.{UnkeptIsSilent}
 use Rattle.djq_serve.specs.Ends.{ServeEnds}
+use Rattle.djq.specs.Logged.{LogSeen, IsUnasked, status_of, Begins, Logs, NeverBegins}
 
 -- The source gave these bytes, in pieces.
 pub record Gave (before now : Option Reading) (bytes : Bytes) : Type 0 where
@@ -58,57 +62,76 @@ pub record StopsReading (status : Status) (before now : Option Reading) (faults 
 abbrev pub hub_of : List Coming → Shown
 hub_of turns = shown (Some []) (Some (record { blocked = []; turns = turns })) no_ids
 
--- whether serving ended as the hub was over, or a session said `stop`
+-- whether serving ended as the hub was over, a session said `stop`, or the log failed
 abbrev pub IsWhole : Served → Type 0
-IsWhole Stopped = Unit {0}
-IsWhole Over = Unit {0}
 IsWhole AllTaken = ⊥
 IsWhole HubFailed = ⊥
+IsWhole _ = Unit {0}
 
--- The hub of these turns was served from the start on, until it was over or a session said
--- `stop`: by moves that are a run of the join machine, which counted no more of listings than it may
--- cost, with each session sent what is its. The hub tells what is left of its turns, so each turn
--- that was taken is the next of these. At the end it tells this past.
-pub record Plays (start : State) (turns : List Coming) (most : ℕ) (counted counted' : Counts)
+-- The lines of the log were loaded, and the hub of these turns was served from what they gave on,
+-- until it was over, a session said `stop`, or the log failed: by moves that are a run of the join
+-- machine, which counted no more of listings than it may cost, with each session sent what is its.
+-- What the run keeps is in the log. The hub tells what is left of its turns, so each turn that was
+-- taken is the next of these. At the end it tells this past.
+pub record Plays (log : Option LogSeen) (turns : List Coming) (most : ℕ) (counted counted' : Counts)
     (past : Option (List Told)) : Type 0 where
+  pub found : List Bytes
+  pub start : State
+  pub loaded : Counts
+  pub begins : Begins log found counted start loaded
   pub left : Script
   pub ids : Ids
   pub state : State
   pub answer : Served
-  pub ends : ServeEnds answer most (hub_of turns) counted start (shown past (Some left) ids)
+  pub ends : ServeEnds answer most (hub_of turns) loaded start (shown past (Some left) ids)
       counted' state
+  pub logs : Logs log found answer (groups_of (all_done ends.goes.moves))
+  pub silent : UnkeptIsSilent answer ends.goes.moves
   pub whole : IsWhole answer
 
 -- **The theorem of `replay`.** The hub of these turns was served, and tells all calls that it was
 -- asked. No send among them found its session gone: so each took all that was offered, unless the
--- session was blocked. And this text is the lines that were sent.
-pub record Replays (start : State) (turns : List Coming) (most : ℕ) (counted counted' : Counts)
-    (text : Bytes) : Type 0 where
+-- session was blocked. This text is the lines that were sent, and this the status that says why
+-- serving ended.
+pub record Replays (log : Option LogSeen) (turns : List Coming) (most : ℕ) (counted counted' : Counts)
+    (text : Bytes) (status : Status) : Type 0 where
   pub told : List Told
-  pub plays : Plays start turns most counted counted' (Some told)
+  pub plays : Plays log turns most counted counted' (Some told)
   pub none_gone : has_gone told ≡ false
   pub sent : text ≡ sent_text told
+  pub is : status ≡ status_of plays.answer
 
--- What is to be written for a schedule: the line that says which of its lines is the first outside
--- the grammar, and nothing is run; or what was sent, where none is. It is served for one turn more
--- than it has lines.
-abbrev pub ComesTo : State → Result (List Coming) ℕ → Bytes → Counts → Counts → Bytes → Type 0
-ComesTo start (Err n) bytes counted counted' text = (text ≡ outside_line n) × (counted' ≡ counted)
-ComesTo start (Ok turns) bytes counted counted' text =
-    Replays start turns (length (lines_of bytes) + 1) counted counted' text
+-- What is to be written for a schedule, and the status where it is: the line that says which of its
+-- lines is the first outside the grammar, and nothing is loaded or run; or what was sent, where none
+-- is. It is served for one turn more than it has lines.
+abbrev pub ComesTo : Option LogSeen → Result (List Coming) ℕ → Bytes → Counts → Counts → Bytes → Status → Type 0
+ComesTo log (Err n) bytes counted counted' text status = (text ≡ outside_line n)
+    × (status ≡ Schedule n) × (counted' ≡ counted) × IsUnasked log
+ComesTo log (Ok turns) bytes counted counted' text status =
+    Replays log turns (length (lines_of bytes) + 1) counted counted' text status
 
--- What was done for a schedule where memory was wanted: nothing was counted; or its hub was served
--- all the same, and what was sent couldn't be told.
-abbrev pub LacksMemory : State → Result (List Coming) ℕ → Bytes → Counts → Counts → Type 0
-LacksMemory start (Err n) bytes counted counted' = counted' ≡ counted
-LacksMemory start (Ok turns) bytes counted counted' = (counted' ≡ counted)
-    ⊎ ((past : Option (List Told))
-    × Plays start turns (length (lines_of bytes) + 1) counted counted' past)
+-- the status where two things failed: that of the log, where it failed as the schedule was run, and
+-- else that of what failed later
+abbrev pub first_fault : Status → Status → Status
+first_fault DiskFault later = DiskFault
+first_fault LogFull later = LogFull
+first_fault _ later = later
 
--- the status of a schedule whose text was written
-abbrev pub status_for : Result (List Coming) ℕ → Status
-status_for (Err n) = Schedule n
-status_for (Ok turns) = Done
+-- What was sent couldn't be told, for want of memory.
+pub record Untold (log : Option LogSeen) (status : Status) (turns : List Coming) (most : ℕ)
+    (counted counted' : Counts) : Type 0 where
+  pub past : Option (List Told)
+  pub plays : Plays log turns most counted counted' past
+  pub is : status ≡ first_fault (status_of plays.answer) NoMemory
+
+-- What was done for a schedule of which nothing is to be written: nothing began, as the log wasn't
+-- loaded or memory was wanted; or its hub was served all the same, and what was sent couldn't be told.
+abbrev pub ComesToNothing : Option LogSeen → Status → Result (List Coming) ℕ → Bytes → Counts → Counts → Type 0
+ComesToNothing log status (Err n) bytes counted counted' = (status ≡ NoMemory) × (counted' ≡ counted)
+    × IsUnasked log
+ComesToNothing log status (Ok turns) bytes counted counted' =
+    NeverBegins log status counted counted'
+    ⊎ Untold log status turns (length (lines_of bytes) + 1) counted counted'
 
 -- The sink took all of the text, and the status is this; or it took a first part that isn't the
 -- whole, and then a write failed, which was the last.
@@ -116,33 +139,34 @@ abbrev pub Written : Status → Status → Bytes → Option (List Write) → ℕ
     → Type 0
 Written status whole text writing faults writing' faults' =
     ((status ≡ whole) × GainsBytes writing writing' text × (faults' ≡ faults))
-    ⊎ ((status ≡ WriteFault) × (n : ℕ) × (n < length text)
+    ⊎ ((status ≡ first_fault whole WriteFault) × (n : ℕ) × (n < length text)
     × FailsBehind writing writing' (take n text) (drop n text) × Counted faults faults')
 
--- What a schedule comes to was written; or memory was wanted, and nothing was. In both cases no more
--- was counted of listings than the run of the schedule may cost.
-abbrev pub WritesFor : State → Status → Bytes → Option (List Write) → ℕ → Counts
+-- What a schedule comes to was written; or it comes to nothing, and nothing was. In both cases no
+-- more was counted of listings than the run of the schedule may cost.
+abbrev pub WritesFor : Option LogSeen → Status → Bytes → Option (List Write) → ℕ → Counts
     → Option (List Write) → ℕ → Counts → Type 0
-WritesFor start status bytes writing faults counted writing' faults' counted' =
-    ((text : Bytes) × ComesTo start (turns_of bytes) bytes counted counted' text
-    × Written status (status_for (turns_of bytes)) text writing faults writing' faults')
-    ⊎ ((status ≡ NoMemory) × LacksMemory start (turns_of bytes) bytes counted counted'
+WritesFor log status bytes writing faults counted writing' faults' counted' =
+    ((text : Bytes) × (whole : Status) × ComesTo log (turns_of bytes) bytes counted counted' text whole
+    × Written status whole text writing faults writing' faults')
+    ⊎ (ComesToNothing log status (turns_of bytes) bytes counted counted'
     × (writing' ≡ writing) × (faults' ≡ faults))
 
 -- The whole schedule was read, and then written of.
-pub record WritesWhole (start : State) (status : Status) (before now : Outside) : Type 0 where
+pub record WritesWhole (log : Option LogSeen) (status : Status) (before now : Outside) : Type 0 where
   pub bytes : Bytes
   pub reads : ReadsWhole before.reading now.reading before.read_faults now.read_faults bytes
-  pub writes : WritesFor start status bytes before.writing before.write_faults before.counted now.writing
+  pub writes : WritesFor log status bytes before.writing before.write_faults before.counted now.writing
       now.write_faults now.counted
 
--- Reading stopped before the end: nothing is run or written.
-pub record Stops (status : Status) (before now : Outside) : Type 0 where
+-- Reading stopped before the end: nothing is loaded, run or written.
+pub record Stops (log : Option LogSeen) (status : Status) (before now : Outside) : Type 0 where
   pub reading : StopsReading status before.reading now.reading before.read_faults now.read_faults
   pub writing : now.writing ≡ before.writing
   pub no_fault : now.write_faults ≡ before.write_faults
   pub none_counted : now.counted ≡ before.counted
+  pub unasked : IsUnasked log
 
 -- How `replay` ends.
-abbrev pub ReplayEnds : State → Status → Outside → Outside → Type 0
-ReplayEnds start status before now = WritesWhole start status before now ⊎ Stops status before now
+abbrev pub ReplayEnds : Option LogSeen → Status → Outside → Outside → Type 0
+ReplayEnds log status before now = WritesWhole log status before now ⊎ Stops log status before now

@@ -1,6 +1,7 @@
 ghost use Rattle.std.specs.Prelude.{◌≡◌, []};
 
 use crate::program::run_program;
+use djq_disk::NoDisk;
 use djq_io::{HubCall, MemHub, MemSink, MemSource};
 use djq_run::Status;
 use djq_schedule::{ScheduleRefusal, schedule_hub, sent_text};
@@ -17,7 +18,15 @@ fn counted<L: Ledgers>(rt: &HostRuntime, blanks: Blanks, words: &[&str], hub: &m
     let mut source = MemSource::new(Vec::new(rt.alloc()), 8192);
     let mut sink = MemSink::new(rt.alloc());
     let mut steps = Steps::<L>::new(rt, blanks);
-    run_program(rt.alloc(), words, &mut source, &mut sink, hub, &mut steps)
+    run_program(
+        rt.alloc(),
+        words,
+        &mut source,
+        &mut sink,
+        hub,
+        &mut NoDisk,
+        &mut steps,
+    )
 }
 
 /// Serves the hub of a schedule, with counters of its own.

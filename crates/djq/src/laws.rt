@@ -1,5 +1,6 @@
 ghost use Rattle.djq.specs.Finished.{FinishedCursors};
 ghost use Rattle.djq.specs.Live.{RunIsLive, ServeIsLive};
+ghost use Rattle.djq.specs.Reopened.{LogsReopen};
 
 /// At each moment of a run of the program, a cursor that was open and had been told the end had
 /// listed every answer of its query over the rows that were there then, each once, and nothing
@@ -20,4 +21,11 @@ pub fn run_stays_live()
 /// So it is with each session that the program serves.
 pub fn serve_stays_live()
     ensures { ServeIsLive }
+{}
+
+/// What a stop leaves of a log behind the program's end opens to lines that, loaded, give what was
+/// there behind a first part of the lines that the run kept. That part has each line that was
+/// answered: all of them, but where the log failed the last.
+pub fn logs_reopen()
+    ensures { LogsReopen }
 {}

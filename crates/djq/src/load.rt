@@ -60,7 +60,7 @@ fn summarize<L: Ledgers>(
 
 /// The summary of a machine that ran a load, with the totals of its query.
 fn summary_text(alloc: Global, machine: &Core, totals: Totals) -> Result<Vec<u8>, AllocError>
-    ensures { IfOk result (λ text. text.items ≡ summary machine.now totals) }
+    ensures { IfOk result (λ text. text.items ≡ summary machine.now.state totals) }
 {
     let mut text = Vec::new(alloc);
     put_number(&mut text, b"rows ", machine.rows(&Name::new(b"r")))?;

@@ -1,9 +1,11 @@
 //! A join query server, as a program: `djq run` serves one session from standard input to standard
 //! output, `djq serve ADDR` the sessions that come over TCP, `djq replay` those of a schedule, and
-//! `djq gen N SEED` that of a generated load.
+//! `djq gen N SEED` that of a generated load. With `--log PATH` the second and the third begin with
+//! what the lines of that file give, and keep in it what changes that.
 //!
-//! [`run_program`] is the program over any source, sink and hub. Its contract says what was
-//! written: the replies of a run of the join machine, so it is the theorem of the whole product.
+//! [`run_program`] is the program over any source, sink, hub and disk. Its contract says what was
+//! written: the replies of a run of the join machine, so it is the theorem of the whole product. And
+//! it says what a stop at any moment leaves of the log.
 //! `main` makes the real ones, which tell no bytes, and calls it.
 #![tactic(auto)]
 
@@ -11,6 +13,9 @@
 mod hub_tests;
 mod laws;
 mod load;
+mod log;
+#[cfg(test)]
+mod log_tests;
 mod program;
 mod replay;
 mod telling;
@@ -19,11 +24,12 @@ mod tests;
 
 ghost use Rattle.std.specs.Prelude.{◌≡◌};
 
+use djq_file::FileDisk;
 use djq_io::{StdSink, StdSource};
 use djq_net::TcpHub;
 pub use djq_run::Status;
 use djq_steps::{Blanks, Ledgers, Steps};
-pub use laws::{finished_cursors_have_listed, run_stays_live, serve_stays_live};
+pub use laws::{finished_cursors_have_listed, logs_reopen, run_stays_live, serve_stays_live};
 pub use program::run_program;
 use std::alloc::AllocError;
 use std::marker::Brand;
@@ -46,6 +52,12 @@ fn say_why(rt: &HostRuntime, status: Status) {
             let _ = eprintln!(rt; "djq: line {line} of the schedule is outside its grammar");
             return;
         }
+        Status::BadLog(place) => {
+            let _ = eprintln!(rt; "djq: the log is bad from byte {place} on");
+            return;
+        }
+        Status::DiskFault => "the log can't be opened, read or written",
+        Status::LogFull => "the log is full",
         Status::Usage => "these words are no command",
         Status::TurnsUsed => "all turns were taken",
         Status::NoMemory => "out of memory",
@@ -70,6 +82,7 @@ fn start<L: Ledgers>(rt: &HostRuntime, blanks: Blanks) -> Result<Status, AllocEr
         &mut StdSource::new(Telling::new(rt.reader(), *rt)),
         &mut StdSink::new(Telling::new(io::writer(rt), *rt)),
         &mut TcpHub::new(*rt, alloc)?,
+        &mut FileDisk::new(*rt),
         &mut Steps::<L>::new(rt, blanks),
     ))
 }

@@ -1,39 +1,50 @@
-ghost use Rattle.std.specs.Prelude.{◌≡◌, ℕ, List, ◌+◌, ◌<◌, length, Option, Ok, IfOk, OnErr, MatchResult};
+ghost use Rattle.std.specs.Prelude.{◌≡◌, ℕ, List, ◌+◌, ◌<◌, length, Option, Ok, Err, MatchResult};
 ghost use Rattle.djq_io.specs.Source.{Reading};
-ghost use Rattle.djq_machine.specs.State.{opening};
 ghost use Rattle.djq_machine.specs.Call.{counts};
 ghost use Rattle.djq_laws.specs.Course.{outside};
 ghost use Rattle.djq_schedule.specs.Schedule.{lines_of};
 ghost use Rattle.djq_schedule.specs.Made.{turns_of, IsMade};
-ghost use Rattle.djq.specs.Replay.{ReadsWhole, StopsReading, Replays, ComesTo, LacksMemory, status_for, Written as Wrote, WritesFor, ReplayEnds};
+ghost use Rattle.djq_schedule.specs.Sent.{outside_line};
+ghost use Rattle.djq.specs.Logged.{disk_seen, log_seen};
+ghost use Rattle.djq.specs.Parts.{TellsAll, TellsNone};
+ghost use Rattle.djq.specs.Replay.{ReadsWhole, StopsReading, ComesTo, ComesToNothing, first_fault};
+ghost use Rattle.djq.specs.Replay.{Written as Wrote, WritesFor, ReplayEnds};
 
+use crate::log::open_log;
+use crate::program::ended_status;
 use djq_core::Core;
+use djq_disk::Disk;
 use djq_io::{MemHub, Read, Sink, Source, SteadyHub, Written, write_all};
 use djq_laws::limits::{MOST_READS, READ_BYTES};
 use djq_run::Status;
 use djq_schedule::{ScheduleRefusal, count_lines, outside_line, schedule_hub, sent_text};
-use djq_serve::serve;
+use djq_serve::serve_logged;
 use djq_steps::{Ledgers, Steps};
-use std::alloc::{AllocError, Global};
+use std::alloc::Global;
 
-/// Reads a schedule from the source, serves its hub, and writes each line that was sent to a
-/// session, in the order of the sends. What is served are the turns of the schedule, in order, until
-/// none is left or a session said `stop`. A schedule with a line outside the grammar isn't run, and
-/// the first such line is told. Out of memory nothing is written.
-pub(crate) fn replay<S: Source, K: Sink, L: Ledgers>(
+/// Reads a schedule from the source, serves its hub with the log at the path, if there is one, and
+/// writes each line that was sent to a session, in the order of the sends. What is served are the
+/// turns of the schedule, in order, until none is left, a session said `stop`, or the log failed. A
+/// schedule with a line outside the grammar isn't run, and the first such line is told. Out of memory
+/// nothing is written.
+pub(crate) fn replay<S: Source, K: Sink, D: Disk, L: Ledgers>(
     alloc: Global,
+    path: Option<&str>,
     source: &mut S,
     sink: &mut K,
+    disk: &mut D,
     steps: &mut Steps<L>,
 ) -> Status
-    ensures { ReplayEnds opening result
+    ensures { ReplayEnds (log_seen path.entry (disk_seen (D.told disk.old) (D.faults disk.old))
+        (disk_seen (D.told disk.new) (D.faults disk.new)))
+        result
         (outside (S.told source.old) (S.faults source.old) (K.told sink.old) (K.faults sink.old)
         (counts steps.old.listing steps.old.update steps.old.rows))
         (outside (S.told source.new) (S.faults source.new) (K.told sink.new) (K.faults sink.new)
         (counts steps.new.listing steps.new.update steps.new.rows)) }
 {
     match read_whole(alloc, source) {
-        Ok(bytes) => replay_schedule(alloc, &bytes, sink, steps),
+        Ok(bytes) => replay_schedule(alloc, &bytes, path, sink, disk, steps),
         Err(status) => status,
     }
 }
@@ -81,19 +92,23 @@ fn read_pieces<S: Source>(
 }
 
 /// Replays a schedule, and writes what it comes to.
-fn replay_schedule<K: Sink, L: Ledgers>(
+fn replay_schedule<K: Sink, D: Disk, L: Ledgers>(
     alloc: Global,
     bytes: &[u8],
+    path: Option<&str>,
     sink: &mut K,
+    disk: &mut D,
     steps: &mut Steps<L>,
 ) -> Status
-    ensures { WritesFor opening result bytes.now (K.told sink.old) (K.faults sink.old)
+    ensures { WritesFor (log_seen path.entry (disk_seen (D.told disk.old) (D.faults disk.old))
+        (disk_seen (D.told disk.new) (D.faults disk.new)))
+        result bytes.now (K.told sink.old) (K.faults sink.old)
         (counts steps.old.listing steps.old.update steps.old.rows) (K.told sink.new)
         (K.faults sink.new) (counts steps.new.listing steps.new.update steps.new.rows) }
 {
-    match make_text(alloc, bytes, steps) {
+    match make_text(alloc, bytes, path, disk, steps) {
         Ok((text, status)) => write_text(sink, &text, status),
-        Err(_) => Status::NoMemory,
+        Err(status) => status,
     }
 }
 
@@ -104,63 +119,124 @@ pub(crate) fn write_text<K: Sink>(sink: &mut K, text: &[u8], status: Status) -> 
 {
     match write_all(sink, text) {
         Written::All => status,
-        Written::Failed(_) => Status::WriteFault,
+        Written::Failed(_) => first_fault(status, Status::WriteFault),
+    }
+}
+
+/// The status where two things failed: the log's, if it failed as the schedule was run, and else that
+/// of what failed later.
+fn first_fault(status: Status, later: Status) -> Status
+    ensures { result ≡ first_fault status later }
+{
+    match status {
+        Status::DiskFault | Status::LogFull => status,
+        _ => later,
     }
 }
 
 /// What is to be written for a schedule, and the status where it is.
-fn make_text<L: Ledgers>(
+///
+/// # Errors
+///
+/// The status where nothing is to be written.
+fn make_text<D: Disk, L: Ledgers>(
     alloc: Global,
     bytes: &[u8],
+    path: Option<&str>,
+    disk: &mut D,
     steps: &mut Steps<L>,
-) -> Result<(Vec<u8>, Status), AllocError>
-    ensures text { IfOk result (λ made. ComesTo opening (turns_of bytes.now) bytes.now
-        (counts steps.old.listing steps.old.update steps.old.rows)
-        (counts steps.new.listing steps.new.update steps.new.rows) made.0.items) }
-    ensures status { IfOk result (λ made. made.1 ≡ status_for (turns_of bytes.now)) }
-    ensures memory { OnErr result (LacksMemory opening (turns_of bytes.now) bytes.now
-        (counts steps.old.listing steps.old.update steps.old.rows)
+) -> Result<(Vec<u8>, Status), Status>
+    ensures { MatchResult result
+        (λ made. ComesTo (log_seen path.entry (disk_seen (D.told disk.old) (D.faults disk.old))
+        (disk_seen (D.told disk.new) (D.faults disk.new)))
+        (turns_of bytes.now) bytes.now (counts steps.old.listing steps.old.update steps.old.rows)
+        (counts steps.new.listing steps.new.update steps.new.rows) made.0.items made.1)
+        (λ status. ComesToNothing (log_seen path.entry (disk_seen (D.told disk.old) (D.faults disk.old))
+        (disk_seen (D.told disk.new) (D.faults disk.new)))
+        status (turns_of bytes.now) bytes.now (counts steps.old.listing steps.old.update steps.old.rows)
         (counts steps.new.listing steps.new.update steps.new.rows)) }
 {
     match schedule_hub(alloc, bytes) {
-        Ok(hub) => Ok((serve_schedule(alloc, bytes, hub, steps)?, Status::Done)),
-        Err(ScheduleRefusal::Outside(number)) => {
-            Ok((outside_line(alloc, number)?, Status::Schedule(number)))
-        }
-        Err(ScheduleRefusal::NoMem) => Err(AllocError),
+        Ok(hub) => serve_schedule(alloc, bytes, hub, path, disk, steps),
+        Err(ScheduleRefusal::Outside(number)) => tell_outside(alloc, number),
+        Err(ScheduleRefusal::NoMem) => Err(Status::NoMemory),
+    }
+}
+
+/// The line that says which line of a schedule is the first outside the grammar, with its status.
+///
+/// # Errors
+///
+/// `NoMemory` out of memory.
+fn tell_outside(alloc: Global, number: u64) -> Result<(Vec<u8>, Status), Status>
+    ensures { MatchResult result
+        (λ made. (made.0.items ≡ outside_line number) × (made.1 ≡ Status.Schedule number))
+        (λ status. status ≡ Status.NoMemory) }
+{
+    match outside_line(alloc, number) {
+        Ok(text) => Ok((text, Status::Schedule(number))),
+        Err(_) => Err(Status::NoMemory),
     }
 }
 
 /// Serves the hub of a schedule, for one turn more than it has lines, and tells what was sent.
-fn serve_schedule<L: Ledgers>(
+fn serve_schedule<D: Disk, L: Ledgers>(
     alloc: Global,
     bytes: &[u8],
     hub: MemHub,
+    path: Option<&str>,
+    disk: &mut D,
     steps: &mut Steps<L>,
-) -> Result<Vec<u8>, AllocError>
+) -> Result<(Vec<u8>, Status), Status>
     requires { IsMade bytes.now hub }
-    ensures text { IfOk result (λ text. Replays opening hub.script.turns
-        (length (lines_of bytes.now) + 1)
-        (counts steps.old.listing steps.old.update steps.old.rows)
-        (counts steps.new.listing steps.new.update steps.new.rows) text.items) }
-    ensures memory { OnErr result (LacksMemory opening (Ok hub.script.turns) bytes.now
-        (counts steps.old.listing steps.old.update steps.old.rows)
+    ensures { MatchResult result
+        (λ made. ComesTo (log_seen path.entry (disk_seen (D.told disk.old) (D.faults disk.old))
+        (disk_seen (D.told disk.new) (D.faults disk.new)))
+        (Ok hub.script.turns) bytes.now (counts steps.old.listing steps.old.update steps.old.rows)
+        (counts steps.new.listing steps.new.update steps.new.rows) made.0.items made.1)
+        (λ status. ComesToNothing (log_seen path.entry (disk_seen (D.told disk.old) (D.faults disk.old))
+        (disk_seen (D.told disk.new) (D.faults disk.new)))
+        status (Ok hub.script.turns) bytes.now (counts steps.old.listing steps.old.update steps.old.rows)
         (counts steps.new.listing steps.new.update steps.new.rows)) }
 {
     let Ok(mut machine) = Core::new(alloc) else {
-        return Err(AllocError);
+        return Err(Status::NoMemory);
     };
-    let mut buffer = vec![in alloc; 0; READ_BYTES]?;
+    let Ok(mut buffer) = vec![in alloc; 0; READ_BYTES] else {
+        return Err(Status::NoMemory);
+    };
+    let mut log = match open_log(&mut machine, disk, path, steps) {
+        Ok(log) => log,
+        Err(status) => return Err(status),
+    };
     let mut hub = SteadyHub::of(hub);
-    serve(
+    let most = count_lines(bytes) + 1;
+    let served = serve_logged(
         &mut machine,
         &mut hub,
+        disk,
+        &mut log,
         &mut buffer,
-        count_lines(bytes) + 1,
+        most,
         steps,
     );
-    match hub.past() {
-        Some(past) => sent_text(alloc, past),
-        None => Err(AllocError),
+    tell_sent(alloc, &hub, ended_status(served))
+}
+
+/// The lines that a hub was sent, with the status.
+///
+/// # Errors
+///
+/// The status where there is no memory for them.
+fn tell_sent(alloc: Global, hub: &SteadyHub, status: Status) -> Result<(Vec<u8>, Status), Status>
+    ensures { MatchResult result (λ made. TellsAll made.0.items made.1 hub.now.past status)
+        (λ lacking. TellsNone lacking status) }
+{
+    let Some(past) = hub.past() else {
+        return Err(first_fault(status, Status::NoMemory));
+    };
+    match sent_text(alloc, past) {
+        Ok(text) => Ok((text, status)),
+        Err(_) => Err(first_fault(status, Status::NoMemory)),
     }
 }

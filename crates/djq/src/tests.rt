@@ -2,6 +2,7 @@ ghost use Rattle.std.specs.Prelude.{◌≡◌, ◌<◌};
 
 use crate::laws::finished_cursors_have_listed;
 use crate::program::run_program;
+use djq_disk::NoDisk;
 use djq_io::{MemHub, MemSink, MemSource, Sink, Source};
 use djq_run::Status;
 use djq_steps::{Blanks, Ledgers, Steps};
@@ -34,7 +35,15 @@ fn counted<S: Source, K: Sink, L: Ledgers>(
 {
     let mut hub = MemHub::new(rt.alloc());
     let mut steps = Steps::<L>::new(rt, blanks);
-    run_program(rt.alloc(), words, source, sink, &mut hub, &mut steps)
+    run_program(
+        rt.alloc(),
+        words,
+        source,
+        sink,
+        &mut hub,
+        &mut NoDisk,
+        &mut steps,
+    )
 }
 
 /// Runs the program by these words, with counters of its own.
@@ -134,7 +143,8 @@ fn a_line_is_long_past_4096_bytes(rt: HostRuntime) -> Result<(), Fail> {
 
 #[test]
 fn other_words_get_the_usage_line(rt: HostRuntime) -> Result<(), Fail> {
-    let usage = b"usage: djq run | serve ADDR [--turns N] | replay | gen N SEED\n";
+    let usage =
+        b"usage: djq run | serve ADDR [--turns N] [--log PATH] | replay [--log PATH] | gen N SEED\n";
     let lists = [
         [].as_slice(),
         &["djq"],
@@ -249,7 +259,7 @@ fn lists_more_than_the_room_kept_for_a_reply(rt: HostRuntime) -> Result<(), Fail
 #[test]
 fn the_first_condition_that_holds_is_answered(rt: HostRuntime) -> Result<(), Fail> {
     let input =
-        b"rel r int int\nrel r int int int int int int int int int\nrel s int int int int int int int int int\nadd z 9223372036854775808\nadd r 9223372036854775808\nadd z 1\nadd r 1\ndel z 9223372036854775808\ndel r 9223372036854775808\ndel z 1\ndel r 1\nquery q(x,y) <- r(x,y)\nquery q(x) <- z(x)\nquery q(x) <- r(x)\nquery p(x) <- z(x)\nquery p(x) <- r(x)\nopen c q\nopen c z\nopen d z\nnext z 1\nclose z\n";
+        b"rel r int int\nrel r int int int int int int int int int int int int int int int int int\nrel s int int int int int int int int int int int int int int int int int\nadd z 9223372036854775808\nadd r 9223372036854775808\nadd z 1\nadd r 1\ndel z 9223372036854775808\ndel r 9223372036854775808\ndel z 1\ndel r 1\nquery q(x,y) <- r(x,y)\nquery q(x) <- z(x)\nquery q(x) <- r(x)\nquery p(x) <- z(x)\nquery p(x) <- r(x)\nopen c q\nopen c z\nopen d z\nnext z 1\nclose z\n";
     let replies =
         b"ok\nerr 2 taken\nerr 11 limit\nerr 7 type\nerr 7 type\nerr 3 no relation\nerr 6 arity\nerr 7 type\nerr 7 type\nerr 3 no relation\nerr 6 arity\nok query 5\nerr 2 taken\nerr 2 taken\nerr 3 no relation\nerr 6 arity\nok open\nerr 2 taken\nerr 4 no query\nerr 5 no cursor\nerr 5 no cursor\n";
     let mut source = MemSource::new(input.to_vec(rt.alloc())?, 8192);

@@ -1,5 +1,5 @@
 -- The own session is answered last, and a change is told whole.
-use Rattle.std.proofs.Common.{ℕ, zero, suc, ◌+◌, ◌<◌, ◌≤◌, ◌≡◌, ◌++◌, ◌||◌, ◌⊎◌, Bool, true, false, List, [], ◌∷◌, length, map, take, drop, set, get_or, find, cond, Option, None, Some, is_some, Result, Ok, Err, eqb, nat_le, refl, sym, ap, ◌∙◌, subst, arith, inl, inr, append-nil}
+use Rattle.std.proofs.Common.{ℕ, zero, suc, ◌+◌, ◌<◌, ◌≤◌, ◌≡◌, ◌++◌, ◌⊎◌, Bool, true, false, List, [], ◌∷◌, length, map, take, drop, set, get_or, find, cond, Option, None, Some, is_some, Result, Ok, Err, eqb, nat_le, refl, sym, ap, ◌∙◌, subst, arith, inl, inr}
 use Rattle.std.specs.Prelude.{⊤, IsSomeAnd, MatchOption, if◌then◌else◌, slice_get}
 use Rattle.std.specs.List.{list_any}
 use Rattle.std.proofs.lemmas.Bool.{leb-true, le-leb}
@@ -9,7 +9,7 @@ use Rattle.djq_lines.specs.declared.limits.TheConstants.{REPLY_BYTES, LAST_LINE_
 use Rattle.djq_lines.specs.declared.answer.EndCause.{EndCause}
 use Rattle.djq_lines.specs.declared.answer.EndCause.TheVariants.{Memory}
 use Rattle.djq_lines.specs.Reply.{end_memory}
-use Rattle.djq_machine.specs.State.{Store, Session, State, session_of, with_session, ended_by}
+use Rattle.djq_machine.specs.State.{Session, State, session_of, with_session, ended_by}
 use Rattle.djq_machine.specs.Effect.{Effect, says, nothing, EndsWith, queue, queue_all}
 use Rattle.djq_machine.specs.Walk.{Walk}
 use Rattle.djq_machine.specs.Watch.{Delta, Telling, says_more, ends_more, TellsDelta, RepliesLast}
@@ -28,7 +28,7 @@ use Rattle.djq_core.proofs.Places.{cut_at, set_at}
 use Rattle.djq_core.proofs.Replying.{refused}
 use Rattle.djq_core.proofs.Taking.{with_room}
 use Rattle.djq_core.proofs.Spreading.{goes_on_same}
-use Rattle.djq_core.proofs.Queueing.{has_part, part_stays, queue_last, end_queued, is_of, pushed}
+use Rattle.djq_core.proofs.Queueing.{has_part, queue_last, end_queued, is_of, pushed}
 
 -- ---- the answer
 

@@ -1,12 +1,11 @@
 -- A change as a step of the machine: its line, what the engine did, and what was told.
-use Rattle.std.proofs.Common.{ℕ, zero, suc, ◌+◌, ◌<◌, ◌≤◌, ◌≡◌, ◌++◌, ◌||◌, Bool, true, false, List, [], ◌∷◌, map, filter, cond, length, Option, None, Some, option_map, Result, Ok, Err, nat_lt, refl, sym, ap, ap₂, ◌∙◌, subst, arith, inl, inr}
-use Rattle.std.specs.Prelude.{◌&&◌, All, AllPairs, Contains, IsSome, IsSomeAnd, if◌then◌else◌, sum_by}
+use Rattle.std.proofs.Common.{ℕ, suc, ◌+◌, ◌≤◌, ◌≡◌, ◌||◌, Bool, true, false, List, [], ◌∷◌, map, filter, cond, Option, None, Some, option_map, Result, Ok, Err, nat_lt, refl, sym, ap, ◌∙◌, subst, arith, inr}
+use Rattle.std.specs.Prelude.{◌&&◌, All, IsSome}
 use Rattle.std.specs.List.{list_any}
 use Rattle.std.proofs.lemmas.Bool.{lt-ltb}
 use Rattle.std.proofs.lemmas.List.Elements.{All-filter}
-use Rattle.djq_deltas.proofs.Lists.{hold_each, first_there, later_there}
-use Rattle.djq_model.specs.declared.relation.Relation.{Relation}
-use Rattle.djq_model.specs.Data.{Bytes, Tuple, bytes_eq}
+use Rattle.djq_deltas.proofs.Lists.{hold_each}
+use Rattle.djq_model.specs.Data.{Bytes}
 use Rattle.djq_model.specs.Listed.{Listed, listed_name}
 use Rattle.djq_lines.specs.declared.command.Command.{Command}
 use Rattle.djq_lines.specs.declared.command.Command.TheVariants.{Rel, Add, Del, Query as Register, Drop, Open, Next, Close, Has, Watch, Unwatch, Explain, Shape, Quit, Stop}
@@ -16,37 +15,34 @@ use Rattle.djq_lines.specs.declared.answer.AddOutcome.{AddOutcome}
 use Rattle.djq_lines.specs.declared.answer.AddOutcome.TheVariants.{First, More}
 use Rattle.djq_lines.specs.declared.answer.DeleteOutcome.{DeleteOutcome}
 use Rattle.djq_lines.specs.declared.answer.DeleteOutcome.TheVariants.{Last, Left, Absent}
-use Rattle.djq_lines.specs.Grammar.{Reading, says as says_command, reading_of}
+use Rattle.djq_lines.specs.Grammar.{Reading, reading_of}
 use Rattle.djq_lines.specs.Reply.{add_reply, delete_reply}
 use Rattle.djq_machine.specs.Keeping.{Keeping, kept_where, is_done, is_removal}
-use Rattle.djq_machine.specs.State.{Store, Session, State, with_session, session_of}
-use Rattle.djq_machine.specs.Store.{AddsRow, DeletesRow}
+use Rattle.djq_machine.specs.State.{Session, State, with_session}
 use Rattle.djq_machine.specs.Changes.{RowsChange, RowsOutcome, accepted, out_of_memory, unchanged, row_in, row_out, add_outcome, delete_outcome, is_accepted as is_made, tried, is_outdated, sessions_behind, changed}
 use Rattle.djq_machine.specs.Effect.{Effect, queue_all}
-use Rattle.djq_machine.specs.Watch.{Delta, Telling, AreDeltas, ListsDeltas, ChangeStep, affected, is_watching, deltas_steps, TellsDelta, RepliesLast}
-use Rattle.djq_machine.specs.Walk.{Walk}
+use Rattle.djq_machine.specs.Watch.{Delta, Telling, AreDeltas, ListsDeltas, ChangeStep, affected, is_watching, deltas_steps}
 use Rattle.djq_machine.specs.LineStep.{run, behind_line, FrontStep, ReadStep}
-use Rattle.djq_machine.specs.Step.{stepped, Step, Acts}
 use Rattle.djq_machine.specs.Call.{Counts, StepGives}
 use Rattle.djq_machine.specs.Command.{CommandStep}
 use Rattle.djq_machine.specs.declared.machine.Stepped.TheVariants.{Ran}
 use Rattle.djq_engine.specs.declared.cursor.CursorId.{CursorId}
-use Rattle.djq_engine.specs.Kept.{Kept, Held, Registered, held_at, outdated_held, Outdates, same_query, registered_at, is_watched, readers_of, affected_of}
-use Rattle.djq_engine.specs.Watching.{TellsChange, LogsTell, queries_affected}
+use Rattle.djq_engine.specs.Kept.{Kept, Held, Registered, held_at, outdated_held, Outdates, registered_at, is_watched, readers_of, affected_of}
+use Rattle.djq_engine.specs.Watching.{LogsTell, queries_affected}
 use Rattle.djq_core.specs.declared.open.OpenSession.{OpenSession}
 use Rattle.djq_core.specs.declared.change.Change.{Change}
 use Rattle.djq_core.specs.declared.change.Outcome.TheVariants.{Added, Deleted}
 use Rattle.djq_core.specs.Views.{Talk, session_in, open_in, state_in}
-use Rattle.djq_core.specs.Sound.{ids_of, all_ids, AreHeld, IsSound, is_among_watches, times_in, watchers_in}
+use Rattle.djq_core.specs.Sound.{ids_of, all_ids, AreHeld, IsSound, is_among_watches, watchers_in}
 use Rattle.djq_core.specs.Performs.{among}
-use Rattle.djq_core.specs.Changing.{Changed, Adds, Deletes, IsChange, LeavesChange, is_accepted, reply_of, is_kept}
+use Rattle.djq_core.specs.Changing.{Changed, IsChange, LeavesChange, is_accepted, reply_of, is_kept}
 use Rattle.djq_core.specs.Telling.{AreAffected, TellsAll}
 use Rattle.djq_core.proofs.Ids.{agree_same, agree_held, agree_open, outdated_find, outdated_all_held, outdated_open}
-use Rattle.djq_core.proofs.Around.{Around, parts, whole, becomes, looks}
+use Rattle.djq_core.proofs.Around.{parts, whole, becomes}
 use Rattle.djq_core.proofs.Replying.{around_held, around_bytes}
 use Rattle.djq_core.proofs.Lifting.{at_session, same_relations}
 use Rattle.djq_core.proofs.Taking.{sound_bytes}
-use Rattle.djq_core.proofs.Watching.{recount, stays_same, counted_same, at_its_id}
+use Rattle.djq_core.proofs.Watching.{recount, stays_same, at_its_id}
 
 -- ---- the cursors behind a change
 

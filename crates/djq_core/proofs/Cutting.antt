@@ -5,7 +5,7 @@ use Rattle.djq_model.specs.Data.{Bytes}
 use Rattle.djq_model.specs.Listed.{Listed, a_query, listed_of}
 use Rattle.djq_model.specs.declared.query.Query.{Query}
 use Rattle.djq_lines.specs.declared.answer.Refusal.{Refusal}
-use Rattle.djq_lines.specs.declared.answer.Refusal.TheVariants.{Syntax, Taken, NoRelation, NoQuery, NoCursor, Arity, WrongType, HeadUnbound, HeadRepeated, VariableType, Limit, NoMemory, InUse}
+use Rattle.djq_lines.specs.declared.answer.Refusal.TheVariants.{Syntax, Taken, NoRelation, NoQuery, NoCursor, Arity, WrongType, HeadUnbound, HeadRepeated, VariableType, Unbound, Limit, NoMemory, InUse}
 use Rattle.djq_lines.specs.declared.answer.EndCause.TheVariants.{Memory}
 use Rattle.djq_lines.specs.declared.rest.QueryOutcome.{QueryOutcome}
 use Rattle.djq_lines.specs.declared.command.Command.TheVariants.{Query as Register, Explain}
@@ -183,6 +183,7 @@ late_is P WrongType h = absurd h
 late_is P HeadUnbound h = absurd h
 late_is P HeadRepeated h = absurd h
 late_is P VariableType h = absurd h
+late_is P Unbound h = absurd h
 late_is P Limit h = absurd h
 late_is P InUse h = absurd h
 

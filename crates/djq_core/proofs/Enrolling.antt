@@ -21,7 +21,7 @@ use Rattle.djq_engine.specs.declared.cursor.QueryId.{QueryId}
 use Rattle.djq_engine.specs.Kept.{Kept, Registered, registered_of}
 use Rattle.djq_engine.specs.Watching.{Enrols}
 use Rattle.djq_core.specs.Views.{Talk}
-use Rattle.djq_core.specs.Sound.{times_in, IsCounted, StaysCounted}
+use Rattle.djq_core.specs.Sound.{times_in, StaysCounted}
 use Rattle.djq_core.specs.Opens.{Opens}
 use Rattle.djq_deltas.proofs.Lists.{nothing_there, first_or_later, first_there, later_there, pairs_head, pairs_tail}
 use Rattle.djq_core.proofs.Watching.{NamesApart, stays_same}

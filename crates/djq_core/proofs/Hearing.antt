@@ -1,16 +1,16 @@
 -- What a watching session hears of a delta.
-use Rattle.std.proofs.Common.{ℕ, ◌+◌, ◌<◌, ◌≤◌, ◌≡◌, ◌++◌, ◌⊎◌, Bool, true, false, List, Option, None, Some, refl, sym, ap, ◌∙◌, subst, arith, length, inl, inr}
+use Rattle.std.proofs.Common.{◌<◌, ◌≤◌, ◌≡◌, Bool, true, false, refl, sym, ap, subst, length, inl, inr}
 use Rattle.djq_model.specs.Data.{Bytes}
 use Rattle.djq_lines.specs.declared.limits.TheConstants.{PENDING_BYTES}
 use Rattle.djq_lines.specs.declared.answer.EndCause.TheVariants.{Slow, Memory}
 use Rattle.djq_lines.specs.Reply.{end_slow, end_memory}
-use Rattle.djq_machine.specs.State.{Session, State}
-use Rattle.djq_machine.specs.Effect.{Effect, EndsWith}
+use Rattle.djq_machine.specs.State.{Session}
+use Rattle.djq_machine.specs.Effect.{EndsWith}
 use Rattle.djq_session.specs.Dialog.{Replies}
 use Rattle.djq_engine.specs.Kept.{Kept}
-use Rattle.djq_core.specs.Views.{Talk, session_in, state_in}
+use Rattle.djq_core.specs.Views.{Talk}
 use Rattle.djq_core.specs.Sound.{IsOwn}
-use Rattle.djq_core.specs.Performs.{Performs, among, to_one, unqueued}
+use Rattle.djq_core.specs.Performs.{Performs}
 use Rattle.djq_core.specs.Telling.{HearsDelta}
 use Rattle.djq_core.proofs.Replying.{replied}
 use Rattle.djq_core.proofs.Watching.{stays_same}

@@ -1,19 +1,16 @@
 -- What is left to do once a line was run.
-use Rattle.std.proofs.Common.{ℕ, ◌+◌, ◌≤◌, ◌≡◌, Bool, true, false, length, None, refl, sym, ap, ◌∙◌, subst}
+use Rattle.std.proofs.Common.{ℕ, ◌+◌, ◌≤◌, ◌≡◌, true, false, length, None, refl, sym, ap, ◌∙◌, subst}
 use Rattle.djq_model.specs.Data.{Bytes}
 use Rattle.djq_lines.specs.declared.limits.TheConstants.{PENDING_BYTES, REPLY_BYTES, LAST_LINE_BYTES}
 use Rattle.djq_lines.specs.declared.command.Command.{Command}
 use Rattle.djq_lines.specs.Line.{a_line, front_of, is_blank}
 use Rattle.djq_lines.specs.Grammar.{says, reading_of}
-use Rattle.djq_machine.specs.LineStep.{run}
 use Rattle.djq_machine.specs.Call.{Counts}
 use Rattle.djq_machine.specs.declared.machine.Stepped.TheVariants.{Ran}
 use Rattle.djq_engine.specs.Kept.{Kept}
-use Rattle.djq_core.specs.declared.change.Change.{Change}
 use Rattle.djq_core.specs.declared.change.Left.{Left}
 use Rattle.djq_core.specs.declared.change.Left.TheVariants.{Nothing, Stopping, Telling}
 use Rattle.djq_core.specs.Views.{Talk}
-use Rattle.djq_core.specs.Changing.{LeavesChange}
 use Rattle.djq_core.specs.Stepping.{Obeys, LineLeaves, LeavesTo, is_kept_by}
 use Rattle.djq_core.proofs.Taking.{runs, reads_command, with_room}
 use Rattle.djq_core.proofs.Fronting.{ran_line}

@@ -28,3 +28,5 @@ pub mod Composing
 pub mod Stepping
 pub mod Seen
 pub mod Owing
+pub mod Keeping
+pub mod Loading

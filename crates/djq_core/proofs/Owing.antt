@@ -1,5 +1,5 @@
 -- The first session to which something is due, as it is kept and as the join machine sees it.
-use Rattle.std.proofs.Common.{ℕ, ◌<◌, ◌≡◌, ◌&&◌, Bool, true, false, List, [], ◌∷◌, map, find, cond, Option, None, Some, eqb, nat_le, refl, sym, ap, ap₂, ◌∙◌, arith}
+use Rattle.std.proofs.Common.{ℕ, ◌≡◌, ◌&&◌, Bool, true, false, List, [], ◌∷◌, map, find, cond, Option, Some, eqb, nat_le, refl, sym, ap, ap₂, ◌∙◌, arith}
 use Rattle.std.specs.Prelude.{option_map, nat_lt, is_some, length, ◌||◌}
 use Rattle.std.proofs.lemmas.Bool.{cond-false, eq-eqb, eqb-true}
 use Rattle.djq_machine.specs.State.{Session, State}

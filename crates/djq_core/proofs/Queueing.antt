@@ -1,17 +1,16 @@
 -- Parts that are queued one behind another, while sessions end.
-use Rattle.std.proofs.Common.{ℕ, ◌≡◌, ◌++◌, ◌||◌, ◌⊎◌, Bool, true, false, List, [], ◌∷◌, map, find, cond, Option, None, Some, eqb, refl, sym, ap, ◌∙◌, subst, append_assoc, append-nil, inl, inr}
-use Rattle.std.specs.Prelude.{◌<◌, ◌≤◌, length, ⊤, IsSomeAnd, MatchOption, if◌then◌else◌}
+use Rattle.std.proofs.Common.{ℕ, ◌≡◌, ◌++◌, ◌||◌, Bool, true, false, List, [], ◌∷◌, map, cond, Option, Some, eqb, refl, sym, ap, ◌∙◌, subst, inl, inr}
+use Rattle.std.specs.Prelude.{MatchOption}
 use Rattle.std.specs.List.{list_any}
 use Rattle.std.proofs.lemmas.Bool.{cond-true, cond-false, eq-eqb}
 use Rattle.djq_model.specs.Data.{Bytes, change_first}
 use Rattle.djq_model.specs.Listed.{listed_name}
-use Rattle.djq_lines.specs.declared.limits.TheConstants.{PENDING_BYTES}
 use Rattle.djq_lines.specs.declared.answer.EndCause.{EndCause}
 use Rattle.djq_lines.specs.declared.answer.EndCause.TheVariants.{Slow, Memory}
 use Rattle.djq_lines.specs.Reply.{text_of, end_slow, end_memory}
 use Rattle.djq_machine.specs.State.{Session, State, ids_of, session_of, with_session, ended_by}
 use Rattle.djq_machine.specs.Effect.{Effect, queue, queue_all}
-use Rattle.djq_machine.specs.Delta.{Change, delta_lines, change_lines}
+use Rattle.djq_machine.specs.Delta.{delta_lines}
 use Rattle.djq_machine.specs.Watch.{Delta, Telling, is_watching, says_more, ends_more, watching, watcher_of, TellsWatcher, TellsSession}
 use Rattle.djq_core.specs.Telling.{HearsDelta}
 

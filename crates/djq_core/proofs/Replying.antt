@@ -1,6 +1,6 @@
 -- Commands that leave the session's cursors as they are.
-use Rattle.std.proofs.Common.{ℕ, zero, suc, ◌+◌, ◌<◌, ◌≤◌, ◌≡◌, ◌++◌, Bool, true, false, List, [], ◌∷◌, map, Option, None, Some, Result, Ok, Err, codes, refl, sym, ap, ◌∙◌, subst, arith, ◌||◌, ◌⊎◌, inl, inr, ap₂, option_map}
-use Rattle.std.specs.Prelude.{⊤, ◌==◌, if◌then◌else◌, find, IsSome, IsSomeAnd, IfSome, is_none, is_ok, nat_lt}
+use Rattle.std.proofs.Common.{ℕ, zero, suc, ◌+◌, ◌<◌, ◌≤◌, ◌≡◌, ◌++◌, Bool, true, false, List, [], ◌∷◌, map, Option, None, Some, Result, Ok, Err, codes, refl, sym, ap, ◌∙◌, subst, arith, ◌||◌, ◌⊎◌, inl, inr, ap₂}
+use Rattle.std.specs.Prelude.{⊤, if◌then◌else◌, IsSome, IsSomeAnd, IfSome, is_none, is_ok, nat_lt}
 use Rattle.djq_model.specs.Data.{Bytes, Tuple, bytes_eq, drop_first}
 use Rattle.djq_model.specs.Listed.{Listed, listed_name, listed_of}
 use Rattle.std.specs.List.{list_any}
@@ -13,17 +13,14 @@ use Rattle.djq_machine.specs.Keeping.{Keeping, no_line, kept_where, is_done, is_
 use Rattle.djq_machine.specs.Command.{uses}
 use Rattle.djq_model.specs.declared.relation.ColumnType.{ColumnType}
 use Rattle.djq_lines.specs.declared.answer.Refusal.{Refusal}
-use Rattle.djq_lines.specs.declared.answer.AddOutcome.{AddOutcome}
-use Rattle.djq_lines.specs.declared.answer.DeleteOutcome.{DeleteOutcome}
 use Rattle.djq_lines.specs.declared.answer.Shape.{Shape}
 use Rattle.djq_lines.specs.declared.rest.QueryOutcome.{QueryOutcome}
-use Rattle.djq_lines.specs.declared.command.Command.TheVariants.{Rel, Add, Del, Query as Register, Has, Shape as AskShape, Drop}
-use Rattle.djq_lines.specs.Reply.{ok_reply, add_reply, delete_reply, query_reply, has_reply, shape_reply}
+use Rattle.djq_lines.specs.declared.command.Command.TheVariants.{Rel, Query as Register, Has, Shape as AskShape, Drop}
+use Rattle.djq_lines.specs.Reply.{ok_reply, query_reply, has_reply, shape_reply}
 use Rattle.djq_lines.specs.declared.answer.Refusal.TheVariants.{NoQuery, InUse}
 use Rattle.djq_machine.specs.Conditions.{first_of, Answers, OutOfMemoryWhere}
-use Rattle.djq_machine.specs.State.{Store, Session, State, Cursor, session_of}
-use Rattle.djq_machine.specs.Store.{MakesRelation, AddsRow, DeletesRow, RegistersQuery, TellsWhether, has_steps, TellsShape, DropsQuery}
-use Rattle.djq_machine.specs.Watch.{affected}
+use Rattle.djq_machine.specs.State.{Store, Session, State, Cursor}
+use Rattle.djq_machine.specs.Store.{MakesRelation, RegistersQuery, TellsWhether, has_steps, TellsShape, DropsQuery}
 use Rattle.djq_machine.specs.Effect.{Effect}
 use Rattle.djq_session.specs.Dialog.{Replies}
 use Rattle.djq_engine.specs.Kept.{Kept, Held, held_at, SameCursors, same_id, Uses, DropGives, Registered, registered_of, is_watched}

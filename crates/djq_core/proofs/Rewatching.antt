@@ -1,7 +1,7 @@
 -- A session that begins to watch a query, or ceases to.
-use Rattle.std.proofs.Common.{ℕ, ◌+◌, ◌<◌, ◌≤◌, ◌≡◌, ◌++◌, ◌||◌, Bool, true, false, List, [], ◌∷◌, map, cond, find, option_map, Option, None, Some, is_some, Result, Ok, Err, codes, refl, sym, ap, ap₂, ◌∙◌, subst, arith}
+use Rattle.std.proofs.Common.{ℕ, ◌+◌, ◌<◌, ◌≡◌, ◌++◌, ◌||◌, Bool, true, false, List, [], ◌∷◌, map, cond, option_map, Option, None, Some, is_some, Result, Ok, Err, codes, refl, sym, ap, ap₂, ◌∙◌, subst, arith}
 use Rattle.std.specs.Prelude.{◌-◌, ⊤, IsSome, IsSomeAnd, is_none, is_err, Contains, OnOk, OnErr}
-use Rattle.djq_model.specs.Data.{Bytes, bytes_eq, drop_first}
+use Rattle.djq_model.specs.Data.{Bytes, bytes_eq}
 use Rattle.djq_model.specs.Listed.{Listed, listed_name, listed_of}
 use Rattle.djq_model.specs.Equality.{bytes_eq-decides}
 use Rattle.djq_lines.specs.declared.limits.TheConstants.{SESSIONS}
@@ -10,7 +10,7 @@ use Rattle.djq_lines.specs.declared.answer.EndCause.{EndCause}
 use Rattle.djq_lines.specs.declared.answer.Refusal.TheVariants.{NoQuery, NoMemory}
 use Rattle.djq_lines.specs.declared.command.Command.TheVariants.{Watch, Unwatch}
 use Rattle.djq_lines.specs.Reply.{ok_reply, watch_reply, refusal_line}
-use Rattle.djq_machine.specs.State.{Store, Session, State, with_session}
+use Rattle.djq_machine.specs.State.{Store, Session, with_session}
 use Rattle.djq_machine.specs.Conditions.{first_of, Answers, OutOfMemoryWhere}
 use Rattle.djq_machine.specs.Command.{watch_refusal, with_watch, without_watch}
 use Rattle.djq_machine.specs.Watch.{is_watching}
@@ -19,7 +19,7 @@ use Rattle.djq_engine.specs.declared.cursor.QueryId.{QueryId}
 use Rattle.djq_engine.specs.Kept.{Kept, Held, Registered, held_at, SameCursors, registered_of, registered_at, with_watchers}
 use Rattle.djq_core.specs.declared.open.OpenSession.{OpenSession}
 use Rattle.djq_core.specs.Views.{Talk, session_in, state_in}
-use Rattle.djq_core.specs.Sound.{all_ids, is_among_watches, times_in, AreOnce, IsCounted, HasCount, StaysCounted, QuietOnceEnded, IsOwn, IsReady}
+use Rattle.djq_core.specs.Sound.{all_ids, is_among_watches, times_in, AreOnce, HasCount, StaysCounted, QuietOnceEnded}
 use Rattle.djq_core.specs.Performs.{among, to_one, Executes}
 use Rattle.djq_core.specs.Watches.{Rewatches, BeginsWatch, CeasesWatch, with_query, without_query}
 use Rattle.djq_core.proofs.Ids.{agree_same}
@@ -27,7 +27,7 @@ use Rattle.djq_core.proofs.Around.{Around}
 use Rattle.djq_core.proofs.Cursors.{moved}
 use Rattle.djq_core.proofs.Naming.{answered}
 use Rattle.djq_core.proofs.Replying.{around_same, replied}
-use Rattle.djq_core.proofs.Watching.{IdsApart, NamesApart, found_there, same_name, other_name, at_its_id, each_with, names_with, times_not, stays_same, watches_more}
+use Rattle.djq_core.proofs.Watching.{IdsApart, NamesApart, found_there, same_name, at_its_id, each_with, names_with, times_not, stays_same, watches_more}
 use Rattle.djq_core.proofs.Unwatching.{of_id, is_some_at}
 
 -- ---- names, without one

@@ -1,13 +1,11 @@
 -- What reading a line gives, as the machine says it; and that what is read is served.
-use Rattle.std.proofs.Common.{ℕ, zero, suc, length, ◌≡◌, ◌<◌, ◌≤◌, true, false, Bool, List, [], ◌∷◌, Option, None, Some, Ok, Err, cond, option_map, refl, sym, ap, ap₂, ◌∙◌, subst, arith, nat_le}
-use Rattle.std.specs.Prelude.{⊤}
+use Rattle.std.proofs.Common.{ℕ, zero, suc, length, ◌≡◌, ◌<◌, ◌≤◌, true, false, Bool, List, [], ◌∷◌, Option, None, Some, Ok, Err, cond, option_map, refl, sym, ap, ◌∙◌, subst, arith, nat_le}
 use Rattle.std.specs.Str.{is_utf8}
 use Rattle.std.proofs.lemmas.Bool.{and_parts, leb-true}
 use Rattle.djq_model.specs.declared.relation.ColumnType.{ColumnType}
 use Rattle.djq_model.specs.declared.query.Query.{Query}
-use Rattle.djq_model.specs.declared.query.Atom.{Atom}
 use Rattle.djq_model.specs.Data.{Bytes}
-use Rattle.djq_value.specs.Token.{Token, word, text, open_paren, close_paren, comma, arrow, stray, tokens}
+use Rattle.djq_value.specs.Token.{Token, word, text, open_paren, close_paren, comma, arrow, operator, stray, tokens}
 use Rattle.djq_value.specs.Literal.{is_name, natural_of, literal_of}
 use Rattle.djq_lines.specs.declared.answer.Refusal.TheVariants.{WrongType, Syntax}
 use Rattle.djq_lines.specs.declared.command.Command.{Command}
@@ -15,7 +13,7 @@ use Rattle.djq_lines.specs.declared.command.Command.TheVariants.{Rel, Add, Del, 
 use Rattle.djq_lines.specs.declared.keyword.Keyword.{Keyword}
 use Rattle.djq_lines.specs.declared.keyword.Keyword.TheVariants.{Rel as RelWord, Add as AddWord, Del as DelWord, Query as QueryWord, Drop as DropWord, Open as OpenWord, Next as NextWord, Close as CloseWord, Has as HasWord, Watch as WatchWord, Unwatch as UnwatchWord, Explain as ExplainWord, Shape as ShapeWord, Quit as QuitWord, Stop as StopWord}
 use Rattle.djq_lines.specs.Reply.{refusal_line}
-use Rattle.djq_lines.specs.Grammar.{outside, past_limit, says, reading_in, reading_of, command_of, command_in, command_with, command_behind, is_in_range, takes_memory_to_read, is_count, count_of, keyword_of, nothing, type_of, all_of, named_some, named_any, query_in, query_of, body_in, atoms_in, atoms_within, atom_in, behind_atom, in_front, list_in, name_of, one_name, two_names, name_and_count}
+use Rattle.djq_lines.specs.Grammar.{outside, past_limit, says, reading_in, reading_of, command_of, command_in, command_with, command_behind, is_in_range, takes_memory_to_read, is_count, count_of, keyword_of, nothing, type_of, all_of, named_some, named_any, query_in, query_of, Body, body_in, items_in, with_atoms, in_front, list_in, name_of, one_name, two_names, name_and_count}
 use Rattle.djq_proto.specs.declared.refusal.LineRefusal.{LineRefusal}
 use Rattle.djq_proto.specs.declared.refusal.LineRefusal.TheVariants.{Syntax as Outside, Range, NoMem}
 use Rattle.djq_proto.specs.Reading.{Gives, Reads}
@@ -40,15 +38,15 @@ in_says (Some a) c g = read_by (is_in_range a) a g.0.1 ∙ ap (λ (x : Command).
 pub reads_as : (line : Bytes) (c : Command) → Reads line (Ok c) → reading_of line ≡ says c
 reads_as line c g = in_says (command_of line) c g
 
-in_outside : (o : Option Command) → Gives o (Err Outside) → reading_in o ≡ outside
+pub in_outside : (o : Option Command) → Gives o (Err Outside) → reading_in o ≡ outside
 in_outside None g = refl
 in_outside (Some a) g = absurd g.0
 
-in_range_past : (o : Option Command) → Gives o (Err Range) → (c : Command) × (reading_in o ≡ past_limit c)
+pub in_range_past : (o : Option Command) → Gives o (Err Range) → (c : Command) × (reading_in o ≡ past_limit c)
 in_range_past None g = absurd (cc (g.0))
 in_range_past (Some a) g = (a, ap (λ (b : Bool). cond b (says a) (past_limit a)) g.0)
 
-in_memory : (o : Option Command) → Gives o (Err NoMem) → (c : Command) × (reading_in o ≡ says c) × (takes_memory_to_read c ≡ true)
+pub in_memory : (o : Option Command) → Gives o (Err NoMem) → (c : Command) × (reading_in o ≡ says c) × (takes_memory_to_read c ≡ true)
 in_memory None g = absurd (cc (g.0))
 in_memory (Some a) g = (a, read_by (is_in_range a) a g.0, g.1)
 
@@ -97,12 +95,14 @@ count_said (word c ∷ open_paren ∷ ts) p e = absurd (cc)
 count_said (word c ∷ close_paren ∷ ts) p e = absurd (cc)
 count_said (word c ∷ comma ∷ ts) p e = absurd (cc)
 count_said (word c ∷ arrow ∷ ts) p e = absurd (cc)
+count_said (word c ∷ operator o ∷ ts) p e = absurd (cc)
 count_said (word c ∷ stray ∷ ts) p e = absurd (cc)
 count_said (text c ∷ ts) p e = absurd (cc)
 count_said (open_paren ∷ ts) p e = absurd (cc)
 count_said (close_paren ∷ ts) p e = absurd (cc)
 count_said (comma ∷ ts) p e = absurd (cc)
 count_said (arrow ∷ ts) p e = absurd (cc)
+count_said (operator o ∷ ts) p e = absurd (cc)
 count_said (stray ∷ ts) p e = absurd (cc)
 
 no_count : (command : Command) (ts : List Token) (other : Command) (P : Type 0) → (command ≡ other → P) → nothing command ts ≡ Some other → P
@@ -111,48 +111,36 @@ no_count command (t ∷ ts) other P h e = absurd (cc)
 
 -- A query that a line says has an atom at least.
 
-behind_some : (more : List Token → Option (List Atom)) (o : Option (Atom × List Token)) (atoms : List Atom) → behind_atom more o ≡ Some atoms → 0 < length atoms
-behind_some more None atoms e = absurd (cc)
-behind_some more (Some (a, [])) atoms e = let same : a ∷ [] ≡ atoms = cc in omega (arith, ap length same)
-behind_some more (Some (a, comma ∷ ts)) atoms e = by (more ts) e
-  where
-    by : (o : Option (List Atom)) → in_front (Some a) o ≡ Some atoms → 0 < length atoms
-    by None f = absurd (cc)
-    by (Some rest) f = let same : a ∷ rest ≡ atoms = cc in omega (arith, ap length same)
-behind_some more (Some (a, word w ∷ ts)) atoms e = absurd (cc)
-behind_some more (Some (a, text w ∷ ts)) atoms e = absurd (cc)
-behind_some more (Some (a, open_paren ∷ ts)) atoms e = absurd (cc)
-behind_some more (Some (a, close_paren ∷ ts)) atoms e = absurd (cc)
-behind_some more (Some (a, arrow ∷ ts)) atoms e = absurd (cc)
-behind_some more (Some (a, stray ∷ ts)) atoms e = absurd (cc)
+atoms_some : (o : Option Body) (body : Body) → with_atoms o ≡ Some body → 0 < length body.0
+atoms_some None body e = absurd (cc)
+atoms_some (Some ([], comparisons)) body e = absurd (cc)
+atoms_some (Some (a ∷ atoms, comparisons)) body e =
+    let same : (a ∷ atoms, comparisons) ≡ body = cc in omega (arith, ap (λ (b : Body). length b.0) same)
 
-within_some : (n : ℕ) (ts : List Token) (atoms : List Atom) → atoms_within n ts ≡ Some atoms → 0 < length atoms
-within_some zero ts atoms e = absurd (cc)
-within_some (suc n) ts atoms e = behind_some (atoms_within n) (atom_in ts) atoms e
+body_some : (ts : List Token) (body : Body) → body_in ts ≡ Some body → 0 < length body.0
+body_some [] body e = absurd (cc)
+body_some (arrow ∷ ts) body e = atoms_some (items_in 0 ts) body e
+body_some (word w ∷ ts) body e = absurd (cc)
+body_some (text w ∷ ts) body e = absurd (cc)
+body_some (open_paren ∷ ts) body e = absurd (cc)
+body_some (close_paren ∷ ts) body e = absurd (cc)
+body_some (comma ∷ ts) body e = absurd (cc)
+body_some (operator o ∷ ts) body e = absurd (cc)
+body_some (stray ∷ ts) body e = absurd (cc)
 
-atoms_some : (ts : List Token) (atoms : List Atom) → atoms_in ts ≡ Some atoms → 0 < length atoms
-unfolding atoms_in
-atoms_some ts atoms e = within_some (length ts) ts atoms e
-
-body_some : (ts : List Token) (atoms : List Atom) → body_in ts ≡ Some atoms → 0 < length atoms
-body_some [] atoms e = absurd (cc)
-body_some (arrow ∷ ts) atoms e = atoms_some ts atoms e
-body_some (word w ∷ ts) atoms e = absurd (cc)
-body_some (text w ∷ ts) atoms e = absurd (cc)
-body_some (open_paren ∷ ts) atoms e = absurd (cc)
-body_some (close_paren ∷ ts) atoms e = absurd (cc)
-body_some (comma ∷ ts) atoms e = absurd (cc)
-body_some (stray ∷ ts) atoms e = absurd (cc)
+-- the query of this name, head and body
+abbrev said : Bytes → List Bytes → Body → Query
+said name head body = record { name = name; head = head; atoms = body.0; comparisons = body.1 }
 
 query_some : (name : Bytes) (head : Option (List Bytes × List Token)) (q : Query) → query_of name head ≡ Some q → 0 < length q.atoms
 query_some name None q e = absurd (cc)
 query_some name (Some head) q e = by (body_in head.1) refl e
   where
-    by : (o : Option (List Atom)) → body_in head.1 ≡ o → option_map (λ atoms. record { name = name; head = head.0; atoms = atoms }) o ≡ Some q → 0 < length q.atoms
+    by : (o : Option Body) → body_in head.1 ≡ o → option_map (said name head.0) o ≡ Some q → 0 < length q.atoms
     by None f g = absurd (cc)
-    by (Some atoms) f g =
-        let same : record { name = name; head = head.0; atoms = atoms } ≡ q = cc in
-        subst (λ (p : Query). 0 < length p.atoms) same (body_some head.1 atoms f)
+    by (Some body) f g =
+        let same : said name head.0 body ≡ q = cc in
+        subst (λ (p : Query). 0 < length p.atoms) same (body_some head.1 body f)
 
 query_said : (ts : List Token) (q : Query) → query_in ts ≡ Some q → 0 < length q.atoms
 query_said [] q e = absurd (cc)
@@ -166,6 +154,7 @@ query_said (open_paren ∷ ts) q e = absurd (cc)
 query_said (close_paren ∷ ts) q e = absurd (cc)
 query_said (comma ∷ ts) q e = absurd (cc)
 query_said (arrow ∷ ts) q e = absurd (cc)
+query_said (operator o ∷ ts) q e = absurd (cc)
 query_said (stray ∷ ts) q e = absurd (cc)
 
 -- A relation that a line says has a column at least.
@@ -194,6 +183,7 @@ types_said (open_paren ∷ ts) p e = absurd (cc)
 types_said (close_paren ∷ ts) p e = absurd (cc)
 types_said (comma ∷ ts) p e = absurd (cc)
 types_said (arrow ∷ ts) p e = absurd (cc)
+types_said (operator o ∷ ts) p e = absurd (cc)
 types_said (stray ∷ ts) p e = absurd (cc)
 
 -- What a line says can be run.
@@ -231,6 +221,7 @@ run_as line c e = step (is_utf8 line) e
     in_tokens (close_paren ∷ ts) f = absurd (cc)
     in_tokens (comma ∷ ts) f = absurd (cc)
     in_tokens (arrow ∷ ts) f = absurd (cc)
+    in_tokens (operator o ∷ ts) f = absurd (cc)
     in_tokens (stray ∷ ts) f = absurd (cc)
 
     step : (b : Bool) → cond b (command_in (tokens line)) None ≡ Some c → IsRunnable c

@@ -1,5 +1,5 @@
 -- What the list of ids tells of the open sessions.
-use Rattle.std.proofs.Common.{ℕ, zero, suc, ◌<◌, ◌≡◌, Bool, true, false, List, [], ◌∷◌, length, map, find, get_or, cond, Some, eqb, refl, arith, is_some, ◌∙◌}
+use Rattle.std.proofs.Common.{ℕ, zero, suc, ◌<◌, ◌≡◌, Bool, true, false, List, [], ◌∷◌, length, map, find, get_or, cond, Some, eqb, refl, ap, arith, is_some, ◌∙◌}
 use Rattle.std.specs.Prelude.{All, Contains}
 use Rattle.std.proofs.lemmas.Bool.{eq-eqb}
 use Rattle.std.proofs.lemmas.Grind.{get_or_default_zero}
@@ -29,3 +29,8 @@ listed_above (x ∷ xs) s h (suc k) d l = listed_above xs s (λ j m. h (suc j) (
 -- an id that stands at a place of a list is in it
 pub listed_at : (ns : List ℕ) (s k : ℕ) → k < length ns → get_or ns k 0 ≡ s → Contains ns s
 listed_at ns s k h e = (k, h, get_or_default_zero ns k s h ∙ e)
+
+-- where no id is listed no session is open
+pub none_listed : (xs : List Session) (ns : List ℕ) → ns ≡ map (λ (x : Session). x.id) xs → length ns ≡ 0 → xs ≡ []
+none_listed [] ns e l = refl
+none_listed (x ∷ xs) ns e l = absurd (omega (arith, l, ap (λ (ms : List ℕ). length ms) e))

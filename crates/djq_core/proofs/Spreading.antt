@@ -1,17 +1,14 @@
 -- One session after another is told.
-use Rattle.std.proofs.Common.{ℕ, zero, suc, ◌+◌, ◌<◌, ◌≤◌, ◌≡◌, ◌++◌, ◌⊎◌, ◌||◌, Bool, true, false, List, [], ◌∷◌, length, map, take, drop, set, get_or, find, cond, Option, None, Some, eqb, refl, sym, ap, ◌∙◌, subst, append_assoc, append-nil, arith, inl, inr, length-append}
-use Rattle.std.specs.Prelude.{⊤, IsSomeAnd, MatchOption, if◌then◌else◌}
-use Rattle.std.specs.List.{list_any}
-use Rattle.std.proofs.lemmas.Bool.{cond-true, cond-false, eq-eqb, eqb-true}
+use Rattle.std.proofs.Common.{ℕ, zero, suc, ◌+◌, ◌<◌, ◌≤◌, ◌≡◌, ◌++◌, ◌⊎◌, Bool, true, false, List, [], ◌∷◌, length, map, take, drop, set, get_or, find, cond, Option, None, Some, eqb, refl, sym, ap, ◌∙◌, subst, arith, inl, inr}
+use Rattle.std.specs.Prelude.{MatchOption}
+use Rattle.std.proofs.lemmas.Bool.{cond-false}
 use Rattle.std.proofs.lemmas.List.{drop_all, length-map}
-use Rattle.djq_model.specs.Data.{Bytes, bytes_eq}
+use Rattle.djq_model.specs.Data.{Bytes}
 use Rattle.djq_model.specs.Listed.{listed_name}
-use Rattle.djq_lines.specs.declared.answer.EndCause.{EndCause}
 use Rattle.djq_lines.specs.Reply.{text_of}
 use Rattle.djq_machine.specs.State.{Session, State, ids_of, session_of}
-use Rattle.djq_machine.specs.Effect.{queue_all}
 use Rattle.djq_machine.specs.Walk.{Walk}
-use Rattle.djq_machine.specs.Delta.{Change, delta_lines}
+use Rattle.djq_machine.specs.Delta.{delta_lines}
 use Rattle.djq_machine.specs.Watch.{Delta, Telling, is_watching, watching, watcher_of, TellsWatcher, TellsSession, TellsDelta}
 use Rattle.djq_engine.specs.Kept.{Kept}
 use Rattle.djq_core.specs.declared.open.OpenSession.{OpenSession}

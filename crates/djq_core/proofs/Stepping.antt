@@ -1,8 +1,7 @@
 -- A step of a session that leaves a change to tell.
-use Rattle.std.proofs.Common.{ℕ, zero, suc, ◌<◌, ◌≤◌, ◌≡◌, ◌++◌, ◌∙◌, Bool, true, List, [], ◌∷◌, length, map, set, Option, Some, refl, sym, ap, subst, arith}
+use Rattle.std.proofs.Common.{ℕ, zero, suc, ◌<◌, ◌≡◌, ◌∙◌, Bool, true, List, [], ◌∷◌, length, set, Option, Some, refl, sym, ap, subst, arith}
 use Rattle.std.specs.Prelude.{All, IsSome, IsSomeAnd, slice_get}
 use Rattle.std.proofs.lemmas.List.Elements.{All-map}
-use Rattle.djq_model.specs.Data.{Bytes, Tuple}
 use Rattle.djq_lines.specs.declared.command.Command.{Command}
 use Rattle.djq_lines.specs.declared.command.Command.TheVariants.{Rel, Add, Del, Query as Register, Drop, Open, Next, Close, Has, Watch, Unwatch, Explain, Shape, Quit, Stop}
 use Rattle.djq_machine.specs.declared.machine.Stepped.{Stepped}
@@ -10,10 +9,9 @@ use Rattle.djq_machine.specs.declared.machine.Stepped.TheVariants.{Ran, Dry, End
 use Rattle.djq_machine.specs.Call.{Counts}
 use Rattle.djq_machine.specs.Changes.{RowsChange, RowsOutcome, row_in, row_out, add_outcome, delete_outcome, is_accepted as is_made, tried}
 use Rattle.djq_engine.specs.declared.cursor.QueryId.{QueryId}
-use Rattle.djq_engine.specs.Kept.{Kept, Registered, Outdates, IsRegistered, registered_at}
+use Rattle.djq_engine.specs.Kept.{Kept, Registered, Outdates, IsRegistered}
 use Rattle.djq_core.specs.declared.open.OpenSession.{OpenSession}
 use Rattle.djq_core.specs.declared.change.Change.{Change}
-use Rattle.djq_core.specs.declared.change.Left.{Left}
 use Rattle.djq_core.specs.declared.change.Left.TheVariants.{Telling}
 use Rattle.djq_core.specs.Views.{Talk}
 use Rattle.djq_core.specs.Sound.{IsSound}

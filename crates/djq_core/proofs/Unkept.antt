@@ -8,7 +8,7 @@ use Rattle.djq_lines.specs.declared.answer.Refusal.TheVariants.{NoQuery, NoCurso
 use Rattle.djq_lines.specs.declared.command.Command.{Command}
 use Rattle.djq_lines.specs.declared.command.Command.TheVariants.{Rel, Add, Del, Query as Register, Drop, Open, Next, Close, Has, Watch, Unwatch, Explain, Shape, Quit, Stop}
 use Rattle.djq_machine.specs.State.{Session, State, Cursor, Position, open_at, stale, cursor_of}
-use Rattle.djq_machine.specs.Keeping.{Keeping, no_line, kept_where}
+use Rattle.djq_machine.specs.Keeping.{no_line}
 use Rattle.djq_machine.specs.Effect.{Effect, RefusedStep}
 use Rattle.djq_machine.specs.Command.{NextStepAt, CloseStep, ExplainStepOf, TellsLines, explain_lines, CommandStep}
 use Rattle.djq_engine.specs.Kept.{Kept}

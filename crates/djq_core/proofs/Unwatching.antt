@@ -1,12 +1,12 @@
 -- A session that gives up its watches, one after another.
-use Rattle.std.proofs.Common.{ℕ, ◌+◌, ◌<◌, ◌≡◌, ◌++◌, List, [], ◌∷◌, option_map, Option, None, Some, refl, sym, ap, ◌∙◌, subst}
+use Rattle.std.proofs.Common.{◌<◌, ◌≡◌, ◌++◌, List, [], ◌∷◌, option_map, Option, None, Some, refl, sym, ap, ◌∙◌, subst}
 use Rattle.std.specs.Prelude.{◌-◌, IsSome, IsSomeAnd}
 use Rattle.djq_model.specs.Data.{Bytes}
 use Rattle.djq_session.specs.Dialog.{PopsWatch}
 use Rattle.djq_engine.specs.declared.cursor.QueryId.{QueryId}
 use Rattle.djq_engine.specs.Kept.{Kept, Registered, registered_of, registered_at, with_watchers}
 use Rattle.djq_core.specs.Views.{Talk}
-use Rattle.djq_core.specs.Sound.{IsCounted, HasCount, StaysCounted, listed}
+use Rattle.djq_core.specs.Sound.{HasCount, StaysCounted, listed}
 use Rattle.djq_core.specs.Ends.{GivesUpWatches}
 use Rattle.djq_core.proofs.Watching.{IdsApart, NamesApart, stays_same, stays_on, watches_less, has_watcher, watched_known, found_there, at_its_id, listed_with}
 

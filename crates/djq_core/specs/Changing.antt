@@ -1,7 +1,6 @@
 -- A command on a row, which a session says and which all who watch are told.
-use Rattle.std.specs.Prelude.{ℕ, [], ◌∷◌, ◌≡◌, ◌+◌, ◌++◌, ◌≤◌, Bool, true, false, None, Result, Ok, Err, AllPairs, length, map}
+use Rattle.std.specs.Prelude.{ℕ, ◌≡◌, ◌+◌, ◌≤◌, Bool, true, false, None, Result, Ok, Err, AllPairs, length, map}
 use Rattle.djq_model.specs.Data.{Bytes, Tuple}
-use Rattle.std.specs.Prelude.{List}
 use Rattle.djq_lines.specs.declared.limits.TheConstants.{PENDING_BYTES, REPLY_BYTES, LAST_LINE_BYTES}
 use Rattle.djq_lines.specs.declared.answer.Refusal.{Refusal}
 use Rattle.djq_lines.specs.declared.answer.AddOutcome.{AddOutcome}

@@ -1,5 +1,6 @@
 pub mod Views
 pub mod Sound
+pub mod Loading
 pub mod Performs
 pub mod Opens
 pub mod Ends

@@ -1,6 +1,7 @@
 -- What a step of a session does, as the machine says it.
 use Rattle.std.specs.Prelude.{ℕ, ◌≡◌, ◌<◌, ◌≤◌, ◌⊎◌, Bool, true, false, None, MatchOption, length, ⊤}
 use Rattle.djq_model.specs.Data.{Bytes}
+use Rattle.djq_lines.specs.Line.{a_line, front_of}
 use Rattle.djq_lines.specs.declared.answer.EndCause.{EndCause}
 use Rattle.djq_lines.specs.declared.answer.EndCause.TheVariants.{Long, Slow, Memory}
 use Rattle.djq_lines.specs.declared.command.Command.{Command}
@@ -17,7 +18,6 @@ use Rattle.djq_machine.specs.Step.{is_dry}
 use Rattle.djq_machine.specs.Call.{Counts}
 use Rattle.djq_engine.specs.Kept.{Kept}
 use Rattle.djq_core.specs.Views.{Talk}
-use Rattle.djq_core.specs.declared.change.Change.{Change}
 use Rattle.djq_core.specs.declared.change.Left.{Left}
 use Rattle.djq_core.specs.declared.change.Left.TheVariants.{Nothing, Stopping, Telling}
 use Rattle.djq_core.specs.Performs.{Performs, ExecutesKeeping}
@@ -94,3 +94,15 @@ LeavesTo stepped Stopping old before new after was now = StepsTo stepped true ol
 LeavesTo (Ran kept) (Telling change) old before new after was now = (kept ≡ is_kept change.outcome) × LeavesChange change old before new after was.listing now.listing
 LeavesTo Dry (Telling change) old before new after was now = ⊥
 LeavesTo (Ended c) (Telling change) old before new after was now = ⊥
+
+-- whether a step that answers so keeps its line
+abbrev pub keeps_line : Stepped → Bool
+keeps_line (Ran kept) = kept
+keeps_line Dry = false
+keeps_line (Ended c) = false
+
+-- Where a line was run, it was copied before: it stood in front of these bytes.
+abbrev pub Copies : Stepped → Bytes → Bytes → Type 0
+Copies (Ran kept) held copy = (rest : Bytes) × (front_of held ≡ a_line copy rest)
+Copies Dry held copy = ⊤
+Copies (Ended c) held copy = ⊤

@@ -1,12 +1,12 @@
 -- How a change is told to the sessions that watch, and answered.
-use Rattle.std.specs.Prelude.{ℕ, List, [], ◌∷◌, ◌==◌, ◌≡◌, ◌+◌, ◌++◌, ◌<◌, ◌≤◌, ◌⊎◌, Bool, true, Option, None, Some, MatchOption, Result, if◌then◌else◌, All, filter, length, map, ⊤}
+use Rattle.std.specs.Prelude.{ℕ, List, [], ◌∷◌, ◌==◌, ◌≡◌, ◌++◌, ◌<◌, ◌≤◌, ◌⊎◌, Bool, true, None, Some, MatchOption, if◌then◌else◌, All, filter, length, map, ⊤}
 use Rattle.std.specs.List.{list_any}
 use Rattle.djq_model.specs.Data.{Bytes}
 use Rattle.djq_model.specs.Listed.{listed_name}
 use Rattle.djq_lines.specs.declared.limits.TheConstants.{PENDING_BYTES}
 use Rattle.djq_lines.specs.declared.answer.EndCause.TheVariants.{Slow, Memory}
 use Rattle.djq_lines.specs.Reply.{text_of, end_slow, end_memory}
-use Rattle.djq_machine.specs.State.{State, Session, with_session, ended_by}
+use Rattle.djq_machine.specs.State.{State, Session}
 use Rattle.djq_machine.specs.Effect.{Effect, says, nothing, EndsWith, queue_all}
 use Rattle.djq_machine.specs.Delta.{delta_lines}
 use Rattle.djq_machine.specs.Walk.{Walk}

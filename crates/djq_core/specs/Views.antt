@@ -1,5 +1,5 @@
 -- What the join machine sees of what the core keeps.
-use Rattle.std.specs.Prelude.{ℕ, List, [], Bool, Option, None, Some, map}
+use Rattle.std.specs.Prelude.{ℕ, List, [], ◌∷◌, Bool, true, false, Option, None, Some, map}
 use Rattle.djq_model.specs.Data.{Bytes}
 use Rattle.djq_session.specs.declared.named.NamedCursor.{NamedCursor}
 use Rattle.djq_session.specs.Dialog.{Dialog}
@@ -36,3 +36,17 @@ open_in hs x = session_in hs x.id x.session
 -- the state of the join machine
 abbrev pub state_in : Kept → Bool → List OpenSession → State
 state_in k stopped xs = record { store = k.store; stopped = stopped; sessions = map (open_in k.cursors) xs }
+
+-- What contracts see of the core: the state of the join machine, and the lines that its last step kept.
+pub record Visible : Type 0 where
+  pub state : State
+  pub kept : List Bytes
+
+-- a line where it is kept
+abbrev pub kept_line : Bool → Bytes → List Bytes
+kept_line true line = line ∷ []
+kept_line false line = []
+
+-- a core with this engine, these sessions, and the copy of a line, kept or not
+abbrev pub seen_in : Kept → Bool → List OpenSession → Bool → Bytes → Visible
+seen_in k stopped xs kept line = record { state = state_in k stopped xs; kept = kept_line kept line }

@@ -15,8 +15,8 @@ pub(crate) enum Outcome {
 }
 
 impl Outcome {
-    // Whether the line is kept.
-    fn is_kept(&self) -> bool
+    /// Whether the line is kept.
+    pub(crate) fn is_kept(&self) -> bool
         ensures { result ≡ is_kept self.now }
     {
         match *self {

@@ -94,8 +94,8 @@ pub(crate) fn run_query<L: Ledgers>(
     kept
 }
 
-// Whether a query is registered.
-fn is_registered(outcome: &Result<QueryOutcome, Refusal>) -> bool
+/// Whether a query is registered.
+pub(crate) fn is_registered(outcome: &Result<QueryOutcome, Refusal>) -> bool
     ensures { result ≡ is_registration outcome.now }
 {
     match outcome {

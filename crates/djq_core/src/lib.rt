@@ -23,16 +23,22 @@
 //! step costs nothing that grows with their number but the binary search for its id. A change is
 //! told afterwards, by a pass over the sessions for each watched query that it affected.
 //!
+//! What is kept of a step is its line, where the line is one that, loaded into a core without
+//! sessions, does there what it did here: `accepted` lends it, from a copy that was made before the
+//! session let go of it; `load` takes it in again.
+//!
 //! Inside: `serving` has the sessions by id and the calls; `line` the order of checks before a line
 //! is run; `commands`, `watch`, `listing` and `ending` what commands do, `next` line by line, and a
 //! session's end; `tell` what a command on rows leaves to do, each delta printed once, and then its
-//! answer. `told` lends an answer of the engine to the session that prints it.
+//! answer. `told` lends an answer of the engine to the session that prints it; `copied` is where a
+//! line is copied.
 #![tactic(auto)]
 
 pub use serving::Core;
 
 mod change;
 mod commands;
+mod copied;
 mod ending;
 mod line;
 mod listing;

@@ -4,13 +4,14 @@ ghost use Rattle.djq_lines.specs.Line.{a_line, front_of, is_blank as is_blank_li
 ghost use Rattle.djq_lines.specs.declared.limits.TheConstants.{PENDING_BYTES};
 ghost use Rattle.djq_machine.specs.Call.{counts};
 ghost use Rattle.djq_core.specs.Sound.{IsOwn, IsReady};
-ghost use Rattle.djq_core.specs.Stepping.{IsRunnable, LeavesTo, LineLeaves, Obeys, refused_as};
+ghost use Rattle.djq_core.specs.Stepping.{Copies, IsRunnable, LeavesTo, LineLeaves, Obeys, refused_as};
 
 use crate::change::Left;
 use crate::commands::{
     run_add, run_close, run_del, run_drop, run_explain, run_has, run_open, run_query, run_quit,
     run_rel, run_shape, run_stop,
 };
+use crate::copied::Copied;
 use crate::ending::end_by;
 use crate::listing::run_next;
 use crate::watch::{run_unwatch, run_watch};
@@ -184,17 +185,20 @@ fn step_line<L: Ledgers>(
     }
 }
 
-/// Runs the line in front of a session, unless it has ended, and tells what is left to do.
+/// Runs the line in front of a session, unless it has ended, and tells what is left to do. The line
+/// is copied before.
 pub(crate) fn step_session<L: Ledgers>(
     alloc: Global,
     engine: &mut Engine,
     session: &mut Session<CursorId, Name>,
+    copied: &mut Copied,
     steps: &mut Steps<L>,
 ) -> (Stepped, Left)
     requires { IsOwn engine.old session.old }
-    ensures { LeavesTo result.0 result.1 engine.old session.old engine.new session.new
+    ensures leaves { LeavesTo result.0 result.1 engine.old session.old engine.new session.new
         (counts steps.old.listing steps.old.update steps.old.rows)
         (counts steps.new.listing steps.new.update steps.new.rows) }
+    ensures copies { Copies result.0 session.old.held copied.new }
 {
     if let Some(cause) = session.cause() {
         return (Stepped::Ended(cause), Left::Nothing { kept: false });
@@ -208,6 +212,9 @@ pub(crate) fn step_session<L: Ledgers>(
                 Left::Nothing { kept: false },
             )
         }
-        Front::Line { end, rest } => step_line(alloc, engine, session, end, rest, steps),
+        Front::Line { end, rest } => {
+            copied.copy(&session.held()[..end]);
+            step_line(alloc, engine, session, end, rest, steps)
+        }
     }
 }

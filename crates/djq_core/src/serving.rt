@@ -1,10 +1,12 @@
-ghost use Rattle.std.specs.Prelude.{◌≡◌, ◌<◌, ◌&&◌, nat_le, IfOk, find, option_map, length, slice_index, Contains};
+ghost use Rattle.std.specs.Prelude.{◌≡◌, ◌<◌, ◌&&◌, [], nat_le, IfOk, find, option_map, length, slice_index, Contains};
 ghost use Rattle.djq_model.specs.Data.{rows_of};
 ghost use Rattle.djq_machine.specs.State.{opening};
 ghost use Rattle.djq_session.specs.Dialog.{is_due};
 ghost use Rattle.djq_core.specs.Sound.{Rises};
+ghost use Rattle.djq_core.specs.Stepping.{keeps_line};
 
 use crate::change::Left;
+use crate::copied::Copied;
 use crate::ending::{end_by, end_input, give_up};
 use crate::line::step_session;
 use crate::open::OpenSession;
@@ -20,10 +22,12 @@ use djq_steps::{Ledgers, Steps};
 use std::alloc::Global;
 use std::marker::Model;
 
+mod load;
 #[cfg(test)]
 mod tests;
 
-/// The join machine: an engine, and the open sessions. Contracts see its state.
+/// The join machine: an engine, and the open sessions. Contracts see its state, and the lines that
+/// its last step kept.
 ///
 /// ```text
 /// ids:      [ 1, 4, 5 ]              rising; a session is found by binary search
@@ -38,32 +42,37 @@ pub struct Core {
     stopped: bool,
     // where a delta is printed once for all who watch
     text: BytesMut,
+    // the line that was in front of the last step, and whether that step kept it
+    copied: Copied,
+    kept: bool,
     alloc: Global,
 }
 
 impl Model for Core {
-    ghost use Rattle.djq_machine.specs.State.{State};
+    ghost use Rattle.djq_core.specs.Views.{Visible};
 
-    ghost Value = { State };
+    ghost Value = { Visible };
 
     ghost use Rattle.std.specs.Prelude.{vec_capacity};
-    ghost use Rattle.djq_core.specs.Views.{state_in};
+    ghost use Rattle.djq_core.specs.Views.{seen_in};
     ghost use Rattle.djq_core.specs.Sound.{IsCore};
 
-    ghost view = { λ c. state_in c.engine c.stopped c.sessions.items };
+    ghost view = { λ c. seen_in c.engine c.stopped c.sessions.items c.kept c.copied };
 
     ghost invariant = { λ c. IsCore c.engine c.ids.items c.sessions.items (vec_capacity c.ids)
         (vec_capacity c.sessions) };
 }
 
 impl Core {
-    /// The state in which nothing has happened. It takes the room for all sessions.
+    /// The state in which nothing has happened. It takes the room for all sessions, and for the line
+    /// that a step keeps.
     ///
     /// # Errors
     ///
     /// `NoMem` out of memory.
     pub fn new(alloc: Global) -> Result<Core, NoMem>
-        ensures { IfOk result (λ core. core ≡ opening) }
+        ensures state { IfOk result (λ core. core.state ≡ opening) }
+        ensures kept { IfOk result (λ core. core.kept ≡ []) }
     {
         Ok(Core {
             engine: Engine::new(alloc)?,
@@ -71,27 +80,31 @@ impl Core {
             sessions: Vec::with_capacity(alloc, SESSIONS)?,
             stopped: false,
             text: BytesMut::new(alloc),
+            copied: Copied::new(alloc)?,
+            kept: false,
             alloc,
         })
     }
 
     /// The number of accepted changes of rows.
     pub fn seq(&self) -> u64
-        ensures { result ≡ self.now.store.seq }
+        ensures { result ≡ self.now.state.store.seq }
     {
         self.engine.seq()
     }
 
     /// The number of rows of a relation, 0 where there is none of the name.
     pub fn rows(&self, name: &Name) -> u64
-        ensures { result ≡ length (rows_of self.now.store.relations name.now) }
+        ensures { result ≡ length (rows_of self.now.state.store.relations name.now) }
     {
         self.engine.rows(name)
     }
 }
 
 impl Machine for Core {
-    ghost state = { λ c. c };
+    ghost state = { λ c. c.state };
+
+    ghost kept = { λ c. c.kept };
 
     fn open_session(&mut self, id: u64) -> Result<(), OpenRefusal> {
         if self.ids.len() >= SESSIONS {
@@ -130,7 +143,14 @@ impl Machine for Core {
     fn step<L: Ledgers>(&mut self, id: u64, steps: &mut Steps<L>) -> Stepped {
         let at = place_of(self.ids.as_slice(), id);
         let found = &mut self.sessions[at];
-        let (stepped, left) = step_session(self.alloc, &mut self.engine, &mut found.session, steps);
+        let (stepped, left) = step_session(
+            self.alloc,
+            &mut self.engine,
+            &mut found.session,
+            &mut self.copied,
+            steps,
+        );
+        self.kept = keeps_line(stepped);
         match left {
             Left::Nothing { .. } => {}
             Left::Stopping => self.stopped = true,
@@ -143,6 +163,14 @@ impl Machine for Core {
             ),
         }
         stepped
+    }
+
+    fn accepted(&self, i: usize) -> Option<&[u8]> {
+        if self.kept && i == 0 {
+            Some(self.copied.line())
+        } else {
+            None
+        }
     }
 
     fn pending(&self, id: u64) -> &[u8] {
@@ -187,6 +215,16 @@ impl Machine for Core {
 
     fn stopped(&self) -> bool {
         self.stopped
+    }
+}
+
+// Whether a step that answers so keeps its line.
+fn keeps_line(stepped: Stepped) -> bool
+    ensures { result ≡ keeps_line stepped }
+{
+    match stepped {
+        Stepped::Ran { kept } => kept,
+        Stepped::Dry | Stepped::Ended(_) => false,
     }
 }
 

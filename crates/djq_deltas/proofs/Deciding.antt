@@ -1,20 +1,21 @@
 -- Whether a tuple is an answer is decided: of a query, one of finitely many choices of rows shows it, or none does.
-use Rattle.std.specs.Prelude.{List, [], ◌∷◌, ◌≡◌, ◌⊎◌, Bool, true, false, cond, pos, map, All, Contains}
+use Rattle.std.specs.Prelude.{List, [], ◌∷◌, ◌≡◌, ◌⊎◌, Bool, true, false, cond, map, All, Contains}
 use Rattle.std.proofs.Common.{refl, sym, ap, ap₂, ◌∙◌, inl, inr}
-use Rattle.std.proofs.lemmas.List.Elements.{All-nil, All-cons, All-head, All-tail}
+use Rattle.std.proofs.lemmas.List.Elements.{All-nil, All-cons, All-head, All-tail, All-contains}
 use Rattle.djq_model.specs.declared.value.Value.{Value}
-use Rattle.djq_model.specs.declared.value.Value.TheVariants.{Int}
 use Rattle.djq_model.specs.declared.relation.Relation.{Relation}
 use Rattle.djq_model.specs.declared.query.Query.{Query}
 use Rattle.djq_model.specs.declared.query.Atom.{Atom}
+use Rattle.djq_model.specs.declared.query.Comparison.{Comparison}
 use Rattle.djq_model.specs.declared.query.Term.{Term}
 use Rattle.djq_model.specs.declared.query.Term.TheVariants.{Variable, Hole, Constant}
 use Rattle.djq_model.specs.Data.{Bytes, Tuple, bytes_eq, value_eq, rows_of}
-use Rattle.djq_model.specs.Answer.{Assignment, StandForAll, Satisfies, IsAnswer}
+use Rattle.djq_model.specs.Answer.{Assignment, StandForAll, Satisfies, compares, HoldsOf, IsAnswer}
 use Rattle.djq_model.specs.Listed.{a_query}
 use Rattle.djq_model.specs.Equality.{bytes_eq-decides, value_eq-decides}
 use Rattle.djq_deltas.specs.Decided.{Decided, AnswersAreDecided}
-use Rattle.djq_deltas.proofs.Lists.{nothing_there, first_or_later, first_there, later_there}
+use Rattle.djq_deltas.proofs.Lists.{nothing_there, first_or_later, first_there, later_there, hold_each}
+use Rattle.djq_deltas.proofs.Comparing.{pick, picked_holds}
 
 decided_as : {A B : Type 0} → (A → B) → (B → A) → Decided A → Decided B
 decided_as to back (inl a) = inl (to a)
@@ -35,10 +36,10 @@ record Sat (P : Assignment → Type 0) (bs : List Binding) : Type 0 where
   holds : Holds assignment bs
   rest : P assignment
 
--- the assignment of the first values
-bound : List Binding → Assignment
-bound [] x = Int (pos 0)
-bound (b ∷ bs) x = cond (bytes_eq b.0 x) b.1 (bound bs x)
+-- the assignment of the first values, and of others where there are none
+bound : Assignment → List Binding → Assignment
+bound others [] x = others x
+bound others (b ∷ bs) x = cond (bytes_eq b.0 x) b.1 (bound others bs x)
 
 behind_first : (a : Assignment) (b : Binding) (f : Assignment) (bs : List Binding) → a b.0 ≡ b.1 → Holds a bs → Holds f bs
     → Holds (λ x. cond (bytes_eq b.0 x) b.1 (f x)) bs
@@ -50,12 +51,23 @@ behind_first a b f (c ∷ cs) h k l = (step (bytes_eq b.0 c.0) refl, behind_firs
     step false e = l.0
 
 -- where there is one, the assignment of the first values is one
-bound_holds : (a : Assignment) (bs : List Binding) → Holds a bs → Holds (bound bs) bs
+bound_holds : (others a : Assignment) (bs : List Binding) → Holds a bs → Holds (bound others bs) bs
 unfolding bound
-bound_holds a [] h = tt
-bound_holds a (b ∷ bs) h =
+bound_holds others a [] h = tt
+bound_holds others a (b ∷ bs) h =
     let same : bytes_eq b.0 b.0 ≡ true = (bytes_eq-decides b.0 b.0).1 refl in
-    (ap (λ t. cond t b.1 (bound bs b.0)) same, behind_first a b (bound bs) bs h.0 h.1 (bound_holds a bs h.1))
+    (ap (λ t. cond t b.1 (bound others bs b.0)) same, behind_first a b (bound others bs) bs h.0 h.1 (bound_holds others a bs h.1))
+
+-- and it has each value from there or from the others
+bound_is : (others a : Assignment) (bs : List Binding) (x : Bytes) → Holds a bs → (a x ≡ bound others bs x) ⊎ (others x ≡ bound others bs x)
+unfolding bound
+bound_is others a [] x h = inr refl
+bound_is others a (b ∷ bs) x h = step (bytes_eq b.0 x) refl (bound_is others a bs x h.1)
+  where
+    step : (t : Bool) → bytes_eq b.0 x ≡ t → (a x ≡ bound others bs x) ⊎ (others x ≡ bound others bs x)
+        → (a x ≡ cond t b.1 (bound others bs x)) ⊎ (others x ≡ cond t b.1 (bound others bs x))
+    step true e o = inl (sym (ap a ((bytes_eq-decides b.0 x).0 e)) ∙ h.0)
+    step false e o = o
 
 holds_decided : (a : Assignment) (bs : List Binding) → Decided (Holds a bs)
 holds_decided a [] = inl tt
@@ -130,25 +142,62 @@ module _ (P : Assignment → Type 0) (decided : (bs : List Binding) → Decided 
       rest_of : (a : Assignment) → v ∷ vs ≡ a x ∷ map a xs → vs ≡ map a xs
       rest_of a e = cc
 
-atoms_decided : (relations : List Relation) (atoms : List Atom) (bs : List Binding) → Decided (Sat (λ a. All (Satisfies relations a) atoms) bs)
-atoms_decided relations [] bs =
-    decided_as (λ h. record { assignment = bound bs; holds = h; rest = All-nil (Satisfies relations (bound bs)) }) (λ s. bound_holds s.assignment bs s.holds) (holds_decided (bound bs) bs)
-atoms_decided relations (a ∷ more) bs =
+-- Whether there is an assignment of which comparisons hold is decided: a value that the first values don't give is picked.
+compared_hold : (a : Assignment) (cs : List Comparison) (bs : List Binding) → Holds a bs → All (HoldsOf a) cs
+    → All (HoldsOf (bound (pick cs) bs)) cs
+compared_hold a cs bs h k = hold_each (HoldsOf (bound (pick cs) bs)) cs (λ c there. step c there (bound_is (pick cs) a bs c.variable h))
+  where
+    step : (c : Comparison) → Contains cs c → (a c.variable ≡ bound (pick cs) bs c.variable) ⊎ (pick cs c.variable ≡ bound (pick cs) bs c.variable)
+        → HoldsOf (bound (pick cs) bs) c
+    step c there (inl e) = ap (λ (v : Value). compares c.operator v c.constant) (sym e) ∙ All-contains (HoldsOf a) cs c k there
+    step c there (inr e) = ap (λ (v : Value). compares c.operator v c.constant) (sym e) ∙ picked_holds a cs c k there
+
+all_decided : (a : Assignment) (cs : List Comparison) → Decided (All (HoldsOf a) cs)
+all_decided a [] = inl (All-nil (HoldsOf a))
+all_decided a (c ∷ cs) = step (compares c.operator (a c.variable) c.constant) refl (all_decided a cs)
+  where
+    step : (t : Bool) → compares c.operator (a c.variable) c.constant ≡ t → Decided (All (HoldsOf a) cs) → Decided (All (HoldsOf a) (c ∷ cs))
+    step true e d = decided_as (λ h. All-cons (HoldsOf a) c cs e h) (λ h. All-tail (HoldsOf a) c cs h) d
+    step false e d = inr (λ h. let yes : compares c.operator (a c.variable) c.constant ≡ true = All-head (HoldsOf a) c cs h in absurd (cc (yes, e)))
+
+comparisons_decided : (cs : List Comparison) (bs : List Binding) → Decided (Sat (λ a. All (HoldsOf a) cs) bs)
+comparisons_decided cs bs = step (holds_decided (bound (pick cs) bs) bs) (all_decided (bound (pick cs) bs) cs)
+  where
+    step : Decided (Holds (bound (pick cs) bs) bs) → Decided (All (HoldsOf (bound (pick cs) bs)) cs) → Decided (Sat (λ a. All (HoldsOf a) cs) bs)
+    step (inl h) (inl k) = inl (record { assignment = bound (pick cs) bs; holds = h; rest = k })
+    step (inl h) (inr never) = inr (λ s. never (compared_hold s.assignment cs bs s.holds s.rest))
+    step (inr never) d = inr (λ s. never (bound_holds (pick cs) s.assignment bs s.holds))
+
+atoms_decided : (relations : List Relation) (cs : List Comparison) (atoms : List Atom) (bs : List Binding)
+    → Decided (Sat (λ a. All (Satisfies relations a) atoms × All (HoldsOf a) cs) bs)
+atoms_decided relations cs [] bs =
+    decided_as (λ s. record { assignment = s.assignment; holds = s.holds; rest = (All-nil (Satisfies relations s.assignment), s.rest) })
+    (λ s. record { assignment = s.assignment; holds = s.holds; rest = s.rest.1 }) (comparisons_decided cs bs)
+atoms_decided relations cs (a ∷ more) bs =
     decided_as
     (λ s. record {
       assignment = s.assignment;
       holds = s.holds;
-      rest = All-cons (Satisfies relations s.assignment) a more (record { row = s.rest.0.0; is_there = s.rest.0.1; stands = s.rest.0.2 }) s.rest.1;
+      rest = (
+        All-cons (Satisfies relations s.assignment) a more (record { row = s.rest.0.0; is_there = s.rest.0.1; stands = s.rest.0.2 }) s.rest.1.0,
+        s.rest.1.1,
+      );
     })
-    (λ s. let first = All-head (Satisfies relations s.assignment) a more s.rest in
-    record { assignment = s.assignment; holds = s.holds; rest = ((first.row, first.is_there, first.stands), All-tail (Satisfies relations s.assignment) a more s.rest) })
-    (rows_decided (λ f. All (Satisfies relations f) more) (λ cs. atoms_decided relations more cs) a.terms (rows_of relations a.relation) bs)
+    (λ s. let first = All-head (Satisfies relations s.assignment) a more s.rest.0 in
+    record {
+      assignment = s.assignment;
+      holds = s.holds;
+      rest = ((first.row, first.is_there, first.stands), (All-tail (Satisfies relations s.assignment) a more s.rest.0, s.rest.1));
+    })
+    (rows_decided (λ f. All (Satisfies relations f) more × All (HoldsOf f) cs) (λ ds. atoms_decided relations cs more ds) a.terms
+    (rows_of relations a.relation) bs)
 
 pub query_decided : (relations : List Relation) (q : Query) (t : Tuple) → Decided (IsAnswer relations q t)
 query_decided relations q t =
-    decided_as (λ s. record { assignment = s.assignment; satisfies = s.rest.1; on_head = s.rest.0 })
-    (λ h. record { assignment = h.assignment; holds = tt; rest = (h.on_head, h.satisfies) })
-    (head_decided (λ f. All (Satisfies relations f) q.atoms) (λ bs. atoms_decided relations q.atoms bs) q.head t [])
+    decided_as (λ s. record { assignment = s.assignment; satisfies = s.rest.1.0; compared = s.rest.1.1; on_head = s.rest.0 })
+    (λ h. record { assignment = h.assignment; holds = tt; rest = (h.on_head, (h.satisfies, h.compared)) })
+    (head_decided (λ f. All (Satisfies relations f) q.atoms × All (HoldsOf f) q.comparisons)
+    (λ bs. atoms_decided relations q.comparisons q.atoms bs) q.head t [])
 
 pub answers_are_decided : AnswersAreDecided
 answers_are_decided relations (a_query q) t = query_decided relations q t

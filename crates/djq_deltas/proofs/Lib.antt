@@ -1,4 +1,5 @@
 pub mod Lists
+pub mod Comparing
 pub mod Deciding
 pub mod Naive
 pub mod Finite

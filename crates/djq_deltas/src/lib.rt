@@ -19,8 +19,9 @@
 //! that each variable of a head stands in the body, as the protocol asks of a query.
 //!
 //! Inside, a bound answer takes its values from rows, so those to try are finitely many, and each
-//! is decided by trying the choices of a row for each atom. [`deltas_exist`] then compares two
-//! listings.
+//! is decided by trying the choices of a row for each atom. A variable that only comparisons bind
+//! is given the first of a few values that passes them: their constants, and the numbers as far as
+//! one that is past them all. [`deltas_exist`] then compares two listings.
 //!
 //! djq_engine cites [`deltas_exist`] of changes whose delta no log tells, and djq_laws
 //! [`answers_are_decided`] where a listing and a delta are added up.

@@ -1,9 +1,10 @@
 -- The registered queries as contracts see them: which one an id or a name stands for, and how they
 -- change.
 use Rattle.std.proofs.Common.{ℕ, zero, suc, List, [], ◌∷◌, ◌++◌, ◌≡◌, ◌≢◌, ◌<◌, Bool, true, false, refl, sym, ap, ap₂, ◌∙◌, subst, length, get_or, arith}
-use Rattle.std.specs.Prelude.{◌==◌, ◌&&◌, ◌||◌, not, Option, None, Some, is_some, IsSome, IsSomeAnd, option_map, find, map, filter, cond, position, AllPairs}
+use Rattle.std.specs.Prelude.{◌==◌, ◌&&◌, ◌||◌, not, Option, None, Some, is_some, IsSome, IsSomeAnd, option_map, find, map, filter, cond, position, All, AllPairs}
 use Rattle.std.proofs.lemmas.Bool.{eqb-true, eq-eqb, false≢true}
 use Rattle.std.proofs.lemmas.List.{map-append}
+use Rattle.std.proofs.lemmas.List.Elements.{All-cons, All-filter, All-head, All-nil, All-tail}
 use Rattle.djq_model.specs.declared.relation.Relation.{Relation}
 use Rattle.djq_model.specs.Data.{Bytes, bytes_eq}
 use Rattle.djq_model.specs.Listed.{Listed, a_query, listed_name}
@@ -214,6 +215,18 @@ module _ (c : Catalog) (gs : List (Option Live)) (order : List ℕ) (readers : L
       filter_both (λ r. is_some (by_relation (relation_at c.relations at).name r.query)) is_watched (registered_in gs ws order)
       ∙ ap (filter is_watched) (readers_are at low after)
       ∙ filter_mapped is_watched (registered_as gs ws) (readers_at readers at)
+
+  -- where nobody watches a query, nobody watches the readers of a relation
+  pub unwatched_readers : (at : ℕ) → at < length c.relations → All (λ r. is_watched r ≡ false) (registered_in gs ws order) → All (λ i. watched_at ws i ≡ false) (readers_at readers at)
+  unwatched_readers at low none =
+      subst (λ (xs : List ℕ). All (λ i. watched_at ws i ≡ false) xs) (sym (s.reading at low))
+      (All-filter (λ i. reads_place (relation_at c.relations at).name (place_at gs i)) (λ i. watched_at ws i ≡ false) order (by_place order none))
+    where
+      by_place : (xs : List ℕ) → All (λ r. is_watched r ≡ false) (map (registered_as gs ws) xs) → All (λ i. watched_at ws i ≡ false) xs
+      by_place [] h = All-nil (λ i. watched_at ws i ≡ false)
+      by_place (x ∷ xs) h =
+          All-cons (λ i. watched_at ws i ≡ false) x xs (All-head (λ r. is_watched r ≡ false) (registered_as gs ws x) (map (registered_as gs ws) xs) h)
+          (by_place xs (All-tail (λ r. is_watched r ≡ false) (registered_as gs ws x) (map (registered_as gs ws) xs) h))
 
 -- ---- other watchers
 

@@ -154,7 +154,7 @@ module _ (c d : Catalog) (gs hs : List (Option Live)) (order places : List ℕ) 
   stays : query_refusal (store_of c gs order seq) q ≡ None → is_some (query_refusal (store_of c gs order seq) q) ≡ true → {P : Type 0} → P
   stays e h = absurd (false≢true (sym (ap is_some e) ∙ h))
 
-  pub query_lacks : IsFreeConnex (edges_of q) (head_of q) → LearnsFirst c.texts (texts_in (constants_of q.atoms)) d.texts
+  pub query_lacks : IsFreeConnex (edges_of q) (head_of q) → LearnsFirst c.texts (texts_in (constants_of q)) d.texts
       → length d.texts ≤ TEXTS → queries_in hs places ≡ queries_in gs order
       → RegistersQuery (store_of c gs order seq) q (Err NoMemory) (store_of d hs places n)
   query_lacks connex learns many queries = record {
@@ -163,7 +163,7 @@ module _ (c d : Catalog) (gs hs : List (Option Live)) (order places : List ℕ) 
     stays = λ h. stays none h;
   }
 
-  pub query_full : IsFreeConnex (edges_of q) (head_of q) → FindsNoPlace c.texts (texts_in (constants_of q.atoms)) d.texts → queries_in hs places ≡ queries_in gs order
+  pub query_full : IsFreeConnex (edges_of q) (head_of q) → FindsNoPlace c.texts (texts_in (constants_of q)) d.texts → queries_in hs places ≡ queries_in gs order
       → RegistersQuery (store_of c gs order seq) q (Err Limit) (store_of d hs places n)
   query_full connex finds queries = record {
     answer = subst (λ (o : Option Refusal). Answers o (Err Limit) (RegistersAs (store_of c gs order seq) q (store_of d hs places n)) (RefusedLate (store_of c gs order seq) q (store_of d hs places n))) (sym none)
@@ -171,14 +171,14 @@ module _ (c d : Catalog) (gs hs : List (Option Live)) (order places : List ℕ) 
     stays = λ h. stays none h;
   }
 
-  pub query_done : (most : ℕ) → IsFreeConnex (edges_of q) (head_of q) → most ≡ most_steps (length q.head) → LearnsAll c.texts (texts_in (constants_of q.atoms)) d.texts → queries_in hs places ≡ queries_in gs order ++ a_query q ∷ []
+  pub query_done : (most : ℕ) → IsFreeConnex (edges_of q) (head_of q) → most ≡ most_steps (length q.head) → LearnsAll c.texts (texts_in (constants_of q)) d.texts → queries_in hs places ≡ queries_in gs order ++ a_query q ∷ []
       → RegistersQuery (store_of c gs order seq) q (Ok (Registered most)) (store_of d hs places n)
   query_done most connex is learns queries = record {
     answer = answers_done (query_refusal (store_of c gs order seq) q) (Registered most) (RegistersAs (store_of c gs order seq) q (store_of d hs places n)) _ none (
       connex,
       is,
       learns.1,
-      store_with c d gs hs order places seq n (all_learned c.texts (texts_in (constants_of q.atoms))) (queries_in gs order ++ a_query q ∷ []) rel learns.0 queries same,
+      store_with c d gs hs order places seq n (all_learned c.texts (texts_in (constants_of q))) (queries_in gs order ++ a_query q ∷ []) rel learns.0 queries same,
     );
     stays = λ h. stays none h;
   }

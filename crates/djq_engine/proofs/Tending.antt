@@ -298,6 +298,11 @@ shown_tended Changed c d gs ps old new row kept ch texts t h i l there unlost =
 
 -- ---- what listing counts
 
+-- nothing, where nobody watches
+pub lists_nothing : {R : Type 0} (Changed : Catalog → Catalog → R → Type 0) (l : Live) (b : Bool) (at before now : ℕ) → b ≡ false → CountsDelta b Changed l at before now → now ≡ before
+lists_nothing Changed l true at before now e h = absurd (false≢true (sym e))
+lists_nothing Changed l false at before now e h = h
+
 module _ (Changed : Catalog → Catalog → Tuple → Type 0) (ws : List ℕ) (at : ℕ) where
   pub costs_none : (gs : List (Option Live)) (n : ℕ) → Costs Changed [] ws gs at n n
   costs_none gs n c d row f ch kept deltas = omega arith

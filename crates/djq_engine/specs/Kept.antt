@@ -1,5 +1,5 @@
 -- What contracts see of an engine, and what its calls do to its cursors.
-use Rattle.std.specs.Prelude.{ℕ, List, [], ◌∷◌, ◌==◌, ◌≡◌, ◌≤◌, ◌+◌, ◌++◌, ◌&&◌, ◌⊎◌, Bool, true, false, not, Option, None, Some, is_none, IsSome, IsSomeAnd, IfSome, Result, Ok, Err, map, filter, find, nat_lt, slice_index_or, ⊤}
+use Rattle.std.specs.Prelude.{ℕ, List, [], ◌∷◌, ◌==◌, ◌≡◌, ◌≤◌, ◌+◌, ◌++◌, ◌&&◌, ◌⊎◌, Bool, true, false, not, Option, None, Some, is_none, IsSome, IsSomeAnd, IfSome, All, Result, Ok, Err, map, filter, find, nat_lt, slice_index_or, ⊤}
 use Rattle.djq_model.specs.declared.query.Query.{Query}
 use Rattle.djq_model.specs.Data.{Bytes, Tuple, bytes_eq, change_first}
 use Rattle.djq_model.specs.Listed.{Listed, a_query, listed_name, AnswersOf, listed_of}
@@ -65,6 +65,10 @@ IsRegistered k id = IsSome (registered_at k.registered id)
 -- whether a session watches it
 abbrev pub is_watched : Registered → Bool
 is_watched r = nat_lt 0 r.watchers
+
+-- nobody watches a query
+abbrev pub IsUnwatched : Kept → Type 0
+IsUnwatched k = All (λ r. is_watched r ≡ false) k.registered
 
 -- the queries that a change outdates: those that read a relation that it changes
 abbrev pub readers_of : List Registered → RowsChange → List Registered

@@ -27,7 +27,7 @@ is_live gs i = is_some (place_at gs i)
 
 -- what stands for the query of a vacant place
 abbrev pub no_query : Listed
-no_query = a_query (record { name = []; head = []; atoms = [] })
+no_query = a_query (record { name = []; head = []; atoms = []; comparisons = [] })
 
 -- the query in a place, as it is registered
 abbrev pub query_in : Option Live → Listed

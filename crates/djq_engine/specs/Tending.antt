@@ -91,6 +91,10 @@ Costs Changed places watchers gs at before now = (c d : Catalog) (row : Tuple)
     (f : ℕ → List Change) → Changed c d row → AllAt places gs (λ l. IsKept c l)
     → DeltasOf places watchers gs c d f → now ≤ before + sum_by (cost_at watchers gs at f) places
 
+-- nobody watches the queries in these places
+abbrev pub AreUnwatched : List ℕ → List ℕ → Type 0
+AreUnwatched watchers places = All (λ i. watched_at watchers i ≡ false) places
+
 -- what bounds an update of a query: that it is flat, where this is chosen, or that no leaf has more
 -- than n tuples before it
 abbrev pub IsBounded : ℕ → Bool → Live → Type 0

@@ -8,7 +8,8 @@ ghost use Rattle.djq_engine.specs.Changing.{HasRow, AddsCells, AddsTo, DeletesFr
 ghost use Rattle.djq_engine.specs.Changing.{IfCame, IfLacking, IfStill, IfWent, IfNoneWent};
 ghost use Rattle.djq_engine.specs.Changing.{TellsRows, CountsRows};
 ghost use Rattle.djq_engine.specs.Changing.{KeepsLogs, WorksRows, reads_at, tells_at};
-ghost use Rattle.djq_engine.specs.Tending.{AreShown};
+ghost use Rattle.djq_engine.specs.Places.{readers_at};
+ghost use Rattle.djq_engine.specs.Tending.{AreShown, AreUnwatched};
 ghost use Rattle.djq_engine.specs.Whole.{IsWhole, IsTended};
 
 use crate::parts::Parts;
@@ -57,6 +58,8 @@ fn put_cells<L: Ledgers>(
         → CountsRows id.at (with_row (counted_at parts.old.catalog.relations id.at) row) parts.old
         steps.old.listing steps.new.listing) }
     ensures idle { IfStill result (steps.new.listing ≤ steps.old.listing) }
+    ensures unlisted { AreUnwatched parts.old.watchers.items
+        (readers_at parts.old.readers.items id.at) → steps.new.listing ≡ steps.old.listing }
     ensures updates { IfCame result (WorksRows id.at 1 parts.old
         steps.old.update steps.new.update) }
     ensures refusal { IfLacking result (WorksRows id.at 3 parts.old
@@ -132,6 +135,8 @@ pub fn put_row<L: Ledgers>(
         (with_row (counted_at parts.old.catalog.relations id.at) row.now) parts.old
         steps.old.listing steps.new.listing) }
     ensures idle { IfStill result (steps.new.listing ≤ steps.old.listing) }
+    ensures unlisted { AreUnwatched parts.old.watchers.items
+        (readers_at parts.old.readers.items id.at) → steps.new.listing ≡ steps.old.listing }
     ensures updates { IfCame result (WorksRows id.at 1 parts.old
         steps.old.update steps.new.update) }
     ensures refusal { IfLacking result (WorksRows id.at 3 parts.old
@@ -179,6 +184,8 @@ pub fn drop_cells<L: Ledgers>(
         → CountsRows id.at (without_copies (counted_at parts.old.catalog.relations id.at) row)
         parts.old steps.old.listing steps.new.listing) }
     ensures idle { IfNoneWent result (steps.new.listing ≤ steps.old.listing) }
+    ensures unlisted { AreUnwatched parts.old.watchers.items
+        (readers_at parts.old.readers.items id.at) → steps.new.listing ≡ steps.old.listing }
     ensures updates { IfWent result (WorksRows id.at 1 parts.old
         steps.old.update steps.new.update) }
     ensures unmoved { IfNoneWent result (steps.new.update ≤ steps.old.update) }

@@ -8,7 +8,7 @@ ghost use Rattle.djq_machine.specs.Store.{TellsShape, TellsWhether, has_steps};
 ghost use Rattle.djq_machine.specs.Changes.{row_in, row_out, add_outcome, delete_outcome, tried};
 ghost use Rattle.djq_engine.specs.Kept.{SameCursors, SameTellings, Outdates, DropGives, OpenGives, NextGives};
 ghost use Rattle.djq_engine.specs.Kept.{MoreGives, ClosesCursor, IsHeld, IsFresh, IsThere};
-ghost use Rattle.djq_engine.specs.Kept.{AnswerIs, ExplainGives};
+ghost use Rattle.djq_engine.specs.Kept.{AnswerIs, ExplainGives, IsUnwatched};
 ghost use Rattle.djq_engine.specs.Kept.{registered_of, registered_at, same_query, IsRegistered};
 ghost use Rattle.djq_engine.specs.Kept.{with_watchers, told_at};
 ghost use Rattle.djq_engine.specs.Lending.{LendsQuery};
@@ -248,6 +248,7 @@ impl Engine {
         ensures tells { TellsChange self.old
             (add_outcome (row_in self.old.store.relations name.now row.now) result) self.new
             steps.old.listing steps.new.listing }
+        ensures unlisted { IsUnwatched self.old → steps.new.listing ≡ steps.old.listing }
         ensures updates { CountsUpdates (add_times result) self.old
             (row_in self.old.store.relations name.now row.now)
             steps.old.update steps.new.update }
@@ -278,6 +279,7 @@ impl Engine {
         ensures tells { TellsChange self.old
             (delete_outcome (row_out self.old.store.relations name.now row.now) result) self.new
             steps.old.listing steps.new.listing }
+        ensures unlisted { IsUnwatched self.old → steps.new.listing ≡ steps.old.listing }
         ensures updates { CountsUpdates (delete_times result) self.old
             (row_out self.old.store.relations name.now row.now)
             steps.old.update steps.new.update }

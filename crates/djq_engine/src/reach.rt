@@ -1,11 +1,11 @@
 //! What a change does to the queries that read its relation, one after another. No other query is
 //! looked at.
-ghost use Rattle.std.specs.Prelude.{◌≡◌, ◌<◌, [], ◌∷◌, ⊤, IsSomeAnd, OnOk, OnErr, length};
+ghost use Rattle.std.specs.Prelude.{◌≡◌, ◌<◌, [], ◌∷◌, ⊤, false, IsSomeAnd, OnOk, OnErr, length};
 ghost use Rattle.djq_live.specs.Changes.{Came, Went};
 ghost use Rattle.djq_live.specs.Updating.{CanAdd, CanDelete, CountsDelta};
-ghost use Rattle.djq_engine.specs.Places.{place_at};
+ghost use Rattle.djq_engine.specs.Places.{place_at, watched_at};
 ghost use Rattle.djq_engine.specs.Tending.{Readies, TellsWhere, Tends, TellsAt, Shows, Costs};
-ghost use Rattle.djq_engine.specs.Tending.{CountsEither, HaveLogs, Empties, Works};
+ghost use Rattle.djq_engine.specs.Tending.{AreUnwatched, CountsEither, HaveLogs, Empties, Works};
 ghost use Rattle.djq_engine.specs.Sound.{AreOnce};
 ghost use Rattle.djq_engine.specs.Reaching.{Reach, AllAt, CanCome, CanGo};
 ghost use Rattle.djq_engine.specs.Reaching.{TakesIn, LetsOut, Remains, GivesBack, Ages};
@@ -96,6 +96,8 @@ fn take_at<L: Ledgers>(
         queries.old.items logs.old.items logs.new.items }
     ensures counted { Costs (λ c d. Came c d relation.at cells.now) (at ∷ []) watchers.now
         queries.old.items relation.at steps.old.listing steps.new.listing }
+    ensures unlisted { watched_at watchers.now at ≡ false
+        → steps.new.listing ≡ steps.old.listing }
     ensures updates { OnOk result (Works (at ∷ []) queries.old.items relation.at 1
         steps.old.update steps.new.update) }
     ensures refusal { OnErr result (Works (at ∷ []) queries.old.items relation.at 3
@@ -128,6 +130,8 @@ fn let_at<L: Ledgers>(
         queries.old.items logs.old.items logs.new.items }
     ensures counted { Costs (λ c d. Went c d relation.at cells.now) (at ∷ []) watchers.now
         queries.old.items relation.at steps.old.listing steps.new.listing }
+    ensures unlisted { watched_at watchers.now at ≡ false
+        → steps.new.listing ≡ steps.old.listing }
     ensures updates { Works (at ∷ []) queries.old.items relation.at 1
         steps.old.update steps.new.update }
 {
@@ -202,6 +206,8 @@ pub fn take_in<L: Ledgers>(
         queries.old.items logs.old.items logs.new.items }
     ensures counted { Costs (λ c d. Came c d relation.at cells.now) places.now watchers.now
         queries.old.items relation.at steps.old.listing steps.new.listing }
+    ensures unlisted { AreUnwatched watchers.now places.now
+        → steps.new.listing ≡ steps.old.listing }
     ensures updates { OnOk result (Works places.now queries.old.items relation.at 1
         steps.old.update steps.new.update) }
     ensures refusal { OnErr result (Works places.now queries.old.items relation.at 3
@@ -261,6 +267,8 @@ pub fn let_out<L: Ledgers>(
         queries.old.items logs.old.items logs.new.items }
     ensures counted { Costs (λ c d. Went c d relation.at cells.now) places.now watchers.now
         queries.old.items relation.at steps.old.listing steps.new.listing }
+    ensures unlisted { AreUnwatched watchers.now places.now
+        → steps.new.listing ≡ steps.old.listing }
     ensures updates { Works places.now queries.old.items relation.at 1
         steps.old.update steps.new.update }
 {

@@ -3,7 +3,7 @@ ghost use Rattle.std.specs.Prelude.{◌≡◌, ◌<◌, [], ◌∷◌, ◌++◌,
 ghost use Rattle.djq_model.specs.Data.{rows_of, without_row};
 ghost use Rattle.djq_machine.specs.Store.{MakesRelation, AddsRow, DeletesRow};
 ghost use Rattle.djq_machine.specs.Changes.{row_in, row_out, add_outcome, delete_outcome, tried};
-ghost use Rattle.djq_engine.specs.Kept.{Outdates, SameCursors, SameTellings};
+ghost use Rattle.djq_engine.specs.Kept.{IsUnwatched, Outdates, SameCursors, SameTellings};
 ghost use Rattle.djq_engine.specs.Places.{readers_at};
 ghost use Rattle.djq_engine.specs.Sound.{AreOnce};
 ghost use Rattle.djq_engine.specs.Reaching.{AllAt};
@@ -57,6 +57,8 @@ pub fn add_in<L: Ledgers>(
         (add_outcome (row_in (kept_in parts.old).store.relations name.now row.now) result)
         (kept_in parts.new)
         steps.old.listing steps.new.listing }
+    ensures unlisted { IsUnwatched (kept_in parts.old)
+        → steps.new.listing ≡ steps.old.listing }
     ensures updates { CountsUpdates (add_times result) (kept_in parts.old)
         (row_in (kept_in parts.old).store.relations name.now row.now)
         steps.old.update steps.new.update }
@@ -107,6 +109,8 @@ pub fn del_in<L: Ledgers>(
         (delete_outcome (row_out (kept_in parts.old).store.relations name.now row.now) result)
         (kept_in parts.new)
         steps.old.listing steps.new.listing }
+    ensures unlisted { IsUnwatched (kept_in parts.old)
+        → steps.new.listing ≡ steps.old.listing }
     ensures updates { CountsUpdates (delete_times result) (kept_in parts.old)
         (row_out (kept_in parts.old).store.relations name.now row.now)
         steps.old.update steps.new.update }

@@ -10,7 +10,7 @@
 //! It makes no tree: `djq_gyo` decides whether there is one. The first link's parent is never read,
 //! and a list of no edges has the tree of no links.
 //!
-//! Inside, a set of variables is one machine word, and contracts see it as the list of its
+//! Inside, a set of variables is one word of 128 bits, and contracts see it as the list of its
 //! variables in rising order. Only `var_set` and the lemmas about its words know of bits.
 #![tactic(auto)]
 

@@ -5,14 +5,14 @@ ghost use Rattle.djq_hyper.specs.Variables.{IsVariableSet};
 use std::marker::Model;
 
 /// How many variables there may be: a variable is a number below this.
-pub const VARIABLES: usize = 64;
+pub const VARIABLES: usize = 128;
 
-/// A set of variables, held in one machine word.
+/// A set of variables, held in one word with a bit for each.
 ///
 /// Contracts see the list of its variables in rising order.
 #[derive(Clone, Copy, Debug, PartialEq, Eq)]
 pub struct VarSet {
-    mask: u64,
+    mask: u128,
 }
 
 impl Model for VarSet {
@@ -156,13 +156,19 @@ mod tests {
 
     #[test]
     fn walks_in_rising_order(rt: HostRuntime) {
-        let set = VarSet::new().insert(63).insert(5).insert(9).insert(5);
-        assert_eq!(rt; set.len(), 3);
+        let set = VarSet::new()
+            .insert(127)
+            .insert(5)
+            .insert(64)
+            .insert(9)
+            .insert(5);
+        assert_eq!(rt; set.len(), 4);
         assert_eq!(rt; set.first(), Some(5));
-        assert!(rt; set.without(64) == set);
+        assert!(rt; set.without(VARIABLES) == set);
         let mut rest = set.without(9);
         assert_eq!(rt; rest.pop(), Some(5));
-        assert_eq!(rt; rest.pop(), Some(63));
+        assert_eq!(rt; rest.pop(), Some(64));
+        assert_eq!(rt; rest.pop(), Some(127));
         assert_eq!(rt; rest.pop(), None);
         assert!(rt; rest.is_empty());
         set.rises();
@@ -172,7 +178,7 @@ mod tests {
     fn compares_and_combines(rt: HostRuntime) {
         let left = VarSet::new().insert(0).insert(1);
         let right = VarSet::new().insert(1).insert(2);
-        assert!(rt; left.contains(0) && !left.contains(2) && !left.contains(64));
+        assert!(rt; left.contains(0) && !left.contains(2) && !left.contains(VARIABLES));
         assert!(rt; left.intersection(right) == VarSet::new().insert(1));
         assert!(rt; left.difference(right) == VarSet::new().insert(0));
         assert_eq!(rt; left.union(right).len(), 3);

@@ -5,6 +5,7 @@ ghost use Rattle.djq_journal.specs.Format.{IsLine};
 ghost use Rattle.djq_journal.specs.Standing.{IsAt, IsIdle};
 ghost use Rattle.djq_journal.specs.Calls.{Makes, Opens, Reads, LineFits, CountsMade, CountsOpened, CountsLine};
 ghost use Rattle.djq_journal.specs.Appending.{Appends, HasRoom, CountsAppended};
+ghost use Rattle.djq_journal.specs.Reading.{place_after, EndsWithin};
 
 use crate::appending::{append_at, end_of};
 use crate::group::Group;
@@ -91,11 +92,20 @@ impl Journal {
         }
     }
 
+    /// The place of the gate at which it stands.
+    pub fn place(&self) -> u64
+        ensures { result ≡ self.now }
+    {
+        self.gate
+    }
+
     /// Reads the next line into the start of the buffer, and stands behind it then.
     pub fn next_line<D: Disk>(&mut self, disk: &mut D, buf: &mut [u8; 4096]) -> Line
         ensures told { (lines : List (List ℕ)) → WhereTold (D.told disk.old) (D.told disk.new)
             (λ o n. (n ≡ o) × (IsAt lines self.old o.file → Reads result lines self.old self.new buf.new o.file)) }
         ensures fits { LineFits result }
+        ensures place { self.new ≡ place_after self.old result }
+        ensures within { EndsWithin result self.old }
         ensures faults { CountsLine result (D.faults disk.old) (D.faults disk.new) }
     {
         let line = read_line(disk, self.gate, buf);

@@ -36,7 +36,8 @@ use Rattle.djq_model.proofs.Counted.{
 }
 use Rattle.djq_laws.proofs.Apart.{rows_more, rows_less, texts_apart}
 use Rattle.djq_kept.proofs.Respecting.{EndsWell, Respects, none_of, give, late_of, where_memory, by_texts}
-use Rattle.djq_kept.specs.Loading.{Loaded, CommandLoads}
+use Rattle.djq_machine.specs.declared.machine.Loaded.{Loaded}
+use Rattle.djq_machine.specs.Loading.{CommandLoads}
 use Rattle.djq_kept.specs.Kept.{HasRowsOnce, Follows}
 use Rattle.djq_kept.proofs.Knowing.{among_all, room_too}
 use Rattle.djq_kept.proofs.Sameness.{

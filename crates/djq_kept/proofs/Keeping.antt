@@ -84,7 +84,7 @@ module _ (a : Store) (k : Keeping) (to : Store) where
   delete_keeps name row (Err r) m e = is_left e (grows_same a to m.stays)
 
   query_late : (q : Query) (r : Refusal) → RefusedLate a q to r → Grows a to
-  query_late q r (inl h) = grows_refused a to (texts_in (constants_of q.atoms)) r h.1
+  query_late q r (inl h) = grows_refused a to (texts_in (constants_of q)) r h.1
   query_late q r (inr h) = grows_same a to h.1
 
   query_keeps : (q : Query) (r : Result QueryOutcome Refusal) → RegistersQuery a q r to → k ≡ kept_where (is_registration r) → Keeps a (Register q) k to

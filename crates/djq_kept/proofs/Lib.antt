@@ -4,6 +4,6 @@ mod Respecting
 mod Copying
 mod Keeping
 mod Running
-mod Reloading
+pub mod Reloading
 mod Lines
-mod Starting
+pub mod Starting

@@ -17,7 +17,8 @@ use Rattle.djq_machine.specs.LineStep.{run}
 use Rattle.djq_machine.specs.Step.{Event, stepped}
 use Rattle.djq_machine.specs.Run.{Did, Run, Group, group_of, groups_of, lines_in}
 use Rattle.djq_laws.proofs.Apart.{nothing_apart}
-use Rattle.djq_kept.specs.Loading.{ran, refused_by, CommandLoads, ReadingLoads, LoadStep, Loads}
+use Rattle.djq_machine.specs.declared.machine.Loaded.TheVariants.{Ran as ran}
+use Rattle.djq_machine.specs.Loading.{refused_by, CommandLoads, ReadingLoads, LoadStep, Loads}
 use Rattle.djq_kept.specs.Kept.{HasRowsOnce, Follows, LoadsTo, RunsReload, StoodAt, StopsReload}
 use Rattle.djq_kept.proofs.Respecting.{Respects, rel_respects, query_respects, drop_respects}
 use Rattle.djq_kept.proofs.Copying.{add_respects, more_respects, delete_respects, left_respects}

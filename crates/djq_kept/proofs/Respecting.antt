@@ -20,7 +20,9 @@ use Rattle.djq_machine.specs.State.{Store}
 use Rattle.djq_machine.specs.Store.{RefusedByTexts, rel_refusal, MakesRelation, query_refusal, RegistersAs, RefusedLate, RegistersQuery, drop_refusal, DropsQuery}
 use Rattle.djq_laws.proofs.Forms.{done_of}
 use Rattle.djq_laws.proofs.Apart.{nothing_apart, texts_apart}
-use Rattle.djq_kept.specs.Loading.{Loaded, ran, no_memory, refused_by, CommandLoads}
+use Rattle.djq_machine.specs.declared.machine.Loaded.{Loaded}
+use Rattle.djq_machine.specs.declared.machine.Loaded.TheVariants.{Ran as ran, NoMem as no_memory}
+use Rattle.djq_machine.specs.Loading.{refused_by, CommandLoads}
 use Rattle.djq_kept.specs.Kept.{HasRowsOnce, Follows}
 use Rattle.djq_kept.proofs.Knowing.{among_all, room_too, place_too}
 use Rattle.djq_kept.proofs.Sameness.{same_more, rel_same, query_same}
@@ -103,7 +105,7 @@ module _ (a b : Store) (f : Follows a b) where
   -- `query`
   module _ (q : Query) (most : ℕ) (to : Store) (m : RegistersQuery a q (Ok (Registered most)) to) where
     abbrev listed : Store → Store
-    listed st = record st { texts = all_learned st.texts (texts_in (constants_of q.atoms)); queries = st.queries ++ a_query q ∷ [] }
+    listed st = record st { texts = all_learned st.texts (texts_in (constants_of q)); queries = st.queries ++ a_query q ∷ [] }
 
     listed_as : RegistersAs a q to (Registered most)
     listed_as = done_of (query_refusal a q) (Registered most) (RegistersAs a q to) (RefusedLate a q to) m.answer
@@ -111,7 +113,7 @@ module _ (a b : Store) (f : Follows a b) where
     listed_free : query_refusal b q ≡ None
     listed_free = query_same a b q f.same ∙ none_of (query_refusal a q) (Registered most) (RegistersAs a q to) (RefusedLate a q to) m.answer
 
-    listed_room : length (all_learned a.texts (texts_in (constants_of q.atoms))) ≤ TEXTS
+    listed_room : length (all_learned a.texts (texts_in (constants_of q))) ≤ TEXTS
     listed_room = subst (λ (ts : List Bytes). length ts ≤ TEXTS) (ap (λ (st : Store). st.texts) listed_as.3) listed_as.2
 
     listed_follows : Follows to (listed b)
@@ -122,8 +124,8 @@ module _ (a b : Store) (f : Follows a b) where
         seq = f.same.seq;
       };
       rows = f.rows;
-      among = among_all b.texts a.texts (texts_in (constants_of q.atoms)) f.among;
-      once = texts_apart b.texts (texts_in (constants_of q.atoms)) f.once;
+      among = among_all b.texts a.texts (texts_in (constants_of q)) f.among;
+      once = texts_apart b.texts (texts_in (constants_of q)) f.once;
     })
 
     pub query_respects : Respects b (Register q) to
@@ -134,7 +136,7 @@ module _ (a b : Store) (f : Follows a b) where
           Ok (Registered most),
           record {
             answer = give (query_refusal b q) (Registered most) (RegistersAs b q (listed b)) (RefusedLate b q (listed b)) listed_free
-                (listed_as.0, listed_as.1, room_too b.texts a.texts (texts_in (constants_of q.atoms)) f.among f.once listed_room, refl);
+                (listed_as.0, listed_as.1, room_too b.texts a.texts (texts_in (constants_of q)) f.among f.once listed_room, refl);
             stays = λ h. absurd (false≢true (sym (ap is_some listed_free) ∙ h));
           },
           refl,
@@ -145,7 +147,7 @@ module _ (a b : Store) (f : Follows a b) where
     }
       where
         late : (how : Loaded) (n : Store) (r : Refusal) → how ≡ refused_by r → RefusedLate b q n r → how ≡ no_memory
-        late how n r e (inl h) = by_texts (texts_in (constants_of q.atoms)) n r how listed_room h.1 e
+        late how n r e (inl h) = by_texts (texts_in (constants_of q)) n r how listed_room h.1 e
         late how n r e (inr h) = e ∙ ap refused_by h.0
 
         each : (how : Loaded) (n : Store) → CommandLoads b (Register q) how n → EndsWell how to n

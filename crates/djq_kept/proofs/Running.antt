@@ -15,7 +15,9 @@ use Rattle.djq_machine.specs.Step.{Event, opened, fed, stepped, took, ended, clo
 use Rattle.djq_machine.specs.Run.{Did, Run, Group, group_of, groups_of, lines_in}
 use Rattle.djq_laws.proofs.Finding.{some_and}
 use Rattle.djq_laws.proofs.Watching.{queued_store}
-use Rattle.djq_kept.specs.Loading.{Loaded, ran, refused, no_memory, ReadingLoads, LoadStep, Loads}
+use Rattle.djq_machine.specs.declared.machine.Loaded.{Loaded}
+use Rattle.djq_machine.specs.declared.machine.Loaded.TheVariants.{Ran as ran, Refused as refused, NoMem as no_memory}
+use Rattle.djq_machine.specs.Loading.{ReadingLoads, LoadStep, Loads}
 use Rattle.djq_kept.specs.Kept.{Follows, LoadsTo, KeptLinesLoad}
 use Rattle.djq_kept.proofs.Knowing.{known_trans}
 use Rattle.djq_kept.proofs.Sameness.{same_refl, same_sym, same_trans, once_moved}

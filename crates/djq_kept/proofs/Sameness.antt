@@ -8,6 +8,7 @@ use Rattle.djq_model.specs.declared.relation.Relation.{Relation}
 use Rattle.djq_model.specs.declared.relation.ColumnType.{ColumnType}
 use Rattle.djq_model.specs.declared.query.Query.{Query}
 use Rattle.djq_model.specs.declared.query.Atom.{Atom}
+use Rattle.djq_model.specs.declared.query.Comparison.{Comparison}
 use Rattle.djq_model.specs.declared.query.Term.{Term}
 use Rattle.djq_model.specs.declared.relation.CountedRow.{CountedRow}
 use Rattle.djq_model.specs.Data.{
@@ -27,9 +28,9 @@ use Rattle.djq_model.specs.Listed.{Listed, listed_of}
 use Rattle.djq_model.specs.Typed.{fits}
 use Rattle.djq_lines.specs.declared.limits.TheConstants.{COLUMNS, RELATIONS, ROWS, COPIES, LAST_SEQ, QUERIES}
 use Rattle.djq_lines.specs.declared.answer.Refusal.{Refusal}
-use Rattle.djq_lines.specs.declared.answer.Refusal.TheVariants.{Taken, NoRelation, Arity, WrongType, VariableType, HeadRepeated, HeadUnbound, Limit}
+use Rattle.djq_lines.specs.declared.answer.Refusal.TheVariants.{Taken, NoRelation, Arity, WrongType, VariableType, Unbound, HeadRepeated, HeadUnbound, Limit}
 use Rattle.djq_lines.specs.Columns.{types_of, columns_of}
-use Rattle.djq_lines.specs.QueryFault.{any_column, any_place, is_misfit, is_clash, reads_unknown, has_wrong_arity, has_misfit, has_clash, repeats_head, has_unbound_head, is_too_large}
+use Rattle.djq_lines.specs.QueryFault.{any_column, any_place, is_misfit, is_clash, is_miscompared, reads_unknown, has_wrong_arity, has_misfit, has_clash, compares_unbound, has_miscompared, repeats_head, has_unbound_head, is_too_large}
 use Rattle.djq_machine.specs.Conditions.{first_of}
 use Rattle.djq_machine.specs.State.{Store}
 use Rattle.djq_machine.specs.Store.{with_rows, copies_of, rel_refusal, add_refusal, delete_refusal, query_refusal}
@@ -270,13 +271,21 @@ module _ (us bs : List Relation) (h : SameRelations us bs) where
   clash_same q = any_place_same (λ t c. any_place (is_clash t c) bs q.atoms) (λ t c. any_place (is_clash t c) us q.atoms) q.atoms
       (λ t c. any_place_same (is_clash t c) (is_clash t c) q.atoms (λ u d. refl))
 
-abbrev query_by : List Listed → Bool → Bool → Bool → Bool → Query → Option Refusal
-query_by queries unknown arity misfits clash q = first_of (
+  miscompared_same : (q : Query) → has_miscompared bs q ≡ has_miscompared us q
+  miscompared_same q =
+      any_same (λ (c : Comparison). any_place (is_miscompared c) bs q.atoms)
+      (λ (c : Comparison). any_place (is_miscompared c) us q.atoms) q.comparisons
+      (λ c. any_place_same (is_miscompared c) (is_miscompared c) q.atoms (λ t d. refl))
+
+abbrev query_by : List Listed → Bool → Bool → Bool → Bool → Bool → Query → Option Refusal
+query_by queries unknown arity misfits clash miscompared q = first_of (
     (is_some (listed_of queries q.name), Taken)
     ∷ (unknown, NoRelation)
     ∷ (arity, Arity)
     ∷ (misfits, WrongType)
     ∷ (clash, VariableType)
+    ∷ (compares_unbound q, Unbound)
+    ∷ (miscompared, WrongType)
     ∷ (repeats_head q, HeadRepeated)
     ∷ (has_unbound_head q, HeadUnbound)
     ∷ (is_too_large q, Limit)
@@ -287,8 +296,15 @@ pub query_same : (a b : Store) (q : Query) → IsSameStore a b → query_refusal
 query_same a b q h =
     let us = a.relations in
     let bs = b.relations in
-    ap (λ (qs : List Listed). query_by qs (reads_unknown bs q) (has_wrong_arity bs q) (has_misfit bs q) (has_clash bs q) q) h.queries
-    ∙ ap (λ (x : Bool). query_by a.queries x (has_wrong_arity bs q) (has_misfit bs q) (has_clash bs q) q) (unknown_same us bs h.relations q)
-    ∙ ap (λ (x : Bool). query_by a.queries (reads_unknown us q) x (has_misfit bs q) (has_clash bs q) q) (arity_same us bs h.relations q)
-    ∙ ap (λ (x : Bool). query_by a.queries (reads_unknown us q) (has_wrong_arity us q) x (has_clash bs q) q) (misfit_same us bs h.relations q)
-    ∙ ap (λ (x : Bool). query_by a.queries (reads_unknown us q) (has_wrong_arity us q) (has_misfit us q) x q) (clash_same us bs h.relations q)
+    ap (λ (qs : List Listed). query_by qs (reads_unknown bs q) (has_wrong_arity bs q) (has_misfit bs q) (has_clash bs q)
+    (has_miscompared bs q) q) h.queries
+    ∙ ap (λ (x : Bool). query_by a.queries x (has_wrong_arity bs q) (has_misfit bs q) (has_clash bs q)
+    (has_miscompared bs q) q) (unknown_same us bs h.relations q)
+    ∙ ap (λ (x : Bool). query_by a.queries (reads_unknown us q) x (has_misfit bs q) (has_clash bs q)
+    (has_miscompared bs q) q) (arity_same us bs h.relations q)
+    ∙ ap (λ (x : Bool). query_by a.queries (reads_unknown us q) (has_wrong_arity us q) x (has_clash bs q)
+    (has_miscompared bs q) q) (misfit_same us bs h.relations q)
+    ∙ ap (λ (x : Bool). query_by a.queries (reads_unknown us q) (has_wrong_arity us q) (has_misfit us q) x
+    (has_miscompared bs q) q) (clash_same us bs h.relations q)
+    ∙ ap (λ (x : Bool). query_by a.queries (reads_unknown us q) (has_wrong_arity us q) (has_misfit us q) (has_clash us q)
+    x q) (miscompared_same us bs h.relations q)

@@ -14,7 +14,9 @@ use Rattle.djq_laws.proofs.Forms.{rel_stored, query_stored, drop_stored}
 use Rattle.djq_laws.proofs.Rows.{added, deleted}
 use Rattle.djq_laws.proofs.Storing.{stored_sound, made_sound, moved_store}
 use Rattle.djq_laws.proofs.Sounding.{opening_is_start}
-use Rattle.djq_kept.specs.Loading.{Loaded, ran, CommandLoads, ReadingLoads, LoadStep}
+use Rattle.djq_machine.specs.declared.machine.Loaded.{Loaded}
+use Rattle.djq_machine.specs.declared.machine.Loaded.TheVariants.{Ran as ran}
+use Rattle.djq_machine.specs.Loading.{CommandLoads, ReadingLoads, LoadStep}
 use Rattle.djq_kept.specs.Kept.{FoundIsStart}
 
 stays_sound : (old new : Store) → new ≡ old → IsSoundStore old → IsSoundStore new

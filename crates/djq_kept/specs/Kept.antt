@@ -10,7 +10,8 @@ use Rattle.djq_machine.specs.Store.{copies_of}
 use Rattle.djq_machine.specs.Step.{SameRelations}
 use Rattle.djq_machine.specs.Run.{Did, Run, Group, groups_of, lines_in}
 use Rattle.djq_laws.specs.Sound.{AreApart, IsStart}
-use Rattle.djq_kept.specs.Loading.{refused, LoadStep, Loads}
+use Rattle.djq_machine.specs.declared.machine.Loaded.TheVariants.{Refused as refused}
+use Rattle.djq_machine.specs.Loading.{LoadStep, Loads}
 
 -- Two stores have the same relations, each with its rows and their copies in any order, the same
 -- queries and number of changes.

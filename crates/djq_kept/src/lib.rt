@@ -22,8 +22,8 @@
 //! order, and texts that no row or query of it has may be unknown. Cursors, watches and sessions
 //! aren't kept. No kept line is refused as it is loaded, though memory may be wanting.
 //!
-//! Inside, `specs/Loading.antt` says what loading a line does to a store, and `specs/Kept.antt` the
-//! laws: [`kept_lines_load`] from any store that follows the first, [`runs_reload`] from lines that
+//! Inside, djq_machine's `specs/Loading.antt` says what loading a line does to a store, and
+//! `specs/Kept.antt` the laws: [`kept_lines_load`] from any store that follows the first, [`runs_reload`] from lines that
 //! were there before, and [`stops_reload`] where a stop left the first groups of lines, whole.
 #![tactic(auto)]
 

@@ -38,6 +38,7 @@ answer_within rs rs' (a_query q) t within h = record {
       let a = slice_index_or q.atoms k d in
       let read = reads_atom q a (Contains-get_or q.atoms k d lt) in
       record { row = s.row; is_there = within a.relation read s.row s.is_there; stands = s.stands };
+  compared = h.compared;
   on_head = h.on_head;
 }
 

@@ -235,7 +235,7 @@ module _ (used : Bytes → Bool) (old new : Store) where
       h.stays (λ late. by late))
     where
       by : RefusedLate old q new r → LearnsTexts old new
-      by (inl k) = late_learned old (texts_in (constants_of q.atoms)) new r k.1
+      by (inl k) = late_learned old (texts_in (constants_of q)) new r k.1
       by (inr k) = stays_learned old new k.1
   query_stored q (Ok (Registered most)) h =
       let none = none_holds (query_refusal old q) (Registered most) (RegistersAs old q new) (RefusedLate old q new)

@@ -28,3 +28,4 @@ pub mod Apart
 pub mod Storing
 pub mod Sounding
 pub mod Listing
+pub mod Short

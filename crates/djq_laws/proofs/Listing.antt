@@ -59,6 +59,7 @@ use Rattle.djq_lines.specs.declared.answer.Refusal.TheVariants.{
   HeadUnbound,
   HeadRepeated,
   VariableType,
+  Unbound,
   Limit,
   NoMemory,
   InUse,
@@ -257,6 +258,7 @@ not_opened WrongType = refl
 not_opened HeadUnbound = refl
 not_opened HeadRepeated = refl
 not_opened VariableType = refl
+not_opened Unbound = refl
 not_opened Limit = refl
 not_opened NoMemory = refl
 not_opened InUse = refl

@@ -1,15 +1,29 @@
--- Whether a session said `stop`, behind each event: no event says it but that of a line.
-use Rattle.std.specs.Prelude.{ℕ, List, [], ◌∷◌, ◌≡◌, ◌<◌, ◌++◌, ◌⊎◌, length, Option, None, Some, MatchOption}
-use Rattle.std.proofs.Common.{refl, ap, ◌∙◌, inl, inr}
+-- Whether a session said `stop`, behind each event: no event says it but that of a line that isn't kept.
+use Rattle.std.specs.Prelude.{ℕ, List, [], ◌∷◌, ◌≡◌, ◌<◌, ◌++◌, ◌⊎◌, true, false, length}
+use Rattle.std.specs.Prelude.{Option, None, Some, MatchOption}
+use Rattle.std.proofs.Common.{refl, sym, ap, ◌∙◌, inl, inr}
 use Rattle.djq_model.specs.Data.{Bytes}
 use Rattle.djq_lines.specs.declared.answer.EndCause.{EndCause}
 use Rattle.djq_lines.specs.declared.limits.TheConstants.{SESSIONS}
 use Rattle.djq_lines.specs.declared.answer.EndCause.TheVariants.{Memory}
+use Rattle.djq_lines.specs.declared.command.Command.{Command}
+use Rattle.djq_lines.specs.declared.command.Command.TheVariants.{Quit, Stop}
+use Rattle.djq_lines.specs.Grammar.{Reading, outside, past_limit, says as says_command, reading_of}
 use Rattle.djq_lines.specs.Reply.{end_memory}
-use Rattle.djq_machine.specs.State.{State, fresh, session_of, with_session, ended_by}
-use Rattle.djq_machine.specs.Effect.{Effect, nothing, EndsWith, queue, queue_all}
+use Rattle.djq_machine.specs.State.{Store, State, Session, fresh, session_of, with_session, ended_by}
+use Rattle.djq_machine.specs.Keeping.{no_line, the_line}
+use Rattle.djq_machine.specs.Effect.{Effect, nothing, says, EndsWith, queue, queue_all}
+use Rattle.djq_machine.specs.Changes.{RowsOutcome}
+use Rattle.djq_machine.specs.Watch.{Telling, ChangeStep}
+use Rattle.djq_machine.specs.Command.{CommandStep}
+use Rattle.djq_machine.specs.LineStep.{LineOutcome, long, blank, slow, no_room, run, behind_line, FrontStep, ReadStep}
 use Rattle.djq_machine.specs.Step.{Event, opened, fed, stepped, took, ended, closed, FedStep, TookStep, EndedStep, Acts, Step, with_relations}
+use Rattle.djq_laws.specs.Form.{Form, asking, storing, turning, changing, ending, row_comes, row_goes, form_of}
+use Rattle.djq_laws.specs.Form.{Turn, Replied, is_whole, is_cut, DoesTurn, is_turned, is_refused, Does}
+use Rattle.djq_laws.specs.Stopping.{KeptSaysNoStop}
 use Rattle.djq_laws.proofs.Finding.{some_and}
+use Rattle.djq_laws.proofs.Forms.{turned_one, command_does}
+use Rattle.djq_laws.proofs.Told.{change_keeps}
 
 -- an event that isn't of a line
 abbrev pub IsNoLine : Event → Type 0
@@ -59,3 +73,85 @@ queued_stopped st (q ∷ qs) = queued_stopped (queue st q) qs
 pub step_stopped : (old : State) (event : Event) (e : Effect) (new : State) → Step old event e new → IsNoLine event → new.stopped ≡ old.stopped
 step_stopped old event e new h other =
     ap (λ (st : State). st.stopped) h.queued ∙ queued_stopped (with_relations h.mid h.relations) e.queued ∙ acts_stopped old event e h.mid h.acts other
+
+-- ---- a line that is kept
+
+-- what is only said isn't kept
+said_unkept : (s : ℕ) (text : Bytes) (e : Effect) → e ≡ says s text → e.kept ≡ the_line → ⊥
+said_unkept s text e said kept = differ (sym (ap (λ (f : Effect). f.kept) said) ∙ kept)
+  where
+    differ : no_line ≡ the_line → ⊥
+    differ w = cc
+
+change_stopped : (old : State) (t : ℕ) (outcome : RowsOutcome) (store : Store) (reply : Bytes) (e : Effect)
+    (new : State)
+    → ChangeStep old t outcome store reply e new → new.stopped ≡ old.stopped
+change_stopped old t outcome store reply e new h =
+    ap (λ (st : State). st.stopped) h.state
+    ∙ change_keeps (λ (m : Telling). m.state.stopped ≡ old.stopped) (λ m i text there k. k)
+    (λ m i text cause may there k. k) old t outcome store reply e new h refl
+
+replied_stopped : (s : ℕ) (mid new : State) → Replied s mid new → new.stopped ≡ mid.stopped
+replied_stopped s mid new (is_whole h) = ap (λ (st : State). st.stopped) h
+replied_stopped s mid new (is_cut h) = ap (λ (st : State). st.stopped) h
+
+turn_stopped : (old : State) (s : ℕ) (x : Session) (t : Turn) (new : State) → DoesTurn old s x t new
+    → new.stopped ≡ old.stopped
+turn_stopped old s x t new (is_turned h) = ap (λ (st : State). st.stopped) (turned_one old s x t new h).state
+turn_stopped old s x t new (is_refused r) = replied_stopped s old new r
+
+abbrev IsNoEnding : Form → Type 0
+IsNoEnding ending = ⊥
+IsNoEnding _ = Unit {0}
+
+form_stopped : (f : Form) (old : State) (s : ℕ) (x : Session) (e : Effect) (new : State) → IsNoEnding f
+    → Does f old s x e new → new.stopped ≡ old.stopped
+form_stopped asking old s x e new other h = replied_stopped s old new h.1
+form_stopped storing old s x e new other h =
+    replied_stopped s (record old { store = (h.1).store }) new (h.1).replied
+form_stopped (turning t) old s x e new other h = turn_stopped old s x t new h.1
+form_stopped (changing (row_comes name row)) old s x e new other h =
+    change_stopped old s _ h.store _ e new h.change
+form_stopped (changing (row_goes name row)) old s x e new other h =
+    change_stopped old s _ h.store _ e new h.change
+form_stopped ending old s x e new other h = absurd other
+
+command_stopped : (old : State) (s : ℕ) (x : Session) (c : Command) (e : Effect) (new : State)
+    → CommandStep old s x c e new → e.kept ≡ the_line → new.stopped ≡ old.stopped
+command_stopped old s x Quit e new h kept = absurd (said_unkept s _ e h.0 kept)
+command_stopped old s x Stop e new h kept = absurd (said_unkept s _ e h.0 kept)
+command_stopped old s x c e new h kept =
+    form_stopped (form_of c) old s x e new tt (command_does old s x c e new h)
+
+read_stopped : (old : State) (s : ℕ) (x : Session) (l : Bytes) (r : Reading) (e : Effect) (new : State)
+    → ReadStep old s x l r e new → e.kept ≡ the_line → new.stopped ≡ old.stopped
+read_stopped old s x l outside e new h kept = ap (λ (st : State). st.stopped) h.1
+read_stopped old s x l (past_limit c) e new h kept = ap (λ (st : State). st.stopped) h.1
+read_stopped old s x l (says_command c) e new (true, h) kept = command_stopped old s x c e new h kept
+read_stopped old s x l (says_command c) e new (false, h) kept = ap (λ (st : State). st.stopped) h.1.1
+
+front_stopped : (old : State) (s : ℕ) (x : Session) (outcome : LineOutcome) (e : Effect) (mid : State)
+    → FrontStep old s x outcome e mid → e.kept ≡ the_line → mid.stopped ≡ old.stopped
+front_stopped old s x long e mid h kept = ap (λ (st : State). st.stopped) h.1.1
+front_stopped old s x (blank l) e mid h kept = ap (λ (st : State). st.stopped) h.1.then.1
+front_stopped old s x (slow l) e mid h kept = ap (λ (st : State). st.stopped) h.2.then.1
+front_stopped old s x (no_room l) e mid h kept = ap (λ (st : State). st.stopped) h.2.then.1
+front_stopped old s x (run l) e mid h kept =
+    read_stopped (with_session old s (behind_line h.2.rest)) s (behind_line h.2.rest x) l (reading_of l) e mid
+    h.2.then kept
+
+kept_stopped : (old : State) (event : Event) (e : Effect) (mid : State) → Acts old event e mid → e.kept ≡ the_line
+    → mid.stopped ≡ old.stopped
+kept_stopped old (opened s) e mid h kept = acts_stopped old (opened s) e mid h tt
+kept_stopped old (fed s bytes) e mid h kept = acts_stopped old (fed s bytes) e mid h tt
+kept_stopped old (took s bytes) e mid h kept = acts_stopped old (took s bytes) e mid h tt
+kept_stopped old (ended s) e mid h kept = acts_stopped old (ended s) e mid h tt
+kept_stopped old (closed s bytes) e mid h kept = acts_stopped old (closed s bytes) e mid h tt
+kept_stopped old (stepped s outcome) e mid h kept =
+    let f = some_and (session_of old s) (λ x. (x.cause ≡ None) × FrontStep old s x outcome e mid) h in
+    front_stopped old s f.0 outcome e mid f.2.1 kept
+
+pub kept_says_no_stop : KeptSaysNoStop
+kept_says_no_stop old event e new h kept =
+    ap (λ (st : State). st.stopped) h.queued ∙ queued_stopped (with_relations h.mid h.relations) e.queued
+    ∙ kept_stopped old event e h.mid h.acts kept

@@ -122,7 +122,7 @@ pub record LearnsTexts (old new : Store) : Type 0 where
 
 -- the texts of what is registered: those of a query's constants
 abbrev pub listed_texts : Listed → List Bytes
-listed_texts (a_query q) = texts_in (constants_of q.atoms)
+listed_texts (a_query q) = texts_in (constants_of q)
 
 -- What a command of the store makes of it, where some queries are in use.
 pub data Stored (used : Bytes → Bool) (old new : Store) : Type 0 where

@@ -12,3 +12,4 @@ pub mod Live
 pub mod Sound
 pub mod Listed
 pub mod Copies
+pub mod Stopping

@@ -36,6 +36,7 @@ ghost use Rattle.djq_laws.specs.Given.{RunsGive, CoursesGive};
 ghost use Rattle.djq_laws.specs.Added.{DeltasAddUp};
 ghost use Rattle.djq_laws.specs.Watched.{WatchersHaveAnswers};
 ghost use Rattle.djq_laws.specs.Staying.{WatchersStay};
+ghost use Rattle.djq_laws.specs.Stopping.{KeptSaysNoStop};
 ghost use Rattle.djq_laws.specs.Live.{ListingsStayLive};
 ghost use Rattle.djq_laws.specs.Sound.{RunsKeepSound, OpeningIsStart, StatesAreSound};
 ghost use Rattle.djq_laws.specs.Copies.{RowsHaveCopies, AddsCopy, TakesCopy};
@@ -90,6 +91,12 @@ pub fn copies_are_counted()
     ensures there { RowsHaveCopies }
     ensures added { AddsCopy }
     ensures taken { TakesCopy }
+{}
+
+/// A step that keeps the line that it runs says no `stop`. So where a line that is to be kept can't be,
+/// no session said it yet.
+pub fn kept_says_no_stop()
+    ensures { KeptSaysNoStop }
 {}
 
 /// The open sessions stay by rising id, along every run.

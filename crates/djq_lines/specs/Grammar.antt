@@ -8,12 +8,14 @@
 --           | "watch" name                    | "unwatch" name
 --           | "explain" name                  | "shape" name
 --           | "quit"                          | "stop"
---     query = name "(" [name *("," name)] ")" "<-" atom *("," atom)
+--     query = name "(" [name *("," name)] ")" "<-" item *("," item)     one atom at least
+--     item  = atom | name sign literal        sign = "<" | "<=" | ">" | ">=" | "=" | "!="
 --     atom  = name "(" [term *("," term)] ")"
 --     term  = name | "_" | literal
 --
 -- A literal is an integer or a text; a count is an integer of digits alone, from 1 to 1000. Keywords
--- and types may be names too: the place tells them apart. The bytes of a line are UTF-8.
+-- and types may be names too: the place tells them apart. Signs are taken as long as they can be, so
+-- `x<-5` isn't a comparison, and `x < -5` is one. The bytes of a line are UTF-8.
 use Rattle.std.specs.Prelude.{
   ℕ,
   zero,
@@ -36,6 +38,7 @@ use Rattle.std.specs.Prelude.{
 }
 use Rattle.std.specs.List.{list_all}
 use Rattle.std.specs.Str.{is_utf8}
+use Rattle.djq_model.specs.declared.value.Value.{Value}
 use Rattle.djq_model.specs.declared.relation.ColumnType.{ColumnType}
 use Rattle.djq_model.specs.declared.relation.ColumnType.TheVariants.{
   Int as IntColumn,
@@ -44,9 +47,20 @@ use Rattle.djq_model.specs.declared.relation.ColumnType.TheVariants.{
 use Rattle.djq_model.specs.declared.query.Term.{Term}
 use Rattle.djq_model.specs.declared.query.Term.TheVariants.{Variable, Hole, Constant}
 use Rattle.djq_model.specs.declared.query.Atom.{Atom}
+use Rattle.djq_model.specs.declared.query.Operator.{Operator}
+use Rattle.djq_model.specs.declared.query.Comparison.{Comparison}
 use Rattle.djq_model.specs.declared.query.Query.{Query}
 use Rattle.djq_model.specs.Data.{Bytes, bytes_eq}
-use Rattle.djq_value.specs.Token.{Token, word, open_paren, close_paren, comma, arrow, tokens}
+use Rattle.djq_value.specs.Token.{
+  Token,
+  word,
+  open_paren,
+  close_paren,
+  comma,
+  arrow,
+  operator,
+  tokens,
+}
 use Rattle.djq_value.specs.Literal.{is_name, is_small_value, literal_of, natural_of}
 use Rattle.djq_lines.specs.declared.limits.TheConstants.{NEXT_COUNT}
 use Rattle.djq_lines.specs.declared.keyword.Keyword.{Keyword}
@@ -150,33 +164,79 @@ abbrev pub atom_in : List Token → Option (Atom × List Token)
 atom_in (word r ∷ ts) = if is_name r then option_map (atom_over r) (list_in term_of ts) else None
 atom_in _ = None
 
--- an atom, and the atoms that stand behind a comma
-abbrev pub behind_atom : (List Token → Option (List Atom)) → Option (Atom × List Token)
-    → Option (List Atom)
-behind_atom more None = None
-behind_atom more (Some (a, [])) = Some (a ∷ [])
-behind_atom more (Some (a, comma ∷ ts)) = in_front (Some a) (more ts)
-behind_atom more (Some (a, _ ∷ ts)) = None
+-- What stands between the commas of a body.
+pub data Item : Type 0 where
+  atom : Atom → Item
+  comparison : Comparison → Item
 
--- Each atom has a token at least, so the number of tokens is enough for all.
-abbrev pub atoms_within : ℕ → List Token → Option (List Atom)
-atoms_within zero ts = None
-atoms_within (suc n) ts = behind_atom (atoms_within n) (atom_in ts)
+-- a comparison that stands behind so many atoms
+abbrev pub compared : ℕ → Bytes → Operator → Value → Comparison
+compared n x o v = record { variable = x; operator = o; constant = v; behind = n }
 
--- atoms with commas between, to the line's end
-unfoldable pub atoms_in : List Token → Option (List Atom)
-atoms_in ts = atoms_within (length ts) ts
+-- a comparison of a variable, and what is behind it
+abbrev pub comparison_of : ℕ → Bytes → Operator → List Token → Option (Item × List Token)
+comparison_of n x o (t ∷ ts) =
+    if is_name x then option_map (λ v. (comparison (compared n x o v), ts)) (literal_of t) else None
+comparison_of n x o [] = None
+
+-- an item that stands behind so many atoms, and what is behind it: a comparison where its second
+-- token is a comparison's sign, and else an atom
+abbrev pub item_in : ℕ → List Token → Option (Item × List Token)
+item_in n (word x ∷ operator o ∷ ts) = comparison_of n x o ts
+item_in n ts = option_map (λ r. (atom r.0, r.1)) (atom_in ts)
+
+-- the atoms and the comparisons of a body
+abbrev pub Body : Type 0
+Body = List Atom × List Comparison
+
+-- a body with an item more in front
+abbrev pub put_item : Item → Option Body → Option Body
+put_item (atom a) (Some b) = Some (a ∷ b.0, b.1)
+put_item (comparison c) (Some b) = Some (b.0, c ∷ b.1)
+put_item _ None = None
+
+-- how many atoms stand before what is behind an item
+abbrev pub past_item : ℕ → Item → ℕ
+past_item n (atom a) = suc n
+past_item n (comparison c) = n
+
+-- an item, and the items that stand behind a comma
+abbrev pub behind_item : (ℕ → List Token → Option Body) → ℕ → Option (Item × List Token)
+    → Option Body
+behind_item more n None = None
+behind_item more n (Some (i, [])) = put_item i (Some ([], []))
+behind_item more n (Some (i, comma ∷ ts)) = put_item i (more (past_item n i) ts)
+behind_item more n (Some (i, _ ∷ ts)) = None
+
+-- Each item has a token at least, so the number of tokens is enough for all.
+abbrev pub items_within : ℕ → ℕ → List Token → Option Body
+items_within zero n ts = None
+items_within (suc k) n ts = behind_item (items_within k) n (item_in n ts)
+
+-- items with commas between, to the line's end, so many atoms standing before them
+unfoldable pub items_in : ℕ → List Token → Option Body
+items_in n ts = items_within (length ts) n ts
+
+-- a body with one atom at least
+abbrev pub with_atoms : Option Body → Option Body
+with_atoms None = None
+with_atoms (Some ([], comparisons)) = None
+with_atoms (Some (a ∷ atoms, comparisons)) = Some (a ∷ atoms, comparisons)
 
 -- behind the head of a query
-abbrev pub body_in : List Token → Option (List Atom)
-body_in (arrow ∷ ts) = atoms_in ts
+abbrev pub body_in : List Token → Option Body
+body_in (arrow ∷ ts) = with_atoms (items_in 0 ts)
 body_in _ = None
 
 -- behind the name of a query
 abbrev pub query_of : Bytes → Option (List Bytes × List Token) → Option Query
 query_of name None = None
-query_of name (Some head) =
-    option_map (λ atoms. record { name = name; head = head.0; atoms = atoms }) (body_in head.1)
+query_of name (Some head) = option_map (λ body. record {
+  name = name;
+  head = head.0;
+  atoms = body.0;
+  comparisons = body.1;
+}) (body_in head.1)
 
 abbrev pub query_in : List Token → Option Query
 query_in (word n ∷ ts) = if is_name n then query_of n (list_in name_of ts) else None
@@ -292,7 +352,8 @@ abbrev pub is_in_range : Command → Bool
 is_in_range (Add n row) = list_all is_small_value row
 is_in_range (Del n row) = list_all is_small_value row
 is_in_range (Has q row) = list_all is_small_value row
-is_in_range (Register q) = list_all is_small_atom q.atoms
+is_in_range (Register q) =
+    list_all is_small_atom q.atoms && list_all (λ c. is_small_value c.constant) q.comparisons
 is_in_range _ = true
 
 -- a line of such a command may want memory as it is read

@@ -8,6 +8,7 @@ use Rattle.std.specs.Prelude.{
   ◌&&◌,
   ◌||◌,
   Bool,
+  true,
   false,
   not,
   nat_lt,
@@ -19,15 +20,19 @@ use Rattle.std.specs.Prelude.{
 }
 use Rattle.std.specs.List.{list_any}
 use Rattle.djq_model.specs.declared.relation.ColumnType.{ColumnType}
+use Rattle.djq_model.specs.declared.relation.ColumnType.TheVariants.{Int as IntColumn, Text as TextColumn}
 use Rattle.djq_model.specs.declared.relation.Relation.{Relation}
 use Rattle.djq_model.specs.declared.query.Query.{Query}
 use Rattle.djq_model.specs.declared.query.Atom.{Atom}
 use Rattle.djq_model.specs.declared.query.Term.{Term}
 use Rattle.djq_model.specs.declared.query.Term.TheVariants.{Variable, Hole, Constant}
+use Rattle.djq_model.specs.declared.query.Operator.{Operator}
+use Rattle.djq_model.specs.declared.query.Operator.TheVariants.{Equal, NotEqual}
+use Rattle.djq_model.specs.declared.query.Comparison.{Comparison}
 use Rattle.djq_model.specs.Data.{bytes_eq, relation_of}
 use Rattle.djq_model.specs.Listed.{Listed, listed_of}
 use Rattle.djq_value.specs.Literal.{are_different}
-use Rattle.djq_lines.specs.declared.limits.TheConstants.{ATOMS, VARIABLES, HEAD_VARIABLES, QUERIES}
+use Rattle.djq_lines.specs.declared.limits.TheConstants.{ATOMS, VARIABLES, HEAD_VARIABLES, COMPARISONS, QUERIES}
 use Rattle.djq_lines.specs.declared.answer.Refusal.{Refusal}
 use Rattle.djq_lines.specs.declared.answer.Refusal.TheVariants.{
   Taken,
@@ -35,6 +40,7 @@ use Rattle.djq_lines.specs.declared.answer.Refusal.TheVariants.{
   Arity,
   WrongType,
   VariableType,
+  Unbound,
   HeadRepeated,
   HeadUnbound,
   Limit,
@@ -83,6 +89,30 @@ abbrev pub has_clash : List Relation → Query → Bool
 has_clash relations q =
     any_place (λ t c. any_place (is_clash t c) relations q.atoms) relations q.atoms
 
+-- A comparison is of a variable that stands in no atom.
+abbrev pub compares_unbound : Query → Bool
+compares_unbound q = list_any (λ c. not (stands_in q.atoms c.variable)) q.comparisons
+
+-- whether an operator has a meaning at columns of this type: texts are equal or not, and no more
+abbrev pub has_order : Operator → ColumnType → Bool
+has_order Equal c = true
+has_order NotEqual c = true
+has_order o IntColumn = true
+has_order o TextColumn = false
+
+-- the variable of a comparison at a column of another type than its constant, or at one where its
+-- operator has no meaning
+abbrev pub is_miscompared : Comparison → Term → ColumnType → Bool
+is_miscompared c (Variable x) column =
+    bytes_eq x c.variable && not (is_of column c.constant && has_order c.operator column)
+is_miscompared c Hole column = false
+is_miscompared c (Constant v) column = false
+
+-- A comparison doesn't suit its variable's type.
+abbrev pub has_miscompared : List Relation → Query → Bool
+has_miscompared relations q =
+    list_any (λ c. any_place (is_miscompared c) relations q.atoms) q.comparisons
+
 -- A variable stands in the head twice.
 abbrev pub repeats_head : Query → Bool
 repeats_head q = not (are_different q.head)
@@ -91,11 +121,12 @@ repeats_head q = not (are_different q.head)
 abbrev pub has_unbound_head : Query → Bool
 has_unbound_head q = list_any (λ x. not (stands_in q.atoms x)) q.head
 
--- It has too many atoms, variables or head variables.
+-- It has too many atoms, variables, head variables or comparisons.
 abbrev pub is_too_large : Query → Bool
 is_too_large q =
     nat_lt ATOMS (length q.atoms)
-    || (nat_lt VARIABLES (length (variables_of q.atoms)) || nat_lt HEAD_VARIABLES (length q.head))
+    || (nat_lt VARIABLES (length (variables_of q.atoms))
+    || (nat_lt HEAD_VARIABLES (length q.head) || nat_lt COMPARISONS (length q.comparisons)))
 
 -- what is wrong with a query, in the order in which it is tried
 abbrev pub query_faults : List Relation → Query → List (Bool × Refusal)
@@ -104,6 +135,8 @@ query_faults relations q =
     ∷ (has_wrong_arity relations q, Arity)
     ∷ (has_misfit relations q, WrongType)
     ∷ (has_clash relations q, VariableType)
+    ∷ (compares_unbound q, Unbound)
+    ∷ (has_miscompared relations q, WrongType)
     ∷ (repeats_head q, HeadRepeated)
     ∷ (has_unbound_head q, HeadUnbound)
     ∷ (is_too_large q, Limit)

@@ -35,6 +35,7 @@ use Rattle.djq_lines.specs.declared.answer.Refusal.TheVariants.{
   Limit,
   NoMemory,
   InUse,
+  Unbound,
 }
 use Rattle.djq_lines.specs.declared.answer.EndLine.{EndLine}
 use Rattle.djq_lines.specs.declared.answer.EndLine.TheVariants.{Long, Slow, Memory, Full}
@@ -73,6 +74,7 @@ refusal_line VariableType = line (codes "err 10 variable type")
 refusal_line Limit = line (codes "err 11 limit")
 refusal_line NoMemory = line (codes "err 12 memory")
 refusal_line InUse = line (codes "err 14 in use")
+refusal_line Unbound = line (codes "err 16 unbound")
 
 -- the lines that end a session, and the one that says that input ended within a line
 abbrev pub end_long : Bytes

@@ -1,7 +1,9 @@
 -- The variables of a query's body.
-use Rattle.std.specs.Prelude.{List, [], ◌∷◌, ◌++◌, Bool, false, Option, None, Some, if◌then◌else◌}
+use Rattle.std.specs.Prelude.{ℕ, suc, List, [], ◌∷◌, ◌++◌, ◌==◌, Bool, false, nat_le, Option, None, Some, if◌then◌else◌}
 use Rattle.std.specs.List.{list_any, fold, flat_map}
+use Rattle.djq_model.specs.declared.query.Query.{Query}
 use Rattle.djq_model.specs.declared.query.Atom.{Atom}
+use Rattle.djq_model.specs.declared.query.Comparison.{Comparison}
 use Rattle.djq_model.specs.declared.query.Term.{Term}
 use Rattle.djq_model.specs.declared.query.Term.TheVariants.{Variable, Hole, Constant}
 use Rattle.djq_model.specs.Data.{Bytes, Tuple, bytes_eq}
@@ -52,6 +54,23 @@ constant_of (Variable x) = []
 constant_of Hole = []
 constant_of (Constant v) = v ∷ []
 
--- The constants of a body, in the order in which they stand.
-abbrev pub constants_of : List Atom → Tuple
-constants_of atoms = flat_map (λ a. flat_map constant_of a.terms) atoms
+-- the constants of the comparisons that stand behind so many atoms, and before the next one
+abbrev pub compared_behind : ℕ → List Comparison → Tuple
+compared_behind n comparisons =
+    flat_map (λ c. if c.behind == n then c.constant ∷ [] else []) comparisons
+
+-- the constants of the comparisons that stand behind all atoms, of which there are so many
+abbrev pub compared_last : ℕ → List Comparison → Tuple
+compared_last n comparisons =
+    flat_map (λ c. if nat_le n c.behind then c.constant ∷ [] else []) comparisons
+
+-- the constants of a body's rest, in front of which so many atoms stand
+abbrev pub constants_from : ℕ → List Atom → List Comparison → Tuple
+constants_from n [] comparisons = compared_last n comparisons
+constants_from n (a ∷ atoms) comparisons =
+    compared_behind n comparisons
+    ++ (flat_map constant_of a.terms ++ constants_from (suc n) atoms comparisons)
+
+-- The constants of a query's body, in the order in which they stand.
+abbrev pub constants_of : Query → Tuple
+constants_of q = constants_from 0 q.atoms q.comparisons

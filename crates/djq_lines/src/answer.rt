@@ -13,7 +13,8 @@ pub enum Refusal {
     NoCursor,
     /// 6: another number of values or terms than of columns.
     Arity,
-    /// 7: a value of another type than its column, or a literal past its limit.
+    /// 7: a value of another type than its column, a literal past its limit, or a comparison that
+    /// doesn't suit its variable's type.
     WrongType,
     /// 8: a variable of the head is in no atom.
     HeadUnbound,
@@ -27,6 +28,8 @@ pub enum Refusal {
     NoMemory,
     /// 14: a cursor or a watch is on the query.
     InUse,
+    /// 16: a comparison's variable is in no atom.
+    Unbound,
 }
 
 /// What `add` did to a row that suits its relation.

@@ -7,7 +7,7 @@ use djq_value::KEPT;
 pub const LINE_BYTES: usize = 4096;
 
 /// The most columns of a relation.
-pub const COLUMNS: usize = 8;
+pub const COLUMNS: usize = 16;
 
 /// The most relations.
 pub const RELATIONS: usize = 256;
@@ -16,13 +16,16 @@ pub const RELATIONS: usize = 256;
 pub const QUERIES: usize = 256;
 
 /// The most atoms of a query.
-pub const ATOMS: usize = 16;
+pub const ATOMS: usize = 32;
 
 /// The most variables of a query, each hole one of its own.
-pub const VARIABLES: usize = 64;
+pub const VARIABLES: usize = 128;
 
 /// The most variables of a query's head.
 pub const HEAD_VARIABLES: usize = 16;
+
+/// The most comparisons of a query.
+pub const COMPARISONS: usize = 32;
 
 /// The most rows of a relation.
 pub const ROWS: usize = 4_294_967_295;

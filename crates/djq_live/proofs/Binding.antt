@@ -1,8 +1,9 @@
 -- What a leaf holds, said of assignments.
-use Rattle.std.proofs.Common.{◌≡◌, ℕ, suc, ◌<◌, true, List, [], ◌∷◌, map, refl, ap, ap₂, sym, ◌∙◌, inl, inr, arith}
-use Rattle.std.specs.Prelude.{◌↔◌, ◌==◌, slice_index}
+use Rattle.std.proofs.Common.{◌≡◌, ℕ, zero, suc, ◌<◌, true, List, [], ◌∷◌, length, map, refl, ap, ap₂, sym, subst, ◌∙◌, inl, inr, arith}
+use Rattle.std.specs.Prelude.{◌↔◌, ◌==◌, All, Contains, slice_index}
 use Rattle.std.specs.List.{list_any, position_or_len}
 use Rattle.std.proofs.lemmas.Bool.{
+  cases_Bool,
   cases_eq,
   eq-eqb,
   ne_eqb,
@@ -22,12 +23,27 @@ use Rattle.djq_query.specs.declared.numbered.NumberedTerm.TheVariants.{
   Constant as Fixed,
 }
 use Rattle.djq_query.specs.declared.numbered.NumberedAtom.{NumberedAtom}
+use Rattle.djq_query.specs.declared.numbered.NumberedComparison.{NumberedComparison}
+use Rattle.djq_query.specs.declared.pattern.Test.{Test}
 use Rattle.djq_query.specs.Numbered.{is_number}
-use Rattle.djq_query.specs.Pattern.{Shape, Gives, bound, filled, slot_of, cell_of}
+use Rattle.djq_query.specs.Pattern.{
+  Shape,
+  Gives,
+  Passes,
+  bound,
+  filled,
+  passes,
+  slot_of,
+  cell_of,
+  test_of,
+  tests_of,
+}
+use Rattle.djq_rows.specs.Cells.{cell_of as cell_for, cells_of}
 use Rattle.djq_rows.specs.Catalog.{Catalog}
-use Rattle.djq_live.proofs.Giving.{one_is}
-use Rattle.djq_live.specs.Cells.{AreRowOf, cell_under, IsSatisfied}
-use Rattle.djq_live.specs.Leaves.{AreCellsOf, IsPatternOf, IsLeafOf}
+use Rattle.djq_live.specs.Asked.{constants_in}
+use Rattle.djq_live.specs.Cells.{AreRowOf, cell_under, IsPassed, IsSatisfied}
+use Rattle.djq_live.specs.Leaves.{AreCellsOf, GivesOne, IsPatternOf, IsLeafOf}
+use Rattle.djq_live.proofs.Members.{in_none, in_cons, in_first, in_rest}
 
 place_on : (y : ℕ) (l : List ℕ) (x : ℕ) → (y ≡ x → ⊥)
     → position_or_len (λ z. z == x) (y ∷ l) ≡ suc (position_or_len (λ z. z == x) l)
@@ -62,27 +78,120 @@ filled_row texts a l (Number x ∷ ts) (c ∷ cs) h w =
 filled_row texts a l (Fixed v ∷ ts) (c ∷ cs) h w =
     ap₂ (λ (d : ℕ) (ds : List ℕ). d ∷ ds) h.0 (filled_row texts a l ts cs h.1 w)
 
-pub pattern_row : (c : Catalog) (l : List ℕ) (m : NumberedAtom) (p : Shape) (a : ℕ → ℕ)
-    → IsPatternOf c.texts l m p → filled (map a l) p.slots ≡ map (cell_under c.texts a) m.terms
-pattern_row c l m p a h =
+pub pattern_row : (c : Catalog) (l : List ℕ) (ks : List NumberedComparison) (m : NumberedAtom)
+    (p : Shape) (a : ℕ → ℕ) → IsPatternOf c.texts l ks m p
+    → filled (map a l) p.slots ≡ map (cell_under c.texts a) m.terms
+pattern_row c l ks m p a h =
     ap (λ ss. filled (map a l) ss) h.slots
     ∙ filled_row c.texts a l m.terms h.cells h.are (λ x s. h.variables x ∙ s)
 
--- the tuple of an assignment gives the cells of the atom's terms
-pub pattern_gives : (c : Catalog) (l : List ℕ) (m : NumberedAtom) (p : Shape) (a : ℕ → ℕ)
-    → IsPatternOf c.texts l m p → Gives p (map a l) (map (cell_under c.texts a) m.terms)
-pattern_gives c l m p a h = record {
+-- ---- the tests of a pattern
+
+-- an assignment passes the comparisons whose variable is among these
+abbrev pub ArePassedIn : List Bytes → List ℕ → List NumberedComparison → (ℕ → ℕ) → Type 0
+ArePassedIn texts l ks a = (k : NumberedComparison) → Contains ks k → member k.variable l ≡ true
+    → IsPassed texts a k
+
+-- the test of a comparison is passed where the comparison is
+place_passes : (texts : List Bytes) (a : ℕ → ℕ) (l : List ℕ) (k : NumberedComparison)
+    → member k.variable l ≡ true
+    → passes k.operator (slice_index (map a l) (position_or_len (λ y. y == k.variable) l))
+    (cell_for texts k.constant)
+    ≡ passes k.operator (a k.variable) (cell_for texts k.constant)
+place_passes texts a l k m =
+    ap (λ (cell : ℕ). passes k.operator cell (cell_for texts k.constant))
+    (place_there a l k.variable m)
+
+all_cons : {A : Type 0} (P : A → Type 0) (x : A) (xs : List A) → P x → All P xs → All P (x ∷ xs)
+all_cons P x xs h all zero d low = h
+all_cons P x xs h all (suc i) d low = all i d (omega arith)
+
+tests_passed : (texts : List Bytes) (a : ℕ → ℕ) (l : List ℕ) (ks : List NumberedComparison)
+    → All (Passes (map a l)) (tests_of l ks (cells_of texts (constants_in ks)))
+    → ArePassedIn texts l ks a
+unfolding tests_of test_of
+tests_passed texts a l [] h k c m = absurd (in_none k c)
+tests_passed texts a l (n ∷ ks) h k c m =
+    let t : Test = record {
+      place = position_or_len (λ y. y == n.variable) l;
+      operator = n.operator;
+      cell = cell_for texts n.constant;
+    } in
+    let ts = tests_of l ks (cells_of texts (constants_in ks)) in
+    elim (cases_Bool (member n.variable l)) [
+      | inl is ↦
+          let all : All (Passes (map a l)) (t ∷ ts) = rw is at h in
+          elim (in_cons n k ks c) [
+            | inl here ↦
+                subst (λ (j : NumberedComparison). IsPassed texts a j) here
+                (sym (place_passes texts a l n is) ∙ all 0 t (omega arith))
+            | inr there ↦
+                tests_passed texts a l ks (λ i d low. all (suc i) d (omega arith)) k there m
+          ]
+      | inr isnt ↦
+          let all : All (Passes (map a l)) ts = rw isnt at h in
+          elim (in_cons n k ks c) [
+            | inl here ↦ absurd
+                (false≢true
+                (sym isnt ∙ ap (λ (j : NumberedComparison). member j.variable l) here ∙ m))
+            | inr there ↦ tests_passed texts a l ks all k there m
+          ]
+    ]
+
+passes_tests : (texts : List Bytes) (a : ℕ → ℕ) (l : List ℕ) (ks : List NumberedComparison)
+    → ArePassedIn texts l ks a
+    → All (Passes (map a l)) (tests_of l ks (cells_of texts (constants_in ks)))
+unfolding tests_of test_of
+passes_tests texts a l [] h = λ i d low. absurd (omega arith)
+passes_tests texts a l (n ∷ ks) h =
+    let t : Test = record {
+      place = position_or_len (λ y. y == n.variable) l;
+      operator = n.operator;
+      cell = cell_for texts n.constant;
+    } in
+    let ts = tests_of l ks (cells_of texts (constants_in ks)) in
+    let rest = passes_tests texts a l ks (λ k c m. h k (in_rest n k ks c) m) in
+    elim (cases_Bool (member n.variable l)) [
+      | inl is ↦ rw is
+          (all_cons (Passes (map a l)) t ts
+          (place_passes texts a l n is ∙ h n (in_first n ks) is) rest)
+      | inr isnt ↦ rw isnt rest
+    ]
+
+-- ---- a tuple and its row
+
+-- the tuple of an assignment that passes gives the cells of the atom's terms
+pub pattern_gives : (c : Catalog) (l : List ℕ) (ks : List NumberedComparison) (m : NumberedAtom)
+    (p : Shape) (a : ℕ → ℕ) → IsPatternOf c.texts l ks m p → ArePassedIn c.texts l ks a
+    → Gives p (map a l) (map (cell_under c.texts a) m.terms)
+pattern_gives c l ks m p a h passed = record {
   wide = length-map l a ∙ sym h.width;
-  fills = pattern_row c l m p a h;
+  fills = pattern_row c l ks m p a h;
+  passes = subst (λ (ts : List Test). All (Passes (map a l)) ts) (sym h.tests)
+      (passes_tests c.texts a l ks passed);
 }
 
--- an assignment's row is in the leaf exactly where the assignment satisfies the atom
-pub leaf_says : (c : Catalog) (l : List ℕ) (m : NumberedAtom) (p : Shape) (es : List Entry)
-    (a : ℕ → ℕ) → IsLeafOf c l m p es → (0 < cnt es (map a l)) ↔ IsSatisfied c a m
-leaf_says c l m p es a h =
-    let cells = map (cell_under c.texts a) m.terms in
-    let gives = pattern_gives c l m p a h.pattern in
-    let says = h.holds.exact (map a l) in (
-      λ there. one_is (AreRowOf c m.relation) p (map a l) cells gives (says.0 there),
-      λ is. says.1 (record { cells = cells; row = is; gives = gives }),
-    )
+-- an assignment whose tuple gives a row of the relation satisfies the atom, and passes
+pub given_both : (c : Catalog) (l : List ℕ) (ks : List NumberedComparison) (m : NumberedAtom)
+    (p : Shape) (a : ℕ → ℕ) → IsPatternOf c.texts l ks m p
+    → GivesOne (AreRowOf c m.relation) p (map a l) → IsSatisfied c a m × ArePassedIn c.texts l ks a
+given_both c l ks m p a h one = (
+  subst (λ (cells : List ℕ). AreRowOf c m.relation cells)
+      (sym one.gives.fills ∙ pattern_row c l ks m p a h) one.row,
+  tests_passed c.texts a l ks
+      (subst (λ (ts : List Test). All (Passes (map a l)) ts) h.tests one.gives.passes),
+)
+
+-- an assignment's row is in the leaf exactly where the assignment satisfies the atom and passes
+pub leaf_says : (c : Catalog) (l : List ℕ) (ks : List NumberedComparison) (m : NumberedAtom)
+    (p : Shape) (es : List Entry) (a : ℕ → ℕ) → IsLeafOf c l ks m p es
+    → (0 < cnt es (map a l)) ↔ (IsSatisfied c a m × ArePassedIn c.texts l ks a)
+leaf_says c l ks m p es a h = (
+  λ there. given_both c l ks m p a h.pattern ((h.holds.exact (map a l)).0 there),
+  λ is. (h.holds.exact (map a l)).1
+      (record {
+        cells = map (cell_under c.texts a) m.terms;
+        row = is.0;
+        gives = pattern_gives c l ks m p a h.pattern is.1;
+      }),
+)

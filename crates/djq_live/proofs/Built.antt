@@ -1,5 +1,5 @@
 -- A query that is built over a catalog.
-use Rattle.std.proofs.Common.{◌≡◌, ℕ, zero, suc, ◌<◌, ◌≤◌, List, [], ◌∷◌, ◌++◌, length, refl, ap, ap₂, sym, subst, ◌∙◌, inl, inr, arith}
+use Rattle.std.proofs.Common.{◌≡◌, ℕ, zero, suc, ◌<◌, ◌≤◌, List, [], ◌∷◌, ◌++◌, length, map, refl, ap, ap₂, sym, subst, ◌∙◌, inl, inr, arith}
 use Rattle.std.specs.Prelude.{Option, None, Some, slice_get}
 use Rattle.std.specs.List.{flat_map, list_any}
 use Rattle.std.proofs.lemmas.Bool.{cases_lt}
@@ -10,6 +10,7 @@ use Rattle.djq_model.specs.declared.relation.ColumnType.{ColumnType}
 use Rattle.djq_model.specs.declared.relation.Relation.{Relation}
 use Rattle.djq_model.specs.declared.query.Query.{Query}
 use Rattle.djq_model.specs.declared.query.Atom.{Atom}
+use Rattle.djq_model.specs.declared.query.Comparison.{Comparison}
 use Rattle.djq_model.specs.declared.query.Term.{Term}
 use Rattle.djq_model.specs.declared.query.Term.TheVariants.{Variable as Named, Hole, Constant}
 use Rattle.djq_model.specs.Data.{Bytes, Tuple}
@@ -18,7 +19,9 @@ use Rattle.djq_lines.specs.Hypergraph.{edges_from, edges_of, head_of}
 use Rattle.djq_lines.specs.QueryFault.{query_fault}
 use Rattle.djq_lines.specs.Variables.{
   Label,
+  compared_behind,
   constant_of,
+  constants_from,
   constants_of,
   variables_of,
   with_term,
@@ -32,18 +35,21 @@ use Rattle.djq_reduct.specs.Reducts.{Reducts, IsReducts, IsNarrow}
 use Rattle.djq_query.specs.declared.numbered.Variable.{Variable}
 use Rattle.djq_query.specs.declared.numbered.NumberedTerm.{NumberedTerm}
 use Rattle.djq_query.specs.declared.numbered.NumberedAtom.{NumberedAtom}
+use Rattle.djq_query.specs.declared.numbered.NumberedComparison.{NumberedComparison}
 use Rattle.djq_query.specs.Numbered.{
   Numbered,
   IsNumbered,
   AreNumbered,
   IsWithin,
   is_number,
+  labels,
+  numbered_comparison,
   numbered_terms,
 }
 use Rattle.djq_query.specs.Pattern.{Shape}
 use Rattle.djq_rows.specs.Cells.{HaveCells}
 use Rattle.djq_rows.specs.Catalog.{Catalog, IsCatalog, no_relation, relation_at}
-use Rattle.djq_live.specs.Asked.{AreSuited, HaveConstants, IsAsked}
+use Rattle.djq_live.specs.Asked.{AreSuited, HaveConstants, IsAsked, constants_in}
 use Rattle.djq_live.specs.Building.{
   AreBindable,
   AreFilled,
@@ -57,6 +63,7 @@ use Rattle.djq_live.specs.Cursors.{slot_at}
 use Rattle.djq_live.specs.Live.{IsLive}
 use Rattle.djq_live.specs.Planning.{Planned, IsPlanned}
 use Rattle.djq_live.specs.Leaves.{IsOver, IsPatternOf}
+use Rattle.djq_live.proofs.Constants.{HaveFrom, compared_have, have_parts}
 use Rattle.djq_live.proofs.Graphs.{count_labels, edges_long, head_numbers, high_head}
 use Rattle.djq_live.proofs.Heads.{has_at}
 use Rattle.djq_live.proofs.Later.{atom_at}
@@ -76,11 +83,6 @@ use Rattle.djq_live.proofs.Typing.{numbered_asked}
 
 -- ---- constants
 
-have_parts : (texts : List Bytes) (xs ys : Tuple) → HaveCells texts (xs ++ ys)
-    → HaveCells texts xs × HaveCells texts ys
-have_parts texts [] ys h = (tt, h)
-have_parts texts (x ∷ xs) ys h = let r = have_parts texts xs ys h.1 in ((h.0, r.0), r.1)
-
 terms_have : (texts : List Bytes) (known : List Label) (ts : List Term)
     → HaveCells texts (flat_map constant_of ts) → HaveConstants texts (numbered_terms known ts)
 unfolding numbered_terms
@@ -89,22 +91,40 @@ terms_have texts known (Named x ∷ ts) h = (tt, terms_have texts (with_term kno
 terms_have texts known (Hole ∷ ts) h = (tt, terms_have texts (with_term known Hole) ts h)
 terms_have texts known (Constant v ∷ ts) h = (h.0, terms_have texts known ts h.1)
 
-pub atoms_have : (texts : List Bytes) (rs : List Relation) (known : List Label)
-    (atoms : List Atom) (ms : List NumberedAtom) (j : ℕ) (m : NumberedAtom)
-    → HaveCells texts (constants_of atoms) → AreNumbered rs known atoms ms
+pub atoms_have : (texts : List Bytes) (rs : List Relation) (known : List Label) (n : ℕ)
+    (atoms : List Atom) (cs : List Comparison) (ms : List NumberedAtom) (j : ℕ) (m : NumberedAtom)
+    → HaveCells texts (constants_from n atoms cs) → AreNumbered rs known atoms ms
     → slice_get ms j ≡ Some m → HaveConstants texts m.terms
 unfolding AreNumbered
-atoms_have texts rs known [] [] j m h is at = absurd cc
-atoms_have texts rs known [] (k ∷ ms) j m h is at = absurd is
-atoms_have texts rs known (a ∷ atoms) [] j m h is at = absurd is
-atoms_have texts rs known (a ∷ atoms) (k ∷ ms) zero m h is at =
-    let p = have_parts texts (flat_map constant_of a.terms) (constants_of atoms) h in
+atoms_have texts rs known n [] cs [] j m h is at = absurd cc
+atoms_have texts rs known n [] cs (k ∷ ms) j m h is at = absurd is
+atoms_have texts rs known n (a ∷ atoms) cs [] j m h is at = absurd is
+atoms_have texts rs known n (a ∷ atoms) cs (k ∷ ms) zero m h is at =
+    let rest = constants_from (suc n) atoms cs in
+    let b = have_parts texts (compared_behind n cs) (flat_map constant_of a.terms ++ rest) h in
+    let p = have_parts texts (flat_map constant_of a.terms) rest b.1 in
     subst (λ (o : NumberedAtom). HaveConstants texts o.terms) (same_Some k m at)
     (subst (λ (ts : List NumberedTerm). HaveConstants texts ts) (sym is.0.1)
     (terms_have texts known a.terms p.0))
-atoms_have texts rs known (a ∷ atoms) (k ∷ ms) (suc j) m h is at =
-    let p = have_parts texts (flat_map constant_of a.terms) (constants_of atoms) h in
-    atoms_have texts rs (with_atom known a) atoms ms j m p.1 is.1 at
+atoms_have texts rs known n (a ∷ atoms) cs (k ∷ ms) (suc j) m h is at =
+    let rest = constants_from (suc n) atoms cs in
+    let b = have_parts texts (compared_behind n cs) (flat_map constant_of a.terms ++ rest) h in
+    let p = have_parts texts (flat_map constant_of a.terms) rest b.1 in
+    atoms_have texts rs (with_atom known a) (suc n) atoms cs ms j m p.1 is.1 at
+
+-- the constants of comparisons by number
+numbered_have : (texts : List Bytes) (ls : List Label) (cs : List Comparison)
+    → HaveFrom texts 0 cs → HaveCells texts (constants_in (map (numbered_comparison ls) cs))
+numbered_have texts ls [] h = tt
+numbered_have texts ls (k ∷ cs) h = (h.0 (omega arith), numbered_have texts ls cs h.1)
+
+comparisons_have : (c : Catalog) (q : Query) (n : Numbered) → IsNumbered c.relations q n
+    → HaveCells c.texts (constants_of q) → HaveCells c.texts (constants_in n.comparisons)
+comparisons_have c q n numbered have =
+    subst (λ (ks : List NumberedComparison). HaveCells c.texts (constants_in ks))
+    (sym numbered.comparisons)
+    (numbered_have c.texts (labels n.variables) q.comparisons
+    (compared_have c.texts 0 q.atoms q.comparisons have))
 
 -- ---- what is given
 
@@ -115,7 +135,7 @@ pub record IsGiven (c : Catalog) (q : Query) (n : Numbered) (t : Tree) : Type 0 
   pub named : IsTreeOf (edges_of q) (head_of q) t
   pub within : IsWithin n
   pub tree : IsTree t
-  pub constants : HaveCells c.texts (constants_of q.atoms)
+  pub constants : HaveCells c.texts (constants_of q)
 
 suited_long : (texts : List Bytes) (vs : List Variable) (ts : List NumberedTerm)
     (cs : List ColumnType) → AreSuited texts vs ts cs → length ts ≡ length cs
@@ -127,8 +147,9 @@ suited_long texts vs (t ∷ ts) (c ∷ cs) h = ap suc (suited_long texts vs ts c
 module _ (c : Catalog) (q : Query) (n : Numbered) (t : Tree) (given : IsGiven c q n t) where
   asked : IsAsked c q n
   asked = numbered_asked c q n given.catalog given.sound given.numbered
-      (λ j m at. atoms_have c.texts c.relations [] q.atoms n.atoms j m given.constants
-      given.numbered.atoms at)
+      (λ j m at. atoms_have c.texts c.relations [] 0 q.atoms q.comparisons n.atoms j m
+      given.constants given.numbered.atoms at)
+      (comparisons_have c q n given.numbered given.constants)
 
   edges_count : length (edges_of q) ≡ length n.atoms
   edges_count =
@@ -199,16 +220,17 @@ module _ (c : Catalog) (q : Query) (n : Numbered) (t : Tree) (given : IsGiven c 
   pub narrow_tree : IsNarrow t
   narrow_tree = record { labels = narrow_labels t given.tree leaf_narrow; head = head_narrow }
 
-  pub bindable : AreBindable c.texts t n.atoms
+  pub bindable : AreBindable c.texts t n.comparisons n.atoms
   bindable = record {
     leaves = (let count = leaves_count in let fits = given.tree.fits in omega arith);
-    constants = λ j m at. atoms_have c.texts c.relations [] q.atoms n.atoms j m given.constants
-        given.numbered.atoms at;
+    constants = λ j m at. atoms_have c.texts c.relations [] 0 q.atoms q.comparisons n.atoms j m
+        given.constants given.numbered.atoms at;
+    compared = comparisons_have c q n given.numbered given.constants;
     labels = label_says;
     narrow = narrow_labels t given.tree leaf_narrow;
   }
 
-  pub suited : (ps : List Shape) → ArePatternsOf c.texts t.labels n.atoms ps
+  pub suited : (ps : List Shape) → ArePatternsOf c.texts t.labels n.comparisons n.atoms ps
       → AtBoth (λ j m p. SuitsRelation c (label_at t.labels j) m.relation p) n.atoms ps
   suited ps are j m p at here =
       let is = are.each j m p at here in
@@ -221,7 +243,8 @@ module _ (c : Catalog) (q : Query) (n : Numbered) (t : Tree) (given : IsGiven c 
             ∙ bound_long (label_at t.labels j) m.terms is.cells long ∙ l.1;
       }
 
-  pub over : (ps : List Shape) (before r : Reducts) → ArePatternsOf c.texts t.labels n.atoms ps
+  pub over : (ps : List Shape) (before r : Reducts)
+      → ArePatternsOf c.texts t.labels n.comparisons n.atoms ps
       → length ps ≡ length n.atoms → AreFilled c n.atoms ps (length n.atoms) before r
       → before.tree ≡ t → IsReducts r → IsOver c q n ps r
   over ps before r are long filled same sound =
@@ -233,7 +256,7 @@ module _ (c : Catalog) (q : Query) (n : Numbered) (t : Tree) (given : IsGiven c 
         long = ap (λ (s : Tree). s.leaves) tree ∙ leaves_count;
         patterns = long;
         leaves = λ j m p at here. record {
-          pattern = subst (λ (s : Tree). IsPatternOf c.texts (label_at s.labels j) m p) (sym tree)
+          pattern = subst (λ (s : Tree). IsPatternOf c.texts (label_at s.labels j) n.comparisons m p) (sym tree)
               (are.each j m p at here);
           holds = filled.filled j m p at here (slice_get_within n.atoms j m at);
         };
@@ -262,7 +285,7 @@ none_filled c atoms ps r empty = record {
 pub given_of : (c : Catalog) (q : Query) (n : Numbered) (t : Tree) (p : Planned) → IsCatalog c
     → query_fault c.relations q ≡ None → IsPlanned c.relations q p
     → n ≡ p.numbered → t ≡ p.tree → IsWithin n → IsTree t
-    → HaveCells c.texts (constants_of q.atoms) → IsGiven c q n t
+    → HaveCells c.texts (constants_of q) → IsGiven c q n t
 given_of c q n t p catalog sound planned e f within tree constants = record {
   catalog = catalog;
   sound = sound;
@@ -273,13 +296,22 @@ given_of c q n t p catalog sound planned e f within tree constants = record {
   constants = constants;
 }
 
+-- the patterns of these atoms and comparisons are those of the query's
+patterns_there : (texts : List Bytes) (ls : List (List ℕ)) (n : Numbered)
+    (atoms : List NumberedAtom) (ks : List NumberedComparison) (ps : List Shape)
+    → atoms ≡ n.atoms → ks ≡ n.comparisons → ArePatternsOf texts ls ks atoms ps
+    → ArePatternsOf texts ls n.comparisons n.atoms ps
+patterns_there texts ls n atoms ks ps is also are =
+    subst (λ (l : List NumberedAtom). ArePatternsOf texts ls n.comparisons l ps) is
+    (subst (λ (l : List NumberedComparison). ArePatternsOf texts ls l atoms ps) also are)
+
 pub suit_there : (c : Catalog) (q : Query) (n : Numbered) (t s : Tree)
-    (atoms later : List NumberedAtom) (ps qs : List Shape) → IsGiven c q n t → atoms ≡ n.atoms
-    → later ≡ n.atoms → qs ≡ ps → s ≡ t → ArePatternsOf c.texts t.labels atoms ps
+    (atoms later : List NumberedAtom) (ks : List NumberedComparison) (ps qs : List Shape)
+    → IsGiven c q n t → atoms ≡ n.atoms → ks ≡ n.comparisons
+    → later ≡ n.atoms → qs ≡ ps → s ≡ t → ArePatternsOf c.texts t.labels ks atoms ps
     → AtBoth (λ j m p. SuitsRelation c (label_at s.labels j) m.relation p) later qs
-suit_there c q n t s atoms later ps qs given is too same trees are =
-    let here : ArePatternsOf c.texts t.labels n.atoms ps =
-    subst (λ (l : List NumberedAtom). ArePatternsOf c.texts t.labels l ps) is are in
+suit_there c q n t s atoms later ks ps qs given is also too same trees are =
+    let here = patterns_there c.texts t.labels n atoms ks ps is also are in
     subst (λ (u : Tree). AtBoth (λ j m p. SuitsRelation c (label_at u.labels j) m.relation p)
     later qs) (sym trees)
     (subst (λ (l : List NumberedAtom). AtBoth
@@ -292,10 +324,11 @@ no_cursor : (k : ℕ) (p : Progress) → slot_at [] k ≡ Some p → ⊥
 no_cursor k p e = absurd cc
 
 pub live_there : (c : Catalog) (q : Query) (n : Numbered) (t : Tree)
-    (atoms later : List NumberedAtom) (ps qs : List Shape) (before r : Reducts)
-    (cursors : List (Option Progress)) → IsGiven c q n t → atoms ≡ n.atoms → later ≡ n.atoms
+    (atoms later : List NumberedAtom) (ks : List NumberedComparison) (ps qs : List Shape)
+    (before r : Reducts) (cursors : List (Option Progress)) → IsGiven c q n t
+    → atoms ≡ n.atoms → ks ≡ n.comparisons → later ≡ n.atoms
     → qs ≡ ps → before.tree ≡ t → length ps ≡ length atoms
-    → ArePatternsOf c.texts t.labels atoms ps
+    → ArePatternsOf c.texts t.labels ks atoms ps
     → AreFilled c later qs (length later) before r → IsReducts r → cursors ≡ []
     → IsLive c (record {
       query = q;
@@ -304,10 +337,9 @@ pub live_there : (c : Catalog) (q : Query) (n : Numbered) (t : Tree)
       reducts = r;
       cursors = cursors;
     })
-live_there c q n t atoms later ps qs before r cursors given is too same trees long are filled sound
-    none =
-    let here : ArePatternsOf c.texts t.labels n.atoms ps =
-    subst (λ (l : List NumberedAtom). ArePatternsOf c.texts t.labels l ps) is are in
+live_there c q n t atoms later ks ps qs before r cursors given is also too same trees long are
+    filled sound none =
+    let here = patterns_there c.texts t.labels n atoms ks ps is also are in
     let there : AreFilled c n.atoms ps (length n.atoms) before r =
     subst (λ (rs : List Shape). AreFilled c n.atoms rs (length n.atoms) before r) same
     (subst (λ (l : List NumberedAtom). AreFilled c l qs (length l) before r) too filled) in

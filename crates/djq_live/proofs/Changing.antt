@@ -63,7 +63,7 @@ use Rattle.djq_live.specs.Changes.{
 use Rattle.djq_live.proofs.Giving.{gives_once, gives_same, one_as}
 use Rattle.djq_live.proofs.Rows.{all_in}
 use Rattle.djq_live.proofs.Members.{in_none, in_first, in_rest, in_cons, in_without, still_in}
-use Rattle.djq_live.proofs.Later.{asked_later, atom_at, pattern_later, cells_later}
+use Rattle.djq_live.proofs.Later.{asked_later, atom_at, pattern_later, cells_later, constants_have}
 
 have_cells : (c : Catalog) (at : ℕ) (row : Tuple) → IsCatalog c → at < length c.relations
     → Contains (rows_at c.relations at) row → HaveCells c.texts row
@@ -271,15 +271,18 @@ leaf_later : (c d : Catalog) (q : Query) (n : Numbered) (ps : List Shape) (r s :
     → slice_get n.atoms j ≡ Some m → slice_get ps j ≡ Some p
     → (m.relation < length c.relations → Holds c m.relation p (entries_at r.tables j)
     → Holds d m.relation p (entries_at s.tables j))
-    → IsLeafOf d (label_at s.tree.labels j) m p (entries_at s.tables j)
+    → IsLeafOf d (label_at s.tree.labels j) n.comparisons m p (entries_at s.tables j)
 leaf_later c d q n ps r s j m p h l tree e f turns =
     let leaf = h.leaves j m p e f in
     let a = atom_at c n.variables q.atoms n.atoms j m h.asked.atoms e in
-    subst (λ (label : List ℕ). IsLeafOf d label m p (entries_at s.tables j))
+    subst (λ (label : List ℕ). IsLeafOf d label n.comparisons m p (entries_at s.tables j))
     (label_same r s j tree)
     (record {
       pattern = pattern_later c d n.variables
-          (label_at r.tree.labels j) a.atom m p l a.is leaf.pattern;
+          (label_at r.tree.labels j) n.comparisons a.atom m p l a.is
+          (constants_have c.texts n.variables n.atoms q.comparisons n.comparisons
+          h.asked.comparisons)
+          leaf.pattern;
       holds = turns a.is.below leaf.holds;
     })
 

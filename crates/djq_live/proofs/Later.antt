@@ -6,6 +6,7 @@ use Rattle.djq_model.specs.declared.value.Value.{Value}
 use Rattle.djq_model.specs.declared.relation.ColumnType.{ColumnType}
 use Rattle.djq_model.specs.declared.query.Query.{Query}
 use Rattle.djq_model.specs.declared.query.Atom.{Atom}
+use Rattle.djq_model.specs.declared.query.Comparison.{Comparison}
 use Rattle.djq_model.specs.Data.{Bytes, Tuple}
 use Rattle.djq_query.specs.declared.numbered.Variable.{Variable}
 use Rattle.djq_query.specs.declared.numbered.NumberedTerm.{NumberedTerm}
@@ -14,12 +15,20 @@ use Rattle.djq_query.specs.declared.numbered.NumberedTerm.TheVariants.{
   Constant as Fixed,
 }
 use Rattle.djq_query.specs.declared.numbered.NumberedAtom.{NumberedAtom}
+use Rattle.djq_query.specs.declared.numbered.NumberedComparison.{NumberedComparison}
 use Rattle.djq_query.specs.Numbered.{Numbered}
-use Rattle.djq_query.specs.Pattern.{Shape}
+use Rattle.djq_query.specs.Pattern.{Shape, tests_of}
 use Rattle.djq_rows.specs.Cells.{cell_of, cells_of, HasCell, HaveCells}
 use Rattle.djq_rows.specs.Catalog.{Catalog, relation_at}
 use Rattle.djq_rows.proofs.Lawful.{stay}
-use Rattle.djq_live.specs.Asked.{AreSuited, IsAtomOf, AreAtomsOf, IsAsked}
+use Rattle.djq_live.specs.Asked.{
+  AreSuited,
+  IsAtomOf,
+  AreAtomsOf,
+  AreComparisonsOf,
+  IsAsked,
+  constants_in,
+}
 use Rattle.djq_live.specs.Leaves.{AreCellsOf, IsPatternOf}
 use Rattle.djq_live.specs.Changes.{IsLater}
 use Rattle.djq_live.proofs.Members.{in_first, in_rest}
@@ -76,12 +85,44 @@ atoms_later c d vs (a ∷ atoms) [] l h = absurd h
 atoms_later c d vs (a ∷ atoms) (m ∷ ms) l h =
     (atom_later c d vs a m l h.0, atoms_later c d vs atoms ms l h.1)
 
+comparisons_later : (texts more : List Bytes) (vs : List Variable) (ms : List NumberedAtom)
+    (ks : List Comparison) (ns : List NumberedComparison) → AreComparisonsOf texts vs ms ks ns
+    → AreComparisonsOf (texts ++ more) vs ms ks ns
+comparisons_later texts more vs ms [] [] h = tt
+comparisons_later texts more vs ms [] (n ∷ ns) h = absurd h
+comparisons_later texts more vs ms (k ∷ ks) [] h = absurd h
+comparisons_later texts more vs ms (k ∷ ks) (n ∷ ns) h = (
+  record {
+    shown = h.0.shown;
+    stands = h.0.stands;
+    of = h.0.of;
+    ordered = h.0.ordered;
+    has = has_later texts more n.constant h.0.has;
+  },
+  comparisons_later texts more vs ms ks ns h.1,
+)
+
+-- the constants of a query's comparisons have cells
+pub constants_have : (texts : List Bytes) (vs : List Variable) (ms : List NumberedAtom)
+    (ks : List Comparison) (ns : List NumberedComparison) → AreComparisonsOf texts vs ms ks ns
+    → HaveCells texts (constants_in ns)
+constants_have texts vs ms [] [] h = tt
+constants_have texts vs ms [] (n ∷ ns) h = absurd h
+constants_have texts vs ms (k ∷ ks) [] h = absurd h
+constants_have texts vs ms (k ∷ ks) (n ∷ ns) h =
+    (h.0.has, constants_have texts vs ms ks ns h.1)
+
 pub asked_later : (c d : Catalog) (q : Query) (n : Numbered) → IsLater c d → IsAsked c q n
     → IsAsked d q n
 asked_later c d q n l h = record {
   catalog = l.catalog;
   variables = h.variables;
   atoms = atoms_later c d n.variables q.atoms n.atoms l h.atoms;
+  comparisons =
+      subst (λ (texts : List Bytes). AreComparisonsOf texts n.variables n.atoms q.comparisons
+      n.comparisons) (sym l.texts)
+      (comparisons_later c.texts l.more n.variables n.atoms q.comparisons n.comparisons
+      h.comparisons);
   one = h.one;
   fresh = h.fresh;
   head = h.head;
@@ -109,10 +150,17 @@ atom_at c vs (a ∷ atoms) (n ∷ ms) (suc j) m h e =
     let r = atom_at c vs atoms ms j m h.1 e in
     record { atom = r.atom; there = in_rest a r.atom atoms r.there; is = r.is }
 
-pub pattern_later : (c d : Catalog) (vs : List Variable) (l : List ℕ) (a : Atom)
-    (m : NumberedAtom) (p : Shape) → IsLater c d → IsAtomOf c vs a m → IsPatternOf c.texts l m p
-    → IsPatternOf d.texts l m p
-pattern_later c d vs l a m p later is h = record {
+-- a row has the same cells later on
+pub cells_later : (c d : Catalog) (row : Tuple) → IsLater c d → HaveCells c.texts row
+    → cells_of d.texts row ≡ cells_of c.texts row
+cells_later c d row l h =
+    ap (λ (texts : List Bytes). cells_of texts row) l.texts ∙ (stay c.texts l.more row h).1
+
+pub pattern_later : (c d : Catalog) (vs : List Variable) (l : List ℕ)
+    (ks : List NumberedComparison) (a : Atom) (m : NumberedAtom) (p : Shape) → IsLater c d
+    → IsAtomOf c vs a m → HaveCells c.texts (constants_in ks) → IsPatternOf c.texts l ks m p
+    → IsPatternOf d.texts l ks m p
+pattern_later c d vs l ks a m p later is have h = record {
   variables = h.variables;
   width = h.width;
   cells = h.cells;
@@ -120,10 +168,7 @@ pattern_later c d vs l a m p later is h = record {
       (bound_later c.texts later.more vs m.terms (relation_at c.relations m.relation).types h.cells
       is.suited h.are);
   slots = h.slots;
+  tests = h.tests
+      ∙ ap (λ (cells : List ℕ). tests_of l ks cells)
+      (sym (cells_later c d (constants_in ks) later have));
 }
-
--- a row has the same cells later on
-pub cells_later : (c d : Catalog) (row : Tuple) → IsLater c d → HaveCells c.texts row
-    → cells_of d.texts row ≡ cells_of c.texts row
-cells_later c d row l h =
-    ap (λ (texts : List Bytes). cells_of texts row) l.texts ∙ (stay c.texts l.more row h).1

@@ -46,3 +46,4 @@ pub mod Taking
 pub mod Trees
 pub mod Built
 pub mod Constants
+pub mod Compared

@@ -44,7 +44,7 @@ use Rattle.djq_rows.specs.Parts.{value_of}
 use Rattle.djq_rows.specs.Catalog.{Catalog, rows_at}
 use Rattle.djq_rows.proofs.Encoding.{value_back}
 use Rattle.djq_live.specs.Asked.{IsAsked, column_of}
-use Rattle.djq_live.specs.Cells.{AreRowOf, cell_under}
+use Rattle.djq_live.specs.Cells.{AreRowOf, IsSatisfied}
 use Rattle.djq_live.specs.Leaves.{GivesOne, IsOver}
 use Rattle.djq_live.specs.Changes.{IsLater, CameAll, GainsAll}
 use Rattle.djq_live.specs.Shown.{value_at, shown}
@@ -52,23 +52,32 @@ use Rattle.djq_live.specs.Stepping.{ChangesBelow}
 use Rattle.djq_reduct.proofs.Readings.{cell_there, row_same, member_here, member_on}
 use Rattle.djq_live.proofs.Filling.{assigned_of}
 use Rattle.djq_live.proofs.Tabling.{IsIn}
-use Rattle.djq_live.proofs.Giving.{one_as, one_is}
-use Rattle.djq_live.proofs.Binding.{pattern_gives}
+use Rattle.djq_live.proofs.Giving.{one_as}
+use Rattle.djq_live.proofs.Binding.{ArePassedIn, given_both}
+use Rattle.djq_live.proofs.Compared.{ArePassed, hold_all, passed_all}
 use Rattle.djq_live.proofs.Terms.{value_by, value_by_is}
 use Rattle.djq_live.proofs.Atoms.{AreSatisfied, satisfies_all, cell_at}
 use Rattle.djq_live.proofs.Heads.{InAtom, has_at, in_atom}
-use Rattle.djq_live.proofs.Later.{asked_later, atom_at, pattern_later, has_later, cell_later}
+use Rattle.djq_live.proofs.Later.{
+  asked_later,
+  atom_at,
+  cell_later,
+  constants_have,
+  has_later,
+  pattern_later,
+}
 use Rattle.djq_live.proofs.Changing.{row_on, row_new}
-use Rattle.djq_live.proofs.Showing.{satisfied, row_value, heads_same, value_stands, maps_at}
+use Rattle.djq_live.proofs.Showing.{satisfied, passed, row_value, heads_same, value_stands, maps_at}
 
--- What is in all leaves satisfies all atoms. So it is of the query's reducts, and of those that
--- lack
--- tuples in some leaves.
+-- What is in all leaves satisfies all atoms and passes all comparisons. So it is of the query's
+-- reducts, and of those that lack tuples in some leaves.
 pub record IsPart (c : Catalog) (q : Query) (n : Numbered) (r : Reducts) : Type 0 where
   pub asked : IsAsked c q n
   pub sound : IsReducts r
   pub head : (x : ℕ) → member x r.tree.head ≡ member x n.head
   pub sat : (a : ℕ → ℕ) → ((j : ℕ) → j < r.tree.leaves → IsIn r j a) → AreSatisfied c a n.atoms
+  pub passed : (a : ℕ → ℕ) → ((j : ℕ) → j < r.tree.leaves → IsIn r j a)
+      → ArePassed c.texts a n.comparisons
   pub stands : (x : ℕ) → member x n.head ≡ true → InAtom n x
 
 pub whole_part : (c : Catalog) (q : Query) (n : Numbered) (ps : List Shape) (r : Reducts)
@@ -78,6 +87,7 @@ whole_part c q n ps r h = record {
   sound = h.reducts;
   head = h.head;
   sat = λ a leaves. satisfied c q n ps r a h leaves;
+  passed = λ a leaves. passed c q n ps r a h leaves;
   stands = λ x m. in_atom c q n ps r x h m;
 }
 
@@ -129,32 +139,52 @@ row_in c d q n ps r s at cells new k j m p u h came change e f there =
           ]
     ]
 
+-- what is in a leaf satisfies its atom and passes the comparisons of its variables
+leaf_both : (c d : Catalog) (q : Query) (n : Numbered) (ps : List Shape) (r s : Reducts)
+    (at : ℕ) (cells : List (List ℕ)) (new : List Tuple) (k j : ℕ) (m : NumberedAtom) (a : ℕ → ℕ)
+    → IsOver c q n ps r → CameAll c d at cells new
+    → ChangesBelow (λ x before after. GainsAll x cells before after) at n.atoms ps k r s
+    → slice_get n.atoms j ≡ Some m → ((j : ℕ) → j < s.tree.leaves → IsIn s j a)
+    → IsSatisfied d a m × ArePassedIn d.texts (label_at r.tree.labels j) n.comparisons a
+leaf_both c d q n ps r s at cells new k j m a h came change e leaves =
+    let low = slice_get_within n.atoms j m e in
+    let p = has_at ps j (let f = h.patterns in omega arith) in
+    let leaf = h.leaves j m p.element e p.is in
+    let l = label_at r.tree.labels j in
+    let at_leaf : j < r.tree.leaves = (let g = h.long in omega arith) in
+    let there : 0 < cnt (entries_at s.tables j) (map a l) =
+    subst (λ (t : Tree). 0 < cnt (entries_at s.tables j) (map a (label_at t.labels j)))
+    change.tree (leaves j (subst (λ (t : Tree). j < t.leaves) (sym change.tree) at_leaf)) in
+    let x = atom_at c n.variables q.atoms n.atoms j m h.asked.atoms e in
+    let pattern = pattern_later c d n.variables l n.comparisons x.atom m p.element came.later x.is
+    (constants_have c.texts n.variables n.atoms q.comparisons n.comparisons h.asked.comparisons)
+    leaf.pattern in
+    given_both d l n.comparisons m p.element a pattern
+    (row_in c d q n ps r s at cells new k j m p.element (map a l) h came change e p.is there)
+
 pub some_part : (c d : Catalog) (q : Query) (n : Numbered) (ps : List Shape) (r s : Reducts)
     (at : ℕ) (cells : List (List ℕ)) (new : List Tuple) (k : ℕ) → IsOver c q n ps r
     → CameAll c d at cells new
     → ChangesBelow (λ x before after. GainsAll x cells before after) at n.atoms ps k r s
     → IsPart d q n s
-some_part c d q n ps r s at cells new k h came change = record {
-  asked = asked_later c d q n came.later h.asked;
-  sound = change.sound;
-  head = λ x. ap (λ (t : Tree). member x t.head) change.tree ∙ h.head x;
-  sat = λ a leaves j m e.
-      let low = slice_get_within n.atoms j m e in
-      let p = has_at ps j (let f = h.patterns in omega arith) in
-      let leaf = h.leaves j m p.element e p.is in
-      let l = label_at r.tree.labels j in
-      let at_leaf : j < r.tree.leaves = (let g = h.long in omega arith) in
-      let there : 0 < cnt (entries_at s.tables j) (map a l) =
-      subst (λ (t : Tree). 0 < cnt (entries_at s.tables j) (map a (label_at t.labels j)))
-      change.tree (leaves j (subst (λ (t : Tree). j < t.leaves) (sym change.tree) at_leaf)) in
-      let x = atom_at c n.variables q.atoms n.atoms j m h.asked.atoms e in
-      let pattern = pattern_later c d n.variables l x.atom m p.element came.later x.is leaf.pattern
-      in
-      one_is (AreRowOf d m.relation) p.element (map a l) (map (cell_under d.texts a) m.terms)
-      (pattern_gives d l m p.element a pattern)
-      (row_in c d q n ps r s at cells new k j m p.element (map a l) h came change e p.is there);
-  stands = λ x m. in_atom c q n ps r x h m;
-}
+some_part c d q n ps r s at cells new k h came change =
+    let asked = asked_later c d q n came.later h.asked in
+    record {
+      asked = asked;
+      sound = change.sound;
+      head = λ x. ap (λ (t : Tree). member x t.head) change.tree ∙ h.head x;
+      sat = λ a leaves j m e.
+          (leaf_both c d q n ps r s at cells new k j m a h came change e leaves).0;
+      passed = λ a leaves.
+          passed_all d.texts n.variables n.atoms q.comparisons n.comparisons a asked.comparisons
+          (λ j m x e there has.
+          let p = has_at ps j
+          (let low = slice_get_within n.atoms j m e in let f = h.patterns in omega arith) in
+          let leaf = h.leaves j m p.element e p.is in
+          (leaf_both c d q n ps r s at cells new k j m a h came change e leaves).1 x there
+          (leaf.pattern.variables x.variable ∙ has));
+      stands = λ x m. in_atom c q n ps r x h m;
+    }
 
 -- ---- what its answers show
 
@@ -167,6 +197,9 @@ part_answer c q n r u h is =
       assignment = value_by c.texts n.variables a;
       satisfies = satisfies_all c n.variables a q.atoms n.atoms h.asked.catalog h.asked.one
           h.asked.atoms (h.sat a x.leaves);
+      compared = hold_all c n.variables a q.atoms n.atoms q.comparisons n.comparisons
+          h.asked.catalog h.asked.one h.asked.atoms (h.sat a x.leaves) h.asked.comparisons
+          (h.passed a x.leaves);
       on_head = ap (λ (v : List ℕ). shown c.texts n r.tree.head v) x.is
           ∙ heads_same (labels n.variables) (value_at c.texts n.variables r.tree.head
           (map a r.tree.head)) (value_by c.texts n.variables a) n.head q.head h.asked.head

@@ -7,8 +7,10 @@ use Rattle.djq_model.specs.Data.{Bytes}
 use Rattle.djq_tree.specs.Labels.{label_at}
 use Rattle.djq_query.specs.declared.numbered.NumberedTerm.{NumberedTerm}
 use Rattle.djq_query.specs.declared.numbered.NumberedAtom.{NumberedAtom}
+use Rattle.djq_query.specs.declared.numbered.NumberedComparison.{NumberedComparison}
 use Rattle.djq_query.specs.Pattern.{Shape, bound}
-use Rattle.djq_live.specs.Asked.{HasConstant, HaveConstants}
+use Rattle.djq_rows.specs.Cells.{HasCell, HaveCells}
+use Rattle.djq_live.specs.Asked.{HasConstant, HaveConstants, constants_in}
 use Rattle.djq_live.specs.Building.{ArePatternsOf}
 use Rattle.djq_live.specs.Leaves.{AreCellsOf, IsCellOf, IsPatternOf}
 
@@ -38,6 +40,13 @@ constant_at texts (s ∷ ts) zero t h low is =
     subst (λ (u : NumberedTerm). HasConstant texts u) (sym is) h.0
 constant_at texts (s ∷ ts) (suc i) t h low is = constant_at texts ts i t h.1 (omega arith) is
 
+pub compared_at : (texts : List Bytes) (ks : List NumberedComparison) (i : ℕ)
+    (k : NumberedComparison) → HaveCells texts (constants_in ks) → i < length ks
+    → HasCell texts (get_or ks i k).constant
+compared_at texts [] i k h low = absurd (omega arith)
+compared_at texts (n ∷ ks) zero k h low = h.0
+compared_at texts (n ∷ ks) (suc i) k h low = compared_at texts ks i k h.1 (omega arith)
+
 pub cells_push : (texts : List Bytes) (ts : List NumberedTerm) (cs : List ℕ) (t : NumberedTerm)
     (c : ℕ) → AreCellsOf texts ts cs → IsCellOf texts t c
     → AreCellsOf texts (ts ++ t ∷ []) (cs ++ c ∷ [])
@@ -55,28 +64,28 @@ cells_long texts (s ∷ ts) (d ∷ cs) h = ap suc (cells_long texts ts cs h.1)
 
 -- ---- patterns
 
-pub no_patterns : (texts : List Bytes) (labels : List (List ℕ)) (atoms : List NumberedAtom)
-    → ArePatternsOf texts labels atoms []
-no_patterns texts labels atoms = record {
+pub no_patterns : (texts : List Bytes) (labels : List (List ℕ)) (ks : List NumberedComparison)
+    (atoms : List NumberedAtom) → ArePatternsOf texts labels ks atoms []
+no_patterns texts labels ks atoms = record {
   few = omega arith;
   each = λ j m p e f. absurd cc;
 }
 
-pub patterns_push : (texts : List Bytes) (labels : List (List ℕ)) (atoms : List NumberedAtom)
-    (ps : List Shape) (j : ℕ) (m : NumberedAtom) (p : Shape)
-    → ArePatternsOf texts labels atoms ps → length ps ≡ j → j < length atoms
-    → slice_get atoms j ≡ Some m → IsPatternOf texts (label_at labels j) m p
-    → ArePatternsOf texts labels atoms (ps ++ p ∷ [])
-patterns_push texts labels atoms ps j m p h long low at is = record {
+pub patterns_push : (texts : List Bytes) (labels : List (List ℕ)) (ks : List NumberedComparison)
+    (atoms : List NumberedAtom) (ps : List Shape) (j : ℕ) (m : NumberedAtom) (p : Shape)
+    → ArePatternsOf texts labels ks atoms ps → length ps ≡ j → j < length atoms
+    → slice_get atoms j ≡ Some m → IsPatternOf texts (label_at labels j) ks m p
+    → ArePatternsOf texts labels ks atoms (ps ++ p ∷ [])
+patterns_push texts labels ks atoms ps j m p h long low at is = record {
   few = omega (arith, length_push ps p);
   each = λ k n r e f. elim (pushed_get ps p r k f) [
     | inl before ↦ h.each k n r e before
     | inr last ↦
         let here : k ≡ j = last.at ∙ long in
         let same : m ≡ n = same_Some m n (sym at ∙ ap (slice_get atoms) (sym here) ∙ e) in
-        subst (λ (i : ℕ). IsPatternOf texts (label_at labels i) n r) (sym here)
-        (subst (λ (s : Shape). IsPatternOf texts (label_at labels j) n s) last.is
-        (subst (λ (o : NumberedAtom). IsPatternOf texts (label_at labels j) o p) same is))
+        subst (λ (i : ℕ). IsPatternOf texts (label_at labels i) ks n r) (sym here)
+        (subst (λ (s : Shape). IsPatternOf texts (label_at labels j) ks n s) last.is
+        (subst (λ (o : NumberedAtom). IsPatternOf texts (label_at labels j) ks o p) same is))
   ];
 }
 

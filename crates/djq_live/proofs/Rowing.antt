@@ -309,7 +309,8 @@ back_kept c l s t at cells k lacks gains loses h =
         patterns = h.over.patterns;
         leaves = λ j m p e f.
             let leaf = h.over.leaves j m p e f in
-            subst (λ (label : List ℕ). IsLeafOf c label m p (entries_at t.tables j))
+            subst (λ (label : List ℕ). IsLeafOf c label (l.numbered).comparisons m p
+            (entries_at t.tables j))
             (ap (λ (y : Tree). label_at y.labels j) (sym tree))
             (record {
               pattern = leaf.pattern;

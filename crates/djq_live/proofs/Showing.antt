@@ -57,6 +57,7 @@ use Rattle.djq_reduct.proofs.Readings.{cell_there, row_same, member_here, member
 use Rattle.djq_live.proofs.Filling.{assigned_of, answer_of}
 use Rattle.djq_live.proofs.Tabling.{IsIn}
 use Rattle.djq_live.proofs.Binding.{leaf_says}
+use Rattle.djq_live.proofs.Compared.{ArePassed, hold_all, pass_all, passed_all}
 use Rattle.djq_live.proofs.Terms.{value_by, value_by_is}
 use Rattle.djq_live.proofs.Holes.{HasNames}
 use Rattle.djq_live.proofs.Atoms.{
@@ -73,24 +74,38 @@ use Rattle.djq_live.proofs.Heads.{has_at, in_atom}
 
 -- ---- leaves and atoms
 
--- an assignment is in all leaves exactly where it satisfies all atoms
+-- an assignment is in all leaves exactly where it satisfies all atoms and passes all comparisons
 pub satisfied : (c : Catalog) (q : Query) (n : Numbered) (ps : List Shape) (r : Reducts)
     (a : ℕ → ℕ) → IsOver c q n ps r → ((j : ℕ) → j < r.tree.leaves → IsIn r j a)
     → AreSatisfied c a n.atoms
 satisfied c q n ps r a h leaves j m e =
     let low = slice_get_within n.atoms j m e in
     let p = has_at ps j (let f = h.patterns in omega arith) in
-    (leaf_says c (label_at r.tree.labels j) m p.element (entries_at r.tables j) a
-    (h.leaves j m p.element e p.is)).0 (leaves j (let f = h.long in omega arith))
+    ((leaf_says c (label_at r.tree.labels j) n.comparisons m p.element (entries_at r.tables j) a
+    (h.leaves j m p.element e p.is)).0 (leaves j (let f = h.long in omega arith))).0
+
+pub passed : (c : Catalog) (q : Query) (n : Numbered) (ps : List Shape) (r : Reducts)
+    (a : ℕ → ℕ) → IsOver c q n ps r → ((j : ℕ) → j < r.tree.leaves → IsIn r j a)
+    → ArePassed c.texts a n.comparisons
+passed c q n ps r a h leaves =
+    passed_all c.texts n.variables n.atoms q.comparisons n.comparisons a h.asked.comparisons
+    (λ j m k e there has.
+    let low = slice_get_within n.atoms j m e in
+    let p = has_at ps j (let f = h.patterns in omega arith) in
+    let leaf = h.leaves j m p.element e p.is in
+    ((leaf_says c (label_at r.tree.labels j) n.comparisons m p.element (entries_at r.tables j) a
+    leaf).0 (leaves j (let f = h.long in omega arith))).1 k there
+    (leaf.pattern.variables k.variable ∙ has))
 
 pub in_leaves : (c : Catalog) (q : Query) (n : Numbered) (ps : List Shape) (r : Reducts)
     (a : ℕ → ℕ) → IsOver c q n ps r → AreSatisfied c a n.atoms
-    → (j : ℕ) → j < r.tree.leaves → IsIn r j a
-in_leaves c q n ps r a h sat j low =
+    → ArePassed c.texts a n.comparisons → (j : ℕ) → j < r.tree.leaves → IsIn r j a
+in_leaves c q n ps r a h sat pass j low =
     let m = has_at n.atoms j (let f = h.long in omega arith) in
     let p = has_at ps j (let f = h.long in let g = h.patterns in omega arith) in
-    (leaf_says c (label_at r.tree.labels j) m.element p.element (entries_at r.tables j) a
-    (h.leaves j m.element p.element m.is p.is)).1 (sat j m.element m.is)
+    (leaf_says c (label_at r.tree.labels j) n.comparisons m.element p.element
+    (entries_at r.tables j) a (h.leaves j m.element p.element m.is p.is)).1
+    (sat j m.element m.is, λ k there has. pass k there)
 
 -- ---- heads
 
@@ -139,6 +154,9 @@ query_answer c q n ps r u h is =
       assignment = value_by c.texts n.variables a;
       satisfies = satisfies_all c n.variables a q.atoms n.atoms h.asked.catalog h.asked.one
           h.asked.atoms sat;
+      compared = hold_all c n.variables a q.atoms n.atoms q.comparisons n.comparisons
+          h.asked.catalog h.asked.one h.asked.atoms sat h.asked.comparisons
+          (passed c q n ps r a h x.leaves);
       on_head = ap (λ (v : List ℕ). shown c.texts n r.tree.head v) x.is
           ∙ heads_same (labels n.variables) (value_at c.texts n.variables r.tree.head
           (map a r.tree.head)) (value_by c.texts n.variables a) n.head q.head h.asked.head
@@ -170,9 +188,12 @@ tree_answer c q n ps r answer h is =
     found.are h.asked.fresh
     (λ y m. ap (λ (o : Option Label). cell_for c.texts values o (holes y))
     (in_unnamed c n.variables q.atoms n.atoms y h.asked.atoms m)) in
+    let pass = pass_all c n.variables values a q.atoms n.atoms found.rows q.comparisons
+    n.comparisons h.asked.catalog h.asked.atoms found.are names h.asked.comparisons
+    is.compared in
     record {
       tuple = map a r.tree.head;
-      is_answer = answer_of r a h.reducts (in_leaves c q n ps r a h sat);
+      is_answer = answer_of r a h.reducts (in_leaves c q n ps r a h sat pass);
       is = is.on_head
           ∙ sym
           (heads_same ls (value_at c.texts n.variables r.tree.head (map a r.tree.head)) values

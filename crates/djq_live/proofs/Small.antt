@@ -38,6 +38,7 @@ use Rattle.djq_query.specs.declared.numbered.NumberedTerm.TheVariants.{
   Constant as Fixed,
 }
 use Rattle.djq_query.specs.declared.numbered.NumberedAtom.{NumberedAtom}
+use Rattle.djq_query.specs.declared.numbered.NumberedComparison.{NumberedComparison}
 use Rattle.djq_query.specs.Numbered.{is_number}
 use Rattle.djq_query.specs.Pattern.{Shape, filled}
 use Rattle.djq_rows.specs.Cells.{cells_of}
@@ -85,18 +86,18 @@ same_cells texts a b (t ∷ ts) x e has =
           (tails (cell_under texts a t) (cell_under texts b t) us vs e) there
     ]
 
-filled_once : (c : Catalog) (l : List ℕ) (m : NumberedAtom) (p : Shape)
-    (u v : List ℕ) → IsSimple l → IsPatternOf c.texts l m p → length u ≡ p.width
+filled_once : (c : Catalog) (l : List ℕ) (ks : List NumberedComparison) (m : NumberedAtom)
+    (p : Shape) (u v : List ℕ) → IsSimple l → IsPatternOf c.texts l ks m p → length u ≡ p.width
     → length v ≡ p.width → filled u p.slots ≡ filled v p.slots → u ≡ v
-filled_once c l m p u v simple h wide also e =
+filled_once c l ks m p u v simple h wide also e =
     let row = reading_row l u simple (wide ∙ h.width) in
     let other = reading_row l v simple (also ∙ h.width) in
     let cells : map (cell_under c.texts (λ x. reading l u x)) m.terms
     ≡ map (cell_under c.texts (λ x. reading l v x)) m.terms =
-    sym (pattern_row c l m p (λ x. reading l u x) h)
+    sym (pattern_row c l ks m p (λ x. reading l u x) h)
     ∙ ap (λ (w : List ℕ). filled w p.slots) row ∙ e
     ∙ ap (λ (w : List ℕ). filled w p.slots) (sym other)
-    ∙ pattern_row c l m p (λ x. reading l v x) h in
+    ∙ pattern_row c l ks m p (λ x. reading l v x) h in
     sym row
     ∙ row_same (λ x. reading l u x) (λ x. reading l v x) l
     (λ x k. same_cells c.texts (λ y. reading l u y) (λ y. reading l v y) m.terms x cells
@@ -129,10 +130,10 @@ tuples_differ (e ∷ es) h =
     omega arith))
     (tuples_differ es h.1)
 
-leaf_small : (c : Catalog) (l : List ℕ) (m : NumberedAtom) (p : Shape) (es : List Entry)
-    → IsSimple l → AreApart es → IsLeafOf c l m p es
+leaf_small : (c : Catalog) (l : List ℕ) (ks : List NumberedComparison) (m : NumberedAtom)
+    (p : Shape) (es : List Entry) → IsSimple l → AreApart es → IsLeafOf c l ks m p es
     → length es ≤ length (rows_at c.relations m.relation)
-leaf_small c l m p es simple apart h =
+leaf_small c l ks m p es simple apart h =
     let fill = λ (u : List ℕ). filled u p.slots in
     let us = tuples_of es in
     let rows = rows_at c.relations m.relation in
@@ -140,7 +141,7 @@ leaf_small c l m p es simple apart h =
     λ u is. (h.holds.exact u).0 (tuple_there es u is) in
     let no_more = few (map fill us) (map (cells_of c.texts) rows)
     (images_differ fill us (tuples_differ es apart)
-    (λ u v a b e. filled_once c l m p u v simple h.pattern (one u a).gives.wide
+    (λ u v a b e. filled_once c l ks m p u v simple h.pattern (one u a).gives.wide
     (one v b).gives.wide e))
     (λ cells is.
     let i = image_of fill us cells is in
@@ -161,7 +162,7 @@ leaf_few c l j m p h low e f =
     let r = l.reducts in
     let s = h.over.reducts in
     let leaf = h.over.leaves j m p e f in
-    leaf_small c (label_at r.tree.labels j) m p (entries_at r.tables j)
+    leaf_small c (label_at r.tree.labels j) (l.numbered).comparisons m p (entries_at r.tables j)
     (simple_of (label_at r.tree.labels j) (s.family.is_tree.sets j).rising)
     (apart_at r.tables j (s.family.sound j)) leaf
 

@@ -25,8 +25,17 @@ use Rattle.std.proofs.Common.{
 }
 use Rattle.std.specs.Prelude.{◌&&◌, ◌==◌, not, Option, None, Some, is_none, slice_get}
 use Rattle.std.specs.List.{fold, list_any}
-use Rattle.std.proofs.lemmas.Bool.{cases_Bool, eqb-true, false≢true}
+use Rattle.std.proofs.lemmas.Bool.{
+  cases_Bool,
+  eq-eqb,
+  eqb-true,
+  false≢true,
+  or_cases,
+  or_left,
+  or_right,
+}
 use Rattle.std.proofs.lemmas.Option.{same_Some, slice_get_within, get_or_from_slice_get}
+use Rattle.djq_model.specs.declared.value.Value.{Value}
 use Rattle.djq_model.specs.declared.relation.ColumnType.{ColumnType}
 use Rattle.djq_model.specs.declared.relation.ColumnType.TheVariants.{
   Int as IntColumn,
@@ -35,6 +44,8 @@ use Rattle.djq_model.specs.declared.relation.ColumnType.TheVariants.{
 use Rattle.djq_model.specs.declared.relation.Relation.{Relation}
 use Rattle.djq_model.specs.declared.query.Query.{Query}
 use Rattle.djq_model.specs.declared.query.Atom.{Atom}
+use Rattle.djq_model.specs.declared.query.Comparison.{Comparison}
+use Rattle.djq_model.specs.declared.query.Operator.{Operator}
 use Rattle.djq_model.specs.declared.query.Term.{Term}
 use Rattle.djq_model.specs.declared.query.Term.TheVariants.{Variable as Named, Hole, Constant}
 use Rattle.djq_model.specs.Data.{Bytes, bytes_eq, relation_of}
@@ -44,7 +55,9 @@ use Rattle.djq_lines.specs.Columns.{columns_of, types_of, same_type}
 use Rattle.djq_lines.specs.QueryFault.{
   any_column,
   any_place,
+  has_order,
   is_misfit,
+  is_miscompared,
   is_clash,
   reads_unknown,
   has_wrong_arity,
@@ -53,12 +66,18 @@ use Rattle.djq_lines.specs.QueryFault.{
 }
 use Rattle.djq_lines.specs.declared.answer.Refusal.{Refusal}
 use Rattle.djq_lines.specs.declared.answer.Refusal.TheVariants.{NoRelation, Arity, WrongType}
-use Rattle.djq_lines.specs.Variables.{Label, is_known, with_term, with_atom}
+use Rattle.djq_lines.specs.Variables.{Label, is_known, is_variable, stands_in, with_term, with_atom}
 use Rattle.djq_query.specs.declared.numbered.Variable.{Variable}
 use Rattle.djq_query.specs.declared.numbered.NumberedTerm.{NumberedTerm}
+use Rattle.djq_query.specs.declared.numbered.NumberedTerm.TheVariants.{
+  Variable as Number,
+  Constant as Fixed,
+}
 use Rattle.djq_query.specs.declared.numbered.NumberedAtom.{NumberedAtom}
+use Rattle.djq_query.specs.declared.numbered.NumberedComparison.{NumberedComparison}
 use Rattle.djq_query.specs.Numbered.{
   AreNumbered,
+  is_number,
   labels,
   number_of,
   numbered,
@@ -67,7 +86,7 @@ use Rattle.djq_query.specs.Numbered.{
   with_places,
   with_columns,
 }
-use Rattle.djq_query.specs.Meaning.{AreShown, AreAtomsShown}
+use Rattle.djq_query.specs.Meaning.{AreShown, AreAtomsShown, AreComparisonsShown}
 use Rattle.djq_query.proofs.Counting.{or_false}
 use Rattle.djq_query.proofs.Faults.{sound_of}
 use Rattle.djq_query.proofs.Numbers.{
@@ -78,7 +97,8 @@ use Rattle.djq_query.proofs.Numbers.{
   labels_columns,
 }
 use Rattle.djq_query.proofs.Showing.{shown_by}
-use Rattle.djq_rows.specs.Catalog.{Catalog, no_relation, relation_at}
+use Rattle.djq_rows.specs.Cells.{HaveCells}
+use Rattle.djq_rows.specs.Catalog.{Catalog, IsCatalog, no_relation, relation_at}
 use Rattle.djq_rows.proofs.Learning.{eq_refl}
 use Rattle.djq_live.specs.Asked.{
   column_in,
@@ -87,9 +107,14 @@ use Rattle.djq_live.specs.Asked.{
   AreSuited,
   IsAtomOf,
   AreAtomsOf,
+  AreComparisonsOf,
   HaveConstants,
+  constants_in,
+  is_in,
   NumberedIsAsked,
 }
+use Rattle.djq_live.proofs.Rows.{found_at}
+use Rattle.djq_live.proofs.Terms.{HasOne, both}
 
 -- ---- variables that become known
 
@@ -385,6 +410,109 @@ atoms_of c all final ks (a ∷ atoms) (m ∷ ms) grows agree shown h known arity
           (any_place p rs atoms) (places p none)).1) (λ j n e. have (suc j) n e),
     )
 
+-- ---- comparisons
+
+-- a comparison's variable, which stands among these terms, has its number there, and its column's
+-- type suits the comparison
+suited_among : (vs : List Variable) (texts : List Bytes) (k : Comparison) (x : ℕ) (ts : List Term)
+    (ns : List NumberedTerm) (cs : List ColumnType) → HasOne vs
+    → slice_get (labels vs) x ≡ Some (Some k.variable) → AreShown (labels vs) ts ns
+    → AreSuited texts vs ns cs → list_any (is_variable k.variable) ts ≡ true
+    → any_column (is_miscompared k) ts cs ≡ false
+    → (list_any (is_number x) ns ≡ true)
+    × ((is_of (column_of vs x) k.constant && has_order k.operator (column_of vs x)) ≡ true)
+suited_among vs texts k x [] [] cs one e shown suits has none = absurd (false≢true has)
+suited_among vs texts k x [] (n ∷ ns) cs one e shown suits has none = absurd shown
+suited_among vs texts k x (t ∷ ts) [] cs one e shown suits has none = absurd shown
+suited_among vs texts k x (t ∷ ts) (n ∷ ns) [] one e shown suits has none = absurd suits
+suited_among vs texts k x (Named y ∷ ts) (Fixed w ∷ ns) (c ∷ cs) one e shown suits has none =
+    absurd shown.0
+suited_among vs texts k x (Hole ∷ ts) (Fixed w ∷ ns) (c ∷ cs) one e shown suits has none =
+    absurd shown.0
+suited_among vs texts k x (Constant v ∷ ts) (Number j ∷ ns) (c ∷ cs) one e shown suits has none =
+    absurd shown.0
+suited_among vs texts k x (Constant v ∷ ts) (Fixed w ∷ ns) (c ∷ cs) one e shown suits has none =
+    suited_among vs texts k x ts ns cs one e shown.1 suits.1 has none
+suited_among vs texts k x (Hole ∷ ts) (Number j ∷ ns) (c ∷ cs) one e shown suits has none =
+    let r = suited_among vs texts k x ts ns cs one e shown.1 suits.1 has none in
+    (or_right (x == j) (list_any (is_number x) ns) r.0, r.1)
+suited_among vs texts k x (Named y ∷ ts) (Number j ∷ ns) (c ∷ cs) one e shown suits has none =
+    let p = both_false (is_miscompared k (Named y) c) (any_column (is_miscompared k) ts cs) none in
+    elim (or_cases (bytes_eq y k.variable) (list_any (is_variable k.variable) ts) has) [
+      | inl same ↦
+          let named = (bytes_eq-decides y k.variable).0 same in
+          let at : j ≡ x = sym (one j y shown.0) ∙ ap (number_of (labels vs)) named
+          ∙ one x k.variable e in
+          let column : column_of vs x ≡ c = ap (column_of vs) (sym at) ∙ suits.0 in
+          let fit : (is_of c k.constant && has_order k.operator c) ≡ true =
+          not_false (is_of c k.constant && has_order k.operator c)
+          (second_false (bytes_eq y k.variable)
+          (not (is_of c k.constant && has_order k.operator c)) same p.0) in (
+            or_left (x == j) (list_any (is_number x) ns) (eq-eqb x j (sym at)),
+            subst (λ (d : ColumnType). (is_of d k.constant && has_order k.operator d) ≡ true)
+                (sym column) fit,
+          )
+      | inr later ↦
+          let r = suited_among vs texts k x ts ns cs one e shown.1 suits.1 later p.1 in
+          (or_right (x == j) (list_any (is_number x) ns) r.0, r.1)
+    ]
+
+-- so it is of a variable that stands in an atom
+suited_in : (c : Catalog) (vs : List Variable) (k : Comparison) (x : ℕ) (atoms : List Atom)
+    (ms : List NumberedAtom) → IsCatalog c → HasOne vs
+    → slice_get (labels vs) x ≡ Some (Some k.variable) → AreAtomsOf c vs atoms ms
+    → stands_in atoms k.variable ≡ true → any_place (is_miscompared k) c.relations atoms ≡ false
+    → (is_in ms x ≡ true)
+    × ((is_of (column_of vs x) k.constant && has_order k.operator (column_of vs x)) ≡ true)
+suited_in c vs k x [] ms h one e are has none = absurd (false≢true has)
+suited_in c vs k x (a ∷ atoms) [] h one e are has none = absurd are
+suited_in c vs k x (a ∷ atoms) (m ∷ ms) h one e are has none =
+    let types : columns_of c.relations a.relation ≡ (relation_at c.relations m.relation).types =
+    ap types_of (found_at c.relations a.relation m.relation h.names are.0.below are.0.named) in
+    let p = both_false
+    (any_column (is_miscompared k) a.terms (columns_of c.relations a.relation))
+    (any_place (is_miscompared k) c.relations atoms) none in
+    elim (or_cases (list_any (is_variable k.variable) a.terms) (stands_in atoms k.variable) has) [
+      | inl here ↦
+          let r = suited_among vs c.texts k x a.terms m.terms
+          (relation_at c.relations m.relation).types one e are.0.shown are.0.suited here
+          (ap (λ (cs : List ColumnType). any_column (is_miscompared k) a.terms cs) (sym types)
+          ∙ p.0) in
+          (or_left (list_any (is_number x) m.terms) (is_in ms x) r.0, r.1)
+      | inr there ↦
+          let r = suited_in c vs k x atoms ms h one e are.1 there p.1 in
+          (or_right (list_any (is_number x) m.terms) (is_in ms x) r.0, r.1)
+    ]
+
+comparisons_of : (c : Catalog) (vs : List Variable) (atoms : List Atom) (ms : List NumberedAtom)
+    (ks : List Comparison) (ns : List NumberedComparison) → IsCatalog c → HasOne vs
+    → AreAtomsOf c vs atoms ms → AreComparisonsShown (labels vs) ks ns
+    → list_any (λ (k : Comparison). not (stands_in atoms k.variable)) ks ≡ false
+    → list_any (λ (k : Comparison). any_place (is_miscompared k) c.relations atoms) ks ≡ false
+    → HaveCells c.texts (constants_in ns) → AreComparisonsOf c.texts vs ms ks ns
+comparisons_of c vs atoms ms [] [] h one are shown bound fit have = tt
+comparisons_of c vs atoms ms [] (n ∷ ns) h one are shown bound fit have = absurd shown
+comparisons_of c vs atoms ms (k ∷ ks) [] h one are shown bound fit have = absurd shown
+comparisons_of c vs atoms ms (k ∷ ks) (n ∷ ns) h one are shown bound fit have =
+    let b = both_false (not (stands_in atoms k.variable))
+    (list_any (λ (j : Comparison). not (stands_in atoms j.variable)) ks) bound in
+    let f = both_false (any_place (is_miscompared k) c.relations atoms)
+    (list_any (λ (j : Comparison). any_place (is_miscompared j) c.relations atoms) ks) fit in
+    let s = shown.0 in
+    let column = column_of vs n.variable in
+    let r = suited_in c vs k n.variable atoms ms h one s.variable are
+    (not_false (stands_in atoms k.variable) b.0) f.0 in
+    let p = both (is_of column k.constant) (has_order k.operator column) r.1 in (
+      record {
+        shown = s;
+        stands = r.0;
+        of = ap (λ (v : Value). is_of column v) s.constant ∙ p.0;
+        ordered = ap (λ (o : Operator). has_order o column) s.operator ∙ p.1;
+        has = have.0;
+      },
+      comparisons_of c vs atoms ms ks ns h one are shown.1 b.1 f.1 have.1,
+    )
+
 peel : (b : Bool) (r : Refusal) (o : Option Refusal) → cond b (Some r) o ≡ None
     → (b ≡ false) × (o ≡ None)
 peel true r o e = absurd cc
@@ -399,7 +527,7 @@ no_misfit rs q e =
     (peel (has_misfit rs q) WrongType _ b.1).0
 
 pub numbered_asked : NumberedIsAsked
-numbered_asked c q n catalog fault h have =
+numbered_asked c q n catalog fault h have compared =
     let rs = c.relations in
     let sound = sound_of rs q fault in
     let s = shown_by rs q n fault h in
@@ -409,12 +537,14 @@ numbered_asked c q n catalog fault h have =
     let grows : Grows (fold (with_columns rs) [] q.atoms) n.variables =
     subst (λ (vs : List Variable). Grows (fold (with_columns rs) [] q.atoms) vs) (sym h.variables)
     (λ k v e. e) in
+    let atoms = atoms_of c q.atoms n.variables [] q.atoms n.atoms grows agree s.body h.atoms
+    sound.known sound.arity (no_misfit rs q fault) (λ p none. none) have in
     record {
       catalog = catalog;
       variables = s.variables;
-      atoms = atoms_of c q.atoms n.variables [] q.atoms n.atoms grows agree s.body h.atoms
-          sound.known
-          sound.arity (no_misfit rs q fault) (λ p none. none) have;
+      atoms = atoms;
+      comparisons = comparisons_of c n.variables q.atoms n.atoms q.comparisons n.comparisons
+          catalog s.one atoms s.comparisons sound.compared_bound sound.compared compared;
       one = s.one;
       fresh = s.fresh;
       head = s.head;

@@ -4,6 +4,7 @@ use Rattle.std.specs.Prelude.{
   ⊤,
   ℕ,
   ◌<◌,
+  Bool,
   true,
   List,
   [],
@@ -15,13 +16,15 @@ use Rattle.std.specs.Prelude.{
   Some,
   slice_get,
 }
+use Rattle.std.specs.List.{list_any}
 use Rattle.djq_model.specs.declared.relation.ColumnType.{ColumnType}
 use Rattle.djq_model.specs.declared.relation.ColumnType.TheVariants.{Int as IntColumn}
 use Rattle.djq_model.specs.declared.query.Query.{Query}
 use Rattle.djq_model.specs.declared.query.Atom.{Atom}
-use Rattle.djq_model.specs.Data.{Bytes}
+use Rattle.djq_model.specs.declared.query.Comparison.{Comparison}
+use Rattle.djq_model.specs.Data.{Bytes, Tuple}
 use Rattle.djq_model.specs.Typed.{is_of}
-use Rattle.djq_lines.specs.QueryFault.{query_fault}
+use Rattle.djq_lines.specs.QueryFault.{query_fault, has_order}
 use Rattle.djq_lines.specs.Variables.{variables_of}
 use Rattle.djq_query.specs.declared.numbered.Variable.{Variable}
 use Rattle.djq_query.specs.declared.numbered.NumberedTerm.{NumberedTerm}
@@ -30,9 +33,10 @@ use Rattle.djq_query.specs.declared.numbered.NumberedTerm.TheVariants.{
   Constant as Fixed,
 }
 use Rattle.djq_query.specs.declared.numbered.NumberedAtom.{NumberedAtom}
-use Rattle.djq_query.specs.Numbered.{Numbered, IsNumbered, labels, number_of}
-use Rattle.djq_query.specs.Meaning.{AreShown, Rise, holes_in}
-use Rattle.djq_rows.specs.Cells.{HasCell}
+use Rattle.djq_query.specs.declared.numbered.NumberedComparison.{NumberedComparison}
+use Rattle.djq_query.specs.Numbered.{Numbered, IsNumbered, is_number, labels, number_of}
+use Rattle.djq_query.specs.Meaning.{AreShown, IsComparisonShown, Rise, holes_in}
+use Rattle.djq_rows.specs.Cells.{HasCell, HaveCells}
 use Rattle.djq_rows.specs.Catalog.{Catalog, IsCatalog, relation_at}
 
 -- the type of the columns where a variable stands
@@ -72,13 +76,37 @@ AreAtomsOf c variables (a ∷ atoms) (m ∷ ms) =
 AreAtomsOf c variables [] (m ∷ ms) = ⊥
 AreAtomsOf c variables (a ∷ atoms) [] = ⊥
 
+-- whether a variable, by its number, stands in one of these atoms
+abbrev pub is_in : List NumberedAtom → ℕ → Bool
+is_in ms x = list_any (λ m. list_any (is_number x) m.terms) ms
+
+-- a comparison by number stands for a comparison: its variable has the name and stands in an atom,
+-- operator and constant are the same and suit the variable's type, and the constant has a cell
+pub record IsComparisonOf (texts : List Bytes) (variables : List Variable) (ms : List NumberedAtom)
+    (k : Comparison) (n : NumberedComparison) : Type 0 where
+  pub shown : IsComparisonShown (labels variables) k n
+  pub stands : is_in ms n.variable ≡ true
+  pub of : is_of (column_of variables n.variable) n.constant ≡ true
+  pub ordered : has_order n.operator (column_of variables n.variable) ≡ true
+  pub has : HasCell texts n.constant
+
+abbrev pub AreComparisonsOf : List Bytes → List Variable → List NumberedAtom → List Comparison
+    → List NumberedComparison → Type 0
+AreComparisonsOf texts variables ms [] [] = ⊤
+AreComparisonsOf texts variables ms (k ∷ ks) (n ∷ ns) =
+    IsComparisonOf texts variables ms k n × AreComparisonsOf texts variables ms ks ns
+AreComparisonsOf texts variables ms [] (n ∷ ns) = ⊥
+AreComparisonsOf texts variables ms (k ∷ ks) [] = ⊥
+
 -- A query over numbers stands for a query over a catalog: its variables are those of its body in
 -- the order in which they first stand; atom by atom, each name has one number, each hole has one of
--- its own, and the head's numbers have the head's names.
+-- its own, comparison by comparison it is of the number of its variable, and the head's numbers
+-- have the head's names.
 pub record IsAsked (c : Catalog) (q : Query) (n : Numbered) : Type 0 where
   pub catalog : IsCatalog c
   pub variables : labels n.variables ≡ variables_of q.atoms
   pub atoms : AreAtomsOf c n.variables q.atoms n.atoms
+  pub comparisons : AreComparisonsOf c.texts n.variables n.atoms q.comparisons n.comparisons
   pub one : (x : ℕ) (name : Bytes) → slice_get (labels n.variables) x ≡ Some (Some name)
       → number_of (labels n.variables) name ≡ x
   pub fresh : Rise 0 (holes_in q.atoms n.atoms)
@@ -93,9 +121,13 @@ abbrev pub HaveConstants : List Bytes → List NumberedTerm → Type 0
 HaveConstants texts [] = ⊤
 HaveConstants texts (t ∷ ts) = HasConstant texts t × HaveConstants texts ts
 
+-- the constants of comparisons
+abbrev pub constants_in : List NumberedComparison → Tuple
+constants_in ns = map (λ n. n.constant) ns
+
 -- A query without a fault is asked by its numbers once its constants have cells.
 abbrev pub NumberedIsAsked : Type 0
 NumberedIsAsked = (c : Catalog) (q : Query) (n : Numbered) → IsCatalog c
     → query_fault c.relations q ≡ None → IsNumbered c.relations q n
     → ((j : ℕ) (m : NumberedAtom) → slice_get n.atoms j ≡ Some m → HaveConstants c.texts m.terms)
-    → IsAsked c q n
+    → HaveCells c.texts (constants_in n.comparisons) → IsAsked c q n

@@ -10,11 +10,12 @@ use Rattle.djq_reduct.specs.Tables.{entries_at}
 use Rattle.djq_reduct.specs.Reducts.{Reducts}
 use Rattle.djq_reduct.specs.Marks.{IsBare}
 use Rattle.djq_query.specs.declared.numbered.NumberedAtom.{NumberedAtom}
+use Rattle.djq_query.specs.declared.numbered.NumberedComparison.{NumberedComparison}
 use Rattle.djq_query.specs.Numbered.{is_number}
 use Rattle.djq_query.specs.Pattern.{Shape}
-use Rattle.djq_rows.specs.Cells.{cells_of}
+use Rattle.djq_rows.specs.Cells.{HaveCells, cells_of}
 use Rattle.djq_rows.specs.Catalog.{Catalog, relation_at, rows_at}
-use Rattle.djq_live.specs.Asked.{HaveConstants}
+use Rattle.djq_live.specs.Asked.{HaveConstants, constants_in}
 use Rattle.djq_live.specs.Leaves.{IsPatternOf, Holds}
 use Rattle.djq_live.specs.Changes.{Gains, Keeps, HoldsThese}
 
@@ -24,17 +25,19 @@ AtBoth {A} {B} P xs ys = (j : ℕ) (x : A) (y : B) → slice_get xs j ≡ Some x
     → P j x y
 
 -- the patterns of the first atoms, over the labels of their leaves
-pub record ArePatternsOf (texts : List Bytes) (labels : List (List ℕ)) (atoms : List NumberedAtom)
-    (ps : List Shape) : Type 0 where
+pub record ArePatternsOf (texts : List Bytes) (labels : List (List ℕ))
+    (ks : List NumberedComparison) (atoms : List NumberedAtom) (ps : List Shape) : Type 0 where
   pub few : length ps ≤ length atoms
-  pub each : AtBoth (λ j m p. IsPatternOf texts (label_at labels j) m p) atoms ps
+  pub each : AtBoth (λ j m p. IsPatternOf texts (label_at labels j) ks m p) atoms ps
 
 -- The leaves of atoms whose constants have cells: each has the atom's variables, of which there are
--- few.
-pub record AreBindable (texts : List Bytes) (t : Tree) (atoms : List NumberedAtom) : Type 0 where
+-- few. The constants of comparisons have cells, too.
+pub record AreBindable (texts : List Bytes) (t : Tree) (ks : List NumberedComparison)
+    (atoms : List NumberedAtom) : Type 0 where
   pub leaves : length atoms ≤ length t.nodes
   pub constants : (j : ℕ) (m : NumberedAtom) → slice_get atoms j ≡ Some m
       → HaveConstants texts m.terms
+  pub compared : HaveCells texts (constants_in ks)
   pub labels : (j : ℕ) (m : NumberedAtom) → slice_get atoms j ≡ Some m → (x : ℕ)
       → member x (label_at t.labels j) ≡ list_any (is_number x) m.terms
   pub narrow : (j : ℕ) → length (label_at t.labels j) ≤ 16

@@ -1,5 +1,5 @@
--- What it means that cells satisfy an atom.
-use Rattle.std.specs.Prelude.{◌≡◌, ℕ, List, Contains, map}
+-- What it means that cells satisfy an atom, and that they pass a comparison.
+use Rattle.std.specs.Prelude.{◌≡◌, ℕ, true, List, Contains, map}
 use Rattle.djq_model.specs.Data.{Bytes, Tuple}
 use Rattle.djq_query.specs.declared.numbered.NumberedTerm.{NumberedTerm}
 use Rattle.djq_query.specs.declared.numbered.NumberedTerm.TheVariants.{
@@ -7,6 +7,8 @@ use Rattle.djq_query.specs.declared.numbered.NumberedTerm.TheVariants.{
   Constant as Fixed,
 }
 use Rattle.djq_query.specs.declared.numbered.NumberedAtom.{NumberedAtom}
+use Rattle.djq_query.specs.declared.numbered.NumberedComparison.{NumberedComparison}
+use Rattle.djq_query.specs.Pattern.{passes}
 use Rattle.djq_rows.specs.Cells.{cell_of, cells_of}
 use Rattle.djq_rows.specs.Catalog.{Catalog, rows_at}
 
@@ -28,3 +30,8 @@ cell_under texts a (Fixed v) = cell_of texts v
 -- An assignment satisfies an atom where the cells of its terms are those of a row of its relation.
 abbrev pub IsSatisfied : Catalog → Assignment → NumberedAtom → Type 0
 IsSatisfied c a m = AreRowOf c m.relation (map (cell_under c.texts a) m.terms)
+
+-- An assignment passes a comparison where the cell of its variable stands to that of its constant
+-- as the operator says.
+abbrev pub IsPassed : List Bytes → Assignment → NumberedComparison → Type 0
+IsPassed texts a k = passes k.operator (a k.variable) (cell_of texts k.constant) ≡ true

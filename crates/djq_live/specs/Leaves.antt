@@ -14,12 +14,13 @@ use Rattle.djq_query.specs.declared.numbered.NumberedTerm.TheVariants.{
   Constant as Fixed,
 }
 use Rattle.djq_query.specs.declared.numbered.NumberedAtom.{NumberedAtom}
+use Rattle.djq_query.specs.declared.numbered.NumberedComparison.{NumberedComparison}
 use Rattle.djq_query.specs.Numbered.{Numbered, is_number}
-use Rattle.djq_query.specs.Pattern.{Shape, Gives, bound}
-use Rattle.djq_rows.specs.Cells.{cell_of}
+use Rattle.djq_query.specs.Pattern.{Shape, Gives, bound, tests_of}
+use Rattle.djq_rows.specs.Cells.{cell_of, cells_of}
 use Rattle.djq_rows.specs.Catalog.{Catalog}
 use Rattle.djq_live.specs.Cells.{AreRowOf}
-use Rattle.djq_live.specs.Asked.{IsAsked}
+use Rattle.djq_live.specs.Asked.{IsAsked, constants_in}
 
 -- There is a cell for each term, and where the term is a constant it is the constant's.
 abbrev pub IsCellOf : List Bytes → NumberedTerm → ℕ → Type 0
@@ -32,14 +33,15 @@ AreCellsOf texts (t ∷ ts) (c ∷ cs) = IsCellOf texts t c × AreCellsOf texts 
 AreCellsOf texts [] (c ∷ cs) = ⊥
 AreCellsOf texts (t ∷ ts) [] = ⊥
 
--- the pattern of an atom, whose variables the label has
-pub record IsPatternOf (texts : List Bytes) (label : List ℕ) (m : NumberedAtom) (p : Shape) :
-    Type 0 where
+-- the pattern of an atom, whose variables the label has: its tests are the comparisons of these
+pub record IsPatternOf (texts : List Bytes) (label : List ℕ) (ks : List NumberedComparison)
+    (m : NumberedAtom) (p : Shape) : Type 0 where
   pub variables : (x : ℕ) → member x label ≡ list_any (is_number x) m.terms
   pub width : p.width ≡ length label
   pub cells : List ℕ
   pub are : AreCellsOf texts m.terms cells
   pub slots : p.slots ≡ bound label m.terms cells
+  pub tests : p.tests ≡ tests_of label ks (cells_of texts (constants_in ks))
 
 -- a tuple put into the atom gives one of such rows
 pub record GivesOne (IsRow : List ℕ → Type 0) (p : Shape) (u : List ℕ) : Type 0 where
@@ -47,14 +49,15 @@ pub record GivesOne (IsRow : List ℕ → Type 0) (p : Shape) (u : List ℕ) : T
   pub row : IsRow cells
   pub gives : Gives p u cells
 
--- a leaf's entries hold exactly the tuples that put into the atom give a row of its relation
+-- A leaf's entries hold exactly the tuples that put into the atom give a row of its relation, and
+-- that pass the atom's tests.
 pub record Holds (c : Catalog) (at : ℕ) (p : Shape) (es : List Entry) : Type 0 where
   pub exact : (u : List ℕ) → (0 < cnt es u) ↔ GivesOne (AreRowOf c at) p u
 
 -- the leaf of an atom
-pub record IsLeafOf (c : Catalog) (label : List ℕ) (m : NumberedAtom) (p : Shape)
-    (es : List Entry) : Type 0 where
-  pub pattern : IsPatternOf c.texts label m p
+pub record IsLeafOf (c : Catalog) (label : List ℕ) (ks : List NumberedComparison)
+    (m : NumberedAtom) (p : Shape) (es : List Entry) : Type 0 where
+  pub pattern : IsPatternOf c.texts label ks m p
   pub holds : Holds c m.relation p es
 
 -- The reducts are those of the query: their tree has the query's head, and a leaf for each atom.
@@ -67,4 +70,4 @@ pub record IsOver (c : Catalog) (q : Query) (n : Numbered) (ps : List Shape) (r 
   pub patterns : length ps ≡ length n.atoms
   pub leaves : (j : ℕ) (m : NumberedAtom) (p : Shape) → slice_get n.atoms j ≡ Some m
       → slice_get ps j ≡ Some p
-      → IsLeafOf c (label_at r.tree.labels j) m p (entries_at r.tables j)
+      → IsLeafOf c (label_at r.tree.labels j) n.comparisons m p (entries_at r.tables j)

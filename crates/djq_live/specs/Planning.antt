@@ -34,11 +34,6 @@ pub record IsPlanned (relations : List Relation) (q : Query) (p : Planned) : Typ
   pub connex : IsFreeConnex (edges_of q) (head_of q)
   pub named : IsTreeOf (edges_of q) (head_of q) p.tree
 
--- the constants of a query by number have cells
-abbrev pub HasConstants : List Bytes → Numbered → Type 0
-HasConstants texts n = (j : ℕ) (m : NumberedAtom) → slice_get n.atoms j ≡ Some m
-    → HaveConstants texts m.terms
-
 -- Why a query isn't planned. The first two exclude each other and a free-connex query.
 abbrev pub IsUnplanned : Query → Unplanned → Type 0
 IsUnplanned q (Cyclic rest) =

@@ -4,16 +4,28 @@ ghost use Rattle.std.specs.List.{list_any};
 ghost use Rattle.djq_hyper.specs.Hypergraph.{member};
 ghost use Rattle.djq_tree.specs.Labels.{label_at};
 ghost use Rattle.djq_query.specs.Numbered.{is_number};
-ghost use Rattle.djq_live.specs.Asked.{HasConstant, HaveConstants};
+ghost use Rattle.djq_rows.specs.Cells.{cell_of, cells_of, HasCell, HaveCells};
+ghost use Rattle.djq_live.specs.Asked.{HasConstant, HaveConstants, constants_in};
 ghost use Rattle.djq_live.specs.Building.{ArePatternsOf, AreBindable};
 ghost use Rattle.djq_live.specs.Leaves.{AreCellsOf, IsCellOf, IsPatternOf};
 
 use djq_hyper::VarSet;
-use djq_model::NoMem;
-use djq_query::{NumberedAtom, NumberedTerm, Pattern};
+use djq_model::{NoMem, Value};
+use djq_query::{NumberedAtom, NumberedComparison, NumberedTerm, Pattern};
 use djq_rows::Catalog;
 use djq_tree::Tree;
 use std::alloc::Global;
+
+// The cell of a value that has one.
+fn value_cell(catalog: &Catalog, value: &Value) -> u64
+    requires { HasCell catalog.now.texts value.now }
+    ensures { result ≡ cell_of catalog.now.texts value.now }
+{
+    match catalog.cell(value) {
+        Some(cell) => cell,
+        None => unreachable!(),
+    }
+}
 
 // The cell of a constant, which has one; of a variable any.
 fn constant_cell(catalog: &Catalog, term: &NumberedTerm) -> u64
@@ -22,10 +34,7 @@ fn constant_cell(catalog: &Catalog, term: &NumberedTerm) -> u64
 {
     match term {
         NumberedTerm::Variable(_) => 0,
-        NumberedTerm::Constant(value) => match catalog.cell(value) {
-            Some(cell) => cell,
-            None => unreachable!(),
-        },
+        NumberedTerm::Constant(value) => value_cell(catalog, value),
     }
 }
 
@@ -45,37 +54,62 @@ fn constant_cells(
     Ok(cells)
 }
 
-// The pattern of an atom whose constants have cells, over the set of its variables.
+// The cells of the constants of comparisons.
+fn compared_cells(
+    alloc: Global,
+    catalog: &Catalog,
+    comparisons: &[NumberedComparison],
+) -> Result<Vec<u64>, NoMem>
+    requires { HaveCells catalog.now.texts (constants_in comparisons.now) }
+    ensures { IfOk result (λ cells. cells.items ≡ cells_of catalog.now.texts
+        (constants_in comparisons.now)) }
+{
+    let mut cells = Vec::new(alloc);
+    'comparisons: for i in 0..comparisons.len() {
+        cells.push(value_cell(catalog, &comparisons[i].constant))?;
+    }
+    Ok(cells)
+}
+
+// The pattern of an atom whose constants have cells, over the set of its variables, with the
+// comparisons of these.
 fn bind_atom(
     alloc: Global,
     catalog: &Catalog,
     atom: &NumberedAtom,
     label: VarSet,
+    comparisons: &[NumberedComparison],
+    compared: &[u64],
 ) -> Result<Pattern, NoMem>
     requires constants { HaveConstants catalog.now.texts atom.now.terms }
     requires label { (x : ℕ) → member x label ≡ list_any (is_number x) atom.now.terms }
     requires narrow { length label ≤ 16 }
-    ensures { IfOk result (IsPatternOf catalog.now.texts label atom.now) }
+    requires compared { compared.now ≡ cells_of catalog.now.texts (constants_in comparisons.now) }
+    ensures { IfOk result (IsPatternOf catalog.now.texts label comparisons.now atom.now) }
 {
     let cells = constant_cells(alloc, catalog, atom.terms.as_slice())?;
-    atom.bind(alloc, label, &cells)
+    atom.bind(alloc, label, &cells, comparisons, compared)
 }
 
-/// The patterns of atoms whose constants have cells, over the leaves' labels.
+/// The patterns of atoms over the leaves' labels, each with the comparisons of its variables. The
+/// constants of atoms and comparisons have cells.
 pub(crate) fn bind_atoms(
     alloc: Global,
     catalog: &Catalog,
     atoms: &[NumberedAtom],
+    comparisons: &[NumberedComparison],
     tree: &Tree,
 ) -> Result<Vec<Pattern>, NoMem>
-    requires { AreBindable catalog.now.texts tree.now atoms.now }
+    requires { AreBindable catalog.now.texts tree.now comparisons.now atoms.now }
     ensures long { IfOk result (λ ps. length ps.items ≡ length atoms.now) }
-    ensures patterns { IfOk result (λ ps. ArePatternsOf catalog.now.texts tree.now.labels atoms.now
-        ps.items) }
+    ensures patterns { IfOk result (λ ps. ArePatternsOf catalog.now.texts tree.now.labels
+        comparisons.now atoms.now ps.items) }
 {
+    let compared = compared_cells(alloc, catalog, comparisons)?;
     let mut patterns = Vec::new(alloc);
     'atoms: for j in 0..atoms.len() {
-        patterns.push(bind_atom(alloc, catalog, &atoms[j], tree.label(j))?)?;
+        let label = tree.label(j);
+        patterns.push(bind_atom(alloc, catalog, &atoms[j], label, comparisons, &compared)?)?;
     }
     Ok(patterns)
 }

@@ -28,7 +28,7 @@ pub fn answers_are_listed()
 {}
 
 /// A query without a fault is asked by its numbers, once its constants have cells: terms suit their
-/// columns, and each variable has one type.
+/// columns, each variable has one type, and comparisons suit it.
 pub fn numbered_is_asked()
     ensures { NumberedIsAsked }
 {}

@@ -19,8 +19,9 @@
 //! whoever reads one next calls [`LiveQuery::outdate`] before.
 //!
 //! What surprises: no contract needs a word on how a leaf's tuples came. A leaf holds exactly the
-//! tuples that put into the atom give a row of the relation, so constants and repeated variables
-//! need no case, and neither do relations that are read twice.
+//! tuples that put into the atom give a row of the relation and pass the comparisons of the atom's
+//! variables, so constants, comparisons and repeated variables need no case, and neither do
+//! relations that are read twice.
 //!
 //! Inside, it is the algorithm of Idris, Ugarte and Vansummeren (*The dynamic Yannakakis
 //! algorithm*, SIGMOD 2017) between a catalog and a list of answers: the planner's tree, its

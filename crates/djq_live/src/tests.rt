@@ -6,7 +6,10 @@ ghost use Rattle.djq_live.specs.Live.{IsLive};
 use super::*;
 use djq_index::CELLS;
 use djq_lines::AddOutcome;
-use djq_model::{Atom, ColumnType, Lent, Name, NoMem, Query, Row, Sequence, Term, Types, Value};
+use djq_model::{
+    Atom, ColumnType, Comparison, Lent, Name, NoMem, Operator, Query, Row, Sequence, Term, Text,
+    Types, Value,
+};
 use djq_reduct::Answer;
 use djq_rows::{Catalog, RelationId};
 use djq_steps::{Blanks, Ledgers, Listing, Steps, Tally};
@@ -15,6 +18,7 @@ use std::alloc::Global;
 use std::marker::Brand;
 use std::test::Fail;
 
+mod comparisons;
 mod updates;
 
 /// A term of one letter: a hole, a digit or a variable.
@@ -56,7 +60,26 @@ fn read(alloc: Global, letters: &[u8], bodies: &[&[u8]]) -> Result<Query, NoMem>
         name: Name::new(b"q"),
         head,
         atoms,
+        comparisons: Sequence::new(alloc),
     })
+}
+
+/// The query with a comparison more, behind its atoms.
+fn compared(
+    query: Query,
+    variable: u8,
+    operator: Operator,
+    constant: Value,
+) -> Result<Query, NoMem> {
+    let mut query = query;
+    let behind = query.atoms.len();
+    query.comparisons.push(Comparison {
+        variable: Name::new(&[variable]),
+        operator,
+        constant,
+        behind,
+    })?;
+    Ok(query)
 }
 
 /// Makes a relation of a letter with so many columns of integers, at most three.

@@ -11,7 +11,7 @@ use Rattle.djq_model.specs.Listed.{Listed, AnswersOf, listed_of}
 use Rattle.djq_lines.specs.declared.answer.EndCause.{EndCause}
 use Rattle.djq_lines.specs.declared.answer.EndCause.TheVariants.{Memory}
 use Rattle.djq_lines.specs.declared.answer.Refusal.{Refusal}
-use Rattle.djq_lines.specs.declared.answer.Refusal.TheVariants.{Syntax, Taken, NoRelation, NoQuery, NoCursor, Arity, WrongType, HeadUnbound, HeadRepeated, VariableType, Limit, NoMemory, InUse}
+use Rattle.djq_lines.specs.declared.answer.Refusal.TheVariants.{Syntax, Taken, NoRelation, NoQuery, NoCursor, Arity, WrongType, HeadUnbound, HeadRepeated, VariableType, Unbound, Limit, NoMemory, InUse}
 use Rattle.djq_lines.specs.declared.command.Command.TheVariants.{Open, Next}
 use Rattle.djq_lines.specs.Line.{Front, dry, too_long, a_line, front_of, is_blank}
 use Rattle.djq_lines.specs.Grammar.{Reading, says as says_command, reading_of, reading_in, command_of, command_in}
@@ -300,6 +300,7 @@ first_letter WrongType = refl
 first_letter HeadUnbound = refl
 first_letter HeadRepeated = refl
 first_letter VariableType = refl
+first_letter Unbound = refl
 first_letter Limit = refl
 first_letter NoMemory = refl
 first_letter InUse = refl

@@ -10,7 +10,7 @@ use Rattle.djq_value.specs.Token.{tokens}
 use Rattle.djq_lines.specs.Line.{before_lf, behind_lf, without_cr}
 use Rattle.djq_lines.specs.declared.command.Command.{Command}
 use Rattle.djq_lines.specs.declared.command.Command.TheVariants.{Rel, Add, Del, Query as Register, Drop, Open, Next, Close, Has, Watch, Unwatch, Explain, Shape, Quit, Stop}
-use Rattle.djq_lines.specs.Grammar.{past_limit, says as says_command, reading_in, command_of, command_in, is_in_range, atoms_in}
+use Rattle.djq_lines.specs.Grammar.{past_limit, says as says_command, reading_in, command_of, command_in, is_in_range, items_in}
 use Rattle.djq_machine.specs.State.{State}
 use Rattle.djq_machine.specs.LineStep.{LineOutcome, long, blank, slow, no_room, run}
 use Rattle.djq_machine.specs.Step.{Event, opened, fed, stepped, took, ended, closed}
@@ -141,7 +141,7 @@ unfolding asked_by tokens
 s_fine = says_none (codes "rel s int int") refl
 
 join_asked : asked_by (command_in (tokens (codes "query q(x,y,z) <- r(x,y), s(y,z)"))) ≡ Some join
-unfolding asked_by tokens atoms_in
+unfolding asked_by tokens items_in
 join_asked = refl
 
 query_fine : IsHarmless (codes "query q(x,y,z) <- r(x,y), s(y,z)\n")

@@ -172,7 +172,7 @@ query_joins old q (Err r) new is h j =
     (refused_learned (query_refusal old q) r (RegistersAs old q new) (RefusedLate old q new) old new h.answer h.stays (λ late. by late)) j
   where
     by : RefusedLate old q new r → LearnsTexts old new
-    by (inl k) = late_learned old (texts_in (constants_of q.atoms)) new r k.1
+    by (inl k) = late_learned old (texts_in (constants_of q)) new r k.1
     by (inr k) = stays_learned old new k.1
 
 drop_joins : (old : Store) (used : Bool) (name : Bytes) (r : Result ⊤ Refusal) (new : Store) → DropsQuery old used name r new → Joins old → Joins new

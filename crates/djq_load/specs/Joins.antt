@@ -16,6 +16,7 @@ join = record {
   atoms = record { relation = codes "r"; terms = Variable (codes "x") ∷ Variable (codes "y") ∷ [] }
       ∷ record { relation = codes "s"; terms = Variable (codes "y") ∷ Variable (codes "z") ∷ [] }
       ∷ [];
+  comparisons = [];
 }
 
 -- the most answers that it may have: one for each row of the one relation and each of the other

@@ -1,10 +1,11 @@
 -- What the calls of a machine promise.
-use Rattle.std.specs.Prelude.{ℕ, [], ◌≡◌, ◌+◌, ◌<◌, ◌≤◌, ◌⊎◌, ◌&&◌, ◌||◌, Bool, true, nat_le, nat_lt, Option, None, Some, IsSome, MatchOption, is_some, find, Result, Ok, Err, length, ⊤}
+use Rattle.std.specs.Prelude.{ℕ, List, [], ◌∷◌, ◌≡◌, ◌+◌, ◌<◌, ◌≤◌, ◌⊎◌, ◌&&◌, ◌||◌, Bool, true, false, nat_le, nat_lt, Option, None, Some, IsSome, MatchOption, is_some, find, Result, Ok, Err, length, ⊤}
 use Rattle.std.proofs.Common.{inl, inr}
 use Rattle.djq_model.specs.Data.{Bytes}
 use Rattle.djq_lines.specs.declared.limits.TheConstants.{SESSIONS}
 use Rattle.djq_lines.specs.declared.answer.EndCause.{EndCause}
 use Rattle.djq_lines.specs.declared.answer.EndCause.TheVariants.{Long, Slow, Memory}
+use Rattle.djq_lines.specs.Line.{a_line, front_of}
 use Rattle.djq_machine.specs.declared.machine.Stepped.{Stepped}
 use Rattle.djq_machine.specs.declared.machine.Stepped.TheVariants.{Ran, Dry, Ended}
 use Rattle.djq_machine.specs.declared.machine.Fed.{Fed}
@@ -103,3 +104,10 @@ StepGives old s Dry new before now = (new ≡ old) × (now ≡ before) × (cause
 StepGives old s (Ended c) new before now = MatchOption (cause_of old s)
     (EndedStepAs c old s new before now)
     (λ d. (d ≡ c) × (new ≡ old) × (now ≡ before))
+
+-- The lines that a step keeps, by what it answers: the one that stood in front of the session's bytes, or none.
+abbrev pub StepKeeps : State → ℕ → Stepped → List Bytes → Type 0
+StepKeeps old s (Ran true) kept = (l : Bytes) × (rest : Bytes) × (front_of (held_of old s) ≡ a_line l rest) × (kept ≡ l ∷ [])
+StepKeeps old s (Ran false) kept = kept ≡ []
+StepKeeps old s Dry kept = kept ≡ []
+StepKeeps old s (Ended c) kept = kept ≡ []

@@ -8,9 +8,10 @@ pub mod Effect
 pub mod Command
 pub mod LineStep
 pub mod Step
+pub mod Walk
+pub mod Loading
 pub mod Run
 pub mod Gives
 pub mod Call
-pub mod Walk
 pub mod Delta
 pub mod Watch

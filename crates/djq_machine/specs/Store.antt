@@ -248,7 +248,7 @@ RegistersAs old q new (Registered most) =
     × (most ≡ most_steps (length q.head))
     × (length new.texts ≤ TEXTS)
     × (new ≡ record old {
-      texts = all_learned old.texts (texts_in (constants_of q.atoms));
+      texts = all_learned old.texts (texts_in (constants_of q));
       queries = old.queries ++ a_query q ∷ [];
     })
 RegistersAs old q new (Cyclic rest) =
@@ -262,7 +262,7 @@ RegistersAs old q new (NotConnex rest) =
 abbrev pub RefusedLate : Store → Query → Store → Refusal → Type 0
 RefusedLate old q new r =
     (IsFreeConnex (edges_of q) (head_of q)
-    × RefusedByTexts old (texts_in (constants_of q.atoms)) new r)
+    × RefusedByTexts old (texts_in (constants_of q)) new r)
     ⊎ ((r ≡ NoMemory) × (new ≡ old))
 
 pub record RegistersQuery (old : Store) (q : Query) (result : Result QueryOutcome Refusal)

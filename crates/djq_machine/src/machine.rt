@@ -26,6 +26,17 @@ pub enum Fed {
     Ended(EndCause),
 }
 
+/// What became of a line that is loaded while no session is open.
+#[derive(Clone, Copy, Debug, PartialEq, Eq)]
+pub enum Loaded {
+    /// It is done: it is a line that is kept.
+    Ran,
+    /// It isn't a line that is kept, as it is outside the grammar, of another kind, or refused.
+    Refused,
+    /// Memory is wanting.
+    NoMem,
+}
+
 /// Why a session isn't opened.
 #[derive(Clone, Copy, Debug, Drop, PartialEq, Eq, Error)]
 pub enum OpenRefusal {
@@ -42,14 +53,19 @@ pub enum OpenRefusal {
 /// A session is open from [`open_session`](Machine::open_session) until
 /// [`close_session`](Machine::close_session).
 pub trait Machine {
-    ghost use Rattle.std.specs.Prelude.{◌≡◌, ◌<◌, ◌≤◌, ◌⊎◌, true, IsSome, All, length, take};
+    ghost use Rattle.std.specs.Prelude.{◌≡◌, ◌<◌, ◌≤◌, ◌⊎◌, true, List, IsSome, All, length, take, slice_get};
+    ghost use Rattle.std.specs.Option.{option_copied};
+    ghost use Rattle.djq_model.specs.Data.{Bytes};
     ghost use Rattle.djq_machine.specs.State.{State};
     ghost use Rattle.djq_machine.specs.Step.{fed, took, ended, closed, is_dry};
     ghost use Rattle.djq_machine.specs.Run.{pending_of};
-    ghost use Rattle.djq_machine.specs.Call.{IsOpen, Makes, OpenGives, FedGives, StepGives, cause_of, held_of, ids_of, first_due, counts};
+    ghost use Rattle.djq_machine.specs.Call.{IsOpen, Makes, OpenGives, FedGives, StepGives, StepKeeps, cause_of, held_of, ids_of, first_due, counts};
 
     // The state of the join machine that it keeps.
     ghost state: { Self → State };
+
+    // The lines that its last step kept.
+    ghost kept: { Self → List Bytes };
 
     /// Opens a session with an id above those of the open ones.
     ///
@@ -70,8 +86,13 @@ pub trait Machine {
     /// Runs the next line of an open session.
     fn step<L: Ledgers>(&mut self, id: u64, steps: &mut Steps<L>) -> Stepped
         requires { IsOpen (state self.old) id }
-        ensures { StepGives (state self.old) id result (state self.new)
-            (counts steps.old.listing steps.old.update steps.old.rows) (counts steps.new.listing steps.new.update steps.new.rows) };
+        ensures gives { StepGives (state self.old) id result (state self.new)
+            (counts steps.old.listing steps.old.update steps.old.rows) (counts steps.new.listing steps.new.update steps.new.rows) }
+        ensures keeps { StepKeeps (state self.old) id result (kept self.new) };
+
+    /// The line with this number, counted from 0, of those that the last step kept.
+    fn accepted(&self, i: usize) -> Option<&[u8]>
+        ensures { option_copied result ≡ slice_get (kept self.now) i };
 
     /// The bytes that are queued to an open session and aren't taken.
     fn pending(&self, id: u64) -> &[u8]

@@ -1,12 +1,24 @@
 -- What an answer of a conjunctive query is, and a listing of its answers.
-use Rattle.std.specs.Prelude.{List, [], ◌∷◌, ◌≡◌, All, AllPairs, Contains, map}
+use Rattle.std.specs.Prelude.{List, [], ◌∷◌, ◌≡◌, Bool, true, false, not, All, AllPairs, Contains, map}
+use Rattle.std.specs.Int.Signed.{lt_z}
 use Rattle.djq_model.specs.declared.value.Value.{Value}
+use Rattle.djq_model.specs.declared.value.Value.TheVariants.{Int}
 use Rattle.djq_model.specs.declared.relation.Relation.{Relation}
 use Rattle.djq_model.specs.declared.query.Query.{Query}
 use Rattle.djq_model.specs.declared.query.Atom.{Atom}
 use Rattle.djq_model.specs.declared.query.Term.{Term}
 use Rattle.djq_model.specs.declared.query.Term.TheVariants.{Variable, Hole, Constant}
-use Rattle.djq_model.specs.Data.{Bytes, Tuple, rows_of}
+use Rattle.djq_model.specs.declared.query.Operator.{Operator}
+use Rattle.djq_model.specs.declared.query.Operator.TheVariants.{
+  Less,
+  LessOrEqual,
+  Greater,
+  GreaterOrEqual,
+  Equal,
+  NotEqual,
+}
+use Rattle.djq_model.specs.declared.query.Comparison.{Comparison}
+use Rattle.djq_model.specs.Data.{Bytes, Tuple, value_eq, rows_of}
 
 -- An assignment gives a value to each variable.
 abbrev pub Assignment : Type 0
@@ -31,10 +43,27 @@ pub record Satisfies (relations : List Relation) (a : Assignment) (atom : Atom) 
   pub is_there : Contains (rows_of relations atom.relation) row
   pub stands : StandForAll a atom.terms row
 
--- An answer is what an assignment that satisfies every atom gives on the head.
+-- Whether a value stands to a constant as the operator says. Integers are compared as numbers; of
+-- texts it is only asked whether they are equal.
+abbrev pub compares : Operator → Value → Value → Bool
+compares Equal v c = value_eq v c
+compares NotEqual v c = not (value_eq v c)
+compares Less (Int i) (Int j) = lt_z i j
+compares LessOrEqual (Int i) (Int j) = not (lt_z j i)
+compares Greater (Int i) (Int j) = lt_z j i
+compares GreaterOrEqual (Int i) (Int j) = not (lt_z i j)
+compares _ _ _ = false
+
+-- A comparison holds of an assignment.
+abbrev pub HoldsOf : Assignment → Comparison → Type 0
+HoldsOf a c = compares c.operator (a c.variable) c.constant ≡ true
+
+-- An answer is what an assignment gives on the head that satisfies every atom and of which every
+-- comparison holds.
 pub record IsAnswer (relations : List Relation) (q : Query) (answer : Tuple) : Type 0 where
   pub assignment : Assignment
   pub satisfies : All (Satisfies relations assignment) q.atoms
+  pub compared : All (HoldsOf assignment) q.comparisons
   pub on_head : answer ≡ map assignment q.head
 
 -- No two of a list are equal.

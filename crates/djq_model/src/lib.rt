@@ -30,7 +30,7 @@ pub use answered::Answered;
 pub use lent::Lent;
 pub use memory::NoMem;
 pub use name::{NAME_BYTES, Name};
-pub use query::{Atom, Atoms, Names, Query, Term, Terms};
+pub use query::{Atom, Atoms, Comparison, Comparisons, Names, Operator, Query, Term, Terms};
 pub use relation::{ColumnType, CountedRow, Relation, Types};
 pub use sequence::Sequence;
 pub use value::{Row, Rows, TEXT_BYTES, Text, Value};

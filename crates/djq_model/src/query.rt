@@ -31,7 +31,40 @@ pub type Atoms = Sequence<Atom>;
 /// A list of names, as a query's head.
 pub type Names = Sequence<Name>;
 
-/// A conjunctive query: `name(head) <- atoms`.
+/// How a comparison's variable has to stand to its constant.
+#[derive(Clone, Copy, Debug, PartialEq, Eq)]
+pub enum Operator {
+    /// `<`
+    Less,
+    /// `<=`
+    LessOrEqual,
+    /// `>`
+    Greater,
+    /// `>=`
+    GreaterOrEqual,
+    /// `=`
+    Equal,
+    /// `!=`
+    NotEqual,
+}
+
+/// A comparison of a variable with a constant.
+#[derive(Debug, Drop)]
+pub struct Comparison {
+    /// The variable, by its name.
+    pub variable: Name,
+    /// How it has to stand to the constant.
+    pub operator: Operator,
+    /// The constant.
+    pub constant: Value,
+    /// How many atoms stand before it in the body.
+    pub behind: usize,
+}
+
+/// The comparisons of a query's body, in the order in which they are written.
+pub type Comparisons = Sequence<Comparison>;
+
+/// A conjunctive query: `name(head) <- atoms and comparisons`.
 #[derive(Debug, Drop)]
 pub struct Query {
     /// Its name.
@@ -40,4 +73,6 @@ pub struct Query {
     pub head: Names,
     /// The atoms that an assignment has to satisfy.
     pub atoms: Atoms,
+    /// The comparisons that have to hold of it.
+    pub comparisons: Comparisons,
 }

@@ -10,7 +10,7 @@
 //!
 //! What surprises: nothing that a client does is a fault of the hub, only of its session. A read
 //! that fails is told as the end of the input, and a send that fails as a session that is gone. A
-//! connection that breaks before it is accepted isn't told at all. One that begins with a request
+//! connection that can't be accepted isn't told, only counted. One that begins with a request
 //! of HTTP is told as one whose input ended: a web page can send such a request to any port of its
 //! reader's machine.
 //!

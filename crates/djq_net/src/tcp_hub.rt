@@ -1,8 +1,9 @@
-ghost use Rattle.std.specs.Prelude.{◌≡◌, ◌<◌, true, false, IfOk, IfSome, Contains, length};
+ghost use Rattle.std.specs.Prelude.{◌≡◌, ◌<◌, ◌≤◌, true, false, IfOk, IfSome, Contains, length};
 ghost use Rattle.djq_io.specs.Faults.{Counted};
 ghost use Rattle.djq_io.specs.Hub.{no_ids, Turns};
 ghost use Rattle.djq_io.specs.HubFaults.{CountsListen, SameCounts, CountsInTurn};
 ghost use Rattle.djq_io.specs.Sessions.{faults_of};
+ghost use Rattle.djq_net.specs.Tcp.{TurnsAway};
 
 use crate::conn::{self, Conn, Found};
 use crate::listening::{LISTENER, Listening};
@@ -23,7 +24,7 @@ const LONGEST_WAIT: u64 = 250;
 /// A hub over TCP. It tells no bytes, and shows the ids of its sessions and its counts of faults.
 ///
 /// Each call is a few lines over the system's. On standard error it says where it listens, or why it can't, and
-/// once that connections can't be accepted. A turn waits at most a quarter of a second, and then
+/// once that connections can't be accepted, which it counts. A turn waits at most a quarter of a second, and then
 /// nothing came. After the id 18446744073709551615 no connection is accepted any more.
 #[derive(Drop)]
 pub struct TcpHub<R: Net<Listener = net::TcpListener, Stream = net::TcpStream> + Eprint + Drop> {
@@ -39,7 +40,9 @@ pub struct TcpHub<R: Net<Listener = net::TcpListener, Stream = net::TcpStream> +
     /// Whether the last turn had something without asking the system, which may have more to tell.
     busy: bool,
     /// Whether it was said that no connection can be accepted, and none has been since.
-    turned_away: bool,
+    said: bool,
+    /// How many connections couldn't be accepted.
+    turned_away: u64,
     faults: u64,
 }
 
@@ -54,6 +57,7 @@ impl<R: Net<Listener = net::TcpListener, Stream = net::TcpStream> + Eprint + Dro
       listens = is_some h.listening;
       ids = h.sessions.ids;
       faults = h.faults;
+      turned_away = h.turned_away;
       counts = h.sessions.counts;
     } };
 }
@@ -64,6 +68,7 @@ impl<R: Net<Listener = net::TcpListener, Stream = net::TcpStream> + Eprint + Dro
         ensures listens { IfOk result (λ hub. hub.listens ≡ false) }
         ensures ids { IfOk result (λ hub. hub.ids ≡ no_ids) }
         ensures faults { IfOk result (λ hub. hub.faults ≡ 0) }
+        ensures turned_away { IfOk result (λ hub. hub.turned_away ≡ 0) }
     {
         let mut sessions = Sessions::new(alloc);
         sessions.reserve(PLACES)?;
@@ -76,7 +81,8 @@ impl<R: Net<Listener = net::TcpListener, Stream = net::TcpStream> + Eprint + Dro
             at: 0,
             knocks: false,
             busy: false,
-            turned_away: false,
+            said: false,
+            turned_away: 0,
             faults: 0,
         })
     }
@@ -92,14 +98,22 @@ impl<R: Net<Listener = net::TcpListener, Stream = net::TcpStream> + Eprint + Dro
         }
     }
 
+    /// How many connections couldn't be accepted so far.
+    pub fn turned_away(&self) -> u64
+        ensures { result ≡ self.now.turned_away }
+    {
+        self.turned_away
+    }
+
     /// Opens a session where a connection has come and there is a place for it. One that can't be
     /// accepted is left to the system: it may be gone, or the system may be out of descriptors. That
-    /// counts no fault, since a fault of the hub would end the serving of all others.
+    /// has a count of its own, since a fault of the hub would end the serving of all others.
     fn accept(&mut self) -> Turn
         ensures ids { Turns result 0 self.old.ids self.new.ids }
         ensures faults { self.new.faults ≡ self.old.faults }
         ensures counts { CountsInTurn result self.old.ids.open_ids (faults_of self.old.counts) (faults_of self.new.counts) }
-        ensures idle { result ≡ Turn.Idle → self.new ≡ self.old }
+        ensures idle { result ≡ Turn.Idle → self.new ≡ record self.old { turned_away = self.new.turned_away } }
+        ensures turned_away { TurnsAway result self.old.turned_away self.new.turned_away }
         ensures works { result ≡ Turn.Failed → ⊥ }
     {
         let Some(listening) = &self.listening else {
@@ -123,19 +137,30 @@ impl<R: Net<Listener = net::TcpListener, Stream = net::TcpStream> + Eprint + Dro
                     return Turn::Idle;
                 }
                 self.sessions.open(id);
-                self.turned_away = false;
+                self.said = false;
                 Turn::Opened(id)
             }
             Err(error) => {
-                if error.kind() == ErrorKind::WouldBlock {
-                    self.knocks = false;
-                } else if !self.turned_away {
-                    self.turned_away = true;
-                    let _ = eprintln!(self.rt; "djq: a connection can't be accepted: {error}");
+                match error.kind() {
+                    ErrorKind::WouldBlock => self.knocks = false,
+                    ErrorKind::Interrupted => {}
+                    _ => self.turn_away(error),
                 }
                 Turn::Idle
             }
         }
+    }
+
+    /// Counts a connection that can't be accepted, and says why for the first since one was.
+    fn turn_away(&mut self, error: io::Error)
+        ensures shown { self.new ≡ record self.old { turned_away = self.new.turned_away } }
+        ensures counted { Counted self.old.turned_away self.new.turned_away }
+    {
+        if !self.said {
+            self.said = true;
+            let _ = eprintln!(self.rt; "djq: a connection can't be accepted: {error}");
+        }
+        self.turned_away = self.turned_away.saturating_add(1);
     }
 
     /// Looks at the next place.
@@ -144,7 +169,8 @@ impl<R: Net<Listener = net::TcpListener, Stream = net::TcpStream> + Eprint + Dro
         ensures ids { Turns result (length buf.new) self.old.ids self.new.ids }
         ensures faults { self.new.faults ≡ self.old.faults }
         ensures counts { CountsInTurn result self.old.ids.open_ids (faults_of self.old.counts) (faults_of self.new.counts) }
-        ensures idle { result ≡ Turn.Idle → self.new ≡ self.old }
+        ensures idle { result ≡ Turn.Idle → self.new ≡ record self.old { turned_away = self.new.turned_away } }
+        ensures turned_away { TurnsAway result self.old.turned_away self.new.turned_away }
         ensures works { result ≡ Turn.Failed → ⊥ }
     {
         if self.at >= self.conns.len() {
@@ -178,7 +204,8 @@ impl<R: Net<Listener = net::TcpListener, Stream = net::TcpStream> + Eprint + Dro
         ensures ids { Turns result (length buf.new) self.old.ids self.new.ids }
         ensures faults { self.new.faults ≡ self.old.faults }
         ensures counts { CountsInTurn result self.old.ids.open_ids (faults_of self.old.counts) (faults_of self.new.counts) }
-        ensures idle { result ≡ Turn.Idle → self.new ≡ self.old }
+        ensures idle { result ≡ Turn.Idle → self.new ≡ record self.old { turned_away = self.new.turned_away } }
+        ensures turned_away { self.old.turned_away ≤ self.new.turned_away }
         ensures works { result ≡ Turn.Failed → ⊥ }
     {
         for _ in 0..=self.conns.len() {

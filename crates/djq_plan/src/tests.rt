@@ -89,15 +89,15 @@ fn grows_trees(rt: HostRuntime) -> Result<(), Fail> {
 }
 
 #[test]
-fn takes_sixteen_atoms(rt: HostRuntime) -> Result<(), Fail> {
+fn takes_many_atoms(rt: HostRuntime) -> Result<(), Fail> {
     let edge: &[usize] = &[0, 1];
-    let rows = [edge; 16];
-    let atoms = ["r"; 16];
+    let rows = [edge; 32];
+    let atoms = ["r"; 32];
     let (lines, tree) = explained(&rt, rt.alloc(), &rows, &[1], &atoms, &["x", "y"])?;
-    assert!(rt; tree.len() == 33);
-    assert!(rt; tree.second_stage() == 32);
+    assert!(rt; tree.len() == 65);
+    assert!(rt; tree.second_stage() == 64);
     assert!(rt;
-        lines.as_bytes().ends_with(b"n 30 meet 28 29 x,y\nn 31 trim 30 y out\nn 32 trim 31 - out\n")
+        lines.as_bytes().ends_with(b"n 62 meet 60 61 x,y\nn 63 trim 62 y out\nn 64 trim 63 - out\n")
     );
     Ok(())
 }

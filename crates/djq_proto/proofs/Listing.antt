@@ -1,7 +1,8 @@
 -- Lists of items, token by token.
-use Rattle.std.proofs.Common.{◌≡◌, List, [], ◌∷◌, ◌++◌, Bool, true, false, Option, Some, None, Result, Ok, Err, refl, sym, ap, ap₂, subst, ◌∙◌, append_assoc}
+use Rattle.std.proofs.Common.{◌≡◌, List, [], ◌∷◌, ◌++◌, ◌&&◌, Bool, true, false, Option, Some, None, Result, Ok, Err, refl, sym, ap, ap₂, subst, ◌∙◌, append_assoc}
 use Rattle.std.specs.List.{list_all}
 use Rattle.std.specs.Prelude.{IsErrAnd}
+use Rattle.std.proofs.lemmas.List.Folds.{list_all-append}
 use Rattle.djq_value.specs.Token.{Token, comma, close_paren}
 use Rattle.djq_lines.specs.Grammar.{all_of, in_front, more_in, put_first}
 use Rattle.djq_proto.specs.Reading.{ReadsAs, ReadsPart, is_outside}
@@ -96,9 +97,16 @@ pub err_is : {A E : Type 0} (r : Result A E) (e : E) → IsErrAnd r (λ x. x ≡
 err_is (Ok a) e h = absurd h
 err_is (Err x) e h = ap (λ y. Err y) h
 
--- The refusal of a list is that of what holds it.
-pub held_err : {A B : Type 0} (fits : A → Bool) (holds : B → Bool) (xs : List A) (b : B) (e : LineRefusal) → holds b ≡ list_all fits xs
-    → ReadsAs (list_all fits) (Some xs) (Err e) → ReadsAs holds (Some b) (Err e)
-held_err fits holds xs b Syntax same h = absurd h
-held_err fits holds xs b Range same h = same ∙ h
-held_err fits holds xs b NoMem same h = same ∙ h
+-- a test of a list and one item more
+pub all_last : {A : Type 0} (f : A → Bool) (xs : List A) (x : A) → list_all f (xs ++ x ∷ []) ≡ (list_all f xs && f x)
+all_last f xs x = list_all-append f xs (x ∷ []) ∙ ap (λ t. list_all f xs && t) (alone (f x))
+  where
+    alone : (b : Bool) → (b && true) ≡ b
+    alone true = refl
+    alone false = refl
+
+-- the refusal of what is in range where something else is
+pub same_err : {A B : Type 0} (fits : A → Bool) (holds : B → Bool) (a : A) (b : B) (e : LineRefusal) → holds b ≡ fits a → ReadsAs fits (Some a) (Err e) → ReadsAs holds (Some b) (Err e)
+same_err fits holds a b Syntax same h = absurd h
+same_err fits holds a b Range same h = same ∙ h
+same_err fits holds a b NoMem same h = same ∙ h

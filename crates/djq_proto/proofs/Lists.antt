@@ -10,7 +10,7 @@ use Rattle.djq_model.specs.declared.relation.ColumnType.{ColumnType}
 use Rattle.djq_model.specs.declared.relation.ColumnType.TheVariants.{Int as IntColumn, Text as TextColumn}
 use Rattle.djq_model.specs.declared.query.Term.{Term}
 use Rattle.djq_model.specs.declared.query.Term.TheVariants.{Variable, Hole, Constant}
-use Rattle.djq_value.specs.Token.{Token, word, text, open_paren, close_paren, comma, arrow, stray}
+use Rattle.djq_value.specs.Token.{Token, word, text, open_paren, close_paren, comma, arrow, operator, stray}
 use Rattle.djq_value.specs.Literal.{integer_of, is_name, literal_of}
 use Rattle.djq_lines.specs.Grammar.{all_of, in_front, list_in, more_in, name_of, put_first, term_of, type_of}
 use Rattle.djq_proto.specs.Saying.{IsName, SaysName, SaysTerm, SaysType, SaysValue, list_tokens, more_tokens}
@@ -30,6 +30,7 @@ name_said open_paren n e = absurd (cc)
 name_said close_paren n e = absurd (cc)
 name_said comma n e = absurd (cc)
 name_said arrow n e = absurd (cc)
+name_said (operator o) n e = absurd (cc)
 name_said stray n e = absurd (cc)
 
 pub name_from : (t : Token) (n : Bytes) → SaysName n t → name_of t ≡ Some n
@@ -47,6 +48,7 @@ type_said open_paren c e = absurd (cc)
 type_said close_paren c e = absurd (cc)
 type_said comma c e = absurd (cc)
 type_said arrow c e = absurd (cc)
+type_said (operator o) c e = absurd (cc)
 type_said stray c e = absurd (cc)
 
 pub type_from : (t : Token) (c : ColumnType) → SaysType c t → type_of t ≡ Some c
@@ -62,6 +64,7 @@ value_said open_paren v e = absurd (cc)
 value_said close_paren v e = absurd (cc)
 value_said comma v e = absurd (cc)
 value_said arrow v e = absurd (cc)
+value_said (operator o) v e = absurd (cc)
 value_said stray v e = absurd (cc)
 
 pub value_from : (t : Token) (v : Value) → SaysValue v t → literal_of t ≡ Some v
@@ -83,6 +86,7 @@ term_said open_paren x e = absurd (cc)
 term_said close_paren x e = absurd (cc)
 term_said comma x e = absurd (cc)
 term_said arrow x e = absurd (cc)
+term_said (operator o) x e = absurd (cc)
 term_said stray x e = absurd (cc)
 
 pub term_from : (t : Token) (x : Term) → SaysTerm x t → term_of t ≡ Some x
@@ -148,6 +152,7 @@ more_said of says item (word w ∷ ts) xs rest e = absurd (cc)
 more_said of says item (text t ∷ ts) xs rest e = absurd (cc)
 more_said of says item (open_paren ∷ ts) xs rest e = absurd (cc)
 more_said of says item (arrow ∷ ts) xs rest e = absurd (cc)
+more_said of says item (operator o ∷ ts) xs rest e = absurd (cc)
 more_said of says item (stray ∷ ts) xs rest e = absurd (cc)
 
 pub more_from : {A : Type 0} (of : Token → Option A) (says : A → Token → Type 0) → ((t : Token) (a : A) → says a t → of t ≡ Some a) → (xs : List A) (us rest : List Token) → AllZip says xs us
@@ -187,12 +192,14 @@ list_said of says item (open_paren ∷ text t ∷ ts) xs rest e = list_first of 
 list_said of says item (open_paren ∷ open_paren ∷ ts) xs rest e = list_first of says item open_paren ts xs rest e
 list_said of says item (open_paren ∷ comma ∷ ts) xs rest e = list_first of says item comma ts xs rest e
 list_said of says item (open_paren ∷ arrow ∷ ts) xs rest e = list_first of says item arrow ts xs rest e
+list_said of says item (open_paren ∷ operator o ∷ ts) xs rest e = list_first of says item (operator o) ts xs rest e
 list_said of says item (open_paren ∷ stray ∷ ts) xs rest e = list_first of says item stray ts xs rest e
 list_said of says item (close_paren ∷ ts) xs rest e = absurd (cc)
 list_said of says item (word w ∷ ts) xs rest e = absurd (cc)
 list_said of says item (text t ∷ ts) xs rest e = absurd (cc)
 list_said of says item (comma ∷ ts) xs rest e = absurd (cc)
 list_said of says item (arrow ∷ ts) xs rest e = absurd (cc)
+list_said of says item (operator o ∷ ts) xs rest e = absurd (cc)
 list_said of says item (stray ∷ ts) xs rest e = absurd (cc)
 
 pub list_from : {A : Type 0} (of : Token → Option A) (says : A → Token → Type 0) → ((t : Token) (a : A) → says a t → of t ≡ Some a) → of close_paren ≡ None → (xs : List A) (us rest : List Token) → AllZip says xs us
@@ -206,4 +213,5 @@ list_from of says item outside (x ∷ xs) (text t ∷ us) rest h = ap₂ put_fir
 list_from of says item outside (x ∷ xs) (open_paren ∷ us) rest h = ap₂ put_first (item open_paren x h.0) (more_from of says item xs us rest h.1)
 list_from of says item outside (x ∷ xs) (comma ∷ us) rest h = ap₂ put_first (item comma x h.0) (more_from of says item xs us rest h.1)
 list_from of says item outside (x ∷ xs) (arrow ∷ us) rest h = ap₂ put_first (item arrow x h.0) (more_from of says item xs us rest h.1)
+list_from of says item outside (x ∷ xs) (operator o ∷ us) rest h = ap₂ put_first (item (operator o) x h.0) (more_from of says item xs us rest h.1)
 list_from of says item outside (x ∷ xs) (stray ∷ us) rest h = ap₂ put_first (item stray x h.0) (more_from of says item xs us rest h.1)

@@ -5,17 +5,20 @@ use Rattle.std.proofs.lemmas.Bool.{cond-true, and_parts, and_from, leb-true, le-
 use Rattle.djq_model.specs.Data.{Bytes, Tuple, bytes_eq}
 use Rattle.djq_model.specs.Equality.{bytes_eq-decides}
 use Rattle.djq_model.specs.declared.relation.ColumnType.{ColumnType}
+use Rattle.djq_model.specs.declared.value.Value.{Value}
 use Rattle.djq_model.specs.declared.query.Atom.{Atom}
+use Rattle.djq_model.specs.declared.query.Operator.{Operator}
+use Rattle.djq_model.specs.declared.query.Comparison.{Comparison}
 use Rattle.djq_model.specs.declared.query.Query.{Query}
 use Rattle.djq_lines.specs.declared.command.Command.{Command}
 use Rattle.djq_lines.specs.declared.command.Command.TheVariants.{Rel, Add, Del, Query as Register, Drop, Open, Next, Close, Has, Watch, Unwatch, Explain, Shape, Quit, Stop}
 use Rattle.djq_lines.specs.declared.keyword.Keyword.{Keyword}
 use Rattle.djq_lines.specs.declared.keyword.Keyword.TheVariants.{Rel as RelWord, Add as AddWord, Del as DelWord, Query as QueryWord, Drop as DropWord, Open as OpenWord, Next as NextWord, Close as CloseWord, Has as HasWord, Watch as WatchWord, Unwatch as UnwatchWord, Explain as ExplainWord, Shape as ShapeWord, Quit as QuitWord, Stop as StopWord}
-use Rattle.djq_value.specs.Token.{Token, word, text, open_paren, close_paren, comma, arrow, stray}
+use Rattle.djq_value.specs.Token.{Token, word, text, open_paren, close_paren, comma, arrow, operator, stray}
 use Rattle.djq_value.specs.Literal.{is_name, literal_of, natural_of}
-use Rattle.djq_lines.specs.Grammar.{all_of, atom_in, atom_over, atoms_in, atoms_within, behind_atom, body_in, command_behind, command_in, command_with, count_of, in_front, is_count, keyword_of, list_in, name_and_count, name_of, named_any, named_some, nothing, one_name, query_in, query_of, term_of, two_names, type_of}
-use Rattle.djq_proto.specs.Saying.{IsName, Says, SaysAtom, SaysAtoms, SaysName, SaysOne, SaysQuery, SaysRow, SaysTerm, SaysType, SaysValue, list_tokens}
-use Rattle.djq_proto.proofs.Bodies.{atoms_in-step}
+use Rattle.djq_lines.specs.Grammar.{all_of, Body, Item, atom, comparison, atom_in, atom_over, behind_item, body_in, command_behind, command_in, command_with, compared, comparison_of, count_of, is_count, item_in, items_in, items_within, past_item, put_item, with_atoms, keyword_of, list_in, name_and_count, name_of, named_any, named_some, nothing, one_name, query_in, query_of, term_of, two_names, type_of}
+use Rattle.djq_proto.specs.Saying.{IsName, Says, SaysAtom, SaysBody, SaysItem, SaysItems, SaysName, SaysOne, SaysQuery, SaysRow, SaysTerm, SaysType, SaysValue, atoms_among, comparisons_among, list_tokens}
+use Rattle.djq_proto.proofs.Bodies.{items_in-step}
 use Rattle.djq_proto.proofs.Numerals.{guard_some, map_some, numeral_from, numeral_said}
 use Rattle.djq_proto.proofs.Lists.{all_from, all_said, list_from, list_said, name_from, name_said, pick, term_from, term_said, type_from, type_said, value_from, value_said}
 
@@ -50,6 +53,7 @@ atom_said (open_paren ∷ ts) a rest e = absurd (cc)
 atom_said (close_paren ∷ ts) a rest e = absurd (cc)
 atom_said (comma ∷ ts) a rest e = absurd (cc)
 atom_said (arrow ∷ ts) a rest e = absurd (cc)
+atom_said (operator o ∷ ts) a rest e = absurd (cc)
 atom_said (stray ∷ ts) a rest e = absurd (cc)
 
 atom_from : (a : Atom) (front rest : List Token) → SaysAtom a front → atom_in (front ++ rest) ≡ Some (a, rest)
@@ -57,62 +61,170 @@ atom_from a front rest s =
     ap (λ us. atom_in (us ++ rest)) s.3 ∙ cond-true _ _ _ s.1
     ∙ ap (option_map (atom_over a.relation)) (list_from term_of SaysTerm term_from refl a.terms s.0 rest s.2)
 
-last_said : (a : Atom) (ts : List Token) → IsAtom a ts [] → SaysAtom a ts
-last_said a ts s = subst (SaysAtom a) (sym (s.split ∙ append-nil s.front)) s.say
+-- Comparisons.
 
-several_said : (a : Atom) (more : List Atom) (ts us : List Token) → IsAtom a ts (comma ∷ us) → SaysAtoms more us → SaysAtoms (a ∷ more) ts
-several_said a [] ts us s m = absurd m
-several_said a (b ∷ bs) ts us s m = (s.front, us, s.say, m, s.split)
+-- the tokens of an item, and what is behind it
+record IsItem (n : ℕ) (i : Item) (ts rest : List Token) : Type 0 where
+  front : List Token
+  say : SaysItem n i front
+  split : ts ≡ front ++ rest
 
-front_parts : {A : Type 0} (a : A) (o : Option (List A)) (xs : List A) → in_front (Some a) o ≡ Some xs → (more : List A) × (o ≡ Some more) × (a ∷ more ≡ xs)
-front_parts a None xs e = absurd (cc)
-front_parts a (Some more) xs e = (more, refl, cc)
+atom_item_said : (n : ℕ) (ts : List Token) (i : Item) (rest : List Token) → option_map {U = Item × List Token} (λ (r : Atom × List Token). (atom r.0, r.1)) (atom_in ts) ≡ Some (i, rest) → IsItem n i ts rest
+atom_item_said n ts i rest e =
+    let found = map_some {B = Item × List Token} (λ (r : Atom × List Token). (atom r.0, r.1)) (atom_in ts) (i, rest) e in
+    let said = atom_said ts found.0.0 found.0.1 found.1 in
+    let same : atom found.0.0 ≡ i = ap (λ (z : Item × List Token). z.0) found.2 in
+    record {
+      front = said.front;
+      say = subst (λ (j : Item). SaysItem n j said.front) same said.say;
+      split = said.split ∙ ap (λ us. said.front ++ us) (ap (λ (z : Item × List Token). z.1) found.2);
+    }
 
-atoms_said : (n : ℕ) (ts : List Token) (atoms : List Atom) → atoms_within n ts ≡ Some atoms → SaysAtoms atoms ts
-atoms_said zero ts atoms e = absurd (cc)
-atoms_said (suc n) ts atoms e = go (atom_in ts) refl e (λ us more h. atoms_said n us more h)
+comparison_said : (n : ℕ) (x : Bytes) (o : Operator) (t : Token) (ts : List Token) (i : Item) (rest : List Token) → comparison_of n x o (t ∷ ts) ≡ Some (i, rest) → IsItem n i (word x ∷ operator o ∷ t ∷ ts) rest
+comparison_said n x o t ts i rest e =
+    let make : Value → Item × List Token = λ v. (comparison (compared n x o v), ts) in
+    let guarded = guard_some (is_name x) (option_map make (literal_of t)) (i, rest) e in
+    let found = map_some make (literal_of t) (i, rest) guarded.1 in
+    let same : comparison (compared n x o found.0) ≡ i = ap (λ (z : Item × List Token). z.0) found.2 in
+    record {
+      front = word x ∷ operator o ∷ t ∷ [];
+      say = subst (λ (j : Item). SaysItem n j (word x ∷ operator o ∷ t ∷ [])) same ((t, guarded.0, value_said t found.0 found.1, refl), refl);
+      split = ap (λ us. word x ∷ operator o ∷ t ∷ us) (ap (λ (z : Item × List Token). z.1) found.2);
+    }
+
+item_said : (n : ℕ) (ts : List Token) (i : Item) (rest : List Token) → item_in n ts ≡ Some (i, rest) → IsItem n i ts rest
+item_said n (word x ∷ operator o ∷ []) i rest e = absurd (cc)
+item_said n (word x ∷ operator o ∷ t ∷ ts) i rest e = comparison_said n x o t ts i rest e
+item_said n [] i rest e = atom_item_said n [] i rest e
+item_said n (word x ∷ []) i rest e = atom_item_said n (word x ∷ []) i rest e
+item_said n (word x ∷ word w ∷ ts) i rest e = atom_item_said n (word x ∷ word w ∷ ts) i rest e
+item_said n (word x ∷ text t ∷ ts) i rest e = atom_item_said n (word x ∷ text t ∷ ts) i rest e
+item_said n (word x ∷ open_paren ∷ ts) i rest e = atom_item_said n (word x ∷ open_paren ∷ ts) i rest e
+item_said n (word x ∷ close_paren ∷ ts) i rest e = atom_item_said n (word x ∷ close_paren ∷ ts) i rest e
+item_said n (word x ∷ comma ∷ ts) i rest e = atom_item_said n (word x ∷ comma ∷ ts) i rest e
+item_said n (word x ∷ arrow ∷ ts) i rest e = atom_item_said n (word x ∷ arrow ∷ ts) i rest e
+item_said n (word x ∷ stray ∷ ts) i rest e = atom_item_said n (word x ∷ stray ∷ ts) i rest e
+item_said n (text t ∷ ts) i rest e = atom_item_said n (text t ∷ ts) i rest e
+item_said n (open_paren ∷ ts) i rest e = atom_item_said n (open_paren ∷ ts) i rest e
+item_said n (close_paren ∷ ts) i rest e = atom_item_said n (close_paren ∷ ts) i rest e
+item_said n (comma ∷ ts) i rest e = atom_item_said n (comma ∷ ts) i rest e
+item_said n (arrow ∷ ts) i rest e = atom_item_said n (arrow ∷ ts) i rest e
+item_said n (operator o ∷ ts) i rest e = atom_item_said n (operator o ∷ ts) i rest e
+item_said n (stray ∷ ts) i rest e = atom_item_said n (stray ∷ ts) i rest e
+
+-- an atom isn't a comparison: a `(` is behind its name
+atom_first : (n : ℕ) (r : Bytes) (us ts : List Token) → item_in n (word r ∷ (list_tokens us ++ ts)) ≡ option_map {U = Item × List Token} (λ (p : Atom × List Token). (atom p.0, p.1)) (atom_in (word r ∷ (list_tokens us ++ ts)))
+atom_first n r [] ts = refl
+atom_first n r (u ∷ us) ts = refl
+
+item_from : (n : ℕ) (i : Item) (front rest : List Token) → SaysItem n i front → item_in n (front ++ rest) ≡ Some (i, rest)
+item_from n (atom a) front rest s =
+    ap (λ us. item_in n (us ++ rest)) s.3 ∙ atom_first n a.relation s.0 rest
+    ∙ ap (option_map {U = Item × List Token} (λ (p : Atom × List Token). (atom p.0, p.1))) (ap (λ us. atom_in (us ++ rest)) (sym s.3) ∙ atom_from a front rest s)
+item_from n (comparison c) front rest s =
+    let said = s.0 in
+    ap (λ us. item_in n (us ++ rest)) said.3 ∙ cond-true _ _ _ said.1
+    ∙ ap (option_map {U = Item × List Token} (λ (v : Value). (comparison (compared n c.variable c.operator v), rest))) (value_from said.0 c.constant said.2)
+    ∙ ap {B = Option (Item × List Token)} (λ (k : ℕ). Some (comparison (compared k c.variable c.operator c.constant), rest)) (sym s.1)
+
+-- Items.
+
+-- the body that items are
+abbrev body_of : List Item → Body
+body_of is = (atoms_among is, comparisons_among is)
+
+put_item-of : (i : Item) (is : List Item) → put_item i (Some (body_of is)) ≡ Some (body_of (i ∷ is))
+put_item-of (atom a) is = refl
+put_item-of (comparison c) is = refl
+
+-- the items that tokens say, of which a body is
+abbrev AreItems : ℕ → Body → List Token → Type 0
+AreItems n b ts = (items : List Item) × SaysItems n items ts × (body_of items ≡ b)
+
+last_said : (n : ℕ) (i : Item) (ts : List Token) → IsItem n i ts [] → SaysItem n i ts
+last_said n i ts s = subst (SaysItem n i) (sym (s.split ∙ append-nil s.front)) s.say
+
+several_said : (n : ℕ) (i : Item) (more : List Item) (ts us : List Token) → IsItem n i ts (comma ∷ us) → SaysItems (past_item n i) more us → SaysItems n (i ∷ more) ts
+several_said n i [] ts us s m = absurd m
+several_said n i (j ∷ js) ts us s m = (s.front, us, s.say, m, s.split)
+
+put_parts : (i : Item) (o : Option Body) (b : Body) → put_item i o ≡ Some b → (more : Body) × (o ≡ Some more) × (put_item i (Some more) ≡ Some b)
+put_parts (atom a) None b e = absurd (cc)
+put_parts (comparison c) None b e = absurd (cc)
+put_parts (atom a) (Some more) b e = (more, refl, e)
+put_parts (comparison c) (Some more) b e = (more, refl, e)
+
+items_said : (k n : ℕ) (ts : List Token) (b : Body) → items_within k n ts ≡ Some b → AreItems n b ts
+items_said zero n ts b e = absurd (cc)
+items_said (suc k) n ts b e = go (item_in n ts) refl e (λ m us more h. items_said k m us more h)
   where
-    go : (o : Option (Atom × List Token)) → atom_in ts ≡ o → behind_atom (atoms_within n) o ≡ Some atoms → ((us : List Token) (more : List Atom) → atoms_within n us ≡ Some more → SaysAtoms more us) → SaysAtoms atoms ts
+    go : (o : Option (Item × List Token)) → item_in n ts ≡ o → behind_item (items_within k) n o ≡ Some b → ((m : ℕ) (us : List Token) (more : Body) → items_within k m us ≡ Some more → AreItems m more us) → AreItems n b ts
     go None is e said = absurd (cc)
-    go (Some (a, [])) is e said =
-        let one : a ∷ [] ≡ atoms = cc in subst (λ (bs : List Atom). SaysAtoms bs ts) one (last_said a ts (atom_said ts a [] is))
-    go (Some (a, comma ∷ us)) is e said =
-        let parts = front_parts a (atoms_within n us) atoms e in
-        subst (λ (bs : List Atom). SaysAtoms bs ts) parts.2 (several_said a parts.0 ts us (atom_said ts a (comma ∷ us) is) (said us parts.0 parts.1))
-    go (Some (a, word w ∷ us)) is e said = absurd (cc)
-    go (Some (a, text t ∷ us)) is e said = absurd (cc)
-    go (Some (a, open_paren ∷ us)) is e said = absurd (cc)
-    go (Some (a, close_paren ∷ us)) is e said = absurd (cc)
-    go (Some (a, arrow ∷ us)) is e said = absurd (cc)
-    go (Some (a, stray ∷ us)) is e said = absurd (cc)
+    go (Some (i, [])) is e said =
+        let same : body_of (i ∷ []) ≡ b = cc (sym (put_item-of i []) ∙ e) in
+        (i ∷ [], last_said n i ts (item_said n ts i [] is), same)
+    go (Some (i, comma ∷ us)) is e said =
+        let parts = put_parts i (items_within k (past_item n i) us) b e in
+        let more = said (past_item n i) us parts.0 parts.1 in
+        let all : Some (body_of (i ∷ more.0)) ≡ Some b = sym (put_item-of i more.0) ∙ ap (λ (c : Body). put_item i (Some c)) more.2 ∙ parts.2 in
+        let same : body_of (i ∷ more.0) ≡ b = cc (all) in
+        (i ∷ more.0, several_said n i more.0 ts us (item_said n ts i (comma ∷ us) is) more.1, same)
+    go (Some (i, word w ∷ us)) is e said = absurd (cc)
+    go (Some (i, text t ∷ us)) is e said = absurd (cc)
+    go (Some (i, open_paren ∷ us)) is e said = absurd (cc)
+    go (Some (i, close_paren ∷ us)) is e said = absurd (cc)
+    go (Some (i, arrow ∷ us)) is e said = absurd (cc)
+    go (Some (i, operator o ∷ us)) is e said = absurd (cc)
+    go (Some (i, stray ∷ us)) is e said = absurd (cc)
 
-body_said : (ts : List Token) (atoms : List Atom) → atoms_in ts ≡ Some atoms → SaysAtoms atoms ts
-unfolding atoms_in
-body_said ts atoms e = atoms_said (length ts) ts atoms e
-
-atoms_from : (atoms : List Atom) (ts : List Token) → SaysAtoms atoms ts → atoms_in ts ≡ Some atoms
-atoms_from [] ts s = absurd s
-atoms_from (a ∷ []) ts s = atoms_in-step ts ∙ ap (behind_atom atoms_in) (ap atom_in (sym (append-nil ts)) ∙ atom_from a ts [] s)
-atoms_from (a ∷ b ∷ bs) ts s =
-    atoms_in-step ts ∙ ap (behind_atom atoms_in) (ap atom_in s.4 ∙ atom_from a s.0 (comma ∷ s.1) s.2) ∙ ap (in_front (Some a)) (atoms_from (b ∷ bs) s.1 s.3)
+items_from : (n : ℕ) (items : List Item) (ts : List Token) → SaysItems n items ts → items_in n ts ≡ Some (body_of items)
+items_from n [] ts s = absurd s
+items_from n (i ∷ []) ts s = items_in-step n ts ∙ ap (behind_item items_in n) (ap (item_in n) (sym (append-nil ts)) ∙ item_from n i ts [] s) ∙ put_item-of i []
+items_from n (i ∷ j ∷ js) ts s =
+    items_in-step n ts ∙ ap (behind_item items_in n) (ap (item_in n) s.4 ∙ item_from n i s.0 (comma ∷ s.1) s.2)
+    ∙ ap (put_item i) (items_from (past_item n i) (j ∷ js) s.1 s.3) ∙ put_item-of i (j ∷ js)
 
 -- Queries.
 
-arrow_said : (ts : List Token) (atoms : List Atom) → body_in ts ≡ Some atoms → (us : List Token) × (ts ≡ arrow ∷ us) × SaysAtoms atoms us
-arrow_said [] atoms e = absurd (cc)
-arrow_said (arrow ∷ us) atoms e = (us, refl, body_said us atoms e)
-arrow_said (word w ∷ us) atoms e = absurd (cc)
-arrow_said (text t ∷ us) atoms e = absurd (cc)
-arrow_said (open_paren ∷ us) atoms e = absurd (cc)
-arrow_said (close_paren ∷ us) atoms e = absurd (cc)
-arrow_said (comma ∷ us) atoms e = absurd (cc)
-arrow_said (stray ∷ us) atoms e = absurd (cc)
+-- a body with an atom
+some_atoms : (o : Option Body) (b : Body) → with_atoms o ≡ Some b → (o ≡ Some b) × (0 < length b.0)
+some_atoms None b e = absurd (cc)
+some_atoms (Some ([], cs)) b e = absurd (cc)
+some_atoms (Some (a ∷ more, cs)) b e = let same : (a ∷ more, cs) ≡ b = cc in (e, subst (λ (c : Body). 0 < length c.0) same (omega arith))
 
-head_parts : (n : Bytes) (o : Option (List Bytes × List Token)) (q : Query) → query_of n o ≡ Some q → (head : List Bytes) × (rest : List Token) × (atoms : List Atom)
-    × (o ≡ Some (head, rest)) × (body_in rest ≡ Some atoms) × (record { name = n; head = head; atoms = atoms } ≡ q)
+atoms_some : (b : Body) → 0 < length b.0 → with_atoms (Some b) ≡ Some b
+atoms_some ([], cs) some = absurd (omega (arith, some))
+atoms_some (a ∷ more, cs) some = refl
+
+-- the tokens of a body, behind its arrow
+record IsBody (b : Body) (ts : List Token) : Type 0 where
+  body : List Token
+  split : ts ≡ arrow ∷ body
+  items : List Item
+  say : SaysItems 0 items body
+  same : body_of items ≡ b
+  some : 0 < length b.0
+
+arrow_said : (ts : List Token) (b : Body) → body_in ts ≡ Some b → IsBody b ts
+unfolding items_in
+arrow_said [] b e = absurd (cc)
+arrow_said (arrow ∷ us) b e =
+    let found = some_atoms (items_in 0 us) b e in
+    let items = items_said (length us) 0 us b found.0 in
+    record { body = us; split = refl; items = items.0; say = items.1; same = items.2; some = found.1 }
+arrow_said (word w ∷ us) b e = absurd (cc)
+arrow_said (text t ∷ us) b e = absurd (cc)
+arrow_said (open_paren ∷ us) b e = absurd (cc)
+arrow_said (close_paren ∷ us) b e = absurd (cc)
+arrow_said (comma ∷ us) b e = absurd (cc)
+arrow_said (operator o ∷ us) b e = absurd (cc)
+arrow_said (stray ∷ us) b e = absurd (cc)
+
+head_parts : (n : Bytes) (o : Option (List Bytes × List Token)) (q : Query) → query_of n o ≡ Some q → (head : List Bytes) × (rest : List Token) × (b : Body)
+    × (o ≡ Some (head, rest)) × (body_in rest ≡ Some b) × (record { name = n; head = head; atoms = b.0; comparisons = b.1 } ≡ q)
 head_parts n None q e = absurd (cc)
 head_parts n (Some p) q e =
-    let found = map_some (λ (atoms : List Atom). record { name = n; head = p.0; atoms = atoms }) (body_in p.1) q e in
+    let found = map_some (λ (b : Body). record { name = n; head = p.0; atoms = b.0; comparisons = b.1 }) (body_in p.1) q e in
     (p.0, p.1, found.0, refl, found.1, found.2)
 
 query_said : (ts : List Token) (q : Query) → query_in ts ≡ Some q → SaysQuery q ts
@@ -122,20 +234,27 @@ query_said (word n ∷ ts) q e =
     let parts = head_parts n (list_in name_of ts) q guarded.1 in
     let head = list_said name_of SaysName name_said ts parts.0 parts.1 parts.3 in
     let body = arrow_said parts.1 parts.2 parts.4 in
+    let atoms = ap (λ (b : Body). b.0) (sym body.same) in
+    let comparisons = ap (λ (b : Body). b.1) (sym body.same) in
     subst (λ (p : Query). SaysQuery p (word n ∷ ts)) parts.5
-    (head.items, body.0, guarded.0, head.say, body.2, ap (λ us. word n ∷ us) (head.split ∙ ap (λ us. list_tokens head.items ++ us) body.1))
+    (head.items, body.body, guarded.0, head.say, (body.items, body.say, atoms, comparisons, body.some), ap (λ us. word n ∷ us) (head.split ∙ ap (λ us. list_tokens head.items ++ us) body.split))
 query_said (text t ∷ ts) q e = absurd (cc)
 query_said (open_paren ∷ ts) q e = absurd (cc)
 query_said (close_paren ∷ ts) q e = absurd (cc)
 query_said (comma ∷ ts) q e = absurd (cc)
 query_said (arrow ∷ ts) q e = absurd (cc)
+query_said (operator o ∷ ts) q e = absurd (cc)
 query_said (stray ∷ ts) q e = absurd (cc)
+
+body_from : (q : Query) (ts : List Token) → SaysBody q ts → with_atoms (items_in 0 ts) ≡ Some (q.atoms, q.comparisons)
+body_from q ts s =
+    ap with_atoms (items_from 0 s.0 ts s.1 ∙ ap₂ {C = Option Body} (λ (atoms : List Atom) (cs : List Comparison). Some (atoms, cs)) (sym s.2) (sym s.3)) ∙ atoms_some (q.atoms, q.comparisons) s.4
 
 query_from : (q : Query) (ts : List Token) → SaysQuery q ts → query_in ts ≡ Some q
 query_from q ts s =
     ap query_in s.5 ∙ cond-true _ _ _ s.2
     ∙ ap (query_of q.name) (list_from name_of SaysName name_from refl q.head s.0 (arrow ∷ s.1) s.3)
-    ∙ ap (option_map (λ (atoms : List Atom). record { name = q.name; head = q.head; atoms = atoms })) (atoms_from q.atoms s.1 s.4)
+    ∙ ap (option_map (λ (b : Body). record { name = q.name; head = q.head; atoms = b.0; comparisons = b.1 })) (body_from q s.1 s.4)
 
 -- A name and items.
 
@@ -163,6 +282,7 @@ any_said of says item (open_paren ∷ ts) p e = absurd (cc)
 any_said of says item (close_paren ∷ ts) p e = absurd (cc)
 any_said of says item (comma ∷ ts) p e = absurd (cc)
 any_said of says item (arrow ∷ ts) p e = absurd (cc)
+any_said of says item (operator o ∷ ts) p e = absurd (cc)
 any_said of says item (stray ∷ ts) p e = absurd (cc)
 
 any_from : {A : Type 0} (of : Token → Option A) (says : A → Token → Type 0) → ((t : Token) (a : A) → says a t → of t ≡ Some a) → (n : Bytes) (xs : List A) (us : List Token) → IsName n → AllZip says xs us
@@ -188,6 +308,7 @@ some_said of says item (open_paren ∷ ts) p e = absurd (cc)
 some_said of says item (close_paren ∷ ts) p e = absurd (cc)
 some_said of says item (comma ∷ ts) p e = absurd (cc)
 some_said of says item (arrow ∷ ts) p e = absurd (cc)
+some_said of says item (operator o ∷ ts) p e = absurd (cc)
 some_said of says item (stray ∷ ts) p e = absurd (cc)
 
 some_from : {A : Type 0} (of : Token → Option A) (says : A → Token → Type 0) → ((t : Token) (a : A) → says a t → of t ≡ Some a) → (n : Bytes) (xs : List A) (us : List Token) → IsName n → 0 < length xs → AllZip says xs us
@@ -336,6 +457,7 @@ command_said (open_paren ∷ ts) c e = absurd (cc)
 command_said (close_paren ∷ ts) c e = absurd (cc)
 command_said (comma ∷ ts) c e = absurd (cc)
 command_said (arrow ∷ ts) c e = absurd (cc)
+command_said (operator o ∷ ts) c e = absurd (cc)
 command_said (stray ∷ ts) c e = absurd (cc)
 
 said_read : (c : Command) (ts : List Token) → Says c ts → command_in ts ≡ Some c

@@ -1,5 +1,5 @@
 -- A line says a command exactly where it spells it.
-use Rattle.std.proofs.Common.{◌≡◌, ◌↔◌, List, [], ◌∷◌, ◌++◌, Some, sym, ap, subst, ◌∙◌, refl}
+use Rattle.std.proofs.Common.{◌≡◌, ◌↔◌, ℕ, List, [], ◌∷◌, ◌++◌, Some, sym, ap, subst, ◌∙◌, refl}
 use Rattle.std.specs.List.{AllZip}
 use Rattle.std.specs.Str.{is_utf8}
 use Rattle.std.proofs.lemmas.Bool.{cond-true}
@@ -10,16 +10,17 @@ use Rattle.djq_model.specs.declared.value.Value.TheVariants.{Int, Text}
 use Rattle.djq_model.specs.declared.relation.ColumnType.{ColumnType}
 use Rattle.djq_model.specs.declared.relation.ColumnType.TheVariants.{Int as IntColumn, Text as TextColumn}
 use Rattle.djq_model.specs.declared.query.Atom.{Atom}
+use Rattle.djq_model.specs.declared.query.Comparison.{Comparison}
 use Rattle.djq_model.specs.declared.query.Term.{Term}
 use Rattle.djq_model.specs.declared.query.Term.TheVariants.{Variable, Hole, Constant}
 use Rattle.djq_lines.specs.declared.command.Command.{Command}
 use Rattle.djq_lines.specs.declared.command.Command.TheVariants.{Rel, Add, Del, Query as Register, Drop, Open, Next, Close, Has, Watch, Unwatch, Explain, Shape, Quit, Stop}
-use Rattle.djq_value.specs.Token.{Token, word, text, open_paren, close_paren, comma, arrow, stray, tokens}
+use Rattle.djq_value.specs.Token.{Token, word, text, open_paren, close_paren, comma, arrow, operator, stray, tokens}
 use Rattle.djq_value.specs.Spelling.{HasNoStray}
 use Rattle.djq_value.proofs.Spellings.{tokens_are_spelled}
-use Rattle.djq_lines.specs.Grammar.{command_in, command_of}
+use Rattle.djq_lines.specs.Grammar.{Item, atom, comparison, command_in, command_of, past_item}
 use Rattle.djq_proto.specs.Laws.{Spells}
-use Rattle.djq_proto.specs.Saying.{Says, SaysAtom, SaysAtoms, SaysName, SaysTerm, SaysType, SaysValue, list_tokens, more_tokens}
+use Rattle.djq_proto.specs.Saying.{Says, SaysAtom, SaysComparison, SaysItem, SaysItems, SaysName, SaysTerm, SaysType, SaysValue, list_tokens, more_tokens}
 use Rattle.djq_proto.proofs.Numerals.{guard_some}
 use Rattle.djq_proto.proofs.Sayings.{commands_are_said}
 use Rattle.djq_proto.proofs.Utf8.{utf8_yes}
@@ -35,6 +36,7 @@ with_real open_paren ts h k = k
 with_real close_paren ts h k = k
 with_real comma ts h k = k
 with_real arrow ts h k = k
+with_real (operator o) ts h k = k
 
 append_real : (ts us : List Token) → HasNoStray ts → HasNoStray us → HasNoStray (ts ++ us)
 append_real [] us h k = k
@@ -45,6 +47,7 @@ append_real (open_paren ∷ ts) us h k = append_real ts us h k
 append_real (close_paren ∷ ts) us h k = append_real ts us h k
 append_real (comma ∷ ts) us h k = append_real ts us h k
 append_real (arrow ∷ ts) us h k = append_real ts us h k
+append_real (operator o ∷ ts) us h k = append_real ts us h k
 
 items_real : {A : Type 0} (says : A → Token → Type 0) → ((a : A) (t : Token) → says a t → HasNoStray (t ∷ [])) → (xs : List A) (us : List Token) → AllZip says xs us → HasNoStray us
 items_real says real [] [] h = tt
@@ -87,10 +90,17 @@ term_real (Constant v) t h = value_real v t h
 atom_real : (a : Atom) (ts : List Token) → SaysAtom a ts → HasNoStray ts
 atom_real a ts s = as_real ts (word a.relation ∷ list_tokens s.0) s.3 (list_real SaysTerm term_real a.terms s.0 s.2)
 
-atoms_real : (atoms : List Atom) (ts : List Token) → SaysAtoms atoms ts → HasNoStray ts
-atoms_real [] ts s = absurd s
-atoms_real (a ∷ []) ts s = atom_real a ts s
-atoms_real (a ∷ b ∷ bs) ts s = as_real ts (s.0 ++ comma ∷ s.1) s.4 (append_real s.0 (comma ∷ s.1) (atom_real a s.0 s.2) (atoms_real (b ∷ bs) s.1 s.3))
+comparison_real : (c : Comparison) (ts : List Token) → SaysComparison c ts → HasNoStray ts
+comparison_real c ts s = as_real ts (word c.variable ∷ operator c.operator ∷ s.0 ∷ []) s.3 (value_real c.constant s.0 s.2)
+
+item_real : (n : ℕ) (i : Item) (ts : List Token) → SaysItem n i ts → HasNoStray ts
+item_real n (atom a) ts s = atom_real a ts s
+item_real n (comparison c) ts s = comparison_real c ts s.0
+
+body_real : (n : ℕ) (items : List Item) (ts : List Token) → SaysItems n items ts → HasNoStray ts
+body_real n [] ts s = absurd s
+body_real n (i ∷ []) ts s = item_real n i ts s
+body_real n (i ∷ j ∷ js) ts s = as_real ts (s.0 ++ comma ∷ s.1) s.4 (append_real s.0 (comma ∷ s.1) (item_real n i s.0 s.2) (body_real (past_item n i) (j ∷ js) s.1 s.3))
 
 says_real : (c : Command) (ts : List Token) → Says c ts → HasNoStray ts
 says_real (Rel n cs) ts s = as_real ts _ s.4 (items_real SaysType type_real cs s.0 s.3)
@@ -98,7 +108,7 @@ says_real (Add n vs) ts s = as_real ts _ s.1.3 (items_real SaysValue value_real 
 says_real (Del n vs) ts s = as_real ts _ s.1.3 (items_real SaysValue value_real vs s.1.0 s.1.2)
 says_real (Register q) ts s =
     let r = s.1 in
-    as_real ts _ s.2 (as_real s.0 _ r.5 (append_real (list_tokens r.0) (arrow ∷ r.1) (list_real SaysName name_real q.head r.0 r.3) (atoms_real q.atoms r.1 r.4)))
+    as_real ts _ s.2 (as_real s.0 _ r.5 (append_real (list_tokens r.0) (arrow ∷ r.1) (list_real SaysName name_real q.head r.0 r.3) (body_real 0 r.4.0 r.1 r.4.1)))
 says_real (Drop q) ts s = as_real ts _ s.1 tt
 says_real (Open c q) ts s = as_real ts _ s.2 tt
 says_real (Next c k) ts s = as_real ts _ s.5 tt

@@ -1,5 +1,6 @@
 pub mod Splitting
 pub mod Refusing
 pub mod Reading
+pub mod Bodies
 pub mod Saying
 pub mod Laws

@@ -1,11 +1,12 @@
 -- What reading a line, or a part of it, answers.
-use Rattle.std.specs.Prelude.{◌≡◌, List, Bool, true, false, Option, None, Some, Result, Ok, Err}
+use Rattle.std.specs.Prelude.{◌≡◌, ◌&&◌, List, Bool, true, false, Option, None, Some, Result, Ok, Err}
 use Rattle.std.specs.List.{list_all}
 use Rattle.djq_model.specs.Data.{Bytes}
 use Rattle.djq_model.specs.declared.query.Query.{Query}
 use Rattle.djq_lines.specs.declared.command.Command.{Command}
 use Rattle.djq_value.specs.Token.{Token, comma}
-use Rattle.djq_lines.specs.Grammar.{command_of, is_in_range, is_small_atom, takes_memory_to_read}
+use Rattle.djq_value.specs.Literal.{is_small_value}
+use Rattle.djq_lines.specs.Grammar.{Body, command_of, is_in_range, is_small_atom, takes_memory_to_read}
 use Rattle.djq_proto.specs.declared.refusal.LineRefusal.{LineRefusal}
 use Rattle.djq_proto.specs.declared.refusal.LineRefusal.TheVariants.{Syntax, Range, NoMem}
 
@@ -24,9 +25,14 @@ abbrev pub ReadsPart : {A : Type 0} → (A → Bool) → Option (A × List Token
 ReadsPart in_range None r left = r ≡ Err Syntax
 ReadsPart in_range (Some p) r left = ReadsAs in_range (Some p.0) r × (left ≡ p.1)
 
+-- whether each literal of a body is within its limit
+abbrev pub is_small_body : Body → Bool
+is_small_body b =
+    list_all is_small_atom b.0 && list_all (λ c. is_small_value c.constant) b.1
+
 -- whether each literal of a query is within its limit
 abbrev pub is_small_query : Query → Bool
-is_small_query q = list_all is_small_atom q.atoms
+is_small_query q = is_small_body (q.atoms, q.comparisons)
 
 -- whether a token is a comma
 abbrev pub is_comma : Token → Bool

@@ -9,12 +9,14 @@ use Rattle.djq_model.specs.declared.relation.ColumnType.TheVariants.{Int as IntC
 use Rattle.djq_model.specs.declared.query.Term.{Term}
 use Rattle.djq_model.specs.declared.query.Term.TheVariants.{Variable, Hole, Constant}
 use Rattle.djq_model.specs.declared.query.Atom.{Atom}
+use Rattle.djq_model.specs.declared.query.Comparison.{Comparison}
 use Rattle.djq_model.specs.declared.query.Query.{Query}
 use Rattle.djq_lines.specs.declared.limits.TheConstants.{NEXT_COUNT}
 use Rattle.djq_lines.specs.declared.command.Command.{Command}
 use Rattle.djq_lines.specs.declared.command.Command.TheVariants.{Rel, Add, Del, Query as Register, Drop, Open, Next, Close, Has, Watch, Unwatch, Explain, Shape, Quit, Stop}
-use Rattle.djq_value.specs.Token.{Token, word, text, open_paren, close_paren, comma, arrow}
+use Rattle.djq_value.specs.Token.{Token, word, text, open_paren, close_paren, comma, arrow, operator}
 use Rattle.djq_value.specs.Literal.{is_digit, is_name}
+use Rattle.djq_lines.specs.Grammar.{Item, atom, comparison, past_item}
 
 -- a letter, then letters, digits and `_`, 32 bytes at most
 abbrev pub IsName : Bytes → Type 0
@@ -67,15 +69,48 @@ list_tokens (u ∷ us) = open_paren ∷ u ∷ more_tokens us
 abbrev pub SaysAtom : Atom → List Token → Type 0
 SaysAtom a ts = (us : List Token) × IsName a.relation × AllZip SaysTerm a.terms us × (ts ≡ word a.relation ∷ list_tokens us)
 
--- atoms, one at least, with commas between
-abbrev pub SaysAtoms : List Atom → List Token → Type 0
-SaysAtoms [] ts = ⊥
-SaysAtoms (a ∷ []) ts = SaysAtom a ts
-SaysAtoms (a ∷ b ∷ bs) ts = (front : List Token) × (back : List Token) × SaysAtom a front × SaysAtoms (b ∷ bs) back × (ts ≡ front ++ comma ∷ back)
+-- a variable, a comparison's sign and a constant
+abbrev pub SaysComparison : Comparison → List Token → Type 0
+SaysComparison c ts =
+    (t : Token) × IsName c.variable × SaysValue c.constant t
+    × (ts ≡ word c.variable ∷ operator c.operator ∷ t ∷ [])
 
--- a name, a list of names, `<-` and atoms
+-- an item that stands behind so many atoms: an atom, or a comparison that keeps this number
+abbrev pub SaysItem : ℕ → Item → List Token → Type 0
+SaysItem n (atom a) ts = SaysAtom a ts
+SaysItem n (comparison c) ts = SaysComparison c ts × (c.behind ≡ n)
+
+-- items, one at least, with commas between, behind so many atoms; an atom counts for what is behind it
+abbrev pub SaysItems : ℕ → List Item → List Token → Type 0
+SaysItems n [] ts = ⊥
+SaysItems n (i ∷ []) ts = SaysItem n i ts
+SaysItems n (i ∷ j ∷ js) ts =
+    (front : List Token) × (back : List Token) × SaysItem n i front
+    × SaysItems (past_item n i) (j ∷ js) back × (ts ≡ front ++ comma ∷ back)
+
+-- the atoms among items
+abbrev pub atoms_among : List Item → List Atom
+atoms_among [] = []
+atoms_among (atom a ∷ is) = a ∷ atoms_among is
+atoms_among (comparison c ∷ is) = atoms_among is
+
+-- the comparisons among items
+abbrev pub comparisons_among : List Item → List Comparison
+comparisons_among [] = []
+comparisons_among (atom a ∷ is) = comparisons_among is
+comparisons_among (comparison c ∷ is) = c ∷ comparisons_among is
+
+-- items, an atom at least, whose atoms and comparisons are the query's
+abbrev pub SaysBody : Query → List Token → Type 0
+SaysBody q ts =
+    (items : List Item) × SaysItems 0 items ts × (q.atoms ≡ atoms_among items)
+    × (q.comparisons ≡ comparisons_among items) × (0 < length q.atoms)
+
+-- a name, a list of names, `<-` and a body
 abbrev pub SaysQuery : Query → List Token → Type 0
-SaysQuery q ts = (us : List Token) × (body : List Token) × IsName q.name × AllZip SaysName q.head us × SaysAtoms q.atoms body × (ts ≡ word q.name ∷ (list_tokens us ++ arrow ∷ body))
+SaysQuery q ts =
+    (us : List Token) × (body : List Token) × IsName q.name × AllZip SaysName q.head us
+    × SaysBody q body × (ts ≡ word q.name ∷ (list_tokens us ++ arrow ∷ body))
 
 -- a keyword and a name
 abbrev pub SaysOne : Bytes → Bytes → List Token → Type 0

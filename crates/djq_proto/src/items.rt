@@ -2,10 +2,11 @@
 //
 // Out of memory, or behind an item that isn't in range, the line is read on, since an item that is
 // outside the grammar comes first in the order of refusals.
-ghost use Rattle.std.specs.Prelude.{◌≡◌, ◌∷◌, ◌++◌, [], Bool, List, Some};
+ghost use Rattle.std.specs.Prelude.{◌≡◌, ◌∷◌, ◌++◌, ◌&&◌, [], Bool, List, Some};
 ghost use Rattle.std.specs.List.{list_all};
 ghost use Rattle.djq_lines.specs.Grammar.{all_of, list_in, more_in, put_first};
 ghost use Rattle.djq_value.specs.Lexing.{lexeme_of};
+ghost use Rattle.djq_value.specs.Token.{open_paren};
 ghost use Rattle.djq_proto.specs.Reading.{ReadsAs, ReadsPart, is_outside as is_outside_of};
 
 use crate::item::Item;
@@ -23,11 +24,22 @@ pub(crate) fn added<T: Drop>(
         → ReadsAs (list_all in_range) (Some xs) items → ReadsAs in_range (Some x) item
         → ReadsAs (list_all in_range) (Some (xs ++ x ∷ [])) result }
 {
-    match (items, item) {
-        (Ok(mut items), Ok(item)) => {
-            items.push(item)?;
-            Ok(items)
-        }
+    let (mut items, item) = both(items, item)?;
+    items.push(item)?;
+    Ok(items)
+}
+
+// What was read of two parts; or why one of them isn't there.
+pub(crate) fn both<T: Drop, U: Drop>(
+    one: Result<T, LineRefusal>,
+    other: Result<U, LineRefusal>,
+) -> Result<(T, U), LineRefusal>
+    ensures { (fits : T → Bool) (suits : U → Bool) (x : T) (y : U)
+        → ReadsAs fits (Some x) one → ReadsAs suits (Some y) other
+        → ReadsAs (λ p. fits p.0 && suits p.1) (Some (x, y)) result }
+{
+    match (one, other) {
+        (Ok(one), Ok(other)) => Ok((one, other)),
         (Ok(_), Err(refusal)) => Err(refusal),
         (Err(refusal), Ok(_)) => Err(refusal),
         (Err(refusal), Err(other)) => Err(refusal.first(other)),
@@ -67,9 +79,20 @@ pub(crate) fn read_list<T: Item>(
     ensures { ReadsPart (list_all T.in_range)
         (list_in T.of lexer.old) result lexer.new }
 {
-    let Some(Token::Open) = lexer.next() else {
-        return Err(LineRefusal::Syntax);
-    };
+    match lexer.next() {
+        Some(Token::Open) => read_opened(alloc, lexer),
+        _ => Err(LineRefusal::Syntax),
+    }
+}
+
+// Items with commas between, behind a `(`, to the `)`.
+pub(crate) fn read_opened<T: Item>(
+    alloc: Global,
+    lexer: &mut Lexer<'_>,
+) -> Result<Sequence<T>, LineRefusal>
+    ensures { ReadsPart (list_all T.in_range)
+        (list_in T.of (open_paren ∷ lexer.old)) result lexer.new }
+{
     match lexer.next() {
         Some(Token::Close) => Ok(Sequence::new(alloc)),
         Some(token) => read_from(alloc, lexer, token),

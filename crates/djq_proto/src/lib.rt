@@ -20,9 +20,10 @@
 //!
 //! Inside, a line is cut into tokens by the lexer of djq_value, and `keyword` says by the first
 //! what stands behind: `command` has a reader for each form, over names, literals and lists of them
-//! (`parts`, `item`, `items`), and `query` reads heads and bodies. `laws` has two functions that do
-//! nothing: what they promise is that a line is read as a command exactly where it spells it, said
-//! without reading (`specs/Saying.antt`, and `specs/Spelling.antt` of djq_value).
+//! (`parts`, `item`, `items`). `query` reads a query's head, and `body` its atoms and comparisons.
+//! `laws` has two functions that do nothing: what they promise is that a line is read as a command
+//! exactly where it spells it, said without reading (`specs/Saying.antt`, and
+//! `specs/Spelling.antt` of djq_value).
 #![tactic(auto)]
 
 pub use command::read_command;
@@ -30,6 +31,7 @@ pub use laws::{commands_are_said, commands_are_spelled};
 pub use refusal::LineRefusal;
 pub use splitter::{Front, Splitter, is_blank};
 
+mod body;
 mod command;
 mod item;
 mod items;

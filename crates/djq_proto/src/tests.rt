@@ -1,6 +1,6 @@
 use super::*;
 use djq_lines::Command;
-use djq_model::{Term, Value};
+use djq_model::{Operator, Term, Value};
 use std::alloc::{AllocError, Global};
 use std::test::Fail;
 
@@ -30,7 +30,7 @@ fn letter(alloc: Global, line: &[u8]) -> char {
 
 // Lines and what they say: a letter for each command, S for none of the grammar, R for a literal
 // past its limit.
-const LINES: [(&[u8], char); 108] = [
+const LINES: [(&[u8], char); 136] = [
     (b"rel r int", 'r'),
     (b"  rel  r_1 int   int ", 'r'),
     (b"rel rel int", 'r'),
@@ -109,6 +109,37 @@ const LINES: [(&[u8], char); 108] = [
     (b"query q(x) <- r(x, _, -3, \"a\")", 'q'),
     (b"query q(x) <- r(99999999999999999999,x)", 'R'),
     (b"query q(x) <- r(99999999999999999999,x", 'S'),
+    (
+        b"query q(x) <- r(x), x < 1, x <= 2, x > -3, x >= 4, x = 5, x != 6",
+        'q',
+    ),
+    (b"query q(x) <- r(x),x<1,x<=2,x>3,x>=4,x=\"a\",x!=\"\"", 'q'),
+    (b"query q(x) <- r(x), x<-5", 'S'),
+    (b"query q(x) <- r(x), x < -5", 'q'),
+    (b"query q(x) <- r(x), x<=-5", 'q'),
+    (b"query q(x) <- x < 1, r(x)", 'q'),
+    (b"query q(x) <- r(x), z < 1", 'q'),
+    (b"query q(x) <- x = 1", 'S'),
+    (b"query q() <- x = 1, y = 2", 'S'),
+    (b"query q() <- x = 99999999999999999999", 'S'),
+    (b"query q(x) <- r(x), x < y", 'S'),
+    (b"query q(x) <- r(x), x < _", 'S'),
+    (b"query q(x) <- r(x), 1 < x", 'S'),
+    (b"query q(x) <- r(x), _ = 1", 'S'),
+    (b"query q(x) <- r(x), x <", 'S'),
+    (b"query q(x) <- r(x), x", 'S'),
+    (b"query q(x) <- r(x), < 1", 'S'),
+    (b"query q(x) <- r(x), x < 1 2", 'S'),
+    (b"query q(x) <- r(x), x < 1,", 'S'),
+    (b"query q(x) <- r(x), x ! = 1", 'S'),
+    (b"query q(x) <- r(x), x < = 1", 'S'),
+    (b"query q(x) <- r(x), x == 1", 'S'),
+    (b"query q(x) <- r(x) x < 1", 'S'),
+    (b"query q(x < 1) <- r(x)", 'S'),
+    (b"query q(x) <- r(x < 1)", 'S'),
+    (b"query q(x) <- r(x), x < 99999999999999999999", 'R'),
+    (b"query q(x) <- x < 99999999999999999999, r(x)", 'R'),
+    (b"query q(x) <- r(x), x < 99999999999999999999, y < z", 'S'),
     (b"drop q", 'p'),
     (b"drop", 'S'),
     (b"drop q q", 'S'),
@@ -188,6 +219,44 @@ fn keeps_what_a_query_says(rt: HostRuntime) {
         assert_eq!(rt; atom.relation.as_bytes(), b"edge".as_slice());
         assert_eq!(rt; atom.terms.len(), 3);
         assert!(rt; matches!(atom.terms.get(0), Some(Term::Variable(_))));
+    }
+}
+
+// What the comparisons of a line should say: variable, operator, integer or text, atoms before it.
+const COMPARED: [(&[u8], Operator, Option<i64>, &[u8], usize); 6] = [
+    (b"x", Operator::Less, Some(-1), b"", 0),
+    (b"x", Operator::LessOrEqual, Some(2), b"", 1),
+    (b"y", Operator::Greater, Some(3), b"", 1),
+    (b"x", Operator::GreaterOrEqual, Some(4), b"", 3),
+    (b"y", Operator::Equal, None, b"a, b", 3),
+    (b"y", Operator::NotEqual, None, b"", 3),
+];
+
+#[test]
+fn keeps_what_comparisons_say(rt: HostRuntime) {
+    let line =
+        b"query q(x) <- x < -1, r(x), x <= 2, y > 3, s(y), t(y), x >= 4, y=\"a, b\", y!=\"\"";
+    let Ok(Command::Query { query }) = read_command(rt.alloc(), line) else {
+        panic!(rt; "the line says a query");
+    };
+    assert_eq!(rt; query.atoms.len(), 3);
+    assert_eq!(rt; query.comparisons.len(), COMPARED.len());
+    for (comparison, (variable, operator, number, text, behind)) in query
+        .comparisons
+        .as_slice()
+        .iter()
+        .zip(COMPARED)
+    {
+        assert_eq!(rt; comparison.variable.as_bytes(), variable);
+        assert_eq!(rt; comparison.operator, operator);
+        assert_eq!(rt; comparison.behind, behind);
+        match &comparison.constant {
+            Value::Int(constant) => assert_eq!(rt; Some(*constant), number),
+            Value::Text(constant) => {
+                assert!(rt; number.is_none());
+                assert_eq!(rt; constant.as_bytes(), text);
+            }
+        }
     }
 }
 

@@ -1,19 +1,23 @@
 -- Atoms over the places of their variables.
 use Rattle.std.proofs.Common.{◌≡◌, ℕ, zero, suc, ◌+◌, ◌<◌, ◌≤◌, List, [], ◌∷◌, ◌++◌, Bool, true, false, length, get_or, drop, refl, sym, ap, ap₂, ◌∙◌, arith, inl, inr, append_assoc, add-one, drop-cons, length-append, ltb, ◌-◌}
-use Rattle.std.specs.Prelude.{Option, None, Some, cond, not, position, unwrap_or, option_to_list, ◌||◌, ◌&&◌, ◌==◌}
+use Rattle.std.specs.Prelude.{Option, None, Some, cond, not, position, unwrap_or, option_to_list, ◌||◌, ◌&&◌, ◌==◌, nat_lt}
 use Rattle.std.specs.List.{list_all, list_any, position_or_len, prefix_len}
 use Rattle.std.specs.List.Sorted.{IsStrictlyIncreasing}
 use Rattle.std.proofs.lemmas.Bool.{cases_eq, eq-eqb, ne_eqb, false≢true, lt-ltb, ltb-false}
 use Rattle.std.proofs.lemmas.List.{append-nil, drop_all}
+use Rattle.std.proofs.lemmas.Bool.Decides.{nat_tests}
 use Rattle.std.proofs.lemmas.List.Sums.{position_or_len_is}
 use Rattle.djq_model.specs.declared.value.Value.{Value}
+use Rattle.djq_model.specs.declared.query.Operator.{Operator}
 use Rattle.djq_hyper.specs.Hypergraph.{member}
 use Rattle.djq_query.specs.declared.numbered.NumberedTerm.{NumberedTerm}
 use Rattle.djq_query.specs.declared.numbered.NumberedTerm.TheVariants.{Variable as Number, Constant as Fixed}
+use Rattle.djq_query.specs.declared.numbered.NumberedComparison.{NumberedComparison}
+use Rattle.djq_query.specs.declared.pattern.Test.{Test}
 use Rattle.djq_query.specs.declared.pattern.Slot.{Slot}
 use Rattle.djq_query.specs.declared.pattern.Slot.TheVariants.{Place, Cell}
 use Rattle.djq_query.specs.Numbered.{is_number}
-use Rattle.djq_query.specs.Pattern.{IsPattern, is_place, is_within, slot_of, bound}
+use Rattle.djq_query.specs.Pattern.{IsPattern, is_place, is_within, slot_of, bound, test_of, tests_of}
 use Rattle.djq_query.proofs.Columns.{from_place}
 
 -- the members of a set, one after another
@@ -136,9 +140,73 @@ position_at label rising p below =
     (λ k before. ne_eqb (get_or label k 0) (get_or label p 0) (λ e. absurd (omega (arith, rising_apart label rising (p - (k + 1)) k p (omega arith) below))))
     (λ _. eq-eqb (get_or label p 0) (get_or label p 0) refl)
 
-pub pattern_of : (label : List ℕ) (ts : List NumberedTerm) (cs : List ℕ) (width : ℕ) (slots : List Slot) → IsStrictlyIncreasing label → length label ≤ 16 → length cs ≡ length ts
-    → ((x : ℕ) → member x label ≡ list_any (is_number x) ts) → width ≡ length label → slots ≡ bound label ts cs → IsPattern (record { width = width; slots = slots })
-pattern_of label ts cs width slots rising few long members wide told = record {
+-- the tests, one after another
+
+place_up : (a b : ℕ) → ltb (1 + a) (suc b) ≡ ltb a b
+place_up a b = grind (arith, nat_tests)
+
+member_place : (x : ℕ) (label : List ℕ) → member x label ≡ ltb (position_or_len (λ y. y == x) label) (length label)
+member_place x [] = refl
+member_place x (y ∷ label) =
+    elim (cases_eq x y) [
+      | inl same ↦ rw (eq-eqb x y same, eq-eqb y x (sym same)) (sym (lt-ltb 0 (suc (length label)) (omega arith)))
+      | inr apart ↦ rw (ne_eqb x y apart, ne_eqb y x (λ e. apart (sym e))) (member_place x label ∙ sym (place_up (position_or_len (λ y. y == x) label) (length label)))
+    ]
+
+abbrev a_test : ℕ → Operator → ℕ → Test
+a_test place operator cell = record { place = place; operator = operator; cell = cell }
+
+found_by : (b : Bool) (k n : ℕ) → cond b (Some k) None ≡ Some n → (b ≡ true) × (k ≡ n)
+found_by true k n e = (refl, cc)
+found_by false k n e = absurd cc
+
+missed_by : (b : Bool) (k : ℕ) → cond {A = Option ℕ} b (Some k) None ≡ None → b ≡ false
+missed_by true k e = absurd cc
+missed_by false k e = refl
+
+pub test_found : (label : List ℕ) (c : NumberedComparison) (cell n : ℕ) (o : Option ℕ) → o ≡ position (λ y. y == c.variable) label → o ≡ Some n
+    → (record { place = n; operator = c.operator; cell = cell }) ∷ [] ≡ test_of label c cell
+unfolding test_of
+test_found label c cell n o told some =
+    let at = position_or_len (λ y. y == c.variable) label in
+    let found = found_by (ltb at (length label)) at n (sym told ∙ some) in
+    let there : member c.variable label ≡ true = member_place c.variable label ∙ found.0 in
+    ap (λ (k : ℕ). a_test k c.operator cell ∷ []) (sym found.1)
+    ∙ ap (λ b. cond b (a_test at c.operator cell ∷ []) []) (sym there)
+
+pub test_missed : (label : List ℕ) (c : NumberedComparison) (cell : ℕ) (o : Option ℕ) → o ≡ position (λ y. y == c.variable) label → o ≡ None → [] ≡ test_of label c cell
+unfolding test_of
+test_missed label c cell o told none =
+    let at = position_or_len (λ y. y == c.variable) label in
+    let gone : member c.variable label ≡ false = member_place c.variable label ∙ missed_by (ltb at (length label)) at (sym told ∙ none) in
+    ap (λ b. cond b (a_test at c.operator cell ∷ []) []) (sym gone)
+
+pub tests_on : (done ts : List Test) (label : List ℕ) (cs : List NumberedComparison) (cells : List ℕ) (i : ℕ) (c : NumberedComparison) → i < length cs → length cells ≡ length cs → c ≡ get_or cs i c → ts ≡ test_of label c (get_or cells i 0)
+    → (done ++ ts) ++ tests_of label (drop (i + 1) cs) (drop (i + 1) cells) ≡ done ++ tests_of label (drop i cs) (drop i cells)
+unfolding tests_of
+tests_on done ts label cs cells i c below long is told =
+    append_assoc done ts (tests_of label (drop (i + 1) cs) (drop (i + 1) cells))
+    ∙ ap (λ (r : List Test). done ++ (r ++ tests_of label (drop (i + 1) cs) (drop (i + 1) cells))) told
+    ∙ ap₂ (λ us vs. done ++ tests_of label us vs) (sym (from_place cs i c below is)) (sym (from_read cells i (get_or cells i 0) 0 (omega arith) refl))
+
+pub tests_over : (done : List Test) (label : List ℕ) (cs : List NumberedComparison) (cells : List ℕ) (i : ℕ) → length cs ≤ i → done ++ tests_of label (drop i cs) (drop i cells) ≡ done
+unfolding tests_of
+tests_over done label cs cells i past = ap (λ us. done ++ tests_of label us (drop i cells)) (drop_all i cs past) ∙ append-nil done
+
+test_within : (label : List ℕ) (c : NumberedComparison) (cell : ℕ) (ts : List Test) (b : Bool) → member c.variable label ≡ b → list_all (λ (t : Test). nat_lt t.place (length label)) ts ≡ true
+    → list_all (λ (t : Test). nat_lt t.place (length label)) (cond b (a_test (position_or_len (λ y. y == c.variable) label) c.operator cell ∷ []) [] ++ ts) ≡ true
+test_within label c cell ts true is rest = and_true (nat_lt (position_or_len (λ y. y == c.variable) label) (length label)) _ (lt-ltb (position_or_len (λ y. y == c.variable) label) (length label) (place_below c.variable label is)) rest
+test_within label c cell ts false is rest = rest
+
+tests_within : (label : List ℕ) (cs : List NumberedComparison) (cells : List ℕ) → list_all (λ (t : Test). nat_lt t.place (length label)) (tests_of label cs cells) ≡ true
+unfolding tests_of test_of
+tests_within label [] cells = refl
+tests_within label (c ∷ cs) [] = refl
+tests_within label (c ∷ cs) (cell ∷ cells) = test_within label c cell (tests_of label cs cells) (member c.variable label) refl (tests_within label cs cells)
+
+pub pattern_of : (label : List ℕ) (ts : List NumberedTerm) (cs : List ℕ) (compared : List NumberedComparison) (constants : List ℕ) (width : ℕ) (slots : List Slot) (tests : List Test) → IsStrictlyIncreasing label → length label ≤ 16 → length cs ≡ length ts
+    → ((x : ℕ) → member x label ≡ list_any (is_number x) ts) → width ≡ length label → slots ≡ bound label ts cs → tests ≡ tests_of label compared constants → IsPattern (record { width = width; slots = slots; tests = tests })
+pattern_of label ts cs compared constants width slots tests rising few long members wide told tested = record {
   narrow = omega arith;
   within = ap₂ (λ (w : ℕ) ss. list_all (is_within w) ss) wide told ∙ slots_within label ts cs (λ x h. members x ∙ h);
   all = λ p below.
@@ -146,4 +214,5 @@ pattern_of label ts cs width slots rising few long members wide told = record {
       ap (list_any (is_place p)) told
       ∙ ap (λ (k : ℕ). list_any (is_place k) (bound label ts cs)) (sym (position_at label rising p under))
       ∙ slots_all label ts cs (get_or label p 0) long (sym (members (get_or label p 0)) ∙ member_at label p under);
+  tested = ap₂ (λ (w : ℕ) (ts : List Test). list_all (λ t. nat_lt t.place w) ts) wide tested ∙ tests_within label compared constants;
 }

@@ -10,3 +10,4 @@ pub mod Matching
 pub mod Binding
 pub mod Found
 pub mod Showing
+pub mod Comparing

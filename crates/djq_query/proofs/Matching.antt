@@ -1,14 +1,17 @@
 -- Rows that an atom gives, column by column.
 use Rattle.std.proofs.Common.{◌≡◌, ℕ, ◌+◌, ◌<◌, ◌≤◌, List, [], ◌∷◌, ◌++◌, Bool, true, false, length, get_or, set, take, refl, sym, ap, ap₂, ◌∙◌, arith, inl, inr, length-set}
-use Rattle.std.specs.Prelude.{◌||◌, slice_index, map, ◌↔◌}
+use Rattle.std.specs.Prelude.{◌||◌, All, slice_index, map, ◌↔◌}
 use Rattle.std.specs.List.{list_all, list_any}
 use Rattle.std.proofs.lemmas.Bool.{cases_eq, ne_eqb, false≢true, ltb-true}
 use Rattle.std.proofs.lemmas.List.{get_or_default, get_or-map, get_or-set_same, get_or-set_other, take_all, take_more, map-append}
 use Rattle.std.proofs.lemmas.List.Folds.{list_any_more}
 use Rattle.std.proofs.lemmas.Grind.{same_number_lists}
+use Rattle.std.proofs.lemmas.List.Elements.{All-same, All-push}
+use Rattle.djq_model.specs.declared.query.Operator.TheVariants.{Less}
+use Rattle.djq_query.specs.declared.pattern.Test.{Test}
 use Rattle.djq_query.specs.declared.pattern.Slot.{Slot}
 use Rattle.djq_query.specs.declared.pattern.Slot.TheVariants.{Place, Cell}
-use Rattle.djq_query.specs.Pattern.{Shape, IsPattern, Gives, cell_of, put_cell, filled, is_place, is_within}
+use Rattle.djq_query.specs.Pattern.{Shape, IsPattern, Gives, Passes, passes, cell_of, put_cell, filled, is_place, is_within}
 use Rattle.djq_query.proofs.Edging.{all_true_at}
 
 -- a slot of a pattern, whatever the default
@@ -80,24 +83,40 @@ filled_more u row slots ss i d same below under before here =
 
 -- a column that differs, or none
 pub gives_not : (p : Shape) (u row : List ℕ) (ss : List Slot) (i : ℕ) (d : Slot) → ss ≡ p.slots → i < length ss
-    → (cell_of u (get_or ss i d) ≡ get_or row i 0 → ⊥) → (false ≡ true) ↔ Gives p u row
+    → (cell_of u (get_or ss i d) ≡ get_or row i 0 → ⊥) → (false ≡ true) ↔ (filled u p.slots ≡ row)
 gives_not p u row ss i d same below other = (
   λ e. absurd (false≢true e),
-  λ gives. absurd
+  λ fills. absurd
       (other
       (ap (λ (l : List Slot). cell_of u (get_or l i d)) same
-      ∙ sym (filled_at u row p.slots i d gives.fills (omega (arith, ap (λ (l : List Slot). length l) same))))),
+      ∙ sym (filled_at u row p.slots i d fills (omega (arith, ap (λ (l : List Slot). length l) same))))),
 )
 
-pub gives_all : (p : Shape) (u row : List ℕ) (i : ℕ) → length u ≡ p.width → length p.slots ≤ i → length row ≤ i
-    → filled u (take i p.slots) ≡ take i row → (true ≡ true) ↔ Gives p u row
-gives_all p u row i wide past over e = (
-  λ is. record {
-    wide = wide;
-    fills = ap (filled u) (sym (take_all i p.slots past)) ∙ e ∙ take_all i row over;
-  },
-  λ gives. refl,
+pub gives_all : (p : Shape) (u row : List ℕ) (i : ℕ) → length p.slots ≤ i → length row ≤ i
+    → filled u (take i p.slots) ≡ take i row → (true ≡ true) ↔ (filled u p.slots ≡ row)
+gives_all p u row i past over e = (
+  λ is. ap (filled u) (sym (take_all i p.slots past)) ∙ e ∙ take_all i row over,
+  λ fills. refl,
 )
+
+-- the tests of a tuple, one after another
+
+-- what a read past the end would give
+abbrev pub no_test : Test
+no_test = record { place = 0; operator = Less; cell = 0 }
+
+-- what a call told of a test
+pub test_told : (cells u : List ℕ) (t : Test) (b : Bool) → cells ≡ u → b ≡ passes t.operator (get_or cells t.place 0) t.cell → passes t.operator (slice_index u t.place) t.cell ≡ b
+test_told cells u t b e f = ap (λ (v : List ℕ). passes t.operator (slice_index v t.place) t.cell) (sym e) ∙ sym f
+
+pub tests_more : (u : List ℕ) (ts ss : List Test) (i : ℕ) → ss ≡ ts → i < length ss → Passes u (get_or ss i no_test) → All (Passes u) (take i ts) → All (Passes u) (take (i + 1) ts)
+tests_more u ts ss i same below passed before =
+    All-same (Passes u) (take (i + 1) ts) (take i ts ++ get_or ss i no_test ∷ [])
+    (ap (λ (l : List Test). take (i + 1) l) (sym same) ∙ take_more ss i no_test below ∙ ap (λ (l : List Test). take i l ++ get_or ss i no_test ∷ []) same)
+    (All-push (Passes u) (take i ts) (get_or ss i no_test) before passed)
+
+pub tests_all : (u : List ℕ) (ts : List Test) (i : ℕ) → length ts ≤ i → All (Passes u) (take i ts) → (true ≡ true) ↔ All (Passes u) ts
+tests_all u ts i past all = (λ is. All-same (Passes u) ts (take i ts) (sym (take_all i ts past)) all, λ h. refl)
 
 -- one slot
 pub cell_at : (u : List ℕ) (s : Slot) (p : ℕ) → s ≡ Place p → get_or u p 0 ≡ cell_of u s

@@ -13,13 +13,15 @@ use Rattle.djq_model.specs.declared.value.Value.{Value}
 use Rattle.djq_model.specs.Data.{Bytes}
 use Rattle.djq_model.specs.declared.relation.Relation.{Relation}
 use Rattle.djq_model.specs.declared.query.Atom.{Atom}
+use Rattle.djq_model.specs.declared.query.Comparison.{Comparison}
 use Rattle.djq_lines.specs.Columns.{columns_of}
 use Rattle.djq_lines.specs.Variables.{Label, is_known, is_named, stands_in, variables_of, with_term, with_terms, with_atom}
 use Rattle.djq_query.specs.declared.numbered.NumberedAtom.{NumberedAtom}
+use Rattle.djq_query.specs.declared.numbered.NumberedComparison.{NumberedComparison}
 use Rattle.djq_query.proofs.Counting.{terms_more, atoms_more, known_behind, or_false}
 use Rattle.djq_query.specs.declared.numbered.Variable.{Variable}
 use Rattle.djq_query.specs.declared.numbered.NumberedTerm.{NumberedTerm}
-use Rattle.djq_query.specs.Numbered.{labels, number_of, numbered, numbered_terms, with_place, with_places, with_columns, is_below, are_below, IsNumberedAtom, AreNumbered}
+use Rattle.djq_query.specs.Numbered.{labels, number_of, numbered, numbered_terms, numbered_comparison, with_place, with_places, with_columns, is_below, are_below, IsNumberedAtom, AreNumbered}
 use Rattle.djq_query.proofs.Columns.{from_place}
 
 ltb_up : (a b : ℕ) → ltb (1 + a) (suc b) ≡ ltb a b
@@ -259,6 +261,21 @@ head_below atoms (x ∷ head) none =
     both_true (nat_lt (number_of (variables_of atoms) x) (length (variables_of atoms))) (list_all (λ x. nat_lt x (length (variables_of atoms))) (map (number_of (variables_of atoms)) head))
     (lt-ltb (number_of (variables_of atoms) x) (length (variables_of atoms)) (number_within (variables_of atoms) x known))
     (head_below atoms head parts.1)
+
+pub compared_below : (atoms : List Atom) (comparisons : List Comparison) → list_any (λ c. not (stands_in atoms c.variable)) comparisons ≡ false
+    → list_all (λ (c : NumberedComparison). nat_lt c.variable (length (variables_of atoms))) (map (numbered_comparison (variables_of atoms)) comparisons) ≡ true
+compared_below atoms [] none = refl
+compared_below atoms (c ∷ cs) none =
+    let parts = both_false (not (stands_in atoms c.variable)) (list_any (λ (c : Comparison). not (stands_in atoms c.variable)) cs) none in
+    let known : is_known (variables_of atoms) c.variable ≡ true = known_behind atoms [] c.variable ∙ or_false (stands_in atoms c.variable) ∙ not_false (stands_in atoms c.variable) parts.0 in
+    both_true (nat_lt (number_of (variables_of atoms) c.variable) (length (variables_of atoms))) (list_all (λ (n : NumberedComparison). nat_lt n.variable (length (variables_of atoms))) (map (numbered_comparison (variables_of atoms)) cs))
+    (lt-ltb (number_of (variables_of atoms) c.variable) (length (variables_of atoms)) (number_within (variables_of atoms) c.variable known))
+    (compared_below atoms cs parts.1)
+
+-- one more comparison
+pub compared_step : (f : Comparison → NumberedComparison) (xs : List Comparison) (i : ℕ) (x : Comparison) → i < length xs → x ≡ get_or xs i x → map f (take (i + 1) xs) ≡ map f (take i xs) ++ f x ∷ []
+compared_step f xs i x below is =
+    ap (map f) (take_more xs i x below ∙ ap (λ (n : Comparison). take i xs ++ n ∷ []) (sym is)) ∙ map-append f (take i xs) (x ∷ [])
 
 -- one more name of a head
 pub head_step : (f : Bytes → ℕ) (xs : List Bytes) (i : ℕ) (x : Bytes) → i < length xs → x ≡ get_or xs i x → map f (take (i + 1) xs) ≡ map f (take i xs) ++ f x ∷ []

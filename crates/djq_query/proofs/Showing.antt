@@ -8,6 +8,7 @@ use Rattle.std.proofs.lemmas.Option.{slice_get_within}
 use Rattle.djq_model.specs.declared.relation.Relation.{Relation}
 use Rattle.djq_model.specs.declared.query.Query.{Query}
 use Rattle.djq_model.specs.declared.query.Atom.{Atom}
+use Rattle.djq_model.specs.declared.query.Comparison.{Comparison}
 use Rattle.djq_model.specs.declared.query.Term.{Term}
 use Rattle.djq_model.specs.declared.query.Term.TheVariants.{Variable as Named, Hole, Constant}
 use Rattle.djq_model.specs.Data.{Bytes, bytes_eq}
@@ -17,8 +18,9 @@ use Rattle.djq_lines.specs.Variables.{Label, is_known, is_named, stands_in, vari
 use Rattle.djq_query.specs.declared.numbered.NumberedTerm.{NumberedTerm}
 use Rattle.djq_query.specs.declared.numbered.NumberedTerm.TheVariants.{Variable as Number, Constant as Fixed}
 use Rattle.djq_query.specs.declared.numbered.NumberedAtom.{NumberedAtom}
-use Rattle.djq_query.specs.Numbered.{Numbered, IsNumbered, labels, number_of, numbered, numbered_terms, AreNumbered}
-use Rattle.djq_query.specs.Meaning.{Rise, holes_among, holes_in, IsShown, AreShown, AreAtomsShown, IsShownBy}
+use Rattle.djq_query.specs.declared.numbered.NumberedComparison.{NumberedComparison}
+use Rattle.djq_query.specs.Numbered.{Numbered, IsNumbered, labels, number_of, numbered, numbered_terms, numbered_comparison, AreNumbered}
+use Rattle.djq_query.specs.Meaning.{Rise, holes_among, holes_in, IsShown, AreShown, AreAtomsShown, AreComparisonsShown, IsShownBy}
 use Rattle.djq_query.proofs.Counting.{term_more, known_behind, or_false}
 use Rattle.djq_query.proofs.Faults.{sound_of}
 use Rattle.djq_query.proofs.Numbers.{both_false, not_false, labels_columns, number_unknown}
@@ -199,15 +201,27 @@ head_shown atoms (x ∷ head) none =
     let known : is_known (variables_of atoms) x ≡ true = known_behind atoms [] x ∙ or_false (stands_in atoms x) ∙ not_false (stands_in atoms x) parts.0 in
     ap₂ (λ o os. o ∷ os) (named_at (variables_of atoms) x known) (head_shown atoms head parts.1)
 
+compared_shown : (atoms : List Atom) (comparisons : List Comparison) → list_any (λ c. not (stands_in atoms c.variable)) comparisons ≡ false
+    → AreComparisonsShown (variables_of atoms) comparisons (map (numbered_comparison (variables_of atoms)) comparisons)
+compared_shown atoms [] none = tt
+compared_shown atoms (c ∷ cs) none =
+    let parts = both_false (not (stands_in atoms c.variable)) (list_any (λ (c : Comparison). not (stands_in atoms c.variable)) cs) none in
+    let known : is_known (variables_of atoms) c.variable ≡ true = known_behind atoms [] c.variable ∙ or_false (stands_in atoms c.variable) ∙ not_false (stands_in atoms c.variable) parts.0 in
+    (record { variable = named_at (variables_of atoms) c.variable known; operator = refl; constant = refl }, compared_shown atoms cs parts.1)
+
 -- a query without a fault, by number
 pub shown_by : (rs : List Relation) (q : Query) (n : Numbered) → query_fault rs q ≡ None → IsNumbered rs q n → IsShownBy rs q n
 shown_by rs q n fault numbered =
     let sound = sound_of rs q fault in
     let named : labels n.variables ≡ variables_of q.atoms = ap labels numbered.variables ∙ labels_columns rs [] q.atoms sound.arity in
     let heads : n.head ≡ map (number_of (variables_of q.atoms)) q.head = numbered.head ∙ ap (λ (ls : List Label). map (number_of ls) q.head) named in
+    let tests : n.comparisons ≡ map (numbered_comparison (variables_of q.atoms)) q.comparisons = numbered.comparisons ∙ ap (λ (ls : List Label). map (numbered_comparison ls) q.comparisons) named in
     record {
       variables = named;
       body = subst (λ (ls : List Label). AreAtomsShown rs ls q.atoms n.atoms) (sym named) (atoms_shown rs [] (variables_of q.atoms) q.atoms n.atoms (λ k l e. e) numbered.atoms);
+      comparisons =
+          subst (λ (ls : List Label). AreComparisonsShown ls q.comparisons n.comparisons) (sym named)
+          (subst (λ (cs : List NumberedComparison). AreComparisonsShown (variables_of q.atoms) q.comparisons cs) (sym tests) (compared_shown q.atoms q.comparisons sound.compared_bound));
       one = subst (λ (ls : List Label). (k : ℕ) (x : Bytes) → slice_get ls k ≡ Some (Some x) → number_of ls x ≡ k) (sym named) (atoms_unique [] q.atoms none_unique);
       fresh = atoms_rise rs [] q.atoms n.atoms numbered.atoms;
       head = ap₂ (λ (ls : List Label) (ns : List ℕ). map (slice_get ls) ns) named heads ∙ head_shown q.atoms q.head sound.bound;

@@ -4,3 +4,4 @@ pub mod Standing
 pub mod Numbered
 pub mod Pattern
 pub mod Meaning
+pub mod Comparing

@@ -3,6 +3,7 @@ use Rattle.std.specs.Prelude.{ℕ, ◌+◌, ◌≤◌, List, [], ◌∷◌, ◌+
 use Rattle.djq_model.specs.declared.relation.Relation.{Relation}
 use Rattle.djq_model.specs.declared.query.Query.{Query}
 use Rattle.djq_model.specs.declared.query.Atom.{Atom}
+use Rattle.djq_model.specs.declared.query.Comparison.{Comparison}
 use Rattle.djq_model.specs.declared.query.Term.{Term}
 use Rattle.djq_model.specs.declared.query.Term.TheVariants.{Variable as Named, Hole, Constant}
 use Rattle.djq_model.specs.Data.{Bytes, relation_of}
@@ -11,6 +12,7 @@ use Rattle.djq_lines.specs.Variables.{Label, variables_of}
 use Rattle.djq_query.specs.declared.numbered.NumberedTerm.{NumberedTerm}
 use Rattle.djq_query.specs.declared.numbered.NumberedTerm.TheVariants.{Variable as Number, Constant as Fixed}
 use Rattle.djq_query.specs.declared.numbered.NumberedAtom.{NumberedAtom}
+use Rattle.djq_query.specs.declared.numbered.NumberedComparison.{NumberedComparison}
 use Rattle.djq_query.specs.Numbered.{Numbered, IsNumbered, labels, number_of}
 
 -- A term and the term that stands for it: a name's number has that name, a hole's has none, and a
@@ -37,6 +39,20 @@ AreAtomsShown rs ls (a ∷ atoms) (n ∷ ns) =
 AreAtomsShown rs ls [] (n ∷ ns) = ⊥
 AreAtomsShown rs ls (a ∷ atoms) [] = ⊥
 
+-- A comparison and the one that stands for it: its number has the variable's name, and the operator
+-- and the constant are the same.
+pub record IsComparisonShown (ls : List Label) (c : Comparison) (n : NumberedComparison) : Type 0
+  where
+    pub variable : slice_get ls n.variable ≡ Some (Some c.variable)
+    pub operator : n.operator ≡ c.operator
+    pub constant : n.constant ≡ c.constant
+
+abbrev pub AreComparisonsShown : List Label → List Comparison → List NumberedComparison → Type 0
+AreComparisonsShown ls [] [] = Unit {0}
+AreComparisonsShown ls (c ∷ cs) (n ∷ ns) = IsComparisonShown ls c n × AreComparisonsShown ls cs ns
+AreComparisonsShown ls [] (n ∷ ns) = ⊥
+AreComparisonsShown ls (c ∷ cs) [] = ⊥
+
 -- the numbers of the holes among terms, and in a body
 abbrev pub hole_of : Term → NumberedTerm → List ℕ
 hole_of Hole (Number k) = k ∷ []
@@ -58,11 +74,12 @@ Rise from [] = Unit {0}
 Rise from (k ∷ ks) = (from ≤ k) × Rise (k + 1) ks
 
 -- The numbers stand for the query: its variables are those of its body in the order in which they
--- first stand; term by term, each name has one number, each hole has one of its own, and the head's
--- numbers have the head's names.
+-- first stand; term by term, each name has one number, each hole has one of its own, each comparison
+-- is of the number of its variable, and the head's numbers have the head's names.
 pub record IsShownBy (rs : List Relation) (q : Query) (n : Numbered) : Type 0 where
   pub variables : labels n.variables ≡ variables_of q.atoms
   pub body : AreAtomsShown rs (labels n.variables) q.atoms n.atoms
+  pub comparisons : AreComparisonsShown (labels n.variables) q.comparisons n.comparisons
   pub one : (k : ℕ) (x : Bytes) → slice_get (labels n.variables) k ≡ Some (Some x) → number_of (labels n.variables) x ≡ k
   pub fresh : Rise 0 (holes_in q.atoms n.atoms)
   pub head : map (slice_get (labels n.variables)) n.head ≡ map (λ x. Some (Some x)) q.head

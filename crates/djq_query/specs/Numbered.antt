@@ -5,6 +5,7 @@ use Rattle.djq_model.specs.declared.relation.ColumnType.{ColumnType}
 use Rattle.djq_model.specs.declared.relation.Relation.{Relation}
 use Rattle.djq_model.specs.declared.query.Query.{Query}
 use Rattle.djq_model.specs.declared.query.Atom.{Atom}
+use Rattle.djq_model.specs.declared.query.Comparison.{Comparison}
 use Rattle.djq_model.specs.declared.query.Term.{Term}
 use Rattle.djq_model.specs.declared.query.Term.TheVariants.{Variable as Named, Hole, Constant}
 use Rattle.djq_model.specs.Data.{relation_of}
@@ -16,11 +17,13 @@ use Rattle.djq_query.specs.declared.numbered.Variable.{Variable}
 use Rattle.djq_query.specs.declared.numbered.NumberedTerm.{NumberedTerm}
 use Rattle.djq_query.specs.declared.numbered.NumberedTerm.TheVariants.{Variable as Number, Constant as Fixed}
 use Rattle.djq_query.specs.declared.numbered.NumberedAtom.{NumberedAtom}
+use Rattle.djq_query.specs.declared.numbered.NumberedComparison.{NumberedComparison}
 
--- a head and atoms over numbers, and the variable of each number
+-- a head, atoms and comparisons over numbers, and the variable of each number
 pub record Numbered : Type 0 where
   pub head : List ℕ
   pub atoms : List NumberedAtom
+  pub comparisons : List NumberedComparison
   pub variables : List Variable
 
 -- The numbering.
@@ -70,9 +73,18 @@ with_columns relations known a = with_places known a.terms (columns_of relations
 abbrev pub variables_in : List Relation → List Atom → List Variable
 variables_in relations atoms = fold (with_columns relations) [] atoms
 
+-- a comparison over the number of its variable
+abbrev pub numbered_comparison : List Label → Comparison → NumberedComparison
+numbered_comparison known c = record {
+  variable = number_of known c.variable;
+  operator = c.operator;
+  constant = c.constant;
+}
+
 -- A query by number.
 pub record IsNumbered (relations : List Relation) (q : Query) (n : Numbered) : Type 0 where
   pub atoms : AreNumbered relations [] q.atoms n.atoms
+  pub comparisons : n.comparisons ≡ map (numbered_comparison (labels n.variables)) q.comparisons
   pub variables : n.variables ≡ variables_in relations q.atoms
   pub head : n.head ≡ map (number_of (labels n.variables)) q.head
 
@@ -88,6 +100,7 @@ are_below count terms = list_all (is_below count) terms
 pub record IsWithin (n : Numbered) : Type 0 where
   pub few : length n.variables ≤ VARIABLES
   pub body : list_all (λ a. are_below (length n.variables) a.terms) n.atoms ≡ true
+  pub compared : list_all (λ c. nat_lt c.variable (length n.variables)) n.comparisons ≡ true
   pub narrow : length n.head ≤ HEAD_VARIABLES
   pub head : list_all (λ x. nat_lt x (length n.variables)) n.head ≡ true
 

@@ -2,10 +2,10 @@ ghost use Rattle.std.specs.Prelude.{◌≡◌, ℕ, ◌≤◌, ◌==◌, positio
 ghost use Rattle.std.specs.List.{list_any};
 ghost use Rattle.djq_hyper.specs.Hypergraph.{member};
 ghost use Rattle.djq_query.specs.Numbered.{is_number};
-ghost use Rattle.djq_query.specs.Pattern.{bound, slot_of};
+ghost use Rattle.djq_query.specs.Pattern.{bound, slot_of, test_of, tests_of};
 
-use crate::numbered::{NumberedAtom, NumberedTerm};
-use crate::pattern::{Pattern, Slot};
+use crate::numbered::{NumberedAtom, NumberedComparison, NumberedTerm};
+use crate::pattern::{Pattern, Slot, Test};
 use djq_hyper::VarSet;
 use djq_index::Cells;
 use djq_model::{NoMem, Sequence};
@@ -60,19 +60,54 @@ fn slots_of(
     Ok(slots)
 }
 
+// The tests that comparisons are for a tuple over these variables.
+fn tests_of(
+    alloc: Global,
+    members: &[u64],
+    comparisons: &[NumberedComparison],
+    constants: &[u64],
+) -> Result<Sequence<Test>, NoMem>
+    requires { length constants.now ≡ length comparisons.now }
+    ensures { IfOk result (λ tests. tests ≡ tests_of members.now comparisons.now constants.now) }
+{
+    let mut tests = Sequence::new(alloc);
+    'comparisons: for i in 0..comparisons.len() {
+        let comparison = &comparisons[i];
+        if let Some(place) = find(members, comparison.variable as u64) {
+            tests.push(Test {
+                place,
+                operator: comparison.operator,
+                cell: constants[i],
+            })?;
+        }
+    }
+    Ok(tests)
+}
+
 impl NumberedAtom {
-    /// The atom with its constants bound to cells. The label is the set of its variables, and there
-    /// is a cell for each term, which is read where the term is a constant.
-    pub fn bind(&self, alloc: Global, label: VarSet, cells: &[u64]) -> Result<Pattern, NoMem>
+    /// The atom with its constants bound to cells, and the body's comparisons of its variables as
+    /// tests. The label is the set of its variables; there is a cell for each term, which is read
+    /// where the term is a constant, and one for the constant of each comparison.
+    pub fn bind(
+        &self,
+        alloc: Global,
+        label: VarSet,
+        cells: &[u64],
+        comparisons: &[NumberedComparison],
+        constants: &[u64],
+    ) -> Result<Pattern, NoMem>
         requires label { (x : ℕ) → member x label ≡ list_any (is_number x) self.now.terms }
         requires narrow { length label ≤ 16 }
         requires cells { length cells.now ≡ length self.now.terms }
+        requires constants { length constants.now ≡ length comparisons.now }
         ensures width { IfOk result (λ p. p.width ≡ length label) }
         ensures slots { IfOk result (λ p. p.slots ≡ bound label self.now.terms cells.now) }
+        ensures tests { IfOk result (λ p. p.tests ≡ tests_of label comparisons.now constants.now) }
     {
         label.rises();
         let members = members(label);
         let slots = slots_of(alloc, members.as_slice(), self.terms.as_slice(), cells)?;
-        Ok(Pattern::new(label.len(), slots))
+        let tests = tests_of(alloc, members.as_slice(), comparisons, constants)?;
+        Ok(Pattern::new(label.len(), slots, tests))
     }
 }

@@ -2,16 +2,17 @@
 //! hypergraph, and the rows that match its atoms.
 //!
 //! ```text
-//! q(z,x) <- r(x,_), s(x,z,3)      x is 0, _ is 1, z is 2
-//!                                 head 2, 0; edges {0,1}, {0,2}
-//! the row (5,9,3) of s matches as (5,9), the row (5,9,4) doesn't
+//! q(z,x) <- r(x,_), s(x,z,3), z > 6   x is 0, _ is 1, z is 2
+//!                                     head 2, 0; edges {0,1}, {0,2}
+//! the row (5,9,3) of s matches as (5,9), the rows (5,9,4) and (5,6,3) don't
 //! ```
 //!
 //! [`query_fault`] gives the first fault of a query by the protocol's order, and takes no memory.
 //! [`number`] gives the query over numbers: relations by their numbers in [`Relations`], variables
-//! in the order in which they first stand, each `_` one of its own. [`NumberedAtom::bind`] turns an
-//! atom into a [`Pattern`], whose constants are cells, and [`Pattern::matches`] a row into the
-//! tuple over the atom's variables.
+//! in the order in which they first stand in atoms, each `_` one of its own. [`NumberedAtom::bind`]
+//! turns an atom into a [`Pattern`], whose constants are cells and whose [`Test`]s are the body's
+//! comparisons of its variables, and [`Pattern::matches`] a row into the tuple over the atom's
+//! variables.
 //!
 //! It reads no text, holds no relation and no row, and makes no text known: relations are asked of
 //! the caller, and so are the cells of constants.
@@ -23,17 +24,18 @@
 //! Inside, a fault is sought place by place, without a table of names: a line's length bounds the
 //! places. A row is matched in two passes over its columns. The first writes its cells at their
 //! variables' places, which gives the only tuple that may be meant; the second compares what that
-//! tuple gives with the row.
+//! tuple gives with the row. A tuple that is left is tried on the tests.
 #![tactic(auto)]
 
 pub use fault::query_fault;
-pub use laws::numbers_are_shown;
-pub use numbered::{NumberedAtom, NumberedQuery, NumberedTerm, Variable};
+pub use laws::{integers_are_compared, numbers_are_shown};
+pub use numbered::{NumberedAtom, NumberedComparison, NumberedQuery, NumberedTerm, Variable};
 pub use numbering::number;
-pub use pattern::{Pattern, Slot};
+pub use pattern::{Pattern, Slot, Test};
 pub use relations::Relations;
 
 mod bind;
+mod compared;
 mod edges;
 mod fault;
 mod laws;

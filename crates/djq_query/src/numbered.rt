@@ -1,7 +1,7 @@
 ghost use Rattle.std.specs.Prelude.{◌≡◌};
 ghost use Rattle.djq_query.specs.Numbered.{IsWithin};
 
-use djq_model::{ColumnType, Name, Sequence, Value};
+use djq_model::{ColumnType, Name, Operator, Sequence, Value};
 use std::marker::Model;
 
 /// A variable of a query: its name, or none for a hole, and the type of its columns.
@@ -31,12 +31,25 @@ pub struct NumberedAtom {
     pub terms: Sequence<NumberedTerm>,
 }
 
-/// A query whose variables are numbered from 0 in the order in which they first stand in the body,
-/// each hole one of its own. Every number is below that of the variables, and these are 64 at most.
+/// A comparison of a variable, by its number, with a constant.
+#[derive(Debug, Drop)]
+pub struct NumberedComparison {
+    /// The number of its variable.
+    pub variable: usize,
+    /// How the variable has to stand to the constant.
+    pub operator: Operator,
+    /// The constant.
+    pub constant: Value,
+}
+
+/// A query whose variables are numbered from 0 in the order in which they first stand in an atom,
+/// each hole one of its own. Every number is below that of the variables, and these are at most
+/// [`VARIABLES`](djq_lines::limits::VARIABLES).
 #[derive(Debug, Drop)]
 pub struct NumberedQuery {
     head: Sequence<usize>,
     atoms: Sequence<NumberedAtom>,
+    comparisons: Sequence<NumberedComparison>,
     variables: Sequence<Variable>,
 }
 
@@ -45,9 +58,9 @@ impl Model for NumberedQuery {
 
     ghost Value = { spec.Numbered };
 
-    ghost view = { λ q. record { head = q.head; atoms = q.atoms; variables = q.variables } };
+    ghost view = { λ q. record { head = q.head; atoms = q.atoms; comparisons = q.comparisons; variables = q.variables } };
 
-    ghost invariant = { λ q. spec.IsWithin (record { head = q.head; atoms = q.atoms; variables = q.variables }) };
+    ghost invariant = { λ q. spec.IsWithin (record { head = q.head; atoms = q.atoms; comparisons = q.comparisons; variables = q.variables }) };
 }
 
 impl NumberedQuery {
@@ -55,14 +68,16 @@ impl NumberedQuery {
     pub(crate) fn new(
         head: Sequence<usize>,
         atoms: Sequence<NumberedAtom>,
+        comparisons: Sequence<NumberedComparison>,
         variables: Sequence<Variable>,
     ) -> Self
-        requires { IsWithin (record { head = head; atoms = atoms; variables = variables }) }
-        ensures { result ≡ record { head = head; atoms = atoms; variables = variables } }
+        requires { IsWithin (record { head = head; atoms = atoms; comparisons = comparisons; variables = variables }) }
+        ensures { result ≡ record { head = head; atoms = atoms; comparisons = comparisons; variables = variables } }
     {
         NumberedQuery {
             head,
             atoms,
+            comparisons,
             variables,
         }
     }
@@ -79,6 +94,13 @@ impl NumberedQuery {
         ensures { result.now ≡ self.now.atoms }
     {
         self.atoms.as_slice()
+    }
+
+    /// The comparisons of the body, in its order.
+    pub fn comparisons(&self) -> &[NumberedComparison]
+        ensures { result.now ≡ self.now.comparisons }
+    {
+        self.comparisons.as_slice()
     }
 
     /// The variables, each at its number.

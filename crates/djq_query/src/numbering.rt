@@ -28,6 +28,7 @@ ghost use Rattle.djq_query.specs.Numbered.{
   number_of,
   numbered,
   numbered_terms,
+  numbered_comparison,
   with_place,
   with_places,
   with_columns,
@@ -37,10 +38,10 @@ ghost use Rattle.djq_query.specs.Numbered.{
 };
 
 use crate::fault::query_fault;
-use crate::numbered::{NumberedAtom, NumberedQuery, NumberedTerm, Variable};
+use crate::numbered::{NumberedAtom, NumberedComparison, NumberedQuery, NumberedTerm, Variable};
 use crate::relations::Relations;
 use djq_lines::Refusal;
-use djq_model::{Atom, ColumnType, Name, NoMem, Query, Sequence, Term, Text, Value};
+use djq_model::{Atom, ColumnType, Comparison, Name, NoMem, Query, Sequence, Term, Text, Value};
 use std::alloc::Global;
 
 // A copy of a value.
@@ -190,6 +191,36 @@ fn number_head(alloc: Global, known: &[Variable], head: &[Name]) -> Result<Seque
     Ok(numbers)
 }
 
+// A comparison over the number of its variable.
+fn number_comparison(
+    alloc: Global,
+    known: &[Variable],
+    comparison: &Comparison,
+) -> Result<NumberedComparison, NoMem>
+    ensures { IfOk result (λ n. n ≡ numbered_comparison (labels known.now) comparison.now) }
+{
+    Ok(NumberedComparison {
+        variable: place_of(known, &comparison.variable).unwrap_or(known.len()),
+        operator: comparison.operator,
+        constant: copy_value(alloc, &comparison.constant)?,
+    })
+}
+
+// Comparisons over the numbers of their variables.
+fn number_comparisons(
+    alloc: Global,
+    known: &[Variable],
+    comparisons: &[Comparison],
+) -> Result<Sequence<NumberedComparison>, NoMem>
+    ensures { IfOk result (λ ns. ns ≡ map (numbered_comparison (labels known.now)) comparisons.now) }
+{
+    let mut numbered = Sequence::new(alloc);
+    for comparison in comparisons {
+        numbered.push(number_comparison(alloc, known, comparison)?)?;
+    }
+    Ok(numbered)
+}
+
 /// The query by number over relations.
 ///
 /// # Errors
@@ -223,6 +254,8 @@ fn number_sound<R: Relations>(
 {
     let mut variables = Sequence::new(alloc);
     let atoms = number_body(alloc, relations, &mut variables, query.atoms.as_slice())?;
-    let head = number_head(alloc, variables.as_slice(), query.head.as_slice())?;
-    Ok(NumberedQuery::new(head, atoms, variables))
+    let known = variables.as_slice();
+    let comparisons = number_comparisons(alloc, known, query.comparisons.as_slice())?;
+    let head = number_head(alloc, known, query.head.as_slice())?;
+    Ok(NumberedQuery::new(head, atoms, comparisons, variables))
 }

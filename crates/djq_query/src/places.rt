@@ -14,8 +14,8 @@ ghost use Rattle.djq_query.specs.Clashes.{clashes_with, mixes};
 use crate::relations::{Relations, columns_of};
 use djq_model::{Atom, ColumnType, Name, Term, Value};
 
-// Whether a value is of a column's type.
-fn is_of(column: ColumnType, value: &Value) -> bool
+/// Whether a value is of a column's type.
+pub(crate) fn is_of(column: ColumnType, value: &Value) -> bool
     ensures { result ≡ is_of_type column value.now }
 {
     match (column, value) {

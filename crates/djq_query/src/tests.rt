@@ -4,7 +4,10 @@ ghost use Rattle.djq_model.specs.Data.{bytes_eq};
 use super::*;
 use crate::edges::variables_of;
 use djq_lines::Refusal;
-use djq_model::{Atom, ColumnType, Name, NoMem, Query, Relation, Sequence, Term, Text, Value};
+use djq_model::{
+    Atom, Atoms, ColumnType, Comparison, Comparisons, Name, NoMem, Operator, Query, Relation,
+    Sequence, Term, Text, Value,
+};
 use std::alloc::Global;
 use std::test::Fail;
 
@@ -89,27 +92,64 @@ fn read_atom(alloc: Global, letters: &[u8]) -> Result<Atom, NoMem> {
     Ok(Atom { relation, terms })
 }
 
-/// A query whose head is letters, over atoms with a space between.
+/// The operator of a letter: `[` is `<=`, `]` is `>=` and `!` is `!=`.
+fn read_operator(letter: u8) -> Option<Operator> {
+    match letter {
+        b'<' => Some(Operator::Less),
+        b'[' => Some(Operator::LessOrEqual),
+        b'>' => Some(Operator::Greater),
+        b']' => Some(Operator::GreaterOrEqual),
+        b'=' => Some(Operator::Equal),
+        b'!' => Some(Operator::NotEqual),
+        _ => None,
+    }
+}
+
+/// An item of a body: a comparison where its second letter is an operator, else an atom.
+fn push_item(
+    alloc: Global,
+    atoms: &mut Atoms,
+    comparisons: &mut Comparisons,
+    item: &[u8],
+) -> Result<(), NoMem> {
+    if item.len() == 3 {
+        if let Some(operator) = read_operator(item[1]) {
+            if let Term::Constant(constant) = read_term(alloc, item[2])? {
+                return comparisons.push(Comparison {
+                    variable: Name::new(&item[..1]),
+                    operator,
+                    constant,
+                    behind: atoms.len(),
+                });
+            }
+        }
+    }
+    atoms.push(read_atom(alloc, item)?)
+}
+
+/// A query whose head is letters, over atoms and comparisons with a space between.
 fn read(alloc: Global, letters: &[u8], body: &[u8]) -> Result<Query, NoMem> {
     let mut head = Sequence::new(alloc);
     for letter in letters {
         head.push(Name::new(&[*letter]))?;
     }
     let mut atoms = Sequence::new(alloc);
+    let mut comparisons = Sequence::new(alloc);
     let mut from = 0;
     for i in 0..body.len() {
         if body[i] == b' ' && from <= i {
-            atoms.push(read_atom(alloc, &body[from..i])?)?;
+            push_item(alloc, &mut atoms, &mut comparisons, &body[from..i])?;
             from = i + 1;
         }
     }
     if from <= body.len() {
-        atoms.push(read_atom(alloc, &body[from..])?)?;
+        push_item(alloc, &mut atoms, &mut comparisons, &body[from..])?;
     }
     Ok(Query {
         name: Name::new(b"q"),
         head,
         atoms,
+        comparisons,
     })
 }
 
@@ -128,6 +168,7 @@ fn is_refused(alloc: Global, head: &[u8], body: &[u8], refusal: Refusal) -> Resu
 #[test]
 fn finds_no_fault(rt: HostRuntime) -> Result<(), Fail> {
     assert_eq!(rt; fault_of(rt.alloc(), b"xy", b"rxy sx ty")?, None);
+    assert_eq!(rt; fault_of(rt.alloc(), b"xy", b"x<3 rxy y!A x]0 y=B")?, None);
     Ok(())
 }
 
@@ -157,7 +198,22 @@ fn refuses_constants_of_other_types(rt: HostRuntime) -> Result<(), Fail> {
 #[test]
 fn refuses_variables_of_two_types(rt: HostRuntime) -> Result<(), Fail> {
     assert!(rt; is_refused(rt.alloc(), b"x", b"sx ry_ tx", Refusal::VariableType)?);
-    assert!(rt; is_refused(rt.alloc(), b"yy", b"rxx sy", Refusal::VariableType)?);
+    assert!(rt; is_refused(rt.alloc(), b"x", b"rxx z<1", Refusal::VariableType)?);
+    Ok(())
+}
+
+#[test]
+fn refuses_comparisons_of_unbound_variables(rt: HostRuntime) -> Result<(), Fail> {
+    assert!(rt; is_refused(rt.alloc(), b"x", b"rx_ z<1", Refusal::Unbound)?);
+    assert!(rt; is_refused(rt.alloc(), b"x", b"rx_ x=A z<1", Refusal::Unbound)?);
+    Ok(())
+}
+
+#[test]
+fn refuses_comparisons_of_other_types(rt: HostRuntime) -> Result<(), Fail> {
+    assert!(rt; is_refused(rt.alloc(), b"x", b"rx_ x=A", Refusal::WrongType)?);
+    assert!(rt; is_refused(rt.alloc(), b"y", b"r_y y<A", Refusal::WrongType)?);
+    assert!(rt; is_refused(rt.alloc(), b"xx", b"rx_ x!A", Refusal::WrongType)?);
     Ok(())
 }
 
@@ -176,9 +232,28 @@ fn refuses_unbound_heads(rt: HostRuntime) -> Result<(), Fail> {
 
 #[test]
 fn refuses_too_many_atoms(rt: HostRuntime) -> Result<(), Fail> {
-    let body: &[u8] = b"s_ s_ s_ s_ s_ s_ s_ s_ s_ s_ s_ s_ s_ s_ s_ s_ s_";
+    let body: &[u8] =
+        b"s_ s_ s_ s_ s_ s_ s_ s_ s_ s_ s_ s_ s_ s_ s_ s_ s_ s_ s_ s_ s_ s_ s_ s_ s_ s_ s_ s_ s_ s_ s_ s_ s_";
+    assert_eq!(rt; fault_of(rt.alloc(), b"", &body[3..])?, None);
     assert!(rt; is_refused(rt.alloc(), b"", body, Refusal::Limit)?);
     assert!(rt; is_refused(rt.alloc(), b"x", body, Refusal::HeadUnbound)?);
+    Ok(())
+}
+
+/// What is wrong with a query of so many comparisons.
+fn fault_of_many(alloc: Global, count: usize) -> Result<Option<Refusal>, NoMem> {
+    let relations = four_relations(alloc)?;
+    let mut query = read(alloc, b"x", b"sx")?;
+    for _ in 0..count {
+        push_item(alloc, &mut query.atoms, &mut query.comparisons, b"x<1")?;
+    }
+    Ok(query_fault(&relations, &query))
+}
+
+#[test]
+fn refuses_too_many_comparisons(rt: HostRuntime) -> Result<(), Fail> {
+    assert_eq!(rt; fault_of_many(rt.alloc(), 32)?, None);
+    assert_eq!(rt; fault_of_many(rt.alloc(), 33)?, Some(Refusal::Limit));
     Ok(())
 }
 
@@ -219,6 +294,22 @@ fn numbers_by_first_occurrence(rt: HostRuntime) -> Result<(), Fail> {
 }
 
 #[test]
+fn numbers_comparisons_by_the_atoms(rt: HostRuntime) -> Result<(), Fail> {
+    let alloc = rt.alloc();
+    let relations = four_relations(alloc)?;
+    let query = read(alloc, b"y", b"y=A x<3 rxy")?;
+    let Ok(numbered) = number(alloc, &relations, &query) else {
+        assert!(rt; false);
+        return Ok(());
+    };
+    let comparisons = numbered.comparisons();
+    assert_eq!(rt; comparisons.len(), 2);
+    assert!(rt; comparisons[0].variable == 1 && comparisons[0].operator == Operator::Equal);
+    assert!(rt; comparisons[1].variable == 0 && comparisons[1].operator == Operator::Less);
+    Ok(())
+}
+
+#[test]
 fn gives_the_hypergraph(rt: HostRuntime) -> Result<(), Fail> {
     let alloc = rt.alloc();
     let relations = four_relations(alloc)?;
@@ -250,26 +341,29 @@ fn gives_each_variable_its_name_and_type(rt: HostRuntime) -> Result<(), Fail> {
     Ok(())
 }
 
-/// The pattern of a query's first atom, given a cell for each of its terms.
-fn first_pattern(
+/// The pattern of an atom of a query, given a cell for each of its terms and for each comparison.
+fn pattern_at(
     alloc: Global,
     query: &NumberedQuery,
+    at: usize,
     cells: &[u64],
+    constants: &[u64],
 ) -> Result<Option<Pattern>, NoMem> {
     query.within();
     let atoms = query.atoms();
-    if atoms.is_empty() {
+    if at >= atoms.len() {
         return Ok(None);
     }
-    let atom = &atoms[0];
-    if cells.len() != atom.terms.len() {
+    let atom = &atoms[at];
+    let comparisons = query.comparisons();
+    if cells.len() != atom.terms.len() || constants.len() != comparisons.len() {
         return Ok(None);
     }
     let label = variables_of(atom.terms.as_slice());
     if label.len() > 16 {
         return Ok(None);
     }
-    let pattern = atom.bind(alloc, label, cells)?;
+    let pattern = atom.bind(alloc, label, cells, comparisons, constants)?;
     Ok(Some(pattern))
 }
 
@@ -291,7 +385,7 @@ fn matches_rows(rt: HostRuntime) -> Result<(), Fail> {
         assert!(rt; false);
         return Ok(());
     };
-    let Some(pattern) = first_pattern(alloc, &numbered, &[0, 0, 3])? else {
+    let Some(pattern) = pattern_at(alloc, &numbered, 0, &[0, 0, 3], &[])? else {
         assert!(rt; false);
         return Ok(());
     };
@@ -300,5 +394,92 @@ fn matches_rows(rt: HostRuntime) -> Result<(), Fail> {
     assert_eq!(rt; first_cell(&pattern, &[1, 2, 3]), None);
     assert_eq!(rt; first_cell(&pattern, &[2, 2, 4]), None);
     assert_eq!(rt; first_cell(&pattern, &[5, 5, 3]), Some(5));
+    Ok(())
+}
+
+/// Whether an atom's pattern matches a row of one cell, given the cells of the comparisons.
+fn takes(
+    alloc: Global,
+    body: &[u8],
+    at: usize,
+    constants: &[u64],
+    cell: u64,
+) -> Result<bool, NoMem> {
+    let relations = four_relations(alloc)?;
+    let query = read(alloc, b"x", body)?;
+    let Ok(numbered) = number(alloc, &relations, &query) else {
+        return Ok(false);
+    };
+    match pattern_at(alloc, &numbered, at, &[0], constants)? {
+        Some(pattern) => Ok(first_cell(&pattern, &[cell]).is_some()),
+        None => Ok(false),
+    }
+}
+
+/// The cells of -2^63, of 2^63 - 1 and of -1.
+const LEAST: u64 = 0x8000_0000_0000_0000;
+
+const GREATEST: u64 = 0x7fff_ffff_ffff_ffff;
+
+const MINUS_ONE: u64 = 0xffff_ffff_ffff_ffff;
+
+#[test]
+fn compares_at_the_least_integer(rt: HostRuntime) -> Result<(), Fail> {
+    let alloc = rt.alloc();
+    assert!(rt; !takes(alloc, b"sx x<0", 0, &[LEAST], LEAST)?);
+    assert!(rt; !takes(alloc, b"sx x<0", 0, &[LEAST], GREATEST)?);
+    assert!(rt; takes(alloc, b"sx x[0", 0, &[LEAST], LEAST)?);
+    assert!(rt; !takes(alloc, b"sx x[0", 0, &[LEAST], LEAST + 1)?);
+    assert!(rt; takes(alloc, b"sx x>0", 0, &[LEAST], LEAST + 1)?);
+    assert!(rt; !takes(alloc, b"sx x>0", 0, &[LEAST], LEAST)?);
+    assert!(rt; takes(alloc, b"sx x]0", 0, &[LEAST], GREATEST)?);
+    Ok(())
+}
+
+#[test]
+fn compares_at_the_greatest_integer(rt: HostRuntime) -> Result<(), Fail> {
+    let alloc = rt.alloc();
+    assert!(rt; takes(alloc, b"sx x<0", 0, &[GREATEST], LEAST)?);
+    assert!(rt; !takes(alloc, b"sx x<0", 0, &[GREATEST], GREATEST)?);
+    assert!(rt; takes(alloc, b"sx x[0", 0, &[GREATEST], GREATEST)?);
+    assert!(rt; !takes(alloc, b"sx x>0", 0, &[GREATEST], LEAST)?);
+    assert!(rt; takes(alloc, b"sx x]0", 0, &[GREATEST], GREATEST)?);
+    assert!(rt; !takes(alloc, b"sx x]0", 0, &[GREATEST], GREATEST - 1)?);
+    Ok(())
+}
+
+#[test]
+fn compares_across_zero(rt: HostRuntime) -> Result<(), Fail> {
+    let alloc = rt.alloc();
+    assert!(rt; takes(alloc, b"sx x<0", 0, &[0], MINUS_ONE)?);
+    assert!(rt; !takes(alloc, b"sx x<0", 0, &[0], 0)?);
+    assert!(rt; takes(alloc, b"sx x>0", 0, &[MINUS_ONE], 0)?);
+    assert!(rt; !takes(alloc, b"sx x>0 x<5", 0, &[0, 5], 5)?);
+    assert!(rt; takes(alloc, b"sx x>0 x<5", 0, &[0, 5], 4)?);
+    Ok(())
+}
+
+#[test]
+fn compares_texts_by_their_numbers(rt: HostRuntime) -> Result<(), Fail> {
+    let alloc = rt.alloc();
+    assert!(rt; takes(alloc, b"tx x=A", 0, &[7], 7)?);
+    assert!(rt; !takes(alloc, b"tx x=A", 0, &[7], 8)?);
+    assert!(rt; !takes(alloc, b"tx x!A", 0, &[7], 7)?);
+    assert!(rt; takes(alloc, b"tx x!A", 0, &[7], 8)?);
+    Ok(())
+}
+
+#[test]
+fn tests_each_atom_that_has_the_variable(rt: HostRuntime) -> Result<(), Fail> {
+    let alloc = rt.alloc();
+    // both atoms of a self-join have x
+    assert!(rt; !takes(alloc, b"sx sx x<5", 0, &[5], 5)?);
+    assert!(rt; !takes(alloc, b"sx sx x<5", 1, &[5], 5)?);
+    // the second atom doesn't have it
+    assert!(rt; !takes(alloc, b"sx sy x<5", 0, &[5], 5)?);
+    assert!(rt; takes(alloc, b"sx sy x<5", 1, &[5], 5)?);
+    // two atoms over two relations have it
+    assert!(rt; !takes(alloc, b"ux_3 sx x<5", 1, &[5], 5)?);
+    assert!(rt; takes(alloc, b"ux_3 sx x<5", 1, &[5], 4)?);
     Ok(())
 }

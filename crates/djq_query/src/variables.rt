@@ -38,8 +38,8 @@ fn stands_among(terms: &[Term], name: &Name) -> bool
     false
 }
 
-// Whether the variable of a name is in an atom.
-fn stands_in(atoms: &[Atom], name: &Name) -> bool
+/// Whether the variable of a name is in an atom.
+pub(crate) fn stands_in(atoms: &[Atom], name: &Name) -> bool
     ensures { result ≡ stands_in_atoms atoms.now name.now }
 {
     for atom in atoms {

@@ -42,11 +42,12 @@ impl Model for Reducts {
     ghost view = { λ r. record { tree = r.tree; tables = r.tables.items } };
 
     ghost use Rattle.std.specs.Prelude.{◌≡◌, length};
+    ghost use Rattle.djq_hyper.specs.declared.var_set.TheConstants.{VARIABLES};
     ghost use Rattle.djq_reduct.specs.Heads.{head_columns, head_places};
 
     ghost invariant = { λ r. spec.IsReducts (record { tree = r.tree; tables = r.tables.items })
         × (r.columns.items ≡ head_columns r.tree (length r.tree.nodes))
-        × (r.places.items ≡ head_places r.tree.head 64) };
+        × (r.places.items ≡ head_places r.tree.head VARIABLES) };
 }
 
 impl Reducts {

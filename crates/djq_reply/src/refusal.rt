@@ -22,5 +22,6 @@ pub(crate) fn refusal_words(refusal: Refusal) -> &'static [u8]
         Refusal::Limit => b"err 11 limit",
         Refusal::NoMemory => b"err 12 memory",
         Refusal::InUse => b"err 14 in use",
+        Refusal::Unbound => b"err 16 unbound",
     }
 }

@@ -11,7 +11,7 @@ use std::test::Fail;
 
 #[test]
 fn refusals_have_their_words(rt: HostRuntime) -> Result<(), Fail> {
-    let cases: [(Refusal, &[u8]); 13] = [
+    let cases: [(Refusal, &[u8]); 14] = [
         (Refusal::Syntax, b"err 1 syntax\n"),
         (Refusal::Taken, b"err 2 taken\n"),
         (Refusal::NoRelation, b"err 3 no relation\n"),
@@ -25,6 +25,7 @@ fn refusals_have_their_words(rt: HostRuntime) -> Result<(), Fail> {
         (Refusal::Limit, b"err 11 limit\n"),
         (Refusal::NoMemory, b"err 12 memory\n"),
         (Refusal::InUse, b"err 14 in use\n"),
+        (Refusal::Unbound, b"err 16 unbound\n"),
     ];
     for (refusal, want) in cases {
         let mut out = BytesMut::with_capacity(rt.alloc(), REPLY_BYTES + LAST_LINE_BYTES)?;

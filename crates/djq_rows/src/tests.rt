@@ -3,6 +3,7 @@ ghost use Rattle.djq_model.specs.Typed.{is_of};
 
 use super::*;
 use djq_index::CELLS;
+use djq_lines::limits::COLUMNS;
 use djq_lines::{AddOutcome, DeleteOutcome};
 use djq_model::{ColumnType, Lent, Name, Row, Text, Types, Value};
 use djq_steps::{Blanks, Ledgers, Steps, Tally};
@@ -39,7 +40,7 @@ fn make(alloc: Global, catalog: &mut Catalog, name: &[u8]) -> Result<RelationId,
     let mut types = Types::new(alloc);
     types.push(ColumnType::Int)?;
     types.push(ColumnType::Text)?;
-    if name.len() > 32 || types.is_empty() || types.len() > 8 {
+    if name.len() > 32 || types.is_empty() || types.len() > COLUMNS {
         return Err(RowsRefusal::Full)?;
     }
     Ok(catalog.relation(Name::new(name), types)?)
@@ -396,11 +397,49 @@ fn agree_long<L: Ledger>(
     Ok(true)
 }
 
+/// A relation of as many columns of integers as may be.
+fn make_wide(alloc: Global, catalog: &mut Catalog) -> Result<RelationId, Fail> {
+    let mut types = Types::new(alloc);
+    for _column in 0..COLUMNS {
+        types.push(ColumnType::Int)?;
+    }
+    if types.len() != COLUMNS {
+        return Err(RowsRefusal::Full)?;
+    }
+    Ok(catalog.relation(Name::new(b"wide"), types)?)
+}
+
+/// A row of so many integers, from zero on.
+fn counting(alloc: Global, count: usize) -> Result<Row, Fail> {
+    let mut row = Row::new(alloc);
+    let mut number: i64 = 0;
+    for _column in 0..count {
+        row.push(Value::Int(number))?;
+        number = number.wrapping_add(1);
+    }
+    Ok(row)
+}
+
+/// What adding a row to the widest relation answers, and one without its last value; and the cells.
+fn keep_wide<L: Ledger>(
+    alloc: Global,
+    catalog: &mut Catalog,
+    tally: &mut Tally<L>,
+) -> Result<(Option<AddOutcome>, Option<AddOutcome>, Vec<u64>), Fail> {
+    let id = make_wide(alloc, catalog)?;
+    let whole = counting(alloc, COLUMNS)?;
+    let short = counting(alloc, COLUMNS - 1)?;
+    let added = add(catalog, id, whole.as_slice(), tally)?;
+    let unfit = add(catalog, id, short.as_slice(), tally)?;
+    Ok((added, unfit, all_cells(alloc, catalog, id, tally)?))
+}
+
 #[derive(Drop)]
 struct Seen {
     kept: Kept,
     text: (Option<u64>, u64, Option<u64>),
     long: bool,
+    wide: (Option<AddOutcome>, Option<AddOutcome>, Vec<u64>),
 }
 
 fn see<L: Ledger>(
@@ -415,7 +454,13 @@ fn see<L: Ledger>(
     let text = letter(alloc, b'q')?;
     let text = keep_text(catalog, row.as_slice(), &text)?;
     let long = agree_long(alloc, catalog, s, tally)?;
-    Ok(Seen { kept, text, long })
+    let wide = keep_wide(alloc, catalog, tally)?;
+    Ok(Seen {
+        kept,
+        text,
+        long,
+        wide,
+    })
 }
 
 fn on_ledgers<L: Ledgers>(
@@ -447,6 +492,11 @@ fn keeps_rows_and_texts(rt: HostRuntime) -> Result<(), Fail> {
     assert!(rt; seen.kept.deleted == (Some(left), Some(last), Some(DeleteOutcome::Absent)));
     assert!(rt; seen.text == (None, 2, Some(2)));
     assert!(rt; seen.long);
+    assert!(rt; seen.wide.0 == Some(AddOutcome::First) && seen.wide.1.is_none());
+    assert_eq!(rt;
+        seen.wide.2.as_slice(),
+        [0, 1, 2, 3, 4, 5, 6, 7, 8, 9, 10, 11, 12, 13, 14, 15].as_slice()
+    );
     Ok(())
 }
 

@@ -1,7 +1,7 @@
 -- The numbers of statuses.
 use Rattle.std.specs.Prelude.{ℕ}
 use Rattle.djq_run.specs.declared.status.Status.{Status}
-use Rattle.djq_run.specs.declared.status.Status.TheVariants.{Done, Usage, ReadFault, WriteFault, HubFault, TurnsUsed, NoMemory, Schedule, SessionEnded}
+use Rattle.djq_run.specs.declared.status.Status.TheVariants.{Done, Usage, ReadFault, WriteFault, HubFault, TurnsUsed, NoMemory, Schedule, SessionEnded, DiskFault, LogFull, BadLog}
 
 -- The number with which the process ends.
 abbrev pub number_of : Status → ℕ
@@ -14,3 +14,6 @@ number_of TurnsUsed = 5
 number_of NoMemory = 6
 number_of (Schedule n) = 7
 number_of SessionEnded = 8
+number_of DiskFault = 9
+number_of LogFull = 10
+number_of (BadLog at) = 11

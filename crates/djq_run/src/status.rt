@@ -22,6 +22,12 @@ pub enum Status {
     Schedule(u64),
     /// 8: the session was ended by a line that was too long, or by too many pending bytes.
     SessionEnded,
+    /// 9: the disk of the log failed.
+    DiskFault,
+    /// 10: the log has no room for a line.
+    LogFull,
+    /// 11: the file isn't a log that can be loaded, from this place in it on.
+    BadLog(u64),
 }
 
 impl Status {
@@ -39,6 +45,9 @@ impl Status {
             Status::NoMemory => 6,
             Status::Schedule(_) => 7,
             Status::SessionEnded => 8,
+            Status::DiskFault => 9,
+            Status::LogFull => 10,
+            Status::BadLog(_) => 11,
         }
     }
 }

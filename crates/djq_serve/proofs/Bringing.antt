@@ -1,5 +1,5 @@
 -- What a turn brings, up to the flush or the lines behind it.
-use Rattle.std.specs.Prelude.{ℕ, List, [], ◌∷◌, ◌≡◌, ◌+◌, ◌<◌, ◌≤◌, cond, Option, None, Some, Err, length, take, All}
+use Rattle.std.specs.Prelude.{ℕ, List, [], ◌∷◌, ◌≡◌, ◌<◌, ◌≤◌, cond, Option, None, Some, Err, length, take, All}
 use Rattle.std.proofs.Common.{refl, sym, ap, ◌∙◌, subst, inl, inr, length-take, arith}
 use Rattle.std.proofs.lemmas.Bool.{lt-ltb, le-ltb}
 use Rattle.std.proofs.lemmas.List.Sorted.{IsPermutation-refl}
@@ -23,7 +23,7 @@ use Rattle.djq_serve.specs.declared.served.Served.{Served}
 use Rattle.djq_serve.specs.declared.served.Served.TheVariants.{HubFault}
 use Rattle.djq_serve.specs.Told.{Shown, Tells, turns_in}
 use Rattle.djq_serve.specs.Server.{next_turn, no_turn, waiting, lines, flushing, closing, server, offering, LetsIn, refusal_for}
-use Rattle.djq_serve.specs.Goes.{seen, Goes}
+use Rattle.djq_serve.specs.Goes.{Far, one_turn, seen, Goes}
 use Rattle.djq_serve.specs.Kept.{Agrees, IsNew}
 use Rattle.djq_serve.specs.Parts.{Admits, Refuses, MayAnswer, TurnAnswers}
 use Rattle.djq_serve.proofs.Telling.{tells_none, tells_more}
@@ -92,38 +92,38 @@ none_more : (s : ℕ) (st new : State) (more : List Told) → LetsIn s st more n
 none_more s st new more (inl h) = ap turns_in h.1
 none_more s st new more (inr h) = ap turns_in h.3
 
-pub turn_opens : (hub mid hub' : Shown) (counted : Counts) (turns : ℕ) (st new : State) (s : ℕ) → Tells hub mid (Turning (Opened s) [] ∷ []) → Admits st mid s new hub'
-    → Goes (seen hub counted turns) (server st waiting) (seen hub' counted (turns + 1)) (server new (flushing 0 next_turn))
-turn_opens hub mid hub' counted turns st new s told a =
-    turn_goes hub hub' counted turns st new (Opened s) [] a.more _ (flushing 0 next_turn)
-    (happens (opened s) st new a.makes, a.lets_in, refl) (none_more s st new a.more a.lets_in) (tells_more hub mid hub' (Turning (Opened s) [] ∷ []) a.more told a.told)
+pub turn_opens : (hub mid hub' : Shown) (counted : Counts) (f : Far) (st new : State) (s : ℕ) → Tells hub mid (Turning (Opened s) [] ∷ []) → Admits st mid s new hub'
+    → Goes (seen hub counted f) (server st waiting) (seen hub' counted (one_turn f)) (server new (flushing 0 next_turn))
+turn_opens hub mid hub' counted f st new s told a =
+    turn_goes hub hub' counted f st new (Opened s) [] a.more _ (flushing 0 next_turn)
+    (happens (opened s) st new a.makes, a.lets_in, refl) (none_more s st new a.more a.lets_in) refl (tells_more hub mid hub' (Turning (Opened s) [] ∷ []) a.more told a.told)
 
 -- bytes came
-pub turn_feeds : (hub hub' : Shown) (counted : Counts) (turns : ℕ) (st new : State) (s n : ℕ) (buf : Bytes) → 1 ≤ n → n ≤ length buf → length buf ≡ READ_BYTES → Makes st (fed s (take n buf)) new
+pub turn_feeds : (hub hub' : Shown) (counted : Counts) (f : Far) (st new : State) (s n : ℕ) (buf : Bytes) → 1 ≤ n → n ≤ length buf → length buf ≡ READ_BYTES → Makes st (fed s (take n buf)) new
     → Tells hub hub' (Turning (Brought s n) (take n buf) ∷ [])
-    → Goes (seen hub counted turns) (server st waiting) (seen hub' counted (turns + 1)) (server new (lines s))
-turn_feeds hub hub' counted turns st new s n buf some within room makes told =
-    turn_goes hub hub' counted turns st new (Brought s n) (take n buf) [] _ (lines s)
-    (happens (fed s (take n buf)) st new makes, refl, refl, (omega (arith, length-take n buf, within), omega (arith, some), omega (arith, within, room))) refl told
+    → Goes (seen hub counted f) (server st waiting) (seen hub' counted (one_turn f)) (server new (lines s))
+turn_feeds hub hub' counted f st new s n buf some within room makes told =
+    turn_goes hub hub' counted f st new (Brought s n) (take n buf) [] _ (lines s)
+    (happens (fed s (take n buf)) st new makes, refl, refl, (omega (arith, length-take n buf, within), omega (arith, some), omega (arith, within, room))) refl refl told
 
 -- the input of a session ended
-pub turn_ends : (hub hub' : Shown) (counted : Counts) (turns : ℕ) (st new : State) (s : ℕ) → Makes st (ended s) new → Tells hub hub' (Turning (Ended s) [] ∷ [])
-    → Goes (seen hub counted turns) (server st waiting) (seen hub' counted (turns + 1)) (server new (flushing 0 next_turn))
-turn_ends hub hub' counted turns st new s makes told =
-    turn_goes hub hub' counted turns st new (Ended s) [] [] _ (flushing 0 next_turn) (happens (ended s) st new makes, refl, refl) refl told
+pub turn_ends : (hub hub' : Shown) (counted : Counts) (f : Far) (st new : State) (s : ℕ) → Makes st (ended s) new → Tells hub hub' (Turning (Ended s) [] ∷ [])
+    → Goes (seen hub counted f) (server st waiting) (seen hub' counted (one_turn f)) (server new (flushing 0 next_turn))
+turn_ends hub hub' counted f st new s makes told =
+    turn_goes hub hub' counted f st new (Ended s) [] [] _ (flushing 0 next_turn) (happens (ended s) st new makes, refl, refl) refl refl told
 
 -- nothing came, nothing will come, or the hub failed
-pub turn_idles : (hub hub' : Shown) (counted : Counts) (turns : ℕ) (st : State) → Tells hub hub' (Turning Idle [] ∷ [])
-    → Goes (seen hub counted turns) (server st waiting) (seen hub' counted (turns + 1)) (server st (flushing 0 next_turn))
-turn_idles hub hub' counted turns st told = turn_goes hub hub' counted turns st st Idle [] [] [] (flushing 0 next_turn) ((refl, refl), refl, refl) refl told
+pub turn_idles : (hub hub' : Shown) (counted : Counts) (f : Far) (st : State) → Tells hub hub' (Turning Idle [] ∷ [])
+    → Goes (seen hub counted f) (server st waiting) (seen hub' counted (one_turn f)) (server st (flushing 0 next_turn))
+turn_idles hub hub' counted f st told = turn_goes hub hub' counted f st st Idle [] [] [] (flushing 0 next_turn) ((refl, refl), refl, refl) refl refl told
 
-pub turn_over : (hub hub' : Shown) (counted : Counts) (turns : ℕ) (st : State) → Tells hub hub' (Turning HubOver [] ∷ [])
-    → Goes (seen hub counted turns) (server st waiting) (seen hub' counted (turns + 1)) (server st (flushing 0 no_turn))
-turn_over hub hub' counted turns st told = turn_goes hub hub' counted turns st st HubOver [] [] [] (flushing 0 no_turn) ((refl, refl), refl, refl) refl told
+pub turn_over : (hub hub' : Shown) (counted : Counts) (f : Far) (st : State) → Tells hub hub' (Turning HubOver [] ∷ [])
+    → Goes (seen hub counted f) (server st waiting) (seen hub' counted (one_turn f)) (server st (flushing 0 no_turn))
+turn_over hub hub' counted f st told = turn_goes hub hub' counted f st st HubOver [] [] [] (flushing 0 no_turn) ((refl, refl), refl, refl) refl refl told
 
-pub turn_fails : (hub hub' : Shown) (counted : Counts) (turns : ℕ) (st : State) → Tells hub hub' (Turning Failed [] ∷ [])
-    → Goes (seen hub counted turns) (server st waiting) (seen hub' counted (turns + 1)) (server st (closing HubFault))
-turn_fails hub hub' counted turns st told = turn_goes hub hub' counted turns st st Failed [] [] [] (closing HubFault) ((refl, refl), refl, refl) refl told
+pub turn_fails : (hub hub' : Shown) (counted : Counts) (f : Far) (st : State) → Tells hub hub' (Turning Failed [] ∷ [])
+    → Goes (seen hub counted f) (server st waiting) (seen hub' counted (one_turn f)) (server st (closing HubFault))
+turn_fails hub hub' counted f st told = turn_goes hub hub' counted f st st Failed [] [] [] (closing HubFault) ((refl, refl), refl, refl) refl refl told
 
 -- what the end of a turn answers, where the hub met no fault in it
 pub quiet_answers : (r : Option Served) (before now : ℕ) → MayAnswer r → now ≡ before → TurnAnswers r before now

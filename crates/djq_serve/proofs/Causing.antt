@@ -1,5 +1,5 @@
 -- Each answer has its cause: what stands at each place of the server.
-use Rattle.std.specs.Prelude.{ℕ, List, [], ◌∷◌, ◌++◌, ◌≡◌, ◌||◌, Bool, true, false, cond, Option, None, Some, take}
+use Rattle.std.specs.Prelude.{ℕ, List, [], ◌∷◌, ◌++◌, ◌≡◌, ◌&&◌, ◌||◌, Bool, true, false, not, cond, Option, None, Some, take}
 use Rattle.std.proofs.Common.{refl, sym, ap, ap₂, ◌∙◌, subst, inl, inr, append-nil, append_assoc}
 use Rattle.std.proofs.lemmas.List.Folds.{list_any-append}
 use Rattle.djq_io.specs.declared.hub.Turn.{Turn}
@@ -10,16 +10,17 @@ use Rattle.djq_io.specs.declared.hub.Told.{Told}
 use Rattle.djq_io.specs.declared.hub.Told.TheVariants.{Turning, Closing}
 use Rattle.djq_model.specs.Data.{Bytes}
 use Rattle.djq_machine.specs.State.{State}
+use Rattle.djq_machine.specs.Keeping.{Keeping, no_line, the_line}
 use Rattle.djq_machine.specs.LineStep.{LineOutcome, long, blank, slow, no_room, run}
-use Rattle.djq_machine.specs.Step.{Event, took, closed}
-use Rattle.djq_machine.specs.Run.{Did, Walk, pending_of}
+use Rattle.djq_machine.specs.Step.{Event, stepped, took, closed}
+use Rattle.djq_machine.specs.Run.{Did, Group, Walk, pending_of}
 use Rattle.djq_machine.specs.Call.{first_due}
 use Rattle.djq_laws.proofs.Finding.{some_and}
-use Rattle.djq_laws.proofs.Stopping.{IsNoLine, step_stopped}
+use Rattle.djq_laws.proofs.Stopping.{IsNoLine, step_stopped, kept_says_no_stop}
 use Rattle.djq_serve.specs.declared.served.Served.{Served}
-use Rattle.djq_serve.specs.declared.served.Served.TheVariants.{Stopped, TurnsUsed, HubFault}
+use Rattle.djq_serve.specs.declared.served.Served.TheVariants.{Stopped, TurnsUsed, HubFault, DiskFault, LogFull}
 use Rattle.djq_serve.specs.Told.{by_turn, turn_is_over, turn_is_failed, has_over, has_failed}
-use Rattle.djq_serve.specs.Server.{Next, more_lines, next_turn, no_turn, Phase, waiting, lines, flushing, closing, Server, server, Move, all_told, Happens, Stays, LetsIn, Brings, may_run, behind_front, SendsSome, Leaves, Visits, after, first_open, Passes, LinesAt, FlushesAt, ServesAt, Serves}
+use Rattle.djq_serve.specs.Server.{Next, more_lines, next_turn, no_turn, Phase, waiting, lines, keeping, flushing, closing, Server, server, Move, all_told, Happens, Stays, LetsIn, Brings, may_run, behind_front, SendsSome, Leaves, Visits, after, first_open, Passes, LinesAt, KeepsAt, FlushesAt, ServesAt, Serves}
 use Rattle.djq_serve.specs.Ends.{says_stopped, says_over, says_fault, IsCaused}
 
 -- whether a session said `stop`, a turn was over, and a turn failed
@@ -34,9 +35,11 @@ Behind (more_lines s) st told = Flags st told st.stopped false false
 Behind next_turn st told = Flags st told st.stopped false false
 Behind no_turn st told = Flags st told false true false
 
+-- Where a group is to be kept, no session said `stop`.
 abbrev Stands : Phase → State → List Told → Type 0
 Stands waiting st told = Flags st told false false false
 Stands (lines s) st told = Flags st told st.stopped false false
+Stands (keeping s groups) st told = Flags st told st.stopped false false × ((groups ≡ [] → ⊥) → st.stopped ≡ false)
 Stands (flushing from next) st told = Behind next st told
 Stands (closing answer) st told = Flags st told (says_stopped answer) (says_over answer) (says_fault answer)
 
@@ -108,19 +111,30 @@ turn_stands Failed piece st more done new next told (stays, none, phase) f =
     (flags_more st new told (Turning Failed piece ∷ more) false false false false false true f (kept_still st new done stays ∙ f.stopped)
     (ap (λ (ts : List Told). has_over (Turning Failed piece ∷ ts)) none) (ap (λ (ts : List Told). has_failed (Turning Failed piece ∷ ts)) none))
 
-line_stands : (s : ℕ) (outcome : LineOutcome) (st : State) (told : List Told) → Flags st told st.stopped false false → Stands (behind_front s outcome) st told
-line_stands s long st told f = f
-line_stands s (blank l) st told f = f
-line_stands s (slow l) st told f = f
-line_stands s (no_room l) st told f = f
-line_stands s (run l) st told f = f
+-- where the line's step kept it, no session said `stop`
+line_stands : (s : ℕ) (outcome : LineOutcome) (k : Keeping) (st : State) (told : List Told)
+    → (k ≡ the_line → st.stopped ≡ false) → Flags st told st.stopped false false → Stands (behind_front s outcome k) st told
+line_stands s long k st told kept f = f
+line_stands s (blank l) k st told kept f = (f, λ some. absurd (some refl))
+line_stands s (slow l) k st told kept f = f
+line_stands s (no_room l) k st told kept f = f
+line_stands s (run l) no_line st told kept f = (f, λ some. absurd (some refl))
+line_stands s (run l) the_line st told kept f = (f, λ some. kept refl)
 
-lines_stand : (s : ℕ) (st : State) (m : Move) (new : Server) (b : Bool) (told : List Told) → LinesAt s st m new b → Flags st told st.stopped false false → Stands new.phase new.state (told ++ m.told)
-lines_stand s st m new true told (none, (outcome, happens, phase)) f =
-    phase_as (behind_front s outcome) new.phase new.state _ phase
-    (line_stands s outcome new.state _
-    (flags_more st new.state told m.told st.stopped (new.state).stopped false false false false f refl (ap has_over none) (ap has_failed none)))
-lines_stand s st m new false told passes f = stands_unchanged st (flushing 0 next_turn) m new told (unchanged st (flushing 0 next_turn) m new passes) f
+first_false : (a b : Bool) → (not a && b) ≡ true → a ≡ false
+first_false true b e = absurd cc
+first_false false b e = refl
+
+lines_stand : (s : ℕ) (st : State) (m : Move) (new : Server) (b : Bool) (told : List Told) → may_run st s ≡ b
+    → LinesAt s st m new b → Flags st told st.stopped false false → Stands new.phase new.state (told ++ m.told)
+lines_stand s st m new true told may (none, (outcome, happens, phase)) f =
+    phase_as (behind_front s outcome (happens.0).kept) new.phase new.state _ phase
+    (line_stands s outcome (happens.0).kept new.state _
+    (λ k. kept_says_no_stop st (stepped s outcome) happens.0 new.state happens.1 k ∙ first_false st.stopped _ may)
+    (flags_more st new.state told m.told st.stopped (new.state).stopped false false false false f refl (ap has_over none)
+    (ap has_failed none)))
+lines_stand s st m new false told may passes f =
+    stands_unchanged st (flushing 0 next_turn) m new told (unchanged st (flushing 0 next_turn) m new passes) f
 
 -- the calls of a flush at a session
 record Quiet (st new : State) (told : List Told) : Type 0 where
@@ -160,7 +174,8 @@ flush_stands next st m new (Some s) told (to, visits, phase) f =
     let q = visits_quiet s st m.told m.done new.state to visits in
     phase_as (flushing to next) new.phase new.state _ phase (quiet_flags next st new.state told m.told f q.stopped q.over q.failed)
 
-close_flags : (a b c : Bool) (old new : State) (told more : List Told) → Flags old told a b c → new.stopped ≡ old.stopped → has_over more ≡ false → has_failed more ≡ false → Flags new (told ++ more) a b c
+close_flags : (a b c : Bool) (old new : State) (told more : List Told) → Flags old told a b c
+    → new.stopped ≡ old.stopped → has_over more ≡ false → has_failed more ≡ false → Flags new (told ++ more) a b c
 close_flags a b c old new told more f same over failed = record {
   stopped = same ∙ f.stopped;
   over = list_any-append (by_turn turn_is_over) told more ∙ ap₂ (λ (x y : Bool). x || y) f.over over ∙ or_false b;
@@ -171,11 +186,24 @@ close_flags a b c old new told more f same over failed = record {
     or_false true = refl
     or_false false = refl
 
+-- a group that can't be kept is one
+keeps_stand : (s : ℕ) (groups : List Group) (st : State) (m : Move) (new : Server) (told : List Told)
+    → KeepsAt s groups st m new → Stands (keeping s groups) st told → Stands new.phase new.state (told ++ m.told)
+keeps_stand s groups st m new told (inl passes) f =
+    stands_unchanged st (flushing 0 (more_lines s)) m new told (unchanged st (flushing 0 (more_lines s)) m new passes) f.0
+keeps_stand s groups st m new told (inr (some, inl passes)) f =
+    stands_unchanged st (closing DiskFault) m new told (unchanged st (closing DiskFault) m new passes)
+    (record { stopped = f.1 some; over = (f.0).over; failed = (f.0).failed })
+keeps_stand s groups st m new told (inr (some, inr passes)) f =
+    stands_unchanged st (closing LogFull) m new told (unchanged st (closing LogFull) m new passes)
+    (record { stopped = f.1 some; over = (f.0).over; failed = (f.0).failed })
+
 move_stands : (p : Phase) (st : State) (m : Move) (new : Server) (told : List Told) → ServesAt p st m new → Stands p st told → Stands new.phase new.state (told ++ m.told)
 move_stands waiting st m new told (inl passes) f = stands_unchanged st (closing TurnsUsed) m new told (unchanged st (closing TurnsUsed) m new passes) f
 move_stands waiting st m new told (inr (turn, piece, more, is, brings)) f =
     subst (λ (ts : List Told). Stands new.phase new.state (told ++ ts)) (sym is) (turn_stands turn piece st more m.done new.state new.phase told brings f)
-move_stands (lines s) st m new told g f = lines_stand s st m new (may_run st s) told g f
+move_stands (lines s) st m new told g f = lines_stand s st m new (may_run st s) told refl g f
+move_stands (keeping s groups) st m new told g f = keeps_stand s groups st m new told g f
 move_stands (flushing from next) st m new told g f = flush_stands next st m new (first_due st from) told g f
 move_stands (closing answer) st m new told g f =
     let k = some_and (first_open st) (λ s. (m.told ≡ Closing s ∷ []) × Happens (closed s (pending_of st s)) st m.done new.state × (new.phase ≡ closing answer)) g in

@@ -1,10 +1,10 @@
 -- How the server goes on: not at all, by one move, or from place to place.
 use Rattle.std.specs.Prelude.{List, [], ◌∷◌, ◌++◌, ◌≡◌, ◌+◌, ◌≤◌}
-use Rattle.std.proofs.Common.{refl, sym, ap, ◌∙◌, subst, append-nil, arith}
+use Rattle.std.proofs.Common.{refl, sym, ap, ◌∙◌, subst, append-nil, append_assoc, arith}
 use Rattle.std.proofs.lemmas.Grind.{flat_map-append}
 use Rattle.std.proofs.lemmas.List.Sums.{sum_by-append}
 use Rattle.djq_io.specs.declared.hub.Told.{Told}
-use Rattle.djq_machine.specs.Run.{Did, cost_of}
+use Rattle.djq_machine.specs.Run.{Did, Group, cost_of, group_of, groups_of}
 use Rattle.djq_laws.proofs.Courses.{walk_then}
 use Rattle.djq_serve.specs.Told.{Shown, Tells, turn_in, turns_in}
 use Rattle.djq_serve.specs.Server.{Server, Move, Serves, all_told, all_done}
@@ -19,24 +19,27 @@ goes_none o a = record {
   told = tells_none o.hub;
   listing = omega arith;
   turned = omega arith;
+  kept = sym (append-nil o.far.kept);
 }
 
 -- one move
 pub goes_by : (o : Seen) (a : Server) (o' : Seen) (b : Server) (m : Move) → Serves a m b → Tells o.hub o'.hub m.told
     → o'.counted.listing ≤ o.counted.listing + cost_of m.done
-    → o'.turns ≡ o.turns + turns_in m.told → Goes o a o' b
-goes_by o a o' b m serves told listing turned = record {
+    → o'.far.turns ≡ o.far.turns + turns_in m.told → o'.far.kept ≡ o.far.kept ++ groups_of m.done → Goes o a o' b
+goes_by o a o' b m serves told listing turned kept = record {
   moves = m ∷ [];
   walk = (b, serves, refl);
   told = subst (λ (ts : List Told). Tells o.hub o'.hub ts) (sym (append-nil m.told)) told;
   listing = omega (arith, listing, ap cost_of (append-nil m.done));
-  turned = turned ∙ ap (λ (ts : List Told). o.turns + turns_in ts) (sym (append-nil m.told));
+  turned = turned ∙ ap (λ (ts : List Told). o.far.turns + turns_in ts) (sym (append-nil m.told));
+  kept = kept ∙ ap (λ (ds : List Did). o.far.kept ++ groups_of ds) (sym (append-nil m.done));
 }
 
--- one move that counts nothing and takes no turn
-pub goes_quietly : (hub hub' : Shown) (a b : Server) (m : Move) → Serves a m b → Tells hub hub' m.told → turns_in m.told ≡ 0 → GoesQuietly hub a hub' b
-goes_quietly hub hub' a b m serves told none counted turns =
-    goes_by (seen hub counted turns) a (seen hub' counted turns) b m serves told (omega arith) (omega (arith, none))
+-- one move that counts nothing, takes no turn and keeps no line
+pub goes_quietly : (hub hub' : Shown) (a b : Server) (m : Move) → Serves a m b → Tells hub hub' m.told → turns_in m.told ≡ 0 → groups_of m.done ≡ [] → GoesQuietly hub a hub' b
+goes_quietly hub hub' a b m serves told none unkept counted f =
+    goes_by (seen hub counted f) a (seen hub' counted f) b m serves told (omega arith) (omega (arith, none))
+    (sym (ap (λ (gs : List Group). f.kept ++ gs) unkept ∙ append-nil f.kept))
 
 -- some moves, and then others
 pub goes_then : (o : Seen) (a : Server) (o' : Seen) (b : Server) (o'' : Seen) (c : Server) → Goes o a o' b → Goes o' b o'' c → Goes o a o'' c
@@ -59,11 +62,16 @@ goes_then o a o' b o'' c g h = record {
     ap turns_in (flat_map-append (λ (m : Move). m.told) g.moves h.moves),
     sum_by-append turn_in (all_told g.moves) (all_told h.moves),
   );
+  kept = h.kept ∙ ap (λ (gs : List Group). gs ++ groups_of (all_done h.moves)) g.kept
+      ∙ append_assoc o.far.kept (groups_of (all_done g.moves)) (groups_of (all_done h.moves))
+      ∙ ap (λ (gs : List Group). o.far.kept ++ gs)
+      (sym (ap (λ (ds : List Did). groups_of ds) (flat_map-append (λ (m : Move). m.done) g.moves h.moves)
+      ∙ flat_map-append (λ (d : Did). group_of d.event d.effect.kept) (all_done g.moves) (all_done h.moves)));
 }
 
--- some moves, and then others, that count nothing and take no turn
+-- some moves, and then others, that count nothing, take no turn and keep no line
 pub quietly_then : (x : Shown) (a : Server) (y : Shown) (b : Server) (z : Shown) (c : Server) → GoesQuietly x a y b → GoesQuietly y b z c → GoesQuietly x a z c
-quietly_then x a y b z c g h counted turns = goes_then (seen x counted turns) a (seen y counted turns) b (seen z counted turns) c (g counted turns) (h counted turns)
+quietly_then x a y b z c g h counted f = goes_then (seen x counted f) a (seen y counted f) b (seen z counted f) c (g counted f) (h counted f)
 
 pub quietly_none : (x : Shown) (a : Server) → GoesQuietly x a x a
-quietly_none x a counted turns = goes_none (seen x counted turns) a
+quietly_none x a counted f = goes_none (seen x counted f) a

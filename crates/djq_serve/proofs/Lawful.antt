@@ -20,9 +20,9 @@ use Rattle.djq_machine.specs.Call.{first_due}
 use Rattle.djq_laws.specs.Sent.{opened_by, all_opened}
 use Rattle.djq_laws.proofs.Courses.{walk_then}
 use Rattle.djq_laws.proofs.Finding.{some_and}
-use Rattle.djq_serve.specs.declared.served.Served.TheVariants.{TurnsUsed}
+use Rattle.djq_serve.specs.declared.served.Served.TheVariants.{TurnsUsed, DiskFault, LogFull}
 use Rattle.djq_serve.specs.Told.{sent_by, sent_to}
-use Rattle.djq_serve.specs.Server.{Next, next_turn, Phase, waiting, lines, flushing, closing, Server, Move, all_told, all_done, Happens, Stays, LetsIn, Brings, may_run, SendsSome, Visits, after, first_open, refusal_for, Passes, LinesAt, FlushesAt, ServesAt, Serves}
+use Rattle.djq_serve.specs.Server.{Next, more_lines, next_turn, Phase, waiting, lines, keeping, flushing, closing, Server, Move, all_told, all_done, Happens, Stays, LetsIn, Brings, may_run, SendsSome, Visits, after, first_open, refusal_for, Passes, LinesAt, FlushesAt, ServesAt, Serves}
 use Rattle.djq_serve.specs.Ends.{refuses, NeverRefused}
 use Rattle.djq_serve.proofs.Opening.{opens_at, opened_in}
 
@@ -121,6 +121,9 @@ module _ (P : State → List Told → List Did → State → Type 0) (h : OfMove
   by_phase waiting st m new (inr (turn, piece, more, is, brings)) =
       told_as st new.state m.told (Turning turn piece ∷ more) m.done is (by_turn_of turn piece st more m.done new.state new.phase brings)
   by_phase (lines s) st m new g = by_lines s st m new (may_run st s) g
+  by_phase (keeping s groups) st m new (inl passes) = by_passing st (flushing 0 (more_lines s)) m new passes
+  by_phase (keeping s groups) st m new (inr (some, inl passes)) = by_passing st (closing DiskFault) m new passes
+  by_phase (keeping s groups) st m new (inr (some, inr passes)) = by_passing st (closing LogFull) m new passes
   by_phase (flushing from next) st m new g = by_flush next st m new (first_due st from) g
   by_phase (closing answer) st m new g =
       let f = some_and (first_open st) (λ s. (m.told ≡ Closing s ∷ []) × Happens (closed s (pending_of st s)) st m.done new.state × (new.phase ≡ closing answer)) g in

@@ -6,10 +6,13 @@ pub mod Moving
 pub mod Fronting
 pub mod Visiting
 pub mod Nearing
+pub mod Accepting
+pub mod Keeping
 pub mod Lining
 pub mod Bringing
 pub mod Ending
 pub mod Opening
 pub mod Lawful
 pub mod Causing
+pub mod Losing
 pub mod Completing

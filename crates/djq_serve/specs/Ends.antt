@@ -5,7 +5,7 @@ use Rattle.djq_io.specs.declared.hub.Turn.TheVariants.{Opened}
 use Rattle.djq_io.specs.declared.hub.Told.{Told}
 use Rattle.djq_io.specs.declared.hub.Told.TheVariants.{Turning, Sending}
 use Rattle.djq_machine.specs.State.{State}
-use Rattle.djq_machine.specs.Run.{Did, Run, out, all_taken, pending_of}
+use Rattle.djq_machine.specs.Run.{Did, Run, Group, out, all_taken, pending_of}
 use Rattle.djq_machine.specs.Call.{Counts, ids_of}
 use Rattle.djq_machine.specs.Gives.{CursorsGive}
 use Rattle.djq_laws.specs.Moved.{Spares}
@@ -15,7 +15,7 @@ use Rattle.djq_serve.specs.declared.served.Served.{Served}
 use Rattle.djq_serve.specs.declared.served.Served.TheVariants.{Stopped, Over, TurnsUsed, HubFault}
 use Rattle.djq_serve.specs.Told.{Shown, sent_to, has_over, has_failed}
 use Rattle.djq_serve.specs.Server.{Move, waiting, closing, server, all_told, all_done}
-use Rattle.djq_serve.specs.Goes.{seen, Goes}
+use Rattle.djq_serve.specs.Goes.{far, seen, Goes}
 
 -- All turns were taken, or fewer, as the answer says.
 abbrev pub HasTaken : Served → ℕ → ℕ → Type 0
@@ -86,7 +86,8 @@ pub record Moments (start : State) (done : List Did) (state : State) : Type 0 wh
 pub record ServeEnds (answer : Served) (turns : ℕ) (hub : Shown) (counted : Counts) (old : State)
     (hub' : Shown) (counted' : Counts) (new : State) : Type 0 where
   pub taken : ℕ
-  pub goes : Goes (seen hub counted 0) (server old waiting) (seen hub' counted' taken)
+  pub kept : List Group
+  pub goes : Goes (seen hub counted (far 0 [])) (server old waiting) (seen hub' counted' (far taken kept))
       (server new (closing answer))
   pub run : Run old (all_done goes.moves) new
   pub rising : AllPairs (λ s t. s < t) (all_opened (all_done goes.moves))

@@ -1,30 +1,48 @@
 -- How the server goes from one place to another.
-use Rattle.std.specs.Prelude.{ℕ, List, ◌≡◌, ◌+◌, ◌≤◌}
-use Rattle.djq_machine.specs.Run.{Walk, cost_of}
+use Rattle.std.specs.Prelude.{ℕ, List, ◌++◌, ◌≡◌, ◌+◌, ◌≤◌}
+use Rattle.djq_machine.specs.Run.{Walk, Group, cost_of, groups_of}
 use Rattle.djq_machine.specs.Call.{Counts}
 use Rattle.djq_serve.specs.Told.{Shown, Tells, turns_in}
 use Rattle.djq_serve.specs.Server.{Server, Move, Serves, all_told, all_done}
 
+-- How far serving has come: how many turns were taken, and which groups of lines the steps kept.
+pub record Far : Type 0 where
+  pub turns : ℕ
+  pub kept : List Group
+
+abbrev pub far : ℕ → List Group → Far
+far turns kept = record { turns = turns; kept = kept }
+
+-- a turn further
+abbrev pub one_turn : Far → Far
+one_turn f = far (f.turns + 1) f.kept
+
+-- some groups further
+abbrev pub with_groups : List Group → Far → Far
+with_groups groups f = far f.turns (f.kept ++ groups)
+
 -- All that is seen of the server beside its machine: what the hub shows, what was counted, and how
--- many turns were taken.
+-- far it has come.
 pub record Seen : Type 0 where
   pub hub : Shown
   pub counted : Counts
-  pub turns : ℕ
+  pub far : Far
 
-abbrev pub seen : Shown → Counts → ℕ → Seen
-seen hub counted turns = record { hub = hub; counted = counted; turns = turns }
+abbrev pub seen : Shown → Counts → Far → Seen
+seen hub counted f = record { hub = hub; counted = counted; far = f }
 
 -- What the server did from one place to another, what the hub tells of it, and what was counted: no
--- more lookups and links of listings than its steps may cost.
+-- more lookups and links of listings than its steps may cost. It has come as many turns further as
+-- the hub took, and by the groups that the steps kept.
 pub record Goes (o : Seen) (old : Server) (o' : Seen) (new : Server) : Type 0 where
   pub moves : List Move
   pub walk : Walk Serves old moves new
   pub told : Tells o.hub o'.hub (all_told moves)
   pub listing : o'.counted.listing ≤ o.counted.listing + cost_of (all_done moves)
-  pub turned : o'.turns ≡ o.turns + turns_in (all_told moves)
+  pub turned : o'.far.turns ≡ o.far.turns + turns_in (all_told moves)
+  pub kept : o'.far.kept ≡ o.far.kept ++ groups_of (all_done moves)
 
--- so it goes, whatever was counted before, and nothing is counted
+-- so it goes, whatever was counted before, and nothing is counted, taken or kept
 abbrev pub GoesQuietly : Shown → Server → Shown → Server → Type 0
-GoesQuietly hub old hub' new = (counted : Counts) (turns : ℕ)
-    → Goes (seen hub counted turns) old (seen hub' counted turns) new
+GoesQuietly hub old hub' new = (counted : Counts) (f : Far)
+    → Goes (seen hub counted f) old (seen hub' counted f) new

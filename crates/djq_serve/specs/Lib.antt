@@ -3,4 +3,5 @@ pub mod Server
 pub mod Goes
 pub mod Kept
 pub mod Ends
+pub mod Logged
 pub mod Parts

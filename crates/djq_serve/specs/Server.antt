@@ -13,14 +13,15 @@ use Rattle.djq_model.specs.Data.{Bytes}
 use Rattle.djq_lines.specs.declared.limits.TheConstants.{SESSIONS}
 use Rattle.djq_lines.specs.Reply.{end_full, end_memory}
 use Rattle.djq_machine.specs.State.{State}
+use Rattle.djq_machine.specs.Keeping.{Keeping}
 use Rattle.djq_machine.specs.Effect.{Effect}
 use Rattle.djq_machine.specs.LineStep.{LineOutcome, long, blank, slow, no_room, run}
 use Rattle.djq_machine.specs.Step.{Event, opened, fed, stepped, took, ended, closed, Step, is_dry}
-use Rattle.djq_machine.specs.Run.{Did, pending_of}
+use Rattle.djq_machine.specs.Run.{Did, Group, group_of, pending_of}
 use Rattle.djq_machine.specs.Call.{IsOpen, cause_of, held_of, ids_of, first_due}
 use Rattle.djq_laws.specs.declared.limits.TheConstants.{READ_BYTES}
 use Rattle.djq_serve.specs.declared.served.Served.{Served}
-use Rattle.djq_serve.specs.declared.served.Served.TheVariants.{Stopped, Over, TurnsUsed, HubFault}
+use Rattle.djq_serve.specs.declared.served.Served.TheVariants.{Stopped, Over, TurnsUsed, HubFault, DiskFault, LogFull}
 
 -- What follows a flush.
 pub data Next : Type 0 where
@@ -37,6 +38,8 @@ pub data Phase : Type 0 where
   waiting : Phase
   -- it runs a line of this session, if it may
   lines : ℕ → Phase
+  -- it keeps this group, or none, of the line of this session
+  keeping : ℕ → List Group → Phase
   -- it flushes, from the first open session of at least this id to which something is due
   flushing : ℕ → Next → Phase
   -- it closes the sessions that are open, and then answers
@@ -112,19 +115,19 @@ Brings Failed piece old more done new next = Stays old done new × (more ≡ [])
 abbrev pub may_run : State → ℕ → Bool
 may_run st s = not st.stopped && (is_none (cause_of st s) && not (is_dry (held_of st s)))
 
--- What follows a line: a flush and the next line, where it was blank or run; the turn's flush,
+-- What follows a line: what its step keeps is kept, where it was blank or run; the turn's flush,
 -- where the session ended in its place.
-abbrev pub behind_front : ℕ → LineOutcome → Phase
-behind_front s long = flushing 0 next_turn
-behind_front s (blank l) = flushing 0 (more_lines s)
-behind_front s (slow l) = flushing 0 next_turn
-behind_front s (no_room l) = flushing 0 next_turn
-behind_front s (run l) = flushing 0 (more_lines s)
+abbrev pub behind_front : ℕ → LineOutcome → Keeping → Phase
+behind_front s long k = flushing 0 next_turn
+behind_front s (blank l) k = keeping s (group_of (stepped s (blank l)) k)
+behind_front s (slow l) k = flushing 0 next_turn
+behind_front s (no_room l) k = flushing 0 next_turn
+behind_front s (run l) k = keeping s (group_of (stepped s (run l)) k)
 
 -- The front of a session's bytes comes to something.
 abbrev pub RunsOne : ℕ → State → List Did → State → Phase → Type 0
-RunsOne s old done new next = (outcome : LineOutcome) × Happens (stepped s outcome) old done new
-    × (next ≡ behind_front s outcome)
+RunsOne s old done new next = (outcome : LineOutcome) × (happens : Happens (stepped s outcome) old done new)
+    × (next ≡ behind_front s outcome (happens.0).kept)
 
 -- All pending bytes of a session are offered, and sent are: some of the first; none now; or none
 -- ever, and it is closed.
@@ -174,6 +177,13 @@ abbrev pub LinesAt : ℕ → State → Move → Server → Bool → Type 0
 LinesAt s old m new true = (m.told ≡ []) × RunsOne s old m.done new.state new.phase
 LinesAt s old m new false = Passes old (flushing 0 next_turn) m new
 
+-- A group is kept, or there is none: then a flush follows, and the next line. Or there is one that
+-- can't be, and serving ends: all that is done from there on is to close sessions, so nothing is
+-- sent behind it.
+abbrev pub KeepsAt : ℕ → List Group → State → Move → Server → Type 0
+KeepsAt s groups old m new = Passes old (flushing 0 (more_lines s)) m new
+    ⊎ ((groups ≡ [] → ⊥) × (Passes old (closing DiskFault) m new ⊎ Passes old (closing LogFull) m new))
+
 -- A flush, by the session that it is at.
 abbrev pub FlushesAt : Next → State → Move → Server → Option ℕ → Type 0
 FlushesAt next old m new None = Passes old (after old next) m new
@@ -187,6 +197,7 @@ ServesAt waiting old m new =
     ⊎ ((turn : Turn) × (piece : Bytes) × (more : List Told) × (m.told ≡ Turning turn piece ∷ more)
     × Brings turn piece old more m.done new.state new.phase)
 ServesAt (lines s) old m new = LinesAt s old m new (may_run old s)
+ServesAt (keeping s groups) old m new = KeepsAt s groups old m new
 ServesAt (flushing from next) old m new = FlushesAt next old m new (first_due old from)
 ServesAt (closing answer) old m new = IsSomeAnd (first_open old) (λ s.
     (m.told ≡ Closing s ∷ []) × Happens (closed s (pending_of old s)) old m.done new.state

@@ -1,44 +1,55 @@
-ghost use Rattle.std.specs.Prelude.{◌≡◌, ℕ, false, MatchBool};
-ghost use Rattle.djq_machine.specs.Call.{IsOpen, counts};
+ghost use Rattle.std.specs.Prelude.{◌≡◌, None, MatchBool};
+ghost use Rattle.djq_machine.specs.Call.{counts};
 ghost use Rattle.djq_serve.specs.Told.{shown};
-ghost use Rattle.djq_serve.specs.Server.{lines, flushing, next_turn, server};
-ghost use Rattle.djq_serve.specs.Goes.{seen, Goes};
-ghost use Rattle.djq_serve.specs.Kept.{Agrees, AllSettled, OthersSettled};
-ghost use Rattle.djq_serve.specs.Parts.{IsServed, NotServed};
+ghost use Rattle.djq_serve.specs.Kept.{Agrees, OthersSettled};
+ghost use Rattle.djq_serve.specs.Logged.{DiskCounts};
+ghost use Rattle.djq_serve.specs.Parts.{IsServed, NotServed, RunsLines, SettledBehind, MayLose};
 
+use crate::accepted::Accepted;
 use crate::flushing::flush;
+use crate::served::Served;
+use djq_disk::Disk;
 use djq_io::Hub;
+use djq_journal::{Kept, Log};
 use djq_machine::{Machine, Stepped};
 use djq_steps::{Ledgers, Steps};
 
-/// Runs the whole lines that a session holds, with a flush behind each, until none is left, the
-/// session has ended or is closed, or a session said `stop`.
-pub(crate) fn run_lines<M: Machine, H: Hub, L: Ledgers>(
+/// Runs the whole lines that a session holds, each kept and with a flush behind it, until none is left,
+/// the session has ended or is closed, a session said `stop`, or a line can't be kept.
+pub(crate) fn run_lines<M: Machine, H: Hub, D: Disk, L: Ledgers>(
     machine: &mut M,
     hub: &mut H,
+    disk: &mut D,
+    log: &mut Log,
     id: u64,
     steps: &mut Steps<L>,
-)
+) -> Option<Served>
     requires agrees { Agrees (M.state machine.old) (H.ids hub.old) }
     requires settled { OthersSettled id (M.state machine.old) }
-    ensures goes { (turns : ℕ) → Goes (seen (shown (H.past hub.old) (H.script hub.old)
-        (H.ids hub.old))
-        (counts steps.old.listing steps.old.update steps.old.rows) turns)
-        (server (M.state machine.old) (lines id))
-        (seen (shown (H.past hub.new) (H.script hub.new) (H.ids hub.new))
-        (counts steps.new.listing steps.new.update steps.new.rows) turns)
-        (server (M.state machine.new) (flushing 0 next_turn)) }
+    ensures runs { RunsLines result (shown (H.past hub.old) (H.script hub.old) (H.ids hub.old))
+        (counts steps.old.listing steps.old.update steps.old.rows) (M.state machine.old) id
+        (shown (H.past hub.new) (H.script hub.new) (H.ids hub.new))
+        (counts steps.new.listing steps.new.update steps.new.rows) (M.state machine.new)
+        log.old log.new (D.told disk.old) (D.told disk.new) }
     ensures agrees { Agrees (M.state machine.new) (H.ids hub.new) }
-    ensures settled { (M.state machine.new).stopped ≡ false → AllSettled (M.state machine.new) }
+    ensures settled { SettledBehind result (M.state machine.new) }
+    ensures answer { MayLose result }
     ensures faults { H.faults hub.new ≡ H.faults hub.old }
+    ensures disk { DiskCounts result (D.faults disk.old) (D.faults disk.new) }
+    ensures nowhere { log.old ≡ None → (result ≡ None) × (log.new ≡ None) }
 {
     'lines: while is_served(machine, id) {
         match machine.step(id, steps) {
-            Stepped::Ran { .. } => flush(machine, hub),
-            Stepped::Dry => return,
-            Stepped::Ended(_) => return,
+            Stepped::Ran { .. } => match log.keep(disk, &Accepted { machine }) {
+                Kept::All => flush(machine, hub),
+                Kept::Failed => return Some(Served::DiskFault),
+                Kept::Full => return Some(Served::LogFull),
+            },
+            Stepped::Dry => return None,
+            Stepped::Ended(_) => return None,
         }
     }
+    None
 }
 
 /// Whether a session is open, and no session said `stop`.

@@ -9,4 +9,8 @@ pub enum Served {
     TurnsUsed,
     /// The hub failed.
     HubFault,
+    /// The disk failed as a line was kept. Nothing was sent behind it.
+    DiskFault,
+    /// The journal had no room for a line. Nothing was sent behind it.
+    LogFull,
 }

@@ -1,18 +1,21 @@
-ghost use Rattle.std.specs.Prelude.{◌≡◌, ℕ, [], false, length};
+ghost use Rattle.std.specs.Prelude.{◌≡◌, [], None, Some, false, length};
 ghost use Rattle.djq_io.specs.Faults.{Counted};
 ghost use Rattle.djq_machine.specs.Call.{counts, ids_of};
 ghost use Rattle.djq_laws.specs.declared.limits.TheConstants.{READ_BYTES};
 ghost use Rattle.djq_serve.specs.Told.{shown};
-ghost use Rattle.djq_serve.specs.Server.{waiting, closing, server};
-ghost use Rattle.djq_serve.specs.Goes.{seen, GoesQuietly};
+ghost use Rattle.djq_serve.specs.Server.{closing, server};
+ghost use Rattle.djq_serve.specs.Goes.{GoesQuietly};
 ghost use Rattle.djq_serve.specs.Kept.{Agrees, AllSettled};
 ghost use Rattle.djq_serve.specs.Ends.{ServeEnds, FaultsCount};
+ghost use Rattle.djq_serve.specs.Logged.{ServeLogs, DiskCounts, IsPlain};
 ghost use Rattle.djq_serve.specs.Parts.{Took};
 
 use crate::flushing::close;
 use crate::served::Served;
 use crate::turning::take_turn;
+use djq_disk::{Disk, NoDisk};
 use djq_io::Hub;
+use djq_journal::Log;
 use djq_machine::Machine;
 use djq_steps::{Ledgers, Steps};
 
@@ -39,16 +42,51 @@ pub fn serve<M: Machine, H: Hub, L: Ledgers>(
         (shown (H.past hub.new) (H.script hub.new) (H.ids hub.new))
         (counts steps.new.listing steps.new.update steps.new.rows) (M.state machine.new) }
     ensures faults { FaultsCount result (H.faults hub.old) (H.faults hub.new) }
+    ensures plain { IsPlain result }
 {
-    let served = take_turns(machine, hub, buffer, turns, steps);
+    let mut log = Log::nowhere();
+    serve_logged(machine, hub, &mut NoDisk, &mut log, buffer, turns, steps)
+}
+
+/// Serves the sessions of a hub as [`serve`] does, and keeps each line that is to be kept in the log,
+/// before anything is sent behind it. Serving ends too where a line can't be kept; nothing is sent then
+/// any more.
+///
+/// The log's journal is idle on this disk.
+pub fn serve_logged<M: Machine, H: Hub, D: Disk, L: Ledgers>(
+    machine: &mut M,
+    hub: &mut H,
+    disk: &mut D,
+    log: &mut Log,
+    buffer: &mut [u8],
+    turns: u64,
+    steps: &mut Steps<L>,
+) -> Served
+    requires room { length buffer.old ≡ READ_BYTES }
+    requires none { (M.state machine.old).sessions ≡ [] }
+    requires alone { (H.ids hub.old).open_ids ≡ [] }
+    requires going { (M.state machine.old).stopped ≡ false }
+    ensures logs { ServeLogs result turns
+        (shown (H.past hub.old) (H.script hub.old) (H.ids hub.old))
+        (counts steps.old.listing steps.old.update steps.old.rows) (M.state machine.old)
+        (shown (H.past hub.new) (H.script hub.new) (H.ids hub.new))
+        (counts steps.new.listing steps.new.update steps.new.rows) (M.state machine.new)
+        log.old log.new (D.told disk.old) (D.told disk.new) }
+    ensures faults { FaultsCount result (H.faults hub.old) (H.faults hub.new) }
+    ensures disk { DiskCounts (Some result) (D.faults disk.old) (D.faults disk.new) }
+    ensures nowhere { log.old ≡ None → IsPlain result }
+{
+    let served = take_turns(machine, hub, disk, log, buffer, turns, steps);
     close_all(machine, hub);
     served
 }
 
 /// Takes turns, until serving ends.
-fn take_turns<M: Machine, H: Hub, L: Ledgers>(
+fn take_turns<M: Machine, H: Hub, D: Disk, L: Ledgers>(
     machine: &mut M,
     hub: &mut H,
+    disk: &mut D,
+    log: &mut Log,
     buffer: &mut [u8],
     turns: u64,
     steps: &mut Steps<L>,
@@ -60,12 +98,15 @@ fn take_turns<M: Machine, H: Hub, L: Ledgers>(
         (shown (H.past hub.old) (H.script hub.old) (H.ids hub.old))
         (counts steps.old.listing steps.old.update steps.old.rows) (M.state machine.old)
         (shown (H.past hub.new) (H.script hub.new) (H.ids hub.new))
-        (counts steps.new.listing steps.new.update steps.new.rows) (M.state machine.new) }
+        (counts steps.new.listing steps.new.update steps.new.rows) (M.state machine.new)
+        log.old log.new (D.told disk.old) (D.told disk.new) }
     ensures agrees { Agrees (M.state machine.new) (H.ids hub.new) }
     ensures faults { FaultsCount result (H.faults hub.old) (H.faults hub.new) }
+    ensures disk { DiskCounts (Some result) (D.faults disk.old) (D.faults disk.new) }
+    ensures nowhere { log.old ≡ None → IsPlain result }
 {
     for _ in 0..turns {
-        if let Some(served) = take_turn(machine, hub, buffer, steps) {
+        if let Some(served) = take_turn(machine, hub, disk, log, buffer, steps) {
             return served;
         }
     }

@@ -1,41 +1,46 @@
-ghost use Rattle.std.specs.Prelude.{◌≡◌, ℕ, ◌+◌, ◌<◌, false, length, Contains};
+ghost use Rattle.std.specs.Prelude.{◌≡◌, ◌<◌, None, false, length, Contains};
 ghost use Rattle.djq_io.specs.Faults.{Counted};
 ghost use Rattle.djq_machine.specs.Step.{opened};
 ghost use Rattle.djq_machine.specs.Call.{IsOpen, Makes, counts};
 ghost use Rattle.djq_laws.specs.declared.limits.TheConstants.{READ_BYTES};
 ghost use Rattle.djq_serve.specs.Told.{shown, Tells};
-ghost use Rattle.djq_serve.specs.Server.{waiting, flushing, next_turn, server, refusal_for};
-ghost use Rattle.djq_serve.specs.Goes.{seen, Goes, GoesQuietly};
+ghost use Rattle.djq_serve.specs.Server.{flushing, next_turn, server, refusal_for};
+ghost use Rattle.djq_serve.specs.Goes.{GoesQuietly};
 ghost use Rattle.djq_serve.specs.Kept.{Agrees, IsNew, AllSettled};
-ghost use Rattle.djq_serve.specs.Parts.{phase_of, Admits, Refuses, TurnAnswers, SettledUnless, MayAnswer};
+ghost use Rattle.djq_serve.specs.Logged.{DiskCounts, IsPlainTurn};
+ghost use Rattle.djq_serve.specs.Parts.{phase_of, Admits, Refuses, TakesTurn, TurnAnswers, SettledUnless, MayAnswer};
 
 use crate::flushing::flush;
 use crate::running::run_lines;
 use crate::served::Served;
+use djq_disk::Disk;
 use djq_io::{Hub, Turn};
+use djq_journal::Log;
 use djq_machine::{Machine, OpenRefusal};
 use djq_steps::{Ledgers, Steps};
 
 /// Takes a turn of the hub, and does what it brings. It answers how serving ends, if it does.
-pub(crate) fn take_turn<M: Machine, H: Hub, L: Ledgers>(
+pub(crate) fn take_turn<M: Machine, H: Hub, D: Disk, L: Ledgers>(
     machine: &mut M,
     hub: &mut H,
+    disk: &mut D,
+    log: &mut Log,
     buffer: &mut [u8],
     steps: &mut Steps<L>,
 ) -> Option<Served>
     requires room { length buffer.old ≡ READ_BYTES }
     requires agrees { Agrees (M.state machine.old) (H.ids hub.old) }
     requires settled { AllSettled (M.state machine.old) }
-    ensures goes { (turns : ℕ) → Goes (seen (shown (H.past hub.old) (H.script hub.old)
-        (H.ids hub.old))
-        (counts steps.old.listing steps.old.update steps.old.rows) turns)
-        (server (M.state machine.old) waiting)
-        (seen (shown (H.past hub.new) (H.script hub.new) (H.ids hub.new))
-        (counts steps.new.listing steps.new.update steps.new.rows) (turns + 1))
-        (server (M.state machine.new) (phase_of result)) }
+    ensures takes { TakesTurn result (shown (H.past hub.old) (H.script hub.old) (H.ids hub.old))
+        (counts steps.old.listing steps.old.update steps.old.rows) (M.state machine.old)
+        (shown (H.past hub.new) (H.script hub.new) (H.ids hub.new))
+        (counts steps.new.listing steps.new.update steps.new.rows) (M.state machine.new)
+        log.old log.new (D.told disk.old) (D.told disk.new) }
     ensures agrees { Agrees (M.state machine.new) (H.ids hub.new) }
     ensures settled { SettledUnless result (M.state machine.new) }
     ensures faults { TurnAnswers result (H.faults hub.old) (H.faults hub.new) }
+    ensures disk { DiskCounts result (D.faults disk.old) (D.faults disk.new) }
+    ensures nowhere { log.old ≡ None → IsPlainTurn result × (log.new ≡ None) }
 {
     match hub.turn(buffer) {
         Turn::Opened(id) => {
@@ -44,8 +49,10 @@ pub(crate) fn take_turn<M: Machine, H: Hub, L: Ledgers>(
         }
         Turn::Bytes(id, count) => {
             machine.feed(id, &buffer[..count]);
-            run_lines(machine, hub, id, steps);
-            end_turn(machine, hub)
+            match run_lines(machine, hub, disk, log, id, steps) {
+                Some(served) => Some(served),
+                None => end_turn(machine, hub),
+            }
         }
         Turn::Ended(id) => {
             machine.end_session(id);

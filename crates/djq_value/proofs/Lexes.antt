@@ -3,7 +3,8 @@ use Rattle.std.proofs.Common.{◌≡◌, ℕ, zero, suc, ◌<◌, ◌≤◌, Boo
 use Rattle.std.proofs.lemmas.List.{nil_from_length, length-drop, drop_all}
 use Rattle.std.proofs.lemmas.Bool.{cond_both}
 use Rattle.djq_model.specs.Data.{Bytes}
-use Rattle.djq_value.specs.Token.{Token, text, arrow, stray, ends_word, may_end, escape_of, in_text, text_in, text_front, behind_spaces, behind_word, arrow_front, token_front, token_at, and_then, tokens_within, tokens}
+use Rattle.djq_model.specs.declared.query.Operator.TheVariants.{Less, LessOrEqual, Greater, GreaterOrEqual, Equal, NotEqual}
+use Rattle.djq_value.specs.Token.{Token, text, arrow, operator, stray, ends_word, may_end, escape_of, in_text, text_in, text_front, behind_spaces, behind_word, less_front, greater_front, not_front, token_front, token_at, and_then, tokens_within, tokens}
 
 -- Behind the first token of bytes are fewer than so many.
 abbrev pub IsShorter : ℕ → Option (Token × Bytes) → Type 0
@@ -40,10 +41,23 @@ cond_shorter : (b : Bool) (s t : Token × Bytes) (n : ℕ) → length s.1 < n �
 cond_shorter true s t n h k = h
 cond_shorter false s t n h k = k
 
-arrow_shorter : (bs : Bytes) → length (arrow_front bs).1 ≤ length bs
-arrow_shorter [] = omega arith
-arrow_shorter (b ∷ bs) =
-    let step = cond_shorter (eqb b 45) (arrow, bs) (stray, b ∷ bs) (suc (suc (length bs))) (omega arith) (omega arith) in omega (arith, step)
+-- what is behind a sign of one byte or of two is shorter
+sign_shorter : (c : Bool) (s t : Token) (b : ℕ) (bs : Bytes) → length (cond {A = Token × Bytes} c (s, bs) (t, b ∷ bs)).1 ≤ suc (length bs)
+sign_shorter true s t b bs = omega arith
+sign_shorter false s t b bs = omega arith
+
+less_shorter : (bs : Bytes) → length (less_front bs).1 ≤ length bs
+less_shorter [] = omega arith
+less_shorter (b ∷ bs) = cond_both (eqb b 45) _ _ (λ (r : Token × Bytes). length r.1 ≤ suc (length bs)) (λ _. omega arith)
+    (λ _. sign_shorter (eqb b 61) (operator LessOrEqual) (operator Less) b bs)
+
+greater_shorter : (bs : Bytes) → length (greater_front bs).1 ≤ length bs
+greater_shorter [] = omega arith
+greater_shorter (b ∷ bs) = sign_shorter (eqb b 61) (operator GreaterOrEqual) (operator Greater) b bs
+
+not_shorter : (bs : Bytes) → length (not_front bs).1 ≤ length bs
+not_shorter [] = omega arith
+not_shorter (b ∷ bs) = sign_shorter (eqb b 61) (operator NotEqual) stray b bs
 
 -- what is behind a text is shorter
 text_shorter : (escape : Bool) (bs : Bytes) → IsShorterText (length bs) (text_in escape bs)
@@ -67,9 +81,12 @@ front_shorter (b ∷ bs) =
     cond_shorter (eqb b 40) _ _ n here
     (cond_shorter (eqb b 41) _ _ n here
     (cond_shorter (eqb b 44) _ _ n here
-    (cond_shorter (eqb b 60) _ _ n (omega (arith, arrow_shorter bs))
+    (cond_shorter (eqb b 60) _ _ n (omega (arith, less_shorter bs))
+    (cond_shorter (eqb b 61) _ _ n here
+    (cond_shorter (eqb b 62) _ _ n (omega (arith, greater_shorter bs))
+    (cond_shorter (eqb b 33) _ _ n (omega (arith, not_shorter bs))
     (cond_shorter (eqb b 34) _ _ n (text_front_shorter (text_in false bs) n (omega arith) (shorter_text (text_in false bs) (length bs) (text_shorter false bs)))
-    (omega (arith, length-behind_word bs))))))
+    (omega (arith, length-behind_word bs)))))))))
 
 shorter_within : (o : Option (Token × Bytes)) (m n : ℕ) → m ≤ n → IsShorter m o → IsShorter n o
 shorter_within None m n h s = tt

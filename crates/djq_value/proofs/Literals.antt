@@ -1,5 +1,5 @@
 -- A literal is read back where it is printed, and spelled where it is read.
-use Rattle.std.proofs.Common.{◌≡◌, ℕ, ℤ, pos, negsuc, zero, suc, ◌+◌, ◌-◌, ◌^◌, ◌/◌, ◌%◌, ◌<◌, ◌≤◌, true, false, [], ◌∷◌, ◌++◌, append_assoc, drop, length, length-append, Ok, Err, Option, Some, None, option_map, refl, sym, ap, subst, ◌∙◌, arith, leb, All}
+use Rattle.std.proofs.Common.{eqb, ◌||◌, ◌≡◌, ℕ, ℤ, pos, negsuc, zero, suc, ◌+◌, ◌-◌, ◌^◌, ◌/◌, ◌%◌, ◌<◌, ◌≤◌, true, false, [], ◌∷◌, ◌++◌, append_assoc, drop, length, length-append, Ok, Err, Option, Some, None, option_map, refl, sym, ap, subst, ◌∙◌, arith, leb, All}
 use Rattle.std.specs.List.{list_all}
 use Rattle.std.specs.Fmt.{decimal, signed_decimal}
 use Rattle.std.proofs.Math.Dec.{eqb-suc-zero}
@@ -10,7 +10,7 @@ use Rattle.std.proofs.lemmas.Bool.{cond-true, cond-false, and_parts, and_from, l
 use Rattle.djq_model.specs.Data.{Bytes}
 use Rattle.djq_model.specs.declared.value.Value.{Value}
 use Rattle.djq_model.specs.declared.value.Value.TheVariants.{Int, Text}
-use Rattle.djq_value.specs.Token.{Token, word, text, open_paren, close_paren, comma, arrow, stray, behind_spaces, ends_word, may_end, token_at, token_front}
+use Rattle.djq_value.specs.Token.{Token, word, text, open_paren, close_paren, comma, arrow, operator, stray, behind_spaces, ends_word, may_end, token_at, token_front}
 use Rattle.djq_value.specs.Literal.{digits_value, integer_of, is_digit, is_small_value, literal_of, minus, natural_of}
 use Rattle.djq_value.specs.Spelling.{IsSpaces, IsToken, MayFollow, text_of}
 use Rattle.djq_value.specs.ReadValue.{IsLiteral, literal_at, literal_in}
@@ -20,7 +20,7 @@ use Rattle.djq_value.specs.Lexing.{lexeme_of}
 use Rattle.djq_value.specs.Reads.{ReadsLiteral}
 use Rattle.djq_value.specs.declared.literal.LiteralRefusal.TheVariants.{Range, NoMem}
 use Rattle.djq_value.specs.declared.lexer.Token.{Token as Piece}
-use Rattle.djq_value.specs.declared.lexer.Token.TheVariants.{Word, Text as TextPiece, Open, Close, Comma, Arrow, Stray}
+use Rattle.djq_value.specs.declared.lexer.Token.TheVariants.{Word, Text as TextPiece, Open, Close, Comma, Arrow, Operator, Stray}
 use Rattle.djq_value.proofs.Lexes.{IsShorter, token_shorter}
 use Rattle.djq_value.proofs.Words.{digits_value-push, natural-some}
 use Rattle.djq_value.proofs.Spellings.{IsFirst, IsReal, cut_spaces, front_first, no_space, no_space_first, token_read}
@@ -75,8 +75,13 @@ signed_read (negsuc n) h = ap (option_map minus) (natural_written (suc n) (small
 digit_inner : (b : ℕ) → is_digit b ≡ true → ends_word b ≡ false
 digit_inner b h =
     let low = digit_bounds b h in
-    or_from _ _ (or_from _ _ (or_from _ _ (or_from _ _ (ne_eqb b 32 (λ e. absurd (omega (arith, e, low.0)))) (ne_eqb b 40 (λ e. absurd (omega (arith, e, low.0))))) (ne_eqb b 41 (λ e. absurd (omega (arith, e, low.0))))) (ne_eqb b 44 (λ e. absurd (omega (arith, e, low.0)))))
-    (ne_eqb b 60 (λ e. absurd (omega (arith, e, low.1))))
+    let until_bang : (eqb b 32 || eqb b 33) ≡ false = or_from _ _ (ne_eqb b 32 (λ e. absurd (omega (arith, e, low.0)))) (ne_eqb b 33 (λ e. absurd (omega (arith, e, low.0)))) in
+    let until_open : (eqb b 32 || eqb b 33 || eqb b 40) ≡ false = or_from _ _ until_bang (ne_eqb b 40 (λ e. absurd (omega (arith, e, low.0)))) in
+    let until_close : (eqb b 32 || eqb b 33 || eqb b 40 || eqb b 41) ≡ false = or_from _ _ until_open (ne_eqb b 41 (λ e. absurd (omega (arith, e, low.0)))) in
+    let until_comma : (eqb b 32 || eqb b 33 || eqb b 40 || eqb b 41 || eqb b 44) ≡ false = or_from _ _ until_close (ne_eqb b 44 (λ e. absurd (omega (arith, e, low.0)))) in
+    let until_angle : (eqb b 32 || eqb b 33 || eqb b 40 || eqb b 41 || eqb b 44 || eqb b 60) ≡ false = or_from _ _ until_comma (ne_eqb b 60 (λ e. absurd (omega (arith, e, low.1)))) in
+    let until_equals : (eqb b 32 || eqb b 33 || eqb b 40 || eqb b 41 || eqb b 44 || eqb b 60 || eqb b 61) ≡ false = or_from _ _ until_angle (ne_eqb b 61 (λ e. absurd (omega (arith, e, low.1)))) in
+    or_from _ _ until_equals (ne_eqb b 62 (λ e. absurd (omega (arith, e, low.1))))
 
 digits_inner : (ds : Bytes) → list_all is_digit ds ≡ true → All (λ b. ends_word b ≡ false) ds
 digits_inner [] h = All-nil (λ b. ends_word b ≡ false)
@@ -123,6 +128,7 @@ literal_token open_paren v e = absurd (cc)
 literal_token close_paren v e = absurd (cc)
 literal_token comma v e = absurd (cc)
 literal_token arrow v e = absurd (cc)
+literal_token (operator o) v e = absurd (cc)
 literal_token stray v e = absurd (cc)
 
 -- a literal in front of bytes, as it is spelled
@@ -201,6 +207,7 @@ integer_token Open v other e = absurd (cc)
 integer_token Close v other e = absurd (cc)
 integer_token Comma v other e = absurd (cc)
 integer_token Arrow v other e = absurd (cc)
+integer_token (Operator o) v other e = absurd (cc)
 integer_token Stray v other e = absurd (cc)
 
 pub some_same : (v w : Value) → Some v ≡ Some w → v ≡ w

@@ -5,9 +5,11 @@ use Rattle.std.proofs.lemmas.List.Elements.{All-nil, All-cons, All-head, All-tai
 use Rattle.std.proofs.lemmas.List.Sums.{take_while-cons}
 use Rattle.std.proofs.lemmas.Bool.{cond-true, cond-false, cond_both, cases_Bool, eqb-true, eq-eqb, ne_eqb, eqb-false, or_parts, or_from}
 use Rattle.djq_model.specs.Data.{Bytes}
-use Rattle.djq_value.specs.Token.{Token, word, text, open_paren, close_paren, comma, arrow, stray, ends_word, may_end, behind_spaces, behind_word, word_front, arrow_front, text_front, text_in, token_front, token_at, and_then, tokens_within, tokens}
-use Rattle.djq_value.specs.Spelling.{HasNoStray, IsSpaces, IsToken, MayFollow, IsSpelling, text_of}
+use Rattle.djq_model.specs.declared.query.Operator.TheVariants.{Less, LessOrEqual, Greater, GreaterOrEqual, Equal, NotEqual}
+use Rattle.djq_value.specs.Token.{Token, word, text, open_paren, close_paren, comma, arrow, operator, stray, ends_word, may_end, behind_spaces, behind_word, word_front, less_front, greater_front, not_front, text_front, text_in, token_front, token_at, and_then, tokens_within, tokens}
+use Rattle.djq_value.specs.Spelling.{HasNoStray, IsSpaces, IsToken, BeginsOtherwise, MayFollow, IsSpelling, text_of}
 use Rattle.djq_value.specs.ValueText.{escaped}
+use Rattle.std.specs.Prelude.{unwrap_or}
 use Rattle.djq_value.proofs.Texts.{IsSpelledText, text_read, text_spelled}
 use Rattle.std.specs.List.{flat_map}
 use Rattle.djq_value.proofs.Lexes.{IsShorter, token_shorter, tokens-none, tokens-some}
@@ -42,29 +44,51 @@ behind_all (b ∷ w) behind h f =
 -- a byte of a word is none of the bytes that end one
 pub record IsInner (b : ℕ) : Type 0 where
   space : eqb b 32 ≡ false
+  bang : eqb b 33 ≡ false
   open_sign : eqb b 40 ≡ false
   close_sign : eqb b 41 ≡ false
   comma_sign : eqb b 44 ≡ false
   angle : eqb b 60 ≡ false
+  equals : eqb b 61 ≡ false
+  greater : eqb b 62 ≡ false
 
 inner : (b : ℕ) → ends_word b ≡ false → IsInner b
 inner b e =
-    let at_angle = or_parts (eqb b 32 || eqb b 40 || eqb b 41 || eqb b 44) (eqb b 60) e in
-    let at_comma = or_parts (eqb b 32 || eqb b 40 || eqb b 41) (eqb b 44) at_angle.0 in
-    let at_close = or_parts (eqb b 32 || eqb b 40) (eqb b 41) at_comma.0 in
-    let at_open = or_parts (eqb b 32) (eqb b 40) at_close.0 in
-    record { space = at_open.0; open_sign = at_open.1; close_sign = at_close.1; comma_sign = at_comma.1; angle = at_angle.1 }
+    let at_greater = or_parts (eqb b 32 || eqb b 33 || eqb b 40 || eqb b 41 || eqb b 44 || eqb b 60 || eqb b 61) (eqb b 62) e in
+    let at_equals = or_parts (eqb b 32 || eqb b 33 || eqb b 40 || eqb b 41 || eqb b 44 || eqb b 60) (eqb b 61) at_greater.0 in
+    let at_angle = or_parts (eqb b 32 || eqb b 33 || eqb b 40 || eqb b 41 || eqb b 44) (eqb b 60) at_equals.0 in
+    let at_comma = or_parts (eqb b 32 || eqb b 33 || eqb b 40 || eqb b 41) (eqb b 44) at_angle.0 in
+    let at_close = or_parts (eqb b 32 || eqb b 33 || eqb b 40) (eqb b 41) at_comma.0 in
+    let at_open = or_parts (eqb b 32 || eqb b 33) (eqb b 40) at_close.0 in
+    let at_bang = or_parts (eqb b 32) (eqb b 33) at_open.0 in
+    record { space = at_bang.0; bang = at_bang.1; open_sign = at_open.1; close_sign = at_close.1; comma_sign = at_comma.1; angle = at_angle.1; equals = at_equals.1; greater = at_greater.1 }
 
 text_read_front : (t behind : Bytes) → may_end behind ≡ true → text_front (text_in false ((flat_map escaped t ++ 34 ∷ []) ++ behind)) ≡ (text t, behind)
 text_read_front t behind f =
     ap (λ xs. text_front (text_in false xs)) (append_assoc (flat_map escaped t) (34 ∷ []) behind)
     ∙ ap text_front (text_read t behind) ∙ cond-true _ _ _ f
 
+-- `<` and `>` in front of what makes no longer sign of them
+less_read : (bs : Bytes) → BeginsOtherwise 45 bs → BeginsOtherwise 61 bs → less_front bs ≡ (operator Less, bs)
+less_read [] h k = refl
+less_read (b ∷ bs) h k =
+    cond-false _ _ _ (ne_eqb b 45 (λ e. h (ap (λ x. Some x) e))) ∙ cond-false _ _ _ (ne_eqb b 61 (λ e. k (ap (λ x. Some x) e)))
+
+greater_read : (bs : Bytes) → BeginsOtherwise 61 bs → greater_front bs ≡ (operator Greater, bs)
+greater_read [] h = refl
+greater_read (b ∷ bs) h = cond-false _ _ _ (ne_eqb b 61 (λ e. h (ap (λ x. Some x) e)))
+
 pub token_read : (t : Token) (behind : Bytes) → IsToken t → MayFollow t behind → token_front (text_of t ++ behind) ≡ Some (t, behind)
 token_read open_paren behind h f = refl
 token_read close_paren behind h f = refl
 token_read comma behind h f = refl
 token_read arrow behind h f = refl
+token_read (operator Less) behind h f = ap (λ p. Some p) (less_read behind f.0 f.1)
+token_read (operator LessOrEqual) behind h f = refl
+token_read (operator Greater) behind h f = ap (λ p. Some p) (greater_read behind f)
+token_read (operator GreaterOrEqual) behind h f = refl
+token_read (operator Equal) behind h f = refl
+token_read (operator NotEqual) behind h f = refl
 token_read stray behind h f = absurd h
 token_read (text t) behind h f = ap (λ p. Some p) (text_read_front t behind f)
 token_read (word []) behind h f = absurd (omega (arith, h.0))
@@ -73,6 +97,7 @@ token_read (word (b ∷ w)) behind h f =
     let more = All-tail (λ x. ends_word x ≡ false) b w h.1 in
     ap (λ p. Some p)
     (cond-false _ _ _ here.open_sign ∙ cond-false _ _ _ here.close_sign ∙ cond-false _ _ _ here.comma_sign ∙ cond-false _ _ _ here.angle
+    ∙ cond-false _ _ _ here.equals ∙ cond-false _ _ _ here.greater ∙ cond-false _ _ _ here.bang
     ∙ cond-false _ _ _ (ne_eqb b 34 h.2)
     ∙ ap₂ (λ (xs ys : Bytes). (word (b ∷ xs), ys)) (front_all w behind more f) (behind_all w behind more f))
 
@@ -81,6 +106,12 @@ no_space open_paren behind h = refl
 no_space close_paren behind h = refl
 no_space comma behind h = refl
 no_space arrow behind h = refl
+no_space (operator Less) behind h = refl
+no_space (operator LessOrEqual) behind h = refl
+no_space (operator Greater) behind h = refl
+no_space (operator GreaterOrEqual) behind h = refl
+no_space (operator Equal) behind h = refl
+no_space (operator NotEqual) behind h = refl
 no_space stray behind h = absurd h
 no_space (text t) behind h = refl
 no_space (word []) behind h = absurd (omega (arith, h.0))
@@ -144,14 +175,34 @@ word_end : (cs : Bytes) → may_end (behind_word cs) ≡ true
 word_end [] = refl
 word_end (c ∷ cs) = cond_both (ends_word c) (c ∷ cs) (behind_word cs) (λ xs. may_end xs ≡ true) (λ e. e) (λ e. word_end cs)
 
-inner_first : (b : ℕ) → eqb b 32 ≡ false → eqb b 40 ≡ false → eqb b 41 ≡ false → eqb b 44 ≡ false → eqb b 60 ≡ false → ends_word b ≡ false
-inner_first b e f g h i = or_from _ _ (or_from _ _ (or_from _ _ (or_from _ _ e f) g) h) i
+inner_first : (b : ℕ) → eqb b 32 ≡ false → eqb b 33 ≡ false → eqb b 40 ≡ false → eqb b 41 ≡ false → eqb b 44 ≡ false → eqb b 60 ≡ false → eqb b 61 ≡ false
+    → eqb b 62 ≡ false → ends_word b ≡ false
+inner_first b e f g h i j k l = or_from _ _ (or_from _ _ (or_from _ _ (or_from _ _ (or_from _ _ (or_from _ _ (or_from _ _ e f) g) h) i) j) k) l
 
-arrow_first : (b : ℕ) (cs : Bytes) → b ≡ 60 → IsFirstToken (b ∷ cs) (arrow_front cs)
-arrow_first b [] e = λ real. absurd real
-arrow_first b (c ∷ cs) e =
-    cond_both (eqb c 45) (arrow, cs) (stray, c ∷ cs) (IsFirstToken (b ∷ c ∷ cs))
-    (λ is _. (ap₂ (λ (x y : ℕ). x ∷ y ∷ cs) e (eqb-true c 45 is), tt, tt))
+-- bytes that begin with another one
+begins_otherwise : (b c : ℕ) (bs : Bytes) → eqb c b ≡ false → BeginsOtherwise b (c ∷ bs)
+begins_otherwise b c bs differ e = eqb-false c b differ (ap (λ (o : Option ℕ). unwrap_or o 0) e)
+
+less_first : (b : ℕ) (cs : Bytes) → b ≡ 60 → IsFirstToken (b ∷ cs) (less_front cs)
+less_first b [] e = λ _. (ap (λ x. x ∷ []) e, tt, (λ none. absurd cc, λ none. absurd cc))
+less_first b (c ∷ cs) e =
+    let P = IsFirstToken (b ∷ c ∷ cs) in
+    cond_both (eqb c 45) _ _ P (λ is _. (ap₂ (λ (x y : ℕ). x ∷ y ∷ cs) e (eqb-true c 45 is), tt, tt)) (λ no_arrow.
+    cond_both (eqb c 61) _ _ P (λ is _. (ap₂ (λ (x y : ℕ). x ∷ y ∷ cs) e (eqb-true c 61 is), tt, tt)) (λ no_equals _.
+    (ap (λ x. x ∷ c ∷ cs) e, tt, (begins_otherwise 45 c cs no_arrow, begins_otherwise 61 c cs no_equals))))
+
+greater_first : (b : ℕ) (cs : Bytes) → b ≡ 62 → IsFirstToken (b ∷ cs) (greater_front cs)
+greater_first b [] e = λ _. (ap (λ x. x ∷ []) e, tt, λ none. absurd cc)
+greater_first b (c ∷ cs) e =
+    let P = IsFirstToken (b ∷ c ∷ cs) in
+    cond_both (eqb c 61) _ _ P (λ is _. (ap₂ (λ (x y : ℕ). x ∷ y ∷ cs) e (eqb-true c 61 is), tt, tt)) (λ no_equals _.
+    (ap (λ x. x ∷ c ∷ cs) e, tt, begins_otherwise 61 c cs no_equals))
+
+not_first : (b : ℕ) (cs : Bytes) → b ≡ 33 → IsFirstToken (b ∷ cs) (not_front cs)
+not_first b [] e = λ real. absurd real
+not_first b (c ∷ cs) e =
+    cond_both (eqb c 61) _ _ (IsFirstToken (b ∷ c ∷ cs))
+    (λ is _. (ap₂ (λ (x y : ℕ). x ∷ y ∷ cs) e (eqb-true c 61 is), tt, tt))
     (λ no real. absurd real)
 
 text_first : (b : ℕ) (cs : Bytes) (o : Option (Bytes × Bytes)) → b ≡ 34 → IsSpelledText false cs o → IsFirstToken (b ∷ cs) (text_front o)
@@ -162,23 +213,27 @@ text_first b cs (Some r) e h =
     (λ no real. absurd real)
 
 first_token : (b : ℕ) (cs : Bytes) → eqb b 32 ≡ false → IsFirstToken (b ∷ cs) (
-    cond (eqb b 40) (open_paren, cs) (cond (eqb b 41) (close_paren, cs) (cond (eqb b 44) (comma, cs) (cond (eqb b 60) (arrow_front cs)
-    (cond (eqb b 34) (text_front (text_in false cs)) (word (b ∷ word_front cs), behind_word cs))))))
+    cond (eqb b 40) (open_paren, cs) (cond (eqb b 41) (close_paren, cs) (cond (eqb b 44) (comma, cs) (cond (eqb b 60) (less_front cs)
+    (cond (eqb b 61) (operator Equal, cs) (cond (eqb b 62) (greater_front cs) (cond (eqb b 33) (not_front cs)
+    (cond (eqb b 34) (text_front (text_in false cs)) (word (b ∷ word_front cs), behind_word cs)))))))))
 first_token b cs not_space =
     let P = IsFirstToken (b ∷ cs) in
     cond_both (eqb b 40) _ _ P (λ is _. (ap (λ x. x ∷ cs) (eqb-true b 40 is), tt, tt)) (λ no_open.
     cond_both (eqb b 41) _ _ P (λ is _. (ap (λ x. x ∷ cs) (eqb-true b 41 is), tt, tt)) (λ no_close.
     cond_both (eqb b 44) _ _ P (λ is _. (ap (λ x. x ∷ cs) (eqb-true b 44 is), tt, tt)) (λ no_comma.
-    cond_both (eqb b 60) _ _ P (λ is. arrow_first b cs (eqb-true b 60 is)) (λ no_angle.
+    cond_both (eqb b 60) _ _ P (λ is. less_first b cs (eqb-true b 60 is)) (λ no_angle.
+    cond_both (eqb b 61) _ _ P (λ is _. (ap (λ x. x ∷ cs) (eqb-true b 61 is), tt, tt)) (λ no_equals.
+    cond_both (eqb b 62) _ _ P (λ is. greater_first b cs (eqb-true b 62 is)) (λ no_greater.
+    cond_both (eqb b 33) _ _ P (λ is. not_first b cs (eqb-true b 33 is)) (λ no_bang.
     cond_both (eqb b 34) _ _ P (λ is. text_first b cs (text_in false cs) (eqb-true b 34 is) (text_spelled false cs)) (λ no_quote _. (
       ap (λ xs. b ∷ xs) (word_cut cs),
       (
         omega arith,
-        All-cons (λ x. ends_word x ≡ false) b (word_front cs) (inner_first b not_space no_open no_close no_comma no_angle) (word_all cs),
+        All-cons (λ x. ends_word x ≡ false) b (word_front cs) (inner_first b not_space no_bang no_open no_close no_comma no_angle no_equals no_greater) (word_all cs),
         eqb-false b 34 no_quote,
       ),
       word_end cs,
-    ))))))
+    )))))))))
 
 -- what is known of the first token
 abbrev pub IsFirst : Bytes → Option (Token × Bytes) → Type 0
@@ -197,6 +252,7 @@ no_stray_first open_paren ts h = (tt, h)
 no_stray_first close_paren ts h = (tt, h)
 no_stray_first comma ts h = (tt, h)
 no_stray_first arrow ts h = (tt, h)
+no_stray_first (operator o) ts h = (tt, h)
 
 spell_step : (bs : Bytes) (n : ℕ) (o : Option (Token × Bytes)) → IsFirst (behind_spaces bs) o → IsShorter (suc n) o → HasNoStray (and_then (tokens_within n) o)
     → ((cs : Bytes) → length cs ≤ n → HasNoStray (tokens_within n cs) → IsSpelling (tokens_within n cs) cs) → IsSpelling (and_then (tokens_within n) o) bs
@@ -234,6 +290,7 @@ spelled_real (open_paren ∷ ts) line s = spelled_real ts s.1 s.6
 spelled_real (close_paren ∷ ts) line s = spelled_real ts s.1 s.6
 spelled_real (comma ∷ ts) line s = spelled_real ts s.1 s.6
 spelled_real (arrow ∷ ts) line s = spelled_real ts s.1 s.6
+spelled_real (operator o ∷ ts) line s = spelled_real ts s.1 s.6
 
 pub tokens_are_spelled : (line : Bytes) (ts : List Token) → ((tokens line ≡ ts) × HasNoStray ts) ↔ IsSpelling ts line
 tokens_are_spelled line ts = (λ h. tokens_spelled line ts h.0 h.1, λ s. (spelled_read ts line s, spelled_real ts line s))

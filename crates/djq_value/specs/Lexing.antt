@@ -3,9 +3,9 @@ use Rattle.std.specs.Prelude.{◌≡◌, List, [], ◌∷◌, Option, None, Some
 use Rattle.std.specs.Borrow.{Bor}
 use Rattle.djq_model.specs.Data.{Bytes}
 use Rattle.djq_value.specs.Literal.{is_name}
-use Rattle.djq_value.specs.Token.{Token as Lexeme, word, text, open_paren, close_paren, comma, arrow, stray}
+use Rattle.djq_value.specs.Token.{Token as Lexeme, word, text, open_paren, close_paren, comma, arrow, operator, stray}
 use Rattle.djq_value.specs.declared.lexer.Token.{Token}
-use Rattle.djq_value.specs.declared.lexer.Token.TheVariants.{Word, Text, Open, Close, Comma, Arrow, Stray}
+use Rattle.djq_value.specs.declared.lexer.Token.TheVariants.{Word, Text, Open, Close, Comma, Arrow, Operator, Stray}
 
 -- the token of the definitions that a token of the lexer stands for
 abbrev pub lexeme_of : Token → Lexeme
@@ -15,6 +15,7 @@ lexeme_of Open = open_paren
 lexeme_of Close = close_paren
 lexeme_of Comma = comma
 lexeme_of Arrow = arrow
+lexeme_of (Operator o) = operator o
 lexeme_of Stray = stray
 
 -- The first token is taken from those that are left; none is given where none is left.

@@ -1,12 +1,23 @@
 -- How bytes spell tokens.
-use Rattle.std.specs.Prelude.{◌≡◌, ◌≢◌, ◌↔◌, ◌<◌, List, [], ◌∷◌, ◌++◌, true, false, All, codes, length, slice_index}
+use Rattle.std.specs.Prelude.{ℕ, ◌≡◌, ◌≢◌, ◌↔◌, ◌<◌, List, [], ◌∷◌, ◌++◌, true, false, Some, All, codes, length, slice_index, slice_get}
+use Rattle.djq_model.specs.declared.query.Operator.{Operator}
+use Rattle.djq_model.specs.declared.query.Operator.TheVariants.{Less, LessOrEqual, Greater, GreaterOrEqual, Equal, NotEqual}
 use Rattle.djq_model.specs.Data.{Bytes}
-use Rattle.djq_value.specs.Token.{Token, word, text, open_paren, close_paren, comma, arrow, stray, ends_word, may_end, tokens}
+use Rattle.djq_value.specs.Token.{Token, word, text, open_paren, close_paren, comma, arrow, operator, stray, ends_word, may_end, tokens}
 use Rattle.djq_value.specs.ValueText.{quoted}
 
 -- spaces, or nothing
 abbrev pub IsSpaces : Bytes → Type 0
 IsSpaces bs = All (λ b. b ≡ 32) bs
+
+-- the bytes of an operator
+abbrev pub sign_of : Operator → Bytes
+sign_of Less = codes "<"
+sign_of LessOrEqual = codes "<="
+sign_of Greater = codes ">"
+sign_of GreaterOrEqual = codes ">="
+sign_of Equal = codes "="
+sign_of NotEqual = codes "!="
 
 -- the bytes of a token
 abbrev pub text_of : Token → Bytes
@@ -15,6 +26,7 @@ text_of open_paren = codes "("
 text_of close_paren = codes ")"
 text_of comma = codes ","
 text_of arrow = codes "<-"
+text_of (operator o) = sign_of o
 text_of (text t) = quoted t
 text_of stray = []
 
@@ -26,12 +38,20 @@ IsToken open_paren = Unit {0}
 IsToken close_paren = Unit {0}
 IsToken comma = Unit {0}
 IsToken arrow = Unit {0}
+IsToken (operator o) = Unit {0}
 IsToken stray = ⊥
 
--- What may stand just behind a token: behind a word or a text a space, a sign or nothing.
+-- These bytes don't begin with this one.
+abbrev pub BeginsOtherwise : ℕ → Bytes → Type 0
+BeginsOtherwise b bs = slice_get bs 0 ≢ Some b
+
+-- What may stand just behind a token: behind a word or a text a space, a sign or nothing; behind `<`
+-- and `>` nothing that makes a longer sign of them.
 abbrev pub MayFollow : Token → Bytes → Type 0
 MayFollow (word w) bs = may_end bs ≡ true
 MayFollow (text t) bs = may_end bs ≡ true
+MayFollow (operator Less) bs = BeginsOtherwise 45 bs × BeginsOtherwise 61 bs
+MayFollow (operator Greater) bs = BeginsOtherwise 61 bs
 MayFollow _ bs = Unit {0}
 
 -- The tokens one after the other, with any number of spaces in front of, between and behind them.

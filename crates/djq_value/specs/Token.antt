@@ -1,5 +1,7 @@
 -- The tokens of a line: words, texts, signs, and spaces between them.
 use Rattle.std.specs.Prelude.{ℕ, zero, suc, List, [], ◌∷◌, ◌==◌, ◌||◌, Bool, true, false, not, Option, None, Some, if◌then◌else◌, length, take_while}
+use Rattle.djq_model.specs.declared.query.Operator.{Operator}
+use Rattle.djq_model.specs.declared.query.Operator.TheVariants.{Less, LessOrEqual, Greater, GreaterOrEqual, Equal, NotEqual}
 use Rattle.djq_model.specs.Data.{Bytes}
 
 pub data Token : Type 0 where
@@ -11,12 +13,13 @@ pub data Token : Type 0 where
   close_paren : Token
   comma : Token
   arrow : Token
-  -- no token: a `<` that begins no arrow, a text that doesn't end, that has an escape of no meaning, or that a word or another text touches
+  operator : Operator → Token
+  -- no token: a `!` that begins no `!=`, a text that doesn't end, that has an escape of no meaning, or that a word or another text touches
   stray : Token
 
 -- spaces and signs end a word
 abbrev pub ends_word : ℕ → Bool
-ends_word b = b == 32 || b == 40 || b == 41 || b == 44 || b == 60
+ends_word b = b == 32 || b == 33 || b == 40 || b == 41 || b == 44 || b == 60 || b == 61 || b == 62
 
 -- the longest run of word bytes in front, and what is behind it
 abbrev pub word_front : Bytes → Bytes
@@ -30,10 +33,24 @@ abbrev pub behind_spaces : Bytes → Bytes
 behind_spaces [] = []
 behind_spaces (b ∷ bs) = if b == 32 then behind_spaces bs else b ∷ bs
 
+-- A sign is taken as long as it can be.
+
 -- behind a `<`
-abbrev pub arrow_front : Bytes → Token × Bytes
-arrow_front [] = (stray, [])
-arrow_front (b ∷ bs) = if b == 45 then (arrow, bs) else (stray, b ∷ bs)
+abbrev pub less_front : Bytes → Token × Bytes
+less_front [] = (operator Less, [])
+less_front (b ∷ bs) =
+    if b == 45 then (arrow, bs)
+    else (if b == 61 then (operator LessOrEqual, bs) else (operator Less, b ∷ bs))
+
+-- behind a `>`
+abbrev pub greater_front : Bytes → Token × Bytes
+greater_front [] = (operator Greater, [])
+greater_front (b ∷ bs) = if b == 61 then (operator GreaterOrEqual, bs) else (operator Greater, b ∷ bs)
+
+-- behind a `!`
+abbrev pub not_front : Bytes → Token × Bytes
+not_front [] = (stray, [])
+not_front (b ∷ bs) = if b == 61 then (operator NotEqual, bs) else (stray, b ∷ bs)
 
 -- what the byte behind a backslash stands for
 abbrev pub escape_of : ℕ → Option ℕ
@@ -72,9 +89,12 @@ token_front (b ∷ bs) = Some (
     if b == 40 then (open_paren, bs)
     else (if b == 41 then (close_paren, bs)
     else (if b == 44 then (comma, bs)
-    else (if b == 60 then arrow_front bs
+    else (if b == 60 then less_front bs
+    else (if b == 61 then (operator Equal, bs)
+    else (if b == 62 then greater_front bs
+    else (if b == 33 then not_front bs
     else (if b == 34 then text_front (text_in false bs)
-    else (word (b ∷ word_front bs), behind_word bs))))))
+    else (word (b ∷ word_front bs), behind_word bs)))))))))
 
 -- the first token, and what is behind it; none where only spaces are left
 abbrev pub token_at : Bytes → Option (Token × Bytes)

@@ -1,12 +1,13 @@
 ghost use Rattle.std.specs.Prelude.{◌≡◌, ◌↔◌, [], false, IsTrue, ◌<◌, ◌≤◌, Some, drop, length};
 ghost use Rattle.std.specs.Prelude.{take};
 ghost use Rattle.std.specs.Option.{option_copied};
-ghost use Rattle.djq_value.specs.Token.{arrow_front, behind_spaces, behind_word};
+ghost use Rattle.djq_value.specs.Token.{less_front, greater_front, not_front, behind_spaces, behind_word};
 ghost use Rattle.djq_value.specs.Token.{ends_word as ends_word_of, may_end as may_end_of};
 ghost use Rattle.djq_value.specs.Token.{text_front, text_in, token_front, tokens, word_front};
 ghost use Rattle.djq_value.specs.Lexing.{Takes, lexeme_of, word_of};
 
 use crate::quoted::{Quoted, text_end};
+use djq_model::Operator;
 use std::marker::Model;
 
 /// A token of a line.
@@ -24,7 +25,9 @@ pub enum Token<'a> {
     Comma,
     /// `<-`.
     Arrow,
-    /// What is no token: a `<` that begins no arrow, or a text that is spelled wrongly.
+    /// The sign of a comparison.
+    Operator(Operator),
+    /// What is no token: a `!` that begins no `!=`, or a text that is spelled wrongly.
     Stray,
 }
 
@@ -103,7 +106,10 @@ pub(crate) fn front_token(bytes: &[u8]) -> (Token<'_>, &[u8])
         b'(' => (Token::Open, behind),
         b')' => (Token::Close, behind),
         b',' => (Token::Comma, behind),
-        b'<' => arrow_or_stray(behind),
+        b'<' => arrow_or_less(behind),
+        b'=' => (Token::Operator(Operator::Equal), behind),
+        b'>' => greater(behind),
+        b'!' => not_equal_or_stray(behind),
         b'"' => text_or_stray(behind),
         _ => {
             let len = word_len(behind);
@@ -113,13 +119,33 @@ pub(crate) fn front_token(bytes: &[u8]) -> (Token<'_>, &[u8])
 }
 
 // What a `<` begins, by what is behind it.
-fn arrow_or_stray(behind: &[u8]) -> (Token<'_>, &[u8])
-    ensures { arrow_front behind.now ≡ (lexeme_of result.0, result.1.now) }
+fn arrow_or_less(behind: &[u8]) -> (Token<'_>, &[u8])
+    ensures { less_front behind.now ≡ (lexeme_of result.0, result.1.now) }
 {
-    if !behind.is_empty() && behind[0] == b'-' {
-        (Token::Arrow, &behind[1..])
-    } else {
-        (Token::Stray, behind)
+    match behind.first() {
+        Some(b'-') => (Token::Arrow, &behind[1..]),
+        Some(b'=') => (Token::Operator(Operator::LessOrEqual), &behind[1..]),
+        _ => (Token::Operator(Operator::Less), behind),
+    }
+}
+
+// What a `>` begins, by what is behind it.
+fn greater(behind: &[u8]) -> (Token<'_>, &[u8])
+    ensures { greater_front behind.now ≡ (lexeme_of result.0, result.1.now) }
+{
+    match behind.first() {
+        Some(b'=') => (Token::Operator(Operator::GreaterOrEqual), &behind[1..]),
+        _ => (Token::Operator(Operator::Greater), behind),
+    }
+}
+
+// What a `!` begins, by what is behind it.
+fn not_equal_or_stray(behind: &[u8]) -> (Token<'_>, &[u8])
+    ensures { not_front behind.now ≡ (lexeme_of result.0, result.1.now) }
+{
+    match behind.first() {
+        Some(b'=') => (Token::Operator(Operator::NotEqual), &behind[1..]),
+        _ => (Token::Stray, behind),
     }
 }
 
@@ -177,5 +203,5 @@ fn word_len(bytes: &[u8]) -> usize
 fn ends_word(byte: u8) -> bool
     ensures { result ≡ ends_word_of byte }
 {
-    matches!(byte, b' ' | b'(' | b')' | b',' | b'<')
+    matches!(byte, b' ' | b'!' | b'(' | b')' | b',' | b'<' | b'=' | b'>')
 }

@@ -1,6 +1,6 @@
 use super::*;
 use bytes::BytesMut;
-use djq_model::{Lent, Value};
+use djq_model::{Lent, Operator, Value};
 use std::alloc::{AllocError, Global};
 use std::test::Fail;
 
@@ -104,7 +104,7 @@ fn says_why_no_value_is_read(rt: HostRuntime) -> Result<(), Fail> {
 
 #[test]
 fn reads_the_tokens_of_a_line(rt: HostRuntime) {
-    let mut lexer = Lexer::new(b" q( x,_ )<-\"a\\n\" < 07");
+    let mut lexer = Lexer::new(b" q( x,_ )<-\"a\\n\" ! 07");
     let mut kinds: u64 = 0;
     for _ in 0..10 {
         let kind = match lexer.next() {
@@ -115,10 +115,34 @@ fn reads_the_tokens_of_a_line(rt: HostRuntime) {
             Some(Token::Comma) => 5,
             Some(Token::Arrow) => 6,
             Some(Token::Stray) => 7,
+            Some(Token::Operator(_)) => 0,
             None => 0,
         };
         kinds = kinds.wrapping_mul(8).wrapping_add(kind);
     }
     assert_eq!(rt; kinds, 0o1315146271);
+    assert!(rt; lexer.is_done());
+}
+
+/// Signs are taken as long as they can be.
+#[test]
+fn reads_the_signs_of_comparisons(rt: HostRuntime) {
+    let mut lexer = Lexer::new(b"x<=1>=y!==<-2>");
+    let mut kinds: u64 = 0;
+    for _ in 0..10 {
+        let kind = match lexer.next() {
+            Some(Token::Operator(Operator::Less)) => 2,
+            Some(Token::Operator(Operator::LessOrEqual)) => 3,
+            Some(Token::Operator(Operator::Greater)) => 4,
+            Some(Token::Operator(Operator::GreaterOrEqual)) => 5,
+            Some(Token::Operator(Operator::Equal)) => 6,
+            Some(Token::Operator(Operator::NotEqual)) => 7,
+            Some(Token::Arrow) => 8,
+            Some(_) => 1,
+            None => 0,
+        };
+        kinds = kinds.wrapping_mul(10).wrapping_add(kind);
+    }
+    assert_eq!(rt; kinds, 1_315_176_814);
     assert!(rt; lexer.is_done());
 }

@@ -58,8 +58,8 @@ gen_not_replay e = let n = ap length e in absurd (omega (arith, n))
 -- what `serve` was given asks for nothing
 pub none_asked : (rows : List Row) → ((addr : Text) (n : ℕ) → first_of (codes "ADDR") rows ≡ Some addr → TurnsAre (first_of (codes "turns") rows) n → ⊥) → ServeAsked rows None
 none_asked rows h Run asks = serve_not_run asks
-none_asked rows h (Serve addr n) asks = h addr.now n asks.1 asks.2
-none_asked rows h Replay asks = serve_not_replay asks
+none_asked rows h (Serve addr n log) asks = h addr.now n asks.1 asks.2
+none_asked rows h (Replay log) asks = serve_not_replay asks.0
 none_asked rows h (Gen n seed) asks = serve_not_gen asks.0
 
 pub no_addr : (rows : List Row) → first_of (codes "ADDR") rows ≡ None → ServeAsked rows None
@@ -80,8 +80,8 @@ turns_unspelled rows text given h = none_asked rows (λ addr n is turns. h n
 pub gen_asks_none : (rows : List Row) → ((n seed : ℕ) → IsGiven (first_of (codes "N") rows) n
     → IsGiven (first_of (codes "SEED") rows) seed → ⊥) → GenAsked rows None
 gen_asks_none rows h Run asks = gen_not_run asks
-gen_asks_none rows h (Serve addr n) asks = serve_not_gen (sym asks.0)
-gen_asks_none rows h Replay asks = gen_not_replay asks
+gen_asks_none rows h (Serve addr n log) asks = serve_not_gen (sym asks.0)
+gen_asks_none rows h (Replay log) asks = gen_not_replay asks.0
 gen_asks_none rows h (Gen n seed) asks = h n seed asks.1 asks.2
 
 pub none_read : (o : Option Text) → o ≡ None → IsRead o None
@@ -135,8 +135,8 @@ not_spelled text m h other n spells =
 -- another name asks for nothing
 pub other_asked : (name : Text) (rows : List Row) → name ≢ codes "run" → name ≢ codes "serve" → name ≢ codes "replay" → name ≢ codes "gen" → AskedBy (Some (name, rows)) None
 other_asked name rows run serve replay generate Run asks = absurd (run asks)
-other_asked name rows run serve replay generate (Serve addr n) asks = absurd (serve asks.0)
-other_asked name rows run serve replay generate Replay asks = absurd (replay asks)
+other_asked name rows run serve replay generate (Serve addr n log) asks = absurd (serve asks.0)
+other_asked name rows run serve replay generate (Replay log) asks = absurd (replay asks.0)
 other_asked name rows run serve replay generate (Gen n seed) asks = absurd (generate asks.0)
 
 -- what a parse found, by its name and its rows

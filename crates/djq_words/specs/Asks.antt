@@ -1,5 +1,7 @@
 -- What the words of a command line ask for.
 use Rattle.std.specs.Prelude.{ℕ, List, [], ◌≡◌, ◌<◌, ◌^◌, Option, None, Some, IsSomeAnd, codes, decimal}
+use Rattle.std.specs.Option.{option_map}
+use Rattle.std.specs.Borrow.{Bor}
 use Rattle.clap.specs.Words.{Text, Row, fault_of, first_of, subcommand_of}
 use Rattle.djq_words.specs.declared.commands.Asked.{Asked}
 use Rattle.djq_words.specs.declared.commands.Asked.TheVariants.{Run, Serve, Replay, Gen}
@@ -31,12 +33,16 @@ abbrev pub IsRead : Option Text → Option ℕ → Type 0
 IsRead text (Some n) = IsGiven text n
 IsRead text None = (n : ℕ) → IsGiven text n → ⊥
 
+-- the path of a log, where there is one
+abbrev pub path_of : Option (Bor Text) → Option Text
+path_of log = option_map (λ path. path.now) log
+
 -- A subcommand, by its name and what it was given, asks for this.
 abbrev pub IsAsked : Text × List Row → Asked → Type 0
 IsAsked c Run = c.0 ≡ codes "run"
-IsAsked c (Serve addr turns) = (c.0 ≡ codes "serve") × (first_of (codes "ADDR") c.1 ≡ Some addr.now)
-    × TurnsAre (first_of (codes "turns") c.1) turns
-IsAsked c Replay = c.0 ≡ codes "replay"
+IsAsked c (Serve addr turns log) = (c.0 ≡ codes "serve") × (first_of (codes "ADDR") c.1 ≡ Some addr.now)
+    × TurnsAre (first_of (codes "turns") c.1) turns × (first_of (codes "log") c.1 ≡ path_of log)
+IsAsked c (Replay log) = (c.0 ≡ codes "replay") × (first_of (codes "log") c.1 ≡ path_of log)
 IsAsked c (Gen n seed) = (c.0 ≡ codes "gen") × IsGiven (first_of (codes "N") c.1) n
     × IsGiven (first_of (codes "SEED") c.1) seed
 

@@ -12,9 +12,17 @@ abbrev pub turns_rule : Rule
 turns_rule = record (new_rule (codes "turns"))
     { long = Some (codes "turns"); parser = Some (Unsigned 1 9223372036854775807) }
 
--- `serve ADDR [--turns N]`
+-- the path of a log
+abbrev pub log_rule : Rule
+log_rule = record (new_rule (codes "log")) { long = Some (codes "log") }
+
+-- `serve ADDR [--turns N] [--log PATH]`
 abbrev pub serve_app : App
-serve_app = with_rule (with_rule (new_app (codes "serve")) addr_rule) turns_rule
+serve_app = with_rule (with_rule (with_rule (new_app (codes "serve")) addr_rule) turns_rule) log_rule
+
+-- `replay [--log PATH]`
+abbrev pub replay_app : App
+replay_app = with_rule (new_app (codes "replay")) log_rule
 
 -- the number of changes of `gen`, from 1 to 1000000, and its seed, from 0 to 2147483647, which must be
 -- there
@@ -45,4 +53,4 @@ bare_app = let a = new_app (codes "djq") in
 -- the program with its commands
 abbrev pub djq_app : App
 djq_app = with_subcommand (with_subcommand (with_subcommand (with_subcommand bare_app (new_app (codes "run")).top)
-    serve_app.top) (new_app (codes "replay")).top) gen_app.top
+    serve_app.top) replay_app.top) gen_app.top

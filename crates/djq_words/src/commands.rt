@@ -1,7 +1,7 @@
 ghost use Rattle.std.specs.Prelude.{◌≡◌, false, IfOk, map};
 ghost use Rattle.clap.specs.declared.builder.command.Command.TheViews.{out-Command as fields_of};
 ghost use Rattle.clap.specs.Words.{app_of, first_of, found_of, rows_of, subcommand_rows_of};
-ghost use Rattle.djq_words.specs.Commands.{serve_app, gen_app, djq_app};
+ghost use Rattle.djq_words.specs.Commands.{serve_app, replay_app, gen_app, djq_app};
 ghost use Rattle.djq_words.specs.Asks.{AskedBy, ServeAsked, GenAsked, ReadsAs, IsRead, Answers};
 
 use clap::builder::ValueParser;
@@ -24,10 +24,11 @@ pub const LAST_SEED: u64 = 2_147_483_647;
 pub enum Asked<'a> {
     /// `run`: one session, from the source to the sink.
     Run,
-    /// `serve ADDR [--turns N]`: the sessions that come to this address, for so many turns.
-    Serve(&'a str, u64),
-    /// `replay`: the sessions of a schedule, which is read from the source.
-    Replay,
+    /// `serve ADDR [--turns N] [--log PATH]`: the sessions that come to this address, for so many
+    /// turns, with the log at this path, if there is one.
+    Serve(&'a str, u64, Option<&'a str>),
+    /// `replay [--log PATH]`: the sessions of a schedule, which is read from the source.
+    Replay(Option<&'a str>),
     /// `gen N SEED`: a generated load of so many changes, from this seed.
     Gen(u32, u32),
 }
@@ -41,7 +42,17 @@ fn serve_command<'a>(alloc: Global) -> Result<Command<'a>, AllocError>
     let turns = Arg::new(alloc, "turns")
         .long("turns")
         .value_parser(ValueParser::unsigned(1, MOST_TURNS));
-    Command::new(alloc, "serve").arg(addr)?.arg(turns)
+    let log = Arg::new(alloc, "log").long("log");
+    Command::new(alloc, "serve").arg(addr)?.arg(turns)?.arg(log)
+}
+
+/// The command `replay`.
+fn replay_command<'a>(alloc: Global) -> Result<Command<'a>, AllocError>
+    ensures app { IfOk result (λ c. app_of c ≡ replay_app) }
+    ensures local { IfOk result (λ c. (fields_of c).has_globals ≡ false) }
+{
+    let log = Arg::new(alloc, "log").long("log");
+    Command::new(alloc, "replay").arg(log)
 }
 
 /// The command `gen`.
@@ -64,6 +75,7 @@ fn djq_command<'a>(alloc: Global) -> Result<Command<'a>, AllocError>
     ensures local { IfOk result (λ c. (fields_of c).has_globals ≡ false) }
 {
     let serve = serve_command(alloc)?;
+    let replay = replay_command(alloc)?;
     let load = gen_command(alloc)?;
     let bare = Command::new(alloc, "djq")
         .disable_help_flag(true)
@@ -72,7 +84,7 @@ fn djq_command<'a>(alloc: Global) -> Result<Command<'a>, AllocError>
         .subcommand_required(true);
     bare.subcommand(Command::new(alloc, "run"))?
         .subcommand(serve)?
-        .subcommand(Command::new(alloc, "replay"))?
+        .subcommand(replay)?
         .subcommand(load)
 }
 
@@ -103,7 +115,7 @@ fn asked_by<'a>(matches: &ArgMatches<'a>) -> Option<Asked<'a>>
     match name {
         "run" => Some(Asked::Run),
         "serve" => serve_asked(inner),
-        "replay" => Some(Asked::Replay),
+        "replay" => Some(Asked::Replay(inner.get_str("log"))),
         "gen" => gen_asked(inner),
         _ => None,
     }
@@ -114,11 +126,12 @@ fn serve_asked<'a>(given: &ArgMatches<'a>) -> Option<Asked<'a>>
     ensures { ServeAsked (rows_of (found_of given.now)) result }
 {
     let addr = given.get_str("ADDR")?;
+    let log = given.get_str("log");
     let Some(text) = given.get_str("turns") else {
-        return Some(Asked::Serve(addr, MOST_TURNS));
+        return Some(Asked::Serve(addr, MOST_TURNS, log));
     };
     match number_in(text) {
-        Some(turns) => Some(Asked::Serve(addr, turns)),
+        Some(turns) => Some(Asked::Serve(addr, turns, log)),
         None => None,
     }
 }

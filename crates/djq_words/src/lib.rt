@@ -7,14 +7,15 @@
 //!
 //! ```text
 //! djq run                     Asked::Run
-//! djq serve a:1 --turns 7     Asked::Serve("a:1", 7)
+//! djq serve a:1 --turns 7     Asked::Serve("a:1", 7, None)
+//! djq replay --log j          Asked::Replay(Some("j"))
 //! djq gen 5 1                 Asked::Gen(5, 1)
 //! djq gen 05 1                no command
 //! djq --help                  no command
 //! ```
 //!
 //! What this crate is not: it prints nothing, and it doesn't run what it read. Whether an address
-//! can be listened at is for the hub to say.
+//! can be listened at is for the hub to say, and whether a file can be opened for the disk.
 //!
 //! What surprises: `clap`'s own texts aren't used, and help and version words are no command.
 //! Without `--turns`, `serve` takes as many turns as it may be asked for ([`MOST_TURNS`]).

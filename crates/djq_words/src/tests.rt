@@ -8,16 +8,30 @@ fn commands_without_words_are_read(rt: HostRuntime) -> Result<(), Fail> {
     let run = read_words(rt.alloc(), &["djq", "run"])?;
     assert!(rt; matches!(run, Some(Asked::Run)));
     let replay = read_words(rt.alloc(), &["djq", "replay"])?;
-    assert!(rt; matches!(replay, Some(Asked::Replay)));
+    assert!(rt; matches!(replay, Some(Asked::Replay(None))));
+    Ok(())
+}
+
+#[test]
+fn a_log_is_told_by_its_path(rt: HostRuntime) -> Result<(), Fail> {
+    let asked = read_words(rt.alloc(), &["djq", "serve", "a:1", "--log", "j"])?;
+    assert!(rt; matches!(asked, Some(Asked::Serve("a:1", MOST_TURNS, Some("j")))));
+    let asked = read_words(
+        rt.alloc(),
+        &["djq", "serve", "--log", "j", "--turns", "7", "a:1"],
+    )?;
+    assert!(rt; matches!(asked, Some(Asked::Serve("a:1", 7, Some("j")))));
+    let asked = read_words(rt.alloc(), &["djq", "replay", "--log", "j"])?;
+    assert!(rt; matches!(asked, Some(Asked::Replay(Some("j")))));
     Ok(())
 }
 
 #[test]
 fn serve_has_an_address_and_turns(rt: HostRuntime) -> Result<(), Fail> {
     let asked = read_words(rt.alloc(), &["djq", "serve", "a:1", "--turns", "7"])?;
-    assert!(rt; matches!(asked, Some(Asked::Serve("a:1", 7))));
+    assert!(rt; matches!(asked, Some(Asked::Serve("a:1", 7, None))));
     let asked = read_words(rt.alloc(), &["djq", "serve", "a:1"])?;
-    assert!(rt; matches!(asked, Some(Asked::Serve("a:1", MOST_TURNS))));
+    assert!(rt; matches!(asked, Some(Asked::Serve("a:1", MOST_TURNS, None))));
     Ok(())
 }
 
@@ -44,6 +58,10 @@ fn other_words_are_no_command(rt: HostRuntime) -> Result<(), Fail> {
         &["djq", "serve", "a:1", "--turns", "+7"],
         &["djq", "serve", "a:1", "--turns", "01"],
         &["djq", "replay", "file"],
+        &["djq", "replay", "--log"],
+        &["djq", "replay", "--log", "j", "--log", "k"],
+        &["djq", "serve", "--log", "j"],
+        &["djq", "run", "--log", "j"],
         &["djq", "gen"],
         &["djq", "gen", "5"],
         &["djq", "gen", "0", "1"],

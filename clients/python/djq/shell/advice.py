@@ -9,13 +9,13 @@ from typing import Callable
 from ..errors import NotFreeConnex, Refused, Stale
 from ..protocol import MOST_ANSWERS
 from .names import Names
-from .queries import Query, cures, read_query, ring
+from .queries import MOST_ATOMS, MOST_COLUMNS, MOST_HEAD, Query, cures, read_query, ring
 
 FORMS = {
-    "rel": "rel NAME int text ..              a relation with 1 to 8 columns",
+    "rel": f"rel NAME int text ..              a relation with 1 to {MOST_COLUMNS} columns",
     "add": 'add NAME 1 "a text" ..            puts a row in, or gives it one copy more',
     "del": 'del NAME 1 "a text" ..            takes a copy of a row; the last takes it out',
-    "query": "query NAME(x,y) <- REL(x,z), REL(z,y,3)",
+    "query": "query NAME(x,y) <- REL(x,z), REL(z,y,3), x >= 5",
     "drop": "drop QUERY",
     "open": "open CURSOR QUERY                 then: next CURSOR 20",
     "next": f"next CURSOR COUNT                 1 to {MOST_ANSWERS} answers",
@@ -30,12 +30,15 @@ FORMS = {
 }
 
 LIMITS = {
-    "rel": "a relation has at most 8 columns, and a server 256 relations",
+    "rel": f"a relation has at most {MOST_COLUMNS} columns, and a server 256 relations",
     "add": "a row has at most 4,294,967,295 copies, a relation as many rows, and a server as many texts",
-    "query": "a query has at most 16 atoms, 64 variables with each _ counted, and 16 variables in its head; a server"
-    " has 256 queries: drop one that nobody needs",
+    "query": f"a query has at most {MOST_ATOMS} atoms, 128 variables with each _ counted, {MOST_HEAD} variables in its"
+    " head, and 32 comparisons; a server has 256 queries: drop one that nobody needs",
     "open": "a session has at most 16 cursors: close one",
 }
+
+# the sign of a comparison in front of a name or `_`, or behind a constant
+COMPARED = re.compile(r'([<>=]|!=) *[a-z_]|(^|[ ,(])(-?[0-9]+|""|_) *([<>=]|!=)(?!-)')
 
 Columns = Callable[[str], "tuple[str, ...] | None"]
 
@@ -58,7 +61,7 @@ def advice(error: Exception, line: str, names: Names, columns: Columns) -> list[
         return _of_names(error.number, command, line, names)
     if error.number in (6, 7):
         return _of_values(command, name, line, columns)
-    if error.number in (8, 9, 10):
+    if error.number in (8, 9, 10, 16):
         return _of_head(error.number, line, columns)
     if error.number == 11:
         return [LIMITS.get(command, "a limit is reached")]
@@ -93,6 +96,7 @@ def _of_syntax(line: str, command: str) -> list[str]:
         return [f"there is no command {command}: {meant}\\? lists them all"]
     told = [FORMS[command].strip()]
     bare = re.sub(r'"(?:[^"\\]|\\.)*"', '""', line)  # without what texts say
+    body = bare.partition("<-")[2] if command == "query" else ""
     rules = (
         ("'" in bare, 'a text stands in double quotes: "a text"'),
         (bare.count('"') % 2 == 1, 'a text is without its closing quote; a quote within one is \\"'),
@@ -102,7 +106,10 @@ def _of_syntax(line: str, command: str) -> list[str]:
         (re.search(r"\d\.\d", bare), "there are no fractions: an int of the smallest unit, or a text"),
         (command == "query" and "<-" not in bare, "behind the head comes <-, and then the atoms"),
         (command == "next", f"the count is from 1 to {MOST_ANSWERS}"),
-        (re.search(r"[<>=!]", bare.replace("<-", "")), "there is no comparing: compare where the answers are read"),
+        ("<-" in body, "<- is one sign: less than -5 is < -5, with a space"),
+        (re.search("==|<>|=<|=>", body), "the signs of comparisons are < <= > >= = and !="),
+        (COMPARED.search(body), "a variable is compared with a constant alone, and stands before the sign: x < 5"),
+        (body and "(" not in body, "an atom stands in the body too: what is compared is a variable of it"),
     )
     return told + [rule for holds, rule in rules if holds]
 
@@ -142,7 +149,7 @@ def _of_values(command: str, name: str, line: str, columns: Columns) -> list[str
         return [f"{name} has the columns {' '.join(kinds)}"] if kinds else []
     if command == "query":
         query = read_query(line.strip()[len("query") :])
-        told = []
+        told = _of_comparisons(query, columns) if query else []
         for relation in dict.fromkeys(atom.relation for atom in query.atoms) if query else []:
             kinds = columns(relation)
             if kinds:
@@ -158,21 +165,38 @@ def _of_head(number: int, line: str, columns: Columns) -> list[str]:
     if number == 9:
         twice = sorted({v for v in query.head if query.head.count(v) > 1})
         return [f"name {', '.join(twice)} once in the head"]
+    bound = {v for atom in query.atoms for v in atom.variables}
+    if number == 16:
+        unbound = sorted({comparison.variable for comparison in query.comparisons} - bound)
+        return [f"no atom has {', '.join(unbound)}: what is compared is a variable of an atom"]
     if number == 8:
-        bound = {v for atom in query.atoms for v in atom.variables}
         unbound = [v for v in query.head if v not in bound]
         return [f"no atom has {', '.join(unbound)}: put it into one, or leave it out of the head"]
-    return _of_types(query, columns)
+    return [
+        f"{variable} stands in {of['int']}, of ints, and in {of['text']}, of texts: use two names"
+        for variable, of in _places(query, columns).items()
+        if len(of) == 2
+    ]
 
 
-def _of_types(query: Query, columns: Columns) -> list[str]:
+def _places(query: Query, columns: Columns) -> dict[str, dict[str, str]]:
+    """Of each variable the types that it has, each with a column that gives it that type."""
     places: dict[str, dict[str, str]] = {}
     for atom in query.atoms:
         for at, (term, kind) in enumerate(zip(atom.terms, columns(atom.relation) or ())):
             if term in atom.variables:
                 places.setdefault(term, {}).setdefault(kind, f"column {at + 1} of {atom.relation}")
-    return [
-        f"{variable} stands in {of['int']}, of ints, and in {of['text']}, of texts: use two names"
-        for variable, of in places.items()
-        if len(of) == 2
-    ]
+    return places
+
+
+def _of_comparisons(query: Query, columns: Columns) -> list[str]:
+    """What is wrong with the types of comparisons, a line each."""
+    places, told = _places(query, columns), []
+    for comparison in query.comparisons:
+        of = places.get(comparison.variable, {})
+        for kind, place in of.items():
+            if (kind == "text") != comparison.constant.startswith('"'):
+                told.append(f"{comparison.variable} stands in {place}, of {kind}s: {comparison} can't be asked of it")
+            elif kind == "text" and comparison.operator not in ("=", "!="):
+                told.append(f"texts have no order: of {comparison.variable} only = and != can be asked")
+    return told

@@ -20,11 +20,12 @@ from .screen import Screen, safe, tree
 from .session import Delta, Said, Session
 
 HELP = """\
-rel NAME int text ..              a relation with 1 to 8 columns
+rel NAME int text ..              a relation with 1 to 16 columns
 add NAME 1 "a text" ..            puts a row in, or gives it one copy more
 del NAME 1 "a text" ..            takes a copy of a row; the last takes it out
-query NAME(x,y) <- REL(x,z), REL(z,y,3)
-                                  registers a query: equal names stand for equal values, _ for any
+query NAME(x,y) <- REL(x,z), REL(z,y,3), x >= 5, z != "a"
+                                  registers a query: equal names stand for equal values, _ for any; a variable is
+                                  compared with a constant by < <= > >= = !=, a text by = and != alone
 watch QUERY, unwatch QUERY        tells what comes (+) and goes (-) as rows change, or no more
 has QUERY 1 "a text" ..           whether that is an answer
 open CURSOR QUERY, next CURSOR 20, close CURSOR

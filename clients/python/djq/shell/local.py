@@ -10,6 +10,7 @@ import time
 
 BUILT = os.path.join("crates", "djq", "out", "djq")
 SECONDS = 20  # that it may take to listen
+REASONS = {9: ": its log can't be opened", 11: ": its log is bad"}
 
 
 class NoProgram(Exception):
@@ -35,7 +36,7 @@ def find_program() -> str:
 class Server:
     """A server that is started, on loopback, and ended with the block."""
 
-    def __init__(self, program: str, port: int | None) -> None:
+    def __init__(self, program: str, port: int | None, log: str | None = None) -> None:
         if port is None:
             with socket.create_server(("127.0.0.1", 0)) as free:
                 port = free.getsockname()[1]
@@ -43,7 +44,7 @@ class Server:
         try:
             # in a session of its own: Ctrl-C in the shell isn't meant for it
             self._process = subprocess.Popen(
-                [program, "serve", f"127.0.0.1:{port}"],
+                [program, "serve", f"127.0.0.1:{port}", *(["--log", log] if log else [])],
                 stdin=subprocess.DEVNULL, stdout=subprocess.DEVNULL, stderr=subprocess.DEVNULL, start_new_session=True,
             )  # fmt: skip
         except OSError as error:
@@ -53,7 +54,8 @@ class Server:
         until = time.monotonic() + SECONDS
         while True:
             if self._process.poll() is not None:
-                raise NoProgram(f"the server ended at once, with status {self._process.returncode}")
+                status = self._process.returncode
+                raise NoProgram(f"the server ended at once, with status {status}{REASONS.get(status, '')}")
             try:
                 socket.create_connection(("127.0.0.1", self.port), 1).close()
                 return self

@@ -44,6 +44,7 @@ def _parser() -> argparse.ArgumentParser:
     parser.add_argument("address", nargs="?", help="HOST:PORT of a server; 127.0.0.1:7007 where it is left out")
     parser.add_argument("--local", action="store_true", help="start a server beside it, which ends with it")
     parser.add_argument("--program", metavar="PATH", help="the server's program, for --local")
+    parser.add_argument("--log", metavar="PATH", help="for --local: a file in which its rows are kept for the next time")
     parser.add_argument("--plain", action="store_true", help="no colours, no completion")
     parser.add_argument("--stop", action="store_true", help="as a filter: end at the first command that is refused")
     parser.add_argument("--timeout", type=float, metavar="SECONDS", help="the most that a reply may take")
@@ -56,11 +57,13 @@ def _address(given: argparse.Namespace, ends: contextlib.ExitStack) -> tuple[str
         raise Error(f"not HOST:PORT: {given.address}")
     host = host.strip("[]")
     if not given.local:
+        if given.log:
+            raise Error("--log is of a server of the shell's own: --local --log PATH")
         return host, int(port)
     if host != "127.0.0.1":
         raise Error("a server of the shell's own listens on 127.0.0.1")
     program = given.program or local.find_program()
-    server = ends.enter_context(local.Server(program, int(port) if given.address else None))
+    server = ends.enter_context(local.Server(program, int(port) if given.address else None, given.log))
     return host, server.port
 
 
@@ -71,7 +74,8 @@ def _run(given: argparse.Namespace, host: str, port: int) -> int:
     if not typed:
         sys.stdout.reconfigure(encoding="utf-8", errors="surrogateescape")  # type: ignore[attr-defined]
         return pipe.run(shell, sys.stdin.fileno(), given.stop)
-    own = " of its own, whose rows are gone as the shell ends" if given.local else ""
+    rows = f"are kept in {given.log}" if given.log else "are gone as the shell ends"
+    own = f" of its own, whose rows {rows}" if given.local else ""
     screen.line(f"djq at {host}:{port}, a server{own}; \\? for help, \\q to end", "quiet")
     if fancy and (terminal.PromptSession is None or Console is None):
         missing = [name for name, there in (("prompt_toolkit", terminal.PromptSession), ("rich", Console)) if not there]

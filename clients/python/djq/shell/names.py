@@ -5,12 +5,11 @@ from __future__ import annotations
 import re
 from typing import TYPE_CHECKING
 
-from .queries import Query, read_query
+from .queries import MOST_COLUMNS, Query, read_query
 
 if TYPE_CHECKING:
     from .session import Session
 
-MOST_COLUMNS = 8
 PROBE = "djq_shell_asks_for_columns"
 
 

@@ -2,7 +2,7 @@
 
 Edges are the sets of variables of atoms. Variables that lie in one edge only and edges that lie within another are
 taken away as long as there are any: what stays, if anything, is a ring. A query is admitted where nothing stays,
-neither without the head as an edge nor with it.
+neither without the head as an edge nor with it. Comparisons make no difference to that.
 """
 
 from __future__ import annotations
@@ -11,11 +11,13 @@ import re
 from dataclasses import dataclass, replace
 
 MOST_HEAD = 16
-MOST_ATOMS = 16
-MOST_COLUMNS = 8
+MOST_ATOMS = 32
+MOST_COLUMNS = 16
+OPERATORS = ("<", "<=", ">", ">=", "=", "!=")
 
-_TOKEN = re.compile(r' *(?:(<-|[(),_])|([a-z][a-z0-9_]*)|(-?[0-9]+)|("(?:[^"\\]|\\.)*"))')
+_TOKEN = re.compile(r' *(?:(<-|[<>!]=|[<>=(),_])|([a-z][a-z0-9_]*)|(-?[0-9]+)|("(?:[^"\\]|\\.)*"))')
 _VARIABLE = re.compile(r"[a-z][a-z0-9_]*")
+_SIGNS = ("(", ")", ",", "<-", *OPERATORS)
 
 
 @dataclass(frozen=True)
@@ -34,15 +36,28 @@ class Atom:
 
 
 @dataclass(frozen=True)
+class Comparison:
+    """A variable, and how it stands to a constant."""
+
+    variable: str
+    operator: str
+    constant: str
+
+    def __str__(self) -> str:
+        return f"{self.variable} {self.operator} {self.constant}"
+
+
+@dataclass(frozen=True)
 class Query:
-    """A query as it is said."""
+    """A query as it is said, its comparisons behind its atoms."""
 
     name: str
     head: tuple[str, ...]
     atoms: tuple[Atom, ...]
+    comparisons: tuple[Comparison, ...] = ()
 
     def __str__(self) -> str:
-        return f"{self.name}({','.join(self.head)}) <- {', '.join(map(str, self.atoms))}"
+        return f"{self.name}({','.join(self.head)}) <- {', '.join(map(str, (*self.atoms, *self.comparisons)))}"
 
 
 def read_query(text: str) -> Query | None:
@@ -57,17 +72,23 @@ def read_query(text: str) -> Query | None:
     try:
         arrow = tokens.index("<-")
         head = _read_atom(tokens[:arrow])
-        parts, rest = [], tokens[arrow + 1 :]
-        while True:
-            close = rest.index(")") + 1
-            parts.append(_read_atom(rest[:close]))
-            if close == len(rest):
-                return Query(head.relation, head.terms, tuple(parts))
-            if rest[close] != ",":
+        atoms: list[Atom] = []
+        comparisons: list[Comparison] = []
+        rest = [",", *tokens[arrow + 1 :]]
+        while rest:
+            comma, *rest = rest
+            if comma != ",":
                 return None
-            rest = rest[close + 1 :]
+            if len(rest) > 1 and rest[1] in OPERATORS:
+                end = 3
+                comparisons.append(_read_comparison(rest[:end]))
+            else:
+                end = rest.index(")") + 1
+                atoms.append(_read_atom(rest[:end]))
+            rest = rest[end:]
     except ValueError:
         return None
+    return Query(head.relation, head.terms, tuple(atoms), tuple(comparisons)) if atoms else None
 
 
 def _read_atom(tokens: list[str]) -> Atom:
@@ -76,9 +97,17 @@ def _read_atom(tokens: list[str]) -> Atom:
     terms, commas = inner[::2], inner[1::2]
     if (opening, closing) != ("(", ")") or not _VARIABLE.fullmatch(name) or len(inner) % 2 != (len(inner) > 0):
         raise ValueError
-    if any(comma != "," for comma in commas) or any(term in ("(", ")", ",", "<-") for term in terms):
+    if any(comma != "," for comma in commas) or any(term in _SIGNS for term in terms):
         raise ValueError
     return Atom(name, tuple(terms))
+
+
+def _read_comparison(tokens: list[str]) -> Comparison:
+    """The comparison of these tokens. Raises `ValueError`."""
+    variable, operator, constant = tokens
+    if not _VARIABLE.fullmatch(variable) or _VARIABLE.fullmatch(constant) or constant in ("_", *_SIGNS):
+        raise ValueError
+    return Comparison(variable, operator, constant)
 
 
 def ring(edges: list[frozenset[str]]) -> list[frozenset[str]]:

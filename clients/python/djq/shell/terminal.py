@@ -27,6 +27,7 @@ except ImportError:  # lines are read without it then
 
 OWN = [line.split()[0] for line in HELP.split("\n") if line.startswith("\\")]
 OF_RELATIONS = ("add", "del", "\\columns")
+VARIABLE = re.compile(r"[(,] *([a-z][a-z0-9_]*)(?= *[,)])")  # that a query names, in its head or in an atom
 OF_QUERIES = ("watch", "unwatch", "has", "explain", "shape", "drop", "\\show", "\\explain", "\\dump")
 
 
@@ -66,11 +67,12 @@ def _agreed() -> bool:
 
 def incomplete(text: str) -> bool:
     """Whether a query goes on behind this: no whole one ends so."""
-    return text.lstrip().startswith("query") and re.search(r"(,|<-|\()\s*\Z", text) is not None
+    return text.lstrip().startswith("query") and re.search(r"(,|<-|\(|[<>=])\s*\Z", text) is not None
 
 
 def lines_of(text: str) -> Iterator[str]:
-    """The commands of what was typed or pasted. A query may go over several lines, each cut behind `,`, `<-` or `(`."""
+    """The commands of what was typed or pasted. A query may go over several lines, each cut behind `,`, `<-`, `(`
+    or the sign of a comparison."""
     begun = ""
     for line in text.split("\n"):
         begun = f"{begun} {line.strip()}" if begun else line.strip().rstrip("\r")
@@ -178,7 +180,7 @@ class Names(Completer):
     def get_completions(self, document: Document, complete_event: CompleteEvent) -> Iterator[Completion]:
         """What the word before the cursor may become."""
         before = document.current_line_before_cursor.lstrip()
-        begun = re.split(r'[\s(),"]', before)[-1]
+        begun = re.split(r'[\s(),"<>=!]', before)[-1]
         for word in sorted(self._words(before[: len(before) - len(begun)], begun)):
             if word.startswith(begun):
                 yield Completion(word, -len(begun))
@@ -189,7 +191,7 @@ class Names(Completer):
             return [*FORMS, *OWN]
         command, place = words[0], len(words)
         if command == "query":
-            return list(names.relations) if "<-" in front else []
+            return [*{*names.relations, *VARIABLE.findall(front)}] if "<-" in front else []
         if command == "rel":
             return ["int", "text"] if place > 1 else []
         if command in OF_RELATIONS and place == 1 or (command == "\\load" and place == 2):

@@ -1,8 +1,8 @@
 """A small factory that moves: eight machines, jobs that come, run and go, and gauges that drift.
 
-The alarm has no `<` in a query. The pairs of a machine and a gauge that reads more than its threshold are a small
-relation of their own, `too_high`, kept in step with the answers of `measured`; so a threshold that is changed by hand
-raises and clears alarms too:
+A query compares a variable with a constant, and here thresholds are rows. So the pairs of a machine and a gauge that
+reads more than its threshold are a small relation of their own, `too_high`, kept in step with the answers of
+`measured`; a threshold that is changed by hand raises and clears alarms too:
 
     del thresholds "heat" 80
     add thresholds "heat" 60

@@ -5,9 +5,11 @@ use super::*;
 use djq_steps::Blanks;
 use std::marker::Brand;
 
+mod kept;
+
 // Whether a session is open.
 fn is_open(core: &Core, id: u64) -> bool
-    ensures { result ≡ true → IsOpen core.now id }
+    ensures { result ≡ true → IsOpen core.now.state id }
 {
     let ids = core.ids();
     for at in 0..ids.len() {
@@ -20,7 +22,7 @@ fn is_open(core: &Core, id: u64) -> bool
 
 // Whether an id is above those of the open sessions.
 fn is_above(core: &Core, id: u64) -> bool
-    ensures { result ≡ true → All (λ x. x.id < id) core.now.sessions }
+    ensures { result ≡ true → All (λ x. x.id < id) core.now.state.sessions }
 {
     let ids = core.ids();
     for at in 0..ids.len() {

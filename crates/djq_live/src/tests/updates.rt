@@ -192,16 +192,21 @@ fn change<L: Ledgers>(
     take(alloc, catalog, live, id, row.as_slice(), steps)
 }
 
-/// Registers `q(x,y,z) <- r(x,y), r(y,z)` over no rows.
-fn paths<L: Ledgers>(
+/// The query `q(x,y,z) <- r(x,y), r(y,z)`.
+pub(super) fn paths(alloc: Global) -> Result<Query, NoMem> {
+    read(alloc, b"xyz", &[b"rxy", b"ryz"])
+}
+
+/// Registers a query over a relation `r` of two columns and no rows.
+fn build_over_pairs<L: Ledgers>(
     alloc: Global,
     catalog: &mut Catalog,
+    query: Query,
     steps: &mut Steps<L>,
 ) -> Result<LiveQuery, Fail>
     ensures { IfOk result (λ l. IsLive catalog.new l) }
 {
     let _r = make(alloc, catalog, b'r', 2)?;
-    let query = read(alloc, b"xyz", &[b"rxy", b"ryz"])?;
     build(alloc, catalog, query, steps)
 }
 
@@ -209,10 +214,11 @@ fn paths<L: Ledgers>(
 fn walk<L: Ledgers>(
     alloc: Global,
     catalog: &mut Catalog,
+    query: Query,
     moves: &[i64],
     steps: &mut Steps<L>,
 ) -> Result<Vec<i64>, Fail> {
-    let mut live = paths(alloc, catalog, steps)?;
+    let mut live = build_over_pairs(alloc, catalog, query, steps)?;
     let mut trace = Vec::new(alloc);
     let r = RelationId { at: 0 };
     'moves: for i in 0..moves.len() {
@@ -226,19 +232,25 @@ fn walk<L: Ledgers>(
 }
 
 /// What is told of such rows from none on.
-fn trace<L: Ledgers>(rt: &HostRuntime, moves: &[i64], blanks: Blanks) -> Result<Vec<i64>, Fail>
+pub(super) fn trace<L: Ledgers>(
+    rt: &HostRuntime,
+    query: Query,
+    moves: &[i64],
+    blanks: Blanks,
+) -> Result<Vec<i64>, Fail>
     requires listing { blanks.listing.name ≡ L.listing }
     requires update { blanks.update.name ≡ L.update }
     requires rows { blanks.rows.name ≡ L.rows }
 {
     let mut steps = Steps::<L>::new(rt, blanks);
     let mut catalog = Catalog::new(rt.alloc())?;
-    walk(rt.alloc(), &mut catalog, moves, &mut steps)
+    walk(rt.alloc(), &mut catalog, query, moves, &mut steps)
 }
 
 #[test]
 fn tells_what_comes_to_a_self_join(rt: HostRuntime) -> Result<(), Fail> {
-    let told = trace::<Brand>(&rt, &[12, 23, 31, 22, 23], Blanks::new(&rt))?;
+    let query = paths(rt.alloc())?;
+    let told = trace::<Brand>(&rt, query, &[12, 23, 31, 22, 23], Blanks::new(&rt))?;
     let want: &[i64] = &[0, 123, 0, 231, 312, 0, 122, 222, 223, 0, 0];
     assert_eq!(rt; told.as_slice(), want);
     Ok(())
@@ -246,7 +258,8 @@ fn tells_what_comes_to_a_self_join(rt: HostRuntime) -> Result<(), Fail> {
 
 #[test]
 fn tells_what_goes_from_a_self_join(rt: HostRuntime) -> Result<(), Fail> {
-    let told = trace::<Brand>(&rt, &[12, 22, 23, -23, -99, -22], Blanks::new(&rt))?;
+    let query = paths(rt.alloc())?;
+    let told = trace::<Brand>(&rt, query, &[12, 22, 23, -23, -99, -22], Blanks::new(&rt))?;
     let want: &[i64] = &[0, 122, 222, 0, 123, 223, 0, 1123, 1223, 0, 0, 1122, 1222, 0];
     assert_eq!(rt; told.as_slice(), want);
     Ok(())
@@ -254,14 +267,15 @@ fn tells_what_goes_from_a_self_join(rt: HostRuntime) -> Result<(), Fail> {
 
 #[test]
 fn tells_nothing_of_further_copies(rt: HostRuntime) -> Result<(), Fail> {
-    let told = trace::<Brand>(&rt, &[12, 23, 23, -23, -23], Blanks::new(&rt))?;
+    let query = paths(rt.alloc())?;
+    let told = trace::<Brand>(&rt, query, &[12, 23, 23, -23, -23], Blanks::new(&rt))?;
     let want: &[i64] = &[0, 123, 0, 0, 0, 1123, 0];
     assert_eq!(rt; told.as_slice(), want);
     Ok(())
 }
 
-/// Whether three digits are an answer.
-fn holds<L: Ledgers>(
+/// Whether these numbers are an answer.
+pub(super) fn holds<L: Ledgers>(
     alloc: Global,
     live: &LiveQuery,
     catalog: &Catalog,
@@ -289,7 +303,7 @@ fn hold<L: Ledgers>(
     catalog: &mut Catalog,
     steps: &mut Steps<L>,
 ) -> Result<Held, Fail> {
-    let mut live = paths(alloc, catalog, steps)?;
+    let mut live = build_over_pairs(alloc, catalog, paths(alloc)?, steps)?;
     let r = RelationId { at: 0 };
     let _came = change(alloc, catalog, &mut live, r, true, &[1, 2], steps)?;
     let _more = change(alloc, catalog, &mut live, r, true, &[2, 3], steps)?;

@@ -12,10 +12,10 @@ pub returns-in_err-totals-clause-memory : goal.returns-in_err-totals-clause-memo
 returns-in_err-totals-clause-memory g c =
     let before = c.args.steps.now in
     let now = c.run_load.new.steps in
-    let new = c.run_load.new.machine in
+    let new = c.run_load.new.machine.state in
     where_err c.from_residual.result (
       new,
       inl (subst
           (λ (st : State). RunsOut c.args.n c.args.seed st (counts before.listing before.update before.rows) new (counts now.listing now.update now.rows))
-          c.in-Ok.ensures c.in_err-totals.ensures.memory),
+          c.in-Ok.ensures.state c.in_err-totals.ensures.memory),
     )

@@ -1,6 +1,6 @@
-use Rattle.std.proofs.Common.{ℕ, List, Bor, ◌∙◌, map, ap, inl, refl, Some}
+use Rattle.std.proofs.Common.{ℕ, List, Bor, Option, ◌∙◌, map, ap, inl, refl, Some, None}
 use Rattle.djq_words.specs.declared.commands.Asked.{Asked}
-use Rattle.djq_words.specs.declared.commands.Asked.TheVariants.{Run, Replay, Gen}
+use Rattle.djq_words.specs.declared.commands.Asked.TheVariants.{Run, Serve, Replay, Gen}
 use Rattle.djq.proofs.Running.{asks_for}
 use Rattle.djq.proofs.program.run_program.Goals as goal
 
@@ -10,10 +10,37 @@ returns-in-Ok-Some-Run-clause-ends g c =
     let words : List (List ℕ) = map (λ (word : Bor (List ℕ)). word.now) c.args.words.now in
     inl (Some Run, asks_for words read.field-0 (Some Run) (read.field-0-is ∙ ap (λ (a : Asked). Some a) read.field-0-0-is) read.ensures, (c.serve_source.ensures, refl))
 
+pub returns-in-Ok-Some-Serve-default-default-None-clause-ends : goal.returns-in-Ok-Some-Serve-default-default-None-clause-ends
+returns-in-Ok-Some-Serve-default-default-None-clause-ends g c =
+    let read = c.in-Ok-Some-Serve-default-default-None in
+    let words : List (List ℕ) = map (λ (word : Bor (List ℕ)). word.now) c.args.words.now in
+    let asked : Asked = Serve read.addr read.turns None in
+    let is = read.field-0-is ∙ ap (λ (a : Asked). Some a) (read.field-0-0-is ∙ ap (λ (log : Option (Bor (List ℕ))). Serve read.addr read.turns log) read.field-0-0-2-is) in
+    inl (Some asked, asks_for words read.field-0 (Some asked) is read.ensures, (c.serve_hub.ensures, record { reading = refl; read_faults = refl; writing = refl; write_faults = refl }))
+
+pub returns-in-Ok-Some-Serve-clause-ends : goal.returns-in-Ok-Some-Serve-clause-ends
+returns-in-Ok-Some-Serve-clause-ends g c =
+    let read = c.in-Ok-Some-Serve in
+    let words : List (List ℕ) = map (λ (word : Bor (List ℕ)). word.now) c.args.words.now in
+    let asked : Asked = Serve read.addr read.turns read.path in
+    let is = read.field-0-is ∙ ap (λ (a : Asked). Some a) read.field-0-0-is in
+    inl (Some asked, asks_for words read.field-0 (Some asked) is read.ensures, (c.serve_hub-in-Ok-Some-Serve.ensures, record { reading = refl; read_faults = refl; writing = refl; write_faults = refl }))
+
+pub returns-in-Ok-Some-Replay-None-clause-ends : goal.returns-in-Ok-Some-Replay-None-clause-ends
+returns-in-Ok-Some-Replay-None-clause-ends g c =
+    let read = c.in-Ok-Some-Replay-None in
+    let words : List (List ℕ) = map (λ (word : Bor (List ℕ)). word.now) c.args.words.now in
+    let asked : Asked = Replay None in
+    let is = read.field-0-is ∙ ap (λ (a : Asked). Some a) (read.field-0-0-is ∙ ap (λ (log : Option (Bor (List ℕ))). Replay log) read.field-0-0-0-is) in
+    inl (Some asked, asks_for words read.field-0 (Some asked) is read.ensures, (c.replay.ensures, refl))
+
 pub returns-in-Ok-Some-Replay-clause-ends : goal.returns-in-Ok-Some-Replay-clause-ends
 returns-in-Ok-Some-Replay-clause-ends g c =
     let read = c.in-Ok-Some-Replay in
-    inl (Some Replay, asks_for (map (λ (word : Bor (List ℕ)). word.now) c.args.words.now) read.field-0 (Some Replay) (read.field-0-is ∙ ap (λ (a : Asked). Some a) read.field-0-0-is) read.ensures, (c.replay.ensures, refl))
+    let words : List (List ℕ) = map (λ (word : Bor (List ℕ)). word.now) c.args.words.now in
+    let asked : Asked = Replay read.path in
+    let is = read.field-0-is ∙ ap (λ (a : Asked). Some a) read.field-0-0-is in
+    inl (Some asked, asks_for words read.field-0 (Some asked) is read.ensures, (c.replay-in-Ok-Some-Replay.ensures, refl))
 
 pub returns-in-Ok-Some-Gen-clause-ends : goal.returns-in-Ok-Some-Gen-clause-ends
 returns-in-Ok-Some-Gen-clause-ends g c =

@@ -14,10 +14,10 @@ pub run_session-requires-clause-most : goal.run_session-requires-clause-most
 run_session-requires-clause-most g c = omega (arith, c.in-Ok-vec.ensures.len, c.deref_mut.ensures.len)
 
 pub run_session-requires-clause-alone : goal.run_session-requires-clause-alone
-run_session-requires-clause-alone g c = ap (λ (st : State). st.sessions) c.in-Ok.ensures
+run_session-requires-clause-alone g c = ap (λ (st : State). st.sessions) c.in-Ok.ensures.state
 
 pub returns : goal.returns
-returns g c = serves _ _ _ _ _ _ c.in-Ok.ensures refl c.run_session.ensures
+returns g c = serves _ _ _ _ _ _ c.in-Ok.ensures.state refl c.run_session.ensures
 
 pub returns-in_default-vec : goal.returns-in_default-vec
 returns-in_default-vec g c = serves_nothing _

@@ -1,15 +1,23 @@
-use Rattle.std.proofs.Common.{List, ℕ, sym, subst, Result}
+use Rattle.std.proofs.Common.{List, ℕ, sym, subst}
+use Rattle.std.specs.Prelude.{Result, MatchResult}
 use Rattle.djq_io.specs.declared.hub.Coming.{Coming}
-use Rattle.djq_machine.specs.State.{opening}
 use Rattle.djq_machine.specs.Call.{counts}
-use Rattle.djq.specs.Replay.{LacksMemory}
-use Rattle.djq.proofs.Replaying.{on_err}
+use Rattle.djq.specs.Logged.{disk_seen, log_seen}
+use Rattle.djq.specs.Replay.{ComesTo, ComesToNothing}
+use Rattle.djq.proofs.Replaying.{nothing_comes, unasked}
 use Rattle.djq.proofs.replay.make_text.Goals as goal
 
-pub returns-in_err-serve_schedule-in-Ok-clause-memory : goal.returns-in_err-serve_schedule-in-Ok-clause-memory
-returns-in_err-serve_schedule-in-Ok-clause-memory g c =
+pub returns-in-Ok : goal.returns-in-Ok
+returns-in-Ok g c =
+    let told = g.D.Disk.told in
+    let faults = g.D.Disk.faults in
     let before = c.args.steps.now in
     let now = c.serve_schedule.new.steps in
-    on_err c.from_residual.result _ (subst
-    (λ (r : Result (List Coming) ℕ). LacksMemory opening r c.args.bytes.now (counts before.listing before.update before.rows) (counts now.listing now.update now.rows))
-    (sym c.in-Ok.ensures.turns) c.in_err-serve_schedule-in-Ok.ensures.memory)
+    let counted = counts before.listing before.update before.rows in
+    let counted' = counts now.listing now.update now.rows in
+    let log = log_seen c.args.path (disk_seen (told c.args.disk.now) (faults c.args.disk.now)) (disk_seen (told c.serve_schedule.new.disk) (faults c.serve_schedule.new.disk)) in
+    subst
+    (λ (r : Result (List Coming) ℕ). MatchResult c.serve_schedule.result
+    (λ made. ComesTo log r c.args.bytes.now counted counted' made.0.items made.1)
+    (λ status. ComesToNothing log status r c.args.bytes.now counted counted'))
+    (sym c.in-Ok.ensures.turns) c.serve_schedule.ensures

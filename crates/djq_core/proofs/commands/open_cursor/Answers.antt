@@ -1,4 +1,4 @@
-use Rattle.std.proofs.Common.{sym, ap, ◌∙◌, ◌≡◌, false, true, Option, is_some, subst, ℕ, ◌≤◌}
+use Rattle.std.proofs.Common.{sym, ap, ◌∙◌, ◌≡◌, false, Option, is_some, subst, ℕ, ◌≤◌}
 use Rattle.djq_lines.specs.declared.limits.TheConstants.{CURSORS}
 use Rattle.djq_session.specs.Dialog.{named}
 use Rattle.djq_engine.specs.declared.cursor.CursorId.{CursorId}

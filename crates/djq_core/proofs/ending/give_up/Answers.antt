@@ -1,7 +1,5 @@
-use Rattle.std.proofs.Common.{List, subst, sym, ap}
-use Rattle.djq_model.specs.Data.{Bytes}
+use Rattle.std.proofs.Common.{ap}
 use Rattle.djq_core.specs.Views.{Talk}
-use Rattle.djq_core.specs.Sound.{HasCount}
 use Rattle.djq_core.proofs.GivingUp.{both_given_up, both_kept_told}
 use Rattle.djq_core.proofs.Watching.{count_moved}
 use Rattle.djq_core.proofs.ending.give_up.Goals as goal

@@ -1,4 +1,4 @@
-use Rattle.std.proofs.Common.{Bool, false, true, refl, sym, subst, arith}
+use Rattle.std.proofs.Common.{false, true, refl, sym, subst, arith}
 use Rattle.djq_lines.specs.declared.command.Command.{Command}
 use Rattle.djq_lines.specs.declared.command.Command.TheVariants.{Open, Next, Close, Has, Watch, Unwatch, Explain, Shape, Quit, Stop}
 use Rattle.djq_model.specs.Data.{Tuple}

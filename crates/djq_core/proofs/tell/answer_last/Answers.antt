@@ -1,5 +1,4 @@
-use Rattle.std.proofs.Common.{ℕ, ◌≡◌, ◌∙◌, None, sym, ap, subst, nat_le, ◌+◌, is_some, Option, false}
-use Rattle.djq_model.specs.Data.{Bytes}
+use Rattle.std.proofs.Common.{ℕ, ◌∙◌, sym, ap, subst, nat_le, ◌+◌, is_some, Option, false}
 use Rattle.djq_lines.specs.declared.answer.EndCause.{EndCause}
 use Rattle.djq_lines.specs.declared.limits.TheConstants.{REPLY_BYTES, LAST_LINE_BYTES}
 use Rattle.djq_lines.specs.Reply.{add_reply, delete_reply}

@@ -1,5 +1,4 @@
-use Rattle.std.proofs.Common.{ℕ, ◌∙◌, sym, ap, subst, ◌≡◌, ◌++◌, true}
-use Rattle.djq_model.specs.Data.{Bytes}
+use Rattle.std.proofs.Common.{ℕ, ◌∙◌, sym, ap, ◌++◌}
 use Rattle.djq_lines.specs.Reply.{change_line, at_line}
 use Rattle.djq_engine.specs.Kept.{told_at}
 use Rattle.djq_core.proofs.Printing.{prints_start, was_put, is_put, prints_more, prints_last}

@@ -1,7 +1,6 @@
-use Rattle.std.proofs.Common.{ℕ, ◌≤◌, ◌≡◌, ◌∙◌, List, Option, Some, sym, ap, subst, nat_le, ◌+◌, set, false}
-use Rattle.std.specs.Prelude.{IsSomeAnd, slice_get}
+use Rattle.std.proofs.Common.{ℕ, ◌≤◌, ◌∙◌, List, Option, sym, ap, subst, nat_le, ◌+◌, set, false}
+use Rattle.std.specs.Prelude.{IsSomeAnd}
 use Rattle.djq_lines.specs.declared.limits.TheConstants.{REPLY_BYTES, LAST_LINE_BYTES}
-use Rattle.djq_model.specs.Data.{Bytes}
 use Rattle.djq_machine.specs.State.{Store}
 use Rattle.djq_engine.specs.Kept.{Kept}
 use Rattle.djq_core.specs.declared.open.OpenSession.{OpenSession}

@@ -1,7 +1,7 @@
-use Rattle.std.proofs.Common.{ℕ, suc, ◌<◌, ◌≡◌, ◌∙◌, List, length, true, false, sym, ap, subst, arith, inl, inr, refl}
+use Rattle.std.proofs.Common.{ℕ, suc, ◌<◌, ◌∙◌, List, length, false, sym, ap, subst, arith, refl}
 use Rattle.djq_model.specs.Data.{Bytes}
 use Rattle.djq_model.specs.Listed.{listed_name}
-use Rattle.djq_engine.specs.Kept.{Kept, Registered}
+use Rattle.djq_engine.specs.Kept.{Kept}
 use Rattle.djq_core.specs.declared.open.OpenSession.{OpenSession}
 use Rattle.djq_core.specs.Sound.{watchers_in, is_among_watches}
 use Rattle.djq_core.specs.Performs.{Performs}

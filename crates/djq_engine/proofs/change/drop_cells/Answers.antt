@@ -9,7 +9,7 @@ use Rattle.djq_live.specs.Live.{IsKept}
 use Rattle.djq_engine.specs.Changing.{IsOld}
 use Rattle.djq_engine.specs.Places.{is_reader, watched_at}
 use Rattle.djq_engine.specs.Reaching.{AllAt}
-use Rattle.djq_engine.specs.Tending.{AreShown, Costs, Tends, TellsAt, Works}
+use Rattle.djq_engine.specs.Tending.{AreUnwatched, AreShown, Costs, Tends, TellsAt, Works}
 use Rattle.djq_engine.proofs.Carrying.{readers_kept}
 use Rattle.djq_engine.proofs.Tending.{counts_rows, shown_tended, tells_rows, tells_show, tends_quiet}
 use Rattle.djq_engine.proofs.Storing.{catalog_same, has_copies, places_read, gone_once, can_go, drop_carries}
@@ -167,3 +167,11 @@ returns-clause-updates g c =
     c.let_out.new.steps.update) (places_read old.readers.items c.args.id.at c.index.result.now c.as_slice-places.result.now
     (omega (arith, c.requires.there, c.requires.whole.long)) c.index.ensures c.as_slice-places.ensures)
     c.let_out.ensures.updates
+
+pub returns-clause-unlisted : goal.returns-clause-unlisted
+returns-clause-unlisted g c none =
+    let old = c.args.parts.now in
+    let places = places_read old.readers.items c.args.id.at c.index.result.now c.as_slice-places.result.now
+    (omega (arith, c.requires.there, c.requires.whole.long)) c.index.ensures c.as_slice-places.ensures in
+    c.let_out.ensures.unlisted (subst (λ (ws : List ℕ). AreUnwatched ws c.as_slice-places.result.now) (sym c.as_slice-watchers.ensures.value)
+    (subst (λ (ps : List ℕ). AreUnwatched old.watchers.items ps) (sym places) none))

@@ -9,7 +9,7 @@ use Rattle.djq_live.specs.Changes.{Came}
 use Rattle.djq_live.specs.Live.{IsKept}
 use Rattle.djq_engine.specs.Places.{is_reader, watched_at}
 use Rattle.djq_engine.specs.Reaching.{AllAt}
-use Rattle.djq_engine.specs.Tending.{AreShown, Costs, Shows, Tends, TellsAt, Works}
+use Rattle.djq_engine.specs.Tending.{AreShown, AreUnwatched, Costs, Shows, Tends, TellsAt, Works}
 use Rattle.djq_engine.proofs.Carrying.{readers_kept}
 use Rattle.djq_engine.proofs.Tending.{counts_rows, shown_tended, tells_rows, tends_apart, tends_quiet}
 use Rattle.djq_engine.proofs.Storing.{
@@ -280,3 +280,19 @@ returns-in-Err-clause-refusal g c =
     c.take_in.new.steps.update) (places_read old.readers.items c.args.id.at c.index.result.now c.as_slice-places.result.now
     (omega (arith, c.requires.there, c.requires.whole.long)) c.index.ensures c.as_slice-places.ensures)
     c.in-Err.ensures.refusal
+
+pub returns-in-Ok-clause-unlisted : goal.returns-in-Ok-clause-unlisted
+returns-in-Ok-clause-unlisted g c none =
+    let old = c.args.parts.now in
+    let places = places_read old.readers.items c.args.id.at c.index.result.now c.as_slice-places.result.now
+    (omega (arith, c.requires.there, c.requires.whole.long)) c.index.ensures c.as_slice-places.ensures in
+    c.take_in.ensures.unlisted (subst (λ (ws : List ℕ). AreUnwatched ws c.as_slice-places.result.now) (sym c.as_slice-watchers.ensures.value)
+    (subst (λ (ps : List ℕ). AreUnwatched old.watchers.items ps) (sym places) none))
+
+pub returns-in-Err-clause-unlisted : goal.returns-in-Err-clause-unlisted
+returns-in-Err-clause-unlisted g c none =
+    let old = c.args.parts.now in
+    let places = places_read old.readers.items c.args.id.at c.index.result.now c.as_slice-places.result.now
+    (omega (arith, c.requires.there, c.requires.whole.long)) c.index.ensures c.as_slice-places.ensures in
+    c.take_in.ensures.unlisted (subst (λ (ws : List ℕ). AreUnwatched ws c.as_slice-places.result.now) (sym c.as_slice-watchers.ensures.value)
+    (subst (λ (ps : List ℕ). AreUnwatched old.watchers.items ps) (sym places) none))

@@ -1,10 +1,10 @@
-use Rattle.std.proofs.Common.{subst, Bool}
+use Rattle.std.proofs.Common.{◌∙◌, subst, Bool}
 use Rattle.djq_engine.specs.Tending.{TellsAt, TellsWhere}
 use Rattle.djq_live.specs.Changes.{Went}
 use Rattle.djq_live.specs.Updating.{CanDelete}
 use Rattle.djq_engine.specs.Reaching.{LetsOut}
 use Rattle.djq_engine.proofs.Reaching.{below_some, place_read, reach_read}
-use Rattle.djq_engine.proofs.Tending.{costs_one, tends_read}
+use Rattle.djq_engine.proofs.Tending.{costs_one, lists_nothing, tends_read}
 use Rattle.djq_engine.proofs.Working.{works_one}
 use Rattle.djq_engine.proofs.reach.let_at.Goals as goal
 
@@ -38,3 +38,8 @@ returns-clause-updates g c =
     (below_some c.args.queries.now.items c.args.at (λ l. CanDelete l c.args.relation.at c.args.cells.now)
     c.requires.can) c.index_mut.ensures.value c.in-Some.is)
     c.let_one.ensures.updates
+
+pub returns-clause-unlisted : goal.returns-clause-unlisted
+returns-clause-unlisted g c none =
+    lists_nothing (λ x d. Went x d c.args.relation.at c.args.cells.now) c.in-Some.query c.is_watched-wanted.result c.args.relation.at
+    c.args.steps.now.listing c.let_one.new.steps.listing (c.is_watched-wanted.ensures ∙ none) c.let_one.ensures.counted

@@ -1,4 +1,4 @@
-use Rattle.std.proofs.Common.{arith}
+use Rattle.std.proofs.Common.{arith, ◌∙◌, refl}
 use Rattle.djq_live.specs.Changes.{Went}
 use Rattle.djq_live.specs.Updating.{CanDelete}
 use Rattle.djq_engine.specs.Reaching.{LetsOut}
@@ -14,6 +14,7 @@ loop-at-init g c = record {
   tends = tends_none (TellsAt c.args.watchers.now (λ x d. Went x d c.args.relation.at c.args.cells.now)) c.args.queries.now.items c.args.logs.now.items;
   works = works_none c.args.queries.now.items c.args.relation.at 1 c.args.steps.now.update;
   counted = costs_none (λ x d. Went x d c.args.relation.at c.args.cells.now) c.args.watchers.now c.args.relation.at c.args.queries.now.items c.args.steps.now.listing;
+  unlisted = λ none. refl;
 }
 
 pub let_at-requires-clause-can : goal.let_at-requires-clause-can
@@ -52,6 +53,7 @@ loop-at-preserved g c = record {
   counted = costs_next (λ x d. Went x d c.args.relation.at c.args.cells.now) c.args.watchers.now c.args.relation.at (LetsOut c.args.relation.at c.args.cells.now) c.args.places.now c.loop-at.at 0
       c.args.queries.now.items c.loop-at.queries.items c.args.steps.now.listing c.loop-at.steps.listing c.let_at.new.steps.listing
       c.requires.once c.loop-at-test.true c.loop-at.invariant.reach c.loop-at.invariant.counted c.let_at.ensures.counted;
+  unlisted = λ none. c.let_at.ensures.unlisted (none c.loop-at.at 0 c.loop-at-test.true) ∙ c.loop-at.invariant.unlisted none;
 }
 
 pub returns-clause-updates : goal.returns-clause-updates
@@ -62,3 +64,6 @@ returns-clause-updates g c =
 pub returns-clause-counted : goal.returns-clause-counted
 returns-clause-counted g c =
     costs_front (λ x d. Went x d c.args.relation.at c.args.cells.now) c.args.watchers.now c.args.relation.at c.args.places.now c.loop-at.at c.args.queries.now.items c.args.steps.now.listing c.loop-at.steps.listing c.loop-at.invariant.counted
+
+pub returns-clause-unlisted : goal.returns-clause-unlisted
+returns-clause-unlisted g c = c.loop-at.invariant.unlisted

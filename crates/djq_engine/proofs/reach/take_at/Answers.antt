@@ -1,10 +1,10 @@
-use Rattle.std.proofs.Common.{subst, Bool}
+use Rattle.std.proofs.Common.{◌∙◌, subst, Bool}
 use Rattle.djq_live.specs.Changes.{Came}
 use Rattle.djq_live.specs.Updating.{CanAdd}
 use Rattle.djq_engine.specs.Reaching.{Remains, TakesIn}
 use Rattle.djq_engine.specs.Tending.{Shows, TellsAt, TellsWhere}
 use Rattle.djq_engine.proofs.Reaching.{below_some, place_read, reach_read}
-use Rattle.djq_engine.proofs.Tending.{costs_one, on_err, on_ok, shows_either, tends_read}
+use Rattle.djq_engine.proofs.Tending.{costs_one, lists_nothing, on_err, on_ok, shows_either, tends_read}
 use Rattle.djq_engine.proofs.Working.{works_one}
 use Rattle.djq_engine.proofs.reach.take_at.Goals as goal
 
@@ -59,3 +59,8 @@ returns-clause-refusal g c =
     (below_some c.args.queries.now.items c.args.at (λ l. CanAdd l c.args.relation.at c.args.cells.now) c.requires.can)
     c.index_mut.ensures.value c.in-Some.is) h)
     c.take_one.ensures.refusal
+
+pub returns-clause-unlisted : goal.returns-clause-unlisted
+returns-clause-unlisted g c none =
+    lists_nothing (λ x d. Came x d c.args.relation.at c.args.cells.now) c.in-Some.query c.is_watched-wanted.result c.args.relation.at
+    c.args.steps.now.listing c.take_one.new.steps.listing (c.is_watched-wanted.ensures ∙ none) c.take_one.ensures.counted

@@ -1,4 +1,4 @@
-use Rattle.std.proofs.Common.{◌+◌, arith, take}
+use Rattle.std.proofs.Common.{◌+◌, arith, take, ◌∙◌, refl}
 use Rattle.djq_live.specs.Changes.{Came}
 use Rattle.djq_live.specs.Updating.{CanAdd}
 use Rattle.djq_engine.specs.Reaching.{TakesIn}
@@ -31,6 +31,7 @@ loop-at-init g c = record {
   tends = tends_none (TellsAt c.args.watchers.now (λ x d. Came x d c.args.relation.at c.args.cells.now)) c.args.queries.now.items c.args.logs.now.items;
   works = works_none c.args.queries.now.items c.args.relation.at 1 c.args.steps.now.update;
   counted = costs_none (λ x d. Came x d c.args.relation.at c.args.cells.now) c.args.watchers.now c.args.relation.at c.args.queries.now.items c.args.steps.now.listing;
+  unlisted = λ none. refl;
 }
 
 pub take_at-requires-clause-can : goal.take_at-requires-clause-can
@@ -124,4 +125,12 @@ loop-at-preserved g c = record {
   counted = costs_next (λ x d. Came x d c.args.relation.at c.args.cells.now) c.args.watchers.now c.args.relation.at (TakesIn c.args.relation.at c.args.cells.now) c.args.places.now c.loop-at.at 0
       c.args.queries.now.items c.loop-at.queries.items c.args.steps.now.listing c.loop-at.steps.listing c.take_at.new.steps.listing
       c.requires.once c.loop-at-test.true c.loop-at.invariant.reach c.loop-at.invariant.counted c.take_at.ensures.counted;
+  unlisted = λ none. c.take_at.ensures.unlisted (none c.loop-at.at 0 c.loop-at-test.true) ∙ c.loop-at.invariant.unlisted none;
 }
+
+pub returns-clause-unlisted : goal.returns-clause-unlisted
+returns-clause-unlisted g c = c.loop-at.invariant.unlisted
+
+pub returns-in-Err-clause-unlisted : goal.returns-in-Err-clause-unlisted
+returns-in-Err-clause-unlisted g c none =
+    c.give_back.ensures.counted ∙ c.take_at.ensures.unlisted (none c.loop-at.at 0 c.loop-at-test.true) ∙ c.loop-at.invariant.unlisted none

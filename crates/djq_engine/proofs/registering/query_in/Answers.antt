@@ -26,32 +26,32 @@ use Rattle.djq_engine.proofs.registering.query_in.Goals as goal
 pub returns-in-Err-Full-clause-whole : goal.returns-in-Err-Full-clause-whole
 returns-in-Err-Full-clause-whole g c =
     sound_texts c.args.parts.now.catalog c.intern_constants-known.new.catalog c.args.parts.now.queries.items c.args.parts.now.order c.args.parts.now.readers.items c.intern_constants-known.ensures.relations (constants_stay c.live_stays.ensures c.texts_stay.ensures c.args.parts.now.catalog c.intern_constants-known.new.catalog c.args.parts.now.queries.items c.args.parts.now.order c.args.parts.now.readers.items c.requires.whole c.laws.ensures
-    c.intern_constants-known.ensures.relations (constants_of c.args.query.atoms) c.intern_constants-known.result c.intern_constants-known.ensures.interns) c.requires.whole
+    c.intern_constants-known.ensures.relations (constants_of c.args.query) c.intern_constants-known.result c.intern_constants-known.ensures.interns) c.requires.whole
 
 pub returns-in-Err-Full-clause-cursors : goal.returns-in-Err-Full-clause-cursors
 returns-in-Err-Full-clause-cursors g c =
     rested_held c.args.parts.now.catalog c.intern_constants-known.new.catalog c.args.parts.now.queries.items (constants_stay c.live_stays.ensures c.texts_stay.ensures c.args.parts.now.catalog c.intern_constants-known.new.catalog c.args.parts.now.queries.items c.args.parts.now.order c.args.parts.now.readers.items c.requires.whole c.laws.ensures
-    c.intern_constants-known.ensures.relations (constants_of c.args.query.atoms) c.intern_constants-known.result c.intern_constants-known.ensures.interns)
+    c.intern_constants-known.ensures.relations (constants_of c.args.query) c.intern_constants-known.result c.intern_constants-known.ensures.interns)
 
 pub returns-in-Err-NoMem-known-clause-whole : goal.returns-in-Err-NoMem-known-clause-whole
 returns-in-Err-NoMem-known-clause-whole g c =
     sound_texts c.args.parts.now.catalog c.intern_constants-known.new.catalog c.args.parts.now.queries.items c.args.parts.now.order c.args.parts.now.readers.items c.intern_constants-known.ensures.relations (constants_stay c.live_stays.ensures c.texts_stay.ensures c.args.parts.now.catalog c.intern_constants-known.new.catalog c.args.parts.now.queries.items c.args.parts.now.order c.args.parts.now.readers.items c.requires.whole c.laws.ensures
-    c.intern_constants-known.ensures.relations (constants_of c.args.query.atoms) c.intern_constants-known.result c.intern_constants-known.ensures.interns) c.requires.whole
+    c.intern_constants-known.ensures.relations (constants_of c.args.query) c.intern_constants-known.result c.intern_constants-known.ensures.interns) c.requires.whole
 
 pub returns-in-Err-NoMem-known-clause-cursors : goal.returns-in-Err-NoMem-known-clause-cursors
 returns-in-Err-NoMem-known-clause-cursors g c =
     rested_held c.args.parts.now.catalog c.intern_constants-known.new.catalog c.args.parts.now.queries.items (constants_stay c.live_stays.ensures c.texts_stay.ensures c.args.parts.now.catalog c.intern_constants-known.new.catalog c.args.parts.now.queries.items c.args.parts.now.order c.args.parts.now.readers.items c.requires.whole c.laws.ensures
-    c.intern_constants-known.ensures.relations (constants_of c.args.query.atoms) c.intern_constants-known.result c.intern_constants-known.ensures.interns)
+    c.intern_constants-known.ensures.relations (constants_of c.args.query) c.intern_constants-known.result c.intern_constants-known.ensures.interns)
 
 pub returns-in-Err-clause-whole : goal.returns-in-Err-clause-whole
 returns-in-Err-clause-whole g c =
     sound_texts c.args.parts.now.catalog c.intern_constants-known.new.catalog c.args.parts.now.queries.items c.args.parts.now.order c.args.parts.now.readers.items c.intern_constants-known.ensures.relations (constants_stay c.live_stays.ensures c.texts_stay.ensures c.args.parts.now.catalog c.intern_constants-known.new.catalog c.args.parts.now.queries.items c.args.parts.now.order c.args.parts.now.readers.items c.requires.whole c.laws.ensures
-    c.intern_constants-known.ensures.relations (constants_of c.args.query.atoms) c.intern_constants-known.result c.intern_constants-known.ensures.interns) c.requires.whole
+    c.intern_constants-known.ensures.relations (constants_of c.args.query) c.intern_constants-known.result c.intern_constants-known.ensures.interns) c.requires.whole
 
 pub returns-in-Err-clause-cursors : goal.returns-in-Err-clause-cursors
 returns-in-Err-clause-cursors g c =
     rested_held c.args.parts.now.catalog c.intern_constants-known.new.catalog c.args.parts.now.queries.items (constants_stay c.live_stays.ensures c.texts_stay.ensures c.args.parts.now.catalog c.intern_constants-known.new.catalog c.args.parts.now.queries.items c.args.parts.now.order c.args.parts.now.readers.items c.requires.whole c.laws.ensures
-    c.intern_constants-known.ensures.relations (constants_of c.args.query.atoms) c.intern_constants-known.result c.intern_constants-known.ensures.interns)
+    c.intern_constants-known.ensures.relations (constants_of c.args.query) c.intern_constants-known.result c.intern_constants-known.ensures.interns)
 
 pub build-requires-clause-sound : goal.build-requires-clause-sound
 build-requires-clause-sound g c =
@@ -62,7 +62,7 @@ pub returns-in-Err-clause-registers : goal.returns-in-Err-clause-registers
 returns-in-Err-clause-registers g c =
     query_lacks c.args.parts.now.catalog c.intern_constants-known.new.catalog c.args.parts.now.queries.items c.args.parts.now.queries.items c.args.parts.now.order c.args.parts.now.order c.args.parts.now.seq c.args.parts.now.seq c.args.query (sym c.in_default.ensures)
     c.intern_constants-known.ensures.relations refl c.in-Ok.ensures.planned.connex
-    (all_first c.args.parts.now.catalog.texts (texts_in (constants_of c.args.query.atoms))
+    (all_first c.args.parts.now.catalog.texts (texts_in (constants_of c.args.query))
     c.intern_constants-known.new.catalog.texts c.in-Ok-known.ensures.interns.0)
     c.laws.ensures.many refl
 
@@ -70,14 +70,14 @@ pub register-requires-clause-whole : goal.register-requires-clause-whole
 register-requires-clause-whole g c =
     let old = c.args.parts.now in
     sound_texts old.catalog c.intern_constants-known.new.catalog old.queries.items old.order old.readers.items c.intern_constants-known.ensures.relations (constants_stay c.live_stays.ensures c.texts_stay.ensures old.catalog c.intern_constants-known.new.catalog old.queries.items old.order old.readers.items c.requires.whole c.laws.ensures
-    c.intern_constants-known.ensures.relations (constants_of c.args.query.atoms) c.intern_constants-known.result c.intern_constants-known.ensures.interns) c.requires.whole
+    c.intern_constants-known.ensures.relations (constants_of c.args.query) c.intern_constants-known.result c.intern_constants-known.ensures.interns) c.requires.whole
 
 pub returns-in-Ok-register-clause-whole : goal.returns-in-Ok-register-clause-whole
 returns-in-Ok-register-clause-whole g c =
     let old = c.args.parts.now in
     let mid : Parts = record old { catalog = c.intern_constants-known.new.catalog } in
     let whole : IsWhole mid = sound_texts old.catalog c.intern_constants-known.new.catalog old.queries.items old.order old.readers.items c.intern_constants-known.ensures.relations (constants_stay c.live_stays.ensures c.texts_stay.ensures old.catalog c.intern_constants-known.new.catalog old.queries.items old.order old.readers.items c.requires.whole c.laws.ensures
-    c.intern_constants-known.ensures.relations (constants_of c.args.query.atoms) c.intern_constants-known.result c.intern_constants-known.ensures.interns) c.requires.whole in
+    c.intern_constants-known.ensures.relations (constants_of c.args.query) c.intern_constants-known.result c.intern_constants-known.ensures.interns) c.requires.whole in
     let passes = passes_of old.catalog old.queries.items old.order old.readers.items old.seq c.requires.whole c.args.query (sym c.in_default.ensures) in
     let l = c.in-Ok-build.live in
     let fresh = ap (λ (q : Query). listed_of (queries_in old.queries.items old.order) q.name) c.in-Ok-build.ensures.query ∙ passes.fresh in
@@ -90,7 +90,7 @@ returns-in-Ok-register-clause-registers g c =
     let old = c.args.parts.now in
     let mid : Parts = record old { catalog = c.intern_constants-known.new.catalog } in
     let whole : IsWhole mid = sound_texts old.catalog c.intern_constants-known.new.catalog old.queries.items old.order old.readers.items c.intern_constants-known.ensures.relations (constants_stay c.live_stays.ensures c.texts_stay.ensures old.catalog c.intern_constants-known.new.catalog old.queries.items old.order old.readers.items c.requires.whole c.laws.ensures
-    c.intern_constants-known.ensures.relations (constants_of c.args.query.atoms) c.intern_constants-known.result c.intern_constants-known.ensures.interns) c.requires.whole in
+    c.intern_constants-known.ensures.relations (constants_of c.args.query) c.intern_constants-known.result c.intern_constants-known.ensures.interns) c.requires.whole in
     let passes = passes_of old.catalog old.queries.items old.order old.readers.items old.seq c.requires.whole c.args.query (sym c.in_default.ensures) in
     let l = c.in-Ok-build.live in
     let fresh = ap (λ (q : Query). listed_of (queries_in old.queries.items old.order) q.name) c.in-Ok-build.ensures.query ∙ passes.fresh in
@@ -99,7 +99,7 @@ returns-in-Ok-register-clause-registers g c =
     query_done old.catalog new.catalog old.queries.items new.queries.items old.order new.order old.seq new.seq c.args.query (sym c.in_default.ensures)
     (ap (λ (x : Catalog). x.relations) r.catalog ∙ c.intern_constants-known.ensures.relations) r.seq
     (2 * c.len.result + 1) c.in-Ok.ensures.planned.connex (ap (λ (n : ℕ). 2 * n + 1) c.len.ensures)
-    (subst (λ (x : Catalog). LearnsAll old.catalog.texts (texts_in (constants_of c.args.query.atoms)) x.texts) (sym r.catalog) c.in-Ok-known.ensures.interns.0)
+    (subst (λ (x : Catalog). LearnsAll old.catalog.texts (texts_in (constants_of c.args.query)) x.texts) (sym r.catalog) c.in-Ok-known.ensures.interns.0)
     (enrolled_queries mid new whole l c.in-Ok-build.ensures.live c.in-Ok-build.ensures.cursors r fresh passes.few ∙ ap (λ (q : Query). queries_in old.queries.items old.order ++ a_query q ∷ []) c.in-Ok-build.ensures.query)
 
 pub returns-in-Ok-register-clause-cursors : goal.returns-in-Ok-register-clause-cursors
@@ -107,21 +107,21 @@ returns-in-Ok-register-clause-cursors g c id =
     let old = c.args.parts.now in
     let mid : Parts = record old { catalog = c.intern_constants-known.new.catalog } in
     let whole : IsWhole mid = sound_texts old.catalog c.intern_constants-known.new.catalog old.queries.items old.order old.readers.items c.intern_constants-known.ensures.relations (constants_stay c.live_stays.ensures c.texts_stay.ensures old.catalog c.intern_constants-known.new.catalog old.queries.items old.order old.readers.items c.requires.whole c.laws.ensures
-    c.intern_constants-known.ensures.relations (constants_of c.args.query.atoms) c.intern_constants-known.result c.intern_constants-known.ensures.interns) c.requires.whole in
+    c.intern_constants-known.ensures.relations (constants_of c.args.query) c.intern_constants-known.result c.intern_constants-known.ensures.interns) c.requires.whole in
     let passes = passes_of old.catalog old.queries.items old.order old.readers.items old.seq c.requires.whole c.args.query (sym c.in_default.ensures) in
     let l = c.in-Ok-build.live in
     let fresh = ap (λ (q : Query). listed_of (queries_in old.queries.items old.order) q.name) c.in-Ok-build.ensures.query ∙ passes.fresh in
     let new = c.register.new.parts in
     let r = c.in-Ok-register.ensures.ok in
     enrolled_cursors mid new whole l c.in-Ok-build.ensures.live c.in-Ok-build.ensures.cursors r fresh passes.few id ∙ rested_held old.catalog c.intern_constants-known.new.catalog old.queries.items (constants_stay c.live_stays.ensures c.texts_stay.ensures old.catalog c.intern_constants-known.new.catalog old.queries.items old.order old.readers.items c.requires.whole c.laws.ensures
-    c.intern_constants-known.ensures.relations (constants_of c.args.query.atoms) c.intern_constants-known.result c.intern_constants-known.ensures.interns) id
+    c.intern_constants-known.ensures.relations (constants_of c.args.query) c.intern_constants-known.result c.intern_constants-known.ensures.interns) id
 
 pub returns-in-Err-register-clause-whole : goal.returns-in-Err-register-clause-whole
 returns-in-Err-register-clause-whole g c =
     let old = c.args.parts.now in
     let mid : Parts = record old { catalog = c.intern_constants-known.new.catalog } in
     let whole : IsWhole mid = sound_texts old.catalog c.intern_constants-known.new.catalog old.queries.items old.order old.readers.items c.intern_constants-known.ensures.relations (constants_stay c.live_stays.ensures c.texts_stay.ensures old.catalog c.intern_constants-known.new.catalog old.queries.items old.order old.readers.items c.requires.whole c.laws.ensures
-    c.intern_constants-known.ensures.relations (constants_of c.args.query.atoms) c.intern_constants-known.result c.intern_constants-known.ensures.interns) c.requires.whole in
+    c.intern_constants-known.ensures.relations (constants_of c.args.query) c.intern_constants-known.result c.intern_constants-known.ensures.interns) c.requires.whole in
     let new = c.register.new.parts in
     let r = c.in-Err-register.ensures.err in
     same_whole mid new whole r
@@ -131,14 +131,14 @@ returns-in-Err-register-clause-registers g c =
     let old = c.args.parts.now in
     let mid : Parts = record old { catalog = c.intern_constants-known.new.catalog } in
     let whole : IsWhole mid = sound_texts old.catalog c.intern_constants-known.new.catalog old.queries.items old.order old.readers.items c.intern_constants-known.ensures.relations (constants_stay c.live_stays.ensures c.texts_stay.ensures old.catalog c.intern_constants-known.new.catalog old.queries.items old.order old.readers.items c.requires.whole c.laws.ensures
-    c.intern_constants-known.ensures.relations (constants_of c.args.query.atoms) c.intern_constants-known.result c.intern_constants-known.ensures.interns) c.requires.whole in
+    c.intern_constants-known.ensures.relations (constants_of c.args.query) c.intern_constants-known.result c.intern_constants-known.ensures.interns) c.requires.whole in
     let new = c.register.new.parts in
     let r = c.in-Err-register.ensures.err in
     query_lacks old.catalog new.catalog old.queries.items new.queries.items old.order new.order old.seq new.seq c.args.query (sym c.in_default.ensures)
     (ap (λ (x : Catalog). x.relations) r.catalog ∙ c.intern_constants-known.ensures.relations) r.seq
     c.in-Ok.ensures.planned.connex
-    (subst (λ (x : Catalog). LearnsFirst old.catalog.texts (texts_in (constants_of c.args.query.atoms)) x.texts) (sym r.catalog)
-    (all_first old.catalog.texts (texts_in (constants_of c.args.query.atoms)) c.intern_constants-known.new.catalog.texts c.in-Ok-known.ensures.interns.0))
+    (subst (λ (x : Catalog). LearnsFirst old.catalog.texts (texts_in (constants_of c.args.query)) x.texts) (sym r.catalog)
+    (all_first old.catalog.texts (texts_in (constants_of c.args.query)) c.intern_constants-known.new.catalog.texts c.in-Ok-known.ensures.interns.0))
     (subst (λ (x : Catalog). length x.texts ≤ TEXTS) (sym r.catalog) c.laws.ensures.many)
     (same_queries mid new whole r)
 
@@ -147,11 +147,11 @@ returns-in-Err-register-clause-cursors g c id =
     let old = c.args.parts.now in
     let mid : Parts = record old { catalog = c.intern_constants-known.new.catalog } in
     let whole : IsWhole mid = sound_texts old.catalog c.intern_constants-known.new.catalog old.queries.items old.order old.readers.items c.intern_constants-known.ensures.relations (constants_stay c.live_stays.ensures c.texts_stay.ensures old.catalog c.intern_constants-known.new.catalog old.queries.items old.order old.readers.items c.requires.whole c.laws.ensures
-    c.intern_constants-known.ensures.relations (constants_of c.args.query.atoms) c.intern_constants-known.result c.intern_constants-known.ensures.interns) c.requires.whole in
+    c.intern_constants-known.ensures.relations (constants_of c.args.query) c.intern_constants-known.result c.intern_constants-known.ensures.interns) c.requires.whole in
     let new = c.register.new.parts in
     let r = c.in-Err-register.ensures.err in
     same_cursors mid new whole r id ∙ rested_held old.catalog c.intern_constants-known.new.catalog old.queries.items (constants_stay c.live_stays.ensures c.texts_stay.ensures old.catalog c.intern_constants-known.new.catalog old.queries.items old.order old.readers.items c.requires.whole c.laws.ensures
-    c.intern_constants-known.ensures.relations (constants_of c.args.query.atoms) c.intern_constants-known.result c.intern_constants-known.ensures.interns) id
+    c.intern_constants-known.ensures.relations (constants_of c.args.query) c.intern_constants-known.result c.intern_constants-known.ensures.interns) id
 
 pub returns-in-Err-Full-clause-tended : goal.returns-in-Err-Full-clause-tended
 returns-in-Err-Full-clause-tended g c =
@@ -159,7 +159,7 @@ returns-in-Err-Full-clause-tended g c =
     record {
       watched = c.requires.tended.watched;
       logged = c.requires.tended.logged;
-      shown = mid_shown c.showable_stays.ensures c.texts_stay.ensures old.catalog.texts c.intern_constants-known.new.catalog.texts (constants_of c.args.query.atoms) c.intern_constants-known.result c.intern_constants-known.ensures.interns old.queries.items old.logs.items c.requires.tended.shown;
+      shown = mid_shown c.showable_stays.ensures c.texts_stay.ensures old.catalog.texts c.intern_constants-known.new.catalog.texts (constants_of c.args.query) c.intern_constants-known.result c.intern_constants-known.ensures.interns old.queries.items old.logs.items c.requires.tended.shown;
     }
 
 pub returns-in-Err-NoMem-known-clause-tended : goal.returns-in-Err-NoMem-known-clause-tended
@@ -168,7 +168,7 @@ returns-in-Err-NoMem-known-clause-tended g c =
     record {
       watched = c.requires.tended.watched;
       logged = c.requires.tended.logged;
-      shown = mid_shown c.showable_stays.ensures c.texts_stay.ensures old.catalog.texts c.intern_constants-known.new.catalog.texts (constants_of c.args.query.atoms) c.intern_constants-known.result c.intern_constants-known.ensures.interns old.queries.items old.logs.items c.requires.tended.shown;
+      shown = mid_shown c.showable_stays.ensures c.texts_stay.ensures old.catalog.texts c.intern_constants-known.new.catalog.texts (constants_of c.args.query) c.intern_constants-known.result c.intern_constants-known.ensures.interns old.queries.items old.logs.items c.requires.tended.shown;
     }
 
 pub returns-in-Err-clause-tended : goal.returns-in-Err-clause-tended
@@ -177,7 +177,7 @@ returns-in-Err-clause-tended g c =
     record {
       watched = c.requires.tended.watched;
       logged = c.requires.tended.logged;
-      shown = mid_shown c.showable_stays.ensures c.texts_stay.ensures old.catalog.texts c.intern_constants-known.new.catalog.texts (constants_of c.args.query.atoms) c.intern_constants-known.result c.intern_constants-known.ensures.interns old.queries.items old.logs.items c.requires.tended.shown;
+      shown = mid_shown c.showable_stays.ensures c.texts_stay.ensures old.catalog.texts c.intern_constants-known.new.catalog.texts (constants_of c.args.query) c.intern_constants-known.result c.intern_constants-known.ensures.interns old.queries.items old.logs.items c.requires.tended.shown;
     }
 
 pub register-requires-clause-tended : goal.register-requires-clause-tended
@@ -186,7 +186,7 @@ register-requires-clause-tended g c =
     record {
       watched = c.requires.tended.watched;
       logged = c.requires.tended.logged;
-      shown = mid_shown c.showable_stays.ensures c.texts_stay.ensures old.catalog.texts c.intern_constants-known.new.catalog.texts (constants_of c.args.query.atoms) c.intern_constants-known.result c.intern_constants-known.ensures.interns old.queries.items old.logs.items c.requires.tended.shown;
+      shown = mid_shown c.showable_stays.ensures c.texts_stay.ensures old.catalog.texts c.intern_constants-known.new.catalog.texts (constants_of c.args.query) c.intern_constants-known.result c.intern_constants-known.ensures.interns old.queries.items old.logs.items c.requires.tended.shown;
     }
 
 pub returns-in-Ok-register-clause-tended : goal.returns-in-Ok-register-clause-tended
@@ -198,7 +198,7 @@ returns-in-Ok-register-clause-tended g c =
       watched = r.watched;
       logged = r.logged;
       shown = subst (λ (x : Catalog). AreShown x.texts new.queries.items new.logs.items) (sym r.catalog)
-          (shown_enrolled c.intern_constants-known.new.catalog.texts old.queries.items new.queries.items old.logs.items new.logs.items r.place r.others r.empty.lines r.logs (mid_shown c.showable_stays.ensures c.texts_stay.ensures old.catalog.texts c.intern_constants-known.new.catalog.texts (constants_of c.args.query.atoms) c.intern_constants-known.result c.intern_constants-known.ensures.interns old.queries.items old.logs.items c.requires.tended.shown));
+          (shown_enrolled c.intern_constants-known.new.catalog.texts old.queries.items new.queries.items old.logs.items new.logs.items r.place r.others r.empty.lines r.logs (mid_shown c.showable_stays.ensures c.texts_stay.ensures old.catalog.texts c.intern_constants-known.new.catalog.texts (constants_of c.args.query) c.intern_constants-known.result c.intern_constants-known.ensures.interns old.queries.items old.logs.items c.requires.tended.shown));
     }
 
 pub returns-in-Err-register-clause-tended : goal.returns-in-Err-register-clause-tended
@@ -210,7 +210,7 @@ returns-in-Err-register-clause-tended g c =
       watched = r.watched;
       logged = r.logged;
       shown = subst (λ (x : Catalog). AreShown x.texts new.queries.items new.logs.items) (sym r.catalog)
-          (shown_places c.intern_constants-known.new.catalog.texts old.queries.items new.queries.items old.logs.items new.logs.items r.queries r.logs (mid_shown c.showable_stays.ensures c.texts_stay.ensures old.catalog.texts c.intern_constants-known.new.catalog.texts (constants_of c.args.query.atoms) c.intern_constants-known.result c.intern_constants-known.ensures.interns old.queries.items old.logs.items c.requires.tended.shown));
+          (shown_places c.intern_constants-known.new.catalog.texts old.queries.items new.queries.items old.logs.items new.logs.items r.queries r.logs (mid_shown c.showable_stays.ensures c.texts_stay.ensures old.catalog.texts c.intern_constants-known.new.catalog.texts (constants_of c.args.query) c.intern_constants-known.result c.intern_constants-known.ensures.interns old.queries.items old.logs.items c.requires.tended.shown));
     }
 
 pub returns-in-Ok-register-clause-enrols : goal.returns-in-Ok-register-clause-enrols
@@ -238,21 +238,21 @@ pub returns-in-Err-Full-clause-tellings : goal.returns-in-Err-Full-clause-tellin
 returns-in-Err-Full-clause-tellings g c =
     let old = c.args.parts.now in (
       refl,
-      λ id. mid_told c.showable_stays.ensures c.texts_stay.ensures old.catalog.texts c.intern_constants-known.new.catalog.texts (constants_of c.args.query.atoms) c.intern_constants-known.result c.intern_constants-known.ensures.interns old.queries.items old.queries.items old.logs.items old.logs.items c.requires.tended.shown (λ i l there. refl) id.at refl,
+      λ id. mid_told c.showable_stays.ensures c.texts_stay.ensures old.catalog.texts c.intern_constants-known.new.catalog.texts (constants_of c.args.query) c.intern_constants-known.result c.intern_constants-known.ensures.interns old.queries.items old.queries.items old.logs.items old.logs.items c.requires.tended.shown (λ i l there. refl) id.at refl,
     )
 
 pub returns-in-Err-NoMem-known-clause-tellings : goal.returns-in-Err-NoMem-known-clause-tellings
 returns-in-Err-NoMem-known-clause-tellings g c =
     let old = c.args.parts.now in (
       refl,
-      λ id. mid_told c.showable_stays.ensures c.texts_stay.ensures old.catalog.texts c.intern_constants-known.new.catalog.texts (constants_of c.args.query.atoms) c.intern_constants-known.result c.intern_constants-known.ensures.interns old.queries.items old.queries.items old.logs.items old.logs.items c.requires.tended.shown (λ i l there. refl) id.at refl,
+      λ id. mid_told c.showable_stays.ensures c.texts_stay.ensures old.catalog.texts c.intern_constants-known.new.catalog.texts (constants_of c.args.query) c.intern_constants-known.result c.intern_constants-known.ensures.interns old.queries.items old.queries.items old.logs.items old.logs.items c.requires.tended.shown (λ i l there. refl) id.at refl,
     )
 
 pub returns-in-Err-clause-tellings : goal.returns-in-Err-clause-tellings
 returns-in-Err-clause-tellings g c =
     let old = c.args.parts.now in (
       refl,
-      λ id. mid_told c.showable_stays.ensures c.texts_stay.ensures old.catalog.texts c.intern_constants-known.new.catalog.texts (constants_of c.args.query.atoms) c.intern_constants-known.result c.intern_constants-known.ensures.interns old.queries.items old.queries.items old.logs.items old.logs.items c.requires.tended.shown (λ i l there. refl) id.at refl,
+      λ id. mid_told c.showable_stays.ensures c.texts_stay.ensures old.catalog.texts c.intern_constants-known.new.catalog.texts (constants_of c.args.query) c.intern_constants-known.result c.intern_constants-known.ensures.interns old.queries.items old.queries.items old.logs.items old.logs.items c.requires.tended.shown (λ i l there. refl) id.at refl,
     )
 
 pub returns-in-Ok-register-clause-tellings : goal.returns-in-Ok-register-clause-tellings
@@ -270,7 +270,7 @@ returns-in-Ok-register-clause-tellings g c =
     (told_is new.catalog.texts new.queries.items new.logs.items r.place
     ∙ told_empty new.catalog.texts l (place_at new.queries.items r.place) (alike_same (Some l) (place_at new.queries.items r.place) r.here) (log_at new.logs.items r.place) r.empty)
     (λ other d. ap (λ (x : Catalog). slice_index_or (told_from x.texts new.queries.items new.logs.items) other.at None) r.catalog
-    ∙ mid_told c.showable_stays.ensures c.texts_stay.ensures old.catalog.texts c.intern_constants-known.new.catalog.texts (constants_of c.args.query.atoms) c.intern_constants-known.result c.intern_constants-known.ensures.interns old.queries.items new.queries.items old.logs.items new.logs.items c.requires.tended.shown r.logs other.at (r.others other.at (other_place other (id_at r.place) d))))
+    ∙ mid_told c.showable_stays.ensures c.texts_stay.ensures old.catalog.texts c.intern_constants-known.new.catalog.texts (constants_of c.args.query) c.intern_constants-known.result c.intern_constants-known.ensures.interns old.queries.items new.queries.items old.logs.items new.logs.items c.requires.tended.shown r.logs other.at (r.others other.at (other_place other (id_at r.place) d))))
 
 pub returns-in-Err-register-clause-tellings : goal.returns-in-Err-register-clause-tellings
 returns-in-Err-register-clause-tellings g c =
@@ -279,5 +279,5 @@ returns-in-Err-register-clause-tellings g c =
     let r = c.in-Err-register.ensures.err in (
       ap (map id_at) (ap (readers_at new.readers.items) r.changed ∙ r.readers.each old.changed),
       λ id. ap (λ (x : Catalog). slice_index_or (told_from x.texts new.queries.items new.logs.items) id.at None) r.catalog
-          ∙ mid_told c.showable_stays.ensures c.texts_stay.ensures old.catalog.texts c.intern_constants-known.new.catalog.texts (constants_of c.args.query.atoms) c.intern_constants-known.result c.intern_constants-known.ensures.interns old.queries.items new.queries.items old.logs.items new.logs.items c.requires.tended.shown r.logs id.at (r.queries id.at),
+          ∙ mid_told c.showable_stays.ensures c.texts_stay.ensures old.catalog.texts c.intern_constants-known.new.catalog.texts (constants_of c.args.query) c.intern_constants-known.result c.intern_constants-known.ensures.interns old.queries.items new.queries.items old.logs.items new.logs.items c.requires.tended.shown r.logs id.at (r.queries id.at),
     )

@@ -1,4 +1,4 @@
-use Rattle.std.proofs.Common.{◌∙◌, ◌<◌, None, Some, refl, sym, ap, ap₂, subst, arith, ℕ, List, length}
+use Rattle.std.proofs.Common.{◌∙◌, None, Some, refl, sym, ap, ap₂, subst, arith, ℕ, List, length}
 use Rattle.std.proofs.lemmas.List.{get_or-set_same, get_or-set_other, length-set}
 use Rattle.std.specs.Prelude.{remove}
 use Rattle.djq_model.specs.declared.query.Query.{Query}

@@ -60,6 +60,7 @@ use Rattle.djq_engine.specs.Tending.{Empties, HaveLogs}
 use Rattle.djq_engine.proofs.Storing.{places_read}
 use Rattle.djq_engine.proofs.Tending.{shown_emptied}
 use Rattle.djq_engine.proofs.Working.{counts_updates}
+use Rattle.djq_engine.proofs.Enlisted.{unwatched_readers}
 use Rattle.djq_engine.proofs.rows.add_in.Goals as goal
 
 pub returns-in-Err-Full-clause-whole : goal.returns-in-Err-Full-clause-whole
@@ -343,3 +344,23 @@ pub returns-in-Ok-More-clause-updates : goal.returns-in-Ok-More-clause-updates
 returns-in-Ok-More-clause-updates g c =
     let still = (subst (λ (o : AddOutcome). IfStill (Ok o) (c.put_row.new.steps.update ≤ c.args.steps.now.update)) c.in-Ok-More.field-0-is c.in-Ok-More.ensures.unmoved) in
     record { counted = λ n flat few. omega (arith, still) }
+
+pub returns-in-Err-Full-clause-unlisted : goal.returns-in-Err-Full-clause-unlisted
+returns-in-Err-Full-clause-unlisted g c none =
+    c.put_row.ensures.unlisted (unwatched_readers c.args.parts.now.catalog c.args.parts.now.queries.items c.args.parts.now.order c.args.parts.now.readers.items c.args.parts.now.watchers.items c.requires.whole
+    c.in_ok-id.id.at c.in_ok-id.ensures.ok.relation.below none)
+
+pub returns-in-Err-NoMem-clause-unlisted : goal.returns-in-Err-NoMem-clause-unlisted
+returns-in-Err-NoMem-clause-unlisted g c none =
+    c.put_row.ensures.unlisted (unwatched_readers c.args.parts.now.catalog c.args.parts.now.queries.items c.args.parts.now.order c.args.parts.now.readers.items c.args.parts.now.watchers.items c.requires.whole
+    c.in_ok-id.id.at c.in_ok-id.ensures.ok.relation.below none)
+
+pub returns-in-Ok-More-clause-unlisted : goal.returns-in-Ok-More-clause-unlisted
+returns-in-Ok-More-clause-unlisted g c none =
+    c.put_row.ensures.unlisted (unwatched_readers c.args.parts.now.catalog c.args.parts.now.queries.items c.args.parts.now.order c.args.parts.now.readers.items c.args.parts.now.watchers.items c.requires.whole
+    c.in_ok-id.id.at c.in_ok-id.ensures.ok.relation.below none)
+
+pub returns-clause-unlisted : goal.returns-clause-unlisted
+returns-clause-unlisted g c none =
+    c.put_row.ensures.unlisted (unwatched_readers c.args.parts.now.catalog c.args.parts.now.queries.items c.args.parts.now.order c.args.parts.now.readers.items c.args.parts.now.watchers.items c.requires.whole
+    c.in_ok-id.id.at c.in_ok-id.ensures.ok.relation.below none)

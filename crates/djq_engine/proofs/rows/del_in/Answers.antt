@@ -46,6 +46,7 @@ use Rattle.djq_engine.proofs.Reporting.{
   told_same,
 }
 use Rattle.djq_engine.proofs.Working.{counts_updates}
+use Rattle.djq_engine.proofs.Enlisted.{unwatched_readers}
 use Rattle.djq_engine.proofs.rows.del_in.Goals as goal
 
 pub age_readers-requires-clause-once : goal.age_readers-requires-clause-once
@@ -248,3 +249,21 @@ pub returns-in-Absent-clause-updates : goal.returns-in-Absent-clause-updates
 returns-in-Absent-clause-updates g c =
     let still = (subst (λ (o : DeleteOutcome). IfNoneWent o (c.drop_cells.new.steps.update ≤ c.args.steps.now.update)) c.in-Absent.is c.drop_cells.ensures.unmoved) in
     record { counted = λ n flat few. omega (arith, still) }
+
+pub returns-in-Left-clause-unlisted : goal.returns-in-Left-clause-unlisted
+returns-in-Left-clause-unlisted g c none =
+    let may = subst (λ (j : Option Deletion). JudgesDelete c.args.parts.now.catalog c.args.name.now c.args.row.now c.args.parts.now.seq j) c.in-Some.is c.in_ok-judged.ensures.ok in
+    c.drop_cells.ensures.unlisted (unwatched_readers c.args.parts.now.catalog c.args.parts.now.queries.items c.args.parts.now.order c.args.parts.now.readers.items c.args.parts.now.watchers.items c.requires.whole
+    c.in-Some.found.relation.at may.relation.below none)
+
+pub returns-in-Absent-clause-unlisted : goal.returns-in-Absent-clause-unlisted
+returns-in-Absent-clause-unlisted g c none =
+    let may = subst (λ (j : Option Deletion). JudgesDelete c.args.parts.now.catalog c.args.name.now c.args.row.now c.args.parts.now.seq j) c.in-Some.is c.in_ok-judged.ensures.ok in
+    c.drop_cells.ensures.unlisted (unwatched_readers c.args.parts.now.catalog c.args.parts.now.queries.items c.args.parts.now.order c.args.parts.now.readers.items c.args.parts.now.watchers.items c.requires.whole
+    c.in-Some.found.relation.at may.relation.below none)
+
+pub returns-clause-unlisted : goal.returns-clause-unlisted
+returns-clause-unlisted g c none =
+    let may = subst (λ (j : Option Deletion). JudgesDelete c.args.parts.now.catalog c.args.name.now c.args.row.now c.args.parts.now.seq j) c.in-Some.is c.in_ok-judged.ensures.ok in
+    c.drop_cells.ensures.unlisted (unwatched_readers c.args.parts.now.catalog c.args.parts.now.queries.items c.args.parts.now.order c.args.parts.now.readers.items c.args.parts.now.watchers.items c.requires.whole
+    c.in-Some.found.relation.at may.relation.below none)

@@ -12,6 +12,7 @@ atoms-preserved c =
     let texts = c.args.catalog.now.texts in
     let labels = c.args.tree.now.labels in
     let atoms = c.args.atoms.now in
+    let ks = c.args.comparisons.now in
     let m = c.index-atoms-j.result in
     let p = c.in_ok-bind_atom.field-0 in
     let pushed = c.in_ok-push.ensures.items in
@@ -22,11 +23,11 @@ atoms-preserved c =
         length_push c.atoms.patterns.items p,
         c.atoms.invariant.long,
       );
-      are = subst (λ (ps : List Shape). ArePatternsOf texts labels atoms ps) (sym pushed)
-          (patterns_push texts labels atoms c.atoms.patterns.items c.atoms.j m p
+      are = subst (λ (ps : List Shape). ArePatternsOf texts labels ks atoms ps) (sym pushed)
+          (patterns_push texts labels ks atoms c.atoms.patterns.items c.atoms.j m p
           c.atoms.invariant.are c.atoms.invariant.long c.atoms-test.true
           (slice_get_read atoms (length atoms) c.atoms.j m refl c.atoms-test.true
           c.index-atoms-j.is)
-          (subst (λ (l : List ℕ). IsPatternOf texts l m p) c.label.ensures
+          (subst (λ (l : List ℕ). IsPatternOf texts l ks m p) c.label-label.ensures
           c.in_ok-bind_atom.ensures));
     }

@@ -1,4 +1,5 @@
-use Rattle.djq_live.proofs.Leafing.{gained_gains, only_as}
+use Rattle.std.proofs.Common.{true, length}
+use Rattle.djq_live.proofs.Leafing.{gained_gains, lists_none, only_as}
 use Rattle.djq_live.proofs.Sizing.{gained_grows, addition_counts}
 use Rattle.djq_live.proofs.stepping.add_to_leaf.Goals as goal
 
@@ -32,3 +33,8 @@ returns-clause-updates g c =
     c.add_leaf.new.reducts c.args.steps.now.update c.add_leaf.new.tally
     c.in_ok-add_leaf.ensures.gained c.in_ok-add_leaf.ensures.counted
     c.in_ok-add_leaf.ensures.flat
+
+pub returns-in_default-clause-listed : goal.returns-in_default-clause-listed
+returns-in_default-clause-listed g c =
+    lists_none c.args.wanted true c.args.reducts.now (length c.args.reducts.now.tree.head) 1
+    c.args.log.now c.args.steps.now.listing

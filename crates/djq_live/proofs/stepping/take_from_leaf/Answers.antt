@@ -1,4 +1,5 @@
-use Rattle.djq_live.proofs.Leafing.{lost_loses, only_as}
+use Rattle.std.proofs.Common.{false, length}
+use Rattle.djq_live.proofs.Leafing.{lists_none, lost_loses, only_as}
 use Rattle.djq_live.proofs.stepping.take_from_leaf.Goals as goal
 
 pub returns-then-wanted-clause-lost : goal.returns-then-wanted-clause-lost
@@ -14,3 +15,8 @@ returns-clause-lost g c =
     c.args.reducts.now c.drop_leaf.new.reducts
     (only_as c.args.pattern.now c.args.cells.now c.in-Some.tuple c.as_slice-2.result.now
     c.as_slice-2.ensures c.in-Some.ensures.exact) c.laws.ensures.sound c.drop_leaf.ensures.lost
+
+pub returns-in_default-clause-listed : goal.returns-in_default-clause-listed
+returns-in_default-clause-listed g c =
+    lists_none c.args.wanted false c.args.reducts.now (length c.args.reducts.now.tree.head) 1
+    c.args.log.now c.args.steps.now.listing

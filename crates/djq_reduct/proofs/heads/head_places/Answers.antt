@@ -1,4 +1,5 @@
 use Rattle.std.proofs.Common.{◌≡◌, ℕ, List, ◌++◌, ◌∷◌, [], sym, ap, arith, ◌∙◌}
+use Rattle.djq_hyper.specs.declared.var_set.TheConstants.{VARIABLES}
 use Rattle.djq_reduct.specs.Columns.{column}
 use Rattle.djq_reduct.specs.Heads.{head_places}
 use Rattle.djq_reduct.proofs.Heading.{places_none, places_on}
@@ -18,5 +19,5 @@ pub returns : goal.returns
 returns c =
     let test = c.loop-variable-test.false in
     let low = c.loop-variable.auto.variable-end in
-    let all : c.loop-variable.variable ≡ 64 = omega arith in
+    let all : c.loop-variable.variable ≡ VARIABLES = omega arith in
     c.loop-variable.invariant ∙ ap (λ (n : ℕ). head_places c.args.head n) all

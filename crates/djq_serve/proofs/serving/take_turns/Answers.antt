@@ -1,38 +1,55 @@
 use Rattle.std.proofs.Common.{◌≡◌, ◌∙◌, refl, rules}
-use Rattle.djq_serve.specs.Server.{waiting, server}
-use Rattle.djq_serve.proofs.Going.{goes_none, goes_then}
-use Rattle.djq_serve.proofs.Ending.{turn_ends_it, answer_faults, all_taken}
+use Rattle.std.specs.Prelude.{Some}
+use Rattle.djq_machine.specs.Call.{counts}
+use Rattle.djq_serve.proofs.Ending.{taking_begun, turn_more, turn_ends_it, answer_faults, disk_faults, all_taken}
 use Rattle.djq_serve.proofs.serving.take_turns.Goals as goal
 
 pub loop-init : goal.loop-init
 loop-init g c = record {
   agrees = c.requires.agrees;
   settled = c.requires.settled;
-  goes = goes_none _ (server (g.M.Machine.state c.args.machine.now) waiting);
+  taking = taking_begun _ (counts c.args.steps.now.listing c.args.steps.now.update c.args.steps.now.rows) (g.M.Machine.state c.args.machine.now) c.args.log.now (g.D.Disk.told c.args.disk.now);
   faults = refl;
+  disk = refl;
+  nowhere = λ none. none;
   room = c.requires.room;
 }
 
 pub loop-preserved : goal.loop-preserved
-loop-preserved g c = record {
-  agrees = c.take_turn.ensures.agrees;
-  settled = c.in_default.ensures.settled;
-  goes = goes_then _ _ _ _ _ _ c.loop.invariant.goes (c.in_default.ensures.goes c.loop.counter);
-  faults = c.in_default.ensures.faults ∙ c.loop.invariant.faults;
-  room = c.take_turn.auto.buffer ∙ c.loop.invariant.room;
-}
+loop-preserved g c =
+    let state = g.M.Machine.state in
+    let told = g.D.Disk.told in
+    record {
+      agrees = c.take_turn.ensures.agrees;
+      settled = c.in_default.ensures.settled;
+      taking = turn_more _ _ _ _ _ _ (state c.args.machine.now) (state c.loop.machine) (state c.take_turn.new.machine) c.args.log.now c.loop.log c.take_turn.new.log
+          (told c.args.disk.now) (told c.loop.disk) (told c.take_turn.new.disk) c.loop.counter c.loop.invariant.taking c.in_default.ensures.takes;
+      faults = c.in_default.ensures.faults ∙ c.loop.invariant.faults;
+      disk = c.in_default.ensures.disk ∙ c.loop.invariant.disk;
+      nowhere = λ none. (c.in_default.ensures.nowhere (c.loop.invariant.nowhere none)).1;
+      room = c.take_turn.auto.buffer ∙ c.loop.invariant.room;
+    }
 
 pub returns-in-Some-clause-took : goal.returns-in-Some-clause-took
 returns-in-Some-clause-took g c =
     let state = g.M.Machine.state in
-    turn_ends_it _ _ _ _ _ _ (state c.args.machine.now) (state c.loop.machine) (state c.take_turn.new.machine) c.in-Some.served c.args.turns c.loop.counter _ _
-    c.loop.invariant.goes c.in-Some.ensures.goes c.in-Some.ensures.faults (search rules)
+    let told = g.D.Disk.told in
+    turn_ends_it _ _ _ _ _ _ (state c.args.machine.now) (state c.loop.machine) (state c.take_turn.new.machine) c.in-Some.served c.args.log.now c.loop.log c.take_turn.new.log
+    (told c.args.disk.now) (told c.loop.disk) (told c.take_turn.new.disk) c.args.turns c.loop.counter _ _
+    c.loop.invariant.taking c.in-Some.ensures.takes c.in-Some.ensures.faults (search rules)
 
 pub returns-in-Some-clause-faults : goal.returns-in-Some-clause-faults
 returns-in-Some-clause-faults g c = answer_faults c.in-Some.served _ _ _ c.loop.invariant.faults c.in-Some.ensures.faults
 
+pub returns-in-Some-clause-disk : goal.returns-in-Some-clause-disk
+returns-in-Some-clause-disk g c = disk_faults (Some c.in-Some.served) _ _ _ c.loop.invariant.disk c.in-Some.ensures.disk
+
+pub returns-in-Some-clause-nowhere : goal.returns-in-Some-clause-nowhere
+returns-in-Some-clause-nowhere g c = λ none. (c.in-Some.ensures.nowhere (c.loop.invariant.nowhere none)).0
+
 pub returns-clause-took : goal.returns-clause-took
 returns-clause-took g c =
     let state = g.M.Machine.state in
+    let told = g.D.Disk.told in
     let all : c.loop.counter ≡ c.args.turns = search rules in
-    all_taken _ _ _ _ (state c.args.machine.now) (state c.loop.machine) c.args.turns c.loop.counter c.loop.invariant.goes all
+    all_taken _ _ _ _ (state c.args.machine.now) (state c.loop.machine) c.args.log.now c.loop.log (told c.args.disk.now) (told c.loop.disk) c.args.turns c.loop.counter c.loop.invariant.taking all

@@ -1,10 +1,10 @@
 use Rattle.std.proofs.Common.{◌≡◌, length}
+use Rattle.std.specs.Prelude.{None}
 use Rattle.djq_machine.specs.Call.{counts}
 use Rattle.djq_laws.specs.declared.limits.TheConstants.{READ_BYTES}
 use Rattle.djq_serve.specs.Told.{shown}
-use Rattle.djq_serve.specs.Server.{waiting, server}
-use Rattle.djq_serve.specs.Goes.{seen, Goes}
 use Rattle.djq_serve.specs.Kept.{Agrees, AllSettled}
+use Rattle.djq_serve.proofs.Ending.{Taking}
 use Rattle.djq_serve.proofs.serving.take_turns.Given as goal
 
 abbrev pub invariant-loop : goal.invariant-loop
@@ -16,8 +16,11 @@ invariant-loop g l =
     record {
       agrees : Agrees (state l.machine) (ids l.hub);
       settled : AllSettled (state l.machine);
-      goes : Goes (seen (shown (past l.fn.hub) (script l.fn.hub) (ids l.fn.hub)) (counts l.fn.steps.listing l.fn.steps.update l.fn.steps.rows) 0) (server (state l.fn.machine) waiting)
-          (seen (shown (past l.hub) (script l.hub) (ids l.hub)) (counts l.steps.listing l.steps.update l.steps.rows) l.counter) (server (state l.machine) waiting);
+      taking : Taking (shown (past l.fn.hub) (script l.fn.hub) (ids l.fn.hub)) (shown (past l.hub) (script l.hub) (ids l.hub))
+          (counts l.fn.steps.listing l.fn.steps.update l.fn.steps.rows) (counts l.steps.listing l.steps.update l.steps.rows)
+          (state l.fn.machine) (state l.machine) l.fn.log l.log (g.D.Disk.told l.fn.disk) (g.D.Disk.told l.disk) l.counter;
       faults : g.H.Hub.faults l.hub ≡ g.H.Hub.faults l.fn.hub;
+      disk : g.D.Disk.faults l.disk ≡ g.D.Disk.faults l.fn.disk;
+      nowhere : l.fn.log ≡ None → l.log ≡ None;
       room : length l.buffer ≡ READ_BYTES;
     }

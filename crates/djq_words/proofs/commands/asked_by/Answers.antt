@@ -1,4 +1,9 @@
-use Rattle.clap.specs.Words.{found_of, rows_of}
+use Rattle.std.proofs.Common.{◌≡◌, ◌∙◌, refl, sym, codes}
+use Rattle.std.specs.Prelude.{Some}
+use Rattle.clap.specs.Words.{first_of, found_of, rows_of}
+use Rattle.clap.proofs.WalkLemmas.{first_value-rows}
+use Rattle.djq_words.specs.declared.commands.Asked.TheVariants.{Replay}
+use Rattle.djq_words.specs.Asks.{path_of}
 use Rattle.djq_words.proofs.Asking.{found_is, named, asked_as, other_asked}
 use Rattle.djq_words.proofs.commands.asked_by.Goals as goal
 
@@ -6,6 +11,12 @@ pub returns-in-serve : goal.returns-in-serve
 returns-in-serve c =
     let rows = rows_of (found_of c.in_ok-name.inner.now) in
     asked_as _ _ c.serve_asked.result (named rows (found_is _ _ _ c.in_ok-name.name.now rows c.in_ok-name.ensures.name c.in_ok-name.ensures.rows) c.in-serve.is) c.serve_asked.ensures
+
+pub returns-in-replay : goal.returns-in-replay
+returns-in-replay c =
+    let f = found_of c.in_ok-name.inner.now in
+    let log : first_of (codes "log") (rows_of f) ≡ path_of c.get_str.result = sym (first_value-rows f (codes "log")) ∙ sym c.get_str.ensures in
+    asked_as _ _ (Some (Replay c.get_str.result)) (named (rows_of f) (found_is _ _ _ c.in_ok-name.name.now (rows_of f) c.in_ok-name.ensures.name c.in_ok-name.ensures.rows) c.in-replay.is) (refl, log)
 
 pub returns-in_default : goal.returns-in_default
 returns-in_default c =

@@ -10,7 +10,7 @@ returns-clause-app c =
     let bare : app_of c.subcommand_required-bare.result ≡ bare_app = search rules in
     let run = c.in_ok-subcommand.ensures.shape c.new-2.ensures.local ∙ ap₂ with_subcommand bare (ap (λ (a : App). a.top) c.new-2.ensures.app) in
     let serve = c.in_ok-subcommand-2.ensures.shape c.in_ok-serve.ensures.local ∙ ap₂ with_subcommand run (ap (λ (a : App). a.top) c.in_ok-serve.ensures.app) in
-    let replay = c.in_ok-subcommand-3.ensures.shape c.new-3.ensures.local ∙ ap₂ with_subcommand serve (ap (λ (a : App). a.top) c.new-3.ensures.app) in
+    let replay = c.in_ok-subcommand-3.ensures.shape c.in_ok-replay.ensures.local ∙ ap₂ with_subcommand serve (ap (λ (a : App). a.top) c.in_ok-replay.ensures.app) in
     IfOk-weaker c.subcommand-4.result _ _ (λ r h. h.shape c.in_ok-load.ensures.local ∙ ap₂ with_subcommand replay (ap (λ (a : App). a.top) c.in_ok-load.ensures.app)) c.subcommand-4.ensures
 
 pub returns-clause-local : goal.returns-clause-local
@@ -18,5 +18,5 @@ returns-clause-local c =
     let bare : (fields_of c.subcommand_required-bare.result).has_globals ≡ false = search rules in
     let run = c.in_ok-subcommand.ensures.globals ∙ ap₂ (λ a b. a || b) bare c.new-2.ensures.local in
     let serve = c.in_ok-subcommand-2.ensures.globals ∙ ap₂ (λ a b. a || b) run c.in_ok-serve.ensures.local in
-    let replay = c.in_ok-subcommand-3.ensures.globals ∙ ap₂ (λ a b. a || b) serve c.new-3.ensures.local in
+    let replay = c.in_ok-subcommand-3.ensures.globals ∙ ap₂ (λ a b. a || b) serve c.in_ok-replay.ensures.local in
     IfOk-weaker c.subcommand-4.result _ _ (λ r h. h.globals ∙ ap₂ (λ a b. a || b) replay c.in_ok-load.ensures.local) c.subcommand-4.ensures

@@ -2,7 +2,7 @@ use Rattle.std.proofs.Common.{ℕ, List, Bor, Option, ◌≡◌, ◌∙◌, None
 use Rattle.clap.specs.Words.{Text, first_of, found_of, rows_of}
 use Rattle.clap.proofs.WalkLemmas.{first_value-rows}
 use Rattle.djq_words.specs.declared.commands.Asked.{Asked}
-use Rattle.djq_words.specs.Asks.{ServeAsked, TurnsAre}
+use Rattle.djq_words.specs.Asks.{ServeAsked, TurnsAre, path_of}
 use Rattle.djq_words.proofs.Asking.{no_addr, turns_spelled, turns_unspelled}
 use Rattle.djq_words.proofs.commands.serve_asked.Goals as goal
 
@@ -17,7 +17,8 @@ returns-in_default c =
     let f = found_of c.args.given.now in
     let given = sym (first_value-rows f (codes "ADDR")) ∙ sym c.get_str.ensures ∙ ap (λ (o : Option (Bor (List ℕ))). option_map (λ s. s.now) o) c.in_ok-addr.was in
     let none : first_of (codes "turns") (rows_of f) ≡ None = sym (first_value-rows f (codes "turns")) ∙ sym c.get_str-2.ensures ∙ ap (λ (o : Option (Bor (List ℕ))). option_map (λ s. s.now) o) c.in_default.is in
-    (refl, given, subst (λ (o : Option Text). TurnsAre o 9223372036854775807) (sym none) refl)
+    let log : first_of (codes "log") (rows_of f) ≡ path_of c.get_str-log.result = sym (first_value-rows f (codes "log")) ∙ sym c.get_str-log.ensures in
+    (refl, given, subst (λ (o : Option Text). TurnsAre o 9223372036854775807) (sym none) refl, log)
 
 pub returns-in-Some-number_in : goal.returns-in-Some-number_in
 returns-in-Some-number_in c =
@@ -26,7 +27,8 @@ returns-in-Some-number_in c =
     let spelled = sym (first_value-rows f (codes "turns")) ∙ sym c.get_str-2.ensures ∙ ap (λ (o : Option (Bor (List ℕ))). option_map (λ s. s.now) o) c.in-Some.is in
     let text = c.in-Some.text.now in
     let turns = turns_spelled text _ (first_of (codes "turns") (rows_of f)) spelled c.in-Some-number_in.ensures in
-    (refl, given, turns)
+    let log : first_of (codes "log") (rows_of f) ≡ path_of c.get_str-log.result = sym (first_value-rows f (codes "log")) ∙ sym c.get_str-log.ensures in
+    (refl, given, turns, log)
 
 pub returns-in-None : goal.returns-in-None
 returns-in-None c =

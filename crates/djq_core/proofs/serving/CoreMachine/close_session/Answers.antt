@@ -6,7 +6,7 @@ use Rattle.djq_machine.specs.Step.{closed}
 use Rattle.djq_machine.specs.Run.{pending_of}
 use Rattle.djq_machine.specs.Call.{Makes}
 use Rattle.djq_core.specs.Sound.{IsSound}
-use Rattle.djq_core.specs.Views.{state_in}
+use Rattle.djq_core.specs.Views.{state_in, Visible}
 use Rattle.djq_core.proofs.Places.{here_by, is_there_in, ids_rise_in, owns, within_by, closes}
 use Rattle.djq_core.proofs.serving.CoreMachine.close_session.Goals as goal
 
@@ -14,7 +14,7 @@ pub place_of-at-requires-clause-rising : goal.place_of-at-requires-clause-rising
 place_of-at-requires-clause-rising c = ids_rise_in c.self.inside.engine c.self.inside.ids.items c.as_slice.result.now c.self.inside.sessions.items _ _ c.self.invariant c.as_slice.ensures.value
 
 pub place_of-at-requires-clause-there : goal.place_of-at-requires-clause-there
-place_of-at-requires-clause-there c = is_there_in c.self.inside.engine c.args.self.now c.self.inside.stopped c.self.inside.ids.items c.as_slice.result.now c.self.inside.sessions.items _ _ c.args.id c.self.invariant c.as_slice.ensures.value c.self.view_is c.requires
+place_of-at-requires-clause-there c = is_there_in c.self.inside.engine (c.args.self.now).state c.self.inside.stopped c.self.inside.ids.items c.as_slice.result.now c.self.inside.sessions.items _ _ c.args.id c.self.invariant c.as_slice.ensures.value (ap (λ (v : Visible). v.state) c.self.view_is) c.requires
 
 pub give_up-requires : goal.give_up-requires
 give_up-requires c =
@@ -37,5 +37,5 @@ pub returns : goal.returns
 returns c =
     let h = here_by c.self.inside.engine c.self.inside.ids.items c.as_slice.result.now c.self.inside.sessions.items _ _ c.place_of-at.result c.args.id c.index_mut-found.result.now c.self.invariant c.as_slice.ensures.value c.place_of-at.ensures.within c.place_of-at.ensures.there c.index_mut-found.ensures.value in
     let within = within_by c.self.inside.engine c.self.inside.ids.items c.as_slice.result.now c.self.inside.sessions.items _ _ c.place_of-at.result c.self.invariant c.as_slice.ensures.value c.place_of-at.ensures.within in
-    subst (λ (ys : List OpenSession). Makes c.args.self.now (closed c.args.id (pending_of c.args.self.now c.args.id)) (state_in c.give_up.new.engine c.self.inside.stopped ys)) (sym c.remove-closed.ensures.items)
-    (subst (λ (st : State). Makes st (closed c.args.id (pending_of st c.args.id)) (state_in c.give_up.new.engine c.self.inside.stopped (remove (set c.self.inside.sessions.items c.place_of-at.result (record c.index_mut-found.result.now { session = c.give_up.new.session })) c.place_of-at.result))) c.self.view_is (closes c.self.inside.engine c.give_up.new.engine c.self.inside.ids.items c.self.inside.sessions.items _ _ c.place_of-at.result c.args.id c.index_mut-found.result.now c.give_up.new.session c.self.inside.stopped c.self.invariant h within c.give_up.ensures.gives_up).0)
+    subst (λ (ys : List OpenSession). Makes (c.args.self.now).state (closed c.args.id (pending_of (c.args.self.now).state c.args.id)) (state_in c.give_up.new.engine c.self.inside.stopped ys)) (sym c.remove-closed.ensures.items)
+    (subst (λ (st : State). Makes st (closed c.args.id (pending_of st c.args.id)) (state_in c.give_up.new.engine c.self.inside.stopped (remove (set c.self.inside.sessions.items c.place_of-at.result (record c.index_mut-found.result.now { session = c.give_up.new.session })) c.place_of-at.result))) (ap (λ (v : Visible). v.state) c.self.view_is) (closes c.self.inside.engine c.give_up.new.engine c.self.inside.ids.items c.self.inside.sessions.items _ _ c.place_of-at.result c.args.id c.index_mut-found.result.now c.give_up.new.session c.self.inside.stopped c.self.invariant h within c.give_up.ensures.gives_up).0)

@@ -3,7 +3,7 @@ use Rattle.djq_core.specs.declared.open.OpenSession.{OpenSession}
 use Rattle.djq_lines.specs.declared.limits.TheConstants.{SESSIONS}
 use Rattle.djq_machine.specs.Step.{opened}
 use Rattle.djq_machine.specs.Call.{Makes, IsOpen}
-use Rattle.djq_core.specs.Views.{state_in}
+use Rattle.djq_core.specs.Views.{state_in, Visible}
 use Rattle.djq_core.specs.Sound.{IsSound}
 use Rattle.djq_core.proofs.Places.{opens}
 use Rattle.djq_core.proofs.serving.CoreMachine.open_session.Goals as goal
@@ -11,7 +11,7 @@ use Rattle.djq_core.proofs.serving.CoreMachine.open_session.Goals as goal
 pub invariant_of-self : goal.invariant_of-self
 invariant_of-self c =
     let less : length c.self.inside.ids.items < SESSIONS = omega (arith, c.if-len-ge-SESSIONS.false, c.len.ensures, c.self.inside.ids.ok.0) in
-    let core = (opens c.self.inside.engine c.self.inside.ids.items c.self.inside.sessions.items _ _ c.args.id c.in-Ok.session c.args.self.now c.self.inside.stopped c.self.invariant c.self.view_is less c.in-Ok.ensures c.requires).1 in
+    let core = (opens c.self.inside.engine c.self.inside.ids.items c.self.inside.sessions.items _ _ c.args.id c.in-Ok.session (c.args.self.now).state c.self.inside.stopped c.self.invariant (ap (λ (v : Visible). v.state) c.self.view_is) less c.in-Ok.ensures c.requires).1 in
     record {
       ids_are = c.push_reserved.ensures.items ∙ core.ids_are ∙ ap (λ (ys : List OpenSession). map (λ (x : OpenSession). x.id) ys) (sym c.push_reserved-in-Ok.ensures.items);
       sound = subst (IsSound c.self.inside.engine) (sym c.push_reserved-in-Ok.ensures.items) core.sound;
@@ -22,5 +22,5 @@ invariant_of-self c =
 pub returns-in-Ok : goal.returns-in-Ok
 returns-in-Ok c =
     let less : length c.self.inside.ids.items < SESSIONS = omega (arith, c.if-len-ge-SESSIONS.false, c.len.ensures, c.self.inside.ids.ok.0) in
-    subst (λ (ys : List OpenSession). Makes c.args.self.now (opened c.args.id) (state_in c.self.inside.engine c.self.inside.stopped ys) × IsOpen (state_in c.self.inside.engine c.self.inside.stopped ys) c.args.id) (sym c.push_reserved-in-Ok.ensures.items)
-    (opens c.self.inside.engine c.self.inside.ids.items c.self.inside.sessions.items _ _ c.args.id c.in-Ok.session c.args.self.now c.self.inside.stopped c.self.invariant c.self.view_is less c.in-Ok.ensures c.requires).0
+    subst (λ (ys : List OpenSession). Makes (c.args.self.now).state (opened c.args.id) (state_in c.self.inside.engine c.self.inside.stopped ys) × IsOpen (state_in c.self.inside.engine c.self.inside.stopped ys) c.args.id) (sym c.push_reserved-in-Ok.ensures.items)
+    (opens c.self.inside.engine c.self.inside.ids.items c.self.inside.sessions.items _ _ c.args.id c.in-Ok.session (c.args.self.now).state c.self.inside.stopped c.self.invariant (ap (λ (v : Visible). v.state) c.self.view_is) less c.in-Ok.ensures c.requires).0

@@ -1,6 +1,7 @@
 use Rattle.std.proofs.Common.{List, length, sym, subst, ap, arith}
 use Rattle.djq_tree.specs.Tree.{Tree}
 use Rattle.djq_query.specs.declared.numbered.NumberedAtom.{NumberedAtom}
+use Rattle.djq_query.specs.declared.numbered.NumberedComparison.{NumberedComparison}
 use Rattle.djq_live.specs.Building.{AreBindable}
 use Rattle.djq_live.specs.Planning.{Planned}
 use Rattle.djq_live.proofs.Built.{
@@ -24,9 +25,14 @@ bind_atoms-requires g c =
     (ap (λ (p : Planned). p.numbered) c.planned.view_is)
     (ap (λ (p : Planned). p.tree) c.planned.view_is) c.within.ensures c.len-nodes.ensures.tree
     c.requires.constants in
-    subst (λ (l : List NumberedAtom). AreBindable c.args.catalog.now.texts c.planned.inside.tree l)
+    subst (λ (l : List NumberedAtom). AreBindable c.args.catalog.now.texts c.planned.inside.tree
+    c.comparisons.result.now l)
     (sym c.atoms.ensures)
-    (bindable c.args.catalog.now c.args.query c.planned.inside.numbered c.planned.inside.tree given)
+    (subst (λ (l : List NumberedComparison). AreBindable c.args.catalog.now.texts
+    c.planned.inside.tree l c.planned.inside.numbered.atoms)
+    (sym c.comparisons.ensures)
+    (bindable c.args.catalog.now c.args.query c.planned.inside.numbered c.planned.inside.tree
+    given))
 
 pub new-requires : goal.new-requires
 new-requires g c =
@@ -67,7 +73,8 @@ fill_leaves-requires-clause-suit g c =
     c.requires.constants in
     suit_there c.args.catalog.now c.args.query c.planned.inside.numbered c.planned.inside.tree
     c.in_ok-reducts.reducts.tree c.atoms.result.now c.atoms-2.result.now
-    c.in_ok-patterns.patterns.items c.deref.result.now given c.atoms.ensures c.atoms-2.ensures
+    c.comparisons.result.now c.in_ok-patterns.patterns.items c.deref.result.now given
+    c.atoms.ensures c.comparisons.ensures c.atoms-2.ensures
     c.deref.ensures.value c.in_ok-reducts.ensures.tree c.in_ok-patterns.ensures.patterns
 
 pub fill_leaves-requires-clause-empty : goal.fill_leaves-requires-clause-empty
@@ -85,8 +92,9 @@ returns-clause-live g c =
     (ap (λ (p : Planned). p.tree) c.planned.view_is) c.within.ensures c.len-nodes.ensures.tree
     c.requires.constants in
     live_there c.args.catalog.now c.args.query c.planned.inside.numbered c.planned.inside.tree
-    c.atoms.result.now c.atoms-2.result.now c.in_ok-patterns.patterns.items c.deref.result.now
-    c.in_ok-reducts.reducts c.fill_leaves.new.reducts c.new-2.result given c.atoms.ensures
+    c.atoms.result.now c.atoms-2.result.now c.comparisons.result.now
+    c.in_ok-patterns.patterns.items c.deref.result.now c.in_ok-reducts.reducts
+    c.fill_leaves.new.reducts c.new-2.result given c.atoms.ensures c.comparisons.ensures
     c.atoms-2.ensures c.deref.ensures.value c.in_ok-reducts.ensures.tree
     c.in_ok-patterns.ensures.long c.in_ok-patterns.ensures.patterns c.in_ok-fill_leaves.ensures
     c.laws-2.ensures.sound c.new-2.ensures

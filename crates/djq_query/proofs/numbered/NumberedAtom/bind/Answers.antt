@@ -1,6 +1,6 @@
-use Rattle.std.proofs.Common.{◌≡◌, ◌∙◌, ap₂, List, ℕ}
+use Rattle.std.proofs.Common.{◌≡◌, ◌∙◌, ap, ap₂, List, ℕ}
 use Rattle.djq_query.specs.declared.numbered.NumberedTerm.{NumberedTerm}
-use Rattle.djq_query.specs.Pattern.{bound}
+use Rattle.djq_query.specs.Pattern.{bound, tests_of}
 use Rattle.djq_query.proofs.Binding.{pattern_of}
 use Rattle.djq_query.proofs.numbered.NumberedAtom.bind.Goals as goal
 
@@ -8,4 +8,6 @@ pub new-requires : goal.new-requires
 new-requires c =
     let told : c.in_ok-slots.slots ≡ bound c.args.label c.args.self.now.terms c.args.cells.now =
     c.in_ok-slots.ensures ∙ ap₂ (λ (l : List ℕ) (ts : List NumberedTerm). bound l ts c.args.cells.now) (c.as_slice.ensures ∙ c.members-members.ensures) c.as_slice-2.ensures in
-    pattern_of c.args.label c.args.self.now.terms c.args.cells.now c.len.result c.in_ok-slots.slots c.rises.ensures.rising c.requires.narrow c.requires.cells c.requires.label c.len.ensures told
+    let tested : c.in_ok-tests.tests ≡ tests_of c.args.label c.args.comparisons.now c.args.constants.now =
+    c.in_ok-tests.ensures ∙ ap (λ (l : List ℕ). tests_of l c.args.comparisons.now c.args.constants.now) (c.as_slice-3.ensures ∙ c.members-members.ensures) in
+    pattern_of c.args.label c.args.self.now.terms c.args.cells.now c.args.comparisons.now c.args.constants.now c.len.result c.in_ok-slots.slots c.in_ok-tests.tests c.rises.ensures.rising c.requires.narrow c.requires.cells c.requires.label c.len.ensures told tested

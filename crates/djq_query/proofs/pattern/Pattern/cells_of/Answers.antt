@@ -14,8 +14,8 @@ columns-preserved c =
     }
 
 pub returns-clause-only : goal.returns-clause-only
-returns-clause-only c u gives =
+returns-clause-only c u long fills =
     let pattern : IsPattern c.args.self.now = subst (λ (n : Shape). IsPattern n) c.self.view_is c.self.invariant in
     let same : c.as_slice-slots.result.now ≡ c.args.self.now.slots = c.as_slice-slots.ensures ∙ ap (λ (n : Shape). n.slots) c.self.view_is in
     let past : length c.args.self.now.slots ≤ c.columns.i = omega (arith, c.columns-test.false, ap (λ (l : List Slot). length l) same) in
-    read_all c.args.self.now c.columns.tuple u c.columns.i pattern past c.columns.invariant.wide gives.wide (c.columns.invariant.read u gives.fills)
+    read_all c.args.self.now c.columns.tuple u c.columns.i pattern past c.columns.invariant.wide long (c.columns.invariant.read u fills)

@@ -22,4 +22,4 @@ pub returns : goal.returns
 returns c =
     let same : c.as_slice-slots.result.now ≡ c.args.self.now.slots = c.as_slice-slots.ensures ∙ ap (λ (n : Shape). n.slots) c.self.view_is in
     let past : length c.args.self.now.slots ≤ c.columns.i = omega (arith, c.columns-test.false, ap (λ (l : List Slot). length l) same) in
-    gives_all c.args.self.now c.args.tuple.now c.args.row.now c.columns.i c.requires.wide past (omega (arith, past, c.requires.long)) c.columns.invariant
+    gives_all c.args.self.now c.args.tuple.now c.args.row.now c.columns.i past (omega (arith, past, c.requires.long)) c.columns.invariant

@@ -1,4 +1,5 @@
 use Rattle.std.proofs.Common.{ℕ, List, ap, arith, ◌∙◌}
+use Rattle.djq_hyper.specs.declared.var_set.TheConstants.{VARIABLES}
 use Rattle.djq_reduct.specs.Reducts.{Reducts}
 use Rattle.djq_reduct.specs.Columns.{column}
 use Rattle.djq_reduct.proofs.Heading.{place_read}
@@ -9,7 +10,7 @@ returns-then-variable-len c =
     let len = c.len.ensures in
     let items = c.self.inside.places.ok.0 in
     let test = c.if-variable-len.true in
-    c.index.ensures ∙ place_read c.self.inside.places.items c.self.inside.tree.head c.args.self.now.tree.head 64
+    c.index.ensures ∙ place_read c.self.inside.places.items c.self.inside.tree.head c.args.self.now.tree.head VARIABLES
     c.args.variable c.index.result.now c.self.invariant.2
     (ap (λ (r : Reducts). r.tree.head) c.self.view_is) (omega arith)
 

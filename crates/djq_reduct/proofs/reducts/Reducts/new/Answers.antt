@@ -1,4 +1,5 @@
 use Rattle.std.proofs.Common.{◌≡◌, ℕ, List, ◌++◌, ◌∷◌, [], length, subst, sym, ap, arith, ◌∙◌}
+use Rattle.djq_hyper.specs.declared.var_set.TheConstants.{VARIABLES}
 use Rattle.djq_index.specs.Table.{Table}
 use Rattle.djq_reduct.specs.Tables.{entries_at}
 use Rattle.djq_reduct.specs.Heads.{head_places}
@@ -25,7 +26,7 @@ invariant_of-result c =
       subst (λ (ts : List Table). IsReducts (record { tree = c.args.tree; tables = ts })) (sym (c.loop-node.invariant ∙ ap (λ (n : ℕ). empty_tables c.args.tree n) all))
           (made_reducts c.args.tree c.len-node-end.ensures.tree c.requires),
       c.in_ok-columns.ensures,
-      c.in_ok-places.ensures ∙ ap (λ (F : List ℕ). head_places F 64) c.head.ensures,
+      c.in_ok-places.ensures ∙ ap (λ (F : List ℕ). head_places F VARIABLES) c.head.ensures,
     )
 
 pub returns-clause-empty : goal.returns-clause-empty

@@ -1,0 +1,5 @@
+use Rattle.djq.proofs.Reopening.{logs_reopen}
+use Rattle.djq.proofs.laws.logs_reopen.Goals as goal
+
+pub returns : goal.returns
+returns c = logs_reopen

@@ -1,0 +1,192 @@
+-- How the log of a program is opened and loaded, and what it keeps of the run that follows.
+use Rattle.std.specs.Prelude.{ℕ, List, [], ◌∷◌, ◌++◌, ◌≡◌, ◌⊎◌, Option, None, Some, IfSome, drop}
+use Rattle.std.specs.Borrow.{Bor}
+use Rattle.djq_io.specs.Faults.{Counted}
+use Rattle.djq_disk.specs.History.{History, WhereTold}
+use Rattle.djq_journal.specs.Format.{header, OpensTo, IsBad}
+use Rattle.djq_journal.specs.Standing.{IsAt}
+use Rattle.djq_journal.specs.Calls.{after_sync}
+use Rattle.djq_journal.specs.Keeping.{IsKeeping, WasKeeping}
+use Rattle.djq_journal.specs.Logging.{Overfull}
+use Rattle.djq_model.specs.Data.{Bytes}
+use Rattle.djq_machine.specs.State.{Store, State, opening}
+use Rattle.djq_machine.specs.Run.{Group}
+use Rattle.djq_machine.specs.Call.{Counts}
+use Rattle.djq_machine.specs.declared.machine.Loaded.TheVariants.{Refused as refused}
+use Rattle.djq_machine.specs.Loading.{LoadStep, Loads}
+use Rattle.djq_run.specs.declared.status.Status.{Status}
+use Rattle.djq_run.specs.declared.status.Status.TheVariants.{Done, NoMemory, HubFault, TurnsUsed, DiskFault, LogFull, BadLog}
+use Rattle.djq_serve.specs.declared.served.Served.{Served}
+use Rattle.djq_serve.specs.declared.served.Served.TheVariants.{Stopped, Over, TurnsUsed as AllTaken, HubFault as HubFailed, DiskFault as DiskFailed, LogFull as Full}
+use Rattle.djq_serve.specs.Logged.{DiskCounts, IsPlain}
+
+-- A disk, as the program shows it: what it went through, where that is told, and its count of faults.
+pub record DiskSeen : Type 0 where
+  pub told : Option History
+  pub faults : ℕ
+
+abbrev pub disk_seen : Option History → ℕ → DiskSeen
+disk_seen told faults = record { told = told; faults = faults }
+
+-- A log, as the program shows it: the path by which it is asked for, and the disk as it was and as it
+-- is then.
+pub record LogSeen : Type 0 where
+  pub path : Bytes
+  pub before : DiskSeen
+  pub now : DiskSeen
+
+-- the log that is asked for, if one is
+abbrev pub log_seen : Option (Bor Bytes) → DiskSeen → DiskSeen → Option LogSeen
+log_seen None before now = None
+log_seen (Some path) before now = Some (record { path = path.now; before = before; now = now })
+
+-- nothing was asked of its disk
+abbrev pub IsUnasked : Option LogSeen → Type 0
+IsUnasked None = Unit {0}
+IsUnasked (Some log) = log.now ≡ log.before
+
+-- the status that the answer of the loop comes to
+abbrev pub status_of : Served → Status
+status_of Stopped = Done
+status_of Over = Done
+status_of AllTaken = TurnsUsed
+status_of HubFailed = HubFault
+status_of DiskFailed = DiskFault
+status_of Full = LogFull
+
+-- the history behind an open of the file at this path, whatever it answered
+abbrev pub asked_for : Bytes → History → History
+asked_for path h = record h { paths = h.paths ++ path ∷ [] }
+
+-- A journal without lines was made, in a file without bytes.
+pub record IsMade (path : Bytes) (found : List Bytes) (old since : History) : Type 0 where
+  pub empty : old.file.bytes ≡ []
+  pub none : found ≡ []
+  pub paths : since.paths ≡ old.paths ++ path ∷ []
+
+-- An older journal was opened, which has these lines. All that was asked of the disk is a sync.
+pub record IsOlder (path : Bytes) (found : List Bytes) (old since : History) : Type 0 where
+  pub lines : OpensTo found old.file.bytes
+  pub is : since ≡ after_sync (asked_for path old)
+
+-- One file was opened, by this path. Its journal was made, or an older one of these lines was
+-- opened, and this holds of the moment when that was done.
+pub record SinceOpened (path : Bytes) (found : List Bytes) (P : History → Type 0) (old : History) : Type 0 where
+  pub since : History
+  pub begins : IsMade path found old since ⊎ IsOlder path found old since
+  pub holds : P since
+
+-- The journal has these lines, and stands idle behind them; and at each moment since it was opened a
+-- stop leaves them and no others.
+abbrev pub Finds : Bytes → List Bytes → ℕ → History → History → Type 0
+Finds path found gate old new = SinceOpened path found (λ since. IsKeeping found [] gate since new) old
+
+-- All but the last of some groups were kept, and that may be.
+pub record LostLast (found : List Bytes) (groups : List Group) (since new : History) : Type 0 where
+  pub whole : List Group
+  pub last : Group
+  pub cut : groups ≡ whole ++ last ∷ []
+  pub kept : WasKeeping found whole last since new
+
+-- All but the last of some groups are kept, and for that there is no room.
+pub record LeftLast (found : List Bytes) (groups : List Group) (since new : History) : Type 0 where
+  pub whole : List Group
+  pub last : Group
+  pub cut : groups ≡ whole ++ last ∷ []
+  pub gate : ℕ
+  pub full : Overfull (Some gate) last
+  pub kept : IsKeeping found whole gate since new
+
+-- What is kept of groups behind the lines found, by the answer of the loop: at each moment since a
+-- stop leaves whole groups, the first ones; and in the end all of them, or all but the last.
+abbrev pub KeptAs : Served → List Bytes → List Group → History → History → Type 0
+KeptAs DiskFailed found groups since new = LostLast found groups since new
+KeptAs Full found groups since new = LeftLast found groups since new
+KeptAs _ found groups since new = (gate : ℕ) × IsKeeping found groups gate since new
+
+-- What serving leaves in the log that is asked for, if one is: behind the lines found the groups of
+-- lines that the machine's steps kept. Without one it doesn't end by the disk.
+abbrev pub Logs : Option LogSeen → List Bytes → Served → List Group → Type 0
+Logs None found answer groups = IsPlain answer
+Logs (Some log) found answer groups = DiskCounts (Some answer) log.before.faults log.now.faults
+    × WhereTold log.before.told log.now.told
+    (λ o n. SinceOpened log.path found (λ since. KeptAs answer found groups since n) o)
+
+-- The log that is asked for, if one is, has these lines, and nothing else was done: it stands idle
+-- at this gate.
+abbrev pub FoundIn : Option LogSeen → List Bytes → Option ℕ → Type 0
+FoundIn None found gate = gate ≡ None
+FoundIn (Some log) found None = ⊥
+FoundIn (Some log) found (Some gate) = (log.now.faults ≡ log.before.faults)
+    × WhereTold log.before.told log.now.told (Finds log.path found gate)
+
+-- What loading counts: no lookup or link of a listing. Where no log is asked for no line is found,
+-- and nothing is counted.
+abbrev pub LoadCounts : Option LogSeen → List Bytes → Counts → Counts → Type 0
+LoadCounts None found counted loaded = (found ≡ []) × (loaded ≡ counted)
+LoadCounts (Some log) found counted loaded = loaded.listing ≡ counted.listing
+
+-- The state to start from, and what was counted until then: the lines found, loaded one after
+-- another into a machine in which nothing has happened, give its store, and nothing else of it.
+pub record Begins (log : Option LogSeen) (found : List Bytes) (counted : Counts) (start : State) (loaded : Counts)
+    : Type 0 where
+  pub loads : Loads opening.store found start.store
+  pub fresh : start ≡ record opening { store = start.store }
+  pub counts : LoadCounts log found counted loaded
+
+-- Of the file at the path nothing was written: it wasn't asked for; or it was, and no more; or its
+-- journal was opened too.
+abbrev pub IsUnwritten : Bytes → History → History → Type 0
+IsUnwritten path old new = (new ≡ old) ⊎ ((new ≡ asked_for path old) ⊎ (new ≡ after_sync (asked_for path old)))
+
+-- A journal was to be made, in a file without bytes.
+pub record IsUnmade (path : Bytes) (old new : History) : Type 0 where
+  pub empty : old.file.bytes ≡ []
+  pub paths : new.paths ≡ old.paths ++ path ∷ []
+
+-- What is left of the file where its lines weren't loaded: all that it was; or what failed to become
+-- a journal; or one without lines, that was made.
+abbrev pub LeavesUnloaded : Bytes → History → History → Type 0
+LeavesUnloaded path old new = IsUnwritten path old new ⊎ (IsUnmade path old new ⊎ Finds path [] 8 old new)
+
+-- the file doesn't begin as a journal does; the place is its first
+abbrev pub HasNoHeader : ℕ → History → Type 0
+HasNoHeader at h = (at ≡ 0) × ((rest : List ℕ) → h.file.bytes ≡ header ++ rest → ⊥)
+
+-- The line at a place, behind lines that give this store, is refused there.
+pub record IsRefusedAt (at : ℕ) (found : List Bytes) (store : Store) (told : Option History) : Type 0 where
+  pub line : Bytes
+  pub same : Store
+  pub refuses : LoadStep store line refused same
+  pub stands : IfSome told (λ h. (behind : ℕ) × IsAt (found ++ line ∷ []) behind h.file)
+
+-- The lines before a place are loaded, and there the file is bad, or its line is refused.
+pub record IsBadBehind (at : ℕ) (told : Option History) : Type 0 where
+  pub found : List Bytes
+  pub store : Store
+  pub loads : Loads opening.store found store
+  pub stands : IfSome told (λ h. IsAt found at h.file)
+  pub bad : IfSome told (λ h. IsBad (drop at h.file.bytes)) ⊎ IsRefusedAt at found store told
+
+-- Why a log is bad from this place on, as far as its file is told.
+abbrev pub IsBadFrom : ℕ → Option History → Type 0
+IsBadFrom at told = IfSome told (HasNoHeader at) ⊎ IsBadBehind at told
+
+-- The causes of the statuses with which loading ends, by the count of the disk's faults before.
+abbrev pub UnloadedFor : Status → ℕ → DiskSeen → Type 0
+UnloadedFor DiskFault faults now = Counted faults now.faults
+UnloadedFor (BadLog at) faults now = (now.faults ≡ faults) × IsBadFrom at now.told
+UnloadedFor NoMemory faults now = now.faults ≡ faults
+UnloadedFor _ faults now = ⊥
+
+-- The log wasn't loaded to its end: the disk failed, the log is bad, or memory was wanted. No lookup
+-- or link of a listing was counted.
+pub record Unloaded (log : LogSeen) (status : Status) (counted counted' : Counts) : Type 0 where
+  pub caused : UnloadedFor status log.before.faults log.now
+  pub leaves : WhereTold log.before.told log.now.told (LeavesUnloaded log.path)
+  pub unlisted : counted'.listing ≡ counted.listing
+
+-- So nothing began; without a log memory was wanted, before anything was done.
+abbrev pub NeverBegins : Option LogSeen → Status → Counts → Counts → Type 0
+NeverBegins None status counted counted' = (status ≡ NoMemory) × (counted' ≡ counted)
+NeverBegins (Some log) status counted counted' = Unloaded log status counted counted'

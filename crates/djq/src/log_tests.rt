@@ -1,0 +1,209 @@
+ghost use Rattle.std.specs.Prelude.{◌≡◌};
+
+use crate::program::run_program;
+use djq_disk::{DiskCall, DiskDid, MemDisk};
+use djq_io::{MemHub, MemSink, MemSource};
+use djq_run::Status;
+use djq_steps::{Blanks, Ledgers, Steps};
+use std::marker::Brand;
+use std::test::Fail;
+
+/// Three lines that are kept, and one that isn't.
+const ROW: &[u8] = b"open 1\nsay 1 rel r int\nsay 1 add r 7\nsay 1 add r 7\nsay 1 del r 9\n";
+
+/// What they are answered.
+const ROW_LINES: &[u8] = b"1< ok\n1< ok added 1 1\n1< ok added 1 2\n1< ok absent 1\n";
+
+/// The file behind them.
+const ROW_FILE: &[u8] = b"DJQLOG1\n\x01\0\x09rel r int\x01\0\x07add r 7\x01\0\x07add r 7\0";
+
+/// Lines whose answers tell how many lines of the row were found.
+const PROBE: &[u8] = b"open 1\nsay 1 del r 7\nsay 1 del r 7\nsay 1 del r 7\n";
+
+/// These answers, by that number.
+const PROBED: [&[u8]; 4] = [
+    b"1< err 3 no relation\n1< err 3 no relation\n1< err 3 no relation\n",
+    b"1< ok absent 0\n1< ok absent 0\n1< ok absent 0\n",
+    b"1< ok removed 2 0\n1< ok absent 2\n1< ok absent 2\n",
+    b"1< ok removed 1 1\n1< ok removed 2 0\n1< ok absent 2\n",
+];
+
+fn counted<L: Ledgers>(
+    rt: &HostRuntime,
+    blanks: Blanks,
+    schedule: Vec<u8>,
+    sink: &mut MemSink,
+    disk: &mut MemDisk,
+) -> Status
+    requires listing { blanks.listing.name ≡ L.listing }
+    requires update { blanks.update.name ≡ L.update }
+    requires rows { blanks.rows.name ≡ L.rows }
+{
+    let mut hub = MemHub::new(rt.alloc());
+    let mut source = MemSource::new(schedule, 8192);
+    let mut steps = Steps::<L>::new(rt, blanks);
+    let words = ["djq", "replay", "--log", "j"];
+    run_program(
+        rt.alloc(),
+        &words,
+        &mut source,
+        sink,
+        &mut hub,
+        disk,
+        &mut steps,
+    )
+}
+
+/// Replays a schedule with the log on the disk, and gives the status and what was written.
+fn replay_logged(
+    rt: &HostRuntime,
+    disk: &mut MemDisk,
+    schedule: &[u8],
+) -> Result<(Status, Vec<u8>), Fail> {
+    let mut sink = MemSink::new(rt.alloc());
+    let schedule = schedule.to_vec(rt.alloc())?;
+    let status = counted::<Brand>(rt, Blanks::new(rt), schedule, &mut sink, disk);
+    let taken = sink.taken().ok_or("the record is lost")?;
+    Ok((status, taken.to_vec(rt.alloc())?))
+}
+
+/// The file of the row with one byte set.
+fn row_file(rt: &HostRuntime, place: usize, byte: u8) -> Result<Vec<u8>, Fail> {
+    let mut bytes = ROW_FILE.to_vec(rt.alloc())?;
+    if let Some(slot) = bytes.get_mut(place) {
+        *slot = byte;
+    }
+    Ok(bytes)
+}
+
+#[test]
+fn a_log_keeps_what_changes_rows(rt: HostRuntime) -> Result<(), Fail> {
+    let mut disk = MemDisk::of(rt.alloc(), b"")?;
+    let (status, lines) = replay_logged(&rt, &mut disk, ROW)?;
+    assert_eq!(rt; status, Status::Done);
+    assert_eq!(rt; lines.as_slice(), ROW_LINES);
+    assert_eq!(rt; disk.bytes(), ROW_FILE);
+    let (status, lines) = replay_logged(&rt, &mut disk, b"open 1\nsay 1 del r 7")?;
+    assert_eq!(rt; status, Status::Done);
+    assert_eq!(rt; lines.as_slice(), b"1< ok removed 1 1\n".as_slice());
+    Ok(())
+}
+
+/// A closed gate ends the list of lines; a length past the end of the file is no line.
+#[test]
+fn a_log_with_a_byte_set_is_empty_or_bad(rt: HostRuntime) -> Result<(), Fail> {
+    let rows = [
+        (8, 0, Status::Done, b"1< err 3 no relation\n".as_slice()),
+        (10, 255, Status::BadLog(8), b""),
+        (7, 0, Status::BadLog(0), b""),
+        (11, b'x', Status::BadLog(8), b""),
+        (30, 4, Status::Done, b"1< ok removed 2 0\n"),
+    ];
+    for (place, byte, wanted, text) in rows {
+        let mut disk = MemDisk::of(rt.alloc(), &row_file(&rt, place, byte)?)?;
+        let (status, lines) = replay_logged(&rt, &mut disk, b"open 1\nsay 1 del r 7")?;
+        assert_eq!(rt; status, wanted, "byte {place}");
+        assert_eq!(rt; lines.as_slice(), text, "byte {place}");
+    }
+    Ok(())
+}
+
+/// How many lines of the row were found on a disk with these bytes, or `None` where it is none of
+/// these numbers.
+fn lines_found(rt: &HostRuntime, bytes: &[u8]) -> Result<Option<u64>, Fail> {
+    let mut disk = MemDisk::of(rt.alloc(), bytes)?;
+    let (_, lines) = replay_logged(rt, &mut disk, PROBE)?;
+    let mut found = 0u64;
+    for probed in PROBED {
+        if probed == lines.as_slice() {
+            return Ok(Some(found));
+        }
+        found = found.saturating_add(1);
+    }
+    Ok(None)
+}
+
+/// How many syncs were done.
+fn syncs(calls: &[DiskCall]) -> u64 {
+    let mut done = 0u64;
+    for call in calls {
+        if let DiskCall::Syncing(DiskDid::Done) = call {
+            done = done.saturating_add(1);
+        }
+    }
+    done
+}
+
+/// The bytes behind these calls, with what was written since the last sync or without it.
+fn image(rt: &HostRuntime, calls: &[DiskCall], unsynced: bool) -> Result<Vec<u8>, Fail> {
+    let all = syncs(calls);
+    let mut done = 0u64;
+    let mut bytes = Vec::new(rt.alloc());
+    for call in calls {
+        match call {
+            DiskCall::Writing(at, piece, _) => {
+                if unsynced || done < all {
+                    put(&mut bytes, *at as usize, piece.as_slice())?;
+                }
+            }
+            DiskCall::Syncing(DiskDid::Done) => done = done.saturating_add(1),
+            _ => {}
+        }
+    }
+    Ok(bytes)
+}
+
+/// Writes a piece into bytes, behind zeros where they ended earlier.
+fn put(bytes: &mut Vec<u8>, at: usize, piece: &[u8]) -> Result<(), Fail> {
+    for (i, byte) in piece.iter().enumerate() {
+        let place = at.saturating_add(i);
+        if bytes.len() <= place {
+            bytes.resize(place.saturating_add(1), 0)?;
+        }
+        if let Some(slot) = bytes.get_mut(place) {
+            *slot = *byte;
+        }
+    }
+    Ok(())
+}
+
+/// Two syncs make and open the journal, and two more keep each line, behind which it is answered. A
+/// stop leaves whole lines, all that were answered and at most one more.
+#[test]
+fn a_stop_at_each_call_leaves_what_was_answered(rt: HostRuntime) -> Result<(), Fail> {
+    let mut disk = MemDisk::of(rt.alloc(), b"")?;
+    let (status, _) = replay_logged(&rt, &mut disk, ROW)?;
+    assert_eq!(rt; status, Status::Done);
+    let calls = disk.calls().ok_or("the record is lost")?;
+    assert!(rt; syncs(calls) == 8);
+    for n in 0..calls.len() {
+        let answered = syncs(&calls[..n]).saturating_sub(2) / 2;
+        for unsynced in [false, true] {
+            let bytes = image(&rt, &calls[..n], unsynced)?;
+            let found = lines_found(&rt, &bytes)?.ok_or("the log is bad")?;
+            assert!(rt;
+                answered <= found && found <= answered.saturating_add(1),
+                "at {n}"
+            );
+        }
+    }
+    Ok(())
+}
+
+/// Where a call fails nothing is answered that isn't kept, and all that was answered is found.
+#[test]
+fn a_call_that_fails_ends_the_program(rt: HostRuntime) -> Result<(), Fail> {
+    for n in 1..40 {
+        let mut disk = MemDisk::of(rt.alloc(), b"")?;
+        disk.fail_at(n)?;
+        let (status, lines) = replay_logged(&rt, &mut disk, ROW)?;
+        let made = disk.calls().ok_or("the record is lost")?.len();
+        let failed = n <= made as u64;
+        assert!(rt; (status == Status::DiskFault) == failed, "at {n}");
+        assert!(rt; ROW_LINES.starts_with(lines.as_slice()), "at {n}");
+        let answered = lines.iter().filter(|byte| **byte == b'\n').count() as u64;
+        let found = lines_found(&rt, disk.bytes())?.ok_or("the log is bad")?;
+        assert!(rt; answered.min(3) <= found, "at {n}");
+    }
+    Ok(())
+}

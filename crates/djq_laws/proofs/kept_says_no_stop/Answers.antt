@@ -1,0 +1,5 @@
+use Rattle.djq_laws.proofs.Stopping.{kept_says_no_stop}
+use Rattle.djq_laws.proofs.kept_says_no_stop.Goals as goal
+
+pub returns : goal.returns
+returns c = kept_says_no_stop

@@ -1,0 +1,108 @@
+-- What is kept of the groups of lines that the machine's steps keep.
+use Rattle.std.specs.Prelude.{ℕ, List, [], ◌∷◌, ◌++◌, ◌≡◌, Option, None, Some, All}
+use Rattle.djq_io.specs.Faults.{Counted}
+use Rattle.djq_io.specs.declared.hub.Told.{Told}
+use Rattle.djq_io.specs.declared.hub.Told.TheVariants.{Closing}
+use Rattle.djq_disk.specs.History.{History, WhereTold}
+use Rattle.djq_journal.specs.Keeping.{WasKeeping}
+use Rattle.djq_journal.specs.Logging.{HasKept, Overfull}
+use Rattle.djq_model.specs.Data.{Bytes}
+use Rattle.djq_machine.specs.State.{State}
+use Rattle.djq_machine.specs.Step.{Event, closed}
+use Rattle.djq_machine.specs.Run.{Did, Group, groups_of}
+use Rattle.djq_machine.specs.Call.{Counts}
+use Rattle.djq_serve.specs.declared.served.Served.{Served}
+use Rattle.djq_serve.specs.declared.served.Served.TheVariants.{Stopped, Over, TurnsUsed, HubFault, DiskFault, LogFull}
+use Rattle.djq_serve.specs.Told.{Shown}
+use Rattle.djq_serve.specs.Server.{Move, all_told, all_done}
+use Rattle.djq_serve.specs.Ends.{ServeEnds}
+
+-- All these groups are kept behind those that were, whatever they were and since whenever.
+abbrev pub AllKept : Option ℕ → Option ℕ → List Group → Option History → Option History → Type 0
+AllKept gate gate' groups old new = WhereTold old new (λ a b. (found : List Bytes) (had : List Group) (start : History)
+    → HasKept gate found had start a → HasKept gate' found (had ++ groups) start b)
+
+-- All but the last are kept. The disk failed as that was to be, so a stop leaves it whole or not at all.
+pub record LastLost (gate : Option ℕ) (groups : List Group) (old new : Option History) : Type 0 where
+  pub whole : List Group
+  pub last : Group
+  pub cut : groups ≡ whole ++ last ∷ []
+  pub kept : WhereTold old new (λ a b. (found : List Bytes) (had : List Group) (start : History)
+      → HasKept gate found had start a → WasKeeping found (had ++ whole) last start b)
+
+-- All but the last are kept, for which the journal has no room.
+pub record LastLeft (gate : Option ℕ) (groups : List Group) (old new : Option History) : Type 0 where
+  pub whole : List Group
+  pub last : Group
+  pub cut : groups ≡ whole ++ last ∷ []
+  pub gate' : Option ℕ
+  pub full : Overfull gate' last
+  pub kept : AllKept gate gate' whole old new
+
+-- what is kept, by the answer; none where serving goes on
+abbrev pub KeepsBy : Option Served → Option ℕ → Option ℕ → List Group → Option History → Option History → Type 0
+KeepsBy None gate gate' groups old new = AllKept gate gate' groups old new
+KeepsBy (Some Stopped) gate gate' groups old new = AllKept gate gate' groups old new
+KeepsBy (Some Over) gate gate' groups old new = AllKept gate gate' groups old new
+KeepsBy (Some TurnsUsed) gate gate' groups old new = AllKept gate gate' groups old new
+KeepsBy (Some HubFault) gate gate' groups old new = AllKept gate gate' groups old new
+KeepsBy (Some DiskFault) gate gate' groups old new = LastLost gate groups old new
+KeepsBy (Some LogFull) gate gate' groups old new = LastLeft gate groups old new
+
+-- The disk's count of faults rises where the answer says so, and stays elsewhere.
+abbrev pub DiskCounts : Option Served → ℕ → ℕ → Type 0
+DiskCounts (Some DiskFault) before now = Counted before now
+DiskCounts _ before now = now ≡ before
+
+-- answers that don't come of the disk
+abbrev pub IsPlain : Served → Type 0
+IsPlain DiskFault = ⊥
+IsPlain LogFull = ⊥
+IsPlain _ = Unit {0}
+
+-- so for a turn, which may end nothing
+abbrev pub IsPlainTurn : Option Served → Type 0
+IsPlainTurn None = Unit {0}
+IsPlainTurn (Some answer) = IsPlain answer
+
+-- a call of the hub that closes a session
+abbrev pub IsClose : Told → Type 0
+IsClose (Closing s) = Unit {0}
+IsClose _ = ⊥
+
+-- an event of the machine by which one is closed
+abbrev pub IsClosed : Event → Type 0
+IsClosed (closed s bytes) = Unit {0}
+IsClosed _ = ⊥
+
+-- **What isn't kept isn't answered.** The last group is that of one move's step. From this move on the
+-- hub is asked for nothing but to close sessions, and behind it the machine makes no other step. So
+-- nothing is sent any more, no turn is taken and no line is run.
+pub record Unanswered (last : Group) (moves : List Move) : Type 0 where
+  pub before : List Move
+  pub step : Move
+  pub behind : List Move
+  pub cut : moves ≡ before ++ step ∷ behind
+  pub keeps : groups_of step.done ≡ last ∷ []
+  pub told : All IsClose (all_told (step ∷ behind))
+  pub done : All (λ (d : Did). IsClosed d.event) (all_done behind)
+
+-- So it is where the disk ends the serving.
+abbrev pub Silent : Served → Group → List Move → Type 0
+Silent DiskFault last moves = Unanswered last moves
+Silent LogFull last moves = Unanswered last moves
+Silent _ last moves = Unit {0}
+
+-- What the moves kept last, where the disk ends the serving, is silent.
+abbrev pub UnkeptIsSilent : Served → List Move → Type 0
+UnkeptIsSilent answer moves = (whole : List Group) (last : Group)
+    → groups_of (all_done moves) ≡ whole ++ last ∷ [] → Silent answer last moves
+
+-- **How serving with a log ends.** As without one; and of the groups of lines that the steps kept,
+-- in order, all are in the log; or all but the last, and to that nothing was answered.
+pub record ServeLogs (answer : Served) (turns : ℕ) (hub : Shown) (counted : Counts) (old : State)
+    (hub' : Shown) (counted' : Counts) (new : State) (gate gate' : Option ℕ)
+    (disk disk' : Option History) : Type 0 where
+  pub ends : ServeEnds answer turns hub counted old hub' counted' new
+  pub kept : KeepsBy (Some answer) gate gate' (groups_of (all_done ends.goes.moves)) disk disk'
+  pub silent : UnkeptIsSilent answer ends.goes.moves

@@ -1,0 +1,5 @@
+use Rattle.djq_union.proofs.Fitting.{union_contains}
+use Rattle.djq_union.proofs.a_union_gives_what_its_members_give.Goals as goal
+
+pub returns : goal.returns
+returns g c = union_contains g.M.Listing.has g.M.Listing.given g.M.Listing.fits

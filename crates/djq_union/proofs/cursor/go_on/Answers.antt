@@ -1,0 +1,11 @@
+use Rattle.djq_union.proofs.Fitting.{member_starts}
+use Rattle.djq_union.proofs.cursor.go_on.Goals as goal
+
+pub returns-in-None-clause-goes : goal.returns-in-None-clause-goes
+returns-in-None-clause-goes g c =
+    let l = g.M.Listing in
+    let begun = c.start-begun.result in
+    let made = c.advance-more.ensures in
+    member_starts l.has l.given l.fits c.args.member.now c.args.state.now begun c.advance-more.new.state
+    c.advance-more.result c.advance-more.new.out c.in-None.is c.start-begun.ensures.none made.fits made.one
+    made.same made.answers made.end

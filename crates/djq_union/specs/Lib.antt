@@ -1,0 +1,5 @@
+pub mod Answers
+pub mod Order
+pub mod Union
+pub mod Going
+pub mod Steps
