@@ -162,4 +162,4 @@ EndsAs (Some (Gen n seed)) status before hub disk now hub' disk' =
 abbrev pub ProgramEnds : Status → List Bytes → Outside → HubSeen → DiskSeen → Outside → HubSeen → DiskSeen → Type 0
 ProgramEnds status words before hub disk now hub' disk' =
     ((asked : Option Asked) × Answers words asked × EndsAs asked status before hub disk now hub' disk')
-    ⊎ ((status ≡ NoMemory) × (now ≡ before) × (hub' ≡ hub))
+    ⊎ ((status ≡ NoMemory) × (now ≡ before) × (hub' ≡ hub) × (disk' ≡ disk))

@@ -11,7 +11,7 @@ use Rattle.djq_laws.specs.Course.{Does, last_write}
 use Rattle.djq_laws.proofs.Courses.{does_well}
 use Rattle.djq_laws.proofs.Heading.{headline}
 use Rattle.djq_run.specs.declared.status.Status.{Status}
-use Rattle.djq_run.specs.declared.status.Status.TheVariants.{Done, Usage, ReadFault, WriteFault, HubFault, TurnsUsed, NoMemory, Schedule, SessionEnded, DiskFault, LogFull, BadLog}
+use Rattle.djq_run.specs.declared.status.Status.TheVariants.{Done, Usage, ReadFault, WriteFault, HubFault, TurnsUsed, NoMemory, Schedule, SessionEnded, DiskFault, LogFull, BadLog, Mirror}
 use Rattle.djq_run.specs.Ends.{is_write_fault}
 use Rattle.djq_run.specs.LastWrite.{FailedWriteIsLast}
 
@@ -60,6 +60,7 @@ is_fault SessionEnded e = cc
 is_fault DiskFault e = cc
 is_fault LogFull e = cc
 is_fault (BadLog at) e = cc
+is_fault (Mirror n) e = cc
 
 -- a write failed behind all that was done
 at_last : (failed : Bool) (writes earlier : List Write) (w : Write) (later : List Write) (state : State)

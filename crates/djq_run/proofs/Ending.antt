@@ -21,7 +21,7 @@ use Rattle.djq_laws.specs.Course.{Outside, Course, AwaitsInput}
 use Rattle.djq_laws.proofs.Moving.{Comes, is_held, out_of_memory, is_dropped, Ends, input_ends, had_ended}
 use Rattle.djq_laws.proofs.Courses.{course_then, course_then_done, course_then_failed}
 use Rattle.djq_run.specs.declared.status.Status.{Status}
-use Rattle.djq_run.specs.declared.status.Status.TheVariants.{Done, Usage, ReadFault, HubFault, TurnsUsed, NoMemory, Schedule, SessionEnded, DiskFault, LogFull, BadLog, WriteFault as StatusWriteFault}
+use Rattle.djq_run.specs.declared.status.Status.TheVariants.{Done, Usage, ReadFault, HubFault, TurnsUsed, NoMemory, Schedule, SessionEnded, DiskFault, LogFull, BadLog, Mirror, WriteFault as StatusWriteFault}
 use Rattle.djq_run.specs.declared.session.Served.{Served}
 use Rattle.djq_run.specs.declared.session.Served.TheVariants.{AwaitsInput as Waiting, Ended, WriteFault}
 use Rattle.djq_run.specs.Ends.{Awaits, IsAtEnd, IsWellEnded, EndedBy, IsCutOff, Stands, ReadsCount, WritesCount, RunEnds}
@@ -144,6 +144,7 @@ stands_more (Schedule k) fed fed' reading st more h = h
 stands_more DiskFault fed fed' reading st more h = h
 stands_more LogFull fed fed' reading st more h = h
 stands_more (BadLog at) fed fed' reading st more h = h
+stands_more (Mirror n) fed fed' reading st more h = h
 
 -- The source is as it was at its end.
 pub still_at_end : (reading reading' : Option Reading) → IsAtEnd reading → reading' ≡ reading → IsAtEnd reading'

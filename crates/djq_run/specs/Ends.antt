@@ -12,7 +12,7 @@ use Rattle.djq_machine.specs.Call.{cause_of, held_of}
 use Rattle.djq_laws.specs.declared.limits.TheConstants.{MOST_READS}
 use Rattle.djq_laws.specs.Course.{Outside, Course, AwaitsInput}
 use Rattle.djq_run.specs.declared.status.Status.{Status}
-use Rattle.djq_run.specs.declared.status.Status.TheVariants.{Done, Usage, ReadFault, WriteFault, HubFault, TurnsUsed, NoMemory, Schedule, SessionEnded, DiskFault, LogFull, BadLog}
+use Rattle.djq_run.specs.declared.status.Status.TheVariants.{Done, Usage, ReadFault, WriteFault, HubFault, TurnsUsed, NoMemory, Schedule, SessionEnded, DiskFault, LogFull, BadLog, Mirror}
 
 -- Nothing is pending for the session, no line of it can be run, and it has no end cause.
 abbrev pub Awaits : State → Type 0
@@ -63,6 +63,7 @@ Stands (Schedule n) fed reading st = ⊥
 Stands DiskFault fed reading st = ⊥
 Stands LogFull fed reading st = ⊥
 Stands (BadLog at) fed reading st = ⊥
+Stands (Mirror n) fed reading st = ⊥
 
 -- The first fault of the source ends the run with its status; under every other status there was
 -- none.

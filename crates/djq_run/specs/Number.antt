@@ -1,7 +1,7 @@
 -- The numbers of statuses.
 use Rattle.std.specs.Prelude.{ℕ}
 use Rattle.djq_run.specs.declared.status.Status.{Status}
-use Rattle.djq_run.specs.declared.status.Status.TheVariants.{Done, Usage, ReadFault, WriteFault, HubFault, TurnsUsed, NoMemory, Schedule, SessionEnded, DiskFault, LogFull, BadLog}
+use Rattle.djq_run.specs.declared.status.Status.TheVariants.{Done, Usage, ReadFault, WriteFault, HubFault, TurnsUsed, NoMemory, Schedule, SessionEnded, DiskFault, LogFull, BadLog, Mirror}
 
 -- The number with which the process ends.
 abbrev pub number_of : Status → ℕ
@@ -17,3 +17,4 @@ number_of SessionEnded = 8
 number_of DiskFault = 9
 number_of LogFull = 10
 number_of (BadLog at) = 11
+number_of (Mirror n) = 12

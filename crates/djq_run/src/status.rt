@@ -28,6 +28,8 @@ pub enum Status {
     LogFull,
     /// 11: the file isn't a log that can be loaded, from this place in it on.
     BadLog(u64),
+    /// 12: this line of what a session was sent, counted from 1, isn't one that a mirror can follow.
+    Mirror(u64),
 }
 
 impl Status {
@@ -48,6 +50,7 @@ impl Status {
             Status::DiskFault => 9,
             Status::LogFull => 10,
             Status::BadLog(_) => 11,
+            Status::Mirror(_) => 12,
         }
     }
 }

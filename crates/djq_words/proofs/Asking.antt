@@ -9,10 +9,11 @@ use Rattle.clap.specs.Words.{Text, Row, is_simple, is_simple_and_free, fault_of,
 use Rattle.clap.specs.declared.error.Error.{Error}
 use Rattle.clap.specs.declared.error.ErrorKind.TheVariants.{OutOfMemory}
 use Rattle.clap.proofs.OnLiterals.{clap_on_literals}
+use Rattle.djq_value.specs.Literal.{is_name}
 use Rattle.djq_words.specs.declared.commands.Asked.{Asked}
-use Rattle.djq_words.specs.declared.commands.Asked.TheVariants.{Run, Serve, Replay, Gen}
+use Rattle.djq_words.specs.declared.commands.Asked.TheVariants.{Run, Serve, Replay, Gen, Mirror}
 use Rattle.djq_words.specs.Commands.{djq_app}
-use Rattle.djq_words.specs.Asks.{Spells, ReadsAs, TurnsAre, IsGiven, IsRead, IsAsked, AskedBy, ServeAsked, GenAsked, Answers}
+use Rattle.djq_words.specs.Asks.{Spells, ReadsAs, TurnsAre, IsGiven, IsRead, IsAsked, AskedBy, ServeAsked, GenAsked, MirrorAsked, Answers}
 
 pub simple : is_simple djq_app ≡ true
 unfolding clap_on_literals
@@ -55,12 +56,25 @@ gen_not_run e = let n = ap (λ (bs : Text). slice_index bs 0) e in absurd (omega
 gen_not_replay : codes "gen" ≡ codes "replay" → ⊥
 gen_not_replay e = let n = ap length e in absurd (omega (arith, n))
 
+mirror_not_run : codes "mirror" ≡ codes "run" → ⊥
+mirror_not_run e = let n = ap length e in absurd (omega (arith, n))
+
+mirror_not_serve : codes "mirror" ≡ codes "serve" → ⊥
+mirror_not_serve e = let n = ap length e in absurd (omega (arith, n))
+
+mirror_not_replay : codes "mirror" ≡ codes "replay" → ⊥
+mirror_not_replay e = let n = ap (λ (bs : Text). slice_index bs 0) e in absurd (omega (arith, n))
+
+mirror_not_gen : codes "mirror" ≡ codes "gen" → ⊥
+mirror_not_gen e = let n = ap length e in absurd (omega (arith, n))
+
 -- what `serve` was given asks for nothing
 pub none_asked : (rows : List Row) → ((addr : Text) (n : ℕ) → first_of (codes "ADDR") rows ≡ Some addr → TurnsAre (first_of (codes "turns") rows) n → ⊥) → ServeAsked rows None
 none_asked rows h Run asks = serve_not_run asks
 none_asked rows h (Serve addr n log) asks = h addr.now n asks.1 asks.2
 none_asked rows h (Replay log) asks = serve_not_replay asks.0
 none_asked rows h (Gen n seed) asks = serve_not_gen asks.0
+none_asked rows h (Mirror query) asks = mirror_not_serve (sym asks.0)
 
 pub no_addr : (rows : List Row) → first_of (codes "ADDR") rows ≡ None → ServeAsked rows None
 no_addr rows none = none_asked rows (λ addr n given turns. absurd (none_some (sym none ∙ given)))
@@ -83,6 +97,16 @@ gen_asks_none rows h Run asks = gen_not_run asks
 gen_asks_none rows h (Serve addr n log) asks = serve_not_gen (sym asks.0)
 gen_asks_none rows h (Replay log) asks = gen_not_replay asks.0
 gen_asks_none rows h (Gen n seed) asks = h n seed asks.1 asks.2
+gen_asks_none rows h (Mirror query) asks = mirror_not_gen (sym asks.0)
+
+-- what `mirror` was given asks for nothing, where it is no name
+pub mirror_asks_none : (rows : List Row) → ((query : Text) → first_of (codes "Q") rows ≡ Some query
+    → is_name query ≡ true → ⊥) → MirrorAsked rows None
+mirror_asks_none rows h Run asks = mirror_not_run asks
+mirror_asks_none rows h (Serve addr n log) asks = mirror_not_serve asks.0
+mirror_asks_none rows h (Replay log) asks = mirror_not_replay asks.0
+mirror_asks_none rows h (Gen n seed) asks = mirror_not_gen asks.0
+mirror_asks_none rows h (Mirror query) asks = h query.now asks.1 asks.2
 
 pub none_read : (o : Option Text) → o ≡ None → IsRead o None
 none_read o e n h = subst (λ (k : Option Text). IsGiven k n) e h
@@ -133,11 +157,12 @@ not_spelled text m h other n spells =
     absurd (other (spells.1 ∙ ap (λ k. decimal k) same))
 
 -- another name asks for nothing
-pub other_asked : (name : Text) (rows : List Row) → name ≢ codes "run" → name ≢ codes "serve" → name ≢ codes "replay" → name ≢ codes "gen" → AskedBy (Some (name, rows)) None
-other_asked name rows run serve replay generate Run asks = absurd (run asks)
-other_asked name rows run serve replay generate (Serve addr n log) asks = absurd (serve asks.0)
-other_asked name rows run serve replay generate (Replay log) asks = absurd (replay asks.0)
-other_asked name rows run serve replay generate (Gen n seed) asks = absurd (generate asks.0)
+pub other_asked : (name : Text) (rows : List Row) → name ≢ codes "run" → name ≢ codes "serve" → name ≢ codes "replay" → name ≢ codes "gen" → name ≢ codes "mirror" → AskedBy (Some (name, rows)) None
+other_asked name rows run serve replay generate mirror Run asks = absurd (run asks)
+other_asked name rows run serve replay generate mirror (Serve addr n log) asks = absurd (serve asks.0)
+other_asked name rows run serve replay generate mirror (Replay log) asks = absurd (replay asks.0)
+other_asked name rows run serve replay generate mirror (Gen n seed) asks = absurd (generate asks.0)
+other_asked name rows run serve replay generate mirror (Mirror query) asks = absurd (mirror asks.0)
 
 -- what a parse found, by its name and its rows
 pub found_is : {A : Type 0} (f : A → Text) (g : A → List Row) (x : Option A) (name : Text) (rows : List Row)

@@ -1,10 +1,11 @@
 -- What the words of a command line ask for.
-use Rattle.std.specs.Prelude.{ℕ, List, [], ◌≡◌, ◌<◌, ◌^◌, Option, None, Some, IsSomeAnd, codes, decimal}
+use Rattle.std.specs.Prelude.{ℕ, List, [], ◌≡◌, ◌<◌, ◌^◌, true, Option, None, Some, IsSomeAnd, codes, decimal}
 use Rattle.std.specs.Option.{option_map}
 use Rattle.std.specs.Borrow.{Bor}
 use Rattle.clap.specs.Words.{Text, Row, fault_of, first_of, subcommand_of}
+use Rattle.djq_value.specs.Literal.{is_name}
 use Rattle.djq_words.specs.declared.commands.Asked.{Asked}
-use Rattle.djq_words.specs.declared.commands.Asked.TheVariants.{Run, Serve, Replay, Gen}
+use Rattle.djq_words.specs.declared.commands.Asked.TheVariants.{Run, Serve, Replay, Gen, Mirror}
 use Rattle.djq_words.specs.declared.commands.TheConstants.{MOST_TURNS}
 use Rattle.djq_words.specs.Commands.{djq_app}
 
@@ -45,6 +46,8 @@ IsAsked c (Serve addr turns log) = (c.0 ≡ codes "serve") × (first_of (codes "
 IsAsked c (Replay log) = (c.0 ≡ codes "replay") × (first_of (codes "log") c.1 ≡ path_of log)
 IsAsked c (Gen n seed) = (c.0 ≡ codes "gen") × IsGiven (first_of (codes "N") c.1) n
     × IsGiven (first_of (codes "SEED") c.1) seed
+IsAsked c (Mirror query) = (c.0 ≡ codes "mirror") × (first_of (codes "Q") c.1 ≡ Some query.now)
+    × (is_name query.now ≡ true)
 
 -- What is asked for, where something is.
 abbrev pub AskedBy : Option (Text × List Row) → Option Asked → Type 0
@@ -59,6 +62,10 @@ ServeAsked rows asked = AskedBy (Some (codes "serve", rows)) asked
 -- What `gen` asks for, by what it was given.
 abbrev pub GenAsked : List Row → Option Asked → Type 0
 GenAsked rows asked = AskedBy (Some (codes "gen", rows)) asked
+
+-- What `mirror` asks for, by what it was given.
+abbrev pub MirrorAsked : List Row → Option Asked → Type 0
+MirrorAsked rows asked = AskedBy (Some (codes "mirror", rows)) asked
 
 -- `clap` takes the words for the command set, and the command that they name asks for this.
 abbrev pub Asks : List Text → Asked → Type 0

@@ -37,6 +37,13 @@ seed_rule = record (new_rule (codes "SEED"))
 abbrev pub gen_app : App
 gen_app = with_rule (with_rule (new_app (codes "gen")) changes_rule) seed_rule
 
+-- `mirror Q`, whose query must be there
+abbrev pub query_rule : Rule
+query_rule = record (new_rule (codes "Q")) { required = true }
+
+abbrev pub mirror_app : App
+mirror_app = with_rule (new_app (codes "mirror")) query_rule
+
 -- the program, which has no help or version words, and wants one of its commands
 abbrev pub bare_app : App
 bare_app = let a = new_app (codes "djq") in
@@ -52,5 +59,5 @@ bare_app = let a = new_app (codes "djq") in
 
 -- the program with its commands
 abbrev pub djq_app : App
-djq_app = with_subcommand (with_subcommand (with_subcommand (with_subcommand bare_app (new_app (codes "run")).top)
-    serve_app.top) replay_app.top) gen_app.top
+djq_app = with_subcommand (with_subcommand (with_subcommand (with_subcommand (with_subcommand bare_app (new_app (codes "run")).top)
+    serve_app.top) replay_app.top) gen_app.top) mirror_app.top

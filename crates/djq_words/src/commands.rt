@@ -1,12 +1,13 @@
 ghost use Rattle.std.specs.Prelude.{◌≡◌, false, IfOk, map};
 ghost use Rattle.clap.specs.declared.builder.command.Command.TheViews.{out-Command as fields_of};
 ghost use Rattle.clap.specs.Words.{app_of, first_of, found_of, rows_of, subcommand_rows_of};
-ghost use Rattle.djq_words.specs.Commands.{serve_app, replay_app, gen_app, djq_app};
-ghost use Rattle.djq_words.specs.Asks.{AskedBy, ServeAsked, GenAsked, ReadsAs, IsRead, Answers};
+ghost use Rattle.djq_words.specs.Commands.{serve_app, replay_app, gen_app, mirror_app, djq_app};
+ghost use Rattle.djq_words.specs.Asks.{AskedBy, ServeAsked, GenAsked, MirrorAsked, ReadsAs, IsRead, Answers};
 
 use clap::builder::ValueParser;
 use clap::error::ErrorKind;
 use clap::{Arg, ArgMatches, Command};
+use djq_value::is_name;
 use itoa::Buffer;
 use std::alloc::{AllocError, Global};
 
@@ -31,6 +32,9 @@ pub enum Asked<'a> {
     Replay(Option<&'a str>),
     /// `gen N SEED`: a generated load of so many changes, from this seed.
     Gen(u32, u32),
+    /// `mirror Q`: the answers of the query of this name, by what a session was sent, which is read
+    /// from the source.
+    Mirror(&'a str),
 }
 
 /// The command `serve`.
@@ -69,6 +73,15 @@ fn gen_command<'a>(alloc: Global) -> Result<Command<'a>, AllocError>
     Command::new(alloc, "gen").arg(changes)?.arg(seed)
 }
 
+/// The command `mirror`.
+fn mirror_command<'a>(alloc: Global) -> Result<Command<'a>, AllocError>
+    ensures app { IfOk result (λ c. app_of c ≡ mirror_app) }
+    ensures local { IfOk result (λ c. (fields_of c).has_globals ≡ false) }
+{
+    let query = Arg::new(alloc, "Q").required(true);
+    Command::new(alloc, "mirror").arg(query)
+}
+
 /// The command set.
 fn djq_command<'a>(alloc: Global) -> Result<Command<'a>, AllocError>
     ensures app { IfOk result (λ c. app_of c ≡ djq_app) }
@@ -77,6 +90,7 @@ fn djq_command<'a>(alloc: Global) -> Result<Command<'a>, AllocError>
     let serve = serve_command(alloc)?;
     let replay = replay_command(alloc)?;
     let load = gen_command(alloc)?;
+    let mirror = mirror_command(alloc)?;
     let bare = Command::new(alloc, "djq")
         .disable_help_flag(true)
         .disable_version_flag(true)
@@ -85,7 +99,8 @@ fn djq_command<'a>(alloc: Global) -> Result<Command<'a>, AllocError>
     bare.subcommand(Command::new(alloc, "run"))?
         .subcommand(serve)?
         .subcommand(replay)?
-        .subcommand(load)
+        .subcommand(load)?
+        .subcommand(mirror)
 }
 
 /// What these words ask for, of which the first is the program's name, or `None` where they are no
@@ -117,6 +132,7 @@ fn asked_by<'a>(matches: &ArgMatches<'a>) -> Option<Asked<'a>>
         "serve" => serve_asked(inner),
         "replay" => Some(Asked::Replay(inner.get_str("log"))),
         "gen" => gen_asked(inner),
+        "mirror" => mirror_asked(inner),
         _ => None,
     }
 }
@@ -146,6 +162,18 @@ fn gen_asked<'a>(given: &ArgMatches<'a>) -> Option<Asked<'a>>
     match number_given(given, "SEED") {
         Some(seed) => Some(Asked::Gen(changes, seed)),
         None => None,
+    }
+}
+
+/// What `mirror` asks for, by what it was given: its query is a name.
+fn mirror_asked<'a>(given: &ArgMatches<'a>) -> Option<Asked<'a>>
+    ensures { MirrorAsked (rows_of (found_of given.now)) result }
+{
+    let query = given.get_str("Q")?;
+    if is_name(query.as_bytes()) {
+        Some(Asked::Mirror(query))
+    } else {
+        None
     }
 }
 

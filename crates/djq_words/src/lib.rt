@@ -11,6 +11,7 @@
 //! djq replay --log j          Asked::Replay(Some("j"))
 //! djq gen 5 1                 Asked::Gen(5, 1)
 //! djq gen 05 1                no command
+//! djq mirror q                Asked::Mirror("q")
 //! djq --help                  no command
 //! ```
 //!

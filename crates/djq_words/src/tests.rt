@@ -45,6 +45,13 @@ fn gen_has_a_number_and_a_seed(rt: HostRuntime) -> Result<(), Fail> {
 }
 
 #[test]
+fn a_mirror_has_the_name_of_a_query(rt: HostRuntime) -> Result<(), Fail> {
+    let asked = read_words(rt.alloc(), &["djq", "mirror", "q1"])?;
+    assert!(rt; matches!(asked, Some(Asked::Mirror("q1"))));
+    Ok(())
+}
+
+#[test]
 fn other_words_are_no_command(rt: HostRuntime) -> Result<(), Fail> {
     let lists = [
         [].as_slice(),
@@ -57,6 +64,9 @@ fn other_words_are_no_command(rt: HostRuntime) -> Result<(), Fail> {
         &["djq", "serve", "a:1", "--turns", "0"],
         &["djq", "serve", "a:1", "--turns", "+7"],
         &["djq", "serve", "a:1", "--turns", "01"],
+        &["djq", "mirror"],
+        &["djq", "mirror", "Q"],
+        &["djq", "mirror", "q", "r"],
         &["djq", "replay", "file"],
         &["djq", "replay", "--log"],
         &["djq", "replay", "--log", "j", "--log", "k"],

@@ -22,9 +22,14 @@ pub returns-in_default : goal.returns-in_default
 returns-in_default c =
     let rows = rows_of (found_of c.in_ok-name.inner.now) in
     asked_as _ _ _ (found_is _ _ _ c.in_ok-name.name.now rows c.in_ok-name.ensures.name c.in_ok-name.ensures.rows)
-    (other_asked c.in_ok-name.name.now rows c.in_default.not-run c.in_default.not-serve c.in_default.not-replay c.in_default.not-gen)
+    (other_asked c.in_ok-name.name.now rows c.in_default.not-run c.in_default.not-serve c.in_default.not-replay c.in_default.not-gen c.in_default.not-mirror)
 
 pub returns-in-gen : goal.returns-in-gen
 returns-in-gen c =
     let rows = rows_of (found_of c.in_ok-name.inner.now) in
     asked_as _ _ c.gen_asked.result (named rows (found_is _ _ _ c.in_ok-name.name.now rows c.in_ok-name.ensures.name c.in_ok-name.ensures.rows) c.in-gen.is) c.gen_asked.ensures
+
+pub returns-in-mirror : goal.returns-in-mirror
+returns-in-mirror c =
+    let rows = rows_of (found_of c.in_ok-name.inner.now) in
+    asked_as _ _ c.mirror_asked.result (named rows (found_is _ _ _ c.in_ok-name.name.now rows c.in_ok-name.ensures.name c.in_ok-name.ensures.rows) c.in-mirror.is) c.mirror_asked.ensures

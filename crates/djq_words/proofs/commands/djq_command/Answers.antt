@@ -11,7 +11,8 @@ returns-clause-app c =
     let run = c.in_ok-subcommand.ensures.shape c.new-2.ensures.local ∙ ap₂ with_subcommand bare (ap (λ (a : App). a.top) c.new-2.ensures.app) in
     let serve = c.in_ok-subcommand-2.ensures.shape c.in_ok-serve.ensures.local ∙ ap₂ with_subcommand run (ap (λ (a : App). a.top) c.in_ok-serve.ensures.app) in
     let replay = c.in_ok-subcommand-3.ensures.shape c.in_ok-replay.ensures.local ∙ ap₂ with_subcommand serve (ap (λ (a : App). a.top) c.in_ok-replay.ensures.app) in
-    IfOk-weaker c.subcommand-4.result _ _ (λ r h. h.shape c.in_ok-load.ensures.local ∙ ap₂ with_subcommand replay (ap (λ (a : App). a.top) c.in_ok-load.ensures.app)) c.subcommand-4.ensures
+    let load = c.in_ok-subcommand-4.ensures.shape c.in_ok-load.ensures.local ∙ ap₂ with_subcommand replay (ap (λ (a : App). a.top) c.in_ok-load.ensures.app) in
+    IfOk-weaker c.subcommand-5.result _ _ (λ r h. h.shape c.in_ok-mirror.ensures.local ∙ ap₂ with_subcommand load (ap (λ (a : App). a.top) c.in_ok-mirror.ensures.app)) c.subcommand-5.ensures
 
 pub returns-clause-local : goal.returns-clause-local
 returns-clause-local c =
@@ -19,4 +20,5 @@ returns-clause-local c =
     let run = c.in_ok-subcommand.ensures.globals ∙ ap₂ (λ a b. a || b) bare c.new-2.ensures.local in
     let serve = c.in_ok-subcommand-2.ensures.globals ∙ ap₂ (λ a b. a || b) run c.in_ok-serve.ensures.local in
     let replay = c.in_ok-subcommand-3.ensures.globals ∙ ap₂ (λ a b. a || b) serve c.in_ok-replay.ensures.local in
-    IfOk-weaker c.subcommand-4.result _ _ (λ r h. h.globals ∙ ap₂ (λ a b. a || b) replay c.in_ok-load.ensures.local) c.subcommand-4.ensures
+    let load = c.in_ok-subcommand-4.ensures.globals ∙ ap₂ (λ a b. a || b) replay c.in_ok-load.ensures.local in
+    IfOk-weaker c.subcommand-5.result _ _ (λ r h. h.globals ∙ ap₂ (λ a b. a || b) load c.in_ok-mirror.ensures.local) c.subcommand-5.ensures
