@@ -24,7 +24,7 @@ from reasons import fits  # noqa: E402
 # the most seconds that a reply or an end is waited for
 PATIENCE = 20
 
-USAGE = b"usage: djq run | serve ADDR [--turns N] [--log PATH] | replay [--log PATH] | gen N SEED\n"
+USAGE = b"usage: djq run | serve ADDR [--turns N] [--log PATH] | replay [--log PATH] | gen N SEED | mirror Q\n"
 
 # A session with each command, and what it is answered.
 SESSION = [

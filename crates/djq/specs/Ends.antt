@@ -23,15 +23,16 @@ use Rattle.djq_serve.specs.Server.{all_done}
 use Rattle.djq_serve.specs.Logged.{UnkeptIsSilent}
 use Rattle.djq_serve.specs.Ends.{ServeEnds, FaultsCount}
 use Rattle.djq_words.specs.declared.commands.Asked.{Asked}
-use Rattle.djq_words.specs.declared.commands.Asked.TheVariants.{Run, Serve, Replay, Gen}
+use Rattle.djq_words.specs.declared.commands.Asked.TheVariants.{Run, Serve, Replay, Gen, Mirror}
 use Rattle.djq_words.specs.Asks.{Asks, Answers}
 use Rattle.djq.specs.Logged.{DiskSeen, LogSeen, log_seen, status_of, Begins, Logs, FoundIn, NeverBegins}
 use Rattle.djq.specs.Gen.{GenEnds}
 use Rattle.djq.specs.Replay.{ReplayEnds}
+use Rattle.djq.specs.Mirror.{MirrorsSource}
 
 -- the line that tells the commands
 abbrev pub usage_line : Bytes
-usage_line = line (codes "usage: djq run | serve ADDR [--turns N] [--log PATH] | replay [--log PATH] | gen N SEED")
+usage_line = line (codes "usage: djq run | serve ADDR [--turns N] [--log PATH] | replay [--log PATH] | gen N SEED | mirror Q")
 
 -- **The theorem of `run`.** There is a run of the join machine from the start to this state.
 -- The pieces that it was fed are those that were read, in order, and what was read is run and
@@ -156,6 +157,8 @@ EndsAs (Some (Replay log)) status before hub disk now hub' disk' =
 EndsAs (Some (Gen n seed)) status before hub disk now hub' disk' =
     GenEnds opening status n seed before.writing before.write_faults before.counted now.writing
     now.write_faults now.counted × NoneRead before now × (hub' ≡ hub)
+EndsAs (Some (Mirror query)) status before hub disk now hub' disk' =
+    MirrorsSource query.now status before now × (hub' ≡ hub)
 
 -- How the program ends, by the words of its command line: as what they ask for, and as no command
 -- where they ask for nothing; or out of memory before they were read.

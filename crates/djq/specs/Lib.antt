@@ -1,5 +1,6 @@
 pub mod Logged
 pub mod Replay
+pub mod Mirror
 pub mod Gen
 pub mod Parts
 pub mod Reopened

@@ -1,6 +1,7 @@
 //! A join query server, as a program: `djq run` serves one session from standard input to standard
 //! output, `djq serve ADDR` the sessions that come over TCP, `djq replay` those of a schedule, and
-//! `djq gen N SEED` that of a generated load. With `--log PATH` the second and the third begin with
+//! `djq gen N SEED` that of a generated load, and `djq mirror Q` tells the answers that a session was
+//! told. With `--log PATH` the second and the third begin with
 //! what the lines of that file give, and keep in it what changes that.
 //!
 //! [`run_program`] is the program over any source, sink, hub and disk. Its contract says what was
@@ -54,6 +55,10 @@ fn say_why(rt: &HostRuntime, status: Status) {
         }
         Status::BadLog(place) => {
             let _ = eprintln!(rt; "djq: the log is bad from byte {place} on");
+            return;
+        }
+        Status::Mirror(line) => {
+            let _ = eprintln!(rt; "djq: line {line} is none that a mirror can follow");
             return;
         }
         Status::DiskFault => "the log can't be opened, read or written",

@@ -1,10 +1,12 @@
-ghost use Rattle.std.specs.Prelude.{◌≡◌, ℕ, [], Option, map};
+ghost use Rattle.std.specs.Prelude.{◌≡◌, ℕ, [], true, Option, map};
 ghost use Rattle.djq_io.specs.Source.{Reading};
 ghost use Rattle.djq_machine.specs.State.{opening};
 ghost use Rattle.djq_machine.specs.Call.{Counts, counts};
 ghost use Rattle.djq_laws.specs.Course.{outside};
+ghost use Rattle.djq_value.specs.Literal.{is_name};
 ghost use Rattle.djq_serve.specs.Told.{shown};
 ghost use Rattle.djq.specs.Logged.{disk_seen, log_seen, status_of};
+ghost use Rattle.djq.specs.Mirror.{status_of as mirror_status, MirrorsSource};
 ghost use Rattle.djq.specs.Ends.{ProgramEnds, AsksToServe, AsksForLog, Serves, HubEnds, Explains, hub_seen};
 
 use crate::load::generate;
@@ -12,8 +14,10 @@ use crate::log::open_log;
 use crate::replay::replay;
 use djq_core::Core;
 use djq_disk::{Disk, NoDisk};
+use djq_follow::{Mirrored, mirror};
 use djq_io::{Hub, Listened, Sink, Source, Written, write_all};
 use djq_laws::limits::READ_BYTES;
+use djq_model::Name;
 use djq_run::{Status, run_session};
 use djq_serve::{Served, serve_logged};
 use djq_steps::{Ledgers, Steps};
@@ -22,7 +26,7 @@ use std::alloc::Global;
 
 /// The commands.
 const USAGE: &[u8] =
-    b"usage: djq run | serve ADDR [--turns N] [--log PATH] | replay [--log PATH] | gen N SEED\n";
+    b"usage: djq run | serve ADDR [--turns N] [--log PATH] | replay [--log PATH] | gen N SEED | mirror Q\n";
 
 /// Runs the program by the words of its command line, of which the first is its name.
 ///
@@ -31,7 +35,8 @@ const USAGE: &[u8] =
 /// schedule in the source, in order. Both start from what the lines of their log give, where they
 /// are asked for one, and keep in it what changes that, before anything is sent behind it. `gen`
 /// runs a generated load, lists the answers of its query to their end, and writes what it comes to.
-/// Other words are answered by the usage line. Out of memory no more is counted of listings than the
+/// `mirror` writes the answers of a query that one session was told, by the bytes alone that it was sent,
+/// which the source has. Other words are answered by the usage line. Out of memory no more is counted of listings than the
 /// part that was done may cost.
 ///
 /// The hub has opened no session before, and words other than those of `serve` leave it as it is.
@@ -71,6 +76,7 @@ pub fn run_program<S: Source, K: Sink, H: Hub, D: Disk, L: Ledgers>(
         Ok(Some(Asked::Replay(None))) => replay(alloc, None, source, sink, &mut NoDisk, steps),
         Ok(Some(Asked::Replay(path))) => replay(alloc, path, source, sink, disk, steps),
         Ok(Some(Asked::Gen(n, seed))) => generate(alloc, n, seed, sink, steps),
+        Ok(Some(Asked::Mirror(query))) => mirror_source(alloc, query, source, sink),
         Ok(None) => explain_usage(sink),
         Err(_) => Status::NoMemory,
     }
@@ -147,6 +153,35 @@ pub(crate) fn ended_status(served: Served) -> Status
         Served::HubFault => Status::HubFault,
         Served::DiskFault => Status::DiskFault,
         Served::LogFull => Status::LogFull,
+    }
+}
+
+/// Writes the answers of a query that a session was told which was sent what the source has.
+fn mirror_source<S: Source, K: Sink>(
+    alloc: Global,
+    query: &str,
+    source: &mut S,
+    sink: &mut K,
+) -> Status
+    requires { is_name query.now ≡ true }
+    ensures { (counted : Counts) → MirrorsSource query.now result
+        (outside (S.told source.old) (S.faults source.old) (K.told sink.old) (K.faults sink.old) counted)
+        (outside (S.told source.new) (S.faults source.new) (K.told sink.new) (K.faults sink.new) counted) }
+{
+    mirror_status(mirror(alloc, Name::new(query.as_bytes()), source, sink))
+}
+
+/// The status that the end of `mirror` comes to.
+fn mirror_status(answer: Mirrored) -> Status
+    ensures { result ≡ mirror_status answer }
+{
+    match answer {
+        Mirrored::Done => Status::Done,
+        Mirrored::Outside(number) => Status::Mirror(number),
+        Mirrored::ReadFault => Status::ReadFault,
+        Mirrored::WriteFault => Status::WriteFault,
+        Mirrored::TooMany => Status::TurnsUsed,
+        Mirrored::NoMemory => Status::NoMemory,
     }
 }
 

@@ -144,7 +144,7 @@ fn a_line_is_long_past_4096_bytes(rt: HostRuntime) -> Result<(), Fail> {
 #[test]
 fn other_words_get_the_usage_line(rt: HostRuntime) -> Result<(), Fail> {
     let usage =
-        b"usage: djq run | serve ADDR [--turns N] [--log PATH] | replay [--log PATH] | gen N SEED\n";
+        b"usage: djq run | serve ADDR [--turns N] [--log PATH] | replay [--log PATH] | gen N SEED | mirror Q\n";
     let lists = [
         [].as_slice(),
         &["djq"],

@@ -1,6 +1,6 @@
 use Rattle.std.proofs.Common.{ℕ, List, Bor, Option, ◌∙◌, map, ap, inl, refl, Some, None}
 use Rattle.djq_words.specs.declared.commands.Asked.{Asked}
-use Rattle.djq_words.specs.declared.commands.Asked.TheVariants.{Run, Serve, Replay, Gen}
+use Rattle.djq_words.specs.declared.commands.Asked.TheVariants.{Run, Serve, Replay, Gen, Mirror}
 use Rattle.djq.proofs.Running.{asks_for}
 use Rattle.djq.proofs.program.run_program.Goals as goal
 
@@ -46,3 +46,8 @@ pub returns-in-Ok-Some-Gen-clause-ends : goal.returns-in-Ok-Some-Gen-clause-ends
 returns-in-Ok-Some-Gen-clause-ends g c =
     let read = c.in-Ok-Some-Gen in
     inl (Some (Gen read.n read.seed), asks_for (map (λ (word : Bor (List ℕ)). word.now) c.args.words.now) read.field-0 (Some (Gen read.n read.seed)) (read.field-0-is ∙ ap (λ (a : Asked). Some a) read.field-0-0-is) read.ensures, (c.generate.ensures, record { reading = refl; read_faults = refl }, refl))
+
+pub returns-in-Ok-Some-Mirror-clause-ends : goal.returns-in-Ok-Some-Mirror-clause-ends
+returns-in-Ok-Some-Mirror-clause-ends g c =
+    let read = c.in-Ok-Some-Mirror in
+    inl (Some (Mirror read.query), asks_for (map (λ (word : Bor (List ℕ)). word.now) c.args.words.now) read.field-0 (Some (Mirror read.query)) (read.field-0-is ∙ ap (λ (a : Asked). Some a) read.field-0-0-is) read.ensures, (c.mirror_source.ensures _, refl))

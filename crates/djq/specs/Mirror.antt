@@ -1,0 +1,27 @@
+-- How `mirror` ends, by its status.
+use Rattle.std.specs.Prelude.{◌≡◌}
+use Rattle.djq_model.specs.Data.{Bytes}
+use Rattle.djq_laws.specs.Course.{Outside}
+use Rattle.djq_follow.specs.declared.command.Mirrored.{Mirrored}
+use Rattle.djq_follow.specs.declared.command.Mirrored.TheVariants.{Done as Followed, Outside as Halted, ReadFault as FailedRead, WriteFault as FailedWrite, TooMany, NoMemory as Lacking}
+use Rattle.djq_follow.specs.Ends.{MirrorEnds}
+use Rattle.djq_run.specs.declared.status.Status.{Status}
+use Rattle.djq_run.specs.declared.status.Status.TheVariants.{Done, ReadFault, WriteFault, TurnsUsed, NoMemory, Mirror}
+
+-- the status that it comes to
+abbrev pub status_of : Mirrored → Status
+status_of Followed = Done
+status_of (Halted n) = Mirror n
+status_of FailedRead = ReadFault
+status_of FailedWrite = WriteFault
+status_of TooMany = TurnsUsed
+status_of Lacking = NoMemory
+
+-- **The theorem of `mirror`.** What the source had is followed as what one session was sent, and what
+-- that leaves of a query's answers is written; nothing else is counted or done.
+pub record MirrorsSource (query : Bytes) (status : Status) (before now : Outside) : Type 0 where
+  pub answer : Mirrored
+  pub ends : MirrorEnds answer query before.reading now.reading before.read_faults now.read_faults
+      before.writing now.writing before.write_faults now.write_faults
+  pub is : status ≡ status_of answer
+  pub counted : now.counted ≡ before.counted
