@@ -1,7 +1,7 @@
 -- How the counts of the calls of an update add up.
-use Rattle.std.proofs.Common.{◌≡◌, ℕ, zero, suc, ◌+◌, ◌*◌, ◌<◌, ◌≤◌, true, List, length, arith, mul-le-mul_right}
+use Rattle.std.proofs.Common.{◌≡◌, ℕ, zero, suc, ◌+◌, ◌*◌, ◌<◌, ◌≤◌, List, length, arith, mul-le-mul_right}
 use Rattle.djq_tree.specs.Tree.{Tree}
-use Rattle.djq_tree.specs.Counts.{IsSmall, trims}
+use Rattle.djq_tree.specs.Counts.{IsSmall}
 use Rattle.djq_propagate.specs.Updates.{paths}
 use Rattle.djq_propagate.specs.Bounds.{HasVariables, AddUp}
 

@@ -1,27 +1,27 @@
 -- Over equal meets an update marks one tuple at most in each table.
-use Rattle.std.proofs.Common.{◌≡◌, ◌≢◌, ◌⊎◌, ℕ, suc, ◌+◌, ◌*◌, ◌<◌, ◌≤◌, Bool, true, false, cond, List, [], ◌∷◌, length, refl, ap, subst, sym, ◌∙◌, arith, inl, inr}
+use Rattle.std.proofs.Common.{◌≡◌, ◌≢◌, ℕ, ◌<◌, ◌≤◌, Bool, true, false, cond, List, [], ◌∷◌, length, refl, ap, subst, sym, ◌∙◌, arith, inl, inr}
 use Rattle.std.specs.Prelude.{◌==◌}
-use Rattle.std.proofs.lemmas.Bool.{cases_eq, cases_lt, cases_Bool, eq-eqb, ne_eqb}
+use Rattle.std.proofs.lemmas.Bool.{cases_eq, cases_lt, cases_Bool}
 use Rattle.djq_index.specs.Tuple.{same, pick, one}
-use Rattle.djq_index.specs.Entries.{Entry, supp, cnt, many, marks, plain, unmarked}
+use Rattle.djq_index.specs.Entries.{Entry, cnt, many, marks, unmarked}
 use Rattle.djq_index.specs.Table.{Table}
-use Rattle.djq_index.proofs.Tuples.{same_cases, same_is, true_from_one, one_same, one_le, one_other}
-use Rattle.djq_index.proofs.Counts.{cnt_cons, cnt_split, many_cons}
-use Rattle.djq_index.proofs.Apart.{cnt_supp, supp_none}
+use Rattle.djq_index.proofs.Tuples.{same_cases, same_is, true_from_one, one_same, one_other}
+use Rattle.djq_index.proofs.Counts.{cnt_cons, cnt_split}
+use Rattle.djq_index.proofs.Apart.{cnt_supp}
 use Rattle.djq_index.proofs.Changing.{inserted_cnt, removed_cnt}
 use Rattle.djq_index.proofs.Marks.{unmarked_marks}
 use Rattle.djq_tree.specs.declared.node.Node.{Node}
 use Rattle.djq_tree.specs.declared.node.Node.TheVariants.{Leaf, Trim, Meet}
 use Rattle.djq_tree.specs.Flat.{HasEqualMeets}
 use Rattle.djq_tree.specs.Tree.{Tree, node_at, has_child}
-use Rattle.djq_reduct.specs.Marks.{path_at, IsBare, agreeing, IsWithout}
+use Rattle.djq_reduct.specs.Marks.{path_at, IsBare, agreeing}
 use Rattle.djq_reduct.specs.Reducts.{IsReductOf, IsReducts, IsFamily}
 use Rattle.djq_reduct.specs.Tables.{entries_at, key_at}
-use Rattle.djq_propagate.specs.Touches.{IsTouched, IsTouchedUp, HaveFew, IsCovered, CanWalk, IsWalked, IsStep, reach, cost}
+use Rattle.djq_propagate.specs.Touches.{IsTouched, IsTouchedUp, HaveFew, CanWalk, IsWalked, IsStep, reach, cost}
 use Rattle.djq_propagate.specs.Updates.{HasTaken}
 use Rattle.djq_propagate.specs.Walks.{Changed, Lived, Died, CameAs}
 use Rattle.djq_propagate.proofs.Families.{once, tuples_same, reduced_same}
-use Rattle.djq_propagate.proofs.Marking.{reach_agrees, guard_some, new_supp, bare_mid, covered_mid}
+use Rattle.djq_propagate.proofs.Marking.{reach_agrees, guard_some, bare_mid, covered_mid}
 use Rattle.djq_propagate.proofs.Measuring.{length_less}
 use Rattle.djq_propagate.proofs.Paths.{inner_high}
 use Rattle.djq_propagate.proofs.Single.{OneMore, whole_key, group_single, one_more}

@@ -15,3 +15,4 @@ pub mod Adding
 pub mod Single
 pub mod Fewing
 pub mod Refusing
+pub mod Batching

@@ -30,7 +30,8 @@ use Rattle.djq_propagate.specs.Walks.{Lived}
 use Rattle.djq_propagate.specs.Touches.{IsTouched, IsTouchedUp}
 use Rattle.djq_propagate.proofs.Families.{once, apart_of, tuples_same}
 use Rattle.djq_propagate.proofs.Paths.{on_high, off_same}
-use Rattle.djq_propagate.proofs.Updating.{both, reducts_lived, leaf_below}
+use Rattle.djq_propagate.specs.Batches.{HaveCome, HaveGone}
+use Rattle.djq_propagate.proofs.Updating.{both, lived_come}
 
 -- a list is as long as its only group by no column
 same_nil : same [] [] ≡ true
@@ -64,7 +65,7 @@ holds ks (f ∷ fs) w h =
       | inr other ↦ (let s = holds ks fs w (omega (arith, one_other (pick ks f.tuple) w other)) in record { front = f ∷ s.front; back = s.back; entry = s.entry; is = ap (λ (xs : List Entry). f ∷ xs) s.is; key = s.key })
     ]
 
-length_middle : (xs : List Entry) (e : Entry) (ys : List Entry) → length (xs ++ e ∷ ys) ≡ length (xs ++ ys) + 1
+pub length_middle : (xs : List Entry) (e : Entry) (ys : List Entry) → length (xs ++ e ∷ ys) ≡ length (xs ++ ys) + 1
 length_middle [] e ys = omega arith
 length_middle (x ∷ xs) e ys = omega (arith, length_middle xs e ys)
 
@@ -232,7 +233,7 @@ spread_three : (S n : ℕ) → S * (1 + 5 * n) ≡ S + 5 * (S * n)
 spread_three S n = omega arith
 
 -- what the calls count
-count_put : (S P n a b c so sm : ℕ) → S + 1 ≤ P → 1 ≤ n → b + 1 + 4 * so ≤ a + 4 * sm → sm ≤ so + (1 + S) * n → c ≤ b + S * (1 + 5 * n) → c ≤ a + 10 * (P * n)
+count_put : (S P n a b c so sm : ℕ) → S + 1 ≤ P → 1 ≤ n → b + 4 * so ≤ a + 4 * sm → sm ≤ so + (1 + S) * n → c ≤ b + S * (1 + 5 * n) → c ≤ a + 10 * (P * n)
 count_put S P n a b c so sm short some first grows second =
     let m = mul-le-mul_right n short in
     let o = mul-le-mul_left S some in
@@ -297,18 +298,42 @@ drop_by t old new a u n x y r l grows first =
     count_grown (steps t.nodes a (length t.nodes)) (paths t) n 5 x y (size new) (size old) (path_short t a r.family.is_tree) (omega arith)
     (path_size t new old a n l.sound r (λ j v low apart. sym (l.others j v low apart)) grows)
 
+-- many of them
+pub come_by : (t : Tree) (old new : List Table) (a : ℕ) (us : List (List ℕ)) (n x y : ℕ) → IsReducts (both t old) → HaveCome t old new a us → ((i : ℕ) → length (entries_at new i) ≤ length (entries_at old i) + n)
+    → y + 4 * size old ≤ x + 4 * size new → y ≤ x + 4 * (paths t * n)
+come_by t old new a us n x y r c grows first =
+    count_grown (steps t.nodes a (length t.nodes)) (paths t) n 4 x y (size old) (size new) (path_short t a r.family.is_tree) first
+    (path_size t old new a n r c.sound c.others grows)
+
+pub gone_by : (t : Tree) (old new : List Table) (a : ℕ) (us : List (List ℕ)) (n x y : ℕ) → IsReducts (both t old) → HaveGone t old new a us → ((i : ℕ) → length (entries_at old i) ≤ length (entries_at new i) + n)
+    → y + 5 * size new ≤ x + 5 * size old → y ≤ x + 5 * (paths t * n)
+gone_by t old new a us n x y r g grows first =
+    count_grown (steps t.nodes a (length t.nodes)) (paths t) n 5 x y (size new) (size old) (path_short t a r.family.is_tree) first
+    (path_size t new old a n g.sound r (λ j v low apart. sym (g.others j v low apart)) grows)
+
 -- where no table has gained more than n tuples, and a step marks for so many
+pub put_all_by : (t : Tree) (old mid : List Table) (a : ℕ) (us : List (List ℕ)) (n x y z : ℕ) → IsReducts (both t old) → HaveCome t old mid a us → 1 ≤ n → ((i : ℕ) → length (entries_at mid i) ≤ length (entries_at old i) + n)
+    → y + 4 * size old ≤ x + 4 * size mid → z ≤ y + steps t.nodes a (length t.nodes) * (1 + 5 * n) → z ≤ x + 10 * (paths t * n)
+put_all_by t old mid a us n x y z r c some grows first second =
+    count_put (steps t.nodes a (length t.nodes)) (paths t) n x y z (size old) (size mid) (path_short t a r.family.is_tree) some first
+    (path_size t old mid a n r c.sound c.others grows) second
+
+pub put_all_counted : (t : Tree) (old mid new : List Table) (a : ℕ) (us : List (List ℕ)) (n x y z : ℕ) → IsReducts (both t old) → HaveCome t old mid a us → IsTouchedUp t mid new a → IsReducts (both t new) → 1 ≤ n → HasAtMost (both t new) n
+    → y + 4 * size old ≤ x + 4 * size mid → ((m : ℕ) → ((i : ℕ) → length (entries_at mid i) ≤ m) → z ≤ y + steps t.nodes a (length t.nodes) * (1 + 5 * m)) → z ≤ x + 10 * (paths t * n)
+put_all_counted t old mid new a us n x y z r c up s some few first second =
+    let all : (i : ℕ) → length (entries_at mid i) ≤ n = (λ (i : ℕ). let e = up.long i in omega (arith, sized t new n s few i)) in
+    put_all_by t old mid a us n x y z r c some (λ i. let b = all i in omega arith) first (second n all)
+
+-- of one tuple
 pub put_by : (t : Tree) (old mid : List Table) (a : ℕ) (u : List ℕ) (n x y z : ℕ) → IsReducts (both t old) → a < t.leaves → Lived t old mid a u → 1 ≤ n → ((i : ℕ) → length (entries_at mid i) ≤ length (entries_at old i) + n)
     → y + 1 + 4 * size old ≤ x + 4 * size mid → z ≤ y + steps t.nodes a (length t.nodes) * (1 + 5 * n) → z ≤ x + 10 * (paths t * n)
-put_by t old mid a u n x y z r h l some grows first second =
-    count_put (steps t.nodes a (length t.nodes)) (paths t) n x y z (size old) (size mid) (path_short t a r.family.is_tree) some first
-    (path_size t old mid a n r (reducts_lived t old mid a u r h l) (λ j v low apart. ap (λ (es : List Entry). cnt es v) (l.below j (leaf_below t a j r.family.is_tree low apart))) grows) second
+put_by t old mid a u n x y z r h l some grows first second = put_all_by t old mid a (u ∷ []) n x y z r (lived_come t old mid a u r h l) some grows (omega arith) second
 
 pub put_counted : (t : Tree) (old mid new : List Table) (a : ℕ) (u : List ℕ) (n x y z : ℕ) → IsReducts (both t old) → a < t.leaves → Lived t old mid a u → IsTouchedUp t mid new a → IsReducts (both t new) → HasAtMost (both t new) n
     → y + 1 + 4 * size old ≤ x + 4 * size mid → ((m : ℕ) → ((i : ℕ) → length (entries_at mid i) ≤ m) → z ≤ y + steps t.nodes a (length t.nodes) * (1 + 5 * m)) → z ≤ x + 10 * (paths t * n)
 put_counted t old mid new a u n x y z r h l up s few first second =
-    let all : (i : ℕ) → length (entries_at mid i) ≤ n = (λ (i : ℕ). let e = up.long i in omega (arith, sized t new n s few i)) in
-    put_by t old mid a u n x y z r h l (omega (arith, all a, inserted_length (key_at old a) (entries_at old a) (entries_at mid a) u l.gains)) (λ i. let b = all i in omega arith) first (second n all)
+    let came = inserted_length (key_at old a) (entries_at old a) (entries_at mid a) u l.gains in
+    put_all_counted t old mid new a (u ∷ []) n x y z r (lived_come t old mid a u r h l) up s (let e = up.long a in omega (arith, sized t new n s few a)) few (omega arith) second
 
 pub mark_counted : (t : Tree) (old mid : List Table) (a : ℕ) (u : List ℕ) (f : List ℕ → ℕ) (n x y z : ℕ) → IsReducts (both t old) → 0 < cnt (entries_at old a) u → IsTouched t old mid a f → HasAtMost (both t old) n → y ≤ x + 2
     → ((m : ℕ) → ((i : ℕ) → length (entries_at mid i) ≤ m) → z ≤ y + steps t.nodes a (length t.nodes) * (1 + 5 * m)) → z ≤ x + 6 * (paths t * n)

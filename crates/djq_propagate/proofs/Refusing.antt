@@ -6,7 +6,7 @@ use Rattle.djq_index.specs.Table.{Table}
 use Rattle.djq_index.proofs.Counts.{length_grp}
 use Rattle.djq_tree.specs.declared.node.Node.TheVariants.{Meet}
 use Rattle.djq_tree.specs.Flat.{HasEqualMeets}
-use Rattle.djq_tree.specs.Tree.{Tree, node_at}
+use Rattle.djq_tree.specs.Tree.{Tree}
 use Rattle.djq_reduct.specs.Reducts.{IsFamily}
 use Rattle.djq_reduct.specs.Tables.{entries_at, key_at}
 use Rattle.djq_propagate.specs.Sizes.{size}

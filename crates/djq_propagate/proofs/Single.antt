@@ -1,12 +1,12 @@
 -- Over equal meets the reducts of one tree differ at each node by a tuple at most, where their leaves do at one.
-use Rattle.std.proofs.Common.{◌≡◌, ◌≢◌, ℕ, zero, suc, ◌+◌, ◌*◌, ◌<◌, ◌≤◌, Bool, true, false, ◌||◌, List, [], ◌∷◌, ◌++◌, length, refl, ap, subst, sym, ◌∙◌, arith, inl, inr}
+use Rattle.std.proofs.Common.{◌≡◌, ◌≢◌, ℕ, zero, suc, ◌+◌, ◌*◌, ◌<◌, ◌≤◌, Bool, true, false, ◌||◌, List, [], ◌∷◌, length, refl, ap, subst, sym, ◌∙◌, arith, inl, inr}
 use Rattle.std.specs.Prelude.{◌==◌}
 use Rattle.std.proofs.lemmas.Bool.{cases_eq, cases_lt, cases_Bool, ne_eqb, eqb-true, false≢true}
 use Rattle.djq_index.specs.Tuple.{same, pick, one}
-use Rattle.djq_index.specs.Entries.{Entry, supp, cnt, many}
+use Rattle.djq_index.specs.Entries.{Entry, cnt, many}
 use Rattle.djq_index.specs.Table.{Table, AreWide}
 use Rattle.djq_index.proofs.Tuples.{same_cases, is_same, one_same, one_other, one_true, one_le}
-use Rattle.djq_index.proofs.Counts.{cnt_cons, many_cons}
+use Rattle.djq_index.proofs.Counts.{cnt_cons}
 use Rattle.djq_index.proofs.Apart.{there, cnt_supp, supp_none}
 use Rattle.djq_tree.specs.declared.node.Node.{Node}
 use Rattle.djq_tree.specs.declared.node.Node.TheVariants.{Leaf, Trim, Meet}
@@ -21,12 +21,11 @@ use Rattle.djq_reduct.specs.Tables.{table_at, entries_at, key_at, width_at}
 use Rattle.djq_reduct.proofs.Readings.{simple_of, pick_itself}
 use Rattle.djq_reduct.proofs.Family.{trim_law, meet_law}
 use Rattle.djq_reduct.proofs.Paths.{path_on, path_off, path_zero}
-use Rattle.djq_propagate.proofs.Families.{apart_of, once, same_keys, tuples_same, guard_has, side_has}
+use Rattle.djq_propagate.proofs.Families.{once, same_keys, tuples_same, guard_has, side_has}
 use Rattle.djq_propagate.proofs.Going.{trim_same}
 use Rattle.djq_propagate.proofs.Marking.{other_off}
 use Rattle.djq_propagate.proofs.Measuring.{holds, length_less, product_some}
 use Rattle.djq_propagate.proofs.Paths.{off_same}
-use Rattle.djq_propagate.proofs.Sides.{present}
 use Rattle.djq_propagate.proofs.Updating.{both}
 
 -- ---- a guard's key has its whole tuple

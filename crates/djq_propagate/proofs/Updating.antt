@@ -17,6 +17,7 @@ use Rattle.djq_reduct.proofs.Family.{leaf_law, one_family}
 use Rattle.djq_reduct.specs.Marks.{on_path, IsOff, IsBare, AreOnPath, IsWithout}
 use Rattle.djq_propagate.specs.Walks.{Ready, Lived, Died, Refused, Fewer, CameAs, IsBelow}
 use Rattle.djq_propagate.specs.Touches.{IsTouched, IsTouchedUp, CanWalk, IsWalked}
+use Rattle.djq_propagate.specs.Batches.{times, HaveCome, HasInsertedAll, HasGainedAll}
 use Rattle.djq_propagate.specs.Updates.{HasInserted, HasMarked, HasKept, HasDropped, HasTaken, HasCleared, HasGained, HasLost}
 use Rattle.djq_propagate.proofs.Families.{once, apart_of, tuples_same, reduced_same}
 use Rattle.djq_propagate.proofs.Sides.{cond_one}
@@ -120,14 +121,28 @@ lost_all t old new a u r h b d = record {
   bare = b;
 }
 
+-- what came, as a list
+pub times_one : (u v : List ℕ) → times (u ∷ []) v ≡ one (same u v)
+unfolding times
+times_one u v = omega arith
+
+pub lived_come : (t : Tree) (old new : List Table) (a : ℕ) (u : List ℕ) → IsReducts (both t old) → a < t.leaves → Lived t old new a u → HaveCome t old new a (u ∷ [])
+lived_come t old new a u r h l = record {
+  sound = reducts_lived t old new a u r h l;
+  leaf = λ v. omega (arith, inserted_cnt (key_at old a) (entries_at old a) (entries_at new a) u l.gains v, times_one u v);
+  others = λ j v low apart. ap (λ (es : List Entry). cnt es v) (l.below j (leaf_below t a j r.family.is_tree low apart));
+}
+
 -- before the walk
-pub can_insert : (t : Tree) (old mid : List Table) (a : ℕ) (u : List ℕ) → IsReducts (both t old) → a < t.leaves → IsBare old → Lived t old mid a u → CameAs true old mid → CanWalk t mid a false
-can_insert t old mid a u r h b l p = record {
-  reduced = (reducts_lived t old mid a u r h l).reduced;
-  covered = λ k high on.
-      covered_new t old mid a k r (reducts_lived t old mid a u r h l) b p (λ j w low apart. ap (λ (es : List Entry). cnt es w) (l.below j (leaf_below t a j r.family.is_tree low apart))) on;
+pub can_come : (t : Tree) (old mid : List Table) (a : ℕ) (us : List (List ℕ)) → IsReducts (both t old) → IsBare old → HaveCome t old mid a us → CameAs true old mid → CanWalk t mid a false
+can_come t old mid a us r b x p = record {
+  reduced = x.sound.reduced;
+  covered = λ k high on. covered_new t old mid a k r x.sound b p x.others on;
   bare = λ e. absurd (false≢true e);
 }
+
+pub can_insert : (t : Tree) (old mid : List Table) (a : ℕ) (u : List ℕ) → IsReducts (both t old) → a < t.leaves → IsBare old → Lived t old mid a u → CameAs true old mid → CanWalk t mid a false
+can_insert t old mid a u r h b l p = can_come t old mid a (u ∷ []) r b (lived_come t old mid a u r h l) p
 
 pub can_remove : (t : Tree) (old mid : List Table) (a : ℕ) (f : List ℕ → ℕ) → IsReducts (both t old) → a < t.leaves → IsBare old → IsTouched t old mid a f → CanWalk t mid a true
 can_remove t old mid a f r h b y = record {
@@ -140,15 +155,16 @@ can_remove t old mid a f r h b y = record {
 }
 
 -- an insertion
-pub inserted_all : (t : Tree) (old mid new : List Table) (a : ℕ) (u : List ℕ) → IsReducts (both t old) → a < t.leaves → IsBare old → Lived t old mid a u → CameAs true old mid → IsTouchedUp t mid new a → IsWalked t mid new a false (length t.nodes) → HasInserted (both t old) (both t new) a u
-inserted_all t old mid new a u r h b l p x walk = record {
-  sound = reducts_same t mid new m x.family x.supports;
+pub all_inserted : (t : Tree) (old mid new : List Table) (a : ℕ) (us : List (List ℕ)) → IsReducts (both t old) → a < t.leaves → IsBare old → HaveCome t old mid a us → CameAs true old mid → IsTouchedUp t mid new a → IsWalked t mid new a false (length t.nodes)
+    → HasInsertedAll (both t old) (both t new) a us
+all_inserted t old mid new a us r h b come p x walk = record {
+  sound = reducts_same t mid new come.sound x.family x.supports;
   without = record {
     tree = refl;
     leaf = λ v. omega (arith, ap (λ (es : List Entry). cnt (plain es) v) (x.leaves a h), p.same a v, b.none a v, cnt_split (entries_at old a) v);
-    others = λ j v low apart. ap (λ (es : List Entry). cnt es v) (sym (x.leaves j low ∙ l.below j (leaf_below t a j r.family.is_tree low apart)));
+    others = λ j v low apart. sym (ap (λ (es : List Entry). cnt es v) (x.leaves j low) ∙ come.others j v low apart);
   };
-  marked = λ v. omega (arith, ap (λ (es : List Entry). cnt (marks es) v) (x.leaves a h), inserted_cnt (key_at old a) (entries_at old a) (entries_at mid a) u l.gains v, p.same a v, cnt_split (entries_at old a) v, cnt_split (entries_at mid a) v, b.none a v);
+  marked = λ v. omega (arith, ap (λ (es : List Entry). cnt (marks es) v) (x.leaves a h), come.leaf v, p.same a v, cnt_split (entries_at old a) v, cnt_split (entries_at mid a) v, b.none a v);
   are_marks = record {
     path = record {
       off = λ i off v.
@@ -159,8 +175,7 @@ inserted_all t old mid new a u r h b l p x walk = record {
             b.none i v,
             cnt_split (entries_at old i) v,
             cnt_split (entries_at mid i) v,
-            tuples_same t old mid r.family l.family i
-                (off_same t old mid a r.family l.family r.reduced m.reduced (λ j w low apart. ap (λ (es : List Entry). cnt es w) (l.below j (leaf_below t a j r.family.is_tree low apart))) (suc i) i (omega arith) off) v,
+            tuples_same t old mid r.family come.sound.family i (off_same t old mid a r.family come.sound.family r.reduced come.sound.reduced come.others (suc i) i (omega arith) off) v,
           );
     };
     low = λ k second on.
@@ -169,9 +184,13 @@ inserted_all t old mid new a u r h b l p x walk = record {
     high = λ k second on. walk.high k (on_within t a k on) second on;
   };
 }
-  where
-    m : IsReducts (both t mid)
-    m = reducts_lived t old mid a u r h l
+
+-- of one tuple
+pub inserted_one : (old new : Reducts) (a : ℕ) (u : List ℕ) → HasInsertedAll old new a (u ∷ []) → HasInserted old new a u
+inserted_one old new a u x = record { sound = x.sound; without = x.without; marked = λ v. x.marked v ∙ times_one u v; are_marks = x.are_marks }
+
+pub inserted_all : (t : Tree) (old mid new : List Table) (a : ℕ) (u : List ℕ) → IsReducts (both t old) → a < t.leaves → IsBare old → Lived t old mid a u → CameAs true old mid → IsTouchedUp t mid new a → IsWalked t mid new a false (length t.nodes) → HasInserted (both t old) (both t new) a u
+inserted_all t old mid new a u r h b l p x walk = inserted_one (both t old) (both t new) a u (all_inserted t old mid new a (u ∷ []) r h b (lived_come t old mid a u r h l) p x walk)
 
 -- a tuple is marked for a removal
 pub marked_all : (t : Tree) (old mid new : List Table) (a : ℕ) (u : List ℕ) → IsReducts (both t old) → a < t.leaves → IsBare old → 0 < cnt (entries_at old a) u → IsTouched t old mid a (λ v. one (same u v)) → IsTouchedUp t mid new a → IsWalked t mid new a true (length t.nodes) → HasMarked (both t old) (both t new) a u
@@ -313,6 +332,15 @@ undone before middle after a r s x y = one_family before after r s (record {
 -- an update with marks leaves what one without them does, once it is ended
 pub inserted_gained : (old mid new : Reducts) (a : ℕ) (u : List ℕ) → HasInserted old mid a u → HasKept mid new → HasGained old new a u
 inserted_gained old mid new a u x k = record {
+  sound = k.sound;
+  tree = k.tree ∙ sym x.without.tree;
+  leaf = λ v. omega (arith, k.tables.tuples a v, cnt_split (entries_at mid.tables a) v, x.without.leaf v, x.marked v);
+  others = λ j v low apart. k.tables.tuples j v ∙ sym (x.without.others j v (subst (λ (t : Tree). j < t.leaves) x.without.tree low) apart);
+  bare = k.bare;
+}
+
+pub inserted_gained_all : (old mid new : Reducts) (a : ℕ) (us : List (List ℕ)) → HasInsertedAll old mid a us → HasKept mid new → HasGainedAll old new a us
+inserted_gained_all old mid new a us x k = record {
   sound = k.sound;
   tree = k.tree ∙ sym x.without.tree;
   leaf = λ v. omega (arith, k.tables.tuples a v, cnt_split (entries_at mid.tables a) v, x.without.leaf v, x.marked v);

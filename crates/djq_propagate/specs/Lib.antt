@@ -3,3 +3,4 @@ pub mod Walks
 pub mod Touches
 pub mod Updates
 pub mod Bounds
+pub mod Batches

@@ -21,12 +21,16 @@
 //! Where nobody wants to know what an update changes, [`add_leaf`] and [`drop_leaf`] do it at once,
 //! by the same steps, and mark nothing.
 //!
+//! Many tuples of one leaf may come in one update: [`insert_leaf_many`] puts them in, and it ends as
+//! that of one tuple does; [`add_leaf_many`] and [`drop_leaf_many`] mark nothing.
+//!
 //! It lists no answer, and it knows no relation: a self-join's row goes into its leaves one after
 //! another.
 //!
-//! What surprises: only [`insert_leaf`] and [`add_leaf`] ask for memory. Where they get none, all
-//! tables hold what they held, though the order in groups may differ. A removal does nothing to the tables until it
-//! is finished. What an update counts is bounded by the tuples of the leaves ([`counts_add_up`]).
+//! What surprises: only the calls that put tuples in ask for memory. Where they get none, all tables
+//! hold what they held, though the order in groups may differ. A removal does nothing to the tables
+//! until it is finished. What an update counts is bounded by the tuples of the leaves
+//! ([`counts_add_up`]), whether one tuple comes or many.
 //!
 //! Inside, one tuple goes up the path at a time, depth first. What comes to a trim raises a support
 //! or comes there too; what comes to a guard comes to its meet where the side has its projection;
@@ -35,13 +39,16 @@
 //! and no call shows more than that each sum gains or loses one.
 #![tactic(auto)]
 
+mod batch;
 mod kill;
 mod live;
+mod many;
 mod path;
 mod tables;
 mod touch;
 mod update;
 
+pub use batch::{add_leaf_many, drop_leaf_many, insert_leaf_many};
 pub use update::{
     add_leaf, counts_add_up, drop_leaf, finish_insertion, finish_removal, insert_leaf,
     mark_removal, undo_insertion,

@@ -1,10 +1,12 @@
-ghost use Rattle.std.specs.Prelude.{◌≡◌, IfOk, IfSome};
+ghost use Rattle.std.specs.Prelude.{◌≡◌, ◌<◌, true, length, IfOk, IfSome};
+ghost use Rattle.djq_index.specs.Entries.{cnt};
 ghost use Rattle.djq_reduct.specs.Marks.{IsBare};
+ghost use Rattle.djq_reduct.specs.Tables.{entries_at};
 
 use super::*;
 use djq_hyper::{Edges, VarSet};
 use djq_plan::plan;
-use djq_reduct::{Reducts, is_narrow};
+use djq_reduct::{Cells, Reducts, is_narrow};
 use djq_steps::{Blanks, Ledgers, Steps, Tally};
 use std::alloc::{AllocError, Global};
 use std::marker::Brand;
@@ -63,6 +65,75 @@ fn put<L: Ledger>(
             Ok(true)
         }
     }
+}
+
+/// Whether a leaf lacks a tuple.
+fn lacks<L: Ledger>(reducts: &Reducts, leaf: usize, tuple: &[u64], tally: &mut Tally<L>) -> bool
+    requires { leaf < length reducts.now.tree.nodes }
+    ensures { result ≡ true → cnt (entries_at reducts.now.tables leaf) tuple.now ≡ 0 }
+{
+    match reducts.table(leaf).find(tuple, tally) {
+        Some(_place) => false,
+        None => true,
+    }
+}
+
+/// Whether a leaf has a tuple that is marked.
+fn has_marked<L: Ledger>(
+    reducts: &Reducts,
+    leaf: usize,
+    tuple: &[u64],
+    tally: &mut Tally<L>,
+) -> bool
+    requires { leaf < length reducts.now.tree.nodes }
+{
+    match reducts.table(leaf).find(tuple, tally) {
+        Some(place) => reducts.table(leaf).marked(place),
+        None => false,
+    }
+}
+
+/// Puts two tuples of one cell into a leaf at once, and keeps them or takes them back; says whether both
+/// were marked in between.
+fn put_both<L: Ledger>(
+    alloc: Global,
+    reducts: &mut Reducts,
+    leaf: usize,
+    first: u64,
+    second: u64,
+    keep: bool,
+    tally: &mut Tally<L>,
+) -> Result<bool, AllocError>
+    requires { IsBare reducts.old.tables }
+    ensures { IsBare reducts.new.tables }
+{
+    if leaf >= reducts.tree().leaves() || leaf >= reducts.tree().len() {
+        return Ok(false);
+    }
+    if reducts.tree().label(leaf).len() != 1 || reducts.table(leaf).len() > 1000 {
+        return Ok(false);
+    }
+    if first == second {
+        return Ok(false);
+    }
+    if !lacks(reducts, leaf, &[first], tally) {
+        return Ok(false);
+    }
+    if !lacks(reducts, leaf, &[second], tally) {
+        return Ok(false);
+    }
+    let mut tuples = Vec::new(alloc);
+    tuples.push(Cells::from_slice(&[first]))?;
+    tuples.push(Cells::from_slice(&[second]))?;
+    insert_leaf_many(reducts, leaf, &tuples, tally)?;
+    let one = has_marked(reducts, leaf, &[first], tally);
+    let other = has_marked(reducts, leaf, &[second], tally);
+    if keep {
+        finish_insertion(reducts, leaf, tally);
+        return Ok(one && other);
+    }
+    undo_insertion(reducts, leaf, tally);
+    Ok(one && other)
 }
 
 /// Takes a tuple out of a leaf; says whether it was there.
@@ -277,13 +348,32 @@ fn constants_agree<L: Ledger>(alloc: Global, tally: &mut Tally<L>) -> Result<boo
     )
 }
 
+/// Two tuples of a leaf at once: taken back they are gone, and kept they are there.
+fn both_come<L: Ledger>(alloc: Global, tally: &mut Tally<L>) -> Result<bool, AllocError> {
+    let mut edges = Edges::new(alloc);
+    edges.push(set(&[0, 1]))?;
+    edges.push(set(&[1]))?;
+    let Some(mut reducts) = planned(alloc, &edges, set(&[0]))? else {
+        return Ok(false);
+    };
+    let undone = put_both(alloc, &mut reducts, 1, 5, 7, false, tally)?;
+    let gone = supports(&reducts, 1, &[5], tally) == 0 && supports(&reducts, 1, &[7], tally) == 0;
+    let kept = put_both(alloc, &mut reducts, 1, 5, 7, true, tally)?;
+    let there = supports(&reducts, 1, &[5], tally) == 1 && supports(&reducts, 1, &[7], tally) == 1;
+    Ok(undone && gone && kept && there)
+}
+
 fn on_ledgers<L: Ledgers>(rt: &HostRuntime, blanks: Blanks) -> Result<bool, AllocError>
     requires listing { blanks.listing.name ≡ L.listing }
     requires update { blanks.update.name ≡ L.update }
     requires rows { blanks.rows.name ≡ L.rows }
 {
     let mut steps = Steps::<L>::new(rt, blanks);
-    Ok(all_agree(rt.alloc(), &mut steps.update)? && constants_agree(rt.alloc(), &mut steps.update)?)
+    Ok(
+        all_agree(rt.alloc(), &mut steps.update)?
+            && constants_agree(rt.alloc(), &mut steps.update)?
+            && both_come(rt.alloc(), &mut steps.update)?,
+    )
 }
 
 #[test]
