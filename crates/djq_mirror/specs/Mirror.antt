@@ -19,6 +19,11 @@ pub record Held : Type 0 where
   pub mode : Mode
   pub texts : List Bytes
 
+-- What contracts see of a mirror: its query, and what it holds.
+pub record Seen : Type 0 where
+  pub name : Bytes
+  pub held : Held
+
 -- It holds nothing at first.
 abbrev pub at_first : Held
 at_first = record { mode = Idle; texts = [] }
@@ -93,9 +98,9 @@ abbrev pub Acted : List Bytes → Act → List Bytes → Type 0
 Acted old keep new = new ≡ old
 Acted old clear new = new ≡ []
 Acted old (put t) new =
-    IsInOrder new × ((u : Bytes) → has_text new u ≡ (bytes_eq t u || has_text old u))
+    IsInOrder new × ((u : Bytes) → has_text new u ≡ (bytes_eq u t || has_text old u))
 Acted old (take_out t) new =
-    IsInOrder new × ((u : Bytes) → has_text new u ≡ (not (bytes_eq t u) && has_text old u))
+    IsInOrder new × ((u : Bytes) → has_text new u ≡ (not (bytes_eq u t) && has_text old u))
 
 abbrev pub Turned : Held → Option (Mode × Act) → Held → Type 0
 Turned old None new = ⊥
