@@ -7,3 +7,4 @@ pub mod Sayings
 pub mod Utf8
 pub mod Spelled
 pub mod Making
+pub mod Rows

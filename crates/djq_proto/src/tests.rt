@@ -172,10 +172,25 @@ const LINES: [(&[u8], char); 136] = [
     (b"stop", 'y'),
 ];
 
+// The same letter, where a row is read into room.
+fn letter_by_row(alloc: Global, line: &[u8], row: &mut Vec<Value>) -> char {
+    match read_row(alloc, line, row) {
+        RowLine::Add(_) => 'a',
+        RowLine::Del(_) => 'd',
+        RowLine::Refused(LineRefusal::Syntax) => 'S',
+        RowLine::Refused(LineRefusal::Range) => 'R',
+        RowLine::Refused(LineRefusal::NoMem) => 'M',
+        RowLine::Other => letter(alloc, line),
+    }
+}
+
 #[test]
 fn reads_lines(rt: HostRuntime) {
+    let mut row = Vec::new(rt.alloc());
     for (line, want) in LINES {
         assert_eq!(rt; letter(rt.alloc(), line), want, "{}", line.escape_ascii());
+        let by_row = letter_by_row(rt.alloc(), line, &mut row);
+        assert_eq!(rt; by_row, want, "{}", line.escape_ascii());
     }
 }
 
