@@ -8,3 +8,4 @@ pub mod Utf8
 pub mod Spelled
 pub mod Making
 pub mod Rows
+pub mod Beginning

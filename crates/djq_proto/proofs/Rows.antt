@@ -9,8 +9,7 @@ use Rattle.djq_value.specs.Token.{Token, tokens}
 use Rattle.djq_value.specs.Literal.{is_small_value, literal_of}
 use Rattle.djq_lines.specs.declared.command.Command.{Command}
 use Rattle.djq_lines.specs.declared.command.Command.TheVariants.{Add as AddRow, Del as DeleteRow}
-use Rattle.djq_lines.specs.declared.keyword.Keyword.TheVariants.{Add as AddWord, Del as DelWord}
-use Rattle.djq_lines.specs.Grammar.{command_behind, command_in, command_of, is_in_range, named_some, takes_memory_to_read}
+use Rattle.djq_lines.specs.Grammar.{command_in, command_of, is_in_range, named_some, takes_memory_to_read}
 use Rattle.djq_proto.specs.Reading.{Gives, Reads, ReadsAs}
 use Rattle.djq_proto.specs.RowReading.{TakesRowWord, begins_row, named_read}
 use Rattle.djq_proto.specs.declared.refusal.LineRefusal.{LineRefusal}

@@ -1,5 +1,5 @@
 -- What reading a row's line, or a part of it, answers.
-use Rattle.std.specs.Prelude.{◌≡◌, List, [], ◌∷◌, Bool, true, false, Option, None, Some, Result, Ok, Err}
+use Rattle.std.specs.Prelude.{◌≡◌, ◌==◌, ◌||◌, List, [], ◌∷◌, Bool, true, false, Option, None, Some, Result, Ok, Err}
 use Rattle.std.specs.Borrow.{Bor}
 use Rattle.djq_model.specs.Data.{Bytes, Tuple}
 use Rattle.djq_lines.specs.declared.command.Command.TheVariants.{Add as AddRow, Del as DeleteRow}
@@ -24,6 +24,11 @@ is_row_keyword _ = false
 abbrev pub begins_row : List Token → Bool
 begins_row (word w ∷ ts) = is_row_keyword (keyword_of w)
 begins_row _ = false
+
+-- whether a line may begin with one, by its first byte
+abbrev pub may_begin : Bytes → Bool
+may_begin [] = false
+may_begin (b ∷ bs) = b == 32 || b == 97 || b == 100
 
 -- Such a keyword is taken from those tokens; none is given where they don't begin with one.
 abbrev pub TakesRowWord : List Token → Option RowWord → List Token → Type 0

@@ -5,7 +5,7 @@ ghost use Rattle.djq_model.specs.declared.value.Value.{Value as Datum};
 ghost use Rattle.djq_value.specs.Literal.{is_small_value, literal_of};
 ghost use Rattle.djq_lines.specs.Grammar.{all_of, named_some};
 ghost use Rattle.djq_proto.specs.Reading.{ReadsAs};
-ghost use Rattle.djq_proto.specs.RowReading.{ReadsRow, TakesRowWord, named_read, values_read};
+ghost use Rattle.djq_proto.specs.RowReading.{ReadsRow, TakesRowWord, may_begin, named_read, values_read};
 
 use crate::command::is_utf8;
 use crate::item::Item;
@@ -44,6 +44,9 @@ pub(crate) enum RowWord {
 pub fn read_row<'a>(alloc: Global, line: &'a [u8], row: &mut Vec<Value>) -> RowLine<'a>
     ensures { ReadsRow line.now result row.old.items row.new.items }
 {
+    if !may_begin_row(line) {
+        return RowLine::Other;
+    }
     let mut lexer = Lexer::new(line);
     let Some(verb) = read_row_word(&mut lexer) else {
         return RowLine::Other;
@@ -57,6 +60,16 @@ pub fn read_row<'a>(alloc: Global, line: &'a [u8], row: &mut Vec<Value>) -> RowL
             RowWord::Del => RowLine::Del(name),
         },
         Err(refusal) => RowLine::Refused(refusal),
+    }
+}
+
+// Whether a line may begin with a row's keyword, by its first byte: this tells apart most others.
+fn may_begin_row(line: &[u8]) -> bool
+    ensures { result ≡ may_begin line.now }
+{
+    match line.first() {
+        Some(byte) => matches!(*byte, b' ' | b'a' | b'd'),
+        None => false,
     }
 }
 

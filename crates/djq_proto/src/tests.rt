@@ -172,25 +172,39 @@ const LINES: [(&[u8], char); 136] = [
     (b"stop", 'y'),
 ];
 
-// The same letter, where a row is read into room.
-fn letter_by_row(alloc: Global, line: &[u8], row: &mut Vec<Value>) -> char {
-    match read_row(alloc, line, row) {
-        RowLine::Add(_) => 'a',
-        RowLine::Del(_) => 'd',
-        RowLine::Refused(LineRefusal::Syntax) => 'S',
-        RowLine::Refused(LineRefusal::Range) => 'R',
-        RowLine::Refused(LineRefusal::NoMem) => 'M',
-        RowLine::Other => letter(alloc, line),
+#[test]
+fn reads_lines(rt: HostRuntime) {
+    for (line, want) in LINES {
+        assert_eq!(rt; letter(rt.alloc(), line), want, "{}", line.escape_ascii());
     }
 }
 
+// Lines, what they are to who reads rows, by a letter, and how many values are in the room then.
+const ROWS: [(&[u8], char, usize); 8] = [
+    (b"add r 1 -2", 'a', 2),
+    (b"  del r \"a\"", 'd', 1),
+    (b"drop r", '-', 1),
+    (b"address r 1", '-', 1),
+    (b"add r \"\xc3\"", 'S', 1),
+    (b"add r 9223372036854775808 x", 'S', 0),
+    (b"add r 9223372036854775808 7", 'R', 0),
+    (b"del r 7 7 7", 'd', 3),
+];
+
 #[test]
-fn reads_lines(rt: HostRuntime) {
+fn reads_rows_into_room(rt: HostRuntime) {
     let mut row = Vec::new(rt.alloc());
-    for (line, want) in LINES {
-        assert_eq!(rt; letter(rt.alloc(), line), want, "{}", line.escape_ascii());
-        let by_row = letter_by_row(rt.alloc(), line, &mut row);
-        assert_eq!(rt; by_row, want, "{}", line.escape_ascii());
+    for (line, want, values) in ROWS {
+        let read = match read_row(rt.alloc(), line, &mut row) {
+            RowLine::Add(_) => 'a',
+            RowLine::Del(_) => 'd',
+            RowLine::Refused(LineRefusal::Syntax) => 'S',
+            RowLine::Refused(LineRefusal::Range) => 'R',
+            RowLine::Refused(LineRefusal::NoMem) => 'M',
+            RowLine::Other => '-',
+        };
+        assert_eq!(rt; read, want, "{}", line.escape_ascii());
+        assert_eq!(rt; row.len(), values, "{}", line.escape_ascii());
     }
 }
 

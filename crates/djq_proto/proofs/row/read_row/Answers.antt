@@ -1,10 +1,14 @@
-use Rattle.std.proofs.Common.{◌∙◌, List, Some, subst, sym}
+use Rattle.std.proofs.Common.{◌∙◌, List, Some, refl, subst, sym}
 use Rattle.djq_value.specs.Token.{Token, tokens}
 use Rattle.djq_proto.specs.RowReading.{TakesRowWord}
 use Rattle.djq_proto.specs.declared.row.RowWord.{RowWord}
 use Rattle.djq_proto.specs.declared.row.RowWord.TheVariants.{Add, Del}
+use Rattle.djq_proto.proofs.Beginning.{begins_other}
 use Rattle.djq_proto.proofs.Rows.{begun, line_outside, line_refused, line_said}
 use Rattle.djq_proto.proofs.row.read_row.Goals as goal
+
+pub returns-then-not-may_begin_row : goal.returns-then-not-may_begin_row
+returns-then-not-may_begin_row c = (begins_other c.args.line.now (sym c.may_begin_row.ensures ∙ c.if-not-may_begin_row.true), refl)
 
 pub returns-then-not-is_utf8 : goal.returns-then-not-is_utf8
 returns-then-not-is_utf8 c =
