@@ -30,7 +30,7 @@ use Rattle.djq_engine.specs.declared.cursor.CursorId.{CursorId}
 use Rattle.djq_engine.specs.Kept.{Kept, Held, Registered, held_at, outdated_held, Outdates, registered_at, is_watched, readers_of, affected_of}
 use Rattle.djq_engine.specs.Watching.{LogsTell, queries_affected}
 use Rattle.djq_core.specs.declared.open.OpenSession.{OpenSession}
-use Rattle.djq_core.specs.declared.change.Change.{Change}
+use Rattle.djq_core.specs.declared.change.Outcome.{Outcome}
 use Rattle.djq_core.specs.declared.change.Outcome.TheVariants.{Added, Deleted}
 use Rattle.djq_core.specs.Views.{Talk, session_in, open_in, state_in}
 use Rattle.djq_core.specs.Sound.{ids_of, all_ids, AreHeld, IsSound, is_among_watches, watchers_in}
@@ -223,11 +223,11 @@ pub record Composed (old : Kept) (stopped : Bool) (xs : List OpenSession) (s : �
   pub counted : now ≤ was + effect.cost
   pub keeps : effect.kept ≡ kept_where kept
 
-composed : (old mid new : Kept) (stopped : Bool) (xs ys : List OpenSession) (s : ℕ) (y : Session) (change : Change) (was now : ℕ) → IsSound old xs → (command : Command) → IsChange command old change mid was now
-    → TellsAll (is_accepted change.outcome) (reply_of change.outcome (mid.store).seq) mid s xs new ys → Composed old stopped xs s y command (is_kept change.outcome) new ys was now
+composed : (old mid new : Kept) (stopped : Bool) (xs ys : List OpenSession) (s : ℕ) (y : Session) (change : Outcome) (was now : ℕ) → IsSound old xs → (command : Command) → IsChange command old change mid was now
+    → TellsAll (is_accepted change) (reply_of change (mid.store).seq) mid s xs new ys → Composed old stopped xs s y command (is_kept change) new ys was now
 composed old mid new stopped xs ys s y change was now sound (Add name row) a t =
     let change = row_in (old.store).relations name row in
-    let told = subst (λ (c : Change). TellsAll (is_accepted c.outcome) (reply_of c.outcome (mid.store).seq) mid s xs new ys) a.is t in
+    let told = subst (λ (c : Outcome). TellsAll (is_accepted c) (reply_of c (mid.store).seq) mid s xs new ys) a.is t in
     let r = change_step old mid new stopped xs ys s (add_outcome change a.result) (add_reply a.result (mid.store).seq) (kept_where (is_done a.result)) was now a.changed sound
     (subst (λ (b : Bool). TellsAll b (add_reply a.result (mid.store).seq) mid s xs new ys) (add_made change a.result) told) in
     record {
@@ -236,11 +236,11 @@ composed old mid new stopped xs ys s y change was now sound (Add name row) a t =
       does = record { result = a.result; store = mid.store; done = a.done; change = r.2.0; kept = r.2.1 };
       queued = r.3;
       counted = r.4;
-      keeps = r.2.1 ∙ ap (λ (c : Change). kept_where (is_kept c.outcome)) (sym a.is);
+      keeps = r.2.1 ∙ ap (λ (c : Outcome). kept_where (is_kept c)) (sym a.is);
     }
 composed old mid new stopped xs ys s y change was now sound (Del name row) a t =
     let change = row_out (old.store).relations name row in
-    let told = subst (λ (c : Change). TellsAll (is_accepted c.outcome) (reply_of c.outcome (mid.store).seq) mid s xs new ys) a.is t in
+    let told = subst (λ (c : Outcome). TellsAll (is_accepted c) (reply_of c (mid.store).seq) mid s xs new ys) a.is t in
     let r = change_step old mid new stopped xs ys s (delete_outcome change a.result) (delete_reply a.result (mid.store).seq) (kept_where (is_removal a.result)) was now a.changed sound
     (subst (λ (b : Bool). TellsAll b (delete_reply a.result (mid.store).seq) mid s xs new ys) (delete_made change a.result) told) in
     record {
@@ -249,7 +249,7 @@ composed old mid new stopped xs ys s y change was now sound (Del name row) a t =
       does = record { result = a.result; store = mid.store; done = a.done; change = r.2.0; kept = r.2.1 };
       queued = r.3;
       counted = r.4;
-      keeps = r.2.1 ∙ ap (λ (c : Change). kept_where (is_kept c.outcome)) (sym a.is);
+      keeps = r.2.1 ∙ ap (λ (c : Outcome). kept_where (is_kept c)) (sym a.is);
     }
 composed old mid new stopped xs ys s y change was now sound (Rel name types) a t = absurd a
 composed old mid new stopped xs ys s y change was now sound (Register q) a t = absurd a
@@ -266,10 +266,10 @@ composed old mid new stopped xs ys s y change was now sound Quit a t = absurd a
 composed old mid new stopped xs ys s y change was now sound Stop a t = absurd a
 
 -- A change that was told and answered is a step of the machine.
-pub change_gives : (change : Change) (old mid new : Kept) (before after : Talk) (front : List OpenSession) (s : ℕ) (back ys : List OpenSession) (stopped : Bool) (was now : Counts)
+pub change_gives : (change : Outcome) (old mid new : Kept) (before after : Talk) (front : List OpenSession) (s : ℕ) (back ys : List OpenSession) (stopped : Bool) (was now : Counts)
     → LeavesChange change old before mid after was.listing now.listing → IsSound old (among front s before back)
-    → TellsAll (is_accepted change.outcome) (reply_of change.outcome (mid.store).seq) mid s (among front s after back) new ys
-    → StepGives (state_in old stopped (among front s before back)) s (Ran (is_kept change.outcome)) (state_in new stopped ys) was now
+    → TellsAll (is_accepted change) (reply_of change (mid.store).seq) mid s (among front s after back) new ys
+    → StepGives (state_in old stopped (among front s before back)) s (Ran (is_kept change)) (state_in new stopped ys) was now
 change_gives change old mid new before after front s back ys stopped was now c sound t =
     let st = state_in old stopped (among front s before back) in
     let x = session_in old.cursors s before in

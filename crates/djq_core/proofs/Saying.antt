@@ -1,12 +1,12 @@
 -- What reading a line gives, as the machine says it; and that what is read is served.
 use Rattle.std.proofs.Common.{ℕ, zero, suc, length, ◌≡◌, ◌<◌, ◌≤◌, true, false, Bool, List, [], ◌∷◌, Option, None, Some, Ok, Err, cond, option_map, refl, sym, ap, ◌∙◌, subst, arith, nat_le}
 use Rattle.std.specs.Str.{is_utf8}
-use Rattle.std.proofs.lemmas.Bool.{and_parts, leb-true}
+use Rattle.std.proofs.lemmas.Bool.{and_parts, leb-true, true≢false}
 use Rattle.djq_model.specs.declared.relation.ColumnType.{ColumnType}
 use Rattle.djq_model.specs.declared.query.Query.{Query}
-use Rattle.djq_model.specs.Data.{Bytes}
+use Rattle.djq_model.specs.Data.{Bytes, Tuple}
 use Rattle.djq_value.specs.Token.{Token, word, text, open_paren, close_paren, comma, arrow, operator, stray, tokens}
-use Rattle.djq_value.specs.Literal.{is_name, natural_of, literal_of}
+use Rattle.djq_value.specs.Literal.{is_lower, is_name, natural_of, literal_of}
 use Rattle.djq_lines.specs.declared.answer.Refusal.TheVariants.{WrongType, Syntax}
 use Rattle.djq_lines.specs.declared.command.Command.{Command}
 use Rattle.djq_lines.specs.declared.command.Command.TheVariants.{Rel, Add, Del, Query as Register, Drop, Open, Next, Close, Has, Watch, Unwatch, Explain, Shape, Quit, Stop}
@@ -17,13 +17,16 @@ use Rattle.djq_lines.specs.Grammar.{outside, past_limit, says, reading_in, readi
 use Rattle.djq_proto.specs.declared.refusal.LineRefusal.{LineRefusal}
 use Rattle.djq_proto.specs.declared.refusal.LineRefusal.TheVariants.{Syntax as Outside, Range, NoMem}
 use Rattle.djq_proto.specs.Reading.{Gives, Reads}
+use Rattle.djq_proto.specs.RowReading.{begins_row}
+use Rattle.djq_proto.specs.Saying.{Says}
+use Rattle.djq_proto.proofs.Sayings.{commands_are_said}
 use Rattle.djq_machine.specs.Keeping.{kept_where}
 use Rattle.djq_machine.specs.LineStep.{ReadStep}
 use Rattle.djq_session.specs.Dialog.{Replies}
 use Rattle.djq_engine.specs.Kept.{Kept}
 use Rattle.djq_core.specs.Views.{Talk}
 use Rattle.djq_core.specs.Performs.{Performs}
-use Rattle.djq_core.specs.Stepping.{IsRunnable, refused_as}
+use Rattle.djq_core.specs.Stepping.{IsRunnable, is_on_row, refused_as}
 use Rattle.djq_core.proofs.Taking.{reads_refused, reads_nothing}
 
 -- what a command in range gives
@@ -234,3 +237,53 @@ runnable_in line (Some a) c e g = run_as line c (e ∙ ap (λ (x : Command). Som
 
 pub runnable : (line : Bytes) (c : Command) → Reads line (Ok c) → IsRunnable c
 runnable line c g = runnable_in line (command_of line) c refl g
+
+-- What a line says, its tokens say.
+
+said_within : (line : Bytes) (c : Command) → command_of line ≡ Some c → Says c (tokens line)
+unfolding command_of
+said_within line c e = step (is_utf8 line) e
+  where
+    step : (b : Bool) → cond b (command_in (tokens line)) None ≡ Some c → Says c (tokens line)
+    step true f = (commands_are_said (tokens line) c).0 f
+    step false f = absurd (cc)
+
+said_in : (line : Bytes) (o : Option Command) (c : Command) → command_of line ≡ o → Gives o (Ok c) → Says c (tokens line)
+said_in line None c e g = absurd (cc (g.0))
+said_in line (Some a) c e g = said_within line c (e ∙ ap (λ (x : Command). Some x) (sym g.0.0))
+
+tokens_say : (line : Bytes) (c : Command) → Reads line (Ok c) → Says c (tokens line)
+tokens_say line c g = said_in line (command_of line) c refl g
+
+-- where they begin with no row's keyword, it isn't on a row
+other_said : (c : Command) (ts : List Token) → Says c ts → begins_row ts ≡ false → is_on_row c ≡ false
+other_said (Rel n cs) ts h e = refl
+other_said (Add n row) ts h e = absurd (true≢false (sym (ap begins_row h.1.3) ∙ e))
+other_said (Del n row) ts h e = absurd (true≢false (sym (ap begins_row h.1.3) ∙ e))
+other_said (Register q) ts h e = refl
+other_said (Drop q) ts h e = refl
+other_said (Open c q) ts h e = refl
+other_said (Next c n) ts h e = refl
+other_said (Close c) ts h e = refl
+other_said (Has q row) ts h e = refl
+other_said (Watch q) ts h e = refl
+other_said (Unwatch q) ts h e = refl
+other_said (Explain q) ts h e = refl
+other_said (Shape q) ts h e = refl
+other_said Quit ts h e = refl
+other_said Stop ts h e = refl
+
+pub other : (line : Bytes) (c : Command) → Reads line (Ok c) → begins_row (tokens line) ≡ false → is_on_row c ≡ false
+other line c g e = other_said c (tokens line) (tokens_say line c g) e
+
+-- The name of a row's relation is a name.
+
+short_name : (n : Bytes) → is_name n ≡ true → length n ≤ 32
+short_name [] e = absurd (cc)
+short_name (b ∷ bs) e = omega (arith, leb-true (length bs) 31 (and_parts _ (nat_le (length bs) 31) (and_parts (is_lower b) _ e).1).1)
+
+pub short_to_add : (line n : Bytes) (row : Tuple) → Reads line (Ok (Add n row)) → length n ≤ 32
+short_to_add line n row g = short_name n (tokens_say line (Add n row) g).1.1
+
+pub short_to_delete : (line n : Bytes) (row : Tuple) → Reads line (Ok (Del n row)) → length n ≤ 32
+short_to_delete line n row g = short_name n (tokens_say line (Del n row) g).1.1

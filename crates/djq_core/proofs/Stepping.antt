@@ -11,7 +11,7 @@ use Rattle.djq_machine.specs.Changes.{RowsChange, RowsOutcome, row_in, row_out, 
 use Rattle.djq_engine.specs.declared.cursor.QueryId.{QueryId}
 use Rattle.djq_engine.specs.Kept.{Kept, Registered, Outdates, IsRegistered}
 use Rattle.djq_core.specs.declared.open.OpenSession.{OpenSession}
-use Rattle.djq_core.specs.declared.change.Change.{Change}
+use Rattle.djq_core.specs.declared.change.Outcome.{Outcome}
 use Rattle.djq_core.specs.declared.change.Left.TheVariants.{Telling}
 use Rattle.djq_core.specs.Views.{Talk}
 use Rattle.djq_core.specs.Sound.{IsSound}
@@ -21,14 +21,14 @@ use Rattle.djq_core.specs.Stepping.{LeavesTo}
 use Rattle.djq_core.proofs.Composing.{sound_changed, add_made, delete_made, readers_by, affected_logs}
 
 -- Only a line that was run leaves one.
-pub telling_ran : (stepped : Stepped) (change : Change) (old : Kept) (before : Talk) (new : Kept) (after : Talk) (was now : Counts)
-    → LeavesTo stepped (Telling change) old before new after was now → (stepped ≡ Ran (is_kept change.outcome)) × LeavesChange change old before new after was.listing now.listing
+pub telling_ran : (stepped : Stepped) (change : Outcome) (old : Kept) (before : Talk) (new : Kept) (after : Talk) (was now : Counts)
+    → LeavesTo stepped (Telling change) old before new after was now → (stepped ≡ Ran (is_kept change)) × LeavesChange change old before new after was.listing now.listing
 telling_ran (Ran kept) change old before new after was now l = (ap (λ (b : Bool). Ran b) l.0, l.1)
 telling_ran Dry change old before new after was now l = absurd l
 telling_ran (Ended c) change old before new after was now l = absurd l
 
 -- What of it the cursors see.
-outdated_by : (command : Command) (old : Kept) (change : Change) (new : Kept) (was now : ℕ) → IsChange command old change new was now
+outdated_by : (command : Command) (old : Kept) (change : Outcome) (new : Kept) (was now : ℕ) → IsChange command old change new was now
     → (o : Option RowsChange) × Outdates old o new × (new.registered ≡ old.registered)
 outdated_by (Add name row) old change new was now a = (tried (add_outcome (row_in (old.store).relations name row) a.result), (a.changed).outdated, (a.changed).registered)
 outdated_by (Del name row) old change new was now a = (tried (delete_outcome (row_out (old.store).relations name row) a.result), (a.changed).outdated, (a.changed).registered)
@@ -47,7 +47,7 @@ outdated_by Quit old change new was now a = absurd a
 outdated_by Stop old change new was now a = absurd a
 
 -- All is sound behind it.
-pub sound_left : (change : Change) (old new : Kept) (front : List OpenSession) (s : ℕ) (before after : Talk) (back : List OpenSession) (was now : ℕ)
+pub sound_left : (change : Outcome) (old new : Kept) (front : List OpenSession) (s : ℕ) (before after : Talk) (back : List OpenSession) (was now : ℕ)
     → LeavesChange change old before new after was now → IsSound old (among front s before back) → IsSound new (among front s after back)
 sound_left change old new front s before after back was now c sound =
     let o = outdated_by c.command old change new was now c.changes in
@@ -69,15 +69,15 @@ readers_are old new outcome was now c held =
     subst (λ (ids : List QueryId). All (IsRegistered new) ids) (sym r.affected)
     (All-map (IsRegistered new) (λ (x : Registered). x.id) (readers_by old.registered outcome) (λ k d lt. subst (λ (o : Option Registered). IsSome o) (sym (r.there k d lt)) refl))
 
-registered_by : (command : Command) (old : Kept) (change : Change) (new : Kept) (was now : ℕ) → IsChange command old change new was now → is_accepted change.outcome ≡ true → All (IsRegistered new) new.affected
+registered_by : (command : Command) (old : Kept) (change : Outcome) (new : Kept) (was now : ℕ) → IsChange command old change new was now → is_accepted change ≡ true → All (IsRegistered new) new.affected
 registered_by (Add name row) old change new was now a held =
     let made = row_in (old.store).relations name row in
     readers_are old new (add_outcome made a.result) was now a.changed
-    (sym (add_made made a.result) ∙ subst (λ (c : Change). is_accepted c.outcome ≡ true) a.is held)
+    (sym (add_made made a.result) ∙ subst (λ (c : Outcome). is_accepted c ≡ true) a.is held)
 registered_by (Del name row) old change new was now a held =
     let made = row_out (old.store).relations name row in
     readers_are old new (delete_outcome made a.result) was now a.changed
-    (sym (delete_made made a.result) ∙ subst (λ (c : Change). is_accepted c.outcome ≡ true) a.is held)
+    (sym (delete_made made a.result) ∙ subst (λ (c : Outcome). is_accepted c ≡ true) a.is held)
 registered_by (Rel name types) old change new was now a held = absurd a
 registered_by (Register q) old change new was now a held = absurd a
 registered_by (Drop q) old change new was now a held = absurd a
@@ -93,6 +93,6 @@ registered_by Quit old change new was now a held = absurd a
 registered_by Stop old change new was now a held = absurd a
 
 -- The queries that an accepted change affects are registered.
-pub registered_left : (change : Change) (old new : Kept) (before after : Talk) (was now : ℕ) → LeavesChange change old before new after was now
-    → is_accepted change.outcome ≡ true → All (IsRegistered new) new.affected
+pub registered_left : (change : Outcome) (old new : Kept) (before after : Talk) (was now : ℕ) → LeavesChange change old before new after was now
+    → is_accepted change ≡ true → All (IsRegistered new) new.affected
 registered_left change old new before after was now c held = registered_by c.command old change new was now c.changes held

@@ -17,7 +17,6 @@ use Rattle.djq_machine.specs.Store.{AddsRow, DeletesRow}
 use Rattle.djq_machine.specs.Changes.{RowsOutcome, row_in, row_out, add_outcome, delete_outcome, tried}
 use Rattle.djq_engine.specs.Kept.{Kept, Outdates, same_query}
 use Rattle.djq_engine.specs.Watching.{TellsChange}
-use Rattle.djq_core.specs.declared.change.Change.{Change}
 use Rattle.djq_core.specs.declared.change.Outcome.{Outcome}
 use Rattle.djq_core.specs.declared.change.Outcome.TheVariants.{Added, Deleted}
 use Rattle.djq_core.specs.Views.{Talk}
@@ -51,26 +50,26 @@ pub record Changed (old : Kept) (outcome : RowsOutcome) (new : Kept) (was now : 
   pub tells : TellsChange old outcome new was now
 
 -- A row was to be added.
-pub record Adds (old : Kept) (name : Bytes) (row : Tuple) (change : Change) (new : Kept) (was now : ℕ) : Type 0 where
+pub record Adds (old : Kept) (name : Bytes) (row : Tuple) (outcome : Outcome) (new : Kept) (was now : ℕ) : Type 0 where
   pub result : Result AddOutcome Refusal
-  pub is : change ≡ record { relation = name; outcome = Added result }
+  pub is : outcome ≡ Added result
   pub done : AddsRow old.store name row result new.store
   pub changed : Changed old (add_outcome (row_in (old.store).relations name row) result) new was now
 
 -- A row was to be deleted.
-pub record Deletes (old : Kept) (name : Bytes) (row : Tuple) (change : Change) (new : Kept) (was now : ℕ) : Type 0 where
+pub record Deletes (old : Kept) (name : Bytes) (row : Tuple) (outcome : Outcome) (new : Kept) (was now : ℕ) : Type 0 where
   pub result : Result DeleteOutcome Refusal
-  pub is : change ≡ record { relation = name; outcome = Deleted result }
+  pub is : outcome ≡ Deleted result
   pub done : DeletesRow old.store name row result new.store
   pub changed : Changed old (delete_outcome (row_out (old.store).relations name row) result) new was now
 
-abbrev pub IsChange : Command → Kept → Change → Kept → ℕ → ℕ → Type 0
-IsChange (Add name row) old change new was now = Adds old name row change new was now
-IsChange (Del name row) old change new was now = Deletes old name row change new was now
-IsChange _ old change new was now = ⊥
+abbrev pub IsChange : Command → Kept → Outcome → Kept → ℕ → ℕ → Type 0
+IsChange (Add name row) old outcome new was now = Adds old name row outcome new was now
+IsChange (Del name row) old outcome new was now = Deletes old name row outcome new was now
+IsChange _ old outcome new was now = ⊥
 
 -- A session's line was taken and its command done. What is left is to tell the change and to answer, for which there is room.
-pub record LeavesChange (change : Change) (old : Kept) (before : Talk) (new : Kept) (after : Talk) (was now : ℕ) : Type 0 where
+pub record LeavesChange (outcome : Outcome) (old : Kept) (before : Talk) (new : Kept) (after : Talk) (was now : ℕ) : Type 0 where
   pub running : before.cause ≡ None
   pub line : Bytes
   pub rest : Bytes
@@ -79,6 +78,6 @@ pub record LeavesChange (change : Change) (old : Kept) (before : Talk) (new : Ke
   pub few : length before.pending ≤ PENDING_BYTES
   pub command : Command
   pub reads : reading_of line ≡ says command
-  pub changes : IsChange command old change new was now
+  pub changes : IsChange command old outcome new was now
   pub taken : after ≡ record before { held = rest; room = after.room }
   pub room : REPLY_BYTES + LAST_LINE_BYTES ≤ after.room

@@ -5,7 +5,7 @@ use Rattle.djq_lines.specs.Line.{a_line, front_of}
 use Rattle.djq_lines.specs.declared.answer.EndCause.{EndCause}
 use Rattle.djq_lines.specs.declared.answer.EndCause.TheVariants.{Long, Slow, Memory}
 use Rattle.djq_lines.specs.declared.command.Command.{Command}
-use Rattle.djq_lines.specs.declared.command.Command.TheVariants.{Rel, Query as Register, Next}
+use Rattle.djq_lines.specs.declared.command.Command.TheVariants.{Rel, Add, Del, Query as Register, Next}
 use Rattle.djq_lines.specs.declared.answer.Refusal.{Refusal}
 use Rattle.djq_lines.specs.declared.answer.Refusal.TheVariants.{Syntax, WrongType, NoMemory}
 use Rattle.djq_proto.specs.declared.refusal.LineRefusal.{LineRefusal}
@@ -30,6 +30,12 @@ IsRunnable (Rel n cs) = 0 < length cs
 IsRunnable (Register q) = 0 < length q.atoms
 IsRunnable (Next c count) = 1 ≤ count
 IsRunnable _ = ⊤
+
+-- whether a command adds a row, or deletes one
+abbrev pub is_on_row : Command → Bool
+is_on_row (Add name row) = true
+is_on_row (Del name row) = true
+is_on_row _ = false
 
 -- what a line that gives no command is answered
 abbrev pub refused_as : LineRefusal → Refusal
@@ -73,27 +79,27 @@ StepsTo (Ended c) stops old before new after was now = MatchOption before.cause
 abbrev pub is_kept_by : Left → Bool
 is_kept_by (Nothing kept) = kept
 is_kept_by Stopping = false
-is_kept_by (Telling change) = is_kept change.outcome
+is_kept_by (Telling outcome) = is_kept outcome
 
 -- A command is done, or what is left of it is to tell a change.
 abbrev pub Obeys : Command → Left → Kept → Talk → Kept → Talk → ℕ → ℕ → Type 0
 Obeys command (Nothing kept) old before new after was now = ExecutesKeeping command kept false old before new after was now
 Obeys command Stopping old before new after was now = ExecutesKeeping command false true old before new after was now
-Obeys command (Telling change) old before new after was now = IsChange command old change new was now × (after ≡ before)
+Obeys command (Telling outcome) old before new after was now = IsChange command old outcome new was now × (after ≡ before)
 
 -- So it is of a line.
 abbrev pub LineLeaves : Bytes → Left → Kept → Talk → Kept → Talk → ℕ → ℕ → Type 0
 LineLeaves l (Nothing kept) old before new after was now = FrontsKeeping (run l) kept false old before new after was now
 LineLeaves l Stopping old before new after was now = FrontsKeeping (run l) false true old before new after was now
-LineLeaves l (Telling change) old before new after was now = LeavesChange change old before new after was now
+LineLeaves l (Telling outcome) old before new after was now = LeavesChange outcome old before new after was now
 
 -- And of a step.
 abbrev pub LeavesTo : Stepped → Left → Kept → Talk → Kept → Talk → Counts → Counts → Type 0
 LeavesTo stepped (Nothing kept) old before new after was now = StepsTo stepped false old before new after was now
 LeavesTo stepped Stopping old before new after was now = StepsTo stepped true old before new after was now
-LeavesTo (Ran kept) (Telling change) old before new after was now = (kept ≡ is_kept change.outcome) × LeavesChange change old before new after was.listing now.listing
-LeavesTo Dry (Telling change) old before new after was now = ⊥
-LeavesTo (Ended c) (Telling change) old before new after was now = ⊥
+LeavesTo (Ran kept) (Telling outcome) old before new after was now = (kept ≡ is_kept outcome) × LeavesChange outcome old before new after was.listing now.listing
+LeavesTo Dry (Telling outcome) old before new after was now = ⊥
+LeavesTo (Ended c) (Telling outcome) old before new after was now = ⊥
 
 -- whether a step that answers so keeps its line
 abbrev pub keeps_line : Stepped → Bool

@@ -3,7 +3,6 @@ ghost use Rattle.djq_core.specs.Changing.{is_kept};
 ghost use Rattle.djq_core.specs.Stepping.{is_kept_by};
 
 use djq_lines::{AddOutcome, DeleteOutcome, Refusal};
-use djq_model::Name;
 
 /// What a command on a row came to.
 #[derive(Clone, Copy, Debug)]
@@ -28,14 +27,6 @@ impl Outcome {
     }
 }
 
-/// A command on a row of a relation, once it was done or refused: what is left is to tell those who
-/// watch, and to answer.
-#[derive(Clone, Copy, Debug)]
-pub(crate) struct Change {
-    pub(crate) relation: Name,
-    pub(crate) outcome: Outcome,
-}
-
 /// What is left to do once a session's line was run.
 #[derive(Clone, Copy, Debug)]
 pub(crate) enum Left {
@@ -46,8 +37,8 @@ pub(crate) enum Left {
     },
     /// The server is stopped.
     Stopping,
-    /// A change is to be told and answered.
-    Telling(Change),
+    /// A command on a row was done or refused: that is to be told to those who watch, and answered.
+    Telling(Outcome),
 }
 
 impl Left {
@@ -58,7 +49,7 @@ impl Left {
         match *self {
             Left::Nothing { kept } => kept,
             Left::Stopping => false,
-            Left::Telling(change) => change.outcome.is_kept(),
+            Left::Telling(outcome) => outcome.is_kept(),
         }
     }
 }

@@ -10,7 +10,7 @@ ghost use Rattle.djq_core.specs.Performs.{Executes, ExecutesKeeping};
 ghost use Rattle.djq_core.specs.Changing.{Adds, Deletes};
 ghost use Rattle.djq_core.specs.Sound.{IsReady};
 
-use crate::change::{Change, Outcome};
+use crate::change::Outcome;
 use crate::ending::{cut_off, give_up};
 use djq_engine::{CursorId, Engine};
 use djq_lines::limits::CURSORS;
@@ -42,15 +42,12 @@ pub(crate) fn run_add<L: Ledgers>(
     name: &Name,
     row: &[Value],
     steps: &mut Steps<L>,
-) -> Change
+) -> Outcome
     ensures { Adds engine.old name.now row.now result engine.new steps.old.listing
         steps.new.listing }
 {
     engine.laws();
-    Change {
-        relation: *name,
-        outcome: Outcome::Added(engine.add(name, row, steps)),
-    }
+    Outcome::Added(engine.add(name, row, steps))
 }
 
 /// `del`: a row goes out of a relation, likewise.
@@ -59,15 +56,12 @@ pub(crate) fn run_del<L: Ledgers>(
     name: &Name,
     row: &[Value],
     steps: &mut Steps<L>,
-) -> Change
+) -> Outcome
     ensures { Deletes engine.old name.now row.now result engine.new steps.old.listing
         steps.new.listing }
 {
     engine.laws();
-    Change {
-        relation: *name,
-        outcome: Outcome::Deleted(engine.del(name, row, steps)),
-    }
+    Outcome::Deleted(engine.del(name, row, steps))
 }
 
 /// `query`: a query is registered, or a rest shows why it isn't. Out of memory in a long rest, the

@@ -28,10 +28,11 @@
 //! session let go of it; `load` takes it in again.
 //!
 //! Inside: `serving` has the sessions by id and the calls; `line` the order of checks before a line
-//! is run; `commands`, `watch`, `listing` and `ending` what commands do, `next` line by line, and a
-//! session's end; `tell` what a command on rows leaves to do, each delta printed once, and then its
-//! answer. `told` lends an answer of the engine to the session that prints it; `copied` is where a
-//! line is copied.
+//! is run, and tells a row's line apart: its values are read into memory that is used again, and any
+//! other command is made anew; `commands`, `watch`, `listing` and `ending` what commands do, `next`
+//! line by line, and a session's end; `tell` what a command on rows leaves to do, each delta printed
+//! once, and then its answer. `told` lends an answer of the engine to the session that prints it;
+//! `copied` is where a line is copied.
 #![tactic(auto)]
 
 pub use serving::Core;

@@ -3,8 +3,11 @@ ghost use Rattle.std.specs.Prelude.{◌≡◌, ◌≤◌, ◌||◌, None, Bool, 
 ghost use Rattle.djq_lines.specs.Line.{a_line, front_of, is_blank as is_blank_line};
 ghost use Rattle.djq_lines.specs.declared.limits.TheConstants.{PENDING_BYTES};
 ghost use Rattle.djq_machine.specs.Call.{counts};
+ghost use Rattle.djq_proto.specs.RowReading.{begins_row};
+ghost use Rattle.djq_value.specs.Token.{tokens};
 ghost use Rattle.djq_core.specs.Sound.{IsOwn, IsReady};
-ghost use Rattle.djq_core.specs.Stepping.{Copies, IsRunnable, LeavesTo, LineLeaves, Obeys, refused_as};
+ghost use Rattle.djq_core.specs.Stepping.{Copies, IsRunnable, LeavesTo, LineLeaves, Obeys, is_on_row};
+ghost use Rattle.djq_core.specs.Stepping.{refused_as};
 
 use crate::change::Left;
 use crate::commands::{
@@ -19,13 +22,13 @@ use djq_engine::{CursorId, Engine};
 use djq_lines::limits::{PENDING_BYTES, REPLY_BYTES};
 use djq_lines::{Command, EndCause, EndLine, Refusal};
 use djq_machine::Stepped;
-use djq_model::Name;
-use djq_proto::{Front, LineRefusal, is_blank, read_command};
+use djq_model::{Name, Value};
+use djq_proto::{Front, LineRefusal, RowLine, is_blank, read_command, read_row};
 use djq_session::Session;
 use djq_steps::{Ledgers, Steps};
 use std::alloc::Global;
 
-// Runs a command, and tells what is left to do.
+// Runs a command that isn't on a row, and tells what is left to do.
 fn obey<L: Ledgers>(
     engine: &mut Engine,
     session: &mut Session<CursorId, Name>,
@@ -34,6 +37,7 @@ fn obey<L: Ledgers>(
 ) -> Left
     requires ready { IsReady engine.old session.old }
     requires runnable { IsRunnable command }
+    requires other { is_on_row command ≡ false }
     ensures { Obeys command result engine.old session.old engine.new session.new
         steps.old.listing steps.new.listing }
 {
@@ -41,12 +45,8 @@ fn obey<L: Ledgers>(
         Command::Rel { name, types } => Left::Nothing {
             kept: run_rel(engine, session, name, types),
         },
-        Command::Add { name, row } => {
-            Left::Telling(run_add(engine, &name, row.as_slice(), steps))
-        }
-        Command::Del { name, row } => {
-            Left::Telling(run_del(engine, &name, row.as_slice(), steps))
-        }
+        Command::Add { .. } => unreachable!(),
+        Command::Del { .. } => unreachable!(),
         Command::Query { query } => Left::Nothing {
             kept: run_query(engine, session, query, steps),
         },
@@ -104,6 +104,7 @@ fn run_line<L: Ledgers>(
     session: &mut Session<CursorId, Name>,
     end: usize,
     rest: usize,
+    row: &mut Vec<Value>,
     steps: &mut Steps<L>,
 ) -> Left
     requires ready { IsReady engine.old session.old }
@@ -112,6 +113,47 @@ fn run_line<L: Ledgers>(
     requires within { (end ≤ length session.old.held) × (rest ≤ length session.old.held) }
     requires said { is_blank_line (take end session.old.held) ≡ false }
     requires few { length session.old.pending ≤ PENDING_BYTES }
+    ensures { LineLeaves (take end session.old.held) result
+        engine.old session.old engine.new session.new steps.old.listing steps.new.listing }
+{
+    match read_row(alloc, &session.held()[..end], row) {
+        RowLine::Add(name) => {
+            let outcome = run_add(engine, &Name::new(name), row.as_slice(), steps);
+            session.take_line(rest);
+            Left::Telling(outcome)
+        }
+        RowLine::Del(name) => {
+            let outcome = run_del(engine, &Name::new(name), row.as_slice(), steps);
+            session.take_line(rest);
+            Left::Telling(outcome)
+        }
+        RowLine::Refused(refusal) => {
+            session.take_line(rest);
+            session.refuse(refusal_of(refusal));
+            Left::Nothing { kept: false }
+        }
+        RowLine::Other => run_other(alloc, engine, session, end, rest, steps),
+    }
+}
+
+// The same of a line that isn't one of a row. It stands apart so that a row's line clears no room for
+// a command.
+#[inline(never)]
+fn run_other<L: Ledgers>(
+    alloc: Global,
+    engine: &mut Engine,
+    session: &mut Session<CursorId, Name>,
+    end: usize,
+    rest: usize,
+    steps: &mut Steps<L>,
+) -> Left
+    requires ready { IsReady engine.old session.old }
+    requires front { front_of session.old.held ≡ a_line (take end session.old.held)
+        (drop rest session.old.held) }
+    requires within { (end ≤ length session.old.held) × (rest ≤ length session.old.held) }
+    requires said { is_blank_line (take end session.old.held) ≡ false }
+    requires few { length session.old.pending ≤ PENDING_BYTES }
+    requires other { begins_row (tokens (take end session.old.held)) ≡ false }
     ensures { LineLeaves (take end session.old.held) result
         engine.old session.old engine.new session.new steps.old.listing steps.new.listing }
 {
@@ -145,6 +187,7 @@ fn step_line<L: Ledgers>(
     session: &mut Session<CursorId, Name>,
     end: usize,
     rest: usize,
+    row: &mut Vec<Value>,
     steps: &mut Steps<L>,
 ) -> (Stepped, Left)
     requires own { IsOwn engine.old session.old }
@@ -170,7 +213,7 @@ fn step_line<L: Ledgers>(
     }
     match session.keep(REPLY_BYTES) {
         Ok(()) => {
-            let left = run_line(alloc, engine, session, end, rest, steps);
+            let left = run_line(alloc, engine, session, end, rest, row, steps);
             let kept = left.is_kept();
             (Stepped::Ran { kept }, left)
         }
@@ -192,6 +235,7 @@ pub(crate) fn step_session<L: Ledgers>(
     engine: &mut Engine,
     session: &mut Session<CursorId, Name>,
     copied: &mut Copied,
+    row: &mut Vec<Value>,
     steps: &mut Steps<L>,
 ) -> (Stepped, Left)
     requires { IsOwn engine.old session.old }
@@ -214,7 +258,7 @@ pub(crate) fn step_session<L: Ledgers>(
         }
         Front::Line { end, rest } => {
             copied.copy(&session.held()[..end]);
-            step_line(alloc, engine, session, end, rest, steps)
+            step_line(alloc, engine, session, end, rest, row, steps)
         }
     }
 }

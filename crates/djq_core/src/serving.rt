@@ -13,10 +13,10 @@ use crate::open::OpenSession;
 use crate::tell::tell_change;
 use bytes::BytesMut;
 use djq_engine::Engine;
-use djq_lines::limits::SESSIONS;
+use djq_lines::limits::{COLUMNS, SESSIONS};
 use djq_lines::{EndCause, EndLine};
 use djq_machine::{Fed, Machine, OpenRefusal, Stepped};
-use djq_model::{Name, NoMem};
+use djq_model::{Name, NoMem, Value};
 use djq_session::Session;
 use djq_steps::{Ledgers, Steps};
 use std::alloc::Global;
@@ -45,6 +45,8 @@ pub struct Core {
     // the line that was in front of the last step, and whether that step kept it
     copied: Copied,
     kept: bool,
+    // the values of the last row that was read, in memory that is used again
+    row: Vec<Value>,
     alloc: Global,
 }
 
@@ -64,8 +66,8 @@ impl Model for Core {
 }
 
 impl Core {
-    /// The state in which nothing has happened. It takes the room for all sessions, and for the line
-    /// that a step keeps.
+    /// The state in which nothing has happened. It takes the room for all sessions, for the line that
+    /// a step keeps, and for a row.
     ///
     /// # Errors
     ///
@@ -82,6 +84,7 @@ impl Core {
             text: BytesMut::new(alloc),
             copied: Copied::new(alloc)?,
             kept: false,
+            row: Vec::with_capacity(alloc, COLUMNS)?,
             alloc,
         })
     }
@@ -148,17 +151,18 @@ impl Machine for Core {
             &mut self.engine,
             &mut found.session,
             &mut self.copied,
+            &mut self.row,
             steps,
         );
         self.kept = keeps_line(stepped);
         match left {
             Left::Nothing { .. } => {}
             Left::Stopping => self.stopped = true,
-            Left::Telling(change) => tell_change(
+            Left::Telling(outcome) => tell_change(
                 &mut self.engine,
                 &mut self.sessions,
                 at,
-                change.outcome,
+                outcome,
                 &mut self.text,
             ),
         }

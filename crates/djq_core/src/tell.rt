@@ -17,7 +17,7 @@ ghost use Rattle.djq_core.specs.Telling.{
   WatchesOn,
 };
 
-use crate::change::{Change, Outcome};
+use crate::change::Outcome;
 use crate::ending::{cut_off, end_by};
 use crate::open::OpenSession;
 use crate::told::ToldAnswer;

@@ -7,3 +7,5 @@ pub mod Sayings
 pub mod Utf8
 pub mod Spelled
 pub mod Making
+pub mod Rows
+pub mod Beginning

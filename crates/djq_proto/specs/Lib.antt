@@ -4,3 +4,4 @@ pub mod Reading
 pub mod Bodies
 pub mod Saying
 pub mod Laws
+pub mod RowReading

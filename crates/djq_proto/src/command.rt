@@ -32,7 +32,7 @@ pub fn read_command(alloc: Global, line: &[u8]) -> Result<Command, LineRefusal>
 }
 
 // Whether bytes are UTF-8.
-fn is_utf8(line: &[u8]) -> bool
+pub(crate) fn is_utf8(line: &[u8]) -> bool
     ensures { result ≡ is_utf8_of line.now }
 {
     str::from_utf8(line).is_ok()

@@ -1,8 +1,9 @@
 //! From a session's bytes to lines, and from a line to a command.
 //!
 //! [`Splitter`] finds the line in front of the bytes that a session holds, and [`read_command`]
-//! gives the command that a line says. Nothing here keeps state between lines, and only what a
-//! command holds (types, a row, a query) takes memory.
+//! gives the command that a line says. [`read_row`] reads lines of rows, which are most lines, by
+//! the same grammar into room that its caller keeps. Nothing here keeps state between lines, and
+//! only what a command holds (types, a row, a query) takes memory.
 //!
 //! ```text
 //! add edge 1 -20       Command::Add { name: edge, row: (1, -20) }
@@ -20,15 +21,16 @@
 //!
 //! Inside, a line is cut into tokens by the lexer of djq_value, and `keyword` says by the first
 //! what stands behind: `command` has a reader for each form, over names, literals and lists of them
-//! (`parts`, `item`, `items`). `query` reads a query's head, and `body` its atoms and comparisons.
-//! `laws` has two functions that do nothing: what they promise is that a line is read as a command
-//! exactly where it spells it, said without reading (`specs/Saying.antt`, and
-//! `specs/Spelling.antt` of djq_value).
+//! (`parts`, `item`, `items`), and `row` reads rows into room. `query` reads a query's head, and
+//! `body` its atoms and comparisons. `laws` has two functions that do nothing: what they promise is
+//! that a line is read as a command exactly where it spells it, said without reading
+//! (`specs/Saying.antt`, and `specs/Spelling.antt` of djq_value).
 #![tactic(auto)]
 
 pub use command::read_command;
 pub use laws::{commands_are_said, commands_are_spelled};
 pub use refusal::LineRefusal;
+pub use row::{RowLine, read_row};
 pub use splitter::{Front, Splitter, is_blank};
 
 mod body;
@@ -40,6 +42,7 @@ mod laws;
 mod parts;
 mod query;
 mod refusal;
+mod row;
 mod splitter;
 #[cfg(test)]
 mod tests;

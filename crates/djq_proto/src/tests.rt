@@ -179,6 +179,35 @@ fn reads_lines(rt: HostRuntime) {
     }
 }
 
+// Lines, what they are to who reads rows, by a letter, and how many values are in the room then.
+const ROWS: [(&[u8], char, usize); 8] = [
+    (b"add r 1 -2", 'a', 2),
+    (b"  del r \"a\"", 'd', 1),
+    (b"drop r", '-', 1),
+    (b"address r 1", '-', 1),
+    (b"add r \"\xc3\"", 'S', 1),
+    (b"add r 9223372036854775808 x", 'S', 0),
+    (b"add r 9223372036854775808 7", 'R', 0),
+    (b"del r 7 7 7", 'd', 3),
+];
+
+#[test]
+fn reads_rows_into_room(rt: HostRuntime) {
+    let mut row = Vec::new(rt.alloc());
+    for (line, want, values) in ROWS {
+        let read = match read_row(rt.alloc(), line, &mut row) {
+            RowLine::Add(_) => 'a',
+            RowLine::Del(_) => 'd',
+            RowLine::Refused(LineRefusal::Syntax) => 'S',
+            RowLine::Refused(LineRefusal::Range) => 'R',
+            RowLine::Refused(LineRefusal::NoMem) => 'M',
+            RowLine::Other => '-',
+        };
+        assert_eq!(rt; read, want, "{}", line.escape_ascii());
+        assert_eq!(rt; row.len(), values, "{}", line.escape_ascii());
+    }
+}
+
 // The first value of the row that a line adds.
 fn value(alloc: Global, line: &[u8]) -> Option<i64> {
     let Ok(Command::Add { row, .. }) = read_command(alloc, line) else {

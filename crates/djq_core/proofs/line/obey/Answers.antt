@@ -29,7 +29,7 @@ pub returns-in-Has : goal.returns-in-Has
 returns-in-Has g c =
     subst (λ (command : Command). ExecutesKeeping command false false c.args.engine.now c.args.session.now c.args.engine.now c.run_has.new.session c.args.steps.now.listing c.run_has.new.listing) (sym c.in-Has.is)
     (unkept (Has c.in-Has.query c.in-Has.row) false c.args.engine.now c.args.session.now c.args.engine.now c.run_has.new.session c.args.steps.now.listing c.run_has.new.listing refl
-    (subst (λ (row : Tuple). Executes (Has c.in-Has.query row) false c.args.engine.now c.args.session.now c.args.engine.now c.run_has.new.session c.args.steps.now.listing c.run_has.new.listing) c.as_slice-in-Has.ensures c.run_has.ensures))
+    (subst (λ (row : Tuple). Executes (Has c.in-Has.query row) false c.args.engine.now c.args.session.now c.args.engine.now c.run_has.new.session c.args.steps.now.listing c.run_has.new.listing) c.as_slice.ensures c.run_has.ensures))
 
 pub returns-in-Watch : goal.returns-in-Watch
 returns-in-Watch g c =

@@ -1,32 +1,60 @@
-use Rattle.std.proofs.Common.{subst, take, drop, false, Ok, Err}
-use Rattle.djq_model.specs.Data.{Bytes}
+use Rattle.std.proofs.Common.{◌≡◌, ◌∙◌, refl, sym, subst, take, drop, false, Ok, Err}
+use Rattle.djq_model.specs.Data.{Bytes, Tuple}
 use Rattle.djq_lines.specs.Reply.{refusal_line}
 use Rattle.djq_lines.specs.declared.answer.Refusal.{Refusal}
+use Rattle.djq_lines.specs.declared.command.Command.TheVariants.{Add, Del}
 use Rattle.djq_proto.specs.Reading.{Reads}
+use Rattle.djq_proto.specs.RowReading.{begins_row}
+use Rattle.djq_value.specs.Token.{tokens}
 use Rattle.djq_session.specs.Dialog.{Replies}
+use Rattle.djq_core.specs.Changing.{Adds, Deletes}
+use Rattle.djq_core.specs.declared.change.Left.TheVariants.{Telling}
 use Rattle.djq_core.proofs.Taking.{runs}
 use Rattle.djq_core.proofs.Leaving.{line_leaves}
-use Rattle.djq_core.proofs.Saying.{reads_as, reads_err, runnable}
+use Rattle.djq_core.proofs.Saying.{reads_as, reads_err, short_to_add, short_to_delete}
 use Rattle.djq_core.proofs.line.run_line.Goals as goal
 
-pub obey-requires-clause-runnable : goal.obey-requires-clause-runnable
-obey-requires-clause-runnable g c = runnable (take c.args.end c.held.result.now) c.in-Ok.command c.in-Ok.ensures
+pub new-requires : goal.new-requires
+new-requires g c = short_to_add (take c.args.end c.held.result.now) c.in-Add.name.now c.read_row.new.row.items c.in-Add.ensures
 
-pub returns-in-Ok : goal.returns-in-Ok
-returns-in-Ok g c =
+pub returns-in-Add : goal.returns-in-Add
+returns-in-Add g c =
     let old = c.args.session.now in
     let line = take c.args.end old.held in
-    let said = subst (λ (bs : Bytes). Reads (take c.args.end bs) (Ok c.in-Ok.command)) c.held.ensures c.in-Ok.ensures in
-    line_leaves c.obey.result c.args.engine.now old c.take_line.new.self line (drop c.args.rest old.held) c.in-Ok.command c.obey.new.engine c.obey.new.session c.args.steps.now.listing c.obey.new.steps.listing
+    let name = c.in-Add.name.now in
+    let row = c.read_row.new.row.items in
+    let said = subst (λ (bs : Bytes). Reads (take c.args.end bs) (Ok (Add name row))) c.held.ensures c.in-Add.ensures in
+    let named = subst (λ (n : Bytes). Adds c.args.engine.now n c.as_slice.result.now c.run_add-outcome.result c.run_add-outcome.new.engine c.args.steps.now.listing c.run_add-outcome.new.steps.listing) c.new.ensures c.run_add-outcome.ensures in
+    let adds = subst (λ (values : Tuple). Adds c.args.engine.now name values c.run_add-outcome.result c.run_add-outcome.new.engine c.args.steps.now.listing c.run_add-outcome.new.steps.listing) c.as_slice.ensures.value named in
+    line_leaves (Telling c.run_add-outcome.result) c.args.engine.now old c.take_line.new.self line (drop c.args.rest old.held) (Add name row) c.run_add-outcome.new.engine c.take_line.new.self c.args.steps.now.listing c.run_add-outcome.new.steps.listing
     c.requires.front c.take_line.ensures c.requires.said c.requires.few c.requires.ready.running c.requires.ready.room
-    (reads_as line c.in-Ok.command said) c.obey.ensures
+    (reads_as line (Add name row) said) (adds, refl)
 
-pub returns-in-Err : goal.returns-in-Err
-returns-in-Err g c =
+pub new-requires-in-Del : goal.new-requires-in-Del
+new-requires-in-Del g c = short_to_delete (take c.args.end c.held.result.now) c.in-Del.name.now c.read_row.new.row.items c.in-Del.ensures
+
+pub returns-in-Del : goal.returns-in-Del
+returns-in-Del g c =
     let old = c.args.session.now in
     let line = take c.args.end old.held in
-    let said = subst (λ (bs : Bytes). Reads (take c.args.end bs) (Err c.in-Err.refusal)) c.held.ensures c.in-Err.ensures in
-    let reply = subst (λ (r : Refusal). Replies c.take_line.new.self c.refuse.new.self (refusal_line r)) c.refusal_of.ensures c.refuse.ensures in
-    runs false false c.args.engine.now old c.take_line.new.self line (drop c.args.rest old.held) c.args.engine.now c.refuse.new.self c.args.steps.now.listing c.args.steps.now.listing
-    c.requires.front c.take_line.ensures c.requires.said c.requires.few
-    (reads_err c.args.engine.now c.take_line.new.self c.refuse.new.self line c.in-Err.refusal c.args.steps.now.listing said reply)
+    let name = c.in-Del.name.now in
+    let row = c.read_row.new.row.items in
+    let said = subst (λ (bs : Bytes). Reads (take c.args.end bs) (Ok (Del name row))) c.held.ensures c.in-Del.ensures in
+    let named = subst (λ (n : Bytes). Deletes c.args.engine.now n c.as_slice-in-Del.result.now c.run_del-outcome.result c.run_del-outcome.new.engine c.args.steps.now.listing c.run_del-outcome.new.steps.listing) c.new-in-Del.ensures c.run_del-outcome.ensures in
+    let deletes = subst (λ (values : Tuple). Deletes c.args.engine.now name values c.run_del-outcome.result c.run_del-outcome.new.engine c.args.steps.now.listing c.run_del-outcome.new.steps.listing) c.as_slice-in-Del.ensures.value named in
+    line_leaves (Telling c.run_del-outcome.result) c.args.engine.now old c.take_line-in-Del.new.self line (drop c.args.rest old.held) (Del name row) c.run_del-outcome.new.engine c.take_line-in-Del.new.self c.args.steps.now.listing c.run_del-outcome.new.steps.listing
+    c.requires.front c.take_line-in-Del.ensures c.requires.said c.requires.few c.requires.ready.running c.requires.ready.room
+    (reads_as line (Del name row) said) (deletes, refl)
+
+pub returns-in-Refused : goal.returns-in-Refused
+returns-in-Refused g c =
+    let old = c.args.session.now in
+    let line = take c.args.end old.held in
+    let said = subst (λ (bs : Bytes). Reads (take c.args.end bs) (Err c.in-Refused.refusal)) c.held.ensures c.in-Refused.ensures.1 in
+    let reply = subst (λ (r : Refusal). Replies c.take_line-in-Refused.new.self c.refuse.new.self (refusal_line r)) c.refusal_of.ensures c.refuse.ensures in
+    runs false false c.args.engine.now old c.take_line-in-Refused.new.self line (drop c.args.rest old.held) c.args.engine.now c.refuse.new.self c.args.steps.now.listing c.args.steps.now.listing
+    c.requires.front c.take_line-in-Refused.ensures c.requires.said c.requires.few
+    (reads_err c.args.engine.now c.take_line-in-Refused.new.self c.refuse.new.self line c.in-Refused.refusal c.args.steps.now.listing said reply)
+
+pub run_other-requires-clause-other : goal.run_other-requires-clause-other
+run_other-requires-clause-other g c = subst (λ (bs : Bytes). begins_row (tokens (take c.args.end bs)) ≡ false) c.held.ensures c.in-Other.ensures.0

@@ -72,9 +72,9 @@ tell_change-requires-clause-sound g c =
     let before = counts c.args.steps.now.listing c.args.steps.now.update c.args.steps.now.rows in
     let now = counts c.step_session-stepped.new.steps.listing c.step_session-stepped.new.steps.update c.step_session-stepped.new.steps.rows in
     let leaves = subst (λ (l : Left). LeavesTo c.step_session-stepped.result.0 l c.self.inside.engine (c.index_mut-found.result.now).session c.step_session-stepped.new.engine c.step_session-stepped.new.session before now) c.in-Telling.is c.step_session-stepped.ensures.leaves in
-    let t = telling_ran c.step_session-stepped.result.0 c.in-Telling.change c.self.inside.engine (c.index_mut-found.result.now).session c.step_session-stepped.new.engine c.step_session-stepped.new.session before now leaves in
+    let t = telling_ran c.step_session-stepped.result.0 c.in-Telling.outcome c.self.inside.engine (c.index_mut-found.result.now).session c.step_session-stepped.new.engine c.step_session-stepped.new.session before now leaves in
     subst (λ (ys : List OpenSession). IsSound c.step_session-stepped.new.engine ys) (sym (h.put c.step_session-stepped.new.session))
-    (sound_left c.in-Telling.change c.self.inside.engine c.step_session-stepped.new.engine _ c.args.id (c.index_mut-found.result.now).session c.step_session-stepped.new.session _ before.listing now.listing t.1 h.sound)
+    (sound_left c.in-Telling.outcome c.self.inside.engine c.step_session-stepped.new.engine _ c.args.id (c.index_mut-found.result.now).session c.step_session-stepped.new.session _ before.listing now.listing t.1 h.sound)
 
 pub tell_change-requires-clause-room : goal.tell_change-requires-clause-room
 tell_change-requires-clause-room g c =
@@ -82,7 +82,7 @@ tell_change-requires-clause-room g c =
     let before = counts c.args.steps.now.listing c.args.steps.now.update c.args.steps.now.rows in
     let now = counts c.step_session-stepped.new.steps.listing c.step_session-stepped.new.steps.update c.step_session-stepped.new.steps.rows in
     let leaves = subst (λ (l : Left). LeavesTo c.step_session-stepped.result.0 l c.self.inside.engine (c.index_mut-found.result.now).session c.step_session-stepped.new.engine c.step_session-stepped.new.session before now) c.in-Telling.is c.step_session-stepped.ensures.leaves in
-    let t = telling_ran c.step_session-stepped.result.0 c.in-Telling.change c.self.inside.engine (c.index_mut-found.result.now).session c.step_session-stepped.new.engine c.step_session-stepped.new.session before now leaves in
+    let t = telling_ran c.step_session-stepped.result.0 c.in-Telling.outcome c.self.inside.engine (c.index_mut-found.result.now).session c.step_session-stepped.new.engine c.step_session-stepped.new.session before now leaves in
     let i = id_by c.self.inside.engine c.self.inside.ids.items c.as_slice.result.now c.self.inside.sessions.items _ _ c.place_of-at.result c.args.id c.index_mut-found.result.now c.self.invariant c.as_slice.ensures.value c.place_of-at.ensures.within c.place_of-at.ensures.there c.index_mut-found.ensures.value in
     let y : OpenSession = record c.index_mut-found.result.now { session = c.step_session-stepped.new.session } in
     subst (λ (o : Option OpenSession). IsSomeAnd o (λ (x : OpenSession). REPLY_BYTES + LAST_LINE_BYTES ≤ (x.session).room)) (sym (set_there c.self.inside.sessions.items c.place_of-at.result y i.0)) (t.1).room
@@ -93,10 +93,10 @@ tell_change-requires-clause-registered g c =
     let before = counts c.args.steps.now.listing c.args.steps.now.update c.args.steps.now.rows in
     let now = counts c.step_session-stepped.new.steps.listing c.step_session-stepped.new.steps.update c.step_session-stepped.new.steps.rows in
     let leaves = subst (λ (l : Left). LeavesTo c.step_session-stepped.result.0 l c.self.inside.engine (c.index_mut-found.result.now).session c.step_session-stepped.new.engine c.step_session-stepped.new.session before now) c.in-Telling.is c.step_session-stepped.ensures.leaves in
-    let t = telling_ran c.step_session-stepped.result.0 c.in-Telling.change c.self.inside.engine (c.index_mut-found.result.now).session c.step_session-stepped.new.engine c.step_session-stepped.new.session before now leaves in
+    let t = telling_ran c.step_session-stepped.result.0 c.in-Telling.outcome c.self.inside.engine (c.index_mut-found.result.now).session c.step_session-stepped.new.engine c.step_session-stepped.new.session before now leaves in
     let i = id_by c.self.inside.engine c.self.inside.ids.items c.as_slice.result.now c.self.inside.sessions.items _ _ c.place_of-at.result c.args.id c.index_mut-found.result.now c.self.invariant c.as_slice.ensures.value c.place_of-at.ensures.within c.place_of-at.ensures.there c.index_mut-found.ensures.value in
     let y : OpenSession = record c.index_mut-found.result.now { session = c.step_session-stepped.new.session } in
-    registered_left c.in-Telling.change c.self.inside.engine c.step_session-stepped.new.engine (c.index_mut-found.result.now).session c.step_session-stepped.new.session before.listing now.listing t.1
+    registered_left c.in-Telling.outcome c.self.inside.engine c.step_session-stepped.new.engine (c.index_mut-found.result.now).session c.step_session-stepped.new.session before.listing now.listing t.1
 
 pub invariant_of-self-in-Telling : goal.invariant_of-self-in-Telling
 invariant_of-self-in-Telling g c =
@@ -104,11 +104,11 @@ invariant_of-self-in-Telling g c =
     let before = counts c.args.steps.now.listing c.args.steps.now.update c.args.steps.now.rows in
     let now = counts c.step_session-stepped.new.steps.listing c.step_session-stepped.new.steps.update c.step_session-stepped.new.steps.rows in
     let leaves = subst (λ (l : Left). LeavesTo c.step_session-stepped.result.0 l c.self.inside.engine (c.index_mut-found.result.now).session c.step_session-stepped.new.engine c.step_session-stepped.new.session before now) c.in-Telling.is c.step_session-stepped.ensures.leaves in
-    let t = telling_ran c.step_session-stepped.result.0 c.in-Telling.change c.self.inside.engine (c.index_mut-found.result.now).session c.step_session-stepped.new.engine c.step_session-stepped.new.session before now leaves in
+    let t = telling_ran c.step_session-stepped.result.0 c.in-Telling.outcome c.self.inside.engine (c.index_mut-found.result.now).session c.step_session-stepped.new.engine c.step_session-stepped.new.session before now leaves in
     let i = id_by c.self.inside.engine c.self.inside.ids.items c.as_slice.result.now c.self.inside.sessions.items _ _ c.place_of-at.result c.args.id c.index_mut-found.result.now c.self.invariant c.as_slice.ensures.value c.place_of-at.ensures.within c.place_of-at.ensures.there c.index_mut-found.ensures.value in
     let y : OpenSession = record c.index_mut-found.result.now { session = c.step_session-stepped.new.session } in
-    let all : TellsAll (is_accepted (c.in-Telling.change).outcome) (reply_of (c.in-Telling.change).outcome ((c.step_session-stepped.new.engine).store).seq) c.step_session-stepped.new.engine y.id (set c.self.inside.sessions.items c.place_of-at.result y) c.tell_change.new.engine c.tell_change.new.sessions.items
-    = told_there (λ (x : OpenSession). TellsAll (is_accepted (c.in-Telling.change).outcome) (reply_of (c.in-Telling.change).outcome ((c.step_session-stepped.new.engine).store).seq) c.step_session-stepped.new.engine x.id (set c.self.inside.sessions.items c.place_of-at.result y) c.tell_change.new.engine c.tell_change.new.sessions.items)
+    let all : TellsAll (is_accepted c.in-Telling.outcome) (reply_of c.in-Telling.outcome ((c.step_session-stepped.new.engine).store).seq) c.step_session-stepped.new.engine y.id (set c.self.inside.sessions.items c.place_of-at.result y) c.tell_change.new.engine c.tell_change.new.sessions.items
+    = told_there (λ (x : OpenSession). TellsAll (is_accepted c.in-Telling.outcome) (reply_of c.in-Telling.outcome ((c.step_session-stepped.new.engine).store).seq) c.step_session-stepped.new.engine x.id (set c.self.inside.sessions.items c.place_of-at.result y) c.tell_change.new.engine c.tell_change.new.sessions.items)
     c.self.inside.sessions.items c.place_of-at.result y i.0 c.tell_change.ensures.tells in
     record {
       ids_are = (c.self.invariant).ids_are ∙ sym (h.ids c.step_session-stepped.new.session) ∙ sym all.ids;
@@ -123,20 +123,20 @@ returns-in-Telling-clause-gives g c =
     let before = counts c.args.steps.now.listing c.args.steps.now.update c.args.steps.now.rows in
     let now = counts c.step_session-stepped.new.steps.listing c.step_session-stepped.new.steps.update c.step_session-stepped.new.steps.rows in
     let leaves = subst (λ (l : Left). LeavesTo c.step_session-stepped.result.0 l c.self.inside.engine (c.index_mut-found.result.now).session c.step_session-stepped.new.engine c.step_session-stepped.new.session before now) c.in-Telling.is c.step_session-stepped.ensures.leaves in
-    let t = telling_ran c.step_session-stepped.result.0 c.in-Telling.change c.self.inside.engine (c.index_mut-found.result.now).session c.step_session-stepped.new.engine c.step_session-stepped.new.session before now leaves in
+    let t = telling_ran c.step_session-stepped.result.0 c.in-Telling.outcome c.self.inside.engine (c.index_mut-found.result.now).session c.step_session-stepped.new.engine c.step_session-stepped.new.session before now leaves in
     let i = id_by c.self.inside.engine c.self.inside.ids.items c.as_slice.result.now c.self.inside.sessions.items _ _ c.place_of-at.result c.args.id c.index_mut-found.result.now c.self.invariant c.as_slice.ensures.value c.place_of-at.ensures.within c.place_of-at.ensures.there c.index_mut-found.ensures.value in
     let y : OpenSession = record c.index_mut-found.result.now { session = c.step_session-stepped.new.session } in
-    let all : TellsAll (is_accepted (c.in-Telling.change).outcome) (reply_of (c.in-Telling.change).outcome ((c.step_session-stepped.new.engine).store).seq) c.step_session-stepped.new.engine y.id (set c.self.inside.sessions.items c.place_of-at.result y) c.tell_change.new.engine c.tell_change.new.sessions.items
-    = told_there (λ (x : OpenSession). TellsAll (is_accepted (c.in-Telling.change).outcome) (reply_of (c.in-Telling.change).outcome ((c.step_session-stepped.new.engine).store).seq) c.step_session-stepped.new.engine x.id (set c.self.inside.sessions.items c.place_of-at.result y) c.tell_change.new.engine c.tell_change.new.sessions.items)
+    let all : TellsAll (is_accepted c.in-Telling.outcome) (reply_of c.in-Telling.outcome ((c.step_session-stepped.new.engine).store).seq) c.step_session-stepped.new.engine y.id (set c.self.inside.sessions.items c.place_of-at.result y) c.tell_change.new.engine c.tell_change.new.sessions.items
+    = told_there (λ (x : OpenSession). TellsAll (is_accepted c.in-Telling.outcome) (reply_of c.in-Telling.outcome ((c.step_session-stepped.new.engine).store).seq) c.step_session-stepped.new.engine x.id (set c.self.inside.sessions.items c.place_of-at.result y) c.tell_change.new.engine c.tell_change.new.sessions.items)
     c.self.inside.sessions.items c.place_of-at.result y i.0 c.tell_change.ensures.tells in
     let front = take c.place_of-at.result c.self.inside.sessions.items in
     let back = drop (suc c.place_of-at.result) c.self.inside.sessions.items in
-    let told = subst (λ (n : ℕ). TellsAll (is_accepted (c.in-Telling.change).outcome) (reply_of (c.in-Telling.change).outcome ((c.step_session-stepped.new.engine).store).seq) c.step_session-stepped.new.engine n (among front c.args.id c.step_session-stepped.new.session back) c.tell_change.new.engine c.tell_change.new.sessions.items) i.1
-    (subst (λ (xs : List OpenSession). TellsAll (is_accepted (c.in-Telling.change).outcome) (reply_of (c.in-Telling.change).outcome ((c.step_session-stepped.new.engine).store).seq) c.step_session-stepped.new.engine y.id xs c.tell_change.new.engine c.tell_change.new.sessions.items) (h.put c.step_session-stepped.new.session) all) in
-    let gives = change_gives c.in-Telling.change c.self.inside.engine c.step_session-stepped.new.engine c.tell_change.new.engine (c.index_mut-found.result.now).session c.step_session-stepped.new.session front c.args.id back c.tell_change.new.sessions.items c.self.inside.stopped before now t.1 h.sound told in
+    let told = subst (λ (n : ℕ). TellsAll (is_accepted c.in-Telling.outcome) (reply_of c.in-Telling.outcome ((c.step_session-stepped.new.engine).store).seq) c.step_session-stepped.new.engine n (among front c.args.id c.step_session-stepped.new.session back) c.tell_change.new.engine c.tell_change.new.sessions.items) i.1
+    (subst (λ (xs : List OpenSession). TellsAll (is_accepted c.in-Telling.outcome) (reply_of c.in-Telling.outcome ((c.step_session-stepped.new.engine).store).seq) c.step_session-stepped.new.engine y.id xs c.tell_change.new.engine c.tell_change.new.sessions.items) (h.put c.step_session-stepped.new.session) all) in
+    let gives = change_gives c.in-Telling.outcome c.self.inside.engine c.step_session-stepped.new.engine c.tell_change.new.engine (c.index_mut-found.result.now).session c.step_session-stepped.new.session front c.args.id back c.tell_change.new.sessions.items c.self.inside.stopped before now t.1 h.sound told in
     subst (λ (r : Stepped). StepGives (c.args.self.now).state c.args.id r (state_in c.tell_change.new.engine c.self.inside.stopped c.tell_change.new.sessions.items) before now) (sym t.0)
-    (subst (λ (st : State). StepGives st c.args.id (Ran (is_kept (c.in-Telling.change).outcome)) (state_in c.tell_change.new.engine c.self.inside.stopped c.tell_change.new.sessions.items) before now) (ap (λ (v : Visible). v.state) c.self.view_is)
-    (subst (λ (xs : List OpenSession). StepGives (state_in c.self.inside.engine c.self.inside.stopped xs) c.args.id (Ran (is_kept (c.in-Telling.change).outcome)) (state_in c.tell_change.new.engine c.self.inside.stopped c.tell_change.new.sessions.items) before now) (sym h.is) gives))
+    (subst (λ (st : State). StepGives st c.args.id (Ran (is_kept c.in-Telling.outcome)) (state_in c.tell_change.new.engine c.self.inside.stopped c.tell_change.new.sessions.items) before now) (ap (λ (v : Visible). v.state) c.self.view_is)
+    (subst (λ (xs : List OpenSession). StepGives (state_in c.self.inside.engine c.self.inside.stopped xs) c.args.id (Ran (is_kept c.in-Telling.outcome)) (state_in c.tell_change.new.engine c.self.inside.stopped c.tell_change.new.sessions.items) before now) (sym h.is) gives))
 
 pub returns-in-Nothing-clause-keeps : goal.returns-in-Nothing-clause-keeps
 returns-in-Nothing-clause-keeps g c =

@@ -1,0 +1,88 @@
+-- By its first byte, a line may begin with no row's keyword.
+use Rattle.std.proofs.Common.{◌≡◌, ◌||◌, ℕ, Bool, true, false, cond, [], ◌∷◌, Option, None, Some, refl, ap, ◌∙◌, codes, eqb}
+use Rattle.std.proofs.lemmas.Bool.{both_ways, cond-false, cond_both, eq-eqb, false_from_ne_true}
+use Rattle.djq_model.specs.Data.{Bytes, bytes_eq}
+use Rattle.djq_model.specs.Equality.{bytes_eq-decides}
+use Rattle.djq_value.specs.Token.{Token, text, stray, and_then, greater_front, less_front, may_end, not_front, text_front, text_in, token_front, tokens, word_front}
+use Rattle.djq_value.proofs.Lexes.{tokens-none, tokens-step}
+use Rattle.djq_lines.specs.Grammar.{keyword_of}
+use Rattle.djq_lines.specs.declared.keyword.Keyword.TheVariants.{Rel, Add, Del, Query, Drop, Open, Next, Close, Has, Watch, Unwatch, Explain, Shape, Quit, Stop}
+use Rattle.djq_proto.specs.RowReading.{begins_row, is_row_keyword, may_begin}
+
+neither : (p q : Bool) → (p || q) ≡ false → (p ≡ false) × (q ≡ false)
+neither true q e = absurd (cc)
+neither false q e = (refl, e)
+
+-- a word of another first byte
+other_first : (b c : ℕ) (bs cs : Bytes) → eqb b c ≡ false → bytes_eq (b ∷ bs) (c ∷ cs) ≡ false
+other_first b c bs cs e = false_from_ne_true (bytes_eq (b ∷ bs) (c ∷ cs)) (λ same. apart ((bytes_eq-decides (b ∷ bs) (c ∷ cs)).0 same))
+  where
+    apart : b ∷ bs ≡ c ∷ cs → ⊥
+    apart f = let first : b ≡ c = cc in both_ways (eqb b c) e (eq-eqb b c first)
+
+-- the keyword that a word is, by its tests, where those of a row's keywords fail
+other_key : (p0 p1 p2 p3 p4 p5 p6 p7 p8 p9 p10 p11 p12 p13 p14 : Bool) → p1 ≡ false → p2 ≡ false
+    → is_row_keyword (cond p0 (Some Rel) (cond p1 (Some Add) (cond p2 (Some Del) (cond p3 (Some Query) (cond p4 (Some Drop) (cond p5 (Some Open) (cond p6 (Some Next) (cond p7 (Some Close) (cond p8 (Some Has) (cond p9 (Some Watch) (cond p10 (Some Unwatch) (cond p11 (Some Explain) (cond p12 (Some Shape) (cond p13 (Some Quit) (cond p14 (Some Stop) None))))))))))))))) ≡ false
+other_key true p1 p2 p3 p4 p5 p6 p7 p8 p9 p10 p11 p12 p13 p14 add del = refl
+other_key false true p2 p3 p4 p5 p6 p7 p8 p9 p10 p11 p12 p13 p14 add del = absurd (cc)
+other_key false false true p3 p4 p5 p6 p7 p8 p9 p10 p11 p12 p13 p14 add del = absurd (cc)
+other_key false false false true p4 p5 p6 p7 p8 p9 p10 p11 p12 p13 p14 add del = refl
+other_key false false false false true p5 p6 p7 p8 p9 p10 p11 p12 p13 p14 add del = refl
+other_key false false false false false true p6 p7 p8 p9 p10 p11 p12 p13 p14 add del = refl
+other_key false false false false false false true p7 p8 p9 p10 p11 p12 p13 p14 add del = refl
+other_key false false false false false false false true p8 p9 p10 p11 p12 p13 p14 add del = refl
+other_key false false false false false false false false true p9 p10 p11 p12 p13 p14 add del = refl
+other_key false false false false false false false false false true p10 p11 p12 p13 p14 add del = refl
+other_key false false false false false false false false false false true p11 p12 p13 p14 add del = refl
+other_key false false false false false false false false false false false true p12 p13 p14 add del = refl
+other_key false false false false false false false false false false false false true p13 p14 add del = refl
+other_key false false false false false false false false false false false false false true p14 add del = refl
+other_key false false false false false false false false false false false false false false true add del = refl
+other_key false false false false false false false false false false false false false false false add del = refl
+
+-- a word that is neither keyword of a row
+other_word : (w : Bytes) → bytes_eq w (codes "add") ≡ false → bytes_eq w (codes "del") ≡ false → is_row_keyword (keyword_of w) ≡ false
+other_word w add del =
+    let is = λ (key : Bytes). bytes_eq w key in
+    other_key (is (codes "rel")) (is (codes "add")) (is (codes "del")) (is (codes "query")) (is (codes "drop")) (is (codes "open")) (is (codes "next")) (is (codes "close"))
+    (is (codes "has")) (is (codes "watch")) (is (codes "unwatch")) (is (codes "explain")) (is (codes "shape")) (is (codes "quit")) (is (codes "stop")) add del
+
+-- tokens of which the first is no row's keyword
+abbrev pub IsOther : Token × Bytes → Type 0
+IsOther t = begins_row (t.0 ∷ tokens t.1) ≡ false
+
+less_other : (bs : Bytes) → IsOther (less_front bs)
+less_other [] = refl
+less_other (b ∷ bs) = cond_both (eqb b 45) _ _ IsOther (λ _. refl) (λ _. cond_both (eqb b 61) _ _ IsOther (λ _. refl) (λ _. refl))
+
+greater_other : (bs : Bytes) → IsOther (greater_front bs)
+greater_other [] = refl
+greater_other (b ∷ bs) = cond_both (eqb b 61) _ _ IsOther (λ _. refl) (λ _. refl)
+
+not_other : (bs : Bytes) → IsOther (not_front bs)
+not_other [] = refl
+not_other (b ∷ bs) = cond_both (eqb b 61) _ _ IsOther (λ _. refl) (λ _. refl)
+
+text_other : (o : Option (Bytes × Bytes)) → IsOther (text_front o)
+text_other None = refl
+text_other (Some r) = cond_both (may_end r.1) (text r.0, r.1) (stray, r.1) IsOther (λ _. refl) (λ _. refl)
+
+front_other : (b : ℕ) (bs : Bytes) → eqb b 97 ≡ false → eqb b 100 ≡ false → begins_row (and_then tokens (token_front (b ∷ bs))) ≡ false
+front_other b bs a d =
+    cond_both (eqb b 40) _ _ IsOther (λ _. refl) (λ _.
+    cond_both (eqb b 41) _ _ IsOther (λ _. refl) (λ _.
+    cond_both (eqb b 44) _ _ IsOther (λ _. refl) (λ _.
+    cond_both (eqb b 60) _ _ IsOther (λ _. less_other bs) (λ _.
+    cond_both (eqb b 61) _ _ IsOther (λ _. refl) (λ _.
+    cond_both (eqb b 62) _ _ IsOther (λ _. greater_other bs) (λ _.
+    cond_both (eqb b 33) _ _ IsOther (λ _. not_other bs) (λ _.
+    cond_both (eqb b 34) _ _ IsOther (λ _. text_other (text_in false bs)) (λ _.
+    other_word (b ∷ word_front bs) (other_first b 97 (word_front bs) (100 ∷ 100 ∷ []) a) (other_first b 100 (word_front bs) (101 ∷ 108 ∷ []) d)))))))))
+
+pub begins_other : (line : Bytes) → may_begin line ≡ false → begins_row (tokens line) ≡ false
+begins_other [] e = ap begins_row (tokens-none [] refl)
+begins_other (b ∷ bs) e =
+    let last = neither (eqb b 32 || eqb b 97) (eqb b 100) e in
+    let some = neither (eqb b 32) (eqb b 97) last.0 in
+    ap begins_row (tokens-step (b ∷ bs)) ∙ ap (λ (cs : Bytes). begins_row (and_then tokens (token_front cs))) (cond-false _ _ _ some.0)
+    ∙ front_other b bs some.1 last.1
