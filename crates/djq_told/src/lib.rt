@@ -1,0 +1,14 @@
+//! Laws on what sessions are told: which lines they are sent, and what these add up to.
+#![tactic(auto)]
+
+ghost use Rattle.djq_told.specs.Sayable.{RunsKeepSayable, OpeningIsSayable, StatesAreSayable};
+
+/// Along every run from a state to start from whose names and values lines can say, all names are
+/// names, all values are within their limits and their texts of UTF-8, and each variable of a
+/// registered query's head stands in its body: of relations, queries, cursors and watches, of rows
+/// and constants, and of what cursors have given.
+pub fn states_are_sayable()
+    ensures kept { RunsKeepSayable }
+    ensures opening { OpeningIsSayable }
+    ensures reached { StatesAreSayable }
+{}
