@@ -1,0 +1,159 @@
+-- The lines that a session is sent, by their forms. A form says what is printed and how, and not
+-- which numbers, names and values are possible where: `ok query 4` is a line of the forms, though no
+-- query costs 4.
+use Rattle.std.specs.Prelude.{◌≡◌, ℕ, ◌<◌, ◌^◌, List, [], ◌∷◌, ◌++◌, ◌&&◌, ◌||◌, Bool, true, false, Ok, codes, decimal}
+use Rattle.std.specs.List.{list_all, flat_map}
+use Rattle.std.specs.Str.{is_utf8}
+use Rattle.djq_model.specs.declared.value.Value.{Value}
+use Rattle.djq_model.specs.declared.value.Value.TheVariants.{Int, Text}
+use Rattle.djq_model.specs.Data.{Bytes, Tuple, bytes_eq}
+use Rattle.djq_value.specs.Literal.{is_name, is_small_value}
+use Rattle.djq_lines.specs.declared.answer.EndLine.{EndLine}
+use Rattle.djq_lines.specs.declared.answer.Refusal.{Refusal}
+use Rattle.djq_lines.specs.declared.answer.Shape.{Shape}
+use Rattle.djq_lines.specs.declared.answer.Sign.{Sign}
+use Rattle.djq_lines.specs.Reply.{line, numbered, numbered_twice, answer_line, last_line, stale_line, has_reply, shape_reply, change_line, at_line, refusal_line, end_line, input_cut, bye as bye_line}
+use Rattle.djq_tree.specs.Explaining.{end_text}
+
+-- what an explained node is: a leaf over a relation, a trim of a node, or a meet of two nodes
+pub data Node : Type 0 where
+  leaf : Bytes → Node
+  trim : ℕ → Node
+  meet : ℕ → ℕ → Node
+
+pub data Reply : Type 0 where
+  -- a command was done, or a cursor opened
+  done : Reply
+  opened : Reply
+  -- rows: the number of changes, and the copies of the row
+  added : ℕ → ℕ → Reply
+  removed : ℕ → ℕ → Reply
+  absent : ℕ → Reply
+  -- a query: the most that an answer of it costs, or the edges of a rest
+  registered : ℕ → Reply
+  cyclic : List (List Bytes) → Reply
+  not_connex : List (List Bytes) → Reply
+  -- a listing: an answer; `more`, or `end` where no answer is left; or a cursor that a change of a
+  -- relation made stale
+  answer : Tuple → Reply
+  more : Reply
+  last : Reply
+  stale : Bytes → Bytes → ℕ → Reply
+  -- whether a tuple is an answer, and the shape of a query
+  had : Bool → Reply
+  shaped : Shape → Reply
+  -- a watch: begun; an answer of a query that came or went; and the number of the change
+  watched : ℕ → Reply
+  changed : Sign → Bytes → Tuple → Reply
+  counted : Bytes → ℕ → Reply
+  -- a node of a tree: its number, what it is, its label, and whether it is printed `out`
+  explained : ℕ → Node → List Bytes → Bool → Reply
+  -- a refusal, and the last lines of a session
+  refused : Refusal → Reply
+  ended : EndLine → Reply
+  cut : Reply
+  bye : Reply
+
+-- names with commas between them
+abbrev pub joined : List Bytes → Bytes
+joined [] = []
+joined (x ∷ xs) = x ++ flat_map (λ y. 44 ∷ y) xs
+
+-- words, then edges, each behind a space
+abbrev pub edges_line : Bytes → List (List Bytes) → Bytes
+edges_line words edges = line (words ++ flat_map (λ e. 32 ∷ joined e) edges)
+
+-- a label: a dash where it has no variable
+abbrev pub label_text : List Bytes → Bytes
+label_text [] = codes "-"
+label_text (x ∷ xs) = joined (x ∷ xs)
+
+abbrev pub node_text : Node → Bytes
+node_text (leaf r) = codes "leaf " ++ r
+node_text (trim c) = codes "trim " ++ decimal c
+node_text (meet g s) = codes "meet " ++ decimal g ++ codes " " ++ decimal s
+
+-- the bytes of a line, with its LF
+abbrev pub reply_text : Reply → Bytes
+reply_text done = line (codes "ok")
+reply_text opened = line (codes "ok open")
+reply_text (added n copies) = numbered_twice (codes "ok added ") n copies
+reply_text (removed n copies) = numbered_twice (codes "ok removed ") n copies
+reply_text (absent n) = numbered (codes "ok absent ") n
+reply_text (registered most) = numbered (codes "ok query ") most
+reply_text (cyclic edges) = edges_line (codes "no cyclic") edges
+reply_text (not_connex edges) = edges_line (codes "no connex") edges
+reply_text (answer t) = answer_line t
+reply_text more = last_line false
+reply_text last = last_line true
+reply_text (stale cursor relation n) = stale_line cursor relation n
+reply_text (had found) = has_reply (Ok found)
+reply_text (shaped s) = shape_reply (Ok s)
+reply_text (watched n) = numbered (codes "ok watch ") n
+reply_text (changed s query t) = change_line s query t
+reply_text (counted query n) = at_line query n
+reply_text (explained j node label out) =
+    codes "n " ++ decimal j ++ codes " " ++ node_text node
+    ++ codes " " ++ label_text label ++ end_text out
+reply_text (refused r) = refusal_line r
+reply_text (ended e) = end_line e
+reply_text cut = input_cut
+reply_text bye = bye_line
+
+-- a number that is printed: one of 64 bits
+abbrev pub IsNumber : ℕ → Type 0
+IsNumber n = n < 2 ^ 64
+
+-- a value that is printed: an integer of 64 bits, or a text of at most 255 bytes that is UTF-8
+abbrev pub is_text : Value → Bool
+is_text (Int i) = true
+is_text (Text t) = is_utf8 t
+
+abbrev pub is_cell : Value → Bool
+is_cell v = is_small_value v && is_text v
+
+abbrev pub are_cells : Tuple → Bool
+are_cells t = list_all is_cell t
+
+-- a variable as it is printed: its name, or `_` for a hole
+abbrev pub is_variable : Bytes → Bool
+is_variable x = is_name x || bytes_eq x (codes "_")
+
+-- the variables of a label; and those of an edge, of which there is one at least
+abbrev pub is_label : List Bytes → Bool
+is_label xs = list_all is_variable xs
+
+abbrev pub is_edge : List Bytes → Bool
+is_edge [] = false
+is_edge (x ∷ xs) = is_label (x ∷ xs)
+
+-- the edges of a rest, of which there is one at least
+abbrev pub is_rest : List (List Bytes) → Bool
+is_rest [] = false
+is_rest (e ∷ es) = list_all is_edge (e ∷ es)
+
+abbrev pub IsNode : Node → Type 0
+IsNode (leaf r) = is_name r ≡ true
+IsNode (trim c) = IsNumber c
+IsNode (meet g s) = IsNumber g × IsNumber s
+
+-- Each part of a line is as it is printed.
+abbrev pub IsPrinted : Reply → Type 0
+IsPrinted (added n copies) = IsNumber n × IsNumber copies
+IsPrinted (removed n copies) = IsNumber n × IsNumber copies
+IsPrinted (absent n) = IsNumber n
+IsPrinted (registered most) = IsNumber most
+IsPrinted (cyclic edges) = is_rest edges ≡ true
+IsPrinted (not_connex edges) = is_rest edges ≡ true
+IsPrinted (answer t) = are_cells t ≡ true
+IsPrinted (stale cursor relation n) = (is_name cursor ≡ true) × (is_name relation ≡ true) × IsNumber n
+IsPrinted (watched n) = IsNumber n
+IsPrinted (changed s query t) = (is_name query ≡ true) × (are_cells t ≡ true)
+IsPrinted (counted query n) = (is_name query ≡ true) × IsNumber n
+IsPrinted (explained j node label out) = IsNumber j × IsNode node × (is_label label ≡ true)
+IsPrinted r = Unit {0}
+
+-- These bytes, without an LF, are a line of this form.
+pub record IsReply (bytes : Bytes) (r : Reply) : Type 0 where
+  pub printed : IsPrinted r
+  pub text : line bytes ≡ reply_text r
